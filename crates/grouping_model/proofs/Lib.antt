@@ -1,0 +1,12 @@
+pub mod Members
+pub mod DatumOrder
+pub mod KnowledgeLaws
+pub mod PrefixLaws
+pub mod KeyLaws
+pub mod AggregateLaws
+pub mod CombiningLaws
+pub mod EarlyLaws
+pub mod ConditionLaws
+pub mod PartLaws
+pub mod TransitionLaws
+pub mod AnswerLaws

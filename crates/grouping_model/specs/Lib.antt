@@ -1,0 +1,11 @@
+pub mod Datum
+pub mod Rising
+pub mod Aggregates
+pub mod Combining
+pub mod Condition
+pub mod Query
+pub mod Grouping
+pub mod Parts
+pub mod World
+pub mod Answer
+pub mod Examples

@@ -1,0 +1,30 @@
+-- Groups as a map from keys to partial results, and the groups of two lists of rows on end. All of this is our own.
+use Rattle.std.specs.Prelude.{List, [], ◌++◌, map, find, Option, option_map, unwrap_or}
+use Rattle.grouping_model.specs.Datum.{Row, row_cmp, same_row}
+use Rattle.grouping_model.specs.Rising.{distinct}
+use Rattle.grouping_model.specs.Aggregates.{Function, Partial}
+use Rattle.grouping_model.specs.Combining.{combine_all}
+use Rattle.grouping_model.specs.Query.{Query, Aggregate}
+use Rattle.grouping_model.specs.Grouping.{Group, partials}
+
+-- the functions of a query's aggregates
+abbrev pub functions : Query → List Function
+functions query = map (λ (aggregate : Aggregate). aggregate.function) query.aggregates
+
+-- the keys of some groups
+abbrev pub keys_of : List Group → List Row
+keys_of groups = map (λ (group : Group). group.0) groups
+
+-- the partial results of a key, if it is there
+abbrev pub partials_at : Row → List Group → Option (List Partial)
+partials_at key groups = option_map (λ (group : Group). group.1) (find (λ (group : Group). same_row group.0 key) groups)
+
+-- the partial results of a key, which are those of no rows where it is not there
+abbrev pub partials_or_none : Query → Row → List Group → List Partial
+partials_or_none query key groups = unwrap_or (partials_at key groups) (partials query [])
+
+-- the groups of two lists of rows on end: the keys of either, in key order, each with the partial results of both
+abbrev pub combine_parts : Query → List Group → List Group → List Group
+combine_parts query xs ys =
+    map (λ key. (key, combine_all (functions query) (partials_or_none query key xs) (partials_or_none query key ys)))
+    (distinct row_cmp (keys_of xs ++ keys_of ys))
