@@ -20,44 +20,58 @@ ghost use Rattle.grouping_model.specs.Aggregates.{bits_of_all, bits_of_some, bit
 ghost use Rattle.grouping_model.specs.Examples.{sums, three_rows, three_batches, one_to_five, six_and_eight, triple, oslo, bergen, grand_total, any_rows, extremes, of_nulls, a, nulls_and_numbers, last_unknown, big_ones, not_itself, bits_and_booleans, twelve_and_ten, number};
 
 /// Uniting what is known doesn't depend on order, grouping or repetition, and gives what either side knows.
-#[tactic(auto, using(crate::proofs::KnowledgeLaws::union_commutes, crate::proofs::KnowledgeLaws::union_associates, crate::proofs::KnowledgeLaws::union_itself, crate::proofs::KnowledgeLaws::nothing_union, crate::proofs::KnowledgeLaws::knows_union, crate::proofs::KnowledgeLaws::knows_learn, crate::proofs::KnowledgeLaws::same_knowledge))]
 pub fn uniting()
     ensures commutative { (a b : Knowledge) → union a b ≡ union b a }
     ensures associative { (a b c : Knowledge) → union (union a b) c ≡ union a (union b c) }
     ensures idempotent { (a : Knowledge) → union a a ≡ a }
     ensures neutral { (a : Knowledge) → union nothing a ≡ a }
-    ensures members { (a b : Knowledge) (batch : Batch) → knows (union a b) batch ≡ (knows a batch || knows b batch) }
-    ensures learned { (a : Knowledge) (new batch : Batch) → knows (learn a new) batch ≡ (eq_by_cmp batch_cmp batch new || knows a batch) }
-    ensures determined { (a b : Knowledge) → ((batch : Batch) → knows a batch ≡ knows b batch) → a ≡ b }
+    ensures members { (a b : Knowledge) (batch : Batch) →
+        knows (union a b) batch ≡ (knows a batch || knows b batch) }
+    ensures learned { (a : Knowledge) (new batch : Batch) →
+        knows (learn a new) batch ≡ (eq_by_cmp batch_cmp batch new || knows a batch) }
+    ensures determined { (a b : Knowledge) → ((batch : Batch) → knows a batch ≡ knows b batch) →
+        a ≡ b }
 {}
 
-/// What is known is exactly a set of batches, and answers depend on it alone: where the same batches are known, the answers
-/// are the same, whatever the order in which they were learned and however often; and what a batch that is not known would
-/// hold changes no answer.
+/// What is known is exactly a set of batches, and answers depend on it alone: where the same batches are known, the
+/// answers are the same, whatever the order in which they were learned and however often; and what a batch that is
+/// not known would hold changes no answer.
 pub fn answers_of_the_known()
-    ensures listed { (batches : List Batch) (batch : Batch) → IsTrue (knows (knowing batches) batch) ↔ Contains batches batch }
-    ensures same_knowledge { (query : Query) (world : World) (a b : Knowledge) → ((batch : Batch) → knows a batch ≡ knows b batch) → answer query world a ≡ answer query world b }
-    ensures known_alone { (query : Query) (world other : World) (knowledge : Knowledge) → ((origin number : ℕ) → IsTrue (knows knowledge (origin, number)) → world origin number ≡ other origin number) → answer query world knowledge ≡ answer query other knowledge }
+    ensures listed { (batches : List Batch) (batch : Batch) →
+        IsTrue (knows (knowing batches) batch) ↔ Contains batches batch }
+    ensures same_knowledge { (query : Query) (world : World) (a b : Knowledge) →
+        ((batch : Batch) → knows a batch ≡ knows b batch) →
+        answer query world a ≡ answer query world b }
+    ensures known_alone { (query : Query) (world other : World) (knowledge : Knowledge) →
+        ((origin number : ℕ) → IsTrue (knows knowledge (origin, number)) →
+        world origin number ≡ other origin number) →
+        answer query world knowledge ≡ answer query other knowledge }
 {}
 
 /// The unbroken prefix of an origin: all batches up to it are known, and it is the largest such number.
-#[tactic(auto, using(crate::proofs::PrefixLaws::prefix_unbroken, crate::proofs::PrefixLaws::prefix_largest))]
 pub fn unbroken_prefix()
-    ensures unbroken { (knowledge : Knowledge) (origin : ℕ) → IsUnbroken knowledge origin (prefix knowledge origin) }
-    ensures largest { (knowledge : Knowledge) (origin n : ℕ) → IsUnbroken knowledge origin n → n ≤ prefix knowledge origin }
+    ensures unbroken { (knowledge : Knowledge) (origin : ℕ) →
+        IsUnbroken knowledge origin (prefix knowledge origin) }
+    ensures largest { (knowledge : Knowledge) (origin n : ℕ) → IsUnbroken knowledge origin n →
+        n ≤ prefix knowledge origin }
 {}
 
-/// The early numbers of an origin are those that are known above its unbroken prefix, rising, and the origins are those of which something is known.
-#[tactic(auto, using(crate::proofs::EarlyLaws::early_rise, crate::proofs::EarlyLaws::origins_rise))]
+/// The early numbers of an origin are those that are known above its unbroken prefix, rising, and the origins are
+/// those of which something is known.
 pub fn early_numbers()
-    ensures early_rise { (knowledge : Knowledge) (origin : ℕ) → IsStrictlySortedBy nat_cmp (early knowledge origin) }
-    ensures early_are { (knowledge : Knowledge) (origin number : ℕ) → Contains (early knowledge origin) number ↔ (IsTrue (knows knowledge (origin, number)) × (prefix knowledge origin < number)) }
-    ensures origins_rise { (knowledge : Knowledge) → IsStrictlySortedBy nat_cmp (origins knowledge) }
-    ensures origins_are { (knowledge : Knowledge) (origin : ℕ) → Contains (origins knowledge) origin ↔ ((number : ℕ) × IsTrue (knows knowledge (origin, number))) }
+    ensures early_rise { (knowledge : Knowledge) (origin : ℕ) →
+        IsStrictlySortedBy nat_cmp (early knowledge origin) }
+    ensures early_are { (knowledge : Knowledge) (origin number : ℕ) →
+        Contains (early knowledge origin) number
+        ↔ (IsTrue (knows knowledge (origin, number)) × (prefix knowledge origin < number)) }
+    ensures origins_rise { (knowledge : Knowledge) →
+        IsStrictlySortedBy nat_cmp (origins knowledge) }
+    ensures origins_are { (knowledge : Knowledge) (origin : ℕ) →
+        Contains (origins knowledge) origin
+        ↔ ((number : ℕ) × IsTrue (knows knowledge (origin, number))) }
 {}
 
 /// The order of values is total with null last, that of tuples too, and only equal tuples are the same.
-#[tactic(auto, using(crate::proofs::DatumOrder::datum_cmp_total, crate::proofs::DatumOrder::row_cmp_total))]
 pub fn ordering()
     ensures values { IsTotalOrder datum_cmp }
     ensures tuples { IsTotalOrder row_cmp }
@@ -66,71 +80,105 @@ pub fn ordering()
 {}
 
 /// Three-valued logic: AND and OR are each other's mirror under NOT, and a comparison with null is unknown.
-#[tactic(auto, using(crate::proofs::ConditionLaws::and_commutes, crate::proofs::ConditionLaws::not_and, crate::proofs::ConditionLaws::not_not, crate::proofs::ConditionLaws::null_left, crate::proofs::ConditionLaws::null_right, crate::proofs::ConditionLaws::truth_kept))]
 pub fn three_values()
     ensures and_commutes { (s t : Truth) → truth_and s t ≡ truth_and t s }
-    ensures not_and { (s t : Truth) → truth_not (truth_and s t) ≡ truth_or (truth_not s) (truth_not t) }
+    ensures not_and { (s t : Truth) → truth_not (truth_and s t)
+        ≡ truth_or (truth_not s) (truth_not t) }
     ensures not_not { (s : Truth) → truth_not (truth_not s) ≡ s }
-    ensures null_left { (comparison : Comparison) (x : Outcome) → compared comparison (outcome_cmp (Plain Null) x) ≡ Unknown }
-    ensures null_right { (comparison : Comparison) (x : Outcome) → compared comparison (outcome_cmp x (Plain Null)) ≡ Unknown }
+    ensures null_left { (comparison : Comparison) (x : Outcome) →
+        compared comparison (outcome_cmp (Plain Null) x) ≡ Unknown }
+    ensures null_right { (comparison : Comparison) (x : Outcome) →
+        compared comparison (outcome_cmp x (Plain Null)) ≡ Unknown }
     ensures kept { (t : Truth) → truth (as_outcome t) ≡ t }
 {}
 
-/// The keys strictly rise, and a tuple is a key exactly if a selected row has it. A group's rows are the selected rows that have its key.
-#[tactic(auto, using(crate::proofs::KeyLaws::keys_rise))]
+/// The keys strictly rise, and a tuple is a key exactly if a selected row has it. A group's rows are the selected
+/// rows that have its key.
 pub fn grouping()
-    ensures rising { (query : Query) (rows : List Row) → IsStrictlySortedBy row_cmp (keys query rows) }
-    ensures keys { (query : Query) (rows : List Row) (key : Row) → Contains (keys query rows) key ↔ ((row : Row) × Contains (selected query rows) row × (key_of query row ≡ key)) }
-    ensures members { (query : Query) (rows : List Row) (key row : Row) → Contains (group query rows key) row ↔ (Contains (selected query rows) row × (key_of query row ≡ key)) }
+    ensures rising { (query : Query) (rows : List Row) →
+        IsStrictlySortedBy row_cmp (keys query rows) }
+    ensures keys { (query : Query) (rows : List Row) (key : Row) →
+        Contains (keys query rows) key
+        ↔ ((row : Row) × Contains (selected query rows) row × (key_of query row ≡ key)) }
+    ensures members { (query : Query) (rows : List Row) (key row : Row) →
+        Contains (group query rows key) row
+        ↔ (Contains (selected query rows) row × (key_of query row ≡ key)) }
 {}
 
 /// The least member of a list is a member, and none is below it; a list with a member has one. Likewise the greatest.
 pub fn extremes_of_lists()
-    ensures least_is { (zs : List ℤ) (z : ℤ) → least zs ≡ Some z ↔ (Contains zs z × ((y : ℤ) → Contains zs y → z ≤ℤ y)) }
+    ensures least_is { (zs : List ℤ) (z : ℤ) →
+        least zs ≡ Some z ↔ (Contains zs z × ((y : ℤ) → Contains zs y → z ≤ℤ y)) }
     ensures least_of_some { (z : ℤ) (zs : List ℤ) → IsSome (least (z ∷ zs)) }
-    ensures greatest_is { (zs : List ℤ) (z : ℤ) → greatest zs ≡ Some z ↔ (Contains zs z × ((y : ℤ) → Contains zs y → y ≤ℤ z)) }
+    ensures greatest_is { (zs : List ℤ) (z : ℤ) →
+        greatest zs ≡ Some z ↔ (Contains zs z × ((y : ℤ) → Contains zs y → y ≤ℤ z)) }
     ensures greatest_of_some { (z : ℤ) (zs : List ℤ) → IsSome (greatest (z ∷ zs)) }
 {}
 
 /// The number of given bits has these and fits 64 bits, and two numbers of 64 bits with the same bits are equal.
-#[tactic(auto, using(crate::proofs::AggregateLaws::bit_is, crate::proofs::AggregateLaws::bits_fit, crate::proofs::AggregateLaws::same_from_64_bits))]
 pub fn bits_of_numbers()
-    ensures bits { (is_set : ℕ → Bool) (i : ℕ) → i < 64 → has_bit i (number_of_bits is_set) ≡ is_set i }
+    ensures bits { (is_set : ℕ → Bool) (i : ℕ) → i < 64 →
+        has_bit i (number_of_bits is_set) ≡ is_set i }
     ensures fit { (is_set : ℕ → Bool) → FitsSigned w64 (number_of_bits is_set) }
-    ensures determined { (x y : ℤ) → FitsSigned w64 x → FitsSigned w64 y → ((i : ℕ) → i < 64 → has_bit i x ≡ has_bit i y) → x ≡ y }
+    ensures determined { (x y : ℤ) → FitsSigned w64 x → FitsSigned w64 y →
+        ((i : ℕ) → i < 64 → has_bit i x ≡ has_bit i y) → x ≡ y }
 {}
 
-/// A number is made of its own bits, a group of two lists on end is both groups on end, and a partial result of two lists on end is what the partial results of both combine to, whether of arguments or of rows.
-#[tactic(auto, using(crate::proofs::KeyLaws::group_append, crate::proofs::CombiningLaws::partial_append, crate::proofs::CombiningLaws::rows_append))]
+/// A number is made of its own bits, a group of two lists on end is both groups on end, and a partial result of two
+/// lists on end is what the partial results of both combine to, whether of arguments or of rows.
 pub fn combining()
-    ensures one_number { (z : ℤ) → FitsSigned w64 z → (bits_of_all (z ∷ []) ≡ z) × (bits_of_some (z ∷ []) ≡ z) × (bits_of_odd (z ∷ []) ≡ z) }
-    ensures groups { (query : Query) (xs ys : List Row) (key : Row) → group query (xs ++ ys) key ≡ group query xs key ++ group query ys key }
-    ensures arguments { (function : Function) (xs ys : List Datum) → partial function (xs ++ ys) ≡ combine function (partial function xs) (partial function ys) }
-    ensures rows { (aggregate : Aggregate) (xs ys : List Row) → partial aggregate.function (arguments aggregate (xs ++ ys)) ≡ combine aggregate.function (partial aggregate.function (arguments aggregate xs)) (partial aggregate.function (arguments aggregate ys)) }
+    ensures one_number { (z : ℤ) → FitsSigned w64 z → (bits_of_all (z ∷ []) ≡ z)
+        × (bits_of_some (z ∷ []) ≡ z) × (bits_of_odd (z ∷ []) ≡ z) }
+    ensures groups { (query : Query) (xs ys : List Row) (key : Row) →
+        group query (xs ++ ys) key ≡ group query xs key ++ group query ys key }
+    ensures arguments { (function : Function) (xs ys : List Datum) →
+        partial function (xs ++ ys) ≡ combine function (partial function xs) (partial function ys) }
+    ensures rows { (aggregate : Aggregate) (xs ys : List Row) →
+        partial aggregate.function (arguments aggregate (xs ++ ys))
+        ≡ combine aggregate.function (partial aggregate.function (arguments aggregate xs)) (partial
+        aggregate.function (arguments aggregate ys)) }
 {}
 
-/// A function's partial result after one more argument, and an aggregate's after one more row: the transition takes the
-/// argument where the row reaches the aggregate, and else nothing changes.
+/// A function's partial result after one more argument, and an aggregate's after one more row: the transition takes
+/// the argument where the row reaches the aggregate, and else nothing changes.
 pub fn transitions()
-    ensures argument { (function : Function) (xs : List Datum) (kind : Kind) (value : Datum) → HasKind kind value → partial function (xs ++ value ∷ []) ≡ transition function (partial function xs) value }
-    ensures row { (aggregate : Aggregate) (kinds : List Kind) (rows : List Row) (row : Row) → HasKinds kinds row → partial aggregate.function (arguments aggregate (rows ++ row ∷ [])) ≡ (if is_met (column_of row) aggregate.filter then transition aggregate.function (partial aggregate.function (arguments aggregate rows)) (argument aggregate.column row) else partial aggregate.function (arguments aggregate rows)) }
+    ensures argument { (function : Function) (xs : List Datum) (kind : Kind) (value : Datum) →
+        HasKind kind value → partial function (xs ++ value ∷ [])
+        ≡ transition function (partial function xs) value }
+    ensures row { (aggregate : Aggregate) (kinds : List Kind) (rows : List Row) (row : Row) →
+        HasKinds kinds row → partial aggregate.function (arguments aggregate (rows ++ row ∷ []))
+        ≡ (if is_met (column_of row) aggregate.filter
+        then transition aggregate.function (partial aggregate.function (arguments aggregate rows))
+        (argument aggregate.column row)
+        else partial aggregate.function (arguments aggregate rows)) }
 {}
 
 /// The groups of rows as a map from keys to partial results. Two lists of rows on end have the groups of both,
 /// combined key by key. A row that WHERE passes over changes nothing; one that it keeps brings its key.
 pub fn groups_as_map()
     ensures keys { (query : Query) (rows : List Row) → keys_of (part query rows) ≡ keys query rows }
-    ensures found { (query : Query) (rows : List Row) (key : Row) → partials_at key (part query rows) ≡ (if is_among row_cmp key (keys query rows) then Some (partials query (group query rows key)) else None) }
-    ensures appended { (query : Query) (xs ys : List Row) → part query (xs ++ ys) ≡ combine_parts query (part query xs) (part query ys) }
-    ensures not_selected { (query : Query) (rows : List Row) (row : Row) → is_met (column_of row) query.condition ≡ false → part query (rows ++ row ∷ []) ≡ part query rows }
-    ensures one_more_key { (query : Query) (rows : List Row) (row : Row) → is_met (column_of row) query.condition ≡ true → keys query (rows ++ row ∷ []) ≡ put row_cmp (key_of query row) (keys query rows) }
+    ensures found { (query : Query) (rows : List Row) (key : Row) →
+        partials_at key (part query rows)
+        ≡ (if is_among row_cmp key (keys query rows)
+        then Some (partials query (group query rows key)) else None) }
+    ensures appended { (query : Query) (xs ys : List Row) →
+        part query (xs ++ ys) ≡ combine_parts query (part query xs) (part query ys) }
+    ensures not_selected { (query : Query) (rows : List Row) (row : Row) →
+        is_met (column_of row) query.condition ≡ false →
+        part query (rows ++ row ∷ []) ≡ part query rows }
+    ensures one_more_key { (query : Query) (rows : List Row) (row : Row) →
+        is_met (column_of row) query.condition ≡ true →
+        keys query (rows ++ row ∷ []) ≡ put row_cmp (key_of query row) (keys query rows) }
 {}
 
 /// Groups over one batch, and over batches of which the second comes last.
 pub fn answers()
-    ensures first_run { answer sums three_rows (knowing ((0, 1) ∷ [])) ≡ triple bergen 1 (pos 7) ∷ triple oslo 2 (pos 3) ∷ [] }
-    ensures with_gap { answer sums three_batches (knowing ((0, 1) ∷ (0, 3) ∷ [])) ≡ triple oslo 1 (pos 5) ∷ [] }
-    ensures gap_closed { answer sums three_batches (knowing ((0, 3) ∷ (0, 2) ∷ (0, 1) ∷ [])) ≡ triple bergen 1 (pos 7) ∷ triple oslo 2 (pos 105) ∷ [] }
+    ensures first_run { answer sums three_rows (knowing ((0, 1) ∷ []))
+        ≡ triple bergen 1 (pos 7) ∷ triple oslo 2 (pos 3) ∷ [] }
+    ensures with_gap { answer sums three_batches (knowing ((0, 1) ∷ (0, 3) ∷ []))
+        ≡ triple oslo 1 (pos 5) ∷ [] }
+    ensures gap_closed { answer sums three_batches (knowing ((0, 3) ∷ (0, 2) ∷ (0, 1) ∷ []))
+        ≡ triple bergen 1 (pos 7) ∷ triple oslo 2 (pos 105) ∷ [] }
 {}
 
 /// What is known with a gap, and what is known after the gap is closed from the other side.
@@ -142,13 +190,20 @@ pub fn known_numbers()
     ensures other_origins { origins (knowing ((7, 1) ∷ (2, 5) ∷ (7, 2) ∷ [])) ≡ 2 ∷ 7 ∷ [] }
 {}
 
-/// Answers over given rows: none at all, sums of more than 64 bits, nulls, conditions that are unknown, bits and booleans.
+/// Answers over given rows: none at all, sums of more than 64 bits, nulls, conditions that are unknown, bits and
+/// booleans.
 pub fn results()
     ensures of_nothing { answer_over grand_total [] ≡ (number 0 ∷ Plain Null ∷ []) ∷ [] }
     ensures none_of_nothing { answer_over any_rows [] ≡ [] }
-    ensures wide_sums { answer_over sums extremes ≡ triple (Text (codes "x")) 2 (pos 18446744073709551614) ∷ triple (Text (codes "y")) 2 (negsuc 18446744073709551615) ∷ [] }
-    ensures nulls { answer_over of_nulls nulls_and_numbers ≡ (Plain a ∷ number 2 ∷ number 2 ∷ Numeric (pos 8) ∷ number 3 ∷ number 6 ∷ []) ∷ (Plain Null ∷ number 2 ∷ number 0 ∷ Plain Null ∷ Plain Null ∷ Plain Null ∷ []) ∷ [] }
+    ensures wide_sums { answer_over sums extremes
+        ≡ triple (Text (codes "x")) 2 (pos 18446744073709551614) ∷ triple (Text (codes "y")) 2
+        (negsuc 18446744073709551615) ∷ [] }
+    ensures nulls { answer_over of_nulls nulls_and_numbers
+        ≡ (Plain a ∷ number 2 ∷ number 2 ∷ Numeric (pos 8) ∷ number 3 ∷ number 6 ∷ []) ∷ (Plain Null
+        ∷ number 2 ∷ number 0 ∷ Plain Null ∷ Plain Null ∷ Plain Null ∷ []) ∷ [] }
     ensures filtered { answer_over big_ones last_unknown ≡ (number 3 ∷ number 1 ∷ []) ∷ [] }
     ensures unknown { answer_over not_itself last_unknown ≡ (number 1 ∷ []) ∷ [] }
-    ensures bits { answer_over bits_and_booleans twelve_and_ten ≡ (Plain (Boolean false) ∷ Plain (Boolean true) ∷ Plain (Boolean false) ∷ number 8 ∷ number 14 ∷ number 12 ∷ []) ∷ [] }
+    ensures bits { answer_over bits_and_booleans twelve_and_ten
+        ≡ (Plain (Boolean false) ∷ Plain (Boolean true) ∷ Plain (Boolean false) ∷ number 8 ∷ number
+        14 ∷ number 12 ∷ []) ∷ [] }
 {}
