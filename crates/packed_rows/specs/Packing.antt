@@ -1,0 +1,25 @@
+-- The bytes of rows and keys. All of this is our own.
+use Rattle.std.specs.Prelude.{◌≢◌, ℕ, ◌+◌, ◌-◌, ◌^◌, ℤ, pos, negsuc, List, [], ◌∷◌, ◌++◌, if◌then◌else◌}
+use Rattle.std.specs.List.{flat_map}
+use Rattle.std.specs.Int.{w64, to_be_bytes}
+use Rattle.grouping_model.specs.Datum.{Datum, Kind, Row, HasKinds, Null, Bigint, Boolean, Text}
+
+-- how far a number lies above the least of 64 bits: its two's complement with the topmost bit flipped
+abbrev pub above_least : ℤ → ℕ
+above_least (pos n) = 2 ^ 63 + n
+above_least (negsuc n) = 2 ^ 63 - 1 - n
+
+-- a null, or a mark and the value: 8 bytes of a number, one of a truth value, a text up to a zero
+abbrev pub value_packing : Datum → List ℕ
+value_packing Null = 2 ∷ []
+value_packing (Bigint z) = 1 ∷ to_be_bytes w64 (above_least z)
+value_packing (Boolean b) = 1 ∷ (if b then 1 else 0) ∷ []
+value_packing (Text text) = 1 ∷ text ++ 0 ∷ []
+
+-- the values of a row or a key in their order, with nothing between
+abbrev pub packing : Row → List ℕ
+packing row = flat_map value_packing row
+
+-- the bytes of no row of these kinds
+abbrev pub IsNoPacking : List Kind → List ℕ → Type 0
+IsNoPacking kinds bytes = (row : Row) → HasKinds kinds row → bytes ≢ packing row

@@ -1,0 +1,26 @@
+//! Schemas, values, and the packing of rows and keys.
+#![tactic(auto)]
+
+mod error;
+mod field;
+mod laws;
+mod order;
+mod packing;
+mod rows;
+mod schema;
+mod schema_text;
+mod unpacking;
+mod value;
+
+pub use error::RowError;
+pub use field::{read_value, reading};
+pub use laws::{packing_order, printed_schemas};
+pub use order::{compare, same};
+pub use packing::pack_key;
+pub use rows::{pack_row, unpack_row};
+pub use schema::Schema;
+pub use unpacking::unpack_key;
+pub use value::{Value, ValueKind};
+
+#[cfg(test)]
+mod tests;

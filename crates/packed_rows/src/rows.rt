@@ -1,0 +1,51 @@
+//! Rows of a schema: packing fields, and unpacking.
+
+ghost use Rattle.std.specs.Prelude.{◌≡◌, ◌++◌, List, ℕ, map, IfOk, IfErr, take, length};
+ghost use Rattle.grouping_model.specs.Datum.{Row, HasKinds};
+ghost use Rattle.packed_rows.specs.Columns.{kinds};
+ghost use Rattle.packed_rows.specs.Field.{ReadsRow};
+ghost use Rattle.packed_rows.specs.Packing.{packing};
+ghost use Rattle.packed_rows.specs.Refusal.{PackFault, UnpackFault};
+ghost use Rattle.packed_rows.specs.View.{row_of, texts_of};
+
+use crate::error::RowError;
+use crate::field::read_value;
+use crate::packing::push_value;
+use crate::schema::Schema;
+use crate::unpacking::unpack_key;
+use crate::value::Value;
+use std::alloc::Global;
+
+/// The packing of the row that the fields stand for, field by field.
+pub fn pack_row(alloc: Global, schema: &Schema, fields: &[&[u8]]) -> Result<Vec<u8>, RowError>
+    ensures packed { IfOk result (λ bytes. (row : Row)
+        × ReadsRow (kinds schema.now) (texts_of fields.now) row × (bytes.items ≡ packing row)) }
+    ensures refused { IfErr result (PackFault (kinds schema.now) (texts_of fields.now)) }
+{
+    if fields.len() != schema.width() {
+        return Err(RowError::WrongWidth);
+    }
+    let mut out = Vec::new(alloc);
+    for (column, kind) in schema.kinds().iter().enumerate() {
+        let Some(value) = read_value(fields[column], *kind) else {
+            return Err(RowError::BadField { column });
+        };
+        push_value(&mut out, value)?;
+    }
+    Ok(out)
+}
+
+/// The values of a row of this schema from its packing.
+pub fn unpack_row<'a>(
+    alloc: Global,
+    schema: &Schema,
+    bytes: &'a [u8],
+) -> Result<Vec<Value<'a>>, RowError>
+    // What is unpacked is a row of the schema, and the bytes are its packing.
+    ensures found { IfOk result (λ row. HasKinds (kinds schema.now) (row_of row.items)
+        × (bytes.now ≡ packing (row_of row.items))) }
+    // The bytes are refused only where they are no packing of such a row.
+    ensures refused { IfErr result (UnpackFault (kinds schema.now) bytes.now) }
+{
+    unpack_key(alloc, schema.kinds(), bytes)
+}

@@ -1,0 +1,126 @@
+//! Reading values back from bytes.
+
+ghost use Rattle.std.specs.Prelude.{◌≡◌, ◌≢◌, ◌++◌, ◌∷◌, ◌<◌, ℕ, ℤ, Bool, List, if◌then◌else◌, IfSome, IfNone, IfOk, IfErr, length, Contains, FitsSigned};
+ghost use Rattle.std.specs.Int.{w64, to_be_bytes};
+ghost use Rattle.grouping_model.specs.Datum.{Datum, Kind, Row, IsText, HasKind, HasKinds, null_field};
+ghost use Rattle.packed_rows.specs.View.{datum_of, row_of, kind_of, kinds_of};
+ghost use Rattle.packed_rows.specs.Packing.{above_least, value_packing, packing};
+ghost use Rattle.packed_rows.specs.Refusal.{UnpackFault};
+
+use crate::error::RowError;
+use crate::field::{NULL_FIELD, read_text};
+use crate::packing::{NULL, PRESENT};
+use crate::value::{Value, ValueKind};
+use std::alloc::Global;
+
+fn unpack_bigint(bytes: &[u8]) -> Option<(i64, &[u8])>
+    ensures found { IfSome result (λ x. bytes.now ≡ to_be_bytes w64 (above_least x.0) ++ x.1.now) }
+    ensures none { IfNone result (length bytes.now < 8) }
+{
+    if bytes.len() < 8 {
+        return None;
+    }
+    let (front, rest) = bytes.split_at(8);
+    let distance = u64::from_be_bytes([
+        front[0], front[1], front[2], front[3], front[4], front[5], front[6], front[7],
+    ]);
+    let number = (i128::from(distance) + i128::from(i64::MIN)) as i64;
+    Some((number, rest))
+}
+
+fn unpack_boolean(bytes: &[u8]) -> Option<(bool, &[u8])>
+    ensures found { IfSome result (λ x. bytes.now ≡ (if x.0 then 1 else 0) ∷ x.1.now) }
+    ensures none { IfNone result ((b : Bool) (rest : List ℕ) →
+        bytes.now ≢ (if b then 1 else 0) ∷ rest) }
+{
+    match bytes {
+        [0, rest @ ..] => Some((false, rest)),
+        [1, rest @ ..] => Some((true, rest)),
+        _ => None,
+    }
+}
+
+/// What stands before the first zero, and what stands after it.
+fn split_at_zero(bytes: &[u8]) -> Option<(&[u8], &[u8])>
+    ensures found { IfSome result (λ x. (bytes.now ≡ x.0.now ++ 0 ∷ x.1.now)
+        × ¬ (Contains x.0.now 0)) }
+    ensures none { IfNone result (¬ (Contains bytes.now 0)) }
+{
+    let end = bytes.iter().position(|byte| *byte == 0)?;
+    Some((&bytes[..end], &bytes[end + 1..]))
+}
+
+fn unpack_text(bytes: &[u8]) -> Option<(&str, &[u8])>
+    ensures found { IfSome result (λ x. (bytes.now ≡ x.0.now ++ 0 ∷ x.1.now) × IsText x.0.now) }
+    ensures none { IfNone result ((text rest : List ℕ) → IsText text →
+        bytes.now ≢ text ++ 0 ∷ rest) }
+{
+    let (front, rest) = split_at_zero(bytes)?;
+    if front == NULL_FIELD {
+        return None;
+    }
+    let text = read_text(front)?;
+    Some((text, rest))
+}
+
+fn unpack_present(kind: ValueKind, bytes: &[u8]) -> Option<(Value<'_>, &[u8])>
+    ensures found { IfSome result (λ x. HasKind (kind_of kind) (datum_of x.0)
+        × (1 ∷ bytes.now ≡ value_packing (datum_of x.0) ++ x.1.now)) }
+    ensures none { IfNone result ((value : Datum) (rest : List ℕ) → HasKind (kind_of kind) value →
+        1 ∷ bytes.now ≢ value_packing value ++ rest) }
+{
+    match kind {
+        ValueKind::Bigint => {
+            let (number, rest) = unpack_bigint(bytes)?;
+            Some((Value::Bigint(number), rest))
+        }
+        ValueKind::Boolean => {
+            let (truth, rest) = unpack_boolean(bytes)?;
+            Some((Value::Boolean(truth), rest))
+        }
+        ValueKind::Text => {
+            let (text, rest) = unpack_text(bytes)?;
+            Some((Value::Text(text), rest))
+        }
+    }
+}
+
+fn unpack_value(kind: ValueKind, bytes: &[u8]) -> Option<(Value<'_>, &[u8])>
+    ensures found { IfSome result (λ x. HasKind (kind_of kind) (datum_of x.0)
+        × (bytes.now ≡ value_packing (datum_of x.0) ++ x.1.now)) }
+    ensures none { IfNone result ((value : Datum) (rest : List ℕ) → HasKind (kind_of kind) value →
+        bytes.now ≢ value_packing value ++ rest) }
+{
+    match bytes {
+        [NULL, rest @ ..] => Some((Value::Null, rest)),
+        [PRESENT, rest @ ..] => unpack_present(kind, rest),
+        _ => None,
+    }
+}
+
+/// The values of a key of these kinds from its packing.
+pub fn unpack_key<'a>(
+    alloc: Global,
+    kinds: &[ValueKind],
+    bytes: &'a [u8],
+) -> Result<Vec<Value<'a>>, RowError>
+    // What is unpacked is a key of these kinds, and the bytes are its packing.
+    ensures found { IfOk result (λ key. HasKinds (kinds_of kinds.now) (row_of key.items)
+        × (bytes.now ≡ packing (row_of key.items))) }
+    // The bytes are refused only where they are no packing of such a key.
+    ensures refused { IfErr result (UnpackFault (kinds_of kinds.now) bytes.now) }
+{
+    let mut key = Vec::new(alloc);
+    let mut rest = bytes;
+    for kind in kinds {
+        let Some((value, after)) = unpack_value(*kind, rest) else {
+            return Err(RowError::BadPacked);
+        };
+        key.push(value)?;
+        rest = after;
+    }
+    if !rest.is_empty() {
+        return Err(RowError::BadPacked);
+    }
+    Ok(key)
+}

@@ -1,0 +1,5 @@
+pub mod Words
+pub mod Bytes
+pub mod Tokens
+pub mod Spelling
+pub mod Reserved
