@@ -10,3 +10,4 @@ pub mod ConditionLaws
 pub mod PartLaws
 pub mod TransitionLaws
 pub mod AnswerLaws
+pub mod LearningLaws

@@ -1,7 +1,7 @@
 //! What a query's answer over known batches of rows means, in mathematical types, with its laws and examples.
 #![tactic(auto)]
 
-ghost use Rattle.std.specs.Prelude.{◌≡◌, ◌<◌, ◌≤◌, ◌≤ℤ◌, ◌↔◌, ℕ, ℤ, Bool, IsSome, IsTrue, ◌≢◌, FitsSigned, List, Contains, [], ◌∷◌, pos, negsuc, ◌||◌, ◌++◌, true, false, codes, if◌then◌else◌};
+ghost use Rattle.std.specs.Prelude.{◌≡◌, ◌+◌, ◌<◌, ◌≤◌, ◌≤ℤ◌, ◌↔◌, ℕ, ℤ, Bool, IsSome, IsTrue, ◌≢◌, FitsSigned, List, Contains, [], ◌∷◌, pos, negsuc, ◌||◌, ◌++◌, true, false, codes, if◌then◌else◌};
 ghost use Rattle.std.specs.Int.{w64};
 ghost use Rattle.std.specs.Ordering.{eq_by_cmp, nat_cmp};
 ghost use Rattle.std.specs.List.Sorted.{IsStrictlySortedBy};
@@ -54,6 +54,22 @@ pub fn unbroken_prefix()
         IsUnbroken knowledge origin (prefix knowledge origin) }
     ensures largest { (knowledge : Knowledge) (origin n : ℕ) → IsUnbroken knowledge origin n →
         n ≤ prefix knowledge origin }
+{}
+
+/// One more batch: where it is known already, nothing changes; where it is not next to an origin's prefix, that prefix
+/// stays; where it is, the prefix reaches to the first number behind it that is not known.
+pub fn learning()
+    ensures known { (knowledge : Knowledge) (batch : Batch) → IsTrue (knows knowledge batch) →
+        learn knowledge batch ≡ knowledge }
+    ensures stays { (knowledge : Knowledge) (batch : Batch) (origin : ℕ) →
+        batch ≢ (origin, prefix knowledge origin + 1) →
+        prefix (learn knowledge batch) origin ≡ prefix knowledge origin }
+    ensures grows { (knowledge : Knowledge) (origin upto : ℕ) → prefix knowledge origin + 1 ≤ upto →
+        ((number : ℕ) → prefix knowledge origin + 1 < number → number ≤ upto →
+        IsTrue (knows knowledge (origin, number))) → knows knowledge (origin, upto + 1) ≡ false →
+        prefix (learn knowledge (origin, prefix knowledge origin + 1)) origin ≡ upto }
+    ensures next { (knowledge : Knowledge) (origin : ℕ) →
+        knows knowledge (origin, prefix knowledge origin + 1) ≡ false }
 {}
 
 /// The early numbers of an origin are those that are known above its unbroken prefix, rising, and the origins are

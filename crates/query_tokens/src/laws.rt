@@ -9,67 +9,79 @@ ghost use Rattle.query_tokens.specs.Spelling.{IsName, IsLexeme, EndsBefore, AreA
 ghost use Rattle.query_tokens.specs.Tokens.{word_at, tokens_at, tokens_in};
 ghost use Rattle.query_tokens.specs.Words.{Lexeme, Name, Integer, Text, Sign, Placed, RiseWithin};
 
-/// What is spelled is read again: a lexeme before whatever doesn't run into it, and a text of lexemes and spaces, from
-/// whatever place. So no two lexemes have one spelling, and no two lists of lexemes one text.
+/// What is spelled is read again: a lexeme before whatever doesn't run into it, and a text of lexemes and spaces,
+/// from whatever place. So no two lexemes have one spelling, and no two lists of lexemes one text.
 #[tactic(auto, using(crate::proofs::Respelled::word_again, crate::proofs::Pieces::pieces_again, crate::proofs::Pieces::tokens_again, crate::proofs::Pieces::no_fault, crate::proofs::Pieces::spaced_again, crate::proofs::Pieces::one_spelling, crate::proofs::Pieces::one_text))]
 pub fn spelling_is_read()
-    ensures word { (at : ℕ) (w : Lexeme) (rest : List ℕ) → IsLexeme w → EndsBefore w rest
-        → word_at at (spell w ++ rest) ≡ Ok (w, rest) }
-    ensures pieces { (at : ℕ) (pieces : List Piece) → AreApart pieces
-        → lexemes_read (tokens_at 0 at (text_of pieces)) ≡ Ok (lexemes_in pieces) }
-    ensures text { (pieces : List Piece) → AreApart pieces
-        → lexemes_read (tokens_in (text_of pieces)) ≡ Ok (lexemes_in pieces) }
-    ensures tokens { (pieces : List Piece) (ts : List Placed) → AreApart pieces
-        → tokens_in (text_of pieces) ≡ Ok ts → lexemes_of ts ≡ lexemes_in pieces }
-    ensures no_fault { (pieces : List Piece) (fault : Fault) → AreApart pieces → tokens_in (text_of pieces) ≢ Err fault }
-    ensures with_spaces { (ws : List Lexeme) → ((w : Lexeme) → Contains ws w → IsLexeme w)
-        → lexemes_read (tokens_in (text_of (with_spaces ws))) ≡ Ok ws }
+    ensures word { (at : ℕ) (w : Lexeme) (rest : List ℕ) → IsLexeme w → EndsBefore w rest →
+        word_at at (spell w ++ rest) ≡ Ok (w, rest) }
+    ensures pieces { (at : ℕ) (pieces : List Piece) → AreApart pieces →
+        lexemes_read (tokens_at 0 at (text_of pieces)) ≡ Ok (lexemes_in pieces) }
+    ensures text { (pieces : List Piece) → AreApart pieces →
+        lexemes_read (tokens_in (text_of pieces)) ≡ Ok (lexemes_in pieces) }
+    ensures tokens { (pieces : List Piece) (ts : List Placed) → AreApart pieces →
+        tokens_in (text_of pieces) ≡ Ok ts → lexemes_of ts ≡ lexemes_in pieces }
+    ensures no_fault { (pieces : List Piece) (fault : Fault) → AreApart pieces →
+        tokens_in (text_of pieces) ≢ Err fault }
+    ensures with_spaces { (ws : List Lexeme) → ((w : Lexeme) → Contains ws w → IsLexeme w) →
+        lexemes_read (tokens_in (text_of (with_spaces ws))) ≡ Ok ws }
     ensures one_spelling { (w v : Lexeme) → IsLexeme w → IsLexeme v → spell w ≡ spell v → w ≡ v }
-    ensures one_text { (these those : List Piece) → AreApart these → AreApart those
-        → text_of these ≡ text_of those → lexemes_in these ≡ lexemes_in those }
+    ensures one_text { (these those : List Piece) → AreApart these → AreApart those →
+        text_of these ≡ text_of those → lexemes_in these ≡ lexemes_in those }
 {}
 
-/// What is read is a lexeme that a text can have: each name is one of 1 to 63 bytes in lower case, each integer has 64
-/// bits, and no string has the character 0. So it can be spelled, and is then read again.
+/// What is read is a lexeme that a text can have: each name is one of 1 to 63 bytes in lower case, each integer has
+/// 64 bits, and no string has the character 0. So it can be spelled, and is then read again.
 #[tactic(auto, using(crate::proofs::Legal::word_legal, crate::proofs::Legal::read_legal, crate::proofs::Legal::respelled))]
 pub fn what_is_read()
-    ensures word { (at : ℕ) (bytes : List ℕ) (w : Lexeme) (rest : List ℕ) → word_at at bytes ≡ Ok (w, rest) → IsLexeme w }
-    ensures lexeme { (text : List ℕ) (ts : List Placed) (w : Lexeme) → tokens_in text ≡ Ok ts
-        → Contains (lexemes_of ts) w → IsLexeme w }
-    ensures name { (text : List ℕ) (ts : List Placed) (name : List ℕ) → tokens_in text ≡ Ok ts
-        → Contains (lexemes_of ts) (Name name) → IsName name }
-    ensures respelled { (text : List ℕ) (ts : List Placed) → tokens_in text ≡ Ok ts
-        → lexemes_read (tokens_in (text_of (with_spaces (lexemes_of ts)))) ≡ Ok (lexemes_of ts) }
+    ensures word { (at : ℕ) (bytes : List ℕ) (w : Lexeme) (rest : List ℕ) →
+        word_at at bytes ≡ Ok (w, rest) → IsLexeme w }
+    ensures lexeme { (text : List ℕ) (ts : List Placed) (w : Lexeme) → tokens_in text ≡ Ok ts →
+        Contains (lexemes_of ts) w → IsLexeme w }
+    ensures name { (text : List ℕ) (ts : List Placed) (name : List ℕ) → tokens_in text ≡ Ok ts →
+        Contains (lexemes_of ts) (Name name) → IsName name }
+    ensures respelled { (text : List ℕ) (ts : List Placed) → tokens_in text ≡ Ok ts →
+        lexemes_read (tokens_in (text_of (with_spaces (lexemes_of ts)))) ≡ Ok (lexemes_of ts) }
 {}
 
-/// What ends before what: any lexeme at the end, before a space and before bytes that run into none, a name, an integer
-/// or a string before a symbol, and all symbols but `<` and `>` before anything.
+/// What ends before what: any lexeme at the end, before a space and before bytes that run into none, a name, an
+/// integer or a string before a symbol, and all symbols but `<` and `>` before anything.
 #[tactic(auto, using(crate::proofs::Ends::before_others, crate::proofs::Ends::before_lexeme))]
 pub fn ends_of_lexemes()
     ensures at_end { (w : Lexeme) → EndsBefore w [] }
     ensures before_space { (w : Lexeme) (rest : List ℕ) → EndsBefore w (32 ∷ rest) }
-    ensures before_others { (w : Lexeme) (rest : List ℕ) → first_is runs_on rest ≡ false → EndsBefore w rest }
-    ensures before_lexeme { (w v : Lexeme) (rest : List ℕ) → IsLexeme v → EndsBefore w (spell v) → EndsBefore w (spell v ++ rest) }
-    ensures name_before_symbol { (name : List ℕ) (symbol : Symbol) (rest : List ℕ) → EndsBefore (Name name) (spell (Sign symbol) ++ rest) }
-    ensures integer_before_symbol { (z : ℤ) (symbol : Symbol) (rest : List ℕ) → EndsBefore (Integer z) (spell (Sign symbol) ++ rest) }
-    ensures text_before_symbol { (text : List ℕ) (symbol : Symbol) (rest : List ℕ) → EndsBefore (Text text) (spell (Sign symbol) ++ rest) }
-    ensures closed_symbol { (symbol : Symbol) (rest : List ℕ) → is_closed symbol ≡ true → EndsBefore (Sign symbol) rest }
+    ensures before_others { (w : Lexeme) (rest : List ℕ) → first_is runs_on rest ≡ false →
+        EndsBefore w rest }
+    ensures before_lexeme { (w v : Lexeme) (rest : List ℕ) → IsLexeme v → EndsBefore w (spell v) →
+        EndsBefore w (spell v ++ rest) }
+    ensures name_before_symbol { (name : List ℕ) (symbol : Symbol) (rest : List ℕ) →
+        EndsBefore (Name name) (spell (Sign symbol) ++ rest) }
+    ensures integer_before_symbol { (z : ℤ) (symbol : Symbol) (rest : List ℕ) →
+        EndsBefore (Integer z) (spell (Sign symbol) ++ rest) }
+    ensures text_before_symbol { (text : List ℕ) (symbol : Symbol) (rest : List ℕ) →
+        EndsBefore (Text text) (spell (Sign symbol) ++ rest) }
+    ensures closed_symbol { (symbol : Symbol) (rest : List ℕ) → is_closed symbol ≡ true →
+        EndsBefore (Sign symbol) rest }
 {}
 
 /// Pieces that are joined: their texts are joined, so are their lexemes, and they are apart if the last of those in
 /// front ends before the text behind.
 #[tactic(auto, using(crate::proofs::Ends::joined_text, crate::proofs::Ends::joined_lexemes, crate::proofs::Ends::joined_apart, crate::proofs::Ends::last_before_others))]
 pub fn joined_pieces()
-    ensures text { (front back : List Piece) → text_of (front ++ back) ≡ text_of front ++ text_of back }
-    ensures lexemes { (front back : List Piece) → lexemes_in (front ++ back) ≡ lexemes_in front ++ lexemes_in back }
-    ensures apart { (front back : List Piece) → AreApart front → AreApart back
-        → LastEndsBefore front (text_of back) → AreApart (front ++ back) }
-    ensures last { (front : List Piece) (rest : List ℕ) → first_is runs_on rest ≡ false → LastEndsBefore front rest }
+    ensures text { (front back : List Piece) →
+        text_of (front ++ back) ≡ text_of front ++ text_of back }
+    ensures lexemes { (front back : List Piece) →
+        lexemes_in (front ++ back) ≡ lexemes_in front ++ lexemes_in back }
+    ensures apart { (front back : List Piece) → AreApart front → AreApart back →
+        LastEndsBefore front (text_of back) → AreApart (front ++ back) }
+    ensures last { (front : List Piece) (rest : List ℕ) → first_is runs_on rest ≡ false →
+        LastEndsBefore front rest }
 {}
 
 /// The places of tokens rise and lie in the text, and so does the place of a fault.
 #[tactic(auto, using(crate::proofs::Places::tokens_rise, crate::proofs::Places::fault_within))]
 pub fn places_in_text()
-    ensures tokens { (text : List ℕ) (ts : List Placed) → tokens_in text ≡ Ok ts → RiseWithin 0 (length text) ts }
+    ensures tokens { (text : List ℕ) (ts : List Placed) → tokens_in text ≡ Ok ts →
+        RiseWithin 0 (length text) ts }
     ensures fault { (text : List ℕ) (at : ℕ) → tokens_in text ≡ Err (Syntax at) → at < length text }
 {}

@@ -45,7 +45,8 @@ fn name_at(alloc: Global, at: usize, text: &str) -> Result<(Word, &str), TokenEr
 
 /// What stands within the quotes, two quotes being one, and what stands behind the closing one.
 fn string_content(alloc: Global, text: &str) -> Result<Option<(String, &str)>, AllocError>
-    ensures { IfOk result (λ r. option_map (λ x. (string_bytes x.0, x.1.now)) r ≡ string_content false text.now) }
+    ensures { IfOk result (λ r. option_map (λ x. (string_bytes x.0, x.1.now)) r
+        ≡ string_content false text.now) }
 {
     let mut content = String::new(alloc);
     let mut rest = text;
@@ -165,16 +166,16 @@ fn word_at(alloc: Global, at: usize, text: &str) -> Result<(Word, &str), TokenEr
 /// The tokens of a text from left to right, in time linear in its length.
 ///
 /// White space, which is the bytes 9 to 13 and 32, may stand between any two tokens. A name is a letter or `_`, then
-/// letters, digits and `_`, all of ASCII, at most 63 bytes, and comes in lower case. An integer is an optional `-` and
-/// digits directly behind it, in the range of an `i64`. A string stands in single quotes, `''` being one quote. The symbols
-/// are `( ) , * ; = <> != < <= > >=`, the longest first.
+/// letters, digits and `_`, all of ASCII, at most 63 bytes, and comes in lower case. An integer is an optional `-`
+/// and digits directly behind it, in the range of an `i64`. A string stands in single quotes, `''` being one quote.
+/// The symbols are `( ) , * ; = <> != < <= > >=`, the longest first.
 ///
 /// # Errors
 ///
-/// The first fault from the left: [`Fault::Syntax`] at the first byte, counted from 0, of what begins no token, or of an
-/// open string, a string with the character 0, a name of more than 63 bytes, or digits with a letter or `_` directly
-/// behind them, even if their number is too large; [`Fault::NumberTooLarge`] for an integer that is out of range. And
-/// [`TokenError::NoMemory`] if an allocation failed.
+/// The first fault from the left: [`Fault::Syntax`] at the first byte, counted from 0, of what begins no token, or of
+/// an open string, a string with the character 0, a name of more than 63 bytes, or digits with a letter or `_`
+/// directly behind them, even if their number is too large; [`Fault::NumberTooLarge`] for an integer that is out of
+/// range. And [`TokenError::NoMemory`] if an allocation failed.
 pub fn tokens(alloc: Global, text: &str) -> Result<Vec<Token>, TokenError>
     ensures exact { Gives (λ v. all_placed v.items) result (tokens_in text.now) }
     ensures legal { IfOk result (λ v. All (λ t. IsLexeme (lexeme_of t.word)) v.items) }

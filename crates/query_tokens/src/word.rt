@@ -43,7 +43,8 @@ pub enum Word {
 /// A token and where it stands.
 #[derive(Debug, Drop)]
 pub struct Token {
-    /// The place of its first byte, counted in bytes from 0. An integer begins at its minus sign, a string at its quote.
+    /// The place of its first byte, counted in bytes from 0. An integer begins at its minus sign, a string at its
+    /// quote.
     pub at: usize,
     /// What it says.
     pub word: Word,

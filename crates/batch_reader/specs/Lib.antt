@@ -1,0 +1,3 @@
+pub mod Head
+pub mod Rows
+pub mod Refusal

@@ -1,0 +1,41 @@
+-- When a batch is refused, and by which refusal. All of this is our own.
+use Rattle.std.specs.Prelude.{◌≡◌, ◌≢◌, ℕ, ◌<◌, ◌≤◌, List, length, take, slice_index_or, []}
+use Rattle.grouping_model.specs.Datum.{Kind, Row}
+use Rattle.packed_rows.specs.Field.{IsLeftmostBad}
+use Rattle.batch_reader.specs.Head.{ReadsOrigin, ReadsBatchNumber}
+use Rattle.batch_reader.specs.Rows.{ReadsRows}
+use Rattle.batch_reader.specs.declared.error.BatchError.{BatchError}
+use Rattle.batch_reader.specs.declared.error.BatchError.TheVariants.{NoMemory, BadBatchHead, TooManyRows, RowCount, WrongWidth, BadField}
+
+-- the error of one record, unless memory ran out: a wrong number of fields, and else the leftmost bad field
+abbrev pub RecordFault : List Kind → List (List ℕ) → BatchError → Type 0
+RecordFault kinds fields NoMemory = Unit {0}
+RecordFault kinds fields WrongWidth = length fields ≢ length kinds
+RecordFault kinds fields (BadField column) = (length fields ≡ length kinds) × IsLeftmostBad kinds fields column
+RecordFault kinds fields error = ⊥
+
+-- the error of records, unless memory ran out: that of the first record that stands for no row
+pub record FirstFault (kinds : List Kind) (records : List (List (List ℕ))) (error : BatchError) : Type 0 where
+  pub place : ℕ
+  pub within : place < length records
+  pub before : (rows : List Row) × ReadsRows kinds (take place records) rows
+  pub fault : RecordFault kinds (slice_index_or records place []) error
+
+abbrev pub RowsFault : List Kind → List (List (List ℕ)) → BatchError → Type 0
+RowsFault kinds records NoMemory = Unit {0}
+RowsFault kinds records error = FirstFault kinds records error
+
+-- the head of a batch is right
+pub record HeadReads (origin number : List ℕ) : Type 0 where
+  pub origin_value : ℕ
+  pub number_value : ℕ
+  pub reads_origin : ReadsOrigin origin origin_value
+  pub reads_number : ReadsBatchNumber number number_value
+
+-- the error of a batch, unless memory ran out, in this order
+abbrev pub BuildFault : List Kind → List ℕ → List ℕ → ℕ → List (List (List ℕ)) → BatchError → Type 0
+BuildFault kinds origin number told records NoMemory = Unit {0}
+BuildFault kinds origin number told records BadBatchHead = ¬ (HeadReads origin number)
+BuildFault kinds origin number told records TooManyRows = HeadReads origin number × (65536 < told)
+BuildFault kinds origin number told records RowCount = HeadReads origin number × (told ≤ 65536) × (length records ≢ told)
+BuildFault kinds origin number told records error = HeadReads origin number × (told ≤ 65536) × (length records ≡ told) × FirstFault kinds records error

@@ -1,0 +1,69 @@
+//! Batches.
+
+ghost use Rattle.std.specs.Prelude.{◌≡◌, ◌≤◌, List, length, IfOk, IfErr};
+ghost use Rattle.grouping_model.specs.Datum.{Row};
+ghost use Rattle.packed_rows.specs.Columns.{kinds};
+ghost use Rattle.batch_reader.specs.Head.{ReadsOrigin, ReadsBatchNumber};
+ghost use Rattle.batch_reader.specs.Rows.{ReadsRows, packings, records_of};
+ghost use Rattle.batch_reader.specs.Refusal.{BuildFault};
+
+use crate::error::BatchError;
+use crate::head::{read_batch_number, read_origin};
+use crate::rows::{PackedRows, pack_records};
+use csv::ByteRecord;
+use packed_rows::Schema;
+use std::alloc::Global;
+
+/// The most rows of a batch.
+const MOST_ROWS: u32 = 65_536;
+
+/// A batch: the rows that an origin gave a number to.
+#[derive(Drop)]
+pub struct Batch {
+    /// The origin, 0 to 1,023.
+    pub origin: u16,
+    /// The number, 1 to 2,147,483,647.
+    pub number: u32,
+    /// The rows, packed by the schema that read them; at most 65,536.
+    pub rows: PackedRows,
+}
+
+/// The batch of records that stand for rows of a schema. Origin and number are 1 to 10 digits each, leading zeros
+/// included; `told` is how many rows the batch's head tells. The first refusal is told, in the order of `BatchError`.
+pub fn build_batch(
+    alloc: Global,
+    schema: &Schema,
+    origin: &[u8],
+    number: &[u8],
+    told: u32,
+    records: &[ByteRecord],
+) -> Result<Batch, BatchError>
+    ensures origin { IfOk result (λ batch. ReadsOrigin origin.now batch.origin) }
+    ensures number { IfOk result (λ batch. ReadsBatchNumber number.now batch.number) }
+    ensures few { IfOk result (λ batch. length batch.rows ≤ 65536) }
+    ensures told { IfOk result (λ batch. length batch.rows ≡ told) }
+    ensures rows { IfOk result (λ batch. (rows : List Row)
+        × ReadsRows (kinds schema.now) (records_of records.now) rows
+        × (batch.rows ≡ packings rows)) }
+    ensures refused { IfErr result (BuildFault (kinds schema.now) origin.now number.now told
+        (records_of records.now)) }
+{
+    let Some(origin) = read_origin(origin) else {
+        return Err(BatchError::BadBatchHead);
+    };
+    let Some(number) = read_batch_number(number) else {
+        return Err(BatchError::BadBatchHead);
+    };
+    if told > MOST_ROWS {
+        return Err(BatchError::TooManyRows);
+    }
+    if records.len() != told as usize {
+        return Err(BatchError::RowCount);
+    }
+    let rows = pack_records(alloc, schema, records)?;
+    Ok(Batch {
+        origin,
+        number,
+        rows,
+    })
+}

@@ -1,0 +1,47 @@
+//! Why a batch is refused.
+
+ghost use Rattle.std.specs.Prelude.{◌≡◌};
+ghost use Rattle.batch_reader.specs.declared.error.BatchError.TheVariants.{NoMemory};
+
+use std::alloc::{AllocError, AllocFailed};
+use thiserror::Error;
+
+/// Why a batch is refused. The first that applies is told, in this order, `NoMemory` aside; `WrongWidth` and
+/// `BadField` are those of the first row that is no row of the schema.
+#[derive(Clone, Copy, Debug, PartialEq, Eq, Error)]
+pub enum BatchError {
+    /// An allocation failed.
+    #[error("out of memory")]
+    NoMemory,
+    /// The origin isn't 0 to 1,023, or the number isn't 1 to 2,147,483,647, in 1 to 10 digits each.
+    #[error("bad head of a batch")]
+    BadBatchHead,
+    /// More than 65,536 rows are told.
+    #[error("too many rows")]
+    TooManyRows,
+    /// There are more or fewer rows than told.
+    #[error("wrong number of rows")]
+    RowCount,
+    /// A row has more or fewer fields than the schema has columns.
+    #[error("wrong number of fields")]
+    WrongWidth,
+    /// A row's field stands for no value of its column, the first being column 0.
+    #[error("bad field in column {column}")]
+    BadField { column: usize },
+}
+
+impl From<AllocError> for BatchError {
+    ghost from_gives = { λ _ e. e ≡ NoMemory };
+
+    fn from(_error: AllocError) -> BatchError {
+        BatchError::NoMemory
+    }
+}
+
+impl<T: Drop> From<AllocFailed<T>> for BatchError {
+    ghost from_gives = { λ _ e. e ≡ NoMemory };
+
+    fn from(_error: AllocFailed<T>) -> BatchError {
+        BatchError::NoMemory
+    }
+}

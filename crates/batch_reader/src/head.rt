@@ -1,0 +1,63 @@
+//! The head of a batch: its origin and its number.
+
+ghost use Rattle.std.specs.Prelude.{◌≡◌, ◌<◌, ◌≤◌, ◌^◌, IfSome, IfNone, ℕ};
+ghost use Rattle.std.specs.Str.Parse.{IsNumeral, digits_value};
+ghost use Rattle.batch_reader.specs.Head.{ReadsNumber, ReadsOrigin, ReadsBatchNumber};
+
+use std::str;
+
+/// The most digits of an origin or a number, leading zeros included.
+const MOST_DIGITS: usize = 10;
+
+/// The greatest origin.
+const LAST_ORIGIN: u64 = 1_023;
+
+/// The least number of a batch.
+const FIRST_NUMBER: u64 = 1;
+
+/// The greatest number of a batch.
+const LAST_NUMBER: u64 = 2_147_483_647;
+
+/// The number that digits stand for, if it has 64 bits.
+fn parse_digits(field: &[u8]) -> Option<u64>
+    ensures found { IfSome result (λ n. IsNumeral 10 field.now × (digits_value 10 field.now ≡ n)) }
+    ensures none { IfNone result (IsNumeral 10 field.now → 2 ^ 64 ≤ digits_value 10 field.now) }
+{
+    if field.starts_with(b"+") {
+        return None;
+    }
+    str::from_utf8(field).ok()?.parse().ok()
+}
+
+/// The number that 1 to 10 digits stand for, if it lies in a range.
+fn read_number(field: &[u8], least: u64, most: u64) -> Option<u64>
+    ensures found { IfSome result (λ n. ReadsNumber field.now n × (least ≤ n) × (n ≤ most)) }
+    ensures none { IfNone result ((n : ℕ) → ReadsNumber field.now n → least ≤ n → n ≤ most → ⊥) }
+{
+    if field.len() > MOST_DIGITS {
+        return None;
+    }
+    let number = parse_digits(field)?;
+    if number < least || number > most {
+        return None;
+    }
+    Some(number)
+}
+
+/// The origin that a field stands for.
+pub(crate) fn read_origin(field: &[u8]) -> Option<u16>
+    ensures found { IfSome result (λ n. ReadsOrigin field.now n) }
+    ensures none { IfNone result ((n : ℕ) → ¬ (ReadsOrigin field.now n)) }
+{
+    let origin = read_number(field, 0, LAST_ORIGIN)?;
+    Some(origin as u16)
+}
+
+/// The number of a batch that a field stands for.
+pub(crate) fn read_batch_number(field: &[u8]) -> Option<u32>
+    ensures found { IfSome result (λ n. ReadsBatchNumber field.now n) }
+    ensures none { IfNone result ((n : ℕ) → ¬ (ReadsBatchNumber field.now n)) }
+{
+    let number = read_number(field, FIRST_NUMBER, LAST_NUMBER)?;
+    Some(number as u32)
+}

@@ -1,0 +1,14 @@
+//! Batches of rows, which an origin numbers from 1 on.
+#![tactic(auto)]
+
+mod batch;
+mod error;
+mod head;
+mod rows;
+
+pub use batch::{Batch, build_batch};
+pub use error::BatchError;
+pub use rows::PackedRows;
+
+#[cfg(test)]
+mod tests;

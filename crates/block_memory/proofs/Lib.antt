@@ -1,0 +1,3 @@
+pub mod CellLemmas
+mod MemoryLemmas
+mod Steps

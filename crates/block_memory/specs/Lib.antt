@@ -1,0 +1,6 @@
+pub mod BlockLends
+pub mod Cells
+pub mod Fields
+pub mod Lends
+pub mod Ownership
+pub mod Words
