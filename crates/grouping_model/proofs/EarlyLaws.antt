@@ -22,7 +22,7 @@ filter_all P t [] all = tt
 filter_all P t (x ∷ xs) (p, all) =
     elim (t x) as (λ b. AllByRecursion P (cond b (x ∷ filter t xs) (filter t xs))) [ true ↦ (p, filter_all P t xs all) | false ↦ filter_all P t xs all ]
 
-filter_rises : {X : Type 0} (cmp : X → X → Ordering) (t : X → Bool) (xs : List X) → IsStrictlySortedBy cmp xs → IsStrictlySortedBy cmp (filter t xs)
+pub filter_rises : {X : Type 0} (cmp : X → X → Ordering) (t : X → Bool) (xs : List X) → IsStrictlySortedBy cmp xs → IsStrictlySortedBy cmp (filter t xs)
 unfolding IsStrictlySortedBy
 filter_rises cmp t [] rising = tt
 filter_rises cmp t (x ∷ xs) (below, rising) =

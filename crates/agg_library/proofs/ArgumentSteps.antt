@@ -1,0 +1,46 @@
+-- What one more argument makes of a state, where the function takes it.
+use Rattle.std.proofs.Common.{◌≡◌, refl, ℕ, zero, suc, ◌<◌, ◌≤◌, List, [], sym, ap, subst, ◌∙◌, arith, Bool, ℤ, Option, Some}
+use Rattle.grouping_model.specs.Datum.{Bigint, Boolean, Text}
+use Rattle.grouping_model.specs.Aggregates.{Function, Sum, Partial, Summed, Number, Truth_value, partial, outcome, Numeric}
+use Rattle.grouping_model.specs.Combining.{transition, combine}
+use Rattle.packed_rows.specs.View.{datum_of}
+use Rattle.packed_rows.specs.declared.Value.{Value}
+use Rattle.packed_rows.specs.declared.Value.TheVariants as value
+use Rattle.agg_protocol.specs.Arguments.{Takes}
+use Rattle.agg_protocol.specs.States.{Denotes, shape_of, rows_of, most_rows, A_number, A_truth}
+use Rattle.agg_protocol.proofs.Denoting.{shape_known, within}
+use Rattle.agg_protocol.proofs.ArgumentLaws.{takes_number, takes_truth, number_passes, truth_passes, one_alone_moves}
+use Rattle.agg_library.specs.StateRows.{partial_after}
+
+-- a value that is no number, and one that is no truth value, is null where the function takes it
+pub number_kept : (f : Function) (o : Option ℤ) (v : Value) → shape_of f ≡ A_number → Takes f (datum_of v) → ((z : ℤ) → v ≡ value.Bigint z → ⊥) → Number o ≡ transition f (Number o) (datum_of v)
+number_kept f o value.Null shape takes none = sym (number_passes f o)
+number_kept f o (value.Bigint z) shape takes none = absurd (none z refl)
+number_kept f o (value.Boolean b) shape takes none = absurd (takes_number f (Boolean b) shape takes)
+number_kept f o (value.Text text) shape takes none = absurd (takes_number f (Text text.now) shape takes)
+
+pub truth_kept : (f : Function) (o : Option Bool) (v : Value) → shape_of f ≡ A_truth → Takes f (datum_of v) → ((b : Bool) → v ≡ value.Boolean b → ⊥) → Truth_value o ≡ transition f (Truth_value o) (datum_of v)
+truth_kept f o value.Null shape takes none = sym (truth_passes f o)
+truth_kept f o (value.Boolean b) shape takes none = absurd (none b refl)
+truth_kept f o (value.Bigint z) shape takes none = absurd (takes_truth f (Bigint z) shape takes)
+truth_kept f o (value.Text text) shape takes none = absurd (takes_truth f (Text text.now) shape takes)
+
+pub sum_kept : (n : ℕ) (y : ℤ) (v : Value) → Takes Sum (datum_of v) → ((z : ℤ) → v ≡ value.Bigint z → ⊥) → Summed n y ≡ transition Sum (Summed n y) (datum_of v)
+sum_kept n y value.Null takes none = refl
+sum_kept n y (value.Bigint z) takes none = absurd (none z refl)
+sum_kept n y (value.Boolean b) takes none = absurd takes
+sum_kept n y (value.Text text) takes none = absurd takes
+
+-- a sum of some numbers
+pub outcome_some : (n : ℕ) (z : ℤ) → zero < n → outcome (Summed n z) ≡ Numeric z
+outcome_some zero z some = absurd (omega arith)
+outcome_some (suc n) z some = refl
+
+-- the state after a row, made of the state before it and the state of the row's argument alone
+pub advanced : (f : Function) (m : ℕ) (p first one q : Partial) (reach : Option Value) (v : Value) (old new : List ℕ) → Denotes m (shape_of f) old p → Takes f (datum_of v) → reach ≡ Some v
+    → first ≡ partial f [] → one ≡ transition f first (datum_of v) → q ≡ combine f p one → rows_of (combine f p one) ≤ m → Denotes most_rows (shape_of f) new q → Denotes m (shape_of f) new (partial_after f p reach)
+advanced f m p first one q reach v old new denotes takes reached is moved both few written =
+    let moves : q ≡ partial_after f p reach =
+    one_alone_moves f p first one q (datum_of v) (shape_known m (shape_of f) p denotes.0) takes is moved both ∙ ap (partial_after f p) (sym reached) in
+    let within_m : rows_of q ≤ m = subst (λ r. rows_of r ≤ m) (sym both) few in
+    subst (λ r. Denotes m (shape_of f) new r) moves (within most_rows m (shape_of f) q written.0 within_m, written.1)

@@ -1,0 +1,2 @@
+pub mod ArgumentSteps
+pub mod RowLaws

@@ -1,0 +1,93 @@
+-- Rows of states, part by part.
+use Rattle.std.proofs.Common.{◌≡◌, refl, ℕ, zero, suc, ◌+◌, Some, slice_get, slice_set, unwrap_or, append_assoc, List, [], ◌∷◌, ◌++◌, length, take, drop, sym, ap, subst, ◌∙◌, arith}
+use Rattle.std.proofs.Math.Seq.{take-append_seam, drop-append_seam, take-add}
+use Rattle.std.proofs.lemmas.List.{drop-drop}
+use Rattle.std.proofs.lemmas.List.Sums.{sum_by-cons}
+use Rattle.std.specs.Prelude.{Result, Ok, Err, OnOk}
+use Rattle.grouping_model.specs.Aggregates.{Partial}
+use Rattle.grouping_model.specs.Combining.{combine, combine_all}
+use Rattle.agg_protocol.specs.States as states
+use Rattle.agg_library.specs.declared.kind.AggKind.{AggKind}
+use Rattle.agg_library.specs.Kinds.{function_of, functions_of, kind_shape, kind_width, row_width}
+use Rattle.agg_library.specs.StateRows.{Denotes, with_part}
+use Rattle.agg_protocol.proofs.Denoting.{width_known}
+
+-- a fact on success, from another
+pub on_ok : {X E P Q : Type 0} (r : Result X E) → (P → Q) → OnOk r P → OnOk r Q
+on_ok (Ok x) f h = f h
+on_ok (Err e) f h = tt
+
+-- no states at all
+pub denotes_end : (m : ℕ) (kinds : List AggKind) (row : List ℕ) → kinds ≡ [] → row ≡ [] → Denotes m kinds row []
+denotes_end m kinds row e none = subst (λ ks. Denotes m ks row []) (sym e) none
+
+-- a first part and the rest
+pub denotes_cons : (m : ℕ) (kind : AggKind) (kinds ks : List AggKind) (row front back : List ℕ) (p : Partial) (ps : List Partial) → kinds ≡ kind ∷ ks → front ≡ take (kind_width kind) row → back ≡ drop (kind_width kind) row
+    → states.Denotes m (kind_shape kind) front p → Denotes m ks back ps → Denotes m kinds row (p ∷ ps)
+denotes_cons m kind kinds ks row front back p ps e ef eb d ds =
+    subst (λ k. Denotes m k row (p ∷ ps)) (sym e) (subst (λ b. states.Denotes m (kind_shape kind) b p) ef d, subst (λ b. Denotes m ks b ps) eb ds)
+
+-- the same of a first part and a rest that were written
+pub combined_cons : (m : ℕ) (kind : AggKind) (kinds ks : List AggKind) (front back : List ℕ) (p q : Partial) (ps qs : List Partial) → kinds ≡ kind ∷ ks
+    → states.Denotes m (kind_shape kind) front (combine (function_of kind) p q) → Denotes m ks back (combine_all (functions_of ks) ps qs) → Denotes m kinds (front ++ back) (combine_all (functions_of kinds) (p ∷ ps) (q ∷ qs))
+combined_cons m kind kinds ks front back p q ps qs e d ds =
+    let wide : length front ≡ kind_width kind = width_known m (kind_shape kind) front (combine (function_of kind) p q) d in
+    subst (λ k. Denotes m k (front ++ back) (combine_all (functions_of k) (p ∷ ps) (q ∷ qs))) (sym e)
+    (denotes_cons m kind (kind ∷ ks) ks (front ++ back) front back (combine (function_of kind) p q) (combine_all (functions_of ks) ps qs) refl
+    (sym (take-append_seam front back) ∙ ap (λ n. take n (front ++ back)) wide) (sym (drop-append_seam front back) ∙ ap (λ n. drop n (front ++ back)) wide) d ds)
+
+-- a list with no members
+pub no_members : {X : Type 0} (xs : List X) → length xs ≡ 0 → xs ≡ []
+no_members [] e = refl
+no_members (x ∷ xs) e = absurd (omega arith)
+
+-- nothing combined is nothing
+pub combined_end : (m : ℕ) (kinds : List AggKind) (row : List ℕ) → kinds ≡ [] → row ≡ [] → Denotes m kinds row (combine_all (functions_of kinds) [] [])
+combined_end m kinds row e none = subst (λ ks. Denotes m ks row (combine_all (functions_of ks) [] [])) (sym e) none
+
+some_same : {X : Type 0} (x y : X) → Some x ≡ Some y → x ≡ y
+some_same x y e = ap (λ o. unwrap_or o x) e
+
+-- the place of a part behind a first one
+place_behind : (k : AggKind) (ks : List AggKind) → row_width (k ∷ ks) ≡ kind_width k + row_width ks
+place_behind k ks = sum_by-cons kind_width k ks
+
+behind : (k : AggKind) (ks : List AggKind) (row : List ℕ) → drop (row_width ks) (drop (kind_width k) row) ≡ drop (row_width (k ∷ ks)) row
+behind k ks row = drop-drop (row_width ks) (kind_width k) row ∙ ap (λ n. drop n row) (sym (place_behind k ks))
+
+-- the part at a place denotes the partial result there
+pub part_read : (m : ℕ) (kinds : List AggKind) (row : List ℕ) (ps : List Partial) (i : ℕ) (kind : AggKind) (p : Partial) → Denotes m kinds row ps → slice_get kinds i ≡ Some kind → slice_get ps i ≡ Some p
+    → states.Denotes m (kind_shape kind) (take (kind_width kind) (drop (row_width (take i kinds)) row)) p
+part_read m [] row ps zero kind p d k e = cc
+part_read m [] row ps (suc i) kind p d k e = cc
+part_read m (k0 ∷ ks) row [] i kind p d k e = absurd d
+part_read m (k0 ∷ ks) row (p0 ∷ ps) zero kind p d k e =
+    subst (λ q. states.Denotes m (kind_shape kind) (take (kind_width kind) row) q) (some_same p0 p e)
+    (subst (λ j. states.Denotes m (kind_shape j) (take (kind_width j) row) p0) (some_same k0 kind k) d.0)
+part_read m (k0 ∷ ks) row (p0 ∷ ps) (suc i) kind p d k e =
+    subst (λ b. states.Denotes m (kind_shape kind) (take (kind_width kind) b) p) (behind k0 (take i ks) row) (part_read m ks (drop (kind_width k0) row) ps i kind p d.1 k e)
+
+-- a row with a part written anew
+pub part_written : (m : ℕ) (kinds : List AggKind) (row : List ℕ) (ps : List Partial) (i : ℕ) (kind : AggKind) (part : List ℕ) (q : Partial) → Denotes m kinds row ps → slice_get kinds i ≡ Some kind → states.Denotes m (kind_shape kind) part q
+    → Denotes m kinds (with_part kinds row i kind part) (slice_set ps i q)
+part_written m [] row ps zero kind part q d k e = cc
+part_written m [] row ps (suc i) kind part q d k e = cc
+part_written m (k0 ∷ ks) row [] i kind part q d k e = absurd d
+part_written m (k0 ∷ ks) row (p0 ∷ ps) zero kind part q d k e =
+    let same = some_same k0 kind k in
+    let wide : length part ≡ kind_width kind = width_known m (kind_shape kind) part q e in
+    denotes_cons m kind (k0 ∷ ks) ks (part ++ drop (kind_width kind) row) part (drop (kind_width k0) row) q ps (ap (λ j. j ∷ ks) same)
+    (sym (take-append_seam part (drop (kind_width kind) row)) ∙ ap (λ n. take n (part ++ drop (kind_width kind) row)) wide)
+    (ap (λ j. drop (kind_width j) row) same ∙ sym (drop-append_seam part (drop (kind_width kind) row)) ∙ ap (λ n. drop n (part ++ drop (kind_width kind) row)) wide) e d.1
+part_written m (k0 ∷ ks) row (p0 ∷ ps) (suc i) kind part q d k e =
+    let front = take (kind_width k0) row in
+    let back = drop (kind_width k0) row in
+    let wide : length front ≡ kind_width k0 = width_known m (kind_shape k0) front p0 d.0 in
+    let rest = with_part ks back i kind part in
+    let split : with_part (k0 ∷ ks) row (suc i) kind part ≡ front ++ rest =
+    ap (λ a. a ++ (part ++ drop (kind_width kind) (drop (row_width (k0 ∷ take i ks)) row))) (ap (λ n. take n row) (place_behind k0 (take i ks)) ∙ take-add (kind_width k0) (row_width (take i ks)) row)
+    ∙ append_assoc front (take (row_width (take i ks)) back) (part ++ drop (kind_width kind) (drop (row_width (k0 ∷ take i ks)) row))
+    ∙ ap (λ b. front ++ (take (row_width (take i ks)) back ++ (part ++ drop (kind_width kind) b))) (sym (behind k0 (take i ks) row)) in
+    subst (λ b. Denotes m (k0 ∷ ks) b (p0 ∷ slice_set ps i q)) (sym split)
+    (denotes_cons m k0 (k0 ∷ ks) ks (front ++ rest) front rest p0 (slice_set ps i q) refl (sym (take-append_seam front rest) ∙ ap (λ n. take n (front ++ rest)) wide)
+    (sym (drop-append_seam front rest) ∙ ap (λ n. drop n (front ++ rest)) wide) d.0 (part_written m ks back ps i kind part q d.1 k e))

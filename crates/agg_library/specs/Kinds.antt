@@ -1,0 +1,37 @@
+-- The function of each kind of aggregate, and the width of its states.
+use Rattle.std.specs.Prelude.{ℕ, List, map, sum_by}
+use Rattle.grouping_model.specs.Aggregates as model
+use Rattle.grouping_model.specs.Aggregates.{Function}
+use Rattle.agg_protocol.specs.States.{Shape, shape_of, width_of}
+use Rattle.agg_library.specs.declared.kind.AggKind.{AggKind}
+use Rattle.agg_library.specs.declared.kind.AggKind.TheVariants.{CountRows, Count, Sum, Min, Max, BitAnd, BitOr, BitXor, BoolAnd, BoolOr, Every}
+
+-- the function that a kind names (PostgreSQL 17, 9.21 Aggregate Functions)
+abbrev pub function_of : AggKind → Function
+function_of CountRows = model.Count_rows
+function_of Count = model.Count
+function_of Sum = model.Sum
+function_of Min = model.Min
+function_of Max = model.Max
+function_of BitAnd = model.Bit_and
+function_of BitOr = model.Bit_or
+function_of BitXor = model.Bit_xor
+function_of BoolAnd = model.Bool_and
+function_of BoolOr = model.Bool_or
+function_of Every = model.Every
+
+-- the functions that some kinds name (own)
+abbrev pub functions_of : List AggKind → List Function
+functions_of kinds = map function_of kinds
+
+-- what the states of a kind hold (own)
+abbrev pub kind_shape : AggKind → Shape
+kind_shape kind = shape_of (function_of kind)
+
+-- how many bytes a state of a kind has (own)
+abbrev pub kind_width : AggKind → ℕ
+kind_width kind = width_of (kind_shape kind)
+
+-- how many bytes a row of states has (own)
+abbrev pub row_width : List AggKind → ℕ
+row_width kinds = sum_by kind_width kinds

@@ -1,0 +1,39 @@
+-- Rows of states: the states of some aggregates, one after the other.
+use Rattle.std.specs.Prelude.{◌≡◌, ℕ, ◌≤◌, List, [], ◌∷◌, ◌++◌, map, take, drop, Option, Some, None}
+use Rattle.grouping_model.specs.Aggregates.{Function, Partial, partial}
+use Rattle.grouping_model.specs.Combining.{transition}
+use Rattle.packed_rows.specs.View.{datum_of}
+use Rattle.packed_rows.specs.declared.Value.{Value}
+use Rattle.agg_protocol.specs.States as states
+use Rattle.agg_protocol.specs.States.{rows_of}
+use Rattle.agg_library.specs.declared.kind.AggKind.{AggKind}
+use Rattle.agg_library.specs.Kinds.{function_of, kind_shape, kind_width, row_width}
+
+-- the bytes denote these partial results, one of each kind, that count at most so many rows each (own)
+abbrev pub Denotes : ℕ → List AggKind → List ℕ → List Partial → Type 0
+Denotes most [] bytes [] = bytes ≡ []
+Denotes most (kind ∷ kinds) bytes (p ∷ ps) = states.Denotes most (kind_shape kind) (take (kind_width kind) bytes) p × Denotes most kinds (drop (kind_width kind) bytes) ps
+Denotes most kinds bytes partials = ⊥
+
+-- what is known before any row (own)
+abbrev pub initial_partials : List AggKind → List Partial
+initial_partials kinds = map (λ kind. partial (function_of kind) []) kinds
+
+-- what is known after a row, whose value reaches the aggregate or not
+-- (PostgreSQL 17, 4.2.7: only the rows for which FILTER is true are fed to the function)
+abbrev pub partial_after : Function → Partial → Option Value → Partial
+partial_after function p None = p
+partial_after function p (Some value) = transition function p (datum_of value)
+
+-- no partial result counts more rows (own)
+abbrev pub AllWithin : ℕ → List Partial → Type 0
+AllWithin most [] = Unit {0}
+AllWithin most (p ∷ ps) = (rows_of p ≤ most) × AllWithin most ps
+
+-- the part of the aggregate at a place (own)
+abbrev pub part_at : List AggKind → List ℕ → ℕ → AggKind → List ℕ
+part_at kinds row i kind = take (kind_width kind) (drop (row_width (take i kinds)) row)
+
+-- the row with the part at a place written anew (own)
+abbrev pub with_part : List AggKind → List ℕ → ℕ → AggKind → List ℕ → List ℕ
+with_part kinds row i kind part = take (row_width (take i kinds)) row ++ (part ++ drop (kind_width kind) (drop (row_width (take i kinds)) row))

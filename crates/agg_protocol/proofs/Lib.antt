@@ -1,0 +1,3 @@
+pub mod Bytes
+pub mod Denoting
+pub mod ArgumentLaws
