@@ -1,0 +1,15 @@
+//! Laws of what a replica keeps.
+
+ghost use Rattle.std.specs.Prelude.{◌≡◌, ℕ, List, [], Some};
+ghost use Rattle.grouping_model.specs.Datum.{Row};
+ghost use Rattle.grouping_model.specs.World.{World, Batch};
+ghost use Rattle.batch_reader.specs.Rows.{packings};
+ghost use Rattle.replica_merge.specs.Kept.{Kept, KeepsRows, Fits};
+
+/// A replica that knows nothing fits every world, and one that is given a batch of a world goes on to fit it.
+pub fn fitting()
+    ensures nothing { (world : World) → Fits world [] }
+    ensures more { (world : World) (old new : Kept) (batch : Batch) (rows : List (List ℕ)) (those :
+        List Row) → Fits world old → world batch.0 batch.1 ≡ Some those → rows ≡ packings those →
+        KeepsRows old new batch rows → Fits world new }
+{}
