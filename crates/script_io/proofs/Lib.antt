@@ -1,0 +1,4 @@
+pub mod InputFacts
+pub mod RecordFacts
+pub mod ListFacts
+pub mod OutputFacts

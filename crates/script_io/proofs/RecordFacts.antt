@@ -1,0 +1,126 @@
+-- Each record takes a byte at least, so as many turns as a text has bytes read all of its records.
+use Rattle.std.proofs.Common.{◌≡◌, ◌≤◌, ◌<◌, ◌+◌, ℕ, zero, suc, List, [], ◌∷◌, length, Option, Some, None, true, false, refl, sym, ap, subst, arith, ◌∙◌}
+use Rattle.csv.specs.Machine.{Read, ends_at_end, field_after, fields_after, is_end, next_record, step}
+use Rattle.csv.specs.Reading.{default_config, records_from, records_next}
+use Rattle.csv.specs.declared.parser.State.{State}
+use Rattle.csv.specs.declared.parser.State.TheVariants as st
+use Rattle.csv.specs.declared.reader.Reader.{Reader}
+use Rattle.csv.specs.Reading.{Reached, ReadRecord, source_of, strip_bom}
+use Rattle.csv.proofs.ReadFacts.{rows-end, rows-more}
+use Rattle.std.specs.Borrow.{Bor}
+use Rattle.std.specs.Prelude.{IsSome, unwrap_or}
+use Rattle.std.proofs.Common.{add-one}
+use Rattle.std.proofs.lemmas.Bool.{false≢true}
+use Rattle.script_io.specs.Records.{Record, records_of, records_on}
+
+-- a record ends in a state between two records
+pub end-between : (s : State) (c : ℕ) → is_end (step default_config s c).1 ≡ true → ends_at_end (step default_config s c).0 ≡ false
+end-between st.StartRecord c e = grind arith
+end-between st.StartField c e = grind arith
+end-between st.InField c e = grind arith
+end-between st.InQuoted c e = grind arith
+end-between st.InEscape c e = grind arith
+end-between st.AfterQuote c e = grind arith
+end-between st.InComment c e = grind arith
+end-between st.AfterCr c e = grind arith
+
+-- a read leaves no more than there was, and less where it starts between two records
+pub next-shrinks : (s : State) (fields : List (List ℕ)) (field text : List ℕ) (r : Read) → next_record default_config s fields field text ≡ Some r
+    → (ends_at_end r.1 ≡ false) × (length r.2 ≤ length text) × (ends_at_end s ≡ false → length r.2 < length text)
+unfolding next_record
+next-shrinks s fields field [] r e = grind arith
+next-shrinks s fields field (c ∷ rest) r e =
+    let further = next-shrinks (step default_config s c).0 (fields_after (step default_config s c).1 fields field) (field_after (step default_config s c).1 c field) rest r in
+    let between = end-between s c in
+    grind arith
+
+-- a turn more reads the first record
+records-turn : (k : ℕ) (s : State) (text : List ℕ) (o : Option Read) → next_record default_config s [] [] text ≡ o
+    → records_from default_config (k + 1) s text ≡ records_next (records_from default_config k) o
+unfolding records_from
+records-turn k s text o e = rw (add-one k) (ap (records_next (records_from default_config k)) e)
+
+turns-alike : (m n : ℕ) (o : Option Read)
+    → ((r : Read) → o ≡ Some r → records_from default_config m r.1 r.2 ≡ records_from default_config n r.1 r.2)
+    → records_next (records_from default_config m) o ≡ records_next (records_from default_config n) o
+turns-alike m n None same = refl
+turns-alike m n (Some r) same = ap (λ rest. r.0 ∷ rest) (same r refl)
+
+-- as many turns as there are bytes, and one more, are enough
+pub turns-enough : (m n : ℕ) (s : State) (text : List ℕ) → ends_at_end s ≡ false → length text < m → length text < n
+    → records_from default_config m s text ≡ records_from default_config n s text
+unfolding records_from
+turns-enough zero n s text between p q = absurd (omega arith)
+turns-enough (suc m) zero s text between p q = absurd (omega arith)
+turns-enough (suc m) (suc n) s text between p q =
+    turns-alike m n (next_record default_config s [] [] text) (λ r e.
+    let shorter = next-shrinks s [] [] text r e in
+    let short : length r.2 < length text = shorter.2 between in
+    turns-enough m n r.1 r.2 shorter.0 (omega arith) (omega arith))
+
+-- the records of a text are the first and those of the rest
+pub records-next : (s : State) (text : List ℕ) (r : Read) → ends_at_end s ≡ false → next_record default_config s [] [] text ≡ Some r
+    → (records_on s text ≡ r.0 ∷ records_on r.1 r.2) × (ends_at_end r.1 ≡ false)
+records-next s text r between e =
+    let shorter = next-shrinks s [] [] text r e in
+    let short : length r.2 < length text = shorter.2 between in
+    let rest = turns-enough (length text) (length r.2 + 1) r.1 r.2 shorter.0 short (omega arith) in
+    (records-turn (length text) s text (Some r) e ∙ ap (λ l. r.0 ∷ l) rest, shorter.0)
+
+pub records-none : (s : State) (text : List ℕ) → next_record default_config s [] [] text ≡ None → records_on s text ≡ []
+records-none s text e = records-turn (length text) s text None e
+
+-- ---- the same, of a reader over memory
+
+abbrev pub known : Bor (List ℕ) → Option (List ℕ)
+known s = Some s.now
+
+some-is : (o : Option (List ℕ)) → IsSome o → o ≡ Some (unwrap_or o [])
+some-is None h = absurd (false≢true h)
+some-is (Some x) h = refl
+
+-- a read that found a record took the first of those that were left
+pub reader-next : (a b : Reader (Bor (List ℕ))) (f : Record) → IsSome (source_of known a) → a.config ≡ default_config
+    → ends_at_end a.state ≡ false → ReadRecord known a b true f
+    → IsSome (source_of known b) × (ends_at_end b.state ≡ false)
+    × (records_on a.state (unwrap_or (source_of known a) []) ≡ f ∷ records_on b.state (unwrap_or (source_of known b) []))
+unfolding Reached
+reader-next a b f there config between read =
+    let y = unwrap_or (source_of known a) [] in
+    let more = rows-more known a b f default_config a.state y y [] config (some-is _ there) (refl, refl) read in
+    let r = more.2.0 in
+    let step = records-next a.state y r between more.2.1 in
+    let state : r.1 ≡ b.state = more.2.3.0 in
+    let rest : r.2 ≡ more.0 = more.2.3.1 in
+    let left : r.2 ≡ unwrap_or (source_of known b) [] = rest ∙ sym (ap (λ o. unwrap_or o []) more.1) in
+    let found : IsSome (source_of known b) = subst IsSome (sym more.1) refl in (
+      found,
+      subst (λ s. ends_at_end s ≡ false) state step.1,
+      step.0 ∙ ap (λ l. l ∷ records_on r.1 r.2) (sym more.2.2) ∙ ap (λ s. f ∷ records_on s r.2) state ∙ ap (λ t. f ∷ records_on b.state t) left,
+    )
+
+-- a read that found none leaves none
+pub reader-end : (a b : Reader (Bor (List ℕ))) (f : Record) → IsSome (source_of known a) → a.config ≡ default_config
+    → ReadRecord known a b false f → records_on a.state (unwrap_or (source_of known a) []) ≡ []
+reader-end a b f there config read = records-none a.state _ (rows-end known a b f default_config _ config (some-is _ there) read)
+
+few_next : (n : ℕ) (o : Option Read) → ((r : Read) → length (records_from default_config n r.1 r.2) ≤ n)
+    → length (records_next (records_from default_config n) o) ≤ suc n
+few_next n None h = omega arith
+few_next n (Some r) h = let short = h r in omega arith
+
+-- a text has no more records than bytes, and one
+pub records-few : (n : ℕ) (s : State) (text : List ℕ) → length (records_from default_config n s text) ≤ n
+unfolding records_from
+records-few zero s text = omega arith
+records-few (suc n) s text = few_next n (next_record default_config s [] [] text) (λ r. records-few n r.1 r.2)
+
+pub strip-short : (xs : List ℕ) → length (strip_bom xs) ≤ length xs
+unfolding strip_bom
+strip-short [] = omega arith
+strip-short (a ∷ []) = omega arith
+strip-short (a ∷ b ∷ []) = omega arith
+strip-short (a ∷ b ∷ c ∷ rest) = grind arith
+
+pub length-records_of : (script : List ℕ) → length (records_of script) ≤ length script + 1
+length-records_of script = let few = records-few (length (strip_bom script) + 1) st.StartRecord (strip_bom script) in let short = strip-short script in omega arith

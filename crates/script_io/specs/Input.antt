@@ -1,0 +1,17 @@
+-- What reading a whole script does to the bytes that a reader has left.
+use Rattle.std.specs.Prelude.{◌≡◌, ℕ, ◌<◌, ◌≤◌, ◌+◌, List, length, Option}
+use Rattle.std.specs.Io.KnownBytes.{Consumes}
+use Rattle.script_io.specs.declared.input.InputError.{InputError}
+use Rattle.script_io.specs.declared.input.InputError.TheVariants.{NoMemory, TooLong, ReadFault}
+
+-- own: some bytes were read, and no more than this many
+abbrev pub ConsumesAtMost : Option (List ℕ) → Option (List ℕ) → ℕ → Type 0
+ConsumesAtMost old new most = (bytes : List ℕ) × Consumes old new bytes × (length bytes ≤ most)
+
+-- own: what was read before each error: one byte past the limit, or no more than the limit; and
+-- memory is wanted only for bytes that were read
+abbrev pub StopsReading : Option (List ℕ) → Option (List ℕ) → ℕ → InputError → Type 0
+StopsReading old new most TooLong = (bytes : List ℕ) × Consumes old new bytes × (length bytes ≡ most + 1)
+StopsReading old new most NoMemory = (bytes : List ℕ) × Consumes old new bytes × (0 < length bytes)
+    × (length bytes ≤ most)
+StopsReading old new most ReadFault = ConsumesAtMost old new most

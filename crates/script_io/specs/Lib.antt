@@ -1,0 +1,4 @@
+pub mod Input
+pub mod Records
+pub mod Left
+pub mod Output

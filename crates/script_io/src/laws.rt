@@ -1,0 +1,43 @@
+//! What a caller may rely on beyond one call. Each is a function that does nothing: its clauses are
+//! the laws.
+
+ghost use Rattle.std.specs.Prelude.{◌≡◌, ◌<◌, ◌≤◌, ℕ, ◌+◌, List, ◌++◌, length, Option, IfSome};
+ghost use Rattle.std.specs.Io.KnownBytes.{Appends, Consumes, IsAtEnd, Keeps};
+ghost use Rattle.script_io.specs.Input.{StopsReading};
+ghost use Rattle.script_io.specs.Output.{AppendsFront};
+ghost use Rattle.script_io.specs.Records.{records_of};
+
+use crate::input::InputError;
+
+/// Of a reader whose bytes are known: a script that was read is all of them, and one that was too long
+/// has more bytes than the limit.
+pub fn reads_are_whole()
+    ensures whole { (old new : Option (List ℕ)) → (text : List ℕ)
+        → Consumes old new text → IsAtEnd new → IfSome old (λ all. all ≡ text) }
+    ensures longer { (old new : Option (List ℕ)) → (most : ℕ)
+        → StopsReading old new most InputError.TooLong → IfSome old (λ all. most < length all) }
+{}
+
+/// A script has no more records than bytes, and one: a bound for a loop over them.
+pub fn records_are_few()
+    ensures { (script : List ℕ) → length (records_of script) ≤ length script + 1 }
+{}
+
+/// What counts as the front of some bytes: none of them, and all of them.
+pub fn fronts_range()
+    ensures none { (old new : Option (List ℕ)) → (bytes : List ℕ)
+        → Keeps old new → AppendsFront old new bytes }
+    ensures all { (old new : Option (List ℕ)) → (bytes : List ℕ)
+        → Appends old new bytes → AppendsFront old new bytes }
+{}
+
+/// Two writes in turn, of `xs` and then of `ys`. Both whole make `xs ++ ys`; where either stopped and
+/// nothing more was written, the writer took the front of `xs ++ ys`.
+pub fn writes_compose()
+    ensures both { (a b c : Option (List ℕ)) → (xs ys : List ℕ)
+        → Appends a b xs → Appends b c ys → Appends a c (xs ++ ys) }
+    ensures first_stopped { (a b c : Option (List ℕ)) → (xs ys : List ℕ)
+        → AppendsFront a b xs → Keeps b c → AppendsFront a c (xs ++ ys) }
+    ensures second_stopped { (a b c : Option (List ℕ)) → (xs ys : List ℕ)
+        → Appends a b xs → AppendsFront b c ys → AppendsFront a c (xs ++ ys) }
+{}

@@ -1,0 +1,17 @@
+//! The edges of a program that runs a script of CSV records, over any reader and any writer: it reads
+//! the whole script up to a limit, gives its records in turn, and writes bytes so that also after a
+//! fault the caller knows what was written.
+#![tactic(auto)]
+
+mod input;
+mod laws;
+mod output;
+mod records;
+
+pub use input::{InputError, read_input};
+pub use laws::{fronts_range, reads_are_whole, records_are_few, writes_compose};
+pub use output::{WriteFault, put_all};
+pub use records::Records;
+
+#[cfg(test)]
+mod tests;
