@@ -1,1 +1,3 @@
 pub mod QueryTokens
+pub mod QueryText
+pub mod PrintedQuery

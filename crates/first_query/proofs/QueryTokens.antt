@@ -4,21 +4,15 @@ use Rattle.std.specs.declared.alloc.Global.{Global}
 use Rattle.std.specs.declared.string.String.{String}
 use Rattle.query_tokens.specs.declared.word.Word.{Word}
 use Rattle.query_tokens.specs.declared.word.Word.TheVariants as words
-use Rattle.std.proofs.Common.{sym, ◌∙◌, ap, subst}
+use Rattle.std.proofs.Common.{sym, ◌∙◌, ap}
 use Rattle.std.proofs.lemmas.List.{take-append-drop, take-map, drop-map}
-use Rattle.std.proofs.lemmas.Option.{slice_get-map, slice_get_read}
+use Rattle.std.proofs.lemmas.Option.{slice_get-map, slice_get_read, same_Some}
 use Rattle.std.specs.List.{IsSplitAt}
 use Rattle.query_tokens.specs.declared.word.Token.{Token}
 use Rattle.query_tokens.specs.Words.{Lexeme, Name, Placed, lexeme_of, placed_of, all_placed}
 use Rattle.query_tokens.specs.Spelling.{lexemes_of}
-use Rattle.std.specs.Prelude.{Result, Ok, IfNone, IfErr}
-use Rattle.std.specs.Option.{ok_or}
-use Rattle.query_tokens.specs.declared.fault.Fault.{Fault}
-use Rattle.query_tokens.specs.Tokens.{tokens_in}
-use Rattle.packed_rows.specs.Columns.{Column}
-use Rattle.first_query.specs.declared.query.Query.{Query}
-use Rattle.first_query.specs.declared.query.QueryError.TheVariants.{Unsupported}
-use Rattle.first_query.specs.Text.{selecting, IsEnd, IsQuery, IsQueryText}
+use Rattle.first_query.specs.Expected.{IsEnd}
+use Rattle.first_query.specs.Text.{selecting}
 
 pub false_is_true : IsTrue false → ⊥
 false_is_true e = cc
@@ -42,11 +36,8 @@ says_no_name (words.Integer z) other name e = cc
 says_no_name (words.Text s) other name e = cc
 says_no_name (words.Symbol s) other name e = cc
 
-some_is : (x y : Lexeme) → (◌≡◌ {A = Option Lexeme} (Some x) (Some y)) → x ≡ y
-some_is x y e = cc
-
 pub no_name_here : (tokens : List Token) (place : ℕ) (token : Token) → place < length tokens → token ≡ get_or tokens place token → ((name : String Global) → token.word ≢ words.Name name) → (name : List ℕ) → slice_get (lexemes_of (all_placed tokens)) place ≢ Some (Name name)
-no_name_here tokens place token within is other name e = says_no_name token.word other name (some_is _ _ (sym (lexeme_here tokens place token within is) ∙ e))
+no_name_here tokens place token within is other name e = says_no_name token.word other name (same_Some _ _ (sym (lexeme_here tokens place token within is) ∙ e))
 
 -- tokens without a name at the place of x are no query
 pub no_x : (lexemes : List Lexeme) → ((name : List ℕ) → slice_get lexemes 1 ≢ Some (Name name)) → (x y : List ℕ) (end : List Lexeme) → IsEnd end → lexemes ≢ selecting x y ++ end
@@ -77,14 +68,3 @@ query_in_front tokens front end p x y x' y' rest at_x at_y e =
 
 pub rest_at_end : (tokens front end : List Token) → IsSplitAt tokens 17 front end → (x y : List ℕ) (rest : List Lexeme) → lexemes_of (all_placed tokens) ≡ selecting x y ++ rest → lexemes_of (all_placed end) ≡ rest
 rest_at_end tokens front end p x y rest e = ap (λ l. lexemes_of (all_placed l)) p.2 ∙ sym (drop_lexemes 17 tokens) ∙ ap (drop 17) e
-
-ok_is : (a b : List Placed) → (◌≡◌ {A = Result (List Placed) Fault} (Ok a) (Ok b)) → a ≡ b
-ok_is a b e = cc
-
--- a text whose tokens say no query is no query's
-pub no_query_text : (columns : List Column) (text : List ℕ) (tokens : List Placed) → tokens_in text ≡ Ok tokens → ((query : Query) → ¬ (IsQuery columns (lexemes_of tokens) query)) → (query : Query) → ¬ (IsQueryText columns text query)
-no_query_text columns text tokens read none query q = none query (subst (λ ts. IsQuery columns (lexemes_of ts) query) (ok_is q.tokens tokens (sym q.read ∙ read)) q.says)
-
-pub refused : (found : Option Query) (N M : Type 0) → (N → M) → IfNone found N → IfErr (ok_or found Unsupported) (λ e. e ≡ Unsupported → M)
-refused None N M f n = λ _. f n
-refused (Some query) N M f n = tt

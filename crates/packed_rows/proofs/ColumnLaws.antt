@@ -1,11 +1,12 @@
 -- What a map from names to kinds says of a schema's columns.
-use Rattle.std.specs.Prelude.{◌≡◌, ℕ, zero, suc, ◌<◌, List, [], ◌∷◌, ◌++◌, map, length, slice_get, slice_index_or, option_map, Option, Some, None, string_bytes, position, cond, not, nat_lt, ◌+◌, take, codes, is_some, IsSome, true, false}
+use Rattle.std.specs.Prelude.{◌≡◌, ℕ, zero, suc, ◌<◌, List, [], ◌∷◌, ◌++◌, map, length, slice_get, slice_index_or, option_map, Option, Some, None, string_bytes, position, cond, not, nat_lt, ◌+◌, take, codes, is_some, true, false}
 use Rattle.std.specs.String.{string_eq}
 use Rattle.indexmap.specs.IndexMap.{IndexMap, get_by, insert_entry}
 use Rattle.indexmap.proofs.CallerLemmas.{insert_entry-new}
 use Rattle.std.proofs.lemmas.List.{take_more}
+use Rattle.std.proofs.lemmas.Option.{same_Some}
 use Rattle.std.specs.List.{position_or_len}
-use Rattle.std.proofs.Common.{refl, sym, ◌∙◌, ap, arith, append_assoc, subst, rules, inl, inr}
+use Rattle.std.proofs.Common.{refl, sym, ◌∙◌, ap, arith, append_assoc, subst, inl, inr}
 use Rattle.std.specs.Str.{bytes_eq}
 use Rattle.std.specs.declared.alloc.Global.{Global}
 use Rattle.std.specs.declared.string.String.{String}
@@ -17,7 +18,7 @@ use Rattle.packed_rows.specs.Refusal.{AddFault}
 use Rattle.packed_rows.specs.View.{kind_of, kinds_of}
 use Rattle.packed_rows.specs.Columns.{Column, columns_of, kinds, names, place_of, printed, column_text}
 use Rattle.std.specs.Prelude.{◌||◌}
-use Rattle.std.specs.List.{list_any, AllByRecursion, IsDistinct}
+use Rattle.std.specs.List.{list_any, AllByRecursion, AllZip, IsDistinct}
 use Rattle.std.specs.Map.{lookup, keys_of}
 use Rattle.std.proofs.lemmas.Map.Made.{is_some-lookup}
 
@@ -81,12 +82,9 @@ later_separator (c ∷ columns) (suc i) p h = refl
 column_eta : (column : Column) (name : List ℕ) (kind : Kind) → column.name ≡ name → column.kind ≡ kind → column ≡ record { name = name; kind = kind }
 column_eta column name kind p q = λ i. record { name = p i; kind = q i }
 
-some_is : {A : Type 0} (x y : A) → (◌≡◌ {A = Option A} (Some x) (Some y)) → x ≡ y
-some_is x y e = cc
-
 column_is : (columns : List Column) (i : ℕ) (d : Column) (name : List ℕ) (kind : Kind) → i < length columns → option_map (λ c. c.name) (slice_get columns i) ≡ Some name → option_map (λ c. c.kind) (slice_get columns i) ≡ Some kind → slice_index_or columns i d ≡ record { name = name; kind = kind }
 column_is [] i d name kind h p q = absurd (omega (arith, h))
-column_is (c ∷ columns) zero d name kind h p q = column_eta c name kind (some_is c.name name p) (some_is c.kind kind q)
+column_is (c ∷ columns) zero d name kind h p q = column_eta c name kind (same_Some c.name name p) (same_Some c.kind kind q)
 column_is (c ∷ columns) (suc i) d name kind h p q = column_is columns i d name kind (omega (arith, h)) p q
 
 pub printed_more : (columns : List Column) (i : ℕ) (name : List ℕ) (kind : Kind) → i < length columns → option_map (λ c. c.name) (slice_get columns i) ≡ Some name → option_map (λ c. c.kind) (slice_get columns i) ≡ Some kind → printed (take (i + 1) columns) ≡ printed (take i columns) ++ separator (take i columns) ++ column_text (record { name = name; kind = kind })
@@ -148,3 +146,10 @@ no_fault entries name few none free = λ fault.
   where
     clash : true ≡ false → ⊥
     clash e = cc
+
+-- columns whose names and kinds are clones are the same
+pub cloned_columns : (entries clones : List (String Global × ValueKind)) → AllZip (λ p q. (string_bytes q.0 ≡ string_bytes p.0) × (q.1 ≡ p.1)) entries clones → columns_of clones ≡ columns_of entries
+cloned_columns [] [] all = refl
+cloned_columns [] (d ∷ clones) all = absurd all
+cloned_columns (e ∷ entries) [] all = absurd all
+cloned_columns (e ∷ entries) (d ∷ clones) all = λ i. record { name = all.0.0 i; kind = kind_of (all.0.1 i) } ∷ cloned_columns entries clones all.1 i

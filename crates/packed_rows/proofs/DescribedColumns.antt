@@ -1,13 +1,14 @@
 -- Reading columns from the front of lexemes that describe them.
-use Rattle.std.specs.Prelude.{◌≡◌, ◌≢◌, refl, ℕ, ◌+◌, ◌<◌, ◌≤◌, ◌==◌, true, false, ◌||◌, ◌⊎◌, IsTrue, List, [], ◌∷◌, ◌++◌, map, length, Contains, Option, Some, None}
-use Rattle.std.proofs.Common.{sym, ◌∙◌, ap, subst, inl, inr, arith, append_assoc, zero, suc}
-use Rattle.std.proofs.lemmas.List.{length-append, map-append}
+use Rattle.std.specs.Prelude.{◌≡◌, ◌≢◌, refl, ℕ, ◌+◌, ◌<◌, ◌≤◌, ◌==◌, true, false, ◌||◌, List, [], ◌∷◌, ◌++◌, length, Contains, Option, Some, None}
+use Rattle.std.proofs.Common.{sym, ◌∙◌, ap, subst, inl, inr, arith, append_assoc, suc}
+use Rattle.std.proofs.lemmas.Option.{same_Some}
+use Rattle.std.proofs.lemmas.List.{length-append}
 use Rattle.std.specs.List.{AllByRecursion, IsDistinct, list_any}
 use Rattle.std.specs.Str.{bytes_eq}
 use Rattle.std.proofs.lemmas.Slice.Eq.{bytes_eq-Decides}
 use Rattle.query_tokens.specs.declared.word.Symbol.TheVariants.{Comma}
 use Rattle.query_tokens.specs.declared.word.Token.{Token}
-use Rattle.query_tokens.specs.Words.{Lexeme, Name, Integer, Text, Sign, all_placed}
+use Rattle.query_tokens.specs.Words.{Lexeme, Name, Sign, all_placed}
 use Rattle.query_tokens.specs.Spelling.{IsLexeme, lexemes_of}
 use Rattle.std.proofs.lemmas.Bool.{eqb-true}
 use Rattle.query_tokens.specs.Reserved.{is_reserved}
@@ -47,11 +48,8 @@ none_described lexemes d = d
 abbrev column : List ℕ → Kind → Column
 column name kind = record { name = name; kind = kind }
 
-some_is : {A : Type 0} (x y : A) → (◌≡◌ {A = Option A} (Some x) (Some y)) → x ≡ y
-some_is x y e = cc
-
 pub column_is : (name word : List ℕ) (kind : Kind) (c : Column) → DescribesColumn name word c → kind_named word ≡ Some kind → c ≡ column name kind
-column_is name word kind c d e = let same : c.kind ≡ kind = some_is c.kind kind (sym d.of_kind ∙ e) in λ i. record { name = d.named i; kind = same i }
+column_is name word kind c d e = let same : c.kind ≡ kind = same_Some c.kind kind (sym d.of_kind ∙ e) in λ i. record { name = d.named i; kind = same i }
 
 -- columns whose lexemes begin with a column begin with that column
 first_column : (rest : List Lexeme) (name : List ℕ) (kind : Kind) (after : List Lexeme) → BeginsWithColumn rest name kind after → (cs : List Column) → Describes rest cs → (tail : List Column) × (cs ≡ column name kind ∷ tail) × Follows after tail

@@ -4,10 +4,10 @@ use Rattle.std.proofs.Common.{sym, ◌∙◌, ap, subst, arith, append_assoc}
 use Rattle.std.proofs.lemmas.List.{append-nil}
 use Rattle.query_tokens.specs.declared.word.Symbol.TheVariants.{Comma}
 use Rattle.query_tokens.specs.declared.fault.Fault.{Fault}
-use Rattle.query_tokens.specs.Words.{Lexeme, Name, Integer, Text, Sign, Placed}
+use Rattle.query_tokens.specs.Words.{Lexeme, Name, Sign, Placed}
 use Rattle.query_tokens.specs.Tokens.{tokens_in}
 use Rattle.query_tokens.specs.Spelling.{IsName, Piece, Space, Spelled, text_of, lexemes_in, lexemes_of, lexemes_read, AreApart}
-use Rattle.query_tokens.proofs.Pieces.{tokens_again, pieces_again}
+use Rattle.query_tokens.proofs.Pieces.{pieces_again}
 use Rattle.grouping_model.specs.Datum.{Kind, Bigint_kind, Boolean_kind, Text_kind}
 use Rattle.std.specs.List.{AllByRecursion}
 use Rattle.packed_rows.specs.Columns.{Column, names, IsColumnName, AreColumns, kind_text, kind_named, DescribesColumn, Describes, IsSchemaText, column_text, printed}
@@ -56,7 +56,7 @@ described_all [] are = absurd (let some = are.some in omega (arith, some))
 described_all (c ∷ cs) are = described c cs
 
 -- what was read, from the lexemes that were read
-read_ok : (read : Result (List Placed) Fault) (ws : List Lexeme) → lexemes_read read ≡ Ok ws → (ts : List Placed) × (read ≡ Ok ts) × (lexemes_of ts ≡ ws)
+pub read_ok : (read : Result (List Placed) Fault) (ws : List Lexeme) → lexemes_read read ≡ Ok ws → (ts : List Placed) × (read ≡ Ok ts) × (lexemes_of ts ≡ ws)
 read_ok (Ok ts) ws e = (ts, refl, cc)
 read_ok (Err f) ws e = absurd cc
 

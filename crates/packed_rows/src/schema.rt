@@ -40,6 +40,18 @@ impl Schema {
         Ok(Schema { alloc, columns })
     }
 
+    /// A schema of the same columns. The only error is a failed allocation.
+    pub fn try_clone(&self) -> Result<Schema, AllocError>
+        ensures same { IfOk result (λ schema. schema ≡ self.now) }
+        ensures columns { IfOk result AreColumns }
+    {
+        let columns = self.columns.clone()?;
+        Ok(Schema {
+            alloc: self.alloc,
+            columns,
+        })
+    }
+
     /// How many columns there are, from 1 to 32.
     pub fn width(&self) -> usize
         ensures width { result ≡ length self.now }

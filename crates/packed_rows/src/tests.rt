@@ -72,6 +72,7 @@ fn a_row_is_packed(rt: HostRuntime) -> Result<(), Fail> {
 fn a_schema_is_read_and_printed(rt: HostRuntime) -> Result<(), Fail> {
     let schema = Schema::parse(rt.alloc(), "C\tText ,d int8,\n_e1 BOOL")?;
     assert!(rt; schema.print()?.as_str() == "c text, d bigint, _e1 boolean");
+    assert!(rt; schema.try_clone()?.print()?.as_str() == "c text, d bigint, _e1 boolean");
     assert_eq!(rt; schema.width(), 3);
     assert_eq!(rt; schema.name(1), "d");
     assert_eq!(rt; schema.kind(0), ValueKind::Text);

@@ -2,10 +2,10 @@ use Rattle.std.specs.Prelude.{◌++◌, List, refl}
 use Rattle.std.proofs.Common.{◌∙◌, sym, ap, subst}
 use Rattle.query_tokens.specs.Words.{Lexeme, all_placed}
 use Rattle.query_tokens.specs.Spelling.{lexemes_of}
-use Rattle.first_query.specs.Text.{IsEnd}
+use Rattle.first_query.specs.Expected.{IsEnd}
 use Rattle.first_query.proofs.QueryTokens.{false_is_true, no_x, both_parts, query_in_front, rest_at_end}
-use Rattle.first_query.proofs.query.read_names.Goals as goal
-use Rattle.first_query.proofs.query.read_names.Goals.{else-are_as_expected-via-then-are_as_expected+else-is_end, else-are_as_expected-via-else-are_as_expected}
+use Rattle.first_query.proofs.reading.read_names.Goals as goal
+use Rattle.first_query.proofs.reading.read_names.Goals.{else-are_as_expected-via-then-are_as_expected+else-is_end, else-are_as_expected-via-else-are_as_expected}
 
 pub returns-in_err-x-clause-none : goal.returns-in_err-x-clause-none
 returns-in_err-x-clause-none c = rw c.from_residual.ensures (no_x _ c.in_err-x.ensures.none)
