@@ -19,11 +19,11 @@ knowing_listed batches batch = (
 pub same_answer : (query : Query) (world : World) (a b : Knowledge) → ((batch : Batch) → knows a batch ≡ knows b batch) → answer query world a ≡ answer query world b
 same_answer query world a b same = ap (answer query world) (same_knowledge a b same)
 
-flat_map_members : {X Y : Type 0} (f g : X → List Y) (xs : List X) → ((x : X) → Member xs x → f x ≡ g x) → flat_map f xs ≡ flat_map g xs
+pub flat_map_members : {X Y : Type 0} (f g : X → List Y) (xs : List X) → ((x : X) → Member xs x → f x ≡ g x) → flat_map f xs ≡ flat_map g xs
 flat_map_members f g [] same = refl
 flat_map_members f g (x ∷ xs) same = λ i. same x (inl refl) i ++ flat_map_members f g xs (λ y m. same y (inr m)) i
 
-counted_within : (first n m : ℕ) → Member (count_up first n) m → (first ≤ m) × (m < first + n)
+pub counted_within : (first n m : ℕ) → Member (count_up first n) m → (first ≤ m) × (m < first + n)
 counted_within first zero m listed = absurd listed
 counted_within first (suc n) m (inl e) = (omega arith, omega arith)
 counted_within first (suc n) m (inr listed) = let rest = counted_within (first + 1) n m listed in (omega arith, omega arith)

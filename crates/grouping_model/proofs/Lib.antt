@@ -11,3 +11,4 @@ pub mod PartLaws
 pub mod TransitionLaws
 pub mod AnswerLaws
 pub mod LearningLaws
+pub mod GroupLaws

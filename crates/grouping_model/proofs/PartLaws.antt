@@ -18,7 +18,7 @@ use Rattle.grouping_model.proofs.Members.{false_is_not_true}
 use Rattle.grouping_model.proofs.KeyLaws.{group_append}
 use Rattle.grouping_model.proofs.CombiningLaws.{rows_append}
 
-same_row-swap : (x y : Row) → same_row x y ≡ same_row y x
+pub same_row-swap : (x y : Row) → same_row x y ≡ same_row y x
 same_row-swap x y =
     elim (same_row x y) as (λ b. same_row x y ≡ b → b ≡ same_row y x) [
       | true ↦ λ e. sym ((same_row-is y x).1 (sym ((same_row-is x y).0 e)))
@@ -112,7 +112,7 @@ part-append query xs ys = λ i. map (λ key. (key, results key i)) (both_keys i)
     both_keys = keys-append query xs ys ∙ (λ i. distinct row_cmp (sym (keys_of-part query xs) i ++ sym (keys_of-part query ys) i))
 
 -- one more row, where WHERE keeps it and where not
-selected-one : (query : Query) (row : Row) (b : Bool) → is_met (column_of row) query.condition ≡ b → selected query (row ∷ []) ≡ cond b (row ∷ []) []
+pub selected-one : (query : Query) (row : Row) (b : Bool) → is_met (column_of row) query.condition ≡ b → selected query (row ∷ []) ≡ cond b (row ∷ []) []
 selected-one query row b e = ap (λ b. cond b (row ∷ []) []) e
 
 pub part_passes : (query : Query) (rows : List Row) (row : Row) → is_met (column_of row) query.condition ≡ false → part query (rows ++ row ∷ []) ≡ part query rows

@@ -1,11 +1,14 @@
 -- Groups as a map from keys to partial results, and the groups of two lists of rows on end. All of this is our own.
-use Rattle.std.specs.Prelude.{List, [], ◌++◌, map, find, Option, option_map, unwrap_or}
+use Rattle.std.specs.Prelude.{ℕ, List, [], ◌∷◌, ◌++◌, map, filter, find, Option, option_map, unwrap_or, if◌then◌else◌}
+use Rattle.std.specs.BTreeMap.{insert_entry}
 use Rattle.grouping_model.specs.Datum.{Row, row_cmp, same_row}
 use Rattle.grouping_model.specs.Rising.{distinct}
-use Rattle.grouping_model.specs.Aggregates.{Function, Partial}
-use Rattle.grouping_model.specs.Combining.{combine_all}
-use Rattle.grouping_model.specs.Query.{Query, Aggregate}
-use Rattle.grouping_model.specs.Grouping.{Group, partials}
+use Rattle.grouping_model.specs.Aggregates.{Function, Partial, Outcome, outcome}
+use Rattle.grouping_model.specs.Combining.{combine_all, transition}
+use Rattle.grouping_model.specs.Condition.{is_met}
+use Rattle.grouping_model.specs.Query.{Query, Aggregate, Source}
+use Rattle.grouping_model.specs.Grouping.{Group, partials, argument, column_of, key_of}
+use Rattle.grouping_model.specs.Answer.{source_of}
 
 -- the functions of a query's aggregates
 abbrev pub functions : Query → List Function
@@ -28,3 +31,31 @@ abbrev pub combine_parts : Query → List Group → List Group → List Group
 combine_parts query xs ys =
     map (λ key. (key, combine_all (functions query) (partials_or_none query key xs) (partials_or_none query key ys)))
     (distinct row_cmp (keys_of xs ++ keys_of ys))
+
+-- the partial results after one more row, which moves on those of the aggregates that it reaches
+abbrev pub advanced : List Aggregate → List Partial → Row → List Partial
+advanced (aggregate ∷ aggregates) (p ∷ ps) row =
+    (if is_met (column_of row) aggregate.filter then transition aggregate.function p (argument aggregate.column row) else p)
+    ∷ advanced aggregates ps row
+advanced aggregates ps row = []
+
+-- the groups after one more row that WHERE keeps: its key's partial results are written anew, in key order
+abbrev pub with_row : Query → List Group → Row → List Group
+with_row query groups row =
+    insert_entry row_cmp groups (key_of query row)
+    (advanced query.aggregates (partials_or_none query (key_of query row) groups) row)
+
+-- the groups that are answered, of which there is one without GROUP BY
+abbrev pub answered : Query → List ℕ → List Group → List Group
+answered query [] groups = ([], partials_or_none query [] groups) ∷ []
+answered query (place ∷ places) groups = groups
+
+-- what HAVING and the items read of a group
+abbrev pub source_in : Group → Source → Outcome
+source_in group = source_of group.0 (map outcome group.1)
+
+-- the answer that groups give
+abbrev pub answer_of : Query → List Group → List (List Outcome)
+answer_of query groups =
+    map (λ group. map (source_in group) query.items)
+    (filter (λ group. is_met (source_in group) query.having) (answered query query.keys groups))

@@ -7,7 +7,7 @@ ghost use Rattle.std.specs.Ordering.{eq_by_cmp, nat_cmp};
 ghost use Rattle.std.specs.List.Sorted.{IsStrictlySortedBy};
 ghost use Rattle.grouping_model.specs.Query.{Query, Aggregate};
 ghost use Rattle.grouping_model.specs.Grouping.{argument, arguments, selected, key_of, keys, group, partials, column_of, part};
-ghost use Rattle.grouping_model.specs.Parts.{keys_of, partials_at, combine_parts};
+ghost use Rattle.grouping_model.specs.Parts.{keys_of, partials_at, combine_parts, with_row, answer_of};
 ghost use Rattle.grouping_model.specs.Rising.{put, is_among};
 ghost use Rattle.grouping_model.specs.Combining.{combine, transition};
 ghost use Rattle.grouping_model.specs.World.{World, Batch, Knowledge, batch_cmp, knowing, nothing, knows, learn, union, IsUnbroken, prefix, early, origins};
@@ -185,6 +185,16 @@ pub fn groups_as_map()
     ensures one_more_key { (query : Query) (rows : List Row) (row : Row) →
         is_met (column_of row) query.condition ≡ true →
         keys query (rows ++ row ∷ []) ≡ put row_cmp (key_of query row) (keys query rows) }
+{}
+
+/// The groups tell the answer, and those of some rows tell those of one row more: a row that WHERE keeps moves on the
+/// partial results of its key alone, which has those of no rows before its first.
+pub fn groups_of_rows()
+    ensures one_more_row { (query : Query) (kinds : List Kind) (rows : List Row) (row : Row) →
+        HasKinds kinds row → is_met (column_of row) query.condition ≡ true →
+        part query (rows ++ row ∷ []) ≡ with_row query (part query rows) row }
+    ensures answered { (query : Query) (rows : List Row) →
+        answer_over query rows ≡ answer_of query (part query rows) }
 {}
 
 /// Groups over one batch, and over batches of which the second comes last.

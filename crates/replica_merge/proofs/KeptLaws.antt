@@ -20,8 +20,8 @@ use Rattle.std.specs.Cmp.{Equal-is, tied_itself, nat_cmp_total}
 use Rattle.std.specs.FinMap.{nat_cmp-IsAntisymmetric}
 use Rattle.grouping_model.proofs.LearningLaws.{prefix_stays, prefix_grows}
 use Rattle.std.specs.BTreeMap.{BTreeMap, get}
-use Rattle.replica_merge.specs.Kept.{Kept, told, rows_kept, last_number, InLimits, KeepsRows, IsReplica, reply_of, Fits}
-use Rattle.grouping_model.specs.Datum.{Row}
+use Rattle.replica_merge.specs.Kept.{Kept, told, rows_kept, last_number, InLimits, ArePackedRows, KeepsRows, IsReplica, reply_of, Fits}
+use Rattle.grouping_model.specs.Datum.{Row, Kind}
 use Rattle.batch_reader.specs.Rows.{packings}
 use Rattle.replica_merge.specs.declared.delivered.Delivered.TheVariants.{Folded, Early, Known}
 
@@ -62,14 +62,20 @@ told-insert kept batch rows =
     ∙ ap (λ b. eq_by_cmp batch_cmp other batch || b) (sym (knows_knowing (map (λ (e : Batch × List (List ℕ)). e.0) kept) other))
     ∙ sym (knows_learn (told kept) batch other))
 
-pub numbered-insert : (kept : Kept) (batch : Batch) (rows : List (List ℕ)) → InLimits batch → AllByRecursion (λ (e : Batch × List (List ℕ)). InLimits e.0) kept → AllByRecursion (λ (e : Batch × List (List ℕ)). InLimits e.0) (insert_entry batch_cmp kept batch rows)
-numbered-insert [] batch rows low all = (low, tt)
-numbered-insert (e ∷ kept) batch rows low all =
-    elim (batch_cmp batch e.0) as (λ r. AllByRecursion (λ (e : Batch × List (List ℕ)). InLimits e.0) (match_ordering r ((batch, rows) ∷ e ∷ kept) ((e.0, rows) ∷ kept) (e ∷ insert_entry batch_cmp kept batch rows))) [
-      | Less ↦ (low, all)
-      | Equal ↦ (all.0, all.1)
-      | Greater ↦ (all.0, numbered-insert kept batch rows low all.1)
+all-insert : (P : Batch × List (List ℕ) → Type 0) (kept : Kept) (batch : Batch) (rows : List (List ℕ)) → P (batch, rows) → ((e : Batch × List (List ℕ)) → P e → P (e.0, rows)) → AllByRecursion P kept → AllByRecursion P (insert_entry batch_cmp kept batch rows)
+all-insert P [] batch rows own anew all = (own, tt)
+all-insert P (e ∷ kept) batch rows own anew (first, all) =
+    elim (batch_cmp batch e.0) as (λ r. AllByRecursion P (match_ordering r ((batch, rows) ∷ e ∷ kept) ((e.0, rows) ∷ kept) (e ∷ insert_entry batch_cmp kept batch rows))) [
+      | Less ↦ (own, (first, all))
+      | Equal ↦ (anew e first, all)
+      | Greater ↦ (first, all-insert P kept batch rows own anew all)
     ]
+
+numbered-insert : (kept : Kept) (batch : Batch) (rows : List (List ℕ)) → InLimits batch → AllByRecursion (λ (e : Batch × List (List ℕ)). InLimits e.0) kept → AllByRecursion (λ (e : Batch × List (List ℕ)). InLimits e.0) (insert_entry batch_cmp kept batch rows)
+numbered-insert kept batch rows low all = all-insert (λ (e : Batch × List (List ℕ)). InLimits e.0) kept batch rows low (λ e is. is) all
+
+packed-insert : (kinds : List Kind) (kept : Kept) (batch : Batch) (rows : List (List ℕ)) → ArePackedRows kinds rows → AllByRecursion (λ (e : Batch × List (List ℕ)). ArePackedRows kinds e.1) kept → AllByRecursion (λ (e : Batch × List (List ℕ)). ArePackedRows kinds e.1) (insert_entry batch_cmp kept batch rows)
+packed-insert kinds kept batch rows are all = all-insert (λ (e : Batch × List (List ℕ)). ArePackedRows kinds e.1) kept batch rows are (λ e is. are) all
 
 -- the rows that are kept after one more batch
 lookup_own : (kept : Kept) (batch : Batch) (rows : List (List ℕ)) → lookup (eq_by_cmp batch_cmp batch) kept ≡ None → lookup (eq_by_cmp batch_cmp batch) (insert_entry batch_cmp kept batch rows) ≡ Some rows
@@ -113,11 +119,12 @@ keeps-insert kept batch rows unknown =
         ] refl
 
 -- a replica with one more batch that is not next to a prefix
-pub early_kept : (kept : Kept) (prefixes : BTreeMap ℕ ℕ) (batch : Batch) (rows : List (List ℕ)) → IsReplica kept prefixes → InLimits batch → batch.1 ≢ prefix (told kept) batch.0 + 1 → IsReplica (insert_entry batch_cmp kept batch rows) prefixes
-early_kept kept prefixes batch rows is low early =
+pub early_kept : (kinds : List Kind) (kept : Kept) (prefixes : BTreeMap ℕ ℕ) (batch : Batch) (rows : List (List ℕ)) → IsReplica kinds kept prefixes → InLimits batch → ArePackedRows kinds rows → batch.1 ≢ prefix (told kept) batch.0 + 1 → IsReplica kinds (insert_entry batch_cmp kept batch rows) prefixes
+early_kept kinds kept prefixes batch rows is low are early =
     record {
       prefixes_hold = λ origin. is.prefixes_hold origin ∙ sym (ap (λ k. prefix k origin) (told-insert kept batch rows) ∙ prefix_stays (told kept) batch origin (apart origin));
       numbered = numbered-insert kept batch rows low is.numbered;
+      packed = packed-insert kinds kept batch rows are is.packed;
     }
   where
     apart : (origin : ℕ) → batch ≢ (origin, prefix (told kept) origin + 1)
@@ -126,14 +133,15 @@ early_kept kept prefixes batch rows is low early =
         early (ap (λ (b : Batch). b.1) e ∙ ap (λ o. prefix (told kept) o + 1) (sym own))
 
 -- a replica with one more batch that is next to its origin's prefix, whose prefix is written anew
-pub next_kept : (kept : Kept) (before taken after : BTreeMap ℕ ℕ) (batch : Batch) (rows : List (List ℕ)) (first upto : ℕ) → IsReplica kept before → InLimits batch → prefix (learn (told kept) batch) batch.0 ≡ upto
+pub next_kept : (kinds : List Kind) (kept : Kept) (before taken after : BTreeMap ℕ ℕ) (batch : Batch) (rows : List (List ℕ)) (first upto : ℕ) → IsReplica kinds kept before → InLimits batch → ArePackedRows kinds rows → prefix (learn (told kept) batch) batch.0 ≡ upto
     → ((o : ℕ) → get nat_cmp taken o ≡ cond (is_eq (nat_cmp batch.0 o)) (Some first) (get nat_cmp before o))
     → ((o : ℕ) → get nat_cmp after o ≡ cond (is_eq (nat_cmp batch.0 o)) (Some upto) (get nat_cmp taken o))
-    → IsReplica (insert_entry batch_cmp kept batch rows) after
-next_kept kept before taken after batch rows first upto is low reaches takes writes =
+    → IsReplica kinds (insert_entry batch_cmp kept batch rows) after
+next_kept kinds kept before taken after batch rows first upto is low are reaches takes writes =
     record {
       prefixes_hold = λ origin. ap (λ o. unwrap_or o 0) (writes origin) ∙ held origin ∙ sym (ap (λ k. prefix k origin) (told-insert kept batch rows));
       numbered = numbered-insert kept batch rows low is.numbered;
+      packed = packed-insert kinds kept batch rows are is.packed;
     }
   where
     apart : (origin : ℕ) → is_eq (nat_cmp batch.0 origin) ≡ false → batch ≢ (origin, prefix (told kept) origin + 1)

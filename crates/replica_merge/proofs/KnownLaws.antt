@@ -34,7 +34,7 @@ told_within kept limits batch known =
 abbrev pub listed : Knowledge → ℕ → List ℕ
 listed knowledge n = filter (λ origin. is_among nat_cmp origin (origins knowledge)) (count_up 0 n)
 
-count_suc : (first n : ℕ) → count_up first (suc n) ≡ count_up first n ++ (first + n) ∷ []
+pub count_suc : (first n : ℕ) → count_up first (suc n) ≡ count_up first n ++ (first + n) ∷ []
 count_suc first zero = let e : first + 0 ≡ first = omega arith in ap (λ k. k ∷ []) (sym e)
 count_suc first (suc n) = let e : first + 1 + n ≡ first + suc n = omega arith in ap (λ ks. first ∷ ks) (count_suc (first + 1) n ∙ ap (λ k. count_up (first + 1) n ++ k ∷ []) e)
 

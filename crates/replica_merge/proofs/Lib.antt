@@ -1,2 +1,9 @@
 pub mod KeptLaws
 pub mod KnownLaws
+pub mod StateLaws
+pub mod EntryLaws
+pub mod ItemLaws
+pub mod PackedLaws
+pub mod ShownLaws
+pub mod KnownRows
+pub mod AddedLaws

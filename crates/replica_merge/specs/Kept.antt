@@ -1,12 +1,13 @@
 -- What a replica keeps, tells and answers. All of this is our own.
-use Rattle.std.specs.Prelude.{◌≡◌, ◌≢◌, ℕ, ◌+◌, ◌≤◌, ◌==◌, List, map, Option, Some, unwrap_or, if◌then◌else◌}
+use Rattle.std.specs.Prelude.{◌≡◌, ◌≢◌, ℕ, ◌+◌, ◌≤◌, ◌==◌, List, [], map, flat_map, length, All, Option, Some, unwrap_or, if◌then◌else◌}
 use Rattle.std.specs.List.{AllByRecursion}
 use Rattle.std.specs.Map.{lookup}
 use Rattle.std.specs.Ordering.{eq_by_cmp, nat_cmp}
 use Rattle.std.specs.BTreeMap.{BTreeMap, get}
-use Rattle.grouping_model.specs.World.{World, Batch, batch_cmp, Knowledge, knowing, knows, learn, prefix, early, origins}
-use Rattle.grouping_model.specs.Datum.{Row}
+use Rattle.grouping_model.specs.World.{World, Batch, batch_cmp, Knowledge, knowing, knows, learn, prefix, early, origins, count_up}
+use Rattle.grouping_model.specs.Datum.{Row, Kind, HasKinds}
 use Rattle.batch_reader.specs.Rows.{packings}
+use Rattle.first_query.specs.Chosen.{Chosen}
 use Rattle.replica_merge.specs.declared.delivered.Known.{Known}
 use Rattle.replica_merge.specs.declared.delivered.Delivered.{Delivered}
 use Rattle.replica_merge.specs.declared.delivered.Delivered.TheVariants as reply
@@ -42,10 +43,23 @@ last_number = 2147483647
 abbrev pub InLimits : Batch → Type 0
 InLimits batch = (batch.0 ≤ last_origin) × (1 ≤ batch.1) × (batch.1 ≤ last_number)
 
--- what a replica holds beside the batches is right for them
-pub record IsReplica (kept : Kept) (prefixes : BTreeMap ℕ ℕ) : Type 0 where
+-- the packed rows of a batch: at most as many as it may have, each the packing of a row of columns of these kinds
+pub record ArePackedRows (kinds : List Kind) (packed : List (List ℕ)) : Type 0 where
+  pub few : length packed ≤ 65536
+  pub rows : List Row
+  pub of_kinds : All (HasKinds kinds) rows
+  pub packings_are : packed ≡ packings rows
+
+-- what a replica holds beside the batches is right for them, and they are batches of a table of these columns
+pub record IsReplica (kinds : List Kind) (kept : Kept) (prefixes : BTreeMap ℕ ℕ) : Type 0 where
   pub prefixes_hold : PrefixesHold kept prefixes
   pub numbered : AllByRecursion (λ (e : Batch × List (List ℕ)). InLimits e.0) kept
+  pub packed : AllByRecursion (λ (e : Batch × List (List ℕ)). ArePackedRows kinds e.1) kept
+
+-- what a replica holds: the query that it answers, and the batches that are kept
+pub record Held : Type 0 where
+  pub query : Chosen
+  pub kept : Kept
 
 -- the rows that are kept after one more batch: those of the batch, unless it was known, and of every other batch as before
 pub record KeepsRows (old new : Kept) (batch : Batch) (rows : List (List ℕ)) : Type 0 where
@@ -78,3 +92,15 @@ known_list knowledge = map (of_origin knowledge) (origins knowledge)
 -- what the code says of an origin
 abbrev pub known_of : Known → KnownOrigin
 known_of k = record { origin = k.origin; upto = k.upto; early = k.early.items }
+
+-- the packed rows of a batch, none where it is not kept
+abbrev pub batch_packings : Kept → ℕ → ℕ → List (List ℕ)
+batch_packings kept origin number = unwrap_or (rows_kept kept (origin, number)) []
+
+-- the packed rows of an origin's unbroken prefix, batch after batch
+abbrev pub origin_packings : Kept → ℕ → List (List ℕ)
+origin_packings kept origin = flat_map (batch_packings kept origin) (count_up 1 (prefix (told kept) origin))
+
+-- the packed rows of all unbroken prefixes, by rising origin
+abbrev pub known_packings : Kept → List (List ℕ)
+known_packings kept = flat_map (origin_packings kept) (origins (told kept))

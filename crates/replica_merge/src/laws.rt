@@ -1,10 +1,17 @@
 //! Laws of what a replica keeps.
 
-ghost use Rattle.std.specs.Prelude.{◌≡◌, ℕ, List, [], Some};
-ghost use Rattle.grouping_model.specs.Datum.{Row};
+ghost use Rattle.std.specs.Prelude.{◌≡◌, ◌≤◌, ℕ, List, [], length, Some};
+ghost use Rattle.grouping_model.specs.Datum.{Row, Kind};
 ghost use Rattle.grouping_model.specs.World.{World, Batch};
-ghost use Rattle.batch_reader.specs.Rows.{packings};
-ghost use Rattle.replica_merge.specs.Kept.{Kept, KeepsRows, Fits};
+ghost use Rattle.batch_reader.specs.Rows.{ReadsRows, packings};
+ghost use Rattle.replica_merge.specs.Kept.{Kept, ArePackedRows, KeepsRows, Fits};
+
+/// The packed rows of records that stand for rows may be delivered, where they are not more than a batch may have.
+pub fn building()
+    ensures { (kinds : List Kind) (records : List (List (List ℕ))) (rows : List Row) (packed :
+        List (List ℕ)) → ReadsRows kinds records rows → packed ≡ packings rows →
+        length packed ≤ 65536 → ArePackedRows kinds packed }
+{}
 
 /// A replica that knows nothing fits every world, and one that is given a batch of a world goes on to fit it.
 pub fn fitting()

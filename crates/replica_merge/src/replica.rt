@@ -1,11 +1,19 @@
 //! The batches that a replica keeps.
 
-ghost use Rattle.std.specs.Prelude.{◌≡◌, ◌≢◌, ◌⊎◌, ◌↔◌, ◌+◌, ◌<◌, ◌≤◌, ℕ, [], filter, map, nat_lt, false, IsTrue, OnOk, IfOk, IfErr};
-ghost use Rattle.grouping_model.specs.World.{knows, learn, prefix, numbers_of};
-ghost use Rattle.replica_merge.specs.Kept.{Kept, kept_of, told, reply_of, InLimits, IsReplica, KeepsRows, known_list, known_of};
+ghost use Rattle.std.specs.Prelude.{◌≡◌, ◌≢◌, ◌⊎◌, ◌↔◌, ◌+◌, ◌*◌, ◌<◌, ◌≤◌, ◌++◌, ℕ, List, All, [], filter, map, length, nat_lt, false, IsTrue, OnOk, IfOk, IfErr};
+ghost use Rattle.grouping_model.specs.Answer.{answer};
+ghost use Rattle.grouping_model.specs.World.{World, IsWorld, knows, learn, prefix, numbers_of};
+ghost use Rattle.packed_rows.specs.Columns.{kinds};
+ghost use Rattle.first_query.specs.Chosen.{meaning};
+ghost use Rattle.agg_protocol.specs.States.{most_rows};
+ghost use Rattle.replica_merge.specs.Groups.{AreGroupsOf};
+ghost use Rattle.replica_merge.specs.Kept.{Held, kept_of, told, reply_of, last_number, InLimits, ArePackedRows, IsReplica, KeepsRows, Fits, batch_packings, origin_packings, known_packings, known_list, known_of};
 
+use crate::answer::Answer;
 use crate::delivered::{Delivered, Known, RefusedBatch};
+use crate::groups::Groups;
 use batch_reader::{Batch, PackedRows};
+use first_query::Query;
 use std::alloc::{AllocError, Global};
 use std::collections::BTreeMap;
 use std::marker::Model;
@@ -13,23 +21,22 @@ use std::marker::Model;
 /// How many origins there can be: 0 to 1,023.
 const ORIGINS: u16 = 1_024;
 
-/// The greatest number of a batch.
-const LAST_NUMBER: u32 = 2_147_483_647;
-
-/// The batches that a replica was given, and each origin's unbroken prefix of them.
+/// A query, the batches that a replica was given to answer it, and each origin's unbroken prefix of them.
 #[derive(Drop)]
 pub struct Replica {
     alloc: Global,
+    query: Query,
     batches: BTreeMap<(u16, u32), PackedRows>,
     prefixes: BTreeMap<u16, u32>,
 }
 
 impl Model for Replica {
-    ghost Value = { Kept };
+    ghost Value = { Held };
 
-    ghost view = { λ r. kept_of r.batches.entries };
+    ghost view = { λ r. record { query = r.query; kept = kept_of r.batches.entries } };
 
-    ghost invariant = { λ r. IsReplica (kept_of r.batches.entries) r.prefixes };
+    ghost invariant = { λ r. IsReplica (kinds r.query.columns) (kept_of r.batches.entries)
+        r.prefixes };
 }
 
 /// Whether an origin with this prefix and these early numbers has a batch that is known.
@@ -40,20 +47,29 @@ fn is_any_known(upto: u32, early: &[u32]) -> bool
 }
 
 impl Replica {
-    /// A replica that knows nothing.
-    pub fn new(alloc: Global) -> Replica
-        ensures { result ≡ [] }
+    /// A replica that knows nothing, to answer a query.
+    pub fn new(alloc: Global, query: Query) -> Replica
+        ensures { result ≡ record { query = query; kept = [] } }
     {
         Replica {
             alloc,
+            query,
             batches: BTreeMap::new(alloc),
             prefixes: BTreeMap::new(alloc),
         }
     }
 
+    /// The query that is answered.
+    pub fn query(&self) -> &Query
+        ensures { result.now ≡ self.now.query }
+    {
+        &self.query
+    }
+
     /// The unbroken prefix of an origin.
     pub fn prefix(&self, origin: u16) -> u32
-        ensures { result ≡ prefix (told self.now) origin }
+        ensures prefix { result ≡ prefix (told self.now.kept) origin }
+        ensures limit { result ≤ last_number }
     {
         match self.prefixes.get(&origin) {
             Some(upto) => *upto,
@@ -63,7 +79,8 @@ impl Replica {
 
     /// Whether a batch is known.
     pub fn knows(&self, origin: u16, number: u32) -> bool
-        ensures { result ≡ knows (told self.now) (origin, number) }
+        ensures known { result ≡ knows (told self.now.kept) (origin, number) }
+        ensures limits { IsTrue result → InLimits (origin, number) }
     {
         self.batches.contains_key(&(origin, number))
     }
@@ -71,7 +88,7 @@ impl Replica {
     /// The numbers of an origin that are known above a number, rising.
     fn numbers_above(&self, origin: u16, upto: u32) -> Result<Vec<u32>, AllocError>
         ensures { IfOk result (λ numbers. numbers.items
-            ≡ filter (λ n. nat_lt upto n) (numbers_of (told self.now) origin)) }
+            ≡ filter (λ n. nat_lt upto n) (numbers_of (told self.now.kept) origin)) }
     {
         let mut numbers = Vec::new(self.alloc);
         for (key, _) in self.batches.range((origin, 0)..=(origin, u32::MAX)) {
@@ -84,7 +101,7 @@ impl Replica {
 
     /// What is known, by rising origin.
     pub fn known(&self) -> Result<Vec<Known>, AllocError>
-        ensures { IfOk result (λ list. map known_of list.items ≡ known_list (told self.now)) }
+        ensures { IfOk result (λ list. map known_of list.items ≡ known_list (told self.now.kept)) }
     {
         let mut list = Vec::new(self.alloc);
         for origin in 0..ORIGINS {
@@ -106,12 +123,11 @@ impl Replica {
         requires { number ≤ 2147483647 }
         ensures from { number ≤ result }
         ensures follow { (m : ℕ) → number < m → m ≤ result →
-            IsTrue (knows (told self.now) (origin, m)) }
-        ensures gap { knows (told self.now) (origin, result + 1) ≡ false }
+            IsTrue (knows (told self.now.kept) (origin, m)) }
+        ensures gap { knows (told self.now.kept) (origin, result + 1) ≡ false }
     {
-        let _ = &self.batches;
         let mut upto = number;
-        while upto < LAST_NUMBER && self.knows(origin, upto + 1) {
+        while self.knows(origin, upto + 1) {
             upto += 1;
         }
         upto
@@ -120,12 +136,14 @@ impl Replica {
     /// Keeps a batch that is neither known nor next to its origin's prefix.
     fn keep_early(&mut self, batch: Batch) -> Result<(), RefusedBatch>
         requires limits { InLimits (batch.origin, batch.number) }
-        requires unknown { knows (told self.old) (batch.origin, batch.number) ≡ false }
-        requires early { batch.number ≢ prefix (told self.old) batch.origin + 1 }
-        ensures told { OnOk result (told self.new
-            ≡ learn (told self.old) (batch.origin, batch.number)) }
-        ensures rows { OnOk result (KeepsRows self.old self.new (batch.origin, batch.number)
+        requires rows { ArePackedRows (kinds self.old.query.columns) batch.rows }
+        requires unknown { knows (told self.old.kept) (batch.origin, batch.number) ≡ false }
+        requires early { batch.number ≢ prefix (told self.old.kept) batch.origin + 1 }
+        ensures told { OnOk result (told self.new.kept
+            ≡ learn (told self.old.kept) (batch.origin, batch.number)) }
+        ensures rows { OnOk result (KeepsRows self.old.kept self.new.kept (batch.origin, batch.number)
             batch.rows) }
+        ensures query { self.new.query ≡ self.old.query }
         ensures refused { IfErr result (λ e. (e.batch ≡ batch) × (self.new ≡ self.old)) }
     {
         let Batch {
@@ -151,13 +169,15 @@ impl Replica {
     /// Keeps the batch that is next to its origin's prefix, which reaches up to a number from then on.
     fn keep_next(&mut self, batch: Batch, upto: u32) -> Result<(), RefusedBatch>
         requires limits { InLimits (batch.origin, batch.number) }
-        requires next { batch.number ≡ prefix (told self.old) batch.origin + 1 }
-        requires upto { prefix (learn (told self.old) (batch.origin, batch.number)) batch.origin
+        requires rows { ArePackedRows (kinds self.old.query.columns) batch.rows }
+        requires next { batch.number ≡ prefix (told self.old.kept) batch.origin + 1 }
+        requires upto { prefix (learn (told self.old.kept) (batch.origin, batch.number)) batch.origin
             ≡ upto }
-        ensures told { OnOk result (told self.new
-            ≡ learn (told self.old) (batch.origin, batch.number)) }
-        ensures rows { OnOk result (KeepsRows self.old self.new (batch.origin, batch.number)
+        ensures told { OnOk result (told self.new.kept
+            ≡ learn (told self.old.kept) (batch.origin, batch.number)) }
+        ensures rows { OnOk result (KeepsRows self.old.kept self.new.kept (batch.origin, batch.number)
             batch.rows) }
+        ensures query { self.new.query ≡ self.old.query }
         ensures refused { IfErr result (λ e. (e.batch ≡ batch) × (self.new ≡ self.old)) }
     {
         let Batch {
@@ -194,16 +214,19 @@ impl Replica {
         }
     }
 
-    /// Takes a batch. A number that is known already changes nothing; one next to its origin's unbroken prefix is
-    /// folded with the early ones that follow without a gap; any other is kept until then. Where memory is wanting,
-    /// the batch is handed back and nothing is changed.
+    /// Takes a batch of the query's table, with an origin from 0 to 1,023, a number from 1 to 2,147,483,647 and at most
+    /// 65,536 rows. A number that is known already changes nothing; one next to its origin's unbroken prefix is folded
+    /// with the early ones that follow without a gap; any other is kept until then. Where memory is wanting, the batch
+    /// is handed back and nothing is changed.
     pub fn deliver(&mut self, batch: Batch) -> Result<Delivered, RefusedBatch>
-        requires { InLimits (batch.origin, batch.number) }
+        requires limits { InLimits (batch.origin, batch.number) }
+        requires rows { ArePackedRows (kinds self.old.query.columns) batch.rows }
+        ensures query { self.new.query ≡ self.old.query }
         ensures reply { IfOk result (λ reply. reply
-            ≡ reply_of (told self.old) (batch.origin, batch.number)) }
-        ensures told { OnOk result (told self.new
-            ≡ learn (told self.old) (batch.origin, batch.number)) }
-        ensures rows { OnOk result (KeepsRows self.old self.new (batch.origin, batch.number)
+            ≡ reply_of (told self.old.kept) (batch.origin, batch.number)) }
+        ensures told { OnOk result (told self.new.kept
+            ≡ learn (told self.old.kept) (batch.origin, batch.number)) }
+        ensures rows { OnOk result (KeepsRows self.old.kept self.new.kept (batch.origin, batch.number)
             batch.rows) }
         ensures refused { IfErr result (λ e. (e.batch ≡ batch) × (self.new ≡ self.old)) }
     {
@@ -218,5 +241,60 @@ impl Replica {
         let upto = self.reach(origin, number);
         self.keep_next(batch, upto)?;
         Ok(Delivered::Folded { upto })
+    }
+
+    /// Adds the rows that are kept of a batch.
+    fn add_batch(&self, origin: u16, number: u32, groups: &mut Groups) -> Result<(), AllocError>
+        requires few { (done : List (List ℕ)) × AreGroupsOf self.now.query done groups.old
+            × (length done + 65536 ≤ most_rows) }
+        ensures few { length (batch_packings self.now.kept origin number) ≤ 65536 }
+        ensures added { OnOk result ((done : List (List ℕ)) →
+            AreGroupsOf self.now.query done groups.old →
+            AreGroupsOf self.now.query (done ++ batch_packings self.now.kept origin number)
+            groups.new) }
+    {
+        match self.batches.get(&(origin, number)) {
+            Some(rows) => groups.add_rows(&self.query, rows.as_slice()),
+            None => Ok(()),
+        }
+    }
+
+    /// Adds the rows of an origin's unbroken prefix.
+    fn add_origin(&self, origin: u16, groups: &mut Groups) -> Result<(), AllocError>
+        requires few { (done : List (List ℕ)) × AreGroupsOf self.now.query done groups.old
+            × (length done + 65536 * 2147483647 ≤ most_rows) }
+        ensures { OnOk result ((done : List (List ℕ)) →
+            AreGroupsOf self.now.query done groups.old →
+            AreGroupsOf self.now.query (done ++ origin_packings self.now.kept origin)
+            groups.new) }
+    {
+        for number in 1..=self.prefix(origin) {
+            self.add_batch(origin, number, groups)?;
+        }
+        Ok(())
+    }
+
+    /// The groups of the rows of all unbroken prefixes.
+    fn groups(&self) -> Result<Groups, AllocError>
+        ensures { IfOk result (AreGroupsOf self.now.query (known_packings self.now.kept)) }
+    {
+        let mut groups = Groups::new(self.alloc);
+        for origin in 0..ORIGINS {
+            self.add_origin(origin, &mut groups)?;
+        }
+        Ok(groups)
+    }
+
+    /// The answer of the query over the rows of the unbroken prefixes, in the order of its keys: for each value of the
+    /// key column, which is null or a text, how many rows have it, and the sum of the other column over these rows.
+    /// Each row has these three items.
+    pub fn answer(&self) -> Result<Answer, AllocError>
+        ensures width { IfOk result (All (λ row. length row ≡ 3)) }
+        ensures answer { IfOk result (λ rows. (world : World) →
+            IsWorld (kinds self.now.query.columns) world → Fits world self.now.kept →
+            rows ≡ answer (meaning self.now.query) world (told self.now.kept)) }
+    {
+        let groups = self.groups()?;
+        groups.finish()
     }
 }

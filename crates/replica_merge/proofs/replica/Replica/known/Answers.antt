@@ -3,18 +3,18 @@ use Rattle.std.proofs.Common.{◌∙◌, sym, ap, subst, inl, inr, arith}
 use Rattle.std.proofs.lemmas.Bool.{cases_lt}
 use Rattle.std.proofs.lemmas.List.{map_push}
 use Rattle.grouping_model.specs.World.{Batch, Knowledge, knows, prefix, early, numbers_of}
-use Rattle.replica_merge.specs.Kept.{told, InLimits, of_origin, known_of}
+use Rattle.replica_merge.specs.Kept.{Held, told, InLimits, of_origin, known_of}
 use Rattle.replica_merge.proofs.KnownLaws.{told_within, listed_all, listed_same, origin_listed, known_origin, unknown_origin, none_in, listed}
 use Rattle.replica_merge.proofs.replica.Replica.known.Goals as goal
 use Rattle.replica_merge.proofs.replica.Replica.known.Goals.{then-is_any_known+in_ok-push, else-is_any_known}
 
 pub loop-origin-preserved : goal.loop-origin-preserved
 loop-origin-preserved c =
-    let knowledge : Knowledge = told c.args.self.now in
+    let knowledge : Knowledge = told c.args.self.now.kept in
     let n = c.loop-origin.origin in
-    let upto = c.prefix-upto.ensures in
+    let upto = c.prefix-upto.ensures.prefix in
     let numbers : c.in_ok-early.early.items ≡ early knowledge n = c.in_ok-early.ensures ∙ ap (λ p. filter (λ m. nat_lt p m) (numbers_of knowledge n)) upto in
-    let limits : (b : Batch) → IsTrue (knows knowledge b) → InLimits b = λ b k. told_within c.self.inside.batches.entries c.self.invariant.numbered b (ap (λ kept. knows (told kept) b) c.self.view_is ∙ k) in
+    let limits : (b : Batch) → IsTrue (knows knowledge b) → InLimits b = λ b k. told_within c.self.inside.batches.entries c.self.invariant.numbered b (ap (λ (h : Held). knows (told h.kept) b) c.self.view_is ∙ k) in
     let old = c.loop-origin.list.items in
     elim c.if-is_any_known.branch [
       | then-is_any_known+in_ok-push w ↦
@@ -41,7 +41,7 @@ loop-origin-preserved c =
 
 pub returns : goal.returns
 returns c =
-    let knowledge : Knowledge = told c.args.self.now in
-    let limits : (b : Batch) → IsTrue (knows knowledge b) → InLimits b = λ b k. told_within c.self.inside.batches.entries c.self.invariant.numbered b (ap (λ kept. knows (told kept) b) c.self.view_is ∙ k) in
+    let knowledge : Knowledge = told c.args.self.now.kept in
+    let limits : (b : Batch) → IsTrue (knows knowledge b) → InLimits b = λ b k. told_within c.self.inside.batches.entries c.self.invariant.numbered b (ap (λ (h : Held). knows (told h.kept) b) c.self.view_is ∙ k) in
     let end : c.loop-origin.origin ≡ 1024 = let low = c.loop-origin-test.false in let high = c.loop-origin.auto.origin-end in omega (arith, low, high) in
     c.loop-origin.invariant ∙ ap (λ n. map (of_origin knowledge) (listed knowledge n)) end ∙ ap (map (of_origin knowledge)) (listed_all knowledge limits)

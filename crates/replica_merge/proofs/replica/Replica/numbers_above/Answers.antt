@@ -3,7 +3,7 @@ use Rattle.std.proofs.Common.{rules, ◌∙◌, sym, ap, append-nil, arith}
 use Rattle.std.specs.BTreeMap.Range.{entries_between}
 use Rattle.std.specs.declared.ops.Bound.TheVariants.{Included}
 use Rattle.grouping_model.specs.World.{batch_cmp, numbers_of}
-use Rattle.replica_merge.specs.Kept.{Kept, told}
+use Rattle.replica_merge.specs.Kept.{Held, Kept, told}
 use Rattle.replica_merge.proofs.KeptLaws.{number_passed, numbers_in, numbers_between}
 use Rattle.replica_merge.proofs.replica.Replica.numbers_above.Goals as goal
 
@@ -27,4 +27,4 @@ returns c =
     ∙ c.loop-key.invariant.so_far
     ∙ ap (λ (k : Kept). filter (λ n. nat_lt upto n) (numbers_in k)) (c.into_iter-key-iterator.ensures.into_iter_gives ∙ bounds)
     ∙ numbers_between kept c.args.origin upto 4294967295 (omega arith) c.range-key-items.ensures.ordered c.self.invariant.numbered
-    ∙ ap (λ k. filter (λ n. nat_lt upto n) (numbers_of (told k) c.args.origin)) c.self.view_is
+    ∙ ap (λ (h : Held). filter (λ n. nat_lt upto n) (numbers_of (told h.kept) c.args.origin)) c.self.view_is

@@ -8,7 +8,7 @@ invariant-loop-upto l =
     record {
       low : l.number ≤ l.upto;
       high : l.upto ≤ 2147483647;
-      follow : (m : ℕ) → l.number < m → m ≤ l.upto → IsTrue (knows (told l.self) (l.origin, m));
+      follow : (m : ℕ) → l.number < m → m ≤ l.upto → IsTrue (knows (told l.self.kept) (l.origin, m));
     }
 
 abbrev pub decreases-loop-upto : goal.decreases-loop-upto

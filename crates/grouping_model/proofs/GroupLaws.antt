@@ -1,0 +1,95 @@
+-- The groups after one more row, and the answer that groups give.
+use Rattle.std.specs.Prelude.{◌≡◌, refl, ℕ, Bool, true, false, cond, List, [], ◌∷◌, ◌++◌, map, filter}
+use Rattle.std.proofs.Common.{sym, ◌∙◌, ap}
+use Rattle.std.proofs.lemmas.List.{append-nil}
+use Rattle.std.specs.declared.cmp.Ordering.{Ordering}
+use Rattle.std.specs.declared.cmp.Ordering.TheVariants.{Less, Equal, Greater}
+use Rattle.std.specs.Ordering.{eq_by_cmp, match_ordering, is_eq}
+use Rattle.std.specs.Cmp.{IsTotalOrder, tied_itself}
+use Rattle.std.specs.FinMap.{IsAntisymmetric}
+use Rattle.std.specs.List.{AllByRecursion}
+use Rattle.std.specs.List.Sorted.{IsStrictlySortedBy}
+use Rattle.std.specs.BTreeMap.{insert_entry}
+use Rattle.grouping_model.specs.Datum.{Row, Kind, HasKinds, row_cmp, same_row}
+use Rattle.grouping_model.specs.Rising.{put}
+use Rattle.grouping_model.specs.Aggregates.{partial}
+use Rattle.grouping_model.specs.Condition.{is_met}
+use Rattle.grouping_model.specs.Query.{Query, Aggregate}
+use Rattle.grouping_model.specs.Grouping.{key_of, keys, group, partials, arguments, column_of, Group, part}
+use Rattle.grouping_model.specs.Parts.{advanced, with_row, partials_or_none, source_in, answered, answer_of}
+use Rattle.grouping_model.specs.Answer.{answer_over, answer_keys}
+use Rattle.grouping_model.proofs.DatumOrder.{row_cmp_total, row_cmp_ties}
+use Rattle.grouping_model.proofs.KeyLaws.{keys_rise, group_append}
+use Rattle.grouping_model.proofs.PartLaws.{keys_one_more, partials_or_none-part, selected-one}
+use Rattle.grouping_model.proofs.TransitionLaws.{one_more_row}
+
+-- each member with its value
+abbrev with_values : {X V : Type 0} → (X → V) → List X → List (X × V)
+with_values {X} {V} f xs = map {B = X × V} (λ x. (x, f x)) xs
+
+-- a value for each member of a rising list: one more member, and a change at it alone
+module _ {X V : Type 0} {cmp : X → X → Ordering} (total : IsTotalOrder cmp) (ties : IsAntisymmetric cmp) (x : X) (v : V) (before after : X → V) (own : after x ≡ v) (others : (y : X) → eq_by_cmp cmp x y ≡ false → after y ≡ before y) where
+  above_same : (ys : List X) → AllByRecursion (λ y. cmp x y ≡ Less) ys → with_values after ys ≡ with_values before ys
+  above_same [] above = refl
+  above_same (y ∷ ys) above = λ i. (y, others y (ap is_eq above.0) i) ∷ above_same ys above.1 i
+
+  above_all : (r : Ordering) (y : X) (ys : List X) → ((z : X) → cmp y z ≡ Less → cmp x z ≡ Less) → AllByRecursion (λ z. cmp y z ≡ Less) ys → AllByRecursion (λ z. cmp x z ≡ Less) ys
+  above_all r y [] gives above = tt
+  above_all r y (z ∷ ys) gives above = (gives z above.0, above_all r y ys gives above.1)
+
+  pub put-map : (ys : List X) → IsStrictlySortedBy cmp ys → with_values after (put cmp x ys) ≡ insert_entry cmp (with_values before ys) x v
+  unfolding IsStrictlySortedBy
+  put-map [] rising = λ i. (x, own i) ∷ []
+  put-map (y ∷ ys) (above, rising) =
+      elim (cmp x y) as (λ r. cmp x y ≡ r → with_values after (match_ordering r (x ∷ y ∷ ys) (y ∷ ys) (y ∷ put cmp x ys)) ≡ match_ordering r ((x, v) ∷ (y, before y) ∷ with_values before ys) ((y, v) ∷ with_values before ys) ((y, before y) ∷ insert_entry cmp (with_values before ys) x v)) [
+        | Less ↦ λ e. λ i. (x, own i) ∷ (y, others y (ap is_eq e) i) ∷ above_same ys (above_all Less y ys (λ z. total.trans x y z e) above) i
+        | Equal ↦ λ e. λ i. (y, (ap after (sym (ties x y e)) ∙ own) i) ∷ above_same ys (above_all Equal y ys (λ z l. total.congr x y z e ∙ l) above) i
+        | Greater ↦ λ e. λ i. (y, others y (ap is_eq e) i) ∷ put-map ys rising i
+      ] refl
+
+-- the partial results after one more row of a group
+partials_one_more : (query : Query) (kinds : List Kind) (rows : List Row) (row : Row) → HasKinds kinds row → partials query (rows ++ row ∷ []) ≡ advanced query.aggregates (partials query rows) row
+partials_one_more query kinds rows row has = each query.aggregates
+  where
+    each : (aggregates : List Aggregate) → map (λ aggregate. partial aggregate.function (arguments aggregate (rows ++ row ∷ []))) aggregates ≡ advanced aggregates (map (λ aggregate. partial aggregate.function (arguments aggregate rows)) aggregates) row
+    each [] = refl
+    each (aggregate ∷ aggregates) = λ i. one_more_row aggregate kinds rows row has i ∷ each aggregates i
+
+-- the group of a key after one more row that WHERE keeps
+group_one_more : (query : Query) (rows : List Row) (row key : Row) (b : Bool) → is_met (column_of row) query.condition ≡ true → same_row (key_of query row) key ≡ b → group query (rows ++ row ∷ []) key ≡ group query rows key ++ cond b (row ∷ []) []
+group_one_more query rows row key b met e =
+    group_append query rows (row ∷ []) key
+    ∙ ap (λ more. group query rows key ++ filter (λ row. same_row (key_of query row) key) more) (selected-one query row true met)
+    ∙ ap (λ b. group query rows key ++ cond b (row ∷ []) []) e
+
+pub part_one_more : (query : Query) (kinds : List Kind) (rows : List Row) (row : Row) → HasKinds kinds row → is_met (column_of row) query.condition ≡ true → part query (rows ++ row ∷ []) ≡ with_row query (part query rows) row
+part_one_more query kinds rows row has met =
+    ap (map (λ key. (key, partials query (group query (rows ++ row ∷ []) key)))) (keys_one_more query rows row met)
+    ∙ put-map row_cmp_total row_cmp_ties (key_of query row) (advanced query.aggregates (partials_or_none query (key_of query row) (part query rows)) row)
+    (λ key. partials query (group query rows key)) (λ key. partials query (group query (rows ++ row ∷ []) key)) own others (keys query rows) (keys_rise query rows)
+  where
+    own : partials query (group query (rows ++ row ∷ []) (key_of query row)) ≡ advanced query.aggregates (partials_or_none query (key_of query row) (part query rows)) row
+    own =
+        ap (partials query) (group_one_more query rows row (key_of query row) true met (ap is_eq (tied_itself row_cmp_total (key_of query row))))
+        ∙ partials_one_more query kinds (group query rows (key_of query row)) row has
+        ∙ ap (λ ps. advanced query.aggregates ps row) (sym (partials_or_none-part query rows (key_of query row)))
+
+    others : (key : Row) → eq_by_cmp row_cmp (key_of query row) key ≡ false → partials query (group query (rows ++ row ∷ []) key) ≡ partials query (group query rows key)
+    others key apart = ap (partials query) (group_one_more query rows row key false met apart ∙ append-nil (group query rows key))
+
+filter-map : {X Y Z : Type 0} (f : X → Y) (test : Y → Bool) (g : Y → Z) (xs : List X) → map g (filter test (map f xs)) ≡ map (λ x. g (f x)) (filter (λ x. test (f x)) xs)
+filter-map f test g [] = refl
+filter-map f test g (x ∷ xs) =
+    elim (test (f x)) as (λ b. map g (cond b (f x ∷ filter test (map f xs)) (filter test (map f xs))) ≡ map (λ x. g (f x)) (cond b (x ∷ filter (λ x. test (f x)) xs) (filter (λ x. test (f x)) xs))) [
+      | true ↦ ap (λ zs. g (f x) ∷ zs) (filter-map f test g xs)
+      | false ↦ filter-map f test g xs
+    ]
+
+pub answer_of_part : (query : Query) (rows : List Row) → answer_over query rows ≡ answer_of query (part query rows)
+answer_of_part query rows =
+    sym (ap (λ groups. map (λ (group : Group). map (source_in group) query.items) (filter (λ (group : Group). is_met (source_in group) query.having) groups)) (shown query.keys)
+    ∙ filter-map {Y = Group} (λ key. (key, partials query (group query rows key))) (λ (group : Group). is_met (source_in group) query.having) (λ (group : Group). map (source_in group) query.items) (answer_keys query.keys (keys query rows)))
+  where
+    shown : (places : List ℕ) → answered query places (part query rows) ≡ map (λ key. (key, partials query (group query rows key))) (answer_keys places (keys query rows))
+    shown [] = λ i. ([], partials_or_none-part query rows [] i) ∷ []
+    shown (place ∷ places) = refl
