@@ -1,0 +1,112 @@
+-- The fields of a record, and the commands of a list of records.
+use Rattle.std.proofs.Common.{◌≡◌, ◌≢◌, ◌<◌, if◌then◌else◌, ℕ, zero, suc, List, [], ◌∷◌, length, drop, take, get_or, Some, refl, ap, arith, ◌∙◌, sym}
+use Rattle.std.proofs.Common.{◌≤◌, ◌+◌, ◌*◌, ◌^◌, IsTrue, IsUtf8, false}
+use Rattle.std.proofs.lemmas.Bool.{false_from_ne_true}
+use Rattle.std.proofs.lemmas.List.{length-drop}
+use Rattle.std.proofs.lemmas.Str.{is_utf8-from_IsUtf8, IsUtf8-from_is_utf8}
+use Rattle.std.proofs.Math.Nat.{pow-le-pow_right}
+use Rattle.std.specs.Str.{is_utf8}
+use Rattle.csv.specs.Records.{field_at}
+use Rattle.std.specs.Str.Parse.{digits_value}
+use Rattle.script_io.specs.Records.{Record}
+use Rattle.script_commands.specs.Commands.{Unknown, begins_feed, commands_after, commands_of, feed_request, is_row_count, one_field, owned_by, request_of}
+
+pub field_is : (fields : Record) (i : ℕ) → i < length fields → field_at fields i ≡ Some (get_or fields i [])
+unfolding field_at
+field_is [] i h = absurd (omega arith)
+field_is (f ∷ fs) zero h = refl
+field_is (f ∷ fs) (suc i) h = field_is fs i (omega arith)
+
+pub request_two : (fields : Record) → length fields ≡ 2 → request_of fields ≡ one_field (get_or fields 0 []) (get_or fields 1 [])
+unfolding request_of
+request_two [] h = absurd (omega arith)
+request_two (a ∷ []) h = absurd (omega arith)
+request_two (a ∷ b ∷ []) h = refl
+request_two (a ∷ b ∷ c ∷ rest) h = absurd (omega arith)
+
+pub request_five : (fields : Record) → length fields ≡ 5
+    → request_of fields ≡ feed_request (get_or fields 0 []) (get_or fields 1 []) (get_or fields 2 []) (get_or fields 3 []) (get_or fields 4 [])
+unfolding request_of
+request_five [] h = absurd (omega arith)
+request_five (a ∷ []) h = absurd (omega arith)
+request_five (a ∷ b ∷ []) h = absurd (omega arith)
+request_five (a ∷ b ∷ c ∷ []) h = absurd (omega arith)
+request_five (a ∷ b ∷ c ∷ d ∷ []) h = absurd (omega arith)
+request_five (a ∷ b ∷ c ∷ d ∷ e ∷ []) h = refl
+request_five (a ∷ b ∷ c ∷ d ∷ e ∷ f ∷ rest) h = absurd (omega arith)
+
+pub request_other : (fields : Record) → length fields ≢ 2 → length fields ≢ 5 → request_of fields ≡ Unknown
+unfolding request_of
+request_other [] two five = refl
+request_other (a ∷ []) two five = refl
+request_other (a ∷ b ∷ []) two five = absurd (two refl)
+request_other (a ∷ b ∷ c ∷ []) two five = refl
+request_other (a ∷ b ∷ c ∷ d ∷ []) two five = refl
+request_other (a ∷ b ∷ c ∷ d ∷ e ∷ []) two five = absurd (five refl)
+request_other (a ∷ b ∷ c ∷ d ∷ e ∷ f ∷ rest) two five = refl
+
+pub owned_five : (fields : Record) → length fields ≡ 5 → owned_by fields
+    ≡ (if begins_feed (get_or fields 0 []) (get_or fields 4 []) then digits_value 10 (get_or fields 4 []) else 0)
+unfolding owned_by
+owned_five [] h = absurd (omega arith)
+owned_five (a ∷ []) h = absurd (omega arith)
+owned_five (a ∷ b ∷ []) h = absurd (omega arith)
+owned_five (a ∷ b ∷ c ∷ []) h = absurd (omega arith)
+owned_five (a ∷ b ∷ c ∷ d ∷ []) h = absurd (omega arith)
+owned_five (a ∷ b ∷ c ∷ d ∷ e ∷ []) h = refl
+owned_five (a ∷ b ∷ c ∷ d ∷ e ∷ f ∷ rest) h = absurd (omega arith)
+
+pub owned_other : (fields : Record) → length fields ≢ 5 → owned_by fields ≡ 0
+unfolding owned_by
+owned_other [] five = refl
+owned_other (a ∷ []) five = refl
+owned_other (a ∷ b ∷ []) five = refl
+owned_other (a ∷ b ∷ c ∷ []) five = refl
+owned_other (a ∷ b ∷ c ∷ d ∷ []) five = refl
+owned_other (a ∷ b ∷ c ∷ d ∷ e ∷ []) five = absurd (five refl)
+owned_other (a ∷ b ∷ c ∷ d ∷ e ∷ f ∷ rest) five = refl
+
+commands_skip : (n : ℕ) (records : List Record) → commands_after n records ≡ commands_of (drop n records)
+unfolding commands_after
+commands_skip zero records = refl
+commands_skip (suc n) [] = refl
+commands_skip (suc n) (head ∷ rest) = commands_skip n rest
+
+pub commands_next : (head : Record) (rest : List Record)
+    → commands_of (head ∷ rest) ≡ record { head = head; owned = take (owned_by head) rest } ∷ commands_of (drop (owned_by head) rest)
+unfolding commands_after
+commands_next head rest = ap (λ l. record { head = head; owned = take (owned_by head) rest } ∷ l) (commands_skip (owned_by head) rest)
+
+-- no records are no commands
+pub commands_none : commands_of [] ≡ []
+unfolding commands_after
+commands_none = refl
+
+-- the first of the commands, and those after it
+pub command_is : (all rest left : List Record) (head : Record) (told : ℕ) (owned : List Record) → all ≡ head ∷ rest → told ≡ owned_by head
+    → owned ≡ take told rest → left ≡ drop told rest
+    → commands_of all ≡ record { head = head; owned = owned } ∷ commands_of left
+command_is all rest left head told owned first tells takes leaves =
+    let owns : owned ≡ take (owned_by head) rest = takes ∙ ap (λ n. take n rest) tells in
+    let goes : left ≡ drop (owned_by head) rest = leaves ∙ ap (λ n. drop n rest) tells in
+    ap commands_of first ∙ commands_next head rest
+    ∙ ap (λ l. record { head = head; owned = l } ∷ commands_of (drop (owned_by head) rest)) (sym owns)
+    ∙ ap (λ l. record { head = head; owned = owned } ∷ commands_of l) (sym goes)
+
+-- and fewer records are left
+pub fewer_left : (all rest left : List Record) (head : Record) (told : ℕ) → all ≡ head ∷ rest → left ≡ drop told rest → length left < length all
+fewer_left all rest left head told first leaves = grind (arith, ap length first, ap length leaves, length-drop told rest)
+
+-- a text is UTF-8 by the test, and what is none fails it
+pub text_is : (bytes : List ℕ) → IsUtf8 bytes → IsTrue (is_utf8 bytes)
+text_is bytes h = is_utf8-from_IsUtf8 bytes h
+
+pub no_text : (bytes : List ℕ) → ¬ (IsUtf8 bytes) → is_utf8 bytes ≡ false
+no_text bytes h = false_from_ne_true (is_utf8 bytes) (λ e. h (IsUtf8-from_is_utf8 bytes e))
+
+-- up to nine digits stand for a number of 32 bits
+pub nine_digits : (count index : ℕ) → count < 10 ^ index → index < 9 → count * 10 + 256 ≤ 2 ^ 32
+nine_digits count index h few = omega (arith, pow-le-pow_right {n = 10} (omega arith) {i = index} {j = 8} (omega arith))
+
+pub few_digits : (digits : List ℕ) → IsTrue (is_row_count digits) → length digits < 10
+few_digits digits h = grind (arith, h)

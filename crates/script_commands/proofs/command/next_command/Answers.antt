@@ -1,0 +1,16 @@
+use Rattle.std.proofs.Common.{ap, ◌∙◌, map}
+use Rattle.csv.specs.Records.{fields_of}
+use Rattle.script_commands.specs.Commands.{commands_of}
+use Rattle.script_commands.proofs.CommandLaws.{command_is, commands_none}
+use Rattle.script_commands.proofs.command.next_command.Goals as goal
+
+pub returns-in_default-clause-found : goal.returns-in_default-clause-found
+returns-in_default-clause-found c =
+    let none = rw c.in_default.is at c.in_ok-head.ensures in
+    ap commands_of none.0 ∙ commands_none
+
+pub returns-clause-found : goal.returns-clause-found
+returns-clause-found c =
+    let next = rw c.in-Some.is at c.in_ok-head.ensures in
+    let taken = c.in_ok-owned.ensures in
+    command_is _ _ _ (fields_of c.in-Some.head) c.count_owned.result (map fields_of c.in_ok-owned.owned.items) next c.count_owned.ensures taken.0 taken.1

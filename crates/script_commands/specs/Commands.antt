@@ -1,0 +1,77 @@
+-- The commands of a script, and what each asks. All of this is our own.
+use Rattle.std.specs.Prelude.{ℕ, zero, suc, ◌==◌, ◌&&◌, ◌||◌, Bool, List, [], ◌∷◌, length, take, codes, nat_lt, if◌then◌else◌}
+use Rattle.std.specs.Str.{bytes_eq, is_utf8}
+use Rattle.std.specs.Str.Parse.{digits_value}
+use Rattle.std.specs.List.{list_all}
+use Rattle.std.specs.Char.{is_ascii_alphanumeric, is_ascii_digit}
+use Rattle.script_io.specs.Records.{Record}
+
+-- what a command asks
+pub data Request : Type 0 where
+  Columns : (text : List ℕ) → Request
+  Query : (text : List ℕ) → Request
+  Replica : (name : List ℕ) → Request
+  Feed : (name origin number : List ℕ) (told : ℕ) → Request
+  Known : (name : List ℕ) → Request
+  Answer : (name : List ℕ) → Request
+  Unknown : Request
+
+-- a command: the record that asks, and the records that belong to it
+pub record Command : Type 0 where
+  pub head : Record
+  pub owned : List Record
+
+-- a name: 1 to 63 letters, digits and underscores
+abbrev pub is_name_byte : ℕ → Bool
+is_name_byte b = is_ascii_alphanumeric b || (b == 95)
+
+abbrev pub is_name : List ℕ → Bool
+is_name bytes = nat_lt 0 (length bytes) && nat_lt (length bytes) 64 && list_all is_name_byte bytes
+
+-- a number of rows: 1 to 9 digits
+abbrev pub is_row_count : List ℕ → Bool
+is_row_count bytes = nat_lt 0 (length bytes) && nat_lt (length bytes) 10 && list_all is_ascii_digit bytes
+
+-- what a word and a name ask
+abbrev pub name_request : List ℕ → List ℕ → Request
+name_request word name =
+    if bytes_eq word (codes "replica") then Replica name else
+    if bytes_eq word (codes "known") then Known name else
+    if bytes_eq word (codes "answer") then Answer name else Unknown
+
+-- what a word and one field ask
+abbrev pub one_field : List ℕ → List ℕ → Request
+one_field word field =
+    if bytes_eq word (codes "columns") then (if is_utf8 field then Columns field else Unknown) else
+    if bytes_eq word (codes "query") then (if is_utf8 field then Query field else Unknown) else
+    if is_name field then name_request word field else Unknown
+
+-- a word and a number of rows begin a command that owns rows, whether or not it is right otherwise
+abbrev pub begins_feed : List ℕ → List ℕ → Bool
+begins_feed word rows = bytes_eq word (codes "feed") && is_row_count rows
+
+-- what a word and four fields ask
+abbrev pub feed_request : List ℕ → List ℕ → List ℕ → List ℕ → List ℕ → Request
+feed_request word name origin number rows =
+    if begins_feed word rows && is_name name then Feed name origin number (digits_value 10 rows) else Unknown
+
+-- what a record asks: no command has another number of fields
+unfoldable pub request_of : Record → Request
+request_of (word ∷ field ∷ []) = one_field word field
+request_of (word ∷ name ∷ origin ∷ number ∷ rows ∷ []) = feed_request word name origin number rows
+request_of _ = Unknown
+
+-- how many of the records after it belong to a record
+unfoldable pub owned_by : Record → ℕ
+owned_by (word ∷ name ∷ origin ∷ number ∷ rows ∷ []) = if begins_feed word rows then digits_value 10 rows else 0
+owned_by _ = 0
+
+-- the commands of these records, of which the first ones belong to a command before
+unfoldable pub commands_after : ℕ → List Record → List Command
+commands_after skipped [] = []
+commands_after zero (head ∷ rest) = record { head = head; owned = take (owned_by head) rest } ∷ commands_after (owned_by head) rest
+commands_after (suc skipped) (head ∷ rest) = commands_after skipped rest
+
+-- the commands of these records: a command owns as many of the records after it as it tells, or as are left
+abbrev pub commands_of : List Record → List Command
+commands_of records = commands_after 0 records

@@ -1,0 +1,21 @@
+-- What a clause sees of the commands of the code.
+use Rattle.std.specs.Prelude.{map}
+use Rattle.csv.specs.Records.{fields_of}
+use Rattle.script_commands.specs.Commands as ask
+use Rattle.script_commands.specs.declared.command.Command.{Command}
+use Rattle.script_commands.specs.declared.request.Request.{Request}
+use Rattle.script_commands.specs.declared.request.Request.TheVariants as r
+
+-- a request without where its fields lie in memory
+abbrev pub request_view : Request → ask.Request
+request_view (r.Columns text) = ask.Columns text.now
+request_view (r.Query text) = ask.Query text.now
+request_view (r.Replica name) = ask.Replica name.now
+request_view (r.Feed name origin number told) = ask.Feed name.now origin.now number.now told
+request_view (r.Known name) = ask.Known name.now
+request_view (r.Answer name) = ask.Answer name.now
+request_view r.Unknown = ask.Unknown
+
+-- a command as its records
+abbrev pub command_view : Command → ask.Command
+command_view c = record { head = fields_of c.head; owned = map fields_of c.owned.items }

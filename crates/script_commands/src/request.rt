@@ -1,0 +1,204 @@
+//! What a record asks.
+
+ghost use Rattle.std.specs.Prelude.{◌≡◌, ◌<◌, false, IsTrue, IfSome, IfNone, length, get_or, []};
+ghost use Rattle.std.specs.Str.Parse.{digits_value};
+ghost use Rattle.std.specs.Char.{is_ascii_digit};
+ghost use Rattle.std.specs.List.{list_all};
+ghost use Rattle.std.specs.Str.{is_utf8};
+ghost use Rattle.csv.specs.Records.{fields_of};
+ghost use Rattle.script_commands.specs.Commands.{is_name, is_name_byte, is_row_count, begins_feed, one_field, name_request, feed_request, owned_by, request_of};
+ghost use Rattle.script_commands.specs.Views.{request_view};
+
+use csv::ByteRecord;
+use std::str;
+
+/// The most bytes of a name.
+const MOST_NAME_BYTES: usize = 63;
+
+/// The most digits of a number of rows.
+const MOST_COUNT_DIGITS: usize = 9;
+
+/// What a command asks. Names are 1 to 63 ASCII letters, digits or `_`.
+#[derive(Clone, Copy, Debug, PartialEq, Eq)]
+pub enum Request<'c> {
+    /// `columns,SCHEMA`: the columns of the rows.
+    Columns(&'c str),
+    /// `query,TEXT`: the query that replicas answer.
+    Query(&'c str),
+    /// `replica,NAME`: a new replica of this name.
+    Replica(&'c [u8]),
+    /// `feed,NAME,ORIGIN,NUMBER,ROWS`: a batch for a replica. How many rows it tells is 1 to 9 digits.
+    Feed {
+        name: &'c [u8],
+        origin: &'c [u8],
+        number: &'c [u8],
+        told: u32,
+    },
+    /// `known,NAME`: what a replica knows.
+    Known(&'c [u8]),
+    /// `answer,NAME`: a replica's answer.
+    Answer(&'c [u8]),
+    /// None of these: another word, a wrong number of fields, a text that isn't UTF-8, a bad name or number of rows.
+    Unknown,
+}
+
+fn are_name_bytes(bytes: &[u8]) -> bool
+    ensures { result ≡ list_all is_name_byte bytes.now }
+{
+    bytes
+        .iter()
+        .all(|b| b.is_ascii_alphanumeric() || *b == b'_')
+}
+
+fn are_digits(bytes: &[u8]) -> bool
+    ensures { result ≡ list_all is_ascii_digit bytes.now }
+{
+    bytes.iter().all(|b| b.is_ascii_digit())
+}
+
+/// Whether a field is a name.
+fn is_legal_name(name: &[u8]) -> bool
+    ensures { result ≡ is_name name.now }
+{
+    !name.is_empty() && name.len() <= MOST_NAME_BYTES && are_name_bytes(name)
+}
+
+/// Whether a field is a number of rows.
+fn is_count(digits: &[u8]) -> bool
+    ensures { result ≡ is_row_count digits.now }
+{
+    !digits.is_empty() && digits.len() <= MOST_COUNT_DIGITS && are_digits(digits)
+}
+
+/// The number that digits stand for.
+fn count_of(digits: &[u8]) -> u32
+    requires { IsTrue (is_row_count digits.now) }
+    ensures { result ≡ digits_value 10 digits.now }
+{
+    let mut count = 0;
+    for digit in digits {
+        count = count * 10 + (*digit - b'0') as u32;
+    }
+    count
+}
+
+/// The field at a place.
+#[tactic(auto, using(crate::proofs::CommandLaws::field_is))]
+fn field(head: &ByteRecord, i: usize) -> &[u8]
+    requires { i < length (fields_of head.now) }
+    ensures { result.now ≡ get_or (fields_of head.now) i [] }
+{
+    head.get(i).unwrap()
+}
+
+/// What a word and a name ask.
+fn ask_by_name<'c>(word: &[u8], name: &'c [u8]) -> Request<'c>
+    ensures { request_view result ≡ name_request word.now name.now }
+{
+    if word == b"replica".as_slice() {
+        Request::Replica(name)
+    } else if word == b"known".as_slice() {
+        Request::Known(name)
+    } else if word == b"answer".as_slice() {
+        Request::Answer(name)
+    } else {
+        Request::Unknown
+    }
+}
+
+/// A field as text, if it is UTF-8.
+#[tactic(auto, using(crate::proofs::CommandLaws::text_is, crate::proofs::CommandLaws::no_text))]
+fn as_text(field: &[u8]) -> Option<&str>
+    ensures found { IfSome result (λ text. (text.now ≡ field.now) × IsTrue (is_utf8 field.now)) }
+    ensures none { IfNone result (is_utf8 field.now ≡ false) }
+{
+    match str::from_utf8(field) {
+        Ok(text) => Some(text),
+        Err(_) => None,
+    }
+}
+
+/// What a word and one field behind it ask.
+fn ask_of_one<'c>(word: &[u8], field: &'c [u8]) -> Request<'c>
+    ensures { request_view result ≡ one_field word.now field.now }
+{
+    if word == b"columns".as_slice() {
+        match as_text(field) {
+            Some(text) => Request::Columns(text),
+            None => Request::Unknown,
+        }
+    } else if word == b"query".as_slice() {
+        match as_text(field) {
+            Some(text) => Request::Query(text),
+            None => Request::Unknown,
+        }
+    } else if is_legal_name(field) {
+        ask_by_name(word, field)
+    } else {
+        Request::Unknown
+    }
+}
+
+/// Whether a word and a number of rows are those of a `feed`.
+fn is_feed(word: &[u8], rows: &[u8]) -> bool
+    ensures { result ≡ begins_feed word.now rows.now }
+{
+    word == b"feed".as_slice() && is_count(rows)
+}
+
+/// What a word and four fields behind it ask.
+fn ask_to_feed<'c>(
+    word: &[u8],
+    name: &'c [u8],
+    origin: &'c [u8],
+    number: &'c [u8],
+    rows: &[u8],
+) -> Request<'c>
+    ensures { request_view result ≡ feed_request word.now name.now origin.now number.now rows.now }
+{
+    if is_feed(word, rows) && is_legal_name(name) {
+        let told = count_of(rows);
+        Request::Feed {
+            name,
+            origin,
+            number,
+            told,
+        }
+    } else {
+        Request::Unknown
+    }
+}
+
+/// What a record asks.
+#[tactic(auto, using(crate::proofs::CommandLaws::request_two, crate::proofs::CommandLaws::request_five))]
+pub(crate) fn ask(head: &ByteRecord) -> Request<'_>
+    ensures { request_view result ≡ request_of (fields_of head.now) }
+{
+    match head.len() {
+        2 => ask_of_one(field(head, 0), field(head, 1)),
+        5 => ask_to_feed(
+            field(head, 0),
+            field(head, 1),
+            field(head, 2),
+            field(head, 3),
+            field(head, 4),
+        ),
+        _ => Request::Unknown,
+    }
+}
+
+/// How many of the records after it belong to a record.
+#[tactic(auto, using(crate::proofs::CommandLaws::owned_five, crate::proofs::CommandLaws::owned_other))]
+pub(crate) fn count_owned(head: &ByteRecord) -> usize
+    ensures { result ≡ owned_by (fields_of head.now) }
+{
+    if head.len() != 5 {
+        return 0;
+    }
+    let (word, rows) = (field(head, 0), field(head, 4));
+    if is_feed(word, rows) {
+        count_of(rows) as usize
+    } else {
+        0
+    }
+}
