@@ -168,14 +168,16 @@ impl Groups {
     }
 
     /// The row of an answer for each group, in the order of keys.
-    pub(crate) fn finish(&self) -> Result<Answer, AllocError>
-        requires { (groups : List Group) × AreGroups self.now groups }
-        ensures { IfOk result (λ rows. (groups : List Group) → AreGroups self.now groups →
+    /// Each group's memory is given back once it is in the answer.
+    pub(crate) fn finish(self) -> Result<Answer, AllocError>
+        requires { (groups : List Group) × AreGroups self groups }
+        ensures { IfOk result (λ rows. (groups : List Group) → AreGroups self groups →
             rows ≡ map answer_row groups) }
     {
-        let mut answer = Answer::new(self.alloc);
-        for (key, states) in &self.states {
-            push_group(self.alloc, key, states, &mut answer)?;
+        let Groups { alloc, states } = self;
+        let mut answer = Answer::new(alloc);
+        for (key, states) in states {
+            push_group(alloc, &key, &states, &mut answer)?;
         }
         Ok(answer)
     }

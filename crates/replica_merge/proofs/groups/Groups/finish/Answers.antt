@@ -18,7 +18,7 @@ push_group-requires c =
     let items : c.into_iter-key-iterator.result ≡ c.self.inside.states.entries = c.into_iter-key-iterator.ensures.into_iter_gives.0 in
     let are = subst (λ es. AreGroups es all) (sym c.self.view_is ∙ ap entries_of (sym items)) c.requires.1 in
     let next = next_group _ _ _ _ all (c.loop-key.invariant.shown all are) c.in-Some.ensures.steps in
-    (next.0, subst (λ bytes. StandsFor (bytes, c.in-Some.states.now) next.0) (sym c.deref.ensures.value) next.1)
+    (next.0, subst (λ bytes. StandsFor (bytes, c.in-Some.states) next.0) (sym c.deref.ensures.value) next.1)
 
 pub loop-key-preserved : goal.loop-key-preserved
 loop-key-preserved c =
@@ -26,7 +26,7 @@ loop-key-preserved c =
       shown =
           λ all are.
           shown_more _ _ _ _ _ all c.in-Some.ensures.steps
-          (λ group stands. c.in_ok-push_group.ensures group (subst (λ bytes. StandsFor (bytes, c.in-Some.states.now) group) (sym c.deref.ensures.value) stands))
+          (λ group stands. c.in_ok-push_group.ensures group (subst (λ bytes. StandsFor (bytes, c.in-Some.states) group) (sym c.deref.ensures.value) stands))
           (c.loop-key.invariant.shown all are);
       can = search rules;
       finite = search rules;
