@@ -1,0 +1,120 @@
+//! Tables in CSV.
+
+ghost use Rattle.std.specs.Prelude.{All, ◌≡◌, ◌<◌, ◌++◌, ◌∷◌, [], List, ℕ, length, map, flat_map, IfOk, OnOk, slice_index_or};
+ghost use Rattle.csv.specs.Records.{fields_of, partial_of};
+ghost use Rattle.agg_protocol.specs.Results.{outcome_of};
+ghost use Rattle.first_query.specs.Chosen.{headers};
+ghost use Rattle.packed_rows.specs.View.{texts_of};
+ghost use Rattle.table_print.specs.Table.{cell_text, row_line, table_text};
+ghost use Rattle.table_print.specs.Writer.{IsBetween, Writes, WritesLine};
+
+use agg_protocol::ResultValue;
+use csv::{ByteRecord, Writer};
+use first_query::Query;
+use itoa::Buffer;
+use replica_merge::Answer;
+use std::alloc::{AllocError, Global};
+
+/// How many items a row of the query's answer has.
+const ITEMS: usize = 3;
+
+/// Appends a value to a record, as it shows.
+fn push_value(line: &mut ByteRecord, value: ResultValue<'_>) -> Result<(), AllocError>
+    requires { partial_of line.old ≡ [] }
+    ensures cell { OnOk result (fields_of line.new
+        ≡ fields_of line.old ++ cell_text (outcome_of value.entry) ∷ []) }
+    ensures whole { OnOk result (partial_of line.new ≡ []) }
+{
+    match value {
+        ResultValue::Null => line.push_field(b"\\N"),
+        ResultValue::Bigint(number) => line.push_field(Buffer::new().format(number).as_bytes()),
+        ResultValue::Numeric(number) => line.push_field(Buffer::new().format(number).as_bytes()),
+        ResultValue::Boolean(true) => line.push_field(b"t"),
+        ResultValue::Boolean(false) => line.push_field(b"f"),
+        ResultValue::Text(text) => line.push_field(text.as_bytes()),
+    }
+}
+
+/// Appends the items of a row to a record.
+fn push_row(line: &mut ByteRecord, answer: &Answer, row: usize) -> Result<(), AllocError>
+    requires empty { fields_of line.old ≡ [] }
+    requires whole { partial_of line.old ≡ [] }
+    requires in_range { row < length answer.now }
+    requires items { length (slice_index_or answer.now row []) ≡ 3 }
+    ensures { OnOk result (fields_of line.new
+        ≡ map cell_text (slice_index_or answer.now row [])) }
+{
+    for item in 0..ITEMS {
+        push_value(line, answer.value(row, item))?;
+    }
+    Ok(())
+}
+
+/// Writes a line of fields.
+fn put_line(writer: &mut Writer<Vec<u8>>, fields: &[&[u8]]) -> Result<(), AllocError>
+    requires { IsBetween writer.old }
+    ensures line { OnOk result (WritesLine writer.old writer.new (texts_of fields.now)) }
+    ensures between { OnOk result (IsBetween writer.new) }
+{
+    match writer.write_fields(fields) {
+        Ok(()) => Ok(()),
+        Err(_) => Err(AllocError),
+    }
+}
+
+/// Writes the line of a record.
+fn put_record(writer: &mut Writer<Vec<u8>>, line: &ByteRecord) -> Result<(), AllocError>
+    requires { IsBetween writer.old }
+    ensures line { OnOk result (WritesLine writer.old writer.new (fields_of line.now)) }
+    ensures between { OnOk result (IsBetween writer.new) }
+{
+    match writer.write_byte_record(line) {
+        Ok(()) => Ok(()),
+        Err(_) => Err(AllocError),
+    }
+}
+
+/// Writes the line of the query's headers.
+fn put_headers(writer: &mut Writer<Vec<u8>>, query: &Query) -> Result<(), AllocError>
+    requires { IsBetween writer.old }
+    ensures line { OnOk result (WritesLine writer.old writer.new (headers query.now)) }
+    ensures between { OnOk result (IsBetween writer.new) }
+{
+    let fields = [
+        query.header(0).as_bytes(),
+        query.header(1).as_bytes(),
+        query.header(2).as_bytes(),
+    ];
+    put_line(writer, &fields)
+}
+
+/// Writes the lines of the rows.
+fn put_rows(alloc: Global, writer: &mut Writer<Vec<u8>>, answer: &Answer) -> Result<(), AllocError>
+    requires between { IsBetween writer.old }
+    requires items { All (λ row. length row ≡ 3) answer.now }
+    ensures { OnOk result (Writes writer.old writer.new (flat_map row_line answer.now)) }
+{
+    let mut line = ByteRecord::new(alloc);
+    for row in 0..answer.len() {
+        line.clear();
+        push_row(&mut line, answer, row)?;
+        put_record(writer, &line)?;
+    }
+    Ok(())
+}
+
+/// The answer of a query as a table in CSV: a header, then a line for each row. Each row of the answer has the three
+/// items of the query. Null shows as `\N`, truth values as `t` and `f`, numbers in plain decimal; fields are quoted
+/// where RFC 4180 wants it, and each line ends with a line feed. The only error is a failed allocation.
+pub fn print_csv(alloc: Global, query: &Query, answer: &Answer) -> Result<Vec<u8>, AllocError>
+    requires { All (λ row. length row ≡ 3) answer.now }
+    ensures { IfOk result (λ text. text.items ≡ table_text (headers query.now) answer.now) }
+{
+    let mut writer = Writer::from_writer(Vec::new(alloc));
+    put_headers(&mut writer, query)?;
+    put_rows(alloc, &mut writer, answer)?;
+    match writer.into_inner() {
+        Ok(text) => Ok(text),
+        Err(_) => Err(AllocError),
+    }
+}

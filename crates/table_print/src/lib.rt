@@ -1,0 +1,9 @@
+//! Answers as tables of text.
+#![tactic(auto)]
+
+mod csv_table;
+
+pub use csv_table::print_csv;
+
+#[cfg(test)]
+mod tests;
