@@ -1,0 +1,5 @@
+pub mod OutputLaws
+pub mod FeedLaws
+pub mod StoreLaws
+pub mod TextLaws
+pub mod RunLaws

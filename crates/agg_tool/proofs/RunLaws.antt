@@ -1,0 +1,197 @@
+-- How a run goes on from one command to the next.
+use Rattle.std.specs.Prelude.{◌≡◌, ◌≤◌, ◌+◌, refl, ℕ, if◌then◌else◌, List, [], ◌∷◌, ◌++◌, length, map, count_by, Option, Some, None, IfSome, IfErr, Result, Ok, Err, MatchResult}
+use Rattle.std.proofs.Common.{◌∙◌, ap, sym, subst, arith, append_assoc, inl}
+use Rattle.std.proofs.lemmas.List.{append-nil}
+use Rattle.std.proofs.lemmas.List.Sums.{sum_by-append}
+use Rattle.std.proofs.lemmas.Grind.{flat_map-append}
+use Rattle.std.specs.Io.KnownBytes.{Appends, Consumes, IsAtEnd}
+use Rattle.std.proofs.KnownBytes.{Appends-nil, Appends-trans, Keeps-refl}
+use Rattle.grouping_model.specs.World.{World}
+use Rattle.script_io.specs.Input.{StopsReading}
+use Rattle.script_io.specs.Output.{AppendsFront}
+use Rattle.script_io.specs.declared.input.InputError.{InputError}
+use Rattle.script_io.specs.declared.input.InputError.TheVariants as input
+use Rattle.script_io.proofs.InputFacts.{consumes-all, consumes-longer}
+use Rattle.script_io.proofs.OutputFacts.{front-first, front-second}
+use Rattle.script_commands.specs.Commands.{Command, request_of}
+use Rattle.agg_tool.specs.Machine.{State, Reply, Refused, Run, MayReply, Agrees, AgreesWith, start, after, is_refused}
+use Rattle.agg_tool.specs.Text.{reply_text, replies_text}
+use Rattle.agg_tool.specs.Output.{WritesAll, WritesFront, WritesBefore, WritesSome, StopsAt, commands_in, run_error}
+use Rattle.agg_tool.specs.Views.{Store, Represents, FitsWorld, Steps, said_text, is_refusal}
+use Rattle.agg_tool.specs.declared.refusal.Refusal.TheVariants.{NoMemory}
+use Rattle.agg_tool.specs.declared.error.RunError.{RunError}
+use Rattle.agg_tool.specs.declared.error.RunError.TheVariants as stop
+use Rattle.agg_tool.specs.declared.reply.Reply as code
+
+-- what is there after replies
+abbrev pub state_after : State → List Reply → State
+state_after old [] = old
+state_after old (reply ∷ replies) = state_after (after old reply) replies
+
+state_append : (old : State) (xs ys : List Reply) → state_after old (xs ++ ys) ≡ state_after (state_after old xs) ys
+state_append old [] ys = refl
+state_append old (x ∷ xs) ys = state_append (after old x) xs ys
+
+run_append : (old : State) (cs ds : List Command) (xs ys : List Reply) → Run old cs xs → Run (state_after old xs) ds ys → Run old (cs ++ ds) (xs ++ ys)
+unfolding Run
+run_append old [] ds [] ys p q = q
+run_append old (c ∷ cs) ds (x ∷ xs) ys p q = (p.0, run_append (after old x) cs ds xs ys p.1 q)
+run_append old [] ds (x ∷ xs) ys p q = absurd p
+run_append old (c ∷ cs) ds [] ys p q = absurd p
+
+run_one : (old : State) (c : Command) (x : Reply) → MayReply old c x → Run old (c ∷ []) (x ∷ [])
+unfolding Run
+run_one old c x p = (p, tt)
+
+run_none : Run start [] []
+unfolding Run
+run_none = tt
+
+-- each command may be refused for want of memory
+abbrev pub refusals : List Command → List Reply
+refusals commands = map (λ c. Refused NoMemory) commands
+
+run_refused : (old : State) (cs : List Command) → Run old cs (refusals cs)
+unfolding Run
+run_refused old [] = tt
+run_refused old (c ∷ cs) = (inl refl, run_refused old cs)
+
+agrees_front : (world : World) (xs ys : List Reply) → Agrees world (xs ++ ys) → Agrees world xs
+agrees_front world [] ys all = tt
+agrees_front world (x ∷ xs) ys all = (all.0, agrees_front world xs ys all.1)
+
+agrees_next : (world : World) (xs ys : List Reply) (y : Reply) → Agrees world (xs ++ y ∷ ys) → AgreesWith world y
+agrees_next world [] ys y all = all.0
+agrees_next world (x ∷ xs) ys y all = agrees_next world xs ys y all.1
+
+count_one : (reply : Reply) → count_by is_refused (reply ∷ []) ≡ (if is_refused reply then 1 else 0)
+count_one reply = grind arith
+
+count_append : (xs : List Reply) (x : Reply) → count_by is_refused (xs ++ x ∷ []) ≡ count_by is_refused xs + (if is_refused x then 1 else 0)
+count_append xs x = sum_by-append (λ r. if is_refused r then 1 else 0) xs (x ∷ []) ∙ ap (λ n. count_by is_refused xs + n) (count_one x)
+
+-- the commands before and their replies, what was written, and the commands that are left
+pub record Ran (commands : List Command) (old new : Option (List ℕ)) (refused : ℕ) (left : List Command) (store : Store) : Type 0 where
+  pub before : List Command
+  pub replies : List Reply
+  pub all : commands ≡ before ++ left
+  pub runs : Run start before replies
+  pub counts : count_by is_refused replies ≡ refused
+  pub represents : Represents (state_after start replies) store
+  pub fits : (world : World) → Agrees world replies → FitsWorld world store
+  pub writes : (world : World) → Agrees world replies → Appends old new (replies_text world replies)
+
+abbrev pub empty : Store
+empty = record { columns = None; query = None; replicas = [] }
+
+pub ran_start : (commands : List Command) (known : Option (List ℕ)) (store : Store) → store ≡ empty → Ran commands known known 0 commands store
+ran_start commands known store is =
+    subst (Ran commands known known 0 commands) (sym is)
+    (record {
+      before = [];
+      replies = [];
+      all = refl;
+      runs = run_none;
+      counts = refl;
+      represents = record { columns = refl; query = refl; replicas = λ name. refl };
+      fits = λ world agrees. record { of_columns = tt; fit = λ name. tt };
+      writes = λ world agrees. Appends-nil known;
+    })
+
+pub ran_more : (commands left : List Command) (old mid new : Option (List ℕ)) (refused more : ℕ) (store next : Store) (c : Command) (reply : code.Reply)
+    → Ran commands old mid refused (c ∷ left) store → Steps (request_of c.head) c.owned store reply next → Appends mid new (said_text reply)
+    → more ≡ refused + (if is_refusal reply then 1 else 0) → Ran commands old new more left next
+ran_more commands left old mid new refused more store next c reply ran step wrote counts =
+    let answers = step.steps (state_after start ran.replies) ran.represents in
+    record {
+      before = ran.before ++ (c ∷ []);
+      replies = ran.replies ++ (answers.said ∷ []);
+      all = ran.all ∙ sym (append_assoc ran.before (c ∷ []) left);
+      runs = run_append start ran.before (c ∷ []) ran.replies (answers.said ∷ []) ran.runs (run_one (state_after start ran.replies) c answers.said answers.may);
+      counts = count_append ran.replies answers.said ∙ ap (λ n. n + (if is_refused answers.said then 1 else 0)) ran.counts
+          ∙ ap (λ b. refused + (if b then 1 else 0)) (sym answers.refused) ∙ sym counts;
+      represents = subst (λ state. Represents state next) (sym (state_append start ran.replies (answers.said ∷ []))) answers.represents;
+      fits = λ world agrees. answers.fits world (ran.fits world (agrees_front world ran.replies _ agrees)) (agrees_next world ran.replies [] answers.said agrees);
+      writes = λ world agrees.
+          let front = agrees_front world ran.replies _ agrees in
+          let text = answers.text world (ran.fits world front) (agrees_next world ran.replies [] answers.said agrees) in
+          subst (Appends old new) (sym (flat_map-append (reply_text world) ran.replies (answers.said ∷ []) ∙ ap (λ l. replies_text world ran.replies ++ l) (append-nil (reply_text world answers.said))))
+          (Appends-trans old mid new _ _ (ran.writes world front) (subst (Appends mid new) text wrote));
+    }
+
+pub ran_all : (commands : List Command) (old new : Option (List ℕ)) (refused : ℕ) (store : Store) → Ran commands old new refused [] store → WritesAll commands old new refused
+ran_all commands old new refused store ran =
+    record {
+      replies = ran.replies;
+      runs = subst (λ cs. Run start cs ran.replies) (sym (ran.all ∙ append-nil ran.before)) ran.runs;
+      counts = ran.counts;
+      writes = ran.writes;
+    }
+
+-- it stops with commands left
+pub ran_stop : (commands left : List Command) (old new : Option (List ℕ)) (refused : ℕ) (store : Store) → Ran commands old new refused left store → WritesBefore commands old new
+ran_stop commands left old new refused store ran =
+    record {
+      before = ran.before;
+      left = left;
+      all = ran.all;
+      refused = refused;
+      writes = record { replies = ran.replies; runs = ran.runs; counts = ran.counts; writes = ran.writes };
+    }
+
+-- it stops within a reply: what was written is the front of an output in which each command behind is refused
+pub ran_front : (commands left : List Command) (old mid new : Option (List ℕ)) (refused : ℕ) (store next : Store) (c : Command) (reply : code.Reply)
+    → Ran commands old mid refused (c ∷ left) store → Steps (request_of c.head) c.owned store reply next → AppendsFront mid new (said_text reply)
+    → WritesFront commands old new
+ran_front commands left old mid new refused store next c reply ran step wrote =
+    let answers = step.steps (state_after start ran.replies) ran.represents in
+    let said = answers.said in
+    let later = refusals left in
+    record {
+      replies = ran.replies ++ (said ∷ later);
+      runs = subst (λ cs. Run start cs (ran.replies ++ (said ∷ later))) (sym ran.all)
+          (run_append start ran.before (c ∷ left) ran.replies (said ∷ later) ran.runs
+          (run_append (state_after start ran.replies) (c ∷ []) left (said ∷ []) later
+          (run_one (state_after start ran.replies) c said answers.may) (run_refused (after (state_after start ran.replies) said) left)));
+      writes = λ world agrees.
+          let front = agrees_front world ran.replies _ agrees in
+          let text = answers.text world (ran.fits world front) (agrees_next world ran.replies later said agrees) in
+          subst (AppendsFront old new) (sym (flat_map-append (reply_text world) ran.replies (said ∷ later)))
+          (front-second old mid new (replies_text world ran.replies) (replies_text world (said ∷ later)) (ran.writes world front)
+          (front-first mid new (reply_text world said) (replies_text world later) (subst (AppendsFront mid new) text wrote)));
+    }
+
+-- ---- a whole run
+
+none_yet : (commands : List Command) (known : Option (List ℕ)) → WritesBefore commands known known
+none_yet commands known = ran_stop commands commands known known 0 empty (ran_start commands known empty refl)
+
+-- a script that was not read
+pub stops_unread : (a b known : Option (List ℕ)) (most : ℕ) (e : InputError) → StopsReading a b most e
+    → IfSome a (λ script. StopsAt most script known known (run_error e))
+stops_unread None b known most e h = tt
+stops_unread (Some script) b known most input.ReadFault h = tt
+stops_unread (Some script) b known most input.NoMemory h = (λ _. Keeps-refl known, none_yet (commands_in script) known)
+stops_unread (Some script) b known most input.TooLong h = consumes-longer (Some script) b h.0 most h.1 h.2
+
+stops_so : (most : ℕ) (script : List ℕ) (old new : Option (List ℕ)) (e : RunError) → length script ≤ most
+    → WritesSome (commands_in script) old new e → StopsAt most script old new e
+stops_so most script old new stop.InputTooLong short h = absurd h
+stops_so most script old new stop.ReadFault short h = tt
+stops_so most script old new stop.WriteFault short h = (short, h)
+stops_so most script old new stop.NoMemory short h = (λ long. absurd (omega arith), h)
+
+-- a script that was read whole
+pub stops_read : {T : Type 0} (result : Result T RunError) (P : T → Type 0) (a b old new : Option (List ℕ)) (script : List ℕ) (most : ℕ) → length script ≤ most
+    → Consumes a b script → IsAtEnd b → MatchResult result P (λ e. WritesSome (commands_in script) old new e)
+    → IfErr result (λ e. IfSome a (λ xs. StopsAt most xs old new e))
+stops_read (Ok x) P a b old new script most short took ended h = tt
+stops_read (Err e) P None b old new script most short took ended h = tt
+stops_read (Err e) P (Some all) b old new script most short took ended h =
+    subst (λ xs. StopsAt most xs old new e) (sym (consumes-all (Some all) b script took ended)) (stops_so most script old new e short h)
+
+pub done_read : {T : Type 0} (result : Result T RunError) (P : List ℕ → T → Type 0) (Q : RunError → Type 0) (a b : Option (List ℕ)) (script : List ℕ)
+    → Consumes a b script → IsAtEnd b → MatchResult result (P script) Q → (x : T) → result ≡ Ok x → IfSome a (λ xs. P xs x)
+done_read result P Q None b script took ended h x is = tt
+done_read result P Q (Some all) b script took ended h x is =
+    subst (λ xs. P xs x) (sym (consumes-all (Some all) b script took ended)) (subst (λ r. MatchResult r (P script) Q) is h)

@@ -1,0 +1,421 @@
+-- What the code keeps, before and after a command.
+use Rattle.std.specs.Prelude.{◌≡◌, ◌≢◌, ◌⊎◌, refl, ℕ, Bool, true, false, if◌then◌else◌, List, [], length, Option, Some, None, IfSome, option_map, unwrap_or, string_bytes}
+use Rattle.std.proofs.Common.{◌∙◌, ap, sym, subst, inl, inr}
+use Rattle.std.specs.declared.alloc.Global.{Global}
+use Rattle.std.specs.declared.vec.Vec.{Vec}
+use Rattle.std.specs.Borrow.{Bor}
+use Rattle.std.specs.Option.{is_some, option_map_or}
+use Rattle.std.specs.declared.string.String.{String}
+use Rattle.std.specs.Prelude.{codes}
+use Rattle.std.specs.Map.{lookup, KeepsOthers}
+use Rattle.std.specs.Str.{bytes_eq}
+use Rattle.std.specs.HashMap.{HashMap, UpdatesBy}
+use Rattle.std.proofs.lemmas.Slice.Eq.{bytes_eq-Decides}
+use Rattle.std.proofs.lemmas.Bool.{true≢false, false_from_ne_true}
+use Rattle.grouping_model.specs.World.{World, IsWorld, nothing, learn}
+use Rattle.grouping_model.specs.Answer.{answer}
+use Rattle.packed_rows.specs.Columns.{Column, kinds, IsSchemaText}
+use Rattle.first_query.specs.Chosen.{Chosen, canonical, headers, meaning}
+use Rattle.first_query.specs.Text.{query_of}
+use Rattle.replica_merge.specs.Kept.{Held, told, known_list, Fits}
+use Rattle.replica_merge.specs.declared.delivered.Delivered.{Delivered}
+use Rattle.replica_merge.proofs.KeptLaws.{fits_nothing, fits_more}
+use Rattle.script_io.specs.Records.{Record}
+use Rattle.script_commands.specs.Commands as ask
+use Rattle.script_commands.specs.Commands.{Request}
+use Rattle.table_print.specs.Table.{table_text}
+use Rattle.agg_tool.specs.Machine as machine
+use Rattle.agg_tool.specs.Machine.{State, Fed, IsBatch, IsNoBatch, ColumnsReply, query_reply, replica_reply, FeedReply, known_reply, answer_reply, Replies, AgreesWith, after, with_replica}
+use Rattle.agg_tool.specs.Text.{line, known_text, answer_text}
+use Rattle.agg_tool.specs.Views.{Store, IsStore, Represents, FitsWorld, Steps, Takes, Updates, replica_at, knowledge_of, said_text}
+use Rattle.agg_tool.specs.declared.refusal.Refusal.{Refusal}
+use Rattle.agg_tool.specs.declared.refusal.Refusal.TheVariants as why
+use Rattle.agg_tool.specs.declared.reply.Reply.TheVariants as says
+
+-- ---- names
+
+-- a key that passes the test of a name has its bytes
+apart : (name other bytes : List ℕ) → bytes_eq name other ≡ false → bytes_eq name bytes ≡ true → bytes_eq other bytes ≡ false
+apart name other bytes different same =
+    false_from_ne_true (bytes_eq other bytes) (λ e. true≢false (sym ((bytes_eq-Decides name other).1 ((bytes_eq-Decides name bytes).0 same ∙ sym ((bytes_eq-Decides other bytes).0 e))) ∙ different))
+
+alike : (name x y : List ℕ) → bytes_eq name x ≡ true → bytes_eq name y ≡ bytes_eq x y
+alike name x y same = ap (λ bytes. bytes_eq bytes y) ((bytes_eq-Decides name x).0 same)
+
+-- what a change at one name leaves at the others
+others_kept : (name other : List ℕ) (old new : List (Vec ℕ Global × Held))
+    → KeepsOthers (λ (x y : Vec ℕ Global). bytes_eq x.items y.items) (λ (key : Vec ℕ Global). bytes_eq name key.items) old new
+    → bytes_eq name other ≡ false
+    → lookup (λ (key : Vec ℕ Global). bytes_eq other key.items) new ≡ lookup (λ (key : Vec ℕ Global). bytes_eq other key.items) old
+unfolding KeepsOthers
+others_kept name other old new keeps different =
+    keeps (λ (key : Vec ℕ Global). bytes_eq other key.items) (λ x y. alike other x.items y.items) (λ key. apart name other key.items different)
+
+-- a map that was updated at a name is a store that was
+pub updated : {S : Type 0} (columns : Option (List Column)) (query : Option Chosen) (name : List ℕ) (held : Held) (old new : HashMap (Vec ℕ Global) Held S)
+    → UpdatesBy (λ (x y : Vec ℕ Global). bytes_eq x.items y.items) (λ (key : Vec ℕ Global). bytes_eq name key.items) old new (Some held)
+    → Updates (record { columns = columns; query = query; replicas = old.entries }) (record { columns = columns; query = query; replicas = new.entries }) name held
+updated columns query name held old new u =
+    record { columns = refl; query = refl; own = u.1; others = λ other. others_kept name other old.entries new.entries u.3 }
+
+-- what holds of each replica, and of the new one, holds of each replica then
+pub each_replica : (P : Held → Type 0) (old new : Store) (name : List ℕ) (held : Held) → Updates old new name held → P held
+    → ((other : List ℕ) → IfSome (replica_at old other) P) → (other : List ℕ) → IfSome (replica_at new other) P
+each_replica P old new name held u p all other = go (bytes_eq name other) refl
+  where
+    go : (b : Bool) → bytes_eq name other ≡ b → IfSome (replica_at new other) P
+    go true e = subst (λ bytes. IfSome (replica_at new bytes) P) ((bytes_eq-Decides name other).0 e) (subst (λ o. IfSome o P) (sym u.own) p)
+    go false e = subst (λ o. IfSome o P) (sym (u.others other e)) (all other)
+
+-- a store stays one where a replica has the query
+pub store_updated : (old new : Store) (name : List ℕ) (held : Held) → Updates old new name held → old.query ≡ Some held.query → IsStore old → IsStore new
+store_updated old new name held u asks is =
+    record {
+      over = subst (λ q. IfSome q (λ (query : Chosen). new.columns ≡ Some query.columns)) (sym u.query)
+          (subst (λ cs. IfSome old.query (λ (query : Chosen). cs ≡ Some query.columns)) (sym u.columns) is.over);
+      asked =
+          subst (λ q. (other : List ℕ) → IfSome (replica_at new other) (λ (h : Held). q ≡ Some h.query)) (sym u.query)
+          (each_replica (λ h. old.query ≡ Some h.query) old new name held u asks is.asked);
+    }
+
+-- what is known after a change at a name
+known_updated : (state : State) (old new : Store) (name : List ℕ) (held : Held) → Represents state old → Updates old new name held
+    → (other : List ℕ) → with_replica state.replicas name (knowledge_of held) other ≡ option_map knowledge_of (replica_at new other)
+known_updated state old new name held r u other = go (bytes_eq name other) refl
+  where
+    go : (b : Bool) → bytes_eq name other ≡ b → (if b then Some (knowledge_of held) else state.replicas other) ≡ option_map knowledge_of (replica_at new other)
+    go true e = ap (option_map knowledge_of) (sym (ap (replica_at new) (sym ((bytes_eq-Decides name other).0 e)) ∙ u.own))
+    go false e = r.replicas other ∙ ap (option_map knowledge_of) (sym (u.others other e))
+
+-- the rows fit a world after a change at a name
+pub fits_updated : (world : World) (old new : Store) (name : List ℕ) (held : Held) → Updates old new name held → Fits world held.kept → FitsWorld world old → FitsWorld world new
+fits_updated world old new name held u fits f =
+    record {
+      of_columns = subst (λ cs. IfSome cs (λ (columns : List Column). IsWorld (kinds columns) world)) (sym u.columns) f.of_columns;
+      fit = each_replica (λ h. Fits world h.kept) old new name held u fits f.fit;
+    }
+
+-- ---- refusals
+
+-- nothing is changed
+pub record Same (old new : Store) : Type 0 where
+  pub columns : new.columns ≡ old.columns
+  pub query : new.query ≡ old.query
+  pub replicas : (name : List ℕ) → replica_at new name ≡ replica_at old name
+
+pub same : (store : Store) → Same store store
+same store = record { columns = refl; query = refl; replicas = λ name. refl }
+
+-- a replica that was replaced by itself
+pub same_updated : (old new : Store) (name : List ℕ) (held : Held) → Updates old new name held → replica_at old name ≡ Some held → Same old new
+same_updated old new name held u there = record { columns = u.columns; query = u.query; replicas = λ other. go other (bytes_eq name other) refl }
+  where
+    go : (other : List ℕ) (b : Bool) → bytes_eq name other ≡ b → replica_at new other ≡ replica_at old other
+    go other true e = ap (replica_at new) (sym ((bytes_eq-Decides name other).0 e)) ∙ u.own ∙ sym there ∙ ap (replica_at old) ((bytes_eq-Decides name other).0 e)
+    go other false e = u.others other e
+
+-- a map that is as it was
+pub same_entries : (columns : Option (List Column)) (query : Option Chosen) (old new : List (Vec ℕ Global × Held)) → new ≡ old
+    → Same (record { columns = columns; query = query; replicas = old }) (record { columns = columns; query = query; replicas = new })
+same_entries columns query old new e =
+    record { columns = refl; query = refl; replicas = λ name. ap (λ es. lookup (λ (key : Vec ℕ Global). bytes_eq name key.items) es) e }
+
+still : (state : State) (old new : Store) → Same old new → Represents state old → Represents state new
+still state old new s r =
+    record { columns = r.columns ∙ sym s.columns; query = r.query ∙ sym s.query; replicas = λ name. r.replicas name ∙ ap (option_map knowledge_of) (sym (s.replicas name)) }
+
+still_fits : (world : World) (old new : Store) → Same old new → FitsWorld world old → FitsWorld world new
+still_fits world old new s f =
+    record {
+      of_columns = subst (λ cs. IfSome cs (λ columns. IsWorld (kinds columns) world)) (sym s.columns) f.of_columns;
+      fit = λ name. subst (λ o. IfSome o (λ (h : Held). Fits world h.kept)) (sym (s.replicas name)) (f.fit name);
+    }
+
+-- a refusal of the code is one of the machine's
+pub refused_for : (request : Request) (owned : List Record) (old new : Store) (refusal : Refusal) → Same old new
+    → ((state : State) → Represents state old → (machine.Refused refusal ≡ machine.Refused why.NoMemory) ⊎ Replies state request owned (machine.Refused refusal))
+    → Steps request owned old (says.Refused refusal) new
+refused_for request owned old new refusal s may =
+    record {
+      steps = λ state r. record {
+        said = machine.Refused refusal;
+        may = may state r;
+        represents = still state old new s r;
+        refused = refl;
+        fits = λ world f agrees. still_fits world old new s f;
+        text = λ world f agrees. refl;
+      };
+    }
+
+pub no_memory_same : (request : Request) (owned : List Record) (old new : Store) → Same old new → Steps request owned old (says.Refused why.NoMemory) new
+no_memory_same request owned old new s = refused_for request owned old new why.NoMemory s (λ state r. inl refl)
+
+pub out_of_memory : (request : Request) (owned : List Record) (store : Store) → Steps request owned store (says.Refused why.NoMemory) store
+out_of_memory request owned store = refused_for request owned store store why.NoMemory (same store) (λ state r. inl refl)
+
+pub refused : (request : Request) (owned : List Record) (store : Store) (refusal : Refusal)
+    → ((state : State) → Represents state store → Replies state request owned (machine.Refused refusal)) → Steps request owned store (says.Refused refusal) store
+refused request owned store refusal replies = refused_for request owned store store refusal (same store) (λ state r. inr (replies state r))
+
+-- no memory, or another refusal
+memory_or : (refusal : Refusal) → (refusal ≡ why.NoMemory) ⊎ (refusal ≢ why.NoMemory)
+memory_or why.NoMemory = inl refl
+memory_or why.BadSchema = inr (λ e. cc)
+memory_or (why.BadField column) = inr (λ e. cc)
+memory_or why.WrongWidth = inr (λ e. cc)
+memory_or why.Unsupported = inr (λ e. cc)
+memory_or why.BadBatchHead = inr (λ e. cc)
+memory_or why.TooManyRows = inr (λ e. cc)
+memory_or why.RowCount = inr (λ e. cc)
+memory_or why.InputTooLong = inr (λ e. cc)
+memory_or why.ReadFault = inr (λ e. cc)
+memory_or why.WriteFault = inr (λ e. cc)
+memory_or why.BadCommand = inr (λ e. cc)
+memory_or why.NoSuchName = inr (λ e. cc)
+memory_or why.NameTaken = inr (λ e. cc)
+
+-- a refusal that may be for want of memory
+pub refused_or_memory : (request : Request) (owned : List Record) (old new : Store) (refusal : Refusal) → Same old new
+    → (refusal ≢ why.NoMemory → (state : State) → Represents state old → Replies state request owned (machine.Refused refusal))
+    → Steps request owned old (says.Refused refusal) new
+refused_or_memory request owned old new refusal s replies = refused_for request owned old new refusal s (λ state r. go state r (memory_or refusal))
+  where
+    go : (state : State) → Represents state old → (refusal ≡ why.NoMemory) ⊎ (refusal ≢ why.NoMemory)
+        → (machine.Refused refusal ≡ machine.Refused why.NoMemory) ⊎ Replies state request owned (machine.Refused refusal)
+    go state r (inl e) = inl (ap machine.Refused e)
+    go state r (inr other) = inr (replies other state r)
+
+-- ---- columns and query
+
+none_there : {X : Type 0} (o : Option X) → is_some o ≡ false → o ≡ None
+none_there None e = refl
+none_there (Some x) e = absurd (true≢false e)
+
+pub columns_there : (store : Store) (text : List ℕ) (owned : List Record) → is_some store.columns ≡ true → Steps (ask.Columns text) owned store (says.Refused why.BadCommand) store
+columns_there store text owned there =
+    refused (ask.Columns text) owned store why.BadCommand (λ state r. subst (λ cs. ColumnsReply cs text (machine.Refused why.BadCommand)) (sym r.columns) (go store.columns there))
+  where
+    go : (o : Option (List Column)) → is_some o ≡ true → ColumnsReply o text (machine.Refused why.BadCommand)
+    go (Some columns) e = refl
+    go None e = absurd (true≢false (sym e))
+
+pub no_schema : (store : Store) (text : List ℕ) (owned : List Record) → is_some store.columns ≡ false → ((columns : List Column) → ¬ (IsSchemaText text columns))
+    → Steps (ask.Columns text) owned store (says.Refused why.BadSchema) store
+no_schema store text owned none bad =
+    refused (ask.Columns text) owned store why.BadSchema
+    (λ state r. subst (λ cs. ColumnsReply cs text (machine.Refused why.BadSchema)) (sym (r.columns ∙ none_there store.columns none)) (refl, bad))
+
+pub columns_told : (store : Store) (text : List ℕ) (owned : List Record) (columns : List Column) (count : ℕ) → is_some store.columns ≡ false
+    → IsSchemaText text columns → count ≡ length columns → Steps (ask.Columns text) owned store (says.Columns count) (record store { columns = Some columns })
+columns_told store text owned columns count none is counted =
+    record {
+      steps = λ state r. record {
+        said = machine.Has_columns columns;
+        may = inr (subst (λ cs. ColumnsReply cs text (machine.Has_columns columns)) (sym (r.columns ∙ none_there store.columns none)) is);
+        represents = record { columns = refl; query = r.query; replicas = r.replicas };
+        refused = refl;
+        fits = λ world f agrees. record { of_columns = agrees; fit = f.fit };
+        text = λ world f agrees. ap (λ n. said_text (says.Columns n)) counted;
+      };
+    }
+
+pub query_too_early : (store : Store) (text : List ℕ) (owned : List Record) → store.columns ≡ None → Steps (ask.Query text) owned store (says.Refused why.BadCommand) store
+query_too_early store text owned none =
+    refused (ask.Query text) owned store why.BadCommand (λ state r. sym (ap (λ cs. query_reply cs state.query text) (r.columns ∙ none)))
+
+pub query_there : (store : Store) (text : List ℕ) (owned : List Record) (columns : List Column) → store.columns ≡ Some columns → is_some store.query ≡ true
+    → Steps (ask.Query text) owned store (says.Refused why.BadCommand) store
+query_there store text owned columns told there =
+    refused (ask.Query text) owned store why.BadCommand
+    (λ state r. sym (ap (λ cs. query_reply cs state.query text) (r.columns ∙ told) ∙ ap (λ q. query_reply (Some columns) q text) r.query ∙ go store.query there))
+  where
+    go : (q : Option Chosen) → is_some q ≡ true → query_reply (Some columns) q text ≡ machine.Refused why.BadCommand
+    go (Some q) e = refl
+    go None e = absurd (true≢false (sym e))
+
+-- the machine's reply to a query's text, where there are columns and no query
+query_says : (state : State) (store : Store) (text : List ℕ) (columns : List Column) → Represents state store → store.columns ≡ Some columns → is_some store.query ≡ false
+    → query_reply state.columns state.query text ≡ query_reply (Some columns) None text
+query_says state store text columns r told none =
+    ap (λ cs. query_reply cs state.query text) (r.columns ∙ told) ∙ ap (λ q. query_reply (Some columns) q text) (r.query ∙ none_there store.query none)
+
+pub query_refused : (store : Store) (text : List ℕ) (owned : List Record) (columns : List Column) (refusal : Refusal) → store.columns ≡ Some columns → is_some store.query ≡ false
+    → (refusal ≢ why.NoMemory → (refusal ≡ why.Unsupported) × (query_of columns text ≡ None)) → Steps (ask.Query text) owned store (says.Refused refusal) store
+query_refused store text owned columns refusal told none bad =
+    refused_or_memory (ask.Query text) owned store store refusal (same store)
+    (λ other state r.
+    ap machine.Refused (bad other).0
+    ∙ sym (query_says state store text columns r told none ∙ ap (λ q. option_map_or machine.Has_query q (machine.Refused why.Unsupported)) (bad other).1))
+
+pub query_told : (store : Store) (text : List ℕ) (owned : List Record) (columns : List Column) (query : Chosen) (shown : String Global)
+    → store.columns ≡ Some columns → is_some store.query ≡ false → query_of columns text ≡ Some query → string_bytes shown ≡ canonical query
+    → Steps (ask.Query text) owned store (says.Query shown) (record store { query = Some query })
+query_told store text owned columns query shown told none is spelled =
+    record {
+      steps = λ state r. record {
+        said = machine.Has_query query;
+        may = inr (sym (query_says state store text columns r told none ∙ ap (λ q. option_map_or machine.Has_query q (machine.Refused why.Unsupported)) is));
+        represents = record { columns = r.columns; query = refl; replicas = r.replicas };
+        refused = refl;
+        fits = λ world f agrees. record { of_columns = f.of_columns; fit = f.fit };
+        text = λ world f agrees. ap (λ bytes. line (codes "query ") bytes) spelled;
+      };
+    }
+
+-- a store with its first query: no replica is there yet
+pub store_asked : (store : Store) (columns : List Column) (query : Chosen) → IsStore store → store.columns ≡ Some columns → is_some store.query ≡ false
+    → query.columns ≡ columns → IsStore (record store { query = Some query })
+store_asked store columns query is told none over =
+    record {
+      over = told ∙ ap Some (sym over);
+      asked = λ name. go (replica_at store name) (subst (λ q. IfSome (replica_at store name) (λ (held : Held). q ≡ Some held.query)) (none_there store.query none) (is.asked name));
+    }
+  where
+    go : (o : Option Held) → IfSome o (λ (held : Held). (◌≡◌ {A = Option Chosen} None (Some held.query))) → IfSome o (λ (held : Held). (◌≡◌ {A = Option Chosen} (Some query) (Some held.query)))
+    go None h = tt
+    go (Some held) h = absurd cc
+
+-- ---- replicas
+
+some_there : {X : Type 0} (o : Option X) → is_some o ≡ true → (x : X) × (o ≡ Some x)
+some_there None e = absurd (true≢false (sym e))
+some_there (Some x) e = (x, refl)
+
+pub replica_too_early : (store : Store) (name : List ℕ) (owned : List Record) → store.query ≡ None → Steps (ask.Replica name) owned store (says.Refused why.BadCommand) store
+replica_too_early store name owned none =
+    refused (ask.Replica name) owned store why.BadCommand (λ state r. sym (ap (λ q. replica_reply q (state.replicas name) name) (r.query ∙ none)))
+
+pub name_taken : (store : Store) (name : List ℕ) (owned : List Record) (query : Chosen) → store.query ≡ Some query → is_some (replica_at store name) ≡ true
+    → Steps (ask.Replica name) owned store (says.Refused why.NameTaken) store
+name_taken store name owned query told there =
+    let found = some_there (replica_at store name) there in
+    refused (ask.Replica name) owned store why.NameTaken
+    (λ state r.
+    sym (ap (λ q. replica_reply q (state.replicas name) name) (r.query ∙ told)
+    ∙ ap (λ known. replica_reply (Some query) known name) (r.replicas name ∙ ap (option_map knowledge_of) found.1)))
+
+pub replica_made : (old new : Store) (name : Bor (List ℕ)) (owned : List Record) (query : Chosen) → old.query ≡ Some query → is_some (replica_at old name.now) ≡ false
+    → Updates old new name.now (record { query = query; kept = [] }) → Steps (ask.Replica name.now) owned old (says.Created name) new
+replica_made old new name owned query told none u =
+    record {
+      steps = λ state r. record {
+        said = machine.Created name.now;
+        may = inr (sym (ap (λ q. replica_reply q (state.replicas name.now) name.now) (r.query ∙ told)
+            ∙ ap (λ known. replica_reply (Some query) known name.now) (r.replicas name.now ∙ ap (option_map knowledge_of) (none_there (replica_at old name.now) none))));
+        represents = record {
+          columns = r.columns ∙ sym u.columns;
+          query = r.query ∙ sym u.query;
+          replicas = known_updated state old new name.now (record { query = query; kept = [] }) r u;
+        };
+        refused = refl;
+        fits = λ world f agrees. fits_updated world old new name.now (record { query = query; kept = [] }) u (fits_nothing world) f;
+        text = λ world f agrees. refl;
+      };
+    }
+
+-- the columns and the query of a replica are those of the store
+pub held_asks : (store : Store) (name : List ℕ) (held : Held) → IsStore store → replica_at store name ≡ Some held
+    → (store.query ≡ Some held.query) × (store.columns ≡ Some held.query.columns)
+held_asks store name held is there =
+    let asks : store.query ≡ Some held.query = subst (λ o. IfSome o (λ (h : Held). store.query ≡ Some h.query)) there (is.asked name) in
+    (asks, subst (λ q. IfSome q (λ (query : Chosen). store.columns ≡ Some query.columns)) asks is.over)
+
+known_there : (state : State) (store : Store) (name : List ℕ) (held : Held) → Represents state store → replica_at store name ≡ Some held
+    → state.replicas name ≡ Some (knowledge_of held)
+known_there state store name held r there = r.replicas name ∙ ap (option_map knowledge_of) there
+
+known_nowhere : (state : State) (store : Store) (name : List ℕ) → Represents state store → replica_at store name ≡ None → state.replicas name ≡ None
+known_nowhere state store name r none = r.replicas name ∙ ap (option_map knowledge_of) none
+
+-- a feed's columns are those of its replica
+feed_columns : (state : State) (store : Store) (name : List ℕ) (held : Held) → Represents state store → IsStore store → replica_at store name ≡ Some held
+    → unwrap_or state.columns [] ≡ held.query.columns
+feed_columns state store name held r is there = ap (λ cs. unwrap_or cs []) (r.columns ∙ (held_asks store name held is there).1)
+
+pub feed_nowhere : (store : Store) (name origin number : List ℕ) (told_rows : ℕ) (owned : List Record) → replica_at store name ≡ None
+    → Steps (ask.Feed name origin number told_rows) owned store (says.Refused why.NoSuchName) store
+feed_nowhere store name origin number told_rows owned none =
+    refused (ask.Feed name origin number told_rows) owned store why.NoSuchName
+    (λ state r. subst (λ known. FeedReply (unwrap_or state.columns []) known name origin number told_rows owned (machine.Refused why.NoSuchName))
+    (sym (known_nowhere state store name r none)) refl)
+
+pub feed_refused : (old new : Store) (name origin number : List ℕ) (told_rows : ℕ) (owned : List Record) (held : Held) (refusal : Refusal) → IsStore old
+    → replica_at old name ≡ Some held → Same old new → (refusal ≢ why.NoMemory → IsNoBatch (kinds held.query.columns) origin number told_rows owned refusal)
+    → Steps (ask.Feed name origin number told_rows) owned old (says.Refused refusal) new
+feed_refused old new name origin number told_rows owned held refusal is there s bad =
+    refused_or_memory (ask.Feed name origin number told_rows) owned old new refusal s
+    (λ other state r.
+    subst (λ known. FeedReply (unwrap_or state.columns []) known name origin number told_rows owned (machine.Refused refusal)) (sym (known_there state old name held r there))
+    (subst (λ cs. IsNoBatch (kinds cs) origin number told_rows owned refusal) (sym (feed_columns state old name held r is there)) (bad other)))
+
+pub feed_took : (old new : Store) (name origin number : List ℕ) (told_rows : ℕ) (owned : List Record) (held later : Held) (delivered : Delivered) → IsStore old
+    → replica_at old name ≡ Some held → Takes origin number told_rows owned held later delivered → Updates old new name later
+    → Steps (ask.Feed name origin number told_rows) owned old (says.Delivered delivered) new
+feed_took old new name origin number told_rows owned held later delivered is there takes u =
+    record {
+      steps = λ state r. record {
+        said = machine.Took name takes.fed delivered;
+        may = inr (subst (λ known. FeedReply (unwrap_or state.columns []) known name origin number told_rows owned (machine.Took name takes.fed delivered)) (sym (known_there state old name held r there))
+            (refl, subst (λ cs. IsBatch (kinds cs) origin number told_rows owned takes.fed) (sym (feed_columns state old name held r is there)) takes.is_batch, takes.reply));
+        represents = record {
+          columns = r.columns ∙ sym u.columns;
+          query = r.query ∙ sym u.query;
+          replicas = λ other. ap (λ known. with_replica state.replicas name known other)
+              (ap (λ known. learn (unwrap_or known nothing) (takes.fed.origin, takes.fed.number)) (known_there state old name held r there) ∙ sym takes.learns)
+              ∙ known_updated state old new name later r u other;
+        };
+        refused = refl;
+        fits = λ world f agrees. fits_updated world old new name later u
+            (fits_more world held.kept later.kept (takes.fed.origin, takes.fed.number) _ takes.fed.rows (subst (λ o. IfSome o (λ (h : Held). Fits world h.kept)) there (f.fit name)) agrees refl takes.keeps) f;
+        text = λ world f agrees. refl;
+      };
+    }
+
+-- ---- questions
+
+pub known_nowhere_at : (store : Store) (name : List ℕ) (owned : List Record) → replica_at store name ≡ None → Steps (ask.Known name) owned store (says.Refused why.NoSuchName) store
+known_nowhere_at store name owned none =
+    refused (ask.Known name) owned store why.NoSuchName (λ state r. sym (ap known_reply (known_nowhere state store name r none)))
+
+pub known_listed : (store : Store) (name : List ℕ) (owned : List Record) (held : Held) (lines : Vec ℕ Global) → replica_at store name ≡ Some held
+    → lines.items ≡ known_text (known_list (told held.kept)) → Steps (ask.Known name) owned store (says.Known lines) store
+known_listed store name owned held lines there shown =
+    record {
+      steps = λ state r. record {
+        said = machine.Listed (known_list (told held.kept));
+        may = inr (sym (ap known_reply (known_there state store name held r there)));
+        represents = r;
+        refused = refl;
+        fits = λ world f agrees. f;
+        text = λ world f agrees. shown;
+      };
+    }
+
+pub answer_nowhere : (store : Store) (name : List ℕ) (owned : List Record) → replica_at store name ≡ None → Steps (ask.Answer name) owned store (says.Refused why.NoSuchName) store
+answer_nowhere store name owned none =
+    refused (ask.Answer name) owned store why.NoSuchName
+    (λ state r. sym (ap (λ known. answer_reply state.query known) (known_nowhere state store name r none) ∙ go state.query))
+  where
+    go : (q : Option Chosen) → answer_reply q None ≡ machine.Refused why.NoSuchName
+    go None = refl
+    go (Some q) = refl
+
+pub answered : (store : Store) (name : List ℕ) (owned : List Record) (held : Held) (rows : ℕ) (table : Vec ℕ Global) → IsStore store → replica_at store name ≡ Some held
+    → ((world : World) → IsWorld (kinds held.query.columns) world → Fits world held.kept
+    → (rows ≡ length (answer (meaning held.query) world (told held.kept))) × (table.items ≡ table_text (headers held.query) (answer (meaning held.query) world (told held.kept))))
+    → Steps (ask.Answer name) owned store (says.Answer rows table) store
+answered store name owned held rows table is there shown =
+    let asks = held_asks store name held is there in
+    record {
+      steps = λ state r. record {
+        said = machine.Answered held.query (told held.kept);
+        may = inr (sym (ap (λ q. answer_reply q (state.replicas name)) (r.query ∙ asks.0) ∙ ap (λ known. answer_reply (Some held.query) known) (known_there state store name held r there)));
+        represents = r;
+        refused = refl;
+        fits = λ world f agrees. f;
+        text = λ world f agrees.
+            let of_world = subst (λ cs. IfSome cs (λ (columns : List Column). IsWorld (kinds columns) world)) asks.1 f.of_columns in
+            let right = shown world of_world (subst (λ o. IfSome o (λ (h : Held). Fits world h.kept)) there (f.fit name)) in
+            ap (λ n. answer_text n table.items) right.0 ∙ ap (λ bytes. answer_text (length (answer (meaning held.query) world (told held.kept))) bytes) right.1;
+      };
+    }

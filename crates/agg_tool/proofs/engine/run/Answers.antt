@@ -1,0 +1,15 @@
+use Rattle.agg_tool.specs.Output.{run_error}
+use Rattle.agg_tool.proofs.OutputLaws.{passed_as}
+use Rattle.agg_tool.proofs.RunLaws.{stops_unread, stops_read}
+use Rattle.agg_tool.proofs.engine.run.Goals as goal
+
+pub returns-in_err-script-clause-stopped : goal.returns-in_err-script-clause-stopped
+returns-in_err-script-clause-stopped g c =
+    passed_as c.from_residual.result (run_error c.in_err-script.field-0.0) _ _ c.from_residual.ensures.1
+    (stops_unread _ _ _ _ c.in_err-script.field-0.0 c.in_err-script.ensures.why)
+
+pub returns-clause-stopped : goal.returns-clause-stopped
+returns-clause-stopped g c =
+    let whole = c.in_ok-script.ensures.whole in
+    let written = rw c.deref.ensures.value at c.run_script.ensures in
+    stops_read c.run_script.result _ _ _ _ _ c.in_ok-script.script.items _ whole.0 whole.1 whole.2 written

@@ -1,0 +1,62 @@
+use Rattle.std.specs.Prelude.{◌≡◌, Some, []}
+use Rattle.std.proofs.Common.{◌∙◌, sym, subst, rules}
+use Rattle.std.specs.declared.alloc.Global.{Global}
+use Rattle.std.specs.declared.vec.Vec.{Vec}
+use Rattle.std.specs.Prelude.{ℕ}
+use Rattle.std.specs.Str.{bytes_eq}
+use Rattle.std.specs.HashMap.{UpdatesBy}
+use Rattle.script_commands.specs.Commands as ask
+use Rattle.replica_merge.specs.Kept.{Held}
+use Rattle.agg_tool.specs.Views.{Store, Steps}
+use Rattle.agg_tool.specs.declared.refusal.Refusal.TheVariants as why
+use Rattle.agg_tool.specs.declared.reply.Reply.TheVariants as says
+use Rattle.agg_tool.proofs.StoreLaws.{replica_too_early, name_taken, replica_made, no_memory_same, out_of_memory, same_entries, store_updated, updated}
+use Rattle.agg_tool.proofs.session.Session.add_replica.Goals as goal
+
+pub returns-in_default : goal.returns-in_default
+returns-in_default c = λ owned.
+    subst (λ s. Steps (ask.Replica c.args.name.now) owned s (says.Refused why.BadCommand) s) c.self.view_is
+    (replica_too_early _ c.args.name.now owned c.in_default.is)
+
+pub returns-then-contains_key : goal.returns-then-contains_key
+returns-then-contains_key c = λ owned.
+    subst (λ s. Steps (ask.Replica c.args.name.now) owned s (says.Refused why.NameTaken) s) c.self.view_is
+    (name_taken _ c.args.name.now owned c.in-Some.query c.in-Some.is (sym c.contains_key.ensures ∙ c.if-contains_key.true))
+
+pub returns-in_default-try_clone : goal.returns-in_default-try_clone
+returns-in_default-try_clone c = λ owned. out_of_memory (ask.Replica c.args.name.now) owned c.args.self.now
+
+pub returns-in_default-to_vec : goal.returns-in_default-to_vec
+returns-in_default-to_vec c = λ owned. out_of_memory (ask.Replica c.args.name.now) owned c.args.self.now
+
+pub invariant_of-self : goal.invariant_of-self
+invariant_of-self c =
+    let held : Held = record { query = c.in-Some.query; kept = [] } in
+    let same_key : c.in-Ok-to_vec.key.items ≡ c.args.name.now = search rules in
+    let cloned : c.new.result ≡ held = search rules in
+    let u : UpdatesBy (λ (x y : Vec ℕ Global). bytes_eq x.items y.items) (λ (k : Vec ℕ Global). bytes_eq c.args.name.now k.items) c.self.inside.replicas c.insert.new.self (Some held) =
+    subst (λ h. UpdatesBy (λ (x y : Vec ℕ Global). bytes_eq x.items y.items) (λ (k : Vec ℕ Global). bytes_eq c.args.name.now k.items) c.self.inside.replicas c.insert.new.self (Some h)) cloned
+    (subst (λ q. UpdatesBy (λ (x y : Vec ℕ Global). bytes_eq x.items y.items) (λ (k : Vec ℕ Global). bytes_eq q k.items) c.self.inside.replicas c.insert.new.self (Some c.new.result)) same_key c.in-Ok-insert.ensures.updates) in
+    store_updated (record { columns = c.self.inside.columns; query = c.self.inside.query; replicas = c.self.inside.replicas.entries }) _ c.args.name.now held
+    (updated c.self.inside.columns c.self.inside.query c.args.name.now held c.self.inside.replicas c.insert.new.self u) c.in-Some.is c.self.invariant
+
+pub returns-in-Ok-insert : goal.returns-in-Ok-insert
+returns-in-Ok-insert c = λ owned.
+    let held : Held = record { query = c.in-Some.query; kept = [] } in
+    let old : Store = record { columns = c.self.inside.columns; query = c.self.inside.query; replicas = c.self.inside.replicas.entries } in
+    let new : Store = record { columns = c.self.inside.columns; query = c.self.inside.query; replicas = c.insert.new.self.entries } in
+    let same_key : c.in-Ok-to_vec.key.items ≡ c.args.name.now = search rules in
+    let cloned : c.new.result ≡ held = search rules in
+    let u : UpdatesBy (λ (x y : Vec ℕ Global). bytes_eq x.items y.items) (λ (k : Vec ℕ Global). bytes_eq c.args.name.now k.items) c.self.inside.replicas c.insert.new.self (Some held) =
+    subst (λ h. UpdatesBy (λ (x y : Vec ℕ Global). bytes_eq x.items y.items) (λ (k : Vec ℕ Global). bytes_eq c.args.name.now k.items) c.self.inside.replicas c.insert.new.self (Some h)) cloned
+    (subst (λ q. UpdatesBy (λ (x y : Vec ℕ Global). bytes_eq x.items y.items) (λ (k : Vec ℕ Global). bytes_eq q k.items) c.self.inside.replicas c.insert.new.self (Some c.new.result)) same_key c.in-Ok-insert.ensures.updates) in
+    subst (λ s. Steps (ask.Replica c.args.name.now) owned s (says.Created c.args.name) new) c.self.view_is
+    (replica_made old new c.args.name owned c.in-Some.query c.in-Some.is (sym c.contains_key.ensures ∙ c.if-contains_key.false)
+    (updated c.self.inside.columns c.self.inside.query c.args.name.now held c.self.inside.replicas c.insert.new.self u))
+
+pub returns : goal.returns
+returns c = λ owned.
+    let new : Store = record { columns = c.self.inside.columns; query = c.self.inside.query; replicas = c.insert.new.self.entries } in
+    subst (λ s. Steps (ask.Replica c.args.name.now) owned s (says.Refused why.NoMemory) new) c.self.view_is
+    (no_memory_same (ask.Replica c.args.name.now) owned _ new
+    (same_entries c.self.inside.columns c.self.inside.query c.self.inside.replicas.entries c.insert.new.self.entries c.in-Err.ensures.err))

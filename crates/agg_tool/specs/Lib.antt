@@ -1,0 +1,4 @@
+pub mod Machine
+pub mod Text
+pub mod Output
+pub mod Views

@@ -1,0 +1,163 @@
+-- The machine that a script runs: what is known under each name, and how each command is answered. All of this is our own.
+use Rattle.std.specs.Prelude.{ℕ, ◌≡◌, ◌≢◌, ◌≤◌, ◌⊎◌, Bool, true, false, List, [], ◌∷◌, length, Option, Some, None, unwrap_or, if◌then◌else◌}
+use Rattle.std.specs.Option.{option_map_or}
+use Rattle.std.specs.List.{AllByRecursion}
+use Rattle.std.specs.Str.{bytes_eq}
+use Rattle.grouping_model.specs.Datum.{Kind, Row}
+use Rattle.grouping_model.specs.World.{World, IsWorld, Knowledge, nothing, learn}
+use Rattle.packed_rows.specs.Columns.{Column, kinds, IsSchemaText}
+use Rattle.first_query.specs.Chosen.{Chosen}
+use Rattle.first_query.specs.Text.{query_of}
+use Rattle.batch_reader.specs.Head.{ReadsOrigin, ReadsBatchNumber}
+use Rattle.batch_reader.specs.Rows.{ReadsRows}
+use Rattle.batch_reader.specs.Refusal.{BuildFault}
+use Rattle.batch_reader.specs.declared.error.BatchError.{BatchError}
+use Rattle.batch_reader.specs.declared.error.BatchError.TheVariants as batch
+use Rattle.replica_merge.specs.Kept.{KnownOrigin, known_list, reply_of}
+use Rattle.replica_merge.specs.declared.delivered.Delivered.{Delivered}
+use Rattle.script_io.specs.Records.{Record}
+use Rattle.script_commands.specs.Commands.{Command, Request, Columns, Query, Replica, Feed, Known, Answer, Unknown, request_of}
+use Rattle.agg_tool.specs.declared.refusal.Refusal.{Refusal}
+use Rattle.agg_tool.specs.declared.refusal.Refusal.TheVariants.{NoMemory, BadSchema, BadField, WrongWidth, Unsupported, BadBatchHead, TooManyRows, RowCount, BadCommand, NoSuchName, NameTaken}
+
+-- what is there: the columns and the query, once they were told, and what each replica knows, by its name
+pub record State : Type 0 where
+  pub columns : Option (List Column)
+  pub query : Option Chosen
+  pub replicas : List ℕ → Option Knowledge
+
+-- nothing is there
+abbrev pub start : State
+start = record { columns = None; query = None; replicas = λ name. None }
+
+-- a batch as it was fed
+pub record Fed : Type 0 where
+  pub origin : ℕ
+  pub number : ℕ
+  pub rows : List Row
+
+-- how a command is answered
+pub data Reply : Type 0 where
+  -- these are the columns
+  Has_columns : List Column → Reply
+  -- this is the query
+  Has_query : Chosen → Reply
+  -- a replica of this name is there
+  Created : (name : List ℕ) → Reply
+  -- the replica of this name took a batch
+  Took : (name : List ℕ) → Fed → Delivered → Reply
+  -- what is known, origin by origin
+  Listed : List KnownOrigin → Reply
+  -- the answer of a query over what is known
+  Answered : Chosen → Knowledge → Reply
+  -- nothing changed
+  Refused : Refusal → Reply
+
+-- a batch of these columns: what the fields and the records of a feed stand for
+pub record IsBatch (kinds : List Kind) (origin number : List ℕ) (told : ℕ) (owned : List Record) (fed : Fed) : Type 0 where
+  pub origin_is : ReadsOrigin origin fed.origin
+  pub number_is : ReadsBatchNumber number fed.number
+  pub few : told ≤ 65536
+  pub whole : length owned ≡ told
+  pub rows_are : ReadsRows kinds owned fed.rows
+
+-- the refusal of a batch by its name
+abbrev pub batch_refusal : BatchError → Refusal
+batch_refusal batch.NoMemory = NoMemory
+batch_refusal batch.BadBatchHead = BadBatchHead
+batch_refusal batch.TooManyRows = TooManyRows
+batch_refusal batch.RowCount = RowCount
+batch_refusal batch.WrongWidth = WrongWidth
+batch_refusal (batch.BadField column) = BadField column
+
+-- why a feed is no batch of these columns: the first refusal of a batch that applies
+pub record IsNoBatch (kinds : List Kind) (origin number : List ℕ) (told : ℕ) (owned : List Record) (why : Refusal) : Type 0 where
+  pub error : BatchError
+  pub found : error ≢ batch.NoMemory
+  pub fault : BuildFault kinds origin number told owned error
+  pub named : why ≡ batch_refusal error
+
+-- the reply to a schema's text: columns are told once
+abbrev pub ColumnsReply : Option (List Column) → List ℕ → Reply → Type 0
+ColumnsReply (Some columns) text reply = reply ≡ Refused BadCommand
+ColumnsReply None text (Has_columns columns) = IsSchemaText text columns
+ColumnsReply None text (Refused why) = (why ≡ BadSchema) × ((columns : List Column) → ¬ (IsSchemaText text columns))
+ColumnsReply None text reply = ⊥
+
+-- the reply to a query's text: a query is told once, after the columns
+abbrev pub query_reply : Option (List Column) → Option Chosen → List ℕ → Reply
+query_reply None query text = Refused BadCommand
+query_reply (Some columns) (Some query) text = Refused BadCommand
+query_reply (Some columns) None text = option_map_or Has_query (query_of columns text) (Refused Unsupported)
+
+-- the reply to a new name: replicas come after the query
+abbrev pub replica_reply : Option Chosen → Option Knowledge → List ℕ → Reply
+replica_reply None known name = Refused BadCommand
+replica_reply (Some query) (Some known) name = Refused NameTaken
+replica_reply (Some query) None name = Created name
+
+-- the reply to a batch for the replica of a name
+abbrev pub FeedReply : List Column → Option Knowledge → (name origin number : List ℕ) → ℕ → List Record → Reply → Type 0
+FeedReply columns None name origin number told owned reply = reply ≡ Refused NoSuchName
+FeedReply columns (Some known) name origin number told owned (Took named fed delivered) =
+    (named ≡ name) × IsBatch (kinds columns) origin number told owned fed × (delivered ≡ reply_of known (fed.origin, fed.number))
+FeedReply columns (Some known) name origin number told owned (Refused why) = IsNoBatch (kinds columns) origin number told owned why
+FeedReply columns (Some known) name origin number told owned reply = ⊥
+
+-- the reply to a question about a replica
+abbrev pub known_reply : Option Knowledge → Reply
+known_reply None = Refused NoSuchName
+known_reply (Some known) = Listed (known_list known)
+
+abbrev pub answer_reply : Option Chosen → Option Knowledge → Reply
+answer_reply (Some query) (Some known) = Answered query known
+answer_reply query known = Refused NoSuchName
+
+-- how a command is answered that asks for this and owns these records, where memory is there: by the first case that applies
+abbrev pub Replies : State → Request → List Record → Reply → Type 0
+Replies old (Columns text) owned reply = ColumnsReply old.columns text reply
+Replies old (Query text) owned reply = reply ≡ query_reply old.columns old.query text
+Replies old (Replica name) owned reply = reply ≡ replica_reply old.query (old.replicas name) name
+Replies old (Feed name origin number told) owned reply =
+    FeedReply (unwrap_or old.columns []) (old.replicas name) name origin number told owned reply
+Replies old (Known name) owned reply = reply ≡ known_reply (old.replicas name)
+Replies old (Answer name) owned reply = reply ≡ answer_reply old.query (old.replicas name)
+Replies old Unknown owned reply = reply ≡ Refused BadCommand
+
+-- how a command may be answered: so, or memory is wanting
+abbrev pub MayReply : State → Command → Reply → Type 0
+MayReply old command reply = (reply ≡ Refused NoMemory) ⊎ Replies old (request_of command.head) command.owned reply
+
+-- a replica of this name knows this, and the others what they knew
+abbrev pub with_replica : (List ℕ → Option Knowledge) → List ℕ → Knowledge → List ℕ → Option Knowledge
+with_replica replicas name known other = if bytes_eq name other then Some known else replicas other
+
+-- what is there after a reply: a refusal and a question change nothing
+abbrev pub after : State → Reply → State
+after old (Has_columns columns) = record old { columns = Some columns }
+after old (Has_query query) = record old { query = Some query }
+after old (Created name) = record old { replicas = with_replica old.replicas name nothing }
+after old (Took name fed delivered) =
+    record old { replicas = with_replica old.replicas name (learn (unwrap_or (old.replicas name) nothing) (fed.origin, fed.number)) }
+after old reply = old
+
+-- commands may be answered so, one after the other
+unfoldable pub Run : State → List Command → List Reply → Type 0
+Run old [] [] = Unit {0}
+Run old (command ∷ commands) (reply ∷ replies) = MayReply old command reply × Run (after old reply) commands replies
+Run old commands replies = ⊥
+
+abbrev pub is_refused : Reply → Bool
+is_refused (Refused why) = true
+is_refused reply = false
+
+-- a reply agrees with a world: the world is one of the columns, and the batch that was taken is the world's
+abbrev pub AgreesWith : World → Reply → Type 0
+AgreesWith world (Has_columns columns) = IsWorld (kinds columns) world
+AgreesWith world (Took name fed delivered) = world fed.origin fed.number ≡ Some fed.rows
+AgreesWith world reply = Unit {0}
+
+-- a script agrees with a world if each batch that was taken from it is the world's: then no origin gave a number to two
+-- batches
+abbrev pub Agrees : World → List Reply → Type 0
+Agrees world replies = AllByRecursion (AgreesWith world) replies

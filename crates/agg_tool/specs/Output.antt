@@ -1,0 +1,79 @@
+-- What a run of a script writes. All of this is our own.
+use Rattle.std.specs.Prelude.{ℕ, ◌≡◌, ◌≤◌, ◌<◌, ◌==◌, List, ◌++◌, length, count_by, Option, Result, Ok, Err, if◌then◌else◌}
+use Rattle.std.specs.Io.KnownBytes.{Appends, Keeps}
+use Rattle.grouping_model.specs.World.{World}
+use Rattle.script_io.specs.Output.{AppendsFront}
+use Rattle.script_io.specs.Records.{records_of}
+use Rattle.script_io.specs.declared.input.InputError.{InputError}
+use Rattle.script_io.specs.declared.input.InputError.TheVariants as input
+use Rattle.script_commands.specs.Commands.{Command, commands_of}
+use Rattle.agg_tool.specs.Machine.{Reply, Run, start, is_refused, Agrees}
+use Rattle.agg_tool.specs.Text.{replies_text}
+use Rattle.agg_tool.specs.declared.engine.Outcome.{Outcome}
+use Rattle.agg_tool.specs.declared.error.RunError.{RunError}
+use Rattle.agg_tool.specs.declared.error.RunError.TheVariants.{InputTooLong, ReadFault, NoMemory, WriteFault}
+
+-- the commands of a script
+abbrev pub commands_in : List ℕ → List Command
+commands_in script = commands_of (records_of script)
+
+-- what was written is an output of the commands: the replies of a run of the machine over them, in order, of which so many
+-- are refusals. For each world with which the script agrees, these are the bytes
+pub record WritesAll (commands : List Command) (old new : Option (List ℕ)) (refused : ℕ) : Type 0 where
+  pub replies : List Reply
+  pub runs : Run start commands replies
+  pub counts : count_by is_refused replies ≡ refused
+  pub writes : (world : World) → Agrees world replies → Appends old new (replies_text world replies)
+
+-- what was written is the front of an output of the commands
+pub record WritesFront (commands : List Command) (old new : Option (List ℕ)) : Type 0 where
+  pub replies : List Reply
+  pub runs : Run start commands replies
+  pub writes : (world : World) → Agrees world replies → AppendsFront old new (replies_text world replies)
+
+-- what was written is an output of the commands before some command
+pub record WritesBefore (commands : List Command) (old new : Option (List ℕ)) : Type 0 where
+  pub before : List Command
+  pub left : List Command
+  pub all : commands ≡ before ++ left
+  pub refused : ℕ
+  pub writes : WritesAll before old new refused
+
+-- what was written where not all commands were answered: the front of an output at a fault of the writer, and for want of
+-- memory the output of the commands before
+abbrev pub WritesSome : List Command → Option (List ℕ) → Option (List ℕ) → RunError → Type 0
+WritesSome commands old new WriteFault = WritesFront commands old new
+WritesSome commands old new NoMemory = WritesBefore commands old new
+WritesSome commands old new error = ⊥
+
+-- what a run that stopped tells of its script: it is longer than the limit, or it could not be read, or not all of its
+-- commands were answered
+abbrev pub StopsAt : ℕ → List ℕ → Option (List ℕ) → Option (List ℕ) → RunError → Type 0
+StopsAt most script old new InputTooLong = most < length script
+StopsAt most script old new ReadFault = Unit {0}
+StopsAt most script old new WriteFault = (length script ≤ most) × WritesFront (commands_in script) old new
+StopsAt most script old new NoMemory = (most < length script → Keeps old new) × WritesBefore (commands_in script) old new
+
+-- a run that did not read its script wrote nothing
+abbrev pub KeepsUnread : Option (List ℕ) → Option (List ℕ) → RunError → Type 0
+KeepsUnread old new InputTooLong = Keeps old new
+KeepsUnread old new ReadFault = Keeps old new
+KeepsUnread old new error = Unit {0}
+
+-- why a run stops that could not read its script
+abbrev pub run_error : InputError → RunError
+run_error input.NoMemory = NoMemory
+run_error input.TooLong = InputTooLong
+run_error input.ReadFault = ReadFault
+
+-- the most bytes of a script
+abbrev pub most_bytes : ℕ
+most_bytes = 67108864
+
+-- the status of the program after a run: whether all commands were answered and none was refused
+abbrev pub status_of : Result Outcome RunError → ℕ
+status_of (Ok outcome) = if outcome.refused == 0 then 0 else 1
+status_of (Err NoMemory) = 1
+status_of (Err InputTooLong) = 1
+status_of (Err ReadFault) = 3
+status_of (Err WriteFault) = 3

@@ -1,0 +1,93 @@
+-- What a clause sees of the values of the code.
+use Rattle.std.specs.Prelude.{ℕ, ◌≡◌, ◌⊎◌, Bool, true, false, List, codes, decimal, Option, Some, IfSome, option_map, string_bytes}
+use Rattle.std.specs.declared.alloc.Global.{Global}
+use Rattle.std.specs.declared.vec.Vec.{Vec}
+use Rattle.std.specs.Map.{lookup}
+use Rattle.std.specs.Str.{bytes_eq}
+use Rattle.grouping_model.specs.World.{World, IsWorld, Knowledge, learn}
+use Rattle.packed_rows.specs.Columns.{Column, kinds}
+use Rattle.first_query.specs.Chosen.{Chosen}
+use Rattle.batch_reader.specs.Rows.{packings}
+use Rattle.replica_merge.specs.Kept.{Held, told, reply_of, KeepsRows, Fits}
+use Rattle.replica_merge.specs.declared.delivered.Delivered.{Delivered}
+use Rattle.script_io.specs.Records.{Record}
+use Rattle.script_commands.specs.Commands.{Request}
+use Rattle.agg_tool.specs.Machine as machine
+use Rattle.agg_tool.specs.Machine.{State, Fed, IsBatch, IsNoBatch, Replies, AgreesWith, after}
+use Rattle.agg_tool.specs.Text.{line, delivered_text, refusal_name, answer_text, reply_text}
+use Rattle.agg_tool.specs.declared.refusal.Refusal.TheVariants.{NoMemory}
+use Rattle.agg_tool.specs.declared.reply.Reply.{Reply}
+use Rattle.agg_tool.specs.declared.reply.Reply.TheVariants as says
+
+-- the text of a reply of the code
+abbrev pub said_text : Reply → List ℕ
+said_text (says.Columns count) = line (codes "columns ") (decimal count)
+said_text (says.Query text) = line (codes "query ") (string_bytes text)
+said_text (says.Created name) = line (codes "replica ") name.now
+said_text (says.Delivered delivered) = delivered_text delivered
+said_text (says.Known lines) = lines.items
+said_text (says.Answer rows table) = answer_text rows table.items
+said_text (says.Refused why) = line (codes "refused ") (refusal_name why)
+
+abbrev pub is_refusal : Reply → Bool
+is_refusal (says.Refused why) = true
+is_refusal reply = false
+
+-- what the code keeps: the columns and the query, once they were told, and the replicas by their names
+pub record Store : Type 0 where
+  pub columns : Option (List Column)
+  pub query : Option Chosen
+  pub replicas : List (Vec ℕ Global × Held)
+
+-- the replica of a name
+abbrev pub replica_at : Store → List ℕ → Option Held
+replica_at store name = lookup (λ (key : Vec ℕ Global). bytes_eq name key.items) store.replicas
+
+-- the query is over the columns, and each replica has it
+pub record IsStore (store : Store) : Type 0 where
+  pub over : IfSome store.query (λ query. store.columns ≡ Some query.columns)
+  pub asked : (name : List ℕ) → IfSome (replica_at store name) (λ held. store.query ≡ Some held.query)
+
+-- what a replica knows
+abbrev pub knowledge_of : Held → Knowledge
+knowledge_of held = told held.kept
+
+-- what the code keeps is what is there
+pub record Represents (state : State) (store : Store) : Type 0 where
+  pub columns : state.columns ≡ store.columns
+  pub query : state.query ≡ store.query
+  pub replicas : (name : List ℕ) → state.replicas name ≡ option_map knowledge_of (replica_at store name)
+
+-- the rows that are kept are those of a world of the columns
+pub record FitsWorld (world : World) (store : Store) : Type 0 where
+  pub of_columns : IfSome store.columns (λ columns. IsWorld (kinds columns) world)
+  pub fit : (name : List ℕ) → IfSome (replica_at store name) (λ held. Fits world held.kept)
+
+-- a reply of the code to what is asked is one of the machine's, and what is kept then is what is there then
+pub record Answers (state : State) (request : Request) (owned : List Record) (old : Store) (reply : Reply) (new : Store) : Type 0 where
+  pub said : machine.Reply
+  pub may : (said ≡ machine.Refused NoMemory) ⊎ Replies state request owned said
+  pub represents : Represents (after state said) new
+  pub refused : is_refusal reply ≡ machine.is_refused said
+  pub fits : (world : World) → FitsWorld world old → AgreesWith world said → FitsWorld world new
+  pub text : (world : World) → FitsWorld world old → AgreesWith world said → said_text reply ≡ reply_text world said
+
+-- the same for whatever is there
+pub record Steps (request : Request) (owned : List Record) (old : Store) (reply : Reply) (new : Store) : Type 0 where
+  pub steps : (state : State) → Represents state old → Answers state request owned old reply new
+
+-- one name has this replica now, and nothing else changed
+pub record Updates (old new : Store) (name : List ℕ) (held : Held) : Type 0 where
+  pub columns : new.columns ≡ old.columns
+  pub query : new.query ≡ old.query
+  pub own : replica_at new name ≡ Some held
+  pub others : (other : List ℕ) → bytes_eq name other ≡ false → replica_at new other ≡ replica_at old other
+
+-- a replica took a batch that was fed
+pub record Takes (origin number : List ℕ) (told_rows : ℕ) (owned : List Record) (old new : Held) (delivered : Delivered) : Type 0 where
+  pub fed : Fed
+  pub is_batch : IsBatch (kinds old.query.columns) origin number told_rows owned fed
+  pub reply : delivered ≡ reply_of (told old.kept) (fed.origin, fed.number)
+  pub learns : told new.kept ≡ learn (told old.kept) (fed.origin, fed.number)
+  pub keeps : KeepsRows old.kept new.kept (fed.origin, fed.number) (packings fed.rows)
+  pub asked : new.query ≡ old.query

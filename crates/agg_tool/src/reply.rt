@@ -1,0 +1,35 @@
+//! The reply to a command.
+
+ghost use Rattle.std.specs.Prelude.{◌≡◌};
+ghost use Rattle.agg_tool.specs.Views.{is_refusal};
+
+use crate::refusal::Refusal;
+use replica_merge::Delivered;
+
+/// The reply to a command.
+#[derive(Drop)]
+pub(crate) enum Reply<'c> {
+    /// There are so many columns.
+    Columns(usize),
+    /// The query, in its canonical text.
+    Query(String),
+    /// There is a replica of this name now.
+    Created(&'c [u8]),
+    /// What became of a batch.
+    Delivered(Delivered),
+    /// What a replica knows, in its lines.
+    Known(Vec<u8>),
+    /// An answer: how many rows it has, and its table.
+    Answer { rows: usize, table: Vec<u8> },
+    /// The command changed nothing.
+    Refused(Refusal),
+}
+
+impl Reply<'_> {
+    /// Whether the command was refused.
+    pub(crate) fn is_refused(&self) -> bool
+        ensures { result ≡ is_refusal self.now }
+    {
+        matches!(self, Reply::Refused(_))
+    }
+}

@@ -1,0 +1,256 @@
+//! What is there while a script runs, and how its commands are answered.
+
+ghost use Rattle.std.specs.Prelude.{◌≡◌, ◌≢◌, List, map, Some, None, [], IfOk, IfErr, OnErr, length, string_bytes};
+ghost use Rattle.csv.specs.Records.{fields_of};
+ghost use Rattle.grouping_model.specs.Answer.{answer};
+ghost use Rattle.grouping_model.specs.World.{World, IsWorld};
+ghost use Rattle.first_query.specs.Chosen.{canonical, headers, meaning};
+ghost use Rattle.first_query.specs.Text.{query_of};
+ghost use Rattle.replica_merge.specs.Kept.{told, known_list, Fits};
+ghost use Rattle.script_io.specs.Records.{Record};
+ghost use Rattle.table_print.specs.Table.{table_text};
+ghost use Rattle.agg_tool.specs.Text.{known_text};
+ghost use Rattle.packed_rows.specs.Columns.{kinds};
+ghost use Rattle.script_commands.specs.Commands as ask;
+ghost use Rattle.script_commands.specs.Commands.{request_of};
+ghost use Rattle.agg_tool.specs.Machine.{IsNoBatch};
+ghost use Rattle.agg_tool.specs.Views.{Store, IsStore, Steps, Takes};
+ghost use Rattle.agg_tool.specs.declared.refusal.Refusal.TheVariants.{NoMemory, Unsupported};
+
+use crate::refusal::Refusal;
+use crate::reply::Reply;
+use crate::texts::known_lines;
+use batch_reader::build_batch;
+use csv::ByteRecord;
+use first_query::{Query, QueryError, read_first_query};
+use indexmap::IndexMap;
+use packed_rows::{RowError, Schema};
+use replica_merge::{Delivered, Replica};
+use script_commands::{Command, Request};
+use std::alloc::{AllocError, Global};
+use std::marker::Model;
+use table_print::print_csv;
+
+/// The columns and the query, once they were told, and the replicas by their names, in the order in which they came.
+#[derive(Drop)]
+pub(crate) struct Session {
+    alloc: Global,
+    columns: Option<Schema>,
+    query: Option<Query>,
+    replicas: IndexMap<Vec<u8>, Replica>,
+}
+
+impl Model for Session {
+    ghost Value = { Store };
+
+    ghost view = { λ s.
+        record { columns = s.columns; query = s.query; replicas = s.replicas.entries } };
+
+    ghost invariant = { λ s. IsStore
+        (record { columns = s.columns; query = s.query; replicas = s.replicas.entries }) };
+}
+
+/// The batch of a feed, delivered to a replica.
+fn deliver(
+    alloc: Global,
+    replica: &mut Replica,
+    origin: &[u8],
+    number: &[u8],
+    told: u32,
+    rows: &[ByteRecord],
+) -> Result<Delivered, Refusal>
+    ensures took { IfOk result (Takes origin.now number.now told (map fields_of rows.now)
+        replica.old replica.new) }
+    ensures query { replica.new.query ≡ replica.old.query }
+    ensures same { OnErr result (replica.new ≡ replica.old) }
+    ensures why { IfErr result (λ why. why ≢ NoMemory → IsNoBatch
+        (kinds replica.old.query.columns) origin.now number.now told (map fields_of rows.now)
+        why) }
+{
+    let schema = replica.query().schema();
+    let batch = build_batch(alloc, schema, origin, number, told, rows)?;
+    match replica.deliver(batch) {
+        Ok(delivered) => Ok(delivered),
+        Err(_) => Err(Refusal::NoMemory),
+    }
+}
+
+/// The query that a text says, and its canonical text.
+fn read_query(alloc: Global, schema: &Schema, text: &str) -> Result<(Query, String), Refusal>
+    ensures read { IfOk result (λ found. (query_of schema.now text.now ≡ Some found.0)
+        × (string_bytes found.1 ≡ canonical found.0)) }
+    ensures columns { IfOk result (λ found. found.0.columns ≡ schema.now) }
+    ensures why { IfErr result (λ why. why ≢ NoMemory → (why ≡ Unsupported)
+        × (query_of schema.now text.now ≡ None)) }
+{
+    match read_first_query(alloc, schema, text) {
+        Ok(query) => {
+            let canonical = query.print()?;
+            Ok((query, canonical))
+        }
+        Err(QueryError::NoMemory) => Err(Refusal::NoMemory),
+        Err(QueryError::Unsupported) => Err(Refusal::Unsupported),
+    }
+}
+
+/// The lines of what a replica knows.
+fn known_of_replica(alloc: Global, replica: &Replica) -> Result<Vec<u8>, AllocError>
+    ensures { IfOk result (λ lines. lines.items ≡ known_text (known_list (told replica.now.kept))) }
+{
+    let list = replica.known()?;
+    known_lines(alloc, &list)
+}
+
+/// How many rows a replica's answer has, and its table.
+fn answer_of_replica(alloc: Global, replica: &Replica) -> Result<(usize, Vec<u8>), AllocError>
+    ensures { IfOk result (λ found. (world : World) → IsWorld (kinds replica.now.query.columns) world
+        → Fits world replica.now.kept → (found.0 ≡ length (answer (meaning replica.now.query) world
+        (told replica.now.kept))) × (found.1.items ≡ table_text (headers replica.now.query) (answer
+        (meaning replica.now.query) world (told replica.now.kept)))) }
+{
+    let answer = replica.answer()?;
+    let table = print_csv(alloc, replica.query(), &answer)?;
+    Ok((answer.len(), table))
+}
+
+impl Session {
+    /// Nothing is there.
+    pub(crate) fn new(alloc: Global) -> Session
+        ensures { result ≡ record { columns = None; query = None; replicas = [] } }
+    {
+        Session {
+            alloc,
+            columns: None,
+            query: None,
+            replicas: IndexMap::new(alloc),
+        }
+    }
+
+    /// Answers `columns`.
+    fn tell_columns(&mut self, text: &str) -> Reply<'static>
+        ensures { (owned : List Record) → Steps (ask.Columns text.now) owned self.old result self.new }
+    {
+        if self.columns.is_some() {
+            return Reply::Refused(Refusal::BadCommand);
+        }
+        match Schema::parse(self.alloc, text) {
+            Ok(schema) => {
+                let count = schema.width();
+                self.columns = Some(schema);
+                Reply::Columns(count)
+            }
+            Err(RowError::BadSchema) => Reply::Refused(Refusal::BadSchema),
+            // The only other error is that memory ran out.
+            Err(_) => Reply::Refused(Refusal::NoMemory),
+        }
+    }
+
+    /// Answers `query`.
+    fn tell_query(&mut self, text: &str) -> Reply<'static>
+        ensures { (owned : List Record) → Steps (ask.Query text.now) owned self.old result self.new }
+    {
+        let Some(schema) = &self.columns else {
+            return Reply::Refused(Refusal::BadCommand);
+        };
+        if self.query.is_some() {
+            return Reply::Refused(Refusal::BadCommand);
+        }
+        match read_query(self.alloc, schema, text) {
+            Ok((query, canonical)) => {
+                self.query = Some(query);
+                Reply::Query(canonical)
+            }
+            Err(why) => Reply::Refused(why),
+        }
+    }
+
+    /// Answers `replica`.
+    fn add_replica<'c>(&mut self, name: &'c [u8]) -> Reply<'c>
+        ensures { (owned : List Record) → Steps (ask.Replica name.now) owned self.old result self.new }
+    {
+        let Some(query) = &self.query else {
+            return Reply::Refused(Refusal::BadCommand);
+        };
+        if self.replicas.contains_key(name) {
+            return Reply::Refused(Refusal::NameTaken);
+        }
+        let Ok(query) = query.try_clone() else {
+            return Reply::Refused(Refusal::NoMemory);
+        };
+        let Ok(key) = name.to_vec(self.alloc) else {
+            return Reply::Refused(Refusal::NoMemory);
+        };
+        match self.replicas.insert(key, Replica::new(self.alloc, query)) {
+            Ok(_) => Reply::Created(name),
+            Err(_) => Reply::Refused(Refusal::NoMemory),
+        }
+    }
+
+    /// Answers `feed`.
+    fn feed(
+        &mut self,
+        name: &[u8],
+        origin: &[u8],
+        number: &[u8],
+        told: u32,
+        rows: &[ByteRecord],
+    ) -> Reply<'static>
+        ensures { Steps (ask.Feed name.now origin.now number.now told) (map fields_of rows.now) self.old
+            result self.new }
+    {
+        let Some(replica) = self.replicas.get_mut(name) else {
+            return Reply::Refused(Refusal::NoSuchName);
+        };
+        match deliver(self.alloc, replica, origin, number, told, rows) {
+            Ok(delivered) => Reply::Delivered(delivered),
+            Err(why) => Reply::Refused(why),
+        }
+    }
+
+    /// Answers `known`.
+    fn known(&self, name: &[u8]) -> Reply<'static>
+        ensures { (owned : List Record) → Steps (ask.Known name.now) owned self.now result self.now }
+    {
+        match self.replicas.get(name) {
+            None => Reply::Refused(Refusal::NoSuchName),
+            Some(replica) => match known_of_replica(self.alloc, replica) {
+                Ok(lines) => Reply::Known(lines),
+                Err(_) => Reply::Refused(Refusal::NoMemory),
+            },
+        }
+    }
+
+    /// Answers `answer`.
+    fn answer(&self, name: &[u8]) -> Reply<'static>
+        ensures { (owned : List Record) → Steps (ask.Answer name.now) owned self.now result self.now }
+    {
+        match self.replicas.get(name) {
+            None => Reply::Refused(Refusal::NoSuchName),
+            Some(replica) => match answer_of_replica(self.alloc, replica) {
+                Ok((rows, table)) => Reply::Answer { rows, table },
+                Err(_) => Reply::Refused(Refusal::NoMemory),
+            },
+        }
+    }
+
+    /// Answers a command.
+    pub(crate) fn execute<'c>(&mut self, command: &'c Command) -> Reply<'c>
+        ensures { Steps (request_of (fields_of command.now.head))
+            (map fields_of command.now.owned.items) self.old result self.new }
+    {
+        match command.request() {
+            Request::Columns(text) => self.tell_columns(text),
+            Request::Query(text) => self.tell_query(text),
+            Request::Replica(name) => self.add_replica(name),
+            Request::Feed {
+                name,
+                origin,
+                number,
+                told,
+            } => self.feed(name, origin, number, told, &command.owned),
+            Request::Known(name) => self.known(name),
+            Request::Answer(name) => self.answer(name),
+            Request::Unknown => Reply::Refused(Refusal::BadCommand),
+        }
+    }
+}

@@ -1,0 +1,168 @@
+use super::*;
+use std::io;
+use std::io::{Error, ErrorKind, Read, Write};
+use std::test::*;
+
+/// The commands that each example begins with, and their replies.
+const HEAD: &[u8] = b"columns,\"c text, d bigint\"\n\
+    query,\"select c, count(*), sum(d) from batches group by c\"\nreplica,a\n";
+
+const HEAD_REPLIES: &[u8] =
+    b"columns 2\nquery SELECT c, count(*), sum(d) FROM batches GROUP BY c\nreplica a\n";
+
+/// An example: its commands and their replies behind the head's, and how many are refused.
+#[derive(Clone, Copy)]
+struct Example {
+    commands: &'static [u8],
+    replies: &'static [u8],
+    refused: u64,
+}
+
+const EXAMPLES: [Example; 6] = [
+    // A first run.
+    Example {
+        commands: b"feed,a,0,1,3\noslo,5\nbergen,7\noslo,-2\nknown,a\nanswer,a\n",
+        replies: b"folded upto 1\nknown 1\norigin 0 upto 1\nanswer 2\nc,count,sum\nbergen,1,7\noslo,2,3\n",
+        refused: 0,
+    },
+    // A gap, which is closed.
+    Example {
+        commands: b"feed,a,0,1,1\noslo,5\nfeed,a,0,3,1\noslo,100\nknown,a\nanswer,a\n\
+            feed,a,0,2,1\nbergen,7\nanswer,a\n",
+        replies: b"folded upto 1\nearly\nknown 1\norigin 0 upto 1 early 3\nanswer 1\nc,count,sum\noslo,1,5\n\
+            folded upto 3\nanswer 2\nc,count,sum\nbergen,1,7\noslo,2,105\n",
+        refused: 0,
+    },
+    // Batches out of order, and one that is repeated.
+    Example {
+        commands: b"feed,a,0,2,1\nbergen,7\nanswer,a\nfeed,a,0,1,1\noslo,5\nfeed,a,0,1,1\noslo,5\nanswer,a\n",
+        replies: b"early\nanswer 0\nc,count,sum\nfolded upto 2\nknown\nanswer 2\nc,count,sum\nbergen,1,7\noslo,1,5\n",
+        refused: 0,
+    },
+    // A batch of no rows.
+    Example {
+        commands: b"feed,a,0,1,1\noslo,5\nfeed,a,0,3,1\noslo,7\nfeed,a,0,2,0\nanswer,a\n",
+        replies: b"folded upto 1\nearly\nfolded upto 3\nanswer 1\nc,count,sum\noslo,2,12\n",
+        refused: 0,
+    },
+    // Sums of more than 64 bits.
+    Example {
+        commands: b"feed,a,0,1,4\nx,9223372036854775807\nx,9223372036854775807\n\
+            y,-9223372036854775808\ny,-9223372036854775808\nanswer,a\n",
+        replies: b"folded upto 1\nanswer 2\nc,count,sum\n\
+            x,2,18446744073709551614\ny,2,-18446744073709551616\n",
+        refused: 0,
+    },
+    // Refusals.
+    Example {
+        commands: b"feed,a,0,1,2\noslo,5\noslo,x\nfeed,a,0,1,1\noslo,5,6\nfeed,a,1024,1,0\nfeed,z,0,1,0\n\
+            replica,a\nhello\nanswer,a\nfeed,a,0,1,3\noslo,1\n",
+        replies: b"refused BadField\nrefused WrongWidth\nrefused BadBatchHead\nrefused NoSuchName\n\
+            refused NameTaken\nrefused BadCommand\nanswer 0\nc,count,sum\nrefused RowCount\n",
+        refused: 7,
+    },
+];
+
+/// A writer that takes so many bytes, and then fails.
+#[derive(Drop)]
+struct FailingWriter {
+    taken: Vec<u8>,
+    room: usize,
+}
+
+impl Write for FailingWriter {
+    fn write(&mut self, buf: &[u8]) -> io::Result<usize> {
+        let count = buf.len().min(self.room);
+        if count == 0 {
+            return Err(Error::from(ErrorKind::Other));
+        }
+        self.taken.extend_from_slice(&buf[..count])?;
+        self.room -= count;
+        Ok(count)
+    }
+
+    fn flush(&mut self) -> io::Result<()> {
+        Ok(())
+    }
+}
+
+/// A reader that fails at once.
+#[derive(Drop)]
+struct FailingReader;
+
+impl Read for FailingReader {
+    fn read(&mut self, _buf: &mut [u8]) -> io::Result<usize> {
+        Err(Error::from(ErrorKind::Other))
+    }
+}
+
+/// Commands behind those of the head.
+fn script(rt: HostRuntime, commands: &[u8]) -> Result<Vec<u8>, Fail> {
+    let mut script = HEAD.to_vec(rt.alloc())?;
+    script.extend_from_slice(commands)?;
+    Ok(script)
+}
+
+#[test]
+fn examples_answer_as_told(rt: HostRuntime) -> Result<(), Fail> {
+    for example in EXAMPLES {
+        let script = script(rt, example.commands)?;
+        let mut written = Vec::new(rt.alloc());
+        let outcome = run(rt.alloc(), &mut script.as_slice(), &mut written);
+        let mut replies = HEAD_REPLIES.to_vec(rt.alloc())?;
+        replies.extend_from_slice(example.replies)?;
+        assert_eq!(rt;
+            String::from_utf8_lossy(rt.alloc(), &written)?.as_str(),
+            String::from_utf8_lossy(rt.alloc(), &replies)?.as_str()
+        );
+        let refused = example.refused;
+        assert_eq!(rt; outcome, Ok(Outcome { refused }));
+        assert_eq!(rt; status(&outcome), (refused > 0) as u8);
+    }
+    Ok(())
+}
+
+#[test]
+fn commands_come_in_their_order(rt: HostRuntime) -> Result<(), Fail> {
+    let script =
+        b"replica,a\nquery,select\nanswer,a\ncolumns,c\ncolumns,c text\ncolumns,d text\nreplica,a\n\
+        query,select c\nknown,a\nfeed,a,0,1,x\nfeed,a,0,1,0\n";
+    let replies =
+        b"refused BadCommand\nrefused BadCommand\nrefused NoSuchName\nrefused BadSchema\ncolumns 1\n\
+        refused BadCommand\nrefused BadCommand\nrefused Unsupported\nrefused NoSuchName\nrefused BadCommand\n\
+        refused NoSuchName\n";
+    let mut written = Vec::new(rt.alloc());
+    let outcome = run(rt.alloc(), &mut script.as_slice(), &mut written);
+    assert_eq!(rt; written.as_slice(), replies.as_slice());
+    assert_eq!(rt; outcome, Ok(Outcome { refused: 10 }));
+    Ok(())
+}
+
+#[test]
+fn faults_end_a_run(rt: HostRuntime) -> Result<(), Fail> {
+    let script = script(rt, EXAMPLES[0].commands)?;
+    for room in [0usize, 1, 60, 100] {
+        let mut writer = FailingWriter {
+            taken: Vec::new(rt.alloc()),
+            room,
+        };
+        let outcome = run(rt.alloc(), &mut script.as_slice(), &mut writer);
+        assert_eq!(rt; outcome, Err(RunError::WriteFault));
+        assert_eq!(rt; writer.taken.len(), room);
+        assert!(rt; status(&outcome) == 3);
+    }
+    let mut written = Vec::new(rt.alloc());
+    let outcome = run(rt.alloc(), &mut FailingReader, &mut written);
+    assert_eq!(rt; outcome, Err(RunError::ReadFault));
+    let outcome = run(rt.alloc(), &mut io::repeat(b'x'), &mut written);
+    assert_eq!(rt; outcome, Err(RunError::InputTooLong));
+    assert!(rt; status(&outcome) == 1 && written.is_empty());
+    Ok(())
+}
+
+#[test]
+fn refusals_have_names(rt: HostRuntime) -> Result<(), Fail> {
+    assert_eq!(rt; name(Refusal::BadField { column: 1 }), "BadField");
+    assert_eq!(rt; name(Refusal::from(RunError::InputTooLong)), "InputTooLong");
+    Ok(())
+}
