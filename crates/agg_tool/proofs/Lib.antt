@@ -3,3 +3,4 @@ pub mod FeedLaws
 pub mod StoreLaws
 pub mod TextLaws
 pub mod RunLaws
+pub mod ReplyLaws

@@ -113,7 +113,7 @@ abbrev pub answer_reply : Option Chosen → Option Knowledge → Reply
 answer_reply (Some query) (Some known) = Answered query known
 answer_reply query known = Refused NoSuchName
 
--- how a command is answered that asks for this and owns these records, where memory is there: by the first case that applies
+-- how a command is answered that asks for this and owns these records, where memory is there. There is one way only (law one_reply)
 abbrev pub Replies : State → Request → List Record → Reply → Type 0
 Replies old (Columns text) owned reply = ColumnsReply old.columns text reply
 Replies old (Query text) owned reply = reply ≡ query_reply old.columns old.query text
@@ -124,7 +124,7 @@ Replies old (Known name) owned reply = reply ≡ known_reply (old.replicas name)
 Replies old (Answer name) owned reply = reply ≡ answer_reply old.query (old.replicas name)
 Replies old Unknown owned reply = reply ≡ Refused BadCommand
 
--- how a command may be answered: so, or memory is wanting
+-- how a command may be answered: in its one way, or memory is wanting
 abbrev pub MayReply : State → Command → Reply → Type 0
 MayReply old command reply = (reply ≡ Refused NoMemory) ⊎ Replies old (request_of command.head) command.owned reply
 

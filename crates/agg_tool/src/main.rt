@@ -10,6 +10,7 @@ ghost use Rattle.agg_tool.specs.Output.{status_of};
 
 mod engine;
 mod error;
+mod laws;
 mod output;
 mod refusal;
 mod reply;
@@ -18,6 +19,7 @@ mod texts;
 
 pub use engine::{Outcome, run};
 pub use error::RunError;
+pub use laws::one_reply;
 pub use refusal::{Refusal, name};
 use std::process::ExitCode;
 

@@ -1,0 +1,240 @@
+-- A command has one reply, memory being there.
+use Rattle.std.specs.Prelude.{◌≡◌, ◌≢◌, ◌≤◌, ◌<◌, refl, ℕ, zero, suc, List, [], ◌∷◌, length, take, Option, Some, None, slice_index_or, unwrap_or, ◌⊎◌}
+use Rattle.std.proofs.Common.{◌∙◌, ap, sym, subst, arith, inl, inr}
+use Rattle.std.proofs.lemmas.List.{length-take, get_or-take}
+use Rattle.std.proofs.lemmas.Bool.{cases_order}
+use Rattle.grouping_model.specs.Datum.{Datum, Kind, Row, Bigint_kind}
+use Rattle.grouping_model.specs.World.{Knowledge}
+use Rattle.packed_rows.specs.Columns.{Column, kinds}
+use Rattle.packed_rows.specs.Field.{Reads, ReadsRow, IsLeftmostBad}
+use Rattle.packed_rows.proofs.FieldLaws.{one_row}
+use Rattle.packed_rows.proofs.PrintedColumns.{one_schema}
+use Rattle.batch_reader.specs.Head.{ReadsNumber}
+use Rattle.batch_reader.specs.Rows.{ReadsRows}
+use Rattle.batch_reader.specs.Refusal.{RecordFault, FirstFault, BuildFault}
+use Rattle.batch_reader.specs.declared.error.BatchError.{BatchError}
+use Rattle.batch_reader.specs.declared.error.BatchError.TheVariants as batch
+use Rattle.replica_merge.specs.Kept.{reply_of}
+use Rattle.replica_merge.specs.declared.delivered.Delivered.{Delivered}
+use Rattle.script_io.specs.Records.{Record}
+use Rattle.script_commands.specs.Commands as ask
+use Rattle.script_commands.specs.Commands.{Request}
+use Rattle.agg_tool.specs.Machine as machine
+use Rattle.agg_tool.specs.Machine.{State, Fed, IsBatch, IsNoBatch, batch_refusal, ColumnsReply, FeedReply, Replies}
+
+-- ---- batches
+
+one_number : (field : List ℕ) (m n : ℕ) → ReadsNumber field m → ReadsNumber field n → m ≡ n
+one_number field m n a b = sym a.value ∙ b.value
+
+one_rows : (ks : List Kind) (records : List (List (List ℕ))) (xs ys : List Row) → ReadsRows ks records xs → ReadsRows ks records ys → xs ≡ ys
+one_rows ks [] [] [] a b = refl
+one_rows ks [] [] (y ∷ ys) a b = absurd b
+one_rows ks [] (x ∷ xs) ys a b = absurd a
+one_rows ks (f ∷ fs) [] ys a b = absurd a
+one_rows ks (f ∷ fs) (x ∷ xs) [] a b = absurd b
+one_rows ks (f ∷ fs) (x ∷ xs) (y ∷ ys) a b = λ i. one_row ks f x y a.0 b.0 i ∷ one_rows ks fs xs ys a.1 b.1 i
+
+one_fed : (ks : List Kind) (origin number : List ℕ) (told : ℕ) (records : List Record) (x y : Fed) → IsBatch ks origin number told records x → IsBatch ks origin number told records y → x ≡ y
+one_fed ks origin number told records x y a b =
+    λ i. record {
+      origin = one_number origin x.origin y.origin a.origin_is.reads b.origin_is.reads i;
+      number = one_number number x.number y.number a.number_is.reads b.number_is.reads i;
+      rows = one_rows ks records x.rows y.rows a.rows_are b.rows_are i;
+    }
+
+same_took : (name n m : List ℕ) (f g : Fed) (d e : Delivered) (reply : Fed → Delivered) → n ≡ name → m ≡ name → f ≡ g → d ≡ reply f → e ≡ reply g
+    → machine.Took n f d ≡ machine.Took m g e
+same_took name n m f g d e reply p q same x y =
+    λ i. machine.Took ((p ∙ sym q) i) (same i) ((x ∙ ap reply same ∙ sym y) i)
+
+-- the row of a record, and the value of a field, that were read
+row_at : (ks : List Kind) (records : List (List (List ℕ))) (rows : List Row) (place : ℕ) → ReadsRows ks records rows → place < length records
+    → (row : Row) × ReadsRow ks (slice_index_or records place []) row
+row_at ks [] rows place reads low = absurd (omega arith)
+row_at ks (f ∷ fs) [] place reads low = absurd reads
+row_at ks (f ∷ fs) (x ∷ xs) zero reads low = (x, reads.0)
+row_at ks (f ∷ fs) (x ∷ xs) (suc place) reads low = row_at ks fs xs place reads.1 (omega arith)
+
+value_at : (ks : List Kind) (fields : List (List ℕ)) (row : Row) (column : ℕ) → ReadsRow ks fields row → column < length ks
+    → (value : Datum) × Reads (slice_index_or ks column Bigint_kind) (slice_index_or fields column []) value
+value_at [] fields row column reads low = absurd (omega arith)
+value_at (k ∷ ks) [] row column reads low = absurd reads
+value_at (k ∷ ks) (f ∷ fs) [] column reads low = absurd reads
+value_at (k ∷ ks) (f ∷ fs) (v ∷ row) zero reads low = (v, reads.0)
+value_at (k ∷ ks) (f ∷ fs) (v ∷ row) (suc column) reads low = value_at ks fs row column reads.1 (omega arith)
+
+as_wide : (ks : List Kind) (fields : List (List ℕ)) (row : Row) → ReadsRow ks fields row → length fields ≡ length ks
+as_wide [] [] row reads = refl
+as_wide [] (f ∷ fs) row reads = absurd reads
+as_wide (k ∷ ks) [] row reads = absurd reads
+as_wide (k ∷ ks) (f ∷ fs) [] reads = absurd reads
+as_wide (k ∷ ks) (f ∷ fs) (v ∷ row) reads = ap suc (as_wide ks fs row reads.1)
+
+-- what was read has no fault
+no_record_fault : (ks : List Kind) (fields : List (List ℕ)) (row : Row) (e : BatchError) → e ≢ batch.NoMemory → ReadsRow ks fields row → RecordFault ks fields e → ⊥
+no_record_fault ks fields row batch.NoMemory p reads x = p refl
+no_record_fault ks fields row batch.BadBatchHead p reads x = x
+no_record_fault ks fields row batch.TooManyRows p reads x = x
+no_record_fault ks fields row batch.RowCount p reads x = x
+no_record_fault ks fields row batch.WrongWidth p reads x = x (as_wide ks fields row reads)
+no_record_fault ks fields row (batch.BadField c) p reads x = let v = value_at ks fields row c reads x.1.0 in x.1.1 v.0 v.1
+
+no_first_fault : (ks : List Kind) (records : List (List (List ℕ))) (rows : List Row) (e : BatchError) → e ≢ batch.NoMemory → ReadsRows ks records rows → FirstFault ks records e → ⊥
+no_first_fault ks records rows e p reads x =
+    let r = row_at ks records rows x.place reads x.within in
+    no_record_fault ks (slice_index_or records x.place []) r.0 e p r.1 x.fault
+
+over : (told : ℕ) → 65536 < told → told ≤ 65536 → ⊥
+over told more few = omega arith
+
+no_fault : (ks : List Kind) (origin number : List ℕ) (told : ℕ) (records : List Record) (f : Fed) (e : BatchError) → IsBatch ks origin number told records f → e ≢ batch.NoMemory
+    → BuildFault ks origin number told records e → ⊥
+no_fault ks origin number told records f batch.NoMemory is p x = p refl
+no_fault ks origin number told records f batch.BadBatchHead is p x =
+    x (record { origin_value = f.origin; number_value = f.number; reads_origin = is.origin_is; reads_number = is.number_is })
+no_fault ks origin number told records f batch.TooManyRows is p x = over told x.1 is.few
+no_fault ks origin number told records f batch.RowCount is p x = x.2 is.whole
+no_fault ks origin number told records f batch.WrongWidth is p x = no_first_fault ks records f.rows batch.WrongWidth p is.rows_are x.3
+no_fault ks origin number told records f (batch.BadField c) is p x = no_first_fault ks records f.rows (batch.BadField c) p is.rows_are x.3
+
+-- ---- one fault
+
+-- a column before the leftmost bad one was read
+not_before : (ks : List Kind) (fields : List (List ℕ)) (c k : ℕ) → IsLeftmostBad ks fields c → IsLeftmostBad ks fields k → c < k → ⊥
+not_before ks fields c k x y low =
+    let within : c < length (take k ks) = subst (λ n. c < n) (sym (length-take k ks)) (omega (arith, x.0)) in
+    let v = value_at (take k ks) (take k fields) y.2 c y.3 within in
+    x.1 v.0 (subst (λ f. Reads (slice_index_or ks c Bigint_kind) f v.0) (get_or-take k fields c [] low)
+    (subst (λ kind. Reads kind (slice_index_or (take k fields) c []) v.0) (get_or-take k ks c Bigint_kind low) v.1))
+
+one_column : (ks : List Kind) (fields : List (List ℕ)) (c k : ℕ) → IsLeftmostBad ks fields c → IsLeftmostBad ks fields k → c ≡ k
+one_column ks fields c k x y = go (cases_order c k)
+  where
+    go : (c ≡ k) ⊎ ((c < k) ⊎ (k < c)) → c ≡ k
+    go (inl e) = e
+    go (inr (inl low)) = absurd (not_before ks fields c k x y low)
+    go (inr (inr low)) = absurd (not_before ks fields k c y x low)
+
+one_record_fault : (ks : List Kind) (fields : List (List ℕ)) (d e : BatchError) → d ≢ batch.NoMemory → e ≢ batch.NoMemory → RecordFault ks fields d → RecordFault ks fields e → d ≡ e
+one_record_fault ks fields batch.NoMemory e p q x y = absurd (p refl)
+one_record_fault ks fields batch.BadBatchHead e p q x y = absurd x
+one_record_fault ks fields batch.TooManyRows e p q x y = absurd x
+one_record_fault ks fields batch.RowCount e p q x y = absurd x
+one_record_fault ks fields batch.WrongWidth batch.NoMemory p q x y = absurd (q refl)
+one_record_fault ks fields batch.WrongWidth batch.BadBatchHead p q x y = absurd y
+one_record_fault ks fields batch.WrongWidth batch.TooManyRows p q x y = absurd y
+one_record_fault ks fields batch.WrongWidth batch.RowCount p q x y = absurd y
+one_record_fault ks fields batch.WrongWidth batch.WrongWidth p q x y = refl
+one_record_fault ks fields batch.WrongWidth (batch.BadField k) p q x y = absurd (x y.0)
+one_record_fault ks fields (batch.BadField c) batch.NoMemory p q x y = absurd (q refl)
+one_record_fault ks fields (batch.BadField c) batch.BadBatchHead p q x y = absurd y
+one_record_fault ks fields (batch.BadField c) batch.TooManyRows p q x y = absurd y
+one_record_fault ks fields (batch.BadField c) batch.RowCount p q x y = absurd y
+one_record_fault ks fields (batch.BadField c) batch.WrongWidth p q x y = absurd (y x.0)
+one_record_fault ks fields (batch.BadField c) (batch.BadField k) p q x y = ap batch.BadField (one_column ks fields c k x.1 y.1)
+
+-- a record before the first that has a fault was read
+not_earlier : (ks : List Kind) (records : List (List (List ℕ))) (d e : BatchError) → d ≢ batch.NoMemory → (x : FirstFault ks records d) (y : FirstFault ks records e) → x.place < y.place → ⊥
+not_earlier ks records d e p x y low =
+    let within : x.place < length (take y.place records) = subst (λ n. x.place < n) (sym (length-take y.place records)) (omega (arith, x.within)) in
+    let r = row_at ks (take y.place records) y.before.0 x.place y.before.1 within in
+    no_record_fault ks (slice_index_or records x.place []) r.0 d p (subst (λ f. ReadsRow ks f r.0) (get_or-take y.place records x.place [] low) r.1) x.fault
+
+one_first_fault : (ks : List Kind) (records : List (List (List ℕ))) (d e : BatchError) → d ≢ batch.NoMemory → e ≢ batch.NoMemory → FirstFault ks records d → FirstFault ks records e → d ≡ e
+one_first_fault ks records d e p q x y = go (cases_order x.place y.place)
+  where
+    go : (x.place ≡ y.place) ⊎ ((x.place < y.place) ⊎ (y.place < x.place)) → d ≡ e
+    go (inl same) = one_record_fault ks (slice_index_or records y.place []) d e p q (subst (λ n. RecordFault ks (slice_index_or records n []) d) same x.fault) y.fault
+    go (inr (inl low)) = absurd (not_earlier ks records d e p x y low)
+    go (inr (inr low)) = absurd (not_earlier ks records e d q y x low)
+
+one_build_fault : (ks : List Kind) (origin number : List ℕ) (told : ℕ) (records : List (List (List ℕ))) (d e : BatchError) → d ≢ batch.NoMemory → e ≢ batch.NoMemory
+    → BuildFault ks origin number told records d → BuildFault ks origin number told records e → d ≡ e
+one_build_fault ks origin number told records batch.NoMemory e p q x y = absurd (p refl)
+one_build_fault ks origin number told records batch.BadBatchHead batch.NoMemory p q x y = absurd (q refl)
+one_build_fault ks origin number told records batch.BadBatchHead batch.BadBatchHead p q x y = refl
+one_build_fault ks origin number told records batch.BadBatchHead batch.TooManyRows p q x y = absurd (x y.0)
+one_build_fault ks origin number told records batch.BadBatchHead batch.RowCount p q x y = absurd (x y.0)
+one_build_fault ks origin number told records batch.BadBatchHead batch.WrongWidth p q x y = absurd (x y.0)
+one_build_fault ks origin number told records batch.BadBatchHead (batch.BadField k) p q x y = absurd (x y.0)
+one_build_fault ks origin number told records batch.TooManyRows batch.NoMemory p q x y = absurd (q refl)
+one_build_fault ks origin number told records batch.TooManyRows batch.BadBatchHead p q x y = absurd (y x.0)
+one_build_fault ks origin number told records batch.TooManyRows batch.TooManyRows p q x y = refl
+one_build_fault ks origin number told records batch.TooManyRows batch.RowCount p q x y = absurd (over told x.1 y.1)
+one_build_fault ks origin number told records batch.TooManyRows batch.WrongWidth p q x y = absurd (over told x.1 y.1)
+one_build_fault ks origin number told records batch.TooManyRows (batch.BadField k) p q x y = absurd (over told x.1 y.1)
+one_build_fault ks origin number told records batch.RowCount batch.NoMemory p q x y = absurd (q refl)
+one_build_fault ks origin number told records batch.RowCount batch.BadBatchHead p q x y = absurd (y x.0)
+one_build_fault ks origin number told records batch.RowCount batch.TooManyRows p q x y = absurd (over told y.1 x.1)
+one_build_fault ks origin number told records batch.RowCount batch.RowCount p q x y = refl
+one_build_fault ks origin number told records batch.RowCount batch.WrongWidth p q x y = absurd (x.2 y.2)
+one_build_fault ks origin number told records batch.RowCount (batch.BadField k) p q x y = absurd (x.2 y.2)
+one_build_fault ks origin number told records batch.WrongWidth batch.NoMemory p q x y = absurd (q refl)
+one_build_fault ks origin number told records batch.WrongWidth batch.BadBatchHead p q x y = absurd (y x.0)
+one_build_fault ks origin number told records batch.WrongWidth batch.TooManyRows p q x y = absurd (over told y.1 x.1)
+one_build_fault ks origin number told records batch.WrongWidth batch.RowCount p q x y = absurd (y.2 x.2)
+one_build_fault ks origin number told records batch.WrongWidth batch.WrongWidth p q x y = one_first_fault ks records batch.WrongWidth batch.WrongWidth p q x.3 y.3
+one_build_fault ks origin number told records batch.WrongWidth (batch.BadField k) p q x y = one_first_fault ks records batch.WrongWidth (batch.BadField k) p q x.3 y.3
+one_build_fault ks origin number told records (batch.BadField c) batch.NoMemory p q x y = absurd (q refl)
+one_build_fault ks origin number told records (batch.BadField c) batch.BadBatchHead p q x y = absurd (y x.0)
+one_build_fault ks origin number told records (batch.BadField c) batch.TooManyRows p q x y = absurd (over told y.1 x.1)
+one_build_fault ks origin number told records (batch.BadField c) batch.RowCount p q x y = absurd (y.2 x.2)
+one_build_fault ks origin number told records (batch.BadField c) batch.WrongWidth p q x y = one_first_fault ks records (batch.BadField c) batch.WrongWidth p q x.3 y.3
+one_build_fault ks origin number told records (batch.BadField c) (batch.BadField k) p q x y = one_first_fault ks records (batch.BadField c) (batch.BadField k) p q x.3 y.3
+
+-- ---- one reply
+
+one_columns : (told : Option (List Column)) (text : List ℕ) (a b : machine.Reply) → ColumnsReply told text a → ColumnsReply told text b → a ≡ b
+one_columns (Some columns) text a b x y = x ∙ sym y
+one_columns None text (machine.Has_columns cs) (machine.Has_columns cs') x y = ap machine.Has_columns (one_schema text cs cs' x y)
+one_columns None text (machine.Has_columns cs) (machine.Has_query q') x y = absurd y
+one_columns None text (machine.Has_columns cs) (machine.Created n') x y = absurd y
+one_columns None text (machine.Has_columns cs) (machine.Took n' f' d') x y = absurd y
+one_columns None text (machine.Has_columns cs) (machine.Listed l') x y = absurd y
+one_columns None text (machine.Has_columns cs) (machine.Answered q' k') x y = absurd y
+one_columns None text (machine.Has_columns cs) (machine.Refused w') x y = absurd (y.1 cs x)
+one_columns None text (machine.Has_query q) b x y = absurd x
+one_columns None text (machine.Created n) b x y = absurd x
+one_columns None text (machine.Took n f d) b x y = absurd x
+one_columns None text (machine.Listed l) b x y = absurd x
+one_columns None text (machine.Answered q k) b x y = absurd x
+one_columns None text (machine.Refused w) (machine.Has_columns cs') x y = absurd (x.1 cs' y)
+one_columns None text (machine.Refused w) (machine.Has_query q') x y = absurd y
+one_columns None text (machine.Refused w) (machine.Created n') x y = absurd y
+one_columns None text (machine.Refused w) (machine.Took n' f' d') x y = absurd y
+one_columns None text (machine.Refused w) (machine.Listed l') x y = absurd y
+one_columns None text (machine.Refused w) (machine.Answered q' k') x y = absurd y
+one_columns None text (machine.Refused w) (machine.Refused w') x y = ap machine.Refused (x.0 ∙ sym y.0)
+
+one_feed : (columns : List Column) (known : Option Knowledge) (name origin number : List ℕ) (told_rows : ℕ) (owned : List Record) (a b : machine.Reply)
+    → FeedReply columns known name origin number told_rows owned a → FeedReply columns known name origin number told_rows owned b → a ≡ b
+one_feed columns None name origin number told_rows owned a b x y = x ∙ sym y
+one_feed columns (Some known) name origin number told_rows owned (machine.Has_columns cs) b x y = absurd x
+one_feed columns (Some known) name origin number told_rows owned (machine.Has_query q) b x y = absurd x
+one_feed columns (Some known) name origin number told_rows owned (machine.Created n) b x y = absurd x
+one_feed columns (Some known) name origin number told_rows owned (machine.Took n f d) (machine.Has_columns cs') x y = absurd y
+one_feed columns (Some known) name origin number told_rows owned (machine.Took n f d) (machine.Has_query q') x y = absurd y
+one_feed columns (Some known) name origin number told_rows owned (machine.Took n f d) (machine.Created n') x y = absurd y
+one_feed columns (Some known) name origin number told_rows owned (machine.Took n f d) (machine.Took n' f' d') x y = same_took name n n' f f' d d' (λ fed. reply_of known (fed.origin, fed.number)) x.0 y.0 (one_fed (kinds columns) origin number told_rows owned f f' x.1 y.1) x.2 y.2
+one_feed columns (Some known) name origin number told_rows owned (machine.Took n f d) (machine.Listed l') x y = absurd y
+one_feed columns (Some known) name origin number told_rows owned (machine.Took n f d) (machine.Answered q' k') x y = absurd y
+one_feed columns (Some known) name origin number told_rows owned (machine.Took n f d) (machine.Refused w') x y = absurd (no_fault (kinds columns) origin number told_rows owned f y.error x.1 y.found y.fault)
+one_feed columns (Some known) name origin number told_rows owned (machine.Listed l) b x y = absurd x
+one_feed columns (Some known) name origin number told_rows owned (machine.Answered q k) b x y = absurd x
+one_feed columns (Some known) name origin number told_rows owned (machine.Refused w) (machine.Has_columns cs') x y = absurd y
+one_feed columns (Some known) name origin number told_rows owned (machine.Refused w) (machine.Has_query q') x y = absurd y
+one_feed columns (Some known) name origin number told_rows owned (machine.Refused w) (machine.Created n') x y = absurd y
+one_feed columns (Some known) name origin number told_rows owned (machine.Refused w) (machine.Took n' f' d') x y = absurd (no_fault (kinds columns) origin number told_rows owned f' x.error y.1 x.found x.fault)
+one_feed columns (Some known) name origin number told_rows owned (machine.Refused w) (machine.Listed l') x y = absurd y
+one_feed columns (Some known) name origin number told_rows owned (machine.Refused w) (machine.Answered q' k') x y = absurd y
+one_feed columns (Some known) name origin number told_rows owned (machine.Refused w) (machine.Refused w') x y = ap machine.Refused (x.named ∙ ap batch_refusal (one_build_fault (kinds columns) origin number told_rows owned x.error y.error x.found y.found x.fault y.fault) ∙ sym y.named)
+
+pub one_reply : (old : State) (request : Request) (owned : List Record) (a b : machine.Reply) → Replies old request owned a → Replies old request owned b → a ≡ b
+one_reply old (ask.Columns text) owned a b x y = one_columns old.columns text a b x y
+one_reply old (ask.Query text) owned a b x y = x ∙ sym y
+one_reply old (ask.Replica name) owned a b x y = x ∙ sym y
+one_reply old (ask.Feed name origin number told) owned a b x y = one_feed (unwrap_or old.columns []) (old.replicas name) name origin number told owned a b x y
+one_reply old (ask.Known name) owned a b x y = x ∙ sym y
+one_reply old (ask.Answer name) owned a b x y = x ∙ sym y
+one_reply old ask.Unknown owned a b x y = x ∙ sym y
