@@ -9,6 +9,8 @@ use Rattle.script_io.specs.declared.input.InputError.TheVariants as input
 use Rattle.script_commands.specs.Commands.{Command, commands_of}
 use Rattle.agg_tool.specs.Machine.{Reply, Run, start, is_refused, Agrees}
 use Rattle.agg_tool.specs.Text.{replies_text}
+use Rattle.agg_tool.specs.declared.refusal.Refusal.{Refusal}
+use Rattle.agg_tool.specs.declared.refusal.Refusal.TheVariants as refusal
 use Rattle.agg_tool.specs.declared.engine.Outcome.{Outcome}
 use Rattle.agg_tool.specs.declared.error.RunError.{RunError}
 use Rattle.agg_tool.specs.declared.error.RunError.TheVariants.{InputTooLong, ReadFault, NoMemory, WriteFault}
@@ -77,3 +79,10 @@ status_of (Err NoMemory) = 1
 status_of (Err InputTooLong) = 1
 status_of (Err ReadFault) = 3
 status_of (Err WriteFault) = 3
+
+-- the refusal of a run that stopped
+abbrev pub run_refusal : RunError → Refusal
+run_refusal NoMemory = refusal.NoMemory
+run_refusal InputTooLong = refusal.InputTooLong
+run_refusal ReadFault = refusal.ReadFault
+run_refusal WriteFault = refusal.WriteFault

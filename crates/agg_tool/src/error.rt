@@ -1,7 +1,7 @@
 //! Why a run stopped before the end of its script.
 
 ghost use Rattle.std.specs.Prelude.{◌≡◌};
-ghost use Rattle.agg_tool.specs.Output.{run_error};
+ghost use Rattle.agg_tool.specs.Output.{run_error, run_refusal};
 ghost use Rattle.agg_tool.specs.declared.error.RunError.TheVariants.{NoMemory, WriteFault};
 
 use crate::refusal::Refusal;
@@ -55,6 +55,8 @@ impl From<WriteFault> for RunError {
 }
 
 impl From<RunError> for Refusal {
+    ghost from_gives = { λ error refusal. refusal ≡ run_refusal error };
+
     fn from(error: RunError) -> Refusal {
         match error {
             RunError::NoMemory => Refusal::NoMemory,
