@@ -1,0 +1,12 @@
+use Rattle.std.proofs.Common.{ap, ◌∙◌, option_map}
+use Rattle.grouping_model.specs.Condition.{is_met}
+use Rattle.grouping_model.specs.Grouping.{column_of}
+use Rattle.packed_rows.specs.View.{row_of}
+use Rattle.having_filter.specs.Meaning.{Checked, column_leaf, row_condition}
+use Rattle.having_filter.proofs.FormLaws.{met_in_steps}
+use Rattle.having_filter.proofs.query.Query.where_true.Goals as goal
+
+pub returns : goal.returns
+returns c =
+    c.is_met.ensures ∙ met_in_steps (column_of (row_of c.args.row.now)) column_leaf c.self.inside.condition
+    ∙ ap (λ (q : Checked). is_met (column_of (row_of c.args.row.now)) (option_map row_condition q.written.condition)) c.self.view_is

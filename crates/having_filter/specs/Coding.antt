@@ -1,0 +1,195 @@
+-- Conditions as trees of numbers, which tell them apart. All of this is our own.
+use Rattle.std.specs.Prelude.{ℕ, zero, suc, ◌≡◌, pos, negsuc, true, false, List, [], ◌∷◌, map, Option, Some, None}
+use mathlib.Core.Path.{refl, ap}
+use base.Stored.{Gv, gnil, gnum, gcons, Coded}
+use denote.Struct.Codes.{itself}
+use Rattle.std.specs.Coded.{code_by, coded×, coded_list, coded_option, coded_ℕ}
+use Rattle.grouping_model.specs.Datum as datum
+use Rattle.grouping_model.specs.Datum.{Datum, Kind, Bigint_kind, Boolean_kind, Text_kind}
+use Rattle.packed_rows.specs.Columns as packed
+use Rattle.grouping_model.specs.Aggregates as function
+use Rattle.grouping_model.specs.Aggregates.{Function}
+use Rattle.grouping_model.specs.Condition as model
+use Rattle.having_filter.specs.Forms.{Form, Column, Call, Call_where, Literal, Not, And, Or, Compare, Is, Is_not, Written}
+use Rattle.having_filter.specs.Checks.{kind_number}
+use Rattle.having_filter.specs.Meaning.{Checked}
+use Rattle.having_filter.specs.Sameness.{function_number, comparison_number, test_number}
+
+-- what a number stands for
+abbrev pub function_at : ℕ → Function
+function_at zero = function.Count_rows
+function_at (suc zero) = function.Count
+function_at (suc (suc zero)) = function.Sum
+function_at (suc (suc (suc zero))) = function.Min
+function_at (suc (suc (suc (suc zero)))) = function.Max
+function_at (suc (suc (suc (suc (suc zero))))) = function.Bit_and
+function_at (suc (suc (suc (suc (suc (suc zero)))))) = function.Bit_or
+function_at (suc (suc (suc (suc (suc (suc (suc zero))))))) = function.Bit_xor
+function_at (suc (suc (suc (suc (suc (suc (suc (suc zero)))))))) = function.Bool_and
+function_at (suc (suc (suc (suc (suc (suc (suc (suc (suc zero))))))))) = function.Bool_or
+function_at n = function.Every
+
+pub function_at_back : (x : Function) → function_at (function_number x) ≡ x
+function_at_back function.Count_rows = refl
+function_at_back function.Count = refl
+function_at_back function.Sum = refl
+function_at_back function.Min = refl
+function_at_back function.Max = refl
+function_at_back function.Bit_and = refl
+function_at_back function.Bit_or = refl
+function_at_back function.Bit_xor = refl
+function_at_back function.Bool_and = refl
+function_at_back function.Bool_or = refl
+function_at_back function.Every = refl
+
+-- what a number stands for
+abbrev pub comparison_at : ℕ → model.Comparison
+comparison_at zero = model.Same
+comparison_at (suc zero) = model.Different
+comparison_at (suc (suc zero)) = model.Below
+comparison_at (suc (suc (suc zero))) = model.At_most
+comparison_at (suc (suc (suc (suc zero)))) = model.Above
+comparison_at n = model.At_least
+
+pub comparison_at_back : (x : model.Comparison) → comparison_at (comparison_number x) ≡ x
+comparison_at_back model.Same = refl
+comparison_at_back model.Different = refl
+comparison_at_back model.Below = refl
+comparison_at_back model.At_most = refl
+comparison_at_back model.Above = refl
+comparison_at_back model.At_least = refl
+
+-- what a number stands for
+abbrev pub test_at : ℕ → model.Test
+test_at zero = model.Is_null
+test_at (suc zero) = model.Is_true
+test_at (suc (suc zero)) = model.Is_false
+test_at n = model.Is_unknown
+
+pub test_at_back : (x : model.Test) → test_at (test_number x) ≡ x
+test_at_back model.Is_null = refl
+test_at_back model.Is_true = refl
+test_at_back model.Is_false = refl
+test_at_back model.Is_unknown = refl
+
+-- trees of lists, values and columns, and back
+abbrev pub tree_of_bytes : List ℕ → Gv
+tree_of_bytes [] = gnil
+tree_of_bytes (b ∷ bytes) = gcons (gnum b) (tree_of_bytes bytes)
+
+abbrev pub bytes_at : Gv → List ℕ
+bytes_at (gcons (gnum b) rest) = b ∷ bytes_at rest
+bytes_at other = []
+
+pub bytes_back : (bytes : List ℕ) → bytes_at (tree_of_bytes bytes) ≡ bytes
+bytes_back [] = refl
+bytes_back (b ∷ bytes) = ap (λ rest. b ∷ rest) (bytes_back bytes)
+
+abbrev pub tree_of_datum : Datum → Gv
+tree_of_datum datum.Null = gnil
+tree_of_datum (datum.Bigint (pos n)) = gcons (gnum zero) (gnum n)
+tree_of_datum (datum.Bigint (negsuc n)) = gcons (gnum (suc zero)) (gnum n)
+tree_of_datum (datum.Boolean true) = gnum zero
+tree_of_datum (datum.Boolean false) = gnum (suc zero)
+tree_of_datum (datum.Text text) = gcons gnil (tree_of_bytes text)
+
+abbrev pub datum_at : Gv → Datum
+datum_at gnil = datum.Null
+datum_at (gnum zero) = datum.Boolean true
+datum_at (gnum (suc n)) = datum.Boolean false
+datum_at (gcons (gnum zero) (gnum n)) = datum.Bigint (pos n)
+datum_at (gcons (gnum (suc m)) (gnum n)) = datum.Bigint (negsuc n)
+datum_at (gcons gnil text) = datum.Text (bytes_at text)
+datum_at other = datum.Null
+
+pub datum_back : (x : Datum) → datum_at (tree_of_datum x) ≡ x
+datum_back datum.Null = refl
+datum_back (datum.Bigint (pos n)) = refl
+datum_back (datum.Bigint (negsuc n)) = refl
+datum_back (datum.Boolean true) = refl
+datum_back (datum.Boolean false) = refl
+datum_back (datum.Text text) = ap datum.Text (bytes_back text)
+
+abbrev pub tree_of_column : Option ℕ → Gv
+tree_of_column None = gnil
+tree_of_column (Some n) = gnum n
+
+abbrev pub column_at : Gv → Option ℕ
+column_at (gnum n) = Some n
+column_at other = None
+
+pub column_back : (x : Option ℕ) → column_at (tree_of_column x) ≡ x
+column_back None = refl
+column_back (Some n) = refl
+
+-- the tree of a condition, and back
+abbrev pub tree_of : Form ℕ → Gv
+tree_of (Column n) = gnum n
+tree_of (Literal x) = gcons gnil (tree_of_datum x)
+tree_of (Call f c) = gcons (gnum zero) (gcons (gnum (function_number f)) (tree_of_column c))
+tree_of (Call_where f c x) = gcons (gnum (suc zero)) (gcons (gcons (gnum (function_number f)) (tree_of_column c)) (tree_of x))
+tree_of (Not x) = gcons (gnum (suc (suc zero))) (tree_of x)
+tree_of (And x y) = gcons (gnum (suc (suc (suc zero)))) (gcons (tree_of x) (tree_of y))
+tree_of (Or x y) = gcons (gnum (suc (suc (suc (suc zero))))) (gcons (tree_of x) (tree_of y))
+tree_of (Compare c x y) = gcons (gnum (suc (suc (suc (suc (suc zero)))))) (gcons (gnum (comparison_number c)) (gcons (tree_of x) (tree_of y)))
+tree_of (Is test x) = gcons (gnum (suc (suc (suc (suc (suc (suc zero))))))) (gcons (gnum (test_number test)) (tree_of x))
+tree_of (Is_not test x) = gcons (gnum (suc (suc (suc (suc (suc (suc (suc zero)))))))) (gcons (gnum (test_number test)) (tree_of x))
+
+abbrev pub form_at : Gv → Form ℕ
+form_at (gnum n) = Column n
+form_at (gcons gnil x) = Literal (datum_at x)
+form_at (gcons (gnum zero) (gcons (gnum f) c)) = Call (function_at f) (column_at c)
+form_at (gcons (gnum (suc zero)) (gcons (gcons (gnum f) c) x)) = Call_where (function_at f) (column_at c) (form_at x)
+form_at (gcons (gnum (suc (suc zero))) x) = Not (form_at x)
+form_at (gcons (gnum (suc (suc (suc zero)))) (gcons x y)) = And (form_at x) (form_at y)
+form_at (gcons (gnum (suc (suc (suc (suc zero))))) (gcons x y)) = Or (form_at x) (form_at y)
+form_at (gcons (gnum (suc (suc (suc (suc (suc zero)))))) (gcons (gnum c) (gcons x y))) = Compare (comparison_at c) (form_at x) (form_at y)
+form_at (gcons (gnum (suc (suc (suc (suc (suc (suc zero))))))) (gcons (gnum test) x)) = Is (test_at test) (form_at x)
+form_at (gcons (gnum (suc (suc (suc (suc (suc (suc (suc zero)))))))) (gcons (gnum test) x)) = Is_not (test_at test) (form_at x)
+form_at other = Column 0
+
+pub form_back : (x : Form ℕ) → form_at (tree_of x) ≡ x
+form_back (Column n) = refl
+form_back (Literal x) = ap Literal (datum_back x)
+form_back (Call f c) = λ i. Call (function_at_back f i) (column_back c i)
+form_back (Call_where f c x) = λ i. Call_where (function_at_back f i) (column_back c i) (form_back x i)
+form_back (Not x) = ap Not (form_back x)
+form_back (And x y) = λ i. And (form_back x i) (form_back y i)
+form_back (Or x y) = λ i. Or (form_back x i) (form_back y i)
+form_back (Compare c x y) = λ i. Compare (comparison_at_back c i) (form_back x i) (form_back y i)
+form_back (Is test x) = λ i. Is (test_at_back test i) (form_back x i)
+form_back (Is_not test x) = λ i. Is_not (test_at_back test i) (form_back x i)
+
+-- a kind by its number, and the columns of a table by names and kinds
+abbrev pub kind_of_number : ℕ → Kind
+kind_of_number zero = Bigint_kind
+kind_of_number (suc zero) = Boolean_kind
+kind_of_number n = Text_kind
+
+pub kind_back : (x : Kind) → kind_of_number (kind_number x) ≡ x
+kind_back Bigint_kind = refl
+kind_back Boolean_kind = refl
+kind_back Text_kind = refl
+
+pub columns_back : (xs : List packed.Column) → map (λ (c : List ℕ × Kind). record { name = c.0; kind = c.1 }) (map (λ (c : packed.Column). (c.name, c.kind)) xs) ≡ xs
+columns_back [] = refl
+columns_back (x ∷ xs) = ap (λ rest. x ∷ rest) (columns_back xs)
+
+-- a condition is told apart by its tree
+abbrev pub coded_form : Coded (Form ℕ)
+coded_form = code_by Gv itself tree_of form_at form_back
+
+-- a query over places by its parts, and a checked query by its columns beside it
+abbrev pub coded_written : Coded (Written ℕ)
+coded_written =
+    code_by (List (Form ℕ × Option (List ℕ)) × (Option (Form ℕ) × (List ℕ × Option (Form ℕ))))
+    (coded× (coded_list (coded× coded_form (coded_option (coded_list coded_ℕ)))) (coded× (coded_option coded_form) (coded× (coded_list coded_ℕ) (coded_option coded_form))))
+    (λ q. (q.items, (q.condition, (q.keys, q.having)))) (λ p. record { items = p.0; condition = p.1.0; keys = p.1.1.0; having = p.1.1.1 }) (λ _. refl)
+
+abbrev pub coded_kind : Coded Kind
+coded_kind = code_by ℕ coded_ℕ kind_number kind_of_number kind_back
+
+abbrev pub coded_checked : Coded Checked
+coded_checked =
+    code_by (List (List ℕ × Kind) × Written ℕ) (coded× (coded_list (coded× (coded_list coded_ℕ) coded_kind)) coded_written)
+    (λ q. (map (λ c. (c.name, c.kind)) q.columns, q.written)) (λ p. record { columns = map (λ c. record { name = c.0; kind = c.1 }) p.0; written = p.1 }) (λ q i. record { columns = columns_back q.columns i; written = q.written })

@@ -1,0 +1,9 @@
+pub mod Forms
+pub mod Truths
+pub mod Sameness
+pub mod Meaning
+pub mod Spelling
+pub mod Checks
+pub mod Placing
+pub mod Kept
+pub mod Coding

@@ -1,0 +1,119 @@
+-- The canonical spelling of conditions and queries (own; the words are SQL's: PostgreSQL 17, SELECT).
+use Rattle.std.specs.Prelude.{ℕ, nat_lt, true, false, if◌then◌else◌, List, [], ◌∷◌, ◌++◌, map, codes, Option, Some, None}
+use Rattle.std.specs.Str.{bytes_eq}
+use Rattle.query_tokens.specs.Words.{Integer}
+use Rattle.query_tokens.specs.Words as words
+use Rattle.query_tokens.specs.Spelling.{spell}
+use Rattle.grouping_model.specs.Datum.{Datum, Null, Bigint, Boolean, Text}
+use Rattle.grouping_model.specs.Aggregates as function
+use Rattle.grouping_model.specs.Aggregates.{Function}
+use Rattle.grouping_model.specs.Condition.{Comparison, Same, Different, Below, At_most, Above, At_least, Test, Is_null, Is_true, Is_false, Is_unknown}
+use Rattle.having_filter.specs.Forms.{Form, Column, Call, Call_where, Literal, Not, And, Or, Compare, Is, Is_not, Written}
+use Rattle.having_filter.specs.Sameness.{distinct}
+
+-- the name of a function, which its result has too (PostgreSQL 17, 9.21 and 7.3.2 Column Labels)
+abbrev pub function_name : Function → List ℕ
+function_name function.Count_rows = codes "count"
+function_name function.Count = codes "count"
+function_name function.Sum = codes "sum"
+function_name function.Min = codes "min"
+function_name function.Max = codes "max"
+function_name function.Bit_and = codes "bit_and"
+function_name function.Bit_or = codes "bit_or"
+function_name function.Bit_xor = codes "bit_xor"
+function_name function.Bool_and = codes "bool_and"
+function_name function.Bool_or = codes "bool_or"
+function_name function.Every = codes "every"
+
+abbrev pub comparison_text : Comparison → List ℕ
+comparison_text Same = codes " = "
+comparison_text Different = codes " <> "
+comparison_text Below = codes " < "
+comparison_text At_most = codes " <= "
+comparison_text Above = codes " > "
+comparison_text At_least = codes " >= "
+
+abbrev pub test_text : Test → List ℕ
+test_text Is_null = codes "NULL"
+test_text Is_true = codes "TRUE"
+test_text Is_false = codes "FALSE"
+test_text Is_unknown = codes "UNKNOWN"
+
+abbrev pub literal_text : Datum → List ℕ
+literal_text Null = codes "NULL"
+literal_text (Bigint z) = spell (Integer z)
+literal_text (Boolean true) = codes "TRUE"
+literal_text (Boolean false) = codes "FALSE"
+literal_text (Text text) = spell (words.Text text)
+
+-- a call without its FILTER
+abbrev pub call_text : Function → Option (List ℕ) → List ℕ
+call_text function None = function_name function ++ codes "(*)"
+call_text function (Some name) = function_name function ++ codes "(" ++ name ++ codes ")"
+
+-- how tightly a condition binds: OR the least (PostgreSQL 17, 4.1.6; that IS and comparisons differ is our own)
+abbrev pub level : {C : Type 0} → Form C → ℕ
+level (Or c d) = 1
+level (And c d) = 2
+level (Not c) = 3
+level (Is test c) = 4
+level (Is_not test c) = 4
+level (Compare comparison c d) = 5
+level other = 6
+
+-- an operand: in parentheses where it binds less tightly than its place asks
+abbrev pub operand : {C : Type 0} → ℕ → Form C → List ℕ → List ℕ
+operand asked c text = if nat_lt (level c) asked then codes "(" ++ text ++ codes ")" else text
+
+-- a condition
+abbrev pub spelled : Form (List ℕ) → List ℕ
+spelled (Column name) = name
+spelled (Call function column) = call_text function column
+spelled (Call_where function column filter) = call_text function column ++ codes " FILTER (WHERE " ++ spelled filter ++ codes ")"
+spelled (Literal value) = literal_text value
+spelled (Not c) = codes "NOT " ++ operand 3 c (spelled c)
+spelled (And c d) = operand 2 c (spelled c) ++ codes " AND " ++ operand 3 d (spelled d)
+spelled (Or c d) = operand 1 c (spelled c) ++ codes " OR " ++ operand 2 d (spelled d)
+spelled (Compare comparison c d) = operand 6 c (spelled c) ++ comparison_text comparison ++ operand 6 d (spelled d)
+spelled (Is test c) = operand 4 c (spelled c) ++ codes " IS " ++ test_text test
+spelled (Is_not test c) = operand 4 c (spelled c) ++ codes " IS NOT " ++ test_text test
+
+-- an item's own name: that of the column or of the function (PostgreSQL 17, 7.3.2)
+abbrev pub own_name : Form (List ℕ) → List ℕ
+own_name (Column name) = name
+own_name (Call function column) = function_name function
+own_name (Call_where function column filter) = function_name function
+own_name other = []
+
+-- an alias, which is none where it is the item's own name
+abbrev pub kept_alias : List ℕ → Option (List ℕ) → Option (List ℕ)
+kept_alias own None = None
+kept_alias own (Some alias) = if bytes_eq alias own then None else Some alias
+
+abbrev pub alias_text : Option (List ℕ) → List ℕ
+alias_text None = []
+alias_text (Some alias) = codes " AS " ++ alias
+
+abbrev pub item_text : Form (List ℕ) × Option (List ℕ) → List ℕ
+item_text item = spelled item.0 ++ alias_text (kept_alias (own_name item.0) item.1)
+
+-- texts, parted by commas
+abbrev pub parted : List (List ℕ) → List ℕ
+parted [] = []
+parted (text ∷ []) = text
+parted (text ∷ next ∷ texts) = text ++ codes ", " ++ parted (next ∷ texts)
+
+-- a condition behind a word
+abbrev pub clause_text : List ℕ → Option (Form (List ℕ)) → List ℕ
+clause_text word None = []
+clause_text word (Some c) = word ++ spelled c
+
+abbrev pub keys_text : List (List ℕ) → List ℕ
+keys_text [] = []
+keys_text (name ∷ names) = codes " GROUP BY " ++ parted (name ∷ names)
+
+-- a query
+abbrev pub spelling : Written (List ℕ) → List ℕ
+spelling q =
+    codes "SELECT " ++ parted (map item_text q.items) ++ codes " FROM batches" ++ clause_text (codes " WHERE ") q.condition
+    ++ keys_text (distinct bytes_eq q.keys) ++ clause_text (codes " HAVING ") q.having
