@@ -12,7 +12,9 @@ use Rattle.grouping_model.specs.Condition as model
 use Rattle.packed_rows.specs.Columns as packed
 use Rattle.having_filter.specs.declared.condition.Cond.{Cond, back-AggCall-filter}
 use Rattle.having_filter.specs.Meaning.{calls_in, column_leaf, condition_by, source_of_form, place_in}
-use Rattle.having_filter.specs.Kept.{outcome_at, IsChecked}
+use Rattle.having_filter.specs.Kept.{outcome_at}
+use Rattle.having_filter.specs.declared.plan.Source.{Source}
+use Rattle.having_filter.specs.Plans.{source_leaf}
 use Rattle.having_filter.specs.Checks.{depth, is_shallow, filters_pass, are_plain, kinds_fit, is_grouped, checked_places}
 use Rattle.having_filter.specs.declared.error.QueryError.TheVariants as error
 use Rattle.having_filter.specs.declared.error.QueryError.{QueryError}
@@ -61,6 +63,10 @@ pub call_is_no_column : (function : Function) (column : Option ℕ) (filter : Op
 call_is_no_column function column None = refl
 call_is_no_column function column (Some filter) = refl
 
+pub call_is_no_source : (function : Function) (column : Option Source) (filter : Option (Cond Source)) → source_leaf (with_filter function column (back-AggCall-filter Source filter)) ≡ model.Literal Null
+call_is_no_source function column None = refl
+call_is_no_source function column (Some filter) = refl
+
 -- a condition read in two steps: its columns and calls first as other conditions, then by their values
 pub read_in_steps : {C Leaf : Type 0} (value : Leaf → Outcome) (leaf : Form C → model.Condition Leaf) (c : Form C) → model.value_of value (condition_by leaf c) ≡ model.value_of (λ x. model.value_of value (leaf x)) (condition_by model.At c)
 read_in_steps value leaf (Column c) = refl
@@ -77,10 +83,8 @@ read_in_steps value leaf (Is_not test c) = rw (read_in_steps value leaf c) refl
 -- a condition over other columns
 pub depth_mapped : {C D : Type 0} (f : C → D) (c : Form C) → depth (map_form f c) ≡ depth c
 depth_mapped f (Column c) = refl
-depth_mapped f (Call function None) = refl
-depth_mapped f (Call function (Some c)) = refl
-depth_mapped f (Call_where function None filter) = refl
-depth_mapped f (Call_where function (Some c) filter) = refl
+depth_mapped f (Call function column) = refl
+depth_mapped f (Call_where function column filter) = refl
 depth_mapped f (Literal x) = refl
 depth_mapped f (Not c) = rw (depth_mapped f c) refl
 depth_mapped f (And c d) = rw (depth_mapped f c) (rw (depth_mapped f d) refl)
@@ -91,10 +95,8 @@ depth_mapped f (Is_not test c) = rw (depth_mapped f c) refl
 
 pub shallow_mapped : {C D : Type 0} (f : C → D) (c : Form C) → filters_pass is_shallow (map_form f c) ≡ filters_pass is_shallow c
 shallow_mapped f (Column c) = refl
-shallow_mapped f (Call function None) = refl
-shallow_mapped f (Call function (Some c)) = refl
-shallow_mapped f (Call_where function None filter) = rw (depth_mapped f filter) (rw (shallow_mapped f filter) refl)
-shallow_mapped f (Call_where function (Some c) filter) = rw (depth_mapped f filter) (rw (shallow_mapped f filter) refl)
+shallow_mapped f (Call function column) = refl
+shallow_mapped f (Call_where function column filter) = rw (depth_mapped f filter) (rw (shallow_mapped f filter) refl)
 shallow_mapped f (Literal x) = refl
 shallow_mapped f (Not c) = shallow_mapped f c
 shallow_mapped f (And c d) = rw (shallow_mapped f c) (rw (shallow_mapped f d) refl)
@@ -109,7 +111,7 @@ call_is_call keys calls function column None = refl
 call_is_call keys calls function column (Some filter) = refl
 
 -- whether a clause is true, read in two steps
-pub met_in_steps : {Leaf : Type 0} (value : Leaf → Outcome) (leaf : Form ℕ → model.Condition Leaf) (clause : Option (Cond ℕ)) → model.is_met (λ x. model.value_of value (leaf x)) (option_map (λ c. condition_by model.At (form_of c)) clause) ≡ model.is_met value (option_map (condition_by leaf) (option_map form_of clause))
+pub met_in_steps : {C Leaf : Type 0} (value : Leaf → Outcome) (leaf : Form C → model.Condition Leaf) (clause : Option (Cond C)) → model.is_met (λ x. model.value_of value (leaf x)) (option_map (λ c. condition_by model.At (form_of c)) clause) ≡ model.is_met value (option_map (condition_by leaf) (option_map form_of clause))
 met_in_steps value leaf None = refl
 met_in_steps value leaf (Some c) = rw (read_in_steps value leaf (form_of c)) refl
 
@@ -155,6 +157,3 @@ gives_ungrouped columns q plain fit grouped _ = rw plain (rw fit (rw grouped ref
 pub gives_checked : (columns : List packed.Column) (q : Written ℕ) → are_plain q ≡ true → kinds_fit (packed.kinds columns) q ≡ true → is_grouped q ≡ true → checked_places columns q ≡ Ok (record { columns = columns; written = q })
 unfolding checked_places
 gives_checked columns q plain fit grouped = rw plain (rw fit (rw grouped refl))
-
-pub is_checked : (columns : List packed.Column) (q : Written ℕ) → packed.AreColumns columns → are_plain q ≡ true → kinds_fit (packed.kinds columns) q ≡ true → is_grouped q ≡ true → IsChecked (record { columns = columns; written = q })
-is_checked columns q are plain fit grouped = record { columns_are = are; passed = gives_checked columns q plain fit grouped }

@@ -1,1 +1,14 @@
 pub mod FormLaws
+pub mod PlanLaws
+pub mod QuoteLaws
+pub mod SpellingLaws
+pub mod DistinctLaws
+pub mod SameLaws
+pub mod ColumnLaws
+pub mod PlaceLaws
+pub mod NormalLaws
+pub mod WellLaws
+pub mod CountLaws
+pub mod FaultLaws
+pub mod CheckedLaws
+pub mod ItemLaws

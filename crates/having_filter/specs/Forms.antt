@@ -1,5 +1,5 @@
 -- Conditions, calls and queries as they are written, over names or places of columns, and what the code's types stand for.
-use Rattle.std.specs.Prelude.{ℕ, true, false, List, map, string_bytes, option_map, Option, Some, None}
+use Rattle.std.specs.Prelude.{ℕ, true, false, List, map, string_bytes, option_map, Option}
 use Rattle.std.specs.Borrow.{Bor}
 use Rattle.std.specs.declared.alloc.Global.{Global}
 use Rattle.std.specs.declared.string.String.{String}
@@ -58,10 +58,8 @@ test_of test.IsUnknown = model.Is_unknown
 -- the same condition over other columns
 abbrev pub map_form : {C D : Type 0} → (C → D) → Form C → Form D
 map_form f (Column c) = Column (f c)
-map_form f (Call function None) = Call function None
-map_form f (Call function (Some c)) = Call function (Some (f c))
-map_form f (Call_where function None filter) = Call_where function None (map_form f filter)
-map_form f (Call_where function (Some c) filter) = Call_where function (Some (f c)) (map_form f filter)
+map_form f (Call function column) = Call function (option_map f column)
+map_form f (Call_where function column filter) = Call_where function (option_map f column) (map_form f filter)
 map_form f (Literal value) = Literal value
 map_form f (Not c) = Not (map_form f c)
 map_form f (And c d) = And (map_form f c) (map_form f d)
@@ -107,7 +105,7 @@ names_of c = map_form string_bytes c
 abbrev pub items_of : List (Item (String Global) × Option (String Global)) → List (Form (List ℕ) × Option (List ℕ))
 items_of items = map (λ item. (names_of (item_form item.0), option_map string_bytes item.1)) items
 
-abbrev pub places_of : List (Item ℕ × Option (String Global)) → List (Form ℕ × Option (List ℕ))
+abbrev pub places_of : {C : Type 0} → List (Item C × Option (String Global)) → List (Form C × Option (List ℕ))
 places_of items = map (λ item. (item_form item.0, option_map string_bytes item.1)) items
 
 abbrev pub written_of : RawQuery → Written (List ℕ)

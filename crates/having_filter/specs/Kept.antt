@@ -1,29 +1,75 @@
 -- What a query keeps, and what HAVING reads.
-use Rattle.std.specs.Prelude.{◌≡◌, ℕ, List, slice_index_or, Option, Ok, option_map}
+use Rattle.std.specs.Prelude.{◌≡◌, ℕ, ◌<◌, ◌≤◌, List, [], map, length, slice_get, slice_index_or, Option, Ok, option_map, unwrap_or}
+use Rattle.std.specs.List.{AllByRecursion}
 use Rattle.std.specs.declared.alloc.Global.{Global}
 use Rattle.std.specs.declared.string.String.{String}
-use Rattle.grouping_model.specs.Datum.{Null}
+use Rattle.grouping_model.specs.Datum.{Null, Kind, Bigint_kind, Row, HasKinds}
 use Rattle.grouping_model.specs.Aggregates.{Outcome, Plain}
-use Rattle.grouping_model.specs.Query.{Source, Key, Call}
-use Rattle.packed_rows.specs.Columns.{AreColumns}
+use Rattle.grouping_model.specs.Query as query
+use Rattle.grouping_model.specs.Query.{Aggregate}
+use Rattle.grouping_model.specs.Grouping.{argument}
+use Rattle.agg_protocol.specs.Arguments.{Takes}
+use Rattle.packed_rows.specs.Columns.{Column, AreColumns}
 use Rattle.having_filter.specs.declared.condition.Cond.{Cond}
 use Rattle.having_filter.specs.declared.condition.Item.{Item}
-use Rattle.having_filter.specs.Forms.{Written, form_of, places_of}
-use Rattle.having_filter.specs.Meaning.{Checked}
-use Rattle.having_filter.specs.Checks.{checked_places}
+use Rattle.having_filter.specs.Forms.{Form, Written, form_of, map_form, places_of}
+use Rattle.having_filter.specs.Meaning.{Checked, meaning}
+use Rattle.having_filter.specs.Checks.{checked}
+use Rattle.having_filter.specs.Spelling.{own_name, kept_alias}
+use Rattle.having_filter.specs.Writable.{IsWritable}
 
 -- the query over places that the parts of one say (own)
 abbrev pub written_by : List (Item ℕ × Option (String Global)) → Option (Cond ℕ) → List ℕ → Option (Cond ℕ) → Written ℕ
 written_by items condition keys having =
     record { items = places_of items; condition = option_map form_of condition; keys = keys; having = option_map form_of having }
 
--- a query that passed the checks, over the columns of a schema (own)
-pub record IsChecked (q : Checked) : Type 0 where
+-- the name of the column at a place (own)
+abbrev pub name_at : List Column → ℕ → List ℕ
+name_at columns place = unwrap_or (option_map (λ c. c.name) (slice_get columns place)) []
+
+-- a checked query over the names of its columns again (own)
+abbrev pub by_names : Checked → Written (List ℕ)
+by_names q =
+    record {
+      items = map (λ item. (map_form (name_at q.columns) item.0, item.1)) q.written.items;
+      condition = option_map (map_form (name_at q.columns)) q.written.condition;
+      keys = map (name_at q.columns) q.written.keys;
+      having = option_map (map_form (name_at q.columns)) q.written.having;
+    }
+
+-- the names of the columns of an answer: an item's alias, or else its own name (PostgreSQL 17, 7.3.2 Column Labels)
+abbrev pub label_of : Form (List ℕ) × Option (List ℕ) → List ℕ
+label_of item = unwrap_or (kept_alias (own_name item.0) item.1) (own_name item.0)
+
+abbrev pub headers : Checked → List (List ℕ)
+headers q = map label_of (by_names q).items
+
+-- the kinds of the columns of GROUP BY (PostgreSQL 17, 7.2.3)
+abbrev pub key_kinds : query.Query → List Kind
+key_kinds q = map (λ place. slice_index_or q.kinds place Bigint_kind) q.keys
+
+-- over rows of these kinds, an aggregate takes the values of its column (PostgreSQL 17, 9.21)
+pub record TakesRows (kinds : List Kind) (aggregate : Aggregate) : Type 0 where
+  pub takes : (row : Row) → HasKinds kinds row → Takes aggregate.function (argument aggregate.column row)
+
+-- what is counted on wherever a checked query is evaluated: its keys are columns of the table, its aggregates take the
+-- values of their columns, and there are not too many of either (own)
+pub record IsWellFormed (q : query.Query) : Type 0 where
+  pub keys : AllByRecursion (λ place. place < length q.kinds) q.keys
+  pub aggregates : AllByRecursion (TakesRows q.kinds) q.aggregates
+  pub few_items : length q.items ≤ 64
+  pub few_keys : length q.keys ≤ 16
+  pub few_aggregates : length q.aggregates ≤ 32
+
+-- a query that passed all checks, over the columns of a schema: its own text passes them and says it again (own)
+pub record IsQuery (q : Checked) : Type 0 where
   pub columns_are : AreColumns q.columns
-  pub passed : checked_places q.columns q.written ≡ Ok q
+  pub writable : IsWritable (by_names q)
+  pub passed : checked q.columns (by_names q) ≡ Ok q
+  pub well_formed : IsWellFormed (meaning q)
 
 -- the value of a key or of an aggregate, given both as a group has them; null beyond the last
 -- (PostgreSQL 17, 7.2.3 The GROUP BY and HAVING Clauses)
-abbrev pub outcome_at : List Outcome → List Outcome → Source → Outcome
-outcome_at keys results (Key place) = slice_index_or keys place (Plain Null)
-outcome_at keys results (Call place) = slice_index_or results place (Plain Null)
+abbrev pub outcome_at : List Outcome → List Outcome → query.Source → Outcome
+outcome_at keys results (query.Key place) = slice_index_or keys place (Plain Null)
+outcome_at keys results (query.Call place) = slice_index_or results place (Plain Null)

@@ -7,3 +7,7 @@ pub mod Checks
 pub mod Placing
 pub mod Kept
 pub mod Coding
+pub mod Writable
+pub mod Plans
+pub mod Parts
+pub mod Answers

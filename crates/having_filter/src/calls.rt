@@ -1,14 +1,15 @@
 //! The distinct calls of a query.
 
-ghost use Rattle.std.specs.Prelude.{◌≡◌, ◌==◌, ◌++◌, [], map, option_map, OnOk, IfOk, IfErr};
+ghost use Rattle.std.specs.Prelude.{◌≡◌, ◌==◌, ◌++◌, [], map, length, option_map, OnOk, IfOk, IfErr};
 ghost use Rattle.std.specs.List.{flat_map};
 ghost use Rattle.std.specs.Option.{option_map_or};
+ghost use Rattle.std.specs.Str.{bytes_eq};
 ghost use Rattle.having_filter.specs.declared.error.QueryError.TheVariants.{NoMemory};
-ghost use Rattle.having_filter.specs.Forms.{form_of, call_form, call_forms, item_form, places_of};
+ghost use Rattle.having_filter.specs.Forms.{form_of, call_form, call_forms, item_form, places_of, written_of};
 ghost use Rattle.having_filter.specs.Sameness.{form_eq, with_each, distinct};
-ghost use Rattle.having_filter.specs.Meaning.{calls_in};
+ghost use Rattle.having_filter.specs.Meaning.{calls_in, distinct_calls};
 
-use crate::condition::{AggCall, Cond, Item};
+use crate::condition::{AggCall, Cond, Item, RawQuery};
 use crate::error::QueryError;
 use crate::placing::{Unmoved, placed, placed_call};
 use crate::same::{push_call, push_calls};
@@ -16,12 +17,12 @@ use std::alloc::{AllocError, Global};
 
 /// Adds the call of an item to others, unless it is there.
 #[tactic(auto, using(crate::proofs::FormLaws::calls_in_call))]
-fn push_item_call<'a>(
-    calls: &mut Vec<&'a AggCall<usize>>,
-    item: &'a Item<usize>,
+fn push_item_call<'a, C: PartialEq>(
+    calls: &mut Vec<&'a AggCall<C>>,
+    item: &'a Item<C>,
 ) -> Result<(), AllocError>
     ensures { OnOk result (call_forms calls.new.items
-        ≡ with_each (form_eq ◌==◌) (call_forms calls.old.items) (calls_in (item_form item.now))) }
+        ≡ with_each (form_eq C.eq) (call_forms calls.old.items) (calls_in (item_form item.now))) }
 {
     match item {
         Item::Column(_) => Ok(()),
@@ -34,12 +35,12 @@ fn push_item_call<'a>(
 
 /// Adds the calls of items to others, each unless it is there.
 #[tactic(auto, using(crate::proofs::FormLaws::with_each_append))]
-fn push_item_calls<'a>(
-    calls: &mut Vec<&'a AggCall<usize>>,
-    items: &'a [(Item<usize>, Option<String>)],
+fn push_item_calls<'a, C: PartialEq>(
+    calls: &mut Vec<&'a AggCall<C>>,
+    items: &'a [(Item<C>, Option<String>)],
 ) -> Result<(), AllocError>
     ensures { OnOk result (call_forms calls.new.items
-        ≡ with_each (form_eq ◌==◌) (call_forms calls.old.items)
+        ≡ with_each (form_eq C.eq) (call_forms calls.old.items)
         (flat_map (λ item. calls_in item.0) (places_of items.now))) }
 {
     match items {
@@ -104,6 +105,17 @@ fn push_copies(
     }
 }
 
+/// How many distinct calls the items and HAVING have.
+#[tactic(auto, using(crate::proofs::CountLaws::calls_counted))]
+pub(crate) fn count_calls(alloc: Global, raw: &RawQuery) -> Result<usize, AllocError>
+    ensures { IfOk result (λ n. n ≡ length (distinct_calls bytes_eq (written_of raw.now))) }
+{
+    let mut found = Vec::new(alloc);
+    push_item_calls(&mut found, &raw.items)?;
+    push_clause_calls(&mut found, &raw.having)?;
+    Ok(found.len())
+}
+
 /// The distinct calls of items and of HAVING, by the first of each.
 #[tactic(auto, using(crate::proofs::FormLaws::with_each_append))]
 pub(crate) fn calls_of(
@@ -125,12 +137,12 @@ pub(crate) fn calls_of(
 }
 
 /// Adds the calls of a clause, if there is one, to others, each unless it is there.
-fn push_clause_calls<'a>(
-    calls: &mut Vec<&'a AggCall<usize>>,
-    clause: &'a Option<Cond<usize>>,
+fn push_clause_calls<'a, C: PartialEq>(
+    calls: &mut Vec<&'a AggCall<C>>,
+    clause: &'a Option<Cond<C>>,
 ) -> Result<(), AllocError>
     ensures { OnOk result (call_forms calls.new.items
-        ≡ with_each (form_eq ◌==◌) (call_forms calls.old.items)
+        ≡ with_each (form_eq C.eq) (call_forms calls.old.items)
         (option_map_or calls_in (option_map form_of clause.now) [])) }
 {
     match clause {

@@ -1,6 +1,6 @@
 //! What conditions read: the columns of a row, or the keys and results of a group.
 
-ghost use Rattle.std.specs.Prelude.{◌≡◌, ◌==◌, ℕ, List, map, slice_index_or, option_map, position};
+ghost use Rattle.std.specs.Prelude.{◌≡◌, ℕ, List, map, slice_index_or, option_map};
 ghost use Rattle.grouping_model.specs.Datum.{Null};
 ghost use Rattle.grouping_model.specs.Aggregates.{Plain};
 ghost use Rattle.grouping_model.specs.Condition.{At, value_of, is_met, is_true};
@@ -8,13 +8,13 @@ ghost use Rattle.grouping_model.specs.Grouping.{column_of};
 ghost use Rattle.packed_rows.specs.View.{datum_of, row_of};
 ghost use Rattle.agg_protocol.specs.Results.{outcome_of};
 ghost use Rattle.having_filter.specs.Forms.{Column, form_of, call_form};
-ghost use Rattle.having_filter.specs.Sameness.{form_eq};
 ghost use Rattle.having_filter.specs.Truths.{truth_of};
-ghost use Rattle.having_filter.specs.Meaning.{condition_by, column_leaf, place_in, source_of_form};
+ghost use Rattle.having_filter.specs.Meaning.{condition_by, column_leaf};
 ghost use Rattle.having_filter.specs.Kept.{outcome_at};
+ghost use Rattle.having_filter.specs.Plans.{source_leaf};
 
 use crate::condition::{AggCall, Cond};
-use crate::same::is_same_call;
+use crate::plan::Source;
 use crate::truth::truth;
 use crate::value::{Leaves, value};
 use agg_protocol::ResultValue;
@@ -61,27 +61,27 @@ fn as_result(value: Value<'_>) -> ResultValue<'_>
     }
 }
 
-/// The keys and the results of a group, of the columns and calls at the same places.
+/// The keys and the results of a group.
 #[derive(Drop)]
 pub(crate) struct GroupLeaves<'a> {
-    pub(crate) columns: &'a [usize],
-    pub(crate) calls: &'a [AggCall<usize>],
     pub(crate) key: &'a [ResultValue<'a>],
     pub(crate) results: &'a [ResultValue<'a>],
 }
 
-impl<'a> Leaves<usize> for GroupLeaves<'a> {
-    ghost outcome = { λ leaves form. outcome_at (map outcome_of leaves.key.now)
-        (map outcome_of leaves.results.now)
-        (source_of_form leaves.columns.now (map call_form leaves.calls.now) form) };
+impl<'a> Leaves<Source> for GroupLeaves<'a> {
+    ghost outcome = { λ leaves form. value_of (outcome_at (map outcome_of leaves.key.now)
+        (map outcome_of leaves.results.now)) (source_leaf form) };
 
-    fn column(&self, column: &usize) -> ResultValue<'_> {
-        result_at(self.key, place_of_column(self.columns, *column))
+    fn column(&self, source: &Source) -> ResultValue<'_> {
+        match source {
+            Source::Key(place) => result_at(self.key, *place),
+            Source::Call(place) => result_at(self.results, *place),
+        }
     }
 
-    #[tactic(auto, using(crate::proofs::FormLaws::call_is_call))]
-    fn call(&self, call: &AggCall<usize>) -> ResultValue<'_> {
-        result_at(self.results, place_of_call(self.calls, call))
+    #[tactic(auto, using(crate::proofs::FormLaws::call_is_no_source))]
+    fn call(&self, _call: &AggCall<Source>) -> ResultValue<'_> {
+        ResultValue::Null
     }
 }
 
@@ -93,34 +93,6 @@ fn result_at<'a>(values: &'a [ResultValue<'a>], place: usize) -> ResultValue<'a>
         Some(value) => *value,
         None => ResultValue::Null,
     }
-}
-
-/// The place of a column among those of GROUP BY.
-fn place_of_column(columns: &[usize], column: usize) -> usize
-    ensures { result ≡ place_in ◌==◌ columns.now column }
-{
-    find_column(columns, column).unwrap_or(0)
-}
-
-fn find_column(columns: &[usize], column: usize) -> Option<usize>
-    ensures { result ≡ position (λ other. column == other) columns.now }
-{
-    columns.iter().position(|other| column == *other)
-}
-
-/// The place of a call among others.
-#[tactic(auto, using(crate::proofs::FormLaws::position_mapped))]
-fn place_of_call(calls: &[AggCall<usize>], call: &AggCall<usize>) -> usize
-    ensures { result ≡ place_in (form_eq ◌==◌) (map call_form calls.now) (call_form call.now) }
-{
-    find_call(calls, call).unwrap_or(0)
-}
-
-fn find_call(calls: &[AggCall<usize>], call: &AggCall<usize>) -> Option<usize>
-    ensures { result ≡
-        position (λ other. form_eq ◌==◌ (call_form call.now) (call_form other)) calls.now }
-{
-    calls.iter().position(|other| is_same_call(call, other))
 }
 
 /// Whether a truth value is true, and not false or unknown.

@@ -1,20 +1,28 @@
 //! Queries that were checked, and whether their conditions are true.
 #![tactic(auto)]
 
+mod answer;
 mod calls;
 mod checks;
 mod condition;
+mod copies;
 mod error;
 mod leaves;
+mod limits;
+mod parts;
 mod placing;
+mod plan;
 mod query;
 mod same;
+mod spelling;
 mod truth;
 mod value;
 mod whole;
 
+pub use answer::Answer;
 pub use condition::{AggCall, Comparison, Cond, IsTest, Item, RawQuery};
 pub use error::QueryError;
+pub use plan::Source;
 pub use query::Query;
 
 #[cfg(test)]

@@ -1,26 +1,35 @@
 //! Queries that were checked.
 
-ghost use Rattle.std.specs.Prelude.{◌≡◌, ◌≢◌, ◌==◌, List, map, option_map, IfOk, IfErr, Ok, Err, Some, slice_get};
-ghost use Rattle.grouping_model.specs.Datum.{Row};
+ghost use Rattle.std.specs.Prelude.{◌≡◌, ◌≢◌, ◌==◌, ◌<◌, ◌↔◌, true, OnOk, IsTrue, List, map, length, option_map, IfOk, IfErr, Ok, Err, Some, slice_get, string_bytes};
 ghost use Rattle.grouping_model.specs.Query.{Aggregate};
 ghost use Rattle.grouping_model.specs.Condition.{is_met};
 ghost use Rattle.grouping_model.specs.Grouping.{column_of};
-ghost use Rattle.packed_rows.specs.View.{row_of};
+ghost use Rattle.packed_rows.specs.Columns.{kinds};
+ghost use Rattle.packed_rows.specs.View.{row_of, kinds_of};
 ghost use Rattle.agg_protocol.specs.Results.{outcome_of};
+ghost use Rattle.agg_library.specs.Kinds.{function_of};
 ghost use Rattle.having_filter.specs.declared.error.QueryError.TheVariants.{NoMemory};
-ghost use Rattle.having_filter.specs.Forms.{form_of, call_form, places_of};
+ghost use Rattle.having_filter.specs.Forms.{form_of, call_form, places_of, written_of};
 ghost use Rattle.having_filter.specs.Meaning.{Checked, meaning, distinct_calls};
-ghost use Rattle.having_filter.specs.Checks.{checked_places};
-ghost use Rattle.having_filter.specs.Kept.{IsChecked, written_by, outcome_at};
+ghost use Rattle.having_filter.specs.Checks.{checked, checked_places, kinds_fit};
+ghost use Rattle.having_filter.specs.Spelling.{spelling};
+ghost use Rattle.having_filter.specs.Writable.{IsWritable};
+ghost use Rattle.having_filter.specs.Kept.{IsQuery, by_names, headers, key_kinds, outcome_at};
+ghost use Rattle.having_filter.specs.Plans.{source_of};
+ghost use Rattle.having_filter.specs.Parts.{written_of_parts};
 
-use crate::calls::calls_of;
-use crate::condition::{AggCall, Cond, Item};
+use crate::condition::{AggCall, Cond, Item, RawQuery};
+use crate::copies::{copied_clause, copied_items, copied_places, copied_texts};
 use crate::error::QueryError;
 use crate::leaves::{GroupLeaves, RowLeaves, is_met};
-use crate::whole::{are_plain, is_grouped, kinds_fit_in};
+use crate::limits::text_within;
+use crate::parts::{Parts, labels_of, placed_parts};
+use crate::plan::{Plan, Source};
+use crate::whole::{are_plain, is_grouped, is_shallow_query, kinds_fit_in};
+use agg_library::AggKind;
 use agg_protocol::ResultValue;
-use packed_rows::{Schema, Value};
-use std::alloc::Global;
+use packed_rows::{Schema, Value, ValueKind};
+use std::alloc::{AllocError, Global};
 use std::marker::Model;
 
 /// A query that passed all checks, over the columns of a schema by their places, the first being column 0.
@@ -32,14 +41,17 @@ pub struct Query {
     pub(crate) condition: Option<Cond<usize>>,
     pub(crate) keys: Vec<usize>,
     pub(crate) having: Option<Cond<usize>>,
-    pub(crate) calls: Vec<AggCall<usize>>,
+    pub(crate) canonical: String,
+    pub(crate) labels: Vec<String>,
+    pub(crate) plan: Plan,
 }
 
 impl Model for Query {
-    ghost use Rattle.std.specs.Prelude.{◌≡◌, ◌==◌, map};
-    ghost use Rattle.having_filter.specs.Forms.{call_form};
-    ghost use Rattle.having_filter.specs.Meaning.{Checked, distinct_calls};
-    ghost use Rattle.having_filter.specs.Kept.{IsChecked, written_by};
+    ghost use Rattle.std.specs.Prelude.{◌≡◌, map, string_bytes};
+    ghost use Rattle.having_filter.specs.Meaning.{Checked};
+    ghost use Rattle.having_filter.specs.Kept.{IsQuery, written_by, by_names, headers};
+    ghost use Rattle.having_filter.specs.Plans.{PlansFor};
+    ghost use Rattle.having_filter.specs.Spelling.{spelling};
     ghost use Rattle.having_filter.specs.Coding.{coded_checked};
 
     ghost Value = { Checked };
@@ -52,57 +64,101 @@ impl Model for Query {
     } };
 
     ghost invariant = { λ q.
-        IsChecked (record {
+        IsQuery (record {
           columns = q.schema;
           written = written_by q.items.items q.condition q.keys.items q.having;
         })
-        × (map call_form q.calls.items ≡ distinct_calls ◌==◌
-        (written_by q.items.items q.condition q.keys.items q.having)) };
+        × PlansFor (record {
+          columns = q.schema;
+          written = written_by q.items.items q.condition q.keys.items q.having;
+        }) q.plan
+        × (string_bytes q.canonical ≡ spelling (by_names (record {
+          columns = q.schema;
+          written = written_by q.items.items q.condition q.keys.items q.having;
+        })))
+        × (map string_bytes q.labels.items ≡ headers (record {
+          columns = q.schema;
+          written = written_by q.items.items q.condition q.keys.items q.having;
+        })) };
+}
+
+/// Whether the parts of a query pass the checks over places: the first that they fail is told.
+#[tactic(auto, unfolding(crate::specs::Checks::checked_places), using(crate::proofs::FormLaws::gives_mismatch, crate::proofs::FormLaws::gives_ungrouped, crate::proofs::FormLaws::gives_checked))]
+fn check_parts(schema: &Schema, parts: &Parts) -> Result<(), QueryError>
+    ensures passed { OnOk result (checked_places schema.now (written_of_parts parts.now)
+        ≡ Ok (record { columns = schema.now; written = written_of_parts parts.now })) }
+    ensures fit { OnOk result (kinds_fit (kinds schema.now) (written_of_parts parts.now) ≡ true) }
+    ensures refused { IfErr result (λ e.
+        checked_places schema.now (written_of_parts parts.now) ≡ Err e) }
+{
+    let Parts {
+        items,
+        condition,
+        keys,
+        having,
+    } = parts;
+    if !are_plain(items, condition, keys, having) {
+        return Err(QueryError::AggregateHere);
+    }
+    if !kinds_fit_in(schema, items, condition, keys, having) {
+        return Err(QueryError::TypeMismatch);
+    }
+    if !is_grouped(items, condition, keys, having) {
+        return Err(QueryError::NotGrouped);
+    }
+    Ok(())
 }
 
 impl Query {
-    /// The query over places that these parts say, if no aggregate stands in WHERE or a FILTER, all operands and arguments
-    /// have kinds that fit, and the columns outside calls are keys. The first of these that doesn't hold anywhere is told.
-    #[tactic(auto, unfolding(crate::specs::Checks::checked_places), using(crate::proofs::FormLaws::gives_mismatch, crate::proofs::FormLaws::gives_ungrouped, crate::proofs::FormLaws::gives_checked, crate::proofs::FormLaws::is_checked))]
-    pub fn of_places(
-        alloc: Global,
-        schema: Schema,
-        items: Vec<(Item<usize>, Option<String>)>,
-        condition: Option<Cond<usize>>,
-        keys: Vec<usize>,
-        having: Option<Cond<usize>>,
-    ) -> Result<Query, QueryError>
-        ensures checked { IfOk result (λ q. checked_places schema
-            (written_by items.items condition keys.items having) ≡ Ok q) }
-        ensures refused { IfErr result (λ e. e ≢ NoMemory → checked_places schema
-            (written_by items.items condition keys.items having) ≡ Err e) }
+    /// The query that a text says, over the columns of a schema. A repeated column of GROUP BY counts once, and an alias
+    /// that is the item's own name is as none.
+    ///
+    /// # Errors
+    ///
+    /// The first of these that is found anywhere in the query: `TooMany` for over 64 items, 16 distinct columns of GROUP
+    /// BY, 32 distinct aggregates among the items and in HAVING, or a canonical text of over 16,384 bytes; `TooDeep` for
+    /// a condition that is nested more than 64 deep; `NoSuchColumn`; `AggregateHere` for an aggregate in WHERE or in a
+    /// FILTER; `TypeMismatch` for an argument, an operand or a condition of the wrong kind; `NotGrouped` for a column
+    /// among the items or in HAVING that stands outside aggregates and isn't in GROUP BY.
+    pub fn check(alloc: Global, schema: &Schema, raw: &RawQuery) -> Result<Query, QueryError>
+        requires { IsWritable (written_of raw.now) }
+        ensures checked { IfOk result (λ q. checked schema.now (written_of raw.now) ≡ Ok q) }
+        ensures refused { IfErr result (λ e. e ≢ NoMemory →
+            checked schema.now (written_of raw.now) ≡ Err e) }
     {
-        let _width = schema.width();
-        if !are_plain(&items, &condition, &keys, &having) {
-            return Err(QueryError::AggregateHere);
+        let canonical = text_within(alloc, raw)?;
+        if !is_shallow_query(raw) {
+            return Err(QueryError::TooDeep);
         }
-        if !kinds_fit_in(&schema, &items, &condition, &keys, &having) {
-            return Err(QueryError::TypeMismatch);
-        }
-        if !is_grouped(&items, &condition, &keys, &having) {
-            return Err(QueryError::NotGrouped);
-        }
-        let calls = calls_of(alloc, &items, &having)?;
+        let parts = placed_parts(alloc, schema, raw)?;
+        check_parts(schema, &parts)?;
+        let plan = Plan::new(
+            alloc,
+            schema,
+            &parts.items,
+            &parts.condition,
+            &parts.keys,
+            &parts.having,
+        )?;
+        let labels = labels_of(alloc, &raw.items)?;
+        let schema = schema.try_clone()?;
         Ok(Query {
             alloc,
             schema,
-            items,
-            condition,
-            keys,
-            having,
-            calls,
+            items: parts.items,
+            condition: parts.condition,
+            keys: parts.keys,
+            having: parts.having,
+            canonical,
+            labels,
+            plan,
         })
     }
 
     /// The columns of the table.
     pub fn schema(&self) -> &Schema
         ensures columns { result.now ≡ self.now.columns }
-        ensures checked { IsChecked self.now }
+        ensures query { IsQuery self.now }
     {
         &self.schema
     }
@@ -123,9 +179,17 @@ impl Query {
 
     /// The columns of GROUP BY, each once.
     pub fn keys(&self) -> &[usize]
-        ensures { result.now ≡ self.now.written.keys }
+        ensures keys { result.now ≡ self.now.written.keys }
+        ensures query { IsQuery self.now }
     {
         &self.keys
+    }
+
+    /// The kinds of the columns of GROUP BY.
+    pub fn key_kinds(&self) -> &[ValueKind]
+        ensures { kinds_of result.now ≡ key_kinds (meaning self.now) }
+    {
+        &self.plan.key_kinds
     }
 
     /// HAVING, if there is one.
@@ -139,7 +203,46 @@ impl Query {
     pub fn aggregates(&self) -> &[AggCall<usize>]
         ensures { map call_form result.now ≡ distinct_calls ◌==◌ self.now.written }
     {
-        &self.calls
+        &self.plan.calls
+    }
+
+    /// The functions of the aggregates.
+    pub fn agg_kinds(&self) -> &[AggKind]
+        ensures { map function_of result.now ≡ map (λ a. a.function) (meaning self.now).aggregates }
+    {
+        &self.plan.kinds
+    }
+
+    /// The column that an aggregate takes its values from, the first aggregate being 0. `count(*)` has none.
+    pub fn column(&self, aggregate: usize) -> Option<usize>
+        requires { aggregate < length (meaning self.now).aggregates }
+        ensures { option_map (λ a. a.column) (slice_get (meaning self.now).aggregates aggregate)
+            ≡ Some result }
+    {
+        self.plan.calls[aggregate].column
+    }
+
+    /// Where the values of the items are found in a group.
+    pub fn sources(&self) -> &[Source]
+        ensures { map source_of result.now ≡ (meaning self.now).items }
+    {
+        &self.plan.items
+    }
+
+    /// The name of a column of the answer, the first being 0: the item's alias, or else the name of its column or
+    /// function (PostgreSQL 17, 7.3.2).
+    pub fn header(&self, item: usize) -> &str
+        requires { item < length self.now.written.items }
+        ensures { slice_get (headers self.now) item ≡ Some result.now }
+    {
+        self.labels[item].as_str()
+    }
+
+    /// The query's canonical text, by the names of its schema. It is at most 16,384 bytes long.
+    pub fn spelling(&self) -> &str
+        ensures { result.now ≡ spelling (by_names self.now) }
+    {
+        self.canonical.as_str()
     }
 
     /// Whether WHERE is true of a row, and not false or unknown. Where there is none, it is.
@@ -150,20 +253,59 @@ impl Query {
         is_met(&self.condition, &RowLeaves { row })
     }
 
+    /// Whether the FILTER of an aggregate is true of a row, and not false or unknown, the first aggregate being 0. Where
+    /// there is none, it is.
+    pub fn filter_true(&self, aggregate: usize, row: &[Value<'_>]) -> bool
+        requires { aggregate < length (meaning self.now).aggregates }
+        ensures { option_map (λ a. is_met (column_of (row_of row.now)) a.filter)
+            (slice_get (meaning self.now).aggregates aggregate) ≡ Some result }
+    {
+        is_met(&self.plan.calls[aggregate].filter, &RowLeaves { row })
+    }
+
     /// Whether HAVING is true of a group, and not false or unknown, given the values of the columns of GROUP BY and the
     /// results of the aggregates. Where there is none, it is.
-    #[tactic(auto, using(crate::proofs::FormLaws::met_in_steps))]
     pub fn having_true(&self, key: &[ResultValue<'_>], results: &[ResultValue<'_>]) -> bool
         ensures { result ≡
             is_met (outcome_at (map outcome_of key.now) (map outcome_of results.now))
             (meaning self.now).having }
     {
-        let leaves = GroupLeaves {
-            columns: &self.keys,
-            calls: &self.calls,
-            key,
-            results,
-        };
-        is_met(&self.having, &leaves)
+        is_met(&self.plan.having, &GroupLeaves { key, results })
+    }
+
+    /// The same query again. The only error is a failed allocation.
+    pub fn try_clone(&self) -> Result<Query, AllocError>
+        ensures { IfOk result (λ query. query ≡ self.now) }
+    {
+        match self.copied() {
+            Ok(query) => Ok(query),
+            // Only memory can be wanting.
+            Err(_) => Err(AllocError),
+        }
+    }
+
+    /// The same query again.
+    fn copied(&self) -> Result<Query, QueryError>
+        ensures { IfOk result (λ query. query ≡ self.now) }
+    {
+        let schema = self.schema.try_clone()?;
+        let items = copied_items(self.alloc, &self.items)?;
+        let condition = copied_clause(self.alloc, &self.condition)?;
+        let keys = copied_places(self.alloc, &self.keys)?;
+        let having = copied_clause(self.alloc, &self.having)?;
+        let canonical = String::from_str(self.alloc, self.canonical.as_str())?;
+        let labels = copied_texts(self.alloc, &self.labels)?;
+        let plan = Plan::new(self.alloc, &schema, &items, &condition, &keys, &having)?;
+        Ok(Query {
+            alloc: self.alloc,
+            schema,
+            items,
+            condition,
+            keys,
+            having,
+            canonical,
+            labels,
+            plan,
+        })
     }
 }

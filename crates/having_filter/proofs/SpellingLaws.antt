@@ -1,0 +1,14 @@
+-- The canonical text piece by piece.
+use Rattle.std.proofs.Common.{◌≡◌, ℕ, List, ◌++◌, Option, option_map, codes, string_bytes, String, Global, ap, ◌∙◌, append_assoc}
+use Rattle.grouping_model.specs.Aggregates.{Function}
+use Rattle.having_filter.specs.declared.condition.Cond.{Cond}
+use Rattle.having_filter.specs.Forms.{Call_where, form_of, names_of}
+use Rattle.having_filter.specs.Spelling.{call_text, spelled}
+
+regroup : (t a b c d : List ℕ) → (((t ++ a) ++ b) ++ c) ++ d ≡ t ++ (((a ++ b) ++ c) ++ d)
+regroup t a b c d = ap (λ x. x ++ d) (ap (λ x. x ++ c) (append_assoc t a b) ∙ append_assoc t (a ++ b) c) ∙ append_assoc t ((a ++ b) ++ c) d
+
+-- a call with a FILTER
+pub filtered_call : (text : List ℕ) (function : Function) (column : Option (String Global)) (filter : Cond (String Global))
+    → (((text ++ call_text function (option_map string_bytes column)) ++ codes " FILTER (WHERE ") ++ spelled (names_of (form_of filter))) ++ codes ")" ≡ text ++ spelled (names_of (Call_where function column (form_of filter)))
+filtered_call text function column filter = regroup text (call_text function (option_map string_bytes column)) (codes " FILTER (WHERE ") (spelled (names_of (form_of filter))) (codes ")")

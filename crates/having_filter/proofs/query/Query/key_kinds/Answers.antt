@@ -1,0 +1,8 @@
+use Rattle.std.proofs.Common.{ap, ◌∙◌}
+use Rattle.packed_rows.specs.View.{kinds_of}
+use Rattle.having_filter.specs.Meaning.{Checked, meaning}
+use Rattle.having_filter.specs.Kept.{key_kinds}
+use Rattle.having_filter.proofs.query.Query.key_kinds.Goals as goal
+
+pub returns : goal.returns
+returns c = ap kinds_of c.deref.ensures.value ∙ c.self.invariant.1.key_kinds ∙ ap (λ (q : Checked). key_kinds (meaning q)) c.self.view_is

@@ -1,0 +1,35 @@
+-- What is worked out of a query once, for its evaluation. All of this is our own.
+use Rattle.std.specs.Prelude.{◌≡◌, ◌==◌, map, option_map}
+use Rattle.grouping_model.specs.Datum.{Null}
+use Rattle.grouping_model.specs.Condition as model
+use Rattle.grouping_model.specs.Query as query
+use Rattle.agg_library.specs.Kinds.{function_of}
+use Rattle.packed_rows.specs.View.{kinds_of}
+use Rattle.having_filter.specs.declared.condition.Cond.{Cond}
+use Rattle.having_filter.specs.declared.plan.Source.{Source}
+use Rattle.having_filter.specs.declared.plan.Source.TheVariants as source
+use Rattle.having_filter.specs.declared.plan.Plan.{Plan}
+use Rattle.having_filter.specs.Forms.{Form, Column, form_of, call_form}
+use Rattle.having_filter.specs.Meaning.{Checked, meaning, condition_by, distinct_calls}
+use Rattle.having_filter.specs.Kept.{key_kinds}
+
+-- a key or an aggregate by its place
+abbrev pub source_of : Source → query.Source
+source_of (source.Key place) = query.Key place
+source_of (source.Call place) = query.Call place
+
+-- what HAVING reads once its columns and calls are found among the keys and aggregates. No calls are left in it
+abbrev pub source_leaf : Form Source → model.Condition query.Source
+source_leaf (Column s) = model.At (source_of s)
+source_leaf other = model.Literal Null
+
+abbrev pub by_sources : Cond Source → model.Condition query.Source
+by_sources c = condition_by source_leaf (form_of c)
+
+-- a plan is that of a query
+pub record PlansFor (q : Checked) (plan : Plan) : Type 0 where
+  pub calls : map call_form plan.calls.items ≡ distinct_calls ◌==◌ q.written
+  pub kinds : map function_of plan.kinds.items ≡ map (λ a. a.function) (meaning q).aggregates
+  pub key_kinds : kinds_of plan.key_kinds.items ≡ key_kinds (meaning q)
+  pub items : map source_of plan.items.items ≡ (meaning q).items
+  pub having : option_map by_sources plan.having ≡ (meaning q).having

@@ -1,0 +1,58 @@
+-- What a query's text can say, beyond the shape of its parts.
+use Rattle.std.specs.Prelude.{ℕ, ◌≢◌, List, [], Option, Some, None, Contains, FitsSigned}
+use Rattle.std.specs.Int.{w64}
+use Rattle.std.specs.List.{AllByRecursion}
+use Rattle.std.specs.Option.{ForSome}
+use Rattle.grouping_model.specs.Datum as datum
+use Rattle.grouping_model.specs.Datum.{Datum}
+use Rattle.grouping_model.specs.Aggregates.{Function, Count_rows}
+use Rattle.packed_rows.specs.Columns.{IsColumnName}
+use Rattle.having_filter.specs.Forms.{Form, Column, Call, Call_where, Literal, Not, And, Or, Compare, Is, Is_not, Written}
+
+-- count(*) alone has no column, which passes a test where there is one (PostgreSQL 17, 4.2.7 Aggregate Expressions)
+abbrev pub IsArgument : {C : Type 0} → (C → Type 0) → Function → Option C → Type 0
+IsArgument IsColumn Count_rows None = Unit {0}
+IsArgument IsColumn Count_rows (Some c) = ⊥
+IsArgument IsColumn function None = ⊥
+IsArgument IsColumn function (Some c) = IsColumn c
+
+-- a literal: a number has 64 bits in two's complement, and a text no character 0 (PostgreSQL 17, 8.1.1 and 8.3)
+abbrev pub IsLiteral : Datum → Type 0
+IsLiteral (datum.Bigint z) = FitsSigned w64 z
+IsLiteral (datum.Text text) = ¬ (Contains text 0)
+IsLiteral value = Unit {0}
+
+-- a condition that a text can say, its columns being such as pass a test
+abbrev pub IsForm : {C : Type 0} → (C → Type 0) → Form C → Type 0
+IsForm IsColumn (Column c) = IsColumn c
+IsForm IsColumn (Call function column) = IsArgument IsColumn function column
+IsForm IsColumn (Call_where function column filter) = IsArgument IsColumn function column × IsForm IsColumn filter
+IsForm IsColumn (Literal value) = IsLiteral value
+IsForm IsColumn (Not c) = IsForm IsColumn c
+IsForm IsColumn (And c d) = IsForm IsColumn c × IsForm IsColumn d
+IsForm IsColumn (Or c d) = IsForm IsColumn c × IsForm IsColumn d
+IsForm IsColumn (Compare comparison c d) = IsForm IsColumn c × IsForm IsColumn d
+IsForm IsColumn (Is test c) = IsForm IsColumn c
+IsForm IsColumn (Is_not test c) = IsForm IsColumn c
+
+-- an item is a column or a call (own)
+abbrev pub IsColumnOrCall : {C : Type 0} → Form C → Type 0
+IsColumnOrCall (Column c) = Unit {0}
+IsColumnOrCall (Call function column) = Unit {0}
+IsColumnOrCall (Call_where function column filter) = Unit {0}
+IsColumnOrCall other = ⊥
+
+-- an item and its alias, if it has one
+pub record IsItem (item : Form (List ℕ) × Option (List ℕ)) : Type 0 where
+  pub value : IsColumnOrCall item.0
+  pub form : IsForm IsColumnName item.0
+  pub alias : ForSome item.1 IsColumnName
+
+-- a query that a text can say, once it is read: some items, and each column and alias has a name that a column can have
+-- (PostgreSQL 17, SELECT, 4.1.1 Identifiers and Key Words)
+pub record IsWritable (q : Written (List ℕ)) : Type 0 where
+  pub some : q.items ≢ []
+  pub items : AllByRecursion IsItem q.items
+  pub condition : ForSome q.condition (IsForm IsColumnName)
+  pub keys : AllByRecursion IsColumnName q.keys
+  pub having : ForSome q.having (IsForm IsColumnName)

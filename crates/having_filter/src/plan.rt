@@ -1,0 +1,240 @@
+//! What is worked out of a query once, so that its evaluation looks nothing up.
+
+ghost use Rattle.std.specs.Prelude.{◌≡◌, ◌==◌, ◌++◌, map, option_map, position, slice_index_or, IfOk, OnOk, IfErr};
+ghost use Rattle.grouping_model.specs.Datum.{Bigint_kind};
+ghost use Rattle.packed_rows.specs.Columns.{kinds};
+ghost use Rattle.packed_rows.specs.View.{kind_of, kinds_of};
+ghost use Rattle.agg_library.specs.Kinds.{function_of};
+ghost use Rattle.having_filter.specs.declared.error.QueryError.TheVariants.{NoMemory};
+ghost use Rattle.having_filter.specs.Forms.{call_form, form_of, item_form, places_of};
+ghost use Rattle.having_filter.specs.Sameness.{form_eq};
+ghost use Rattle.having_filter.specs.Meaning.{place_in, aggregate_of, source_of_form, group_condition};
+ghost use Rattle.having_filter.specs.Kept.{written_by};
+ghost use Rattle.having_filter.specs.Plans.{PlansFor, source_of, by_sources};
+
+use crate::calls::calls_of;
+use crate::condition::{AggCall, Cond, Item};
+use crate::error::QueryError;
+use crate::parts::Parts;
+use crate::same::is_same_call;
+use agg_library::AggKind;
+use packed_rows::{Schema, ValueKind};
+use std::alloc::{AllocError, Global};
+
+/// Where a value of a group is found: its keys or the results of its aggregates, the first of either being 0.
+#[derive(Clone, Copy, Debug, PartialEq, Eq)]
+pub enum Source {
+    /// A column of GROUP BY, by its place there.
+    Key(usize),
+    /// An aggregate, by its place among the query's aggregates.
+    Call(usize),
+}
+
+/// What evaluation needs of a query.
+#[derive(Drop)]
+pub(crate) struct Plan {
+    /// The distinct calls of the items and of HAVING, by the first of each.
+    pub(crate) calls: Vec<AggCall<usize>>,
+    /// The functions of these calls.
+    pub(crate) kinds: Vec<AggKind>,
+    /// The kinds of the columns of GROUP BY.
+    pub(crate) key_kinds: Vec<ValueKind>,
+    /// Where the items are found.
+    pub(crate) items: Vec<Source>,
+    /// HAVING, if there is one. No calls are left in it.
+    pub(crate) having: Option<Cond<Source>>,
+}
+
+/// The place of a column among those of GROUP BY.
+fn place_of_column(columns: &[usize], column: usize) -> usize
+    ensures { result ≡ place_in ◌==◌ columns.now column }
+{
+    find_column(columns, column).unwrap_or(0)
+}
+
+fn find_column(columns: &[usize], column: usize) -> Option<usize>
+    ensures { result ≡ position (λ other. column == other) columns.now }
+{
+    columns.iter().position(|other| column == *other)
+}
+
+/// The place of a call among others.
+#[tactic(auto, using(crate::proofs::FormLaws::position_mapped))]
+fn place_of_call(calls: &[AggCall<usize>], call: &AggCall<usize>) -> usize
+    ensures { result ≡ place_in (form_eq ◌==◌) (map call_form calls.now) (call_form call.now) }
+{
+    find_call(calls, call).unwrap_or(0)
+}
+
+fn find_call(calls: &[AggCall<usize>], call: &AggCall<usize>) -> Option<usize>
+    ensures { result ≡
+        position (λ other. form_eq ◌==◌ (call_form call.now) (call_form other)) calls.now }
+{
+    calls.iter().position(|other| is_same_call(call, other))
+}
+
+/// The functions of calls.
+fn kinds_of_calls(alloc: Global, calls: &[AggCall<usize>]) -> Result<Vec<AggKind>, AllocError>
+    ensures { IfOk result (λ functions. map function_of functions.items
+        ≡ map (λ call. function_of call.kind) calls.now) }
+{
+    let mut functions = Vec::with_capacity(alloc, calls.len())?;
+    for call in calls {
+        functions.push(call.kind)?;
+    }
+    Ok(functions)
+}
+
+/// The kind of a column, which is there.
+fn kind_at(kinds: &[ValueKind], place: usize) -> ValueKind
+    ensures { kind_of result ≡ slice_index_or (kinds_of kinds.now) place Bigint_kind }
+{
+    match kinds.get(place) {
+        Some(kind) => *kind,
+        None => ValueKind::Bigint,
+    }
+}
+
+/// The kinds of columns.
+fn kinds_at(
+    alloc: Global,
+    kinds: &[ValueKind],
+    places: &[usize],
+) -> Result<Vec<ValueKind>, AllocError>
+    ensures { IfOk result (λ found. kinds_of found.items
+        ≡ map (λ at. slice_index_or (kinds_of kinds.now) at Bigint_kind) places.now) }
+{
+    let mut found = Vec::with_capacity(alloc, places.len())?;
+    for place in places {
+        found.push(kind_at(kinds, *place))?;
+    }
+    Ok(found)
+}
+
+/// Where an item is found.
+fn source_of_item(keys: &[usize], calls: &[AggCall<usize>], item: &Item<usize>) -> Source
+    ensures { source_of result ≡
+        source_of_form keys.now (map call_form calls.now) (item_form item.now) }
+{
+    match item {
+        Item::Column(place) => Source::Key(place_of_column(keys, *place)),
+        Item::Call(call) => Source::Call(place_of_call(calls, call)),
+    }
+}
+
+/// Where items are found.
+fn sources_of_items(
+    alloc: Global,
+    keys: &[usize],
+    calls: &[AggCall<usize>],
+    items: &[(Item<usize>, Option<String>)],
+) -> Result<Vec<Source>, AllocError>
+    ensures { IfOk result (λ found. map source_of found.items
+        ≡ map (λ item. source_of_form keys.now (map call_form calls.now) (item_form item.0)) items.now) }
+{
+    let mut found = Vec::with_capacity(alloc, items.len())?;
+    for item in items {
+        found.push(source_of_item(keys, calls, &item.0))?;
+    }
+    Ok(found)
+}
+
+/// A condition that reads its columns and calls where they are found.
+fn with_sources(
+    alloc: Global,
+    keys: &[usize],
+    calls: &[AggCall<usize>],
+    condition: &Cond<usize>,
+) -> Result<Cond<Source>, QueryError>
+    ensures found { IfOk result (λ c.
+        by_sources c ≡ group_condition keys.now (map call_form calls.now) (form_of condition.now)) }
+    ensures refused { IfErr result (λ e. e ≡ NoMemory) }
+{
+    match condition {
+        Cond::Column(place) => Ok(Cond::Column(Source::Key(place_of_column(keys, *place)))),
+        Cond::Call(call) => Ok(Cond::Column(Source::Call(place_of_call(calls, call)))),
+        Cond::Bigint(number) => Ok(Cond::Bigint(*number)),
+        Cond::Text(text) => Ok(Cond::Text(String::from_str(alloc, text.as_str())?)),
+        Cond::Boolean(truth) => Ok(Cond::Boolean(*truth)),
+        Cond::Null => Ok(Cond::Null),
+        Cond::Not(c) => {
+            let c = with_sources(alloc, keys, calls, c)?;
+            Ok(Cond::Not(Box::new(alloc, c)?))
+        }
+        Cond::Or(c, d) => {
+            let c = with_sources(alloc, keys, calls, c)?;
+            let d = with_sources(alloc, keys, calls, d)?;
+            Ok(Cond::Or(Box::new(alloc, c)?, Box::new(alloc, d)?))
+        }
+        Cond::And(c, d) => {
+            let c = with_sources(alloc, keys, calls, c)?;
+            let d = with_sources(alloc, keys, calls, d)?;
+            Ok(Cond::And(Box::new(alloc, c)?, Box::new(alloc, d)?))
+        }
+        Cond::Compare(comparison, c, d) => {
+            let c = with_sources(alloc, keys, calls, c)?;
+            let d = with_sources(alloc, keys, calls, d)?;
+            Ok(Cond::Compare(*comparison, Box::new(alloc, c)?, Box::new(alloc, d)?))
+        }
+        Cond::Is {
+            test,
+            negated,
+            operand,
+        } => {
+            let operand = with_sources(alloc, keys, calls, operand)?;
+            Ok(Cond::Is {
+                test: *test,
+                negated: *negated,
+                operand: Box::new(alloc, operand)?,
+            })
+        }
+    }
+}
+
+/// HAVING that reads its columns and calls where they are found, if there is one.
+fn having_with_sources(
+    alloc: Global,
+    keys: &[usize],
+    calls: &[AggCall<usize>],
+    having: &Option<Cond<usize>>,
+) -> Result<Option<Cond<Source>>, QueryError>
+    ensures found { IfOk result (λ c. option_map by_sources c
+        ≡ option_map (group_condition keys.now (map call_form calls.now)) (option_map form_of having.now)) }
+    ensures refused { IfErr result (λ e. e ≡ NoMemory) }
+{
+    match having {
+        Some(condition) => Ok(Some(with_sources(alloc, keys, calls, condition)?)),
+        None => Ok(None),
+    }
+}
+
+impl Plan {
+    /// What evaluation needs of a query over places.
+    pub(crate) fn new(
+        alloc: Global,
+        schema: &Schema,
+        items: &[(Item<usize>, Option<String>)],
+        condition: &Option<Cond<usize>>,
+        keys: &[usize],
+        having: &Option<Cond<usize>>,
+    ) -> Result<Plan, QueryError>
+        ensures plans { IfOk result (PlansFor (record {
+            columns = schema.now;
+            written = written_by items.now condition.now keys.now having.now;
+        })) }
+        ensures refused { IfErr result (λ e. e ≡ NoMemory) }
+    {
+        let calls = calls_of(alloc, items, having)?;
+        let kinds = kinds_of_calls(alloc, &calls)?;
+        let key_kinds = kinds_at(alloc, schema.kinds(), keys)?;
+        let sources = sources_of_items(alloc, keys, &calls, items)?;
+        let having = having_with_sources(alloc, keys, &calls, having)?;
+        Ok(Plan {
+            calls,
+            kinds,
+            key_kinds,
+            items: sources,
+            having,
+        })
+    }
+}
