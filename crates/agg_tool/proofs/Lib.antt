@@ -4,3 +4,4 @@ pub mod StoreLaws
 pub mod TextLaws
 pub mod RunLaws
 pub mod ReplyLaws
+pub mod QueryLaws

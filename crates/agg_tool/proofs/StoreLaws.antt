@@ -4,9 +4,9 @@ use Rattle.std.proofs.Common.{◌∙◌, ap, sym, subst, inl, inr}
 use Rattle.std.specs.declared.alloc.Global.{Global}
 use Rattle.std.specs.declared.vec.Vec.{Vec}
 use Rattle.std.specs.Borrow.{Bor}
-use Rattle.std.specs.Option.{is_some, option_map_or}
+use Rattle.std.specs.Option.{is_some}
 use Rattle.std.specs.declared.string.String.{String}
-use Rattle.std.specs.Prelude.{codes}
+use Rattle.std.specs.Prelude.{codes, Ok}
 use Rattle.std.specs.Map.{lookup, KeepsOthers}
 use Rattle.std.specs.Str.{bytes_eq}
 use Rattle.std.specs.HashMap.{HashMap, UpdatesBy}
@@ -15,8 +15,10 @@ use Rattle.std.proofs.lemmas.Bool.{true≢false, false_from_ne_true}
 use Rattle.grouping_model.specs.World.{World, IsWorld, nothing, learn}
 use Rattle.grouping_model.specs.Answer.{answer}
 use Rattle.packed_rows.specs.Columns.{Column, kinds, IsSchemaText}
-use Rattle.first_query.specs.Chosen.{Chosen, canonical, headers, meaning}
-use Rattle.first_query.specs.Text.{query_of}
+use Rattle.having_filter.specs.Meaning.{Checked, meaning}
+use Rattle.having_filter.specs.Spelling.{spelling}
+use Rattle.having_filter.specs.Kept.{by_names, headers}
+use Rattle.group_parser.specs.Parsing.{parsing}
 use Rattle.replica_merge.specs.Kept.{Held, told, known_list, Fits}
 use Rattle.replica_merge.specs.declared.delivered.Delivered.{Delivered}
 use Rattle.replica_merge.proofs.KeptLaws.{fits_nothing, fits_more}
@@ -25,7 +27,7 @@ use Rattle.script_commands.specs.Commands as ask
 use Rattle.script_commands.specs.Commands.{Request}
 use Rattle.table_print.specs.Table.{table_text}
 use Rattle.agg_tool.specs.Machine as machine
-use Rattle.agg_tool.specs.Machine.{State, Fed, IsBatch, IsNoBatch, ColumnsReply, query_reply, replica_reply, FeedReply, known_reply, answer_reply, Replies, AgreesWith, after, with_replica}
+use Rattle.agg_tool.specs.Machine.{State, Fed, IsBatch, IsNoBatch, ColumnsReply, read_reply, query_reply, replica_reply, FeedReply, known_reply, answer_reply, Replies, AgreesWith, after, with_replica}
 use Rattle.agg_tool.specs.Text.{line, known_text, answer_text}
 use Rattle.agg_tool.specs.Views.{Store, IsStore, Represents, FitsWorld, Steps, Takes, Updates, replica_at, knowledge_of, said_text}
 use Rattle.agg_tool.specs.declared.refusal.Refusal.{Refusal}
@@ -52,7 +54,7 @@ others_kept name other old new keeps different =
     keeps (λ (key : Vec ℕ Global). bytes_eq other key.items) (λ x y. alike other x.items y.items) (λ key. apart name other key.items different)
 
 -- a map that was updated at a name is a store that was
-pub updated : {S : Type 0} (columns : Option (List Column)) (query : Option Chosen) (name : List ℕ) (held : Held) (old new : HashMap (Vec ℕ Global) Held S)
+pub updated : {S : Type 0} (columns : Option (List Column)) (query : Option Checked) (name : List ℕ) (held : Held) (old new : HashMap (Vec ℕ Global) Held S)
     → UpdatesBy (λ (x y : Vec ℕ Global). bytes_eq x.items y.items) (λ (key : Vec ℕ Global). bytes_eq name key.items) old new (Some held)
     → Updates (record { columns = columns; query = query; replicas = old.entries }) (record { columns = columns; query = query; replicas = new.entries }) name held
 updated columns query name held old new u =
@@ -71,8 +73,8 @@ each_replica P old new name held u p all other = go (bytes_eq name other) refl
 pub store_updated : (old new : Store) (name : List ℕ) (held : Held) → Updates old new name held → old.query ≡ Some held.query → IsStore old → IsStore new
 store_updated old new name held u asks is =
     record {
-      over = subst (λ q. IfSome q (λ (query : Chosen). new.columns ≡ Some query.columns)) (sym u.query)
-          (subst (λ cs. IfSome old.query (λ (query : Chosen). cs ≡ Some query.columns)) (sym u.columns) is.over);
+      over = subst (λ q. IfSome q (λ (query : Checked). new.columns ≡ Some query.columns)) (sym u.query)
+          (subst (λ cs. IfSome old.query (λ (query : Checked). cs ≡ Some query.columns)) (sym u.columns) is.over);
       asked =
           subst (λ q. (other : List ℕ) → IfSome (replica_at new other) (λ (h : Held). q ≡ Some h.query)) (sym u.query)
           (each_replica (λ h. old.query ≡ Some h.query) old new name held u asks is.asked);
@@ -115,7 +117,7 @@ same_updated old new name held u there = record { columns = u.columns; query = u
     go other false e = u.others other e
 
 -- a map that is as it was
-pub same_entries : (columns : Option (List Column)) (query : Option Chosen) (old new : List (Vec ℕ Global × Held)) → new ≡ old
+pub same_entries : (columns : Option (List Column)) (query : Option Checked) (old new : List (Vec ℕ Global × Held)) → new ≡ old
     → Same (record { columns = columns; query = query; replicas = old }) (record { columns = columns; query = query; replicas = new })
 same_entries columns query old new e =
     record { columns = refl; query = refl; replicas = λ name. ap (λ es. lookup (λ (key : Vec ℕ Global). bytes_eq name key.items) es) e }
@@ -163,7 +165,14 @@ memory_or why.NoMemory = inl refl
 memory_or why.BadSchema = inr (λ e. cc)
 memory_or (why.BadField column) = inr (λ e. cc)
 memory_or why.WrongWidth = inr (λ e. cc)
-memory_or why.Unsupported = inr (λ e. cc)
+memory_or (why.Syntax at) = inr (λ e. cc)
+memory_or why.NumberTooLarge = inr (λ e. cc)
+memory_or why.NoSuchColumn = inr (λ e. cc)
+memory_or why.NotGrouped = inr (λ e. cc)
+memory_or why.TypeMismatch = inr (λ e. cc)
+memory_or why.AggregateHere = inr (λ e. cc)
+memory_or why.TooMany = inr (λ e. cc)
+memory_or why.TooDeep = inr (λ e. cc)
 memory_or why.BadBatchHead = inr (λ e. cc)
 memory_or why.TooManyRows = inr (λ e. cc)
 memory_or why.RowCount = inr (λ e. cc)
@@ -229,7 +238,7 @@ query_there store text owned columns told there =
     refused (ask.Query text) owned store why.BadCommand
     (λ state r. sym (ap (λ cs. query_reply cs state.query text) (r.columns ∙ told) ∙ ap (λ q. query_reply (Some columns) q text) r.query ∙ go store.query there))
   where
-    go : (q : Option Chosen) → is_some q ≡ true → query_reply (Some columns) q text ≡ machine.Refused why.BadCommand
+    go : (q : Option Checked) → is_some q ≡ true → query_reply (Some columns) q text ≡ machine.Refused why.BadCommand
     go (Some q) e = refl
     go None e = absurd (true≢false (sym e))
 
@@ -240,21 +249,19 @@ query_says state store text columns r told none =
     ap (λ cs. query_reply cs state.query text) (r.columns ∙ told) ∙ ap (λ q. query_reply (Some columns) q text) (r.query ∙ none_there store.query none)
 
 pub query_refused : (store : Store) (text : List ℕ) (owned : List Record) (columns : List Column) (refusal : Refusal) → store.columns ≡ Some columns → is_some store.query ≡ false
-    → (refusal ≢ why.NoMemory → (refusal ≡ why.Unsupported) × (query_of columns text ≡ None)) → Steps (ask.Query text) owned store (says.Refused refusal) store
+    → (refusal ≢ why.NoMemory → read_reply (parsing columns text) ≡ machine.Refused refusal) → Steps (ask.Query text) owned store (says.Refused refusal) store
 query_refused store text owned columns refusal told none bad =
     refused_or_memory (ask.Query text) owned store store refusal (same store)
-    (λ other state r.
-    ap machine.Refused (bad other).0
-    ∙ sym (query_says state store text columns r told none ∙ ap (λ q. option_map_or machine.Has_query q (machine.Refused why.Unsupported)) (bad other).1))
+    (λ other state r. sym (query_says state store text columns r told none ∙ bad other))
 
-pub query_told : (store : Store) (text : List ℕ) (owned : List Record) (columns : List Column) (query : Chosen) (shown : String Global)
-    → store.columns ≡ Some columns → is_some store.query ≡ false → query_of columns text ≡ Some query → string_bytes shown ≡ canonical query
+pub query_told : (store : Store) (text : List ℕ) (owned : List Record) (columns : List Column) (query : Checked) (shown : String Global)
+    → store.columns ≡ Some columns → is_some store.query ≡ false → parsing columns text ≡ Ok query → string_bytes shown ≡ spelling (by_names query)
     → Steps (ask.Query text) owned store (says.Query shown) (record store { query = Some query })
 query_told store text owned columns query shown told none is spelled =
     record {
       steps = λ state r. record {
         said = machine.Has_query query;
-        may = inr (sym (query_says state store text columns r told none ∙ ap (λ q. option_map_or machine.Has_query q (machine.Refused why.Unsupported)) is));
+        may = inr (sym (query_says state store text columns r told none ∙ ap read_reply is));
         represents = record { columns = r.columns; query = refl; replicas = r.replicas };
         refused = refl;
         fits = λ world f agrees. record { of_columns = f.of_columns; fit = f.fit };
@@ -263,7 +270,7 @@ query_told store text owned columns query shown told none is spelled =
     }
 
 -- a store with its first query: no replica is there yet
-pub store_asked : (store : Store) (columns : List Column) (query : Chosen) → IsStore store → store.columns ≡ Some columns → is_some store.query ≡ false
+pub store_asked : (store : Store) (columns : List Column) (query : Checked) → IsStore store → store.columns ≡ Some columns → is_some store.query ≡ false
     → query.columns ≡ columns → IsStore (record store { query = Some query })
 store_asked store columns query is told none over =
     record {
@@ -271,7 +278,7 @@ store_asked store columns query is told none over =
       asked = λ name. go (replica_at store name) (subst (λ q. IfSome (replica_at store name) (λ (held : Held). q ≡ Some held.query)) (none_there store.query none) (is.asked name));
     }
   where
-    go : (o : Option Held) → IfSome o (λ (held : Held). (◌≡◌ {A = Option Chosen} None (Some held.query))) → IfSome o (λ (held : Held). (◌≡◌ {A = Option Chosen} (Some query) (Some held.query)))
+    go : (o : Option Held) → IfSome o (λ (held : Held). (◌≡◌ {A = Option Checked} None (Some held.query))) → IfSome o (λ (held : Held). (◌≡◌ {A = Option Checked} (Some query) (Some held.query)))
     go None h = tt
     go (Some held) h = absurd cc
 
@@ -285,7 +292,7 @@ pub replica_too_early : (store : Store) (name : List ℕ) (owned : List Record) 
 replica_too_early store name owned none =
     refused (ask.Replica name) owned store why.BadCommand (λ state r. sym (ap (λ q. replica_reply q (state.replicas name) name) (r.query ∙ none)))
 
-pub name_taken : (store : Store) (name : List ℕ) (owned : List Record) (query : Chosen) → store.query ≡ Some query → is_some (replica_at store name) ≡ true
+pub name_taken : (store : Store) (name : List ℕ) (owned : List Record) (query : Checked) → store.query ≡ Some query → is_some (replica_at store name) ≡ true
     → Steps (ask.Replica name) owned store (says.Refused why.NameTaken) store
 name_taken store name owned query told there =
     let found = some_there (replica_at store name) there in
@@ -294,7 +301,7 @@ name_taken store name owned query told there =
     sym (ap (λ q. replica_reply q (state.replicas name) name) (r.query ∙ told)
     ∙ ap (λ known. replica_reply (Some query) known name) (r.replicas name ∙ ap (option_map knowledge_of) found.1)))
 
-pub replica_made : (old new : Store) (name : Bor (List ℕ)) (owned : List Record) (query : Chosen) → old.query ≡ Some query → is_some (replica_at old name.now) ≡ false
+pub replica_made : (old new : Store) (name : Bor (List ℕ)) (owned : List Record) (query : Checked) → old.query ≡ Some query → is_some (replica_at old name.now) ≡ false
     → Updates old new name.now (record { query = query; kept = [] }) → Steps (ask.Replica name.now) owned old (says.Created name) new
 replica_made old new name owned query told none u =
     record {
@@ -318,7 +325,7 @@ pub held_asks : (store : Store) (name : List ℕ) (held : Held) → IsStore stor
     → (store.query ≡ Some held.query) × (store.columns ≡ Some held.query.columns)
 held_asks store name held is there =
     let asks : store.query ≡ Some held.query = subst (λ o. IfSome o (λ (h : Held). store.query ≡ Some h.query)) there (is.asked name) in
-    (asks, subst (λ q. IfSome q (λ (query : Chosen). store.columns ≡ Some query.columns)) asks is.over)
+    (asks, subst (λ q. IfSome q (λ (query : Checked). store.columns ≡ Some query.columns)) asks is.over)
 
 known_there : (state : State) (store : Store) (name : List ℕ) (held : Held) → Represents state store → replica_at store name ≡ Some held
     → state.replicas name ≡ Some (knowledge_of held)
@@ -396,7 +403,7 @@ answer_nowhere store name owned none =
     refused (ask.Answer name) owned store why.NoSuchName
     (λ state r. sym (ap (λ known. answer_reply state.query known) (known_nowhere state store name r none) ∙ go state.query))
   where
-    go : (q : Option Chosen) → answer_reply q None ≡ machine.Refused why.NoSuchName
+    go : (q : Option Checked) → answer_reply q None ≡ machine.Refused why.NoSuchName
     go None = refl
     go (Some q) = refl
 

@@ -1,13 +1,14 @@
 -- The machine that a script runs: what is known under each name, and how each command is answered. All of this is our own.
-use Rattle.std.specs.Prelude.{ℕ, ◌≡◌, ◌≢◌, ◌≤◌, ◌⊎◌, Bool, true, false, List, [], ◌∷◌, length, Option, Some, None, unwrap_or, if◌then◌else◌}
-use Rattle.std.specs.Option.{option_map_or}
+use Rattle.std.specs.Prelude.{ℕ, ◌≡◌, ◌≢◌, ◌≤◌, ◌⊎◌, Bool, true, false, List, [], ◌∷◌, length, Option, Some, None, Result, Ok, Err, unwrap_or, if◌then◌else◌}
 use Rattle.std.specs.List.{AllByRecursion}
 use Rattle.std.specs.Str.{bytes_eq}
 use Rattle.grouping_model.specs.Datum.{Kind, Row}
 use Rattle.grouping_model.specs.World.{World, IsWorld, Knowledge, nothing, learn}
 use Rattle.packed_rows.specs.Columns.{Column, kinds, IsSchemaText}
-use Rattle.first_query.specs.Chosen.{Chosen}
-use Rattle.first_query.specs.Text.{query_of}
+use Rattle.having_filter.specs.Meaning.{Checked}
+use Rattle.group_parser.specs.Parsing.{parsing}
+use Rattle.group_parser.specs.declared.error.ParseError.{ParseError}
+use Rattle.group_parser.specs.declared.error.ParseError.TheVariants as parse
 use Rattle.batch_reader.specs.Head.{ReadsOrigin, ReadsBatchNumber}
 use Rattle.batch_reader.specs.Rows.{ReadsRows}
 use Rattle.batch_reader.specs.Refusal.{BuildFault}
@@ -18,12 +19,12 @@ use Rattle.replica_merge.specs.declared.delivered.Delivered.{Delivered}
 use Rattle.script_io.specs.Records.{Record}
 use Rattle.script_commands.specs.Commands.{Command, Request, Columns, Query, Replica, Feed, Known, Answer, Unknown, request_of}
 use Rattle.agg_tool.specs.declared.refusal.Refusal.{Refusal}
-use Rattle.agg_tool.specs.declared.refusal.Refusal.TheVariants.{NoMemory, BadSchema, BadField, WrongWidth, Unsupported, BadBatchHead, TooManyRows, RowCount, BadCommand, NoSuchName, NameTaken}
+use Rattle.agg_tool.specs.declared.refusal.Refusal.TheVariants.{NoMemory, BadSchema, BadField, WrongWidth, Syntax, NumberTooLarge, NoSuchColumn, NotGrouped, TypeMismatch, AggregateHere, TooMany, TooDeep, BadBatchHead, TooManyRows, RowCount, BadCommand, NoSuchName, NameTaken}
 
 -- what is there: the columns and the query, once they were told, and what each replica knows, by its name
 pub record State : Type 0 where
   pub columns : Option (List Column)
-  pub query : Option Chosen
+  pub query : Option Checked
   pub replicas : List ℕ → Option Knowledge
 
 -- nothing is there
@@ -41,7 +42,7 @@ pub data Reply : Type 0 where
   -- these are the columns
   Has_columns : List Column → Reply
   -- this is the query
-  Has_query : Chosen → Reply
+  Has_query : Checked → Reply
   -- a replica of this name is there
   Created : (name : List ℕ) → Reply
   -- the replica of this name took a batch
@@ -49,7 +50,7 @@ pub data Reply : Type 0 where
   -- what is known, origin by origin
   Listed : List KnownOrigin → Reply
   -- the answer of a query over what is known
-  Answered : Chosen → Knowledge → Reply
+  Answered : Checked → Knowledge → Reply
   -- nothing changed
   Refused : Refusal → Reply
 
@@ -84,14 +85,31 @@ ColumnsReply None text (Has_columns columns) = IsSchemaText text columns
 ColumnsReply None text (Refused why) = (why ≡ BadSchema) × ((columns : List Column) → ¬ (IsSchemaText text columns))
 ColumnsReply None text reply = ⊥
 
+-- the refusal of a query's text by its name
+abbrev pub query_refusal : ParseError → Refusal
+query_refusal parse.NoMemory = NoMemory
+query_refusal (parse.Syntax at) = Syntax at
+query_refusal parse.NumberTooLarge = NumberTooLarge
+query_refusal parse.NoSuchColumn = NoSuchColumn
+query_refusal parse.NotGrouped = NotGrouped
+query_refusal parse.TypeMismatch = TypeMismatch
+query_refusal parse.AggregateHere = AggregateHere
+query_refusal parse.TooMany = TooMany
+query_refusal parse.TooDeep = TooDeep
+
+-- the reply to a query that was read, or to the first fault of its text
+abbrev pub read_reply : Result Checked ParseError → Reply
+read_reply (Ok query) = Has_query query
+read_reply (Err error) = Refused (query_refusal error)
+
 -- the reply to a query's text: a query is told once, after the columns
-abbrev pub query_reply : Option (List Column) → Option Chosen → List ℕ → Reply
+abbrev pub query_reply : Option (List Column) → Option Checked → List ℕ → Reply
 query_reply None query text = Refused BadCommand
 query_reply (Some columns) (Some query) text = Refused BadCommand
-query_reply (Some columns) None text = option_map_or Has_query (query_of columns text) (Refused Unsupported)
+query_reply (Some columns) None text = read_reply (parsing columns text)
 
 -- the reply to a new name: replicas come after the query
-abbrev pub replica_reply : Option Chosen → Option Knowledge → List ℕ → Reply
+abbrev pub replica_reply : Option Checked → Option Knowledge → List ℕ → Reply
 replica_reply None known name = Refused BadCommand
 replica_reply (Some query) (Some known) name = Refused NameTaken
 replica_reply (Some query) None name = Created name
@@ -109,7 +127,7 @@ abbrev pub known_reply : Option Knowledge → Reply
 known_reply None = Refused NoSuchName
 known_reply (Some known) = Listed (known_list known)
 
-abbrev pub answer_reply : Option Chosen → Option Knowledge → Reply
+abbrev pub answer_reply : Option Checked → Option Knowledge → Reply
 answer_reply (Some query) (Some known) = Answered query known
 answer_reply query known = Refused NoSuchName
 

@@ -2,14 +2,16 @@
 use Rattle.std.specs.Prelude.{ℕ, List, [], ◌∷◌, ◌++◌, flat_map, length, codes, decimal}
 use Rattle.grouping_model.specs.Answer.{answer}
 use Rattle.grouping_model.specs.World.{World}
-use Rattle.first_query.specs.Chosen.{meaning, canonical, headers}
+use Rattle.having_filter.specs.Meaning.{meaning}
+use Rattle.having_filter.specs.Spelling.{spelling}
+use Rattle.having_filter.specs.Kept.{by_names, headers}
 use Rattle.replica_merge.specs.Kept.{KnownOrigin}
 use Rattle.replica_merge.specs.declared.delivered.Delivered.{Delivered}
 use Rattle.replica_merge.specs.declared.delivered.Delivered.TheVariants.{Folded, Early, Known}
 use Rattle.table_print.specs.Table.{table_text}
 use Rattle.agg_tool.specs.Machine.{Reply, Has_columns, Has_query, Created, Took, Listed, Answered, Refused}
 use Rattle.agg_tool.specs.declared.refusal.Refusal.{Refusal}
-use Rattle.agg_tool.specs.declared.refusal.Refusal.TheVariants.{NoMemory, BadSchema, BadField, WrongWidth, Unsupported, BadBatchHead, TooManyRows, RowCount, InputTooLong, ReadFault, WriteFault, BadCommand, NoSuchName, NameTaken}
+use Rattle.agg_tool.specs.declared.refusal.Refusal.TheVariants.{NoMemory, BadSchema, BadField, WrongWidth, Syntax, NumberTooLarge, NoSuchColumn, NotGrouped, TypeMismatch, AggregateHere, TooMany, TooDeep, BadBatchHead, TooManyRows, RowCount, InputTooLong, ReadFault, WriteFault, BadCommand, NoSuchName, NameTaken}
 
 -- the name of a refusal
 abbrev pub refusal_name : Refusal → List ℕ
@@ -17,7 +19,14 @@ refusal_name NoMemory = codes "NoMemory"
 refusal_name BadSchema = codes "BadSchema"
 refusal_name (BadField column) = codes "BadField"
 refusal_name WrongWidth = codes "WrongWidth"
-refusal_name Unsupported = codes "Unsupported"
+refusal_name (Syntax at) = codes "Syntax"
+refusal_name NumberTooLarge = codes "NumberTooLarge"
+refusal_name NoSuchColumn = codes "NoSuchColumn"
+refusal_name NotGrouped = codes "NotGrouped"
+refusal_name TypeMismatch = codes "TypeMismatch"
+refusal_name AggregateHere = codes "AggregateHere"
+refusal_name TooMany = codes "TooMany"
+refusal_name TooDeep = codes "TooDeep"
 refusal_name BadBatchHead = codes "BadBatchHead"
 refusal_name TooManyRows = codes "TooManyRows"
 refusal_name RowCount = codes "RowCount"
@@ -61,7 +70,7 @@ answer_text rows table = line (codes "answer ") (decimal rows) ++ table
 -- the text of a reply, where the batches are a world's
 abbrev pub reply_text : World → Reply → List ℕ
 reply_text world (Has_columns columns) = line (codes "columns ") (decimal (length columns))
-reply_text world (Has_query query) = line (codes "query ") (canonical query)
+reply_text world (Has_query query) = line (codes "query ") (spelling (by_names query))
 reply_text world (Created name) = line (codes "replica ") name
 reply_text world (Took name fed delivered) = delivered_text delivered
 reply_text world (Listed list) = known_text list

@@ -6,7 +6,7 @@ use Rattle.std.specs.Map.{lookup}
 use Rattle.std.specs.Str.{bytes_eq}
 use Rattle.grouping_model.specs.World.{World, IsWorld, Knowledge, learn}
 use Rattle.packed_rows.specs.Columns.{Column, kinds}
-use Rattle.first_query.specs.Chosen.{Chosen}
+use Rattle.having_filter.specs.Meaning.{Checked}
 use Rattle.batch_reader.specs.Rows.{packings}
 use Rattle.replica_merge.specs.Kept.{Held, told, reply_of, KeepsRows, Fits}
 use Rattle.replica_merge.specs.declared.delivered.Delivered.{Delivered}
@@ -36,7 +36,7 @@ is_refusal reply = false
 -- what the code keeps: the columns and the query, once they were told, and the replicas by their names
 pub record Store : Type 0 where
   pub columns : Option (List Column)
-  pub query : Option Chosen
+  pub query : Option Checked
   pub replicas : List (Vec ℕ Global × Held)
 
 -- the replica of a name

@@ -1,11 +1,12 @@
 //! Why a command, or a whole script, is refused.
 
 ghost use Rattle.std.specs.Prelude.{◌≡◌};
-ghost use Rattle.agg_tool.specs.Machine.{batch_refusal};
+ghost use Rattle.agg_tool.specs.Machine.{batch_refusal, query_refusal};
 ghost use Rattle.agg_tool.specs.Text.{refusal_name};
 ghost use Rattle.agg_tool.specs.declared.refusal.Refusal.TheVariants.{NoMemory};
 
 use batch_reader::BatchError;
+use group_parser::ParseError;
 use std::alloc::AllocError;
 
 /// Why a command or a script is refused.
@@ -19,8 +20,23 @@ pub enum Refusal {
     BadField { column: usize },
     /// A row has more or fewer fields than there are columns.
     WrongWidth,
-    /// The text is not that of a query that can be answered.
-    Unsupported,
+    /// At this byte of a query's text, counted from 0, no token begins, or one that no query can go on with; at the
+    /// text's length, the query goes on.
+    Syntax { at: usize },
+    /// An integer in a query is out of the range of 64 bits.
+    NumberTooLarge,
+    /// A query names a column that isn't there.
+    NoSuchColumn,
+    /// A column among a query's items or in HAVING stands outside aggregates and isn't in GROUP BY.
+    NotGrouped,
+    /// An argument, an operand or a condition has the wrong kind.
+    TypeMismatch,
+    /// An aggregate stands in WHERE or FILTER.
+    AggregateHere,
+    /// A query is too long, or has more than 64 items, 16 columns of GROUP BY or 32 aggregates.
+    TooMany,
+    /// A condition is nested more than 64 deep.
+    TooDeep,
     /// The origin isn't 0 to 1,023, or the number isn't 1 to 2,147,483,647, in 1 to 10 digits each.
     BadBatchHead,
     /// More than 65,536 rows are told.
@@ -51,7 +67,14 @@ pub fn name(refusal: Refusal) -> &'static str
         Refusal::BadSchema => "BadSchema",
         Refusal::BadField { .. } => "BadField",
         Refusal::WrongWidth => "WrongWidth",
-        Refusal::Unsupported => "Unsupported",
+        Refusal::Syntax { .. } => "Syntax",
+        Refusal::NumberTooLarge => "NumberTooLarge",
+        Refusal::NoSuchColumn => "NoSuchColumn",
+        Refusal::NotGrouped => "NotGrouped",
+        Refusal::TypeMismatch => "TypeMismatch",
+        Refusal::AggregateHere => "AggregateHere",
+        Refusal::TooMany => "TooMany",
+        Refusal::TooDeep => "TooDeep",
         Refusal::BadBatchHead => "BadBatchHead",
         Refusal::TooManyRows => "TooManyRows",
         Refusal::RowCount => "RowCount",
@@ -83,6 +106,24 @@ impl From<BatchError> for Refusal {
             BatchError::RowCount => Refusal::RowCount,
             BatchError::WrongWidth => Refusal::WrongWidth,
             BatchError::BadField { column } => Refusal::BadField { column },
+        }
+    }
+}
+
+impl From<ParseError> for Refusal {
+    ghost from_gives = { λ error refusal. refusal ≡ query_refusal error };
+
+    fn from(error: ParseError) -> Refusal {
+        match error {
+            ParseError::NoMemory => Refusal::NoMemory,
+            ParseError::Syntax { at } => Refusal::Syntax { at },
+            ParseError::NumberTooLarge => Refusal::NumberTooLarge,
+            ParseError::NoSuchColumn => Refusal::NoSuchColumn,
+            ParseError::NotGrouped => Refusal::NotGrouped,
+            ParseError::TypeMismatch => Refusal::TypeMismatch,
+            ParseError::AggregateHere => Refusal::AggregateHere,
+            ParseError::TooMany => Refusal::TooMany,
+            ParseError::TooDeep => Refusal::TooDeep,
         }
     }
 }

@@ -1,11 +1,13 @@
 //! What is there while a script runs, and how its commands are answered.
 
-ghost use Rattle.std.specs.Prelude.{◌≡◌, ◌≢◌, List, map, Some, None, [], IfOk, IfErr, OnErr, length, string_bytes};
+ghost use Rattle.std.specs.Prelude.{◌≡◌, ◌≢◌, List, map, None, [], Ok, IfOk, IfErr, OnErr, length, string_bytes};
 ghost use Rattle.csv.specs.Records.{fields_of};
 ghost use Rattle.grouping_model.specs.Answer.{answer};
 ghost use Rattle.grouping_model.specs.World.{World, IsWorld};
-ghost use Rattle.first_query.specs.Chosen.{canonical, headers, meaning};
-ghost use Rattle.first_query.specs.Text.{query_of};
+ghost use Rattle.having_filter.specs.Meaning.{meaning};
+ghost use Rattle.having_filter.specs.Spelling.{spelling};
+ghost use Rattle.having_filter.specs.Kept.{by_names, headers};
+ghost use Rattle.group_parser.specs.Parsing.{parsing};
 ghost use Rattle.replica_merge.specs.Kept.{told, known_list, Fits};
 ghost use Rattle.script_io.specs.Records.{Record};
 ghost use Rattle.table_print.specs.Table.{table_text};
@@ -13,16 +15,18 @@ ghost use Rattle.agg_tool.specs.Text.{known_text};
 ghost use Rattle.packed_rows.specs.Columns.{kinds};
 ghost use Rattle.script_commands.specs.Commands as ask;
 ghost use Rattle.script_commands.specs.Commands.{request_of};
-ghost use Rattle.agg_tool.specs.Machine.{IsNoBatch};
+ghost use Rattle.agg_tool.specs.Machine as machine;
+ghost use Rattle.agg_tool.specs.Machine.{IsNoBatch, read_reply};
 ghost use Rattle.agg_tool.specs.Views.{Store, IsStore, Steps, Takes};
-ghost use Rattle.agg_tool.specs.declared.refusal.Refusal.TheVariants.{NoMemory, Unsupported};
+ghost use Rattle.agg_tool.specs.declared.refusal.Refusal.TheVariants.{NoMemory};
 
 use crate::refusal::Refusal;
 use crate::reply::Reply;
 use crate::texts::known_lines;
 use batch_reader::build_batch;
 use csv::ByteRecord;
-use first_query::{Query, QueryError, read_first_query};
+use group_parser::{parse, print};
+use having_filter::Query;
 use indexmap::IndexMap;
 use packed_rows::{RowError, Schema};
 use replica_merge::{Delivered, Replica};
@@ -41,7 +45,13 @@ pub(crate) struct Session {
 }
 
 impl Model for Session {
+    ghost use Rattle.std.specs.Coded.{codes};
+    ghost use Rattle.having_filter.specs.Coding.{coded_form};
+    ghost use Rattle.agg_tool.specs.Views.{Store, IsStore};
+
     ghost Value = { Store };
+
+    ghost coded = { Prim.hlevel (codes, coded_form) };
 
     ghost view = { λ s.
         record { columns = s.columns; query = s.query; replicas = s.replicas.entries } };
@@ -76,21 +86,17 @@ fn deliver(
 }
 
 /// The query that a text says, and its canonical text.
+#[tactic(auto, using(crate::proofs::QueryLaws::read_over))]
 fn read_query(alloc: Global, schema: &Schema, text: &str) -> Result<(Query, String), Refusal>
-    ensures read { IfOk result (λ found. (query_of schema.now text.now ≡ Some found.0)
-        × (string_bytes found.1 ≡ canonical found.0)) }
+    ensures read { IfOk result (λ found. (parsing schema.now text.now ≡ Ok found.0)
+        × (string_bytes found.1 ≡ spelling (by_names found.0))) }
     ensures columns { IfOk result (λ found. found.0.columns ≡ schema.now) }
-    ensures why { IfErr result (λ why. why ≢ NoMemory → (why ≡ Unsupported)
-        × (query_of schema.now text.now ≡ None)) }
+    ensures why { IfErr result (λ why. why ≢ NoMemory →
+        read_reply (parsing schema.now text.now) ≡ machine.Refused why) }
 {
-    match read_first_query(alloc, schema, text) {
-        Ok(query) => {
-            let canonical = query.print()?;
-            Ok((query, canonical))
-        }
-        Err(QueryError::NoMemory) => Err(Refusal::NoMemory),
-        Err(QueryError::Unsupported) => Err(Refusal::Unsupported),
-    }
+    let query = parse(alloc, schema, text)?;
+    let canonical = print(alloc, &query)?;
+    Ok((query, canonical))
 }
 
 /// The lines of what a replica knows.

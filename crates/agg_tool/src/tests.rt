@@ -63,6 +63,77 @@ const EXAMPLES: [Example; 6] = [
     },
 ];
 
+/// A whole script and its replies.
+#[derive(Clone, Copy)]
+struct Scenario {
+    script: &'static [u8],
+    replies: &'static [u8],
+}
+
+/// Scripts of one query each, none of whose commands is refused.
+const SCENARIOS: [Scenario; 6] = [
+    // Nothing was fed, with one group.
+    Scenario {
+        script: b"columns,\"c text, d bigint\"\nquery,\"SELECT count(*), sum(d) FROM batches\"\n\
+            replica,a\nanswer,a\n",
+        replies: b"columns 2\nquery SELECT count(*), sum(d) FROM batches\nreplica a\nanswer 1\n\
+            count,sum\n0,\\N\n",
+    },
+    // Nothing was fed, and HAVING leaves no group.
+    Scenario {
+        script: b"columns,\"c text, d bigint\"\n\
+            query,\"SELECT count(*) FROM batches HAVING count(*) > 0\"\nreplica,a\nanswer,a\n",
+        replies: b"columns 2\nquery SELECT count(*) FROM batches HAVING count(*) > 0\nreplica a\n\
+            answer 0\ncount\n",
+    },
+    // Nulls are one group, and are passed over by functions of a column.
+    Scenario {
+        script: b"columns,\"c text, d bigint\"\nquery,\"SELECT c, count(*), count(d), sum(d), min(d), \
+            bit_xor(d) FROM batches GROUP BY c\"\nreplica,a\nfeed,a,0,1,4\n\\N,\\N\na,3\n\\N,\\N\na,5\n\
+            answer,a\n",
+        replies: b"columns 2\nquery SELECT c, count(*), count(d), sum(d), min(d), bit_xor(d) FROM batches \
+            GROUP BY c\nreplica a\nfolded upto 1\nanswer 2\nc,count,count,sum,min,bit_xor\n\
+            a,2,2,8,3,6\n\\N,2,0,\\N,\\N,\\N\n",
+    },
+    // What is unknown passes no FILTER.
+    Scenario {
+        script: b"columns,\"c text, d bigint\"\nquery,\"SELECT count(*), count(*) FILTER (WHERE d > 1) AS \
+            big FROM batches\"\nreplica,a\nfeed,a,0,1,3\na,1\na,2\na,\\N\nanswer,a\n",
+        replies: b"columns 2\nquery SELECT count(*), count(*) FILTER (WHERE d > 1) AS big FROM batches\n\
+            replica a\nfolded upto 1\nanswer 1\ncount,big\n3,1\n",
+    },
+    // A comparison binds more tightly than IS.
+    Scenario {
+        script: b"columns,\"c text, d bigint\"\nquery,\"SELECT count(*) FROM batches WHERE d = d IS NULL\"\n\
+            replica,a\nfeed,a,0,1,3\na,1\na,2\na,\\N\nanswer,a\n",
+        replies: b"columns 2\nquery SELECT count(*) FROM batches WHERE d = d IS NULL\nreplica a\n\
+            folded upto 1\nanswer 1\ncount\n1\n",
+    },
+    // Bits and truth values.
+    Scenario {
+        script: b"columns,\"b boolean, d bigint\"\nquery,\"SELECT bool_and(b), bool_or(b), every(b), \
+            bit_and(d), bit_or(d), max(d) FROM batches\"\nreplica,a\nfeed,a,0,1,3\nt,12\nf,10\n\\N,\\N\n\
+            answer,a\n",
+        replies: b"columns 2\nquery SELECT bool_and(b), bool_or(b), every(b), bit_and(d), bit_or(d), max(d) \
+            FROM batches\nreplica a\nfolded upto 1\nanswer 1\nbool_and,bool_or,every,bit_and,bit_or,max\n\
+            f,t,f,8,14,12\n",
+    },
+];
+
+/// Queries that are refused, and then one that is not: the canonical text is shown.
+const QUERIES: Scenario = Scenario {
+    script: b"columns,\"c text, d bigint\"\nquery,SELECT x FROM batches GROUP BY x\n\
+        query,\"SELECT d, count(*) FROM batches GROUP BY c\"\nquery,SELECT c FROM batches\n\
+        query,SELECT sum(c) FROM batches\nquery,SELECT count(*) FROM batches WHERE count(*) > 1\n\
+        query,SELECT avg(d) FROM batches\nquery,SELECT count(*) FROM batches WHERE d < d < d\n\
+        query,SELECT count(*) FROM batches WHERE d > 9223372036854775808\n\
+        query,select count(*) from batches where not (d = 1 or d = 2) and (c!='x' is true);\n",
+    replies: b"columns 2\nrefused NoSuchColumn\nrefused NotGrouped\nrefused NotGrouped\n\
+        refused TypeMismatch\nrefused AggregateHere\nrefused Syntax\nrefused Syntax\n\
+        refused NumberTooLarge\n\
+        query SELECT count(*) FROM batches WHERE NOT (d = 1 OR d = 2) AND c <> 'x' IS TRUE\n",
+};
+
 /// A writer that takes so many bytes, and then fails.
 #[derive(Drop)]
 struct FailingWriter {
@@ -123,13 +194,39 @@ fn examples_answer_as_told(rt: HostRuntime) -> Result<(), Fail> {
 }
 
 #[test]
+fn queries_answer_as_told(rt: HostRuntime) -> Result<(), Fail> {
+    for example in SCENARIOS {
+        let mut written = Vec::new(rt.alloc());
+        let outcome = run(rt.alloc(), &mut &*example.script, &mut written);
+        assert_eq!(rt;
+            String::from_utf8_lossy(rt.alloc(), &written)?.as_str(),
+            String::from_utf8_lossy(rt.alloc(), example.replies)?.as_str()
+        );
+        assert_eq!(rt; outcome, Ok(Outcome { refused: 0 }));
+    }
+    Ok(())
+}
+
+#[test]
+fn queries_are_refused_and_printed(rt: HostRuntime) -> Result<(), Fail> {
+    let mut written = Vec::new(rt.alloc());
+    let outcome = run(rt.alloc(), &mut &*QUERIES.script, &mut written);
+    assert_eq!(rt;
+        String::from_utf8_lossy(rt.alloc(), &written)?.as_str(),
+        String::from_utf8_lossy(rt.alloc(), QUERIES.replies)?.as_str()
+    );
+    assert_eq!(rt; outcome, Ok(Outcome { refused: 8 }));
+    Ok(())
+}
+
+#[test]
 fn commands_come_in_their_order(rt: HostRuntime) -> Result<(), Fail> {
     let script =
         b"replica,a\nquery,select\nanswer,a\ncolumns,c\ncolumns,c text\ncolumns,d text\nreplica,a\n\
         query,select c\nknown,a\nfeed,a,0,1,x\nfeed,a,0,1,0\n";
     let replies =
         b"refused BadCommand\nrefused BadCommand\nrefused NoSuchName\nrefused BadSchema\ncolumns 1\n\
-        refused BadCommand\nrefused BadCommand\nrefused Unsupported\nrefused NoSuchName\nrefused BadCommand\n\
+        refused BadCommand\nrefused BadCommand\nrefused Syntax\nrefused NoSuchName\nrefused BadCommand\n\
         refused NoSuchName\n";
     let mut written = Vec::new(rt.alloc());
     let outcome = run(rt.alloc(), &mut script.as_slice(), &mut written);

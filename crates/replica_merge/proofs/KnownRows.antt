@@ -2,7 +2,7 @@
 use Rattle.std.specs.Prelude.{◌≡◌, refl, ℕ, zero, suc, ◌+◌, ◌*◌, ◌≤◌, Bool, true, false, cond, IsTrue, List, [], ◌∷◌, ◌++◌, length, map, filter, flat_map, Option, Some, None, unwrap_or, is_some}
 use Rattle.std.proofs.Common.{sym, ◌∙◌, ap, subst, inl, inr, arith}
 use Rattle.std.proofs.lemmas.Bool.{cases_lt}
-use Rattle.std.proofs.lemmas.List.{append-nil, map-append, length-append}
+use Rattle.std.proofs.lemmas.List.{map-append, length-append}
 use Rattle.std.proofs.lemmas.List.Elements.{recursion_from_All}
 use Rattle.std.specs.List.{AllByRecursion}
 use Rattle.std.specs.Map.{lookup}
@@ -14,22 +14,11 @@ use Rattle.grouping_model.proofs.Members.{false_is_not_true}
 use Rattle.grouping_model.proofs.AnswerLaws.{flat_map_members, counted_within}
 use Rattle.grouping_model.proofs.PrefixLaws.{prefix_unbroken}
 use Rattle.packed_rows.specs.Packing.{packing}
-use Rattle.packed_rows.proofs.PackingOrder.{row_apart}
 use Rattle.batch_reader.specs.Rows.{packings}
 use Rattle.replica_merge.specs.Kept.{Kept, told, rows_kept, InLimits, ArePackedRows, Fits, batch_packings, origin_packings, known_packings}
 use Rattle.replica_merge.proofs.KeptLaws.{known_kept}
+use Rattle.replica_merge.proofs.PackedLaws.{all_append}
 use Rattle.replica_merge.proofs.KnownLaws.{told_within, listed_all, known_origin}
-
--- rows of the same packings are the same
-pub packings_once : (kinds : List Kind) (xs ys : List Row) → AllByRecursion (HasKinds kinds) xs → AllByRecursion (HasKinds kinds) ys → packings xs ≡ packings ys → xs ≡ ys
-packings_once kinds [] [] hx hy e = refl
-packings_once kinds [] (y ∷ ys) hx hy e = absurd cc
-packings_once kinds (x ∷ xs) [] hx hy e = absurd cc
-packings_once kinds (x ∷ xs) (y ∷ ys) (hx, hxs) (hy, hys) e =
-    let first : packing x ≡ packing y = cc in
-    let rest : packings xs ≡ packings ys = cc in
-    let same = row_apart kinds x y [] [] hx hy (append-nil (packing x) ∙ first ∙ sym (append-nil (packing y))) in
-    λ i. same.0 i ∷ packings_once kinds xs ys hxs hys rest i
 
 -- the rows that are kept of a batch
 pub kept_packed : (kinds : List Kind) (test : Batch → Bool) (kept : Kept) (rows : List (List ℕ)) → AllByRecursion (λ (e : Batch × List (List ℕ)). ArePackedRows kinds e.1) kept → lookup test kept ≡ Some rows → ArePackedRows kinds rows
@@ -119,10 +108,6 @@ known_packed world kept fits =
 
     of_batch : (origin number : ℕ) → IsTrue (knows (told kept) (origin, number)) → packings (batch_rows world origin number) ≡ batch_packings kept origin number
     of_batch origin number known = of_found origin number (rows_kept kept (origin, number)) refl (known_kept kept (origin, number) ∙ known)
-
-all_append : {X : Type 0} (P : X → Type 0) (xs ys : List X) → AllByRecursion P xs → AllByRecursion P ys → AllByRecursion P (xs ++ ys)
-all_append P [] ys all more = more
-all_append P (x ∷ xs) ys (p, all) more = (p, all_append P xs ys all more)
 
 all_flat : {X Y : Type 0} (P : Y → Type 0) (f : X → List Y) (xs : List X) → ((x : X) → AllByRecursion P (f x)) → AllByRecursion P (flat_map f xs)
 all_flat P f [] each = tt

@@ -1,8 +1,5 @@
 pub mod KeptLaws
 pub mod KnownLaws
-pub mod StateLaws
-pub mod EntryLaws
-pub mod ItemLaws
 pub mod PackedLaws
 pub mod ShownLaws
 pub mod KnownRows

@@ -1,63 +1,27 @@
--- The groups of packed rows, and rows that are packed.
-use Rattle.std.specs.Prelude.{◌≡◌, refl, ℕ, ◌<◌, ◌≤◌, List, [], ◌∷◌, ◌++◌, length, slice_index_or}
-use Rattle.std.proofs.Common.{sym, ◌∙◌, ap, subst, arith}
-use Rattle.std.proofs.lemmas.List.{map-append, get_or-map, length-map}
+-- Rows that are packed, and inputs that hold them.
+use Rattle.std.specs.Prelude.{◌≡◌, refl, ℕ, ◌+◌, ◌^◌, ◌<◌, ◌≤◌, List, [], ◌∷◌, ◌++◌, length, map}
+use Rattle.std.proofs.Common.{sym, ◌∙◌, ap, subst, arith, append-nil}
+use Rattle.std.proofs.lemmas.Grind.{flat_map-append}
+use Rattle.std.proofs.lemmas.List.{map-append, length-map, length-append}
+use Rattle.std.proofs.lemmas.List.Sums.{sum_by-append, sum_by-cons}
+use Rattle.std.specs.Borrow.{Bor}
 use Rattle.std.specs.declared.alloc.Global.{Global}
 use Rattle.std.specs.declared.vec.Vec.{Vec}
-use Rattle.std.proofs.lemmas.List.Elements.{All-from_recursion}
+use Rattle.std.proofs.lemmas.List.Elements.{All-from_recursion, recursion_from_All}
 use Rattle.std.specs.List.{AllByRecursion}
 use Rattle.grouping_model.specs.Datum.{Row, Kind, HasKinds}
-use Rattle.grouping_model.specs.Grouping.{Group, part}
-use Rattle.grouping_model.specs.Parts.{with_row}
-use Rattle.grouping_model.proofs.GroupLaws.{part_one_more}
-use Rattle.packed_rows.specs.Columns.{kinds}
+use Rattle.grouping_model.specs.Query.{Query}
+use Rattle.grouping_model.specs.Grouping.{part}
 use Rattle.packed_rows.specs.Packing.{packing}
 use Rattle.packed_rows.proofs.FieldLaws.{read_kinds}
-use Rattle.first_query.specs.Chosen.{Chosen, meaning}
-use Rattle.agg_protocol.specs.States.{most_rows}
 use Rattle.batch_reader.specs.Rows.{ReadsRows, packings, bytes_of}
+use Rattle.hash_agg.specs.declared.input.Input.{Input}
+use Rattle.hash_agg.specs.declared.input.Input.TheVariants.{Rows}
+use Rattle.hash_agg.specs.Runs.{Entry}
+use Rattle.hash_agg.specs.Standing.{AreGroups}
+use Rattle.hash_agg.specs.Inputs.{ArePackings, AreInputsOf, IsInput, rows_in, all_rows, on_end}
 use Rattle.replica_merge.specs.Kept.{ArePackedRows}
-use Rattle.replica_merge.specs.Groups.{Entry, AreGroups, AreGroupsWithRoom, AreGroupsOf}
-use Rattle.replica_merge.proofs.StateLaws.{part_room}
-
-pub all_more : {X : Type 0} (P : X → Type 0) (xs : List X) (x : X) → AllByRecursion P xs → P x → AllByRecursion P (xs ++ x ∷ [])
-all_more P [] x all p = (p, tt)
-all_more P (y ∷ xs) x (q, all) p = (q, all_more P xs x all p)
-
--- no rows have no groups
-pub groups_of_none : (chosen : Chosen) → AreGroupsOf chosen [] []
-groups_of_none chosen = record { rows = []; of_kinds = tt; packings_are = refl; are = tt }
-
--- groups of few rows have room for one more
-pub room_of : (chosen : Chosen) (done : List (List ℕ)) (entries : List Entry) → AreGroupsOf chosen done entries → length done < most_rows → AreGroupsWithRoom entries
-room_of chosen done entries of few =
-    let long : length done ≡ length of.rows = ap length of.packings_are ∙ length-map of.rows packing in
-    record { groups = part (meaning chosen) of.rows; are = of.are; rooms = part_room (meaning chosen) of.rows (omega (arith, few, long)) }
-
--- one more row
-pub groups_of_more : (chosen : Chosen) (old new : List Entry) (packed : List ℕ) (row : Row) → HasKinds (kinds chosen.columns) row → packed ≡ packing row
-    → ((groups : List Group) → AreGroups old groups → AreGroups new (with_row (meaning chosen) groups row))
-    → (done : List (List ℕ)) → AreGroupsOf chosen done old → AreGroupsOf chosen (done ++ packed ∷ []) new
-groups_of_more chosen old new packed row has is step done of =
-    record {
-      rows = of.rows ++ row ∷ [];
-      of_kinds = all_more (HasKinds (kinds chosen.columns)) of.rows row of.of_kinds has;
-      packings_are = (λ i. of.packings_are i ++ is i ∷ []) ∙ sym (map-append packing of.rows (row ∷ []));
-      are = subst (AreGroups new) (sym (part_one_more (meaning chosen) (kinds chosen.columns) of.rows row has refl)) (step (part (meaning chosen) of.rows) of.are);
-    }
-
--- a packed row of a batch
-pub packed_at : (kinds : List Kind) (rows : List (Vec ℕ Global)) (i : ℕ) (packed : Vec ℕ Global) → ArePackedRows kinds (bytes_of rows) → i < length rows → packed ≡ slice_index_or rows i packed → (row : Row) × HasKinds kinds row × (packed.items ≡ packing row)
-packed_at kinds rows i packed are low is =
-    let many : length rows ≡ length are.rows = sym (length-map rows (λ (v : Vec ℕ Global). v.items)) ∙ ap length are.packings_are ∙ length-map are.rows packing in
-    let within : i < length are.rows = omega (arith, low, many) in (
-      slice_index_or are.rows i [],
-      are.of_kinds i [] within,
-      ap (λ (v : Vec ℕ Global). v.items) is
-          ∙ sym (get_or-map (λ (v : Vec ℕ Global). v.items) rows i packed [] low)
-          ∙ ap (λ ps. slice_index_or ps i []) are.packings_are
-          ∙ get_or-map packing are.rows i [] [] within,
-    )
+use Rattle.replica_merge.specs.Groups.{HoldRows, IsRunOf}
 
 -- the rows that records stand for are packed
 pub built : (kinds : List Kind) (records : List (List (List ℕ))) (rows : List Row) (packed : List (List ℕ)) → ReadsRows kinds records rows → packed ≡ packings rows → length packed ≤ 65536 → ArePackedRows kinds packed
@@ -69,3 +33,51 @@ built kinds records rows packed reads is few =
     each [] (row ∷ rows) reads = absurd reads
     each (fields ∷ records) [] reads = absurd reads
     each (fields ∷ records) (row ∷ rows) (first, reads) = (read_kinds kinds fields row first, each records rows reads)
+
+pub all_append : {X : Type 0} (P : X → Type 0) (xs ys : List X) → AllByRecursion P xs → AllByRecursion P ys → AllByRecursion P (xs ++ ys)
+all_append P [] ys all more = more
+all_append P (x ∷ xs) ys (p, all) more = (p, all_append P xs ys all more)
+
+-- no inputs hold no rows
+pub hold_none : (q : Query) → HoldRows q [] []
+hold_none q = record { lists = []; of_lists = tt; rows = record { of_kinds = tt; packings_are = refl }; may = tt; counted = refl }
+
+inputs_append : (q : Query) (xs ys : List Input) (ls ms : List (List Row)) → AreInputsOf q xs ls → AreInputsOf q ys ms → AreInputsOf q (xs ++ ys) (ls ++ ms)
+inputs_append q [] ys [] ms are more = more
+inputs_append q [] ys (l ∷ ls) ms are more = absurd are
+inputs_append q (x ∷ xs) ys [] ms are more = absurd are
+inputs_append q (x ∷ xs) ys (l ∷ ls) ms (first, are) more = (first, inputs_append q xs ys ls ms are more)
+
+-- the rows of one batch more
+pub hold_more : (q : Query) (done : List (List ℕ)) (inputs : List Input) (packed : Bor (List (Vec ℕ Global))) → ArePackedRows q.kinds (bytes_of packed.now) → HoldRows q done inputs → HoldRows q (done ++ bytes_of packed.now) (inputs ++ Rows packed ∷ [])
+hold_more q done inputs packed are hold =
+    let own : ArePackings q.kinds (bytes_of packed.now) are.rows = record { of_kinds = recursion_from_All (HasKinds q.kinds) are.rows are.of_kinds; packings_are = are.packings_are } in
+    let whole : on_end (hold.lists ++ are.rows ∷ []) ≡ on_end hold.lists ++ are.rows =
+    flat_map-append (λ (rows : List Row). rows) hold.lists (are.rows ∷ []) ∙ ap (λ rows. on_end hold.lists ++ rows) (append-nil are.rows) in
+    let one : all_rows (Rows packed ∷ []) ≡ length packed.now + 0 = sum_by-cons rows_in (Rows packed) [] in
+    let both : all_rows (inputs ++ Rows packed ∷ []) ≡ all_rows inputs + all_rows (Rows packed ∷ []) = sum_by-append rows_in inputs (Rows packed ∷ []) in
+    let long : length (done ++ bytes_of packed.now) ≡ length done + length (bytes_of packed.now) = length-append done (bytes_of packed.now) in
+    let many : length (bytes_of packed.now) ≡ length packed.now = length-map packed.now (λ (v : Vec ℕ Global). v.items) in
+    let counted : all_rows inputs ≡ length done = hold.counted in
+    record {
+      lists = hold.lists ++ are.rows ∷ [];
+      of_lists = inputs_append q inputs (Rows packed ∷ []) hold.lists (are.rows ∷ []) hold.of_lists (own, tt);
+      rows =
+          record {
+            of_kinds = subst (AllByRecursion (HasKinds q.kinds)) (sym whole) (all_append (HasKinds q.kinds) (on_end hold.lists) are.rows hold.rows.of_kinds own.of_kinds);
+            packings_are =
+                (λ i. hold.rows.packings_are i ++ are.packings_are i)
+                ∙ sym (map-append packing (on_end hold.lists) are.rows)
+                ∙ ap (map packing) (sym whole);
+          };
+      may = all_append (IsInput q) inputs (Rows packed ∷ []) hold.may ((are.rows, own), tt);
+      counted = omega (arith, one, both, long, many, counted);
+    }
+
+-- what an aggregation of inputs gives
+abbrev pub PartOf : Query → List Entry → List Input → Type 0
+PartOf q run inputs = (lists : List (List Row)) → AreInputsOf q inputs lists → AreGroups q (all_rows inputs) run (part q (on_end lists))
+
+pub run_of : (q : Query) (inputs : List Input) (packed : List (List ℕ)) (run : List Entry) → HoldRows q packed inputs → all_rows inputs < 2 ^ 57 → PartOf q run inputs → IsRunOf q packed run
+run_of q inputs packed run hold few part =
+    record { rows = on_end hold.lists; are_rows = hold.rows; most = all_rows inputs; few = omega (arith, few); are = part hold.lists hold.of_lists }

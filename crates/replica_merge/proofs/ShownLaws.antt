@@ -1,65 +1,133 @@
 -- The row of an answer that a group gives.
-use Rattle.std.specs.Prelude.{◌≡◌, ℕ, List, [], ◌∷◌, ◌++◌, map, take, drop, slice_index_or}
-use Rattle.std.proofs.Common.{sym, ◌∙◌, ap, subst, append_assoc}
-use Rattle.std.proofs.lemmas.List.{append-nil}
-use Rattle.grouping_model.specs.Datum.{Null, Text_kind, HasKinds, at_place}
+use Rattle.std.specs.Prelude.{◌≡◌, ◌≢◌, refl, ℕ, zero, suc, ◌+◌, ◌<◌, ◌≤◌, true, false, cond, List, [], ◌∷◌, ◌++◌, map, flat_map, length, take, drop, slice_get, slice_index_or, Some}
+use Rattle.std.proofs.Common.{sym, ◌∙◌, ap, subst, arith, append-nil}
+use Rattle.std.proofs.lemmas.Grind.{flat_map-append}
+use Rattle.std.proofs.lemmas.List.{length-take}
+use Rattle.grouping_model.specs.Datum.{Null, Row, Bigint_kind, HasKinds, at_place}
 use Rattle.grouping_model.specs.Aggregates.{Partial, Outcome, Plain, outcome}
-use Rattle.grouping_model.specs.Grouping.{Group}
-use Rattle.packed_rows.specs.View.{datum_of, row_of}
-use Rattle.packed_rows.specs.declared.value.Value.{Value}
+use Rattle.grouping_model.specs.Condition.{is_met}
+use Rattle.grouping_model.specs.Query as query
+use Rattle.grouping_model.specs.Query.{Query}
+use Rattle.grouping_model.specs.Grouping.{Group, partials}
+use Rattle.grouping_model.specs.Parts.{functions, source_in}
 use Rattle.packed_rows.specs.Packing.{packing}
-use Rattle.packed_rows.proofs.PackingOrder.{row_apart}
+use Rattle.packed_rows.specs.View.{row_of}
+use Rattle.packed_rows.specs.declared.value.Value.{Value}
 use Rattle.agg_protocol.specs.States as states
-use Rattle.agg_protocol.specs.States.{A_count, A_sum, most_rows}
+use Rattle.agg_protocol.specs.States.{most_rows}
+use Rattle.agg_protocol.proofs.Denoting.{width_known}
+use Rattle.agg_library.specs.declared.kind.AggKind.{AggKind}
+use Rattle.agg_library.specs.Kinds.{kind_shape, kind_width}
 use Rattle.agg_library.specs.StateRows.{Denotes}
-use Rattle.replica_merge.specs.Groups.{aggregate_kinds, entries_of, StandsFor, AreGroups, answer_row}
-use Rattle.replica_merge.proofs.EntryLaws.{Item}
-use Rattle.replica_merge.proofs.StateLaws.{two_states, states_split}
+use Rattle.having_filter.specs.Kept.{key_kinds, outcome_at}
+use Rattle.hash_agg.specs.Runs.{Entry}
+use Rattle.hash_agg.specs.Standing.{AreStates, StandsFor, AreGroups}
+use Rattle.hash_agg.proofs.StateLaws.{first_and_rest, dropped}
+use Rattle.hash_agg.proofs.InputLaws.{packed_once, take_found}
+use Rattle.replica_merge.specs.Groups.{answer_rows, shown_of_none, groups_shown}
 
-head_shown : (values : List Value) (value : Value) → HasKinds (Text_kind ∷ []) (row_of values) → value ≡ slice_index_or values 0 value → datum_of value ≡ at_place (row_of values) 0
-head_shown [] value has is = absurd has
-head_shown (v ∷ values) value has is = ap datum_of is
+-- ---- the states of a group
 
--- the key and what both states finish with
-pub group_shown : (values : List Value) (value : Value) (key bytes : List ℕ) (group : Group) (a b c : Outcome)
-    → HasKinds (Text_kind ∷ []) (row_of values) → key ≡ packing (row_of values) → value ≡ slice_index_or values 0 value → StandsFor (key, bytes) group
-    → a ≡ Plain (datum_of value)
-    → ((p : Partial) → states.Denotes most_rows A_count (take 8 bytes) p → b ≡ outcome p)
-    → ((q : Partial) → states.Denotes most_rows A_sum (drop 8 bytes) q → c ≡ outcome q)
-    → a ∷ b ∷ c ∷ [] ≡ answer_row group
-group_shown values value key bytes group a b c has is first stands key_shown count_shown sum_shown =
-    let same = row_apart (Text_kind ∷ []) (row_of values) group.0 [] [] has stands.text (append-nil (packing (row_of values)) ∙ sym is ∙ stands.key ∙ sym (append-nil (packing group.0))) in
-    let two = two_states bytes group.1 stands.states in
-    let parts = states_split bytes two.0 two.1 (subst (Denotes most_rows aggregate_kinds bytes) two.2 stands.states) in
-    let key_is : a ≡ Plain (at_place group.0 0) = key_shown ∙ ap Plain (head_shown values value has first ∙ ap (λ row. at_place row 0) same.0) in
-    let count_is : b ≡ slice_index_or (map outcome group.1) 0 (Plain Null) = count_shown two.0 parts.0 ∙ ap (λ ps. slice_index_or (map outcome ps) 0 (Plain Null)) (sym two.2) in
-    let sum_is : c ≡ slice_index_or (map outcome group.1) 1 (Plain Null) = sum_shown two.1 parts.1 ∙ ap (λ ps. slice_index_or (map outcome ps) 1 (Plain Null)) (sym two.2) in
-    λ i. key_is i ∷ count_is i ∷ sum_is i ∷ []
+pub partials_long : (m : ℕ) (kinds : List AggKind) (bytes : List ℕ) (ps : List Partial) → Denotes m kinds bytes ps → length ps ≡ length kinds
+partials_long m [] bytes [] d = refl
+partials_long m [] bytes (p ∷ ps) d = absurd d
+partials_long m (k ∷ ks) bytes [] d = absurd d
+partials_long m (k ∷ ks) bytes (p ∷ ps) (first, rest) = let long : length ps ≡ length ks = partials_long m ks (drop (kind_width k) bytes) ps rest in omega (arith, long)
 
--- rows that are shown, and groups that are left
-pub record LeftToShow (answer : List (List Outcome)) (items : List Item) (all : List Group) : Type 0 where
-  pub rest : List Group
-  pub are : AreGroups (entries_of items) rest
-  pub shown : answer ++ map answer_row rest ≡ map answer_row all
+-- the states from a place on
+pub record NextState (m : ℕ) (kinds : List AggKind) (i : ℕ) (kind : AggKind) (rest : List ℕ) (ps : List Partial) : Type 0 where
+  pub partial : Partial
+  pub at : slice_get ps i ≡ Some partial
+  pub denotes : states.Denotes m (kind_shape kind) (take (kind_width kind) rest) partial
+  pub others : Denotes m (drop (i + 1) kinds) (drop (kind_width kind) rest) (drop (i + 1) ps)
 
-pub next_group : (answer : List (List Outcome)) (items left : List Item) (e : Item) (all : List Group) → LeftToShow answer items all → items ≡ e ∷ left → (group : Group) × StandsFor (e.0.items, e.1) group
-next_group answer items left e all to_show split = first to_show.rest (subst (λ es. AreGroups (entries_of es) to_show.rest) split to_show.are)
+from_place : (kinds : List AggKind) (i : ℕ) (default : AggKind) → i < length kinds → drop i kinds ≡ slice_index_or kinds i default ∷ drop (i + 1) kinds
+from_place [] i default low = absurd (omega arith)
+from_place (k ∷ kinds) zero default low = refl
+from_place (k ∷ kinds) (suc i) default low =
+    from_place kinds i default (omega arith) ∙ ap (λ ks. slice_index_or kinds i default ∷ ks) (let one : i + 1 ≡ suc i = omega arith in let two : suc i + 1 ≡ suc (suc i) = omega arith in ap (λ n. drop n kinds) one ∙ sym (ap (λ n. drop n (k ∷ kinds)) two))
+
+pub next_state : (m : ℕ) (kinds : List AggKind) (i : ℕ) (default : AggKind) (rest : List ℕ) (ps : List Partial) → i < length kinds → Denotes m (drop i kinds) rest (drop i ps) → NextState m kinds i (slice_index_or kinds i default) rest ps
+next_state m kinds i default rest ps low d =
+    let kind : AggKind = slice_index_or kinds i default in
+    let parts = first_and_rest m kind (drop (i + 1) kinds) rest (drop i ps) (subst (λ ks. Denotes m ks rest (drop i ps)) (from_place kinds i default low) d) in
+    let at = dropped ps i parts.0 parts.1 parts.2 in
+    record {
+      partial = parts.0;
+      at = at.0;
+      denotes = parts.3;
+      others = subst (Denotes m (drop (i + 1) kinds) (drop (kind_width kind) rest)) (sym at.1) parts.4;
+    }
+
+-- there are as many bytes as the next state has
+pub wide_enough : (m : ℕ) (kind : AggKind) (rest : List ℕ) (p : Partial) → states.Denotes m (kind_shape kind) (take (kind_width kind) rest) p → kind_width kind ≤ length rest
+wide_enough m kind rest p d =
+    let wide : length (take (kind_width kind) rest) ≡ kind_width kind = width_known m (kind_shape kind) (take (kind_width kind) rest) p d in
+    omega (arith, wide, length-take (kind_width kind) rest)
+
+-- ---- the values that HAVING and the items read
+
+plain_at : (key : Row) (place : ℕ) → slice_index_or (map Plain key) place (Plain Null) ≡ Plain (at_place key place)
+plain_at [] place = refl
+plain_at (d ∷ key) zero = refl
+plain_at (d ∷ key) (suc place) = plain_at key place
+
+pub sources_are : (keys results : List Outcome) (group : Group) → keys ≡ map Plain group.0 → results ≡ map outcome group.1 → outcome_at keys results ≡ source_in group
+sources_are keys results group are_keys are_results = λ i. λ s. each s i
   where
-    first : (rest : List Group) → AreGroups (entries_of (e ∷ left)) rest → (group : Group) × StandsFor (e.0.items, e.1) group
-    first [] are = absurd are
-    first (g ∷ rest) (stands, are) = (g, stands)
+    each : (s : query.Source) → outcome_at keys results s ≡ source_in group s
+    each (query.Key place) = ap (λ ks. slice_index_or ks place (Plain Null)) are_keys ∙ plain_at group.0 place
+    each (query.Call place) = ap (λ rs. slice_index_or rs place (Plain Null)) are_results
 
-pub shown_more : (answer new : List (List Outcome)) (items left : List Item) (e : Item) (all : List Group) → items ≡ e ∷ left → ((group : Group) → StandsFor (e.0.items, e.1) group → new ≡ answer ++ answer_row group ∷ []) → LeftToShow answer items all → LeftToShow new left all
-shown_more answer new items left e all split pushed to_show = rest_shown to_show.rest (subst (λ es. AreGroups (entries_of es) to_show.rest) split to_show.are) to_show.shown
-  where
-    rest_shown : (rest : List Group) → AreGroups (entries_of (e ∷ left)) rest → answer ++ map answer_row rest ≡ map answer_row all → LeftToShow new left all
-    rest_shown [] are shown = absurd are
-    rest_shown (g ∷ rest) (stands, are) shown =
-        record { rest = rest; are = are; shown = ap (λ rows. rows ++ map answer_row rest) (pushed g stands) ∙ append_assoc answer (answer_row g ∷ []) (map answer_row rest) ∙ shown }
+-- a key is that of the group
+pub key_is : (q : Query) (most : ℕ) (key states : List ℕ) (values : List Value) (group : Group) → HasKinds (key_kinds q) (row_of values) → key ≡ packing (row_of values) → StandsFor q most (key, states) group → row_of values ≡ group.0
+key_is q most key states values group has is stands = packed_once (key_kinds q) key (row_of values) group.0 has stands.of_kinds is stands.key
 
-pub all_shown : (answer : List (List Outcome)) (all : List Group) → LeftToShow answer [] all → answer ≡ map answer_row all
-all_shown answer all to_show = none_left to_show.rest to_show.are to_show.shown
-  where
-    none_left : (rest : List Group) → AreGroups [] rest → answer ++ map answer_row rest ≡ map answer_row all → answer ≡ map answer_row all
-    none_left [] are shown = sym (append-nil answer) ∙ shown
-    none_left (g ∷ rest) are shown = absurd are
+-- a group that is shown, and one that is not
+pub shown : (q : Query) (group : Group) (items : List Outcome) → is_met (source_in group) q.having ≡ true → items ≡ map (source_in group) q.items → items ∷ [] ≡ answer_rows q group
+shown q group items met are = ap (λ row. row ∷ []) are ∙ ap (λ b. cond b (map (source_in group) q.items ∷ []) []) (sym met)
+
+pub not_shown : (q : Query) (group : Group) → is_met (source_in group) q.having ≡ false → [] ≡ answer_rows q group
+not_shown q group met = ap (λ b. cond b (map (source_in group) q.items ∷ []) []) (sym met)
+
+-- ---- the groups of a run
+
+pub record ShownAt (q : Query) (most : ℕ) (groups : List Group) (i : ℕ) (entry : Entry) : Type 0 where
+  pub group : Group
+  pub at : slice_get groups i ≡ Some group
+  pub stands : StandsFor q most entry group
+
+pub shown_at : (q : Query) (most : ℕ) (run : List Entry) (groups : List Group) (i : ℕ) (entry : Entry) → AreGroups q most run groups → slice_get run i ≡ Some entry → ShownAt q most groups i entry
+shown_at q most [] groups i entry are e = absurd cc
+shown_at q most (x ∷ run) [] i entry are e = absurd are
+shown_at q most (x ∷ run) (g ∷ groups) zero entry (first, are) e = let same : x ≡ entry = cc in record { group = g; at = refl; stands = subst (λ x. StandsFor q most x g) same first }
+shown_at q most (x ∷ run) (g ∷ groups) (suc i) entry (first, are) e =
+    let found = shown_at q most run groups i entry are e in
+    record { group = found.group; at = found.at; stands = found.stands }
+
+pub shown_more : (q : Query) (groups : List Group) (i : ℕ) (g : Group) (old new : List (List Outcome)) → slice_get groups i ≡ Some g → old ≡ flat_map (answer_rows q) (take i groups) → new ≡ old ++ answer_rows q g → new ≡ flat_map (answer_rows q) (take (i + 1) groups)
+shown_more q groups i g old new at before pushed =
+    pushed
+    ∙ ap (λ rows. rows ++ answer_rows q g) before
+    ∙ sym (ap (flat_map (answer_rows q)) (take_found groups i g at) ∙ flat_map-append (answer_rows q) (take i groups) (g ∷ []) ∙ ap (λ rows. flat_map (answer_rows q) (take i groups) ++ rows) (append-nil (answer_rows q g)))
+
+-- there are groups, or there is GROUP BY
+pub shown_all : (q : Query) (groups : List Group) (place : ℕ) (places : List ℕ) → q.keys ≡ place ∷ places → groups_shown q groups ≡ groups
+shown_all q [] place places is = ap (shown_of_none q) is
+shown_all q (g ∷ groups) place places is = refl
+
+pub shown_some : (q : Query) (groups : List Group) → length groups ≢ 0 → groups_shown q groups ≡ groups
+shown_some q [] some = absurd (some refl)
+shown_some q (g ∷ groups) some = refl
+
+pub shown_none : (q : Query) (groups : List Group) → q.keys ≡ [] → groups ≡ [] → groups_shown q groups ≡ ([], partials q []) ∷ []
+shown_none q groups none is = ap (groups_shown q) is ∙ ap (shown_of_none q) none
+
+-- the group of no rows, without GROUP BY
+pub empty_stands : (q : Query) (bytes : List ℕ) → q.keys ≡ [] → AreStates (functions q) 0 bytes (partials q []) → StandsFor q 0 ([], bytes) ([], partials q [])
+empty_stands q bytes none states =
+    record {
+      key = refl;
+      of_kinds = subst (λ keys. HasKinds (map (λ place. slice_index_or q.kinds place Bigint_kind) keys) []) (sym none) tt;
+      states = states;
+    }

@@ -1,63 +1,43 @@
--- The groups of packed rows, by their packed keys. All of this is our own.
-use Rattle.std.specs.Prelude.{◌≡◌, ℕ, ◌<◌, List, [], ◌∷◌, map}
+-- The inputs that a replica aggregates, and the rows of an answer. All of this is our own.
+use Rattle.std.specs.Prelude.{◌≡◌, ℕ, ◌≤◌, List, [], ◌∷◌, map, length, if◌then◌else◌}
 use Rattle.std.specs.List.{AllByRecursion}
-use Rattle.std.specs.declared.alloc.Global.{Global}
-use Rattle.std.specs.declared.vec.Vec.{Vec}
-use Rattle.grouping_model.specs.Datum.{Row, Text_kind, HasKinds}
+use Rattle.grouping_model.specs.Datum.{Row}
 use Rattle.grouping_model.specs.Aggregates.{Outcome}
-use Rattle.grouping_model.specs.Query.{Key, Call}
-use Rattle.grouping_model.specs.Grouping.{Group, part}
+use Rattle.grouping_model.specs.Condition.{is_met}
+use Rattle.grouping_model.specs.Query.{Query}
+use Rattle.grouping_model.specs.Grouping.{Group, part, partials}
 use Rattle.grouping_model.specs.Parts.{source_in}
-use Rattle.packed_rows.specs.Columns.{kinds}
-use Rattle.packed_rows.specs.Packing.{packing}
-use Rattle.first_query.specs.Chosen.{Chosen, meaning}
-use Rattle.agg_protocol.specs.States.{rows_of, most_rows}
-use Rattle.agg_library.specs.declared.kind.AggKind.{AggKind}
-use Rattle.agg_library.specs.declared.kind.AggKind.TheVariants.{CountRows, Sum}
-use Rattle.agg_library.specs.StateRows.{Denotes}
-use Rattle.batch_reader.specs.Rows.{packings}
+use Rattle.agg_protocol.specs.States.{most_rows}
+use Rattle.hash_agg.specs.declared.input.Input.{Input}
+use Rattle.hash_agg.specs.Runs.{Entry}
+use Rattle.hash_agg.specs.Standing.{AreGroups}
+use Rattle.hash_agg.specs.Inputs.{ArePackings, AreInputsOf, IsInput, all_rows, on_end}
 
--- the aggregates of the query: count(*) and sum
-abbrev pub aggregate_kinds : List AggKind
-aggregate_kinds = CountRows ∷ Sum ∷ []
+-- inputs that hold these packed rows, one list after the other
+pub record HoldRows (query : Query) (packed : List (List ℕ)) (inputs : List Input) : Type 0 where
+  pub lists : List (List Row)
+  pub of_lists : AreInputsOf query inputs lists
+  pub rows : ArePackings query.kinds packed (on_end lists)
+  pub may : AllByRecursion (IsInput query) inputs
+  pub counted : all_rows inputs ≡ length packed
 
--- a packed key, and the bytes of its states
-abbrev pub Entry : Type 0
-Entry = List ℕ × List ℕ
-
--- the bytes of a map's entries
-abbrev pub entries_of : List (Vec ℕ Global × List ℕ) → List Entry
-entries_of entries = map (λ (e : Vec ℕ Global × List ℕ). (e.0.items, e.1)) entries
-
--- an entry stands for a group: it has its key, which is a text or null, and states of its partial results
-pub record StandsFor (entry : Entry) (group : Group) : Type 0 where
-  pub key : entry.0 ≡ packing group.0
-  pub text : HasKinds (Text_kind ∷ []) group.0
-  pub states : Denotes most_rows aggregate_kinds entry.1 group.1
-
--- entry by entry, these stand for groups
-abbrev pub AreGroups : List Entry → List Group → Type 0
-AreGroups [] [] = Unit {0}
-AreGroups (entry ∷ entries) (group ∷ groups) = StandsFor entry group × AreGroups entries groups
-AreGroups entries groups = ⊥
-
--- a group that can have one more row
-abbrev pub HasRoom : Group → Type 0
-HasRoom group = AllByRecursion (λ p. rows_of p < most_rows) group.1
-
--- entries stand for groups that can have one more row
-pub record AreGroupsWithRoom (entries : List Entry) : Type 0 where
-  pub groups : List Group
-  pub are : AreGroups entries groups
-  pub rooms : AllByRecursion HasRoom groups
-
--- entries stand for the groups of packed rows
-pub record AreGroupsOf (chosen : Chosen) (packed : List (List ℕ)) (entries : List Entry) : Type 0 where
+-- a run has the groups of these packed rows
+pub record IsRunOf (query : Query) (packed : List (List ℕ)) (run : List Entry) : Type 0 where
   pub rows : List Row
-  pub of_kinds : AllByRecursion (HasKinds (kinds chosen.columns)) rows
-  pub packings_are : packed ≡ packings rows
-  pub are : AreGroups entries (part (meaning chosen) rows)
+  pub are_rows : ArePackings query.kinds packed rows
+  pub most : ℕ
+  pub few : most ≤ most_rows
+  pub are : AreGroups query most run (part query rows)
 
--- the row of an answer that a group gives: its key and the outcomes of both aggregates
-abbrev pub answer_row : Group → List Outcome
-answer_row group = map (source_in group) (Key 0 ∷ Call 0 ∷ Call 1 ∷ [])
+-- the row of an answer that a group gives, and none where HAVING isn't true of it
+abbrev pub answer_rows : Query → Group → List (List Outcome)
+answer_rows query group = if is_met (source_in group) query.having then map (source_in group) query.items ∷ [] else []
+
+-- the groups that are shown: without GROUP BY there is one, over no rows too (PostgreSQL 17, 7.2.3)
+abbrev pub shown_of_none : Query → List ℕ → List Group
+shown_of_none query [] = ([], partials query []) ∷ []
+shown_of_none query (place ∷ places) = []
+
+abbrev pub groups_shown : Query → List Group → List Group
+groups_shown query [] = shown_of_none query query.keys
+groups_shown query (group ∷ groups) = group ∷ groups

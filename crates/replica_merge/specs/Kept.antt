@@ -7,7 +7,7 @@ use Rattle.std.specs.BTreeMap.{BTreeMap, get}
 use Rattle.grouping_model.specs.World.{World, Batch, batch_cmp, Knowledge, knowing, knows, learn, prefix, early, origins, count_up}
 use Rattle.grouping_model.specs.Datum.{Row, Kind, HasKinds}
 use Rattle.batch_reader.specs.Rows.{packings}
-use Rattle.first_query.specs.Chosen.{Chosen}
+use Rattle.having_filter.specs.Meaning.{Checked}
 use Rattle.replica_merge.specs.declared.delivered.Known.{Known}
 use Rattle.replica_merge.specs.declared.delivered.Delivered.{Delivered}
 use Rattle.replica_merge.specs.declared.delivered.Delivered.TheVariants as reply
@@ -58,7 +58,7 @@ pub record IsReplica (kinds : List Kind) (kept : Kept) (prefixes : BTreeMap ℕ 
 
 -- what a replica holds: the query that it answers, and the batches that are kept
 pub record Held : Type 0 where
-  pub query : Chosen
+  pub query : Checked
   pub kept : Kept
 
 -- the rows that are kept after one more batch: those of the batch, unless it was known, and of every other batch as before

@@ -1,3 +1,3 @@
 pub mod Kept
+pub mod Coding
 pub mod Groups
-pub mod Answers

@@ -1,19 +1,18 @@
 //! The batches that a replica keeps.
 
-ghost use Rattle.std.specs.Prelude.{◌≡◌, ◌≢◌, ◌⊎◌, ◌↔◌, ◌+◌, ◌*◌, ◌<◌, ◌≤◌, ◌++◌, ℕ, List, All, [], filter, map, length, nat_lt, false, IsTrue, OnOk, IfOk, IfErr};
+ghost use Rattle.std.specs.Prelude.{◌≡◌, ◌≢◌, ◌⊎◌, ◌↔◌, ◌+◌, ◌<◌, ◌≤◌, ◌++◌, ℕ, List, All, [], filter, map, length, nat_lt, false, IsTrue, OnOk, IfOk, IfErr};
 ghost use Rattle.grouping_model.specs.Answer.{answer};
 ghost use Rattle.grouping_model.specs.World.{World, IsWorld, knows, learn, prefix, numbers_of};
 ghost use Rattle.packed_rows.specs.Columns.{kinds};
-ghost use Rattle.first_query.specs.Chosen.{meaning};
-ghost use Rattle.agg_protocol.specs.States.{most_rows};
-ghost use Rattle.replica_merge.specs.Groups.{AreGroupsOf};
-ghost use Rattle.replica_merge.specs.Kept.{Held, kept_of, told, reply_of, last_number, InLimits, ArePackedRows, IsReplica, KeepsRows, Fits, batch_packings, origin_packings, known_packings, known_list, known_of};
+ghost use Rattle.having_filter.specs.Meaning.{meaning};
+ghost use Rattle.replica_merge.specs.Groups.{HoldRows, IsRunOf};
+ghost use Rattle.replica_merge.specs.Kept.{told, reply_of, last_number, InLimits, ArePackedRows, KeepsRows, Fits, batch_packings, origin_packings, known_packings, known_list, known_of};
 
-use crate::answer::Answer;
 use crate::delivered::{Delivered, Known, RefusedBatch};
-use crate::groups::Groups;
+use crate::showing::show;
 use batch_reader::{Batch, PackedRows};
-use first_query::Query;
+use hash_agg::{Input, Run, aggregate};
+use having_filter::{Answer, Query};
 use std::alloc::{AllocError, Global};
 use std::collections::BTreeMap;
 use std::marker::Model;
@@ -31,7 +30,13 @@ pub struct Replica {
 }
 
 impl Model for Replica {
+    ghost use Rattle.packed_rows.specs.Columns.{kinds};
+    ghost use Rattle.replica_merge.specs.Coding.{coded_held};
+    ghost use Rattle.replica_merge.specs.Kept.{Held, kept_of, IsReplica};
+
     ghost Value = { Held };
+
+    ghost coded = { coded_held };
 
     ghost view = { λ r. record { query = r.query; kept = kept_of r.batches.entries } };
 
@@ -243,58 +248,62 @@ impl Replica {
         Ok(Delivered::Folded { upto })
     }
 
-    /// Adds the rows that are kept of a batch.
-    fn add_batch(&self, origin: u16, number: u32, groups: &mut Groups) -> Result<(), AllocError>
-        requires few { (done : List (List ℕ)) × AreGroupsOf self.now.query done groups.old
-            × (length done + 65536 ≤ most_rows) }
-        ensures few { length (batch_packings self.now.kept origin number) ≤ 65536 }
-        ensures added { OnOk result ((done : List (List ℕ)) →
-            AreGroupsOf self.now.query done groups.old →
-            AreGroupsOf self.now.query (done ++ batch_packings self.now.kept origin number)
-            groups.new) }
+    /// Adds the rows that are kept of a batch to the inputs.
+    fn add_batch<'a>(
+        &'a self,
+        origin: u16,
+        number: u32,
+        inputs: &mut Vec<Input<'a>>,
+    ) -> Result<(), AllocError>
+        ensures { OnOk result ((done : List (List ℕ)) →
+            HoldRows (meaning self.now.query) done inputs.old.items →
+            HoldRows (meaning self.now.query) (done ++ batch_packings self.now.kept origin number)
+            inputs.new.items) }
     {
         match self.batches.get(&(origin, number)) {
-            Some(rows) => groups.add_rows(&self.query, rows.as_slice()),
+            Some(rows) => {
+                inputs.push(Input::Rows(rows.as_slice()))?;
+                Ok(())
+            }
             None => Ok(()),
         }
     }
 
-    /// Adds the rows of an origin's unbroken prefix.
-    fn add_origin(&self, origin: u16, groups: &mut Groups) -> Result<(), AllocError>
-        requires few { (done : List (List ℕ)) × AreGroupsOf self.now.query done groups.old
-            × (length done + 65536 * 2147483647 ≤ most_rows) }
+    /// Adds the rows of an origin's unbroken prefix to the inputs.
+    fn add_origin<'a>(&'a self, origin: u16, inputs: &mut Vec<Input<'a>>) -> Result<(), AllocError>
         ensures { OnOk result ((done : List (List ℕ)) →
-            AreGroupsOf self.now.query done groups.old →
-            AreGroupsOf self.now.query (done ++ origin_packings self.now.kept origin)
-            groups.new) }
+            HoldRows (meaning self.now.query) done inputs.old.items →
+            HoldRows (meaning self.now.query) (done ++ origin_packings self.now.kept origin)
+            inputs.new.items) }
     {
         for number in 1..=self.prefix(origin) {
-            self.add_batch(origin, number, groups)?;
+            self.add_batch(origin, number, inputs)?;
         }
         Ok(())
     }
 
     /// The groups of the rows of all unbroken prefixes.
-    fn groups(&self) -> Result<Groups, AllocError>
-        ensures { IfOk result (AreGroupsOf self.now.query (known_packings self.now.kept)) }
+    fn groups(&self) -> Result<Run, AllocError>
+        ensures { IfOk result (IsRunOf (meaning self.now.query) (known_packings self.now.kept)) }
     {
-        let mut groups = Groups::new(self.alloc);
+        let mut inputs = Vec::new(self.alloc);
         for origin in 0..ORIGINS {
-            self.add_origin(origin, &mut groups)?;
+            self.add_origin(origin, &mut inputs)?;
         }
-        Ok(groups)
+        aggregate(self.alloc, &self.query, &inputs)
     }
 
-    /// The answer of the query over the rows of the unbroken prefixes, in the order of its keys: for each value of the
-    /// key column, which is null or a text, how many rows have it, and the sum of the other column over these rows.
-    /// Each row has these three items.
+    /// The answer of the query over the rows of the unbroken prefixes, in the order of its keys: a row of the query's
+    /// items for each group of which HAVING is true. Without GROUP BY there is one group, over no rows too. The only
+    /// error is a failed allocation.
     pub fn answer(&self) -> Result<Answer, AllocError>
-        ensures width { IfOk result (All (λ row. length row ≡ 3)) }
+        ensures width { IfOk result (All (λ row. length row
+            ≡ length (meaning self.now.query).items)) }
         ensures answer { IfOk result (λ rows. (world : World) →
             IsWorld (kinds self.now.query.columns) world → Fits world self.now.kept →
             rows ≡ answer (meaning self.now.query) world (told self.now.kept)) }
     {
-        let groups = self.groups()?;
-        groups.finish()
+        let run = self.groups()?;
+        show(self.alloc, &self.query, &run)
     }
 }

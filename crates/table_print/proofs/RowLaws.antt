@@ -12,12 +12,14 @@ use Rattle.table_print.specs.Table.{cell_text, row_line}
 pub item_there : (row : List Outcome) (n : ℕ) → n < length row → IsSome (slice_get row n)
 item_there row n h = subst IsSome (sym (slice_get-get_or row n (Plain Null) h)) refl
 
+-- one more member of a list
+pub one_more : {A : Type 0} (xs : List A) (n : ℕ) (x : A) → slice_get xs n ≡ Some x → take (n + 1) xs ≡ take n xs ++ x ∷ []
+one_more xs n x h = take_more xs n x (slice_get_within xs n x h) ∙ ap (λ y. take n xs ++ y ∷ []) (get_or_from_slice_get xs n x x h)
+
 -- one more item of a row
 pub one_more_cell : (row : List Outcome) (n : ℕ) (x : Outcome) → slice_get row n ≡ Some x
     → map cell_text (take (n + 1) row) ≡ map cell_text (take n row) ++ cell_text x ∷ []
-one_more_cell row n x h =
-    ap (map cell_text) (take_more row n x (slice_get_within row n x h) ∙ ap (λ y. take n row ++ y ∷ []) (get_or_from_slice_get row n x x h))
-    ∙ map-append cell_text (take n row) (x ∷ [])
+one_more_cell row n x h = ap (map cell_text) (one_more row n x h) ∙ map-append cell_text (take n row) (x ∷ [])
 
 -- one more row of an answer
 pub one_more_row : (rows : List (List Outcome)) (n : ℕ) → n < length rows

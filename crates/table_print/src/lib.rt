@@ -4,6 +4,3 @@
 mod csv_table;
 
 pub use csv_table::print_csv;
-
-#[cfg(test)]
-mod tests;

@@ -1,0 +1,47 @@
+-- A query that was read is over the columns that were told.
+use Rattle.std.specs.Prelude.{◌≡◌, refl, ℕ, Bool, true, false, not, if◌then◌else◌, List, Result, Ok, Err}
+use Rattle.std.proofs.Common.{◌∙◌, ap, sym}
+use Rattle.packed_rows.specs.Columns.{Column, kinds}
+use Rattle.having_filter.specs.declared.error.QueryError.{QueryError}
+use Rattle.having_filter.specs.declared.error.QueryError.TheVariants.{NotGrouped, TypeMismatch, AggregateHere, NoSuchColumn, TooMany, TooDeep}
+use Rattle.having_filter.specs.Forms.{Written}
+use Rattle.having_filter.specs.Meaning.{Checked}
+use Rattle.having_filter.specs.Checks.{checked, checked_places, placed, has_too_many, all_of, filters_pass, is_shallow, are_shallow, has_columns, are_plain, kinds_fit, is_grouped}
+use Rattle.group_parser.specs.declared.error.ParseError.{ParseError}
+use Rattle.group_parser.specs.Parsing.{parsing, written_in, written_checked, query_checked}
+
+-- what is accepted was not refused before
+behind : (fails : Bool) (error : QueryError) (rest : Result Checked QueryError) (q : Checked) → (if fails then Err error else rest) ≡ Ok q → rest ≡ Ok q
+behind true error rest q passed = cc passed
+behind false error rest q passed = passed
+
+over_places : (columns : List Column) (w : Written ℕ) (q : Checked) → checked_places columns w ≡ Ok q → q.columns ≡ columns
+unfolding checked_places
+over_places columns w q passed =
+    let here = behind (not (is_grouped w)) NotGrouped _ q (behind (not (kinds_fit (kinds columns) w)) TypeMismatch _ q (behind (not (are_plain w)) AggregateHere _ q passed)) in
+    sym (ap (λ (r : Result Checked QueryError). columns_or columns r) here)
+  where
+    columns_or : List Column → Result Checked QueryError → List Column
+    columns_or cs (Ok r) = r.columns
+    columns_or cs (Err e) = cs
+
+over_columns : (columns : List Column) (w : Written (List ℕ)) (q : Checked) → checked columns w ≡ Ok q → q.columns ≡ columns
+unfolding checked
+over_columns columns w q passed =
+    over_places columns (placed columns w) q
+    (behind (not (has_columns columns w)) NoSuchColumn _ q (behind (not (all_of (filters_pass is_shallow) are_shallow w)) TooDeep _ q (behind (has_too_many w) TooMany _ q passed)))
+
+pub read_over : (columns : List Column) (text : List ℕ) (q : Checked) → parsing columns text ≡ Ok q → q.columns ≡ columns
+read_over columns text q read = go (written_in text) read
+  where
+    found : (w : Written (List ℕ)) (r : Result Checked QueryError) → checked columns w ≡ r → query_checked r ≡ Ok q → q.columns ≡ columns
+    found w (Ok x) passed same = sym (ap (λ (r : Result Checked ParseError). columns_or r) same) ∙ over_columns columns w x passed
+      where
+        columns_or : Result Checked ParseError → List Column
+        columns_or (Ok r) = r.columns
+        columns_or (Err e) = columns
+    found w (Err e) passed same = cc same
+
+    go : (r : Result (Written (List ℕ)) ParseError) → written_checked columns r ≡ Ok q → q.columns ≡ columns
+    go (Ok w) passed = found w (checked columns w) refl passed
+    go (Err e) passed = cc passed

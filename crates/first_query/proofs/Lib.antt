@@ -1,3 +1,0 @@
-pub mod QueryTokens
-pub mod QueryText
-pub mod PrintedQuery

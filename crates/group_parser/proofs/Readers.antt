@@ -1,0 +1,164 @@
+-- What the readers of the code need of the reading functions.
+use Rattle.std.proofs.Common.{◌≡◌, ℕ, zero, suc, ◌+◌, ◌≤◌, Bool, true, false, cond, List, [], ◌∷◌, ◌++◌, length, map, Option, Some, None, Ok, Err, refl, sym, ap, ◌∙◌, arith}
+use Rattle.std.specs.Prelude.{codes}
+use Rattle.query_tokens.specs.Words.{Lexeme}
+use Rattle.having_filter.specs.Forms as form
+use Rattle.query_grammar.specs.Terminals.{is_word, is_sign}
+use Rattle.query_grammar.specs.Grammar.{Named}
+use Rattle.query_grammar.specs.Queries.{most_open}
+use Rattle.query_grammar.specs.Reading.{Read, Fault, Unexpected, Too_deep, Inner, ◌>>=◌, after, choose, cmp_at, tested, test_at, not_at, joined, and_at, or_at, condition_at, conditions}
+use Rattle.query_grammar.proofs.Locality.{condition_step, tested_stays, joined_stays, not_stays, and_stays}
+use Rattle.std.proofs.lemmas.List.{map_push}
+use Rattle.query_tokens.specs.declared.word.Symbol.TheVariants as symbols
+use Rattle.query_grammar.specs.Whole.{list_at}
+use Rattle.query_grammar.proofs.Alike.{Stays}
+use Rattle.query_grammar.proofs.Chains.{Goes, chain_done, chain_goes, chain_fails, Lists, list_begins, list_goes, list_stops, list_done}
+use Rattle.group_parser.specs.declared.fault.ReadError.{ReadError}
+use Rattle.group_parser.specs.declared.fault.ReadError.TheVariants as errors
+use Rattle.group_parser.specs.Views.{Fails}
+use Rattle.group_parser.specs.Nots.{nots, negated}
+
+-- ---- NOT
+
+pub after_not : (inner : Inner) (room : ℕ) (ts behind : List Lexeme) → Some behind ≡ after (is_word (codes "not")) ts
+    → not_at inner room ts ≡ (not_at inner room behind >>= λ x. Ok (form.Not x.0, x.1))
+unfolding not_at
+after_not inner room [] behind e = absurd cc
+after_not inner room (t ∷ us) behind e = go (is_word (codes "not") t) refl
+  where
+    go : (b : Bool) → is_word (codes "not") t ≡ b → not_at inner room (t ∷ us) ≡ (not_at inner room behind >>= λ x. Ok (form.Not x.0, x.1))
+    go true h = let e2 : Some behind ≡ Some us = e ∙ rw h refl in let same : behind ≡ us = cc in rw (h, same) refl
+    go false h = let e2 : Some behind ≡ None = e ∙ rw h refl in absurd cc
+
+pub no_not : (inner : Inner) (room : ℕ) (ts : List Lexeme) → None ≡ after (is_word (codes "not")) ts → not_at inner room ts ≡ test_at inner room ts
+unfolding not_at
+no_not inner room [] e = refl
+no_not inner room (t ∷ us) e = go (is_word (codes "not") t) refl
+  where
+    go : (b : Bool) → is_word (codes "not") t ≡ b → not_at inner room (t ∷ us) ≡ test_at inner room (t ∷ us)
+    go true h = let e2 : None ≡ Some us = e ∙ rw h refl in absurd cc
+    go false h = rw h refl
+
+pub one_more_not : (inner : Inner) (room count : ℕ) (whole : Read Named) (ts behind : List Lexeme) → whole ≡ nots count (not_at inner room ts) → Some behind ≡ after (is_word (codes "not")) ts
+    → whole ≡ nots (count + 1) (not_at inner room behind)
+one_more_not inner room count whole ts behind e f =
+    let n : count + 1 ≡ suc count = omega arith in
+    rw n (e ∙ ap (nots count) (after_not inner room ts behind f))
+
+pub one_more_negated : (count : ℕ) (x : Named) → negated (count + 1) x ≡ form.Not (negated count x)
+one_more_negated count x = let n : count + 1 ≡ suc count = omega arith in rw n refl
+
+pub negated_inside : (n : ℕ) (x : Named) → negated n (form.Not x) ≡ form.Not (negated n x)
+negated_inside zero x = refl
+negated_inside (suc n) x = ap (λ (y : Named). form.Not y) (negated_inside n x)
+
+pub nots_read : (n : ℕ) (x : Named) (rest : List Lexeme) → nots n (Ok (x, rest)) ≡ Ok (negated n x, rest)
+nots_read zero x rest = refl
+nots_read (suc n) x rest = nots_read n (form.Not x) rest ∙ (let e = negated_inside n x in λ i. Ok (e i, rest))
+
+pub nots_fail : (n : ℕ) (f : Fault) → nots n (Err f) ≡ Err f
+nots_fail zero f = refl
+nots_fail (suc n) f = nots_fail n f
+
+-- ---- faults go through
+
+pub fails_on : {A B : Type 0} (e : ReadError) (r : Read A) (s : Read B) → ((f : Fault) → r ≡ Err f → s ≡ Err f) → Fails e r → Fails e s
+fails_on errors.NoMemory r s h p = tt
+fails_on (errors.Unexpected left) r s h p = h (Unexpected left) p
+fails_on (errors.TooDeep left) r s h p = h (Too_deep left) p
+
+pub not_fails : (inner : Inner) (room n : ℕ) (whole ts : List Lexeme) (f : Fault) → not_at inner room whole ≡ nots n (test_at inner room ts) → test_at inner room ts ≡ Err f → not_at inner room whole ≡ Err f
+not_fails inner room n whole ts f e h = e ∙ (ap (nots n) h ∙ nots_fail n f)
+
+pub not_reads : (inner : Inner) (room n : ℕ) (whole ts : List Lexeme) (x y : Named) (rest : List Lexeme) → not_at inner room whole ≡ nots n (test_at inner room ts) → test_at inner room ts ≡ Ok (x, rest)
+    → y ≡ negated n x → not_at inner room whole ≡ Ok (y, rest)
+not_reads inner room n whole ts x y rest e h same = e ∙ (ap (nots n) h ∙ (nots_read n x rest ∙ (λ i. Ok (sym same i, rest))))
+
+-- ---- chains
+
+abbrev pub or_step : ℕ → Named → List Lexeme → Read Named
+or_step room = joined form.Or (and_at (conditions most_open) room)
+
+abbrev pub and_step : ℕ → Named → List Lexeme → Read Named
+and_step room = joined form.And (not_at (conditions most_open) room)
+
+pub or_begins : (room : ℕ) (ts : List Lexeme) (x : Named) (rest : List Lexeme) → and_at (conditions most_open) room ts ≡ Ok (x, rest) → Goes (codes "or") (or_step room) (condition_at most_open room ts) x rest
+unfolding or_at
+or_begins room ts x rest e = record { on = condition_step most_open room ts ∙ rw e refl }
+
+pub or_begins_not : (room : ℕ) (ts : List Lexeme) (f : Fault) → and_at (conditions most_open) room ts ≡ Err f → condition_at most_open room ts ≡ Err f
+unfolding or_at
+or_begins_not room ts f e = condition_step most_open room ts ∙ rw e refl
+
+pub and_begins : (room : ℕ) (ts : List Lexeme) (x : Named) (rest : List Lexeme) → not_at (conditions most_open) room ts ≡ Ok (x, rest) → Goes (codes "and") (and_step room) (and_at (conditions most_open) room ts) x rest
+unfolding and_at
+and_begins room ts x rest e = record { on = rw e refl }
+
+pub and_begins_not : (room : ℕ) (ts : List Lexeme) (f : Fault) → not_at (conditions most_open) room ts ≡ Err f → and_at (conditions most_open) room ts ≡ Err f
+unfolding and_at
+and_begins_not room ts f e = rw e refl
+
+pub test_begins : (room : ℕ) (ts : List Lexeme) (x : Named) (rest : List Lexeme) → cmp_at (conditions most_open) room ts ≡ Ok (x, rest) → Goes (codes "is") tested (test_at (conditions most_open) room ts) x rest
+unfolding test_at
+test_begins room ts x rest e = record { on = rw e refl }
+
+pub test_begins_not : (room : ℕ) (ts : List Lexeme) (f : Fault) → cmp_at (conditions most_open) room ts ≡ Err f → test_at (conditions most_open) room ts ≡ Err f
+unfolding test_at
+test_begins_not room ts f e = rw e refl
+
+joined_reads : (join : Named → Named → Named) (operand : List Lexeme → Read Named) (x y : Named) (ts rest : List Lexeme) → operand ts ≡ Ok (y, rest) → joined join operand x ts ≡ Ok (join x y, rest)
+joined_reads join operand x y ts rest e = rw e refl
+
+joined_fails : (join : Named → Named → Named) (operand : List Lexeme → Read Named) (x : Named) (f : Fault) (ts : List Lexeme) → operand ts ≡ Err f → joined join operand x ts ≡ Err f
+joined_fails join operand x f ts e = rw e refl
+
+pub or_goes : (room : ℕ) (whole : Read Named) (x y z : Named) (rest behind next : List Lexeme) → Goes (codes "or") (or_step room) whole x rest → Some behind ≡ after (is_word (codes "or")) rest
+    → and_at (conditions most_open) room behind ≡ Ok (y, next) → z ≡ form.Or x y → Goes (codes "or") (or_step room) whole z next
+or_goes room whole x y z rest behind next g e h same =
+    rw same (chain_goes (codes "or") (or_step room) (joined_stays form.Or (and_at (conditions most_open) room) (and_stays most_open room)) whole x (form.Or x y) rest behind next g (sym e)
+    (joined_reads form.Or (and_at (conditions most_open) room) x y behind next h))
+
+pub or_stops : (room : ℕ) (whole : Read Named) (x : Named) (f : Fault) (rest behind : List Lexeme) → Goes (codes "or") (or_step room) whole x rest → Some behind ≡ after (is_word (codes "or")) rest
+    → and_at (conditions most_open) room behind ≡ Err f → whole ≡ Err f
+or_stops room whole x f rest behind g e h = chain_fails (codes "or") (or_step room) whole x f rest behind g (sym e) (joined_fails form.Or (and_at (conditions most_open) room) x f behind h)
+
+pub and_goes : (room : ℕ) (whole : Read Named) (x y z : Named) (rest behind next : List Lexeme) → Goes (codes "and") (and_step room) whole x rest → Some behind ≡ after (is_word (codes "and")) rest
+    → not_at (conditions most_open) room behind ≡ Ok (y, next) → z ≡ form.And x y → Goes (codes "and") (and_step room) whole z next
+and_goes room whole x y z rest behind next g e h same =
+    rw same (chain_goes (codes "and") (and_step room) (joined_stays form.And (not_at (conditions most_open) room) (not_stays most_open room)) whole x (form.And x y) rest behind next g (sym e)
+    (joined_reads form.And (not_at (conditions most_open) room) x y behind next h))
+
+pub and_stops : (room : ℕ) (whole : Read Named) (x : Named) (f : Fault) (rest behind : List Lexeme) → Goes (codes "and") (and_step room) whole x rest → Some behind ≡ after (is_word (codes "and")) rest
+    → not_at (conditions most_open) room behind ≡ Err f → whole ≡ Err f
+and_stops room whole x f rest behind g e h = chain_fails (codes "and") (and_step room) whole x f rest behind g (sym e) (joined_fails form.And (not_at (conditions most_open) room) x f behind h)
+
+pub test_goes : (whole : Read Named) (x y z : Named) (rest behind next : List Lexeme) → Goes (codes "is") tested whole x rest → Some behind ≡ after (is_word (codes "is")) rest
+    → tested x behind ≡ Ok (y, next) → z ≡ y → Goes (codes "is") tested whole z next
+test_goes whole x y z rest behind next g e h same = rw same (chain_goes (codes "is") tested tested_stays whole x y rest behind next g (sym e) h)
+
+pub test_stops : (whole : Read Named) (x : Named) (f : Fault) (rest behind : List Lexeme) → Goes (codes "is") tested whole x rest → Some behind ≡ after (is_word (codes "is")) rest
+    → tested x behind ≡ Err f → whole ≡ Err f
+test_stops whole x f rest behind g e h = chain_fails (codes "is") tested whole x f rest behind g (sym e) h
+
+pub chain_ends : (operator : List ℕ) (step : Named → List Lexeme → Read Named) (whole : Read Named) (x : Named) (rest : List Lexeme) → Goes operator step whole x rest → None ≡ after (is_word operator) rest → whole ≡ Ok (x, rest)
+chain_ends operator step whole x rest g e = chain_done operator step whole x rest g (sym e)
+
+-- ---- lists
+
+pub list_init : {A X : Type 0} (one : List Lexeme → Read A) → Stays one → (f : X → A) (ts rest : List Lexeme) (start found : List X) (first : X) → start ≡ [] → found ≡ start ++ first ∷ [] → one ts ≡ Ok (f first, rest)
+    → Lists one (list_at one (length ts) ts) (map f found) rest
+list_init one h f ts rest start found first none e g =
+    let same : found ≡ first ∷ [] = e ∙ rw none refl in
+    rw same (list_begins one h ts (f first) rest g)
+
+pub list_next : {A X : Type 0} (one : List Lexeme → Read A) → Stays one → (f : X → A) (whole : Read (List A)) (found further : List X) (more : X) (rest behind next : List Lexeme) → Lists one whole (map f found) rest
+    → Some behind ≡ after (is_sign symbols.Comma) rest → one behind ≡ Ok (f more, next) → further ≡ found ++ more ∷ [] → Lists one whole (map f further) next
+list_next one h f whole found further more rest behind next g e k same =
+    rw (same, map_push f found more) (list_goes one h whole (map f found) (f more) rest behind next g (sym e) k)
+
+pub list_next_fails : {A : Type 0} (one : List Lexeme → Read A) (whole : Read (List A)) (xs : List A) (rest behind : List Lexeme) (f : Fault) → Lists one whole xs rest
+    → Some behind ≡ after (is_sign symbols.Comma) rest → one behind ≡ Err f → whole ≡ Err f
+list_next_fails one whole xs rest behind f g e k = list_stops one whole xs f rest behind g (sym e) k
+
+pub list_ends : {A : Type 0} (one : List Lexeme → Read A) (whole : Read (List A)) (xs : List A) (rest : List Lexeme) → Lists one whole xs rest → None ≡ after (is_sign symbols.Comma) rest → whole ≡ Ok (xs, rest)
+list_ends one whole xs rest g e = list_done one whole xs rest g (sym e)

@@ -1,0 +1,3 @@
+pub mod Views
+pub mod Nots
+pub mod Parsing

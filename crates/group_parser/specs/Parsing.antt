@@ -1,0 +1,98 @@
+-- Which texts are queries over the columns of a schema, and why others are not. The order of the refusals and the limits
+-- are our own.
+use Rattle.std.specs.Prelude.{◌≡◌, ℕ, ◌-◌, ◌<◌, ◌≤◌, nat_lt, if◌then◌else◌, List, length, slice_get, Option, option_map, unwrap_or, Result, Ok, Err}
+use Rattle.query_tokens.specs.declared.fault.Fault.TheVariants as faults
+use Rattle.query_tokens.specs.declared.fault.Fault.{Fault}
+use Rattle.query_tokens.specs.declared.fault.TokenError.{TokenError}
+use Rattle.query_tokens.specs.declared.fault.TokenError.TheVariants as tokens
+use Rattle.query_tokens.specs.Words.{Lexeme, Placed}
+use Rattle.query_tokens.specs.Tokens.{tokens_in}
+use Rattle.query_tokens.specs.Spelling.{lexemes_of}
+use Rattle.packed_rows.specs.Columns.{Column}
+use Rattle.having_filter.specs.declared.error.QueryError.{QueryError}
+use Rattle.having_filter.specs.declared.error.QueryError.TheVariants as checks
+use Rattle.having_filter.specs.Forms.{Written}
+use Rattle.having_filter.specs.Meaning.{Checked}
+use Rattle.having_filter.specs.Checks.{checked}
+use Rattle.query_grammar.specs.Queries.{most_open, IsQuery}
+use Rattle.query_grammar.specs.Reading.{Read, Unexpected, Too_deep}
+use Rattle.query_grammar.specs.Whole.{query_at}
+use Rattle.query_grammar.specs.Laws.{IsUnexpected, IsTooDeep}
+use Rattle.group_parser.specs.declared.error.ParseError.{ParseError}
+use Rattle.group_parser.specs.declared.error.ParseError.TheVariants.{NoMemory, Syntax, NumberTooLarge, NoSuchColumn, NotGrouped, TypeMismatch, AggregateHere, TooMany, TooDeep}
+
+-- how many bytes a query's text may have
+abbrev pub most_bytes : ℕ
+most_bytes = 16384
+
+-- the errors of tokens and of checks
+abbrev pub of_fault : Fault → ParseError
+of_fault (faults.Syntax at) = Syntax at
+of_fault faults.NumberTooLarge = NumberTooLarge
+
+abbrev pub of_token_error : TokenError → ParseError
+of_token_error tokens.NoMemory = NoMemory
+of_token_error (tokens.Fault fault) = of_fault fault
+
+abbrev pub of_query_error : QueryError → ParseError
+of_query_error checks.NoMemory = NoMemory
+of_query_error checks.NoSuchColumn = NoSuchColumn
+of_query_error checks.NotGrouped = NotGrouped
+of_query_error checks.TypeMismatch = TypeMismatch
+of_query_error checks.AggregateHere = AggregateHere
+of_query_error checks.TooMany = TooMany
+of_query_error checks.TooDeep = TooDeep
+
+-- the place of the first of the last `left` tokens of a text; the text's length where there are none
+abbrev pub place_of_left : ℕ → List Placed → ℕ → ℕ
+place_of_left end ts left = unwrap_or (option_map (λ t. t.at) (slice_get ts (length ts - left))) end
+
+-- a text is a query over these columns: it isn't too long, its tokens are in the grammar, and the query passes the checks
+pub record Accepts (columns : List Column) (text : List ℕ) (q : Checked) : Type 0 where
+  pub tokens : List Placed
+  pub written : Written (List ℕ)
+  pub short : length text ≤ most_bytes
+  pub read : tokens_in text ≡ Ok tokens
+  pub is_query : IsQuery most_open (lexemes_of tokens) written
+  pub passed : checked columns written ≡ Ok q
+
+-- a text is no query over these columns, in the order in which that is found
+pub data Refuses (columns : List Column) (text : List ℕ) : ParseError → Type 0 where
+  -- it is too long
+  too_long : most_bytes < length text → Refuses columns text TooMany
+  -- it has no tokens
+  no_tokens : (fault : Fault) → length text ≤ most_bytes → tokens_in text ≡ Err fault → Refuses columns text (of_fault fault)
+  -- a token can't stand where it does, or the text ends where a query can't end
+  unexpected : (ts : List Placed) (left : ℕ) → length text ≤ most_bytes → tokens_in text ≡ Ok ts → IsUnexpected most_open (lexemes_of ts) left
+      → Refuses columns text (Syntax (place_of_left (length text) ts left))
+  -- a parenthesis is one too many
+  too_deep : (ts : List Placed) (left : ℕ) → length text ≤ most_bytes → tokens_in text ≡ Ok ts → IsTooDeep most_open (lexemes_of ts) left
+      → Refuses columns text TooDeep
+  -- a check doesn't pass
+  unchecked : (ts : List Placed) (written : Written (List ℕ)) (error : QueryError) → length text ≤ most_bytes → tokens_in text ≡ Ok ts
+      → IsQuery most_open (lexemes_of ts) written → checked columns written ≡ Err error → Refuses columns text (of_query_error error)
+
+-- the same by functions: the query that a text says, or the first fault
+abbrev pub query_read : ℕ → List Placed → Read (Written (List ℕ)) → Result (Written (List ℕ)) ParseError
+query_read end ts (Ok x) = Ok x.0
+query_read end ts (Err (Unexpected left)) = Err (Syntax (place_of_left end ts left))
+query_read end ts (Err (Too_deep left)) = Err TooDeep
+
+abbrev pub tokens_read : ℕ → Result (List Placed) Fault → Result (Written (List ℕ)) ParseError
+tokens_read end (Err fault) = Err (of_fault fault)
+tokens_read end (Ok ts) = query_read end ts (query_at most_open (lexemes_of ts))
+
+unfoldable pub written_in : List ℕ → Result (Written (List ℕ)) ParseError
+written_in text = if nat_lt most_bytes (length text) then Err TooMany else tokens_read (length text) (tokens_in text)
+
+-- and the query that passed the checks
+abbrev pub query_checked : Result Checked QueryError → Result Checked ParseError
+query_checked (Ok q) = Ok q
+query_checked (Err error) = Err (of_query_error error)
+
+abbrev pub written_checked : List Column → Result (Written (List ℕ)) ParseError → Result Checked ParseError
+written_checked columns (Ok written) = query_checked (checked columns written)
+written_checked columns (Err error) = Err error
+
+abbrev pub parsing : List Column → List ℕ → Result Checked ParseError
+parsing columns text = written_checked columns (written_in text)

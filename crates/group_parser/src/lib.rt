@@ -1,0 +1,18 @@
+//! Reading a query's text, and writing it again.
+#![tactic(auto)]
+
+mod conditions;
+mod cursor;
+mod error;
+mod fault;
+mod operands;
+mod parsing;
+mod printing;
+mod query;
+
+pub use error::ParseError;
+pub use parsing::parse;
+pub use printing::print;
+
+#[cfg(test)]
+mod tests;

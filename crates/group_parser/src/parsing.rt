@@ -1,0 +1,88 @@
+//! From a text to a query that was checked.
+
+ghost use Rattle.std.specs.Prelude.{◌≡◌, ◌≢◌, ◌≤◌, ◌-◌, length, slice_get, option_map, unwrap_or, IfOk, IfErr, Ok, Err};
+ghost use Rattle.std.specs.List.{AllByRecursion};
+ghost use Rattle.query_tokens.specs.Words.{all_placed};
+ghost use Rattle.query_tokens.specs.Spelling.{IsLexeme};
+ghost use Rattle.having_filter.specs.Forms.{written_of};
+ghost use Rattle.having_filter.specs.Writable.{IsWritable};
+ghost use Rattle.query_grammar.specs.Queries.{most_open};
+ghost use Rattle.query_grammar.specs.Whole.{query_at};
+ghost use Rattle.group_parser.specs.Views.{lexemes};
+ghost use Rattle.group_parser.specs.Parsing.{Accepts, Refuses, place_of_left, query_read, tokens_read, written_in, parsing};
+ghost use Rattle.group_parser.specs.declared.error.ParseError.TheVariants.{NoMemory};
+
+use crate::error::ParseError;
+use crate::fault::ReadError;
+use crate::query::query;
+use having_filter::{Query, RawQuery};
+use packed_rows::Schema;
+use query_tokens::{Token, tokens};
+use std::alloc::Global;
+
+/// The most bytes of a query's text.
+const MOST_BYTES: usize = 16_384;
+
+/// The place of the first of the last tokens of a text, of which so many are left; the text's length where there are none.
+fn place_of_left(end: usize, tokens: &[Token], left: usize) -> usize
+    ensures { result ≡ place_of_left end (all_placed tokens.now) left }
+{
+    match tokens.get(tokens.len().saturating_sub(left)) {
+        Some(token) => token.at,
+        None => end,
+    }
+}
+
+/// The query that tokens of a text of this length say.
+fn read_tokens(alloc: Global, end: usize, tokens: &[Token]) -> Result<RawQuery, ParseError>
+    ensures read { IfOk result (λ raw. query_read end (all_placed tokens.now)
+        (query_at most_open (lexemes tokens.now)) ≡ Ok (written_of raw)) }
+    ensures refused { IfErr result (λ e. e ≢ NoMemory → query_read end (all_placed tokens.now)
+        (query_at most_open (lexemes tokens.now)) ≡ Err e) }
+{
+    match query(alloc, tokens) {
+        Ok(raw) => Ok(raw),
+        Err(ReadError::NoMemory) => Err(ParseError::NoMemory),
+        Err(ReadError::Unexpected(left)) => Err(ParseError::Syntax {
+            at: place_of_left(end, tokens, left),
+        }),
+        Err(ReadError::TooDeep(_)) => Err(ParseError::TooDeep),
+    }
+}
+
+/// The query that a text says, before it is checked.
+#[tactic(auto, unfolding(crate::specs::Parsing::written_in))]
+fn read_text(alloc: Global, text: &str) -> Result<RawQuery, ParseError>
+    ensures read { IfOk result (λ raw. written_in text.now ≡ Ok (written_of raw)) }
+    ensures refused { IfErr result (λ e. e ≢ NoMemory → written_in text.now ≡ Err e) }
+{
+    if text.len() > MOST_BYTES {
+        return Err(ParseError::TooMany);
+    }
+    match tokens(alloc, text) {
+        Ok(found) => read_tokens(alloc, text.len(), &found),
+        Err(error) => Err(ParseError::from(error)),
+    }
+}
+
+/// The query that a text says over the columns of a schema.
+///
+/// # Errors
+///
+/// The first of these: `TooMany` for a text of more than 16,384 bytes; `Syntax` or `NumberTooLarge` for the first
+/// fault of its tokens; `Syntax` at the first token after which no query can follow, or at the text's end, or `TooDeep`
+/// at a parenthesis of a condition if 64 are open, whichever comes first, the condition of a FILTER counting its own;
+/// and then the errors of [`Query::check`].
+#[tactic(auto, using(crate::proofs::ParseLaws::accepts, crate::proofs::ParseLaws::refuses_text, crate::proofs::ParseLaws::refuses_query, crate::proofs::ParseLaws::can_be_written))]
+pub fn parse(alloc: Global, schema: &Schema, text: &str) -> Result<Query, ParseError>
+    ensures accepted { IfOk result (λ q. Accepts schema.now text.now q) }
+    ensures refused { IfErr result (λ e. e ≢ NoMemory → Refuses schema.now text.now e) }
+    ensures parsed { IfOk result (λ q. parsing schema.now text.now ≡ Ok q) }
+    ensures first_fault { IfErr result (λ e. e ≢ NoMemory → parsing schema.now text.now ≡ Err e) }
+{
+    let raw = read_text(alloc, text)?;
+    match Query::check(alloc, schema, &raw) {
+        Ok(query) => Ok(query),
+        Err(error) => Err(ParseError::from(error)),
+    }
+}

@@ -1,0 +1,185 @@
+//! Reading a whole query.
+
+ghost use Rattle.std.specs.Prelude.{◌≡◌, ◌<◌, ◌≤◌, [], map, option_map, IfOk, length, string_bytes, codes};
+ghost use Rattle.having_filter.specs.Forms.{written_of, items_of};
+ghost use Rattle.query_grammar.specs.Queries.{most_open};
+ghost use Rattle.query_grammar.specs.Reading.{name_at};
+ghost use Rattle.query_grammar.specs.Whole.{item_value_at, alias_or_none, alias_at, item_at, list_at, clause_at, keys_at, end_at, query_at};
+ghost use Rattle.group_parser.specs.Views.{lexemes, condition_read, item_read, alias_read, Gives};
+
+use crate::conditions::condition;
+use crate::cursor::{after_symbol, after_word, expect_word, name};
+use crate::fault::{Read, ReadError};
+use crate::operands::{MOST_OPEN, column_or_call};
+use having_filter::{Cond, Item, RawQuery};
+use query_tokens::{Symbol, Token, Word, is_reserved};
+use std::alloc::Global;
+
+/// A column or a call.
+#[tactic(auto, unfolding(query_grammar::specs::Whole::item_value_at))]
+fn item_value<'a>(alloc: Global, tokens: &'a [Token]) -> Read<'a, Item<String>>
+    ensures read { Gives (λ x. (item_read x.0, lexemes x.1.now)) result
+        (item_value_at most_open (lexemes tokens.now)) }
+    ensures shorter { IfOk result (λ x. length x.1.now < length tokens.now) }
+{
+    match tokens {
+        [first, rest @ ..] => match &first.word {
+            Word::Name(name) => {
+                if is_reserved(name.as_str()) {
+                    return Err(ReadError::Unexpected(tokens.len()));
+                }
+                column_or_call(alloc, name.as_str(), rest)
+            }
+            _ => Err(ReadError::Unexpected(tokens.len())),
+        },
+        _ => Err(ReadError::Unexpected(tokens.len())),
+    }
+}
+
+/// A name, if one stands here.
+#[tactic(auto, unfolding(query_grammar::specs::Whole::alias_or_none))]
+fn bare_alias<'a>(alloc: Global, tokens: &'a [Token]) -> Read<'a, Option<String>>
+    ensures read { Gives (λ x. (alias_read x.0, lexemes x.1.now)) result
+        (alias_or_none (lexemes tokens.now)) }
+    ensures shorter { IfOk result (λ x. length x.1.now ≤ length tokens.now) }
+{
+    match tokens {
+        [first, rest @ ..] => match &first.word {
+            Word::Name(name) => {
+                if is_reserved(name.as_str()) {
+                    return Ok((None, tokens));
+                }
+                Ok((Some(String::from_str(alloc, name.as_str())?), rest))
+            }
+            _ => Ok((None, tokens)),
+        },
+        _ => Ok((None, tokens)),
+    }
+}
+
+/// The alias of an item, if it has one.
+#[tactic(auto, unfolding(query_grammar::specs::Whole::alias_at))]
+fn alias<'a>(alloc: Global, tokens: &'a [Token]) -> Read<'a, Option<String>>
+    ensures read { Gives (λ x. (alias_read x.0, lexemes x.1.now)) result
+        (alias_at (lexemes tokens.now)) }
+    ensures shorter { IfOk result (λ x. length x.1.now ≤ length tokens.now) }
+{
+    if let Some(behind) = after_word(tokens, "as") {
+        let (name, rest) = name(alloc, behind)?;
+        return Ok((Some(name), rest));
+    }
+    bare_alias(alloc, tokens)
+}
+
+/// An item and its alias, if it has one.
+#[tactic(auto, unfolding(query_grammar::specs::Whole::item_at))]
+fn item<'a>(alloc: Global, tokens: &'a [Token]) -> Read<'a, (Item<String>, Option<String>)>
+    ensures read { Gives (λ x. ((item_read x.0.0, alias_read x.0.1), lexemes x.1.now)) result
+        (item_at most_open (lexemes tokens.now)) }
+    ensures shorter { IfOk result (λ x. length x.1.now < length tokens.now) }
+{
+    let (value, rest) = item_value(alloc, tokens)?;
+    let (alias, rest) = alias(alloc, rest)?;
+    Ok(((value, alias), rest))
+}
+
+/// The items, one or more, between commas.
+fn items<'a>(alloc: Global, tokens: &'a [Token]) -> Read<'a, Vec<(Item<String>, Option<String>)>>
+    ensures read { Gives (λ x. (items_of x.0.items, lexemes x.1.now)) result
+        (list_at (item_at most_open) (length (lexemes tokens.now)) (lexemes tokens.now)) }
+    ensures shorter { IfOk result (λ x. length x.1.now < length tokens.now) }
+{
+    let (first, mut rest) = item(alloc, tokens)?;
+    let mut found = Vec::new(alloc);
+    found.push(first)?;
+    while let Some(behind) = after_symbol(rest, Symbol::Comma) {
+        let (more, next) = item(alloc, behind)?;
+        found.push(more)?;
+        rest = next;
+    }
+    Ok((found, rest))
+}
+
+/// Names, one or more, between commas.
+fn names<'a>(alloc: Global, tokens: &'a [Token]) -> Read<'a, Vec<String>>
+    ensures read { Gives (λ x. (map string_bytes x.0.items, lexemes x.1.now)) result
+        (list_at name_at (length (lexemes tokens.now)) (lexemes tokens.now)) }
+    ensures shorter { IfOk result (λ x. length x.1.now < length tokens.now) }
+{
+    let (first, mut rest) = name(alloc, tokens)?;
+    let mut found = Vec::new(alloc);
+    found.push(first)?;
+    while let Some(behind) = after_symbol(rest, Symbol::Comma) {
+        let (more, next) = name(alloc, behind)?;
+        found.push(more)?;
+        rest = next;
+    }
+    Ok((found, rest))
+}
+
+/// The columns of GROUP BY, or none.
+#[tactic(auto, unfolding(query_grammar::specs::Whole::keys_at))]
+fn keys<'a>(alloc: Global, tokens: &'a [Token]) -> Read<'a, Vec<String>>
+    ensures { Gives (λ x. (map string_bytes x.0.items, lexemes x.1.now)) result
+        (keys_at (lexemes tokens.now)) }
+{
+    match after_word(tokens, "group") {
+        Some(behind) => {
+            let behind = expect_word(behind, "by")?;
+            names(alloc, behind)
+        }
+        None => Ok((Vec::new(alloc), tokens)),
+    }
+}
+
+/// A condition behind this word, or none.
+#[tactic(auto, unfolding(query_grammar::specs::Whole::clause_at))]
+fn clause<'a>(alloc: Global, word: &str, tokens: &'a [Token]) -> Read<'a, Option<Cond<String>>>
+    ensures { Gives (λ x. (option_map condition_read x.0, lexemes x.1.now)) result
+        (clause_at most_open word.now (lexemes tokens.now)) }
+{
+    match after_word(tokens, word) {
+        Some(behind) => {
+            let (found, rest) = condition(alloc, MOST_OPEN, behind)?;
+            Ok((Some(found), rest))
+        }
+        None => Ok((None, tokens)),
+    }
+}
+
+/// The end of a query: a semicolon or none, and no more tokens.
+#[tactic(auto, unfolding(query_grammar::specs::Whole::end_at))]
+fn end(tokens: &[Token]) -> Result<(), ReadError>
+    ensures { Gives (λ _. (tt, [])) result (end_at (lexemes tokens.now)) }
+{
+    let rest = match after_symbol(tokens, Symbol::Semicolon) {
+        Some(behind) => behind,
+        None => tokens,
+    };
+    match rest {
+        [] => Ok(()),
+        _ => Err(ReadError::Unexpected(rest.len())),
+    }
+}
+
+/// The query that tokens say, all of them. It takes time linear in their number, and calls itself as deep as parentheses
+/// and FILTERs stand in one another.
+#[tactic(auto, unfolding(query_grammar::specs::Whole::query_at))]
+pub(crate) fn query(alloc: Global, tokens: &[Token]) -> Result<RawQuery, ReadError>
+    ensures { Gives (λ q. (written_of q, [])) result (query_at most_open (lexemes tokens.now)) }
+{
+    let rest = expect_word(tokens, "select")?;
+    let (items, rest) = items(alloc, rest)?;
+    let rest = expect_word(rest, "from")?;
+    let rest = expect_word(rest, "batches")?;
+    let (condition, rest) = clause(alloc, "where", rest)?;
+    let (keys, rest) = keys(alloc, rest)?;
+    let (having, rest) = clause(alloc, "having", rest)?;
+    end(rest)?;
+    Ok(RawQuery {
+        items,
+        condition,
+        keys,
+        having,
+    })
+}

@@ -1,0 +1,183 @@
+-- What inputs give.
+use Rattle.std.specs.Prelude.{◌≡◌, refl, ℕ, zero, suc, ◌+◌, ◌<◌, ◌≤◌, true, false, cond, List, [], ◌∷◌, ◌++◌, length, map, find, take, Some, option_map, IfSome, slice_get, slice_index_or}
+use Rattle.std.proofs.Common.{sym, ◌∙◌, ap, subst, arith, add-one, append-nil}
+use Rattle.std.proofs.lemmas.List.{length-map, get_or-map, map-append}
+use Rattle.std.specs.Borrow.{Bor}
+use Rattle.std.specs.declared.alloc.Global.{Global}
+use Rattle.std.specs.declared.vec.Vec.{Vec}
+use Rattle.std.specs.declared.cmp.Ordering.{Ordering}
+use Rattle.std.specs.declared.cmp.Ordering.TheVariants.{Less}
+use Rattle.std.specs.Ordering.{nat_cmp}
+use Rattle.std.specs.Cmp.Lexicographic.{slice_cmp}
+use Rattle.std.specs.List.{AllByRecursion}
+use Rattle.std.specs.List.Sorted.{IsStrictlySortedBy}
+use Rattle.std.specs.Map as of_map
+use Rattle.grouping_model.specs.Datum.{Row, Kind, HasKinds, row_cmp, same_row}
+use Rattle.grouping_model.specs.Query.{Query}
+use Rattle.grouping_model.specs.Grouping.{Group}
+use Rattle.grouping_model.specs.Parts.{keys_of, partials_at}
+use Rattle.packed_rows.specs.Packing.{packing}
+use Rattle.packed_rows.proofs.PackingOrder.{packed_order, row_apart}
+use Rattle.agg_protocol.specs.States.{most_rows}
+use Rattle.agg_library.specs.StateRows.{AllWithin}
+use Rattle.having_filter.specs.Kept.{key_kinds}
+use Rattle.hash_agg.specs.Runs.{Entry, entries_of, packed_keys, Rises}
+use Rattle.hash_agg.specs.Standing.{StandsFor, AreGroups}
+use Rattle.hash_agg.specs.declared.input.Input.{Input}
+use Rattle.hash_agg.specs.declared.input.Input.TheVariants.{Rows, Groups}
+use Rattle.hash_agg.specs.Inputs.{bytes_of, ArePackings, rows_in}
+use Rattle.hash_agg.specs.Adding.{rows_added, groups_added, Given, Of_rows, Of_groups, Gives, given_added}
+use Rattle.hash_agg.proofs.StateLaws.{all_within}
+use Rattle.hash_agg.proofs.EntryLaws.{Item, key_cmp}
+use Rattle.hash_agg.proofs.MergeLaws.{AreApart, rising_apart, found_still, none_before}
+
+-- ---- places in lists
+
+pub take_found : {X : Type 0} (xs : List X) (i : ℕ) (x : X) → slice_get xs i ≡ Some x → take (i + 1) xs ≡ take i xs ++ x ∷ []
+take_found [] i x e = absurd cc
+take_found (y ∷ xs) zero x e = let same : y ≡ x = cc in ap (λ y. y ∷ []) same
+take_found (y ∷ xs) (suc i) x e = ap (λ k. take k (y ∷ xs)) (add-one (suc i)) ∙ ap (λ k. y ∷ take k xs) (sym (add-one i)) ∙ ap (λ zs. y ∷ zs) (take_found xs i x e)
+
+-- ---- packed rows
+
+pub packed_once : (kinds : List Kind) (bytes : List ℕ) (x y : Row) → HasKinds kinds x → HasKinds kinds y → bytes ≡ packing x → bytes ≡ packing y → x ≡ y
+packed_once kinds bytes x y hx hy ex ey = (row_apart kinds x y [] [] hx hy (append-nil (packing x) ∙ sym ex ∙ ey ∙ sym (append-nil (packing y)))).0
+
+-- the row at a place, and its packing
+pub record RowAt (kinds : List Kind) (rows : List Row) (i : ℕ) (bytes : List ℕ) : Type 0 where
+  pub row : Row
+  pub at : slice_get rows i ≡ Some row
+  pub has : HasKinds kinds row
+  pub is : bytes ≡ packing row
+
+row_within : (kinds : List Kind) (rows : List Row) (i : ℕ) (bytes : List ℕ) → AllByRecursion (HasKinds kinds) rows → i < length rows → bytes ≡ slice_index_or (map packing rows) i [] → RowAt kinds rows i bytes
+row_within kinds [] i bytes has low is = absurd (omega arith)
+row_within kinds (row ∷ rows) zero bytes (first, has) low is = record { row = row; at = refl; has = first; is = is }
+row_within kinds (row ∷ rows) (suc i) bytes (first, has) low is =
+    let found = row_within kinds rows i bytes has (omega arith) is in
+    record { row = found.row; at = found.at; has = found.has; is = found.is }
+
+pub row_at : (kinds : List Kind) (packed : List (Vec ℕ Global)) (rows : List Row) (i : ℕ) (bytes : Vec ℕ Global) → ArePackings kinds (bytes_of packed) rows → i < length packed → bytes ≡ slice_index_or packed i bytes → RowAt kinds rows i bytes.items
+row_at kinds packed rows i bytes are low is =
+    let many : length packed ≡ length rows = sym (length-map packed (λ (v : Vec ℕ Global). v.items)) ∙ ap length are.packings_are ∙ length-map rows packing in
+    row_within kinds rows i bytes.items are.of_kinds (omega (arith, low, many))
+    (ap (λ (v : Vec ℕ Global). v.items) is ∙ sym (get_or-map (λ (v : Vec ℕ Global). v.items) packed i bytes [] low) ∙ ap (λ ps. slice_index_or ps i []) are.packings_are)
+
+pub rows_long : (kinds : List Kind) (packed : List (Vec ℕ Global)) (rows : List Row) → ArePackings kinds (bytes_of packed) rows → length packed ≡ length rows
+rows_long kinds packed rows are = sym (length-map packed (λ (v : Vec ℕ Global). v.items)) ∙ ap length are.packings_are ∙ length-map rows packing
+
+-- ---- runs
+
+-- an entry at a place, and the group that it stands for
+pub record GroupAt (q : Query) (most : ℕ) (groups : List Group) (i : ℕ) (entry : Entry) : Type 0 where
+  pub group : Group
+  pub at : slice_get groups i ≡ Some group
+  pub stands : StandsFor q most entry group
+
+pub group_at : (q : Query) (most : ℕ) (items : List Item) (groups : List Group) (i : ℕ) (item : Item) → AreGroups q most (entries_of items) groups → i < length items → item ≡ slice_index_or items i item → GroupAt q most groups i (item.0.items, item.1.items)
+group_at q most [] groups i item are low is = absurd (omega arith)
+group_at q most (e ∷ items) [] i item are low is = absurd are
+group_at q most (e ∷ items) (g ∷ groups) zero item (first, rest) low is =
+    record { group = g; at = refl; stands = subst (λ (e : Item). StandsFor q most (e.0.items, e.1.items) g) (sym is) first }
+group_at q most (e ∷ items) (g ∷ groups) (suc i) item (first, rest) low is =
+    let found = group_at q most items groups i item rest (omega arith) is in
+    record { group = found.group; at = found.at; stands = found.stands }
+
+pub groups_long : (q : Query) (most : ℕ) (run : List Entry) (groups : List Group) → AreGroups q most run groups → length run ≡ length groups
+groups_long q most [] [] are = refl
+groups_long q most [] (g ∷ groups) are = absurd are
+groups_long q most (e ∷ run) [] are = absurd are
+groups_long q most (e ∷ run) (g ∷ groups) (first, rest) = let long : length run ≡ length groups = groups_long q most run groups rest in omega (arith, long)
+
+-- the keys of a run
+pub keys_packed : (q : Query) (most : ℕ) (run : List Entry) (groups : List Group) → AreGroups q most run groups → packed_keys run ≡ map packing (keys_of groups)
+keys_packed q most [] [] are = refl
+keys_packed q most [] (g ∷ groups) are = absurd are
+keys_packed q most (e ∷ run) [] are = absurd are
+keys_packed q most (e ∷ run) (g ∷ groups) (first, rest) = λ i. first.key i ∷ keys_packed q most run groups rest i
+
+pub keys_of_kinds : (q : Query) (most : ℕ) (run : List Entry) (groups : List Group) → AreGroups q most run groups → AllByRecursion (HasKinds (key_kinds q)) (keys_of groups)
+keys_of_kinds q most [] [] are = tt
+keys_of_kinds q most [] (g ∷ groups) are = absurd are
+keys_of_kinds q most (e ∷ run) [] are = absurd are
+keys_of_kinds q most (e ∷ run) (g ∷ groups) (first, rest) = (first.of_kinds, keys_of_kinds q most run groups rest)
+
+-- rising packed keys are those of rising keys
+pub rises_keys : (kinds : List Kind) (ks : List Row) → AllByRecursion (HasKinds kinds) ks → IsStrictlySortedBy (slice_cmp nat_cmp) (map packing ks) → IsStrictlySortedBy row_cmp ks
+unfolding IsStrictlySortedBy
+rises_keys kinds [] has rising = tt
+rises_keys kinds (k ∷ ks) (first, has) (above, rising) = (each ks has above, rises_keys kinds ks has rising)
+  where
+    each : (ls : List Row) → AllByRecursion (HasKinds kinds) ls → AllByRecursion (λ z. slice_cmp nat_cmp (packing k) z ≡ Less) (map packing ls) → AllByRecursion (λ z. row_cmp k z ≡ Less) ls
+    each [] has all = tt
+    each (l ∷ ls) (one, has) (below, all) = (sym (packed_order kinds k l first one) ∙ below, each ls has all)
+
+pub run_apart : (q : Query) (most : ℕ) (run : List Entry) (groups : List Group) → AreGroups q most run groups → Rises run → AreApart (keys_of groups)
+run_apart q most run groups are rises =
+    rising_apart (keys_of groups) (rises_keys (key_kinds q) (keys_of groups) (keys_of_kinds q most run groups are) (subst (IsStrictlySortedBy (slice_cmp nat_cmp)) (keys_packed q most run groups are) rises))
+
+-- what a group's states count at most
+pub found_within : (q : Query) (most : ℕ) (run : List Entry) (groups : List Group) (key : Row) → AreGroups q most run groups → IfSome (partials_at key groups) (AllWithin most)
+found_within q most [] [] key are = tt
+found_within q most [] (g ∷ groups) key are = absurd are
+found_within q most (e ∷ run) [] key are = absurd are
+found_within q most (e ∷ run) (g ∷ groups) key (first, rest) =
+    elim (same_row g.0 key) as (λ b. IfSome (option_map (λ (group : Group). group.1) (cond b (Some g) (find (λ (group : Group). same_row group.0 key) groups))) (AllWithin most)) [
+      | true ↦ all_within most first.states.kinds e.1 g.1 first.states.denote
+      | false ↦ found_within q most run groups key rest
+    ]
+
+-- a group's key is new where those before it were added
+pub within_at : (q : Query) (m n : ℕ) (old run : List Entry) (groups more : List Group) (i : ℕ) (g : Group) → AreGroups q m old groups → AreGroups q n run more → Rises run → slice_get more i ≡ Some g → IfSome (partials_at g.0 (groups_added q groups (take i more))) (AllWithin m)
+within_at q m n old run groups more i g are new rises at =
+    subst (λ o. IfSome o (AllWithin m)) (sym (found_still q g.0 groups (take i more) (none_before more i g (run_apart q n run more new rises) at)))
+    (found_within q m old groups g.0 are)
+
+-- ---- the entries of a map
+
+-- the front of a rising list rises
+pub front_rises : {X : Type 0} (cmp : X → X → Ordering) (xs ys : List X) → IsStrictlySortedBy cmp (xs ++ ys) → IsStrictlySortedBy cmp xs
+unfolding IsStrictlySortedBy
+front_rises {X = X} cmp [] ys rising = tt
+front_rises {X = X} cmp (x ∷ xs) ys (above, rising) = (front xs above, front_rises cmp xs ys rising)
+  where
+    front : (zs : List X) → AllByRecursion (λ z. cmp x z ≡ Less) (zs ++ ys) → AllByRecursion (λ z. cmp x z ≡ Less) zs
+    front [] all = tt
+    front (z ∷ zs) (first, all) = (first, front zs all)
+
+pub run_front_rises : (run rest : List Entry) → Rises (run ++ rest) → Rises run
+run_front_rises run rest rises = front_rises (slice_cmp nat_cmp) (packed_keys run) (packed_keys rest) (subst (IsStrictlySortedBy (slice_cmp nat_cmp)) (map-append (λ (e : Entry). e.0) run rest) rises)
+
+-- the entries of a map rise by their bytes
+pub map_rises : (items : List Item) → IsStrictlySortedBy key_cmp (of_map.keys_of items) → Rises (entries_of items)
+unfolding IsStrictlySortedBy
+map_rises [] rising = tt
+map_rises (e ∷ items) (above, rising) = (each items above, map_rises items rising)
+  where
+    each : (es : List Item) → AllByRecursion (λ z. key_cmp e.0 z ≡ Less) (of_map.keys_of es) → AllByRecursion (λ z. slice_cmp nat_cmp e.0.items z ≡ Less) (packed_keys (entries_of es))
+    each [] all = tt
+    each (f ∷ es) (first, all) = (first, each es all)
+
+-- ---- one input
+
+pub given_rows : (q : Query) (most : ℕ) (groups : List Group) (given : Given) (input : Input) (packed : Bor (List (Vec ℕ Global))) (new : List Entry) → input ≡ Rows packed → most + rows_in input ≤ most_rows → Gives q input given
+    → ((list : List Row) → most + length packed.now ≤ most_rows → ArePackings q.kinds (bytes_of packed.now) list → AreGroups q (most + length packed.now) new (rows_added q groups list))
+    → AreGroups q (most + rows_in input) new (given_added q groups given)
+given_rows q most groups given input packed new is low gives added =
+    subst (λ i. AreGroups q (most + rows_in i) new (given_added q groups given)) (sym is)
+    (cases given (subst (λ i. most + rows_in i ≤ most_rows) is low) (subst (λ i. Gives q i given) is gives))
+  where
+    cases : (given : Given) → most + length packed.now ≤ most_rows → Gives q (Rows packed) given → AreGroups q (most + length packed.now) new (given_added q groups given)
+    cases (Of_rows list) low gives = added list low gives
+    cases (Of_groups more) low gives = absurd gives
+
+pub given_groups : (q : Query) (most : ℕ) (groups : List Group) (given : Given) (input : Input) (run : Bor (List Entry)) (rows : ℕ) (new : List Entry) → input ≡ Groups run rows → most + rows_in input ≤ most_rows → Gives q input given
+    → ((more : List Group) → most + rows ≤ most_rows → AreGroups q rows run.now more → AreGroups q (most + rows) new (groups_added q groups more))
+    → AreGroups q (most + rows_in input) new (given_added q groups given)
+given_groups q most groups given input run rows new is low gives added =
+    subst (λ i. AreGroups q (most + rows_in i) new (given_added q groups given)) (sym is)
+    (cases given (subst (λ i. most + rows_in i ≤ most_rows) is low) (subst (λ i. Gives q i given) is gives))
+  where
+    cases : (given : Given) → most + rows ≤ most_rows → Gives q (Groups run rows) given → AreGroups q (most + rows) new (given_added q groups given)
+    cases (Of_rows list) low gives = absurd gives
+    cases (Of_groups more) low gives = added more low gives

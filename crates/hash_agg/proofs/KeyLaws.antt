@@ -1,0 +1,64 @@
+-- The keys of rows.
+use Rattle.std.specs.Prelude.{◌≡◌, refl, ℕ, zero, suc, ◌+◌, ◌<◌, List, [], ◌∷◌, ◌++◌, length, map, take, slice_index_or, Result, Ok, Err, IfOk}
+use Rattle.std.proofs.Common.{sym, ◌∙◌, ap, arith}
+use Rattle.std.proofs.lemmas.List.{get_or-map, map-append, take_more}
+use Rattle.std.specs.List.{AllByRecursion}
+use Rattle.grouping_model.specs.Datum.{Null, Row, Kind, Bigint_kind, HasKind, HasKinds, at_place}
+use Rattle.grouping_model.specs.Query.{Query}
+use Rattle.grouping_model.specs.Grouping.{key_of}
+use Rattle.packed_rows.specs.View.{datum_of, row_of}
+use Rattle.packed_rows.specs.declared.value.Value.{Value}
+use Rattle.agg_protocol.proofs.ArgumentLaws.{length-row_of}
+use Rattle.having_filter.specs.Kept.{key_kinds}
+
+pub all_index : {X : Type 0} (P : X → Type 0) (xs : List X) (i : ℕ) (d : X) → AllByRecursion P xs → i < length xs → P (slice_index_or xs i d)
+all_index P [] i d all low = absurd (omega arith)
+all_index P (x ∷ xs) zero d (p, all) low = p
+all_index P (x ∷ xs) (suc i) d (p, all) low = all_index P xs i d all (omega arith)
+
+pub kinds_long : (kinds : List Kind) (row : Row) → HasKinds kinds row → length row ≡ length kinds
+kinds_long [] [] has = refl
+kinds_long [] (value ∷ row) has = absurd has
+kinds_long (kind ∷ kinds) [] has = absurd has
+kinds_long (kind ∷ kinds) (value ∷ row) (first, has) = let rest : length row ≡ length kinds = kinds_long kinds row has in omega (arith, rest)
+
+kind_at : (kinds : List Kind) (row : Row) (place : ℕ) → HasKinds kinds row → place < length kinds → HasKind (slice_index_or kinds place Bigint_kind) (at_place row place)
+kind_at [] row place has low = absurd (omega arith)
+kind_at (kind ∷ kinds) [] place has low = absurd has
+kind_at (kind ∷ kinds) (value ∷ row) zero (first, has) low = first
+kind_at (kind ∷ kinds) (value ∷ row) (suc place) (first, has) low = kind_at kinds row place has (omega arith)
+
+-- a key has the kinds of its columns
+pub key_has : (q : Query) (row : Row) → AllByRecursion (λ place. place < length q.kinds) q.keys → HasKinds q.kinds row → HasKinds (key_kinds q) (key_of q row)
+key_has q row within has = each q.keys within
+  where
+    each : (keys : List ℕ) → AllByRecursion (λ place. place < length q.kinds) keys → HasKinds (map (λ place. slice_index_or q.kinds place Bigint_kind) keys) (map (at_place row) keys)
+    each [] within = tt
+    each (place ∷ keys) (low, within) = (kind_at q.kinds row place has low, each keys within)
+
+-- a column of GROUP BY is one of the row
+pub place_within : (kinds : List Kind) (values : List Value) (keys : List ℕ) (i : ℕ) → HasKinds kinds (row_of values) → AllByRecursion (λ place. place < length kinds) keys → i < length keys → slice_index_or keys i 0 < length values
+place_within kinds values keys i has within low =
+    let place : slice_index_or keys i 0 < length kinds = all_index (λ place. place < length kinds) keys i 0 within low in
+    let long : length (row_of values) ≡ length kinds = kinds_long kinds (row_of values) has in
+    let many : length (row_of values) ≡ length values = length-row_of values in
+    omega (arith, place, long, many)
+
+-- the values of one more column
+pub key_more : (values so_far : List Value) (keys : List ℕ) (i : ℕ) (default : Value) → i < length keys → slice_index_or keys i 0 < length values → row_of so_far ≡ map (at_place (row_of values)) (take i keys)
+    → row_of (so_far ++ slice_index_or values (slice_index_or keys i 0) default ∷ []) ≡ map (at_place (row_of values)) (take (i + 1) keys)
+key_more values so_far keys i default low within before =
+    let place : ℕ = slice_index_or keys i 0 in
+    map-append datum_of so_far (slice_index_or values place default ∷ [])
+    ∙ (λ j. before j ++ sym (get_or-map datum_of values place default Null within) j ∷ [])
+    ∙ sym (map-append (at_place (row_of values)) (take i keys) (place ∷ []))
+    ∙ ap (map (at_place (row_of values))) (sym (take_more keys i 0 low))
+
+-- what holds of a success gives what else holds of it
+pub if_ok : {T E : Type 0} (r : Result T E) (P Q : T → Type 0) → ((x : T) → P x → Q x) → IfOk r P → IfOk r Q
+if_ok (Ok x) P Q gives holds = gives x holds
+if_ok (Err e) P Q gives holds = holds
+
+pub if_ok_both : {T E : Type 0} (r : Result T E) (P Q R : T → Type 0) → ((x : T) → P x → Q x → R x) → IfOk r P → IfOk r Q → IfOk r R
+if_ok_both (Ok x) P Q R gives p q = gives x p q
+if_ok_both (Err e) P Q R gives p q = p

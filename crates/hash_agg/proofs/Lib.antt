@@ -1,0 +1,6 @@
+pub mod StateLaws
+pub mod EntryLaws
+pub mod KeyLaws
+pub mod MergeLaws
+pub mod InputLaws
+pub mod WholeLaws

@@ -1,0 +1,153 @@
+-- What all inputs together give.
+use Rattle.std.specs.Prelude.{◌≡◌, refl, ℕ, zero, suc, ◌<◌, ◌≤◌, List, [], ◌∷◌, ◌++◌, length, map, Some, slice_get, slice_index_or, sum_by, take}
+use Rattle.std.proofs.Common.{sym, ◌∙◌, ap, subst, arith, append-nil, append_assoc}
+use Rattle.std.proofs.lemmas.List.{length-map, take_all}
+use Rattle.std.specs.List.{AllByRecursion}
+use Rattle.grouping_model.specs.Datum.{Row, Kind, HasKinds, row_cmp}
+use Rattle.grouping_model.specs.Rising.{distinct}
+use Rattle.grouping_model.specs.Query.{Query}
+use Rattle.grouping_model.specs.Grouping.{Group, part}
+use Rattle.grouping_model.specs.Parts.{keys_of}
+use Rattle.packed_rows.specs.Packing.{packing}
+use Rattle.having_filter.specs.Kept.{key_kinds}
+use Rattle.hash_agg.specs.declared.input.Input.{Input}
+use Rattle.hash_agg.specs.declared.input.Input.TheVariants.{Rows, Groups}
+use Rattle.hash_agg.specs.Runs.{Entry, packed_keys}
+use Rattle.hash_agg.specs.Standing.{AreGroups}
+use Rattle.hash_agg.specs.Inputs.{rows_in, all_rows, on_end, IsInput, AreInputsOf, AllBring}
+use Rattle.hash_agg.specs.Adding.{rows_added, groups_added, Given, Of_rows, Of_groups, Gives, AllGive, given_added, all_added}
+use Rattle.hash_agg.proofs.MergeLaws.{rows_added_part, groups_added_part, puts, puts-append, puts_all, keys_of-rows_added, keys_of-groups_added, distinct_few}
+use Rattle.hash_agg.proofs.InputLaws.{packed_once, keys_packed, keys_of_kinds}
+
+-- what may be aggregated gives something
+one_given : (q : Query) (input : Input) → IsInput q input → (given : Given) × Gives q input given
+one_given q (Rows packed) (rows, are) = (Of_rows rows, are)
+one_given q (Groups run most) is = (Of_groups is.groups, is.are)
+
+pub all_given : (q : Query) (inputs : List Input) → AllByRecursion (IsInput q) inputs → (givens : List Given) × AllGive q inputs givens
+all_given q [] all = ([], tt)
+all_given q (input ∷ inputs) (first, all) =
+    let one = one_given q input first in
+    let rest = all_given q inputs all in
+    (one.0 ∷ rest.0, (one.1, rest.1))
+
+-- an input at a place, and what it gives
+pub record GivenAt (q : Query) (givens : List Given) (i : ℕ) (input : Input) : Type 0 where
+  pub given : Given
+  pub at : slice_get givens i ≡ Some given
+  pub gives : Gives q input given
+
+pub given_at : (q : Query) (inputs : List Input) (givens : List Given) (i : ℕ) (input : Input) → AllGive q inputs givens → i < length inputs → input ≡ slice_index_or inputs i input → GivenAt q givens i input
+given_at q [] givens i input all low is = absurd (omega arith)
+given_at q (x ∷ inputs) [] i input all low is = absurd all
+given_at q (x ∷ inputs) (g ∷ givens) zero input (first, all) low is = record { given = g; at = refl; gives = subst (λ x. Gives q x g) (sym is) first }
+given_at q (x ∷ inputs) (g ∷ givens) (suc i) input (first, all) low is =
+    let found = given_at q inputs givens i input all (omega arith) is in
+    record { given = found.given; at = found.at; gives = found.gives }
+
+pub given_long : (q : Query) (inputs : List Input) (givens : List Given) → AllGive q inputs givens → length inputs ≡ length givens
+given_long q [] [] all = refl
+given_long q [] (g ∷ givens) all = absurd all
+given_long q (x ∷ inputs) [] all = absurd all
+given_long q (x ∷ inputs) (g ∷ givens) (first, all) = let long : length inputs ≡ length givens = given_long q inputs givens all in omega (arith, long)
+
+pub all_added_more : (q : Query) (gs : List Group) (givens : List Given) (given : Given) → all_added q gs (givens ++ given ∷ []) ≡ given_added q (all_added q gs givens) given
+all_added_more q gs [] given = refl
+all_added_more q gs (g ∷ givens) given = all_added_more q (given_added q gs g) givens given
+
+-- ---- lists of rows
+
+-- inputs that stand for lists of rows give their part
+pub record GivePart (q : Query) (inputs : List Input) (rows all : List Row) : Type 0 where
+  pub givens : List Given
+  pub give : AllGive q inputs givens
+  pub added : all_added q (part q rows) givens ≡ part q all
+
+pub lists_give : (q : Query) (inputs : List Input) (lists : List (List Row)) (rows : List Row) → AreInputsOf q inputs lists → GivePart q inputs rows (rows ++ on_end lists)
+lists_give q [] [] rows are = record { givens = []; give = tt; added = ap (part q) (sym (append-nil rows)) }
+lists_give q [] (xs ∷ lists) rows are = absurd are
+lists_give q (x ∷ inputs) [] rows are = absurd are
+lists_give q (Rows packed ∷ inputs) (xs ∷ lists) rows (first, are) =
+    let rest = lists_give q inputs lists (rows ++ xs) are in
+    record {
+      givens = Of_rows xs ∷ rest.givens;
+      give = (first, rest.give);
+      added =
+          ap (λ gs. all_added q gs rest.givens) (rows_added_part q q.kinds rows xs first.of_kinds)
+          ∙ rest.added
+          ∙ ap (part q) (append_assoc rows xs (on_end lists));
+    }
+lists_give q (Groups run most ∷ inputs) (xs ∷ lists) rows (first, are) =
+    let rest = lists_give q inputs lists (rows ++ xs) are in
+    record {
+      givens = Of_groups (part q xs) ∷ rest.givens;
+      give = (first, rest.give);
+      added =
+          ap (λ gs. all_added q gs rest.givens) (groups_added_part q rows xs)
+          ∙ rest.added
+          ∙ ap (part q) (append_assoc rows xs (on_end lists));
+    }
+
+-- ---- keys
+
+-- keys of the same packings are the same
+pub packings_once : (kinds : List Kind) (xs ys : List Row) → AllByRecursion (HasKinds kinds) xs → AllByRecursion (HasKinds kinds) ys → map packing xs ≡ map packing ys → xs ≡ ys
+packings_once kinds [] [] hx hy e = refl
+packings_once kinds [] (y ∷ ys) hx hy e = absurd cc
+packings_once kinds (x ∷ xs) [] hx hy e = absurd cc
+packings_once kinds (x ∷ xs) (y ∷ ys) (hx, hxs) (hy, hys) e =
+    let first : packing x ≡ packing y = cc in
+    let rest : map packing xs ≡ map packing ys = cc in
+    λ i. packed_once kinds (packing y) x y hx hy (sym first) refl i ∷ packings_once kinds xs ys hxs hys rest i
+
+-- inputs that bring keys give groups of these keys
+pub record GiveKeys (q : Query) (inputs : List Input) (keys : List Row) : Type 0 where
+  pub givens : List Given
+  pub give : AllGive q inputs givens
+  pub added : (gs : List Group) → keys_of (all_added q gs givens) ≡ puts (keys_of gs) keys
+
+pub keys_give : (q : Query) (inputs : List Input) (lists : List (List Row)) → AllByRecursion (IsInput q) inputs → AllBring q inputs lists → GiveKeys q inputs (on_end lists)
+keys_give q [] [] all bring = record { givens = []; give = tt; added = λ gs. refl }
+keys_give q [] (ks ∷ lists) all bring = absurd bring
+keys_give q (x ∷ inputs) [] all bring = absurd bring
+keys_give q (Rows packed ∷ inputs) (ks ∷ lists) (first, all) (one, bring) =
+    let rest = keys_give q inputs lists all bring in
+    record {
+      givens = Of_rows one.0 ∷ rest.givens;
+      give = (one.1, rest.give);
+      added =
+          λ gs.
+          rest.added (rows_added q gs one.0)
+          ∙ ap (λ ls. puts ls (on_end lists)) (keys_of-rows_added q gs one.0 ∙ ap (puts (keys_of gs)) (sym one.2))
+          ∙ sym (puts-append (keys_of gs) ks (on_end lists));
+    }
+keys_give q (Groups run most ∷ inputs) (ks ∷ lists) (first, all) (one, bring) =
+    let rest = keys_give q inputs lists all bring in
+    let same : keys_of first.groups ≡ ks =
+    packings_once (key_kinds q) (keys_of first.groups) ks (keys_of_kinds q most run.now first.groups first.are) one.of_kinds (sym (keys_packed q most run.now first.groups first.are) ∙ one.packings_are) in
+    record {
+      givens = Of_groups first.groups ∷ rest.givens;
+      give = (first.are, rest.give);
+      added =
+          λ gs.
+          rest.added (groups_added q gs first.groups)
+          ∙ ap (λ ls. puts ls (on_end lists)) (keys_of-groups_added q gs first.groups ∙ ap (puts (keys_of gs)) same)
+          ∙ sym (puts-append (keys_of gs) ks (on_end lists));
+    }
+
+-- the keys of a run that stands for the groups of some keys
+pub keys_are : (q : Query) (most : ℕ) (run : List Entry) (groups : List Group) (keys : List Row) → AreGroups q most run groups → keys_of groups ≡ puts [] keys → packed_keys run ≡ map packing (distinct row_cmp keys)
+keys_are q most run groups keys are is = keys_packed q most run groups are ∙ ap (map packing) (is ∙ puts_all keys)
+
+pub keys_few : (run : List Entry) (keys : List Row) → packed_keys run ≡ map packing (distinct row_cmp keys) → length run ≤ length keys
+keys_few run keys is =
+    let same : length run ≡ length (distinct row_cmp keys) = sym (length-map run (λ (e : Entry). e.0)) ∙ ap length is ∙ length-map (distinct row_cmp keys) packing in
+    let few : length (distinct row_cmp keys) ≤ length keys = distinct_few keys in
+    omega (arith, same, few)
+
+-- the groups after the last input
+pub whole_run : (q : Query) (inputs : List Input) (givens : List Given) (i : ℕ) (run : List Entry) → length inputs ≤ i → AllGive q inputs givens → AreGroups q (sum_by rows_in (take i inputs)) run (all_added q [] (take i givens)) → AreGroups q (all_rows inputs) run (all_added q [] givens)
+whole_run q inputs givens i run past all are =
+    let long : length inputs ≡ length givens = given_long q inputs givens all in
+    subst (λ xs. AreGroups q (sum_by rows_in xs) run (all_added q [] givens)) (take_all i inputs past)
+    (subst (λ gs. AreGroups q (sum_by rows_in (take i inputs)) run (all_added q [] gs)) (take_all i givens (omega (arith, past, long))) are)

@@ -1,0 +1,90 @@
+use Rattle.std.specs.Prelude.{◌≡◌, ◌+◌, ◌<◌, ◌^◌, ℕ, [], take, sum_by}
+use Rattle.std.proofs.Common.{sym, ◌∙◌, ap, subst, arith}
+use Rattle.std.proofs.lemmas.List.Sums.{sum_by_more, sum_by_more_le}
+use Rattle.grouping_model.specs.Query.{Query}
+use Rattle.grouping_model.specs.Grouping.{part}
+use Rattle.having_filter.specs.Meaning.{meaning}
+use Rattle.hash_agg.specs.Runs.{packed_keys, Rises}
+use Rattle.hash_agg.specs.Standing.{AreGroups}
+use Rattle.hash_agg.specs.Inputs.{rows_in, all_rows, on_end}
+use Rattle.hash_agg.specs.Adding.{all_added}
+use Rattle.hash_agg.proofs.KeyLaws.{if_ok, if_ok_both}
+use Rattle.hash_agg.proofs.InputLaws.{take_found}
+use Rattle.hash_agg.proofs.WholeLaws.{all_given, given_at, all_added_more, lists_give, keys_give, keys_are, keys_few, whole_run}
+use Rattle.hash_agg.proofs.aggregation.aggregate.Goals as goal
+
+pub add_input-requires-clause-room : goal.add_input-requires-clause-room
+add_input-requires-clause-room c =
+    let q : Query = meaning c.args.query.now in
+    let inputs = c.args.inputs.now in
+    let i : ℕ = c.loop-input.input-index in
+    let given = all_given q inputs c.requires.inputs in
+    let one : rows_in c.input-item.result ≡ _ = ap rows_in c.input-item.is in
+    let within = sum_by_more_le rows_in inputs i c.input-item.result c.loop-input-test.true in
+    let few : all_rows inputs < 2 ^ 57 = c.requires.few in
+    (sum_by rows_in (take i inputs), all_added q [] (take i given.0), c.loop-input.invariant given.0 given.1, omega (arith, one, within, few))
+
+pub loop-input-preserved : goal.loop-input-preserved
+loop-input-preserved c =
+    λ givens all.
+    let q : Query = meaning c.args.query.now in
+    let inputs = c.args.inputs.now in
+    let i : ℕ = c.loop-input.input-index in
+    let found = given_at q inputs givens i c.input-item.result all c.loop-input-test.true c.input-item.is in
+    let one : rows_in c.input-item.result ≡ _ = ap rows_in c.input-item.is in
+    let within = sum_by_more_le rows_in inputs i c.input-item.result c.loop-input-test.true in
+    let few : all_rows inputs < 2 ^ 57 = c.requires.few in
+    let sum : sum_by rows_in (take i inputs) + rows_in c.input-item.result ≡ sum_by rows_in (take (i + 1) inputs) =
+    ap (λ n. sum_by rows_in (take i inputs) + n) one ∙ sym (sum_by_more rows_in inputs i c.input-item.result c.loop-input-test.true) in
+    subst (λ n. AreGroups q n c.add_input.new.self (all_added q [] (take (i + 1) givens))) sum
+    (subst (AreGroups q (sum_by rows_in (take i inputs) + rows_in c.input-item.result) c.add_input.new.self) (sym (ap (all_added q []) (take_found givens i found.given found.at) ∙ all_added_more q [] (take i givens) found.given))
+    (c.in_ok-add_input.ensures (sum_by rows_in (take i inputs)) (all_added q [] (take i givens)) found.given (omega (arith, one, within, few)) (c.loop-input.invariant givens all) found.gives))
+
+pub returns-clause-part : goal.returns-clause-part
+returns-clause-part c =
+    let q : Query = meaning c.args.query.now in
+    if_ok c.into_run.result (λ run. run ≡ c.loop-input.groups) _
+    (λ run same lists are.
+    let give = lists_give q c.args.inputs.now lists [] are in
+    subst (λ run. AreGroups q (all_rows c.args.inputs.now) run (part q (on_end lists))) (sym same)
+    (subst (AreGroups q (all_rows c.args.inputs.now) c.loop-input.groups) give.added
+    (whole_run q c.args.inputs.now give.givens c.loop-input.input-index c.loop-input.groups c.loop-input-test.false give.give (c.loop-input.invariant give.givens give.give))))
+    c.into_run.ensures.groups
+
+pub returns-clause-keys : goal.returns-clause-keys
+returns-clause-keys c =
+    let q : Query = meaning c.args.query.now in
+    if_ok c.into_run.result (λ run. run ≡ c.loop-input.groups) _
+    (λ run same lists bring.
+    let give = keys_give q c.args.inputs.now lists c.requires.inputs bring in
+    ap packed_keys same
+    ∙ keys_are q (all_rows c.args.inputs.now) c.loop-input.groups (all_added q [] give.givens) (on_end lists)
+    (whole_run q c.args.inputs.now give.givens c.loop-input.input-index c.loop-input.groups c.loop-input-test.false give.give (c.loop-input.invariant give.givens give.give)) (give.added []))
+    c.into_run.ensures.groups
+
+pub returns-clause-few : goal.returns-clause-few
+returns-clause-few c =
+    let q : Query = meaning c.args.query.now in
+    if_ok c.into_run.result (λ run. run ≡ c.loop-input.groups) _
+    (λ run same lists bring.
+    let give = keys_give q c.args.inputs.now lists c.requires.inputs bring in
+    keys_few run (on_end lists)
+    (ap packed_keys same
+    ∙ keys_are q (all_rows c.args.inputs.now) c.loop-input.groups (all_added q [] give.givens) (on_end lists)
+    (whole_run q c.args.inputs.now give.givens c.loop-input.input-index c.loop-input.groups c.loop-input-test.false give.give (c.loop-input.invariant give.givens give.give)) (give.added [])))
+    c.into_run.ensures.groups
+
+pub returns-clause-run : goal.returns-clause-run
+returns-clause-run c =
+    let q : Query = meaning c.args.query.now in
+    let given = all_given q c.args.inputs.now c.requires.inputs in
+    if_ok_both c.into_run.result (λ run. run ≡ c.loop-input.groups) Rises _
+    (λ run same rises.
+    record {
+      groups = all_added q [] given.0;
+      are =
+          subst (λ run. AreGroups q (all_rows c.args.inputs.now) run (all_added q [] given.0)) (sym same)
+          (whole_run q c.args.inputs.now given.0 c.loop-input.input-index c.loop-input.groups c.loop-input-test.false given.1 (c.loop-input.invariant given.0 given.1));
+      rises = rises;
+    })
+    c.into_run.ensures.groups c.into_run.ensures.rises

@@ -1,0 +1,63 @@
+-- What is aggregated. All of this is our own.
+use Rattle.std.specs.Prelude.{◌≡◌, ℕ, List, [], ◌∷◌, map, flat_map, length, sum_by}
+use Rattle.std.specs.List.{AllByRecursion}
+use Rattle.std.specs.declared.alloc.Global.{Global}
+use Rattle.std.specs.declared.vec.Vec.{Vec}
+use Rattle.grouping_model.specs.Datum.{Row, Kind, HasKinds}
+use Rattle.grouping_model.specs.Query.{Query}
+use Rattle.grouping_model.specs.Grouping.{part, selected, key_of}
+use Rattle.packed_rows.specs.Packing.{packing}
+use Rattle.having_filter.specs.Kept.{key_kinds}
+use Rattle.hash_agg.specs.declared.input.Input.{Input}
+use Rattle.hash_agg.specs.declared.input.Input.TheVariants.{Rows, Groups}
+use Rattle.hash_agg.specs.Runs.{packed_keys}
+use Rattle.hash_agg.specs.Standing.{AreGroups, IsRun}
+
+-- the bytes of some packed rows
+abbrev pub bytes_of : List (Vec ℕ Global) → List (List ℕ)
+bytes_of packed = map (λ (v : Vec ℕ Global). v.items) packed
+
+-- the members of some lists of rows, one list after the other
+abbrev pub on_end : List (List Row) → List Row
+on_end lists = flat_map (λ rows. rows) lists
+
+-- the packings of rows of columns of these kinds
+pub record ArePackings (kinds : List Kind) (packed : List (List ℕ)) (rows : List Row) : Type 0 where
+  pub of_kinds : AllByRecursion (HasKinds kinds) rows
+  pub packings_are : packed ≡ map packing rows
+
+-- how many rows an input has, or its states count at most
+abbrev pub rows_in : Input → ℕ
+rows_in (Rows packed) = length packed.now
+rows_in (Groups run rows) = rows
+
+-- the same of all inputs together
+abbrev pub all_rows : List Input → ℕ
+all_rows inputs = sum_by rows_in inputs
+
+-- what may be aggregated: packed rows of the query's table, or a run of the query
+abbrev pub IsInput : Query → Input → Type 0
+IsInput query (Rows packed) = (rows : List Row) × ArePackings query.kinds (bytes_of packed.now) rows
+IsInput query (Groups run rows) = IsRun query rows run.now
+
+-- an input stands for a list of rows: it has their packings, or the groups of their part
+abbrev pub IsInputOf : Query → Input → List Row → Type 0
+IsInputOf query (Rows packed) rows = ArePackings query.kinds (bytes_of packed.now) rows
+IsInputOf query (Groups run most) rows = AreGroups query most run.now (part query rows)
+
+-- input by input, these stand for lists of rows
+abbrev pub AreInputsOf : Query → List Input → List (List Row) → Type 0
+AreInputsOf query [] [] = Unit {0}
+AreInputsOf query (input ∷ inputs) (rows ∷ lists) = IsInputOf query input rows × AreInputsOf query inputs lists
+AreInputsOf query inputs lists = ⊥
+
+-- the keys that an input brings: those of its selected rows, or of its groups
+abbrev pub Brings : Query → Input → List Row → Type 0
+Brings query (Rows packed) keys = (rows : List Row) × ArePackings query.kinds (bytes_of packed.now) rows × (keys ≡ map (key_of query) (selected query rows))
+Brings query (Groups run most) keys = ArePackings (key_kinds query) (packed_keys run.now) keys
+
+-- input by input, these bring keys
+abbrev pub AllBring : Query → List Input → List (List Row) → Type 0
+AllBring query [] [] = Unit {0}
+AllBring query (input ∷ inputs) (keys ∷ lists) = Brings query input keys × AllBring query inputs lists
+AllBring query inputs lists = ⊥

@@ -1,0 +1,4 @@
+pub mod Runs
+pub mod Standing
+pub mod Inputs
+pub mod Adding

@@ -1,0 +1,222 @@
+//! Groups in a map, by their packed keys.
+
+ghost use Rattle.std.specs.Prelude.{◌≡◌, ◌+◌, ◌<◌, ◌≤◌, ℕ, List, [], map, length, IfOk, OnOk, IfSome};
+ghost use Rattle.std.specs.List.{AllByRecursion};
+ghost use Rattle.grouping_model.specs.Datum.{Row, HasKinds};
+ghost use Rattle.grouping_model.specs.Grouping.{Group, key_of};
+ghost use Rattle.grouping_model.specs.Parts.{with_row, partials_at};
+ghost use Rattle.packed_rows.specs.Columns.{kinds};
+ghost use Rattle.packed_rows.specs.Packing.{packing};
+ghost use Rattle.packed_rows.specs.View.{row_of};
+ghost use Rattle.agg_protocol.specs.States.{most_rows};
+ghost use Rattle.agg_library.specs.StateRows.{AllWithin};
+ghost use Rattle.having_filter.specs.Kept.{IsWellFormed};
+ghost use Rattle.having_filter.specs.Meaning.{meaning};
+ghost use Rattle.hash_agg.specs.Runs.{Rises};
+ghost use Rattle.hash_agg.specs.Standing.{StandsFor, AreGroups};
+ghost use Rattle.hash_agg.specs.Inputs.{bytes_of, ArePackings, rows_in, IsInput};
+ghost use Rattle.hash_agg.specs.Adding.{row_added, rows_added, group_added, groups_added, Given, Gives, given_added};
+
+use crate::input::Input;
+use crate::run::Run;
+use crate::states::{advance, combine, first_states};
+use having_filter::Query;
+use packed_rows::{RowError, Schema, Value, pack_key, unpack_row};
+use std::alloc::{AllocError, Global};
+use std::collections::BTreeMap;
+use std::marker::Model;
+
+/// Groups: by packed key, the states of the query's aggregates. Packed keys have the order of keys.
+#[derive(Drop)]
+pub(crate) struct Groups {
+    alloc: Global,
+    states: BTreeMap<Vec<u8>, Vec<u8>>,
+}
+
+impl Model for Groups {
+    ghost use Rattle.std.specs.Prelude.{List};
+    ghost use Rattle.hash_agg.specs.Runs.{Entry, entries_of};
+
+    ghost Value = { List Entry };
+
+    ghost view = { λ g. entries_of g.states.entries };
+}
+
+/// The values of a row from its packing.
+fn unpack<'a>(
+    alloc: Global,
+    schema: &Schema,
+    packed: &'a [u8],
+) -> Result<Vec<Value<'a>>, AllocError>
+    requires { (row : Row) × HasKinds (kinds schema.now) row × (packed.now ≡ packing row) }
+    ensures { IfOk result (λ row. HasKinds (kinds schema.now) (row_of row.items)
+        × (packed.now ≡ packing (row_of row.items))) }
+{
+    match unpack_row(alloc, schema, packed) {
+        Ok(row) => Ok(row),
+        Err(RowError::NoMemory) => Err(AllocError),
+        Err(_) => unreachable!(),
+    }
+}
+
+/// The packed key of a row.
+fn key_of_row(alloc: Global, query: &Query, row: &[Value<'_>]) -> Result<Vec<u8>, AllocError>
+    requires formed { IsWellFormed (meaning query.now) }
+    requires row { HasKinds (meaning query.now).kinds (row_of row.now) }
+    ensures { IfOk result (λ key. key.items
+        ≡ packing (key_of (meaning query.now) (row_of row.now))) }
+{
+    let mut key = Vec::new(alloc);
+    for place in query.keys() {
+        key.push(row[*place])?;
+    }
+    pack_key(alloc, &key)
+}
+
+impl Groups {
+    /// No groups.
+    pub(crate) fn new(alloc: Global) -> Groups
+        ensures { result ≡ [] }
+    {
+        Groups {
+            alloc,
+            states: BTreeMap::new(alloc),
+        }
+    }
+
+    /// Adds a selected row to the group of its key.
+    fn add_selected(&mut self, query: &Query, row: &[Value<'_>]) -> Result<(), AllocError>
+        requires formed { IsWellFormed (meaning query.now) }
+        requires row { HasKinds (meaning query.now).kinds (row_of row.now) }
+        requires room { (most : ℕ) × (groups : List Group)
+            × AreGroups (meaning query.now) most self.old groups × (most < most_rows) }
+        ensures { OnOk result ((most : ℕ) (groups : List Group) → most < most_rows →
+            AreGroups (meaning query.now) most self.old groups →
+            AreGroups (meaning query.now) (most + 1) self.new
+            (with_row (meaning query.now) groups (row_of row.now))) }
+    {
+        let key = key_of_row(self.alloc, query, row)?;
+        if let Some(states) = self.states.get_mut(&key) {
+            advance(query, states, row);
+            return Ok(());
+        }
+        let mut states = first_states(self.alloc, query)?;
+        advance(query, &mut states, row);
+        self.states.insert(key, states)?;
+        Ok(())
+    }
+
+    /// Adds a packed row, if WHERE is true of it.
+    fn add_packed(&mut self, query: &Query, packed: &[u8]) -> Result<(), AllocError>
+        requires formed { IsWellFormed (meaning query.now) }
+        requires row { (row : Row) × HasKinds (meaning query.now).kinds row
+            × (packed.now ≡ packing row) }
+        requires room { (most : ℕ) × (groups : List Group)
+            × AreGroups (meaning query.now) most self.old groups × (most < most_rows) }
+        ensures { OnOk result ((most : ℕ) (groups : List Group) (row : Row) → most < most_rows →
+            AreGroups (meaning query.now) most self.old groups →
+            HasKinds (meaning query.now).kinds row → packed.now ≡ packing row →
+            AreGroups (meaning query.now) (most + 1) self.new
+            (row_added (meaning query.now) groups row)) }
+    {
+        let row = unpack(self.alloc, query.schema(), packed)?;
+        if !query.where_true(&row) {
+            return Ok(());
+        }
+        self.add_selected(query, &row)
+    }
+
+    /// Adds packed rows.
+    fn add_rows(&mut self, query: &Query, rows: &[Vec<u8>]) -> Result<(), AllocError>
+        requires formed { IsWellFormed (meaning query.now) }
+        requires rows { (list : List Row)
+            × ArePackings (meaning query.now).kinds (bytes_of rows.now) list }
+        requires room { (most : ℕ) × (groups : List Group)
+            × AreGroups (meaning query.now) most self.old groups
+            × (most + length rows.now ≤ most_rows) }
+        ensures { OnOk result ((most : ℕ) (groups : List Group) (list : List Row) →
+            most + length rows.now ≤ most_rows →
+            AreGroups (meaning query.now) most self.old groups →
+            ArePackings (meaning query.now).kinds (bytes_of rows.now) list →
+            AreGroups (meaning query.now) (most + length rows.now) self.new
+            (rows_added (meaning query.now) groups list)) }
+    {
+        for packed in rows {
+            self.add_packed(query, packed)?;
+        }
+        Ok(())
+    }
+
+    /// Adds a group, whose states come behind those of its key.
+    fn add_group(&mut self, query: &Query, key: &[u8], more: &[u8]) -> Result<(), AllocError>
+        requires { (m n : ℕ) × (groups : List Group) × (group : Group)
+            × AreGroups (meaning query.now) (m + n) self.old groups
+            × IfSome (partials_at group.0 groups) (AllWithin m)
+            × StandsFor (meaning query.now) n (key.now, more.now) group × (m + n ≤ most_rows) }
+        ensures { OnOk result ((m n : ℕ) (groups : List Group) (group : Group) →
+            m + n ≤ most_rows → AreGroups (meaning query.now) (m + n) self.old groups →
+            IfSome (partials_at group.0 groups) (AllWithin m) →
+            StandsFor (meaning query.now) n (key.now, more.now) group →
+            AreGroups (meaning query.now) (m + n) self.new
+            (group_added (meaning query.now) groups group)) }
+    {
+        let key = key.to_vec(self.alloc)?;
+        if let Some(old) = self.states.get_mut(&key) {
+            combine(query, old, more);
+            return Ok(());
+        }
+        let states = more.to_vec(self.alloc)?;
+        self.states.insert(key, states)?;
+        Ok(())
+    }
+
+    /// Adds the groups of a run.
+    fn add_run(&mut self, query: &Query, run: &Run) -> Result<(), AllocError>
+        requires { (m n : ℕ) × (groups more : List Group)
+            × AreGroups (meaning query.now) m self.old groups
+            × AreGroups (meaning query.now) n run.now more × Rises run.now × (m + n ≤ most_rows) }
+        ensures { OnOk result ((m n : ℕ) (groups more : List Group) → m + n ≤ most_rows →
+            AreGroups (meaning query.now) m self.old groups →
+            AreGroups (meaning query.now) n run.now more →
+            AreGroups (meaning query.now) (m + n) self.new
+            (groups_added (meaning query.now) groups more)) }
+    {
+        for group in run.entries() {
+            self.add_group(query, &group.0, &group.1)?;
+        }
+        Ok(())
+    }
+
+    /// Adds what an input gives.
+    pub(crate) fn add_input(&mut self, query: &Query, input: &Input<'_>) -> Result<(), AllocError>
+        requires formed { IsWellFormed (meaning query.now) }
+        requires input { IsInput (meaning query.now) input.now }
+        requires room { (most : ℕ) × (groups : List Group)
+            × AreGroups (meaning query.now) most self.old groups
+            × (most + rows_in input.now ≤ most_rows) }
+        ensures { OnOk result ((most : ℕ) (groups : List Group) (given : Given) →
+            most + rows_in input.now ≤ most_rows →
+            AreGroups (meaning query.now) most self.old groups →
+            Gives (meaning query.now) input.now given →
+            AreGroups (meaning query.now) (most + rows_in input.now) self.new
+            (given_added (meaning query.now) groups given)) }
+    {
+        match input {
+            Input::Rows(rows) => self.add_rows(query, rows),
+            Input::Groups { run, .. } => self.add_run(query, run),
+        }
+    }
+
+    /// The groups as a run, in the order of their keys.
+    pub(crate) fn into_run(self) -> Result<Run, AllocError>
+        ensures groups { IfOk result (λ run. run ≡ self) }
+        ensures rises { IfOk result Rises }
+    {
+        let Groups { alloc, states } = self;
+        let mut run = Run::new(alloc);
+        for (key, states) in states {
+            run.push(key, states)?;
+        }
+        Ok(run)
+    }
+}

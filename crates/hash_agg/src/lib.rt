@@ -1,0 +1,13 @@
+//! Aggregation: rows, and the partial results of rows, become one run of groups.
+#![tactic(auto)]
+
+mod aggregation;
+mod groups;
+mod input;
+mod run;
+mod states;
+
+pub use aggregation::aggregate;
+pub use input::Input;
+pub use run::Run;
+pub use states::first_states;

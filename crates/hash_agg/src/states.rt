@@ -1,0 +1,134 @@
+//! The states of one group.
+
+ghost use Rattle.std.specs.Prelude.{◌≡◌, ◌+◌, ◌<◌, ◌≤◌, ℕ, List, [], map, length, drop, option_map, Some, None, slice_get, if◌then◌else◌, IfOk};
+ghost use Rattle.grouping_model.specs.Datum.{HasKinds};
+ghost use Rattle.grouping_model.specs.Aggregates.{Partial};
+ghost use Rattle.grouping_model.specs.Combining.{combine_all};
+ghost use Rattle.grouping_model.specs.Condition.{is_met};
+ghost use Rattle.grouping_model.specs.Query.{Aggregate};
+ghost use Rattle.grouping_model.specs.Grouping.{argument, column_of, partials};
+ghost use Rattle.grouping_model.specs.Parts.{functions, advanced};
+ghost use Rattle.packed_rows.specs.View.{datum_of, row_of};
+ghost use Rattle.agg_protocol.specs.States as states;
+ghost use Rattle.agg_protocol.specs.States.{most_rows};
+ghost use Rattle.agg_library.specs.Kinds.{function_of, functions_of, kind_shape};
+ghost use Rattle.agg_library.specs.StateRows.{Denotes};
+ghost use Rattle.having_filter.specs.Kept.{IsWellFormed};
+ghost use Rattle.having_filter.specs.Meaning.{meaning};
+ghost use Rattle.hash_agg.specs.Standing.{AreStates};
+ghost use Rattle.hash_agg.specs.Adding.{partial_after_row};
+
+use agg_library::{AggKind, MOST_ROWS, StateRow};
+use agg_protocol::BadState;
+use having_filter::Query;
+use packed_rows::Value;
+use std::alloc::{AllocError, Global};
+
+/// What an aggregate takes from a row, or nothing where its FILTER leaves the row out.
+fn reach<'a>(query: &Query, place: usize, row: &[Value<'a>]) -> Option<Value<'a>>
+    requires { place < length (meaning query.now).aggregates }
+    ensures { (a : Aggregate) → slice_get (meaning query.now).aggregates place ≡ Some a →
+        option_map datum_of result ≡ (if is_met (column_of (row_of row.now)) a.filter
+        then Some (argument a.column (row_of row.now)) else None) }
+{
+    if !query.filter_true(place, row) {
+        return None;
+    }
+    let Some(column) = query.column(place) else {
+        return Some(Value::Null);
+    };
+    match row.get(column) {
+        Some(value) => Some(*value),
+        None => Some(Value::Null),
+    }
+}
+
+/// Moves the state of one aggregate on by a row.
+fn advance_one(query: &Query, place: usize, kind: AggKind, part: &mut [u8], row: &[Value<'_>])
+    requires formed { IsWellFormed (meaning query.now) }
+    requires row { HasKinds (meaning query.now).kinds (row_of row.now) }
+    requires kind { option_map (λ a. a.function) (slice_get (meaning query.now).aggregates place)
+        ≡ Some (function_of kind) }
+    requires room { (most : ℕ) × (p : Partial) × states.Denotes most (kind_shape kind) part.old p
+        × (most < most_rows) }
+    ensures { (most : ℕ) (p : Partial) (a : Aggregate) →
+        slice_get (meaning query.now).aggregates place ≡ Some a → most < most_rows →
+        states.Denotes most (kind_shape kind) part.old p →
+        states.Denotes (most + 1) (kind_shape kind) part.new
+        (partial_after_row a p (row_of row.now)) }
+{
+    let reach = reach(query, place, row);
+    match StateRow::advance(kind, part, reach, MOST_ROWS) {
+        Ok(()) => {}
+        Err(BadState) => unreachable!(),
+    }
+}
+
+/// Moves the states of the aggregates from a place on by a row.
+fn advance_from(
+    query: &Query,
+    place: usize,
+    kinds: &[AggKind],
+    states: &mut [u8],
+    row: &[Value<'_>],
+)
+    requires formed { IsWellFormed (meaning query.now) }
+    requires row { HasKinds (meaning query.now).kinds (row_of row.now) }
+    requires kinds { functions_of kinds.now
+        ≡ map (λ a. a.function) (drop place (meaning query.now).aggregates) }
+    requires room { (most : ℕ) × (ps : List Partial) × Denotes most kinds.now states.old ps
+        × (most < most_rows) }
+    ensures { (most : ℕ) (ps : List Partial) → most < most_rows →
+        Denotes most kinds.now states.old ps →
+        Denotes (most + 1) kinds.now states.new
+        (advanced (drop place (meaning query.now).aggregates) ps (row_of row.now)) }
+{
+    if let Some((kind, kinds)) = kinds.split_first() {
+        let (part, rest) = states.split_at_mut(kind.width());
+        advance_one(query, place, *kind, part, row);
+        advance_from(query, place + 1, kinds, rest, row);
+    }
+}
+
+/// Moves the states of a group on by a row.
+pub(crate) fn advance(query: &Query, states: &mut Vec<u8>, row: &[Value<'_>])
+    requires formed { IsWellFormed (meaning query.now) }
+    requires row { HasKinds (meaning query.now).kinds (row_of row.now) }
+    requires room { (most : ℕ) × (ps : List Partial)
+        × AreStates (functions (meaning query.now)) most states.old.items ps × (most < most_rows) }
+    ensures { (most : ℕ) (ps : List Partial) → most < most_rows →
+        AreStates (functions (meaning query.now)) most states.old.items ps →
+        AreStates (functions (meaning query.now)) (most + 1) states.new.items
+        (advanced (meaning query.now).aggregates ps (row_of row.now)) }
+{
+    advance_from(query, 0, query.agg_kinds(), states.as_mut_slice(), row);
+}
+
+/// The bytes of a group's states before any row. The only error is a failed allocation.
+pub fn first_states(alloc: Global, query: &Query) -> Result<Vec<u8>, AllocError>
+    ensures { IfOk result (λ states. AreStates (functions (meaning query.now)) 0 states.items
+        (partials (meaning query.now) [])) }
+{
+    let _schema = query.schema();
+    let kinds = query.agg_kinds();
+    let mut states = vec![in alloc; 0; StateRow::width(kinds)]?;
+    StateRow::init_into(kinds, states.as_mut_slice());
+    Ok(states)
+}
+
+/// Combines the states of a group with others of its key, which come behind.
+pub(crate) fn combine(query: &Query, states: &mut Vec<u8>, more: &[u8])
+    requires { (m n : ℕ) × (ps qs : List Partial)
+        × AreStates (functions (meaning query.now)) m states.old.items ps
+        × AreStates (functions (meaning query.now)) n more.now qs × (m + n ≤ most_rows) }
+    ensures { (m n : ℕ) (ps qs : List Partial) → m + n ≤ most_rows →
+        AreStates (functions (meaning query.now)) m states.old.items ps →
+        AreStates (functions (meaning query.now)) n more.now qs →
+        AreStates (functions (meaning query.now)) (m + n) states.new.items
+        (combine_all (functions (meaning query.now)) ps qs) }
+{
+    match StateRow::combine_into(query.agg_kinds(), states.as_mut_slice(), more, MOST_ROWS) {
+        Ok(()) => {}
+        Err(BadState) => unreachable!(),
+    }
+}

@@ -1,0 +1,13 @@
+pub mod Marks
+pub mod Steps
+pub mod Sound
+pub mod Whole_sound
+pub mod Alike
+pub mod Locality
+pub mod Complete
+pub mod Whole_complete
+pub mod Whole_locality
+pub mod Faults
+pub mod Chains
+pub mod Writables
+pub mod Texts

@@ -1,0 +1,6 @@
+pub mod Terminals
+pub mod Grammar
+pub mod Queries
+pub mod Reading
+pub mod Whole
+pub mod Laws

@@ -1,0 +1,57 @@
+-- What the grammar asks of a single token.
+use Rattle.std.specs.Prelude.{ℕ, Bool, false, ◌==◌, List, Option, Some, None, codes, if◌then◌else◌}
+use Rattle.std.specs.Str.{bytes_eq}
+use Rattle.query_tokens.specs.declared.word.Symbol.{Symbol}
+use Rattle.query_tokens.specs.declared.word.Symbol.TheVariants as symbols
+use Rattle.query_tokens.specs.Words.{Lexeme, Name, Sign}
+use Rattle.grouping_model.specs.Aggregates as function
+use Rattle.grouping_model.specs.Aggregates.{Function}
+use Rattle.grouping_model.specs.Condition.{Comparison, Same, Different, Below, At_most, Above, At_least}
+
+-- the function of one argument that a name calls (PostgreSQL 17, 9.21 Aggregate Functions)
+unfoldable pub function_named : List ℕ → Option Function
+function_named w =
+    if bytes_eq w (codes "count") then Some function.Count else
+    if bytes_eq w (codes "sum") then Some function.Sum else
+    if bytes_eq w (codes "min") then Some function.Min else
+    if bytes_eq w (codes "max") then Some function.Max else
+    if bytes_eq w (codes "bit_and") then Some function.Bit_and else
+    if bytes_eq w (codes "bit_or") then Some function.Bit_or else
+    if bytes_eq w (codes "bit_xor") then Some function.Bit_xor else
+    if bytes_eq w (codes "bool_and") then Some function.Bool_and else
+    if bytes_eq w (codes "bool_or") then Some function.Bool_or else
+    if bytes_eq w (codes "every") then Some function.Every else None
+
+-- the comparison that a symbol stands for (PostgreSQL 17, Table 9.1)
+unfoldable pub comparison_named : Symbol → Option Comparison
+comparison_named symbols.Equal = Some Same
+comparison_named symbols.Unequal = Some Different
+comparison_named symbols.Less = Some Below
+comparison_named symbols.AtMost = Some At_most
+comparison_named symbols.More = Some Above
+comparison_named symbols.AtLeast = Some At_least
+comparison_named other = None
+
+-- numbers that tell symbols apart
+unfoldable pub symbol_number : Symbol → ℕ
+symbol_number symbols.Open = 0
+symbol_number symbols.Close = 1
+symbol_number symbols.Comma = 2
+symbol_number symbols.Star = 3
+symbol_number symbols.Semicolon = 4
+symbol_number symbols.Equal = 5
+symbol_number symbols.Unequal = 6
+symbol_number symbols.Less = 7
+symbol_number symbols.AtMost = 8
+symbol_number symbols.More = 9
+symbol_number symbols.AtLeast = 10
+
+-- whether a token is this word
+abbrev pub is_word : List ℕ → Lexeme → Bool
+is_word w (Name v) = bytes_eq v w
+is_word w other = false
+
+-- whether a token is this symbol
+abbrev pub is_sign : Symbol → Lexeme → Bool
+is_sign s (Sign t) = symbol_number t == symbol_number s
+is_sign s other = false

@@ -1,0 +1,51 @@
+//! Laws of the grammar of queries.
+
+ghost use Rattle.std.specs.Prelude.{◌≡◌, ℕ, List, [], Ok, Err};
+ghost use Rattle.std.specs.List.{AllByRecursion};
+ghost use Rattle.query_tokens.specs.Words.{Lexeme};
+ghost use Rattle.query_tokens.specs.Spelling.{IsLexeme};
+ghost use Rattle.having_filter.specs.Writable.{IsWritable};
+ghost use Rattle.having_filter.specs.Forms.{Written};
+ghost use Rattle.query_grammar.specs.Queries.{IsQuery};
+ghost use Rattle.query_grammar.specs.Reading.{Unexpected, Too_deep};
+ghost use Rattle.query_grammar.specs.Whole.{query_at};
+ghost use Rattle.query_grammar.specs.Laws.{IsUnexpected, IsTooDeep};
+
+/// What is read is in the grammar, all of it.
+#[tactic(auto, using(crate::proofs::Faults::is_query))]
+pub fn what_is_read_is_a_query()
+    ensures { (limit : ℕ) (ts : List Lexeme) (q : Written (List ℕ)) (rest : List Lexeme) →
+        query_at limit ts ≡ Ok (q, rest) → IsQuery limit ts q }
+{}
+
+/// What is in the grammar is read.
+#[tactic(auto, using(crate::proofs::Whole_complete::query_reads))]
+pub fn what_is_a_query_is_read()
+    ensures { (limit : ℕ) (ts : List Lexeme) (q : Written (List ℕ)) → IsQuery limit ts q →
+        query_at limit ts ≡ Ok (q, []) }
+{}
+
+/// Tokens say one query at most.
+#[tactic(auto, using(crate::proofs::Whole_complete::one_query))]
+pub fn one_query()
+    ensures { (limit : ℕ) (ts : List Lexeme) (q r : Written (List ℕ)) → IsQuery limit ts q →
+        IsQuery limit ts r → q ≡ r }
+{}
+
+/// Where tokens are refused, it is at the first one after which no query can follow, or at their end if none is. It is
+/// for the number of parentheses if a query can follow with one more of them allowed, and else for the token itself.
+#[tactic(auto, using(crate::proofs::Faults::is_unexpected, crate::proofs::Faults::is_too_deep))]
+pub fn refused_tokens()
+    ensures unexpected { (limit : ℕ) (ts : List Lexeme) (left : ℕ) →
+        query_at limit ts ≡ Err (Unexpected left) → IsUnexpected limit ts left }
+    ensures too_deep { (limit : ℕ) (ts : List Lexeme) (left : ℕ) →
+        query_at limit ts ≡ Err (Too_deep left) → IsTooDeep limit ts left }
+{}
+
+/// What legal tokens say can be written: all names are legal and not reserved, numbers have 64 bits, no text has the
+/// character 0, and only a count of rows has no column.
+#[tactic(auto, using(crate::proofs::Writables::query_writable))]
+pub fn what_is_a_query_can_be_written()
+    ensures { (limit : ℕ) (ts : List Lexeme) (q : Written (List ℕ)) → IsQuery limit ts q →
+        AllByRecursion IsLexeme ts → IsWritable q }
+{}

@@ -1,0 +1,13 @@
+//! The grammar of queries, how it is read, and its laws.
+//!
+//! `specs/Grammar.antt` and `specs/Queries.antt` have the grammar as a relation between tokens and what they say,
+//! `specs/Reading.antt` and `specs/Whole.antt` the way that tokens are read from the left. The functions here have no
+//! code: each contract is a law.
+#![tactic(auto)]
+
+mod laws;
+
+pub use laws::{
+    one_query, refused_tokens, what_is_a_query_can_be_written, what_is_a_query_is_read,
+    what_is_read_is_a_query,
+};
