@@ -1,2 +1,3 @@
 pub mod Readers
 pub mod ParseLaws
+pub mod PrintLaws

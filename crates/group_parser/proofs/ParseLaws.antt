@@ -1,8 +1,8 @@
 -- What parsing gives, in the words of the grammar.
-use Rattle.std.proofs.Common.{◌≡◌, ℕ, ◌≤◌, ◌<◌, Bool, true, false, cond, List, [], ◌∷◌, length, Ok, Err, refl, sym, ap, subst, ◌∙◌, arith}
+use Rattle.std.proofs.Common.{◌≡◌, ℕ, ◌≤◌, Bool, true, false, cond, List, [], ◌∷◌, ◌++◌, length, Ok, Err, refl, sym, ap, subst, ◌∙◌, append_assoc, arith}
 use Rattle.std.specs.Prelude.{nat_lt, Result}
-use Rattle.std.specs.List.{AllByRecursion}
-use Rattle.std.proofs.lemmas.Bool.{ltb-true, ltb-false}
+use Rattle.std.proofs.lemmas.Bool.{ltb-true, ltb-false, le-ltb}
+use Rattle.std.proofs.lemmas.List.{append-nil}
 use Rattle.query_tokens.specs.declared.fault.Fault.{Fault}
 use Rattle.query_tokens.specs.Words.{Lexeme, Placed}
 use Rattle.query_tokens.specs.Tokens.{tokens_in}
@@ -18,6 +18,9 @@ use Rattle.having_filter.specs.Writable.{IsWritable}
 use Rattle.query_grammar.specs.Queries.{most_open, IsQuery}
 use Rattle.query_grammar.specs.Reading.{Read, Unexpected, Too_deep}
 use Rattle.query_grammar.specs.Whole.{query_at}
+use Rattle.query_grammar.specs.Grammar.{opening}
+use Rattle.query_grammar.specs.Laws.{NoneGoesOn}
+use Rattle.query_grammar.proofs.Whole_complete.{query_reads, one_query}
 use Rattle.query_grammar.proofs.Faults.{is_query, is_unexpected, is_too_deep}
 use Rattle.query_grammar.proofs.Writables.{query_writable}
 use Rattle.group_parser.specs.declared.error.ParseError.{ParseError}
@@ -94,3 +97,64 @@ pub refuses_query : (columns : List Column) (text : List ℕ) (written : Written
 refuses_query columns text written error e f =
     let w = is_written_in text written e in
     parsing.unchecked w.tokens written error w.short w.read w.is_query f
+
+-- ---- what is accepted is parsed, and not refused
+
+not_long : (text : List ℕ) → length text ≤ most_bytes → nat_lt most_bytes (length text) ≡ false
+not_long text short = le-ltb most_bytes (length text) short
+
+pub accepts_parses : (columns : List Column) (text : List ℕ) (q : Checked) → Accepts columns text q → parsing.parsing columns text ≡ Ok q
+unfolding written_in
+accepts_parses columns text q a =
+    let e = query_reads most_open (lexemes_of a.tokens) a.written a.is_query in
+    rw (not_long text a.short, a.read, e, a.passed) refl
+
+pub one_accepted : (columns : List Column) (text : List ℕ) (q r : Checked) → Accepts columns text q → Accepts columns text r → q ≡ r
+one_accepted columns text q r a b =
+    let e : Ok q ≡ Ok r = sym (accepts_parses columns text q a) ∙ accepts_parses columns text r b in cc
+
+of_parsing : (columns : List Column) (text : List ℕ) (q : Checked) (r : Result (Written (List ℕ)) ParseError) → written_in text ≡ r → written_checked columns r ≡ Ok q → Accepts columns text q
+of_parsing columns text q (Ok written) e f = of_checks (checked columns written) refl f
+  where
+    of_checks : (c : Result Checked QueryError) → checked columns written ≡ c → query_checked c ≡ Ok q → Accepts columns text q
+    of_checks (Ok p) g h = let same : p ≡ q = cc in accepts columns text written q e (g ∙ ap (λ (x : Checked). Ok x) same)
+    of_checks (Err error) g h = absurd cc
+of_parsing columns text q (Err error) e f = absurd cc
+
+pub parses_accepts : (columns : List Column) (text : List ℕ) (q : Checked) → parsing.parsing columns text ≡ Ok q → Accepts columns text q
+parses_accepts columns text q e = of_parsing columns text q (written_in text) refl e
+
+of_refusal : (columns : List Column) (text : List ℕ) (error : ParseError) (r : Result (Written (List ℕ)) ParseError) → written_in text ≡ r → written_checked columns r ≡ Err error → Refuses columns text error
+of_refusal columns text error (Ok written) e f = of_checks (checked columns written) refl f
+  where
+    of_checks : (c : Result Checked QueryError) → checked columns written ≡ c → query_checked c ≡ Err error → Refuses columns text error
+    of_checks (Ok p) g h = absurd cc
+    of_checks (Err fault) g h = let same : parsing.of_query_error fault ≡ error = cc in subst (Refuses columns text) same (refuses_query columns text written fault e g)
+of_refusal columns text error (Err fault) e f = let same : fault ≡ error = cc in refuses_text columns text error (e ∙ ap (λ (x : ParseError). Err x) same)
+
+pub parses_refuses : (columns : List Column) (text : List ℕ) (error : ParseError) → parsing.parsing columns text ≡ Err error → Refuses columns text error
+parses_refuses columns text error e = of_refusal columns text error (written_in text) refl e
+
+-- a query doesn't go on as it does where none goes on
+goes_on : (ts front rest : List Lexeme) (written : Written (List ℕ)) → IsQuery most_open ts written → ts ≡ front ++ rest → NoneGoesOn most_open front rest → ⊥
+goes_on ts front [] written is split none = none written (subst (λ (u : List Lexeme). IsQuery most_open u written) (split ∙ append-nil front) is)
+goes_on ts front (t ∷ rest) written is split none =
+    none (record { more = rest; written = written; is_query = subst (λ (u : List Lexeme). IsQuery most_open u written) (split ∙ sym (append_assoc front (t ∷ []) rest)) is })
+
+same_tokens : (text : List ℕ) (ts us : List Placed) → tokens_in text ≡ Ok ts → tokens_in text ≡ Ok us → ts ≡ us
+same_tokens text ts us e f = let g : Ok ts ≡ Ok us = sym e ∙ f in cc
+
+pub not_both : (columns : List Column) (text : List ℕ) (q : Checked) (error : ParseError) → Accepts columns text q → Refuses columns text error → ⊥
+not_both columns text q _ a (parsing.too_long long) = let short = a.short in omega (arith, long, short)
+not_both columns text q _ a (parsing.no_tokens fault short read) = let clash = sym a.read ∙ read in absurd cc
+not_both columns text q _ a (parsing.unexpected ts left short read u) =
+    let same = same_tokens text a.tokens ts a.read read in
+    goes_on (lexemes_of ts) u.front u.rest a.written (subst (λ (us : List Placed). IsQuery most_open (lexemes_of us) a.written) same a.is_query) u.split u.ends
+not_both columns text q _ a (parsing.too_deep ts left short read u) =
+    let same = same_tokens text a.tokens ts a.read read in
+    goes_on (lexemes_of ts) u.front (opening ∷ u.rest) a.written (subst (λ (us : List Placed). IsQuery most_open (lexemes_of us) a.written) same a.is_query) u.split u.ends
+not_both columns text q _ a (parsing.unchecked ts written error short read is refused) =
+    let same = same_tokens text a.tokens ts a.read read in
+    let one = one_query most_open (lexemes_of ts) a.written written (subst (λ (us : List Placed). IsQuery most_open (lexemes_of us) a.written) same a.is_query) is in
+    let passed = subst (λ (w : Written (List ℕ)). checked columns w ≡ Ok q) one a.passed in
+    let clash = sym passed ∙ refused in absurd cc

@@ -1,12 +1,12 @@
 -- What the readers of the code need of the reading functions.
-use Rattle.std.proofs.Common.{◌≡◌, ℕ, zero, suc, ◌+◌, ◌≤◌, Bool, true, false, cond, List, [], ◌∷◌, ◌++◌, length, map, Option, Some, None, Ok, Err, refl, sym, ap, ◌∙◌, arith}
+use Rattle.std.proofs.Common.{◌≡◌, ℕ, zero, suc, ◌+◌, Bool, true, false, List, [], ◌∷◌, ◌++◌, length, map, Some, None, Ok, Err, refl, sym, ap, ◌∙◌, arith}
 use Rattle.std.specs.Prelude.{codes}
 use Rattle.query_tokens.specs.Words.{Lexeme}
 use Rattle.having_filter.specs.Forms as form
 use Rattle.query_grammar.specs.Terminals.{is_word, is_sign}
 use Rattle.query_grammar.specs.Grammar.{Named}
 use Rattle.query_grammar.specs.Queries.{most_open}
-use Rattle.query_grammar.specs.Reading.{Read, Fault, Unexpected, Too_deep, Inner, ◌>>=◌, after, choose, cmp_at, tested, test_at, not_at, joined, and_at, or_at, condition_at, conditions}
+use Rattle.query_grammar.specs.Reading.{Read, Fault, Unexpected, Too_deep, Inner, ◌>>=◌, after, cmp_at, tested, test_at, not_at, joined, and_at, or_at, condition_at, conditions}
 use Rattle.query_grammar.proofs.Locality.{condition_step, tested_stays, joined_stays, not_stays, and_stays}
 use Rattle.std.proofs.lemmas.List.{map_push}
 use Rattle.query_tokens.specs.declared.word.Symbol.TheVariants as symbols

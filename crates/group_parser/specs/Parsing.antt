@@ -1,11 +1,11 @@
 -- Which texts are queries over the columns of a schema, and why others are not. The order of the refusals and the limits
 -- are our own.
-use Rattle.std.specs.Prelude.{◌≡◌, ℕ, ◌-◌, ◌<◌, ◌≤◌, nat_lt, if◌then◌else◌, List, length, slice_get, Option, option_map, unwrap_or, Result, Ok, Err}
+use Rattle.std.specs.Prelude.{◌≡◌, ℕ, ◌-◌, ◌<◌, ◌≤◌, nat_lt, if◌then◌else◌, List, length, slice_get, option_map, unwrap_or, Result, Ok, Err}
 use Rattle.query_tokens.specs.declared.fault.Fault.TheVariants as faults
 use Rattle.query_tokens.specs.declared.fault.Fault.{Fault}
 use Rattle.query_tokens.specs.declared.fault.TokenError.{TokenError}
 use Rattle.query_tokens.specs.declared.fault.TokenError.TheVariants as tokens
-use Rattle.query_tokens.specs.Words.{Lexeme, Placed}
+use Rattle.query_tokens.specs.Words.{Placed}
 use Rattle.query_tokens.specs.Tokens.{tokens_in}
 use Rattle.query_tokens.specs.Spelling.{lexemes_of}
 use Rattle.packed_rows.specs.Columns.{Column}

@@ -1,12 +1,10 @@
 -- What the code's tokens, conditions and faults stand for. All of this is our own.
-use Rattle.std.specs.Prelude.{◌≡◌, ℕ, Bool, true, false, List, map, option_map, string_bytes, Option, Result, Ok, Err}
-use Rattle.std.specs.Borrow.{Bor}
+use Rattle.std.specs.Prelude.{◌≡◌, ℕ, Bool, true, false, List, option_map, string_bytes, Option, Result, Ok, Err}
 use Rattle.std.specs.declared.alloc.Global.{Global}
 use Rattle.std.specs.declared.string.String.{String}
 use Rattle.query_tokens.specs.declared.word.Token.{Token}
 use Rattle.query_tokens.specs.Words.{Lexeme, all_placed}
 use Rattle.query_tokens.specs.Spelling.{lexemes_of}
-use Rattle.grouping_model.specs.Aggregates.{Function}
 use Rattle.grouping_model.specs.Condition as model
 use Rattle.having_filter.specs.declared.condition.Cond.{Cond}
 use Rattle.having_filter.specs.declared.condition.AggCall.{AggCall}
@@ -14,7 +12,7 @@ use Rattle.having_filter.specs.declared.condition.Item.{Item}
 use Rattle.having_filter.specs.Forms as form
 use Rattle.having_filter.specs.Forms.{form_of, call_form, item_form, names_of}
 use Rattle.query_grammar.specs.Grammar.{Named}
-use Rattle.query_grammar.specs.Reading.{Read, Fault, Unexpected, Too_deep}
+use Rattle.query_grammar.specs.Reading.{Read, Unexpected, Too_deep}
 use Rattle.group_parser.specs.declared.fault.ReadError.{ReadError}
 use Rattle.group_parser.specs.declared.fault.ReadError.TheVariants as errors
 

@@ -47,11 +47,7 @@ fn tested(
 }
 
 /// Two conditions, of which both are to be true.
-fn both(
-    alloc: Global,
-    left: Cond<String>,
-    right: Cond<String>,
-) -> Result<Cond<String>, AllocError>
+fn both(alloc: Global, left: Cond<String>, right: Cond<String>) -> Result<Cond<String>, AllocError>
     ensures { IfOk result (λ c.
         condition_read c ≡ form.And (condition_read left) (condition_read right)) }
 {

@@ -5,12 +5,14 @@ mod conditions;
 mod cursor;
 mod error;
 mod fault;
+mod laws;
 mod operands;
 mod parsing;
 mod printing;
 mod query;
 
 pub use error::ParseError;
+pub use laws::exactly_the_grammar;
 pub use parsing::parse;
 pub use printing::print;
 

@@ -38,10 +38,7 @@ fn texts_and_their_canonical_forms(rt: HostRuntime) -> Result<(), Fail> {
             "SELECT count(*) FROM batches WHERE not not (not b) is unknown is false",
             "SELECT count(*) FROM batches WHERE NOT NOT (NOT b) IS UNKNOWN IS FALSE",
         ),
-        (
-            "select batches from batches",
-            "NoSuchColumn",
-        ),
+        ("select batches from batches", "NoSuchColumn"),
     ] {
         assert_eq!(rt; told(rt, text)?.as_str(), want, "at {text}");
     }
@@ -61,11 +58,17 @@ fn first_faults(rt: HostRuntime) -> Result<(), Fail> {
         ("select d from batches where d = 1 = 2", "Syntax { at: 34 }"),
         ("select d from batches where d is 1", "Syntax { at: 33 }"),
         ("select d from batches order by d", "Syntax { at: 22 }"),
-        ("select d from batches where d = 99999999999999999999", "NumberTooLarge"),
+        (
+            "select d from batches where d = 99999999999999999999",
+            "NumberTooLarge",
+        ),
         ("select ? from batches", "Syntax { at: 7 }"),
         ("select c from batches", "NotGrouped"),
         ("select count(*) from batches where d", "TypeMismatch"),
-        ("select count(*) from batches where count(*) = 1", "AggregateHere"),
+        (
+            "select count(*) from batches where count(*) = 1",
+            "AggregateHere",
+        ),
     ] {
         assert_eq!(rt; told(rt, text)?.as_str(), want, "at {text}");
     }
@@ -88,9 +91,24 @@ fn in_parentheses(rt: HostRuntime, count: usize) -> Result<String, Fail> {
 #[test]
 fn parentheses_and_length(rt: HostRuntime) -> Result<(), Fail> {
     let most = in_parentheses(rt, 64)?;
-    assert_eq!(rt; told(rt, &most)?.as_str(), "SELECT count(*) FROM batches WHERE b");
+    assert_eq!(rt;
+        told(rt, &most)?.as_str(),
+        "SELECT count(*) FROM batches WHERE b"
+    );
     let more = in_parentheses(rt, 65)?;
     assert_eq!(rt; told(rt, &more)?.as_str(), "TooDeep");
+    let mut deep = String::from_str(rt.alloc(), "SELECT count(*) FROM batches WHERE ")?;
+    for _ in 0..64 {
+        deep.push_str("NOT ")?;
+    }
+    deep.push_str("TRUE")?;
+    assert_eq!(rt; told(rt, &deep)?.as_str(), "TooDeep");
+    let mut wide = String::from_str(rt.alloc(), "SELECT count(*)")?;
+    for _ in 0..64 {
+        wide.push_str(", count(*)")?;
+    }
+    wide.push_str(" FROM batches")?;
+    assert_eq!(rt; told(rt, &wide)?.as_str(), "TooMany");
     let mut long = String::from_str(rt.alloc(), "SELECT count(*) FROM batches WHERE ")?;
     for _ in 0..4080 {
         long.push_str("NOT ")?;

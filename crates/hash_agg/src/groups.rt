@@ -121,7 +121,7 @@ impl Groups {
     {
         let row = unpack(self.alloc, query.schema(), packed)?;
         if !query.where_true(&row) {
-            return Ok(());
+            return Ok(()); // It is passed over.
         }
         self.add_selected(query, &row)
     }

@@ -72,6 +72,6 @@ impl Run {
     pub(crate) fn entries(&self) -> &[(Vec<u8>, Vec<u8>)]
         ensures { entries_of result.now ≡ self.now }
     {
-        &self.groups
+        self.groups.as_slice()
     }
 }

@@ -4,7 +4,7 @@ ghost use Rattle.std.specs.Prelude.{◌≡◌, ◌≢◌, ◌==◌, ◌<◌, ◌
 ghost use Rattle.grouping_model.specs.Query.{Aggregate};
 ghost use Rattle.grouping_model.specs.Condition.{is_met};
 ghost use Rattle.grouping_model.specs.Grouping.{column_of};
-ghost use Rattle.packed_rows.specs.Columns.{kinds};
+ghost use Rattle.packed_rows.specs.Columns.{kinds, printed};
 ghost use Rattle.packed_rows.specs.View.{row_of, kinds_of};
 ghost use Rattle.agg_protocol.specs.Results.{outcome_of};
 ghost use Rattle.agg_library.specs.Kinds.{function_of};
@@ -37,6 +37,7 @@ use std::marker::Model;
 pub struct Query {
     pub(crate) alloc: Global,
     pub(crate) schema: Schema,
+    pub(crate) schema_text: String,
     pub(crate) items: Vec<(Item<usize>, Option<String>)>,
     pub(crate) condition: Option<Cond<usize>>,
     pub(crate) keys: Vec<usize>,
@@ -52,6 +53,7 @@ impl Model for Query {
     ghost use Rattle.having_filter.specs.Kept.{IsQuery, written_by, by_names, headers};
     ghost use Rattle.having_filter.specs.Plans.{PlansFor};
     ghost use Rattle.having_filter.specs.Spelling.{spelling};
+    ghost use Rattle.packed_rows.specs.Columns.{printed};
     ghost use Rattle.having_filter.specs.Coding.{coded_checked};
 
     ghost Value = { Checked };
@@ -79,7 +81,8 @@ impl Model for Query {
         × (map string_bytes q.labels.items ≡ headers (record {
           columns = q.schema;
           written = written_by q.items.items q.condition q.keys.items q.having;
-        })) };
+        }))
+        × (string_bytes q.schema_text ≡ printed q.schema) };
 }
 
 /// Whether the parts of a query pass the checks over places: the first that they fail is told.
@@ -142,9 +145,11 @@ impl Query {
         )?;
         let labels = labels_of(alloc, &raw.items)?;
         let schema = schema.try_clone()?;
+        let schema_text = schema.print()?;
         Ok(Query {
             alloc,
             schema,
+            schema_text,
             items: parts.items,
             condition: parts.condition,
             keys: parts.keys,
@@ -273,6 +278,14 @@ impl Query {
         is_met(&self.plan.having, &GroupLeaves { key, results })
     }
 
+    /// Whether two queries are the same: the canonical texts of their schemas are, and their own.
+    pub fn same_query(&self, other: &Query) -> bool
+        ensures { IsTrue result ↔ ((printed self.now.columns ≡ printed other.now.columns)
+            × (spelling (by_names self.now) ≡ spelling (by_names other.now))) }
+    {
+        self.schema_text == other.schema_text && self.canonical == other.canonical
+    }
+
     /// The same query again. The only error is a failed allocation.
     pub fn try_clone(&self) -> Result<Query, AllocError>
         ensures { IfOk result (λ query. query ≡ self.now) }
@@ -296,9 +309,11 @@ impl Query {
         let canonical = String::from_str(self.alloc, self.canonical.as_str())?;
         let labels = copied_texts(self.alloc, &self.labels)?;
         let plan = Plan::new(self.alloc, &schema, &items, &condition, &keys, &having)?;
+        let schema_text = schema.print()?;
         Ok(Query {
             alloc: self.alloc,
             schema,
+            schema_text,
             items,
             condition,
             keys,

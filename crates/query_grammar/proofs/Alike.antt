@@ -1,8 +1,8 @@
 -- Reading the same tokens before two tails: it goes the same way until it passes the first token of the tails.
-use Rattle.std.proofs.Common.{◌≡◌, ℕ, zero, suc, ◌≤◌, ◌<◌, Bool, true, false, cond, List, [], ◌∷◌, ◌++◌, length, Option, Some, None, Ok, Err, refl, arith}
+use Rattle.std.proofs.Common.{◌≡◌, ℕ, ◌≤◌, ◌<◌, Bool, true, false, cond, List, [], ◌∷◌, ◌++◌, length, Some, None, Ok, Err, arith}
 use Rattle.std.proofs.lemmas.List.{length-append}
 use Rattle.query_tokens.specs.Words.{Lexeme}
-use Rattle.query_grammar.specs.Reading.{Read, Unexpected, Too_deep, ◌>>=◌, unexpected, too_deep, after, choose, expect}
+use Rattle.query_grammar.specs.Reading.{Read, Unexpected, Too_deep, ◌>>=◌, unexpected, after, choose, expect}
 
 -- two tails: both nothing, or both of one first token
 pub data Tails : List Lexeme → List Lexeme → Type 0 where

@@ -1,5 +1,5 @@
 -- What reading a query gives, in the words of the grammar.
-use Rattle.std.proofs.Common.{◌≡◌, ℕ, suc, ◌≤◌, Bool, true, false, cond, List, [], ◌∷◌, ◌++◌, length, Option, Some, None, Ok, Err, refl, sym, ap, subst, ◌∙◌, arith}
+use Rattle.std.proofs.Common.{◌≡◌, ℕ, suc, false, List, [], ◌∷◌, ◌++◌, length, Option, Some, None, Ok, Err, refl, sym, ap, subst, ◌∙◌, arith}
 use Rattle.std.specs.Prelude.{codes}
 use Rattle.std.proofs.lemmas.List.{append-nil}
 use Rattle.query_tokens.specs.declared.word.Symbol.TheVariants as symbols
@@ -11,7 +11,6 @@ use Rattle.query_grammar.specs.Queries.{IsQuery, Begins}
 use Rattle.query_grammar.specs.Reading.{Read, Unexpected, Too_deep, ◌>>=◌, after, choose, expect}
 use Rattle.query_grammar.specs.Whole.{item_at, list_at, clause_at, keys_at, nothing_at, end_at, query_at}
 use Rattle.query_grammar.specs.Laws.{Means, CanBecome, IsUnexpected, IsTooDeep}
-use Rattle.query_grammar.proofs.Sound.{allowed}
 use Rattle.query_grammar.proofs.Whole_sound.{Query_part, from_having, from_keys, from_where, from_items, made, query_means}
 use Rattle.query_grammar.proofs.Whole_locality.{none_goes_on, none_goes_deeper}
 

@@ -11,3 +11,5 @@ pub mod Faults
 pub mod Chains
 pub mod Writables
 pub mod Texts
+pub mod Printed
+pub mod PrintedQuery

@@ -117,7 +117,7 @@ filter_means : (inner : Inner) (h : InnerMeans inner) (c : Function × Option (L
 unfolding filter_at
 filter_means inner h c Q plain q ts =
     let some : (b : Bool) → Q b (word (codes "filter") ∷ opening ∷ word (codes "where") ∷ word (codes "null") ∷ closing ∷ []) (form.Call_where c.0 c.1 null_form) =
-        λ b. q b (word (codes "null") ∷ []) null_form (null_condition b inner.limit inner.limit) in
+    λ b. q b (word (codes "null") ∷ []) null_form (null_condition b inner.limit inner.limit) in
     chosen Q (word (codes "filter")) (is_word (codes "filter")) (word_law (codes "filter")) ts
     (λ rest. expect (is_sign symbols.Open) rest >>= λ opened. expect (is_word (codes "where")) opened.1 >>= λ where_. inner.inside inner.limit where_.1 >>= λ x. expect (is_sign symbols.Close) x.1 >>= λ closed. Ok (form.Call_where c.0 c.1 x.0, closed.1))
     (Ok (form.Call c.0 c.1, ts))

@@ -32,15 +32,14 @@ widen_that : {A : Type 0} (Q : Part A) (front rest ts : List Lexeme) (r : Read A
 widen_that Q front rest ts (Ok x) e m = (front ++ m.0, e ∙ ap (λ (u : List Lexeme). front ++ u) m.1 ∙ sym (append_assoc front m.0 x.1), m.2)
 widen_that Q front rest ts (Err (Unexpected left)) e m =
     (front ++ m.0, m.1, e ∙ ap (λ (u : List Lexeme). front ++ u) m.2 ∙ sym (append_assoc front m.0 m.1), m.3, λ b. wide_can (Q b) front m.0 (m.4 b))
-widen_that Q front rest ts (Err (Too_deep left)) e m =
-    (
-      front ++ m.0,
-      m.1,
-      e ∙ ap (λ (u : List Lexeme). front ++ u) m.2 ∙ sym (append_assoc front m.0 (opening ∷ m.1)),
-      m.3,
-      λ b. wide_can (Q b) front m.0 (m.4 b),
-      subst (λ (u : List Lexeme). CanBecome (Q true) u) (sym (append_assoc front m.0 (opening ∷ []))) (wide_can (Q true) front (m.0 ++ opening ∷ []) m.5),
-    )
+widen_that Q front rest ts (Err (Too_deep left)) e m = (
+  front ++ m.0,
+  m.1,
+  e ∙ ap (λ (u : List Lexeme). front ++ u) m.2 ∙ sym (append_assoc front m.0 (opening ∷ m.1)),
+  m.3,
+  λ b. wide_can (Q b) front m.0 (m.4 b),
+  subst (λ (u : List Lexeme). CanBecome (Q true) u) (sym (append_assoc front m.0 (opening ∷ []))) (wide_can (Q true) front (m.0 ++ opening ∷ []) m.5),
+)
 
 pub widen : {A : Type 0} (Q : Part A) (front rest ts : List Lexeme) (r : Read A) → ts ≡ front ++ rest → Means (behind front Q) rest r → Means Q ts r
 widen Q front rest ts r e m = record { that = widen_that Q front rest ts r e m.that }

@@ -1,11 +1,10 @@
 -- The bytes of canonical texts and the lexemes that are read from them.
-use Rattle.std.proofs.Common.{◌≡◌, ℕ, ◌+◌, ◌-◌, ◌<◌, Bool, true, false, List, [], ◌∷◌, ◌++◌, length, Ok, Err, refl, ap, sym, subst, ◌∙◌, append_assoc, arith}
+use Rattle.std.proofs.Common.{◌≡◌, ℕ, ◌+◌, ◌-◌, false, List, [], ◌∷◌, ◌++◌, length, Ok, Err, refl, ap, sym, subst, ◌∙◌, append_assoc, arith}
 use Rattle.std.specs.Prelude.{codes, Result}
-use Rattle.std.proofs.lemmas.List.{length-drop, append-nil}
+use Rattle.std.proofs.lemmas.List.{length-drop}
 use Rattle.std.proofs.lemmas.Bool.{or_parts}
 use Rattle.query_tokens.specs.declared.fault.Fault.{Fault}
-use Rattle.query_tokens.specs.declared.word.Symbol.TheVariants as symbols
-use Rattle.query_tokens.specs.Words.{Lexeme, Name, Sign, Placed}
+use Rattle.query_tokens.specs.Words.{Lexeme, Name, Placed}
 use Rattle.query_tokens.specs.Bytes.{first_is, is_in_name}
 use Rattle.query_tokens.specs.Tokens.{◌>>=◌, name_at, word_at, tokens_at}
 use Rattle.query_tokens.specs.Spelling.{IsLexeme, EndsBefore, spell, lexemes_read, runs_on}

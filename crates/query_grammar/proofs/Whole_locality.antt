@@ -1,5 +1,5 @@
 -- A query is read alike before two tails, so that with a token that is refused no query goes on.
-use Rattle.std.proofs.Common.{◌≡◌, ℕ, zero, suc, ◌≤◌, ◌<◌, Bool, true, false, cond, List, [], ◌∷◌, ◌++◌, length, Option, Some, None, Result, Ok, Err, refl, sym, ap, subst, ◌∙◌, append_assoc, arith}
+use Rattle.std.proofs.Common.{◌≡◌, ℕ, zero, suc, ◌≤◌, ◌<◌, Bool, true, false, cond, List, [], ◌∷◌, ◌++◌, length, Option, Some, None, Ok, Err, refl, sym, subst, append_assoc, arith}
 use Rattle.std.specs.Prelude.{codes}
 use Rattle.std.proofs.lemmas.List.{length-append, append-nil}
 use Rattle.query_tokens.specs.declared.word.Symbol.TheVariants as symbols
@@ -7,15 +7,15 @@ use Rattle.query_tokens.specs.Words.{Lexeme, Name, Integer, Text, Sign}
 use Rattle.query_tokens.specs.Reserved.{is_reserved}
 use Rattle.having_filter.specs.Forms.{Written}
 use Rattle.query_grammar.specs.Terminals.{is_word, is_sign}
-use Rattle.query_grammar.specs.Grammar.{Named, opening}
-use Rattle.query_grammar.specs.Queries.{IsQuery, Begins}
-use Rattle.query_grammar.specs.Reading.{Read, Unexpected, Too_deep, ◌>>=◌, unexpected, after, choose, expect, name_at, condition_at, conditions}
+use Rattle.query_grammar.specs.Grammar.{Named}
+use Rattle.query_grammar.specs.Queries.{Begins}
+use Rattle.query_grammar.specs.Reading.{Read, Unexpected, Too_deep, ◌>>=◌, after, choose, expect, name_at, condition_at, conditions}
 use Rattle.query_grammar.specs.Whole.{item_value_at, alias_or_none, alias_at, item_at, list_at, clause_at, keys_at, nothing_at, end_at, query_at}
 use Rattle.query_grammar.specs.Laws.{NoneGoesOn}
 use Rattle.query_grammar.proofs.Whole_sound.{Value_part, Alias_part, value_means, alias_or_none_means, from_having, from_keys, from_where, from_items, made}
 use Rattle.query_grammar.proofs.Whole_complete.{query_reads}
-use Rattle.query_grammar.proofs.Alike.{Tails, none, both, Within, Stays, Past, Alike, same, refused, deep, past, deeper, Agree, within_bind, within_chosen, alike_bind, alike_choose, done, refuses, binds, chooses, expects, maps}
-use Rattle.query_grammar.proofs.Locality.{Rooms, stays_of, names_agree, InnerAgree, free_word_in, free_word_past, conditions_agree}
+use Rattle.query_grammar.proofs.Alike.{Tails, none, both, Within, Stays, Past, Alike, same, refused, deep, past, deeper, Agree, within_bind, within_chosen, alike_bind, alike_choose, done, binds, chooses, expects, maps}
+use Rattle.query_grammar.proofs.Locality.{Rooms, stays_of, names_agree, free_word_in, free_word_past, conditions_agree}
 
 -- ---- items
 

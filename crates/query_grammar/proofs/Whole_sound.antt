@@ -9,15 +9,15 @@ use Rattle.grouping_model.specs.Aggregates.{Function}
 use Rattle.having_filter.specs.Forms as form
 use Rattle.having_filter.specs.Forms.{Written}
 use Rattle.query_grammar.specs.Terminals.{function_named, is_word, is_sign}
-use Rattle.query_grammar.specs.Grammar.{Named, opening, word, IsCondition, IsCall}
+use Rattle.query_grammar.specs.Grammar.{Named, opening, word}
 use Rattle.query_grammar.specs.Queries as grammar
 use Rattle.query_grammar.specs.Queries.{IsItemValue, IsAlias, IsItem, IsName, IsListOf, IsClause, IsKeys, IsEnd, IsQuery}
-use Rattle.query_grammar.specs.Reading.{Read, Inner, ◌>>=◌, unexpected, after, choose, expect, name_at, call_at, function_or_column, condition_at, conditions}
+use Rattle.query_grammar.specs.Reading.{Read, ◌>>=◌, unexpected, after, choose, expect, name_at, call_at, function_or_column, condition_at, conditions}
 use Rattle.query_grammar.specs.Whole.{item_value_at, alias_or_none, alias_at, item_at, list_at, clause_at, keys_at, nothing_at, end_at, query_at}
 use Rattle.query_grammar.specs.Laws.{Part, Means, CanBecome}
 use Rattle.query_grammar.proofs.Marks.{opening_sign, comma_sign, semicolon_sign}
 use Rattle.query_grammar.proofs.Steps.{behind, done, refused, widen, weaken, bind, mapped, chosen, expected}
-use Rattle.query_grammar.proofs.Sound.{allowed, InnerMeans, Condition_part, Call_part, Name_part, a_name, word_law, name_means, call_means, condition_means}
+use Rattle.query_grammar.proofs.Sound.{allowed, Condition_part, Call_part, Name_part, a_name, word_law, name_means, call_means, condition_means}
 
 abbrev pub Value_part : ℕ → Part Named
 Value_part limit = λ b ts x. IsItemValue (allowed b limit) ts x

@@ -5,13 +5,12 @@ use Rattle.std.specs.Str.{bytes_eq}
 use Rattle.std.specs.List.{AllByRecursion}
 use Rattle.std.specs.Option.{ForSome}
 use Rattle.query_tokens.specs.declared.word.Symbol.TheVariants as symbols
-use Rattle.query_tokens.specs.Words.{Lexeme, Name, Sign}
+use Rattle.query_tokens.specs.Words.{Lexeme, Sign}
 use Rattle.query_tokens.specs.Spelling.{IsLexeme}
-use Rattle.query_tokens.specs.Reserved.{is_reserved}
 use Rattle.grouping_model.specs.Aggregates as function
 use Rattle.grouping_model.specs.Aggregates.{Function}
 use Rattle.packed_rows.specs.Columns.{IsColumnName}
-use Rattle.having_filter.specs.Forms.{Form, Written}
+use Rattle.having_filter.specs.Forms.{Written}
 use Rattle.having_filter.specs.Writable as writable
 use Rattle.having_filter.specs.Writable.{IsForm, IsColumnOrCall, IsWritable}
 use Rattle.query_grammar.specs.Terminals.{function_named}

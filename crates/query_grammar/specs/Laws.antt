@@ -1,9 +1,11 @@
 -- What reading means, in the words of the grammar (own).
 use Rattle.std.specs.Prelude.{◌≡◌, ℕ, suc, Bool, true, List, [], ◌∷◌, ◌++◌, length, Ok, Err}
-use Rattle.query_tokens.specs.Words.{Lexeme}
+use Rattle.query_tokens.specs.Words.{Lexeme, Placed}
+use Rattle.query_tokens.specs.Tokens.{tokens_in}
+use Rattle.query_tokens.specs.Spelling.{lexemes_of}
 use Rattle.having_filter.specs.Forms.{Written}
 use Rattle.query_grammar.specs.Grammar.{opening}
-use Rattle.query_grammar.specs.Queries.{IsQuery, Begins}
+use Rattle.query_grammar.specs.Queries.{IsQuery, Begins, most_open}
 use Rattle.query_grammar.specs.Reading.{Read, Unexpected, Too_deep}
 
 -- a part of the grammar, where one parenthesis more than there may be is allowed (true) or not
@@ -52,3 +54,9 @@ pub record IsTooDeep (limit : ℕ) (ts : List Lexeme) (left : ℕ) : Type 0 wher
   pub begins : Begins limit front
   pub ends : NoneGoesOn limit front (opening ∷ rest)
   pub allowed : Begins (suc limit) (front ++ opening ∷ [])
+
+-- a text says a query
+pub record IsSpelled (text : List ℕ) (q : Written (List ℕ)) : Type 0 where
+  pub tokens : List Placed
+  pub read : tokens_in text ≡ Ok tokens
+  pub is_query : IsQuery most_open (lexemes_of tokens) q

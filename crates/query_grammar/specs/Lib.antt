@@ -4,3 +4,4 @@ pub mod Queries
 pub mod Reading
 pub mod Whole
 pub mod Laws
+pub mod Canonical

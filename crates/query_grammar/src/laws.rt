@@ -1,15 +1,18 @@
 //! Laws of the grammar of queries.
 
-ghost use Rattle.std.specs.Prelude.{◌≡◌, ℕ, List, [], Ok, Err};
+ghost use Rattle.std.specs.Prelude.{◌≡◌, ℕ, true, List, [], Ok, Err};
 ghost use Rattle.std.specs.List.{AllByRecursion};
 ghost use Rattle.query_tokens.specs.Words.{Lexeme};
 ghost use Rattle.query_tokens.specs.Spelling.{IsLexeme};
 ghost use Rattle.having_filter.specs.Writable.{IsWritable};
+ghost use Rattle.having_filter.specs.Checks.{all_of, filters_pass, is_shallow, are_shallow};
+ghost use Rattle.having_filter.specs.Spelling.{spelling};
 ghost use Rattle.having_filter.specs.Forms.{Written};
 ghost use Rattle.query_grammar.specs.Queries.{IsQuery};
 ghost use Rattle.query_grammar.specs.Reading.{Unexpected, Too_deep};
 ghost use Rattle.query_grammar.specs.Whole.{query_at};
-ghost use Rattle.query_grammar.specs.Laws.{IsUnexpected, IsTooDeep};
+ghost use Rattle.query_grammar.specs.Laws.{IsUnexpected, IsTooDeep, IsSpelled};
+ghost use Rattle.query_grammar.specs.Canonical.{canonical};
 
 /// What is read is in the grammar, all of it.
 #[tactic(auto, using(crate::proofs::Faults::is_query))]
@@ -48,4 +51,13 @@ pub fn refused_tokens()
 pub fn what_is_a_query_can_be_written()
     ensures { (limit : ℕ) (ts : List Lexeme) (q : Written (List ℕ)) → IsQuery limit ts q →
         AllByRecursion IsLexeme ts → IsWritable q }
+{}
+
+/// The canonical text of a query says the query, each column of GROUP BY once and no alias that is the item's own name,
+/// if its conditions are nested at most 64 deep.
+#[tactic(auto, using(crate::proofs::PrintedQuery::text_says))]
+pub fn canonical_text_is_read()
+    ensures { (q : Written (List ℕ)) → IsWritable q →
+        all_of (filters_pass is_shallow) are_shallow q ≡ true →
+        IsSpelled (spelling q) (canonical q) }
 {}

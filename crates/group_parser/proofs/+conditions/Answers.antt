@@ -1,9 +1,9 @@
-use Rattle.std.proofs.Common.{length, arith}
+use Rattle.std.proofs.Common.{arith}
 use Rattle.std.specs.Prelude.{codes}
 use Rattle.std.proofs.lemmas.Result.{err_from_is_err_and}
 use Rattle.query_grammar.specs.Queries.{most_open}
 use Rattle.query_grammar.specs.Reading.{cmp_at, tested, test_at, not_at, and_at, condition_at, conditions}
-use Rattle.group_parser.specs.Views.{lexemes, condition_read, test_form}
+use Rattle.group_parser.specs.Views.{lexemes, condition_read}
 use Rattle.group_parser.proofs.Readers.{or_step, and_step, fails_on, not_fails, not_reads, or_begins, or_begins_not, and_begins, and_begins_not, test_begins, test_begins_not, or_goes, or_stops, and_goes, and_stops, test_goes, test_stops, chain_ends}
 use Rattle.group_parser.proofs.+conditions.Goals as goal
 

@@ -1,4 +1,4 @@
-use Rattle.std.proofs.Common.{length, ap, ◌∙◌, arith}
+use Rattle.std.proofs.Common.{ap, ◌∙◌, arith}
 use Rattle.query_grammar.specs.Queries.{most_open}
 use Rattle.query_grammar.specs.Reading.{not_at, conditions}
 use Rattle.group_parser.specs.Views.{lexemes}

@@ -1,5 +1,4 @@
 use Rattle.std.proofs.Common.{length, arith}
-use Rattle.std.specs.Prelude.{string_bytes}
 use Rattle.std.proofs.lemmas.Result.{err_from_is_err_and}
 use Rattle.query_grammar.specs.Queries.{most_open}
 use Rattle.query_grammar.specs.Whole.{item_at, list_at}

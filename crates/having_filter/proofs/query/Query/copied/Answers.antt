@@ -18,8 +18,9 @@ invariant_of-result c =
       columns = c.in_ok-schema.ensures.same i;
       written = record { items = items i; condition = c.in_ok-condition.ensures.copied i; keys = keys i; having = c.in_ok-having.ensures.copied i };
     } in
-    kept_copy original copy c.in_ok-plan.plan (string_bytes c.in_ok-canonical.canonical) (map string_bytes c.in_ok-labels.labels.items) same c.self.invariant.0
+    let all = kept_copy original copy c.in_ok-plan.plan (string_bytes c.in_ok-canonical.canonical) (map string_bytes c.in_ok-labels.labels.items) same c.self.invariant.0
     (subst (λ xs. PlansFor (record { columns = c.in_ok-schema.schema; written = written_by xs c.in_ok-condition.condition c.in_ok-keys.keys.items c.in_ok-having.having }) c.in_ok-plan.plan) c.deref-4.ensures.value
     (subst (λ xs. PlansFor (record { columns = c.in_ok-schema.schema; written = written_by c.deref-4.result.now c.in_ok-condition.condition xs c.in_ok-having.having }) c.in_ok-plan.plan) c.deref-5.ensures.value c.in_ok-plan.ensures.plans))
     (c.in_ok-canonical.ensures.ok ∙ c.as_str.ensures.value ∙ c.self.invariant.2)
-    (c.in_ok-labels.ensures ∙ ap (λ xs. map string_bytes xs) c.deref-3.ensures.value ∙ c.self.invariant.3)
+    (c.in_ok-labels.ensures ∙ ap (λ xs. map string_bytes xs) c.deref-3.ensures.value ∙ c.self.invariant.3) in
+    (all.0, all.1, all.2, all.3, c.in_ok-schema_text.ensures.printed)

@@ -1,0 +1,22 @@
+//! Laws of parsing.
+
+ghost use Rattle.std.specs.Prelude.{◌≡◌, ℕ, List, Ok, Err};
+ghost use Rattle.packed_rows.specs.Columns.{Column};
+ghost use Rattle.having_filter.specs.Meaning.{Checked};
+ghost use Rattle.group_parser.specs.Parsing.{Accepts, Refuses, parsing};
+ghost use Rattle.group_parser.specs.declared.error.ParseError.{ParseError};
+
+/// Exactly the texts that the grammar and the checks allow are parsed, each as one query, and all others are refused.
+#[tactic(auto, using(crate::proofs::ParseLaws::parses_accepts, crate::proofs::ParseLaws::parses_refuses))]
+pub fn exactly_the_grammar()
+    ensures parsed { (columns : List Column) (text : List ℕ) (q : Checked) →
+        Accepts columns text q → parsing columns text ≡ Ok q }
+    ensures accepted { (columns : List Column) (text : List ℕ) (q : Checked) →
+        parsing columns text ≡ Ok q → Accepts columns text q }
+    ensures refused { (columns : List Column) (text : List ℕ) (error : ParseError) →
+        parsing columns text ≡ Err error → Refuses columns text error }
+    ensures one_query { (columns : List Column) (text : List ℕ) (q r : Checked) →
+        Accepts columns text q → Accepts columns text r → q ≡ r }
+    ensures not_both { (columns : List Column) (text : List ℕ) (q : Checked) (error : ParseError) →
+        Accepts columns text q → ¬ (Refuses columns text error) }
+{}
