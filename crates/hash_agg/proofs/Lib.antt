@@ -1,3 +1,4 @@
+mod BatchLaws
 pub mod StateLaws
 pub mod EntryLaws
 pub mod KeyLaws

@@ -11,3 +11,6 @@ pub use aggregation::aggregate;
 pub use input::Input;
 pub use run::Run;
 pub use states::first_states;
+
+#[cfg(test)]
+mod tests;

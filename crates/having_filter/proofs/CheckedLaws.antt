@@ -66,8 +66,7 @@ Passes columns written plan =
 kept_here : (columns : List Column) (q : Written (List ℕ)) (plan : Plan) (text : List ℕ) (labels : List (List ℕ)) → AreColumns columns → IsWritable q → PassesFirst columns q → text ≡ spelling q → labels ≡ map label_of q.items
     → Passes columns (placed columns q) plan → IsKept columns (placed columns q) plan text labels
 kept_here columns q plan text labels are writable first spelled labelled passes =
-    let has = columns_of_query columns q first.columns_there in
-    (
+    let has = columns_of_query columns q first.columns_there in (
       passed_query columns q are writable first passes.0 passes.1,
       passes.2,
       spelled ∙ sym (ap spelling (named_again columns q has) ∙ spelled_alike q),

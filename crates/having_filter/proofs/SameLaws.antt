@@ -19,7 +19,6 @@ column_image P f after before same (Some c) (Some d) p q = same.agree c d p q
 two : (a b c d : Bool) → a ≡ b → c ≡ d → (a && c) ≡ (b && d)
 two a b c d p q = rw (p, q) refl
 
-
 -- conditions over other columns are the same where the conditions are
 pub form_image : {C D : Type 0} (P : C → Bool) (f : C → D) (after : D → D → Bool) (before : C → C → Bool) → Agrees (λ c. P c ≡ true) f after before → (x y : Form C) → columns_pass P x ≡ true → columns_pass P y ≡ true
     → form_eq after (map_form f x) (map_form f y) ≡ form_eq before x y

@@ -186,7 +186,6 @@ well_formed : (columns : List Column) (q : Written (List ℕ)) → PassesFirst c
 well_formed columns q first fit =
     let has = columns_of_query columns q first.columns_there in
     let few = within q first.few in
-
     record {
       keys = subst (λ n. AllByRecursion (λ at. at < n) (distinct ◌==◌ (map (place columns) q.keys))) (sym (length-map columns (λ (c : Column). c.kind)))
           (all_distinct (λ at. at < length columns) ◌==◌ (map (place columns) q.keys) (places_in_range columns q.keys has.keys));

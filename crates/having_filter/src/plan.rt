@@ -219,8 +219,8 @@ impl Plan {
         having: &Option<Cond<usize>>,
     ) -> Result<Plan, QueryError>
         ensures plans { IfOk result (PlansFor (record {
-            columns = schema.now;
-            written = written_by items.now condition.now keys.now having.now;
+          columns = schema.now;
+          written = written_by items.now condition.now keys.now having.now;
         })) }
         ensures refused { IfErr result (λ e. e ≡ NoMemory) }
     {

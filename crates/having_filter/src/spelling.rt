@@ -250,10 +250,7 @@ fn push_item(text: &mut String, item: &(Item<String>, Option<String>)) -> Result
 }
 
 /// Appends items, parted by commas.
-fn push_items(
-    text: &mut String,
-    items: &[(Item<String>, Option<String>)],
-) -> Result<(), AllocError>
+fn push_items(text: &mut String, items: &[(Item<String>, Option<String>)]) -> Result<(), AllocError>
     ensures { OnOk result (string_bytes text.new
         ≡ string_bytes text.old ++ parted (map item_text (items_of items.now))) }
 {

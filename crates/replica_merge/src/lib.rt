@@ -9,3 +9,6 @@ mod showing;
 pub use delivered::{Delivered, Known, RefusedBatch};
 pub use laws::{building, fitting};
 pub use replica::Replica;
+
+#[cfg(test)]
+mod tests;

@@ -70,11 +70,7 @@ fn push_headers(line: &mut ByteRecord, query: &Query) -> Result<(), AllocError>
 }
 
 /// Writes the line of the query's headers.
-fn put_headers(
-    alloc: Global,
-    writer: &mut Writer<Vec<u8>>,
-    query: &Query,
-) -> Result<(), AllocError>
+fn put_headers(alloc: Global, writer: &mut Writer<Vec<u8>>, query: &Query) -> Result<(), AllocError>
     requires { IsBetween writer.old }
     ensures line { OnOk result (WritesLine writer.old writer.new (headers query.now)) }
     ensures between { OnOk result (IsBetween writer.new) }

@@ -42,12 +42,11 @@ invariant_of-result c =
     let first : PassesFirst c.args.schema.now q = record { few = c.in_ok-canonical.ensures.within; shallow = sym c.if-not-is_shallow_query.ensures; columns_there = c.in_ok-parts.ensures.known } in
     let all = kept c.in_ok-schema.schema c.args.schema.now q (written_of_parts c.in_ok-parts.parts) c.in_ok-plan.plan (string_bytes c.in_ok-canonical.canonical) _ c.in_ok-schema.ensures.same c.in_ok-parts.ensures.placed
     c.in_ok-schema.ensures.columns c.requires first c.in_ok-canonical.ensures.text
-    (c.in_ok-labels.ensures ∙ ap (λ items. map label_of (items_of items)) c.deref-3.ensures.value)
-    (
+    (c.in_ok-labels.ensures ∙ ap (λ items. map label_of (items_of items)) c.deref-3.ensures.value) (
       c.in_ok-check_parts.ensures.fit,
       c.in_ok-check_parts.ensures.passed,
       subst (λ items. PlansFor (record { columns = c.args.schema.now; written = written_by items c.in_ok-parts.parts.condition c.in_ok-parts.parts.keys.items c.in_ok-parts.parts.having }) c.in_ok-plan.plan) c.deref.ensures.value
-      (subst (λ keys. PlansFor (record { columns = c.args.schema.now; written = written_by c.deref.result.now c.in_ok-parts.parts.condition keys c.in_ok-parts.parts.having }) c.in_ok-plan.plan) c.deref-2.ensures.value c.in_ok-plan.ensures.plans),
+          (subst (λ keys. PlansFor (record { columns = c.args.schema.now; written = written_by c.deref.result.now c.in_ok-parts.parts.condition keys c.in_ok-parts.parts.having }) c.in_ok-plan.plan) c.deref-2.ensures.value c.in_ok-plan.ensures.plans),
     ) in
     (all.0, all.1, all.2, all.3, c.in_ok-schema_text.ensures.printed)
 
