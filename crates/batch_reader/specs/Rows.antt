@@ -1,16 +1,10 @@
 -- The rows of records, and their packings.
 use Rattle.std.specs.Prelude.{ℕ, List, [], ◌∷◌, map}
-use Rattle.std.specs.declared.alloc.Global.{Global}
-use Rattle.std.specs.declared.vec.Vec.{Vec}
 use Rattle.csv.specs.Records.{fields_of}
 use Rattle.csv.specs.declared.record.ByteRecord.{ByteRecord}
 use Rattle.grouping_model.specs.Datum.{Kind, Row}
 use Rattle.packed_rows.specs.Field.{ReadsRow}
 use Rattle.packed_rows.specs.Packing.{packing}
-
--- the bytes of a list of byte vectors
-abbrev pub bytes_of : List (Vec ℕ Global) → List (List ℕ)
-bytes_of rows = map (λ (v : Vec ℕ Global). v.items) rows
 
 -- the fields of each record
 abbrev pub records_of : List ByteRecord → List (List (List ℕ))

@@ -4,10 +4,10 @@ ghost use Rattle.std.specs.Prelude.{◌≡◌, ℕ, List, length, IfOk, IfErr};
 ghost use Rattle.csv.specs.Records.{fields_of};
 ghost use Rattle.grouping_model.specs.Datum.{Row};
 ghost use Rattle.packed_rows.specs.Columns.{kinds};
-ghost use Rattle.packed_rows.specs.View.{texts_of};
+ghost use Rattle.packed_rows.specs.View.{texts_of, bytes_of};
 ghost use Rattle.packed_rows.specs.Field.{ReadsRow};
 ghost use Rattle.packed_rows.specs.Packing.{packing};
-ghost use Rattle.batch_reader.specs.Rows.{ReadsRows, packings, bytes_of, records_of};
+ghost use Rattle.batch_reader.specs.Rows.{ReadsRows, packings, records_of};
 ghost use Rattle.batch_reader.specs.Refusal.{RecordFault, RowsFault};
 
 use crate::error::BatchError;

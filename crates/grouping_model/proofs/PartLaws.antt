@@ -36,7 +36,7 @@ keys_of-part query rows = firsts (keys query rows)
     firsts (k ∷ ks) = ap (λ ks. k ∷ ks) (firsts ks)
 
 -- the partial results that are found at a key
-found_at : (results : Row → List Partial) (key : Row) (ks : List Row) → partials_at key (map (λ k. (k, results k)) ks) ≡ cond (is_among row_cmp key ks) (Some (results key)) None
+pub found_at : (results : Row → List Partial) (key : Row) (ks : List Row) → partials_at key (map (λ k. (k, results k)) ks) ≡ cond (is_among row_cmp key ks) (Some (results key)) None
 found_at results key [] = refl
 found_at results key (k ∷ ks) =
     elim (same_row k key) as (λ b. same_row k key ≡ b → option_map (λ (group : Group). group.1) (cond b (Some (k, results k)) (find (λ (group : Group). same_row group.0 key) (map (λ k. (k, results k)) ks))) ≡ cond (is_among row_cmp key (k ∷ ks)) (Some (results key)) None) [
@@ -52,7 +52,7 @@ pub partials_at-part : (query : Query) (rows : List Row) (key : Row) → partial
 partials_at-part query rows key = found_at (λ k. partials query (group query rows k)) key (keys query rows)
 
 -- a key that no row has is the key of no group
-empty_group : (key_of : Row → Row) (key : Row) (rows : List Row) → is_among row_cmp key (map key_of rows) ≡ false → filter (λ row. same_row (key_of row) key) rows ≡ []
+pub empty_group : (key_of : Row → Row) (key : Row) (rows : List Row) → is_among row_cmp key (map key_of rows) ≡ false → filter (λ row. same_row (key_of row) key) rows ≡ []
 empty_group key_of key [] e = refl
 empty_group key_of key (row ∷ rows) e =
     elim (same_row (key_of row) key) as (λ b. same_row (key_of row) key ≡ b → cond b (row ∷ filter (λ row. same_row (key_of row) key) rows) (filter (λ row. same_row (key_of row) key) rows) ≡ []) [

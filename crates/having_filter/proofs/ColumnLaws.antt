@@ -31,7 +31,8 @@ column_passes : {B C : Type 0} (P : C → Bool) (f : B → C) (column : Option B
 column_passes P f None = refl
 column_passes P f (Some c) = refl
 
-two : (a b c d : Bool) → a ≡ b → c ≡ d → (a && c) ≡ (b && d)
+-- two parts of a condition
+pub two : (a b c d : Bool) → a ≡ b → c ≡ d → (a && c) ≡ (b && d)
 two a b c d p q = rw (p, q) refl
 
 pub mapped_passes : {B C : Type 0} (P : C → Bool) (f : B → C) (x : Form B) → columns_pass P (map_form f x) ≡ columns_pass (λ c. P (f c)) x

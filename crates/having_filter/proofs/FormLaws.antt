@@ -105,22 +105,10 @@ shallow_mapped f (Compare comparison c d) = rw (shallow_mapped f c) (rw (shallow
 shallow_mapped f (Is test c) = shallow_mapped f c
 shallow_mapped f (Is_not test c) = shallow_mapped f c
 
--- a call is read among the calls
-pub call_is_call : (keys : List ℕ) (calls : List (Form ℕ)) (function : Function) (column : Option ℕ) (filter : Option (Cond ℕ)) → source_of_form keys calls (with_filter function column (back-AggCall-filter ℕ filter)) ≡ query.Call (place_in (form_eq ◌==◌) calls (with_filter function column (back-AggCall-filter ℕ filter)))
-call_is_call keys calls function column None = refl
-call_is_call keys calls function column (Some filter) = refl
-
 -- whether a clause is true, read in two steps
 pub met_in_steps : {C Leaf : Type 0} (value : Leaf → Outcome) (leaf : Form C → model.Condition Leaf) (clause : Option (Cond C)) → model.is_met (λ x. model.value_of value (leaf x)) (option_map (λ c. condition_by model.At (form_of c)) clause) ≡ model.is_met value (option_map (condition_by leaf) (option_map form_of clause))
 met_in_steps value leaf None = refl
 met_in_steps value leaf (Some c) = rw (read_in_steps value leaf (form_of c)) refl
-
--- keys that are plain values are read as the keys of a group
-pub plain_keys : (key : Row) (results : List Outcome) (source : query.Source) → outcome_at (map Plain key) results source ≡ source_of key results source
-plain_keys key results (query.Call place) = refl
-plain_keys [] results (query.Key place) = refl
-plain_keys (x ∷ key) results (query.Key zero) = refl
-plain_keys (x ∷ key) results (query.Key (suc place)) = plain_keys key results (query.Key place)
 
 -- the place of a member in a list of images
 pub prefix_len_mapped : {A B : Type 0} (p : B → Bool) (f : A → B) (xs : List A) → prefix_len p (map f xs) ≡ prefix_len (λ x. p (f x)) xs

@@ -5,6 +5,7 @@ use Rattle.std.proofs.lemmas.Bool.{and_parts, and_from}
 use Rattle.having_filter.specs.Forms.{Form, Column, Call, Call_where, Literal, Not, And, Or, Compare, Is, Is_not, map_form}
 use Rattle.having_filter.specs.Checks.{columns_pass}
 use Rattle.having_filter.specs.Sameness.{form_eq, option_same, function_eq, comparison_number, test_number}
+use Rattle.having_filter.proofs.ColumnLaws.{two}
 use Rattle.having_filter.proofs.DistinctLaws.{Agrees}
 
 -- columns that are there or not, over other columns
@@ -14,10 +15,6 @@ column_image P f after before same None None p q = refl
 column_image P f after before same None (Some d) p q = refl
 column_image P f after before same (Some c) None p q = refl
 column_image P f after before same (Some c) (Some d) p q = same.agree c d p q
-
--- two parts of a condition, over other columns
-two : (a b c d : Bool) → a ≡ b → c ≡ d → (a && c) ≡ (b && d)
-two a b c d p q = rw (p, q) refl
 
 -- conditions over other columns are the same where the conditions are
 pub form_image : {C D : Type 0} (P : C → Bool) (f : C → D) (after : D → D → Bool) (before : C → C → Bool) → Agrees (λ c. P c ≡ true) f after before → (x y : Form C) → columns_pass P x ≡ true → columns_pass P y ≡ true

@@ -213,7 +213,9 @@ impl Query {
 
     /// The functions of the aggregates.
     pub fn agg_kinds(&self) -> &[AggKind]
-        ensures { map function_of result.now ≡ map (λ a. a.function) (meaning self.now).aggregates }
+        ensures functions { map function_of result.now
+            ≡ map (λ a. a.function) (meaning self.now).aggregates }
+        ensures query { IsQuery self.now }
     {
         &self.plan.kinds
     }

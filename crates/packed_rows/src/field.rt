@@ -13,7 +13,7 @@ use std::str;
 pub(crate) const NULL_FIELD: &[u8] = b"\\N";
 
 /// The most bytes that a text can have.
-const LONGEST_TEXT: usize = 255;
+pub(crate) const LONGEST_TEXT: usize = 255;
 
 fn read_bigint(field: &[u8]) -> Option<i64>
     ensures found { IfSome result (λ z. IsBigintField field.now z) }

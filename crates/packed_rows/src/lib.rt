@@ -16,10 +16,10 @@ pub use error::RowError;
 pub use field::{read_value, reading};
 pub use laws::{packing_order, printed_schemas};
 pub use order::{compare, same};
-pub use packing::pack_key;
+pub use packing::{pack_key, pack_value};
 pub use rows::{pack_row, unpack_row};
 pub use schema::Schema;
-pub use unpacking::unpack_key;
+pub use unpacking::{unpack_into, unpack_key};
 pub use value::{Value, ValueKind};
 
 #[cfg(test)]

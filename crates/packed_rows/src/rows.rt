@@ -1,6 +1,6 @@
 //! Rows of a schema: packing fields, and unpacking.
 
-ghost use Rattle.std.specs.Prelude.{◌≡◌, ◌++◌, List, ℕ, map, IfOk, IfErr, take, length};
+ghost use Rattle.std.specs.Prelude.{◌≡◌, ◌≤◌, ◌++◌, List, ℕ, map, IfOk, IfErr, take, length};
 ghost use Rattle.grouping_model.specs.Datum.{Row, HasKinds};
 ghost use Rattle.packed_rows.specs.Columns.{kinds};
 ghost use Rattle.packed_rows.specs.Field.{ReadsRow};
@@ -9,12 +9,32 @@ ghost use Rattle.packed_rows.specs.Refusal.{PackFault, UnpackFault};
 ghost use Rattle.packed_rows.specs.View.{row_of, texts_of};
 
 use crate::error::RowError;
-use crate::field::read_value;
-use crate::packing::push_value;
+use crate::field::{LONGEST_TEXT, read_value};
+use crate::packing::pack_value;
 use crate::schema::Schema;
 use crate::unpacking::unpack_key;
-use crate::value::Value;
+use crate::value::{Value, ValueKind};
 use std::alloc::Global;
+
+/// How many bytes the packing of a field has at most, if it stands for a value.
+fn most_bytes(kind: ValueKind, field: &[u8]) -> usize
+    ensures { result ≤ 257 }
+{
+    match kind {
+        ValueKind::Bigint => 9,
+        ValueKind::Boolean => 2,
+        ValueKind::Text => field.len().min(LONGEST_TEXT) + 2,
+    }
+}
+
+/// Room for the packing of fields: no more than nulls leave over.
+fn room_for(kinds: &[ValueKind], fields: &[&[u8]]) -> usize {
+    let mut room: usize = 0;
+    for (kind, field) in kinds.iter().zip(fields) {
+        room = room.saturating_add(most_bytes(*kind, field));
+    }
+    room
+}
 
 /// The packing of the row that the fields stand for, field by field.
 pub fn pack_row(alloc: Global, schema: &Schema, fields: &[&[u8]]) -> Result<Vec<u8>, RowError>
@@ -25,12 +45,12 @@ pub fn pack_row(alloc: Global, schema: &Schema, fields: &[&[u8]]) -> Result<Vec<
     if fields.len() != schema.width() {
         return Err(RowError::WrongWidth);
     }
-    let mut out = Vec::new(alloc);
+    let mut out = Vec::with_capacity(alloc, room_for(schema.kinds(), fields))?;
     for (column, kind) in schema.kinds().iter().enumerate() {
         let Some(value) = read_value(fields[column], *kind) else {
             return Err(RowError::BadField { column });
         };
-        push_value(&mut out, value)?;
+        pack_value(&mut out, value)?;
     }
     Ok(out)
 }

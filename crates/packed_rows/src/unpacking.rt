@@ -1,6 +1,6 @@
 //! Reading values back from bytes.
 
-ghost use Rattle.std.specs.Prelude.{◌≡◌, ◌≢◌, ◌++◌, ◌∷◌, ◌<◌, ℕ, ℤ, Bool, List, if◌then◌else◌, IfSome, IfNone, IfOk, IfErr, length, Contains, FitsSigned};
+ghost use Rattle.std.specs.Prelude.{◌≡◌, ◌≢◌, ◌++◌, ◌∷◌, ◌<◌, ℕ, ℤ, Bool, List, if◌then◌else◌, IfSome, IfNone, IfOk, IfErr, OnOk, length, Contains, FitsSigned};
 ghost use Rattle.std.specs.Int.{w64, to_be_bytes};
 ghost use Rattle.grouping_model.specs.Datum.{Datum, Kind, Row, IsText, HasKind, HasKinds, null_field};
 ghost use Rattle.packed_rows.specs.View.{datum_of, row_of, kind_of, kinds_of};
@@ -98,6 +98,34 @@ fn unpack_value(kind: ValueKind, bytes: &[u8]) -> Option<(Value<'_>, &[u8])>
     }
 }
 
+/// Reads the values of a key of these kinds from its packing into `key`, where they take the place of what was there, so
+/// that one vector can serve for many keys. After an error a part of them may be there.
+pub fn unpack_into<'a>(
+    kinds: &[ValueKind],
+    bytes: &'a [u8],
+    key: &mut Vec<Value<'a>>,
+) -> Result<(), RowError>
+    // What is unpacked is a key of these kinds, and the bytes are its packing.
+    ensures found { OnOk result (HasKinds (kinds_of kinds.now) (row_of key.new.items)
+        × (bytes.now ≡ packing (row_of key.new.items))) }
+    // The bytes are refused only where they are no packing of such a key.
+    ensures refused { IfErr result (UnpackFault (kinds_of kinds.now) bytes.now) }
+{
+    key.clear();
+    let mut rest = bytes;
+    for kind in kinds {
+        let Some((value, after)) = unpack_value(*kind, rest) else {
+            return Err(RowError::BadPacked);
+        };
+        key.push(value)?;
+        rest = after;
+    }
+    if !rest.is_empty() {
+        return Err(RowError::BadPacked);
+    }
+    Ok(())
+}
+
 /// The values of a key of these kinds from its packing.
 pub fn unpack_key<'a>(
     alloc: Global,
@@ -110,17 +138,7 @@ pub fn unpack_key<'a>(
     // The bytes are refused only where they are no packing of such a key.
     ensures refused { IfErr result (UnpackFault (kinds_of kinds.now) bytes.now) }
 {
-    let mut key = Vec::new(alloc);
-    let mut rest = bytes;
-    for kind in kinds {
-        let Some((value, after)) = unpack_value(*kind, rest) else {
-            return Err(RowError::BadPacked);
-        };
-        key.push(value)?;
-        rest = after;
-    }
-    if !rest.is_empty() {
-        return Err(RowError::BadPacked);
-    }
+    let mut key = Vec::with_capacity(alloc, kinds.len())?;
+    unpack_into(kinds, bytes, &mut key)?;
     Ok(key)
 }

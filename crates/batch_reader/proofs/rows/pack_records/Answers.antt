@@ -5,7 +5,8 @@ use Rattle.std.proofs.Common.{sym, ◌∙◌, ap, subst, arith}
 use Rattle.std.proofs.lemmas.Result.{err_from_is_err_and}
 use Rattle.std.proofs.lemmas.List.{map_push}
 use Rattle.packed_rows.specs.Columns.{kinds}
-use Rattle.batch_reader.specs.Rows.{bytes_of, records_of}
+use Rattle.batch_reader.specs.Rows.{records_of}
+use Rattle.packed_rows.specs.View.{bytes_of}
 use Rattle.batch_reader.proofs.RecordLaws.{RowsSoFar, rows_more, rows_all, first_fault, record_at, records_long}
 use Rattle.batch_reader.proofs.rows.pack_records.Goals as goal
 

@@ -1,5 +1,6 @@
 use Rattle.packed_rows.specs.Columns.{kinds}
-use Rattle.batch_reader.specs.Rows.{bytes_of, records_of}
+use Rattle.batch_reader.specs.Rows.{records_of}
+use Rattle.packed_rows.specs.View.{bytes_of}
 use Rattle.batch_reader.proofs.RecordLaws.{RowsSoFar}
 use Rattle.batch_reader.proofs.rows.pack_records.Given as goal
 

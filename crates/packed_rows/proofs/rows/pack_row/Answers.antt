@@ -10,4 +10,4 @@ returns-in_default-clause-refused c =
 
 pub loop-column-preserved : goal.loop-column-preserved
 loop-column-preserved c =
-    rw c.in_ok-push_value.ensures (next_column c.kinds-kind-items.result.now (kinds c.args.schema.now) c.args.fields.now c.loop-column.column _ c.loop-column.out.items _ c.kinds-kind-items.ensures c.loop-column-test.true (c.if-fields-width.false ∙ c.width.ensures.width ∙ sym (length-map c.args.schema.now (λ (x : Column). x.kind))) c.loop-column.invariant c.in-Some.ensures.found)
+    rw c.in_ok-pack_value.ensures (next_column c.kinds-kind-items.result.now (kinds c.args.schema.now) c.args.fields.now c.loop-column.column _ c.loop-column.out.items _ c.kinds-kind-items.ensures c.loop-column-test.true (c.if-fields-width.false ∙ c.width.ensures.width ∙ sym (length-map c.args.schema.now (λ (x : Column). x.kind))) c.loop-column.invariant c.in-Some.ensures.found)
