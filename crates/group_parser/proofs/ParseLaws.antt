@@ -1,8 +1,7 @@
 -- What parsing gives, in the words of the grammar.
-use Rattle.std.proofs.Common.{◌≡◌, ℕ, ◌≤◌, Bool, true, false, cond, List, [], ◌∷◌, ◌++◌, length, Ok, Err, refl, sym, ap, subst, ◌∙◌, append_assoc, arith}
+use Rattle.std.proofs.Common.{◌≡◌, ℕ, ◌≤◌, Bool, true, false, cond, List, [], ◌∷◌, ◌++◌, length, Ok, Err, refl, sym, ap, subst, ◌∙◌, arith}
 use Rattle.std.specs.Prelude.{nat_lt, Result}
-use Rattle.std.proofs.lemmas.Bool.{ltb-true, ltb-false, le-ltb}
-use Rattle.std.proofs.lemmas.List.{append-nil}
+use Rattle.std.proofs.lemmas.Bool.{ltb-true, ltb-false, le-ltb, lt-ltb}
 use Rattle.query_tokens.specs.declared.fault.Fault.{Fault}
 use Rattle.query_tokens.specs.Words.{Lexeme, Placed}
 use Rattle.query_tokens.specs.Tokens.{tokens_in}
@@ -18,10 +17,9 @@ use Rattle.having_filter.specs.Writable.{IsWritable}
 use Rattle.query_grammar.specs.Queries.{most_open, IsQuery}
 use Rattle.query_grammar.specs.Reading.{Read, Unexpected, Too_deep}
 use Rattle.query_grammar.specs.Whole.{query_at}
-use Rattle.query_grammar.specs.Grammar.{opening}
-use Rattle.query_grammar.specs.Laws.{NoneGoesOn}
-use Rattle.query_grammar.proofs.Whole_complete.{query_reads, one_query}
+use Rattle.query_grammar.proofs.Whole_complete.{query_reads}
 use Rattle.query_grammar.proofs.Faults.{is_query, is_unexpected, is_too_deep}
+use Rattle.query_grammar.proofs.FirstFaults.{unexpected_found, too_deep_found}
 use Rattle.query_grammar.proofs.Writables.{query_writable}
 use Rattle.group_parser.specs.declared.error.ParseError.{ParseError}
 use Rattle.group_parser.specs.Parsing as parsing
@@ -135,26 +133,25 @@ of_refusal columns text error (Err fault) e f = let same : fault ≡ error = cc 
 pub parses_refuses : (columns : List Column) (text : List ℕ) (error : ParseError) → parsing.parsing columns text ≡ Err error → Refuses columns text error
 parses_refuses columns text error e = of_refusal columns text error (written_in text) refl e
 
--- a query doesn't go on as it does where none goes on
-goes_on : (ts front rest : List Lexeme) (written : Written (List ℕ)) → IsQuery most_open ts written → ts ≡ front ++ rest → NoneGoesOn most_open front rest → ⊥
-goes_on ts front [] written is split none = none written (subst (λ (u : List Lexeme). IsQuery most_open u written) (split ∙ append-nil front) is)
-goes_on ts front (t ∷ rest) written is split none =
-    none (record { more = rest; written = written; is_query = subst (λ (u : List Lexeme). IsQuery most_open u written) (split ∙ sym (append_assoc front (t ∷ []) rest)) is })
+pub refuses_parses : (columns : List Column) (text : List ℕ) (error : ParseError) → Refuses columns text error → parsing.parsing columns text ≡ Err error
+unfolding written_in
+refuses_parses columns text _ (parsing.too_long long) = rw (lt-ltb most_bytes (length text) long) refl
+refuses_parses columns text _ (parsing.no_tokens fault short read) = rw (not_long text short, read) refl
+refuses_parses columns text _ (parsing.unexpected ts left short read fault) =
+    let e = unexpected_found most_open (lexemes_of ts) left fault in
+    rw (not_long text short, read, e) refl
+refuses_parses columns text _ (parsing.too_deep ts left short read fault) =
+    let e = too_deep_found most_open (lexemes_of ts) left fault in
+    rw (not_long text short, read, e) refl
+refuses_parses columns text _ (parsing.unchecked ts written error short read is refused) =
+    let e = query_reads most_open (lexemes_of ts) written is in
+    rw (not_long text short, read, e, refused) refl
 
-same_tokens : (text : List ℕ) (ts us : List Placed) → tokens_in text ≡ Ok ts → tokens_in text ≡ Ok us → ts ≡ us
-same_tokens text ts us e f = let g : Ok ts ≡ Ok us = sym e ∙ f in cc
+pub one_refused : (columns : List Column) (text : List ℕ) (a b : ParseError) → Refuses columns text a → Refuses columns text b → a ≡ b
+one_refused columns text a b r s =
+    let e : parsing.parsing columns text ≡ Err b = refuses_parses columns text b s in
+    let f : parsing.parsing columns text ≡ Err a = refuses_parses columns text a r in
+    cc
 
 pub not_both : (columns : List Column) (text : List ℕ) (q : Checked) (error : ParseError) → Accepts columns text q → Refuses columns text error → ⊥
-not_both columns text q _ a (parsing.too_long long) = let short = a.short in omega (arith, long, short)
-not_both columns text q _ a (parsing.no_tokens fault short read) = let clash = sym a.read ∙ read in absurd cc
-not_both columns text q _ a (parsing.unexpected ts left short read u) =
-    let same = same_tokens text a.tokens ts a.read read in
-    goes_on (lexemes_of ts) u.front u.rest a.written (subst (λ (us : List Placed). IsQuery most_open (lexemes_of us) a.written) same a.is_query) u.split u.ends
-not_both columns text q _ a (parsing.too_deep ts left short read u) =
-    let same = same_tokens text a.tokens ts a.read read in
-    goes_on (lexemes_of ts) u.front (opening ∷ u.rest) a.written (subst (λ (us : List Placed). IsQuery most_open (lexemes_of us) a.written) same a.is_query) u.split u.ends
-not_both columns text q _ a (parsing.unchecked ts written error short read is refused) =
-    let same = same_tokens text a.tokens ts a.read read in
-    let one = one_query most_open (lexemes_of ts) a.written written (subst (λ (us : List Placed). IsQuery most_open (lexemes_of us) a.written) same a.is_query) is in
-    let passed = subst (λ (w : Written (List ℕ)). checked columns w ≡ Ok q) one a.passed in
-    let clash = sym passed ∙ refused in absurd cc
+not_both columns text q error a r = let clash = sym (accepts_parses columns text q a) ∙ refuses_parses columns text error r in absurd cc

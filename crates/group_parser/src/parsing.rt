@@ -9,7 +9,7 @@ ghost use Rattle.having_filter.specs.Writable.{IsWritable};
 ghost use Rattle.query_grammar.specs.Queries.{most_open};
 ghost use Rattle.query_grammar.specs.Whole.{query_at};
 ghost use Rattle.group_parser.specs.Views.{lexemes};
-ghost use Rattle.group_parser.specs.Parsing.{Accepts, Refuses, place_of_left, query_read, tokens_read, written_in, parsing};
+ghost use Rattle.group_parser.specs.Parsing.{Accepts, Refuses, place_of_left, query_read, tokens_read, written_in};
 ghost use Rattle.group_parser.specs.declared.error.ParseError.TheVariants.{NoMemory};
 
 use crate::error::ParseError;
@@ -77,8 +77,6 @@ fn read_text(alloc: Global, text: &str) -> Result<RawQuery, ParseError>
 pub fn parse(alloc: Global, schema: &Schema, text: &str) -> Result<Query, ParseError>
     ensures accepted { IfOk result (λ q. Accepts schema.now text.now q) }
     ensures refused { IfErr result (λ e. e ≢ NoMemory → Refuses schema.now text.now e) }
-    ensures parsed { IfOk result (λ q. parsing schema.now text.now ≡ Ok q) }
-    ensures first_fault { IfErr result (λ e. e ≢ NoMemory → parsing schema.now text.now ≡ Err e) }
 {
     let raw = read_text(alloc, text)?;
     match Query::check(alloc, schema, &raw) {

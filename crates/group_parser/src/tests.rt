@@ -121,3 +121,29 @@ fn parentheses_and_length(rt: HostRuntime) -> Result<(), Fail> {
     assert_eq!(rt; told(rt, &long)?.as_str(), "TooMany");
     Ok(())
 }
+
+/// `SELECT count(*)` with so many FILTERs in one another, of which the innermost is `b`.
+fn in_filters(rt: HostRuntime, count: usize) -> Result<String, Fail> {
+    let mut text = String::from_str(rt.alloc(), "SELECT count(*)")?;
+    for _ in 0..count {
+        text.push_str(" FILTER (WHERE count(*)")?;
+    }
+    text.push_str(" FILTER (WHERE b")?;
+    for _ in 0..=count {
+        text.push(')')?;
+    }
+    text.push_str(" FROM batches")?;
+    Ok(text)
+}
+
+#[test]
+fn filters_in_one_another(rt: HostRuntime) -> Result<(), Fail> {
+    assert_eq!(rt;
+        told(rt, &in_filters(rt, 0)?)?.as_str(),
+        "SELECT count(*) FILTER (WHERE b) FROM batches"
+    );
+    assert_eq!(rt; told(rt, &in_filters(rt, 1)?)?.as_str(), "AggregateHere");
+    assert_eq!(rt; told(rt, &in_filters(rt, 670)?)?.as_str(), "AggregateHere");
+    assert_eq!(rt; told(rt, &in_filters(rt, 690)?)?.as_str(), "TooMany");
+    Ok(())
+}

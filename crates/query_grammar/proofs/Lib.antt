@@ -8,6 +8,7 @@ pub mod Complete
 pub mod Whole_complete
 pub mod Whole_locality
 pub mod Faults
+pub mod FirstFaults
 pub mod Chains
 pub mod Writables
 pub mod Texts

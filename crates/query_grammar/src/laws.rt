@@ -36,13 +36,18 @@ pub fn one_query()
 {}
 
 /// Where tokens are refused, it is at the first one after which no query can follow, or at their end if none is. It is
-/// for the number of parentheses if a query can follow with one more of them allowed, and else for the token itself.
+/// for the number of parentheses if a query can follow with one more of them allowed, and else for the token itself. And
+/// where there is such a token, it is the one that is refused, so tokens have one first fault.
 #[tactic(auto, using(crate::proofs::Faults::is_unexpected, crate::proofs::Faults::is_too_deep))]
 pub fn refused_tokens()
     ensures unexpected { (limit : ℕ) (ts : List Lexeme) (left : ℕ) →
         query_at limit ts ≡ Err (Unexpected left) → IsUnexpected limit ts left }
     ensures too_deep { (limit : ℕ) (ts : List Lexeme) (left : ℕ) →
         query_at limit ts ≡ Err (Too_deep left) → IsTooDeep limit ts left }
+    ensures unexpected_found { (limit : ℕ) (ts : List Lexeme) (left : ℕ) →
+        IsUnexpected limit ts left → query_at limit ts ≡ Err (Unexpected left) }
+    ensures too_deep_found { (limit : ℕ) (ts : List Lexeme) (left : ℕ) →
+        IsTooDeep limit ts left → query_at limit ts ≡ Err (Too_deep left) }
 {}
 
 /// What legal tokens say can be written: all names are legal and not reserved, numbers have 64 bits, no text has the
