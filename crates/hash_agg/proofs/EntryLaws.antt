@@ -11,7 +11,7 @@ use Rattle.std.specs.Cmp.Lexicographic.{slice_cmp, on_texts}
 use Rattle.std.specs.List.{AllByRecursion}
 use Rattle.std.specs.List.Sorted.{IsStrictlySortedBy}
 use Rattle.std.specs.Map.{lookup, set_value, keys_of}
-use Rattle.std.specs.BTreeMap.{insert_entry, is_at}
+use Rattle.std.specs.BTreeMap.{BTreeMap, insert_entry, is_at}
 use Rattle.grouping_model.specs.Datum.{Row, Kind, HasKinds, row_cmp, same_row}
 use Rattle.grouping_model.specs.Aggregates.{Partial}
 use Rattle.grouping_model.specs.Combining.{combine_all}
@@ -128,14 +128,14 @@ module _ (q : Query) (m : ℕ) (row : Row) (key : Vec ℕ Global) (is : key.item
       → (ps : List Partial) × (partials_at (key_of q row) gs ≡ Some ps) × AreStates (functions q) m old.items ps
   states_found es gs old there are = at_some q m old (partials_at (key_of q row) gs) (subst (λ o. AtKey q m o (partials_at (key_of q row) gs)) there (found q m key (key_of q row) is has es gs are))
 
-  pub row_found : (es : List Item) (gs : List Group) (old new : Vec ℕ Global) → IsStrictlySortedBy key_cmp (keys_of es) → lookup (is_at (key_cmp key)) es ≡ Some old → AreGroups q m (entries_of es) gs
+  pub row_found : (es : List Item) (gs : List Group) (old new : Vec ℕ Global) → lookup (is_at (key_cmp key)) es ≡ Some old → AreGroups q m (entries_of es) gs
       → ((ps : List Partial) → AreStates (functions q) m old.items ps → AreStates (functions q) (m + 1) new.items (advanced q.aggregates ps row))
-      → AreGroups q (m + 1) (entries_of (set_value (is_at (key_cmp key)) es new)) (with_row q gs row)
-  row_found es gs old new rising there are moves =
+      → AreGroups q (m + 1) (entries_of (insert_entry key_cmp es key new)) (with_row q gs row)
+  row_found es gs old new there are moves =
       let k : Row = key_of q row in
       let at = states_found es gs old there are in
-      subst (λ o. AreGroups q (m + 1) (entries_of (set_value (is_at (key_cmp key)) es new)) (insert_entry row_cmp gs k (advanced q.aggregates (unwrap_or o (partials q [])) row))) (sym at.1)
-      (written q (m + 1) key k is has new (advanced q.aggregates at.0 row) (moves at.0 at.2) es gs rising (ap is_some there) (groups_raised q m (m + 1) (entries_of es) gs (omega arith) are))
+      subst (λ o. AreGroups q (m + 1) (entries_of (insert_entry key_cmp es key new)) (insert_entry row_cmp gs k (advanced q.aggregates (unwrap_or o (partials q [])) row))) (sym at.1)
+      (inserted q (m + 1) key k is has new (advanced q.aggregates at.0 row) (moves at.0 at.2) es gs (groups_raised q m (m + 1) (entries_of es) gs (omega arith) are))
 
   pub row_new : (es : List Item) (gs : List Group) (new : Vec ℕ Global) → lookup (is_at (key_cmp key)) es ≡ None → AreGroups q m (entries_of es) gs
       → AreStates (functions q) (m + 1) new.items (advanced q.aggregates (partials q []) row)
@@ -168,3 +168,7 @@ module _ (q : Query) (m n : ℕ) (group : Group) (key : Vec ℕ Global) (more : 
       let missing : partials_at group.0 gs ≡ None = at_none q (m + n) (partials_at group.0 gs) (subst (λ o. AtKey q (m + n) o (partials_at group.0 gs)) none (found q (m + n) key group.0 stands.key stands.of_kinds es gs are)) in
       subst (λ o. AreGroups q (m + n) (entries_of (insert_entry key_cmp es key new)) (insert_entry row_cmp gs group.0 (merged q o group.1))) (sym missing)
       (inserted q (m + n) key group.0 stands.key stands.of_kinds new group.1 (subst (λ b. AreStates (functions q) (m + n) b group.1) (sym same) (states_raised (functions q) n (m + n) more group.1 (omega arith) stands.states)) es gs are)
+
+-- the entries of another map that is the same
+pub same_map : (q : Query) (m : ℕ) (gs : List Group) (map other : BTreeMap (Vec ℕ Global) (Vec ℕ Global)) → map ≡ other → AreGroups q m (entries_of other.entries) gs → AreGroups q m (entries_of map.entries) gs
+same_map q m gs map other same are = subst (λ (b : BTreeMap (Vec ℕ Global) (Vec ℕ Global)). AreGroups q m (entries_of b.entries) gs) (sym same) are

@@ -25,7 +25,8 @@ use Rattle.hash_agg.specs.Runs.{Entry, entries_of, packed_keys, Rises}
 use Rattle.hash_agg.specs.Standing.{StandsFor, AreGroups}
 use Rattle.hash_agg.specs.declared.input.Input.{Input}
 use Rattle.hash_agg.specs.declared.input.Input.TheVariants.{Rows, Groups}
-use Rattle.hash_agg.specs.Inputs.{bytes_of, ArePackings, rows_in}
+use Rattle.hash_agg.specs.Inputs.{ArePackings, rows_in}
+use Rattle.packed_rows.specs.View.{bytes_of}
 use Rattle.hash_agg.specs.Adding.{rows_added, groups_added, Given, Of_rows, Of_groups, Gives, given_added}
 use Rattle.hash_agg.proofs.StateLaws.{all_within}
 use Rattle.hash_agg.proofs.EntryLaws.{Item, key_cmp}

@@ -1,11 +1,13 @@
 -- The keys of rows.
-use Rattle.std.specs.Prelude.{◌≡◌, refl, ℕ, zero, suc, ◌+◌, ◌<◌, List, [], ◌∷◌, ◌++◌, length, map, take, slice_index_or, Result, Ok, Err, IfOk}
+use Rattle.std.specs.Prelude.{◌≡◌, refl, ℕ, zero, suc, ◌+◌, ◌<◌, List, [], ◌∷◌, ◌++◌, length, map, take, slice_index_or, Result, Ok, Err, IfOk, OnOk}
 use Rattle.std.proofs.Common.{sym, ◌∙◌, ap, arith}
-use Rattle.std.proofs.lemmas.List.{get_or-map, map-append, take_more}
+use Rattle.std.proofs.lemmas.List.{get_or-map, map-append, append-nil, take_more}
+use Rattle.std.proofs.lemmas.List.Concat.{flat_map-append}
 use Rattle.std.specs.List.{AllByRecursion}
-use Rattle.grouping_model.specs.Datum.{Null, Row, Kind, Bigint_kind, HasKind, HasKinds, at_place}
+use Rattle.grouping_model.specs.Datum.{Datum, Null, Row, Kind, Bigint_kind, HasKind, HasKinds, at_place}
 use Rattle.grouping_model.specs.Query.{Query}
 use Rattle.grouping_model.specs.Grouping.{key_of}
+use Rattle.packed_rows.specs.Packing.{packing, value_packing}
 use Rattle.packed_rows.specs.View.{datum_of, row_of}
 use Rattle.packed_rows.specs.declared.value.Value.{Value}
 use Rattle.agg_protocol.proofs.ArgumentLaws.{length-row_of}
@@ -44,15 +46,17 @@ place_within kinds values keys i has within low =
     let many : length (row_of values) ≡ length values = length-row_of values in
     omega (arith, place, long, many)
 
--- the values of one more column
-pub key_more : (values so_far : List Value) (keys : List ℕ) (i : ℕ) (default : Value) → i < length keys → slice_index_or keys i 0 < length values → row_of so_far ≡ map (at_place (row_of values)) (take i keys)
-    → row_of (so_far ++ slice_index_or values (slice_index_or keys i 0) default ∷ []) ≡ map (at_place (row_of values)) (take (i + 1) keys)
+-- the packing of one more column
+pub key_more : (values : List Value) (so_far : List ℕ) (keys : List ℕ) (i : ℕ) (default : Value) → i < length keys → slice_index_or keys i 0 < length values → so_far ≡ packing (map (at_place (row_of values)) (take i keys))
+    → so_far ++ value_packing (datum_of (slice_index_or values (slice_index_or keys i 0) default)) ≡ packing (map (at_place (row_of values)) (take (i + 1) keys))
 key_more values so_far keys i default low within before =
     let place : ℕ = slice_index_or keys i 0 in
-    map-append datum_of so_far (slice_index_or values place default ∷ [])
-    ∙ (λ j. before j ++ sym (get_or-map datum_of values place default Null within) j ∷ [])
-    ∙ sym (map-append (at_place (row_of values)) (take i keys) (place ∷ []))
-    ∙ ap (map (at_place (row_of values))) (sym (take_more keys i 0 low))
+    let front : List Datum = map (at_place (row_of values)) (take i keys) in
+    (λ j. before j ++ value_packing (sym (get_or-map datum_of values place default Null within) j))
+    ∙ ap (λ bytes. packing front ++ bytes) (sym (append-nil (value_packing (at_place (row_of values) place))))
+    ∙ sym (flat_map-append value_packing front (at_place (row_of values) place ∷ []))
+    ∙ ap packing (sym (map-append (at_place (row_of values)) (take i keys) (place ∷ [])))
+    ∙ ap (λ places. packing (map (at_place (row_of values)) places)) (sym (take_more keys i 0 low))
 
 -- what holds of a success gives what else holds of it
 pub if_ok : {T E : Type 0} (r : Result T E) (P Q : T → Type 0) → ((x : T) → P x → Q x) → IfOk r P → IfOk r Q
@@ -62,3 +66,7 @@ if_ok (Err e) P Q gives holds = holds
 pub if_ok_both : {T E : Type 0} (r : Result T E) (P Q R : T → Type 0) → ((x : T) → P x → Q x → R x) → IfOk r P → IfOk r Q → IfOk r R
 if_ok_both (Ok x) P Q R gives p q = gives x p q
 if_ok_both (Err e) P Q R gives p q = p
+
+pub when_ok : {T E : Type 0} (r : Result T E) {P : Type 0} → P → OnOk r P
+when_ok (Ok x) p = p
+when_ok (Err e) p = tt

@@ -20,7 +20,7 @@ use Rattle.grouping_model.specs.Parts.{keys_of, partials_at, with_row}
 use Rattle.grouping_model.proofs.DatumOrder.{row_cmp_total, row_cmp_ties, same_row-is}
 use Rattle.grouping_model.proofs.Members.{false_is_not_true}
 use Rattle.grouping_model.proofs.KeyLaws.{group_append, keys_rise}
-use Rattle.grouping_model.proofs.PartLaws.{same_row-swap, part_passes, partials-append}
+use Rattle.grouping_model.proofs.PartLaws.{same_row-swap, found_at, empty_group, part_passes, partials-append}
 use Rattle.grouping_model.proofs.GroupLaws.{put-map, part_one_more}
 use Rattle.hash_agg.specs.Adding.{row_added, rows_added, merged, group_added, groups_added}
 
@@ -197,18 +197,6 @@ none_before (h ∷ gs) (suc i) g (none, apart) e =
 abbrev with_values : (Row → List Partial) → List Row → List Group
 with_values f ks = map (λ key. (key, f key)) ks
 
-found_value : (f : Row → List Partial) (key : Row) (ks : List Row) → partials_at key (with_values f ks) ≡ cond (is_among row_cmp key ks) (Some (f key)) None
-found_value f key [] = refl
-found_value f key (k ∷ ks) =
-    elim (same_row k key) as (λ b. same_row k key ≡ b → option_map (λ (group : Group). group.1) (cond b (Some (k, f k)) (find (λ (group : Group). same_row group.0 key) (with_values f ks))) ≡ cond (is_among row_cmp key (k ∷ ks)) (Some (f key)) None) [
-      | true ↦ λ e.
-          ap (λ k. Some (f k)) ((same_row-is k key).0 e)
-          ∙ ap (λ b. cond (b || is_among row_cmp key ks) (Some (f key)) None) (sym (sym (same_row-swap k key) ∙ e))
-      | false ↦ λ e.
-          found_value f key ks
-          ∙ ap (λ b. cond (b || is_among row_cmp key ks) (Some (f key)) None) (sym (sym (same_row-swap k key) ∙ e))
-    ] refl
-
 module _ (q : Query) (h all : Row → List Partial) where
   same_values : (f : Row → List Partial) (ks : List Row) → ((key : Row) → f key ≡ all key) → with_values f ks ≡ with_values all ks
   same_values f [] same = refl
@@ -222,7 +210,7 @@ module _ (q : Query) (h all : Row → List Partial) where
       let g : Row → List Partial = λ key. cond (same_row l key) (all key) (f key) in
       let itself : same_row l l ≡ true = ap is_eq (tied_itself row_cmp_total l) in
       let value : merged q (partials_at l (with_values f ks)) (h l) ≡ all l =
-      ap (λ o. merged q o (h l)) (found_value f l ks) ∙ own l (ap (λ b. b || is_among row_cmp l ls) itself) in
+      ap (λ o. merged q o (h l)) (found_at f l ks) ∙ own l (ap (λ b. b || is_among row_cmp l ls) itself) in
       let one : group_added q (with_values f ks) (l, h l) ≡ with_values g (put row_cmp l ks) =
       ap (λ v. insert_entry row_cmp (with_values f ks) l v) value
       ∙ sym (put-map row_cmp_total row_cmp_ties l (all l) f g (ap (λ b. cond b (all l) (f l)) itself) (λ y e. ap (λ b. cond b (all y) (f y)) e) ks rising) in
@@ -240,17 +228,8 @@ module _ (q : Query) (h all : Row → List Partial) where
       (λ i. merged q (cond (there i) (Some (kept i)) None) (h key))
       ∙ own key (ap (λ b. b || is_among row_cmp key ls) apart_l ∙ e))
 
--- a key that no row has is the key of no group
-no_rows : (q : Query) (key : Row) (rows : List Row) → is_among row_cmp key (map (key_of q) rows) ≡ false → filter (λ row. same_row (key_of q row) key) rows ≡ []
-no_rows q key [] e = refl
-no_rows q key (row ∷ rows) e =
-    elim (same_row (key_of q row) key) as (λ b. same_row (key_of q row) key ≡ b → cond b (row ∷ filter (λ row. same_row (key_of q row) key) rows) (filter (λ row. same_row (key_of q row) key) rows) ≡ []) [
-      | true ↦ λ f. false_is_not_true (sym e ∙ ap (λ b. b || is_among row_cmp key (map (key_of q) rows)) (sym (same_row-swap (key_of q row) key) ∙ f))
-      | false ↦ λ f. no_rows q key rows (ap (λ b. b || is_among row_cmp key (map (key_of q) rows)) (sym (sym (same_row-swap (key_of q row) key) ∙ f)) ∙ e)
-    ] refl
-
 no_group : (q : Query) (rows : List Row) (key : Row) → is_among row_cmp key (keys q rows) ≡ false → group q rows key ≡ []
-no_group q rows key e = no_rows q key (selected q rows) (sym (among-distinct row_cmp_total key (map (key_of q) (selected q rows))) ∙ e)
+no_group q rows key e = empty_group (key_of q) key (selected q rows) (sym (among-distinct row_cmp_total key (map (key_of q) (selected q rows))) ∙ e)
 
 both_keys : (q : Query) (xs ys : List Row) → puts (keys q xs) (keys q ys) ≡ keys q (xs ++ ys)
 both_keys q xs ys =

@@ -11,7 +11,8 @@ use Rattle.grouping_model.specs.Parts.{functions, partials_at, with_row}
 use Rattle.hash_agg.specs.declared.input.Input.{Input}
 use Rattle.hash_agg.specs.declared.input.Input.TheVariants.{Rows, Groups}
 use Rattle.hash_agg.specs.Standing.{AreGroups}
-use Rattle.hash_agg.specs.Inputs.{ArePackings, bytes_of}
+use Rattle.hash_agg.specs.Inputs.{ArePackings}
+use Rattle.packed_rows.specs.View.{bytes_of}
 
 -- one more row, which WHERE keeps or passes over
 abbrev pub row_added : Query → List Group → Row → List Group

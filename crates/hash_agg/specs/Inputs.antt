@@ -1,21 +1,16 @@
 -- What is aggregated. All of this is our own.
 use Rattle.std.specs.Prelude.{◌≡◌, ℕ, List, [], ◌∷◌, map, flat_map, length, sum_by}
 use Rattle.std.specs.List.{AllByRecursion}
-use Rattle.std.specs.declared.alloc.Global.{Global}
-use Rattle.std.specs.declared.vec.Vec.{Vec}
 use Rattle.grouping_model.specs.Datum.{Row, Kind, HasKinds}
 use Rattle.grouping_model.specs.Query.{Query}
 use Rattle.grouping_model.specs.Grouping.{part, selected, key_of}
 use Rattle.packed_rows.specs.Packing.{packing}
+use Rattle.packed_rows.specs.View.{bytes_of}
 use Rattle.having_filter.specs.Kept.{key_kinds}
 use Rattle.hash_agg.specs.declared.input.Input.{Input}
 use Rattle.hash_agg.specs.declared.input.Input.TheVariants.{Rows, Groups}
 use Rattle.hash_agg.specs.Runs.{packed_keys}
 use Rattle.hash_agg.specs.Standing.{AreGroups, IsRun}
-
--- the bytes of some packed rows
-abbrev pub bytes_of : List (Vec ℕ Global) → List (List ℕ)
-bytes_of packed = map (λ (v : Vec ℕ Global). v.items) packed
 
 -- the members of some lists of rows, one list after the other
 abbrev pub on_end : List (List Row) → List Row

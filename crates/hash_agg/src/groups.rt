@@ -5,25 +5,25 @@ ghost use Rattle.std.specs.List.{AllByRecursion};
 ghost use Rattle.grouping_model.specs.Datum.{Row, HasKinds};
 ghost use Rattle.grouping_model.specs.Grouping.{Group, key_of};
 ghost use Rattle.grouping_model.specs.Parts.{with_row, partials_at};
-ghost use Rattle.packed_rows.specs.Columns.{kinds};
 ghost use Rattle.packed_rows.specs.Packing.{packing};
-ghost use Rattle.packed_rows.specs.View.{row_of};
+ghost use Rattle.packed_rows.specs.View.{row_of, bytes_of};
 ghost use Rattle.agg_protocol.specs.States.{most_rows};
 ghost use Rattle.agg_library.specs.StateRows.{AllWithin};
 ghost use Rattle.having_filter.specs.Kept.{IsWellFormed};
 ghost use Rattle.having_filter.specs.Meaning.{meaning};
 ghost use Rattle.hash_agg.specs.Runs.{Rises};
 ghost use Rattle.hash_agg.specs.Standing.{StandsFor, AreGroups};
-ghost use Rattle.hash_agg.specs.Inputs.{bytes_of, ArePackings, rows_in, IsInput};
+ghost use Rattle.hash_agg.specs.Inputs.{ArePackings, rows_in, IsInput};
 ghost use Rattle.hash_agg.specs.Adding.{row_added, rows_added, group_added, groups_added, Given, Gives, given_added};
 
 use crate::input::Input;
 use crate::run::Run;
 use crate::states::{advance, combine, first_states};
 use having_filter::Query;
-use packed_rows::{RowError, Schema, Value, pack_key, unpack_row};
+use packed_rows::{RowError, Value, pack_value, unpack_into};
 use std::alloc::{AllocError, Global};
 use std::collections::BTreeMap;
+use std::collections::btree_map::Entry;
 use std::marker::Model;
 
 /// Groups: by packed key, the states of the query's aggregates. Packed keys have the order of keys.
@@ -42,35 +42,31 @@ impl Model for Groups {
     ghost view = { λ g. entries_of g.states.entries };
 }
 
-/// The values of a row from its packing.
-fn unpack<'a>(
-    alloc: Global,
-    schema: &Schema,
-    packed: &'a [u8],
-) -> Result<Vec<Value<'a>>, AllocError>
-    requires { (row : Row) × HasKinds (kinds schema.now) row × (packed.now ≡ packing row) }
-    ensures { IfOk result (λ row. HasKinds (kinds schema.now) (row_of row.items)
-        × (packed.now ≡ packing (row_of row.items))) }
+/// Reads the values of a row from its packing into `row`, where they take the place of what was there.
+fn unpack<'a>(query: &Query, packed: &'a [u8], row: &mut Vec<Value<'a>>) -> Result<(), AllocError>
+    requires { (list : Row) × HasKinds (meaning query.now).kinds list × (packed.now ≡ packing list) }
+    ensures { OnOk result (HasKinds (meaning query.now).kinds (row_of row.new.items)
+        × (packed.now ≡ packing (row_of row.new.items))) }
 {
-    match unpack_row(alloc, schema, packed) {
-        Ok(row) => Ok(row),
+    match unpack_into(query.schema().kinds(), packed, row) {
+        Ok(()) => Ok(()),
         Err(RowError::NoMemory) => Err(AllocError),
         Err(_) => unreachable!(),
     }
 }
 
-/// The packed key of a row.
-fn key_of_row(alloc: Global, query: &Query, row: &[Value<'_>]) -> Result<Vec<u8>, AllocError>
+/// Packs the key of a row into `key`, where it takes the place of what was there.
+fn pack_key_of(query: &Query, row: &[Value<'_>], key: &mut Vec<u8>) -> Result<(), AllocError>
     requires formed { IsWellFormed (meaning query.now) }
     requires row { HasKinds (meaning query.now).kinds (row_of row.now) }
-    ensures { IfOk result (λ key. key.items
-        ≡ packing (key_of (meaning query.now) (row_of row.now))) }
+    ensures { OnOk result
+        (key.new.items ≡ packing (key_of (meaning query.now) (row_of row.now))) }
 {
-    let mut key = Vec::new(alloc);
+    key.clear();
     for place in query.keys() {
-        key.push(row[*place])?;
+        pack_value(key, row[*place])?;
     }
-    pack_key(alloc, &key)
+    Ok(())
 }
 
 impl Groups {
@@ -84,8 +80,13 @@ impl Groups {
         }
     }
 
-    /// Adds a selected row to the group of its key.
-    fn add_selected(&mut self, query: &Query, row: &[Value<'_>]) -> Result<(), AllocError>
+    /// Adds a selected row to the group of its key, which `key` holds afterwards.
+    fn add_selected(
+        &mut self,
+        query: &Query,
+        row: &[Value<'_>],
+        key: &mut Vec<u8>,
+    ) -> Result<(), AllocError>
         requires formed { IsWellFormed (meaning query.now) }
         requires row { HasKinds (meaning query.now).kinds (row_of row.now) }
         requires room { (most : ℕ) × (groups : List Group)
@@ -95,35 +96,46 @@ impl Groups {
             AreGroups (meaning query.now) (most + 1) self.new
             (with_row (meaning query.now) groups (row_of row.now))) }
     {
-        let key = key_of_row(self.alloc, query, row)?;
-        if let Some(states) = self.states.get_mut(&key) {
-            advance(query, states, row);
-            return Ok(());
+        pack_key_of(query, row, key)?;
+        let key = key.as_slice().to_vec(self.alloc)?;
+        match self.states.entry(key)? {
+            Entry::Occupied(entry) => {
+                advance(query, entry.into_mut(), row);
+                Ok(())
+            }
+            Entry::Vacant(entry) => {
+                let mut states = first_states(self.alloc, query)?;
+                advance(query, &mut states, row);
+                entry.insert(states);
+                Ok(())
+            }
         }
-        let mut states = first_states(self.alloc, query)?;
-        advance(query, &mut states, row);
-        self.states.insert(key, states)?;
-        Ok(())
     }
 
-    /// Adds a packed row, if WHERE is true of it.
-    fn add_packed(&mut self, query: &Query, packed: &[u8]) -> Result<(), AllocError>
+    /// Adds a packed row, if WHERE is true of it. What `row` and `key` hold doesn't matter.
+    fn add_packed<'a>(
+        &mut self,
+        query: &Query,
+        packed: &'a [u8],
+        row: &mut Vec<Value<'a>>,
+        key: &mut Vec<u8>,
+    ) -> Result<(), AllocError>
         requires formed { IsWellFormed (meaning query.now) }
-        requires row { (row : Row) × HasKinds (meaning query.now).kinds row
-            × (packed.now ≡ packing row) }
+        requires row { (list : Row) × HasKinds (meaning query.now).kinds list
+            × (packed.now ≡ packing list) }
         requires room { (most : ℕ) × (groups : List Group)
             × AreGroups (meaning query.now) most self.old groups × (most < most_rows) }
-        ensures { OnOk result ((most : ℕ) (groups : List Group) (row : Row) → most < most_rows →
+        ensures { OnOk result ((most : ℕ) (groups : List Group) (list : Row) → most < most_rows →
             AreGroups (meaning query.now) most self.old groups →
-            HasKinds (meaning query.now).kinds row → packed.now ≡ packing row →
+            HasKinds (meaning query.now).kinds list → packed.now ≡ packing list →
             AreGroups (meaning query.now) (most + 1) self.new
-            (row_added (meaning query.now) groups row)) }
+            (row_added (meaning query.now) groups list)) }
     {
-        let row = unpack(self.alloc, query.schema(), packed)?;
-        if !query.where_true(&row) {
+        unpack(query, packed, row)?;
+        if !query.where_true(row) {
             return Ok(()); // It is passed over.
         }
-        self.add_selected(query, &row)
+        self.add_selected(query, row, key)
     }
 
     /// Adds packed rows.
@@ -141,8 +153,11 @@ impl Groups {
             AreGroups (meaning query.now) (most + length rows.now) self.new
             (rows_added (meaning query.now) groups list)) }
     {
+        // One row and one key serve for all.
+        let mut row = Vec::with_capacity(self.alloc, query.schema().width())?;
+        let mut key = Vec::new(self.alloc);
         for packed in rows {
-            self.add_packed(query, packed)?;
+            self.add_packed(query, packed, &mut row, &mut key)?;
         }
         Ok(())
     }
@@ -213,7 +228,7 @@ impl Groups {
         ensures rises { IfOk result Rises }
     {
         let Groups { alloc, states } = self;
-        let mut run = Run::new(alloc);
+        let mut run = Run::with_capacity(alloc, states.len())?;
         for (key, states) in states {
             run.push(key, states)?;
         }

@@ -1,6 +1,6 @@
 //! Runs of groups.
 
-ghost use Rattle.std.specs.Prelude.{◌≡◌, ◌<◌, ◌++◌, ◌∷◌, [], length, slice_get, Some, IsTrue, ◌↔◌, OnOk, OnErr};
+ghost use Rattle.std.specs.Prelude.{◌≡◌, ◌<◌, ◌++◌, ◌∷◌, [], length, slice_get, Some, IsTrue, ◌↔◌, IfOk, OnOk, OnErr};
 ghost use Rattle.hash_agg.specs.Runs.{Entry, entries_of, Rises};
 
 use std::alloc::{AllocError, Global};
@@ -31,6 +31,14 @@ impl Run {
         Run {
             groups: Vec::new(alloc),
         }
+    }
+
+    /// A run of no groups that has room for so many. The only error is a failed allocation.
+    pub(crate) fn with_capacity(alloc: Global, groups: usize) -> Result<Run, AllocError>
+        ensures { IfOk result (λ run. run ≡ []) }
+    {
+        let groups = Vec::with_capacity(alloc, groups)?;
+        Ok(Run { groups })
     }
 
     /// Adds a group at the end. Its key is above the last one. The only error is a failed allocation, which changes
@@ -73,5 +81,14 @@ impl Run {
         ensures { entries_of result.now ≡ self.now }
     {
         self.groups.as_slice()
+    }
+
+    /// The groups, in their order, each with the bytes of its key and of its states.
+    pub fn into_groups(self) -> Vec<(Vec<u8>, Vec<u8>)>
+        ensures groups { entries_of result.items ≡ self }
+        ensures rises { Rises self }
+    {
+        let Run { groups } = self;
+        groups
     }
 }

@@ -109,7 +109,6 @@ pub fn first_states(alloc: Global, query: &Query) -> Result<Vec<u8>, AllocError>
     ensures { IfOk result (λ states. AreStates (functions (meaning query.now)) 0 states.items
         (partials (meaning query.now) [])) }
 {
-    let _schema = query.schema();
     let kinds = query.agg_kinds();
     let mut states = vec![in alloc; 0; StateRow::width(kinds)]?;
     StateRow::init_into(kinds, states.as_mut_slice());

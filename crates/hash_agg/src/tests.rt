@@ -1,7 +1,8 @@
 ghost use Rattle.std.specs.Prelude.{◌≡◌, List, length, IfOk};
 ghost use Rattle.grouping_model.specs.Datum.{Row};
 ghost use Rattle.having_filter.specs.Meaning.{meaning};
-ghost use Rattle.hash_agg.specs.Inputs.{bytes_of, ArePackings};
+ghost use Rattle.hash_agg.specs.Inputs.{ArePackings};
+ghost use Rattle.packed_rows.specs.View.{bytes_of};
 
 use super::*;
 use batch_reader::build_batch;
@@ -84,5 +85,8 @@ fn a_run_takes_groups(rt: HostRuntime) -> Result<(), Fail> {
     run.push(b"\x02".to_vec(rt.alloc())?, states)?;
     assert!(rt; !run.is_empty());
     assert_eq!(rt; run.len(), 1);
+    let groups = run.into_groups();
+    assert_eq!(rt; groups.len(), 1);
+    assert!(rt; groups[0].0.as_slice() == b"\x02".as_slice());
     Ok(())
 }

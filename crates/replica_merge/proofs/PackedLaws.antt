@@ -14,7 +14,8 @@ use Rattle.grouping_model.specs.Query.{Query}
 use Rattle.grouping_model.specs.Grouping.{part}
 use Rattle.packed_rows.specs.Packing.{packing}
 use Rattle.packed_rows.proofs.FieldLaws.{read_kinds}
-use Rattle.batch_reader.specs.Rows.{ReadsRows, packings, bytes_of}
+use Rattle.batch_reader.specs.Rows.{ReadsRows, packings}
+use Rattle.packed_rows.specs.View.{bytes_of}
 use Rattle.hash_agg.specs.declared.input.Input.{Input}
 use Rattle.hash_agg.specs.declared.input.Input.TheVariants.{Rows}
 use Rattle.hash_agg.specs.Runs.{Entry}

@@ -1,7 +1,7 @@
 -- The row of an answer that a group gives.
 use Rattle.std.specs.Prelude.{◌≡◌, ◌≢◌, refl, ℕ, zero, suc, ◌+◌, ◌<◌, ◌≤◌, true, false, cond, List, [], ◌∷◌, ◌++◌, map, flat_map, length, take, drop, slice_get, slice_index_or, Some}
-use Rattle.std.proofs.Common.{sym, ◌∙◌, ap, subst, arith, append-nil}
-use Rattle.std.proofs.lemmas.Grind.{flat_map-append}
+use Rattle.std.proofs.Common.{sym, ◌∙◌, ap, subst, arith, append-nil, append_assoc}
+use Rattle.std.proofs.lemmas.List.Concat.{flat_map-cons}
 use Rattle.std.proofs.lemmas.List.{length-take}
 use Rattle.grouping_model.specs.Datum.{Null, Row, Bigint_kind, HasKinds, at_place}
 use Rattle.grouping_model.specs.Aggregates.{Partial, Outcome, Plain, outcome}
@@ -92,24 +92,52 @@ not_shown q group met = ap (λ b. cond b (map (source_in group) q.items ∷ []) 
 
 -- ---- the groups of a run
 
-pub record ShownAt (q : Query) (most : ℕ) (groups : List Group) (i : ℕ) (entry : Entry) : Type 0 where
+-- what is left of a run, behind the groups that an answer has
+pub record LeftOver (q : Query) (most : ℕ) (left : List Entry) (answer : List (List Outcome)) (groups : List Group) : Type 0 where
+  pub others : List Group
+  pub are : AreGroups q most left others
+  pub whole : answer ++ flat_map (answer_rows q) others ≡ flat_map (answer_rows q) groups
+
+-- the first group of what is left, and what is left behind it
+pub record FirstLeft (q : Query) (most : ℕ) (entry : Entry) (left : List Entry) (answer : List (List Outcome)) (groups : List Group) : Type 0 where
   pub group : Group
-  pub at : slice_get groups i ≡ Some group
   pub stands : StandsFor q most entry group
+  pub behind : (more : List (List Outcome)) → more ≡ answer ++ answer_rows q group → LeftOver q most left more groups
 
-pub shown_at : (q : Query) (most : ℕ) (run : List Entry) (groups : List Group) (i : ℕ) (entry : Entry) → AreGroups q most run groups → slice_get run i ≡ Some entry → ShownAt q most groups i entry
-shown_at q most [] groups i entry are e = absurd cc
-shown_at q most (x ∷ run) [] i entry are e = absurd are
-shown_at q most (x ∷ run) (g ∷ groups) zero entry (first, are) e = let same : x ≡ entry = cc in record { group = g; at = refl; stands = subst (λ x. StandsFor q most x g) same first }
-shown_at q most (x ∷ run) (g ∷ groups) (suc i) entry (first, are) e =
-    let found = shown_at q most run groups i entry are e in
-    record { group = found.group; at = found.at; stands = found.stands }
+pub first_left : (q : Query) (most : ℕ) (entry : Entry) (left : List Entry) (answer : List (List Outcome)) (groups : List Group) → LeftOver q most (entry ∷ left) answer groups → FirstLeft q most entry left answer groups
+first_left q most entry left answer groups over = at over.others over.are over.whole
+  where
+    at : (others : List Group) → AreGroups q most (entry ∷ left) others → answer ++ flat_map (answer_rows q) others ≡ flat_map (answer_rows q) groups → FirstLeft q most entry left answer groups
+    at [] are whole = absurd are
+    at (group ∷ others) (first, rest) whole =
+        record {
+          group = group;
+          stands = first;
+          behind =
+              λ more is.
+              record {
+                others = others;
+                are = rest;
+                whole =
+                    ap (λ rows. rows ++ flat_map (answer_rows q) others) is
+                    ∙ append_assoc answer (answer_rows q group) (flat_map (answer_rows q) others)
+                    ∙ ap (λ rows. answer ++ rows) (sym (flat_map-cons (answer_rows q) group others))
+                    ∙ whole;
+              };
+        }
 
-pub shown_more : (q : Query) (groups : List Group) (i : ℕ) (g : Group) (old new : List (List Outcome)) → slice_get groups i ≡ Some g → old ≡ flat_map (answer_rows q) (take i groups) → new ≡ old ++ answer_rows q g → new ≡ flat_map (answer_rows q) (take (i + 1) groups)
-shown_more q groups i g old new at before pushed =
-    pushed
-    ∙ ap (λ rows. rows ++ answer_rows q g) before
-    ∙ sym (ap (flat_map (answer_rows q)) (take_found groups i g at) ∙ flat_map-append (answer_rows q) (take i groups) (g ∷ []) ∙ ap (λ rows. flat_map (answer_rows q) (take i groups) ++ rows) (append-nil (answer_rows q g)))
+-- nothing is left
+pub none_left : (q : Query) (most : ℕ) (left : List Entry) (answer : List (List Outcome)) (groups : List Group) → left ≡ [] → LeftOver q most left answer groups → answer ≡ flat_map (answer_rows q) groups
+none_left q most (entry ∷ left) answer groups none over = absurd cc
+none_left q most [] answer groups none over = at over.others over.are over.whole
+  where
+    at : (others : List Group) → AreGroups q most [] others → answer ++ flat_map (answer_rows q) others ≡ flat_map (answer_rows q) groups → answer ≡ flat_map (answer_rows q) groups
+    at [] are whole = sym (append-nil answer) ∙ whole
+    at (group ∷ others) are whole = absurd are
+
+-- the whole of a run is left
+pub all_left : (q : Query) (most : ℕ) (run : List Entry) (answer : List (List Outcome)) (groups : List Group) → answer ≡ [] → AreGroups q most run groups → LeftOver q most run answer groups
+all_left q most run answer groups none are = record { others = groups; are = are; whole = ap (λ rows. rows ++ flat_map (answer_rows q) groups) none }
 
 -- there are groups, or there is GROUP BY
 pub shown_all : (q : Query) (groups : List Group) (place : ℕ) (places : List ℕ) → q.keys ≡ place ∷ places → groups_shown q groups ≡ groups

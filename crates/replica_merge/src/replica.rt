@@ -304,6 +304,6 @@ impl Replica {
             rows ≡ answer (meaning self.now.query) world (told self.now.kept)) }
     {
         let run = self.groups()?;
-        show(self.alloc, &self.query, &run)
+        show(self.alloc, &self.query, run)
     }
 }

@@ -38,7 +38,7 @@ fn key_value(value: Value<'_>) -> ResultValue<'_>
 fn key_values<'a>(alloc: Global, key: &[Value<'a>]) -> Result<Vec<ResultValue<'a>>, AllocError>
     ensures { IfOk result (λ values. map outcome_of values.items ≡ map Plain (row_of key.now)) }
 {
-    let mut values = Vec::new(alloc);
+    let mut values = Vec::with_capacity(alloc, key.len())?;
     for value in key {
         values.push(key_value(*value))?;
     }
@@ -70,7 +70,7 @@ fn finish_states(
     ensures { IfOk result (λ values. (most : ℕ) (ps : List Partial) → most ≤ most_rows →
         Denotes most kinds.now states.now ps → map outcome_of values.items ≡ map outcome ps) }
 {
-    let mut values = Vec::new(alloc);
+    let mut values = Vec::with_capacity(alloc, kinds.len())?;
     let mut rest = states;
     for kind in kinds {
         let (part, after) = rest.split_at(kind.width());
@@ -116,7 +116,7 @@ fn items_of<'a>(
         map (outcome_at (map outcome_of key.now) (map outcome_of results.now))
         (map source_of sources.now)) }
 {
-    let mut items = Vec::new(alloc);
+    let mut items = Vec::with_capacity(alloc, sources.len())?;
     for source in sources {
         items.push(value_of(*source, key, results))?;
     }
@@ -162,11 +162,11 @@ fn show_none(alloc: Global, query: &Query) -> Result<Answer, AllocError>
 }
 
 /// The answer that the groups of a run give, in their order. Without GROUP BY there is one group, over no rows too.
-pub(crate) fn show(alloc: Global, query: &Query, run: &Run) -> Result<Answer, AllocError>
+pub(crate) fn show(alloc: Global, query: &Query, run: Run) -> Result<Answer, AllocError>
     requires { (most : ℕ) × (groups : List Group)
-        × AreGroups (meaning query.now) most run.now groups × (most ≤ most_rows) }
+        × AreGroups (meaning query.now) most run groups × (most ≤ most_rows) }
     ensures { IfOk result (λ rows. (most : ℕ) (groups : List Group) → most ≤ most_rows →
-        AreGroups (meaning query.now) most run.now groups →
+        AreGroups (meaning query.now) most run groups →
         rows ≡ flat_map (answer_rows (meaning query.now))
         (groups_shown (meaning query.now) groups)) }
 {
@@ -174,9 +174,9 @@ pub(crate) fn show(alloc: Global, query: &Query, run: &Run) -> Result<Answer, Al
         return show_none(alloc, query);
     }
     let mut answer = Answer::new(alloc);
-    for place in 0..run.len() {
-        let (key, states) = run.group(place);
-        push_group(alloc, query, key, states, &mut answer)?;
+    // A group is given up when its row is made.
+    for (key, states) in run.into_groups() {
+        push_group(alloc, query, &key, &states, &mut answer)?;
     }
     Ok(answer)
 }

@@ -13,7 +13,7 @@ pub advance_from-requires-clause-room : goal.advance_from-requires-clause-room
 advance_from-requires-clause-room c =
     let q : Query = meaning c.args.query.now in
     let room = c.requires.room in
-    (room.0, room.1, subst (λ b. Denotes room.0 c.agg_kinds.result.now b room.1) (sym c.as_mut_slice.ensures.value) (states_by (functions q) room.0 c.agg_kinds.result.now c.args.states.now.items room.1 c.agg_kinds.ensures room.2), room.3)
+    (room.0, room.1, subst (λ b. Denotes room.0 c.agg_kinds.result.now b room.1) (sym c.as_mut_slice.ensures.value) (states_by (functions q) room.0 c.agg_kinds.result.now c.args.states.now.items room.1 c.agg_kinds.ensures.functions room.2), room.3)
 
 pub returns : goal.returns
 returns c =
@@ -23,6 +23,6 @@ returns c =
     (sym (written_over c.args.states.now.items c.advance_from.new.states c.args.states.now.len (search rules) (search rules)))
     (record {
       kinds = c.agg_kinds.result.now;
-      named = c.agg_kinds.ensures;
-      denote = c.advance_from.ensures most ps low (subst (λ b. Denotes most c.agg_kinds.result.now b ps) (sym c.as_mut_slice.ensures.value) (states_by (functions q) most c.agg_kinds.result.now c.args.states.now.items ps c.agg_kinds.ensures are));
+      named = c.agg_kinds.ensures.functions;
+      denote = c.advance_from.ensures most ps low (subst (λ b. Denotes most c.agg_kinds.result.now b ps) (sym c.as_mut_slice.ensures.value) (states_by (functions q) most c.agg_kinds.result.now c.args.states.now.items ps c.agg_kinds.ensures.functions are));
     })

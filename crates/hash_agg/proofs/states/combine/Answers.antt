@@ -14,8 +14,8 @@ unreachable-requires c =
     let q : Query = meaning c.args.query.now in
     let r = c.requires in
     can_combine r.0 r.1 c.agg_kinds.result.now c.as_mut_slice.result.now c.args.more.now r.2 r.3 r.6
-    (subst (λ b. Denotes r.0 c.agg_kinds.result.now b r.2) (sym c.as_mut_slice.ensures.value) (states_by (functions q) r.0 c.agg_kinds.result.now c.args.states.now.items r.2 c.agg_kinds.ensures r.4))
-    (states_by (functions q) r.1 c.agg_kinds.result.now c.args.more.now r.3 c.agg_kinds.ensures r.5)
+    (subst (λ b. Denotes r.0 c.agg_kinds.result.now b r.2) (sym c.as_mut_slice.ensures.value) (states_by (functions q) r.0 c.agg_kinds.result.now c.args.states.now.items r.2 c.agg_kinds.ensures.functions r.4))
+    (states_by (functions q) r.1 c.agg_kinds.result.now c.args.more.now r.3 c.agg_kinds.ensures.functions r.5)
     c.in-Err.ensures.err
 
 pub returns : goal.returns
@@ -27,11 +27,11 @@ returns c =
     (sym (written_over c.args.states.now.items c.combine_into.new.into c.args.states.now.len (search rules) (search rules)))
     (record {
       kinds = c.agg_kinds.result.now;
-      named = c.agg_kinds.ensures;
+      named = c.agg_kinds.ensures.functions;
       denote =
-          subst (λ these. Denotes (m + n) c.agg_kinds.result.now c.combine_into.new.into (combine_all these ps qs)) c.agg_kinds.ensures
+          subst (λ these. Denotes (m + n) c.agg_kinds.result.now c.combine_into.new.into (combine_all these ps qs)) c.agg_kinds.ensures.functions
           (combined m n c.agg_kinds.result.now c.as_mut_slice.result.now c.args.more.now c.combine_into.new.into ps qs both.0 both.1 low
-          (subst (λ b. Denotes m c.agg_kinds.result.now b ps) (sym c.as_mut_slice.ensures.value) (states_by (functions q) m c.agg_kinds.result.now c.args.states.now.items ps c.agg_kinds.ensures are))
-          (states_by (functions q) n c.agg_kinds.result.now c.args.more.now qs c.agg_kinds.ensures more)
+          (subst (λ b. Denotes m c.agg_kinds.result.now b ps) (sym c.as_mut_slice.ensures.value) (states_by (functions q) m c.agg_kinds.result.now c.args.states.now.items ps c.agg_kinds.ensures.functions are))
+          (states_by (functions q) n c.agg_kinds.result.now c.args.more.now qs c.agg_kinds.ensures.functions more)
           both.2 both.3 both.4);
     })

@@ -12,7 +12,7 @@ use Rattle.hash_agg.proofs.states.first_states.Goals as goal
 pub width-requires : goal.width-requires
 width-requires c =
     let q : Query = meaning c.args.query.now in
-    fits c.agg_kinds-kinds.result.now q.aggregates c.agg_kinds-kinds.ensures c.schema-schema.ensures.query.well_formed.few_aggregates
+    fits c.agg_kinds-kinds.result.now q.aggregates c.agg_kinds-kinds.ensures.functions c.agg_kinds-kinds.ensures.query.well_formed.few_aggregates
 
 pub returns : goal.returns
 returns c =
@@ -22,6 +22,6 @@ returns c =
     (sym (written_over c.in_ok-states.states.items c.init_into.new.row c.in_ok-states.states.len (search rules) (search rules)))
     (record {
       kinds = kinds;
-      named = c.agg_kinds-kinds.ensures;
-      denote = subst (Denotes 0 kinds c.init_into.new.row) (initial_are kinds q.aggregates c.agg_kinds-kinds.ensures) c.init_into.ensures;
+      named = c.agg_kinds-kinds.ensures.functions;
+      denote = subst (Denotes 0 kinds c.init_into.new.row) (initial_are kinds q.aggregates c.agg_kinds-kinds.ensures.functions) c.init_into.ensures;
     })

@@ -4,7 +4,8 @@ use Rattle.packed_rows.specs.Columns.{kinds}
 use Rattle.having_filter.specs.Meaning.{meaning}
 use Rattle.hash_agg.specs.declared.input.Input.TheVariants.{Rows}
 use Rattle.hash_agg.specs.Standing.{IsRun}
-use Rattle.hash_agg.specs.Inputs.{bytes_of, ArePackings, all_rows}
+use Rattle.hash_agg.specs.Inputs.{ArePackings, all_rows}
+use Rattle.packed_rows.specs.View.{bytes_of}
 use Rattle.hash_agg.proofs.tests.a_run_is_aggregated_with_rows.Goals as goal
 
 pub aggregate-requires-2-clause-inputs : goal.aggregate-requires-2-clause-inputs

@@ -5,7 +5,7 @@ use Rattle.std.specs.declared.alloc.Global.{Global}
 use Rattle.std.specs.declared.vec.Vec.{Vec}
 use Rattle.packed_rows.specs.Columns.{kinds}
 use Rattle.batch_reader.specs.Rows.{ReadsRows, records_of}
-use Rattle.hash_agg.specs.Inputs.{bytes_of}
+use Rattle.packed_rows.specs.View.{bytes_of}
 use Rattle.hash_agg.proofs.BatchLaws.{batch_packings}
 use Rattle.hash_agg.proofs.tests.packed.Goals as goal
 

@@ -20,7 +20,7 @@ pub finish_states-requires : goal.finish_states-requires
 finish_states-requires c =
     let q : Query = meaning c.args.query.now in
     let r = c.requires in
-    (r.0, r.1.1, states_by (functions q) r.0 c.agg_kinds.result.now c.args.states.now r.1.1 c.agg_kinds.ensures r.2.states, r.3)
+    (r.0, r.1.1, states_by (functions q) r.0 c.agg_kinds.result.now c.args.states.now r.1.1 c.agg_kinds.ensures.functions r.2.states, r.3)
 
 pub returns-then-not-having_true : goal.returns-then-not-having_true
 returns-then-not-having_true c =
@@ -29,7 +29,7 @@ returns-then-not-having_true c =
     let same = key_is q most c.args.key.now c.args.states.now c.in_ok-values.values.items group c.in_ok-values.ensures.0 c.in_ok-values.ensures.1 stands in
     let keys : map outcome_of c.in_ok-key.key.items ≡ map Plain group.0 = c.in_ok-key.ensures ∙ ap (λ vs. map Plain (row_of vs)) c.deref.ensures.value ∙ ap (map Plain) same in
     let results : map outcome_of c.in_ok-results.results.items ≡ map outcome group.1 =
-    c.in_ok-results.ensures most group.1 low (states_by (functions q) most c.agg_kinds.result.now c.args.states.now group.1 c.agg_kinds.ensures stands.states) in
+    c.in_ok-results.ensures most group.1 low (states_by (functions q) most c.agg_kinds.result.now c.args.states.now group.1 c.agg_kinds.ensures.functions stands.states) in
     let read : outcome_at (map outcome_of c.deref-2.result.now) (map outcome_of c.deref-3.result.now) ≡ source_in group =
     sources_are _ _ group (ap (map outcome_of) c.deref-2.ensures.value ∙ keys) (ap (map outcome_of) c.deref-3.ensures.value ∙ results) in
     let met : is_met (outcome_at (map outcome_of c.deref-2.result.now) (map outcome_of c.deref-3.result.now)) q.having ≡ false = search rules in
@@ -43,7 +43,7 @@ returns c =
     let same = key_is q most c.args.key.now c.args.states.now c.in_ok-values.values.items group c.in_ok-values.ensures.0 c.in_ok-values.ensures.1 stands in
     let keys : map outcome_of c.in_ok-key.key.items ≡ map Plain group.0 = c.in_ok-key.ensures ∙ ap (λ vs. map Plain (row_of vs)) c.deref.ensures.value ∙ ap (map Plain) same in
     let results : map outcome_of c.in_ok-results.results.items ≡ map outcome group.1 =
-    c.in_ok-results.ensures most group.1 low (states_by (functions q) most c.agg_kinds.result.now c.args.states.now group.1 c.agg_kinds.ensures stands.states) in
+    c.in_ok-results.ensures most group.1 low (states_by (functions q) most c.agg_kinds.result.now c.args.states.now group.1 c.agg_kinds.ensures.functions stands.states) in
     let read : outcome_at (map outcome_of c.deref-2.result.now) (map outcome_of c.deref-3.result.now) ≡ source_in group =
     sources_are _ _ group (ap (map outcome_of) c.deref-2.ensures.value ∙ keys) (ap (map outcome_of) c.deref-3.ensures.value ∙ results) in
     let met : is_met (outcome_at (map outcome_of c.deref-2.result.now) (map outcome_of c.deref-3.result.now)) q.having ≡ true = search rules in

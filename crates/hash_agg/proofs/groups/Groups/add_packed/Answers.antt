@@ -1,11 +1,9 @@
 use Rattle.std.specs.Prelude.{◌≡◌, ◌+◌, true, false, cond}
 use Rattle.std.proofs.Common.{sym, ◌∙◌, ap, subst, arith, rules}
-use Rattle.grouping_model.specs.Datum.{HasKinds}
 use Rattle.grouping_model.specs.Condition.{is_met}
 use Rattle.grouping_model.specs.Query.{Query}
 use Rattle.grouping_model.specs.Grouping.{column_of}
 use Rattle.grouping_model.specs.Parts.{with_row}
-use Rattle.packed_rows.specs.Columns.{kinds}
 use Rattle.packed_rows.specs.View.{row_of}
 use Rattle.agg_library.proofs.RowLaws.{on_ok}
 use Rattle.having_filter.specs.Meaning.{meaning}
@@ -18,8 +16,7 @@ pub returns-then-not-where_true : goal.returns-then-not-where_true
 returns-then-not-where_true c =
     λ most groups row low are has is.
     let q : Query = meaning c.args.query.now in
-    let own : HasKinds q.kinds (row_of c.in_ok-row.row.items) = subst (λ columns. HasKinds (kinds columns) (row_of c.in_ok-row.row.items)) c.schema.ensures.columns c.in_ok-row.ensures.0 in
-    let same : row_of c.in_ok-row.row.items ≡ row = packed_once q.kinds c.args.packed.now (row_of c.in_ok-row.row.items) row own has c.in_ok-row.ensures.1 is in
+    let same : row_of c.unpack.new.row.items ≡ row = packed_once q.kinds c.args.packed.now (row_of c.unpack.new.row.items) row c.in_ok-unpack.ensures.0 has c.in_ok-unpack.ensures.1 is in
     let met : is_met (column_of (row_of c.deref.result.now)) q.condition ≡ false = search rules in
     let not_met : is_met (column_of row) q.condition ≡ false = ap (λ row. is_met (column_of row) q.condition) (sym (ap row_of c.deref.ensures.value ∙ same)) ∙ met in
     subst (λ b. AreGroups q (most + 1) c.args.self.now (cond b (with_row q groups row) groups)) (sym not_met)
@@ -30,8 +27,7 @@ returns c =
     on_ok c.add_selected.result
     (λ added most groups row low are has is.
     let q : Query = meaning c.args.query.now in
-    let own : HasKinds q.kinds (row_of c.in_ok-row.row.items) = subst (λ columns. HasKinds (kinds columns) (row_of c.in_ok-row.row.items)) c.schema.ensures.columns c.in_ok-row.ensures.0 in
-    let same : row_of c.in_ok-row.row.items ≡ row = packed_once q.kinds c.args.packed.now (row_of c.in_ok-row.row.items) row own has c.in_ok-row.ensures.1 is in
+    let same : row_of c.unpack.new.row.items ≡ row = packed_once q.kinds c.args.packed.now (row_of c.unpack.new.row.items) row c.in_ok-unpack.ensures.0 has c.in_ok-unpack.ensures.1 is in
     let met : is_met (column_of (row_of c.deref.result.now)) q.condition ≡ true = search rules in
     let is_kept : is_met (column_of row) q.condition ≡ true = ap (λ row. is_met (column_of row) q.condition) (sym (ap row_of c.deref.ensures.value ∙ same)) ∙ met in
     subst (λ b. AreGroups q (most + 1) c.add_selected.new.self (cond b (with_row q groups row) groups)) (sym is_kept)

@@ -4,7 +4,8 @@ use Rattle.grouping_model.specs.Grouping.{Group}
 use Rattle.agg_protocol.specs.States.{most_rows}
 use Rattle.having_filter.specs.Meaning.{meaning}
 use Rattle.hash_agg.specs.Standing.{AreGroups}
-use Rattle.hash_agg.specs.Inputs.{bytes_of, ArePackings}
+use Rattle.hash_agg.specs.Inputs.{ArePackings}
+use Rattle.packed_rows.specs.View.{bytes_of}
 use Rattle.hash_agg.specs.Adding.{rows_added}
 use Rattle.hash_agg.proofs.groups.Groups.add_rows.Given as goal
 

@@ -2,7 +2,7 @@ use Rattle.std.specs.Prelude.{◌≡◌, ◌++◌, [], unwrap_or}
 use Rattle.std.proofs.Common.{sym, ◌∙◌, ap, subst, append-nil}
 use Rattle.packed_rows.specs.Columns.{kinds}
 use Rattle.having_filter.specs.Meaning.{meaning}
-use Rattle.batch_reader.specs.Rows.{bytes_of}
+use Rattle.packed_rows.specs.View.{bytes_of}
 use Rattle.replica_merge.specs.Kept.{Held, ArePackedRows, batch_packings}
 use Rattle.replica_merge.specs.Groups.{HoldRows}
 use Rattle.replica_merge.proofs.KnownRows.{kept_packed}
