@@ -1,5 +1,5 @@
--- A query that was read is over the columns that were told.
-use Rattle.std.specs.Prelude.{◌≡◌, refl, ℕ, Bool, true, false, not, if◌then◌else◌, List, Result, Ok, Err}
+-- Queries that were read, and texts that were refused.
+use Rattle.std.specs.Prelude.{◌≡◌, ◌≢◌, refl, ℕ, Bool, true, false, not, if◌then◌else◌, List, Result, Ok, Err, IfErr, IsErrAnd}
 use Rattle.std.proofs.Common.{◌∙◌, ap, sym}
 use Rattle.packed_rows.specs.Columns.{Column, kinds}
 use Rattle.having_filter.specs.declared.error.QueryError.{QueryError}
@@ -7,8 +7,9 @@ use Rattle.having_filter.specs.declared.error.QueryError.TheVariants.{NotGrouped
 use Rattle.having_filter.specs.Forms.{Written}
 use Rattle.having_filter.specs.Meaning.{Checked}
 use Rattle.having_filter.specs.Checks.{checked, checked_places, placed, has_too_many, all_of, filters_pass, is_shallow, are_shallow, has_columns, are_plain, kinds_fit, is_grouped}
-use Rattle.group_parser.specs.declared.error.ParseError.{ParseError}
-use Rattle.group_parser.specs.Parsing.{parsing, written_in, written_checked, query_checked}
+use Rattle.group_parser.specs.Parsing.{Accepts}
+use Rattle.agg_tool.specs.declared.refusal.Refusal.{Refusal}
+use Rattle.agg_tool.specs.declared.refusal.Refusal.TheVariants.{NoMemory}
 
 -- what is accepted was not refused before
 behind : (fails : Bool) (error : QueryError) (rest : Result Checked QueryError) (q : Checked) → (if fails then Err error else rest) ≡ Ok q → rest ≡ Ok q
@@ -31,17 +32,10 @@ over_columns columns w q passed =
     over_places columns (placed columns w) q
     (behind (not (has_columns columns w)) NoSuchColumn _ q (behind (not (all_of (filters_pass is_shallow) are_shallow w)) TooDeep _ q (behind (has_too_many w) TooMany _ q passed)))
 
-pub read_over : (columns : List Column) (text : List ℕ) (q : Checked) → parsing columns text ≡ Ok q → q.columns ≡ columns
-read_over columns text q read = go (written_in text) read
-  where
-    found : (w : Written (List ℕ)) (r : Result Checked QueryError) → checked columns w ≡ r → query_checked r ≡ Ok q → q.columns ≡ columns
-    found w (Ok x) passed same = sym (ap (λ (r : Result Checked ParseError). columns_or r) same) ∙ over_columns columns w x passed
-      where
-        columns_or : Result Checked ParseError → List Column
-        columns_or (Ok r) = r.columns
-        columns_or (Err e) = columns
-    found w (Err e) passed same = cc same
+pub read_over : (columns : List Column) (text : List ℕ) (q : Checked) → Accepts columns text q → q.columns ≡ columns
+read_over columns text q read = over_columns columns read.written q read.passed
 
-    go : (r : Result (Written (List ℕ)) ParseError) → written_checked columns r ≡ Ok q → q.columns ≡ columns
-    go (Ok w) passed = found w (checked columns w) refl passed
-    go (Err e) passed = cc passed
+-- want of memory is no fault of a text
+pub no_memory : {T : Type 0} (result : Result T Refusal) (P : Refusal → Type 0) → IsErrAnd result (λ why. why ≡ NoMemory) → IfErr result (λ why. why ≢ NoMemory → P why)
+no_memory (Ok x) P failed = absurd failed
+no_memory (Err why) P failed = λ apart. absurd (apart failed)

@@ -9,6 +9,8 @@ use Rattle.packed_rows.specs.Columns.{Column, kinds}
 use Rattle.packed_rows.specs.Field.{Reads, ReadsRow, IsLeftmostBad}
 use Rattle.packed_rows.proofs.FieldLaws.{one_row}
 use Rattle.packed_rows.proofs.PrintedColumns.{one_schema}
+use Rattle.having_filter.specs.Meaning.{Checked}
+use Rattle.group_parser.proofs.ParseLaws.{one_accepted, one_refused, not_both}
 use Rattle.batch_reader.specs.Head.{ReadsNumber}
 use Rattle.batch_reader.specs.Rows.{ReadsRows}
 use Rattle.batch_reader.specs.Refusal.{RecordFault, FirstFault, BuildFault}
@@ -20,7 +22,7 @@ use Rattle.script_io.specs.Records.{Record}
 use Rattle.script_commands.specs.Commands as ask
 use Rattle.script_commands.specs.Commands.{Request}
 use Rattle.agg_tool.specs.Machine as machine
-use Rattle.agg_tool.specs.Machine.{State, Fed, IsBatch, IsNoBatch, batch_refusal, ColumnsReply, FeedReply, Replies}
+use Rattle.agg_tool.specs.Machine.{State, Fed, IsBatch, IsNoBatch, batch_refusal, query_refusal, ColumnsReply, QueryReply, FeedReply, Replies}
 
 -- ---- batches
 
@@ -207,6 +209,29 @@ one_columns None text (machine.Refused w) (machine.Listed l') x y = absurd y
 one_columns None text (machine.Refused w) (machine.Answered q' k') x y = absurd y
 one_columns None text (machine.Refused w) (machine.Refused w') x y = ap machine.Refused (x.0 ∙ sym y.0)
 
+one_asked : (told : Option (List Column)) (asked : Option Checked) (text : List ℕ) (a b : machine.Reply) → QueryReply told asked text a → QueryReply told asked text b → a ≡ b
+one_asked None asked text a b x y = x ∙ sym y
+one_asked (Some columns) (Some query) text a b x y = x ∙ sym y
+one_asked (Some columns) None text (machine.Has_columns cs) b x y = absurd x
+one_asked (Some columns) None text (machine.Has_query q) (machine.Has_columns cs') x y = absurd y
+one_asked (Some columns) None text (machine.Has_query q) (machine.Has_query q') x y = ap machine.Has_query (one_accepted columns text q q' x y)
+one_asked (Some columns) None text (machine.Has_query q) (machine.Created n') x y = absurd y
+one_asked (Some columns) None text (machine.Has_query q) (machine.Took n' f' d') x y = absurd y
+one_asked (Some columns) None text (machine.Has_query q) (machine.Listed l') x y = absurd y
+one_asked (Some columns) None text (machine.Has_query q) (machine.Answered q' k') x y = absurd y
+one_asked (Some columns) None text (machine.Has_query q) (machine.Refused w') x y = absurd (not_both columns text q y.error x y.fault)
+one_asked (Some columns) None text (machine.Created n) b x y = absurd x
+one_asked (Some columns) None text (machine.Took n f d) b x y = absurd x
+one_asked (Some columns) None text (machine.Listed l) b x y = absurd x
+one_asked (Some columns) None text (machine.Answered q k) b x y = absurd x
+one_asked (Some columns) None text (machine.Refused w) (machine.Has_columns cs') x y = absurd y
+one_asked (Some columns) None text (machine.Refused w) (machine.Has_query q') x y = absurd (not_both columns text q' x.error y x.fault)
+one_asked (Some columns) None text (machine.Refused w) (machine.Created n') x y = absurd y
+one_asked (Some columns) None text (machine.Refused w) (machine.Took n' f' d') x y = absurd y
+one_asked (Some columns) None text (machine.Refused w) (machine.Listed l') x y = absurd y
+one_asked (Some columns) None text (machine.Refused w) (machine.Answered q' k') x y = absurd y
+one_asked (Some columns) None text (machine.Refused w) (machine.Refused w') x y = ap machine.Refused (x.named ∙ ap query_refusal (one_refused columns text x.error y.error x.fault y.fault) ∙ sym y.named)
+
 one_feed : (columns : List Column) (known : Option Knowledge) (name origin number : List ℕ) (told_rows : ℕ) (owned : List Record) (a b : machine.Reply)
     → FeedReply columns known name origin number told_rows owned a → FeedReply columns known name origin number told_rows owned b → a ≡ b
 one_feed columns None name origin number told_rows owned a b x y = x ∙ sym y
@@ -232,7 +257,7 @@ one_feed columns (Some known) name origin number told_rows owned (machine.Refuse
 
 pub one_reply : (old : State) (request : Request) (owned : List Record) (a b : machine.Reply) → Replies old request owned a → Replies old request owned b → a ≡ b
 one_reply old (ask.Columns text) owned a b x y = one_columns old.columns text a b x y
-one_reply old (ask.Query text) owned a b x y = x ∙ sym y
+one_reply old (ask.Query text) owned a b x y = one_asked old.columns old.query text a b x y
 one_reply old (ask.Replica name) owned a b x y = x ∙ sym y
 one_reply old (ask.Feed name origin number told) owned a b x y = one_feed (unwrap_or old.columns []) (old.replicas name) name origin number told owned a b x y
 one_reply old (ask.Known name) owned a b x y = x ∙ sym y

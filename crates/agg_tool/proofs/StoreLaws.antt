@@ -18,7 +18,7 @@ use Rattle.packed_rows.specs.Columns.{Column, kinds, IsSchemaText}
 use Rattle.having_filter.specs.Meaning.{Checked, meaning}
 use Rattle.having_filter.specs.Spelling.{spelling}
 use Rattle.having_filter.specs.Kept.{by_names, headers}
-use Rattle.group_parser.specs.Parsing.{parsing}
+use Rattle.group_parser.specs.Parsing.{Accepts}
 use Rattle.replica_merge.specs.Kept.{Held, told, known_list, Fits}
 use Rattle.replica_merge.specs.declared.delivered.Delivered.{Delivered}
 use Rattle.replica_merge.proofs.KeptLaws.{fits_nothing, fits_more}
@@ -27,7 +27,7 @@ use Rattle.script_commands.specs.Commands as ask
 use Rattle.script_commands.specs.Commands.{Request}
 use Rattle.table_print.specs.Table.{table_text}
 use Rattle.agg_tool.specs.Machine as machine
-use Rattle.agg_tool.specs.Machine.{State, Fed, IsBatch, IsNoBatch, ColumnsReply, read_reply, query_reply, replica_reply, FeedReply, known_reply, answer_reply, Replies, AgreesWith, after, with_replica}
+use Rattle.agg_tool.specs.Machine.{State, Fed, IsBatch, IsNoBatch, ColumnsReply, IsNoQuery, QueryReply, replica_reply, FeedReply, known_reply, answer_reply, Replies, AgreesWith, after, with_replica}
 use Rattle.agg_tool.specs.Text.{line, known_text, answer_text}
 use Rattle.agg_tool.specs.Views.{Store, IsStore, Represents, FitsWorld, Steps, Takes, Updates, replica_at, knowledge_of, said_text}
 use Rattle.agg_tool.specs.declared.refusal.Refusal.{Refusal}
@@ -230,38 +230,38 @@ columns_told store text owned columns count none is counted =
 
 pub query_too_early : (store : Store) (text : List ℕ) (owned : List Record) → store.columns ≡ None → Steps (ask.Query text) owned store (says.Refused why.BadCommand) store
 query_too_early store text owned none =
-    refused (ask.Query text) owned store why.BadCommand (λ state r. sym (ap (λ cs. query_reply cs state.query text) (r.columns ∙ none)))
+    refused (ask.Query text) owned store why.BadCommand (λ state r. subst (λ cs. QueryReply cs state.query text (machine.Refused why.BadCommand)) (sym (r.columns ∙ none)) refl)
+
+-- the machine's reply to a query's text, where these columns and this query were told
+query_says : (state : State) (store : Store) (text : List ℕ) (columns : List Column) (asked : Option Checked) (reply : machine.Reply) → Represents state store → store.columns ≡ Some columns → store.query ≡ asked
+    → QueryReply (Some columns) asked text reply → QueryReply state.columns state.query text reply
+query_says state store text columns asked reply r told same says =
+    subst (λ cs. QueryReply cs state.query text reply) (sym (r.columns ∙ told)) (subst (λ q. QueryReply (Some columns) q text reply) (sym (r.query ∙ same)) says)
 
 pub query_there : (store : Store) (text : List ℕ) (owned : List Record) (columns : List Column) → store.columns ≡ Some columns → is_some store.query ≡ true
     → Steps (ask.Query text) owned store (says.Refused why.BadCommand) store
 query_there store text owned columns told there =
     refused (ask.Query text) owned store why.BadCommand
-    (λ state r. sym (ap (λ cs. query_reply cs state.query text) (r.columns ∙ told) ∙ ap (λ q. query_reply (Some columns) q text) r.query ∙ go store.query there))
+    (λ state r. query_says state store text columns store.query (machine.Refused why.BadCommand) r told refl (go store.query there))
   where
-    go : (q : Option Checked) → is_some q ≡ true → query_reply (Some columns) q text ≡ machine.Refused why.BadCommand
+    go : (q : Option Checked) → is_some q ≡ true → QueryReply (Some columns) q text (machine.Refused why.BadCommand)
     go (Some q) e = refl
     go None e = absurd (true≢false (sym e))
 
--- the machine's reply to a query's text, where there are columns and no query
-query_says : (state : State) (store : Store) (text : List ℕ) (columns : List Column) → Represents state store → store.columns ≡ Some columns → is_some store.query ≡ false
-    → query_reply state.columns state.query text ≡ query_reply (Some columns) None text
-query_says state store text columns r told none =
-    ap (λ cs. query_reply cs state.query text) (r.columns ∙ told) ∙ ap (λ q. query_reply (Some columns) q text) (r.query ∙ none_there store.query none)
-
 pub query_refused : (store : Store) (text : List ℕ) (owned : List Record) (columns : List Column) (refusal : Refusal) → store.columns ≡ Some columns → is_some store.query ≡ false
-    → (refusal ≢ why.NoMemory → read_reply (parsing columns text) ≡ machine.Refused refusal) → Steps (ask.Query text) owned store (says.Refused refusal) store
+    → (refusal ≢ why.NoMemory → IsNoQuery columns text refusal) → Steps (ask.Query text) owned store (says.Refused refusal) store
 query_refused store text owned columns refusal told none bad =
     refused_or_memory (ask.Query text) owned store store refusal (same store)
-    (λ other state r. sym (query_says state store text columns r told none ∙ bad other))
+    (λ other state r. query_says state store text columns None (machine.Refused refusal) r told (none_there store.query none) (bad other))
 
 pub query_told : (store : Store) (text : List ℕ) (owned : List Record) (columns : List Column) (query : Checked) (shown : String Global)
-    → store.columns ≡ Some columns → is_some store.query ≡ false → parsing columns text ≡ Ok query → string_bytes shown ≡ spelling (by_names query)
+    → store.columns ≡ Some columns → is_some store.query ≡ false → Accepts columns text query → string_bytes shown ≡ spelling (by_names query)
     → Steps (ask.Query text) owned store (says.Query shown) (record store { query = Some query })
 query_told store text owned columns query shown told none is spelled =
     record {
       steps = λ state r. record {
         said = machine.Has_query query;
-        may = inr (sym (query_says state store text columns r told none ∙ ap read_reply is));
+        may = inr (query_says state store text columns None (machine.Has_query query) r told (none_there store.query none) is);
         represents = record { columns = r.columns; query = refl; replicas = r.replicas };
         refused = refl;
         fits = λ world f agrees. record { of_columns = f.of_columns; fit = f.fit };

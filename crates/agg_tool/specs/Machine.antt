@@ -1,12 +1,12 @@
 -- The machine that a script runs: what is known under each name, and how each command is answered. All of this is our own.
-use Rattle.std.specs.Prelude.{ℕ, ◌≡◌, ◌≢◌, ◌≤◌, ◌⊎◌, Bool, true, false, List, [], ◌∷◌, length, Option, Some, None, Result, Ok, Err, unwrap_or, if◌then◌else◌}
+use Rattle.std.specs.Prelude.{ℕ, ◌≡◌, ◌≢◌, ◌≤◌, ◌⊎◌, Bool, true, false, List, [], ◌∷◌, length, Option, Some, None, unwrap_or, if◌then◌else◌}
 use Rattle.std.specs.List.{AllByRecursion}
 use Rattle.std.specs.Str.{bytes_eq}
 use Rattle.grouping_model.specs.Datum.{Kind, Row}
 use Rattle.grouping_model.specs.World.{World, IsWorld, Knowledge, nothing, learn}
 use Rattle.packed_rows.specs.Columns.{Column, kinds, IsSchemaText}
 use Rattle.having_filter.specs.Meaning.{Checked}
-use Rattle.group_parser.specs.Parsing.{parsing}
+use Rattle.group_parser.specs.Parsing.{Accepts, Refuses}
 use Rattle.group_parser.specs.declared.error.ParseError.{ParseError}
 use Rattle.group_parser.specs.declared.error.ParseError.TheVariants as parse
 use Rattle.batch_reader.specs.Head.{ReadsOrigin, ReadsBatchNumber}
@@ -97,16 +97,19 @@ query_refusal parse.AggregateHere = AggregateHere
 query_refusal parse.TooMany = TooMany
 query_refusal parse.TooDeep = TooDeep
 
--- the reply to a query that was read, or to the first fault of its text
-abbrev pub read_reply : Result Checked ParseError → Reply
-read_reply (Ok query) = Has_query query
-read_reply (Err error) = Refused (query_refusal error)
+-- why a text is no query over these columns: its first fault
+pub record IsNoQuery (columns : List Column) (text : List ℕ) (why : Refusal) : Type 0 where
+  pub error : ParseError
+  pub fault : Refuses columns text error
+  pub named : why ≡ query_refusal error
 
 -- the reply to a query's text: a query is told once, after the columns
-abbrev pub query_reply : Option (List Column) → Option Checked → List ℕ → Reply
-query_reply None query text = Refused BadCommand
-query_reply (Some columns) (Some query) text = Refused BadCommand
-query_reply (Some columns) None text = read_reply (parsing columns text)
+abbrev pub QueryReply : Option (List Column) → Option Checked → List ℕ → Reply → Type 0
+QueryReply None query text reply = reply ≡ Refused BadCommand
+QueryReply (Some columns) (Some query) text reply = reply ≡ Refused BadCommand
+QueryReply (Some columns) None text (Has_query query) = Accepts columns text query
+QueryReply (Some columns) None text (Refused why) = IsNoQuery columns text why
+QueryReply (Some columns) None text reply = ⊥
 
 -- the reply to a new name: replicas come after the query
 abbrev pub replica_reply : Option Checked → Option Knowledge → List ℕ → Reply
@@ -134,7 +137,7 @@ answer_reply query known = Refused NoSuchName
 -- how a command is answered that asks for this and owns these records, where memory is there. There is one way only (law one_reply)
 abbrev pub Replies : State → Request → List Record → Reply → Type 0
 Replies old (Columns text) owned reply = ColumnsReply old.columns text reply
-Replies old (Query text) owned reply = reply ≡ query_reply old.columns old.query text
+Replies old (Query text) owned reply = QueryReply old.columns old.query text reply
 Replies old (Replica name) owned reply = reply ≡ replica_reply old.query (old.replicas name) name
 Replies old (Feed name origin number told) owned reply =
     FeedReply (unwrap_or old.columns []) (old.replicas name) name origin number told owned reply

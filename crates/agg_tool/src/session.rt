@@ -1,13 +1,13 @@
 //! What is there while a script runs, and how its commands are answered.
 
-ghost use Rattle.std.specs.Prelude.{◌≡◌, ◌≢◌, List, map, None, [], Ok, IfOk, IfErr, OnErr, length, string_bytes};
+ghost use Rattle.std.specs.Prelude.{◌≡◌, ◌≢◌, List, map, None, [], IfOk, IfErr, OnErr, length, string_bytes};
 ghost use Rattle.csv.specs.Records.{fields_of};
 ghost use Rattle.grouping_model.specs.Answer.{answer};
 ghost use Rattle.grouping_model.specs.World.{World, IsWorld};
 ghost use Rattle.having_filter.specs.Meaning.{meaning};
 ghost use Rattle.having_filter.specs.Spelling.{spelling};
 ghost use Rattle.having_filter.specs.Kept.{by_names, headers};
-ghost use Rattle.group_parser.specs.Parsing.{parsing};
+ghost use Rattle.group_parser.specs.Parsing.{Accepts};
 ghost use Rattle.replica_merge.specs.Kept.{told, known_list, Fits};
 ghost use Rattle.script_io.specs.Records.{Record};
 ghost use Rattle.table_print.specs.Table.{table_text};
@@ -15,8 +15,7 @@ ghost use Rattle.agg_tool.specs.Text.{known_text};
 ghost use Rattle.packed_rows.specs.Columns.{kinds};
 ghost use Rattle.script_commands.specs.Commands as ask;
 ghost use Rattle.script_commands.specs.Commands.{request_of};
-ghost use Rattle.agg_tool.specs.Machine as machine;
-ghost use Rattle.agg_tool.specs.Machine.{IsNoBatch, read_reply};
+ghost use Rattle.agg_tool.specs.Machine.{IsNoBatch, IsNoQuery};
 ghost use Rattle.agg_tool.specs.Views.{Store, IsStore, Steps, Takes};
 ghost use Rattle.agg_tool.specs.declared.refusal.Refusal.TheVariants.{NoMemory};
 
@@ -88,11 +87,10 @@ fn deliver(
 /// The query that a text says, and its canonical text.
 #[tactic(auto, using(crate::proofs::QueryLaws::read_over))]
 fn read_query(alloc: Global, schema: &Schema, text: &str) -> Result<(Query, String), Refusal>
-    ensures read { IfOk result (λ found. (parsing schema.now text.now ≡ Ok found.0)
+    ensures read { IfOk result (λ found. Accepts schema.now text.now found.0
         × (string_bytes found.1 ≡ spelling (by_names found.0))) }
     ensures columns { IfOk result (λ found. found.0.columns ≡ schema.now) }
-    ensures why { IfErr result (λ why. why ≢ NoMemory →
-        read_reply (parsing schema.now text.now) ≡ machine.Refused why) }
+    ensures why { IfErr result (λ why. why ≢ NoMemory → IsNoQuery schema.now text.now why) }
 {
     let query = parse(alloc, schema, text)?;
     let canonical = print(alloc, &query)?;
