@@ -21,7 +21,7 @@ use Rattle.packed_rows.proofs.PackingOrder.{packed_order, row_apart}
 use Rattle.agg_protocol.specs.States.{most_rows}
 use Rattle.agg_library.specs.StateRows.{AllWithin}
 use Rattle.having_filter.specs.Kept.{key_kinds}
-use Rattle.hash_agg.specs.Runs.{Entry, entries_of, packed_keys, Rises}
+use Rattle.hash_agg.specs.Runs.{Entry, entries_of, entries_in, packed_keys, Rises}
 use Rattle.hash_agg.specs.Standing.{StandsFor, AreGroups}
 use Rattle.hash_agg.specs.declared.input.Input.{Input}
 use Rattle.hash_agg.specs.declared.input.Input.TheVariants.{Rows, Groups}
@@ -75,11 +75,11 @@ pub record GroupAt (q : Query) (most : ℕ) (groups : List Group) (i : ℕ) (ent
   pub at : slice_get groups i ≡ Some group
   pub stands : StandsFor q most entry group
 
-pub group_at : (q : Query) (most : ℕ) (items : List Item) (groups : List Group) (i : ℕ) (item : Item) → AreGroups q most (entries_of items) groups → i < length items → item ≡ slice_index_or items i item → GroupAt q most groups i (item.0.items, item.1.items)
+pub group_at : (q : Query) (most : ℕ) (items : List (Vec ℕ Global × Vec ℕ Global)) (groups : List Group) (i : ℕ) (item : Vec ℕ Global × Vec ℕ Global) → AreGroups q most (entries_of items) groups → i < length items → item ≡ slice_index_or items i item → GroupAt q most groups i (item.0.items, item.1.items)
 group_at q most [] groups i item are low is = absurd (omega arith)
 group_at q most (e ∷ items) [] i item are low is = absurd are
 group_at q most (e ∷ items) (g ∷ groups) zero item (first, rest) low is =
-    record { group = g; at = refl; stands = subst (λ (e : Item). StandsFor q most (e.0.items, e.1.items) g) (sym is) first }
+    record { group = g; at = refl; stands = subst (λ (e : Vec ℕ Global × Vec ℕ Global). StandsFor q most (e.0.items, e.1.items) g) (sym is) first }
 group_at q most (e ∷ items) (g ∷ groups) (suc i) item (first, rest) low is =
     let found = group_at q most items groups i item rest (omega arith) is in
     record { group = found.group; at = found.at; stands = found.stands }
@@ -150,12 +150,12 @@ pub run_front_rises : (run rest : List Entry) → Rises (run ++ rest) → Rises 
 run_front_rises run rest rises = front_rises (slice_cmp nat_cmp) (packed_keys run) (packed_keys rest) (subst (IsStrictlySortedBy (slice_cmp nat_cmp)) (map-append (λ (e : Entry). e.0) run rest) rises)
 
 -- the entries of a map rise by their bytes
-pub map_rises : (items : List Item) → IsStrictlySortedBy key_cmp (of_map.keys_of items) → Rises (entries_of items)
+pub map_rises : (items : List Item) → IsStrictlySortedBy key_cmp (of_map.keys_of items) → Rises (entries_in items)
 unfolding IsStrictlySortedBy
 map_rises [] rising = tt
 map_rises (e ∷ items) (above, rising) = (each items above, map_rises items rising)
   where
-    each : (es : List Item) → AllByRecursion (λ z. key_cmp e.0 z ≡ Less) (of_map.keys_of es) → AllByRecursion (λ z. slice_cmp nat_cmp e.0.items z ≡ Less) (packed_keys (entries_of es))
+    each : (es : List Item) → AllByRecursion (λ z. key_cmp e.0 z ≡ Less) (of_map.keys_of es) → AllByRecursion (λ z. slice_cmp nat_cmp e.0.items z ≡ Less) (packed_keys (entries_in es))
     each [] all = tt
     each (f ∷ es) (first, all) = (first, each es all)
 

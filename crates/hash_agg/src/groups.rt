@@ -21,25 +21,27 @@ use crate::run::Run;
 use crate::states::{advance, combine, first_states};
 use having_filter::Query;
 use packed_rows::{RowError, Value, pack_value, unpack_into};
+use smallvec::SmallVec;
 use std::alloc::{AllocError, Global};
 use std::collections::BTreeMap;
 use std::collections::btree_map::Entry;
 use std::marker::Model;
 
-/// Groups: by packed key, the states of the query's aggregates. Packed keys have the order of keys.
+/// Groups: by packed key, the states of the query's aggregates. Packed keys have the order of keys; one of up to 16 bytes
+/// lies in the map itself.
 #[derive(Drop)]
 pub(crate) struct Groups {
     alloc: Global,
-    states: BTreeMap<Vec<u8>, Vec<u8>>,
+    states: BTreeMap<SmallVec<u8, 16>, Vec<u8>>,
 }
 
 impl Model for Groups {
     ghost use Rattle.std.specs.Prelude.{List};
-    ghost use Rattle.hash_agg.specs.Runs.{Entry, entries_of};
+    ghost use Rattle.hash_agg.specs.Runs.{Entry, entries_in};
 
     ghost Value = { List Entry };
 
-    ghost view = { λ g. entries_of g.states.entries };
+    ghost view = { λ g. entries_in g.states.entries };
 }
 
 /// Reads the values of a row from its packing into `row`, where they take the place of what was there.
@@ -97,7 +99,7 @@ impl Groups {
             (with_row (meaning query.now) groups (row_of row.now))) }
     {
         pack_key_of(query, row, key)?;
-        let key = key.as_slice().to_vec(self.alloc)?;
+        let key = SmallVec::from_slice(self.alloc, key.as_slice())?;
         match self.states.entry(key)? {
             Entry::Occupied(entry) => {
                 advance(query, entry.into_mut(), row);
@@ -175,7 +177,7 @@ impl Groups {
             AreGroups (meaning query.now) (m + n) self.new
             (group_added (meaning query.now) groups group)) }
     {
-        let key = key.to_vec(self.alloc)?;
+        let key = SmallVec::from_slice(self.alloc, key)?;
         if let Some(old) = self.states.get_mut(&key) {
             combine(query, old, more);
             return Ok(());
@@ -230,6 +232,7 @@ impl Groups {
         let Groups { alloc, states } = self;
         let mut run = Run::with_capacity(alloc, states.len())?;
         for (key, states) in states {
+            let key = key.as_slice().to_vec(alloc)?;
             run.push(key, states)?;
         }
         Ok(run)

@@ -3,9 +3,10 @@ use Rattle.std.proofs.Common.{sym, ◌∙◌, ap, subst, rules}
 use Rattle.std.specs.declared.alloc.Global.{Global}
 use Rattle.std.specs.declared.vec.Vec.{Vec}
 use Rattle.std.specs.BTreeMap.{BTreeMap, insert_entry}
+use Rattle.smallvec.specs.SmallVec.{SmallVec}
 use Rattle.grouping_model.specs.Query.{Query}
 use Rattle.having_filter.specs.Meaning.{meaning}
-use Rattle.hash_agg.specs.Runs.{entries_of}
+use Rattle.hash_agg.specs.Runs.{entries_in}
 use Rattle.hash_agg.specs.Standing.{StandsFor, AreGroups}
 use Rattle.hash_agg.specs.Adding.{group_added}
 use Rattle.hash_agg.proofs.EntryLaws.{key_cmp, group_states_found, group_found, group_new}
@@ -27,7 +28,7 @@ returns-in-Some c =
     let q : Query = meaning c.args.query.now in
     let copied : c.in_ok-key.key.items ≡ c.args.key.now = search rules in
     let stands = subst (λ k. StandsFor q n (k, c.args.more.now) group) (sym copied) given in
-    subst (λ es. AreGroups q (m + n) (entries_of es) (group_added q groups group)) (sym (c.get_mut.follows.holds c.combine.new.states).0)
+    subst (λ es. AreGroups q (m + n) (entries_in es) (group_added q groups group)) (sym (c.get_mut.follows.holds c.combine.new.states).0)
     (group_found q m n group c.in_ok-key.key c.args.more.now stands c.self.inside.states.entries groups c.in-Some.old.now c.combine.new.states c.in-Some.ensures.ordered (sym c.in-Some.ensures.value)
     (subst (λ es. AreGroups q (m + n) es groups) (sym c.self.view_is) are) few
     (λ ps states. c.combine.ensures m n ps group.1 low states given.states))
@@ -38,7 +39,7 @@ returns c =
     let q : Query = meaning c.args.query.now in
     let copied : c.in_ok-key.key.items ≡ c.args.key.now = search rules in
     let stands = subst (λ k. StandsFor q n (k, c.args.more.now) group) (sym copied) given in
-    subst (λ es. AreGroups q (m + n) (entries_of es) (group_added q groups group))
-    (sym (c.in_ok-insert.ensures.entries ∙ ap (λ (m : BTreeMap (Vec ℕ Global) (Vec ℕ Global)). insert_entry key_cmp m.entries c.in_ok-key.key c.in_ok-states.states) c.get_mut.follows.holds-at-none))
+    subst (λ es. AreGroups q (m + n) (entries_in es) (group_added q groups group))
+    (sym (c.in_ok-insert.ensures.entries ∙ ap (λ (m : BTreeMap (SmallVec ℕ) (Vec ℕ Global)). insert_entry key_cmp m.entries c.in_ok-key.key c.in_ok-states.states) c.get_mut.follows.holds-at-none))
     (group_new q m n group c.in_ok-key.key c.args.more.now stands c.self.inside.states.entries groups c.in_ok-states.states (search rules) (sym c.in_default.ensures.value)
     (subst (λ es. AreGroups q (m + n) es groups) (sym c.self.view_is) are))

@@ -7,12 +7,13 @@ use Rattle.std.specs.BTreeMap.{BTreeMap, insert_entry, is_at}
 use Rattle.std.specs.BTreeMap.Entry.{MatchEntry, entry_value, map_with_value}
 use Rattle.std.specs.declared.collections.btree_map.Entry.TheVariants.{Occupied, Vacant}
 use Rattle.grouping_model.specs.Datum.{Row}
+use Rattle.smallvec.specs.SmallVec.{SmallVec}
 use Rattle.grouping_model.specs.Query.{Query}
 use Rattle.grouping_model.specs.Grouping.{Group}
 use Rattle.grouping_model.specs.Parts.{functions, with_row}
 use Rattle.packed_rows.specs.View.{row_of}
 use Rattle.having_filter.specs.Meaning.{meaning}
-use Rattle.hash_agg.specs.Runs.{entries_of}
+use Rattle.hash_agg.specs.Runs.{entries_in}
 use Rattle.hash_agg.specs.Standing.{AreGroups}
 use Rattle.hash_agg.proofs.EntryLaws.{key_cmp, same_map, states_found, row_found, row_new}
 use Rattle.hash_agg.proofs.KeyLaws.{key_has, when_ok}
@@ -36,8 +37,8 @@ returns c =
     let q : Query = meaning c.args.query.now in
     let row : Row = row_of c.args.row.now in
     let es = c.self.inside.states.entries in
-    let key : Vec ℕ Global = c.in_ok-key.key in
-    let map : BTreeMap (Vec ℕ Global) (Vec ℕ Global) = c.match-branch-4.self-inside.states in
+    let key : SmallVec ℕ = c.in_ok-key.key in
+    let map : BTreeMap (SmallVec ℕ) (Vec ℕ Global) = c.match-branch-4.self-inside.states in
     let copied : key.items ≡ c.pack_key_of.new.key.items = search rules in
     let has = key_has q row c.requires.formed.keys c.requires.row in
     elim c.match-branch-4.branch [
@@ -48,7 +49,7 @@ returns c =
           let put : map ≡ map_with_value (Occupied w.in-Occupied.entry) w.advance.new.states = ap (λ s. s.states) w.self-inside-is ∙ search rules in
           let is = ap (λ e. (map_with_value e w.advance.new.states).entries) (sym w.in-Occupied.is) ∙ c.in_ok-entry.ensures.update.1 w.advance.new.states in
           same_map q (most + 1) (with_row q groups row) map (map_with_value (Occupied w.in-Occupied.entry) w.advance.new.states) put
-          (subst (λ es. AreGroups q (most + 1) (entries_of es) (with_row q groups row)) (sym is)
+          (subst (λ es. AreGroups q (most + 1) (entries_in es) (with_row q groups row)) (sym is)
           (row_found q most row key (copied ∙ c.in_ok-pack_key_of.ensures) has es groups w.into_mut.result.now w.advance.new.states there
           (subst (λ es. AreGroups q most es groups) (sym c.self.view_is) are)
           (λ ps states. w.advance.ensures most ps low states))))
@@ -61,7 +62,7 @@ returns c =
           let put : map ≡ map_with_value (Vacant w.in-Vacant.entry) new = ap (λ s. s.states) w.self-inside-is ∙ search rules in
           let is = ap (λ e. (map_with_value e new).entries) (sym w.in-Vacant.is) ∙ c.in_ok-entry.ensures.update.1 new in
           same_map q (most + 1) (with_row q groups row) map (map_with_value (Vacant w.in-Vacant.entry) new) put
-          (subst (λ es. AreGroups q (most + 1) (entries_of es) (with_row q groups row)) (sym is)
+          (subst (λ es. AreGroups q (most + 1) (entries_in es) (with_row q groups row)) (sym is)
           (row_new q most row key (copied ∙ c.in_ok-pack_key_of.ensures) has es groups new missing
           (subst (λ es. AreGroups q most es groups) (sym c.self.view_is) are)
           (w.advance-in-Vacant.ensures most _ low (states_raised (functions q) 0 most w.in_ok-states-in-Vacant.states.items _ (omega arith) w.in_ok-states-in-Vacant.ensures)))))
