@@ -1,6 +1,6 @@
 -- Queries that were read, and texts that were refused.
-use Rattle.std.specs.Prelude.{◌≡◌, ◌≢◌, refl, ℕ, Bool, true, false, not, if◌then◌else◌, List, Result, Ok, Err, IfErr, IsErrAnd}
-use Rattle.std.proofs.Common.{◌∙◌, ap, sym}
+use Rattle.std.specs.Prelude.{◌≡◌, ◌≢◌, ℕ, Bool, true, false, not, if◌then◌else◌, List, Result, Ok, Err, IfErr, IsErrAnd}
+use Rattle.std.proofs.Common.{ap, sym}
 use Rattle.packed_rows.specs.Columns.{Column, kinds}
 use Rattle.having_filter.specs.declared.error.QueryError.{QueryError}
 use Rattle.having_filter.specs.declared.error.QueryError.TheVariants.{NotGrouped, TypeMismatch, AggregateHere, NoSuchColumn, TooMany, TooDeep}

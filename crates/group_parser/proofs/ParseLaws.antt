@@ -1,9 +1,9 @@
 -- What parsing gives, in the words of the grammar.
-use Rattle.std.proofs.Common.{◌≡◌, ℕ, ◌≤◌, Bool, true, false, cond, List, [], ◌∷◌, ◌++◌, length, Ok, Err, refl, sym, ap, subst, ◌∙◌, arith}
+use Rattle.std.proofs.Common.{◌≡◌, ℕ, ◌≤◌, Bool, true, false, cond, List, length, Ok, Err, refl, sym, ap, subst, ◌∙◌, arith}
 use Rattle.std.specs.Prelude.{nat_lt, Result}
 use Rattle.std.proofs.lemmas.Bool.{ltb-true, ltb-false, le-ltb, lt-ltb}
 use Rattle.query_tokens.specs.declared.fault.Fault.{Fault}
-use Rattle.query_tokens.specs.Words.{Lexeme, Placed}
+use Rattle.query_tokens.specs.Words.{Placed}
 use Rattle.query_tokens.specs.Tokens.{tokens_in}
 use Rattle.query_tokens.specs.Spelling.{IsLexeme, lexemes_of}
 use Rattle.query_tokens.proofs.Legal.{read_legal}

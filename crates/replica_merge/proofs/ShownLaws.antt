@@ -23,7 +23,7 @@ use Rattle.having_filter.specs.Kept.{key_kinds, outcome_at}
 use Rattle.hash_agg.specs.Runs.{Entry}
 use Rattle.hash_agg.specs.Standing.{AreStates, StandsFor, AreGroups}
 use Rattle.hash_agg.proofs.StateLaws.{first_and_rest, dropped}
-use Rattle.hash_agg.proofs.InputLaws.{packed_once, take_found}
+use Rattle.hash_agg.proofs.InputLaws.{packed_once}
 use Rattle.replica_merge.specs.Groups.{answer_rows, shown_of_none, groups_shown}
 
 -- ---- the states of a group

@@ -1,5 +1,5 @@
-use Rattle.std.specs.Prelude.{◌≡◌, ◌≢◌, ◌∷◌, [], List, length, flat_map}
-use Rattle.std.proofs.Common.{sym, ◌∙◌, ap, subst, arith, rules}
+use Rattle.std.specs.Prelude.{◌≡◌, ◌≢◌, [], length, flat_map}
+use Rattle.std.proofs.Common.{sym, ◌∙◌, ap, subst, rules}
 use Rattle.grouping_model.specs.Query.{Query}
 use Rattle.agg_library.proofs.RowLaws.{no_members}
 use Rattle.having_filter.specs.Meaning.{meaning}
