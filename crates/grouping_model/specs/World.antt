@@ -6,6 +6,7 @@ use Rattle.std.specs.List.{prefix_len}
 use Rattle.std.specs.List.Sorted.{IsStrictlySortedBy}
 use Rattle.std.specs.Cmp.{IsTotalOrder, then_total, on_total, nat_cmp_total}
 use Rattle.grouping_model.specs.Datum.{Row, Kind, HasKinds}
+use Rattle.grouping_model.specs.declared.limits.TheConstants.{LAST_ORIGIN, LAST_NUMBER, MOST_ROWS}
 use Rattle.grouping_model.specs.Rising.{distinct, is_among}
 use Rattle.grouping_model.specs.Rising.Facts.{distinct-rises}
 
@@ -18,7 +19,7 @@ abbrev pub IsWorld : List Kind → World → Type 0
 IsWorld kinds world =
     (origin number : ℕ) (rows : List Row)
     → world origin number ≡ Some rows
-    → (origin < 1024) × (1 ≤ number) × (number < 2 ^ 31) × (length rows ≤ 65536) × All (HasKinds kinds) rows
+    → (origin ≤ LAST_ORIGIN) × (1 ≤ number) × (number ≤ LAST_NUMBER) × (length rows ≤ MOST_ROWS) × All (HasKinds kinds) rows
 
 -- which batch: its origin and its number
 abbrev pub Batch : Type 0

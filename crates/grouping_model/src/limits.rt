@@ -1,0 +1,40 @@
+//! The limits of worlds, queries and scripts (own). Definitions and code cite these constants, so that each stands once.
+
+/// The greatest origin. The least is 0.
+pub const LAST_ORIGIN: u16 = 1_023;
+
+/// The greatest number of a batch. The least is 1.
+pub const LAST_NUMBER: u32 = 2_147_483_647;
+
+/// The most rows of a batch.
+pub const MOST_ROWS: u32 = 65_536;
+
+/// The most columns of a table.
+pub const MOST_COLUMNS: usize = 32;
+
+/// The most columns of GROUP BY, each counted once.
+pub const MOST_KEYS: usize = 16;
+
+/// The most aggregates of a query, each counted once.
+pub const MOST_CALLS: usize = 32;
+
+/// The most items of a query.
+pub const MOST_ITEMS: usize = 64;
+
+/// The most bytes of a query's text, and of its canonical text.
+pub const LONGEST_QUERY: usize = 16_384;
+
+/// The most operators that a condition may have above one of its operands, the operand counted too.
+pub const DEEPEST_CONDITION: u64 = 64;
+
+/// The most parentheses of a condition that may be open at once.
+pub const MOST_OPEN: usize = 64;
+
+/// The most bytes of a name: of a column, an alias or a replica.
+pub const LONGEST_NAME: usize = 63;
+
+/// The most bytes of a text value.
+pub const LONGEST_TEXT: usize = 255;
+
+/// The most bytes of a script.
+pub const LONGEST_SCRIPT: usize = 67_108_864;
