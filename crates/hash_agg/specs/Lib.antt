@@ -2,3 +2,4 @@ pub mod Runs
 pub mod Standing
 pub mod Inputs
 pub mod Adding
+pub mod Steps

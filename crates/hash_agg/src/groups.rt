@@ -1,20 +1,16 @@
 //! Groups in a map, by their packed keys.
 
-ghost use Rattle.std.specs.Prelude.{◌≡◌, ◌+◌, ◌<◌, ◌≤◌, ℕ, List, [], map, length, IfOk, OnOk, IfSome};
+ghost use Rattle.std.specs.Prelude.{◌≡◌, List, [], length, IfOk, OnOk};
 ghost use Rattle.std.specs.List.{AllByRecursion};
 ghost use Rattle.grouping_model.specs.Datum.{Row, HasKinds};
-ghost use Rattle.grouping_model.specs.Grouping.{Group, key_of};
-ghost use Rattle.grouping_model.specs.Parts.{with_row, partials_at};
+ghost use Rattle.grouping_model.specs.Grouping.{key_of};
 ghost use Rattle.packed_rows.specs.Packing.{packing};
 ghost use Rattle.packed_rows.specs.View.{row_of, bytes_of};
-ghost use Rattle.agg_protocol.specs.States.{most_rows};
-ghost use Rattle.agg_library.specs.StateRows.{AllWithin};
 ghost use Rattle.having_filter.specs.Kept.{IsWellFormed};
 ghost use Rattle.having_filter.specs.Meaning.{meaning};
 ghost use Rattle.hash_agg.specs.Runs.{Rises};
-ghost use Rattle.hash_agg.specs.Standing.{StandsFor, AreGroups};
-ghost use Rattle.hash_agg.specs.Inputs.{ArePackings, rows_in, IsInput};
-ghost use Rattle.hash_agg.specs.Adding.{row_added, rows_added, group_added, groups_added, Given, Gives, given_added};
+ghost use Rattle.hash_agg.specs.Inputs.{ArePackings, IsInput};
+ghost use Rattle.hash_agg.specs.Steps.{HasRoomForRow, AddsSelected, AddsRow, HasRoomForRows, AddsRows, HasRoomForGroup, AddsGroup, HasRoomForRun, AddsRun, HasRoomForInput, AddsInput};
 
 use crate::input::Input;
 use crate::run::Run;
@@ -91,12 +87,9 @@ impl Groups {
     ) -> Result<(), AllocError>
         requires formed { IsWellFormed (meaning query.now) }
         requires row { HasKinds (meaning query.now).kinds (row_of row.now) }
-        requires room { (most : ℕ) × (groups : List Group)
-            × AreGroups (meaning query.now) most self.old groups × (most < most_rows) }
-        ensures { OnOk result ((most : ℕ) (groups : List Group) → most < most_rows →
-            AreGroups (meaning query.now) most self.old groups →
-            AreGroups (meaning query.now) (most + 1) self.new
-            (with_row (meaning query.now) groups (row_of row.now))) }
+        requires room { HasRoomForRow (meaning query.now) self.old }
+        ensures { OnOk result
+            (AddsSelected (meaning query.now) self.old (row_of row.now) self.new) }
     {
         pack_key_of(query, row, key)?;
         let key = SmallVec::from_slice(self.alloc, key.as_slice())?;
@@ -125,13 +118,8 @@ impl Groups {
         requires formed { IsWellFormed (meaning query.now) }
         requires row { (list : Row) × HasKinds (meaning query.now).kinds list
             × (packed.now ≡ packing list) }
-        requires room { (most : ℕ) × (groups : List Group)
-            × AreGroups (meaning query.now) most self.old groups × (most < most_rows) }
-        ensures { OnOk result ((most : ℕ) (groups : List Group) (list : Row) → most < most_rows →
-            AreGroups (meaning query.now) most self.old groups →
-            HasKinds (meaning query.now).kinds list → packed.now ≡ packing list →
-            AreGroups (meaning query.now) (most + 1) self.new
-            (row_added (meaning query.now) groups list)) }
+        requires room { HasRoomForRow (meaning query.now) self.old }
+        ensures { OnOk result (AddsRow (meaning query.now) self.old packed.now self.new) }
     {
         unpack(query, packed, row)?;
         if !query.where_true(row) {
@@ -145,15 +133,9 @@ impl Groups {
         requires formed { IsWellFormed (meaning query.now) }
         requires rows { (list : List Row)
             × ArePackings (meaning query.now).kinds (bytes_of rows.now) list }
-        requires room { (most : ℕ) × (groups : List Group)
-            × AreGroups (meaning query.now) most self.old groups
-            × (most + length rows.now ≤ most_rows) }
-        ensures { OnOk result ((most : ℕ) (groups : List Group) (list : List Row) →
-            most + length rows.now ≤ most_rows →
-            AreGroups (meaning query.now) most self.old groups →
-            ArePackings (meaning query.now).kinds (bytes_of rows.now) list →
-            AreGroups (meaning query.now) (most + length rows.now) self.new
-            (rows_added (meaning query.now) groups list)) }
+        requires room { HasRoomForRows (meaning query.now) self.old (length rows.now) }
+        ensures { OnOk result (AddsRows (meaning query.now) self.old (bytes_of rows.now)
+            (length rows.now) self.new) }
     {
         // One row and one key serve for all.
         let mut row = Vec::with_capacity(self.alloc, query.schema().width())?;
@@ -166,16 +148,9 @@ impl Groups {
 
     /// Adds a group, whose states come behind those of its key.
     fn add_group(&mut self, query: &Query, key: &[u8], more: &[u8]) -> Result<(), AllocError>
-        requires { (m n : ℕ) × (groups : List Group) × (group : Group)
-            × AreGroups (meaning query.now) (m + n) self.old groups
-            × IfSome (partials_at group.0 groups) (AllWithin m)
-            × StandsFor (meaning query.now) n (key.now, more.now) group × (m + n ≤ most_rows) }
-        ensures { OnOk result ((m n : ℕ) (groups : List Group) (group : Group) →
-            m + n ≤ most_rows → AreGroups (meaning query.now) (m + n) self.old groups →
-            IfSome (partials_at group.0 groups) (AllWithin m) →
-            StandsFor (meaning query.now) n (key.now, more.now) group →
-            AreGroups (meaning query.now) (m + n) self.new
-            (group_added (meaning query.now) groups group)) }
+        requires { HasRoomForGroup (meaning query.now) self.old (key.now, more.now) }
+        ensures { OnOk result
+            (AddsGroup (meaning query.now) self.old (key.now, more.now) self.new) }
     {
         let key = SmallVec::from_slice(self.alloc, key)?;
         if let Some(old) = self.states.get_mut(&key) {
@@ -189,14 +164,8 @@ impl Groups {
 
     /// Adds the groups of a run.
     fn add_run(&mut self, query: &Query, run: &Run) -> Result<(), AllocError>
-        requires { (m n : ℕ) × (groups more : List Group)
-            × AreGroups (meaning query.now) m self.old groups
-            × AreGroups (meaning query.now) n run.now more × Rises run.now × (m + n ≤ most_rows) }
-        ensures { OnOk result ((m n : ℕ) (groups more : List Group) → m + n ≤ most_rows →
-            AreGroups (meaning query.now) m self.old groups →
-            AreGroups (meaning query.now) n run.now more →
-            AreGroups (meaning query.now) (m + n) self.new
-            (groups_added (meaning query.now) groups more)) }
+        requires { HasRoomForRun (meaning query.now) self.old run.now }
+        ensures { OnOk result (AddsRun (meaning query.now) self.old run.now self.new) }
     {
         for group in run.entries() {
             self.add_group(query, &group.0, &group.1)?;
@@ -208,15 +177,8 @@ impl Groups {
     pub(crate) fn add_input(&mut self, query: &Query, input: &Input<'_>) -> Result<(), AllocError>
         requires formed { IsWellFormed (meaning query.now) }
         requires input { IsInput (meaning query.now) input.now }
-        requires room { (most : ℕ) × (groups : List Group)
-            × AreGroups (meaning query.now) most self.old groups
-            × (most + rows_in input.now ≤ most_rows) }
-        ensures { OnOk result ((most : ℕ) (groups : List Group) (given : Given) →
-            most + rows_in input.now ≤ most_rows →
-            AreGroups (meaning query.now) most self.old groups →
-            Gives (meaning query.now) input.now given →
-            AreGroups (meaning query.now) (most + rows_in input.now) self.new
-            (given_added (meaning query.now) groups given)) }
+        requires room { HasRoomForInput (meaning query.now) self.old input.now }
+        ensures { OnOk result (AddsInput (meaning query.now) self.old input.now self.new) }
     {
         match input {
             Input::Rows(rows) => self.add_rows(query, rows),

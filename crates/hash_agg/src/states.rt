@@ -17,6 +17,7 @@ ghost use Rattle.having_filter.specs.Kept.{IsWellFormed};
 ghost use Rattle.having_filter.specs.Meaning.{meaning};
 ghost use Rattle.hash_agg.specs.Standing.{AreStates};
 ghost use Rattle.hash_agg.specs.Adding.{partial_after_row};
+ghost use Rattle.hash_agg.specs.Steps.{SomeHaveRoomForRow, SomeAdvanceBy, HaveRoomForRow, AdvanceBy, HaveRoomForMore, CombineWith};
 
 use agg_library::{AggKind, MOST_ROWS, StateRow};
 use agg_protocol::BadState;
@@ -76,12 +77,9 @@ fn advance_from(
     requires row { HasKinds (meaning query.now).kinds (row_of row.now) }
     requires kinds { functions_of kinds.now
         ≡ map (λ a. a.function) (drop place (meaning query.now).aggregates) }
-    requires room { (most : ℕ) × (ps : List Partial) × Denotes most kinds.now states.old ps
-        × (most < most_rows) }
-    ensures { (most : ℕ) (ps : List Partial) → most < most_rows →
-        Denotes most kinds.now states.old ps →
-        Denotes (most + 1) kinds.now states.new
-        (advanced (drop place (meaning query.now).aggregates) ps (row_of row.now)) }
+    requires room { SomeHaveRoomForRow kinds.now states.old }
+    ensures { SomeAdvanceBy (drop place (meaning query.now).aggregates) kinds.now states.old
+        (row_of row.now) states.new }
 {
     if let Some((kind, kinds)) = kinds.split_first() {
         let (part, rest) = states.split_at_mut(kind.width());
@@ -94,12 +92,8 @@ fn advance_from(
 pub(crate) fn advance(query: &Query, states: &mut Vec<u8>, row: &[Value<'_>])
     requires formed { IsWellFormed (meaning query.now) }
     requires row { HasKinds (meaning query.now).kinds (row_of row.now) }
-    requires room { (most : ℕ) × (ps : List Partial)
-        × AreStates (functions (meaning query.now)) most states.old.items ps × (most < most_rows) }
-    ensures { (most : ℕ) (ps : List Partial) → most < most_rows →
-        AreStates (functions (meaning query.now)) most states.old.items ps →
-        AreStates (functions (meaning query.now)) (most + 1) states.new.items
-        (advanced (meaning query.now).aggregates ps (row_of row.now)) }
+    requires room { HaveRoomForRow (functions (meaning query.now)) states.old.items }
+    ensures { AdvanceBy (meaning query.now) states.old.items (row_of row.now) states.new.items }
 {
     advance_from(query, 0, query.agg_kinds(), states.as_mut_slice(), row);
 }
@@ -117,14 +111,9 @@ pub fn first_states(alloc: Global, query: &Query) -> Result<Vec<u8>, AllocError>
 
 /// Combines the states of a group with others of its key, which come behind.
 pub(crate) fn combine(query: &Query, states: &mut Vec<u8>, more: &[u8])
-    requires { (m n : ℕ) × (ps qs : List Partial)
-        × AreStates (functions (meaning query.now)) m states.old.items ps
-        × AreStates (functions (meaning query.now)) n more.now qs × (m + n ≤ most_rows) }
-    ensures { (m n : ℕ) (ps qs : List Partial) → m + n ≤ most_rows →
-        AreStates (functions (meaning query.now)) m states.old.items ps →
-        AreStates (functions (meaning query.now)) n more.now qs →
-        AreStates (functions (meaning query.now)) (m + n) states.new.items
-        (combine_all (functions (meaning query.now)) ps qs) }
+    requires { HaveRoomForMore (functions (meaning query.now)) states.old.items more.now }
+    ensures { CombineWith (functions (meaning query.now)) states.old.items more.now
+        states.new.items }
 {
     match StateRow::combine_into(query.agg_kinds(), states.as_mut_slice(), more, MOST_ROWS) {
         Ok(()) => {}
