@@ -3,11 +3,12 @@ use Rattle.std.specs.Prelude.{◌≡◌, ◌≤◌, ℕ, suc, refl, List, [], �
 use Rattle.std.proofs.Common.{◌∙◌, ap, sym, arith}
 use Rattle.std.proofs.lemmas.List.{length-map}
 use Rattle.grouping_model.specs.Datum.{Kind, Row}
+use Rattle.grouping_model.specs.declared.limits.TheConstants.{MOST_ROWS}
 use Rattle.packed_rows.specs.Columns.{kinds}
 use Rattle.packed_rows.specs.Packing.{packing}
 use Rattle.batch_reader.specs.Head.{ReadsOrigin, ReadsBatchNumber}
 use Rattle.batch_reader.specs.Rows.{ReadsRows, packings}
-use Rattle.agg_tool.specs.Machine.{IsBatch}
+use Rattle.script_machine.specs.Machine.{IsBatch}
 
 -- as many records as rows
 reads_length : (kinds : List Kind) (records : List (List (List ℕ))) (rows : List Row) → ReadsRows kinds records rows → length records ≡ length rows
@@ -18,7 +19,7 @@ reads_length kinds (fields ∷ records) (row ∷ rows) reads = ap suc (reads_len
 
 -- the batch that was built of records is the one that was fed
 pub built_batch : (ks : List Kind) (origin number : List ℕ) (told : ℕ) (records : List (List (List ℕ))) (o n : ℕ) (packed : List (List ℕ)) (rows : List Row)
-    → ReadsOrigin origin o → ReadsBatchNumber number n → length packed ≤ 65536 → length packed ≡ told → ReadsRows ks records rows → packed ≡ packings rows
+    → ReadsOrigin origin o → ReadsBatchNumber number n → length packed ≤ MOST_ROWS → length packed ≡ told → ReadsRows ks records rows → packed ≡ packings rows
     → IsBatch ks origin number told records (record { origin = o; number = n; rows = rows })
 built_batch ks origin number told records o n packed rows reads_o reads_n few counted reads is =
     let many : length packed ≡ length rows = ap length is ∙ length-map rows packing in

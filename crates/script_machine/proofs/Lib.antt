@@ -5,3 +5,4 @@ pub mod TextLaws
 pub mod RunLaws
 pub mod ReplyLaws
 pub mod QueryLaws
+pub mod SameLaws

@@ -8,8 +8,8 @@ use Rattle.having_filter.specs.Forms.{Written}
 use Rattle.having_filter.specs.Meaning.{Checked}
 use Rattle.having_filter.specs.Checks.{checked, checked_places, placed, has_too_many, all_of, filters_pass, is_shallow, are_shallow, has_columns, are_plain, kinds_fit, is_grouped}
 use Rattle.group_parser.specs.Parsing.{Accepts}
-use Rattle.agg_tool.specs.declared.refusal.Refusal.{Refusal}
-use Rattle.agg_tool.specs.declared.refusal.Refusal.TheVariants.{NoMemory}
+use Rattle.script_machine.specs.declared.refusal.Refusal.{Refusal}
+use Rattle.script_machine.specs.declared.refusal.Refusal.TheVariants.{NoMemory}
 
 -- what is accepted was not refused before
 behind : (fails : Bool) (error : QueryError) (rest : Result Checked QueryError) (q : Checked) → (if fails then Err error else rest) ≡ Ok q → rest ≡ Ok q

@@ -3,6 +3,7 @@ use Rattle.std.specs.Prelude.{◌≡◌, ◌≢◌, ◌≤◌, ◌<◌, refl, �
 use Rattle.std.proofs.Common.{◌∙◌, ap, sym, subst, arith, inl, inr}
 use Rattle.std.proofs.lemmas.List.{length-take, get_or-take}
 use Rattle.std.proofs.lemmas.Bool.{cases_order}
+use Rattle.grouping_model.specs.declared.limits.TheConstants.{MOST_ROWS}
 use Rattle.grouping_model.specs.Datum.{Datum, Kind, Row, Bigint_kind}
 use Rattle.grouping_model.specs.World.{Knowledge}
 use Rattle.packed_rows.specs.Columns.{Column, kinds}
@@ -21,8 +22,8 @@ use Rattle.replica_merge.specs.declared.delivered.Delivered.{Delivered}
 use Rattle.script_io.specs.Records.{Record}
 use Rattle.script_commands.specs.Commands as ask
 use Rattle.script_commands.specs.Commands.{Request}
-use Rattle.agg_tool.specs.Machine as machine
-use Rattle.agg_tool.specs.Machine.{State, Fed, IsBatch, IsNoBatch, batch_refusal, query_refusal, ColumnsReply, QueryReply, FeedReply, Replies}
+use Rattle.script_machine.specs.Machine as machine
+use Rattle.script_machine.specs.Machine.{State, Fed, IsBatch, IsNoBatch, batch_refusal, query_refusal, ColumnsReply, QueryReply, FeedReply, Replies}
 
 -- ---- batches
 
@@ -87,7 +88,7 @@ no_first_fault ks records rows e p reads x =
     let r = row_at ks records rows x.place reads x.within in
     no_record_fault ks (slice_index_or records x.place []) r.0 e p r.1 x.fault
 
-over : (told : ℕ) → 65536 < told → told ≤ 65536 → ⊥
+over : (told : ℕ) → MOST_ROWS < told → told ≤ MOST_ROWS → ⊥
 over told more few = omega arith
 
 no_fault : (ks : List Kind) (origin number : List ℕ) (told : ℕ) (records : List Record) (f : Fed) (e : BatchError) → IsBatch ks origin number told records f → e ≢ batch.NoMemory

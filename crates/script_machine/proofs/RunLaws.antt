@@ -14,14 +14,14 @@ use Rattle.script_io.specs.declared.input.InputError.TheVariants as input
 use Rattle.script_io.proofs.InputFacts.{consumes-all, consumes-longer}
 use Rattle.script_io.proofs.OutputFacts.{front-first, front-second}
 use Rattle.script_commands.specs.Commands.{Command, request_of}
-use Rattle.agg_tool.specs.Machine.{State, Reply, Refused, Run, MayReply, Agrees, AgreesWith, start, after, is_refused}
-use Rattle.agg_tool.specs.Text.{reply_text, replies_text}
-use Rattle.agg_tool.specs.Output.{WritesAll, WritesFront, WritesBefore, WritesSome, StopsAt, commands_in, run_error}
-use Rattle.agg_tool.specs.Views.{Store, Represents, FitsWorld, Steps, said_text, is_refusal}
-use Rattle.agg_tool.specs.declared.refusal.Refusal.TheVariants.{NoMemory}
-use Rattle.agg_tool.specs.declared.error.RunError.{RunError}
-use Rattle.agg_tool.specs.declared.error.RunError.TheVariants as stop
-use Rattle.agg_tool.specs.declared.reply.Reply as code
+use Rattle.script_machine.specs.Machine.{State, Reply, Refused, Run, MayReply, Agrees, AgreesWith, start, after, is_refused}
+use Rattle.script_machine.specs.Text.{reply_text, replies_text}
+use Rattle.script_machine.specs.Output.{WritesAll, WritesFront, WritesBefore, WritesSome, StopsAt, commands_in, run_error}
+use Rattle.script_machine.specs.Views.{Store, Represents, FitsWorld, Steps, said_text, is_refusal}
+use Rattle.script_machine.specs.declared.refusal.Refusal.TheVariants.{NoMemory}
+use Rattle.script_machine.specs.declared.error.RunError.{RunError}
+use Rattle.script_machine.specs.declared.error.RunError.TheVariants as stop
+use Rattle.script_machine.specs.declared.reply.Reply as code
 
 -- what is there after replies
 abbrev pub state_after : State → List Reply → State

@@ -26,13 +26,13 @@ use Rattle.script_io.specs.Records.{Record}
 use Rattle.script_commands.specs.Commands as ask
 use Rattle.script_commands.specs.Commands.{Request}
 use Rattle.table_print.specs.Table.{table_text}
-use Rattle.agg_tool.specs.Machine as machine
-use Rattle.agg_tool.specs.Machine.{State, Fed, IsBatch, IsNoBatch, ColumnsReply, IsNoQuery, QueryReply, replica_reply, FeedReply, known_reply, answer_reply, Replies, AgreesWith, after, with_replica}
-use Rattle.agg_tool.specs.Text.{line, known_text, answer_text}
-use Rattle.agg_tool.specs.Views.{Store, IsStore, Represents, FitsWorld, Steps, Takes, Updates, replica_at, knowledge_of, said_text}
-use Rattle.agg_tool.specs.declared.refusal.Refusal.{Refusal}
-use Rattle.agg_tool.specs.declared.refusal.Refusal.TheVariants as why
-use Rattle.agg_tool.specs.declared.reply.Reply.TheVariants as says
+use Rattle.script_machine.specs.Machine as machine
+use Rattle.script_machine.specs.Machine.{State, Fed, IsBatch, IsNoBatch, ColumnsReply, IsNoQuery, QueryReply, replica_reply, FeedReply, known_reply, answer_reply, Replies, AgreesWith, after, with_replica}
+use Rattle.script_machine.specs.Text.{line, known_text, answer_text}
+use Rattle.script_machine.specs.Views.{Store, IsStore, Represents, FitsWorld, Steps, Takes, Updates, replica_at, knowledge_of, said_text}
+use Rattle.script_machine.specs.declared.refusal.Refusal.{Refusal}
+use Rattle.script_machine.specs.declared.refusal.Refusal.TheVariants as why
+use Rattle.script_machine.specs.declared.reply.Reply.TheVariants as says
 
 -- ---- names
 

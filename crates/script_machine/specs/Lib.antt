@@ -2,3 +2,4 @@ pub mod Machine
 pub mod Text
 pub mod Output
 pub mod Views
+pub mod Agreement

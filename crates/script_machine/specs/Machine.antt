@@ -3,6 +3,7 @@ use Rattle.std.specs.Prelude.{ℕ, ◌≡◌, ◌≢◌, ◌≤◌, ◌⊎◌, B
 use Rattle.std.specs.List.{AllByRecursion}
 use Rattle.std.specs.Str.{bytes_eq}
 use Rattle.grouping_model.specs.Datum.{Kind, Row}
+use Rattle.grouping_model.specs.declared.limits.TheConstants.{MOST_ROWS}
 use Rattle.grouping_model.specs.World.{World, IsWorld, Knowledge, nothing, learn}
 use Rattle.packed_rows.specs.Columns.{Column, kinds, IsSchemaText}
 use Rattle.having_filter.specs.Meaning.{Checked}
@@ -18,8 +19,8 @@ use Rattle.replica_merge.specs.Kept.{KnownOrigin, known_list, reply_of}
 use Rattle.replica_merge.specs.declared.delivered.Delivered.{Delivered}
 use Rattle.script_io.specs.Records.{Record}
 use Rattle.script_commands.specs.Commands.{Command, Request, Columns, Query, Replica, Feed, Known, Answer, Unknown, request_of}
-use Rattle.agg_tool.specs.declared.refusal.Refusal.{Refusal}
-use Rattle.agg_tool.specs.declared.refusal.Refusal.TheVariants.{NoMemory, BadSchema, BadField, WrongWidth, Syntax, NumberTooLarge, NoSuchColumn, NotGrouped, TypeMismatch, AggregateHere, TooMany, TooDeep, BadBatchHead, TooManyRows, RowCount, BadCommand, NoSuchName, NameTaken}
+use Rattle.script_machine.specs.declared.refusal.Refusal.{Refusal}
+use Rattle.script_machine.specs.declared.refusal.Refusal.TheVariants.{NoMemory, BadSchema, BadField, WrongWidth, Syntax, NumberTooLarge, NoSuchColumn, NotGrouped, TypeMismatch, AggregateHere, TooMany, TooDeep, BadBatchHead, TooManyRows, RowCount, BadCommand, NoSuchName, NameTaken}
 
 -- what is there: the columns and the query, once they were told, and what each replica knows, by its name
 pub record State : Type 0 where
@@ -58,7 +59,7 @@ pub data Reply : Type 0 where
 pub record IsBatch (kinds : List Kind) (origin number : List ℕ) (told : ℕ) (owned : List Record) (fed : Fed) : Type 0 where
   pub origin_is : ReadsOrigin origin fed.origin
   pub number_is : ReadsBatchNumber number fed.number
-  pub few : told ≤ 65536
+  pub few : told ≤ MOST_ROWS
   pub whole : length owned ≡ told
   pub rows_are : ReadsRows kinds owned fed.rows
 

@@ -1,5 +1,5 @@
 -- What a run of a script writes. All of this is our own.
-use Rattle.std.specs.Prelude.{ℕ, ◌≡◌, ◌≤◌, ◌<◌, ◌==◌, List, ◌++◌, length, count_by, Option, Result, Ok, Err, if◌then◌else◌}
+use Rattle.std.specs.Prelude.{ℕ, ◌≡◌, ◌≤◌, ◌<◌, List, ◌++◌, length, count_by, Option}
 use Rattle.std.specs.Io.KnownBytes.{Appends, Keeps}
 use Rattle.grouping_model.specs.World.{World}
 use Rattle.script_io.specs.Output.{AppendsFront}
@@ -7,13 +7,12 @@ use Rattle.script_io.specs.Records.{records_of}
 use Rattle.script_io.specs.declared.input.InputError.{InputError}
 use Rattle.script_io.specs.declared.input.InputError.TheVariants as input
 use Rattle.script_commands.specs.Commands.{Command, commands_of}
-use Rattle.agg_tool.specs.Machine.{Reply, Run, start, is_refused, Agrees}
-use Rattle.agg_tool.specs.Text.{replies_text}
-use Rattle.agg_tool.specs.declared.refusal.Refusal.{Refusal}
-use Rattle.agg_tool.specs.declared.refusal.Refusal.TheVariants as refusal
-use Rattle.agg_tool.specs.declared.engine.Outcome.{Outcome}
-use Rattle.agg_tool.specs.declared.error.RunError.{RunError}
-use Rattle.agg_tool.specs.declared.error.RunError.TheVariants.{InputTooLong, ReadFault, NoMemory, WriteFault}
+use Rattle.script_machine.specs.Machine.{Reply, Run, start, is_refused, Agrees}
+use Rattle.script_machine.specs.Text.{replies_text}
+use Rattle.script_machine.specs.declared.refusal.Refusal.{Refusal}
+use Rattle.script_machine.specs.declared.refusal.Refusal.TheVariants as refusal
+use Rattle.script_machine.specs.declared.error.RunError.{RunError}
+use Rattle.script_machine.specs.declared.error.RunError.TheVariants.{InputTooLong, ReadFault, NoMemory, WriteFault}
 
 -- the commands of a script
 abbrev pub commands_in : List ℕ → List Command
@@ -67,18 +66,6 @@ abbrev pub run_error : InputError → RunError
 run_error input.NoMemory = NoMemory
 run_error input.TooLong = InputTooLong
 run_error input.ReadFault = ReadFault
-
--- the most bytes of a script
-abbrev pub most_bytes : ℕ
-most_bytes = 67108864
-
--- the status of the program after a run: whether all commands were answered and none was refused
-abbrev pub status_of : Result Outcome RunError → ℕ
-status_of (Ok outcome) = if outcome.refused == 0 then 0 else 1
-status_of (Err NoMemory) = 1
-status_of (Err InputTooLong) = 1
-status_of (Err ReadFault) = 3
-status_of (Err WriteFault) = 3
 
 -- the refusal of a run that stopped
 abbrev pub run_refusal : RunError → Refusal

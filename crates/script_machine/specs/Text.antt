@@ -9,9 +9,9 @@ use Rattle.replica_merge.specs.Kept.{KnownOrigin}
 use Rattle.replica_merge.specs.declared.delivered.Delivered.{Delivered}
 use Rattle.replica_merge.specs.declared.delivered.Delivered.TheVariants.{Folded, Early, Known}
 use Rattle.table_print.specs.Table.{table_text}
-use Rattle.agg_tool.specs.Machine.{Reply, Has_columns, Has_query, Created, Took, Listed, Answered, Refused}
-use Rattle.agg_tool.specs.declared.refusal.Refusal.{Refusal}
-use Rattle.agg_tool.specs.declared.refusal.Refusal.TheVariants.{NoMemory, BadSchema, BadField, WrongWidth, Syntax, NumberTooLarge, NoSuchColumn, NotGrouped, TypeMismatch, AggregateHere, TooMany, TooDeep, BadBatchHead, TooManyRows, RowCount, InputTooLong, ReadFault, WriteFault, BadCommand, NoSuchName, NameTaken}
+use Rattle.script_machine.specs.Machine.{Reply, Has_columns, Has_query, Created, Took, Listed, Answered, Refused}
+use Rattle.script_machine.specs.declared.refusal.Refusal.{Refusal}
+use Rattle.script_machine.specs.declared.refusal.Refusal.TheVariants.{NoMemory, BadSchema, BadField, WrongWidth, Syntax, NumberTooLarge, NoSuchColumn, NotGrouped, TypeMismatch, AggregateHere, TooMany, TooDeep, BadBatchHead, TooManyRows, RowCount, InputTooLong, ReadFault, WriteFault, BadCommand, NoSuchName, NameTaken}
 
 -- the name of a refusal
 abbrev pub refusal_name : Refusal → List ℕ

@@ -12,12 +12,12 @@ use Rattle.replica_merge.specs.Kept.{Held, told, reply_of, KeepsRows, Fits}
 use Rattle.replica_merge.specs.declared.delivered.Delivered.{Delivered}
 use Rattle.script_io.specs.Records.{Record}
 use Rattle.script_commands.specs.Commands.{Request}
-use Rattle.agg_tool.specs.Machine as machine
-use Rattle.agg_tool.specs.Machine.{State, Fed, IsBatch, IsNoBatch, Replies, AgreesWith, after}
-use Rattle.agg_tool.specs.Text.{line, delivered_text, refusal_name, answer_text, reply_text}
-use Rattle.agg_tool.specs.declared.refusal.Refusal.TheVariants.{NoMemory}
-use Rattle.agg_tool.specs.declared.reply.Reply.{Reply}
-use Rattle.agg_tool.specs.declared.reply.Reply.TheVariants as says
+use Rattle.script_machine.specs.Machine as machine
+use Rattle.script_machine.specs.Machine.{State, Fed, IsBatch, IsNoBatch, Replies, AgreesWith, after}
+use Rattle.script_machine.specs.Text.{line, delivered_text, refusal_name, answer_text, reply_text}
+use Rattle.script_machine.specs.declared.refusal.Refusal.TheVariants.{NoMemory}
+use Rattle.script_machine.specs.declared.reply.Reply.{Reply}
+use Rattle.script_machine.specs.declared.reply.Reply.TheVariants as says
 
 -- the text of a reply of the code
 abbrev pub said_text : Reply → List ℕ

@@ -2,18 +2,19 @@
 
 ghost use Rattle.std.specs.Prelude.{◌≡◌, ◌≤◌, ◌+◌, length, IfErr, IfOk, IfSome, MatchResult};
 ghost use Rattle.script_io.specs.Input.{ConsumesAtMost};
-ghost use Rattle.agg_tool.specs.Output.{KeepsUnread, StopsAt, WritesAll, WritesSome, commands_in, most_bytes};
+ghost use Rattle.script_machine.specs.Output.{KeepsUnread, StopsAt, WritesAll, WritesSome, commands_in};
 
 use crate::error::RunError;
 use crate::output::put_reply;
+use crate::refusal::Refusal;
+use crate::reply::Reply;
 use crate::session::Session;
-use script_commands::next_command;
+use csv::ByteRecord;
+use grouping_model::limits::LONGEST_SCRIPT;
+use script_commands::{Command, next_command};
 use script_io::{Records, read_input};
 use std::alloc::Global;
 use std::io::{Read, Write};
-
-/// The most bytes of a script.
-const MOST_BYTES: usize = 67_108_864;
 
 /// How a run ended that answered each command.
 #[derive(Clone, Copy, Debug, PartialEq, Eq)]
@@ -22,9 +23,43 @@ pub struct Outcome {
     pub refused: u64,
 }
 
+/// Is told of each command that is refused, beside the reply. What it does of that is its own.
+pub trait Observer {
+    /// The command whose record begins at a line of the script, the first being line 1, was refused.
+    fn refused(&mut self, line: u64, why: Refusal);
+}
+
+/// Looks away.
+#[derive(Drop)]
+struct Unobserved;
+
+impl Observer for Unobserved {
+    fn refused(&mut self, _line: u64, _why: Refusal) {}
+}
+
+/// The line of a script at which a record begins, or 0 where the record was not read from one.
+fn line_of(record: &ByteRecord) -> u64 {
+    match record.position() {
+        Some(position) => position.line(),
+        None => 0,
+    }
+}
+
+/// Tells of a reply, if it is a refusal.
+fn tell<O: Observer>(observer: &mut O, command: &Command, reply: &Reply<'_>) {
+    if let Reply::Refused(why) = reply {
+        observer.refused(line_of(&command.head), *why);
+    }
+}
+
 /// Answers the commands of a script, one after the other.
-fn run_script<W: Write>(alloc: Global, script: &[u8], writer: &mut W) -> Result<Outcome, RunError>
-    requires { length script.now ≤ most_bytes }
+fn run_script<W: Write, O: Observer>(
+    alloc: Global,
+    script: &[u8],
+    writer: &mut W,
+    observer: &mut O,
+) -> Result<Outcome, RunError>
+    requires { length script.now ≤ LONGEST_SCRIPT }
     ensures { MatchResult result
         (λ outcome. WritesAll (commands_in script.now) (W.contents writer.old)
         (W.contents writer.new) outcome.refused)
@@ -39,6 +74,7 @@ fn run_script<W: Write>(alloc: Global, script: &[u8], writer: &mut W) -> Result<
         if reply.is_refused() {
             refused += 1;
         }
+        tell(observer, &command, &reply);
         put_reply(writer, &reply)?;
     }
     Ok(Outcome { refused })
@@ -55,17 +91,36 @@ pub fn run<R: Read, W: Write>(
 ) -> Result<Outcome, RunError>
     // No more is read than the longest script and one byte.
     ensures reads { ConsumesAtMost (R.remaining reader.old) (R.remaining reader.new)
-        (most_bytes + 1) }
+        (LONGEST_SCRIPT + 1) }
     // A script within the limit is answered as the machine does, with so many refusals.
     ensures done { IfOk result (λ outcome. IfSome (R.remaining reader.old) (λ script.
-        (length script ≤ most_bytes) × WritesAll (commands_in script) (W.contents writer.old)
+        (length script ≤ LONGEST_SCRIPT) × WritesAll (commands_in script) (W.contents writer.old)
         (W.contents writer.new) outcome.refused)) }
     // What was written where the run stopped.
     ensures stopped { IfErr result (λ e. IfSome (R.remaining reader.old) (λ script.
-        StopsAt most_bytes script (W.contents writer.old) (W.contents writer.new) e)) }
+        StopsAt LONGEST_SCRIPT script (W.contents writer.old) (W.contents writer.new) e)) }
     // Nothing was written where the script was not read.
     ensures silent { IfErr result (KeepsUnread (W.contents writer.old) (W.contents writer.new)) }
 {
-    let script = read_input(alloc, reader, MOST_BYTES)?;
-    run_script(alloc, &script, writer)
+    run_observed(alloc, reader, writer, &mut Unobserved)
+}
+
+/// The same as `run`, whose observer is told of each command that is refused, and where it stands in the script.
+pub fn run_observed<R: Read, W: Write, O: Observer>(
+    alloc: Global,
+    reader: &mut R,
+    writer: &mut W,
+    observer: &mut O,
+) -> Result<Outcome, RunError>
+    ensures reads { ConsumesAtMost (R.remaining reader.old) (R.remaining reader.new)
+        (LONGEST_SCRIPT + 1) }
+    ensures done { IfOk result (λ outcome. IfSome (R.remaining reader.old) (λ script.
+        (length script ≤ LONGEST_SCRIPT) × WritesAll (commands_in script) (W.contents writer.old)
+        (W.contents writer.new) outcome.refused)) }
+    ensures stopped { IfErr result (λ e. IfSome (R.remaining reader.old) (λ script.
+        StopsAt LONGEST_SCRIPT script (W.contents writer.old) (W.contents writer.new) e)) }
+    ensures silent { IfErr result (KeepsUnread (W.contents writer.old) (W.contents writer.new)) }
+{
+    let script = read_input(alloc, reader, LONGEST_SCRIPT)?;
+    run_script(alloc, &script, writer, observer)
 }

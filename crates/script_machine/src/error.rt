@@ -1,8 +1,8 @@
 //! Why a run stopped before the end of its script.
 
 ghost use Rattle.std.specs.Prelude.{◌≡◌};
-ghost use Rattle.agg_tool.specs.Output.{run_error, run_refusal};
-ghost use Rattle.agg_tool.specs.declared.error.RunError.TheVariants.{NoMemory, WriteFault};
+ghost use Rattle.script_machine.specs.Output.{run_error, run_refusal};
+ghost use Rattle.script_machine.specs.declared.error.RunError.TheVariants.{NoMemory, WriteFault};
 
 use crate::refusal::Refusal;
 use script_io::{InputError, WriteFault};

@@ -3,8 +3,8 @@
 ghost use Rattle.std.specs.Prelude.{◌≡◌, ◌++◌, decimal, MatchResult};
 ghost use Rattle.std.specs.Io.KnownBytes.{Appends};
 ghost use Rattle.script_io.specs.Output.{AppendsFront};
-ghost use Rattle.agg_tool.specs.Text.{line, delivered_text, answer_text};
-ghost use Rattle.agg_tool.specs.Views.{said_text};
+ghost use Rattle.script_machine.specs.Text.{line, delivered_text, answer_text};
+ghost use Rattle.script_machine.specs.Views.{said_text};
 
 use crate::refusal::name;
 use crate::reply::Reply;

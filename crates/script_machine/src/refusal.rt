@@ -1,9 +1,9 @@
 //! Why a command, or a whole script, is refused.
 
 ghost use Rattle.std.specs.Prelude.{◌≡◌};
-ghost use Rattle.agg_tool.specs.Machine.{batch_refusal, query_refusal};
-ghost use Rattle.agg_tool.specs.Text.{refusal_name};
-ghost use Rattle.agg_tool.specs.declared.refusal.Refusal.TheVariants.{NoMemory};
+ghost use Rattle.script_machine.specs.Machine.{batch_refusal, query_refusal};
+ghost use Rattle.script_machine.specs.Text.{refusal_name};
+ghost use Rattle.script_machine.specs.declared.refusal.Refusal.TheVariants.{NoMemory};
 
 use batch_reader::BatchError;
 use group_parser::ParseError;

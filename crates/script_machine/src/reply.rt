@@ -1,7 +1,7 @@
 //! The reply to a command.
 
 ghost use Rattle.std.specs.Prelude.{◌≡◌};
-ghost use Rattle.agg_tool.specs.Views.{is_refusal};
+ghost use Rattle.script_machine.specs.Views.{is_refusal};
 
 use crate::refusal::Refusal;
 use replica_merge::Delivered;

@@ -11,13 +11,13 @@ ghost use Rattle.group_parser.specs.Parsing.{Accepts};
 ghost use Rattle.replica_merge.specs.Kept.{told, known_list, Fits};
 ghost use Rattle.script_io.specs.Records.{Record};
 ghost use Rattle.table_print.specs.Table.{table_text};
-ghost use Rattle.agg_tool.specs.Text.{known_text};
+ghost use Rattle.script_machine.specs.Text.{known_text};
 ghost use Rattle.packed_rows.specs.Columns.{kinds};
 ghost use Rattle.script_commands.specs.Commands as ask;
 ghost use Rattle.script_commands.specs.Commands.{request_of};
-ghost use Rattle.agg_tool.specs.Machine.{IsNoBatch, IsNoQuery};
-ghost use Rattle.agg_tool.specs.Views.{Store, IsStore, Steps, Takes};
-ghost use Rattle.agg_tool.specs.declared.refusal.Refusal.TheVariants.{NoMemory};
+ghost use Rattle.script_machine.specs.Machine.{IsNoBatch, IsNoQuery};
+ghost use Rattle.script_machine.specs.Views.{Store, IsStore, Steps, Takes};
+ghost use Rattle.script_machine.specs.declared.refusal.Refusal.TheVariants.{NoMemory};
 
 use crate::refusal::Refusal;
 use crate::reply::Reply;
@@ -46,7 +46,7 @@ pub(crate) struct Session {
 impl Model for Session {
     ghost use Rattle.std.specs.Coded.{codes};
     ghost use Rattle.having_filter.specs.Coding.{coded_form};
-    ghost use Rattle.agg_tool.specs.Views.{Store, IsStore};
+    ghost use Rattle.script_machine.specs.Views.{Store, IsStore};
 
     ghost Value = { Store };
 

@@ -2,7 +2,7 @@
 
 ghost use Rattle.std.specs.Prelude.{◌≡◌, ◌++◌, map, flat_map, decimal, IfOk, OnOk};
 ghost use Rattle.replica_merge.specs.Kept.{known_of};
-ghost use Rattle.agg_tool.specs.Text.{early_text, number_text, origin_text, known_text};
+ghost use Rattle.script_machine.specs.Text.{early_text, number_text, origin_text, known_text};
 
 use itoa::Buffer;
 use replica_merge::Known;

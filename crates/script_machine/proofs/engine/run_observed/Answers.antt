@@ -1,7 +1,7 @@
-use Rattle.agg_tool.specs.Output.{run_error}
-use Rattle.agg_tool.proofs.OutputLaws.{passed_as}
-use Rattle.agg_tool.proofs.RunLaws.{stops_unread, stops_read}
-use Rattle.agg_tool.proofs.engine.run.Goals as goal
+use Rattle.script_machine.specs.Output.{run_error}
+use Rattle.script_machine.proofs.OutputLaws.{passed_as}
+use Rattle.script_machine.proofs.RunLaws.{stops_unread, stops_read}
+use Rattle.script_machine.proofs.engine.run_observed.Goals as goal
 
 pub returns-in_err-script-clause-stopped : goal.returns-in_err-script-clause-stopped
 returns-in_err-script-clause-stopped g c =

@@ -1,14 +1,14 @@
 use Rattle.std.specs.Prelude.{◌≡◌, ◌≤◌, ◌+◌, refl, if◌then◌else◌}
 use Rattle.std.proofs.Common.{arith, sym}
 use Rattle.script_commands.specs.Views.{command_view}
-use Rattle.agg_tool.specs.Output.{commands_in}
-use Rattle.agg_tool.specs.Views.{is_refusal}
-use Rattle.agg_tool.specs.declared.error.RunError.TheVariants as stop
+use Rattle.script_machine.specs.Output.{commands_in}
+use Rattle.script_machine.specs.Views.{is_refusal}
+use Rattle.script_machine.specs.declared.error.RunError.TheVariants as stop
 use Rattle.script_io.proofs.RecordFacts.{length-records_of}
-use Rattle.agg_tool.proofs.OutputLaws.{passed_as}
-use Rattle.agg_tool.proofs.RunLaws.{ran_front, ran_more, ran_start, ran_stop}
-use Rattle.agg_tool.proofs.engine.run_script.Goals as goal
-use Rattle.agg_tool.proofs.engine.run_script.Goals.{then-is_refused, else-is_refused}
+use Rattle.script_machine.proofs.OutputLaws.{passed_as}
+use Rattle.script_machine.proofs.RunLaws.{ran_front, ran_more, ran_start, ran_stop}
+use Rattle.script_machine.proofs.engine.run_script.Goals as goal
+use Rattle.script_machine.proofs.engine.run_script.Goals.{then-is_refused, else-is_refused}
 
 pub loop-session-init : goal.loop-session-init
 loop-session-init g c =

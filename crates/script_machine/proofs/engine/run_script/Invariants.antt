@@ -1,8 +1,8 @@
 use Rattle.std.proofs.Common.{◌+◌, ◌≤◌, length}
 use Rattle.script_commands.specs.Commands.{commands_of}
-use Rattle.agg_tool.specs.Output.{commands_in}
-use Rattle.agg_tool.proofs.RunLaws.{Ran}
-use Rattle.agg_tool.proofs.engine.run_script.Given as goal
+use Rattle.script_machine.specs.Output.{commands_in}
+use Rattle.script_machine.proofs.RunLaws.{Ran}
+use Rattle.script_machine.proofs.engine.run_script.Given as goal
 
 abbrev pub invariant-loop-session : goal.invariant-loop-session
 invariant-loop-session g l = (l.refused + length l.records ≤ length l.script + 1)

@@ -1,8 +1,8 @@
 use Rattle.std.specs.Prelude.{decimal, codes}
 use Rattle.script_io.proofs.OutputFacts.{front-first}
-use Rattle.agg_tool.specs.Text.{line}
-use Rattle.agg_tool.proofs.OutputLaws.{passed_on, wrote_second}
-use Rattle.agg_tool.proofs.output.put_answer.Goals as goal
+use Rattle.script_machine.specs.Text.{line}
+use Rattle.script_machine.proofs.OutputLaws.{passed_on, wrote_second}
+use Rattle.script_machine.proofs.output.put_answer.Goals as goal
 
 pub returns-in_err-put_count : goal.returns-in_err-put_count
 returns-in_err-put_count g c =

@@ -1,7 +1,7 @@
 use Rattle.std.specs.Prelude.{◌++◌, codes}
 use Rattle.script_io.proofs.OutputFacts.{front-first}
-use Rattle.agg_tool.proofs.OutputLaws.{passed_on, wrote_second}
-use Rattle.agg_tool.proofs.output.put_line.Goals as goal
+use Rattle.script_machine.proofs.OutputLaws.{passed_on, wrote_second}
+use Rattle.script_machine.proofs.output.put_line.Goals as goal
 
 pub returns-in_err-put_two : goal.returns-in_err-put_two
 returns-in_err-put_two g c =

@@ -1,6 +1,6 @@
 use Rattle.script_io.proofs.OutputFacts.{front-first}
-use Rattle.agg_tool.proofs.OutputLaws.{passed_on, wrote_second}
-use Rattle.agg_tool.proofs.output.put_two.Goals as goal
+use Rattle.script_machine.proofs.OutputLaws.{passed_on, wrote_second}
+use Rattle.script_machine.proofs.output.put_two.Goals as goal
 
 pub returns-in_err-put_all : goal.returns-in_err-put_all
 returns-in_err-put_all g c =

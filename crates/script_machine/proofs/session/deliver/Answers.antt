@@ -6,9 +6,9 @@ use Rattle.batch_reader.specs.Rows.{ReadsRows}
 use Rattle.having_filter.specs.Meaning.{Checked}
 use Rattle.replica_merge.specs.Kept.{KeepsRows}
 use Rattle.replica_merge.proofs.PackedLaws.{built}
-use Rattle.agg_tool.proofs.FeedLaws.{built_batch}
-use Rattle.agg_tool.proofs.session.deliver.Goals as goal
-use Rattle.agg_tool.proofs.session.deliver.Goals.{in-Ok, in-Err}
+use Rattle.script_machine.proofs.FeedLaws.{built_batch}
+use Rattle.script_machine.proofs.session.deliver.Goals as goal
+use Rattle.script_machine.proofs.session.deliver.Goals.{in-Ok, in-Err}
 
 pub deliver-requires-clause-rows : goal.deliver-requires-clause-rows
 deliver-requires-clause-rows c =

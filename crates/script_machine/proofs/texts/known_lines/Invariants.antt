@@ -1,7 +1,7 @@
 use Rattle.std.proofs.Common.{◌≡◌, ◌++◌, flat_map, map, take, length, codes, decimal}
 use Rattle.replica_merge.specs.Kept.{known_of}
-use Rattle.agg_tool.specs.Text.{line, origin_text}
-use Rattle.agg_tool.proofs.texts.known_lines.Given as goal
+use Rattle.script_machine.specs.Text.{line, origin_text}
+use Rattle.script_machine.proofs.texts.known_lines.Given as goal
 
 abbrev pub invariant-loop-known : goal.invariant-loop-known
 invariant-loop-known l =

@@ -7,11 +7,11 @@ use Rattle.std.specs.Str.{bytes_eq}
 use Rattle.std.specs.HashMap.{UpdatesBy}
 use Rattle.script_commands.specs.Commands as ask
 use Rattle.replica_merge.specs.Kept.{Held}
-use Rattle.agg_tool.specs.Views.{Store, Steps}
-use Rattle.agg_tool.specs.declared.refusal.Refusal.TheVariants as why
-use Rattle.agg_tool.specs.declared.reply.Reply.TheVariants as says
-use Rattle.agg_tool.proofs.StoreLaws.{replica_too_early, name_taken, replica_made, no_memory_same, out_of_memory, same_entries, store_updated, updated}
-use Rattle.agg_tool.proofs.session.Session.add_replica.Goals as goal
+use Rattle.script_machine.specs.Views.{Store, Steps}
+use Rattle.script_machine.specs.declared.refusal.Refusal.TheVariants as why
+use Rattle.script_machine.specs.declared.reply.Reply.TheVariants as says
+use Rattle.script_machine.proofs.StoreLaws.{replica_too_early, name_taken, replica_made, no_memory_same, out_of_memory, same_entries, store_updated, updated}
+use Rattle.script_machine.proofs.session.Session.add_replica.Goals as goal
 
 pub returns-in_default : goal.returns-in_default
 returns-in_default c = λ owned.

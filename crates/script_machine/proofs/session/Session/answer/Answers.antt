@@ -1,10 +1,10 @@
 use Rattle.std.proofs.Common.{sym, subst}
 use Rattle.script_commands.specs.Commands as ask
-use Rattle.agg_tool.specs.Views.{Steps}
-use Rattle.agg_tool.specs.declared.refusal.Refusal.TheVariants as why
-use Rattle.agg_tool.specs.declared.reply.Reply.TheVariants as says
-use Rattle.agg_tool.proofs.StoreLaws.{answer_nowhere, answered, out_of_memory}
-use Rattle.agg_tool.proofs.session.Session.answer.Goals as goal
+use Rattle.script_machine.specs.Views.{Steps}
+use Rattle.script_machine.specs.declared.refusal.Refusal.TheVariants as why
+use Rattle.script_machine.specs.declared.reply.Reply.TheVariants as says
+use Rattle.script_machine.proofs.StoreLaws.{answer_nowhere, answered, out_of_memory}
+use Rattle.script_machine.proofs.session.Session.answer.Goals as goal
 
 pub returns-in-None : goal.returns-in-None
 returns-in-None c = λ owned.

@@ -3,11 +3,11 @@ use Rattle.std.proofs.Common.{◌∙◌, ap, sym, subst}
 use Rattle.csv.specs.Records.{fields_of}
 use Rattle.script_commands.specs.Commands as ask
 use Rattle.script_commands.specs.Views.{request_view}
-use Rattle.agg_tool.specs.Views.{Steps}
-use Rattle.agg_tool.specs.declared.refusal.Refusal.TheVariants as why
-use Rattle.agg_tool.specs.declared.reply.Reply.TheVariants as says
-use Rattle.agg_tool.proofs.StoreLaws.{refused}
-use Rattle.agg_tool.proofs.session.Session.execute.Goals as goal
+use Rattle.script_machine.specs.Views.{Steps}
+use Rattle.script_machine.specs.declared.refusal.Refusal.TheVariants as why
+use Rattle.script_machine.specs.declared.reply.Reply.TheVariants as says
+use Rattle.script_machine.proofs.StoreLaws.{refused}
+use Rattle.script_machine.proofs.session.Session.execute.Goals as goal
 
 pub returns-in-Unknown : goal.returns-in-Unknown
 returns-in-Unknown c =

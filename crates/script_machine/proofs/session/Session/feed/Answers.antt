@@ -3,12 +3,12 @@ use Rattle.std.proofs.Common.{◌∙◌, ap, sym, subst}
 use Rattle.std.specs.Option.{is_some}
 use Rattle.csv.specs.Records.{fields_of}
 use Rattle.script_commands.specs.Commands as ask
-use Rattle.agg_tool.specs.Views.{Store, Steps, Updates}
-use Rattle.agg_tool.specs.declared.refusal.Refusal.TheVariants as why
-use Rattle.agg_tool.specs.declared.reply.Reply.TheVariants as says
-use Rattle.agg_tool.proofs.StoreLaws.{feed_nowhere, feed_refused, feed_took, held_asks, same_updated, store_updated, updated}
-use Rattle.agg_tool.proofs.session.Session.feed.Goals as goal
-use Rattle.agg_tool.proofs.session.Session.feed.Goals.{in-Ok, in-Err}
+use Rattle.script_machine.specs.Views.{Store, Steps, Updates}
+use Rattle.script_machine.specs.declared.refusal.Refusal.TheVariants as why
+use Rattle.script_machine.specs.declared.reply.Reply.TheVariants as says
+use Rattle.script_machine.proofs.StoreLaws.{feed_nowhere, feed_refused, feed_took, held_asks, same_updated, store_updated, updated}
+use Rattle.script_machine.proofs.session.Session.feed.Goals as goal
+use Rattle.script_machine.proofs.session.Session.feed.Goals.{in-Ok, in-Err}
 
 pub returns-in_default : goal.returns-in_default
 returns-in_default c =

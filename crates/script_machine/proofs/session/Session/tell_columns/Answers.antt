@@ -3,10 +3,10 @@ use Rattle.std.proofs.Common.{◌∙◌, ap, sym, subst}
 use Rattle.std.specs.Option.{is_some}
 use Rattle.script_commands.specs.Commands as ask
 use Rattle.packed_rows.specs.Refusal.{ParseFault}
-use Rattle.agg_tool.specs.Views.{Store, Steps}
-use Rattle.agg_tool.specs.declared.reply.Reply.TheVariants as says
-use Rattle.agg_tool.proofs.StoreLaws.{columns_there, no_schema, columns_told, out_of_memory}
-use Rattle.agg_tool.proofs.session.Session.tell_columns.Goals as goal
+use Rattle.script_machine.specs.Views.{Store, Steps}
+use Rattle.script_machine.specs.declared.reply.Reply.TheVariants as says
+use Rattle.script_machine.proofs.StoreLaws.{columns_there, no_schema, columns_told, out_of_memory}
+use Rattle.script_machine.proofs.session.Session.tell_columns.Goals as goal
 
 pub returns-then-is_some : goal.returns-then-is_some
 returns-then-is_some c = λ owned. columns_there c.args.self.now c.args.text.now owned

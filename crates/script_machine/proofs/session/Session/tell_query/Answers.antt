@@ -1,11 +1,11 @@
 use Rattle.std.specs.Prelude.{Some}
 use Rattle.std.proofs.Common.{◌∙◌, sym, subst}
 use Rattle.script_commands.specs.Commands as ask
-use Rattle.agg_tool.specs.Views.{Store, Steps}
-use Rattle.agg_tool.specs.declared.refusal.Refusal.TheVariants as why
-use Rattle.agg_tool.specs.declared.reply.Reply.TheVariants as says
-use Rattle.agg_tool.proofs.StoreLaws.{query_too_early, query_there, query_refused, query_told, store_asked}
-use Rattle.agg_tool.proofs.session.Session.tell_query.Goals as goal
+use Rattle.script_machine.specs.Views.{Store, Steps}
+use Rattle.script_machine.specs.declared.refusal.Refusal.TheVariants as why
+use Rattle.script_machine.specs.declared.reply.Reply.TheVariants as says
+use Rattle.script_machine.proofs.StoreLaws.{query_too_early, query_there, query_refused, query_told, store_asked}
+use Rattle.script_machine.proofs.session.Session.tell_query.Goals as goal
 
 pub returns-in_default : goal.returns-in_default
 returns-in_default c = λ owned.

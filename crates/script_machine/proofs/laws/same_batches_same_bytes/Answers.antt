@@ -1,0 +1,12 @@
+use Rattle.script_machine.specs.Agreement.{after_all}
+use Rattle.script_machine.specs.Machine.{start}
+use Rattle.script_machine.proofs.SameLaws as laws
+use Rattle.script_machine.proofs.laws.same_batches_same_bytes.Goals as goal
+
+pub returns-clause-answers : goal.returns-clause-answers
+returns-clause-answers c = λ here there a b world other owned r s.
+    laws.same_answers (after_all start here) (after_all start there) a b world other r s
+
+pub returns-clause-lists : goal.returns-clause-lists
+returns-clause-lists c = λ here there a b world other owned r s.
+    laws.same_lists (after_all start here) (after_all start there) a b world other r s
