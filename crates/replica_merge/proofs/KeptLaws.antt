@@ -2,6 +2,7 @@
 use Rattle.std.specs.Prelude.{◌≡◌, ◌≢◌, refl, ℕ, ◌+◌, ◌≤◌, ◌<◌, ◌==◌, Bool, true, false, not, ◌&&◌, ◌||◌, IsTrue, nat_lt, List, [], ◌∷◌, ◌++◌, map, filter, Option, Some, None, is_some, unwrap_or, cond, Result, Ok, Err, is_err, OnOk}
 use Rattle.std.proofs.Common.{sym, ◌∙◌, ap, subst, arith, eq-eqb, append_assoc, inl, inr}
 use Rattle.std.proofs.lemmas.Bool.{ltb-true, ltb-false, cases_lt, eqb-true}
+use Rattle.grouping_model.specs.declared.limits.TheConstants.{LAST_NUMBER}
 use Rattle.packed_rows.proofs.PackingOrder.{less, greater, tied}
 use Rattle.std.specs.List.Sorted.{IsStrictlySortedBy}
 use Rattle.std.specs.BTreeMap.Range.{entries_between, range_contains}
@@ -20,7 +21,7 @@ use Rattle.std.specs.Cmp.{Equal-is, tied_itself, nat_cmp_total}
 use Rattle.std.specs.FinMap.{nat_cmp-IsAntisymmetric}
 use Rattle.grouping_model.proofs.LearningLaws.{prefix_stays, prefix_grows}
 use Rattle.std.specs.BTreeMap.{BTreeMap, get}
-use Rattle.replica_merge.specs.Kept.{Kept, told, rows_kept, last_number, InLimits, ArePackedRows, KeepsRows, IsReplica, reply_of, Fits}
+use Rattle.replica_merge.specs.Kept.{Kept, told, rows_kept, InLimits, ArePackedRows, KeepsRows, IsReplica, reply_of, Fits}
 use Rattle.grouping_model.specs.Datum.{Row, Kind}
 use Rattle.batch_reader.specs.Rows.{packings}
 use Rattle.replica_merge.specs.declared.delivered.Delivered.TheVariants.{Folded, Early, Known}
@@ -29,14 +30,14 @@ pub known_kept : (kept : Kept) (batch : Batch) → is_some (lookup (eq_by_cmp ba
 known_kept kept batch = is_some-lookup (eq_by_cmp batch_cmp batch) kept ∙ sym (knows_knowing (map (λ (e : Batch × List (List ℕ)). e.0) kept) batch)
 
 -- a number above the last is not known
-pub above_last : (kept : Kept) (origin number : ℕ) → AllByRecursion (λ (e : Batch × List (List ℕ)). InLimits e.0) kept → last_number < number → knows (told kept) (origin, number) ≡ false
+pub above_last : (kept : Kept) (origin number : ℕ) → AllByRecursion (λ (e : Batch × List (List ℕ)). InLimits e.0) kept → LAST_NUMBER < number → knows (told kept) (origin, number) ≡ false
 above_last kept origin number numbered above = knows_knowing (map (λ (e : Batch × List (List ℕ)). e.0) kept) (origin, number) ∙ none kept numbered
   where
     none : (kept : Kept) → AllByRecursion (λ (e : Batch × List (List ℕ)). InLimits e.0) kept → is_among batch_cmp (origin, number) (map (λ (e : Batch × List (List ℕ)). e.0) kept) ≡ false
     none [] all = refl
     none (e ∷ kept) all = ap (λ b. b || is_among batch_cmp (origin, number) (map (λ (e : Batch × List (List ℕ)). e.0) kept)) (apart e.0 all.0.2) ∙ none kept all.1
       where
-        apart : (b : Batch) → b.1 ≤ last_number → eq_by_cmp batch_cmp (origin, number) b ≡ false
+        apart : (b : Batch) → b.1 ≤ LAST_NUMBER → eq_by_cmp batch_cmp (origin, number) b ≡ false
         apart b low =
             elim (eq_by_cmp batch_cmp (origin, number) b) as (λ r. eq_by_cmp batch_cmp (origin, number) b ≡ r → r ≡ false) [
               | true ↦ λ e. let same : number ≡ b.1 = ap (λ (x : Batch). x.1) (batch_cmp_ties (origin, number) b ((Equal-is (batch_cmp (origin, number) b)).0 e)) in absurd (omega (arith, same, low, above))
@@ -272,7 +273,7 @@ between_own origin last b low =
     within : (most n : ℕ) → n ≤ most → is_lt (nat_cmp most n) ≡ false
     within most n few = elim (cases_lt n most) [ inl below ↦ ap is_lt (greater most n below) | inr at ↦ let same : n ≡ most = omega (arith, few, at) in ap (λ k. is_lt (nat_cmp most k)) same ∙ ap is_lt (tied most) ]
 
-pub numbers_between : (kept : Kept) (origin upto last : ℕ) → last_number ≤ last → IsStrictlySortedBy batch_cmp (map (λ (e : Batch × List (List ℕ)). e.0) kept) → AllByRecursion (λ (e : Batch × List (List ℕ)). InLimits e.0) kept
+pub numbers_between : (kept : Kept) (origin upto last : ℕ) → LAST_NUMBER ≤ last → IsStrictlySortedBy batch_cmp (map (λ (e : Batch × List (List ℕ)). e.0) kept) → AllByRecursion (λ (e : Batch × List (List ℕ)). InLimits e.0) kept
     → filter (λ n. nat_lt upto n) (numbers_in (entries_between batch_cmp (Included (origin, 0)) (Included (origin, last)) kept)) ≡ filter (λ n. nat_lt upto n) (numbers_of (told kept) origin)
 numbers_between kept origin upto last high rising numbered =
     ap (filter (λ n. nat_lt upto n))

@@ -18,6 +18,7 @@ use Rattle.grouping_model.proofs.Members.{Member, from_contains, to_contains, am
 use Rattle.grouping_model.proofs.KnowledgeLaws.{batch_cmp_ties, knows_knowing}
 use Rattle.grouping_model.proofs.PrefixLaws.{prefix_unbroken}
 use Rattle.grouping_model.proofs.EarlyLaws.{early_are, origins_are, origins_rise, filter_rises}
+use Rattle.replica_merge.specs.declared.replica.TheConstants.{ORIGINS}
 use Rattle.replica_merge.specs.Kept.{Kept, told, InLimits, KnownOrigin, of_origin}
 
 -- what is told lies within the limits
@@ -75,30 +76,30 @@ counted_rise first (suc n) = (above (first + 1) n (omega arith), counted_rise (f
     above start (suc n) low = (less first start low, above (start + 1) n (omega (arith, low)))
 
 -- all origins, where none is above the last
-pub listed_all : (knowledge : Knowledge) → ((batch : Batch) → IsTrue (knows knowledge batch) → InLimits batch) → listed knowledge 1024 ≡ origins knowledge
+pub listed_all : (knowledge : Knowledge) → ((batch : Batch) → IsTrue (knows knowledge batch) → InLimits batch) → listed knowledge ORIGINS ≡ origins knowledge
 listed_all knowledge limits =
-    same_members nat_cmp_total nat_cmp-IsAntisymmetric (listed knowledge 1024) (origins knowledge) (filter_rises nat_cmp (λ origin. is_among nat_cmp origin (origins knowledge)) (count_up 0 1024) (counted_rise 0 1024)) (origins_rise knowledge) same
+    same_members nat_cmp_total nat_cmp-IsAntisymmetric (listed knowledge ORIGINS) (origins knowledge) (filter_rises nat_cmp (λ origin. is_among nat_cmp origin (origins knowledge)) (count_up 0 ORIGINS) (counted_rise 0 ORIGINS)) (origins_rise knowledge) same
   where
-    here : (o : ℕ) → Member (origins knowledge) o → Member (listed knowledge 1024) o
+    here : (o : ℕ) → Member (origins knowledge) o → Member (listed knowledge ORIGINS) o
     here o m =
         let found = (origins_are knowledge o).0 (to_contains (origins knowledge) o m) in
         let low = (limits (o, found.0) found.1).0 in
-        member_filter (λ origin. is_among nat_cmp origin (origins knowledge)) (count_up 0 1024) o (counted 0 1024 o (omega arith) (omega (arith, low)))
+        member_filter (λ origin. is_among nat_cmp origin (origins knowledge)) (count_up 0 ORIGINS) o (counted 0 ORIGINS o (omega arith) (omega (arith, low)))
         ((among_member nat_cmp_total nat_cmp-IsAntisymmetric (origins knowledge) o).1 m)
 
-    there : (o : ℕ) → Member (listed knowledge 1024) o → Member (origins knowledge) o
-    there o m = (among_member nat_cmp_total nat_cmp-IsAntisymmetric (origins knowledge) o).0 (filter_member (λ origin. is_among nat_cmp origin (origins knowledge)) (count_up 0 1024) o m).1
+    there : (o : ℕ) → Member (listed knowledge ORIGINS) o → Member (origins knowledge) o
+    there o m = (among_member nat_cmp_total nat_cmp-IsAntisymmetric (origins knowledge) o).0 (filter_member (λ origin. is_among nat_cmp origin (origins knowledge)) (count_up 0 ORIGINS) o m).1
 
     both : (a b : Bool) → (a ≡ true → b ≡ true) → (b ≡ true → a ≡ true) → a ≡ b
     both true b f g = sym (f refl)
     both false true f g = g refl
     both false false f g = refl
 
-    same : (o : ℕ) → is_among nat_cmp o (listed knowledge 1024) ≡ is_among nat_cmp o (origins knowledge)
+    same : (o : ℕ) → is_among nat_cmp o (listed knowledge ORIGINS) ≡ is_among nat_cmp o (origins knowledge)
     same o =
-        let at_listed = among_member nat_cmp_total nat_cmp-IsAntisymmetric (listed knowledge 1024) o in
+        let at_listed = among_member nat_cmp_total nat_cmp-IsAntisymmetric (listed knowledge ORIGINS) o in
         let at_origins = among_member nat_cmp_total nat_cmp-IsAntisymmetric (origins knowledge) o in
-        both (is_among nat_cmp o (listed knowledge 1024)) (is_among nat_cmp o (origins knowledge))
+        both (is_among nat_cmp o (listed knowledge ORIGINS)) (is_among nat_cmp o (origins knowledge))
         (λ e. at_origins.1 (there o (at_listed.0 e))) (λ e. at_listed.1 (here o (at_origins.0 e)))
 
 -- an origin of which something is known has a prefix or an early number, and only such a one

@@ -7,6 +7,7 @@ use Rattle.std.proofs.lemmas.List.Elements.{recursion_from_All}
 use Rattle.std.specs.List.{AllByRecursion}
 use Rattle.std.specs.Map.{lookup}
 use Rattle.std.specs.Ordering.{eq_by_cmp, nat_cmp}
+use Rattle.grouping_model.specs.declared.limits.TheConstants.{LAST_NUMBER, MOST_ROWS}
 use Rattle.grouping_model.specs.Datum.{Row, Kind, HasKinds}
 use Rattle.grouping_model.specs.Rising.{is_among}
 use Rattle.grouping_model.specs.World.{World, IsWorld, Batch, batch_cmp, Knowledge, knows, prefix, origins, count_up, batch_rows, origin_rows, known_rows}
@@ -15,6 +16,7 @@ use Rattle.grouping_model.proofs.AnswerLaws.{flat_map_members, counted_within}
 use Rattle.grouping_model.proofs.PrefixLaws.{prefix_unbroken}
 use Rattle.packed_rows.specs.Packing.{packing}
 use Rattle.batch_reader.specs.Rows.{packings}
+use Rattle.replica_merge.specs.declared.replica.TheConstants.{ORIGINS}
 use Rattle.replica_merge.specs.Kept.{Kept, told, rows_kept, InLimits, ArePackedRows, Fits, batch_packings, origin_packings, known_packings}
 use Rattle.replica_merge.proofs.KeptLaws.{known_kept}
 use Rattle.replica_merge.proofs.PackedLaws.{all_append}
@@ -30,10 +32,10 @@ kept_packed kinds test (b ∷ kept) rows (first, all) e =
     ] e
 
 -- how many rows there are
-pub few_in_batch : (kinds : List Kind) (kept : Kept) (origin number : ℕ) → AllByRecursion (λ (e : Batch × List (List ℕ)). ArePackedRows kinds e.1) kept → length (batch_packings kept origin number) ≤ 65536
+pub few_in_batch : (kinds : List Kind) (kept : Kept) (origin number : ℕ) → AllByRecursion (λ (e : Batch × List (List ℕ)). ArePackedRows kinds e.1) kept → length (batch_packings kept origin number) ≤ MOST_ROWS
 few_in_batch kinds kept origin number all = of_found (rows_kept kept (origin, number)) refl
   where
-    of_found : (o : Option (List (List ℕ))) → rows_kept kept (origin, number) ≡ o → length (unwrap_or o []) ≤ 65536
+    of_found : (o : Option (List (List ℕ))) → rows_kept kept (origin, number) ≡ o → length (unwrap_or o []) ≤ MOST_ROWS
     of_found None e = omega arith
     of_found (Some rows) e = (kept_packed kinds (eq_by_cmp batch_cmp (origin, number)) kept rows all e).few
 
@@ -46,24 +48,24 @@ flat_few f most first (suc n) few =
     let product : suc n * most ≡ most + n * most = omega arith in
     omega (arith, both, one, rest, product)
 
-pub prefix_within : (kept : Kept) (origin : ℕ) → AllByRecursion (λ (e : Batch × List (List ℕ)). InLimits e.0) kept → prefix (told kept) origin ≤ 2147483647
+pub prefix_within : (kept : Kept) (origin : ℕ) → AllByRecursion (λ (e : Batch × List (List ℕ)). InLimits e.0) kept → prefix (told kept) origin ≤ LAST_NUMBER
 prefix_within kept origin numbered =
     elim (cases_lt 0 (prefix (told kept) origin)) [
       | inl some ↦ (told_within kept numbered (origin, prefix (told kept) origin) (prefix_unbroken (told kept) origin (prefix (told kept) origin) (omega (arith, some)) (omega arith))).2
       | inr none ↦ omega (arith, none)
     ]
 
-pub few_in_batches : (kinds : List Kind) (kept : Kept) (origin first n : ℕ) → AllByRecursion (λ (e : Batch × List (List ℕ)). ArePackedRows kinds e.1) kept → length (flat_map (batch_packings kept origin) (count_up first n)) ≤ n * 65536
-few_in_batches kinds kept origin first n packed = flat_few (batch_packings kept origin) 65536 first n (λ number. few_in_batch kinds kept origin number packed)
+pub few_in_batches : (kinds : List Kind) (kept : Kept) (origin first n : ℕ) → AllByRecursion (λ (e : Batch × List (List ℕ)). ArePackedRows kinds e.1) kept → length (flat_map (batch_packings kept origin) (count_up first n)) ≤ n * MOST_ROWS
+few_in_batches kinds kept origin first n packed = flat_few (batch_packings kept origin) MOST_ROWS first n (λ number. few_in_batch kinds kept origin number packed)
 
-few_in_origin : (kinds : List Kind) (kept : Kept) (origin : ℕ) → AllByRecursion (λ (e : Batch × List (List ℕ)). InLimits e.0) kept → AllByRecursion (λ (e : Batch × List (List ℕ)). ArePackedRows kinds e.1) kept → length (origin_packings kept origin) ≤ 2147483647 * 65536
+few_in_origin : (kinds : List Kind) (kept : Kept) (origin : ℕ) → AllByRecursion (λ (e : Batch × List (List ℕ)). InLimits e.0) kept → AllByRecursion (λ (e : Batch × List (List ℕ)). ArePackedRows kinds e.1) kept → length (origin_packings kept origin) ≤ LAST_NUMBER * MOST_ROWS
 few_in_origin kinds kept origin numbered packed =
-    let few : length (origin_packings kept origin) ≤ prefix (told kept) origin * 65536 = few_in_batches kinds kept origin 1 (prefix (told kept) origin) packed in
-    let low : prefix (told kept) origin ≤ 2147483647 = prefix_within kept origin numbered in
+    let few : length (origin_packings kept origin) ≤ prefix (told kept) origin * MOST_ROWS = few_in_batches kinds kept origin 1 (prefix (told kept) origin) packed in
+    let low : prefix (told kept) origin ≤ LAST_NUMBER = prefix_within kept origin numbered in
     omega (arith, few, low)
 
-pub few_in_origins : (kinds : List Kind) (kept : Kept) (n : ℕ) → AllByRecursion (λ (e : Batch × List (List ℕ)). InLimits e.0) kept → AllByRecursion (λ (e : Batch × List (List ℕ)). ArePackedRows kinds e.1) kept → length (flat_map (origin_packings kept) (count_up 0 n)) ≤ n * (2147483647 * 65536)
-few_in_origins kinds kept n numbered packed = flat_few (origin_packings kept) (2147483647 * 65536) 0 n (λ origin. few_in_origin kinds kept origin numbered packed)
+pub few_in_origins : (kinds : List Kind) (kept : Kept) (n : ℕ) → AllByRecursion (λ (e : Batch × List (List ℕ)). InLimits e.0) kept → AllByRecursion (λ (e : Batch × List (List ℕ)). ArePackedRows kinds e.1) kept → length (flat_map (origin_packings kept) (count_up 0 n)) ≤ n * (LAST_NUMBER * MOST_ROWS)
+few_in_origins kinds kept n numbered packed = flat_few (origin_packings kept) (LAST_NUMBER * MOST_ROWS) 0 n (λ origin. few_in_origin kinds kept origin numbered packed)
 
 -- those of which nothing is known add no rows
 passed_over : {X : Type 0} (f : ℕ → List X) (test : ℕ → Bool) (ns : List ℕ) → ((n : ℕ) → test n ≡ false → f n ≡ []) → flat_map f (filter test ns) ≡ flat_map f ns
@@ -74,9 +76,9 @@ passed_over f test (n ∷ ns) none =
       | false ↦ λ e. passed_over f test ns none ∙ ap (λ xs. xs ++ flat_map f ns) (sym (none n e))
     ] refl
 
-pub all_origins : (kept : Kept) → AllByRecursion (λ (e : Batch × List (List ℕ)). InLimits e.0) kept → flat_map (origin_packings kept) (count_up 0 1024) ≡ known_packings kept
+pub all_origins : (kept : Kept) → AllByRecursion (λ (e : Batch × List (List ℕ)). InLimits e.0) kept → flat_map (origin_packings kept) (count_up 0 ORIGINS) ≡ known_packings kept
 all_origins kept numbered =
-    sym (passed_over (origin_packings kept) (λ origin. is_among nat_cmp origin (origins (told kept))) (count_up 0 1024) nothing_of)
+    sym (passed_over (origin_packings kept) (λ origin. is_among nat_cmp origin (origins (told kept))) (count_up 0 ORIGINS) nothing_of)
     ∙ ap (flat_map (origin_packings kept)) (listed_all (told kept) (told_within kept numbered))
   where
     nothing_of : (origin : ℕ) → is_among nat_cmp origin (origins (told kept)) ≡ false → origin_packings kept origin ≡ []

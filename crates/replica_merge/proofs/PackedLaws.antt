@@ -9,6 +9,7 @@ use Rattle.std.specs.declared.alloc.Global.{Global}
 use Rattle.std.specs.declared.vec.Vec.{Vec}
 use Rattle.std.proofs.lemmas.List.Elements.{All-from_recursion, recursion_from_All}
 use Rattle.std.specs.List.{AllByRecursion}
+use Rattle.grouping_model.specs.declared.limits.TheConstants.{MOST_ROWS}
 use Rattle.grouping_model.specs.Datum.{Row, Kind, HasKinds}
 use Rattle.grouping_model.specs.Query.{Query}
 use Rattle.grouping_model.specs.Grouping.{part}
@@ -25,7 +26,7 @@ use Rattle.replica_merge.specs.Kept.{ArePackedRows}
 use Rattle.replica_merge.specs.Groups.{HoldRows, IsRunOf}
 
 -- the rows that records stand for are packed
-pub built : (kinds : List Kind) (records : List (List (List ℕ))) (rows : List Row) (packed : List (List ℕ)) → ReadsRows kinds records rows → packed ≡ packings rows → length packed ≤ 65536 → ArePackedRows kinds packed
+pub built : (kinds : List Kind) (records : List (List (List ℕ))) (rows : List Row) (packed : List (List ℕ)) → ReadsRows kinds records rows → packed ≡ packings rows → length packed ≤ MOST_ROWS → ArePackedRows kinds packed
 built kinds records rows packed reads is few =
     record { few = few; rows = rows; of_kinds = All-from_recursion (HasKinds kinds) rows (each records rows reads); packings_are = is }
   where

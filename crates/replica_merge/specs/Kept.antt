@@ -4,6 +4,7 @@ use Rattle.std.specs.List.{AllByRecursion}
 use Rattle.std.specs.Map.{lookup}
 use Rattle.std.specs.Ordering.{eq_by_cmp, nat_cmp}
 use Rattle.std.specs.BTreeMap.{BTreeMap, get}
+use Rattle.grouping_model.specs.declared.limits.TheConstants.{LAST_NUMBER, LAST_ORIGIN, MOST_ROWS}
 use Rattle.grouping_model.specs.World.{World, Batch, batch_cmp, Knowledge, knowing, knows, learn, prefix, early, origins, count_up}
 use Rattle.grouping_model.specs.Datum.{Row, Kind, HasKinds}
 use Rattle.batch_reader.specs.Rows.{packings}
@@ -15,10 +16,6 @@ use Rattle.replica_merge.specs.declared.delivered.Delivered.TheVariants as reply
 -- the batches that are kept, each with its packed rows
 abbrev pub Kept : Type 0
 Kept = List (Batch × List (List ℕ))
-
--- the batches of a map
-abbrev pub kept_of : List ((ℕ × ℕ) × List (List ℕ)) → Kept
-kept_of entries = entries
 
 -- what is known: the batches that are kept
 abbrev pub told : Kept → Knowledge
@@ -32,20 +29,13 @@ rows_kept kept batch = lookup (eq_by_cmp batch_cmp batch) kept
 abbrev pub PrefixesHold : Kept → BTreeMap ℕ ℕ → Type 0
 PrefixesHold kept prefixes = (origin : ℕ) → unwrap_or (get nat_cmp prefixes origin) 0 ≡ prefix (told kept) origin
 
--- the limits of origins and numbers
-abbrev pub last_origin : ℕ
-last_origin = 1023
-
-abbrev pub last_number : ℕ
-last_number = 2147483647
-
 -- a batch within the limits
 abbrev pub InLimits : Batch → Type 0
-InLimits batch = (batch.0 ≤ last_origin) × (1 ≤ batch.1) × (batch.1 ≤ last_number)
+InLimits batch = (batch.0 ≤ LAST_ORIGIN) × (1 ≤ batch.1) × (batch.1 ≤ LAST_NUMBER)
 
 -- the packed rows of a batch: at most as many as it may have, each the packing of a row of columns of these kinds
 pub record ArePackedRows (kinds : List Kind) (packed : List (List ℕ)) : Type 0 where
-  pub few : length packed ≤ 65536
+  pub few : length packed ≤ MOST_ROWS
   pub rows : List Row
   pub of_kinds : All (HasKinds kinds) rows
   pub packings_are : packed ≡ packings rows

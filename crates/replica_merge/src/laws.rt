@@ -1,6 +1,7 @@
 //! Laws of what a replica keeps.
 
 ghost use Rattle.std.specs.Prelude.{◌≡◌, ◌≤◌, ℕ, List, [], length, Some};
+ghost use Rattle.grouping_model.specs.declared.limits.TheConstants.{MOST_ROWS};
 ghost use Rattle.grouping_model.specs.Datum.{Row, Kind};
 ghost use Rattle.grouping_model.specs.World.{World, Batch};
 ghost use Rattle.batch_reader.specs.Rows.{ReadsRows, packings};
@@ -10,7 +11,7 @@ ghost use Rattle.replica_merge.specs.Kept.{Kept, ArePackedRows, KeepsRows, Fits}
 pub fn building()
     ensures { (kinds : List Kind) (records : List (List (List ℕ))) (rows : List Row) (packed :
         List (List ℕ)) → ReadsRows kinds records rows → packed ≡ packings rows →
-        length packed ≤ 65536 → ArePackedRows kinds packed }
+        length packed ≤ MOST_ROWS → ArePackedRows kinds packed }
 {}
 
 /// A replica that knows nothing fits every world, and one that is given a batch of a world goes on to fit it.

@@ -1,16 +1,19 @@
 //! The batches that a replica keeps.
 
 ghost use Rattle.std.specs.Prelude.{◌≡◌, ◌≢◌, ◌⊎◌, ◌↔◌, ◌+◌, ◌<◌, ◌≤◌, ◌++◌, ℕ, List, All, [], filter, map, length, nat_lt, false, IsTrue, OnOk, IfOk, IfErr};
+ghost use Rattle.grouping_model.specs.declared.limits.TheConstants.{LAST_NUMBER};
+ghost use Rattle.std.specs.BTreeMap.{insert_entry};
 ghost use Rattle.grouping_model.specs.Answer.{answer};
-ghost use Rattle.grouping_model.specs.World.{World, IsWorld, knows, learn, prefix, numbers_of};
+ghost use Rattle.grouping_model.specs.World.{World, IsWorld, batch_cmp, knows, learn, prefix, numbers_of};
 ghost use Rattle.packed_rows.specs.Columns.{kinds};
 ghost use Rattle.having_filter.specs.Meaning.{meaning};
 ghost use Rattle.replica_merge.specs.Groups.{HoldRows, IsRunOf};
-ghost use Rattle.replica_merge.specs.Kept.{told, reply_of, last_number, InLimits, ArePackedRows, KeepsRows, Fits, batch_packings, origin_packings, known_packings, known_list, known_of};
+ghost use Rattle.replica_merge.specs.Kept.{told, reply_of, InLimits, ArePackedRows, KeepsRows, Fits, batch_packings, origin_packings, known_packings, known_list, known_of};
 
 use crate::delivered::{Delivered, Known, RefusedBatch};
 use crate::showing::show;
 use batch_reader::{Batch, PackedRows};
+use grouping_model::limits::LAST_ORIGIN;
 use hash_agg::{Input, Run, aggregate};
 use having_filter::{Answer, Query};
 use std::alloc::{AllocError, Global};
@@ -18,7 +21,7 @@ use std::collections::BTreeMap;
 use std::marker::Model;
 
 /// How many origins there can be: 0 to 1,023.
-const ORIGINS: u16 = 1_024;
+const ORIGINS: u16 = LAST_ORIGIN + 1;
 
 /// A query, the batches that a replica was given to answer it, and each origin's unbroken prefix of them.
 #[derive(Drop)]
@@ -32,16 +35,15 @@ pub struct Replica {
 impl Model for Replica {
     ghost use Rattle.packed_rows.specs.Columns.{kinds};
     ghost use Rattle.replica_merge.specs.Coding.{coded_held};
-    ghost use Rattle.replica_merge.specs.Kept.{Held, kept_of, IsReplica};
+    ghost use Rattle.replica_merge.specs.Kept.{Held, IsReplica};
 
     ghost Value = { Held };
 
     ghost coded = { coded_held };
 
-    ghost view = { λ r. record { query = r.query; kept = kept_of r.batches.entries } };
+    ghost view = { λ r. record { query = r.query; kept = r.batches.entries } };
 
-    ghost invariant = { λ r. IsReplica (kinds r.query.columns) (kept_of r.batches.entries)
-        r.prefixes };
+    ghost invariant = { λ r. IsReplica (kinds r.query.columns) r.batches.entries r.prefixes };
 }
 
 /// Whether an origin with this prefix and these early numbers has a batch that is known.
@@ -49,6 +51,33 @@ fn is_any_known(upto: u32, early: &[u32]) -> bool
     ensures { IsTrue result ↔ ((0 < upto) ⊎ (early.now ≢ [])) }
 {
     upto > 0 || !early.is_empty()
+}
+
+/// Keeps the rows of a batch. Where memory is wanting, the batch is handed back and nothing is changed.
+fn keep(batches: &mut BTreeMap<(u16, u32), PackedRows>, batch: Batch) -> Result<(), RefusedBatch>
+    ensures kept { OnOk result (batches.new.entries
+        ≡ insert_entry batch_cmp batches.old.entries (batch.origin, batch.number) batch.rows) }
+    ensures refused { IfErr result (λ e. (e.batch ≡ batch)
+        × (batches.new.entries ≡ batches.old.entries)) }
+{
+    let Batch {
+        origin,
+        number,
+        rows,
+    } = batch;
+    match batches.insert((origin, number), rows) {
+        Ok(_) => Ok(()),
+        Err(failed) => {
+            let (_, rows) = failed.value;
+            Err(RefusedBatch {
+                batch: Batch {
+                    origin,
+                    number,
+                    rows,
+                },
+            })
+        }
+    }
 }
 
 impl Replica {
@@ -74,7 +103,7 @@ impl Replica {
     /// The unbroken prefix of an origin.
     pub fn prefix(&self, origin: u16) -> u32
         ensures prefix { result ≡ prefix (told self.now.kept) origin }
-        ensures limit { result ≤ last_number }
+        ensures limit { result ≤ LAST_NUMBER }
     {
         match self.prefixes.get(&origin) {
             Some(upto) => *upto,
@@ -125,7 +154,7 @@ impl Replica {
 
     /// The last number that follows a number of an origin without a gap.
     fn reach(&self, origin: u16, number: u32) -> u32
-        requires { number ≤ 2147483647 }
+        requires { number ≤ LAST_NUMBER }
         ensures from { number ≤ result }
         ensures follow { (m : ℕ) → number < m → m ≤ result →
             IsTrue (knows (told self.now.kept) (origin, m)) }
@@ -151,24 +180,8 @@ impl Replica {
         ensures query { self.new.query ≡ self.old.query }
         ensures refused { IfErr result (λ e. (e.batch ≡ batch) × (self.new ≡ self.old)) }
     {
-        let Batch {
-            origin,
-            number,
-            rows,
-        } = batch;
-        match self.batches.insert((origin, number), rows) {
-            Ok(_) => Ok(()),
-            Err(failed) => {
-                let (_, rows) = failed.value;
-                Err(RefusedBatch {
-                    batch: Batch {
-                        origin,
-                        number,
-                        rows,
-                    },
-                })
-            }
-        }
+        keep(&mut self.batches, batch)?;
+        Ok(())
     }
 
     /// Keeps the batch that is next to its origin's prefix, which reaches up to a number from then on.
@@ -185,34 +198,12 @@ impl Replica {
         ensures query { self.new.query ≡ self.old.query }
         ensures refused { IfErr result (λ e. (e.batch ≡ batch) × (self.new ≡ self.old)) }
     {
-        let Batch {
-            origin,
-            number,
-            rows,
-        } = batch;
+        let (origin, number) = (batch.origin, batch.number);
         // The place of the prefix is taken before the batch, so that writing it anew takes no memory.
         if self.prefixes.insert(origin, number - 1).is_err() {
-            return Err(RefusedBatch {
-                batch: Batch {
-                    origin,
-                    number,
-                    rows,
-                },
-            });
+            return Err(RefusedBatch { batch });
         }
-        match self.batches.insert((origin, number), rows) {
-            Ok(_) => {}
-            Err(failed) => {
-                let (_, rows) = failed.value;
-                return Err(RefusedBatch {
-                    batch: Batch {
-                        origin,
-                        number,
-                        rows,
-                    },
-                });
-            }
-        }
+        keep(&mut self.batches, batch)?;
         match self.prefixes.insert(origin, upto) {
             Ok(_) => Ok(()),
             Err(_) => unreachable!(),

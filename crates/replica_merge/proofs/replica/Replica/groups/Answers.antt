@@ -1,12 +1,14 @@
 use Rattle.std.specs.Prelude.{◌≡◌, ℕ, ◌+◌, ◌*◌, ◌≤◌, ◌<◌, ◌^◌, ◌++◌, List, [], length, flat_map}
 use Rattle.std.specs.List.{AllByRecursion}
 use Rattle.std.proofs.Common.{sym, ◌∙◌, ap, subst, arith, refl}
+use Rattle.grouping_model.specs.declared.limits.TheConstants.{LAST_NUMBER, MOST_ROWS}
 use Rattle.grouping_model.specs.World.{count_up}
 use Rattle.grouping_model.specs.Query.{Query}
 use Rattle.packed_rows.specs.Columns.{kinds}
 use Rattle.having_filter.specs.Meaning.{meaning}
 use Rattle.hash_agg.specs.Inputs.{IsInput, all_rows}
 use Rattle.hash_agg.proofs.KeyLaws.{if_ok}
+use Rattle.replica_merge.specs.declared.replica.TheConstants.{ORIGINS}
 use Rattle.replica_merge.specs.Kept.{Held, origin_packings, known_packings}
 use Rattle.replica_merge.specs.Groups.{HoldRows, IsRunOf}
 use Rattle.replica_merge.proofs.KnownRows.{few_in_origins, all_origins}
@@ -37,8 +39,8 @@ aggregate-requires-clause-few c =
     let n = c.loop-origin.origin in
     let low = c.loop-origin-test.false in
     let high = c.loop-origin.auto.origin-end in
-    let few : length (flat_map (origin_packings c.args.self.now.kept) (count_up 0 n)) ≤ n * (2147483647 * 65536) =
-    subst (λ (h : Held). length (flat_map (origin_packings h.kept) (count_up 0 n)) ≤ n * (2147483647 * 65536)) c.self.view_is
+    let few : length (flat_map (origin_packings c.args.self.now.kept) (count_up 0 n)) ≤ n * (LAST_NUMBER * MOST_ROWS) =
+    subst (λ (h : Held). length (flat_map (origin_packings h.kept) (count_up 0 n)) ≤ n * (LAST_NUMBER * MOST_ROWS)) c.self.view_is
     (few_in_origins (kinds c.self.inside.query.columns) c.self.inside.batches.entries n c.self.invariant.numbered c.self.invariant.packed) in
     let counted : all_rows c.loop-origin.inputs.items ≡ length (flat_map (origin_packings c.args.self.now.kept) (count_up 0 n)) = c.loop-origin.invariant.counted in
     subst (λ inputs. all_rows inputs < 2 ^ 57) (sym c.deref.ensures.value) (omega (arith, high, few, counted))
@@ -49,15 +51,15 @@ returns c =
     let n = c.loop-origin.origin in
     let low = c.loop-origin-test.false in
     let high = c.loop-origin.auto.origin-end in
-    let end : c.loop-origin.origin ≡ 1024 = omega (arith, low, high) in
-    let few : length (flat_map (origin_packings c.args.self.now.kept) (count_up 0 n)) ≤ n * (2147483647 * 65536) =
-    subst (λ (h : Held). length (flat_map (origin_packings h.kept) (count_up 0 n)) ≤ n * (2147483647 * 65536)) c.self.view_is
+    let end : c.loop-origin.origin ≡ ORIGINS = omega (arith, low, high) in
+    let few : length (flat_map (origin_packings c.args.self.now.kept) (count_up 0 n)) ≤ n * (LAST_NUMBER * MOST_ROWS) =
+    subst (λ (h : Held). length (flat_map (origin_packings h.kept) (count_up 0 n)) ≤ n * (LAST_NUMBER * MOST_ROWS)) c.self.view_is
     (few_in_origins (kinds c.self.inside.query.columns) c.self.inside.batches.entries n c.self.invariant.numbered c.self.invariant.packed) in
     let counted : all_rows c.loop-origin.inputs.items ≡ length (flat_map (origin_packings c.args.self.now.kept) (count_up 0 n)) = c.loop-origin.invariant.counted in
     let bounded : all_rows c.loop-origin.inputs.items < 2 ^ 57 = omega (arith, high, few, counted) in
     let all : flat_map (origin_packings c.args.self.now.kept) (count_up 0 n) ≡ known_packings c.args.self.now.kept =
     ap (λ n. flat_map (origin_packings c.args.self.now.kept) (count_up 0 n)) end
-    ∙ subst (λ (h : Held). flat_map (origin_packings h.kept) (count_up 0 1024) ≡ known_packings h.kept) c.self.view_is (all_origins c.self.inside.batches.entries c.self.invariant.numbered) in
+    ∙ subst (λ (h : Held). flat_map (origin_packings h.kept) (count_up 0 ORIGINS) ≡ known_packings h.kept) c.self.view_is (all_origins c.self.inside.batches.entries c.self.invariant.numbered) in
     if_ok c.aggregate.result (λ run. PartOf (meaning c.self.inside.query) run c.deref.result.now) (IsRunOf q (known_packings c.args.self.now.kept))
     (λ run part.
     subst (λ packed. IsRunOf q packed run) all

@@ -6,25 +6,25 @@ use Rattle.replica_merge.specs.Kept.{Held, told, ArePackedRows, IsReplica, Keeps
 use Rattle.replica_merge.proofs.KeptLaws.{early_kept, told-insert, keeps-insert}
 use Rattle.replica_merge.proofs.replica.Replica.keep_early.Goals as goal
 
-pub invariant_of-self : goal.invariant_of-self
-invariant_of-self c =
+pub invariant_of-self-2 : goal.invariant_of-self-2
+invariant_of-self-2 c =
     let kept = c.self.inside.batches.entries in
     let batch : Batch = (c.args.batch.origin, c.args.batch.number) in
-    subst (λ es. IsReplica (kinds c.self.inside.query.columns) es c.self.inside.prefixes) (sym c.in-Ok.ensures.entries)
+    subst (λ es. IsReplica (kinds c.self.inside.query.columns) es c.self.inside.prefixes) (sym c.in_ok-keep.ensures.kept)
     (early_kept (kinds c.self.inside.query.columns) kept c.self.inside.prefixes batch c.args.batch.rows c.self.invariant c.requires.limits
     (subst (λ (h : Held). ArePackedRows (kinds h.query.columns) c.args.batch.rows) (sym c.self.view_is) c.requires.rows)
     (subst (λ (h : Held). c.args.batch.number ≢ prefix (told h.kept) c.args.batch.origin + 1) (sym c.self.view_is) c.requires.early))
 
-pub returns-in-Ok-clause-told : goal.returns-in-Ok-clause-told
-returns-in-Ok-clause-told c =
+pub returns-clause-told : goal.returns-clause-told
+returns-clause-told c =
     let batch : Batch = (c.args.batch.origin, c.args.batch.number) in
-    ap told c.in-Ok.ensures.entries ∙ told-insert c.self.inside.batches.entries batch c.args.batch.rows ∙ ap (λ (h : Held). learn (told h.kept) batch) c.self.view_is
+    ap told c.in_ok-keep.ensures.kept ∙ told-insert c.self.inside.batches.entries batch c.args.batch.rows ∙ ap (λ (h : Held). learn (told h.kept) batch) c.self.view_is
 
-pub returns-in-Ok-clause-rows : goal.returns-in-Ok-clause-rows
-returns-in-Ok-clause-rows c =
+pub returns-clause-rows : goal.returns-clause-rows
+returns-clause-rows c =
     let kept = c.self.inside.batches.entries in
     let batch : Batch = (c.args.batch.origin, c.args.batch.number) in
     let rows = c.args.batch.rows in
     let unknown : knows (told kept) batch ≡ false = ap (λ (h : Held). knows (told h.kept) batch) c.self.view_is ∙ c.requires.unknown in
-    subst (λ (h : Held). KeepsRows h.kept c.insert.new.self.entries batch rows) c.self.view_is
-    (subst (λ es. KeepsRows kept es batch rows) (sym c.in-Ok.ensures.entries) (keeps-insert kept batch rows unknown))
+    subst (λ (h : Held). KeepsRows h.kept c.keep.new.batches.entries batch rows) c.self.view_is
+    (subst (λ es. KeepsRows kept es batch rows) (sym c.in_ok-keep.ensures.kept) (keeps-insert kept batch rows unknown))

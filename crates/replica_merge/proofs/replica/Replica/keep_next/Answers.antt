@@ -11,15 +11,15 @@ pub invariant_of-self-2 : goal.invariant_of-self-2
 invariant_of-self-2 c =
     let kept = c.self.inside.batches.entries in
     let batch : Batch = (c.args.batch.origin, c.args.batch.number) in
-    subst (λ es. IsReplica (kinds c.self.inside.query.columns) es c.insert-3.new.self) (sym c.in-Ok.ensures.entries)
-    (next_kept (kinds c.self.inside.query.columns) kept c.self.inside.prefixes c.insert.new.self c.insert-3.new.self batch c.args.batch.rows _ c.args.upto c.self.invariant c.requires.limits
+    subst (λ es. IsReplica (kinds c.self.inside.query.columns) es c.insert-2.new.self) (sym c.in_ok-keep.ensures.kept)
+    (next_kept (kinds c.self.inside.query.columns) kept c.self.inside.prefixes c.insert.new.self c.insert-2.new.self batch c.args.batch.rows _ c.args.upto c.self.invariant c.requires.limits
     (subst (λ (h : Held). ArePackedRows (kinds h.query.columns) c.args.batch.rows) (sym c.self.view_is) c.requires.rows)
-    (ap (λ (h : Held). prefix (learn (told h.kept) batch) c.args.batch.origin) c.self.view_is ∙ c.requires.upto) (ok_holds c.insert.result c.if-is_err.ensures.value c.insert.ensures.updates).0 c.in-Ok-insert.ensures.updates.0)
+    (ap (λ (h : Held). prefix (learn (told h.kept) batch) c.args.batch.origin) c.self.view_is ∙ c.requires.upto) (ok_holds c.insert.result c.if-is_err.ensures.value c.insert.ensures.updates).0 c.in-Ok.ensures.updates.0)
 
 pub returns-clause-told : goal.returns-clause-told
 returns-clause-told c =
     let batch : Batch = (c.args.batch.origin, c.args.batch.number) in
-    ap told c.in-Ok.ensures.entries ∙ told-insert c.self.inside.batches.entries batch c.args.batch.rows ∙ ap (λ (h : Held). learn (told h.kept) batch) c.self.view_is
+    ap told c.in_ok-keep.ensures.kept ∙ told-insert c.self.inside.batches.entries batch c.args.batch.rows ∙ ap (λ (h : Held). learn (told h.kept) batch) c.self.view_is
 
 pub returns-clause-rows : goal.returns-clause-rows
 returns-clause-rows c =
@@ -28,5 +28,5 @@ returns-clause-rows c =
     let rows = c.args.batch.rows in
     let unknown : knows (told kept) batch ≡ false =
     ap (λ (h : Held). knows (told h.kept) batch) c.self.view_is ∙ ap (λ n. knows (told c.args.self.now.kept) (c.args.batch.origin, n)) c.requires.next ∙ next_unknown (told c.args.self.now.kept) c.args.batch.origin in
-    subst (λ (h : Held). KeepsRows h.kept c.insert-2.new.self.entries batch rows) c.self.view_is
-    (subst (λ es. KeepsRows kept es batch rows) (sym c.in-Ok.ensures.entries) (keeps-insert kept batch rows unknown))
+    subst (λ (h : Held). KeepsRows h.kept c.keep.new.batches.entries batch rows) c.self.view_is
+    (subst (λ es. KeepsRows kept es batch rows) (sym c.in_ok-keep.ensures.kept) (keeps-insert kept batch rows unknown))

@@ -3,6 +3,7 @@ use Rattle.std.proofs.Common.{◌∙◌, sym, ap, subst, inl, inr, arith}
 use Rattle.std.proofs.lemmas.Bool.{cases_lt}
 use Rattle.std.proofs.lemmas.List.{map_push}
 use Rattle.grouping_model.specs.World.{Batch, Knowledge, knows, prefix, early, numbers_of}
+use Rattle.replica_merge.specs.declared.replica.TheConstants.{ORIGINS}
 use Rattle.replica_merge.specs.Kept.{Held, told, InLimits, of_origin, known_of}
 use Rattle.replica_merge.proofs.KnownLaws.{told_within, listed_all, listed_same, origin_listed, known_origin, unknown_origin, none_in, listed}
 use Rattle.replica_merge.proofs.replica.Replica.known.Goals as goal
@@ -43,5 +44,5 @@ pub returns : goal.returns
 returns c =
     let knowledge : Knowledge = told c.args.self.now.kept in
     let limits : (b : Batch) → IsTrue (knows knowledge b) → InLimits b = λ b k. told_within c.self.inside.batches.entries c.self.invariant.numbered b (ap (λ (h : Held). knows (told h.kept) b) c.self.view_is ∙ k) in
-    let end : c.loop-origin.origin ≡ 1024 = let low = c.loop-origin-test.false in let high = c.loop-origin.auto.origin-end in omega (arith, low, high) in
+    let end : c.loop-origin.origin ≡ ORIGINS = let low = c.loop-origin-test.false in let high = c.loop-origin.auto.origin-end in omega (arith, low, high) in
     c.loop-origin.invariant ∙ ap (λ n. map (of_origin knowledge) (listed knowledge n)) end ∙ ap (map (of_origin knowledge)) (listed_all knowledge limits)
