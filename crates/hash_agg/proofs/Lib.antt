@@ -1,4 +1,3 @@
-mod BatchLaws
 pub mod StateLaws
 pub mod EntryLaws
 pub mod KeyLaws

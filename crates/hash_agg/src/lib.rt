@@ -11,6 +11,3 @@ pub use aggregation::aggregate;
 pub use input::Input;
 pub use run::Run;
 pub use states::first_states;
-
-#[cfg(test)]
-mod tests;

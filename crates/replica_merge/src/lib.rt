@@ -9,6 +9,3 @@ mod showing;
 pub use delivered::{Delivered, Known, RefusedBatch};
 pub use laws::{building, fitting};
 pub use replica::Replica;
-
-#[cfg(test)]
-mod tests;
