@@ -10,8 +10,6 @@ mod numbers;
 mod parts;
 mod state_row;
 mod sums;
-#[cfg(test)]
-mod tests;
 mod truths;
 
 pub use crate::codec::MOST_ROWS;

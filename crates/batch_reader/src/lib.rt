@@ -9,6 +9,3 @@ mod rows;
 pub use batch::{Batch, build_batch};
 pub use error::BatchError;
 pub use rows::PackedRows;
-
-#[cfg(test)]
-mod tests;

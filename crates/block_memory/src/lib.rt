@@ -12,8 +12,6 @@ mod block;
 mod notes;
 mod raw;
 mod runs;
-#[cfg(test)]
-mod tests;
 
 pub use block::RawBlock;
 pub use notes::GhostNotes;

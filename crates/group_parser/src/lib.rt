@@ -15,6 +15,3 @@ pub use error::ParseError;
 pub use laws::exactly_the_grammar;
 pub use parsing::parse;
 pub use printing::print;
-
-#[cfg(test)]
-mod tests;

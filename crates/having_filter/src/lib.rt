@@ -24,6 +24,3 @@ pub use condition::{AggCall, Comparison, Cond, IsTest, Item, RawQuery};
 pub use error::QueryError;
 pub use plan::Source;
 pub use query::Query;
-
-#[cfg(test)]
-mod tests;

@@ -21,6 +21,3 @@ pub use rows::{pack_row, unpack_row};
 pub use schema::Schema;
 pub use unpacking::{unpack_into, unpack_key};
 pub use value::{Value, ValueKind};
-
-#[cfg(test)]
-mod tests;

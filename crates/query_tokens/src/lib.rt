@@ -13,6 +13,3 @@ pub use laws::{ends_of_lexemes, joined_pieces, places_in_text, spelling_is_read,
 pub use reading::tokens;
 pub use reserved::is_reserved;
 pub use word::{Symbol, Token, Word};
-
-#[cfg(test)]
-mod tests;

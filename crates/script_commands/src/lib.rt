@@ -6,6 +6,3 @@ mod request;
 
 pub use command::{Command, next_command};
 pub use request::Request;
-
-#[cfg(test)]
-mod tests;

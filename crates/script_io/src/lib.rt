@@ -12,6 +12,3 @@ pub use input::{InputError, read_input};
 pub use laws::{fronts_range, reads_are_whole, records_are_few, writes_compose};
 pub use output::{WriteFault, put_all};
 pub use records::Records;
-
-#[cfg(test)]
-mod tests;

@@ -1,0 +1,5 @@
+//! Tests of the crates that own memory, by their public calls alone.
+#![tactic(auto)]
+
+#[cfg(test)]
+mod blocks;

@@ -1,0 +1,17 @@
+use Rattle.std.specs.Prelude.{◌≡◌, ℕ, length}
+use Rattle.std.proofs.Common.{◌∙◌, ap, arith, subst}
+use Rattle.std.proofs.lemmas.List.{length-map}
+use Rattle.std.specs.declared.alloc.Global.{Global}
+use Rattle.std.specs.declared.vec.Vec.{Vec}
+use Rattle.packed_rows.specs.Columns.{kinds}
+use Rattle.batch_reader.specs.Rows.{ReadsRows, records_of}
+use Rattle.packed_rows.specs.View.{bytes_of}
+use Rattle.replica_tests.proofs.BatchLaws.{batch_packings}
+use Rattle.replica_tests.proofs.runs.packed.Goals as goal
+
+pub returns : goal.returns
+returns c =
+    let batch = c.in_ok-batch.ensures in
+    let reads = subst (λ columns. ReadsRows (kinds columns) (records_of c.deref.result.now) batch.rows.0) c.schema.ensures.columns batch.rows.1 in
+    let counted : length (bytes_of c.into_vec.result.items) ≡ length c.into_vec.result.items = length-map c.into_vec.result.items (λ (v : Vec ℕ Global). v.items) in
+    (batch.rows.0, batch_packings _ _ _ _ reads (c.into_vec.ensures ∙ batch.rows.2), omega (arith, counted, ap length c.into_vec.ensures, batch.told))

@@ -1,0 +1,70 @@
+ghost use Rattle.std.specs.Prelude.{◌≡◌, List, length, IfOk};
+ghost use Rattle.grouping_model.specs.Datum.{Row};
+ghost use Rattle.having_filter.specs.Meaning.{meaning};
+ghost use Rattle.hash_agg.specs.Inputs.{ArePackings};
+ghost use Rattle.packed_rows.specs.View.{bytes_of};
+
+use crate::fixtures::{query, records};
+use batch_reader::build_batch;
+use hash_agg::{Input, Run, aggregate, first_states};
+use having_filter::Query;
+use std::test::*;
+
+/// So many rows of the query's table, packed.
+fn packed(rt: HostRuntime, query: &Query, told: u32, lines: &[&str]) -> Result<Vec<Vec<u8>>, Fail>
+    ensures { IfOk result (λ packed. (rows : List Row)
+        × ArePackings (meaning query.now).kinds (bytes_of packed.items) rows
+        × (length packed.items ≡ told)) }
+{
+    let records = records(rt, lines)?;
+    let batch = build_batch(rt.alloc(), query.schema(), b"0", b"1", told, &records)?;
+    Ok(batch.rows.into_vec())
+}
+
+/// The bytes of a state of `count(*)`, and of a state of `sum` behind it.
+fn states(rt: HostRuntime, count: u64, total: i128) -> Result<Vec<u8>, Fail> {
+    let mut states = Vec::new(rt.alloc());
+    states.extend_from_slice(&count.to_be_bytes())?;
+    states.extend_from_slice(&count.to_be_bytes())?;
+    states.extend_from_slice(&total.to_be_bytes())?;
+    Ok(states)
+}
+
+#[test]
+fn a_run_is_aggregated_with_rows(rt: HostRuntime) -> Result<(), Fail> {
+    let query = query(rt)?;
+    let early = packed(rt, &query, 1, &["oslo,5"])?;
+    let early = aggregate(rt.alloc(), &query, &[Input::Rows(&early)])?;
+    let late = packed(rt, &query, 2, &["oslo,-2", "bergen,7"])?;
+    let inputs = [
+        Input::Groups {
+            run: &early,
+            rows: 1,
+        },
+        Input::Rows(&late),
+    ];
+    let run = aggregate(rt.alloc(), &query, &inputs)?;
+    assert_eq!(rt; run.len(), 2);
+    let (key, found) = run.group(0);
+    assert!(rt; key == b"\x01bergen\x00".as_slice());
+    assert!(rt; found == states(rt, 1, 7)?.as_slice());
+    let (key, found) = run.group(1);
+    assert!(rt; key == b"\x01oslo\x00".as_slice());
+    assert!(rt; found == states(rt, 2, 3)?.as_slice());
+    Ok(())
+}
+
+#[test]
+fn a_run_takes_groups(rt: HostRuntime) -> Result<(), Fail> {
+    let query = query(rt)?;
+    let mut run = Run::new(rt.alloc());
+    assert!(rt; run.is_empty());
+    let states = first_states(rt.alloc(), &query)?;
+    run.push(b"\x02".to_vec(rt.alloc())?, states)?;
+    assert!(rt; !run.is_empty());
+    assert_eq!(rt; run.len(), 1);
+    let groups = run.into_groups();
+    assert_eq!(rt; groups.len(), 1);
+    assert!(rt; groups[0].0.as_slice() == b"\x02".as_slice());
+    Ok(())
+}

@@ -1,0 +1,9 @@
+//! Tests of reading scripts, of their commands and of whole runs, by their crates' public calls alone.
+#![tactic(auto)]
+
+#[cfg(test)]
+mod commands;
+#[cfg(test)]
+mod machine;
+#[cfg(test)]
+mod streams;
