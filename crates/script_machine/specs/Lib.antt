@@ -3,3 +3,4 @@ pub mod Text
 pub mod Output
 pub mod Views
 pub mod Agreement
+pub mod Coding

@@ -45,12 +45,12 @@ pub(crate) struct Session {
 
 impl Model for Session {
     ghost use Rattle.std.specs.Coded.{codes};
-    ghost use Rattle.having_filter.specs.Coding.{coded_form};
+    ghost use Rattle.script_machine.specs.Coding.{coded_store};
     ghost use Rattle.script_machine.specs.Views.{Store, IsStore};
 
     ghost Value = { Store };
 
-    ghost coded = { Prim.hlevel (codes, coded_form) };
+    ghost coded = { coded_store (Prim.hlevel codes) };
 
     ghost view = { λ s.
         record { columns = s.columns; query = s.query; replicas = s.replicas.entries } };
@@ -95,6 +95,16 @@ fn read_query(alloc: Global, schema: &Schema, text: &str) -> Result<(Query, Stri
     let query = parse(alloc, schema, text)?;
     let canonical = print(alloc, &query)?;
     Ok((query, canonical))
+}
+
+/// A replica that knows nothing, behind a copy of its name.
+fn new_replica(alloc: Global, name: &[u8], query: &Query) -> Result<(Vec<u8>, Replica), AllocError>
+    ensures { IfOk result (λ made. (made.0.items ≡ name.now)
+        × (made.1 ≡ record { query = query.now; kept = [] })) }
+{
+    let query = query.try_clone()?;
+    let key = name.to_vec(alloc)?;
+    Ok((key, Replica::new(alloc, query)))
 }
 
 /// The lines of what a replica knows.
@@ -178,13 +188,11 @@ impl Session {
         if self.replicas.contains_key(name) {
             return Reply::Refused(Refusal::NameTaken);
         }
-        let Ok(query) = query.try_clone() else {
+        let Ok(made) = new_replica(self.alloc, name, query) else {
             return Reply::Refused(Refusal::NoMemory);
         };
-        let Ok(key) = name.to_vec(self.alloc) else {
-            return Reply::Refused(Refusal::NoMemory);
-        };
-        match self.replicas.insert(key, Replica::new(self.alloc, query)) {
+        let (key, replica) = made;
+        match self.replicas.insert(key, replica) {
             Ok(_) => Reply::Created(name),
             Err(_) => Reply::Refused(Refusal::NoMemory),
         }

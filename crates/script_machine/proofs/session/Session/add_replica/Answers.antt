@@ -23,20 +23,17 @@ returns-then-contains_key c = λ owned.
     subst (λ s. Steps (ask.Replica c.args.name.now) owned s (says.Refused why.NameTaken) s) c.self.view_is
     (name_taken _ c.args.name.now owned c.in-Some.query c.in-Some.is (sym c.contains_key.ensures ∙ c.if-contains_key.true))
 
-pub returns-in_default-try_clone : goal.returns-in_default-try_clone
-returns-in_default-try_clone c = λ owned. out_of_memory (ask.Replica c.args.name.now) owned c.args.self.now
-
-pub returns-in_default-to_vec : goal.returns-in_default-to_vec
-returns-in_default-to_vec c = λ owned. out_of_memory (ask.Replica c.args.name.now) owned c.args.self.now
+pub returns-in_default-new_replica : goal.returns-in_default-new_replica
+returns-in_default-new_replica c = λ owned. out_of_memory (ask.Replica c.args.name.now) owned c.args.self.now
 
 pub invariant_of-self : goal.invariant_of-self
 invariant_of-self c =
     let held : Held = record { query = c.in-Some.query; kept = [] } in
-    let same_key : c.in-Ok-to_vec.key.items ≡ c.args.name.now = search rules in
-    let cloned : c.new.result ≡ held = search rules in
+    let same_key : c.in-Ok.made.0.items ≡ c.args.name.now = c.in-Ok.ensures.0 in
+    let cloned : c.in-Ok.made.1 ≡ held = c.in-Ok.ensures.1 in
     let u : UpdatesBy (λ (x y : Vec ℕ Global). bytes_eq x.items y.items) (λ (k : Vec ℕ Global). bytes_eq c.args.name.now k.items) c.self.inside.replicas c.insert.new.self (Some held) =
     subst (λ h. UpdatesBy (λ (x y : Vec ℕ Global). bytes_eq x.items y.items) (λ (k : Vec ℕ Global). bytes_eq c.args.name.now k.items) c.self.inside.replicas c.insert.new.self (Some h)) cloned
-    (subst (λ q. UpdatesBy (λ (x y : Vec ℕ Global). bytes_eq x.items y.items) (λ (k : Vec ℕ Global). bytes_eq q k.items) c.self.inside.replicas c.insert.new.self (Some c.new.result)) same_key c.in-Ok-insert.ensures.updates) in
+    (subst (λ q. UpdatesBy (λ (x y : Vec ℕ Global). bytes_eq x.items y.items) (λ (k : Vec ℕ Global). bytes_eq q k.items) c.self.inside.replicas c.insert.new.self (Some c.in-Ok.made.1)) same_key c.in-Ok-insert.ensures.updates) in
     store_updated (record { columns = c.self.inside.columns; query = c.self.inside.query; replicas = c.self.inside.replicas.entries }) _ c.args.name.now held
     (updated c.self.inside.columns c.self.inside.query c.args.name.now held c.self.inside.replicas c.insert.new.self u) c.in-Some.is c.self.invariant
 
@@ -45,11 +42,11 @@ returns-in-Ok-insert c = λ owned.
     let held : Held = record { query = c.in-Some.query; kept = [] } in
     let old : Store = record { columns = c.self.inside.columns; query = c.self.inside.query; replicas = c.self.inside.replicas.entries } in
     let new : Store = record { columns = c.self.inside.columns; query = c.self.inside.query; replicas = c.insert.new.self.entries } in
-    let same_key : c.in-Ok-to_vec.key.items ≡ c.args.name.now = search rules in
-    let cloned : c.new.result ≡ held = search rules in
+    let same_key : c.in-Ok.made.0.items ≡ c.args.name.now = c.in-Ok.ensures.0 in
+    let cloned : c.in-Ok.made.1 ≡ held = c.in-Ok.ensures.1 in
     let u : UpdatesBy (λ (x y : Vec ℕ Global). bytes_eq x.items y.items) (λ (k : Vec ℕ Global). bytes_eq c.args.name.now k.items) c.self.inside.replicas c.insert.new.self (Some held) =
     subst (λ h. UpdatesBy (λ (x y : Vec ℕ Global). bytes_eq x.items y.items) (λ (k : Vec ℕ Global). bytes_eq c.args.name.now k.items) c.self.inside.replicas c.insert.new.self (Some h)) cloned
-    (subst (λ q. UpdatesBy (λ (x y : Vec ℕ Global). bytes_eq x.items y.items) (λ (k : Vec ℕ Global). bytes_eq q k.items) c.self.inside.replicas c.insert.new.self (Some c.new.result)) same_key c.in-Ok-insert.ensures.updates) in
+    (subst (λ q. UpdatesBy (λ (x y : Vec ℕ Global). bytes_eq x.items y.items) (λ (k : Vec ℕ Global). bytes_eq q k.items) c.self.inside.replicas c.insert.new.self (Some c.in-Ok.made.1)) same_key c.in-Ok-insert.ensures.updates) in
     subst (λ s. Steps (ask.Replica c.args.name.now) owned s (says.Created c.args.name) new) c.self.view_is
     (replica_made old new c.args.name owned c.in-Some.query c.in-Some.is (sym c.contains_key.ensures ∙ c.if-contains_key.false)
     (updated c.self.inside.columns c.self.inside.query c.args.name.now held c.self.inside.replicas c.insert.new.self u))

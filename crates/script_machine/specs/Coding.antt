@@ -1,0 +1,24 @@
+-- What a session keeps as plain parts, which tell two of them apart. All of this is our own.
+use Rattle.std.specs.Prelude.{ℕ, List, Option}
+use mathlib.Core.Path.{refl}
+use base.Stored.{Coded}
+use Rattle.std.specs.Coded.{code_by, coded×, coded_list, coded_option, coded_ℕ}
+use Rattle.std.specs.declared.alloc.Global.{Global}
+use Rattle.std.specs.declared.vec.Vec.{Vec}
+use Rattle.grouping_model.specs.Datum.{Kind}
+use Rattle.packed_rows.specs.Columns.{Column}
+use Rattle.having_filter.specs.Coding.{coded_kind, coded_checked}
+use Rattle.having_filter.specs.Meaning.{Checked}
+use Rattle.replica_merge.specs.Coding.{coded_held}
+use Rattle.replica_merge.specs.Kept.{Held}
+use Rattle.script_machine.specs.Views.{Store}
+
+abbrev pub coded_column : Coded Column
+coded_column = code_by (List ℕ × Kind) (coded× (coded_list coded_ℕ) coded_kind) (λ c. (c.name, c.kind)) (λ p. record { name = p.0; kind = p.1 }) (λ _. refl)
+
+-- given how names are told apart
+abbrev pub coded_store : Coded (Vec ℕ Global) → Coded Store
+coded_store coded_name =
+    code_by (Option (List Column) × (Option Checked × List (Vec ℕ Global × Held)))
+    (coded× (coded_option (coded_list coded_column)) (coded× (coded_option coded_checked) (coded_list (coded× coded_name coded_held))))
+    (λ s. (s.columns, (s.query, s.replicas))) (λ p. record { columns = p.0; query = p.1.0; replicas = p.1.1 }) (λ _. refl)
