@@ -57,5 +57,5 @@ abbrev pub is_named : List ℕ → Function → Bool
 is_named name function = is_value (signature function).argument && bytes_eq name (signature function).name
 
 -- the function of this name that takes values, if there is one
-abbrev pub function_named : List ℕ → Option Function
+unfoldable pub function_named : List ℕ → Option Function
 function_named name = find (is_named name) functions
