@@ -1,2 +1,3 @@
 pub mod ArgumentSteps
 pub mod RowLaws
+pub mod NamedLaws

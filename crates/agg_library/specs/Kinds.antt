@@ -1,9 +1,13 @@
--- The function of each kind of aggregate, and the width of its states.
+-- The function of each kind of aggregate, what it takes, and the width of its states.
 use Rattle.std.specs.Prelude.{ℕ, List, map, sum_by}
 use Rattle.grouping_model.specs.Aggregates as model
 use Rattle.grouping_model.specs.Aggregates.{Function}
+use Rattle.packed_rows.specs.View.{kind_of}
 use Rattle.agg_protocol.specs.States.{Shape, shape_of, width_of}
+use Rattle.agg_protocol.specs.Signatures as signatures
 use Rattle.agg_library.specs.declared.kind.AggKind.{AggKind}
+use Rattle.agg_library.specs.declared.kind.Argument.{Argument}
+use Rattle.agg_library.specs.declared.kind.Argument.TheVariants as argument
 use Rattle.agg_library.specs.declared.kind.AggKind.TheVariants.{CountRows, Count, Sum, Min, Max, BitAnd, BitOr, BitXor, BoolAnd, BoolOr, Every}
 
 -- the function that a kind names (PostgreSQL 17, 9.21 Aggregate Functions)
@@ -23,6 +27,12 @@ function_of Every = model.Every
 -- the functions that some kinds name (own)
 abbrev pub functions_of : List AggKind → List Function
 functions_of kinds = map function_of kinds
+
+-- the argument that the code names (PostgreSQL 17, 4.2.7 Aggregate Expressions)
+abbrev pub argument_of : Argument → signatures.Argument
+argument_of argument.EachRow = signatures.Each_row
+argument_of argument.AnyValue = signatures.Any_value
+argument_of (argument.ValuesOf kind) = signatures.Values_of (kind_of kind)
 
 -- what the states of a kind hold (own)
 abbrev pub kind_shape : AggKind → Shape

@@ -16,7 +16,7 @@ pub use crate::codec::MOST_ROWS;
 pub use crate::counting::{
     CountOperation, CountRows, CountValues, EachRow, EachValue, OfRows, Rows,
 };
-pub use crate::kind::AggKind;
+pub use crate::kind::{AggKind, Argument, Signature};
 pub use crate::numbers::{
     BitAnd, BitOr, BitXor, BothBits, DifferentBits, EitherBits, Greater, Lesser, Max, Min,
     NumberOperation, OfNumbers,

@@ -1,18 +1,14 @@
 -- The arguments of the aggregate functions (PostgreSQL 17, 9.21 Aggregate Functions).
-use Rattle.grouping_model.specs.Datum.{Datum, Bigint_kind, Boolean_kind, HasKind}
-use Rattle.grouping_model.specs.Aggregates.{Function, Count_rows, Count, Sum, Min, Max, Bit_and, Bit_or, Bit_xor, Bool_and, Bool_or, Every}
+use Rattle.grouping_model.specs.Datum.{Datum, HasKind}
+use Rattle.grouping_model.specs.Aggregates.{Function}
+use Rattle.agg_protocol.specs.Signatures.{Argument, Each_row, Any_value, Values_of, signature}
 
--- a value that may be a function's argument: null, or one of the function's argument kind. The counts take a value of
--- any kind (PostgreSQL 17, 9.21; that the numbers have the kind bigint alone is our own)
+-- a value that stands for an argument: any, or one that a column of the kind can have, null among them
+abbrev pub IsArgument : Argument → Datum → Type 0
+IsArgument Each_row value = Unit {0}
+IsArgument Any_value value = Unit {0}
+IsArgument (Values_of kind) value = HasKind kind value
+
+-- a value that may be a function's argument
 abbrev pub Takes : Function → Datum → Type 0
-Takes Count_rows value = Unit {0}
-Takes Count value = Unit {0}
-Takes Sum value = HasKind Bigint_kind value
-Takes Min value = HasKind Bigint_kind value
-Takes Max value = HasKind Bigint_kind value
-Takes Bit_and value = HasKind Bigint_kind value
-Takes Bit_or value = HasKind Bigint_kind value
-Takes Bit_xor value = HasKind Bigint_kind value
-Takes Bool_and value = HasKind Boolean_kind value
-Takes Bool_or value = HasKind Boolean_kind value
-Takes Every value = HasKind Boolean_kind value
+Takes function value = IsArgument (signature function).argument value

@@ -1,3 +1,4 @@
+pub mod Signatures
 pub mod Arguments
 pub mod States
 pub mod Results

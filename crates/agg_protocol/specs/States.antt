@@ -2,25 +2,8 @@
 -- (PostgreSQL 17, CREATE AGGREGATE: stype and serialfunc; which bytes those are is our own).
 use Rattle.std.specs.Prelude.{◌≡◌, ℕ, ◌-◌, ◌*◌, ◌^◌, ◌≤◌, true, false, List, [], ◌∷◌, ◌++◌, ℤ, pos, neg_ℤ, ◌≤ℤ◌, FitsSigned, Some, None}
 use Rattle.std.specs.Int.{w64, w128, cast_unsigned, bytes_high_first}
-use Rattle.grouping_model.specs.Aggregates.{Function, Count_rows, Count, Sum, Min, Max, Bit_and, Bit_or, Bit_xor, Bool_and, Bool_or, Every, Partial, Counted, Summed, Number, Truth_value}
-
--- what a state holds: a count, a sum, a number that may be absent, or a truth value that may be absent (own)
-pub data Shape : Type 0 where
-  A_count A_sum A_number A_truth : Shape
-
--- what the states of a function hold (own)
-abbrev pub shape_of : Function → Shape
-shape_of Count_rows = A_count
-shape_of Count = A_count
-shape_of Sum = A_sum
-shape_of Min = A_number
-shape_of Max = A_number
-shape_of Bit_and = A_number
-shape_of Bit_or = A_number
-shape_of Bit_xor = A_number
-shape_of Bool_and = A_truth
-shape_of Bool_or = A_truth
-shape_of Every = A_truth
+use Rattle.grouping_model.specs.Aggregates.{Partial, Counted, Summed, Number, Truth_value}
+pub use Rattle.agg_protocol.specs.Signatures.{Shape, A_count, A_sum, A_number, A_truth, shape_of}
 
 -- how many bytes a state has (own)
 abbrev pub width_of : Shape → ℕ

@@ -23,7 +23,8 @@ use Rattle.query_grammar.proofs.FirstFaults.{unexpected_found, too_deep_found}
 use Rattle.query_grammar.proofs.Writables.{query_writable}
 use Rattle.group_parser.specs.declared.error.ParseError.{ParseError}
 use Rattle.group_parser.specs.Parsing as parsing
-use Rattle.group_parser.specs.declared.error.ParseError.TheVariants.{Syntax, TooMany, TooDeep}
+use Rattle.group_parser.specs.declared.error.ParseError.TheVariants.{Syntax, Query}
+use Rattle.having_filter.specs.declared.error.QueryError.TheVariants.{TooMany, TooDeep}
 use Rattle.group_parser.specs.Parsing.{most_bytes, of_fault, place_of_left, Accepts, Refuses, query_read, tokens_read, written_in, query_checked, written_checked}
 
 -- the tokens of a query, where one is written in a text
@@ -45,7 +46,7 @@ of_tokens : (text : List ℕ) (written : Written (List ℕ)) (r : Result (List P
 of_tokens text written (Ok ts) short read e = of_read text ts written (query_at most_open (lexemes_of ts)) short read refl e
 of_tokens text written (Err fault) short read e = absurd cc
 
-of_size : (text : List ℕ) (written : Written (List ℕ)) (b : Bool) → nat_lt most_bytes (length text) ≡ b → cond b (Err TooMany) (tokens_read (length text) (tokens_in text)) ≡ Ok written → IsWrittenIn text written
+of_size : (text : List ℕ) (written : Written (List ℕ)) (b : Bool) → nat_lt most_bytes (length text) ≡ b → cond b (Err (Query TooMany)) (tokens_read (length text) (tokens_in text)) ≡ Ok written → IsWrittenIn text written
 of_size text written true size e = absurd cc
 of_size text written false size e = of_tokens text written (tokens_in text) (omega (arith, ltb-false most_bytes (length text) size)) refl e
 
@@ -72,7 +73,7 @@ by_read columns text ts error (Err (Unexpected left)) short read e f =
     let same : Syntax (place_of_left (length text) ts left) ≡ error = cc in
     subst (Refuses columns text) same (parsing.unexpected ts left short read (is_unexpected most_open (lexemes_of ts) left e))
 by_read columns text ts error (Err (Too_deep left)) short read e f =
-    let same : TooDeep ≡ error = cc in
+    let same : Query TooDeep ≡ error = cc in
     subst (Refuses columns text) same (parsing.too_deep ts left short read (is_too_deep most_open (lexemes_of ts) left e))
 
 by_tokens : (columns : List Column) (text : List ℕ) (error : ParseError) (r : Result (List Placed) Fault) → length text ≤ most_bytes → tokens_in text ≡ r → tokens_read (length text) r ≡ Err error → Refuses columns text error
@@ -81,9 +82,9 @@ by_tokens columns text error (Err fault) short read e =
     let same : of_fault fault ≡ error = cc in
     subst (Refuses columns text) same (parsing.no_tokens fault short read)
 
-by_size : (columns : List Column) (text : List ℕ) (error : ParseError) (b : Bool) → nat_lt most_bytes (length text) ≡ b → cond b (Err TooMany) (tokens_read (length text) (tokens_in text)) ≡ Err error → Refuses columns text error
+by_size : (columns : List Column) (text : List ℕ) (error : ParseError) (b : Bool) → nat_lt most_bytes (length text) ≡ b → cond b (Err (Query TooMany)) (tokens_read (length text) (tokens_in text)) ≡ Err error → Refuses columns text error
 by_size columns text error true size e =
-    let same : TooMany ≡ error = cc in
+    let same : Query TooMany ≡ error = cc in
     subst (Refuses columns text) same (parsing.too_long (ltb-true most_bytes (length text) size))
 by_size columns text error false size e = by_tokens columns text error (tokens_in text) (omega (arith, ltb-false most_bytes (length text) size)) refl e
 
@@ -91,7 +92,7 @@ pub refuses_text : (columns : List Column) (text : List ℕ) (error : ParseError
 unfolding written_in
 refuses_text columns text error e = by_size columns text error (nat_lt most_bytes (length text)) refl e
 
-pub refuses_query : (columns : List Column) (text : List ℕ) (written : Written (List ℕ)) (error : QueryError) → written_in text ≡ Ok written → checked columns written ≡ Err error → Refuses columns text (parsing.of_query_error error)
+pub refuses_query : (columns : List Column) (text : List ℕ) (written : Written (List ℕ)) (error : QueryError) → written_in text ≡ Ok written → checked columns written ≡ Err error → Refuses columns text (Query error)
 refuses_query columns text written error e f =
     let w = is_written_in text written e in
     parsing.unchecked w.tokens written error w.short w.read w.is_query f
@@ -127,7 +128,7 @@ of_refusal columns text error (Ok written) e f = of_checks (checked columns writ
   where
     of_checks : (c : Result Checked QueryError) → checked columns written ≡ c → query_checked c ≡ Err error → Refuses columns text error
     of_checks (Ok p) g h = absurd cc
-    of_checks (Err fault) g h = let same : parsing.of_query_error fault ≡ error = cc in subst (Refuses columns text) same (refuses_query columns text written fault e g)
+    of_checks (Err fault) g h = let same : Query fault ≡ error = cc in subst (Refuses columns text) same (refuses_query columns text written fault e g)
 of_refusal columns text error (Err fault) e f = let same : fault ≡ error = cc in refuses_text columns text error (e ∙ ap (λ (x : ParseError). Err x) same)
 
 pub parses_refuses : (columns : List Column) (text : List ℕ) (error : ParseError) → parsing.parsing columns text ≡ Err error → Refuses columns text error

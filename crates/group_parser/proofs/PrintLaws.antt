@@ -5,8 +5,9 @@ use Rattle.std.specs.Str.{bytes_eq}
 use Rattle.std.proofs.lemmas.Bool.{ltb-false, or_parts}
 use Rattle.query_tokens.specs.Spelling.{lexemes_of}
 use Rattle.packed_rows.specs.Columns.{Column, kinds}
+use Rattle.grouping_model.specs.declared.limits.TheConstants.{MOST_ITEMS, MOST_KEYS, MOST_CALLS, LONGEST_QUERY}
 use Rattle.having_filter.specs.Forms.{Written}
-use Rattle.having_filter.specs.Sameness.{distinct}
+use Rattle.having_filter.specs.Sameness.{first_of_each}
 use Rattle.having_filter.specs.Meaning.{Checked, distinct_calls}
 use Rattle.having_filter.specs.Spelling.{spelling}
 use Rattle.having_filter.specs.Checks.{all_of, has_too_many, is_shallow, are_shallow, filters_pass, has_columns, placed, are_plain, kinds_fit, is_grouped, checked_places, checked}
@@ -58,12 +59,16 @@ is_canonical q passed =
     let same = is_placed q.columns p q (are_plain p) (kinds_fit (kinds q.columns) p) (is_grouped p) refl refl refl (sym (reaches_places q.columns w first) ∙ passed) in
     sym (ap by_names same ∙ named_again q.columns w (columns_of_query q.columns w first.columns_there))
 
-short_of : (w : Written (List ℕ)) → has_too_many w ≡ false → length (spelling w) ≤ 16384
+short_of : (w : Written (List ℕ)) → has_too_many w ≡ false → length (spelling w) ≤ LONGEST_QUERY
 short_of w few =
-    let one = or_parts (nat_lt 64 (length w.items)) (nat_lt 16 (length (distinct bytes_eq w.keys)) || (nat_lt 32 (length (distinct_calls bytes_eq w)) || nat_lt 16384 (length (spelling w)))) few in
-    let two = or_parts (nat_lt 16 (length (distinct bytes_eq w.keys))) (nat_lt 32 (length (distinct_calls bytes_eq w)) || nat_lt 16384 (length (spelling w))) one.1 in
-    let three = or_parts (nat_lt 32 (length (distinct_calls bytes_eq w))) (nat_lt 16384 (length (spelling w))) two.1 in
-    ltb-false 16384 (length (spelling w)) three.1
+    let items = nat_lt MOST_ITEMS (length w.items) in
+    let keys = nat_lt MOST_KEYS (length (first_of_each bytes_eq w.keys)) in
+    let calls = nat_lt MOST_CALLS (length (distinct_calls bytes_eq w)) in
+    let bytes = nat_lt LONGEST_QUERY (length (spelling w)) in
+    let one = or_parts items (keys || (calls || bytes)) few in
+    let two = or_parts keys (calls || bytes) one.1 in
+    let three = or_parts calls bytes two.1 in
+    ltb-false LONGEST_QUERY (length (spelling w)) three.1
 
 pub parsed_again : (q : Checked) (text : List ℕ) → kept.IsQuery q → text ≡ spelling (by_names q) → Accepts q.columns text q
 parsed_again q text is same =

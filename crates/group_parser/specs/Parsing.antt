@@ -8,6 +8,7 @@ use Rattle.query_tokens.specs.declared.fault.TokenError.TheVariants as tokens
 use Rattle.query_tokens.specs.Words.{Placed}
 use Rattle.query_tokens.specs.Tokens.{tokens_in}
 use Rattle.query_tokens.specs.Spelling.{lexemes_of}
+use Rattle.grouping_model.specs.declared.limits.TheConstants.{LONGEST_QUERY}
 use Rattle.packed_rows.specs.Columns.{Column}
 use Rattle.having_filter.specs.declared.error.QueryError.{QueryError}
 use Rattle.having_filter.specs.declared.error.QueryError.TheVariants as checks
@@ -19,29 +20,24 @@ use Rattle.query_grammar.specs.Reading.{Read, Unexpected, Too_deep}
 use Rattle.query_grammar.specs.Whole.{query_at}
 use Rattle.query_grammar.specs.Laws.{IsUnexpected, IsTooDeep}
 use Rattle.group_parser.specs.declared.error.ParseError.{ParseError}
-use Rattle.group_parser.specs.declared.error.ParseError.TheVariants.{NoMemory, Syntax, NumberTooLarge, NoSuchColumn, NotGrouped, TypeMismatch, AggregateHere, TooMany, TooDeep}
+use Rattle.group_parser.specs.declared.error.ParseError.TheVariants.{Syntax, NumberTooLarge, Query}
 
 -- how many bytes a query's text may have
 abbrev pub most_bytes : ℕ
-most_bytes = 16384
+most_bytes = LONGEST_QUERY
 
--- the errors of tokens and of checks
+-- want of memory, which is no fault of a text
+abbrev pub no_memory : ParseError
+no_memory = Query checks.NoMemory
+
+-- the errors of tokens
 abbrev pub of_fault : Fault → ParseError
 of_fault (faults.Syntax at) = Syntax at
 of_fault faults.NumberTooLarge = NumberTooLarge
 
 abbrev pub of_token_error : TokenError → ParseError
-of_token_error tokens.NoMemory = NoMemory
+of_token_error tokens.NoMemory = no_memory
 of_token_error (tokens.Fault fault) = of_fault fault
-
-abbrev pub of_query_error : QueryError → ParseError
-of_query_error checks.NoMemory = NoMemory
-of_query_error checks.NoSuchColumn = NoSuchColumn
-of_query_error checks.NotGrouped = NotGrouped
-of_query_error checks.TypeMismatch = TypeMismatch
-of_query_error checks.AggregateHere = AggregateHere
-of_query_error checks.TooMany = TooMany
-of_query_error checks.TooDeep = TooDeep
 
 -- the place of the first of the last `left` tokens of a text; the text's length where there are none
 abbrev pub place_of_left : ℕ → List Placed → ℕ → ℕ
@@ -59,7 +55,7 @@ pub record Accepts (columns : List Column) (text : List ℕ) (q : Checked) : Typ
 -- a text is no query over these columns, in the order in which that is found
 pub data Refuses (columns : List Column) (text : List ℕ) : ParseError → Type 0 where
   -- it is too long
-  too_long : most_bytes < length text → Refuses columns text TooMany
+  too_long : most_bytes < length text → Refuses columns text (Query checks.TooMany)
   -- it has no tokens
   no_tokens : (fault : Fault) → length text ≤ most_bytes → tokens_in text ≡ Err fault → Refuses columns text (of_fault fault)
   -- a token can't stand where it does, or the text ends where a query can't end
@@ -67,28 +63,28 @@ pub data Refuses (columns : List Column) (text : List ℕ) : ParseError → Type
       → Refuses columns text (Syntax (place_of_left (length text) ts left))
   -- a parenthesis is one too many
   too_deep : (ts : List Placed) (left : ℕ) → length text ≤ most_bytes → tokens_in text ≡ Ok ts → IsTooDeep most_open (lexemes_of ts) left
-      → Refuses columns text TooDeep
+      → Refuses columns text (Query checks.TooDeep)
   -- a check doesn't pass
   unchecked : (ts : List Placed) (written : Written (List ℕ)) (error : QueryError) → length text ≤ most_bytes → tokens_in text ≡ Ok ts
-      → IsQuery most_open (lexemes_of ts) written → checked columns written ≡ Err error → Refuses columns text (of_query_error error)
+      → IsQuery most_open (lexemes_of ts) written → checked columns written ≡ Err error → Refuses columns text (Query error)
 
 -- the same by functions: the query that a text says, or the first fault
 abbrev pub query_read : ℕ → List Placed → Read (Written (List ℕ)) → Result (Written (List ℕ)) ParseError
 query_read end ts (Ok x) = Ok x.0
 query_read end ts (Err (Unexpected left)) = Err (Syntax (place_of_left end ts left))
-query_read end ts (Err (Too_deep left)) = Err TooDeep
+query_read end ts (Err (Too_deep left)) = Err (Query checks.TooDeep)
 
 abbrev pub tokens_read : ℕ → Result (List Placed) Fault → Result (Written (List ℕ)) ParseError
 tokens_read end (Err fault) = Err (of_fault fault)
 tokens_read end (Ok ts) = query_read end ts (query_at most_open (lexemes_of ts))
 
 unfoldable pub written_in : List ℕ → Result (Written (List ℕ)) ParseError
-written_in text = if nat_lt most_bytes (length text) then Err TooMany else tokens_read (length text) (tokens_in text)
+written_in text = if nat_lt most_bytes (length text) then Err (Query checks.TooMany) else tokens_read (length text) (tokens_in text)
 
 -- and the query that passed the checks
 abbrev pub query_checked : Result Checked QueryError → Result Checked ParseError
 query_checked (Ok q) = Ok q
-query_checked (Err error) = Err (of_query_error error)
+query_checked (Err error) = Err (Query error)
 
 abbrev pub written_checked : List Column → Result (Written (List ℕ)) ParseError → Result Checked ParseError
 written_checked columns (Ok written) = query_checked (checked columns written)

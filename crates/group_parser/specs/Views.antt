@@ -1,5 +1,5 @@
 -- What the code's tokens, conditions and faults stand for. All of this is our own.
-use Rattle.std.specs.Prelude.{◌≡◌, ℕ, Bool, true, false, List, option_map, string_bytes, Option, Result, Ok, Err}
+use Rattle.std.specs.Prelude.{◌≡◌, ℕ, Bool, List, option_map, string_bytes, Option, Result, Ok, Err}
 use Rattle.std.specs.declared.alloc.Global.{Global}
 use Rattle.std.specs.declared.string.String.{String}
 use Rattle.query_tokens.specs.declared.word.Token.{Token}
@@ -35,8 +35,7 @@ alias_read alias = option_map string_bytes alias
 
 -- an IS test of a condition, or an IS NOT test
 abbrev pub test_form : model.Test → Bool → Named → Named
-test_form test false x = form.Is test x
-test_form test true x = form.Is_not test x
+test_form test negated x = form.Unary (form.Testing test negated) x
 
 -- an error is the fault that reading gives, unless an allocation failed
 abbrev pub Fails : {Y : Type 0} → ReadError → Read Y → Type 0

@@ -4,14 +4,12 @@ ghost use Rattle.std.specs.Prelude.{◌≡◌, ◌<◌, ◌==◌, option_map, If
 ghost use Rattle.grouping_model.specs.Condition as model;
 ghost use Rattle.query_tokens.specs.Words.{lexeme_of};
 ghost use Rattle.having_filter.specs.Forms.{comparison_of, test_of};
-ghost use Rattle.agg_library.specs.Kinds.{function_of};
-ghost use Rattle.query_grammar.specs.Terminals.{is_word, is_sign, symbol_number, function_named, comparison_named};
+ghost use Rattle.query_grammar.specs.Terminals.{is_word, is_sign, symbol_number, comparison_named};
 ghost use Rattle.query_grammar.specs.Reading.{after, after_comparison, expect, name_at, looked_for, tested};
 ghost use Rattle.query_grammar.specs.Grammar.{Named};
 ghost use Rattle.group_parser.specs.Views.{lexemes, Gives, test_form};
 
 use crate::fault::{Read, ReadError};
-use agg_library::AggKind;
 use having_filter::{Comparison, IsTest};
 use query_tokens::{Symbol, Token, Word, is_reserved};
 use std::alloc::Global;
@@ -104,26 +102,6 @@ pub(crate) fn name<'a>(alloc: Global, tokens: &'a [Token]) -> Read<'a, String>
             _ => Err(ReadError::Unexpected(tokens.len())),
         },
         _ => Err(ReadError::Unexpected(tokens.len())),
-    }
-}
-
-/// The function of one argument that a name calls.
-#[tactic(auto, unfolding(query_grammar::specs::Terminals::function_named))]
-pub(crate) fn function_named(name: &str) -> Option<AggKind>
-    ensures { option_map function_of result ≡ function_named name.now }
-{
-    match name {
-        "count" => Some(AggKind::Count),
-        "sum" => Some(AggKind::Sum),
-        "min" => Some(AggKind::Min),
-        "max" => Some(AggKind::Max),
-        "bit_and" => Some(AggKind::BitAnd),
-        "bit_or" => Some(AggKind::BitOr),
-        "bit_xor" => Some(AggKind::BitXor),
-        "bool_and" => Some(AggKind::BoolAnd),
-        "bool_or" => Some(AggKind::BoolOr),
-        "every" => Some(AggKind::Every),
-        _ => None,
     }
 }
 

@@ -8,15 +8,13 @@ ghost use Rattle.query_grammar.specs.Reading.{is_count, argument_at, filter_at, 
 ghost use Rattle.group_parser.specs.Views.{lexemes, condition_read, call_read, item_read, alias_read, Gives};
 
 use crate::conditions::condition;
-use crate::cursor::{after_symbol, after_word, expect_symbol, expect_word, function_named, name};
+use crate::cursor::{after_symbol, after_word, expect_symbol, expect_word, name};
 use crate::fault::{Read, ReadError};
 use agg_library::AggKind;
+use grouping_model::limits::MOST_OPEN;
 use having_filter::{AggCall, Cond, Item};
 use query_tokens::{Symbol, Token, Word, is_reserved};
 use std::alloc::{AllocError, Global};
-
-/// How many parentheses of one condition may be open at once.
-pub(crate) const MOST_OPEN: usize = 64;
 
 /// Whether a function is `count`.
 fn is_count(kind: AggKind) -> bool
@@ -116,7 +114,7 @@ pub(crate) fn column_or_call<'a>(
         (lexemes tokens.now)) }
     ensures shorter { IfOk result (λ x. length x.1.now ≤ length tokens.now) }
 {
-    if let Some(kind) = function_named(name) {
+    if let Some(kind) = AggKind::named(name) {
         if let Some(behind) = after_symbol(tokens, Symbol::Open) {
             let (call, rest) = call(alloc, kind, behind)?;
             return Ok((Item::Call(call), rest));

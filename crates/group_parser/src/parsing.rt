@@ -9,19 +9,16 @@ ghost use Rattle.having_filter.specs.Writable.{IsWritable};
 ghost use Rattle.query_grammar.specs.Queries.{most_open};
 ghost use Rattle.query_grammar.specs.Whole.{query_at};
 ghost use Rattle.group_parser.specs.Views.{lexemes};
-ghost use Rattle.group_parser.specs.Parsing.{Accepts, Refuses, place_of_left, query_read, tokens_read, written_in};
-ghost use Rattle.group_parser.specs.declared.error.ParseError.TheVariants.{NoMemory};
+ghost use Rattle.group_parser.specs.Parsing.{no_memory, Accepts, Refuses, place_of_left, query_read, tokens_read, written_in};
 
 use crate::error::ParseError;
 use crate::fault::ReadError;
 use crate::query::query;
-use having_filter::{Query, RawQuery};
+use grouping_model::limits::LONGEST_QUERY;
+use having_filter::{Query, QueryError, RawQuery};
 use packed_rows::Schema;
 use query_tokens::{Token, tokens};
 use std::alloc::Global;
-
-/// The most bytes of a query's text.
-const MOST_BYTES: usize = 16_384;
 
 /// The place of the first of the last tokens of a text, of which so many are left; the text's length where there are none.
 fn place_of_left(end: usize, tokens: &[Token], left: usize) -> usize
@@ -37,16 +34,16 @@ fn place_of_left(end: usize, tokens: &[Token], left: usize) -> usize
 fn read_tokens(alloc: Global, end: usize, tokens: &[Token]) -> Result<RawQuery, ParseError>
     ensures read { IfOk result (λ raw. query_read end (all_placed tokens.now)
         (query_at most_open (lexemes tokens.now)) ≡ Ok (written_of raw)) }
-    ensures refused { IfErr result (λ e. e ≢ NoMemory → query_read end (all_placed tokens.now)
+    ensures refused { IfErr result (λ e. e ≢ no_memory → query_read end (all_placed tokens.now)
         (query_at most_open (lexemes tokens.now)) ≡ Err e) }
 {
     match query(alloc, tokens) {
         Ok(raw) => Ok(raw),
-        Err(ReadError::NoMemory) => Err(ParseError::NoMemory),
+        Err(ReadError::NoMemory) => Err(ParseError::Query(QueryError::NoMemory)),
         Err(ReadError::Unexpected(left)) => Err(ParseError::Syntax {
             at: place_of_left(end, tokens, left),
         }),
-        Err(ReadError::TooDeep(_)) => Err(ParseError::TooDeep),
+        Err(ReadError::TooDeep(_)) => Err(ParseError::Query(QueryError::TooDeep)),
     }
 }
 
@@ -54,10 +51,10 @@ fn read_tokens(alloc: Global, end: usize, tokens: &[Token]) -> Result<RawQuery, 
 #[tactic(auto, unfolding(crate::specs::Parsing::written_in))]
 fn read_text(alloc: Global, text: &str) -> Result<RawQuery, ParseError>
     ensures read { IfOk result (λ raw. written_in text.now ≡ Ok (written_of raw)) }
-    ensures refused { IfErr result (λ e. e ≢ NoMemory → written_in text.now ≡ Err e) }
+    ensures refused { IfErr result (λ e. e ≢ no_memory → written_in text.now ≡ Err e) }
 {
-    if text.len() > MOST_BYTES {
-        return Err(ParseError::TooMany);
+    if text.len() > LONGEST_QUERY {
+        return Err(ParseError::Query(QueryError::TooMany));
     }
     match tokens(alloc, text) {
         Ok(found) => read_tokens(alloc, text.len(), &found),
@@ -76,7 +73,7 @@ fn read_text(alloc: Global, text: &str) -> Result<RawQuery, ParseError>
 #[tactic(auto, using(crate::proofs::ParseLaws::accepts, crate::proofs::ParseLaws::refuses_text, crate::proofs::ParseLaws::refuses_query, crate::proofs::ParseLaws::can_be_written))]
 pub fn parse(alloc: Global, schema: &Schema, text: &str) -> Result<Query, ParseError>
     ensures accepted { IfOk result (λ q. Accepts schema.now text.now q) }
-    ensures refused { IfErr result (λ e. e ≢ NoMemory → Refuses schema.now text.now e) }
+    ensures refused { IfErr result (λ e. e ≢ no_memory → Refuses schema.now text.now e) }
 {
     let raw = read_text(alloc, text)?;
     match Query::check(alloc, schema, &raw) {

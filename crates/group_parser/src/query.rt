@@ -10,7 +10,8 @@ ghost use Rattle.group_parser.specs.Views.{lexemes, condition_read, item_read, a
 use crate::conditions::condition;
 use crate::cursor::{after_symbol, after_word, expect_word, name};
 use crate::fault::{Read, ReadError};
-use crate::operands::{MOST_OPEN, column_or_call};
+use crate::operands::column_or_call;
+use grouping_model::limits::MOST_OPEN;
 use having_filter::{Cond, Item, RawQuery};
 use query_tokens::{Symbol, Token, Word, is_reserved};
 use std::alloc::Global;

@@ -1,10 +1,50 @@
 -- Laws of the distinct members of a list.
-use Rattle.std.proofs.Common.{◌≡◌, Bool, true, false, List, [], ◌∷◌, ◌++◌, map, refl, ap, sym, ◌∙◌}
+use Rattle.std.proofs.Common.{◌≡◌, ℕ, ◌+◌, ◌<◌, Bool, true, false, List, [], ◌∷◌, ◌++◌, map, take, length, get_or, add-one, refl, ap, sym, ◌∙◌}
+use Rattle.std.proofs.Math.Seq.{take-suc}
 use Rattle.std.specs.List.{list_any, list_all, AllByRecursion}
 use Rattle.std.proofs.lemmas.Bool.{and_parts, and_from}
 use Rattle.std.proofs.lemmas.List.{map-append}
-use Rattle.having_filter.specs.Sameness.{with_one, with_each, distinct}
-use Rattle.having_filter.proofs.FormLaws.{with_each_append}
+use Rattle.having_filter.specs.Sameness.{with_one, with_each, first_of_each}
+
+-- a member more, where none is the same, and where one is
+pub with_one_more : {A : Type 0} (same : A → A → Bool) (xs : List A) (x : A) → list_any (same x) xs ≡ false → xs ++ x ∷ [] ≡ with_one same xs x
+with_one_more same xs x e = rw e refl
+
+pub with_one_there : {A : Type 0} (same : A → A → Bool) (xs : List A) (x : A) → list_any (same x) xs ≡ true → xs ≡ with_one same xs x
+with_one_there same xs x e = rw e refl
+
+-- the same of a list of images
+pub any_mapped : {A B : Type 0} (p : B → Bool) (f : A → B) (xs : List A) → list_any p (map f xs) ≡ list_any (λ x. p (f x)) xs
+any_mapped p f [] = refl
+any_mapped p f (x ∷ xs) = rw (any_mapped p f xs) refl
+
+pub image_more : {A B : Type 0} (same : B → B → Bool) (f : A → B) (xs : List A) (x : A) → list_any (λ y. same (f x) (f y)) xs ≡ false → map f (xs ++ x ∷ []) ≡ with_one same (map f xs) (f x)
+image_more same f xs x e = map-append f xs (x ∷ []) ∙ with_one_more same (map f xs) (f x) (any_mapped (same (f x)) f xs ∙ e)
+
+pub image_there : {A B : Type 0} (same : B → B → Bool) (f : A → B) (xs : List A) (x : A) → list_any (λ y. same (f x) (f y)) xs ≡ true → map f xs ≡ with_one same (map f xs) (f x)
+image_there same f xs x e = with_one_there same (map f xs) (f x) (any_mapped (same (f x)) f xs ∙ e)
+
+-- the members of two lists, one list after the other
+pub with_each_append : {A : Type 0} (same : A → A → Bool) (members xs ys : List A) → with_each same members (xs ++ ys) ≡ with_each same (with_each same members xs) ys
+with_each_append same members [] ys = refl
+with_each_append same members (x ∷ xs) ys = with_each_append same (with_one same members x) xs ys
+
+pub one_more : {A : Type 0} (same : A → A → Bool) (xs : List A) (x : A) → first_of_each same (xs ++ x ∷ []) ≡ with_one same (first_of_each same xs) x
+one_more same xs x = with_each_append same [] xs (x ∷ [])
+
+-- one member more of a list that is gone over
+next_front : {A : Type 0} (xs : List A) (i : ℕ) (x : A) → i < length xs → x ≡ get_or xs i x → take (i + 1) xs ≡ take i xs ++ x ∷ []
+next_front xs i x low is = ap (λ n. take n xs) (add-one i) ∙ take-suc xs i x low ∙ ap (λ y. take i xs ++ y ∷ []) (sym is)
+
+pub one_step : {A B : Type 0} (same : B → B → Bool) (f : A → B) (xs : List A) (i : ℕ) (x : A) → i < length xs → x ≡ get_or xs i x → first_of_each same (map f (take (i + 1) xs)) ≡ with_one same (first_of_each same (map f (take i xs))) (f x)
+one_step same f xs i x low is =
+    ap (λ front. first_of_each same (map f front)) (next_front xs i x low is)
+    ∙ ap (first_of_each same) (map-append f (take i xs) (x ∷ [])) ∙ one_more same (map f (take i xs)) (f x)
+
+-- a list that is gone over, changed twice
+pub maps_joined : {A B D : Type 0} (f : A → B) (g : B → D) (xs : List A) → map g (map f xs) ≡ map (λ x. g (f x)) xs
+maps_joined f g [] = refl
+maps_joined f g (x ∷ xs) = λ i. g (f x) ∷ maps_joined f g xs i
 
 -- what passes a test is there for each member, and back
 pub all_pass : {A : Type 0} (p : A → Bool) (xs : List A) → list_all p xs ≡ true → AllByRecursion (λ x. p x ≡ true) xs
@@ -28,21 +68,21 @@ pub all_each : {A : Type 0} (P : A → Type 0) (same : A → A → Bool) (member
 all_each P same members [] all more = all
 all_each P same members (x ∷ xs) all more = all_each P same (with_one same members x) xs (all_one P same members x (list_any (same x) members) refl all more.0) more.1
 
-pub all_distinct : {A : Type 0} (P : A → Type 0) (same : A → A → Bool) (xs : List A) → AllByRecursion P xs → AllByRecursion P (distinct same xs)
+pub all_distinct : {A : Type 0} (P : A → Type 0) (same : A → A → Bool) (xs : List A) → AllByRecursion P xs → AllByRecursion P (first_of_each same xs)
 all_distinct P same xs all = all_each P same [] xs tt all
 
 -- the distinct members of distinct members are these
-one_again : {A : Type 0} (same : A → A → Bool) (members : List A) (x : A) (there : Bool) → list_any (same x) members ≡ there → distinct same members ≡ members → distinct same (with_one same members x) ≡ with_one same members x
+one_again : {A : Type 0} (same : A → A → Bool) (members : List A) (x : A) (there : Bool) → list_any (same x) members ≡ there → first_of_each same members ≡ members → first_of_each same (with_one same members x) ≡ with_one same members x
 one_again same members x true e again = rw e again
 one_again same members x false e again =
     let joined = with_each_append same [] members (x ∷ []) in
     rw e (joined ∙ ap (λ those. with_one same those x) again ∙ rw e refl)
 
-each_again : {A : Type 0} (same : A → A → Bool) (members xs : List A) → distinct same members ≡ members → distinct same (with_each same members xs) ≡ with_each same members xs
+each_again : {A : Type 0} (same : A → A → Bool) (members xs : List A) → first_of_each same members ≡ members → first_of_each same (with_each same members xs) ≡ with_each same members xs
 each_again same members [] again = again
 each_again same members (x ∷ xs) again = each_again same (with_one same members x) xs (one_again same members x (list_any (same x) members) refl again)
 
-pub distinct_again : {A : Type 0} (same : A → A → Bool) (xs : List A) → distinct same (distinct same xs) ≡ distinct same xs
+pub distinct_again : {A : Type 0} (same : A → A → Bool) (xs : List A) → first_of_each same (first_of_each same xs) ≡ first_of_each same xs
 distinct_again same xs = each_again same [] xs refl
 
 -- two ways to compare agree on the images of what passes
@@ -67,5 +107,5 @@ each_image P f after before same members (x ∷ xs) all more =
     ap (λ those. with_each after those (map f xs)) (one_image P f after before same members x (list_any (before x) members) refl more.0 all)
     ∙ each_image P f after before same (with_one before members x) xs (all_one P before members x (list_any (before x) members) refl all more.0) more.1
 
-pub distinct_image : {A B : Type 0} (P : A → Type 0) (f : A → B) (after : B → B → Bool) (before : A → A → Bool) → Agrees P f after before → (xs : List A) → AllByRecursion P xs → distinct after (map f xs) ≡ map f (distinct before xs)
+pub distinct_image : {A B : Type 0} (P : A → Type 0) (f : A → B) (after : B → B → Bool) (before : A → A → Bool) → Agrees P f after before → (xs : List A) → AllByRecursion P xs → first_of_each after (map f xs) ≡ map f (first_of_each before xs)
 distinct_image P f after before same xs all = each_image P f after before same [] xs tt all

@@ -7,16 +7,18 @@ use Rattle.std.specs.Option.{ForSome, option_map_or}
 use Rattle.std.proofs.lemmas.Bool.{and_parts, and_from}
 use Rattle.std.proofs.lemmas.List.{length-map}
 use Rattle.std.proofs.lemmas.List.Folds.{list_all-map}
+use Rattle.grouping_model.specs.declared.limits.TheConstants.{MOST_ITEMS, MOST_KEYS, MOST_CALLS, LONGEST_QUERY}
 use Rattle.packed_rows.specs.Columns.{Column, IsColumnName}
 use Rattle.having_filter.specs.Forms.{Form, Written, map_form}
-use Rattle.having_filter.specs.Checks.{all_of, has_too_many, is_shallow, are_shallow, filters_pass, columns_pass, is_column, has_columns, place, placed, checked_places, checked}
-use Rattle.having_filter.specs.Sameness.{distinct}
+use Rattle.having_filter.specs.Checks.{all_of, has_too_many, is_shallow, are_shallow, is_column, has_columns, place, placed, checked_places, checked}
+use Rattle.having_filter.specs.Sameness.{first_of_each}
 use Rattle.having_filter.specs.Spelling.{own_name, kept_alias, item_text, spelling}
-use Rattle.having_filter.specs.Meaning.{calls_in, distinct_calls}
+use Rattle.having_filter.specs.Reads.{calls_in, columns_pass, filters_pass}
+use Rattle.having_filter.specs.Meaning.{distinct_calls}
 use Rattle.having_filter.specs.Writable.{IsItem, IsWritable}
 use Rattle.having_filter.specs.Kept.{name_at, by_names, label_of}
 use Rattle.having_filter.proofs.DistinctLaws.{all_pass, pass_all, all_distinct, distinct_again}
-use Rattle.having_filter.proofs.ColumnLaws.{form_back}
+use Rattle.having_filter.proofs.FormLaws.{form_back}
 use Rattle.having_filter.proofs.PlaceLaws.{names_back, list_back, distinct_places}
 
 -- an item without an alias that is its own name, and a query of such items that has each column of GROUP BY once
@@ -30,7 +32,7 @@ abbrev pub placed_item : List Column → Form (List ℕ) × Option (List ℕ) �
 placed_item columns item = (map_form (place columns) item.0, kept_alias (own_name item.0) item.1)
 
 abbrev pub normal : Written (List ℕ) → Written (List ℕ)
-normal q = record { items = map plain_item q.items; condition = q.condition; keys = distinct bytes_eq q.keys; having = q.having }
+normal q = record { items = map plain_item q.items; condition = q.condition; keys = first_of_each bytes_eq q.keys; having = q.having }
 
 -- an alias is kept once and for all
 keeps : (own alias : List ℕ) (same : Bool) → bytes_eq alias own ≡ same → kept_alias own (kept_alias own (Some alias)) ≡ kept_alias own (Some alias)
@@ -71,8 +73,8 @@ clause_back : (columns : List Column) (clause : Option (Form (List ℕ))) → op
 clause_back columns None e = refl
 clause_back columns (Some c) e = ap (λ x. Some x) (form_back (is_column columns) (place columns) (name_at columns) (names_back columns) c e)
 
-keys_back : (columns : List Column) (keys : List (List ℕ)) → AllByRecursion (λ name. is_column columns name ≡ true) keys → map (name_at columns) (distinct ◌==◌ (map (place columns) keys)) ≡ distinct bytes_eq keys
-keys_back columns keys all = ap (map (name_at columns)) (distinct_places columns keys all) ∙ list_back columns (distinct bytes_eq keys) (all_distinct (λ name. is_column columns name ≡ true) bytes_eq keys all)
+keys_back : (columns : List Column) (keys : List (List ℕ)) → AllByRecursion (λ name. is_column columns name ≡ true) keys → map (name_at columns) (first_of_each ◌==◌ (map (place columns) keys)) ≡ first_of_each bytes_eq keys
+keys_back columns keys all = ap (map (name_at columns)) (distinct_places columns keys all) ∙ list_back columns (first_of_each bytes_eq keys) (all_distinct (λ name. is_column columns name ≡ true) bytes_eq keys all)
 
 pub named_again : (columns : List Column) (q : Written (List ℕ)) → HasColumns columns q → by_names (record { columns = columns; written = placed columns q }) ≡ normal q
 named_again columns q has =
@@ -98,11 +100,10 @@ calls_counted q = rw (items_counted q.items) refl
 pub spelled_alike : (q : Written (List ℕ)) → spelling (normal q) ≡ spelling q
 spelled_alike q = rw (items_spelled q.items, distinct_again bytes_eq q.keys) refl
 
-too_many : (a b c d a' b' c' d' : ℕ) → a ≡ a' → b ≡ b' → c ≡ c' → d ≡ d' → (nat_lt 64 a || (nat_lt 16 b || (nat_lt 32 c || nat_lt 16384 d))) ≡ (nat_lt 64 a' || (nat_lt 16 b' || (nat_lt 32 c' || nat_lt 16384 d')))
-too_many a b c d a' b' c' d' p q r s = rw (p, q, r, s) refl
-
 counted_alike : (q : Written (List ℕ)) → has_too_many (normal q) ≡ has_too_many q
-counted_alike q = too_many _ _ _ _ _ _ _ _ (length-map q.items plain_item) (ap length (distinct_again bytes_eq q.keys)) (ap length (calls_counted q)) (ap length (spelled_alike q))
+counted_alike q =
+    λ i. nat_lt MOST_ITEMS (length-map q.items plain_item i) || (nat_lt MOST_KEYS (length (distinct_again bytes_eq q.keys i))
+    || (nat_lt MOST_CALLS (length (calls_counted q i)) || nat_lt LONGEST_QUERY (length (spelled_alike q i))))
 
 all_alike : (item_passes passes : Form (List ℕ) → Bool) (q : Written (List ℕ)) → all_of item_passes passes (normal q) ≡ all_of item_passes passes q
 all_alike item_passes passes q = rw (list_all-map (λ item. item_passes item.0) plain_item q.items) refl
@@ -114,9 +115,9 @@ items_placed columns (item ∷ items) =
     ap (λ (alias : Option (List ℕ)). (map_form (place columns) item.0, alias) ∷ map (placed_item columns) (map plain_item items)) (kept_twice (own_name item.0) item.1)
     ∙ ap (λ (rest : List (Form ℕ × Option (List ℕ))). placed_item columns item ∷ rest) (items_placed columns items)
 
-keys_placed : (columns : List Column) (keys : List (List ℕ)) → AllByRecursion (λ name. is_column columns name ≡ true) keys → distinct ◌==◌ (map (place columns) (distinct bytes_eq keys)) ≡ distinct ◌==◌ (map (place columns) keys)
+keys_placed : (columns : List Column) (keys : List (List ℕ)) → AllByRecursion (λ name. is_column columns name ≡ true) keys → first_of_each ◌==◌ (map (place columns) (first_of_each bytes_eq keys)) ≡ first_of_each ◌==◌ (map (place columns) keys)
 keys_placed columns keys all =
-    distinct_places columns (distinct bytes_eq keys) (all_distinct (λ name. is_column columns name ≡ true) bytes_eq keys all)
+    distinct_places columns (first_of_each bytes_eq keys) (all_distinct (λ name. is_column columns name ≡ true) bytes_eq keys all)
     ∙ ap (map (place columns)) (distinct_again bytes_eq keys) ∙ sym (distinct_places columns keys all)
 
 placed_alike : (columns : List Column) (q : Written (List ℕ)) → HasColumns columns q → placed columns (normal q) ≡ placed columns q
@@ -126,7 +127,7 @@ columns_alike : (columns : List Column) (q : Written (List ℕ)) → has_columns
 columns_alike columns q e =
     let whole = and_parts (all_of (columns_pass (is_column columns)) (columns_pass (is_column columns)) q) (list_all (is_column columns) q.keys) e in
     and_from _ _ (all_alike (columns_pass (is_column columns)) (columns_pass (is_column columns)) q ∙ whole.0)
-    (pass_all (is_column columns) (distinct bytes_eq q.keys) (all_distinct (λ name. is_column columns name ≡ true) bytes_eq q.keys (all_pass (is_column columns) q.keys whole.1)))
+    (pass_all (is_column columns) (first_of_each bytes_eq q.keys) (all_distinct (λ name. is_column columns name ≡ true) bytes_eq q.keys (all_pass (is_column columns) q.keys whole.1)))
 
 -- a query that passes the first checks, which the others follow
 pub record PassesFirst (columns : List Column) (q : Written (List ℕ)) : Type 0 where
@@ -178,8 +179,3 @@ normal_writable q w =
       keys = all_distinct IsColumnName bytes_eq q.keys w.keys;
       having = w.having;
     }
-
--- a query whose parts have columns has them
-pub has_all_columns : (columns : List Column) (q : Written (List ℕ)) → list_all (λ item. columns_pass (is_column columns) item.0) q.items ≡ true → option_map_or (columns_pass (is_column columns)) q.condition true ≡ true
-    → option_map_or (columns_pass (is_column columns)) q.having true ≡ true → list_all (is_column columns) q.keys ≡ true → has_columns columns q ≡ true
-has_all_columns columns q items condition having keys = rw (items, condition, having, keys) refl

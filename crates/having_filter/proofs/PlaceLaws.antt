@@ -10,10 +10,10 @@ use Rattle.std.proofs.lemmas.Slice.Eq.{bytes_eq-Decides}
 use Rattle.grouping_model.specs.Datum.{Bigint_kind}
 use Rattle.packed_rows.specs.Columns.{Column, place_of}
 use Rattle.having_filter.specs.Checks.{is_column, place}
-use Rattle.having_filter.specs.Sameness.{distinct}
+use Rattle.having_filter.specs.Sameness.{first_of_each}
 use Rattle.having_filter.specs.Kept.{name_at}
 use Rattle.having_filter.proofs.DistinctLaws.{Agrees, distinct_image}
-use Rattle.having_filter.proofs.ColumnLaws.{TakenBack}
+use Rattle.having_filter.proofs.FormLaws.{TakenBack}
 
 -- a place that a name has is a column's, of this name
 pub record IsPlaced (columns : List Column) (name : List ℕ) (at : ℕ) : Type 0 where
@@ -61,7 +61,7 @@ list_back columns [] all = refl
 list_back columns (name ∷ names) all = λ i. (placed_name columns name all.0).named i ∷ list_back columns names all.1 i
 
 -- the distinct places of columns are those of their distinct names
-pub distinct_places : (columns : List Column) (names : List (List ℕ)) → AllByRecursion (λ name. is_column columns name ≡ true) names → distinct ◌==◌ (map (place columns) names) ≡ map (place columns) (distinct bytes_eq names)
+pub distinct_places : (columns : List Column) (names : List (List ℕ)) → AllByRecursion (λ name. is_column columns name ≡ true) names → first_of_each ◌==◌ (map (place columns) names) ≡ map (place columns) (first_of_each bytes_eq names)
 distinct_places columns names all = distinct_image (λ name. is_column columns name ≡ true) (place columns) ◌==◌ bytes_eq (same_places columns) names all
 
 -- places of columns are in range

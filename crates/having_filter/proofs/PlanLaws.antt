@@ -11,13 +11,17 @@ use Rattle.having_filter.specs.declared.condition.Cond.{Cond, back-AggCall-filte
 use Rattle.having_filter.specs.declared.condition.AggCall.{AggCall}
 use Rattle.grouping_model.specs.Datum.{Bigint_kind}
 use Rattle.agg_library.specs.Kinds.{function_of}
-use Rattle.packed_rows.specs.Columns.{Column, kinds}
+use Rattle.packed_rows.specs.Columns as packed
+use Rattle.packed_rows.specs.Columns.{kinds}
 use Rattle.packed_rows.specs.View.{kinds_of}
 use Rattle.having_filter.specs.declared.condition.Item.{Item}
 use Rattle.having_filter.specs.declared.plan.Plan.{Plan}
-use Rattle.having_filter.specs.Forms.{Form, form_of, call_form, item_form, places_of, with_filter}
-use Rattle.having_filter.specs.Meaning.{aggregate_of, condition_by, row_condition, source_of_form, group_condition, distinct_calls}
-use Rattle.having_filter.specs.Kept.{written_by}
+use Rattle.having_filter.specs.declared.parts.Parts.{Parts}
+use Rattle.having_filter.specs.Forms.{Form, Column, Call, Call_where, Literal, Unary, Binary, map_reads, form_of, call_form, item_form, places_of, with_filter}
+use Rattle.having_filter.specs.Sameness.{form_eq}
+use Rattle.having_filter.specs.Meaning.{aggregate_of, unary_of, binary_of, condition_by, row_condition, place_in, source_of_form, group_condition, distinct_calls}
+use Rattle.having_filter.specs.Parts.{written_of_parts, checked_of}
+use Rattle.having_filter.specs.declared.plan.Source.TheVariants as source
 use Rattle.having_filter.specs.declared.plan.Source.{Source}
 use Rattle.having_filter.specs.Plans.{PlansFor, source_of, source_leaf, by_sources}
 use Rattle.having_filter.proofs.FormLaws.{met_in_steps}
@@ -48,6 +52,15 @@ pub having_in_steps : (value : query.Source → Outcome) (having : Option (Cond 
 having_in_steps value None = refl
 having_in_steps value (Some c) = met_in_steps value source_leaf (Some c)
 
+-- a condition whose columns and calls are found
+pub found_condition : (keys : List ℕ) (calls : List (Form ℕ)) (x : Form ℕ) → condition_by source_leaf (map_reads (λ c. source.Key (place_in ◌==◌ keys c)) (λ call. Some (source.Call (place_in (form_eq ◌==◌) calls call))) x) ≡ group_condition keys calls x
+found_condition keys calls (Column c) = refl
+found_condition keys calls (Call function column) = refl
+found_condition keys calls (Call_where function column filter) = refl
+found_condition keys calls (Literal x) = refl
+found_condition keys calls (Unary operator x) = ap (unary_of operator) (found_condition keys calls x)
+found_condition keys calls (Binary operator x y) = λ i. binary_of operator (found_condition keys calls x i) (found_condition keys calls y i)
+
 -- the functions of calls, and the sources of items
 functions_of_calls : (calls : List (AggCall ℕ)) → map (λ (call : AggCall ℕ). function_of call.kind) calls ≡ map (λ (a : Aggregate). a.function) (map aggregate_of (map call_form calls))
 functions_of_calls [] = refl
@@ -59,19 +72,19 @@ sources_of_places keys calls [] = refl
 sources_of_places keys calls (item ∷ items) = ap (λ (sources : List query.Source). source_of_form keys calls (item_form item.0) ∷ sources) (sources_of_places keys calls items)
 
 -- what was worked out step by step is a query's
-pub plans : (columns : List Column) (items : List (Item ℕ × Option (String Global))) (condition : Option (Cond ℕ)) (keys : List ℕ) (having : Option (Cond ℕ)) (plan : Plan)
-    → map call_form plan.calls.items ≡ distinct_calls ◌==◌ (written_by items condition keys having)
+pub plans : (columns : List packed.Column) (parts : Parts) (plan : Plan)
+    → map call_form plan.calls.items ≡ distinct_calls ◌==◌ (written_of_parts parts)
     → map function_of plan.kinds.items ≡ map (λ (call : AggCall ℕ). function_of call.kind) plan.calls.items
-    → kinds_of plan.key_kinds.items ≡ map (λ at. get_or (kinds columns) at Bigint_kind) keys
-    → map source_of plan.items.items ≡ map (λ (item : Item ℕ × Option (String Global)). source_of_form keys (map call_form plan.calls.items) (item_form item.0)) items
-    → option_map by_sources plan.having ≡ option_map (group_condition keys (map call_form plan.calls.items)) (option_map form_of having)
-    → PlansFor (record { columns = columns; written = written_by items condition keys having }) plan
-plans columns items condition keys having plan calls functions key_kinds sources having_read =
+    → kinds_of plan.key_kinds.items ≡ map (λ at. get_or (kinds columns) at Bigint_kind) parts.keys.items
+    → map source_of plan.items.items ≡ map (λ (item : Item ℕ × Option (String Global)). source_of_form parts.keys.items (map call_form plan.calls.items) (item_form item.0)) parts.items.items
+    → option_map by_sources plan.having ≡ option_map (group_condition parts.keys.items (map call_form plan.calls.items)) (option_map form_of parts.having)
+    → PlansFor (checked_of columns parts) plan
+plans columns parts plan calls functions key_kinds sources having_read =
     record {
       calls = calls;
       kinds = functions ∙ functions_of_calls plan.calls.items ∙ ap (λ (cs : List (Form ℕ)). map (λ (a : Aggregate). a.function) (map aggregate_of cs)) calls;
       key_kinds = key_kinds;
-      items = sources ∙ sources_of_places keys (map call_form plan.calls.items) items
-          ∙ ap (λ (cs : List (Form ℕ)). map (λ (item : Form ℕ × Option (List ℕ)). source_of_form keys cs item.0) (places_of items)) calls;
-      having = having_read ∙ ap (λ (cs : List (Form ℕ)). option_map (group_condition keys cs) (option_map form_of having)) calls;
+      items = sources ∙ sources_of_places parts.keys.items (map call_form plan.calls.items) parts.items.items
+          ∙ ap (λ (cs : List (Form ℕ)). map (λ (item : Form ℕ × Option (List ℕ)). source_of_form parts.keys.items cs item.0) (places_of parts.items.items)) calls;
+      having = having_read ∙ ap (λ (cs : List (Form ℕ)). option_map (group_condition parts.keys.items cs) (option_map form_of parts.having)) calls;
     }

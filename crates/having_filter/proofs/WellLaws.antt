@@ -8,21 +8,23 @@ use Rattle.std.proofs.lemmas.Bool.{and_parts, or_parts, ltb-false, false≢true}
 use Rattle.std.proofs.lemmas.List.{length-map, map-append}
 use Rattle.grouping_model.specs.Datum as datum
 use Rattle.grouping_model.specs.Datum.{Datum, Kind, Bigint_kind, Boolean_kind, Text_kind, Row, HasKind, HasKinds, at_place}
-use Rattle.grouping_model.specs.Aggregates as function
 use Rattle.grouping_model.specs.Aggregates.{Function}
 use Rattle.grouping_model.specs.Grouping.{argument}
-use Rattle.agg_protocol.specs.Arguments.{Takes}
+use Rattle.grouping_model.specs.declared.limits.TheConstants.{MOST_ITEMS, MOST_KEYS, MOST_CALLS, LONGEST_QUERY}
+use Rattle.agg_protocol.specs.Signatures.{Argument, Each_row, Any_value, Values_of, signature}
+use Rattle.agg_protocol.specs.Arguments.{IsArgument, Takes}
 use Rattle.packed_rows.specs.Columns.{Column, AreColumns, kinds}
-use Rattle.having_filter.specs.Forms.{Form, Call, Call_where, Literal, Not, And, Or, Compare, Is, Is_not, Written, map_form}
+use Rattle.having_filter.specs.Forms.{Form, Call, Call_where, Literal, Unary, Binary, Written, map_form}
 use Rattle.having_filter.specs.Forms as form
-use Rattle.having_filter.specs.Checks.{kinds_agree, kind_of_argument, kind_of_form, is_boolean, takes_column, may_test, operands_fit, condition_fits, kinds_fit, has_too_many, is_column, columns_pass, place, placed, checked_places}
-use Rattle.having_filter.specs.Sameness.{form_eq, distinct}
+use Rattle.having_filter.specs.Reads.{calls_in, columns_pass}
+use Rattle.having_filter.specs.Checks.{kinds_agree, kind_asked, kind_of_form, is_boolean, takes_column, takes_one, takes_two, operands_fit, condition_fits, kinds_fit, has_too_many, is_column, place, placed, checked_places}
+use Rattle.having_filter.specs.Sameness.{form_eq, first_of_each}
 use Rattle.having_filter.specs.Spelling.{spelling}
-use Rattle.having_filter.specs.Meaning.{meaning, aggregate_of, calls_in, calls_of, distinct_calls, source_of_form}
+use Rattle.having_filter.specs.Meaning.{meaning, aggregate_of, calls_of, distinct_calls, source_of_form}
 use Rattle.having_filter.specs.Writable.{IsWritable}
 use Rattle.having_filter.specs.Kept.{TakesRows, IsWellFormed, IsQuery}
 use Rattle.having_filter.proofs.DistinctLaws.{Agrees, all_append, all_distinct, distinct_image}
-use Rattle.having_filter.proofs.ColumnLaws.{Passes, calls_mapped, calls_pass}
+use Rattle.having_filter.proofs.ReadLaws.{Passes, calls_in_two, calls_mapped, calls_pass}
 use Rattle.having_filter.proofs.SameLaws.{form_image}
 use Rattle.having_filter.proofs.PlaceLaws.{same_places, distinct_places, places_in_range}
 use Rattle.having_filter.proofs.NormalLaws.{HasColumns, PassesFirst, placed_item, columns_of_query, named_again, normal_writable, passes_again}
@@ -51,42 +53,23 @@ takes_kind Boolean_kind (Some Text_kind) value at e = absurd (false≢true e)
 takes_kind Text_kind (Some Bigint_kind) value at e = absurd (false≢true e)
 takes_kind Text_kind (Some Boolean_kind) value at e = absurd (false≢true e)
 
-takes_null : (f : Function) → Takes f datum.Null
-takes_null function.Count_rows = tt
-takes_null function.Count = tt
-takes_null function.Sum = tt
-takes_null function.Min = tt
-takes_null function.Max = tt
-takes_null function.Bit_and = tt
-takes_null function.Bit_or = tt
-takes_null function.Bit_xor = tt
-takes_null function.Bool_and = tt
-takes_null function.Bool_or = tt
-takes_null function.Every = tt
+takes_null : (argument : Argument) → IsArgument argument datum.Null
+takes_null Each_row = tt
+takes_null Any_value = tt
+takes_null (Values_of kind) = tt
 
-takes_value : (f : Function) (found : Option Kind) (value : Datum) → KindAt found value → kinds_agree found (kind_of_argument f) ≡ true → Takes f value
-takes_value function.Count_rows found value at e = tt
-takes_value function.Count found value at e = tt
-takes_value function.Sum found value at e = takes_kind Bigint_kind found value at e
-takes_value function.Min found value at e = takes_kind Bigint_kind found value at e
-takes_value function.Max found value at e = takes_kind Bigint_kind found value at e
-takes_value function.Bit_and found value at e = takes_kind Bigint_kind found value at e
-takes_value function.Bit_or found value at e = takes_kind Bigint_kind found value at e
-takes_value function.Bit_xor found value at e = takes_kind Bigint_kind found value at e
-takes_value function.Bool_and found value at e = takes_kind Boolean_kind found value at e
-takes_value function.Bool_or found value at e = takes_kind Boolean_kind found value at e
-takes_value function.Every found value at e = takes_kind Boolean_kind found value at e
+takes_value : (argument : Argument) (found : Option Kind) (value : Datum) → KindAt found value → kinds_agree found (kind_asked argument) ≡ true → IsArgument argument value
+takes_value Each_row found value at e = tt
+takes_value Any_value found value at e = tt
+takes_value (Values_of kind) found value at e = takes_kind kind found value at e
 
 takes_argument : (ks : List Kind) (f : Function) (column : Option ℕ) → takes_column ks f column ≡ true → (row : Row) → HasKinds ks row → Takes f (argument column row)
-takes_argument ks f None e row has = takes_null f
-takes_argument ks f (Some at) e row has = takes_value f (slice_get ks at) (at_place row at) (kind_at ks row at has) e
+takes_argument ks f None e row has = takes_null (signature f).argument
+takes_argument ks f (Some at) e row has = takes_value (signature f).argument (slice_get ks at) (at_place row at) (kind_at ks row at has) e
 
 -- the calls in a condition whose operands fit: they take the values of their columns
 pub record CallFits (ks : List Kind) (call : Form ℕ) : Type 0 where
   pub takes : TakesRows ks (aggregate_of call)
-
-both_fit : (ks : List Kind) (x y : Form ℕ) → AllByRecursion (CallFits ks) (calls_in x) → AllByRecursion (CallFits ks) (calls_in y) → AllByRecursion (CallFits ks) (calls_in x ++ calls_in y)
-both_fit ks x y p q = all_append (CallFits ks) (calls_in x) (calls_in y) p q
 
 calls_fit : (ks : List Kind) (x : Form ℕ) → operands_fit ks x ≡ true → AllByRecursion (CallFits ks) (calls_in x)
 calls_fit ks (form.Column at) e = tt
@@ -95,19 +78,11 @@ calls_fit ks (Call f column) e = (record { takes = record { takes = takes_argume
 calls_fit ks (Call_where f column filter) e =
     let parts = and_parts (takes_column ks f column) (operands_fit ks filter && is_boolean (kind_of_form ks filter)) e in
     (record { takes = record { takes = takes_argument ks f column parts.0 } }, tt)
-calls_fit ks (Not x) e = calls_fit ks x (and_parts (operands_fit ks x) (is_boolean (kind_of_form ks x)) e).0
-calls_fit ks (And x y) e =
-    let sides = and_parts (operands_fit ks x && is_boolean (kind_of_form ks x)) (operands_fit ks y && is_boolean (kind_of_form ks y)) e in
-    both_fit ks x y (calls_fit ks x (and_parts (operands_fit ks x) (is_boolean (kind_of_form ks x)) sides.0).0) (calls_fit ks y (and_parts (operands_fit ks y) (is_boolean (kind_of_form ks y)) sides.1).0)
-calls_fit ks (Or x y) e =
-    let sides = and_parts (operands_fit ks x && is_boolean (kind_of_form ks x)) (operands_fit ks y && is_boolean (kind_of_form ks y)) e in
-    both_fit ks x y (calls_fit ks x (and_parts (operands_fit ks x) (is_boolean (kind_of_form ks x)) sides.0).0) (calls_fit ks y (and_parts (operands_fit ks y) (is_boolean (kind_of_form ks y)) sides.1).0)
-calls_fit ks (Compare comparison x y) e =
-    let whole = and_parts (operands_fit ks x && operands_fit ks y) (kinds_agree (kind_of_form ks x) (kind_of_form ks y)) e in
+calls_fit ks (Unary operator x) e = calls_fit ks x (and_parts (operands_fit ks x) (takes_one operator (kind_of_form ks x)) e).0
+calls_fit ks (Binary operator x y) e =
+    let whole = and_parts (operands_fit ks x && operands_fit ks y) (takes_two operator (kind_of_form ks x) (kind_of_form ks y)) e in
     let sides = and_parts (operands_fit ks x) (operands_fit ks y) whole.0 in
-    both_fit ks x y (calls_fit ks x sides.0) (calls_fit ks y sides.1)
-calls_fit ks (Is test x) e = calls_fit ks x (and_parts (operands_fit ks x) (may_test test (kind_of_form ks x)) e).0
-calls_fit ks (Is_not test x) e = calls_fit ks x (and_parts (operands_fit ks x) (may_test test (kind_of_form ks x)) e).0
+    subst (AllByRecursion (CallFits ks)) (sym (calls_in_two x y)) (all_append (CallFits ks) (calls_in x) (calls_in y) (calls_fit ks x sides.0) (calls_fit ks y sides.1))
 
 items_fit : (ks : List Kind) (items : List (Form ℕ × Option (List ℕ))) → list_all (λ item. operands_fit ks item.0) items ≡ true → AllByRecursion (CallFits ks) (flat_map (λ item. calls_in item.0) items)
 items_fit ks [] e = tt
@@ -164,22 +139,30 @@ same_calls columns = record { agree = λ x y p q. form_image (is_column columns)
 
 calls_alike : (columns : List Column) (q : Written (List ℕ)) → HasColumns columns q → distinct_calls ◌==◌ (placed columns q) ≡ map (map_form (place columns)) (distinct_calls bytes_eq q)
 calls_alike columns q has =
-    ap (distinct (form_eq ◌==◌)) (calls_placed columns q)
+    ap (first_of_each (form_eq ◌==◌)) (calls_placed columns q)
     ∙ distinct_image (Passes (is_column columns)) (map_form (place columns)) (form_eq ◌==◌) (form_eq bytes_eq) (same_calls columns) (calls_of q)
     (all_append (Passes (is_column columns)) (flat_map (λ item. calls_in item.0) q.items) (option_map_or calls_in q.having []) (items_pass (is_column columns) q.items has.items) (clause_passes (is_column columns) q.having has.having))
 
 -- the limits
 pub record IsWithin (q : Written (List ℕ)) : Type 0 where
-  pub items : length q.items ≤ 64
-  pub keys : length (distinct bytes_eq q.keys) ≤ 16
-  pub calls : length (distinct_calls bytes_eq q) ≤ 32
+  pub items : length q.items ≤ MOST_ITEMS
+  pub keys : length (first_of_each bytes_eq q.keys) ≤ MOST_KEYS
+  pub calls : length (distinct_calls bytes_eq q) ≤ MOST_CALLS
 
 within : (q : Written (List ℕ)) → has_too_many q ≡ false → IsWithin q
 within q e =
-    let one = or_parts (nat_lt 64 (length q.items)) (nat_lt 16 (length (distinct bytes_eq q.keys)) || (nat_lt 32 (length (distinct_calls bytes_eq q)) || nat_lt 16384 (length (spelling q)))) e in
-    let two = or_parts (nat_lt 16 (length (distinct bytes_eq q.keys))) (nat_lt 32 (length (distinct_calls bytes_eq q)) || nat_lt 16384 (length (spelling q))) one.1 in
-    let three = or_parts (nat_lt 32 (length (distinct_calls bytes_eq q))) (nat_lt 16384 (length (spelling q))) two.1 in
-    record { items = ltb-false 64 (length q.items) one.0; keys = ltb-false 16 (length (distinct bytes_eq q.keys)) two.0; calls = ltb-false 32 (length (distinct_calls bytes_eq q)) three.0 }
+    let items = nat_lt MOST_ITEMS (length q.items) in
+    let keys = nat_lt MOST_KEYS (length (first_of_each bytes_eq q.keys)) in
+    let calls = nat_lt MOST_CALLS (length (distinct_calls bytes_eq q)) in
+    let bytes = nat_lt LONGEST_QUERY (length (spelling q)) in
+    let one = or_parts items (keys || (calls || bytes)) e in
+    let two = or_parts keys (calls || bytes) one.1 in
+    let three = or_parts calls bytes two.1 in
+    record {
+      items = ltb-false MOST_ITEMS (length q.items) one.0;
+      keys = ltb-false MOST_KEYS (length (first_of_each bytes_eq q.keys)) two.0;
+      calls = ltb-false MOST_CALLS (length (distinct_calls bytes_eq q)) three.0;
+    }
 
 -- a query that passes the first checks and has kinds that fit is well formed
 well_formed : (columns : List Column) (q : Written (List ℕ)) → PassesFirst columns q → kinds_fit (kinds columns) (placed columns q) ≡ true → IsWellFormed (meaning (record { columns = columns; written = placed columns q }))
@@ -187,12 +170,12 @@ well_formed columns q first fit =
     let has = columns_of_query columns q first.columns_there in
     let few = within q first.few in
     record {
-      keys = subst (λ n. AllByRecursion (λ at. at < n) (distinct ◌==◌ (map (place columns) q.keys))) (sym (length-map columns (λ (c : Column). c.kind)))
+      keys = subst (λ n. AllByRecursion (λ at. at < n) (first_of_each ◌==◌ (map (place columns) q.keys))) (sym (length-map columns (λ (c : Column). c.kind)))
           (all_distinct (λ at. at < length columns) ◌==◌ (map (place columns) q.keys) (places_in_range columns q.keys has.keys));
       aggregates = aggregates_take (kinds columns) (placed columns q) fit;
-      few_items = subst (λ n. n ≤ 64) (sym (length-map (placed columns q).items (λ item. source_of_form (placed columns q).keys (distinct_calls ◌==◌ (placed columns q)) item.0) ∙ length-map q.items (placed_item columns))) few.items;
-      few_keys = subst (λ n. n ≤ 16) (sym (ap length (distinct_places columns q.keys has.keys) ∙ length-map (distinct bytes_eq q.keys) (place columns))) few.keys;
-      few_aggregates = subst (λ n. n ≤ 32) (sym (length-map (distinct_calls ◌==◌ (placed columns q)) aggregate_of ∙ ap length (calls_alike columns q has) ∙ length-map (distinct_calls bytes_eq q) (map_form (place columns)))) few.calls;
+      few_items = subst (λ n. n ≤ MOST_ITEMS) (sym (length-map (placed columns q).items (λ item. source_of_form (placed columns q).keys (distinct_calls ◌==◌ (placed columns q)) item.0) ∙ length-map q.items (placed_item columns))) few.items;
+      few_keys = subst (λ n. n ≤ MOST_KEYS) (sym (ap length (distinct_places columns q.keys has.keys) ∙ length-map (first_of_each bytes_eq q.keys) (place columns))) few.keys;
+      few_aggregates = subst (λ n. n ≤ MOST_CALLS) (sym (length-map (distinct_calls ◌==◌ (placed columns q)) aggregate_of ∙ ap length (calls_alike columns q has) ∙ length-map (distinct_calls bytes_eq q) (map_form (place columns)))) few.calls;
     }
 
 -- a query that passes all checks

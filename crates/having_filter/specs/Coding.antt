@@ -1,5 +1,5 @@
 -- Conditions as trees of numbers, which tell them apart. All of this is our own.
-use Rattle.std.specs.Prelude.{ℕ, zero, suc, ◌≡◌, pos, negsuc, true, false, List, [], ◌∷◌, map, Option, Some, None}
+use Rattle.std.specs.Prelude.{ℕ, zero, suc, ◌≡◌, pos, negsuc, true, false, List, [], ◌∷◌, map, slice_index_or, Option, Some, None}
 use mathlib.Core.Path.{refl, ap}
 use base.Stored.{Gv, gnil, gnum, gcons, Coded}
 use denote.Struct.Codes.{itself}
@@ -10,24 +10,15 @@ use Rattle.packed_rows.specs.Columns as packed
 use Rattle.grouping_model.specs.Aggregates as function
 use Rattle.grouping_model.specs.Aggregates.{Function}
 use Rattle.grouping_model.specs.Condition as model
-use Rattle.having_filter.specs.Forms.{Form, Column, Call, Call_where, Literal, Not, And, Or, Compare, Is, Is_not, Written}
+use Rattle.agg_protocol.specs.Signatures.{functions}
+use Rattle.having_filter.specs.Forms.{Unary_operator, Negation, Testing, Binary_operator, Conjunction, Disjunction, Comparing, Form, Column, Call, Call_where, Literal, Unary, Binary, Written}
 use Rattle.having_filter.specs.Checks.{kind_number}
 use Rattle.having_filter.specs.Meaning.{Checked}
 use Rattle.having_filter.specs.Sameness.{function_number, comparison_number, test_number}
 
 -- what a number stands for
 abbrev pub function_at : ℕ → Function
-function_at zero = function.Count_rows
-function_at (suc zero) = function.Count
-function_at (suc (suc zero)) = function.Sum
-function_at (suc (suc (suc zero))) = function.Min
-function_at (suc (suc (suc (suc zero)))) = function.Max
-function_at (suc (suc (suc (suc (suc zero))))) = function.Bit_and
-function_at (suc (suc (suc (suc (suc (suc zero)))))) = function.Bit_or
-function_at (suc (suc (suc (suc (suc (suc (suc zero))))))) = function.Bit_xor
-function_at (suc (suc (suc (suc (suc (suc (suc (suc zero)))))))) = function.Bool_and
-function_at (suc (suc (suc (suc (suc (suc (suc (suc (suc zero))))))))) = function.Bool_or
-function_at n = function.Every
+function_at n = slice_index_or functions n function.Every
 
 pub function_at_back : (x : Function) → function_at (function_number x) ≡ x
 function_at_back function.Count_rows = refl
@@ -122,30 +113,59 @@ pub column_back : (x : Option ℕ) → column_at (tree_of_column x) ≡ x
 column_back None = refl
 column_back (Some n) = refl
 
+-- numbers of operators, and back
+abbrev pub unary_number : Unary_operator → ℕ
+unary_number Negation = 0
+unary_number (Testing test false) = suc (test_number test)
+unary_number (Testing test true) = suc (suc (suc (suc (suc (test_number test)))))
+
+abbrev pub unary_at : ℕ → Unary_operator
+unary_at zero = Negation
+unary_at (suc zero) = Testing model.Is_null false
+unary_at (suc (suc zero)) = Testing model.Is_true false
+unary_at (suc (suc (suc zero))) = Testing model.Is_false false
+unary_at (suc (suc (suc (suc zero)))) = Testing model.Is_unknown false
+unary_at (suc (suc (suc (suc (suc n))))) = Testing (test_at n) true
+
+pub unary_back : (x : Unary_operator) → unary_at (unary_number x) ≡ x
+unary_back Negation = refl
+unary_back (Testing model.Is_null false) = refl
+unary_back (Testing model.Is_true false) = refl
+unary_back (Testing model.Is_false false) = refl
+unary_back (Testing model.Is_unknown false) = refl
+unary_back (Testing test true) = ap (λ t. Testing t true) (test_at_back test)
+
+abbrev pub binary_number : Binary_operator → ℕ
+binary_number Conjunction = 0
+binary_number Disjunction = 1
+binary_number (Comparing comparison) = suc (suc (comparison_number comparison))
+
+abbrev pub binary_at : ℕ → Binary_operator
+binary_at zero = Conjunction
+binary_at (suc zero) = Disjunction
+binary_at (suc (suc n)) = Comparing (comparison_at n)
+
+pub binary_back : (x : Binary_operator) → binary_at (binary_number x) ≡ x
+binary_back Conjunction = refl
+binary_back Disjunction = refl
+binary_back (Comparing comparison) = ap Comparing (comparison_at_back comparison)
+
 -- the tree of a condition, and back
 abbrev pub tree_of : Form ℕ → Gv
 tree_of (Column n) = gnum n
 tree_of (Literal x) = gcons gnil (tree_of_datum x)
 tree_of (Call f c) = gcons (gnum zero) (gcons (gnum (function_number f)) (tree_of_column c))
 tree_of (Call_where f c x) = gcons (gnum (suc zero)) (gcons (gcons (gnum (function_number f)) (tree_of_column c)) (tree_of x))
-tree_of (Not x) = gcons (gnum (suc (suc zero))) (tree_of x)
-tree_of (And x y) = gcons (gnum (suc (suc (suc zero)))) (gcons (tree_of x) (tree_of y))
-tree_of (Or x y) = gcons (gnum (suc (suc (suc (suc zero))))) (gcons (tree_of x) (tree_of y))
-tree_of (Compare c x y) = gcons (gnum (suc (suc (suc (suc (suc zero)))))) (gcons (gnum (comparison_number c)) (gcons (tree_of x) (tree_of y)))
-tree_of (Is test x) = gcons (gnum (suc (suc (suc (suc (suc (suc zero))))))) (gcons (gnum (test_number test)) (tree_of x))
-tree_of (Is_not test x) = gcons (gnum (suc (suc (suc (suc (suc (suc (suc zero)))))))) (gcons (gnum (test_number test)) (tree_of x))
+tree_of (Unary operator x) = gcons (gnum (suc (suc zero))) (gcons (gnum (unary_number operator)) (tree_of x))
+tree_of (Binary operator x y) = gcons (gnum (suc (suc (suc zero)))) (gcons (gnum (binary_number operator)) (gcons (tree_of x) (tree_of y)))
 
 abbrev pub form_at : Gv → Form ℕ
 form_at (gnum n) = Column n
 form_at (gcons gnil x) = Literal (datum_at x)
 form_at (gcons (gnum zero) (gcons (gnum f) c)) = Call (function_at f) (column_at c)
 form_at (gcons (gnum (suc zero)) (gcons (gcons (gnum f) c) x)) = Call_where (function_at f) (column_at c) (form_at x)
-form_at (gcons (gnum (suc (suc zero))) x) = Not (form_at x)
-form_at (gcons (gnum (suc (suc (suc zero)))) (gcons x y)) = And (form_at x) (form_at y)
-form_at (gcons (gnum (suc (suc (suc (suc zero))))) (gcons x y)) = Or (form_at x) (form_at y)
-form_at (gcons (gnum (suc (suc (suc (suc (suc zero)))))) (gcons (gnum c) (gcons x y))) = Compare (comparison_at c) (form_at x) (form_at y)
-form_at (gcons (gnum (suc (suc (suc (suc (suc (suc zero))))))) (gcons (gnum test) x)) = Is (test_at test) (form_at x)
-form_at (gcons (gnum (suc (suc (suc (suc (suc (suc (suc zero)))))))) (gcons (gnum test) x)) = Is_not (test_at test) (form_at x)
+form_at (gcons (gnum (suc (suc zero))) (gcons (gnum operator) x)) = Unary (unary_at operator) (form_at x)
+form_at (gcons (gnum (suc (suc (suc zero)))) (gcons (gnum operator) (gcons x y))) = Binary (binary_at operator) (form_at x) (form_at y)
 form_at other = Column 0
 
 pub form_back : (x : Form ℕ) → form_at (tree_of x) ≡ x
@@ -153,12 +173,8 @@ form_back (Column n) = refl
 form_back (Literal x) = ap Literal (datum_back x)
 form_back (Call f c) = λ i. Call (function_at_back f i) (column_back c i)
 form_back (Call_where f c x) = λ i. Call_where (function_at_back f i) (column_back c i) (form_back x i)
-form_back (Not x) = ap Not (form_back x)
-form_back (And x y) = λ i. And (form_back x i) (form_back y i)
-form_back (Or x y) = λ i. Or (form_back x i) (form_back y i)
-form_back (Compare c x y) = λ i. Compare (comparison_at_back c i) (form_back x i) (form_back y i)
-form_back (Is test x) = λ i. Is (test_at_back test i) (form_back x i)
-form_back (Is_not test x) = λ i. Is_not (test_at_back test i) (form_back x i)
+form_back (Unary operator x) = λ i. Unary (unary_back operator i) (form_back x i)
+form_back (Binary operator x y) = λ i. Binary (binary_back operator i) (form_back x i) (form_back y i)
 
 -- a kind by its number, and the columns of a table by names and kinds
 abbrev pub kind_of_number : ℕ → Kind

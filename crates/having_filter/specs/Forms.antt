@@ -1,5 +1,5 @@
 -- Conditions, calls and queries as they are written, over names or places of columns, and what the code's types stand for.
-use Rattle.std.specs.Prelude.{ℕ, true, false, List, map, string_bytes, option_map, Option}
+use Rattle.std.specs.Prelude.{ℕ, Bool, true, false, List, map, string_bytes, option_map, Option, Some, None}
 use Rattle.std.specs.Borrow.{Bor}
 use Rattle.std.specs.declared.alloc.Global.{Global}
 use Rattle.std.specs.declared.string.String.{String}
@@ -19,6 +19,17 @@ use Rattle.having_filter.specs.declared.condition.Item.{Item}
 use Rattle.having_filter.specs.declared.condition.Item.TheVariants as item
 use Rattle.having_filter.specs.declared.condition.RawQuery.{RawQuery}
 
+-- an operator with one operand: NOT, or an IS test, which is an IS NOT test where it is negated
+-- (PostgreSQL 17, 9.1 and Table 9.2)
+pub data Unary_operator : Type 0 where
+  Negation : Unary_operator
+  Testing : model.Test → Bool → Unary_operator
+
+-- an operator with two operands: AND, OR, or a comparison (PostgreSQL 17, 9.1 and Table 9.1)
+pub data Binary_operator : Type 0 where
+  Conjunction Disjunction : Binary_operator
+  Comparing : model.Comparison → Binary_operator
+
 -- a condition or an operand of one, over columns. A call has no column where it counts rows, and a FILTER or none
 -- (PostgreSQL 17, 4.2 Value Expressions; which forms there are is our own)
 pub data Form (C : Type 0) : Type 0 where
@@ -26,12 +37,27 @@ pub data Form (C : Type 0) : Type 0 where
   Call : Function → Option C → Form C
   Call_where : Function → Option C → Form C → Form C
   Literal : Datum → Form C
-  Not : Form C → Form C
-  And : Form C → Form C → Form C
-  Or : Form C → Form C → Form C
-  Compare : model.Comparison → Form C → Form C → Form C
-  Is : model.Test → Form C → Form C
-  Is_not : model.Test → Form C → Form C
+  Unary : Unary_operator → Form C → Form C
+  Binary : Binary_operator → Form C → Form C → Form C
+
+-- the same by the words of SQL
+abbrev pub Not : {C : Type 0} → Form C → Form C
+Not c = Unary Negation c
+
+abbrev pub And : {C : Type 0} → Form C → Form C → Form C
+And c d = Binary Conjunction c d
+
+abbrev pub Or : {C : Type 0} → Form C → Form C → Form C
+Or c d = Binary Disjunction c d
+
+abbrev pub Compare : {C : Type 0} → model.Comparison → Form C → Form C → Form C
+Compare comparison c d = Binary (Comparing comparison) c d
+
+abbrev pub Is : {C : Type 0} → model.Test → Form C → Form C
+Is test c = Unary (Testing test false) c
+
+abbrev pub Is_not : {C : Type 0} → model.Test → Form C → Form C
+Is_not test c = Unary (Testing test true) c
 
 -- a query: its items with their aliases, WHERE, the columns of GROUP BY, and HAVING (PostgreSQL 17, SELECT)
 pub record Written (C : Type 0) : Type 0 where
@@ -55,18 +81,23 @@ test_of test.IsTrue = model.Is_true
 test_of test.IsFalse = model.Is_false
 test_of test.IsUnknown = model.Is_unknown
 
--- the same condition over other columns
+-- a call that becomes a column, or stays a call
+abbrev pub exchanged : {C : Type 0} → Option C → Form C → Form C
+exchanged None call = call
+exchanged (Some column) call = Column column
+
+-- the same condition over other columns. A call becomes a column where it is given one
+abbrev pub map_reads : {C D : Type 0} → (C → D) → (Form C → Option D) → Form C → Form D
+map_reads column call (Column c) = Column (column c)
+map_reads column call (Call f c) = exchanged (call (Call f c)) (Call f (option_map column c))
+map_reads column call (Call_where f c x) = exchanged (call (Call_where f c x)) (Call_where f (option_map column c) (map_reads column call x))
+map_reads column call (Literal value) = Literal value
+map_reads column call (Unary operator x) = Unary operator (map_reads column call x)
+map_reads column call (Binary operator x y) = Binary operator (map_reads column call x) (map_reads column call y)
+
+-- the same condition over other columns, its calls being calls again
 abbrev pub map_form : {C D : Type 0} → (C → D) → Form C → Form D
-map_form f (Column c) = Column (f c)
-map_form f (Call function column) = Call function (option_map f column)
-map_form f (Call_where function column filter) = Call_where function (option_map f column) (map_form f filter)
-map_form f (Literal value) = Literal value
-map_form f (Not c) = Not (map_form f c)
-map_form f (And c d) = And (map_form f c) (map_form f d)
-map_form f (Or c d) = Or (map_form f c) (map_form f d)
-map_form f (Compare comparison c d) = Compare comparison (map_form f c) (map_form f d)
-map_form f (Is test c) = Is test (map_form f c)
-map_form f (Is_not test c) = Is_not test (map_form f c)
+map_form column c = map_reads column (λ call. None) c
 
 -- the condition that the code's value stands for, without where its parts lie in memory
 abbrev mutual
@@ -77,12 +108,11 @@ abbrev mutual
   form_of (cond.Text text) = Literal (datum.Text (string_bytes text))
   form_of (cond.Boolean b) = Literal (datum.Boolean b)
   form_of cond.Null = Literal datum.Null
-  form_of (cond.Not' p c) = Not (form_of c)
-  form_of (cond.Or' p c q d) = Or (form_of c) (form_of d)
-  form_of (cond.And' p c q d) = And (form_of c) (form_of d)
-  form_of (cond.Compare' comparison p c q d) = Compare (comparison_of comparison) (form_of c) (form_of d)
-  form_of (cond.Is' test false p c) = Is (test_of test) (form_of c)
-  form_of (cond.Is' test true p c) = Is_not (test_of test) (form_of c)
+  form_of (cond.Not' p c) = Unary Negation (form_of c)
+  form_of (cond.Or' p c q d) = Binary Disjunction (form_of c) (form_of d)
+  form_of (cond.And' p c q d) = Binary Conjunction (form_of c) (form_of d)
+  form_of (cond.Compare' comparison p c q d) = Binary (Comparing (comparison_of comparison)) (form_of c) (form_of d)
+  form_of (cond.Is' test negated p c) = Unary (Testing (test_of test) negated) (form_of c)
 
   pub with_filter : {C : Type 0} → Function → Option C → cond.Held-AggCall-filter C → Form C
   with_filter function column cond.None' = Call function column

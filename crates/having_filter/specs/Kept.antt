@@ -1,27 +1,19 @@
 -- What a query keeps, and what HAVING reads.
 use Rattle.std.specs.Prelude.{◌≡◌, ℕ, ◌<◌, ◌≤◌, List, [], map, length, slice_get, slice_index_or, Option, Ok, option_map, unwrap_or}
 use Rattle.std.specs.List.{AllByRecursion}
-use Rattle.std.specs.declared.alloc.Global.{Global}
-use Rattle.std.specs.declared.string.String.{String}
 use Rattle.grouping_model.specs.Datum.{Null, Kind, Bigint_kind, Row, HasKinds}
 use Rattle.grouping_model.specs.Aggregates.{Outcome, Plain}
 use Rattle.grouping_model.specs.Query as query
 use Rattle.grouping_model.specs.Query.{Aggregate}
 use Rattle.grouping_model.specs.Grouping.{argument}
+use Rattle.grouping_model.specs.declared.limits.TheConstants.{MOST_ITEMS, MOST_KEYS, MOST_CALLS}
 use Rattle.agg_protocol.specs.Arguments.{Takes}
 use Rattle.packed_rows.specs.Columns.{Column, AreColumns}
-use Rattle.having_filter.specs.declared.condition.Cond.{Cond}
-use Rattle.having_filter.specs.declared.condition.Item.{Item}
-use Rattle.having_filter.specs.Forms.{Form, Written, form_of, map_form, places_of}
+use Rattle.having_filter.specs.Forms.{Form, Written, map_form}
 use Rattle.having_filter.specs.Meaning.{Checked, meaning}
 use Rattle.having_filter.specs.Checks.{checked}
 use Rattle.having_filter.specs.Spelling.{own_name, kept_alias}
 use Rattle.having_filter.specs.Writable.{IsWritable}
-
--- the query over places that the parts of one say (own)
-abbrev pub written_by : List (Item ℕ × Option (String Global)) → Option (Cond ℕ) → List ℕ → Option (Cond ℕ) → Written ℕ
-written_by items condition keys having =
-    record { items = places_of items; condition = option_map form_of condition; keys = keys; having = option_map form_of having }
 
 -- the name of the column at a place (own)
 abbrev pub name_at : List Column → ℕ → List ℕ
@@ -57,9 +49,9 @@ pub record TakesRows (kinds : List Kind) (aggregate : Aggregate) : Type 0 where
 pub record IsWellFormed (q : query.Query) : Type 0 where
   pub keys : AllByRecursion (λ place. place < length q.kinds) q.keys
   pub aggregates : AllByRecursion (TakesRows q.kinds) q.aggregates
-  pub few_items : length q.items ≤ 64
-  pub few_keys : length q.keys ≤ 16
-  pub few_aggregates : length q.aggregates ≤ 32
+  pub few_items : length q.items ≤ MOST_ITEMS
+  pub few_keys : length q.keys ≤ MOST_KEYS
+  pub few_aggregates : length q.aggregates ≤ MOST_CALLS
 
 -- a query that passed all checks, over the columns of a schema: its own text passes them and says it again (own)
 pub record IsQuery (q : Checked) : Type 0 where

@@ -1,10 +1,10 @@
 pub mod Forms
 pub mod Truths
 pub mod Sameness
+pub mod Reads
 pub mod Meaning
 pub mod Spelling
 pub mod Checks
-pub mod Placing
 pub mod Kept
 pub mod Coding
 pub mod Writable

@@ -1,5 +1,5 @@
 -- What a checked query means.
-use Rattle.std.specs.Prelude.{ℕ, ◌==◌, Bool, List, [], ◌∷◌, ◌++◌, map, Some, None, option_map, unwrap_or, position}
+use Rattle.std.specs.Prelude.{ℕ, ◌==◌, Bool, true, false, List, [], ◌++◌, map, Some, None, option_map, unwrap_or, position}
 use Rattle.std.specs.List.{flat_map}
 use Rattle.std.specs.Option.{option_map_or}
 use Rattle.grouping_model.specs.Datum.{Null}
@@ -10,26 +10,32 @@ use Rattle.grouping_model.specs.Query.{Query, Aggregate, Source}
 use Rattle.grouping_model.specs.Query as query
 use Rattle.packed_rows.specs.Columns.{Column, kinds}
 use Rattle.having_filter.specs.Forms as form
-use Rattle.having_filter.specs.Forms.{Form, Call, Call_where, Literal, Not, And, Or, Compare, Is, Is_not, Written}
-use Rattle.having_filter.specs.Sameness.{form_eq, distinct}
+use Rattle.having_filter.specs.Forms.{Unary_operator, Negation, Testing, Binary_operator, Conjunction, Disjunction, Comparing, Form, Call, Call_where, Literal, Unary, Binary, Written}
+use Rattle.having_filter.specs.Reads.{calls_in}
+use Rattle.having_filter.specs.Sameness.{form_eq, first_of_each}
 
 -- a query over the columns of a schema, by their places (own)
 pub record Checked : Type 0 where
   pub columns : List Column
   pub written : Written ℕ
 
+-- what operators mean (PostgreSQL 17, 9.1 and 9.2)
+abbrev pub unary_of : {Leaf : Type 0} → Unary_operator → Condition Leaf → Condition Leaf
+unary_of Negation c = model.Not c
+unary_of (Testing test false) c = model.Is test c
+unary_of (Testing test true) c = model.Is_not test c
+
+abbrev pub binary_of : {Leaf : Type 0} → Binary_operator → Condition Leaf → Condition Leaf → Condition Leaf
+binary_of Conjunction c d = model.And c d
+binary_of Disjunction c d = model.Or c d
+binary_of (Comparing comparison) c d = model.Compare comparison c d
+
 -- a condition, its columns and calls being read as given (PostgreSQL 17, 4.2 Value Expressions)
 abbrev pub condition_by : {C Leaf : Type 0} → (Form C → Condition Leaf) → Form C → Condition Leaf
-condition_by leaf (form.Column c) = leaf (form.Column c)
-condition_by leaf (Call function column) = leaf (Call function column)
-condition_by leaf (Call_where function column filter) = leaf (Call_where function column filter)
 condition_by leaf (Literal value) = model.Literal value
-condition_by leaf (Not c) = model.Not (condition_by leaf c)
-condition_by leaf (And c d) = model.And (condition_by leaf c) (condition_by leaf d)
-condition_by leaf (Or c d) = model.Or (condition_by leaf c) (condition_by leaf d)
-condition_by leaf (Compare comparison c d) = model.Compare comparison (condition_by leaf c) (condition_by leaf d)
-condition_by leaf (Is test c) = model.Is test (condition_by leaf c)
-condition_by leaf (Is_not test c) = model.Is_not test (condition_by leaf c)
+condition_by leaf (Unary operator x) = unary_of operator (condition_by leaf x)
+condition_by leaf (Binary operator x y) = binary_of operator (condition_by leaf x) (condition_by leaf y)
+condition_by leaf read = leaf read
 
 -- what WHERE and FILTER read: columns, and no aggregates, which count for null there (PostgreSQL 17, 4.2.7)
 abbrev pub column_leaf : Form ℕ → Condition ℕ
@@ -39,26 +45,13 @@ column_leaf other = model.Literal Null
 abbrev pub row_condition : Form ℕ → Condition ℕ
 row_condition c = condition_by column_leaf c
 
--- the calls in a condition, from the left, those of a FILTER aside
-abbrev pub calls_in : {C : Type 0} → Form C → List (Form C)
-calls_in (form.Column c) = []
-calls_in (Call function column) = Call function column ∷ []
-calls_in (Call_where function column filter) = Call_where function column filter ∷ []
-calls_in (Literal value) = []
-calls_in (Not c) = calls_in c
-calls_in (And c d) = calls_in c ++ calls_in d
-calls_in (Or c d) = calls_in c ++ calls_in d
-calls_in (Compare comparison c d) = calls_in c ++ calls_in d
-calls_in (Is test c) = calls_in c
-calls_in (Is_not test c) = calls_in c
-
 -- the calls of the items, then those of HAVING
 abbrev pub calls_of : {C : Type 0} → Written C → List (Form C)
 calls_of q = flat_map (λ item. calls_in item.0) q.items ++ option_map_or calls_in q.having []
 
 -- the distinct calls, by the first of each
 abbrev pub distinct_calls : {C : Type 0} → (C → C → Bool) → Written C → List (Form C)
-distinct_calls same q = distinct (form_eq same) (calls_of q)
+distinct_calls same q = first_of_each (form_eq same) (calls_of q)
 
 -- the aggregate that a call names (PostgreSQL 17, 4.2.7 Aggregate Expressions)
 abbrev pub aggregate_of : Form ℕ → Aggregate

@@ -1,5 +1,6 @@
 -- When two conditions or calls are the same, and the distinct members of a list. All of this is our own.
-use Rattle.std.specs.Prelude.{ℕ, ◌==◌, ◌&&◌, Bool, true, false, not, if◌then◌else◌, List, [], ◌∷◌, ◌++◌, Option, Some, None}
+use Rattle.std.specs.Prelude.{ℕ, ◌==◌, ◌&&◌, Bool, true, false, if◌then◌else◌, List, [], ◌∷◌, ◌++◌, Option, Some, None}
+use Rattle.std.proofs.Math.Bool.{beq}
 use Rattle.std.specs.List.{list_any}
 use Rattle.std.specs.Ordering.{int_eq}
 use Rattle.std.specs.Str.{bytes_eq}
@@ -8,7 +9,7 @@ use Rattle.grouping_model.specs.Datum.{Datum}
 use Rattle.grouping_model.specs.Aggregates as function
 use Rattle.grouping_model.specs.Aggregates.{Function}
 use Rattle.grouping_model.specs.Condition.{Comparison, Same, Different, Below, At_most, Above, At_least, Test, Is_null, Is_true, Is_false, Is_unknown}
-use Rattle.having_filter.specs.Forms.{Form, Column, Call, Call_where, Literal, Not, And, Or, Compare, Is, Is_not}
+use Rattle.having_filter.specs.Forms.{Unary_operator, Negation, Testing, Binary_operator, Conjunction, Disjunction, Comparing, Form, Column, Call, Call_where, Literal, Unary, Binary}
 
 -- numbers that tell functions, comparisons and tests apart
 abbrev pub function_number : Function → ℕ
@@ -41,11 +42,23 @@ test_number Is_unknown = 3
 abbrev pub function_eq : Function → Function → Bool
 function_eq f g = function_number f == function_number g
 
+-- whether two operators are the same
+abbrev pub unary_eq : Unary_operator → Unary_operator → Bool
+unary_eq Negation Negation = true
+unary_eq (Testing a negated) (Testing b also) = test_number a == test_number b && beq negated also
+unary_eq a b = false
+
+abbrev pub binary_eq : Binary_operator → Binary_operator → Bool
+binary_eq Conjunction Conjunction = true
+binary_eq Disjunction Disjunction = true
+binary_eq (Comparing a) (Comparing b) = comparison_number a == comparison_number b
+binary_eq a b = false
+
 -- whether two literals are the same, null being the same as itself
 abbrev pub literal_eq : Datum → Datum → Bool
 literal_eq datum.Null datum.Null = true
 literal_eq (datum.Bigint x) (datum.Bigint y) = int_eq x y
-literal_eq (datum.Boolean x) (datum.Boolean y) = if x then y else not y
+literal_eq (datum.Boolean x) (datum.Boolean y) = beq x y
 literal_eq (datum.Text x) (datum.Text y) = bytes_eq x y
 literal_eq x y = false
 
@@ -61,12 +74,8 @@ form_eq same (Column c) (Column d) = same c d
 form_eq same (Call f c) (Call g d) = function_eq f g && option_same same c d
 form_eq same (Call_where f c x) (Call_where g d y) = function_eq f g && (option_same same c d && form_eq same x y)
 form_eq same (Literal x) (Literal y) = literal_eq x y
-form_eq same (Not x) (Not y) = form_eq same x y
-form_eq same (And x y) (And z w) = form_eq same x z && form_eq same y w
-form_eq same (Or x y) (Or z w) = form_eq same x z && form_eq same y w
-form_eq same (Compare a x y) (Compare b z w) = comparison_number a == comparison_number b && (form_eq same x z && form_eq same y w)
-form_eq same (Is a x) (Is b y) = test_number a == test_number b && form_eq same x y
-form_eq same (Is_not a x) (Is_not b y) = test_number a == test_number b && form_eq same x y
+form_eq same (Unary a x) (Unary b y) = unary_eq a b && form_eq same x y
+form_eq same (Binary a x y) (Binary b z w) = binary_eq a b && (form_eq same x z && form_eq same y w)
 form_eq same x y = false
 
 -- a member more, unless one that is the same is there
@@ -79,5 +88,5 @@ with_each same members [] = members
 with_each same members (x ∷ xs) = with_each same (with_one same members x) xs
 
 -- the distinct members of a list, by the first of each
-abbrev pub distinct : {A : Type 0} → (A → A → Bool) → List A → List A
-distinct same xs = with_each same [] xs
+abbrev pub first_of_each : {A : Type 0} → (A → A → Bool) → List A → List A
+first_of_each same xs = with_each same [] xs

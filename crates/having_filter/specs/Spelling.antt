@@ -1,29 +1,20 @@
 -- The canonical spelling of conditions and queries (own; the words are SQL's: PostgreSQL 17, SELECT).
-use Rattle.std.specs.Prelude.{ℕ, nat_lt, true, false, if◌then◌else◌, List, [], ◌∷◌, ◌++◌, map, codes, Option, Some, None}
+use Rattle.std.specs.Prelude.{ℕ, ◌+◌, nat_lt, Bool, true, false, if◌then◌else◌, List, [], ◌∷◌, ◌++◌, map, codes, Option, Some, None}
 use Rattle.std.specs.Str.{bytes_eq}
 use Rattle.query_tokens.specs.Words.{Integer}
 use Rattle.query_tokens.specs.Words as words
 use Rattle.query_tokens.specs.Spelling.{spell}
 use Rattle.grouping_model.specs.Datum.{Datum, Null, Bigint, Boolean, Text}
-use Rattle.grouping_model.specs.Aggregates as function
 use Rattle.grouping_model.specs.Aggregates.{Function}
 use Rattle.grouping_model.specs.Condition.{Comparison, Same, Different, Below, At_most, Above, At_least, Test, Is_null, Is_true, Is_false, Is_unknown}
-use Rattle.having_filter.specs.Forms.{Form, Column, Call, Call_where, Literal, Not, And, Or, Compare, Is, Is_not, Written}
-use Rattle.having_filter.specs.Sameness.{distinct}
+pub use Rattle.agg_protocol.specs.Signatures.{Argument, Each_row, Any_value, Values_of, Signature, signature, functions, is_value, is_named}
+unfoldable pub use Rattle.agg_protocol.specs.Signatures.{function_named}
+use Rattle.having_filter.specs.Forms.{Unary_operator, Negation, Testing, Binary_operator, Conjunction, Disjunction, Comparing, Form, Column, Call, Call_where, Literal, Unary, Binary, Written}
+use Rattle.having_filter.specs.Sameness.{first_of_each}
 
 -- the name of a function, which its result has too (PostgreSQL 17, 9.21 and 7.3.2 Column Labels)
 abbrev pub function_name : Function → List ℕ
-function_name function.Count_rows = codes "count"
-function_name function.Count = codes "count"
-function_name function.Sum = codes "sum"
-function_name function.Min = codes "min"
-function_name function.Max = codes "max"
-function_name function.Bit_and = codes "bit_and"
-function_name function.Bit_or = codes "bit_or"
-function_name function.Bit_xor = codes "bit_xor"
-function_name function.Bool_and = codes "bool_and"
-function_name function.Bool_or = codes "bool_or"
-function_name function.Every = codes "every"
+function_name function = (signature function).name
 
 abbrev pub comparison_text : Comparison → List ℕ
 comparison_text Same = codes " = "
@@ -32,6 +23,16 @@ comparison_text Below = codes " < "
 comparison_text At_most = codes " <= "
 comparison_text Above = codes " > "
 comparison_text At_least = codes " >= "
+
+-- an operator between its operands, and IS behind its operand
+abbrev pub operator_text : Binary_operator → List ℕ
+operator_text Conjunction = codes " AND "
+operator_text Disjunction = codes " OR "
+operator_text (Comparing comparison) = comparison_text comparison
+
+abbrev pub is_text : Bool → List ℕ
+is_text false = codes " IS "
+is_text true = codes " IS NOT "
 
 abbrev pub test_text : Test → List ℕ
 test_text Is_null = codes "NULL"
@@ -52,31 +53,46 @@ call_text function None = function_name function ++ codes "(*)"
 call_text function (Some name) = function_name function ++ codes "(" ++ name ++ codes ")"
 
 -- how tightly a condition binds: OR the least (PostgreSQL 17, 4.1.6; that IS and comparisons differ is our own)
+abbrev pub binary_level : Binary_operator → ℕ
+binary_level Disjunction = 1
+binary_level Conjunction = 2
+binary_level (Comparing comparison) = 5
+
+abbrev pub unary_level : Unary_operator → ℕ
+unary_level Negation = 3
+unary_level (Testing test negated) = 4
+
 abbrev pub level : {C : Type 0} → Form C → ℕ
-level (Or c d) = 1
-level (And c d) = 2
-level (Not c) = 3
-level (Is test c) = 4
-level (Is_not test c) = 4
-level (Compare comparison c d) = 5
+level (Unary operator x) = unary_level operator
+level (Binary operator x y) = binary_level operator
 level other = 6
+
+-- how tightly the operands of an operator must bind to stand without parentheses, the left one and the right one: AND and
+-- OR group to the left, and a comparison takes no condition of two operands
+abbrev pub left_level : Binary_operator → ℕ
+left_level (Comparing comparison) = 6
+left_level operator = binary_level operator
+
+abbrev pub right_level : Binary_operator → ℕ
+right_level (Comparing comparison) = 6
+right_level operator = binary_level operator + 1
 
 -- an operand: in parentheses where it binds less tightly than its place asks
 abbrev pub operand : {C : Type 0} → ℕ → Form C → List ℕ → List ℕ
 operand asked c text = if nat_lt (level c) asked then codes "(" ++ text ++ codes ")" else text
 
 -- a condition
+abbrev pub unary_text : Unary_operator → List ℕ → List ℕ
+unary_text Negation operand = codes "NOT " ++ operand
+unary_text (Testing test negated) operand = operand ++ is_text negated ++ test_text test
+
 abbrev pub spelled : Form (List ℕ) → List ℕ
 spelled (Column name) = name
 spelled (Call function column) = call_text function column
 spelled (Call_where function column filter) = call_text function column ++ codes " FILTER (WHERE " ++ spelled filter ++ codes ")"
 spelled (Literal value) = literal_text value
-spelled (Not c) = codes "NOT " ++ operand 3 c (spelled c)
-spelled (And c d) = operand 2 c (spelled c) ++ codes " AND " ++ operand 3 d (spelled d)
-spelled (Or c d) = operand 1 c (spelled c) ++ codes " OR " ++ operand 2 d (spelled d)
-spelled (Compare comparison c d) = operand 6 c (spelled c) ++ comparison_text comparison ++ operand 6 d (spelled d)
-spelled (Is test c) = operand 4 c (spelled c) ++ codes " IS " ++ test_text test
-spelled (Is_not test c) = operand 4 c (spelled c) ++ codes " IS NOT " ++ test_text test
+spelled (Unary operator x) = unary_text operator (operand (unary_level operator) x (spelled x))
+spelled (Binary operator x y) = operand (left_level operator) x (spelled x) ++ operator_text operator ++ operand (right_level operator) y (spelled y)
 
 -- an item's own name: that of the column or of the function (PostgreSQL 17, 7.3.2)
 abbrev pub own_name : Form (List ℕ) → List ℕ
@@ -116,4 +132,4 @@ keys_text (name ∷ names) = codes " GROUP BY " ++ parted (name ∷ names)
 abbrev pub spelling : Written (List ℕ) → List ℕ
 spelling q =
     codes "SELECT " ++ parted (map item_text q.items) ++ codes " FROM batches" ++ clause_text (codes " WHERE ") q.condition
-    ++ keys_text (distinct bytes_eq q.keys) ++ clause_text (codes " HAVING ") q.having
+    ++ keys_text (first_of_each bytes_eq q.keys) ++ clause_text (codes " HAVING ") q.having

@@ -5,16 +5,21 @@ use Rattle.std.specs.List.{AllByRecursion}
 use Rattle.std.specs.Option.{ForSome}
 use Rattle.grouping_model.specs.Datum as datum
 use Rattle.grouping_model.specs.Datum.{Datum}
-use Rattle.grouping_model.specs.Aggregates.{Function, Count_rows}
+use Rattle.grouping_model.specs.Aggregates.{Function}
+use Rattle.agg_protocol.specs.Signatures.{Argument, Each_row, signature}
 use Rattle.packed_rows.specs.Columns.{IsColumnName}
-use Rattle.having_filter.specs.Forms.{Form, Column, Call, Call_where, Literal, Not, And, Or, Compare, Is, Is_not, Written}
+use Rattle.having_filter.specs.Forms.{Form, Column, Call, Call_where, Literal, Unary, Binary, Written}
 
--- count(*) alone has no column, which passes a test where there is one (PostgreSQL 17, 4.2.7 Aggregate Expressions)
+-- what stands in a call's parentheses: no column where the function takes rows, and else a column, which passes a test
+-- (PostgreSQL 17, 4.2.7 Aggregate Expressions)
+abbrev pub IsColumnFor : {C : Type 0} → (C → Type 0) → Argument → Option C → Type 0
+IsColumnFor IsColumn Each_row None = Unit {0}
+IsColumnFor IsColumn Each_row (Some c) = ⊥
+IsColumnFor IsColumn argument None = ⊥
+IsColumnFor IsColumn argument (Some c) = IsColumn c
+
 abbrev pub IsArgument : {C : Type 0} → (C → Type 0) → Function → Option C → Type 0
-IsArgument IsColumn Count_rows None = Unit {0}
-IsArgument IsColumn Count_rows (Some c) = ⊥
-IsArgument IsColumn function None = ⊥
-IsArgument IsColumn function (Some c) = IsColumn c
+IsArgument IsColumn function column = IsColumnFor IsColumn (signature function).argument column
 
 -- a literal: a number has 64 bits in two's complement, and a text no character 0 (PostgreSQL 17, 8.1.1 and 8.3)
 abbrev pub IsLiteral : Datum → Type 0
@@ -28,12 +33,8 @@ IsForm IsColumn (Column c) = IsColumn c
 IsForm IsColumn (Call function column) = IsArgument IsColumn function column
 IsForm IsColumn (Call_where function column filter) = IsArgument IsColumn function column × IsForm IsColumn filter
 IsForm IsColumn (Literal value) = IsLiteral value
-IsForm IsColumn (Not c) = IsForm IsColumn c
-IsForm IsColumn (And c d) = IsForm IsColumn c × IsForm IsColumn d
-IsForm IsColumn (Or c d) = IsForm IsColumn c × IsForm IsColumn d
-IsForm IsColumn (Compare comparison c d) = IsForm IsColumn c × IsForm IsColumn d
-IsForm IsColumn (Is test c) = IsForm IsColumn c
-IsForm IsColumn (Is_not test c) = IsForm IsColumn c
+IsForm IsColumn (Unary operator x) = IsForm IsColumn x
+IsForm IsColumn (Binary operator x y) = IsForm IsColumn x × IsForm IsColumn y
 
 -- an item is a column or a call (own)
 abbrev pub IsColumnOrCall : {C : Type 0} → Form C → Type 0

@@ -6,7 +6,7 @@ ghost use Rattle.std.specs.Str.{bytes_eq};
 ghost use Rattle.packed_rows.specs.View.{texts_of};
 ghost use Rattle.having_filter.specs.declared.error.QueryError.TheVariants.{NoMemory, TooMany};
 ghost use Rattle.having_filter.specs.Forms.{written_of};
-ghost use Rattle.having_filter.specs.Sameness.{with_one, with_each, distinct};
+ghost use Rattle.having_filter.specs.Sameness.{with_one, first_of_each};
 ghost use Rattle.having_filter.specs.Spelling.{spelling};
 ghost use Rattle.having_filter.specs.Checks.{has_too_many};
 
@@ -14,32 +14,17 @@ use crate::calls::count_calls;
 use crate::condition::RawQuery;
 use crate::error::QueryError;
 use crate::spelling::spelled;
+use grouping_model::limits::{LONGEST_QUERY, MOST_CALLS, MOST_ITEMS, MOST_KEYS};
 use std::alloc::{AllocError, Global};
-
-/// The greatest number of items.
-const MOST_ITEMS: usize = 64;
-
-/// The greatest number of columns of GROUP BY.
-const MOST_KEYS: usize = 16;
-
-/// The greatest number of aggregates.
-const MOST_CALLS: usize = 32;
-
-/// The greatest length of a query's canonical text.
-const LONGEST: usize = 16_384;
 
 /// Whether a name is among others.
 fn has_name(names: &[&str], name: &str) -> bool
-    ensures { result ≡ list_any (bytes_eq name.now) (texts_of names.now) }
+    ensures { result ≡ list_any (λ other. bytes_eq name.now other.now) names.now }
 {
-    match names {
-        [] => false,
-        [first, rest @ ..] => name == *first || has_name(rest, name),
-    }
+    names.iter().any(|other| name == *other)
 }
 
 /// Adds a name to others, unless it is there.
-#[tactic(auto, using(crate::proofs::FormLaws::with_one_more, crate::proofs::FormLaws::with_one_there))]
 fn push_name<'a>(names: &mut Vec<&'a str>, name: &'a str) -> Result<(), AllocError>
     ensures { OnOk result (texts_of names.new.items
         ≡ with_one bytes_eq (texts_of names.old.items) name.now) }
@@ -51,27 +36,15 @@ fn push_name<'a>(names: &mut Vec<&'a str>, name: &'a str) -> Result<(), AllocErr
     Ok(())
 }
 
-/// Adds names to others, each unless it is there.
-fn push_names<'a>(names: &mut Vec<&'a str>, more: &'a [String]) -> Result<(), AllocError>
-    ensures { OnOk result (texts_of names.new.items
-        ≡ with_each bytes_eq (texts_of names.old.items) (map string_bytes more.now)) }
-{
-    match more {
-        [] => Ok(()),
-        [first, rest @ ..] => {
-            push_name(names, first.as_str())?;
-            push_names(names, rest)
-        }
-    }
-}
-
 /// The distinct names of some, by the first of each.
 fn distinct_names(alloc: Global, names: &[String]) -> Result<Vec<&str>, AllocError>
     ensures { IfOk result (λ found. texts_of found.items
-        ≡ distinct bytes_eq (map string_bytes names.now)) }
+        ≡ first_of_each bytes_eq (map string_bytes names.now)) }
 {
     let mut found = Vec::new(alloc);
-    push_names(&mut found, names)?;
+    for name in names {
+        push_name(&mut found, name.as_str())?;
+    }
     Ok(found)
 }
 
@@ -82,19 +55,18 @@ pub(crate) fn text_within(alloc: Global, raw: &RawQuery) -> Result<String, Query
     ensures refused { IfErr result (λ e. e ≢ NoMemory → e ≡ TooMany) }
     ensures too_many { IfErr result (λ e. e ≢ NoMemory → has_too_many (written_of raw.now) ≡ true) }
 {
-    let keys = distinct_names(alloc, &raw.keys)?;
-    let text = spelled(alloc, raw, &keys)?;
-    let calls = count_calls(alloc, raw)?;
     if raw.items.len() > MOST_ITEMS {
         return Err(QueryError::TooMany);
     }
+    let keys = distinct_names(alloc, &raw.keys)?;
     if keys.len() > MOST_KEYS {
         return Err(QueryError::TooMany);
     }
-    if calls > MOST_CALLS {
+    if count_calls(alloc, raw)? > MOST_CALLS {
         return Err(QueryError::TooMany);
     }
-    if text.len() > LONGEST {
+    let text = spelled(alloc, raw, &keys)?;
+    if text.len() > LONGEST_QUERY {
         return Err(QueryError::TooMany);
     }
     Ok(text)

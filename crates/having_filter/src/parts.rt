@@ -1,19 +1,16 @@
-//! Whole queries from the names of columns to their places.
+//! The parts of a query over places, from the names of its columns or from other parts.
 
-ghost use Rattle.std.specs.Prelude.{◌≡◌, ◌==◌, ◌++◌, map, true, option_map, IfOk, IfErr, OnOk, OnErr, string_bytes};
-ghost use Rattle.std.specs.List.{list_all, list_any};
-ghost use Rattle.std.specs.Option.{option_map_or};
-ghost use Rattle.packed_rows.specs.Columns.{Column};
+ghost use Rattle.std.specs.Prelude.{◌≡◌, ◌==◌, map, option_map, IfOk, OnOk, string_bytes};
+ghost use Rattle.std.specs.List.{list_any};
 ghost use Rattle.having_filter.specs.Forms.{form_of, names_of, item_form, items_of, places_of, map_form, written_of};
-ghost use Rattle.having_filter.specs.Checks.{columns_pass, is_column, has_columns, place, placed};
-ghost use Rattle.having_filter.specs.Placing.{PlaceFault};
-ghost use Rattle.having_filter.specs.Sameness.{with_one, with_each, distinct};
+ghost use Rattle.having_filter.specs.Checks.{place, placed};
+ghost use Rattle.having_filter.specs.Sameness.{with_one, first_of_each};
 ghost use Rattle.having_filter.specs.Spelling.{own_name, kept_alias};
-ghost use Rattle.having_filter.specs.Kept.{written_by, label_of};
+ghost use Rattle.having_filter.specs.Kept.{label_of};
+ghost use Rattle.having_filter.specs.Parts.{written_of_parts};
 
-use crate::condition::{Cond, Item, RawQuery};
-use crate::error::QueryError;
-use crate::placing::{placed, placed_call};
+use crate::condition::{AggCall, Cond, Item, RawQuery};
+use crate::mapping::{Mapping, Unchanged, mapped, mapped_item};
 use crate::spelling::{kept_alias, own_name};
 use packed_rows::Schema;
 use std::alloc::{AllocError, Global};
@@ -27,111 +24,92 @@ pub(crate) struct Parts {
     pub(crate) having: Option<Cond<usize>>,
 }
 
+/// The place of a column, which is there.
+fn place(schema: &Schema, name: &str) -> usize
+    ensures { result ≡ place schema.now name.now }
+{
+    schema.place(name).unwrap_or(0)
+}
+
+/// From the names of columns to their places.
+impl Mapping<String, usize> for Schema {
+    ghost use Rattle.std.specs.Prelude.{None, string_bytes};
+    ghost use Rattle.having_filter.specs.Checks.{place};
+
+    ghost column_as = { λ columns name. place columns (string_bytes name) };
+
+    ghost call_as = { λ _ call. None };
+
+    fn column(&self, column: &String) -> usize {
+        place(self, column.as_str())
+    }
+
+    fn call(&self, _call: &AggCall<String>) -> Option<usize> {
+        None
+    }
+}
+
 /// A clause over places, if there is one.
-#[tactic(auto, using(crate::proofs::ColumnLaws::mapped_twice, crate::proofs::ColumnLaws::mapped_passes))]
+#[tactic(auto, using(crate::proofs::FormLaws::mapped_names))]
 fn placed_clause(
     alloc: Global,
     schema: &Schema,
     clause: &Option<Cond<String>>,
-) -> Result<Option<Cond<usize>>, QueryError>
-    ensures placed { IfOk result (λ c. option_map form_of c ≡ option_map (map_form (place schema.now))
+) -> Result<Option<Cond<usize>>, AllocError>
+    ensures { IfOk result (λ c. option_map form_of c ≡ option_map (map_form (place schema.now))
         (option_map (λ c. names_of (form_of c)) clause.now)) }
-    ensures known { IfOk result (λ _. option_map_or (columns_pass (is_column schema.now))
-        (option_map (λ c. names_of (form_of c)) clause.now) true ≡ true) }
-    ensures refused { IfErr result (PlaceFault (option_map_or (columns_pass (is_column schema.now))
-        (option_map (λ c. names_of (form_of c)) clause.now) true)) }
 {
     match clause {
-        Some(condition) => Ok(Some(placed(alloc, schema, condition)?)),
+        Some(condition) => Ok(Some(mapped(alloc, schema, condition)?)),
         None => Ok(None),
     }
 }
 
-/// A column's place.
-fn placed_name(schema: &Schema, name: &String) -> Result<usize, QueryError>
-    ensures placed { IfOk result (λ at. at ≡ place schema.now (string_bytes name.now)) }
-    ensures known { IfOk result (λ _. is_column schema.now (string_bytes name.now) ≡ true) }
-    ensures refused { IfErr result (PlaceFault (is_column schema.now (string_bytes name.now))) }
-{
-    match schema.place(name.as_str()) {
-        Some(place) => Ok(place),
-        None => Err(QueryError::NoSuchColumn),
-    }
-}
-
-/// An item over places.
-#[tactic(auto, using(crate::proofs::ColumnLaws::mapped_twice, crate::proofs::ColumnLaws::mapped_passes))]
+/// An item over places, with its alias unless that is the item's own name.
+#[tactic(auto, using(crate::proofs::FormLaws::mapped_names))]
 fn placed_item(
     alloc: Global,
     schema: &Schema,
-    item: &Item<String>,
-) -> Result<Item<usize>, QueryError>
-    ensures placed { IfOk result (λ i.
-        item_form i ≡ map_form (place schema.now) (names_of (item_form item.now))) }
-    ensures known { IfOk result (λ _.
-        columns_pass (is_column schema.now) (names_of (item_form item.now)) ≡ true) }
-    ensures refused { IfErr result
-        (PlaceFault (columns_pass (is_column schema.now) (names_of (item_form item.now)))) }
-{
-    match item {
-        Item::Column(name) => Ok(Item::Column(placed_name(schema, name)?)),
-        Item::Call(call) => Ok(Item::Call(placed_call(alloc, schema, call)?)),
-    }
-}
-
-/// An item's alias, which is none where it is the item's own name.
-fn placed_alias(
-    alloc: Global,
     item: &(Item<String>, Option<String>),
-) -> Result<Option<String>, AllocError>
-    ensures { IfOk result (λ alias. option_map string_bytes alias
+) -> Result<(Item<usize>, Option<String>), AllocError>
+    ensures form { IfOk result (λ i.
+        item_form i.0 ≡ map_form (place schema.now) (names_of (item_form item.now.0))) }
+    ensures alias { IfOk result (λ i. option_map string_bytes i.1
         ≡ kept_alias (own_name (names_of (item_form item.now.0))) (option_map string_bytes item.now.1)) }
 {
-    match kept_alias(own_name(&item.0), &item.1) {
-        Some(alias) => Ok(Some(String::from_str(alloc, alias)?)),
-        None => Ok(None),
-    }
+    let alias = match kept_alias(own_name(&item.0), &item.1) {
+        Some(alias) => Some(String::from_str(alloc, alias)?),
+        None => None,
+    };
+    Ok((mapped_item(alloc, schema, &item.0)?, alias))
 }
 
-/// Adds items over places behind others.
-#[tactic(auto, using(crate::proofs::FormLaws::fault_left, crate::proofs::FormLaws::fault_right))]
-fn push_items(
+/// Items over places.
+fn placed_items(
     alloc: Global,
     schema: &Schema,
-    done: &mut Vec<(Item<usize>, Option<String>)>,
     items: &[(Item<String>, Option<String>)],
-) -> Result<(), QueryError>
-    ensures placed { OnOk result (places_of done.new.items ≡ places_of done.old.items
-        ++ map (λ item. (map_form (place schema.now) item.0, kept_alias (own_name item.0) item.1))
+) -> Result<Vec<(Item<usize>, Option<String>)>, AllocError>
+    ensures { IfOk result (λ done. places_of done.items
+        ≡ map (λ item. (map_form (place schema.now) item.0, kept_alias (own_name item.0) item.1))
         (items_of items.now)) }
-    ensures known { OnOk result (list_all (λ item. columns_pass (is_column schema.now) item.0)
-        (items_of items.now) ≡ true) }
-    ensures refused { IfErr result (PlaceFault
-        (list_all (λ item. columns_pass (is_column schema.now) item.0) (items_of items.now))) }
 {
-    match items {
-        [] => Ok(()),
-        [first, rest @ ..] => {
-            let item = placed_item(alloc, schema, &first.0)?;
-            let alias = placed_alias(alloc, first)?;
-            done.push((item, alias))?;
-            push_items(alloc, schema, done, rest)
-        }
+    let mut done = Vec::with_capacity(alloc, items.len())?;
+    for item in items {
+        done.push(placed_item(alloc, schema, item)?)?;
     }
+    Ok(done)
 }
 
 /// Whether a place is among others.
 fn has_place(places: &[usize], place: usize) -> bool
     ensures { result ≡ list_any (◌==◌ place) places.now }
 {
-    match places {
-        [] => false,
-        [first, rest @ ..] => place == *first || has_place(rest, place),
-    }
+    places.iter().any(|other| place == *other)
 }
 
 /// Adds a place to others, unless it is there.
-#[tactic(auto, using(crate::proofs::FormLaws::with_one_more, crate::proofs::FormLaws::with_one_there))]
+#[tactic(auto, using(crate::proofs::DistinctLaws::with_one_more, crate::proofs::DistinctLaws::with_one_there))]
 fn push_place(places: &mut Vec<usize>, place: usize) -> Result<(), AllocError>
     ensures { OnOk result (places.new.items ≡ with_one ◌==◌ places.old.items place) }
 {
@@ -142,49 +120,98 @@ fn push_place(places: &mut Vec<usize>, place: usize) -> Result<(), AllocError>
     Ok(())
 }
 
-/// Adds the places of columns to others, each unless it is there.
-#[tactic(auto, using(crate::proofs::FormLaws::fault_left, crate::proofs::FormLaws::fault_right, crate::proofs::FaultLaws::first_fault))]
-fn push_keys(schema: &Schema, places: &mut Vec<usize>, names: &[String]) -> Result<(), QueryError>
-    ensures placed { OnOk result (places.new.items
-        ≡ with_each ◌==◌ places.old.items (map (place schema.now) (map string_bytes names.now))) }
-    ensures known { OnOk result (list_all (is_column schema.now) (map string_bytes names.now) ≡ true) }
-    ensures refused { IfErr result
-        (PlaceFault (list_all (is_column schema.now) (map string_bytes names.now))) }
+/// The distinct places of columns, by the first of each.
+fn placed_keys(alloc: Global, schema: &Schema, names: &[String]) -> Result<Vec<usize>, AllocError>
+    ensures { IfOk result (λ places. places.items
+        ≡ first_of_each ◌==◌ (map (place schema.now) (map string_bytes names.now))) }
 {
-    match names {
-        [] => Ok(()),
-        [first, rest @ ..] => {
-            let place = placed_name(schema, first)?;
-            push_place(places, place)?;
-            push_keys(schema, places, rest)
-        }
+    let mut places = Vec::new(alloc);
+    for name in names {
+        push_place(&mut places, place(schema, name.as_str()))?;
+    }
+    Ok(places)
+}
+
+/// A copy of an item and of its alias, if it has one.
+#[tactic(auto, using(crate::proofs::FormLaws::unchanged))]
+fn copied_item(
+    alloc: Global,
+    item: &(Item<usize>, Option<String>),
+) -> Result<(Item<usize>, Option<String>), AllocError>
+    ensures form { IfOk result (λ i. item_form i.0 ≡ item_form item.now.0) }
+    ensures alias { IfOk result (λ i. option_map string_bytes i.1 ≡ option_map string_bytes item.now.1) }
+{
+    let alias = match &item.1 {
+        Some(alias) => Some(String::from_str(alloc, alias.as_str())?),
+        None => None,
+    };
+    Ok((mapped_item(alloc, &Unchanged, &item.0)?, alias))
+}
+
+/// Copies of items and their aliases.
+fn copied_items(
+    alloc: Global,
+    items: &[(Item<usize>, Option<String>)],
+) -> Result<Vec<(Item<usize>, Option<String>)>, AllocError>
+    ensures { IfOk result (λ copies. places_of copies.items ≡ places_of items.now) }
+{
+    let mut copies = Vec::with_capacity(alloc, items.len())?;
+    for item in items {
+        copies.push(copied_item(alloc, item)?)?;
+    }
+    Ok(copies)
+}
+
+/// A copy of a clause, if there is one.
+#[tactic(auto, using(crate::proofs::FormLaws::unchanged))]
+fn copied_clause(
+    alloc: Global,
+    clause: &Option<Cond<usize>>,
+) -> Result<Option<Cond<usize>>, AllocError>
+    ensures { IfOk result (λ copy. option_map form_of copy ≡ option_map form_of clause.now) }
+{
+    match clause {
+        Some(condition) => Ok(Some(mapped(alloc, &Unchanged, condition)?)),
+        None => Ok(None),
     }
 }
 
-/// The parts of a query over places.
-#[tactic(auto, using(crate::proofs::FormLaws::fault_left, crate::proofs::FormLaws::fault_right, crate::proofs::FaultLaws::items_fault, crate::proofs::NormalLaws::has_all_columns))]
-pub(crate) fn placed_parts(
-    alloc: Global,
-    schema: &Schema,
-    raw: &RawQuery,
-) -> Result<Parts, QueryError>
-    ensures placed { IfOk result (λ p. written_by p.items.items p.condition p.keys.items p.having
-        ≡ placed schema.now (written_of raw.now)) }
-    ensures known { IfOk result (λ _. has_columns schema.now (written_of raw.now) ≡ true) }
-    ensures refused { IfErr result (PlaceFault (has_columns schema.now (written_of raw.now))) }
-{
-    let mut items = Vec::new(alloc);
-    push_items(alloc, schema, &mut items, &raw.items)?;
-    let condition = placed_clause(alloc, schema, &raw.condition)?;
-    let having = placed_clause(alloc, schema, &raw.having)?;
-    let mut keys = Vec::new(alloc);
-    push_keys(schema, &mut keys, &raw.keys)?;
-    Ok(Parts {
-        items,
-        condition,
-        keys,
-        having,
-    })
+impl Parts {
+    /// The parts of a query over places, which all its columns have.
+    pub(crate) fn placed(
+        alloc: Global,
+        schema: &Schema,
+        raw: &RawQuery,
+    ) -> Result<Parts, AllocError>
+        ensures { IfOk result (λ p. written_of_parts p ≡ placed schema.now (written_of raw.now)) }
+    {
+        let items = placed_items(alloc, schema, &raw.items)?;
+        let condition = placed_clause(alloc, schema, &raw.condition)?;
+        let keys = placed_keys(alloc, schema, &raw.keys)?;
+        let having = placed_clause(alloc, schema, &raw.having)?;
+        Ok(Parts {
+            items,
+            condition,
+            keys,
+            having,
+        })
+    }
+
+    /// The same parts again.
+    pub(crate) fn try_clone(&self, alloc: Global) -> Result<Parts, AllocError>
+        ensures { IfOk result (λ p. written_of_parts p ≡ written_of_parts self.now) }
+    {
+        let items = copied_items(alloc, &self.items)?;
+        let condition = copied_clause(alloc, &self.condition)?;
+        let keys = self.keys.to_vec(alloc)?;
+        let having = copied_clause(alloc, &self.having)?;
+        Ok(Parts {
+            items,
+            condition,
+            keys,
+            having,
+        })
+    }
 }
 
 /// The name of an item's column in the answer.
@@ -193,10 +220,7 @@ fn label_of(alloc: Global, item: &(Item<String>, Option<String>)) -> Result<Stri
         (names_of (item_form item.now.0), option_map string_bytes item.now.1)) }
 {
     let own = own_name(&item.0);
-    match kept_alias(own, &item.1) {
-        Some(alias) => String::from_str(alloc, alias),
-        None => String::from_str(alloc, own),
-    }
+    String::from_str(alloc, kept_alias(own, &item.1).unwrap_or(own))
 }
 
 /// The names of the answer's columns.
@@ -212,4 +236,16 @@ pub(crate) fn labels_of(
         labels.push(label_of(alloc, item)?)?;
     }
     Ok(labels)
+}
+
+/// Copies of texts.
+pub(crate) fn copied_texts(alloc: Global, texts: &[String]) -> Result<Vec<String>, AllocError>
+    ensures { IfOk result (λ copies.
+        map string_bytes copies.items ≡ map string_bytes texts.now) }
+{
+    let mut copies = Vec::with_capacity(alloc, texts.len())?;
+    for text in texts {
+        copies.push(String::from_str(alloc, text.as_str())?)?;
+    }
+    Ok(copies)
 }

@@ -1,20 +1,18 @@
 //! What is worked out of a query once, so that its evaluation looks nothing up.
 
-ghost use Rattle.std.specs.Prelude.{◌≡◌, ◌==◌, ◌++◌, map, option_map, position, slice_index_or, IfOk, OnOk, IfErr};
+ghost use Rattle.std.specs.Prelude.{◌≡◌, ◌==◌, map, option_map, position, slice_index_or, IfOk};
 ghost use Rattle.grouping_model.specs.Datum.{Bigint_kind};
-ghost use Rattle.packed_rows.specs.Columns.{kinds};
 ghost use Rattle.packed_rows.specs.View.{kind_of, kinds_of};
 ghost use Rattle.agg_library.specs.Kinds.{function_of};
-ghost use Rattle.having_filter.specs.declared.error.QueryError.TheVariants.{NoMemory};
-ghost use Rattle.having_filter.specs.Forms.{call_form, form_of, item_form, places_of};
+ghost use Rattle.having_filter.specs.Forms.{call_form, form_of, item_form};
 ghost use Rattle.having_filter.specs.Sameness.{form_eq};
-ghost use Rattle.having_filter.specs.Meaning.{place_in, aggregate_of, source_of_form, group_condition};
-ghost use Rattle.having_filter.specs.Kept.{written_by};
+ghost use Rattle.having_filter.specs.Meaning.{place_in, source_of_form, group_condition};
+ghost use Rattle.having_filter.specs.Parts.{written_of_parts};
 ghost use Rattle.having_filter.specs.Plans.{PlansFor, source_of, by_sources};
 
 use crate::calls::calls_of;
 use crate::condition::{AggCall, Cond, Item};
-use crate::error::QueryError;
+use crate::mapping::{Mapping, mapped};
 use crate::parts::Parts;
 use crate::same::is_same_call;
 use agg_library::AggKind;
@@ -89,10 +87,7 @@ fn kinds_of_calls(alloc: Global, calls: &[AggCall<usize>]) -> Result<Vec<AggKind
 fn kind_at(kinds: &[ValueKind], place: usize) -> ValueKind
     ensures { kind_of result ≡ slice_index_or (kinds_of kinds.now) place Bigint_kind }
 {
-    match kinds.get(place) {
-        Some(kind) => *kind,
-        None => ValueKind::Bigint,
-    }
+    kinds.get(place).copied().unwrap_or(ValueKind::Bigint)
 }
 
 /// The kinds of columns.
@@ -109,6 +104,33 @@ fn kinds_at(
         found.push(kind_at(kinds, *place))?;
     }
     Ok(found)
+}
+
+/// Where the columns and calls of a query are found: the columns of GROUP BY, and the distinct calls.
+#[derive(Drop)]
+struct Sources<'a> {
+    keys: &'a [usize],
+    calls: &'a [AggCall<usize>],
+}
+
+impl<'a> Mapping<usize, Source> for Sources<'a> {
+    ghost use Rattle.std.specs.Prelude.{◌==◌, map, Some};
+    ghost use Rattle.having_filter.specs.declared.plan.Source.TheVariants.{Key, Call};
+    ghost use Rattle.having_filter.specs.Forms.{call_form};
+    ghost use Rattle.having_filter.specs.Sameness.{form_eq};
+    ghost use Rattle.having_filter.specs.Meaning.{place_in};
+
+    ghost column_as = { λ s column. Key (place_in ◌==◌ s.keys.now column) };
+
+    ghost call_as = { λ s call. Some (Call (place_in (form_eq ◌==◌) (map call_form s.calls.now) call)) };
+
+    fn column(&self, column: &usize) -> Source {
+        Source::Key(place_of_column(self.keys, *column))
+    }
+
+    fn call(&self, call: &AggCall<usize>) -> Option<Source> {
+        Some(Source::Call(place_of_call(self.calls, call)))
+    }
 }
 
 /// Where an item is found.
@@ -139,101 +161,41 @@ fn sources_of_items(
     Ok(found)
 }
 
-/// A condition that reads its columns and calls where they are found.
-fn with_sources(
-    alloc: Global,
-    keys: &[usize],
-    calls: &[AggCall<usize>],
-    condition: &Cond<usize>,
-) -> Result<Cond<Source>, QueryError>
-    ensures found { IfOk result (λ c.
-        by_sources c ≡ group_condition keys.now (map call_form calls.now) (form_of condition.now)) }
-    ensures refused { IfErr result (λ e. e ≡ NoMemory) }
-{
-    match condition {
-        Cond::Column(place) => Ok(Cond::Column(Source::Key(place_of_column(keys, *place)))),
-        Cond::Call(call) => Ok(Cond::Column(Source::Call(place_of_call(calls, call)))),
-        Cond::Bigint(number) => Ok(Cond::Bigint(*number)),
-        Cond::Text(text) => Ok(Cond::Text(String::from_str(alloc, text.as_str())?)),
-        Cond::Boolean(truth) => Ok(Cond::Boolean(*truth)),
-        Cond::Null => Ok(Cond::Null),
-        Cond::Not(c) => {
-            let c = with_sources(alloc, keys, calls, c)?;
-            Ok(Cond::Not(Box::new(alloc, c)?))
-        }
-        Cond::Or(c, d) => {
-            let c = with_sources(alloc, keys, calls, c)?;
-            let d = with_sources(alloc, keys, calls, d)?;
-            Ok(Cond::Or(Box::new(alloc, c)?, Box::new(alloc, d)?))
-        }
-        Cond::And(c, d) => {
-            let c = with_sources(alloc, keys, calls, c)?;
-            let d = with_sources(alloc, keys, calls, d)?;
-            Ok(Cond::And(Box::new(alloc, c)?, Box::new(alloc, d)?))
-        }
-        Cond::Compare(comparison, c, d) => {
-            let c = with_sources(alloc, keys, calls, c)?;
-            let d = with_sources(alloc, keys, calls, d)?;
-            Ok(Cond::Compare(*comparison, Box::new(alloc, c)?, Box::new(alloc, d)?))
-        }
-        Cond::Is {
-            test,
-            negated,
-            operand,
-        } => {
-            let operand = with_sources(alloc, keys, calls, operand)?;
-            Ok(Cond::Is {
-                test: *test,
-                negated: *negated,
-                operand: Box::new(alloc, operand)?,
-            })
-        }
-    }
-}
-
 /// HAVING that reads its columns and calls where they are found, if there is one.
+#[tactic(auto, using(crate::proofs::PlanLaws::found_condition))]
 fn having_with_sources(
     alloc: Global,
     keys: &[usize],
     calls: &[AggCall<usize>],
     having: &Option<Cond<usize>>,
-) -> Result<Option<Cond<Source>>, QueryError>
-    ensures found { IfOk result (λ c. option_map by_sources c
+) -> Result<Option<Cond<Source>>, AllocError>
+    ensures { IfOk result (λ c. option_map by_sources c
         ≡ option_map (group_condition keys.now (map call_form calls.now)) (option_map form_of having.now)) }
-    ensures refused { IfErr result (λ e. e ≡ NoMemory) }
 {
     match having {
-        Some(condition) => Ok(Some(with_sources(alloc, keys, calls, condition)?)),
+        Some(condition) => Ok(Some(mapped(alloc, &Sources { keys, calls }, condition)?)),
         None => Ok(None),
     }
 }
 
 impl Plan {
-    /// What evaluation needs of a query over places.
-    pub(crate) fn new(
-        alloc: Global,
-        schema: &Schema,
-        items: &[(Item<usize>, Option<String>)],
-        condition: &Option<Cond<usize>>,
-        keys: &[usize],
-        having: &Option<Cond<usize>>,
-    ) -> Result<Plan, QueryError>
-        ensures plans { IfOk result (PlansFor (record {
+    /// What evaluation needs of a query over the columns of a schema.
+    pub(crate) fn new(alloc: Global, schema: &Schema, parts: &Parts) -> Result<Plan, AllocError>
+        ensures { IfOk result (PlansFor (record {
           columns = schema.now;
-          written = written_by items.now condition.now keys.now having.now;
+          written = written_of_parts parts.now;
         })) }
-        ensures refused { IfErr result (λ e. e ≡ NoMemory) }
     {
-        let calls = calls_of(alloc, items, having)?;
+        let calls = calls_of(alloc, parts)?;
         let kinds = kinds_of_calls(alloc, &calls)?;
-        let key_kinds = kinds_at(alloc, schema.kinds(), keys)?;
-        let sources = sources_of_items(alloc, keys, &calls, items)?;
-        let having = having_with_sources(alloc, keys, &calls, having)?;
+        let key_kinds = kinds_at(alloc, schema.kinds(), &parts.keys)?;
+        let items = sources_of_items(alloc, &parts.keys, &calls, &parts.items)?;
+        let having = having_with_sources(alloc, &parts.keys, &calls, &parts.having)?;
         Ok(Plan {
             calls,
             kinds,
             key_kinds,
-            items: sources,
+            items,
             having,
         })
     }

@@ -16,16 +16,15 @@ ghost use Rattle.having_filter.specs.Spelling.{spelling};
 ghost use Rattle.having_filter.specs.Writable.{IsWritable};
 ghost use Rattle.having_filter.specs.Kept.{IsQuery, by_names, headers, key_kinds, outcome_at};
 ghost use Rattle.having_filter.specs.Plans.{source_of};
-ghost use Rattle.having_filter.specs.Parts.{written_of_parts};
+ghost use Rattle.having_filter.specs.Parts.{written_of_parts, checked_of};
 
 use crate::condition::{AggCall, Cond, Item, RawQuery};
-use crate::copies::{copied_clause, copied_items, copied_places, copied_texts};
 use crate::error::QueryError;
 use crate::leaves::{GroupLeaves, RowLeaves, is_met};
 use crate::limits::text_within;
-use crate::parts::{Parts, labels_of, placed_parts};
+use crate::parts::{Parts, copied_texts, labels_of};
 use crate::plan::{Plan, Source};
-use crate::whole::{are_plain, is_grouped, is_shallow_query, kinds_fit_in};
+use crate::whole::{are_plain, has_columns, is_grouped, is_shallow_query, kinds_fit_in};
 use agg_library::AggKind;
 use agg_protocol::ResultValue;
 use packed_rows::{Schema, Value, ValueKind};
@@ -38,75 +37,44 @@ pub struct Query {
     pub(crate) alloc: Global,
     pub(crate) schema: Schema,
     pub(crate) schema_text: String,
-    pub(crate) items: Vec<(Item<usize>, Option<String>)>,
-    pub(crate) condition: Option<Cond<usize>>,
-    pub(crate) keys: Vec<usize>,
-    pub(crate) having: Option<Cond<usize>>,
+    pub(crate) parts: Parts,
     pub(crate) canonical: String,
     pub(crate) labels: Vec<String>,
     pub(crate) plan: Plan,
 }
 
 impl Model for Query {
-    ghost use Rattle.std.specs.Prelude.{◌≡◌, map, string_bytes};
+    ghost use Rattle.std.specs.Prelude.{map, string_bytes};
     ghost use Rattle.having_filter.specs.Meaning.{Checked};
-    ghost use Rattle.having_filter.specs.Kept.{IsQuery, written_by, by_names, headers};
-    ghost use Rattle.having_filter.specs.Plans.{PlansFor};
-    ghost use Rattle.having_filter.specs.Spelling.{spelling};
-    ghost use Rattle.packed_rows.specs.Columns.{printed};
+    ghost use Rattle.having_filter.specs.Parts.{IsKept, checked_of};
     ghost use Rattle.having_filter.specs.Coding.{coded_checked};
 
     ghost Value = { Checked };
 
     ghost coded = { coded_checked };
 
-    ghost view = { λ q. record {
-      columns = q.schema;
-      written = written_by q.items.items q.condition q.keys.items q.having;
-    } };
+    ghost view = { λ q. checked_of q.schema q.parts };
 
-    ghost invariant = { λ q.
-        IsQuery (record {
-          columns = q.schema;
-          written = written_by q.items.items q.condition q.keys.items q.having;
-        })
-        × PlansFor (record {
-          columns = q.schema;
-          written = written_by q.items.items q.condition q.keys.items q.having;
-        }) q.plan
-        × (string_bytes q.canonical ≡ spelling (by_names (record {
-          columns = q.schema;
-          written = written_by q.items.items q.condition q.keys.items q.having;
-        })))
-        × (map string_bytes q.labels.items ≡ headers (record {
-          columns = q.schema;
-          written = written_by q.items.items q.condition q.keys.items q.having;
-        }))
-        × (string_bytes q.schema_text ≡ printed q.schema) };
+    ghost invariant = { λ q. IsKept (checked_of q.schema q.parts) q.plan
+        (string_bytes q.canonical) (map string_bytes q.labels.items) (string_bytes q.schema_text) };
 }
 
 /// Whether the parts of a query pass the checks over places: the first that they fail is told.
-#[tactic(auto, unfolding(crate::specs::Checks::checked_places), using(crate::proofs::FormLaws::gives_mismatch, crate::proofs::FormLaws::gives_ungrouped, crate::proofs::FormLaws::gives_checked))]
+#[tactic(auto, unfolding(crate::specs::Checks::checked_places), using(crate::proofs::CheckedLaws::gives_mismatch, crate::proofs::CheckedLaws::gives_ungrouped, crate::proofs::CheckedLaws::gives_checked))]
 fn check_parts(schema: &Schema, parts: &Parts) -> Result<(), QueryError>
     ensures passed { OnOk result (checked_places schema.now (written_of_parts parts.now)
-        ≡ Ok (record { columns = schema.now; written = written_of_parts parts.now })) }
+        ≡ Ok (checked_of schema.now parts.now)) }
     ensures fit { OnOk result (kinds_fit (kinds schema.now) (written_of_parts parts.now) ≡ true) }
     ensures refused { IfErr result (λ e.
         checked_places schema.now (written_of_parts parts.now) ≡ Err e) }
 {
-    let Parts {
-        items,
-        condition,
-        keys,
-        having,
-    } = parts;
-    if !are_plain(items, condition, keys, having) {
+    if !are_plain(parts) {
         return Err(QueryError::AggregateHere);
     }
-    if !kinds_fit_in(schema, items, condition, keys, having) {
+    if !kinds_fit_in(schema, parts) {
         return Err(QueryError::TypeMismatch);
     }
-    if !is_grouped(items, condition, keys, having) {
+    if !is_grouped(parts) {
         return Err(QueryError::NotGrouped);
     }
     Ok(())
@@ -133,16 +101,12 @@ impl Query {
         if !is_shallow_query(raw) {
             return Err(QueryError::TooDeep);
         }
-        let parts = placed_parts(alloc, schema, raw)?;
+        if !has_columns(schema, raw) {
+            return Err(QueryError::NoSuchColumn);
+        }
+        let parts = Parts::placed(alloc, schema, raw)?;
         check_parts(schema, &parts)?;
-        let plan = Plan::new(
-            alloc,
-            schema,
-            &parts.items,
-            &parts.condition,
-            &parts.keys,
-            &parts.having,
-        )?;
+        let plan = Plan::new(alloc, schema, &parts)?;
         let labels = labels_of(alloc, &raw.items)?;
         let schema = schema.try_clone()?;
         let schema_text = schema.print()?;
@@ -150,10 +114,7 @@ impl Query {
             alloc,
             schema,
             schema_text,
-            items: parts.items,
-            condition: parts.condition,
-            keys: parts.keys,
-            having: parts.having,
+            parts,
             canonical,
             labels,
             plan,
@@ -172,14 +133,14 @@ impl Query {
     pub fn items(&self) -> &[(Item<usize>, Option<String>)]
         ensures { places_of result.now ≡ self.now.written.items }
     {
-        &self.items
+        &self.parts.items
     }
 
     /// WHERE, if there is one.
     pub fn condition(&self) -> &Option<Cond<usize>>
         ensures { option_map form_of result.now ≡ self.now.written.condition }
     {
-        &self.condition
+        &self.parts.condition
     }
 
     /// The columns of GROUP BY, each once.
@@ -187,7 +148,7 @@ impl Query {
         ensures keys { result.now ≡ self.now.written.keys }
         ensures query { IsQuery self.now }
     {
-        &self.keys
+        &self.parts.keys
     }
 
     /// The kinds of the columns of GROUP BY.
@@ -201,7 +162,7 @@ impl Query {
     pub fn having(&self) -> &Option<Cond<usize>>
         ensures { option_map form_of result.now ≡ self.now.written.having }
     {
-        &self.having
+        &self.parts.having
     }
 
     /// The distinct calls of the items and of HAVING, by the first of each.
@@ -257,7 +218,7 @@ impl Query {
     pub fn where_true(&self, row: &[Value<'_>]) -> bool
         ensures { result ≡ is_met (column_of (row_of row.now)) (meaning self.now).condition }
     {
-        is_met(&self.condition, &RowLeaves { row })
+        is_met(&self.parts.condition, &RowLeaves { row })
     }
 
     /// Whether the FILTER of an aggregate is true of a row, and not false or unknown, the first aggregate being 0. Where
@@ -288,38 +249,21 @@ impl Query {
         self.schema_text == other.schema_text && self.canonical == other.canonical
     }
 
-    /// The same query again. The only error is a failed allocation.
+    /// The same query again.
     pub fn try_clone(&self) -> Result<Query, AllocError>
         ensures { IfOk result (λ query. query ≡ self.now) }
     {
-        match self.copied() {
-            Ok(query) => Ok(query),
-            // Only memory can be wanting.
-            Err(_) => Err(AllocError),
-        }
-    }
-
-    /// The same query again.
-    fn copied(&self) -> Result<Query, QueryError>
-        ensures { IfOk result (λ query. query ≡ self.now) }
-    {
         let schema = self.schema.try_clone()?;
-        let items = copied_items(self.alloc, &self.items)?;
-        let condition = copied_clause(self.alloc, &self.condition)?;
-        let keys = copied_places(self.alloc, &self.keys)?;
-        let having = copied_clause(self.alloc, &self.having)?;
+        let parts = self.parts.try_clone(self.alloc)?;
         let canonical = String::from_str(self.alloc, self.canonical.as_str())?;
         let labels = copied_texts(self.alloc, &self.labels)?;
-        let plan = Plan::new(self.alloc, &schema, &items, &condition, &keys, &having)?;
+        let plan = Plan::new(self.alloc, &schema, &parts)?;
         let schema_text = schema.print()?;
         Ok(Query {
             alloc: self.alloc,
             schema,
             schema_text,
-            items,
-            condition,
-            keys,
-            having,
+            parts,
             canonical,
             labels,
             plan,

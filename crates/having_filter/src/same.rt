@@ -1,15 +1,12 @@
-//! When two conditions or calls are the same, and the distinct calls of a query.
+//! When two conditions or calls are the same.
 
-ghost use Rattle.std.specs.Prelude.{◌≡◌, ◌==◌, OnOk};
-ghost use Rattle.std.specs.List.{list_any};
+ghost use Rattle.std.specs.Prelude.{◌≡◌, ◌==◌};
 ghost use Rattle.agg_library.specs.Kinds.{function_of};
-ghost use Rattle.having_filter.specs.Forms.{form_of, call_form, call_forms, test_of, comparison_of};
-ghost use Rattle.having_filter.specs.Sameness.{form_eq, function_eq, test_number, comparison_number, option_same, with_one, with_each};
-ghost use Rattle.having_filter.specs.Meaning.{calls_in};
+ghost use Rattle.having_filter.specs.Forms.{form_of, call_form, test_of, comparison_of};
+ghost use Rattle.having_filter.specs.Sameness.{form_eq, function_eq, test_number, comparison_number, option_same};
 
 use crate::condition::{AggCall, Comparison, Cond, IsTest};
 use agg_library::AggKind;
-use std::alloc::AllocError;
 
 /// Whether two functions are the same.
 fn is_same_function(a: AggKind, b: AggKind) -> bool
@@ -58,8 +55,9 @@ pub(crate) fn is_same<C: PartialEq>(a: &Cond<C>, b: &Cond<C>) -> bool
         (Cond::Boolean(a), Cond::Boolean(b)) => a == b,
         (Cond::Null, Cond::Null) => true,
         (Cond::Not(a), Cond::Not(b)) => is_same(a, b),
-        (Cond::Or(a, c), Cond::Or(b, d)) => is_same(a, b) && is_same(c, d),
-        (Cond::And(a, c), Cond::And(b, d)) => is_same(a, b) && is_same(c, d),
+        (Cond::Or(a, c), Cond::Or(b, d)) | (Cond::And(a, c), Cond::And(b, d)) => {
+            is_same(a, b) && is_same(c, d)
+        }
         (Cond::Compare(x, a, c), Cond::Compare(y, b, d)) => {
             is_same_comparison(*x, *y) && is_same(a, b) && is_same(c, d)
         }
@@ -89,62 +87,4 @@ fn is_same_test(a: IsTest, b: IsTest) -> bool
     ensures { result ≡ (test_number (test_of a) == test_number (test_of b)) }
 {
     a == b
-}
-
-/// Whether a call is among others.
-fn has_call<C: PartialEq>(calls: &[&AggCall<C>], call: &AggCall<C>) -> bool
-    ensures { result ≡ list_any (form_eq C.eq (call_form call.now)) (call_forms calls.now) }
-{
-    match calls {
-        [] => false,
-        [first, rest @ ..] => is_same_call(call, *first) || has_call(rest, call),
-    }
-}
-
-/// Adds a call to others, unless it is there.
-#[tactic(auto, using(crate::proofs::FormLaws::with_one_more, crate::proofs::FormLaws::with_one_there))]
-pub(crate) fn push_call<'a, C: PartialEq>(
-    calls: &mut Vec<&'a AggCall<C>>,
-    call: &'a AggCall<C>,
-) -> Result<(), AllocError>
-    ensures { OnOk result (call_forms calls.new.items
-        ≡ with_one (form_eq C.eq) (call_forms calls.old.items) (call_form call.now)) }
-{
-    if has_call(calls, call) {
-        return Ok(());
-    }
-    calls.push(call)?;
-    Ok(())
-}
-
-/// Adds the calls of a condition to others, each unless it is there.
-#[tactic(auto, using(crate::proofs::FormLaws::with_each_append, crate::proofs::FormLaws::calls_in_call))]
-pub(crate) fn push_calls<'a, C: PartialEq>(
-    calls: &mut Vec<&'a AggCall<C>>,
-    condition: &'a Cond<C>,
-) -> Result<(), AllocError>
-    ensures { OnOk result (call_forms calls.new.items
-        ≡ with_each (form_eq C.eq) (call_forms calls.old.items) (calls_in (form_of condition.now))) }
-{
-    match condition {
-        Cond::Call(call) => {
-            push_call(calls, call)?;
-            Ok(())
-        }
-        Cond::Not(c) => push_calls(calls, c),
-        Cond::Or(c, d) => {
-            push_calls(calls, c)?;
-            push_calls(calls, d)
-        }
-        Cond::And(c, d) => {
-            push_calls(calls, c)?;
-            push_calls(calls, d)
-        }
-        Cond::Compare(_, c, d) => {
-            push_calls(calls, c)?;
-            push_calls(calls, d)
-        }
-        Cond::Is { operand, .. } => push_calls(calls, operand),
-        _ => Ok(()),
-    }
 }

@@ -8,32 +8,13 @@ ghost use Rattle.query_tokens.specs.Spelling.{spell, spell_byte};
 ghost use Rattle.agg_library.specs.Kinds.{function_of};
 ghost use Rattle.packed_rows.specs.View.{texts_of};
 ghost use Rattle.having_filter.specs.Forms.{form_of, call_form, item_form, names_of, items_of, comparison_of, test_of, written_of};
-ghost use Rattle.having_filter.specs.Sameness.{distinct};
-ghost use Rattle.having_filter.specs.Spelling.{function_name, comparison_text, test_text, call_text, level, operand, spelled, own_name, kept_alias, alias_text, item_text, parted, clause_text, keys_text, spelling};
+ghost use Rattle.having_filter.specs.Sameness.{first_of_each};
+ghost use Rattle.having_filter.specs.Spelling.{comparison_text, test_text, call_text, level, operand, spelled, own_name, kept_alias, alias_text, item_text, parted, clause_text, keys_text, spelling};
 
 use crate::condition::{AggCall, Comparison, Cond, IsTest, Item, RawQuery};
 use agg_library::AggKind;
 use itoa::Buffer;
 use std::alloc::{AllocError, Global};
-
-/// The name of a function.
-pub(crate) fn function_name(function: AggKind) -> &'static str
-    ensures { result.now ≡ function_name (function_of function) }
-{
-    match function {
-        AggKind::CountRows => "count",
-        AggKind::Count => "count",
-        AggKind::Sum => "sum",
-        AggKind::Min => "min",
-        AggKind::Max => "max",
-        AggKind::BitAnd => "bit_and",
-        AggKind::BitOr => "bit_or",
-        AggKind::BitXor => "bit_xor",
-        AggKind::BoolAnd => "bool_and",
-        AggKind::BoolOr => "bool_or",
-        AggKind::Every => "every",
-    }
-}
 
 /// A comparison, between its operands.
 fn comparison_text(comparison: Comparison) -> &'static str
@@ -117,7 +98,7 @@ fn push_function(
     ensures { OnOk result (string_bytes text.new ≡ string_bytes text.old
         ++ call_text (function_of function) (option_map string_bytes column.now)) }
 {
-    text.push_str(function_name(function))?;
+    text.push_str(function.name())?;
     match column {
         Some(name) => {
             text.push_str("(")?;
@@ -210,7 +191,7 @@ pub(crate) fn own_name(item: &Item<String>) -> &str
 {
     match item {
         Item::Column(name) => name.as_str(),
-        Item::Call(call) => function_name(call.kind),
+        Item::Call(call) => call.kind.name(),
     }
 }
 
@@ -311,7 +292,7 @@ fn push_keys(text: &mut String, keys: &[&str]) -> Result<(), AllocError>
 
 /// The canonical text of a query, the distinct names of its columns of GROUP BY being given.
 pub(crate) fn spelled(alloc: Global, raw: &RawQuery, keys: &[&str]) -> Result<String, AllocError>
-    requires { texts_of keys.now ≡ distinct bytes_eq (written_of raw.now).keys }
+    requires { texts_of keys.now ≡ first_of_each bytes_eq (written_of raw.now).keys }
     ensures { IfOk result (λ text. string_bytes text ≡ spelling (written_of raw.now)) }
 {
     let mut text = String::from_str(alloc, "SELECT ")?;

@@ -1,46 +1,33 @@
 //! The checks of whole queries.
 
-ghost use Rattle.std.specs.Prelude.{◌≡◌, true, option_map};
+ghost use Rattle.std.specs.Prelude.{◌≡◌, true, map, option_map, string_bytes};
 ghost use Rattle.std.specs.List.{list_all};
 ghost use Rattle.std.specs.Option.{option_map_or};
 ghost use Rattle.packed_rows.specs.View.{kinds_of};
 ghost use Rattle.packed_rows.specs.Columns.{kinds};
-ghost use Rattle.having_filter.specs.Forms.{form_of, names_of, item_form, written_of, items_of, places_of};
-ghost use Rattle.having_filter.specs.Checks.{all_of, is_shallow, are_shallow, is_plain, filters_pass, operands_fit, condition_fits, is_grouped_by, are_plain, kinds_fit, is_grouped};
-ghost use Rattle.having_filter.specs.Kept.{written_by};
+ghost use Rattle.having_filter.specs.Forms.{form_of, item_form, names_of, items_of, places_of, written_of};
+ghost use Rattle.having_filter.specs.Reads.{columns_pass, filters_pass, is_grouped_by, is_plain};
+ghost use Rattle.having_filter.specs.Checks.{all_of, is_shallow, are_shallow, is_column, has_columns, operands_fit, condition_fits, are_plain, kinds_fit, is_grouped};
+ghost use Rattle.having_filter.specs.Parts.{written_of_parts};
 
 use crate::checks::{
-    are_shallow, condition_fits, filters_are_plain, is_grouped_by, is_plain, takes_column,
+    PlainFilters, ShallowFilters, are_shallow, call_fits, condition_fits, is_grouped_by, is_plain,
 };
-use crate::condition::{Cond, Item, RawQuery};
+use crate::condition::{AggCall, Cond, Item, RawQuery};
+use crate::parts::Parts;
+use crate::reads::{Test, clause_everywhere, items_everywhere};
 use packed_rows::{Schema, ValueKind};
 
-/// Whether the FILTERs of an item are at most 64 deep.
-#[tactic(auto, using(crate::proofs::FormLaws::shallow_mapped))]
-fn item_is_shallow(item: &Item<String>) -> bool
-    ensures { result ≡ filters_pass is_shallow (names_of (item_form item.now)) }
-{
-    match item {
-        Item::Column(_) => true,
-        Item::Call(call) => match &call.filter {
-            Some(filter) => are_shallow(filter),
-            None => true,
-        },
-    }
-}
-
-/// Whether the FILTERs of all items are at most 64 deep.
+/// Whether the FILTERs of all items are not too deep.
+#[tactic(auto, using(crate::proofs::WholeLaws::items_shallow))]
 fn items_are_shallow(items: &[(Item<String>, Option<String>)]) -> bool
     ensures { result ≡ list_all (λ item. filters_pass is_shallow item.0) (items_of items.now) }
 {
-    match items {
-        [] => true,
-        [first, rest @ ..] => item_is_shallow(&first.0) && items_are_shallow(rest),
-    }
+    items_everywhere(items, &ShallowFilters)
 }
 
-/// Whether a condition, if there is one, and its FILTERs are at most 64 deep.
-#[tactic(auto, using(crate::proofs::FormLaws::shallow_mapped, crate::proofs::FormLaws::depth_mapped))]
+/// Whether a condition, if there is one, and its FILTERs are not too deep.
+#[tactic(auto, using(crate::proofs::FormLaws::filters_mapped, crate::proofs::FormLaws::depth_mapped))]
 fn clause_is_shallow(clause: &Option<Cond<String>>) -> bool
     ensures { result ≡ option_map_or are_shallow (option_map (λ c. names_of (form_of c)) clause.now) true }
 {
@@ -50,7 +37,7 @@ fn clause_is_shallow(clause: &Option<Cond<String>>) -> bool
     }
 }
 
-/// Whether no condition of a query is more than 64 deep.
+/// Whether no condition of a query is too deep.
 pub(crate) fn is_shallow_query(raw: &RawQuery) -> bool
     ensures { result ≡ all_of (filters_pass is_shallow) are_shallow (written_of raw.now) }
 {
@@ -59,81 +46,67 @@ pub(crate) fn is_shallow_query(raw: &RawQuery) -> bool
         && clause_is_shallow(&raw.having)
 }
 
-/// Whether no aggregate stands in a FILTER of an item.
-fn item_is_plain(item: &Item<usize>) -> bool
-    ensures { result ≡ filters_pass is_plain (item_form item.now) }
-{
-    match item {
-        Item::Column(_) => true,
-        Item::Call(call) => match &call.filter {
-            Some(filter) => is_plain(filter) && filters_are_plain(filter),
+/// The test that columns are a schema's.
+#[derive(Drop)]
+struct Known<'a> {
+    schema: &'a Schema,
+}
+
+impl<'a> Test<String> for Known<'a> {
+    ghost use Rattle.std.specs.Prelude.{true, string_bytes};
+    ghost use Rattle.std.specs.Option.{option_map_or};
+    ghost use Rattle.having_filter.specs.Reads.{column_read};
+    ghost use Rattle.having_filter.specs.Checks.{is_column};
+
+    ghost passes = { λ t leaf. option_map_or (λ name. is_column t.schema.now (string_bytes name))
+        (column_read leaf) true };
+
+    fn column(&self, column: &String) -> bool {
+        self.schema.place(column.as_str()).is_some()
+    }
+
+    #[tactic(auto, using(crate::proofs::ReadLaws::column_of_call))]
+    fn call(&self, call: &AggCall<String>) -> bool {
+        match &call.column {
+            Some(column) => self.schema.place(column.as_str()).is_some(),
             None => true,
-        },
+        }
     }
 }
 
-/// Whether the arguments and the FILTER of an item have kinds that fit.
-fn item_fits(kinds: &[ValueKind], item: &Item<usize>) -> bool
-    ensures { result ≡ operands_fit (kinds_of kinds.now) (item_form item.now) }
+/// Whether all columns that items name are a schema's.
+fn items_are_known(schema: &Schema, items: &[(Item<String>, Option<String>)]) -> bool
+    ensures { result ≡ list_all (λ item. columns_pass (is_column schema.now) item.0) (items_of items.now) }
 {
-    match item {
-        Item::Column(_) => true,
-        Item::Call(call) => match &call.filter {
-            Some(filter) => takes_column(kinds, call.kind, call.column)
-                && condition_fits(kinds, filter),
-            None => takes_column(kinds, call.kind, call.column),
-        },
-    }
+    items_everywhere(items, &Known { schema })
 }
 
-/// Whether an item is a call or a key.
-fn item_is_grouped(keys: &[usize], item: &Item<usize>) -> bool
-    ensures { result ≡ is_grouped_by keys.now (item_form item.now) }
+/// Whether all columns that a clause names, if there is one, are a schema's.
+#[tactic(auto, using(crate::proofs::WholeLaws::clause_known))]
+fn clause_is_known(schema: &Schema, clause: &Option<Cond<String>>) -> bool
+    ensures { result ≡ option_map_or (columns_pass (is_column schema.now))
+        (option_map (λ c. names_of (form_of c)) clause.now) true }
 {
-    match item {
-        Item::Column(place) => keys.contains(place),
-        Item::Call(_) => true,
-    }
+    clause_everywhere(clause, &Known { schema })
 }
 
-/// Whether no aggregate stands in a FILTER of any item.
-fn items_are_plain(items: &[(Item<usize>, Option<String>)]) -> bool
-    ensures { result ≡ list_all (λ item. filters_pass is_plain item.0) (places_of items.now) }
+/// Whether all columns of GROUP BY are a schema's.
+fn keys_are_known(schema: &Schema, names: &[String]) -> bool
+    ensures { result ≡ list_all (is_column schema.now) (map string_bytes names.now) }
 {
-    match items {
-        [] => true,
-        [first, rest @ ..] => item_is_plain(&first.0) && items_are_plain(rest),
-    }
+    names
+        .iter()
+        .all(|name| schema.place(name.as_str()).is_some())
 }
 
-/// Whether the arguments and FILTERs of all items have kinds that fit.
-fn items_fit(kinds: &[ValueKind], items: &[(Item<usize>, Option<String>)]) -> bool
-    ensures { result ≡ list_all (λ item. operands_fit (kinds_of kinds.now) item.0) (places_of items.now) }
+/// Whether all columns that a query names are a schema's.
+pub(crate) fn has_columns(schema: &Schema, raw: &RawQuery) -> bool
+    ensures { result ≡ has_columns schema.now (written_of raw.now) }
 {
-    match items {
-        [] => true,
-        [first, rest @ ..] => item_fits(kinds, &first.0) && items_fit(kinds, rest),
-    }
-}
-
-/// Whether all items are calls or keys.
-fn items_are_grouped(keys: &[usize], items: &[(Item<usize>, Option<String>)]) -> bool
-    ensures { result ≡ list_all (λ item. is_grouped_by keys.now item.0) (places_of items.now) }
-{
-    match items {
-        [] => true,
-        [first, rest @ ..] => item_is_grouped(keys, &first.0) && items_are_grouped(keys, rest),
-    }
-}
-
-/// Whether no aggregate stands in a FILTER of a clause, if there is one.
-fn clause_filters_are_plain(clause: &Option<Cond<usize>>) -> bool
-    ensures { result ≡ option_map_or (filters_pass is_plain) (option_map form_of clause.now) true }
-{
-    match clause {
-        Some(condition) => filters_are_plain(condition),
-        None => true,
-    }
+    items_are_known(schema, &raw.items)
+        && clause_is_known(schema, &raw.condition)
+        && clause_is_known(schema, &raw.having)
+        && keys_are_known(schema, &raw.keys)
 }
 
 /// Whether no aggregate stands in a clause, if there is one.
@@ -144,6 +117,33 @@ fn clause_is_plain(clause: &Option<Cond<usize>>) -> bool
         Some(condition) => is_plain(condition),
         None => true,
     }
+}
+
+/// Whether no aggregate stands in WHERE or in a FILTER.
+pub(crate) fn are_plain(parts: &Parts) -> bool
+    ensures { result ≡ are_plain (written_of_parts parts.now) }
+{
+    items_everywhere(&parts.items, &PlainFilters)
+        && clause_everywhere(&parts.condition, &PlainFilters)
+        && clause_everywhere(&parts.having, &PlainFilters)
+        && clause_is_plain(&parts.condition)
+}
+
+/// Whether the arguments and the FILTER of an item have kinds that fit.
+fn item_fits(kinds: &[ValueKind], item: &Item<usize>) -> bool
+    ensures { result ≡ operands_fit (kinds_of kinds.now) (item_form item.now) }
+{
+    match item {
+        Item::Column(_) => true,
+        Item::Call(call) => call_fits(kinds, call),
+    }
+}
+
+/// Whether the arguments and FILTERs of all items have kinds that fit.
+fn items_fit(kinds: &[ValueKind], items: &[(Item<usize>, Option<String>)]) -> bool
+    ensures { result ≡ list_all (λ item. operands_fit (kinds_of kinds.now) item.0) (places_of items.now) }
+{
+    items.iter().all(|item| item_fits(kinds, &item.0))
 }
 
 /// Whether a clause, if there is one, has operands and arguments whose kinds fit.
@@ -157,6 +157,42 @@ fn clause_fits(kinds: &[ValueKind], clause: &Option<Cond<usize>>) -> bool
     }
 }
 
+/// Whether all operands and arguments of a query over the columns of a schema have kinds that fit.
+pub(crate) fn kinds_fit_in(schema: &Schema, parts: &Parts) -> bool
+    ensures { result ≡ kinds_fit (kinds schema.now) (written_of_parts parts.now) }
+{
+    kinds_fit(schema.kinds(), parts)
+}
+
+/// Whether all operands and arguments of a query over columns of these kinds have kinds that fit.
+fn kinds_fit(kinds: &[ValueKind], parts: &Parts) -> bool
+    ensures { result ≡ kinds_fit (kinds_of kinds.now) (written_of_parts parts.now) }
+{
+    items_fit(kinds, &parts.items)
+        && clause_fits(kinds, &parts.condition)
+        && clause_fits(kinds, &parts.having)
+}
+
+/// Whether an item is a call or a key.
+fn item_is_grouped(keys: &[usize], item: &Item<usize>) -> bool
+    ensures { result ≡ is_grouped_by keys.now (item_form item.now) }
+{
+    match item {
+        Item::Column(place) => keys.contains(place),
+        Item::Call(call) => match &call.filter {
+            Some(_) => true,
+            None => true,
+        },
+    }
+}
+
+/// Whether all items are calls or keys.
+fn items_are_grouped(keys: &[usize], items: &[(Item<usize>, Option<String>)]) -> bool
+    ensures { result ≡ list_all (λ item. is_grouped_by keys.now item.0) (places_of items.now) }
+{
+    items.iter().all(|item| item_is_grouped(keys, &item.0))
+}
+
 /// Whether the columns of a clause, if there is one, that stand outside calls are keys.
 fn clause_is_grouped(keys: &[usize], clause: &Option<Cond<usize>>) -> bool
     ensures { result ≡
@@ -168,57 +204,9 @@ fn clause_is_grouped(keys: &[usize], clause: &Option<Cond<usize>>) -> bool
     }
 }
 
-/// Whether no aggregate stands in WHERE or in a FILTER.
-pub(crate) fn are_plain(
-    items: &[(Item<usize>, Option<String>)],
-    condition: &Option<Cond<usize>>,
-    keys: &[usize],
-    having: &Option<Cond<usize>>,
-) -> bool
-    ensures { result ≡ are_plain (written_by items.now condition.now keys.now having.now) }
-{
-    items_are_plain(items)
-        && clause_filters_are_plain(condition)
-        && clause_filters_are_plain(having)
-        && clause_is_plain(condition)
-}
-
-/// Whether all operands and arguments of a query over the columns of a schema have kinds that fit.
-pub(crate) fn kinds_fit_in(
-    schema: &Schema,
-    items: &[(Item<usize>, Option<String>)],
-    condition: &Option<Cond<usize>>,
-    keys: &[usize],
-    having: &Option<Cond<usize>>,
-) -> bool
-    ensures { result ≡ kinds_fit (kinds schema.now)
-        (written_by items.now condition.now keys.now having.now) }
-{
-    kinds_fit(schema.kinds(), items, condition, keys, having)
-}
-
-/// Whether all operands and arguments of a query have kinds that fit.
-fn kinds_fit(
-    kinds: &[ValueKind],
-    items: &[(Item<usize>, Option<String>)],
-    condition: &Option<Cond<usize>>,
-    keys: &[usize],
-    having: &Option<Cond<usize>>,
-) -> bool
-    ensures { result ≡ kinds_fit (kinds_of kinds.now)
-        (written_by items.now condition.now keys.now having.now) }
-{
-    items_fit(kinds, items) && clause_fits(kinds, condition) && clause_fits(kinds, having)
-}
-
 /// Whether the columns of items and of HAVING that stand outside calls are keys.
-pub(crate) fn is_grouped(
-    items: &[(Item<usize>, Option<String>)],
-    condition: &Option<Cond<usize>>,
-    keys: &[usize],
-    having: &Option<Cond<usize>>,
-) -> bool
-    ensures { result ≡ is_grouped (written_by items.now condition.now keys.now having.now) }
+pub(crate) fn is_grouped(parts: &Parts) -> bool
+    ensures { result ≡ is_grouped (written_of_parts parts.now) }
 {
-    items_are_grouped(keys, items) && clause_is_grouped(keys, having)
+    items_are_grouped(&parts.keys, &parts.items) && clause_is_grouped(&parts.keys, &parts.having)
 }

@@ -49,12 +49,8 @@ some_depth (form.Column w) = omega arith
 some_depth (form.Call f c) = omega arith
 some_depth (form.Call_where f c x) = omega arith
 some_depth (form.Literal v) = omega arith
-some_depth (form.Not x) = omega arith
-some_depth (form.And x y) = omega arith
-some_depth (form.Or x y) = omega arith
-some_depth (form.Compare c x y) = omega arith
-some_depth (form.Is t x) = omega arith
-some_depth (form.Is_not t x) = omega arith
+some_depth (form.Unary operator x) = omega arith
+some_depth (form.Binary operator x y) = omega arith
 
 enclosed_in : (limit : ℕ) (x : Named) (p : Printed limit x) (room : ℕ) → depth x ≤ room → IsOperand limit room (opening ∷ (p.tokens ++ closing ∷ [])) x
 enclosed_in limit x p zero le = absurd (omega (arith, le, some_depth x))
@@ -219,16 +215,6 @@ pub the_calls : (f : Function) (column : Option (List ℕ)) → IsArgument IsCol
 unfolding function_named is_reserved
 the_calls function.Count_rows None a = record { called = function.Count; inside = Sign symbols.Star ∷ []; named = count_named; free = refl; calls = refl; argument = grammar.all_rows; spells = rows_spelled }
 the_calls function.Count_rows (Some name) a = absurd a
-the_calls function.Count None a = absurd a
-the_calls function.Sum None a = absurd a
-the_calls function.Min None a = absurd a
-the_calls function.Max None a = absurd a
-the_calls function.Bit_and None a = absurd a
-the_calls function.Bit_or None a = absurd a
-the_calls function.Bit_xor None a = absurd a
-the_calls function.Bool_and None a = absurd a
-the_calls function.Bool_or None a = absurd a
-the_calls function.Every None a = absurd a
 the_calls function.Count (Some name) a = column_call function.Count name (record { named = count_named; free = refl; calls = refl }) a
 the_calls function.Sum (Some name) a = column_call function.Sum name (record { named = record { begins = refl; continues = refl; lower = refl; within = omega arith }; free = refl; calls = refl }) a
 the_calls function.Min (Some name) a = column_call function.Min name (record { named = record { begins = refl; continues = refl; lower = refl; within = omega arith }; free = refl; calls = refl }) a
@@ -239,6 +225,7 @@ the_calls function.Bit_xor (Some name) a = column_call function.Bit_xor name (re
 the_calls function.Bool_and (Some name) a = column_call function.Bool_and name (record { named = record { begins = refl; continues = refl; lower = refl; within = omega arith }; free = refl; calls = refl }) a
 the_calls function.Bool_or (Some name) a = column_call function.Bool_or name (record { named = record { begins = refl; continues = refl; lower = refl; within = omega arith }; free = refl; calls = refl }) a
 the_calls function.Every (Some name) a = column_call function.Every name (record { named = record { begins = refl; continues = refl; lower = refl; within = omega arith }; free = refl; calls = refl }) a
+the_calls f None a = absurd a
 
 pub call_is : (limit : ℕ) (f : Function) (column : Option (List ℕ)) (c : Calls f column) → IsCall limit (Name (function_name f) ∷ opening ∷ (c.inside ++ closing ∷ [])) (form.Call f column)
 call_is limit f column c = grammar.plain c.inside c.free c.calls c.argument
@@ -319,25 +306,25 @@ printed limit (form.Call_where f column x) legal shallow =
     let le : depth x ≤ limit = leb-true (depth x) limit parts.0 in
     of_operand limit (form.Call_where f column x) (Name (function_name f) ∷ opening ∷ (c.inside ++ closing ∷ word (codes "filter") ∷ opening ∷ word (codes "where") ∷ (p.tokens ++ closing ∷ [])))
     (filtered_spelled limit f column x c p) (λ room _. grammar.call (filtered_is limit f column x c p (omega (arith, le))))
-printed limit (form.Not x) legal shallow =
+printed limit (form.Unary form.Negation x) legal shallow =
     let p = placed limit 3 x (printed limit x legal shallow) in
     of_not limit (form.Not x) (word (codes "not") ∷ p.tokens) refl (opens_then (codes "NOT ") (operand 3 x (spelled x)) (word (codes "not") ∷ []) p.tokens (opens_word (codes "NOT") (codes "not") not_word) p.spells)
     (λ room le. grammar.by_not (p.not (omega arith) room (omega (arith, le))))
-printed limit (form.And x y) legal shallow =
+printed limit (form.Binary form.Conjunction x y) legal shallow =
     let parts = and_parts (filters_pass (λ c. nat_le (depth c) limit) x) (filters_pass (λ c. nat_le (depth c) limit) y) shallow in
     let p = placed limit 2 x (printed limit x legal.0 parts.0) in
     let q = placed limit 3 y (printed limit y legal.1 parts.1) in
     of_and limit (form.And x y) (p.tokens ++ word (codes "and") ∷ q.tokens) refl
     (spells_between (operand 2 x (spelled x)) (codes " AND ") (operand 3 y (spelled y)) p.tokens (word (codes "and") ∷ []) q.tokens p.spells (λ rest. refl) (opens_between (codes "AND") (codes "and") and_word) q.spells)
     (λ room le. grammar.by_and p.tokens q.tokens (p.and (omega arith) room (left_depth (depth x) (depth y) room le)) (q.not (omega arith) room (right_depth (depth x) (depth y) room le)))
-printed limit (form.Or x y) legal shallow =
+printed limit (form.Binary form.Disjunction x y) legal shallow =
     let parts = and_parts (filters_pass (λ c. nat_le (depth c) limit) x) (filters_pass (λ c. nat_le (depth c) limit) y) shallow in
     let p = placed limit 1 x (printed limit x legal.0 parts.0) in
     let q = placed limit 2 y (printed limit y legal.1 parts.1) in
     of_or limit (form.Or x y) (p.tokens ++ word (codes "or") ∷ q.tokens) refl
     (spells_between (operand 1 x (spelled x)) (codes " OR ") (operand 2 y (spelled y)) p.tokens (word (codes "or") ∷ []) q.tokens p.spells (λ rest. refl) (opens_between (codes "OR") (codes "or") or_word) q.spells)
     (λ room le. grammar.by_or p.tokens q.tokens (p.condition room (left_depth (depth x) (depth y) room le)) (q.and (omega arith) room (right_depth (depth x) (depth y) room le)))
-printed limit (form.Compare c x y) legal shallow =
+printed limit (form.Binary (form.Comparing c) x y) legal shallow =
     let parts = and_parts (filters_pass (λ c. nat_le (depth c) limit) x) (filters_pass (λ c. nat_le (depth c) limit) y) shallow in
     let p = placed limit 6 x (printed limit x legal.0 parts.0) in
     let q = placed limit 6 y (printed limit y legal.1 parts.1) in
@@ -345,13 +332,13 @@ printed limit (form.Compare c x y) legal shallow =
     of_compared limit (form.Compare c x y) (p.tokens ++ Sign k.symbol ∷ q.tokens) refl
     (spells_between (operand 6 x (spelled x)) (comparison_text c) (operand 6 y (spelled y)) p.tokens (Sign k.symbol ∷ []) q.tokens p.spells k.quiet k.opens q.spells)
     (λ room le. grammar.by_comparison p.tokens q.tokens k.symbol (p.operand_is (omega arith) room (left_depth (depth x) (depth y) room le)) k.is (q.operand_is (omega arith) room (right_depth (depth x) (depth y) room le)))
-printed limit (form.Is t x) legal shallow =
+printed limit (form.Unary (form.Testing t false) x) legal shallow =
     let p = placed limit 4 x (printed limit x legal shallow) in
     let k = tests t in
     of_test limit (form.Is t x) (p.tokens ++ word (codes "is") ∷ k.tokens) refl
     (spells_between (operand 4 x (spelled x)) (codes " IS ") (test_text t) p.tokens (word (codes "is") ∷ []) k.tokens p.spells (λ rest. refl) (opens_between (codes "IS") (codes "is") is_word) k.spells)
     (λ room le. grammar.by_is p.tokens k.tokens (p.test (omega arith) room (omega (arith, le))) k.is)
-printed limit (form.Is_not t x) legal shallow =
+printed limit (form.Unary (form.Testing t true) x) legal shallow =
     let p = placed limit 4 x (printed limit x legal shallow) in
     let k = tests t in
     of_test limit (form.Is_not t x) (p.tokens ++ word (codes "is") ∷ word (codes "not") ∷ k.tokens) refl

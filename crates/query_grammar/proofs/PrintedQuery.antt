@@ -11,7 +11,8 @@ use Rattle.query_tokens.specs.Words.{Lexeme, Name, Sign}
 use Rattle.packed_rows.specs.Columns.{IsColumnName}
 use Rattle.having_filter.specs.Forms as form
 use Rattle.having_filter.specs.Forms.{Written}
-use Rattle.having_filter.specs.Sameness.{distinct}
+use Rattle.grouping_model.specs.declared.limits.TheConstants.{DEEPEST_CONDITION}
+use Rattle.having_filter.specs.Sameness.{first_of_each}
 use Rattle.having_filter.specs.Spelling.{function_name, spelled, own_name, kept_alias, alias_text, item_text, parted, clause_text, keys_text, spelling}
 use Rattle.having_filter.specs.Checks.{depth, is_shallow, are_shallow, filters_pass, all_of}
 use Rattle.having_filter.specs.Writable as writable
@@ -47,19 +48,15 @@ value (form.Call_where f column x) kind legal shallow =
     let c = the_calls f column legal.0 in
     let parts = and_parts (is_shallow x) (filters_pass is_shallow x) shallow in
     let p = printed most_open x legal.1 parts.1 in
-    let le : depth x ≤ 64 = leb-true (depth x) 64 parts.0 in
+    let le : depth x ≤ DEEPEST_CONDITION = leb-true (depth x) DEEPEST_CONDITION parts.0 in
     record {
       tokens = Name (function_name f) ∷ opening ∷ (c.inside ++ closing ∷ word (codes "filter") ∷ opening ∷ word (codes "where") ∷ (p.tokens ++ closing ∷ []));
       spells = filtered_spelled most_open f column x c p;
       is = grammar.item_call (filtered_is most_open f column x c p (omega (arith, le)));
     }
 value (form.Literal v) kind legal shallow = absurd kind
-value (form.Not x) kind legal shallow = absurd kind
-value (form.And x y) kind legal shallow = absurd kind
-value (form.Or x y) kind legal shallow = absurd kind
-value (form.Compare c x y) kind legal shallow = absurd kind
-value (form.Is t x) kind legal shallow = absurd kind
-value (form.Is_not t x) kind legal shallow = absurd kind
+value (form.Unary operator x) kind legal shallow = absurd kind
+value (form.Binary operator x y) kind legal shallow = absurd kind
 
 -- a text that may be there behind others
 record Part (text : List ℕ) (ts : List Lexeme) : Type 0 where
@@ -163,7 +160,7 @@ clause text w opens quiet None legal shallow = record { tokens = []; part = noth
 clause text w opens quiet (Some x) legal shallow =
     let parts = and_parts (is_shallow x) (filters_pass is_shallow x) shallow in
     let p = printed most_open x (legal x refl) parts.1 in
-    let le : depth x ≤ 64 = leb-true (depth x) 64 parts.0 in
+    let le : depth x ≤ DEEPEST_CONDITION = leb-true (depth x) DEEPEST_CONDITION parts.0 in
     record {
       tokens = word w ∷ p.tokens;
       part = record {
@@ -219,23 +216,23 @@ batches_spelled = record {
   quiet = λ rest q. refl;
 }
 
-pub query_printed : (q : Written (List ℕ)) → IsWritable q → AllByRecursion IsColumnName (distinct bytes_eq q.keys) → all_of (filters_pass is_shallow) are_shallow q ≡ true → PrintedQuery q
+pub query_printed : (q : Written (List ℕ)) → IsWritable q → AllByRecursion IsColumnName (first_of_each bytes_eq q.keys) → all_of (filters_pass is_shallow) are_shallow q ≡ true → PrintedQuery q
 query_printed q legal names shallow =
     let whole = and_parts (list_all (λ item. filters_pass is_shallow item.0) q.items) (option_map_or are_shallow q.condition true && option_map_or are_shallow q.having true) shallow in
     let clauses = and_parts (option_map_or are_shallow q.condition true) (option_map_or are_shallow q.having true) whole.1 in
     let i = the_items q.items legal.some (items_fit q.items legal.items whole.0) in
     let w = clause (codes " WHERE ") (codes "where") (opens_between (codes "WHERE") (codes "where") where_word) (λ rest. refl) q.condition legal.condition clauses.0 in
-    let k = keys (distinct bytes_eq q.keys) names in
+    let k = keys (first_of_each bytes_eq q.keys) names in
     let h = clause (codes " HAVING ") (codes "having") (opens_between (codes "HAVING") (codes "having") having_word) (λ rest. refl) q.having legal.having clauses.1 in
-    let tail = two_parts (clause_text (codes " WHERE ") q.condition) (keys_text (distinct bytes_eq q.keys) ++ clause_text (codes " HAVING ") q.having) w.tokens (k.tokens ++ h.tokens) w.part
-    (two_parts (keys_text (distinct bytes_eq q.keys)) (clause_text (codes " HAVING ") q.having) k.tokens h.tokens k.part h.part) in
-    let behind = two_parts (codes " FROM batches") (clause_text (codes " WHERE ") q.condition ++ (keys_text (distinct bytes_eq q.keys) ++ clause_text (codes " HAVING ") q.having)) (word (codes "from") ∷ word (codes "batches") ∷ []) (w.tokens ++ (k.tokens ++ h.tokens)) batches_spelled tail in
-    let text : List ℕ = codes " FROM batches" ++ (clause_text (codes " WHERE ") q.condition ++ (keys_text (distinct bytes_eq q.keys) ++ clause_text (codes " HAVING ") q.having)) in
+    let tail = two_parts (clause_text (codes " WHERE ") q.condition) (keys_text (first_of_each bytes_eq q.keys) ++ clause_text (codes " HAVING ") q.having) w.tokens (k.tokens ++ h.tokens) w.part
+    (two_parts (keys_text (first_of_each bytes_eq q.keys)) (clause_text (codes " HAVING ") q.having) k.tokens h.tokens k.part h.part) in
+    let behind = two_parts (codes " FROM batches") (clause_text (codes " WHERE ") q.condition ++ (keys_text (first_of_each bytes_eq q.keys) ++ clause_text (codes " HAVING ") q.having)) (word (codes "from") ∷ word (codes "batches") ∷ []) (w.tokens ++ (k.tokens ++ h.tokens)) batches_spelled tail in
+    let text : List ℕ = codes " FROM batches" ++ (clause_text (codes " WHERE ") q.condition ++ (keys_text (first_of_each bytes_eq q.keys) ++ clause_text (codes " HAVING ") q.having)) in
     let all = opens_then (codes "SELECT ") (parted (map item_text q.items) ++ text) (word (codes "select") ∷ []) (i.tokens ++ (word (codes "from") ∷ word (codes "batches") ∷ (w.tokens ++ (k.tokens ++ h.tokens))))
     (opens_word (codes "SELECT") (codes "select") select_word)
     (spells_two (parted (map item_text q.items)) text i.tokens (word (codes "from") ∷ word (codes "batches") ∷ (w.tokens ++ (k.tokens ++ h.tokens))) i.spells behind.quiet behind.spells) in
     let tokens : List Lexeme = word (codes "select") ∷ (i.tokens ++ (word (codes "from") ∷ word (codes "batches") ∷ (w.tokens ++ (k.tokens ++ h.tokens)))) in
-    let parts = joined (codes "SELECT ") (parted (map item_text q.items)) (codes " FROM batches") (clause_text (codes " WHERE ") q.condition) (keys_text (distinct bytes_eq q.keys)) (clause_text (codes " HAVING ") q.having) in
+    let parts = joined (codes "SELECT ") (parted (map item_text q.items)) (codes " FROM batches") (clause_text (codes " WHERE ") q.condition) (keys_text (first_of_each bytes_eq q.keys)) (clause_text (codes " HAVING ") q.having) in
     let long : List ℕ = codes "SELECT " ++ (parted (map item_text q.items) ++ text) in
     let read : Reads (long ++ []) (tokens ++ []) = all.on [] [] refl reads_nothing in
     let is : IsQuery most_open (word (codes "select") ∷ (i.tokens ++ (word (codes "from") ∷ word (codes "batches") ∷ (w.tokens ++ (k.tokens ++ (h.tokens ++ [])))))) (canonical q) =

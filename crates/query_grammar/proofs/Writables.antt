@@ -1,14 +1,15 @@
 -- What legal tokens say in the grammar can be written.
-use Rattle.std.proofs.Common.{◌≡◌, ℕ, Bool, true, false, cond, List, [], ◌∷◌, ◌++◌, Option, Some, None, subst}
+use Rattle.std.proofs.Common.{◌≡◌, ℕ, Bool, true, false, cond, List, [], ◌∷◌, ◌++◌, find, Option, Some, None, refl, subst}
 use Rattle.std.specs.Prelude.{codes, ◌≢◌}
+use Rattle.std.proofs.lemmas.Bool.{and_parts, false≢true}
 use Rattle.std.specs.Str.{bytes_eq}
 use Rattle.std.specs.List.{AllByRecursion}
 use Rattle.std.specs.Option.{ForSome}
 use Rattle.query_tokens.specs.declared.word.Symbol.TheVariants as symbols
 use Rattle.query_tokens.specs.Words.{Lexeme, Sign}
 use Rattle.query_tokens.specs.Spelling.{IsLexeme}
-use Rattle.grouping_model.specs.Aggregates as function
 use Rattle.grouping_model.specs.Aggregates.{Function}
+use Rattle.having_filter.specs.Spelling.{Argument, Each_row, Any_value, Values_of, signature, functions, is_value, is_named}
 use Rattle.packed_rows.specs.Columns.{IsColumnName}
 use Rattle.having_filter.specs.Forms.{Written}
 use Rattle.having_filter.specs.Writable as writable
@@ -32,41 +33,32 @@ right (t ∷ ts) us l = right ts us l.1
 
 -- ---- calls
 
-abbrev NotRows : Option Function → Type 0
-NotRows None = Unit {0}
-NotRows (Some function.Count_rows) = ⊥
-NotRows (Some f) = Unit {0}
+-- a name that calls a function calls one that takes values
+abbrev TakesValues : Option Function → Type 0
+TakesValues None = Unit {0}
+TakesValues (Some f) = is_value (signature f).argument ≡ true
 
-one_name : (b : Bool) (f : Function) (o : Option Function) → NotRows (Some f) → NotRows o → NotRows (cond b (Some f) o)
-one_name true f o h k = h
-one_name false f o h k = k
+first_takes : (w : List ℕ) (f : Function) (fs : List Function) (b : Bool) → is_named w f ≡ b → TakesValues (find (is_named w) fs) → TakesValues (cond b (Some f) (find (is_named w) fs))
+first_takes w f fs true e more = (and_parts (is_value (signature f).argument) (bytes_eq w (signature f).name) e).0
+first_takes w f fs false e more = more
 
--- no name calls the count of rows
-not_rows : (w : List ℕ) → NotRows (function_named w)
+found_takes : (w : List ℕ) (fs : List Function) → TakesValues (find (is_named w) fs)
+found_takes w [] = tt
+found_takes w (f ∷ fs) = first_takes w f fs (is_named w f) refl (found_takes w fs)
+
+named_takes : (w : List ℕ) → TakesValues (function_named w)
 unfolding function_named
-not_rows w =
-    one_name (bytes_eq w (codes "count")) function.Count _ tt (one_name (bytes_eq w (codes "sum")) function.Sum _ tt (one_name (bytes_eq w (codes "min")) function.Min _ tt (
-    one_name (bytes_eq w (codes "max")) function.Max _ tt (one_name (bytes_eq w (codes "bit_and")) function.Bit_and _ tt (one_name (bytes_eq w (codes "bit_or")) function.Bit_or _ tt (
-    one_name (bytes_eq w (codes "bit_xor")) function.Bit_xor _ tt (one_name (bytes_eq w (codes "bool_and")) function.Bool_and _ tt (one_name (bytes_eq w (codes "bool_or")) function.Bool_or _ tt (
-    one_name (bytes_eq w (codes "every")) function.Every None tt tt)))))))))
+named_takes w = found_takes w functions
 
-an_argument : (f : Function) (name : List ℕ) → NotRows (Some f) → IsColumnName name → writable.IsArgument IsColumnName f (Some name)
-an_argument function.Count_rows name n h = absurd n
-an_argument function.Count name n h = h
-an_argument function.Sum name n h = h
-an_argument function.Min name n h = h
-an_argument function.Max name n h = h
-an_argument function.Bit_and name n h = h
-an_argument function.Bit_or name n h = h
-an_argument function.Bit_xor name n h = h
-an_argument function.Bool_and name n h = h
-an_argument function.Bool_or name n h = h
-an_argument function.Every name n h = h
+an_argument : (argument : Argument) (name : List ℕ) → is_value argument ≡ true → IsColumnName name → writable.IsColumnFor IsColumnName argument (Some name)
+an_argument Each_row name takes h = absurd (false≢true takes)
+an_argument Any_value name takes h = h
+an_argument (Values_of kind) name takes h = h
 
 argument_writable : (w : List ℕ) {f : Function} {ts : List Lexeme} {c : Function × Option (List ℕ)} → function_named w ≡ Some f → IsArgument f ts c → Legal ts → writable.IsArgument IsColumnName c.0 c.1
 argument_writable w e grammar.all_rows l = tt
 argument_writable w e (grammar.a_column {f = f} {w = name} free) l =
-    an_argument f name (rw e at (not_rows w)) (record { legal = l.0; free = free })
+    an_argument (signature f).argument name (rw e at (named_takes w)) (record { legal = l.0; free = free })
 
 -- ---- conditions
 

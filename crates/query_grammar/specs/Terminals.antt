@@ -1,26 +1,12 @@
 -- What the grammar asks of a single token.
-use Rattle.std.specs.Prelude.{ℕ, Bool, false, ◌==◌, List, Option, Some, None, codes, if◌then◌else◌}
+use Rattle.std.specs.Prelude.{ℕ, Bool, false, ◌==◌, List, Option, Some, None}
 use Rattle.std.specs.Str.{bytes_eq}
 use Rattle.query_tokens.specs.declared.word.Symbol.{Symbol}
 use Rattle.query_tokens.specs.declared.word.Symbol.TheVariants as symbols
 use Rattle.query_tokens.specs.Words.{Lexeme, Name, Sign}
-use Rattle.grouping_model.specs.Aggregates as function
-use Rattle.grouping_model.specs.Aggregates.{Function}
+-- the function that a name calls (PostgreSQL 17, 9.21 Aggregate Functions)
+unfoldable pub use Rattle.having_filter.specs.Spelling.{function_named}
 use Rattle.grouping_model.specs.Condition.{Comparison, Same, Different, Below, At_most, Above, At_least}
-
--- the function of one argument that a name calls (PostgreSQL 17, 9.21 Aggregate Functions)
-unfoldable pub function_named : List ℕ → Option Function
-function_named w =
-    if bytes_eq w (codes "count") then Some function.Count else
-    if bytes_eq w (codes "sum") then Some function.Sum else
-    if bytes_eq w (codes "min") then Some function.Min else
-    if bytes_eq w (codes "max") then Some function.Max else
-    if bytes_eq w (codes "bit_and") then Some function.Bit_and else
-    if bytes_eq w (codes "bit_or") then Some function.Bit_or else
-    if bytes_eq w (codes "bit_xor") then Some function.Bit_xor else
-    if bytes_eq w (codes "bool_and") then Some function.Bool_and else
-    if bytes_eq w (codes "bool_or") then Some function.Bool_or else
-    if bytes_eq w (codes "every") then Some function.Every else None
 
 -- the comparison that a symbol stands for (PostgreSQL 17, Table 9.1)
 unfoldable pub comparison_named : Symbol → Option Comparison

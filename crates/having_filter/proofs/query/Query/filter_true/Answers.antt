@@ -11,7 +11,7 @@ use Rattle.having_filter.proofs.query.Query.filter_true.Goals as goal
 
 pub returns : goal.returns
 returns c =
-    let forms = c.self.invariant.1.calls ∙ ap (λ (q : Checked). distinct_calls ◌==◌ q.written) c.self.view_is in
+    let forms = c.self.invariant.plans.calls ∙ ap (λ (q : Checked). distinct_calls ◌==◌ q.written) c.self.view_is in
     let call = c.index.result.now in
     let value = column_of (row_of c.args.row.now) in
     ap (λ (found : Option Aggregate). option_map (λ (a : Aggregate). is_met value a.filter) found) (aggregate_at c.self.inside.plan.calls.items (distinct_calls ◌==◌ c.args.self.now.written) c.args.aggregate call forms c.requires c.index.ensures)

@@ -11,4 +11,4 @@ pub returns : goal.returns
 returns c =
     let value = outcome_at (map outcome_of c.args.key.now) (map outcome_of c.args.results.now) in
     c.is_met.ensures ∙ having_in_steps value c.self.inside.plan.having
-    ∙ ap (λ (having : Option (Condition Source)). is_met value having) (c.self.invariant.1.having ∙ ap (λ (q : Checked). (meaning q).having) c.self.view_is)
+    ∙ ap (λ (having : Option (Condition Source)). is_met value having) (c.self.invariant.plans.having ∙ ap (λ (q : Checked). (meaning q).having) c.self.view_is)

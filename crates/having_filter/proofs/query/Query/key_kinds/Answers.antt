@@ -5,4 +5,4 @@ use Rattle.having_filter.specs.Kept.{key_kinds}
 use Rattle.having_filter.proofs.query.Query.key_kinds.Goals as goal
 
 pub returns : goal.returns
-returns c = ap kinds_of c.deref.ensures.value ∙ c.self.invariant.1.key_kinds ∙ ap (λ (q : Checked). key_kinds (meaning q)) c.self.view_is
+returns c = ap kinds_of c.deref.ensures.value ∙ c.self.invariant.plans.key_kinds ∙ ap (λ (q : Checked). key_kinds (meaning q)) c.self.view_is

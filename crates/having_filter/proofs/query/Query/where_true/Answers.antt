@@ -8,5 +8,5 @@ use Rattle.having_filter.proofs.query.Query.where_true.Goals as goal
 
 pub returns : goal.returns
 returns c =
-    c.is_met.ensures ∙ met_in_steps (column_of (row_of c.args.row.now)) column_leaf c.self.inside.condition
+    c.is_met.ensures ∙ met_in_steps (column_of (row_of c.args.row.now)) column_leaf c.self.inside.parts.condition
     ∙ ap (λ (q : Checked). is_met (column_of (row_of c.args.row.now)) (option_map row_condition q.written.condition)) c.self.view_is

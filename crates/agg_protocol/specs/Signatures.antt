@@ -1,0 +1,61 @@
+-- The aggregate functions: the name, the argument, the result and the states of each, one line a function
+-- (PostgreSQL 17, 9.21 Aggregate Functions). Whatever else is said of a function by its name or kinds follows from here.
+use Rattle.std.specs.Prelude.{ℕ, List, [], ◌∷◌, Bool, true, false, ◌&&◌, Option, find, codes}
+use Rattle.std.specs.Str.{bytes_eq}
+use Rattle.grouping_model.specs.Datum.{Kind, Bigint_kind, Boolean_kind}
+use Rattle.grouping_model.specs.Aggregates.{Function, Count_rows, Count, Sum, Min, Max, Bit_and, Bit_or, Bit_xor, Bool_and, Bool_or, Every}
+
+-- what a function's parentheses take: `*`, which is each row; a value of any kind; or values of one kind
+-- (PostgreSQL 17, 4.2.7 Aggregate Expressions and 9.21; that the numbers have the kind bigint alone is our own)
+pub data Argument : Type 0 where
+  Each_row Any_value : Argument
+  Values_of : Kind → Argument
+
+-- what a state holds: a count, a sum, a number that may be absent, or a truth value that may be absent (own)
+pub data Shape : Type 0 where
+  A_count A_sum A_number A_truth : Shape
+
+-- a function by its name, its argument, the kind of its result, and what its states hold. A numeric has the kind bigint
+-- here, since both compare by their values (PostgreSQL 17, 9.21 and 10.2)
+pub record Signature : Type 0 where
+  pub name : List ℕ
+  pub argument : Argument
+  pub result : Kind
+  pub shape : Shape
+
+abbrev pub signed : List ℕ → Argument → Kind → Shape → Signature
+signed name argument result shape = record { name = name; argument = argument; result = result; shape = shape }
+
+abbrev pub signature : Function → Signature
+signature Count_rows = signed (codes "count") Each_row Bigint_kind A_count
+signature Count = signed (codes "count") Any_value Bigint_kind A_count
+signature Sum = signed (codes "sum") (Values_of Bigint_kind) Bigint_kind A_sum
+signature Min = signed (codes "min") (Values_of Bigint_kind) Bigint_kind A_number
+signature Max = signed (codes "max") (Values_of Bigint_kind) Bigint_kind A_number
+signature Bit_and = signed (codes "bit_and") (Values_of Bigint_kind) Bigint_kind A_number
+signature Bit_or = signed (codes "bit_or") (Values_of Bigint_kind) Bigint_kind A_number
+signature Bit_xor = signed (codes "bit_xor") (Values_of Bigint_kind) Bigint_kind A_number
+signature Bool_and = signed (codes "bool_and") (Values_of Boolean_kind) Boolean_kind A_truth
+signature Bool_or = signed (codes "bool_or") (Values_of Boolean_kind) Boolean_kind A_truth
+signature Every = signed (codes "every") (Values_of Boolean_kind) Boolean_kind A_truth
+
+-- all functions, in the order above
+abbrev pub functions : List Function
+functions = Count_rows ∷ Count ∷ Sum ∷ Min ∷ Max ∷ Bit_and ∷ Bit_or ∷ Bit_xor ∷ Bool_and ∷ Bool_or ∷ Every ∷ []
+
+-- what the states of a function hold
+abbrev pub shape_of : Function → Shape
+shape_of function = (signature function).shape
+
+-- whether an argument is a value, and not a row
+abbrev pub is_value : Argument → Bool
+is_value Each_row = false
+is_value other = true
+
+-- whether this is the name of a function that takes values
+abbrev pub is_named : List ℕ → Function → Bool
+is_named name function = is_value (signature function).argument && bytes_eq name (signature function).name
+
+-- the function of this name that takes values, if there is one
+unfoldable pub function_named : List ℕ → Option Function
+function_named name = find (is_named name) functions

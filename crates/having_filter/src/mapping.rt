@@ -1,0 +1,149 @@
+//! Conditions over other columns.
+
+ghost use Rattle.std.specs.Prelude.{◌≡◌, Option, option_map, IfOk};
+ghost use Rattle.having_filter.specs.Forms.{Form, form_of, call_form, item_form, exchanged, map_reads};
+
+use crate::condition::{AggCall, Cond, Item};
+use std::alloc::{AllocError, Global};
+
+/// What becomes of the columns and calls of a condition.
+pub(crate) trait Mapping<C, D> {
+    // What a column becomes.
+    ghost column_as: { Self → C → D };
+
+    // The column that a call becomes, if it doesn't stay a call.
+    ghost call_as: { Self → Form C → Option D };
+
+    /// What a column becomes.
+    fn column(&self, column: &C) -> D
+        ensures { result ≡ column_as self.now column.now };
+
+    /// The column that a call becomes, if it doesn't stay a call.
+    fn call(&self, call: &AggCall<C>) -> Option<D>
+        ensures { result ≡ call_as self.now (call_form call.now) };
+}
+
+/// A call over other columns.
+#[cycle(mapped)]
+pub(crate) fn mapped_call<C, D: Drop, M: Mapping<C, D>>(
+    alloc: Global,
+    mapping: &M,
+    call: &AggCall<C>,
+) -> Result<AggCall<D>, AllocError>
+    ensures { IfOk result (λ c. exchanged (M.call_as mapping.now (call_form call.now)) (call_form c)
+        ≡ map_reads (M.column_as mapping.now) (M.call_as mapping.now) (call_form call.now)) }
+{
+    let column = match &call.column {
+        Some(column) => Some(mapping.column(column)),
+        None => None,
+    };
+    let filter = match &call.filter {
+        Some(filter) => Some(mapped(alloc, mapping, filter)?),
+        None => None,
+    };
+    Ok(AggCall {
+        kind: call.kind,
+        column,
+        filter,
+    })
+}
+
+/// A condition over other columns.
+#[cycle(mapped)]
+pub(crate) fn mapped<C, D: Drop, M: Mapping<C, D>>(
+    alloc: Global,
+    mapping: &M,
+    condition: &Cond<C>,
+) -> Result<Cond<D>, AllocError>
+    ensures { IfOk result (λ c. form_of c
+        ≡ map_reads (M.column_as mapping.now) (M.call_as mapping.now) (form_of condition.now)) }
+{
+    match condition {
+        Cond::Column(column) => Ok(Cond::Column(mapping.column(column))),
+        Cond::Call(call) => match mapping.call(call) {
+            Some(column) => Ok(Cond::Column(column)),
+            None => {
+                let call = mapped_call(alloc, mapping, call)?;
+                Ok(Cond::Call(Box::new(alloc, call)?))
+            }
+        },
+        Cond::Bigint(number) => Ok(Cond::Bigint(*number)),
+        Cond::Text(text) => Ok(Cond::Text(String::from_str(alloc, text.as_str())?)),
+        Cond::Boolean(truth) => Ok(Cond::Boolean(*truth)),
+        Cond::Null => Ok(Cond::Null),
+        Cond::Not(c) => Ok(Cond::Not(boxed(alloc, mapping, c)?)),
+        Cond::Or(c, d) => {
+            let c = boxed(alloc, mapping, c)?;
+            Ok(Cond::Or(c, boxed(alloc, mapping, d)?))
+        }
+        Cond::And(c, d) => {
+            let c = boxed(alloc, mapping, c)?;
+            Ok(Cond::And(c, boxed(alloc, mapping, d)?))
+        }
+        Cond::Compare(comparison, c, d) => {
+            let c = boxed(alloc, mapping, c)?;
+            Ok(Cond::Compare(*comparison, c, boxed(alloc, mapping, d)?))
+        }
+        Cond::Is {
+            test,
+            negated,
+            operand,
+        } => Ok(Cond::Is {
+            test: *test,
+            negated: *negated,
+            operand: boxed(alloc, mapping, operand)?,
+        }),
+    }
+}
+
+/// An operand over other columns.
+#[cycle(mapped)]
+fn boxed<C, D: Drop, M: Mapping<C, D>>(
+    alloc: Global,
+    mapping: &M,
+    operand: &Cond<C>,
+) -> Result<Box<Cond<D>>, AllocError>
+    ensures { IfOk result (λ c. form_of c.value
+        ≡ map_reads (M.column_as mapping.now) (M.call_as mapping.now) (form_of operand.now)) }
+{
+    let operand = mapped(alloc, mapping, operand)?;
+    Ok(Box::new(alloc, operand)?)
+}
+
+/// An item over other columns.
+pub(crate) fn mapped_item<C, D: Drop, M: Mapping<C, D>>(
+    alloc: Global,
+    mapping: &M,
+    item: &Item<C>,
+) -> Result<Item<D>, AllocError>
+    ensures { IfOk result (λ i. item_form i
+        ≡ map_reads (M.column_as mapping.now) (M.call_as mapping.now) (item_form item.now)) }
+{
+    match item {
+        Item::Column(column) => Ok(Item::Column(mapping.column(column))),
+        Item::Call(call) => match mapping.call(call) {
+            Some(column) => Ok(Item::Column(column)),
+            None => Ok(Item::Call(mapped_call(alloc, mapping, call)?)),
+        },
+    }
+}
+
+/// The same columns again, and the same calls.
+#[derive(Drop)]
+pub(crate) struct Unchanged;
+
+impl Mapping<usize, usize> for Unchanged {
+    ghost use Rattle.std.specs.Prelude.{None};
+
+    ghost column_as = { λ _ column. column };
+
+    ghost call_as = { λ _ call. None };
+
+    fn column(&self, column: &usize) -> usize {
+        *column
+    }
+
+    fn call(&self, _call: &AggCall<usize>) -> Option<usize> {
+        None
+    }
+}
