@@ -21,7 +21,7 @@ struct Complaints {
 impl Observer for Complaints {
     fn refused(&mut self, line: u64, why: Refusal) {
         // Nothing is left to do where standard error fails too.
-        let _ = eprintln!(self.rt; "line {line}: refused {why:?}");
+        let _ = eprintln!(self.rt; "line {line}: refused {}: {why}", name(why));
     }
 }
 

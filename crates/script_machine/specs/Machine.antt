@@ -20,7 +20,9 @@ use Rattle.replica_merge.specs.declared.delivered.Delivered.{Delivered}
 use Rattle.script_io.specs.Records.{Record}
 use Rattle.script_commands.specs.Commands.{Command, Request, Columns, Query, Replica, Feed, Known, Answer, Unknown, request_of}
 use Rattle.script_machine.specs.declared.refusal.Refusal.{Refusal}
-use Rattle.script_machine.specs.declared.refusal.Refusal.TheVariants.{NoMemory, BadSchema, BadField, WrongWidth, Syntax, NumberTooLarge, NoSuchColumn, NotGrouped, TypeMismatch, AggregateHere, TooMany, TooDeep, BadBatchHead, TooManyRows, RowCount, BadCommand, NoSuchName, NameTaken}
+use Rattle.having_filter.specs.declared.error.QueryError.TheVariants as checks
+use Rattle.script_machine.specs.declared.refusal.Refusal.TheVariants as refuse
+use Rattle.script_machine.specs.declared.refusal.Refusal.TheVariants.{NoMemory, BadSchema, Batch, BadCommand, NoSuchName, NameTaken}
 
 -- what is there: the columns and the query, once they were told, and what each replica knows, by its name
 pub record State : Type 0 where
@@ -63,14 +65,10 @@ pub record IsBatch (kinds : List Kind) (origin number : List ℕ) (told : ℕ) (
   pub whole : length owned ≡ told
   pub rows_are : ReadsRows kinds owned fed.rows
 
--- the refusal of a batch by its name
+-- the refusal of a batch
 abbrev pub batch_refusal : BatchError → Refusal
 batch_refusal batch.NoMemory = NoMemory
-batch_refusal batch.BadBatchHead = BadBatchHead
-batch_refusal batch.TooManyRows = TooManyRows
-batch_refusal batch.RowCount = RowCount
-batch_refusal batch.WrongWidth = WrongWidth
-batch_refusal (batch.BadField column) = BadField column
+batch_refusal error = Batch error
 
 -- why a feed is no batch of these columns: the first refusal of a batch that applies
 pub record IsNoBatch (kinds : List Kind) (origin number : List ℕ) (told : ℕ) (owned : List Record) (why : Refusal) : Type 0 where
@@ -86,17 +84,10 @@ ColumnsReply None text (Has_columns columns) = IsSchemaText text columns
 ColumnsReply None text (Refused why) = (why ≡ BadSchema) × ((columns : List Column) → ¬ (IsSchemaText text columns))
 ColumnsReply None text reply = ⊥
 
--- the refusal of a query's text by its name
+-- the refusal of a query's text
 abbrev pub query_refusal : ParseError → Refusal
-query_refusal parse.NoMemory = NoMemory
-query_refusal (parse.Syntax at) = Syntax at
-query_refusal parse.NumberTooLarge = NumberTooLarge
-query_refusal parse.NoSuchColumn = NoSuchColumn
-query_refusal parse.NotGrouped = NotGrouped
-query_refusal parse.TypeMismatch = TypeMismatch
-query_refusal parse.AggregateHere = AggregateHere
-query_refusal parse.TooMany = TooMany
-query_refusal parse.TooDeep = TooDeep
+query_refusal (parse.Query checks.NoMemory) = NoMemory
+query_refusal error = refuse.Query error
 
 -- why a text is no query over these columns: its first fault
 pub record IsNoQuery (columns : List Column) (text : List ℕ) (why : Refusal) : Type 0 where

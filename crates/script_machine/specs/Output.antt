@@ -70,6 +70,4 @@ run_error input.ReadFault = ReadFault
 -- the refusal of a run that stopped
 abbrev pub run_refusal : RunError → Refusal
 run_refusal NoMemory = refusal.NoMemory
-run_refusal InputTooLong = refusal.InputTooLong
-run_refusal ReadFault = refusal.ReadFault
-run_refusal WriteFault = refusal.WriteFault
+run_refusal error = refusal.Run error

@@ -5,34 +5,57 @@ use Rattle.grouping_model.specs.World.{World}
 use Rattle.having_filter.specs.Meaning.{meaning}
 use Rattle.having_filter.specs.Spelling.{spelling}
 use Rattle.having_filter.specs.Kept.{by_names, headers}
+use Rattle.having_filter.specs.declared.error.QueryError.{QueryError}
+use Rattle.having_filter.specs.declared.error.QueryError.TheVariants as checks
+use Rattle.group_parser.specs.declared.error.ParseError.{ParseError}
+use Rattle.group_parser.specs.declared.error.ParseError.TheVariants as parse
+use Rattle.batch_reader.specs.declared.error.BatchError.{BatchError}
+use Rattle.batch_reader.specs.declared.error.BatchError.TheVariants as batch
 use Rattle.replica_merge.specs.Kept.{KnownOrigin}
 use Rattle.replica_merge.specs.declared.delivered.Delivered.{Delivered}
 use Rattle.replica_merge.specs.declared.delivered.Delivered.TheVariants.{Folded, Early, Known}
 use Rattle.table_print.specs.Table.{table_text}
 use Rattle.script_machine.specs.Machine.{Reply, Has_columns, Has_query, Created, Took, Listed, Answered, Refused}
 use Rattle.script_machine.specs.declared.refusal.Refusal.{Refusal}
-use Rattle.script_machine.specs.declared.refusal.Refusal.TheVariants.{NoMemory, BadSchema, BadField, WrongWidth, Syntax, NumberTooLarge, NoSuchColumn, NotGrouped, TypeMismatch, AggregateHere, TooMany, TooDeep, BadBatchHead, TooManyRows, RowCount, InputTooLong, ReadFault, WriteFault, BadCommand, NoSuchName, NameTaken}
+use Rattle.script_machine.specs.declared.refusal.Refusal.TheVariants.{NoMemory, BadSchema, Query, Batch, Run, BadCommand, NoSuchName, NameTaken}
+use Rattle.script_machine.specs.declared.error.RunError.{RunError}
+use Rattle.script_machine.specs.declared.error.RunError.TheVariants as stop
 
--- the name of a refusal
+-- the names of refusals: of what a query's checks refuse, of what is wrong with its text or with a batch, and of what stops a run
+abbrev pub query_name : QueryError → List ℕ
+query_name checks.NoMemory = codes "NoMemory"
+query_name checks.NoSuchColumn = codes "NoSuchColumn"
+query_name checks.NotGrouped = codes "NotGrouped"
+query_name checks.TypeMismatch = codes "TypeMismatch"
+query_name checks.AggregateHere = codes "AggregateHere"
+query_name checks.TooMany = codes "TooMany"
+query_name checks.TooDeep = codes "TooDeep"
+
+abbrev pub parse_name : ParseError → List ℕ
+parse_name (parse.Syntax at) = codes "Syntax"
+parse_name parse.NumberTooLarge = codes "NumberTooLarge"
+parse_name (parse.Query error) = query_name error
+
+abbrev pub batch_name : BatchError → List ℕ
+batch_name batch.NoMemory = codes "NoMemory"
+batch_name batch.BadBatchHead = codes "BadBatchHead"
+batch_name batch.TooManyRows = codes "TooManyRows"
+batch_name batch.RowCount = codes "RowCount"
+batch_name batch.WrongWidth = codes "WrongWidth"
+batch_name (batch.BadField column) = codes "BadField"
+
+abbrev pub run_name : RunError → List ℕ
+run_name stop.NoMemory = codes "NoMemory"
+run_name stop.InputTooLong = codes "InputTooLong"
+run_name stop.ReadFault = codes "ReadFault"
+run_name stop.WriteFault = codes "WriteFault"
+
 abbrev pub refusal_name : Refusal → List ℕ
 refusal_name NoMemory = codes "NoMemory"
 refusal_name BadSchema = codes "BadSchema"
-refusal_name (BadField column) = codes "BadField"
-refusal_name WrongWidth = codes "WrongWidth"
-refusal_name (Syntax at) = codes "Syntax"
-refusal_name NumberTooLarge = codes "NumberTooLarge"
-refusal_name NoSuchColumn = codes "NoSuchColumn"
-refusal_name NotGrouped = codes "NotGrouped"
-refusal_name TypeMismatch = codes "TypeMismatch"
-refusal_name AggregateHere = codes "AggregateHere"
-refusal_name TooMany = codes "TooMany"
-refusal_name TooDeep = codes "TooDeep"
-refusal_name BadBatchHead = codes "BadBatchHead"
-refusal_name TooManyRows = codes "TooManyRows"
-refusal_name RowCount = codes "RowCount"
-refusal_name InputTooLong = codes "InputTooLong"
-refusal_name ReadFault = codes "ReadFault"
-refusal_name WriteFault = codes "WriteFault"
+refusal_name (Query error) = parse_name error
+refusal_name (Batch error) = batch_name error
+refusal_name (Run error) = run_name error
 refusal_name BadCommand = codes "BadCommand"
 refusal_name NoSuchName = codes "NoSuchName"
 refusal_name NameTaken = codes "NameTaken"

@@ -60,9 +60,7 @@ impl From<RunError> for Refusal {
     fn from(error: RunError) -> Refusal {
         match error {
             RunError::NoMemory => Refusal::NoMemory,
-            RunError::InputTooLong => Refusal::InputTooLong,
-            RunError::ReadFault => Refusal::ReadFault,
-            RunError::WriteFault => Refusal::WriteFault,
+            error => Refusal::Run(error),
         }
     }
 }

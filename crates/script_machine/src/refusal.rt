@@ -2,60 +2,97 @@
 
 ghost use Rattle.std.specs.Prelude.{◌≡◌};
 ghost use Rattle.script_machine.specs.Machine.{batch_refusal, query_refusal};
-ghost use Rattle.script_machine.specs.Text.{refusal_name};
+ghost use Rattle.script_machine.specs.Text.{refusal_name, query_name, parse_name, batch_name, run_name};
 ghost use Rattle.script_machine.specs.declared.refusal.Refusal.TheVariants.{NoMemory};
 
+use crate::error::RunError;
 use batch_reader::BatchError;
 use group_parser::ParseError;
+use having_filter::QueryError;
 use std::alloc::AllocError;
+use thiserror::Error;
 
-/// Why a command or a script is refused.
-#[derive(Clone, Copy, Debug, PartialEq, Eq)]
+/// Why a command or a script is refused. Each refusal stands once: what a lower crate refuses is its own error, but for want of
+/// memory, which is `NoMemory` wherever it was met.
+#[derive(Clone, Copy, Debug, PartialEq, Eq, Error)]
 pub enum Refusal {
     /// An allocation failed.
+    #[error("out of memory")]
     NoMemory,
     /// The text is that of no schema.
+    #[error("the text describes no columns")]
     BadSchema,
-    /// A field of a row stands for no value of its column, the first being column 0.
-    BadField { column: usize },
-    /// A row has more or fewer fields than there are columns.
-    WrongWidth,
-    /// At this byte of a query's text, counted from 0, no token begins, or one that no query can go on with; at the
-    /// text's length, the query goes on.
-    Syntax { at: usize },
-    /// An integer in a query is out of the range of 64 bits.
-    NumberTooLarge,
-    /// A query names a column that isn't there.
-    NoSuchColumn,
-    /// A column among a query's items or in HAVING stands outside aggregates and isn't in GROUP BY.
-    NotGrouped,
-    /// An argument, an operand or a condition has the wrong kind.
-    TypeMismatch,
-    /// An aggregate stands in WHERE or FILTER.
-    AggregateHere,
-    /// A query is too long, or has more than 64 items, 16 columns of GROUP BY or 32 aggregates.
-    TooMany,
-    /// A condition is nested more than 64 deep.
-    TooDeep,
-    /// The origin isn't 0 to 1,023, or the number isn't 1 to 2,147,483,647, in 1 to 10 digits each.
-    BadBatchHead,
-    /// More than 65,536 rows are told.
-    TooManyRows,
-    /// The script ends before the rows that are told.
-    RowCount,
-    /// The script has more than 67,108,864 bytes.
-    InputTooLong,
-    /// The script could not be read.
-    ReadFault,
-    /// The output could not be written.
-    WriteFault,
+    /// The text is that of no query over the columns.
+    #[error(transparent)]
+    Query(ParseError),
+    /// The fields and records of a `feed` are no batch of the columns.
+    #[error(transparent)]
+    Batch(BatchError),
+    /// The run stopped before the end of its script.
+    #[error(transparent)]
+    Run(RunError),
     /// No command: another word, a wrong number of fields, a text that isn't UTF-8, a bad name or number of rows, or a
     /// command that comes too early or a second time.
+    #[error("no command, or not at this place")]
     BadCommand,
     /// There is no replica of this name.
+    #[error("there is no replica of this name")]
     NoSuchName,
     /// There is a replica of this name.
+    #[error("there is a replica of this name already")]
     NameTaken,
+}
+
+/// The name of what a check of a query refuses.
+fn query_name(error: QueryError) -> &'static str
+    ensures { result.now ≡ query_name error }
+{
+    match error {
+        QueryError::NoMemory => "NoMemory",
+        QueryError::NoSuchColumn => "NoSuchColumn",
+        QueryError::NotGrouped => "NotGrouped",
+        QueryError::TypeMismatch => "TypeMismatch",
+        QueryError::AggregateHere => "AggregateHere",
+        QueryError::TooMany => "TooMany",
+        QueryError::TooDeep => "TooDeep",
+    }
+}
+
+/// The name of what is wrong with a query's text.
+fn parse_name(error: ParseError) -> &'static str
+    ensures { result.now ≡ parse_name error }
+{
+    match error {
+        ParseError::Syntax { .. } => "Syntax",
+        ParseError::NumberTooLarge => "NumberTooLarge",
+        ParseError::Query(error) => query_name(error),
+    }
+}
+
+/// The name of what is wrong with a batch.
+fn batch_name(error: BatchError) -> &'static str
+    ensures { result.now ≡ batch_name error }
+{
+    match error {
+        BatchError::NoMemory => "NoMemory",
+        BatchError::BadBatchHead => "BadBatchHead",
+        BatchError::TooManyRows => "TooManyRows",
+        BatchError::RowCount => "RowCount",
+        BatchError::WrongWidth => "WrongWidth",
+        BatchError::BadField { .. } => "BadField",
+    }
+}
+
+/// The name of what stopped a run.
+fn run_name(error: RunError) -> &'static str
+    ensures { result.now ≡ run_name error }
+{
+    match error {
+        RunError::NoMemory => "NoMemory",
+        RunError::InputTooLong => "InputTooLong",
+        RunError::ReadFault => "ReadFault",
+        RunError::WriteFault => "WriteFault",
+    }
 }
 
 /// The name of a refusal, as replies show it.
@@ -65,22 +102,9 @@ pub fn name(refusal: Refusal) -> &'static str
     match refusal {
         Refusal::NoMemory => "NoMemory",
         Refusal::BadSchema => "BadSchema",
-        Refusal::BadField { .. } => "BadField",
-        Refusal::WrongWidth => "WrongWidth",
-        Refusal::Syntax { .. } => "Syntax",
-        Refusal::NumberTooLarge => "NumberTooLarge",
-        Refusal::NoSuchColumn => "NoSuchColumn",
-        Refusal::NotGrouped => "NotGrouped",
-        Refusal::TypeMismatch => "TypeMismatch",
-        Refusal::AggregateHere => "AggregateHere",
-        Refusal::TooMany => "TooMany",
-        Refusal::TooDeep => "TooDeep",
-        Refusal::BadBatchHead => "BadBatchHead",
-        Refusal::TooManyRows => "TooManyRows",
-        Refusal::RowCount => "RowCount",
-        Refusal::InputTooLong => "InputTooLong",
-        Refusal::ReadFault => "ReadFault",
-        Refusal::WriteFault => "WriteFault",
+        Refusal::Query(error) => parse_name(error),
+        Refusal::Batch(error) => batch_name(error),
+        Refusal::Run(error) => run_name(error),
         Refusal::BadCommand => "BadCommand",
         Refusal::NoSuchName => "NoSuchName",
         Refusal::NameTaken => "NameTaken",
@@ -101,11 +125,7 @@ impl From<BatchError> for Refusal {
     fn from(error: BatchError) -> Refusal {
         match error {
             BatchError::NoMemory => Refusal::NoMemory,
-            BatchError::BadBatchHead => Refusal::BadBatchHead,
-            BatchError::TooManyRows => Refusal::TooManyRows,
-            BatchError::RowCount => Refusal::RowCount,
-            BatchError::WrongWidth => Refusal::WrongWidth,
-            BatchError::BadField { column } => Refusal::BadField { column },
+            error => Refusal::Batch(error),
         }
     }
 }
@@ -115,15 +135,8 @@ impl From<ParseError> for Refusal {
 
     fn from(error: ParseError) -> Refusal {
         match error {
-            ParseError::NoMemory => Refusal::NoMemory,
-            ParseError::Syntax { at } => Refusal::Syntax { at },
-            ParseError::NumberTooLarge => Refusal::NumberTooLarge,
-            ParseError::NoSuchColumn => Refusal::NoSuchColumn,
-            ParseError::NotGrouped => Refusal::NotGrouped,
-            ParseError::TypeMismatch => Refusal::TypeMismatch,
-            ParseError::AggregateHere => Refusal::AggregateHere,
-            ParseError::TooMany => Refusal::TooMany,
-            ParseError::TooDeep => Refusal::TooDeep,
+            ParseError::Query(QueryError::NoMemory) => Refusal::NoMemory,
+            error => Refusal::Query(error),
         }
     }
 }

@@ -1,3 +1,4 @@
+use batch_reader::BatchError;
 use script_machine::{Observer, Outcome, Refusal, RunError, name, run, run_observed};
 use std::io;
 use std::io::{Error, ErrorKind, Read, Write};
@@ -326,7 +327,7 @@ fn refused_commands_are_told_with_their_lines(rt: HostRuntime) -> Result<(), Fai
     );
     assert_eq!(rt; outcome, Ok(Outcome { refused: 3 }));
     let wanted = [
-        (4, Refusal::BadField { column: 1 }),
+        (4, Refusal::Batch(BatchError::BadField { column: 1 })),
         (7, Refusal::BadCommand),
         (8, Refusal::NoSuchName),
     ];
@@ -336,7 +337,7 @@ fn refused_commands_are_told_with_their_lines(rt: HostRuntime) -> Result<(), Fai
 
 #[test]
 fn refusals_have_names(rt: HostRuntime) -> Result<(), Fail> {
-    assert_eq!(rt; name(Refusal::BadField { column: 1 }), "BadField");
+    assert_eq!(rt; name(Refusal::Batch(BatchError::BadField { column: 1 })), "BadField");
     assert_eq!(rt; name(Refusal::from(RunError::InputTooLong)), "InputTooLong");
     Ok(())
 }
