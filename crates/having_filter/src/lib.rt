@@ -6,6 +6,7 @@ mod calls;
 mod checks;
 mod condition;
 mod error;
+mod laws;
 mod leaves;
 mod limits;
 mod mapping;
@@ -22,6 +23,7 @@ mod whole;
 pub use answer::Answer;
 pub use condition::{AggCall, Comparison, Cond, IsTest, Item, RawQuery};
 pub use error::QueryError;
+pub use laws::conditions_of_checked_queries;
 pub use plan::Source;
 pub use query::Query;
 
