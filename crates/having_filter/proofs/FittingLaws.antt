@@ -68,9 +68,11 @@ operands IsRead ks (Unary operator x) all e =
     (operands IsRead ks x all parts.0, takes_one_kind operator (kind_of_form ks x) parts.1)
 operands IsRead ks (Binary operator x y) all e =
     let parts = and_parts (operands_fit ks x && operands_fit ks y) (takes_two operator (kind_of_form ks x) (kind_of_form ks y)) e in
-    let sides = and_parts (operands_fit ks x) (operands_fit ks y) parts.0 in
-    (operands IsRead ks x (all_left IsRead (reads x) (reads y) all) sides.0, operands IsRead ks y (all_right IsRead (reads x) (reads y) all) sides.1,
-    takes_two_kinds operator (kind_of_form ks x) (kind_of_form ks y) parts.1)
+    let sides = and_parts (operands_fit ks x) (operands_fit ks y) parts.0 in (
+      operands IsRead ks x (all_left IsRead (reads x) (reads y) all) sides.0,
+      operands IsRead ks y (all_right IsRead (reads x) (reads y) all) sides.1,
+      takes_two_kinds operator (kind_of_form ks x) (kind_of_form ks y) parts.1,
+    )
 
 fits : (IsRead : Form ℕ → Type 0) (ks : List Kind) (x : Form ℕ) → AllByRecursion IsRead (reads x) → condition_fits ks x ≡ true → Fits IsRead ks x
 fits IsRead ks x all e =
@@ -194,9 +196,10 @@ items_read : (q : Checked) (items : List (Form ℕ × Option (List ℕ))) → li
     → AllByRecursion (λ item. AllByRecursion (IsOfGroup q) (reads item.0)) items
 items_read q [] grouped among = tt
 items_read q (item ∷ items) grouped among =
-    let parts = and_parts (is_grouped_by q.written.keys item.0) (list_all (λ item. is_grouped_by q.written.keys item.0) items) grouped in
-    (reads_groups q item.0 parts.0 (all_left _ (calls_in item.0) (flat_map (λ item. calls_in item.0) items) among),
-    items_read q items parts.1 (all_right _ (calls_in item.0) (flat_map (λ item. calls_in item.0) items) among))
+    let parts = and_parts (is_grouped_by q.written.keys item.0) (list_all (λ item. is_grouped_by q.written.keys item.0) items) grouped in (
+      reads_groups q item.0 parts.0 (all_left _ (calls_in item.0) (flat_map (λ item. calls_in item.0) items) among),
+      items_read q items parts.1 (all_right _ (calls_in item.0) (flat_map (λ item. calls_in item.0) items) among),
+    )
 
 -- ---- over the places of columns
 
