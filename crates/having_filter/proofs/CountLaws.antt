@@ -1,5 +1,5 @@
 -- The distinct calls of a query, as the code collects and compares them.
-use Rattle.std.proofs.Common.{◌≡◌, ℕ, ◌==◌, true, List, [], ◌∷◌, ◌++◌, map, length, Option, Some, None, option_map, refl, ap, sym, ◌∙◌, string_bytes, String, Global}
+use Rattle.std.proofs.Common.{◌≡◌, ◌+◌, ◌<◌, take, get_or, ℕ, ◌==◌, true, List, [], ◌∷◌, ◌++◌, map, length, Option, Some, None, option_map, refl, ap, sym, ◌∙◌, string_bytes, String, Global}
 use Rattle.std.specs.Str.{bytes_eq}
 use Rattle.std.specs.String.{string_eq}
 use Rattle.std.specs.List.{AllByRecursion, flat_map}
@@ -15,7 +15,7 @@ use Rattle.having_filter.specs.Reads.{calls_in}
 use Rattle.having_filter.specs.Sameness.{form_eq, first_of_each}
 use Rattle.having_filter.specs.Meaning.{distinct_calls}
 use Rattle.having_filter.specs.Parts.{written_of_parts}
-use Rattle.having_filter.proofs.DistinctLaws.{Agrees, distinct_image}
+use Rattle.having_filter.proofs.DistinctLaws.{Agrees, distinct_image, next_front}
 use Rattle.having_filter.proofs.FormLaws.{columns_pass_all}
 use Rattle.having_filter.proofs.ReadLaws.{calls_mapped}
 use Rattle.having_filter.proofs.SameLaws.{form_image}
@@ -64,7 +64,10 @@ pub calls_of_parts : (parts : Parts) → first_of_each (form_eq ◌==◌) (item_
 calls_of_parts parts = ap (λ (calls : List (Form ℕ)). first_of_each (form_eq ◌==◌) (calls ++ clause_calls parts.having)) (items_found parts.items.items)
 
 -- the calls of one item more
-pub calls_of_one_more : {C : Type 0} (items : List (Item C × Option (String Global))) (item : Item C × Option (String Global)) → item_calls (items ++ item ∷ []) ≡ item_calls items ++ calls_in (item_form item.0)
+calls_of_one_more : {C : Type 0} (items : List (Item C × Option (String Global))) (item : Item C × Option (String Global)) → item_calls (items ++ item ∷ []) ≡ item_calls items ++ calls_in (item_form item.0)
 calls_of_one_more {C} items item =
     flat_map-append (λ (item : Item C × Option (String Global)). calls_in (item_form item.0)) items (item ∷ [])
     ∙ ap (λ (calls : List (Form C)). item_calls items ++ calls) (append-nil (calls_in (item_form item.0)))
+
+pub calls_of_front : {C : Type 0} (items : List (Item C × Option (String Global))) (i : ℕ) (item : Item C × Option (String Global)) → i < length items → item ≡ get_or items i item → item_calls (take (i + 1) items) ≡ item_calls (take i items) ++ calls_in (item_form item.0)
+calls_of_front items i item low is = ap item_calls (next_front items i item low is) ∙ calls_of_one_more (take i items) item

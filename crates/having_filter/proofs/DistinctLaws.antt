@@ -33,7 +33,7 @@ pub one_more : {A : Type 0} (same : A → A → Bool) (xs : List A) (x : A) → 
 one_more same xs x = with_each_append same [] xs (x ∷ [])
 
 -- one member more of a list that is gone over
-next_front : {A : Type 0} (xs : List A) (i : ℕ) (x : A) → i < length xs → x ≡ get_or xs i x → take (i + 1) xs ≡ take i xs ++ x ∷ []
+pub next_front : {A : Type 0} (xs : List A) (i : ℕ) (x : A) → i < length xs → x ≡ get_or xs i x → take (i + 1) xs ≡ take i xs ++ x ∷ []
 next_front xs i x low is = ap (λ n. take n xs) (add-one i) ∙ take-suc xs i x low ∙ ap (λ y. take i xs ++ y ∷ []) (sym is)
 
 pub one_step : {A B : Type 0} (same : B → B → Bool) (f : A → B) (xs : List A) (i : ℕ) (x : A) → i < length xs → x ≡ get_or xs i x → first_of_each same (map f (take (i + 1) xs)) ≡ with_one same (first_of_each same (map f (take i xs))) (f x)

@@ -12,3 +12,5 @@ pub mod CountLaws
 pub mod WholeLaws
 pub mod CheckedLaws
 pub mod ItemLaws
+pub mod PassedLaws
+pub mod FittingLaws

@@ -11,3 +11,4 @@ pub mod Writable
 pub mod Plans
 pub mod Parts
 pub mod Answers
+pub mod Fitting

@@ -58,7 +58,6 @@ fn push_item_call<'a, C>(
 }
 
 /// The calls of items.
-#[tactic(auto, using(crate::proofs::CountLaws::calls_of_one_more))]
 fn calls_of_items<'a, C>(
     alloc: Global,
     items: &'a [(Item<C>, Option<String>)],
@@ -73,6 +72,20 @@ fn calls_of_items<'a, C>(
     Ok(calls)
 }
 
+/// Adds the calls of a clause behind others, if there is one.
+fn push_clause_calls<'a, C>(
+    calls: &mut Vec<&'a AggCall<C>>,
+    clause: &'a Option<Cond<C>>,
+) -> Result<(), AllocError>
+    ensures { OnOk result (call_forms calls.new.items ≡ call_forms calls.old.items
+        ++ option_map_or calls_in (option_map form_of clause.now) []) }
+{
+    match clause {
+        Some(condition) => push_calls(calls, condition),
+        None => Ok(()),
+    }
+}
+
 /// The calls of items and of HAVING, from the left.
 fn all_calls<'a, C>(
     alloc: Global,
@@ -84,9 +97,7 @@ fn all_calls<'a, C>(
         ++ option_map_or calls_in (option_map form_of having.now) []) }
 {
     let mut calls = calls_of_items(alloc, items)?;
-    if let Some(condition) = having {
-        push_calls(&mut calls, condition)?;
-    }
+    push_clause_calls(&mut calls, having)?;
     Ok(calls)
 }
 
