@@ -2,14 +2,14 @@
 use Rattle.std.proofs.Common.{◌≡◌, refl, ℕ, zero, suc, ◌<◌, ◌≤◌, List, [], sym, ap, subst, ◌∙◌, arith, Bool, ℤ, Option, Some}
 use Rattle.grouping_model.specs.Datum.{Bigint, Boolean, Text}
 use Rattle.grouping_model.specs.Aggregates.{Function, Sum, Partial, Summed, Number, Truth_value, partial, outcome, Numeric}
-use Rattle.grouping_model.specs.Combining.{transition, combine}
+use Rattle.grouping_model.specs.Combining.{transition}
 use Rattle.packed_rows.specs.View.{datum_of}
 use Rattle.packed_rows.specs.declared.Value.{Value}
 use Rattle.packed_rows.specs.declared.Value.TheVariants as value
 use Rattle.agg_protocol.specs.Arguments.{Takes}
 use Rattle.agg_protocol.specs.States.{Denotes, shape_of, rows_of, most_rows, A_number, A_truth}
-use Rattle.agg_protocol.proofs.Denoting.{shape_known, within}
-use Rattle.agg_protocol.proofs.ArgumentLaws.{takes_number, takes_truth, number_passes, truth_passes, one_alone_moves}
+use Rattle.agg_protocol.proofs.Denoting.{within}
+use Rattle.agg_protocol.proofs.ArgumentLaws.{takes_number, takes_truth, number_passes, truth_passes}
 use Rattle.agg_library.specs.StateRows.{partial_after}
 
 -- a value that is no number, and one that is no truth value, is null where the function takes it
@@ -36,11 +36,9 @@ pub outcome_some : (n : ℕ) (z : ℤ) → zero < n → outcome (Summed n z) ≡
 outcome_some zero z some = absurd (omega arith)
 outcome_some (suc n) z some = refl
 
--- the state after a row, made of the state before it and the state of the row's argument alone
-pub advanced : (f : Function) (m : ℕ) (p first one q : Partial) (reach : Option Value) (v : Value) (old new : List ℕ) → Denotes m (shape_of f) old p → Takes f (datum_of v) → reach ≡ Some v
-    → first ≡ partial f [] → one ≡ transition f first (datum_of v) → q ≡ combine f p one → rows_of (combine f p one) ≤ m → Denotes most_rows (shape_of f) new q → Denotes m (shape_of f) new (partial_after f p reach)
-advanced f m p first one q reach v old new denotes takes reached is moved both few written =
-    let moves : q ≡ partial_after f p reach =
-    one_alone_moves f p first one q (datum_of v) (shape_known m (shape_of f) p denotes.0) takes is moved both ∙ ap (partial_after f p) (sym reached) in
-    let within_m : rows_of q ≤ m = subst (λ r. rows_of r ≤ m) (sym both) few in
+-- the state after a row whose value reaches the aggregate
+pub advanced : (f : Function) (m : ℕ) (p q : Partial) (reach : Option Value) (v : Value) (new : List ℕ) → reach ≡ Some v → q ≡ transition f p (datum_of v) → rows_of (transition f p (datum_of v)) ≤ m → Denotes most_rows (shape_of f) new q → Denotes m (shape_of f) new (partial_after f p reach)
+advanced f m p q reach v new reached moved few written =
+    let moves : q ≡ partial_after f p reach = moved ∙ ap (partial_after f p) (sym reached) in
+    let within_m : rows_of q ≤ m = subst (λ r. rows_of r ≤ m) (sym moved) few in
     subst (λ r. Denotes m (shape_of f) new r) moves (within most_rows m (shape_of f) q written.0 within_m, written.1)

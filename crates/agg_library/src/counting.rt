@@ -125,6 +125,14 @@ impl<O: CountOperation> Counting for OfRows<O> {
     fn rows(state: &Rows) -> u64 {
         state.count
     }
+
+    fn rows_after(state: &Rows, value: Value<'_>) -> u64 {
+        if O::counts(value) {
+            state.count + 1
+        } else {
+            state.count
+        }
+    }
 }
 
 /// `count(*)`: how many rows there are.

@@ -157,6 +157,10 @@ impl<O: NumberOperation> Counting for OfNumbers<O> {
     fn rows(_state: &Option<i64>) -> u64 {
         0
     }
+
+    fn rows_after(_state: &Option<i64>, _value: Value<'_>) -> u64 {
+        0
+    }
 }
 
 /// `min(x)`: the least number.

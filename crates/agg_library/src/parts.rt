@@ -4,7 +4,7 @@ ghost use Rattle.std.specs.Prelude.{◌≡◌, ◌≤◌, ◌<◌, ◌+◌, [], 
 ghost use Rattle.std.specs.Option.{ForSome};
 ghost use Rattle.grouping_model.specs.Aggregates as model;
 ghost use Rattle.grouping_model.specs.Aggregates.{Partial, outcome};
-ghost use Rattle.grouping_model.specs.Combining.{combine};
+ghost use Rattle.grouping_model.specs.Combining.{combine, transition};
 ghost use Rattle.packed_rows.specs.View.{datum_of};
 ghost use Rattle.agg_protocol.specs.Arguments.{Takes};
 ghost use Rattle.agg_protocol.specs.Results.{outcome_of};
@@ -19,6 +19,12 @@ pub trait Counting: Aggregate {
     /// How many rows a state counts, or 0 where it counts none.
     fn rows(state: &Self::State) -> u64
         ensures { result ≡ rows_of (Self.denoted state.now) };
+
+    /// How many rows a state counts after one more argument, or 0 where it counts none.
+    fn rows_after(state: &Self::State, value: Value<'_>) -> u64
+        requires { Takes Self.function (datum_of value) }
+        ensures { result
+            ≡ rows_of (transition Self.function (Self.denoted state.now) (datum_of value.entry)) };
 }
 
 /// Writes the state before any argument.
@@ -104,24 +110,11 @@ pub fn advance_part<A: Counting>(
     let Some(value) = reach else {
         return Ok(());
     };
-    // The state of this argument alone says whether it counts, before anything is added to the state.
-    let one = A::transition(A::init(), value);
-    let after = join::<A>(state, one, most)?;
+    if A::rows_after(&state, value) > most {
+        return Err(BadState);
+    }
+    let after = A::transition(state, value);
     A::serialize(&after, part);
-    Ok(())
-}
-
-/// Checks that both are states, and that both together count at most `most` rows.
-pub fn check_parts<A: Counting>(a: &[u8], b: &[u8], most: u64) -> Result<(), BadState>
-    requires { most ≤ most_rows }
-    ensures ok { OnOk result ((p q : Partial) × Denotes most (shape_of A.function) a.now p
-        × Denotes most (shape_of A.function) b.now q × (rows_of (combine A.function p q) ≤ most)) }
-    ensures err { OnErr result ((p q : Partial) → Denotes most (shape_of A.function) a.now p →
-        Denotes most (shape_of A.function) b.now q → most < rows_of (combine A.function p q)) }
-{
-    let state = read_part::<A>(a, most)?;
-    let other = read_part::<A>(b, most)?;
-    join::<A>(state, other, most)?;
     Ok(())
 }
 

@@ -17,12 +17,15 @@ ghost use Rattle.agg_library.specs.declared.kind.AggKind.{AggKind};
 use crate::counting::{CountRows, CountValues};
 use crate::kind::AggKind;
 use crate::numbers::{BitAnd, BitOr, BitXor, Max, Min};
-use crate::parts::{advance_part, check_part, check_parts, combine_part, finish_part, init_part};
+use crate::parts::{advance_part, check_part, combine_part, finish_part, init_part};
 use crate::sums::Sum;
 use crate::truths::{BoolAnd, BoolOr, Every};
 use agg_protocol::{BadState, ResultValue};
 use packed_rows::Value;
 use std::ops::Range;
+
+// The most bytes that a state has: those of a sum.
+const WIDEST: usize = 24;
 
 // A function of an aggregate's type, at the aggregate of a kind.
 macro_rules! at_kind {
@@ -181,9 +184,14 @@ impl StateRow {
         }
         let (into, into_rest) = into.split_at_mut(kind.width());
         let (from, from_rest) = from.split_at(kind.width());
-        Self::check_two(*kind, into, from, most)?;
+        // The state of both is kept until the rest is combined, so that an error changes nothing.
+        let mut both = [0; WIDEST];
+        let both = &mut both[..kind.width()];
+        both.copy_from_slice(into);
+        Self::combine_one(*kind, both, from, most)?;
         Self::combine_into(kinds, into_rest, from_rest, most)?;
-        Self::combine_one(*kind, into, from, most)
+        into.copy_from_slice(both);
+        Ok(())
     }
 
     // Writes the state of one aggregate before any row.
@@ -204,20 +212,6 @@ impl StateRow {
             ((p : Partial) → ¬ (states.Denotes most (kind_shape kind) part.now p)) }
     {
         at_kind!(kind, check_part(part, most))
-    }
-
-    // Checks two states of one aggregate, and the rows of both.
-    fn check_two(kind: AggKind, a: &[u8], b: &[u8], most: u64) -> Result<(), BadState>
-        requires { most ≤ most_rows }
-        ensures ok { OnOk result ((p q : Partial) × states.Denotes most (kind_shape kind) a.now p
-            × states.Denotes most (kind_shape kind) b.now q
-            × (rows_of (combine (function_of kind) p q) ≤ most)) }
-        ensures err { OnErr result
-            ((p q : Partial) → states.Denotes most (kind_shape kind) a.now p →
-            states.Denotes most (kind_shape kind) b.now q →
-            most < rows_of (combine (function_of kind) p q)) }
-    {
-        at_kind!(kind, check_parts(a, b, most))
     }
 
     // Combines one state of an aggregate into another.

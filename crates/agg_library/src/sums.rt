@@ -102,4 +102,12 @@ impl Counting for Sum {
     fn rows(state: &Total) -> u64 {
         state.how_many
     }
+
+    fn rows_after(state: &Total, value: Value<'_>) -> u64 {
+        match value {
+            Value::Bigint(_) => state.how_many + 1,
+            // A null: the function takes no other value.
+            _ => state.how_many,
+        }
+    }
 }

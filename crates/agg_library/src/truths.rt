@@ -131,6 +131,10 @@ impl<O: TruthOperation> Counting for OfTruths<O> {
     fn rows(_state: &Option<bool>) -> u64 {
         0
     }
+
+    fn rows_after(_state: &Option<bool>, _value: Value<'_>) -> u64 {
+        0
+    }
 }
 
 /// `bool_and(x)`: whether all truth values are true.

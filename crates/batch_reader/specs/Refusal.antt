@@ -1,5 +1,6 @@
 -- When a batch is refused, and by which refusal. All of this is our own.
 use Rattle.std.specs.Prelude.{◌≡◌, ◌≢◌, ℕ, ◌<◌, ◌≤◌, List, length, take, slice_index_or, []}
+use Rattle.grouping_model.specs.declared.limits.TheConstants.{MOST_ROWS}
 use Rattle.grouping_model.specs.Datum.{Kind, Row}
 use Rattle.packed_rows.specs.Field.{IsLeftmostBad}
 use Rattle.batch_reader.specs.Head.{ReadsOrigin, ReadsBatchNumber}
@@ -36,6 +37,6 @@ pub record HeadReads (origin number : List ℕ) : Type 0 where
 abbrev pub BuildFault : List Kind → List ℕ → List ℕ → ℕ → List (List (List ℕ)) → BatchError → Type 0
 BuildFault kinds origin number told records NoMemory = Unit {0}
 BuildFault kinds origin number told records BadBatchHead = ¬ (HeadReads origin number)
-BuildFault kinds origin number told records TooManyRows = HeadReads origin number × (65536 < told)
-BuildFault kinds origin number told records RowCount = HeadReads origin number × (told ≤ 65536) × (length records ≢ told)
-BuildFault kinds origin number told records error = HeadReads origin number × (told ≤ 65536) × (length records ≡ told) × FirstFault kinds records error
+BuildFault kinds origin number told records TooManyRows = HeadReads origin number × (MOST_ROWS < told)
+BuildFault kinds origin number told records RowCount = HeadReads origin number × (told ≤ MOST_ROWS) × (length records ≢ told)
+BuildFault kinds origin number told records error = HeadReads origin number × (told ≤ MOST_ROWS) × (length records ≡ told) × FirstFault kinds records error

@@ -11,11 +11,9 @@ use crate::error::BatchError;
 use crate::head::{read_batch_number, read_origin};
 use crate::rows::{PackedRows, pack_records};
 use csv::ByteRecord;
+use grouping_model::limits::MOST_ROWS;
 use packed_rows::Schema;
 use std::alloc::Global;
-
-/// The most rows of a batch.
-const MOST_ROWS: u32 = 65_536;
 
 /// A batch: the rows that an origin gave a number to.
 #[derive(Drop)]
@@ -40,7 +38,7 @@ pub fn build_batch(
 ) -> Result<Batch, BatchError>
     ensures origin { IfOk result (λ batch. ReadsOrigin origin.now batch.origin) }
     ensures number { IfOk result (λ batch. ReadsBatchNumber number.now batch.number) }
-    ensures few { IfOk result (λ batch. length batch.rows ≤ 65536) }
+    ensures few { IfOk result (λ batch. length batch.rows ≤ MOST_ROWS) }
     ensures told { IfOk result (λ batch. length batch.rows ≡ told) }
     ensures rows { IfOk result (λ batch. (rows : List Row)
         × ReadsRows (kinds schema.now) (records_of records.now) rows

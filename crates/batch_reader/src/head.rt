@@ -4,19 +4,14 @@ ghost use Rattle.std.specs.Prelude.{◌≡◌, ◌<◌, ◌≤◌, ◌^◌, IfSo
 ghost use Rattle.std.specs.Str.Parse.{IsNumeral, digits_value};
 ghost use Rattle.batch_reader.specs.Head.{ReadsNumber, ReadsOrigin, ReadsBatchNumber};
 
+use grouping_model::limits::{LAST_NUMBER, LAST_ORIGIN};
 use std::str;
 
 /// The most digits of an origin or a number, leading zeros included.
 const MOST_DIGITS: usize = 10;
 
-/// The greatest origin.
-const LAST_ORIGIN: u64 = 1_023;
-
 /// The least number of a batch.
 const FIRST_NUMBER: u64 = 1;
-
-/// The greatest number of a batch.
-const LAST_NUMBER: u64 = 2_147_483_647;
 
 /// The number that digits stand for, if it has 64 bits.
 fn parse_digits(field: &[u8]) -> Option<u64>
@@ -49,7 +44,7 @@ pub(crate) fn read_origin(field: &[u8]) -> Option<u16>
     ensures found { IfSome result (λ n. ReadsOrigin field.now n) }
     ensures none { IfNone result ((n : ℕ) → ¬ (ReadsOrigin field.now n)) }
 {
-    let origin = read_number(field, 0, LAST_ORIGIN)?;
+    let origin = read_number(field, 0, u64::from(LAST_ORIGIN))?;
     Some(origin as u16)
 }
 
@@ -58,6 +53,6 @@ pub(crate) fn read_batch_number(field: &[u8]) -> Option<u32>
     ensures found { IfSome result (λ n. ReadsBatchNumber field.now n) }
     ensures none { IfNone result ((n : ℕ) → ¬ (ReadsBatchNumber field.now n)) }
 {
-    let number = read_number(field, FIRST_NUMBER, LAST_NUMBER)?;
+    let number = read_number(field, FIRST_NUMBER, u64::from(LAST_NUMBER))?;
     Some(number as u32)
 }

@@ -62,3 +62,13 @@ fn notes_take_no_memory(rt: HostRuntime) {
     notes.add(&7u64);
     assert!(rt; std::mem::size_of_val(&notes) == 0);
 }
+
+/// All of these blocks together would be more than a process can have: no contract says that a block is given back.
+#[test]
+fn blocks_are_given_back(rt: HostRuntime) -> Result<(), AllocError> {
+    for _ in 0..150_000u32 {
+        let block = RawBlock::new(rt.alloc(), 0x4000_0000)?;
+        assert!(rt; block.len() == 0x4000_0000);
+    }
+    Ok(())
+}

@@ -11,6 +11,7 @@ use Rattle.query_tokens.specs.declared.word.Token.{Token}
 use Rattle.query_tokens.specs.Words.{Lexeme, Name, Sign, all_placed}
 use Rattle.query_tokens.specs.Spelling.{IsLexeme, lexemes_of}
 use Rattle.std.proofs.lemmas.Bool.{eqb-true}
+use Rattle.grouping_model.specs.declared.limits.TheConstants.{MOST_COLUMNS}
 use Rattle.query_tokens.specs.Reserved.{is_reserved}
 use Rattle.grouping_model.specs.Datum.{Kind}
 use Rattle.packed_rows.specs.Columns.{Column, names, IsColumnName, AreColumns, kind_named, DescribesColumn, Describes, BeginsWithColumn}
@@ -68,7 +69,7 @@ pub record ReadSoFar (all rest : List Lexeme) (columns : List Column) : Type 0 w
   pub only : (whole : List Column) → Describes all whole → (tail : List Column) × (whole ≡ columns ++ tail) × Describes rest tail
   pub back : (tail : List Column) → Describes rest tail → Describes all (columns ++ tail)
   pub legal : AllByRecursion IsLexeme rest
-  pub few : length columns ≤ 32
+  pub few : length columns ≤ MOST_COLUMNS
   pub named : AllByRecursion IsColumnName (names columns)
 
 pub nothing_read : (all : List Lexeme) → AllByRecursion IsLexeme all → ReadSoFar all all []
@@ -90,9 +91,9 @@ new_name rest after name kind columns legal b right =
       free = elim (is_reserved name) as (λ r. is_reserved name ≡ r → r ≡ false) [ true ↦ λ e. absurd (right (inr (inr e))) | false ↦ λ e. refl ] refl;
     }
 
--- few columns, and not 32 of them, have room for one more
-room : (columns : List Column) (name : List ℕ) → length columns ≤ 32 → ¬ (AddFault name columns BadSchema) → length columns + 1 ≤ 32
-room columns name few right = let other : length columns ≢ 32 = λ e. right (inl e) in omega arith
+-- few columns, and not as many as there may be, have room for one more
+room : (columns : List Column) (name : List ℕ) → length columns ≤ MOST_COLUMNS → ¬ (AddFault name columns BadSchema) → length columns + 1 ≤ MOST_COLUMNS
+room columns name few right = let other : length columns ≢ MOST_COLUMNS = λ e. right (inl e) in omega arith
 
 pub column_read : (all rest after more : List Lexeme) (name : List ℕ) (kind : Kind) (columns : List Column) → ReadSoFar all rest columns → BeginsWithColumn rest name kind after → after ≡ Sign Comma ∷ more → ¬ (AddFault name columns BadSchema) → ReadSoFar all more (columns ++ column name kind ∷ [])
 unfolding Follows

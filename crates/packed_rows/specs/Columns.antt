@@ -4,6 +4,7 @@ use Rattle.std.specs.List.{AllByRecursion, IsDistinct}
 use Rattle.std.specs.Str.{bytes_eq}
 use Rattle.std.specs.declared.alloc.Global.{Global}
 use Rattle.std.specs.declared.string.String.{String}
+use Rattle.grouping_model.specs.declared.limits.TheConstants.{MOST_COLUMNS}
 use Rattle.query_tokens.specs.declared.word.Symbol.TheVariants.{Comma}
 use Rattle.query_tokens.specs.Words.{Lexeme, Name, Sign, Placed}
 use Rattle.query_tokens.specs.Tokens.{tokens_in}
@@ -41,7 +42,7 @@ pub record IsColumnName (name : List ℕ) : Type 0 where
 -- the columns of a schema: 1 to 32, no two of one name (PostgreSQL 17, CREATE TABLE; the numbers are our own)
 pub record AreColumns (columns : List Column) : Type 0 where
   pub some : 1 ≤ length columns
-  pub most : length columns ≤ 32
+  pub most : length columns ≤ MOST_COLUMNS
   pub named : AllByRecursion IsColumnName (names columns)
   pub distinct : IsDistinct bytes_eq (names columns)
 

@@ -1,5 +1,5 @@
 -- The bytes of rows and keys. All of this is our own.
-use Rattle.std.specs.Prelude.{◌≢◌, ℕ, ◌+◌, ◌-◌, ◌^◌, ℤ, pos, negsuc, List, [], ◌∷◌, ◌++◌, if◌then◌else◌}
+use Rattle.std.specs.Prelude.{◌≡◌, ◌≢◌, ℕ, ◌+◌, ◌-◌, ◌^◌, ℤ, pos, negsuc, List, [], ◌∷◌, ◌++◌, if◌then◌else◌}
 use Rattle.std.specs.List.{flat_map}
 use Rattle.std.specs.Int.{w64, to_be_bytes}
 use Rattle.grouping_model.specs.Datum.{Datum, Kind, Row, HasKinds, Null, Bigint, Boolean, Text}
@@ -23,3 +23,7 @@ packing row = flat_map value_packing row
 -- the bytes of no row of these kinds
 abbrev pub IsNoPacking : List Kind → List ℕ → Type 0
 IsNoPacking kinds bytes = (row : Row) → HasKinds kinds row → bytes ≢ packing row
+
+-- a front of some bytes was put behind others
+abbrev pub AppendsFront : List ℕ → List ℕ → List ℕ → Type 0
+AppendsFront old new bytes = (front : List ℕ) × (back : List ℕ) × (bytes ≡ front ++ back) × (new ≡ old ++ front)

@@ -7,13 +7,11 @@ ghost use Rattle.std.specs.Prelude.{◌≡◌, ◌≢◌, List, ℕ};
 ghost use Rattle.grouping_model.specs.Datum.{Datum, Kind, Row, HasKind, HasKinds, null_field};
 
 use crate::value::{Value, ValueKind};
+use grouping_model::limits::LONGEST_TEXT;
 use std::str;
 
 /// The field of a null, in a column of whatever kind.
 pub(crate) const NULL_FIELD: &[u8] = b"\\N";
-
-/// The most bytes that a text can have.
-pub(crate) const LONGEST_TEXT: usize = 255;
 
 fn read_bigint(field: &[u8]) -> Option<i64>
     ensures found { IfSome result (λ z. IsBigintField field.now z) }

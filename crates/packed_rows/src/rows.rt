@@ -9,11 +9,12 @@ ghost use Rattle.packed_rows.specs.Refusal.{PackFault, UnpackFault};
 ghost use Rattle.packed_rows.specs.View.{row_of, texts_of};
 
 use crate::error::RowError;
-use crate::field::{LONGEST_TEXT, read_value};
+use crate::field::read_value;
 use crate::packing::pack_value;
 use crate::schema::Schema;
 use crate::unpacking::unpack_key;
 use crate::value::{Value, ValueKind};
+use grouping_model::limits::LONGEST_TEXT;
 use std::alloc::Global;
 
 /// How many bytes the packing of a field has at most, if it stands for a value.

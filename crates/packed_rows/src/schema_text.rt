@@ -13,15 +13,13 @@ ghost use Rattle.packed_rows.specs.Refusal.{AddFault, ParseFault, ReadFault};
 
 use crate::error::RowError;
 use crate::value::ValueKind;
+use grouping_model::limits::MOST_COLUMNS;
 use indexmap::IndexMap;
 use query_tokens::{Symbol, Token, TokenError, Word, is_reserved, tokens};
 use std::alloc::Global;
 
 /// The kinds of columns by their names, in the columns' order.
 pub(crate) type Columns = IndexMap<String, ValueKind>;
-
-/// The most columns that a schema can have.
-const MOST_COLUMNS: usize = 32;
 
 /// The tokens of a text.
 pub(crate) fn read_tokens(alloc: Global, text: &str) -> Result<Vec<Token>, RowError>

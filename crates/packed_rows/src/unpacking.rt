@@ -1,6 +1,6 @@
 //! Reading values back from bytes.
 
-ghost use Rattle.std.specs.Prelude.{◌≡◌, ◌≢◌, ◌++◌, ◌∷◌, ◌<◌, ℕ, ℤ, Bool, List, if◌then◌else◌, IfSome, IfNone, IfOk, IfErr, OnOk, length, Contains, FitsSigned};
+ghost use Rattle.std.specs.Prelude.{◌≡◌, ◌≢◌, ◌++◌, ◌∷◌, ◌<◌, ℕ, ℤ, Bool, List, if◌then◌else◌, IfSome, IfNone, IfOk, IfErr, OnErr, OnOk, length, Contains, FitsSigned};
 ghost use Rattle.std.specs.Int.{w64, to_be_bytes};
 ghost use Rattle.grouping_model.specs.Datum.{Datum, Kind, Row, IsText, HasKind, HasKinds, null_field};
 ghost use Rattle.packed_rows.specs.View.{datum_of, row_of, kind_of, kinds_of};
@@ -99,7 +99,7 @@ fn unpack_value(kind: ValueKind, bytes: &[u8]) -> Option<(Value<'_>, &[u8])>
 }
 
 /// Reads the values of a key of these kinds from its packing into `key`, where they take the place of what was there, so
-/// that one vector can serve for many keys. After an error a part of them may be there.
+/// that one vector can serve for many keys. After an error some values are there that the bytes begin with.
 pub fn unpack_into<'a>(
     kinds: &[ValueKind],
     bytes: &'a [u8],
@@ -110,6 +110,9 @@ pub fn unpack_into<'a>(
         × (bytes.now ≡ packing (row_of key.new.items))) }
     // The bytes are refused only where they are no packing of such a key.
     ensures refused { IfErr result (UnpackFault (kinds_of kinds.now) bytes.now) }
+    // What is there after an error are values that the bytes begin with.
+    ensures begun { OnErr result ((rest : List ℕ)
+        × (bytes.now ≡ packing (row_of key.new.items) ++ rest)) }
 {
     key.clear();
     let mut rest = bytes;

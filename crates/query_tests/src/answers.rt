@@ -9,17 +9,30 @@ fn shown(rt: HostRuntime, answer: &Answer) -> Result<String, Fail> {
         for item in 0..answer.width(row) {
             shown.push_str(&format!(in rt.alloc(); "{:?} ", answer.value(row, item))?)?;
         }
+        shown.push('/')?;
     }
     Ok(shown)
 }
 
-// The tests of queries stand in the crate that reads them from texts.
 #[test]
 fn answers_are_kept(rt: HostRuntime) -> Result<(), Fail> {
     let mut answer = Answer::new(rt.alloc());
-    answer.push(&[ResultValue::Boolean(true), ResultValue::Text("a")])?;
+    assert!(rt; answer.is_empty());
+    answer.push(&[
+        ResultValue::Boolean(true),
+        ResultValue::Text("a"),
+        ResultValue::Null,
+    ])?;
     answer.push(&[])?;
-    assert_eq!(rt; shown(rt, &answer)?.as_str(), "Boolean(true) Text(\"a\") ");
-    assert_eq!(rt; answer.len(), 2);
+    answer.push(&[
+        ResultValue::Bigint(i64::MIN),
+        ResultValue::Numeric(i128::MAX),
+    ])?;
+    assert_eq!(rt;
+        shown(rt, &answer)?.as_str(),
+        "Boolean(true) Text(\"a\") Null //Bigint(-9223372036854775808) \
+         Numeric(170141183460469231731687303715884105727) /"
+    );
+    assert!(rt; answer.len() == 3 && !answer.is_empty());
     Ok(())
 }

@@ -9,13 +9,14 @@ use Rattle.std.proofs.lemmas.List.{length-map}
 use Rattle.std.proofs.lemmas.List.Elements.{All-cons}
 use Rattle.std.proofs.lemmas.List.Folds.{length-prefix_len, list_any_at}
 use Rattle.std.proofs.lemmas.Str.Ascii.{lowercase-lowercase}
+use Rattle.grouping_model.specs.declared.limits.TheConstants.{LONGEST_NAME}
 use Rattle.query_tokens.specs.declared.fault.Fault.{Fault}
 use Rattle.query_tokens.specs.declared.fault.Fault.TheVariants.{Syntax}
 use Rattle.query_tokens.specs.declared.word.Symbol.{Symbol}
 use Rattle.query_tokens.specs.declared.word.Token.{Token}
 use Rattle.query_tokens.specs.Words.{Lexeme, Name, Integer, Text, Sign, Placed, lexeme_of, all_placed}
 use Rattle.query_tokens.specs.Bytes.{is_space, begins_name, is_in_name, first_is, symbol_of_one, symbol_of_two}
-use Rattle.query_tokens.specs.Tokens.{◌>>=◌, most_in_name, number_after, integer_of, integer_or_fault, name_at, integer_at, string_content, text_or_fault, text_at, symbol_or_fault, longest_symbol, symbol_at, word_at, tokens_at, tokens_in}
+use Rattle.query_tokens.specs.Tokens.{◌>>=◌, number_after, integer_of, integer_or_fault, name_at, integer_at, string_content, text_or_fault, text_at, symbol_or_fault, longest_symbol, symbol_at, word_at, tokens_at, tokens_in}
 use Rattle.query_tokens.specs.Spelling.{IsName, IsLexeme, lexemes_of, lexemes_read, text_of, with_spaces}
 use Rattle.query_tokens.proofs.Pieces.{spaced_again}
 
@@ -66,21 +67,21 @@ run_begins b bs h =
     let longer : prefix_len is_in_name (b ∷ bs) ≡ suc (prefix_len is_in_name bs) = rw (in_name b h) (omega arith) in
     rw longer (begins_lower b h)
 
-legal_name : (b : ℕ) (bs : List ℕ) → begins_name b ≡ true → ltb most_in_name (prefix_len is_in_name (b ∷ bs)) ≡ false → IsName (map to_ascii_lowercase (take (prefix_len is_in_name (b ∷ bs)) (b ∷ bs)))
+legal_name : (b : ℕ) (bs : List ℕ) → begins_name b ≡ true → ltb LONGEST_NAME (prefix_len is_in_name (b ∷ bs)) ≡ false → IsName (map to_ascii_lowercase (take (prefix_len is_in_name (b ∷ bs)) (b ∷ bs)))
 legal_name b bs h short =
     let front = take (prefix_len is_in_name (b ∷ bs)) (b ∷ bs) in
     record {
       begins = run_begins b bs h;
       continues = run_in_name (b ∷ bs);
       lower = lower_twice front;
-      within = omega (arith, length-map front to_ascii_lowercase, length-prefix_len is_in_name (b ∷ bs), ltb-false most_in_name (prefix_len is_in_name (b ∷ bs)) short);
+      within = omega (arith, length-map front to_ascii_lowercase, length-prefix_len is_in_name (b ∷ bs), ltb-false LONGEST_NAME (prefix_len is_in_name (b ∷ bs)) short);
     }
 
 name_legal : (at b : ℕ) (bs : List ℕ) → begins_name b ≡ true → ReadsLegal (name_at at (b ∷ bs))
 unfolding name_at
 name_legal at b bs h =
     let len = prefix_len is_in_name (b ∷ bs) in
-    either (ltb most_in_name len) (Err (Syntax at)) (Ok (Name (map to_ascii_lowercase (take len (b ∷ bs))), drop len (b ∷ bs))) (λ _. fails (Syntax at))
+    either (ltb LONGEST_NAME len) (Err (Syntax at)) (Ok (Name (map to_ascii_lowercase (take len (b ∷ bs))), drop len (b ∷ bs))) (λ _. fails (Syntax at))
     (λ short. reads (Name (map to_ascii_lowercase (take len (b ∷ bs)))) (drop len (b ∷ bs)) (legal_name b bs h short))
 
 record IntegerFits (o : Option ℤ) : Type 0 where

@@ -3,12 +3,13 @@ use Rattle.std.proofs.Common.{◌≡◌, ℕ, zero, suc, ◌+◌, ◌-◌, ◌<�
 use Rattle.std.specs.Prelude.{ℤ, ◌==◌, ◌&&◌}
 use Rattle.std.specs.Char.{is_ascii_digit, to_ascii_lowercase}
 use Rattle.std.specs.List.{prefix_len, list_any}
+use Rattle.grouping_model.specs.declared.limits.TheConstants.{LONGEST_NAME}
 use Rattle.query_tokens.specs.declared.fault.Fault.{Fault}
 use Rattle.query_tokens.specs.declared.fault.Fault.TheVariants.{Syntax, NumberTooLarge}
 use Rattle.query_tokens.specs.declared.word.Symbol.{Symbol}
 use Rattle.query_tokens.specs.Words.{Lexeme, Name, Text, Placed, RiseWithin}
 use Rattle.query_tokens.specs.Bytes.{is_space, begins_name, is_in_name, first_is, symbol_of_one, symbol_of_two}
-use Rattle.query_tokens.specs.Tokens.{◌>>=◌, most_in_name, number_after, integer_of, integer_or_fault, name_at, integer_at, string_content, text_or_fault, text_at, symbol_or_fault, longest_symbol, symbol_at, word_at, tokens_at, tokens_in}
+use Rattle.query_tokens.specs.Tokens.{◌>>=◌, number_after, integer_of, integer_or_fault, name_at, integer_at, string_content, text_or_fault, text_at, symbol_or_fault, longest_symbol, symbol_at, word_at, tokens_at, tokens_in}
 
 -- a fault of this place, if one has a place
 abbrev pub IsFaultAt : ℕ → Fault → Type 0
@@ -39,7 +40,7 @@ name_faults : (at : ℕ) (bytes : List ℕ) → FaultsAt at (name_at at bytes)
 unfolding name_at
 name_faults at bytes =
     let len = prefix_len is_in_name bytes in
-    either (ltb most_in_name len) at (Err (Syntax at)) (Ok (Name (map to_ascii_lowercase (take len bytes)), drop len bytes)) (fails at) (reads at (Name (map to_ascii_lowercase (take len bytes)), drop len bytes))
+    either (ltb LONGEST_NAME len) at (Err (Syntax at)) (Ok (Name (map to_ascii_lowercase (take len bytes)), drop len bytes)) (fails at) (reads at (Name (map to_ascii_lowercase (take len bytes)), drop len bytes))
 
 integer_or_faults : (at : ℕ) (o : Option ℤ) (rest : List ℕ) → FaultsAt at (integer_or_fault o rest)
 integer_or_faults at None rest = too_large at

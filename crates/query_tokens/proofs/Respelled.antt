@@ -9,11 +9,12 @@ use Rattle.std.specs.Fmt.{decimal}
 use Rattle.std.proofs.Math.Seq.{take-append_seam, drop-append_seam}
 use Rattle.std.proofs.lemmas.Bool.{le-ltb, le-leb, lt-ltb, eqb-true, or_parts}
 use Rattle.std.proofs.lemmas.Fmt.{digits_decimal, digits_value-decimal, decimal_nonempty}
+use Rattle.grouping_model.specs.declared.limits.TheConstants.{LONGEST_NAME}
 use Rattle.query_tokens.specs.declared.word.Symbol.{Symbol}
 use Rattle.query_tokens.specs.declared.word.Symbol.TheVariants as symbols
 use Rattle.query_tokens.specs.Words.{Lexeme, Name, Integer, Text, Sign}
 use Rattle.query_tokens.specs.Bytes.{begins_name, is_in_name, first_is, symbol_of_one, symbol_of_two}
-use Rattle.query_tokens.specs.Tokens.{most_in_name, integer_of, name_at, integer_at, string_content, text_at, symbol_at, word_at}
+use Rattle.query_tokens.specs.Tokens.{integer_of, name_at, integer_at, string_content, text_at, symbol_at, word_at}
 use Rattle.query_tokens.specs.Spelling.{IsName, IsLexeme, EndsBefore, spell, spell_byte, spell_symbol}
 use Rattle.query_tokens.proofs.Numerals.{own}
 
@@ -34,7 +35,7 @@ run_length p (x ∷ xs) rest passes stops = run_step (p x) (list_all p xs) (pref
 name_read : (at : ℕ) (name rest : List ℕ) → IsName name → first_is is_in_name rest ≡ false → name_at at (name ++ rest) ≡ Ok (Name name, rest)
 unfolding name_at
 name_read at name rest legal ends =
-    rw (run_length is_in_name name rest legal.continues ends, le-ltb most_in_name (length name) legal.within, take-append_seam name rest, drop-append_seam name rest, legal.lower) refl
+    rw (run_length is_in_name name rest legal.continues ends, le-ltb LONGEST_NAME (length name) legal.within, take-append_seam name rest, drop-append_seam name rest, legal.lower) refl
 
 name_again : (at : ℕ) (name rest : List ℕ) → IsName name → first_is is_in_name rest ≡ false → word_at at (name ++ rest) ≡ Ok (Name name, rest)
 unfolding word_at

@@ -10,9 +10,10 @@ use Rattle.std.specs.Prelude.{ℤ, ◌==◌, ◌&&◌}
 use Rattle.std.specs.Char.{is_ascii_digit, to_ascii_lowercase}
 use Rattle.std.specs.List.{prefix_len}
 use Rattle.std.proofs.lemmas.List.Sums.{prefix_len-le-length}
+use Rattle.grouping_model.specs.declared.limits.TheConstants.{LONGEST_NAME}
 use Rattle.query_tokens.specs.declared.word.Symbol.{Symbol}
 use Rattle.query_tokens.specs.Bytes.{is_space, begins_name, is_in_name, first_is, symbol_of_one, symbol_of_two}
-use Rattle.query_tokens.specs.Tokens.{◌>>=◌, Fails, most_in_name, number_after, integer_of, name_at, integer_at, integer_or_fault, and_before, string_content, text_or_fault, text_at, symbol_or_fault, longest_symbol, symbol_at, word_at, tokens_at}
+use Rattle.query_tokens.specs.Tokens.{◌>>=◌, Fails, number_after, integer_of, name_at, integer_at, integer_or_fault, and_before, string_content, text_or_fault, text_at, symbol_or_fault, longest_symbol, symbol_at, word_at, tokens_at}
 
 -- what was read before, and what is still read
 abbrev pub with_front : List Placed → Result (List Placed) Fault → Result (List Placed) Fault
@@ -68,7 +69,7 @@ name_leaves : (at b : ℕ) (bs : List ℕ) → begins_name b ≡ true → Leaves
 unfolding name_at
 name_leaves at b bs h =
     let len = prefix_len is_in_name (b ∷ bs) in
-    either (ltb most_in_name len) (Err (Syntax at)) (Ok (Name (map to_ascii_lowercase (take len (b ∷ bs))), drop len (b ∷ bs))) bs (λ _. fails (Syntax at) bs) (λ _. reads (Name (map to_ascii_lowercase (take len (b ∷ bs)))) (drop len (b ∷ bs)) bs (run_end is_in_name b bs (in_name b h)))
+    either (ltb LONGEST_NAME len) (Err (Syntax at)) (Ok (Name (map to_ascii_lowercase (take len (b ∷ bs))), drop len (b ∷ bs))) bs (λ _. fails (Syntax at) bs) (λ _. reads (Name (map to_ascii_lowercase (take len (b ∷ bs)))) (drop len (b ∷ bs)) bs (run_end is_in_name b bs (in_name b h)))
 
 integer_or_leaves : (o : Option ℤ) (rest bs : List ℕ) → IsEnd bs rest → Leaves (integer_or_fault o rest) bs
 integer_or_leaves None rest bs h = fails _ _

@@ -3,6 +3,7 @@
 use Rattle.std.specs.Prelude.{ℕ, zero, suc, ◌+◌, ◌-◌, ◌*◌, ◌^◌, ◌≡◌, ℤ, pos, neg_ℤ, Bool, true, false, nat_lt, nat_le, ◌==◌, ◌&&◌, if◌then◌else◌, List, [], ◌∷◌, map, length, take, drop, Option, Some, None, Result, Ok, Err}
 use Rattle.std.specs.Char.{is_ascii_digit, to_ascii_lowercase}
 use Rattle.std.specs.List.{prefix_len, list_any}
+use Rattle.grouping_model.specs.declared.limits.TheConstants.{LONGEST_NAME}
 use Rattle.query_tokens.specs.declared.word.Symbol.{Symbol}
 use Rattle.query_tokens.specs.declared.fault.Fault.{Fault}
 use Rattle.query_tokens.specs.declared.fault.Fault.TheVariants.{Syntax, NumberTooLarge}
@@ -27,15 +28,12 @@ abbrev pub Gives : {X Y : Type 0} → (X → Y) → Result X TokenError → Resu
 Gives view (Ok x) read = read ≡ Ok (view x)
 Gives view (Err e) read = Fails e read
 
--- the greatest length of a name in bytes (4.1.1 Identifiers and Key Words; a longer one is refused and not cut: own)
-abbrev pub most_in_name : ℕ
-most_in_name = 63
-
--- a name: as many bytes as continue it, in lower case (4.1.1)
+-- a name: as many bytes as continue it, in lower case (4.1.1 Identifiers and Key Words; a longer one than there may be
+-- is refused and not cut: own)
 unfoldable pub name_at : ℕ → List ℕ → Result (Lexeme × List ℕ) Fault
 name_at at bytes =
     let len = prefix_len is_in_name bytes in
-    if nat_lt most_in_name len then Err (Syntax at) else Ok (Name (map to_ascii_lowercase (take len bytes)), drop len bytes)
+    if nat_lt LONGEST_NAME len then Err (Syntax at) else Ok (Name (map to_ascii_lowercase (take len bytes)), drop len bytes)
 
 -- the number that decimal digits stand for, where those before them stand for so_far
 abbrev pub number_after : ℕ → List ℕ → ℕ

@@ -13,10 +13,8 @@ ghost use Rattle.query_tokens.specs.Words.{lexeme_of, all_placed};
 use crate::fault::{Fault, TokenError};
 use crate::word::{Symbol, Token, Word};
 use crate::words::{begins_name, digits_len, is_space, name_len, symbol_of_one, symbol_of_two};
+use grouping_model::limits::LONGEST_NAME;
 use std::alloc::{AllocError, Global};
-
-/// The greatest length of a name in bytes.
-const MOST_IN_NAME: usize = 63;
 
 /// The first bytes of a text, the last of which is ASCII, and those behind them.
 fn cut(text: &str, len: usize) -> (&str, &str)
@@ -34,7 +32,7 @@ fn name_at(alloc: Global, at: usize, text: &str) -> Result<(Word, &str), TokenEr
     ensures { Gives (λ x. (lexeme_of x.0, x.1.now)) result (name_at at text.now) }
 {
     let len = name_len(text.as_bytes());
-    if len > MOST_IN_NAME {
+    if len > LONGEST_NAME {
         return Err(TokenError::Fault(Fault::Syntax { at }));
     }
     let (front, rest) = cut(text, len);

@@ -4,10 +4,12 @@ use having_filter::Query;
 use packed_rows::Schema;
 use std::test::*;
 
-/// The count and the sum of each town.
-pub(crate) fn query(rt: HostRuntime) -> Result<Query, Fail> {
-    let schema = Schema::parse(rt.alloc(), "c text, d bigint")?;
-    let text = "select c, count(*), sum(d) from batches group by c";
+/// The columns of all batches.
+pub(crate) const COLUMNS: &str = "c text, d bigint, b boolean";
+
+/// A query over these columns.
+pub(crate) fn query(rt: HostRuntime, text: &str) -> Result<Query, Fail> {
+    let schema = Schema::parse(rt.alloc(), COLUMNS)?;
     Ok(parse(rt.alloc(), &schema, text)?)
 }
 

@@ -10,6 +10,9 @@ use hash_agg::{Input, Run, aggregate, first_states};
 use having_filter::Query;
 use std::test::*;
 
+/// The count and the sum of each town.
+const TOWNS: &str = "SELECT c, count(*), sum(d) FROM batches GROUP BY c";
+
 /// So many rows of the query's table, packed.
 fn packed(rt: HostRuntime, query: &Query, told: u32, lines: &[&str]) -> Result<Vec<Vec<u8>>, Fail>
     ensures { IfOk result (λ packed. (rows : List Row)
@@ -32,10 +35,10 @@ fn states(rt: HostRuntime, count: u64, total: i128) -> Result<Vec<u8>, Fail> {
 
 #[test]
 fn a_run_is_aggregated_with_rows(rt: HostRuntime) -> Result<(), Fail> {
-    let query = query(rt)?;
-    let early = packed(rt, &query, 1, &["oslo,5"])?;
+    let query = query(rt, TOWNS)?;
+    let early = packed(rt, &query, 1, &["oslo,5,t"])?;
     let early = aggregate(rt.alloc(), &query, &[Input::Rows(&early)])?;
-    let late = packed(rt, &query, 2, &["oslo,-2", "bergen,7"])?;
+    let late = packed(rt, &query, 2, &["oslo,-2,t", "bergen,7,t"])?;
     let inputs = [
         Input::Groups {
             run: &early,
@@ -56,7 +59,7 @@ fn a_run_is_aggregated_with_rows(rt: HostRuntime) -> Result<(), Fail> {
 
 #[test]
 fn a_run_takes_groups(rt: HostRuntime) -> Result<(), Fail> {
-    let query = query(rt)?;
+    let query = query(rt, TOWNS)?;
     let mut run = Run::new(rt.alloc());
     assert!(rt; run.is_empty());
     let states = first_states(rt.alloc(), &query)?;

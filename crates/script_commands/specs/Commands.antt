@@ -1,9 +1,10 @@
 -- The commands of a script, and what each asks. All of this is our own.
-use Rattle.std.specs.Prelude.{ℕ, zero, suc, ◌==◌, ◌&&◌, ◌||◌, Bool, List, [], ◌∷◌, length, take, codes, nat_lt, if◌then◌else◌}
+use Rattle.std.specs.Prelude.{ℕ, zero, suc, ◌==◌, ◌&&◌, ◌||◌, Bool, List, [], ◌∷◌, length, take, codes, nat_le, nat_lt, if◌then◌else◌}
 use Rattle.std.specs.Str.{bytes_eq, is_utf8}
 use Rattle.std.specs.Str.Parse.{digits_value}
 use Rattle.std.specs.List.{list_all}
 use Rattle.std.specs.Char.{is_ascii_alphanumeric, is_ascii_digit}
+use Rattle.grouping_model.specs.declared.limits.TheConstants.{LONGEST_NAME}
 use Rattle.script_io.specs.Records.{Record}
 
 -- what a command asks
@@ -26,7 +27,7 @@ abbrev pub is_name_byte : ℕ → Bool
 is_name_byte b = is_ascii_alphanumeric b || (b == 95)
 
 abbrev pub is_name : List ℕ → Bool
-is_name bytes = nat_lt 0 (length bytes) && nat_lt (length bytes) 64 && list_all is_name_byte bytes
+is_name bytes = nat_lt 0 (length bytes) && nat_le (length bytes) LONGEST_NAME && list_all is_name_byte bytes
 
 -- a number of rows: 1 to 9 digits
 abbrev pub is_row_count : List ℕ → Bool

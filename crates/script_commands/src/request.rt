@@ -10,10 +10,8 @@ ghost use Rattle.script_commands.specs.Commands.{is_name, is_name_byte, is_row_c
 ghost use Rattle.script_commands.specs.Views.{request_view};
 
 use csv::ByteRecord;
+use grouping_model::limits::LONGEST_NAME;
 use std::str;
-
-/// The most bytes of a name.
-const MOST_NAME_BYTES: usize = 63;
 
 /// The most digits of a number of rows.
 const MOST_COUNT_DIGITS: usize = 9;
@@ -60,7 +58,7 @@ fn are_digits(bytes: &[u8]) -> bool
 fn is_legal_name(name: &[u8]) -> bool
     ensures { result ≡ is_name name.now }
 {
-    !name.is_empty() && name.len() <= MOST_NAME_BYTES && are_name_bytes(name)
+    !name.is_empty() && name.len() <= LONGEST_NAME && are_name_bytes(name)
 }
 
 /// Whether a field is a number of rows.

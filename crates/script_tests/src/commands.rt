@@ -2,74 +2,98 @@ use script_commands::{Request, next_command};
 use script_io::Records;
 use std::test::*;
 
-#[test]
-fn records_are_gathered(rt: HostRuntime) -> Result<(), Fail> {
-    let script =
-        b"columns,c text\nfeed,a,0,1,2\nx\ny,z\nfeed,a,0,1,x\nfeed,!,0,1,01\nr\nknown,a\nfeed,a,0,1,9\nlast\n";
-    let mut records = Records::new(rt.alloc(), script);
-    // How many records belong to each command.
-    for count in [0, 2, 0, 1, 0, 1] {
-        let found = next_command(&mut records)?;
-        assert!(rt; found.is_some_and(|command| command.owned.len() == count));
-    }
-    assert!(rt; next_command(&mut records)?.is_none());
-    Ok(())
-}
-
-/// A name of 63 bytes, the longest there is.
-const LONGEST: &str = "aaaaaaaaaaaaaaaaaaaaaaaaaaaaaaaaaaaaaaaaaaaaaaaaaaaaaaaaaaaaaaa";
-
-#[test]
-fn commands_ask(rt: HostRuntime) -> Result<(), Fail> {
-    let script = format!(in rt.alloc();
-        "columns,c\nquery,q\nreplica,A_9\nknown,{LONGEST}\nanswer,a\nfeed,a,7,8,009\n"
-    )?;
-    let requests = [
-        Request::Columns("c"),
-        Request::Query("q"),
-        Request::Replica(b"A_9"),
-        Request::Known(LONGEST.as_bytes()),
-        Request::Answer(b"a"),
+/// Records, what each asks, and how many of those behind it belong to it. The longest name has 63 bytes.
+const REQUESTS: [(&str, Request<'static>, usize); 28] = [
+    ("columns,c", Request::Columns("c"), 0),
+    ("query,\u{e9}", Request::Query("\u{e9}"), 0),
+    ("columns,", Request::Columns(""), 0),
+    ("query,\"a,\"\"b\"\"\nc\"", Request::Query("a,\"b\"\nc"), 0),
+    ("replica,A_9", Request::Replica(b"A_9"), 0),
+    (
+        "known,a_name_that_has_as_many_letters_as_a_name_may_have_which_are_63",
+        Request::Known(b"a_name_that_has_as_many_letters_as_a_name_may_have_which_are_63"),
+        0,
+    ),
+    ("answer,a", Request::Answer(b"a"), 0),
+    (
+        "feed,a,7,8,002\nx\ny,z",
         Request::Feed {
             name: b"a",
             origin: b"7",
             number: b"8",
-            told: 9,
+            told: 2,
         },
-    ];
+        2,
+    ),
+    (
+        "feed,a,,-,0",
+        Request::Feed {
+            name: b"a",
+            origin: b"",
+            number: b"-",
+            told: 0,
+        },
+        0,
+    ),
+    ("hello", Request::Unknown, 0),
+    ("Columns,c", Request::Unknown, 0),
+    ("columns", Request::Unknown, 0),
+    ("columns,c,d", Request::Unknown, 0),
+    ("answer", Request::Unknown, 0),
+    ("answer,a,b", Request::Unknown, 0),
+    (
+        "answer,aa_name_that_has_as_many_letters_as_a_name_may_have_which_are_63",
+        Request::Unknown,
+        0,
+    ),
+    ("answer,a-b", Request::Unknown, 0),
+    ("replica,", Request::Unknown, 0),
+    ("known,\u{e9}", Request::Unknown, 0),
+    ("feed,a b,0,1,1\nx", Request::Unknown, 1),
+    ("feed,!,0,1,01\nanswer,a", Request::Unknown, 1),
+    ("feed,a,0,1,0000000001", Request::Unknown, 0),
+    ("feed,a,0,1,+1", Request::Unknown, 0),
+    ("feed,a,0,1,", Request::Unknown, 0),
+    ("feed,a,0,1,x", Request::Unknown, 0),
+    ("feed,a,0,1", Request::Unknown, 0),
+    ("feed,a,0,1,1,1", Request::Unknown, 0),
+    ("feeds,a,0,1,1", Request::Unknown, 0),
+];
+
+#[test]
+fn records_ask(rt: HostRuntime) -> Result<(), Fail> {
+    let mut script = String::new(rt.alloc());
+    for (records, ..) in REQUESTS {
+        script.push_str(records)?;
+        script.push('\n')?;
+    }
+    // The last command has fewer records than it tells.
+    script.push_str("feed,a,0,1,999999999\nlast\n")?;
     let mut records = Records::new(rt.alloc(), script.as_bytes());
-    for request in requests {
+    for (text, request, owned) in REQUESTS {
         let found = next_command(&mut records)?;
         assert!(rt;
-            found.is_some_and(|command| command.request() == request),
-            "{request:?}"
+            found.is_some_and(|command| command.request() == request
+                && command.owned.len() == owned),
+            "{text}"
         );
     }
+    let last = next_command(&mut records)?;
+    assert!(rt; last.is_some_and(|command| command.owned.len() == 1));
+    assert!(rt; next_command(&mut records)?.is_none() && next_command(&mut records)?.is_none());
     Ok(())
 }
 
 #[test]
-fn other_records_ask_nothing(rt: HostRuntime) -> Result<(), Fail> {
-    let script = format!(in rt.alloc();
-        "hello\nanswer\nanswer,a,b\nanswer,{LONGEST}a\nanswer,a-b\nanswer,\nanswer,é\nColumns,c\n\
-         feed,a,0,1,0000000001\nfeed,a,0,1,+1\nfeed,a,0,1,\nfeed,a,0,1\nfeed,a b,0,1,0\n"
-    )?;
-    let mut records = Records::new(rt.alloc(), script.as_bytes());
-    for count in 0..13 {
-        let found = next_command(&mut records)?;
-        let asks_nothing = found.is_some_and(|command| command.request() == Request::Unknown);
-        assert!(rt; asks_nothing, "record {count}");
-    }
+fn scripts_begin_and_end(rt: HostRuntime) -> Result<(), Fail> {
+    let mut empty = Records::new(rt.alloc(), b"\n\r\n");
+    assert!(rt; next_command(&mut empty)?.is_none());
+    // What is no text asks nothing.
+    let mut records = Records::new(rt.alloc(), b"\xef\xbb\xbfanswer,a\ncolumns,\xff");
+    let first = next_command(&mut records)?;
+    assert!(rt; first.is_some_and(|command| command.request() == Request::Answer(b"a")));
+    let second = next_command(&mut records)?;
+    assert!(rt; second.is_some_and(|command| command.request() == Request::Unknown));
     assert!(rt; next_command(&mut records)?.is_none());
-    Ok(())
-}
-
-#[test]
-fn texts_are_utf8(rt: HostRuntime) -> Result<(), Fail> {
-    let mut records = Records::new(rt.alloc(), b"columns,\xFF\nquery,\xC3\xA9\n");
-    let found = next_command(&mut records)?;
-    assert!(rt; found.is_some_and(|command| command.request() == Request::Unknown));
-    let found = next_command(&mut records)?;
-    assert!(rt; found.is_some_and(|command| command.request() == Request::Query("é")));
     Ok(())
 }

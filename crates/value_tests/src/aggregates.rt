@@ -1,30 +1,55 @@
+ghost use Rattle.std.specs.Prelude.{IsTrue};
 ghost use Rattle.packed_rows.specs.View.{datum_of};
 ghost use Rattle.agg_protocol.specs.Arguments.{Takes};
 ghost use Rattle.agg_library.specs.Kinds.{function_of};
 
-use agg_library::{AggKind, CountValues, MOST_ROWS, Min, StateRow, Sum};
+use agg_library::{AggKind, BoolOr, CountRows, CountValues, MOST_ROWS, Min, StateRow, Sum};
 use agg_protocol::{Aggregate, BadState, ResultValue, aggregate_in_parts, aggregate_values};
-use packed_rows::Value;
-use std::process::Abort;
-use std::test::Fail;
+use hex::{decode, encode};
+use packed_rows::{Value, ValueKind, read_value};
+use std::test::*;
 
-const SUM_OF_5_AND_MINUS_2: [u8; 24] = [
-    0, 0, 0, 0, 0, 0, 0, 2, 0, 0, 0, 0, 0, 0, 0, 0, 0, 0, 0, 0, 0, 0, 0, 3,
-];
+/// The function of a name.
+fn kind_named(name: &str) -> Result<AggKind, Fail> {
+    Ok(match name {
+        "count(*)" => AggKind::CountRows,
+        "count" => AggKind::Count,
+        "sum" => AggKind::Sum,
+        "min" => AggKind::Min,
+        "max" => AggKind::Max,
+        "bit_and" => AggKind::BitAnd,
+        "bit_or" => AggKind::BitOr,
+        "bit_xor" => AggKind::BitXor,
+        "bool_and" => AggKind::BoolAnd,
+        "bool_or" => AggKind::BoolOr,
+        "every" => AggKind::Every,
+        _ => return Err("no function")?,
+    })
+}
 
-const MIN_OF_MINUS_1: [u8; 9] = [1, 255, 255, 255, 255, 255, 255, 255, 255];
+/// Whether a value may be a function's argument: null, or one of its argument's kind.
+fn takes(kind: AggKind, value: Value<'_>) -> bool
+    ensures { IsTrue result → Takes (function_of kind) (datum_of value.entry) }
+{
+    match kind {
+        AggKind::CountRows | AggKind::Count => true,
+        AggKind::BoolAnd | AggKind::BoolOr | AggKind::Every => {
+            matches!(value, Value::Null | Value::Boolean(_))
+        }
+        _ => matches!(value, Value::Null | Value::Bigint(_)),
+    }
+}
 
-// A function's answer over three rows, by way of the bytes of its state.
+/// A function's answer over three rows, by way of the bytes of its state.
 fn answer(
     kind: AggKind,
     first: Value<'_>,
     second: Value<'_>,
     third: Value<'_>,
-) -> Result<ResultValue<'static>, BadState>
-    requires first { Takes (function_of kind) (datum_of first) }
-    requires second { Takes (function_of kind) (datum_of second) }
-    requires third { Takes (function_of kind) (datum_of third) }
-{
+) -> Result<ResultValue<'static>, BadState> {
+    if !takes(kind, first) || !takes(kind, second) || !takes(kind, third) {
+        return Err(BadState);
+    }
     let mut row = [0u8; 24];
     let part = &mut row[..kind.width()];
     StateRow::init_into(&[kind], part);
@@ -34,161 +59,248 @@ fn answer(
     Ok(StateRow::finish(kind, part))
 }
 
+/// Functions and three arguments, and their answers.
+const ANSWERS: &str = "\
+count(*) 5 \\N -2 => Bigint(3)
+count(*) \\N \\N \\N => Bigint(3)
+count 5 \\N -2 => Bigint(2)
+count t \\N f => Bigint(2)
+count \\N \\N \\N => Bigint(0)
+sum 5 \\N -2 => Numeric(3)
+sum 9223372036854775807 \\N 9223372036854775807 => Numeric(18446744073709551614)
+sum -9223372036854775808 -9223372036854775808 -9223372036854775808 => Numeric(-27670116110564327424)
+sum 0 \\N 0 => Numeric(0)
+sum \\N \\N \\N => Null
+min 5 \\N -2 => Bigint(-2)
+min 9223372036854775807 \\N 9223372036854775807 => Bigint(9223372036854775807)
+min \\N \\N \\N => Null
+max 5 \\N -2 => Bigint(5)
+max \\N -9223372036854775808 \\N => Bigint(-9223372036854775808)
+max \\N \\N \\N => Null
+bit_and 5 \\N -2 => Bigint(4)
+bit_and \\N \\N \\N => Null
+bit_or 5 \\N -2 => Bigint(-1)
+bit_or \\N \\N \\N => Null
+bit_xor 5 \\N -2 => Bigint(-5)
+bit_xor 7 7 \\N => Bigint(0)
+bit_xor \\N \\N \\N => Null
+bool_and t \\N f => Boolean(false)
+bool_and t \\N t => Boolean(true)
+bool_and \\N \\N \\N => Null
+bool_or t \\N f => Boolean(true)
+bool_or f \\N f => Boolean(false)
+bool_or \\N \\N \\N => Null
+every t \\N f => Boolean(false)
+every t \\N t => Boolean(true)
+every \\N \\N \\N => Null";
+
+/// A number, a truth value or null.
+fn value(field: &str) -> Result<Value<'_>, Fail> {
+    let bytes = field.as_bytes();
+    match read_value(bytes, ValueKind::Bigint) {
+        Some(value) => Ok(value),
+        None => Ok(read_value(bytes, ValueKind::Boolean).ok_or("no value")?),
+    }
+}
+
+/// What a function answers over three arguments.
+fn answered(rt: HostRuntime, case: &str) -> Result<String, Fail> {
+    let (name, values) = case.split_once(' ').ok_or("no arguments")?;
+    let (first, values) = values.split_once(' ').ok_or("one argument")?;
+    let (second, third) = values.split_once(' ').ok_or("two arguments")?;
+    let answer = answer(
+        kind_named(name)?,
+        value(first)?,
+        value(second)?,
+        value(third)?,
+    )?;
+    Ok(format!(in rt.alloc(); "{answer:?}")?)
+}
+
 #[test]
-fn functions_answer(rt: HostRuntime) {
-    let five = Value::Bigint(5);
-    let null = Value::Null;
-    let less = Value::Bigint(-2);
-    assert_eq!(rt;
-        answer(AggKind::CountRows, five, null, less),
-        Ok(ResultValue::Bigint(3))
-    );
-    assert_eq!(rt;
-        answer(AggKind::Count, five, null, less),
-        Ok(ResultValue::Bigint(2))
-    );
-    assert_eq!(rt;
-        answer(AggKind::Sum, five, null, less),
-        Ok(ResultValue::Numeric(3))
-    );
-    assert_eq!(rt;
-        answer(AggKind::Min, five, null, less),
-        Ok(ResultValue::Bigint(-2))
-    );
-    assert_eq!(rt;
-        answer(AggKind::Max, five, null, less),
-        Ok(ResultValue::Bigint(5))
-    );
-    assert_eq!(rt;
-        answer(AggKind::BitAnd, five, null, less),
-        Ok(ResultValue::Bigint(4))
-    );
-    assert_eq!(rt;
-        answer(AggKind::BitOr, five, null, less),
-        Ok(ResultValue::Bigint(-1))
-    );
-    assert_eq!(rt;
-        answer(AggKind::BitXor, five, null, less),
-        Ok(ResultValue::Bigint(-5))
+fn functions_answer(rt: HostRuntime) -> Result<(), Fail> {
+    for line in ANSWERS.lines() {
+        let (case, want) = line.split_once(" => ").ok_or("no case")?;
+        assert!(rt; answered(rt, case)?.as_str() == want, "{line}");
+    }
+    Ok(())
+}
+
+/// Functions, the most rows that a state may count, bytes, and whether they are those of states.
+const STATES: &str = "\
+count(*) 5 0000000000000005 => true
+count 4 0000000000000005 => false
+count(*) 5 00000000000005 => false
+count(*) 5 000000000000000005 => false
+count 4611686018427387903 3fffffffffffffff => true
+count 4611686018427387903 4000000000000000 => false
+sum 2 000000000000000200000000000000000000000000000003 => true
+sum 1 000000000000000200000000000000000000000000000003 => false
+sum 0 000000000000000000000000000000000000000000000000 => true
+sum 5 000000000000000000000000000000000000000000000001 => false
+sum 1 000000000000000100000000000000007fffffffffffffff => true
+sum 1 000000000000000100000000000000008000000000000000 => false
+sum 1 0000000000000001ffffffffffffffff8000000000000000 => true
+sum 1 0000000000000001 => false
+min 0 000000000000000000 => true
+min 0 01ffffffffffffffff => true
+min 5 000000000000000001 => false
+max 5 020000000000000000 => false
+bit_xor 5 0100000000000000 => false
+bool_and 0 00 => true
+bool_or 0 01 => true
+every 0 02 => true
+bool_or 5 03 => false
+bool_or 5  => false
+bool_or 5 0000 => false
+count,every 5 000000000000000502 => true
+count,every 5 000000000000000503 => false
+count,every 5 0000000000000005 => false
+every,count 5 020000000000000006 => false";
+
+/// Whether bytes are those of a row of states.
+fn is_row(rt: HostRuntime, case: &str) -> Result<bool, Fail> {
+    let (names, rest) = case.split_once(' ').ok_or("no rows")?;
+    let (most, bytes) = rest.split_once(' ').ok_or("no bytes")?;
+    let mut kinds = Vec::new(rt.alloc());
+    for name in names.split(',') {
+        kinds.push(kind_named(name)?)?;
+    }
+    let most = most.parse::<u64>()?;
+    if most > MOST_ROWS {
+        return Err("too many rows")?;
+    }
+    let bytes = decode(rt.alloc(), bytes)?;
+    Ok(StateRow::check(&kinds, &bytes, most).is_ok())
+}
+
+#[test]
+fn states_are_checked(rt: HostRuntime) -> Result<(), Fail> {
+    for line in STATES.lines() {
+        let (case, want) = line.split_once(" => ").ok_or("no case")?;
+        assert!(rt; is_row(rt, case)? == (want == "true"), "{line}");
+    }
+    Ok(())
+}
+
+#[test]
+fn states_are_read(rt: HostRuntime) {
+    let minus_one = [1, 255, 255, 255, 255, 255, 255, 255, 255];
+    assert!(rt; Min::deserialize(&minus_one) == Ok(Some(-1)));
+    assert!(rt; Min::deserialize(&[3; 9]) == Err(BadState));
+    assert!(rt; BoolOr::deserialize(&[2]) == Ok(Some(true)));
+    assert!(rt; BoolOr::deserialize(&[3]) == Err(BadState));
+    assert!(rt; Sum::deserialize(&[0; 24]).is_ok() && Sum::deserialize(&[1; 24]).is_err());
+    assert!(rt;
+        CountRows::deserialize(&[0; 8]).is_ok() && CountRows::deserialize(&[99; 8]).is_err()
     );
 }
 
 #[test]
-fn functions_of_truths_answer(rt: HostRuntime) {
-    let yes = Value::Boolean(true);
-    let null = Value::Null;
-    let no = Value::Boolean(false);
-    assert_eq!(rt;
-        answer(AggKind::BoolAnd, yes, null, no),
-        Ok(ResultValue::Boolean(false))
-    );
-    assert_eq!(rt;
-        answer(AggKind::BoolOr, yes, null, no),
-        Ok(ResultValue::Boolean(true))
-    );
-    assert_eq!(rt;
-        answer(AggKind::Every, yes, null, no),
-        Ok(ResultValue::Boolean(false))
-    );
-    assert_eq!(rt;
-        answer(AggKind::Every, null, null, null),
-        Ok(ResultValue::Null)
-    );
-    assert_eq!(rt;
-        answer(AggKind::Count, null, null, null),
-        Ok(ResultValue::Bigint(0))
-    );
-}
-
-#[test]
-fn sums_pass_64_bits(rt: HostRuntime) {
-    let most = Value::Bigint(i64::MAX);
-    let least = Value::Bigint(i64::MIN);
-    assert_eq!(rt;
-        answer(AggKind::Sum, most, most, Value::Null),
-        Ok(ResultValue::Numeric(18_446_744_073_709_551_614))
-    );
-    assert_eq!(rt;
-        answer(AggKind::Sum, least, least, least),
-        Ok(ResultValue::Numeric(-27_670_116_110_564_327_424))
-    );
-}
-
-#[test]
-fn lists_are_aggregated(rt: HostRuntime) {
+fn lists_are_aggregated(rt: HostRuntime) -> Result<(), Fail> {
     let first = [Value::Bigint(5), Value::Null];
-    let second = [Value::Bigint(-2)];
-    let state = aggregate_in_parts::<Sum>(&first, &second);
-    assert_eq!(rt; Sum::finish(&state), ResultValue::Numeric(3));
-    let mut bytes = [0u8; 24];
+    let state = aggregate_in_parts::<Sum>(&first, &[Value::Bigint(-2)]);
+    let state = Sum::combine(Sum::init(), Sum::combine(state, Sum::init()));
+    let mut bytes = [7u8; 24];
     Sum::serialize(&state, &mut bytes);
-    assert_eq!(rt; bytes, SUM_OF_5_AND_MINUS_2);
-    Sum::serialize(&Sum::combine(state, Sum::init()), &mut bytes);
-    assert_eq!(rt; bytes, SUM_OF_5_AND_MINUS_2);
-    Sum::serialize(&Sum::combine(Sum::init(), state), &mut bytes);
-    assert_eq!(rt; bytes, SUM_OF_5_AND_MINUS_2);
-    assert_eq!(rt;
-        CountValues::finish(&aggregate_values::<CountValues>(&first)),
-        ResultValue::Bigint(1)
-    );
-    assert_eq!(rt;
-        Min::finish(&aggregate_values::<Min>(&[])),
-        ResultValue::Null
-    );
+    let text = encode(rt.alloc(), bytes.as_slice())?;
+    assert!(rt; text.as_str() == "000000000000000200000000000000000000000000000003");
+    assert!(rt; Sum::finish(&state) == ResultValue::Numeric(3));
+    let count = aggregate_values::<CountValues>(&first);
+    assert!(rt; CountValues::finish(&count) == ResultValue::Bigint(1));
+    let least = aggregate_values::<Min>(&[]);
+    assert!(rt; Min::finish(&least) == ResultValue::Null);
+    Ok(())
 }
 
-#[test]
-fn states_are_refused(rt: HostRuntime) {
-    let absent_with_value = [0, 0, 0, 0, 0, 0, 0, 0, 1];
-    assert_eq!(rt;
-        StateRow::check(&[AggKind::Min], &absent_with_value, 5),
-        Err(BadState)
-    );
-    let mut one_for_none = [0u8; 24];
-    one_for_none[23] = 1;
-    assert_eq!(rt;
-        StateRow::check(&[AggKind::Sum], &one_for_none, 5),
-        Err(BadState)
-    );
-    assert_eq!(rt; StateRow::check(&[AggKind::BoolOr], &[3], 5), Err(BadState));
-    let sum = SUM_OF_5_AND_MINUS_2;
-    assert_eq!(rt; StateRow::check(&[AggKind::Sum], &sum, 2), Ok(()));
-    assert_eq!(rt; StateRow::check(&[AggKind::Sum], &sum, 1), Err(BadState));
-    assert!(rt; Sum::deserialize(&sum).is_ok());
-    assert!(rt; Sum::deserialize(&one_for_none).is_err());
-}
+/// The functions of the rows below, whose states have 18 bytes.
+const KINDS: [AggKind; 3] = [AggKind::CountRows, AggKind::Min, AggKind::Every];
 
 #[test]
-fn rows_are_moved(rt: HostRuntime) {
-    let kinds = [AggKind::CountRows, AggKind::Min, AggKind::Every];
-    assert_eq!(rt; StateRow::width(&kinds), 18);
-    assert_eq!(rt; StateRow::part(&kinds, 1), 8..17);
+fn rows_begin_without_rows(rt: HostRuntime) {
+    assert!(rt; StateRow::width(&KINDS) == 18 && StateRow::part(&KINDS, 1) == (8..17));
     let mut row = [7u8; 18];
-    StateRow::init_into(&kinds, &mut row);
-    assert_eq!(rt; row, [0u8; 18]);
-    let count = AggKind::CountRows;
-    assert_eq!(rt;
-        StateRow::advance(count, &mut row[..8], Some(Value::Null), 1),
-        Ok(())
-    );
-    assert_eq!(rt; StateRow::advance(count, &mut row[..8], None, 1), Ok(()));
-    let other = row;
-    assert_eq!(rt;
-        StateRow::advance(count, &mut row[..8], Some(Value::Null), 1),
-        Err(BadState)
-    );
-    assert_eq!(rt;
-        StateRow::combine_into(&kinds, &mut row, &other, 1),
-        Err(BadState)
-    );
-    assert_eq!(rt; row, other);
-    assert_eq!(rt; StateRow::combine_into(&kinds, &mut row, &other, 2), Ok(()));
-    assert_eq!(rt; row[7], 2);
-    let mut least = [0u8; 9];
-    let minus_one = Some(Value::Bigint(-1));
-    assert_eq!(rt;
-        StateRow::advance(AggKind::Min, &mut least, minus_one, 1),
-        Ok(())
-    );
-    assert_eq!(rt; least, MIN_OF_MINUS_1);
+    StateRow::init_into(&KINDS, &mut row);
+    assert!(rt; row == [0u8; 18]);
+}
+
+/// A function, the most rows, the bytes of its state and an argument, or `-` where the filter keeps the row away; and
+/// what becomes of the bytes, and whether that is refused.
+const MOVES: &str = "\
+count(*) 1 0000000000000000 \\N => 0000000000000001 true
+count(*) 1 0000000000000001 - => 0000000000000001 true
+count(*) 1 0000000000000001 5 => 0000000000000001 false
+count(*) 1 0000000000000002 - => 0000000000000002 false
+count 1 0000000000000001 \\N => 0000000000000001 true
+count 1 0000000000000001 t => 0000000000000001 false
+sum 1 000000000000000100000000000000000000000000000003 \\N => 000000000000000100000000000000000000000000000003 true
+sum 1 000000000000000100000000000000000000000000000003 7 => 000000000000000100000000000000000000000000000003 false
+sum 2 000000000000000100000000000000000000000000000003 -4 => 0000000000000002ffffffffffffffffffffffffffffffff true
+min 0 000000000000000000 -1 => 01ffffffffffffffff true
+min 0 000000000000000000 - => 000000000000000000 true
+min 0 030000000000000000 5 => 030000000000000000 false
+every 0 02 f => 01 true
+every 0 0200 f => 0200 false";
+
+/// What becomes of the bytes of a state.
+fn moved(rt: HostRuntime, case: &str) -> Result<String, Fail> {
+    let (name, rest) = case.split_once(' ').ok_or("no rows")?;
+    let (most, rest) = rest.split_once(' ').ok_or("no bytes")?;
+    let (bytes, field) = rest.split_once(' ').ok_or("no argument")?;
+    let (kind, most) = (kind_named(name)?, most.parse::<u64>()?);
+    let reach = if field == "-" {
+        None
+    } else {
+        Some(value(field)?)
+    };
+    if most > MOST_ROWS || reach.is_some_and(|value| !takes(kind, value)) {
+        return Err("a wrong case")?;
+    }
+    let mut part = decode(rt.alloc(), bytes)?;
+    let result = StateRow::advance(kind, &mut part, reach, most);
+    let text = encode(rt.alloc(), part.as_slice())?;
+    Ok(format!(in rt.alloc(); "{text} {}", result.is_ok())?)
+}
+
+#[test]
+fn states_are_moved(rt: HostRuntime) -> Result<(), Fail> {
+    for line in MOVES.lines() {
+        let (case, want) = line.split_once(" => ").ok_or("no case")?;
+        assert!(rt; moved(rt, case)?.as_str() == want, "{line}");
+    }
+    Ok(())
+}
+
+/// The most rows, the bytes of two rows of states, and what becomes of the first.
+const COMBINED: &str = "\
+2 000000000000000101ffffffffffffffff00 000000000000000101800000000000000002 => 000000000000000201800000000000000002 true
+1 000000000000000101ffffffffffffffff00 000000000000000101800000000000000002 => 000000000000000101ffffffffffffffff00 false
+2 000000000000000101ffffffffffffffff00 0000000000000001018000000000000000 => 000000000000000101ffffffffffffffff00 false
+2 000000000000000101ffffffffffffffff00 00000000000000010180000000000000000200 => 000000000000000101ffffffffffffffff00 false
+2 000000000000000101ffffffffffffffff00 000000000000000101800000000000000003 => 000000000000000101ffffffffffffffff00 false
+2 000000000000000101ffffffffffffffff03 000000000000000101800000000000000002 => 000000000000000101ffffffffffffffff03 false
+2 000000000000000101ffffffffffffffff02 000000000000000100000000000000000001 => 000000000000000201ffffffffffffffff01 true";
+
+/// What becomes of a row of states into which another is combined.
+fn combined(rt: HostRuntime, case: &str) -> Result<String, Fail> {
+    let (most, rows) = case.split_once(' ').ok_or("no rows")?;
+    let (into, from) = rows.split_once(' ').ok_or("one row")?;
+    let most = most.parse::<u64>()?;
+    if most > MOST_ROWS {
+        return Err("too many rows")?;
+    }
+    let mut into = decode(rt.alloc(), into)?;
+    let from = decode(rt.alloc(), from)?;
+    let result = StateRow::combine_into(&KINDS, &mut into, &from, most);
+    let text = encode(rt.alloc(), into.as_slice())?;
+    Ok(format!(in rt.alloc(); "{text} {}", result.is_ok())?)
+}
+
+#[test]
+fn rows_are_combined(rt: HostRuntime) -> Result<(), Fail> {
+    for line in COMBINED.lines() {
+        let (case, want) = line.split_once(" => ").ok_or("no case")?;
+        assert!(rt; combined(rt, case)?.as_str() == want, "{line}");
+    }
+    Ok(())
 }

@@ -1,143 +1,205 @@
+use hex::{decode, encode};
 use packed_rows::{
-    RowError, Schema, Value, ValueKind, compare, pack_key, pack_row, read_value, same, unpack_key,
-    unpack_row,
+    Schema, Value, ValueKind, compare, pack_key, pack_row, pack_value, read_value, same,
+    unpack_into, unpack_key, unpack_row,
 };
 use std::cmp::Ordering;
 use std::test::*;
 
-const KINDS: [ValueKind; 4] = [
-    ValueKind::Bigint,
-    ValueKind::Boolean,
-    ValueKind::Text,
-    ValueKind::Bigint,
+/// Kinds and fields, and what they stand for.
+const FIELDS: &str = "\
+bigint -9223372036854775808 => Some(Bigint(-9223372036854775808))
+bigint 9223372036854775807 => Some(Bigint(9223372036854775807))
+int8 9223372036854775808 => None
+bigint +007 => Some(Bigint(7))
+bigint -0 => Some(Bigint(0))
+bigint  => None
+bigint - => None
+bigint  7 => None
+bigint 7  => None
+bigint +-7 => None
+bigint \\N => Some(Null)
+boolean TruE => Some(Boolean(true))
+bool t => Some(Boolean(true))
+boolean FALSE => Some(Boolean(false))
+boolean F => Some(Boolean(false))
+boolean  => None
+boolean 1 => None
+boolean \\N => Some(Null)
+text \\N => Some(Null)
+text n => Some(Text(\"n\"))
+text  => Some(Text(\"\"))
+text  '=1 => Some(Text(\" '=1\"))
+text a\0 => None
+varchar a => no kind";
+
+/// What a field stands for.
+fn field(rt: HostRuntime, case: &str) -> Result<String, Fail> {
+    let (word, field) = case.split_once(' ').ok_or("no field")?;
+    match ValueKind::named(word) {
+        Some(kind) => Ok(format!(in rt.alloc(); "{:?}", read_value(field.as_bytes(), kind))?),
+        None => Ok(String::from_str(rt.alloc(), "no kind")?),
+    }
+}
+
+#[test]
+fn fields_are_read(rt: HostRuntime) -> Result<(), Fail> {
+    for line in FIELDS.lines() {
+        let (case, want) = line.split_once(" => ").ok_or("no case")?;
+        assert!(rt; field(rt, case)?.as_str() == want, "{line}");
+    }
+    Ok(())
+}
+
+#[test]
+fn texts_are_utf8_of_255_bytes(rt: HostRuntime) {
+    let long = [b'x'; 256];
+    assert!(rt; read_value(&long[..255], ValueKind::Text).is_some());
+    assert!(rt; read_value(&long, ValueKind::Text).is_none());
+    assert!(rt; read_value(b"\xc3", ValueKind::Text).is_none());
+    assert!(rt; read_value(b"\xc3\xa9", ValueKind::Text) == Some(Value::Text("\u{e9}")));
+}
+
+/// Columns and fields, and the bytes of their row, or why there are none.
+const ROWS: &str = "\
+c text,d bigint|oslo,+7 => 016f736c6f00018000000000000007
+c boolean,d boolean,e boolean|\\N,F,true => 0201000101
+c bigint,d bigint|0,-1 => 018000000000000000017fffffffffffffff
+c bigint|-9223372036854775808 => 010000000000000000
+c bigint|9223372036854775807 => 01ffffffffffffffff
+c text|ab => 01616200
+c text| => 0100
+c text,d bigint|oslo => WrongWidth
+c text,d bigint|\0 => WrongWidth
+c text,d bigint|\0,x,7 => WrongWidth
+c text,d bigint|\0,7a => BadField { column: 0 }
+c text,d bigint|\\N,7a => BadField { column: 1 }
+c text,d bigint|oslo, => BadField { column: 1 }
+c bigint|a,b => WrongWidth";
+
+/// The bytes of a row, and its values again.
+fn packed(rt: HostRuntime, case: &str) -> Result<String, Fail> {
+    let (columns, row) = case.split_once('|').ok_or("no row")?;
+    let schema = Schema::parse(rt.alloc(), columns)?;
+    let mut fields = Vec::new(rt.alloc());
+    for field in row.split(',') {
+        fields.push(field.as_bytes())?;
+    }
+    match pack_row(rt.alloc(), &schema, &fields) {
+        Ok(bytes) => Ok(encode(rt.alloc(), bytes.as_slice())?),
+        Err(error) => Ok(format!(in rt.alloc(); "{error:?}")?),
+    }
+}
+
+#[test]
+fn rows_are_packed(rt: HostRuntime) -> Result<(), Fail> {
+    for line in ROWS.lines() {
+        let (case, want) = line.split_once(" => ").ok_or("no case")?;
+        assert!(rt; packed(rt, case)?.as_str() == want, "{line}");
+    }
+    Ok(())
+}
+
+/// Columns and bytes, and the values of the row whose packing they are.
+const PACKINGS: &str = "\
+c text,d bigint|016f736c6f00018000000000000007 => [Text(\"oslo\"), Bigint(7)]
+c boolean,d boolean,e boolean|0201000101 => [Null, Boolean(false), Boolean(true)]
+c bigint|010000000000000000 => [Bigint(-9223372036854775808)]
+c text|0100 => [Text(\"\")]
+c text| => BadPacked
+c text|00 => BadPacked
+c text|03 => BadPacked
+c text|01 => BadPacked
+c text|016162 => BadPacked
+c text|015c4e00 => BadPacked
+c text|01ff00 => BadPacked
+c text|0161620002 => BadPacked
+c boolean|01 => BadPacked
+c boolean|0102 => BadPacked
+c bigint|0180000000000000 => BadPacked
+c bigint,d text|02 => BadPacked
+c bigint,d text|0161620002 => BadPacked";
+
+/// The values of a row of these bytes, which are those of a key too.
+fn unpacked(rt: HostRuntime, case: &str) -> Result<String, Fail> {
+    let (columns, text) = case.split_once('|').ok_or("no bytes")?;
+    let schema = Schema::parse(rt.alloc(), columns)?;
+    let bytes = decode(rt.alloc(), text)?;
+    match unpack_row(rt.alloc(), &schema, &bytes) {
+        Ok(row) => Ok(format!(in rt.alloc(); "{row:?}")?),
+        Err(error) => Ok(format!(in rt.alloc(); "{error:?}")?),
+    }
+}
+
+#[test]
+fn rows_are_unpacked(rt: HostRuntime) -> Result<(), Fail> {
+    for line in PACKINGS.lines() {
+        let (case, want) = line.split_once(" => ").ok_or("no case")?;
+        assert!(rt; unpacked(rt, case)?.as_str() == want, "{line}");
+    }
+    Ok(())
+}
+
+#[test]
+fn keys_are_packed_and_unpacked(rt: HostRuntime) -> Result<(), Fail> {
+    let key = [Value::Text("ab"), Value::Null];
+    let bytes = pack_key(rt.alloc(), &key)?;
+    let mut together = Vec::new(rt.alloc());
+    for value in key {
+        pack_value(&mut together, value)?;
+    }
+    assert!(rt; bytes.as_slice() == together.as_slice());
+    let kinds = [ValueKind::Text, ValueKind::Bigint];
+    assert!(rt; unpack_key(rt.alloc(), &kinds, &bytes)?.as_slice() == key.as_slice());
+    Ok(())
+}
+
+/// Bytes, and what a vector holds that serves for each of them in turn.
+const IN_TURN: &str = "\
+0202 => [Null, Null]
+0201 => BadPacked
+01616200018000000000000000 => [Text(\"ab\"), Bigint(0)]
+020202 => BadPacked
+010002 => [Text(\"\"), Null]";
+
+#[test]
+fn one_vector_serves_for_many_keys(rt: HostRuntime) -> Result<(), Fail> {
+    let kinds = [ValueKind::Text, ValueKind::Bigint];
+    let mut all = Vec::new(rt.alloc());
+    for line in IN_TURN.lines() {
+        let (text, want) = line.split_once(" => ").ok_or("no case")?;
+        all.push((decode(rt.alloc(), text)?, want))?;
+    }
+    let mut found = Vec::new(rt.alloc());
+    for (bytes, want) in &all {
+        let told = match unpack_into(&kinds, bytes, &mut found) {
+            Ok(()) => format!(in rt.alloc(); "{found:?}")?,
+            Err(error) => format!(in rt.alloc(); "{error:?}")?,
+        };
+        assert!(rt; told.as_str() == *want, "{want}");
+    }
+    Ok(())
+}
+
+/// Values of all kinds, from the least on.
+const RISING: [Value<'static>; 8] = [
+    Value::Bigint(i64::MIN),
+    Value::Bigint(-1),
+    Value::Bigint(i64::MAX),
+    Value::Boolean(false),
+    Value::Boolean(true),
+    Value::Text("a"),
+    Value::Text("ab"),
+    Value::Null,
 ];
 
-fn packs(rt: HostRuntime, value: Value, bytes: &[u8]) -> Result<bool, Fail> {
-    let packed = pack_key(rt.alloc(), &[value])?;
-    Ok(packed.as_slice() == bytes)
-}
-
 #[test]
-fn values_are_packed(rt: HostRuntime) -> Result<(), Fail> {
-    assert!(rt; packs(rt, Value::Bigint(0), b"\x01\x80\0\0\0\0\0\0\0")?);
-    assert!(rt;
-        packs(
-            rt,
-            Value::Bigint(-1),
-            b"\x01\x7f\xff\xff\xff\xff\xff\xff\xff"
-        )?
-    );
-    assert!(rt; packs(rt, Value::Text("ab"), b"\x01\x61\x62\0")?);
-    assert!(rt; packs(rt, Value::Boolean(true), b"\x01\x01")?);
-    assert!(rt; packs(rt, Value::Null, b"\x02")?);
-    Ok(())
-}
-
-#[test]
-fn a_key_is_unpacked(rt: HostRuntime) -> Result<(), Fail> {
-    let key = [
-        Value::Bigint(-1),
-        Value::Boolean(true),
-        Value::Text("ab"),
-        Value::Null,
-    ];
-    let bytes = pack_key(rt.alloc(), &key)?;
-    let again = unpack_key(rt.alloc(), &KINDS, &bytes)
-        .ok()
-        .ok_or("it is a packed key")?;
-    assert!(rt; again.as_slice() == key.as_slice());
-    assert!(rt; same(&again, &key));
-    assert!(rt; compare(&again, &[Value::Bigint(0)]) == Ordering::Less);
-    let short = unpack_key(rt.alloc(), &KINDS[..3], &bytes);
-    assert!(rt; matches!(short, Err(RowError::BadPacked)));
-    Ok(())
-}
-
-#[test]
-fn a_row_is_packed(rt: HostRuntime) -> Result<(), Fail> {
-    let schema = Schema::parse(rt.alloc(), "c text, d bigint")?;
-    let bytes = pack_row(rt.alloc(), &schema, &[b"oslo", b"+7"])
-        .ok()
-        .ok_or("the fields are a row")?;
-    assert!(rt; bytes.as_slice() == b"\x01oslo\0\x01\x80\0\0\0\0\0\0\x07".as_slice());
-    let row = unpack_row(rt.alloc(), &schema, &bytes)
-        .ok()
-        .ok_or("it is a packed row")?;
-    assert!(rt; row.as_slice() == [Value::Text("oslo"), Value::Bigint(7)].as_slice());
-    let narrow = pack_row(rt.alloc(), &schema, &[b"oslo"]);
-    assert!(rt; matches!(narrow, Err(RowError::WrongWidth)));
-    let bad = pack_row(rt.alloc(), &schema, &[b"\\N", b"7a"]);
-    assert!(rt; matches!(bad, Err(RowError::BadField { column: 1 })));
-    Ok(())
-}
-
-#[test]
-fn a_schema_is_read_and_printed(rt: HostRuntime) -> Result<(), Fail> {
-    let schema = Schema::parse(rt.alloc(), "C\tText ,d int8,\n_e1 BOOL")?;
-    assert!(rt; schema.print()?.as_str() == "c text, d bigint, _e1 boolean");
-    assert!(rt; schema.try_clone()?.print()?.as_str() == "c text, d bigint, _e1 boolean");
-    assert_eq!(rt; schema.width(), 3);
-    assert_eq!(rt; schema.name(1), "d");
-    assert_eq!(rt; schema.kind(0), ValueKind::Text);
-    assert_eq!(rt; schema.place("d"), Some(1));
-    assert_eq!(rt; schema.place("D"), None);
-    assert!(rt;
-        schema.kinds() == [ValueKind::Text, ValueKind::Bigint, ValueKind::Boolean].as_slice()
-    );
-    Ok(())
-}
-
-/// A schema's text of so many columns, `c0 text, c1 text` and so on.
-fn wide(rt: HostRuntime, columns: u32) -> Result<String, Fail> {
-    let mut text = String::new(rt.alloc());
-    for column in 0..columns {
-        let comma = if column == 0 { "" } else { ", " };
-        text.push_str(&format!(in rt.alloc(); "{comma}c{column} text")?)?;
+fn values_are_in_order(rt: HostRuntime) {
+    for (i, x) in RISING.iter().enumerate() {
+        for (j, y) in RISING.iter().enumerate() {
+            assert!(rt; compare(&[*x], &[*y]) == i.cmp(&j) && same(&[*x], &[*y]) == (i == j));
+        }
+        assert!(rt; compare(&[*x], &[*x, Value::Null]) == Ordering::Less);
+        assert!(rt; compare(&[*x, Value::Null], &[*x, Value::Bigint(0)]) == Ordering::Greater);
     }
-    Ok(text)
-}
-
-#[test]
-fn other_texts_are_no_schemas(rt: HostRuntime) -> Result<(), Fail> {
-    let bad = [
-        "",
-        " ",
-        "c",
-        "c text,",
-        ", c text",
-        "c text d text",
-        "c text;",
-        "c text, c bigint",
-        "c text, C bigint",
-        "c varchar",
-        "c text(5)",
-        "1c text",
-        "'c' text",
-        "select text",
-        "c bigint, order text",
-        "c text, d bigint?",
-        "c text, d 9223372036854775808",
-        "na\u{ef}ve text",
-    ];
-    for text in bad {
-        let read = Schema::parse(rt.alloc(), text);
-        assert!(rt; matches!(read, Err(RowError::BadSchema)), "at {text}");
-    }
-    let widest = Schema::parse(rt.alloc(), wide(rt, 32)?.as_str())?;
-    assert_eq!(rt; widest.width(), 32);
-    let too_wide = Schema::parse(rt.alloc(), wide(rt, 33)?.as_str());
-    assert!(rt; matches!(too_wide, Err(RowError::BadSchema)));
-    Ok(())
-}
-
-#[test]
-fn fields_are_read(rt: HostRuntime) {
-    assert!(rt;
-        read_value(b"-9223372036854775808", ValueKind::Bigint) == Some(Value::Bigint(i64::MIN))
-    );
-    assert!(rt; read_value(b"9223372036854775808", ValueKind::Bigint) == None);
-    assert!(rt; read_value(b"TruE", ValueKind::Boolean) == Some(Value::Boolean(true)));
-    assert!(rt; read_value(b"\\N", ValueKind::Text) == Some(Value::Null));
-    assert!(rt; read_value(b"", ValueKind::Text) == Some(Value::Text("")));
-    assert!(rt; read_value(b"a\0", ValueKind::Text) == None);
 }
