@@ -6,6 +6,7 @@ pub mod KeyLaws
 pub mod AggregateLaws
 pub mod CombiningLaws
 pub mod EarlyLaws
+pub mod UnionLaws
 pub mod ConditionLaws
 pub mod PartLaws
 pub mod TransitionLaws

@@ -3,16 +3,17 @@
 
 pub mod limits;
 
-ghost use Rattle.std.specs.Prelude.{◌≡◌, ◌+◌, ◌<◌, ◌≤◌, ◌≤ℤ◌, ◌↔◌, ℕ, ℤ, Bool, IsSome, IsTrue, ◌≢◌, FitsSigned, List, Contains, [], ◌∷◌, pos, negsuc, ◌||◌, ◌++◌, true, false, codes, if◌then◌else◌};
+ghost use Rattle.std.specs.Prelude.{◌≡◌, ◌-◌, nat_lt, filter, ◌+◌, ◌<◌, ◌≤◌, ◌≤ℤ◌, ◌↔◌, ℕ, ℤ, Bool, IsSome, IsTrue, ◌≢◌, FitsSigned, List, Contains, [], ◌∷◌, pos, negsuc, ◌||◌, ◌++◌, true, false, codes, if◌then◌else◌};
 ghost use Rattle.std.specs.Int.{w64};
 ghost use Rattle.std.specs.Ordering.{eq_by_cmp, nat_cmp};
+ghost use Rattle.std.specs.List.{flat_map};
 ghost use Rattle.std.specs.List.Sorted.{IsStrictlySortedBy};
 ghost use Rattle.grouping_model.specs.Query.{Query, Aggregate};
 ghost use Rattle.grouping_model.specs.Grouping.{argument, arguments, selected, key_of, keys, group, partials, column_of, part};
 ghost use Rattle.grouping_model.specs.Parts.{keys_of, partials_at, combine_parts, with_row, answer_of};
-ghost use Rattle.grouping_model.specs.Rising.{put, is_among};
+ghost use Rattle.grouping_model.specs.Rising.{put, distinct, is_among};
 ghost use Rattle.grouping_model.specs.Combining.{combine, transition};
-ghost use Rattle.grouping_model.specs.World.{World, Batch, Knowledge, batch_cmp, knowing, nothing, knows, learn, union, IsUnbroken, prefix, early, origins};
+ghost use Rattle.grouping_model.specs.World.{World, Batch, Knowledge, batch_cmp, knowing, nothing, knows, learn, union, IsUnbroken, prefix, early, origins, count_up, batch_rows, origin_rows};
 ghost use Rattle.std.specs.Cmp.{IsTotalOrder};
 ghost use Rattle.std.specs.declared.cmp.Ordering.TheVariants.{Less};
 ghost use Rattle.grouping_model.specs.Condition.{Truth, Unknown, Comparison, truth_not, truth_and, truth_or, outcome_cmp, compared, truth, as_outcome, is_met};
@@ -48,6 +49,30 @@ pub fn answers_of_the_known()
         ((origin number : ℕ) → IsTrue (knows knowledge (origin, number)) →
         world origin number ≡ other origin number) →
         answer query world knowledge ≡ answer query other knowledge }
+{}
+
+/// What a union tells. An origin's prefix is no shorter than on either side: it reaches over what either side knows behind both
+/// prefixes, up to the first number that neither knows. Its early numbers are those of either side above that prefix, its rows
+/// those of a side and of the batches that follow, and the origins are those of either side.
+pub fn united_prefixes()
+    ensures longer { (a b : Knowledge) (origin : ℕ) →
+        (prefix a origin ≤ prefix (union a b) origin)
+        × (prefix b origin ≤ prefix (union a b) origin) }
+    ensures prefix { (a b : Knowledge) (origin upto : ℕ) → prefix a origin ≤ upto →
+        prefix b origin ≤ upto →
+        ((number : ℕ) → prefix a origin < number → prefix b origin < number → number ≤ upto →
+        IsTrue (knows a (origin, number) || knows b (origin, number))) →
+        (knows a (origin, upto + 1) || knows b (origin, upto + 1)) ≡ false →
+        prefix (union a b) origin ≡ upto }
+    ensures early { (a b : Knowledge) (origin : ℕ) →
+        early (union a b) origin ≡ filter (nat_lt (prefix (union a b) origin))
+        (distinct nat_cmp (early a origin ++ early b origin)) }
+    ensures rows { (world : World) (a b : Knowledge) (origin : ℕ) →
+        origin_rows world (union a b) origin ≡ origin_rows world a origin
+        ++ flat_map (batch_rows world origin)
+        (count_up (prefix a origin + 1) (prefix (union a b) origin - prefix a origin)) }
+    ensures origins { (a b : Knowledge) →
+        origins (union a b) ≡ distinct nat_cmp (origins a ++ origins b) }
 {}
 
 /// The unbroken prefix of an origin: all batches up to it are known, and it is the largest such number.

@@ -4,3 +4,4 @@ pub mod KeyLaws
 pub mod MergeLaws
 pub mod InputLaws
 pub mod WholeLaws
+pub mod BytesLaws

@@ -1,7 +1,8 @@
 -- What is aggregated. All of this is our own.
-use Rattle.std.specs.Prelude.{◌≡◌, ℕ, List, [], ◌∷◌, map, flat_map, length, sum_by}
+use Rattle.std.specs.Prelude.{◌≡◌, ℕ, ◌≤◌, List, [], ◌∷◌, map, flat_map, length, sum_by}
 use Rattle.std.specs.List.{AllByRecursion}
-use Rattle.grouping_model.specs.Datum.{Row, Kind, HasKinds}
+use Rattle.grouping_model.specs.Datum.{Row, Kind, HasKinds, row_cmp}
+use Rattle.grouping_model.specs.Rising.{distinct}
 use Rattle.grouping_model.specs.Query.{Query}
 use Rattle.grouping_model.specs.Grouping.{part, selected, key_of}
 use Rattle.packed_rows.specs.Packing.{packing}
@@ -9,7 +10,7 @@ use Rattle.packed_rows.specs.View.{bytes_of}
 use Rattle.having_filter.specs.Kept.{key_kinds}
 use Rattle.hash_agg.specs.declared.input.Input.{Input}
 use Rattle.hash_agg.specs.declared.input.Input.TheVariants.{Rows, Groups}
-use Rattle.hash_agg.specs.Runs.{packed_keys}
+use Rattle.hash_agg.specs.Runs.{Entry, packed_keys}
 use Rattle.hash_agg.specs.Standing.{AreGroups, IsRun}
 
 -- the members of some lists of rows, one list after the other
@@ -56,3 +57,11 @@ abbrev pub AllBring : Query → List Input → List (List Row) → Type 0
 AllBring query [] [] = Unit {0}
 AllBring query (input ∷ inputs) (keys ∷ lists) = Brings query input keys × AllBring query inputs lists
 AllBring query inputs lists = ⊥
+
+-- what aggregation gives of inputs: over lists of rows the groups of all of them on end; for all inputs the keys that they bring,
+-- each once and rising, and states that count at most as many rows as there are
+pub record IsAggregate (query : Query) (inputs : List Input) (run : List Entry) : Type 0 where
+  pub part : (lists : List (List Row)) → AreInputsOf query inputs lists → AreGroups query (all_rows inputs) run (part query (on_end lists))
+  pub keys : (lists : List (List Row)) → AllBring query inputs lists → packed_keys run ≡ map packing (distinct row_cmp (on_end lists))
+  pub few : (lists : List (List Row)) → AllBring query inputs lists → length run ≤ length (on_end lists)
+  pub is_run : IsRun query (all_rows inputs) run

@@ -3,3 +3,4 @@ pub mod Standing
 pub mod Inputs
 pub mod Adding
 pub mod Steps
+pub mod Bytes

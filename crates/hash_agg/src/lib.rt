@@ -4,10 +4,12 @@
 mod aggregation;
 mod groups;
 mod input;
+mod laws;
 mod run;
 mod states;
 
 pub use aggregation::aggregate;
 pub use input::Input;
+pub use laws::one_run;
 pub use run::Run;
 pub use states::first_states;

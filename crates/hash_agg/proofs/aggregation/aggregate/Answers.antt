@@ -1,4 +1,4 @@
-use Rattle.std.specs.Prelude.{◌≡◌, ◌+◌, ◌<◌, ◌^◌, ℕ, [], take, sum_by}
+use Rattle.std.specs.Prelude.{◌≡◌, ◌+◌, ◌<◌, ◌^◌, ℕ, List, [], take, sum_by}
 use Rattle.std.proofs.Common.{sym, ◌∙◌, ap, subst, arith}
 use Rattle.std.proofs.lemmas.List.Sums.{sum_by_more, sum_by_more_le}
 use Rattle.grouping_model.specs.Query.{Query}
@@ -7,8 +7,8 @@ use Rattle.having_filter.specs.Meaning.{meaning}
 use Rattle.hash_agg.specs.Runs.{packed_keys, Rises}
 use Rattle.hash_agg.specs.Standing.{AreGroups}
 use Rattle.hash_agg.specs.Inputs.{rows_in, all_rows, on_end}
-use Rattle.hash_agg.specs.Adding.{all_added}
-use Rattle.hash_agg.proofs.KeyLaws.{if_ok, if_ok_both}
+use Rattle.hash_agg.specs.Adding.{Given, AllGive, all_added}
+use Rattle.hash_agg.proofs.KeyLaws.{if_ok_both}
 use Rattle.hash_agg.proofs.InputLaws.{take_found}
 use Rattle.hash_agg.proofs.WholeLaws.{all_given, given_at, all_added_more, lists_give, keys_give, keys_are, keys_few, whole_run}
 use Rattle.hash_agg.proofs.aggregation.aggregate.Goals as goal
@@ -40,51 +40,33 @@ loop-input-preserved c =
     (subst (AreGroups q (sum_by rows_in (take i inputs) + rows_in c.input-item.result) c.add_input.new.self) (sym (ap (all_added q []) (take_found givens i found.given found.at) ∙ all_added_more q [] (take i givens) found.given))
     (c.in_ok-add_input.ensures (sum_by rows_in (take i inputs)) (all_added q [] (take i givens)) found.given (omega (arith, one, within, few)) (c.loop-input.invariant givens all) found.gives))
 
-pub returns-clause-part : goal.returns-clause-part
-returns-clause-part c =
+pub returns : goal.returns
+returns c =
     let q : Query = meaning c.args.query.now in
-    if_ok c.into_run.result (λ run. run ≡ c.loop-input.groups) _
-    (λ run same lists are.
-    let give = lists_give q c.args.inputs.now lists [] are in
-    subst (λ run. AreGroups q (all_rows c.args.inputs.now) run (part q (on_end lists))) (sym same)
-    (subst (AreGroups q (all_rows c.args.inputs.now) c.loop-input.groups) give.added
-    (whole_run q c.args.inputs.now give.givens c.loop-input.input-index c.loop-input.groups c.loop-input-test.false give.give (c.loop-input.invariant give.givens give.give))))
-    c.into_run.ensures.groups
-
-pub returns-clause-keys : goal.returns-clause-keys
-returns-clause-keys c =
-    let q : Query = meaning c.args.query.now in
-    if_ok c.into_run.result (λ run. run ≡ c.loop-input.groups) _
-    (λ run same lists bring.
-    let give = keys_give q c.args.inputs.now lists c.requires.inputs bring in
-    ap packed_keys same
-    ∙ keys_are q (all_rows c.args.inputs.now) c.loop-input.groups (all_added q [] give.givens) (on_end lists)
-    (whole_run q c.args.inputs.now give.givens c.loop-input.input-index c.loop-input.groups c.loop-input-test.false give.give (c.loop-input.invariant give.givens give.give)) (give.added []))
-    c.into_run.ensures.groups
-
-pub returns-clause-few : goal.returns-clause-few
-returns-clause-few c =
-    let q : Query = meaning c.args.query.now in
-    if_ok c.into_run.result (λ run. run ≡ c.loop-input.groups) _
-    (λ run same lists bring.
-    let give = keys_give q c.args.inputs.now lists c.requires.inputs bring in
-    keys_few run (on_end lists)
-    (ap packed_keys same
-    ∙ keys_are q (all_rows c.args.inputs.now) c.loop-input.groups (all_added q [] give.givens) (on_end lists)
-    (whole_run q c.args.inputs.now give.givens c.loop-input.input-index c.loop-input.groups c.loop-input-test.false give.give (c.loop-input.invariant give.givens give.give)) (give.added [])))
-    c.into_run.ensures.groups
-
-pub returns-clause-run : goal.returns-clause-run
-returns-clause-run c =
-    let q : Query = meaning c.args.query.now in
-    let given = all_given q c.args.inputs.now c.requires.inputs in
+    let inputs = c.args.inputs.now in
+    let given = all_given q inputs c.requires.inputs in
+    let whole : (givens : List Given) → AllGive q inputs givens → AreGroups q (all_rows inputs) c.loop-input.groups (all_added q [] givens) = λ givens give.
+    whole_run q inputs givens c.loop-input.input-index c.loop-input.groups c.loop-input-test.false give (c.loop-input.invariant givens give) in
     if_ok_both c.into_run.result (λ run. run ≡ c.loop-input.groups) Rises _
     (λ run same rises.
     record {
-      groups = all_added q [] given.0;
-      are =
-          subst (λ run. AreGroups q (all_rows c.args.inputs.now) run (all_added q [] given.0)) (sym same)
-          (whole_run q c.args.inputs.now given.0 c.loop-input.input-index c.loop-input.groups c.loop-input-test.false given.1 (c.loop-input.invariant given.0 given.1));
-      rises = rises;
+      part = λ lists are.
+          let give = lists_give q inputs lists [] are in
+          subst (λ run. AreGroups q (all_rows inputs) run (part q (on_end lists))) (sym same)
+          (subst (AreGroups q (all_rows inputs) c.loop-input.groups) give.added (whole give.givens give.give));
+      keys = λ lists bring.
+          let give = keys_give q inputs lists c.requires.inputs bring in
+          ap packed_keys same
+          ∙ keys_are q (all_rows inputs) c.loop-input.groups (all_added q [] give.givens) (on_end lists) (whole give.givens give.give) (give.added []);
+      few = λ lists bring.
+          let give = keys_give q inputs lists c.requires.inputs bring in
+          keys_few run (on_end lists)
+          (ap packed_keys same
+          ∙ keys_are q (all_rows inputs) c.loop-input.groups (all_added q [] give.givens) (on_end lists) (whole give.givens give.give) (give.added []));
+      is_run = record {
+        groups = all_added q [] given.0;
+        are = subst (λ run. AreGroups q (all_rows inputs) run (all_added q [] given.0)) (sym same) (whole given.0 given.1);
+        rises = rises;
+      };
     })
     c.into_run.ensures.groups c.into_run.ensures.rises

@@ -1,0 +1,95 @@
+-- What stands for groups is their bytes.
+use Rattle.std.specs.Prelude.{◌≡◌, refl, ℕ, List, [], ◌∷◌, ◌++◌, map, take, drop}
+use Rattle.std.proofs.Common.{sym, ◌∙◌, ap, subst}
+use Rattle.std.proofs.lemmas.List.{take-append-drop}
+use Rattle.std.specs.List.{AllByRecursion}
+use Rattle.grouping_model.specs.Aggregates as model
+use Rattle.grouping_model.specs.Aggregates.{Function, Partial}
+use Rattle.grouping_model.specs.Query.{Query}
+use Rattle.grouping_model.specs.Grouping.{Group}
+use Rattle.grouping_model.specs.Parts.{functions}
+use Rattle.agg_protocol.specs.States as states
+use Rattle.agg_protocol.specs.States.{IsState, shape_of, bytes_of}
+use Rattle.agg_library.specs.declared.kind.AggKind.{AggKind}
+use Rattle.agg_library.specs.declared.kind.AggKind.TheVariants as kind
+use Rattle.agg_library.specs.Kinds.{function_of, functions_of, kind_shape, kind_width}
+use Rattle.agg_library.specs.StateRows.{Denotes}
+use Rattle.hash_agg.specs.Bytes.{state_bytes, group_bytes, run_bytes, ArePartials, IsGroupOf}
+use Rattle.hash_agg.specs.Runs.{Entry}
+use Rattle.hash_agg.specs.Standing.{AreStates, StandsFor, AreGroups}
+use Rattle.hash_agg.proofs.StateLaws.{joined}
+
+-- states are the bytes of their partial results
+states_bytes : (m : ℕ) (kinds : List AggKind) (bytes : List ℕ) (ps : List Partial) → Denotes m kinds bytes ps → (bytes ≡ state_bytes ps) × ArePartials m (functions_of kinds) ps
+states_bytes m [] bytes [] d = (d, tt)
+states_bytes m [] bytes (p ∷ ps) d = absurd d
+states_bytes m (k ∷ ks) bytes [] d = absurd d
+states_bytes m (k ∷ ks) bytes (p ∷ ps) (first, rest) =
+    let more = states_bytes m ks (drop (kind_width k) bytes) ps rest in
+    (sym (take-append-drop (kind_width k) bytes) ∙ (λ i. first.1 i ++ more.0 i), (first.0, more.1))
+
+-- the kind that names a function
+kind_for : Function → AggKind
+kind_for model.Count_rows = kind.CountRows
+kind_for model.Count = kind.Count
+kind_for model.Sum = kind.Sum
+kind_for model.Min = kind.Min
+kind_for model.Max = kind.Max
+kind_for model.Bit_and = kind.BitAnd
+kind_for model.Bit_or = kind.BitOr
+kind_for model.Bit_xor = kind.BitXor
+kind_for model.Bool_and = kind.BoolAnd
+kind_for model.Bool_or = kind.BoolOr
+kind_for model.Every = kind.Every
+
+names_it : (f : Function) → function_of (kind_for f) ≡ f
+unfolding kind_for
+names_it model.Count_rows = refl
+names_it model.Count = refl
+names_it model.Sum = refl
+names_it model.Min = refl
+names_it model.Max = refl
+names_it model.Bit_and = refl
+names_it model.Bit_or = refl
+names_it model.Bit_xor = refl
+names_it model.Bool_and = refl
+names_it model.Bool_or = refl
+names_it model.Every = refl
+
+name_all : (fs : List Function) → functions_of (map kind_for fs) ≡ fs
+name_all [] = refl
+name_all (f ∷ fs) = λ i. names_it f i ∷ name_all fs i
+
+bytes_states : (m : ℕ) (fs : List Function) (ps : List Partial) → ArePartials m fs ps → Denotes m (map kind_for fs) (state_bytes ps) ps
+bytes_states m [] [] all = refl
+bytes_states m [] (p ∷ ps) all = absurd all
+bytes_states m (f ∷ fs) [] all = absurd all
+bytes_states m (f ∷ fs) (p ∷ ps) (one, all) =
+    joined m (kind_for f) (kind_for f ∷ map kind_for fs) (map kind_for fs) (bytes_of p) (state_bytes ps) p ps refl
+    (subst (λ g. IsState m (shape_of g) p) (sym (names_it f)) one, refl) (bytes_states m fs ps all)
+
+one_stands : (query : Query) (most : ℕ) (entry : Entry) (group : Group) → StandsFor query most entry group → (entry ≡ group_bytes group) × IsGroupOf query most group
+one_stands query most entry group stands =
+    let found = states_bytes most stands.states.kinds entry.1 group.1 stands.states.denote in
+    (λ i. (stands.key i, found.0 i), record { key = stands.of_kinds; partials = subst (λ fs. ArePartials most fs group.1) stands.states.named found.1 })
+
+one_spelled : (query : Query) (most : ℕ) (group : Group) → IsGroupOf query most group → StandsFor query most (group_bytes group) group
+one_spelled query most group is =
+    record {
+      key = refl;
+      of_kinds = is.key;
+      states = record { kinds = map kind_for (functions query); named = name_all (functions query); denote = bytes_states most (functions query) group.1 is.partials };
+    }
+
+pub stands_spelled : (query : Query) (most : ℕ) (run : List Entry) (groups : List Group) → AreGroups query most run groups → (run ≡ run_bytes groups) × AllByRecursion (IsGroupOf query most) groups
+stands_spelled query most [] [] are = (refl, tt)
+stands_spelled query most [] (group ∷ groups) are = absurd are
+stands_spelled query most (entry ∷ run) [] are = absurd are
+stands_spelled query most (entry ∷ run) (group ∷ groups) (one, are) =
+    let first = one_stands query most entry group one in
+    let rest = stands_spelled query most run groups are in
+    (λ i. first.0 i ∷ rest.0 i, (first.1, rest.1))
+
+pub spelled_stands : (query : Query) (most : ℕ) (groups : List Group) → AllByRecursion (IsGroupOf query most) groups → AreGroups query most (run_bytes groups) groups
+spelled_stands query most [] all = tt
+spelled_stands query most (group ∷ groups) (one, all) = (one_spelled query most group one, spelled_stands query most groups all)

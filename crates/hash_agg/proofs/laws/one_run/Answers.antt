@@ -1,0 +1,11 @@
+use Rattle.std.specs.Prelude.{◌≡◌}
+use Rattle.std.proofs.Common.{sym, subst}
+use Rattle.hash_agg.specs.Standing.{AreGroups}
+use Rattle.hash_agg.proofs.BytesLaws.{stands_spelled, spelled_stands}
+use Rattle.hash_agg.proofs.laws.one_run.Goals as goal
+
+pub returns : goal.returns
+returns c = λ query most run groups. (
+  stands_spelled query most run groups,
+  λ (is, all). subst (λ entries. AreGroups query most entries groups) (sym is) (spelled_stands query most groups all),
+)
