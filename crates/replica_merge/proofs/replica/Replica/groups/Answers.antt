@@ -6,7 +6,7 @@ use Rattle.grouping_model.specs.World.{count_up}
 use Rattle.grouping_model.specs.Query.{Query}
 use Rattle.packed_rows.specs.Columns.{kinds}
 use Rattle.having_filter.specs.Meaning.{meaning}
-use Rattle.hash_agg.specs.Inputs.{IsInput, all_rows}
+use Rattle.hash_agg.specs.Inputs.{IsInput, IsAggregate, all_rows}
 use Rattle.hash_agg.proofs.KeyLaws.{if_ok}
 use Rattle.replica_merge.specs.declared.replica.TheConstants.{ORIGINS}
 use Rattle.replica_merge.specs.Kept.{Held, origin_packings, known_packings}
@@ -60,9 +60,9 @@ returns c =
     let all : flat_map (origin_packings c.args.self.now.kept) (count_up 0 n) ≡ known_packings c.args.self.now.kept =
     ap (λ n. flat_map (origin_packings c.args.self.now.kept) (count_up 0 n)) end
     ∙ subst (λ (h : Held). flat_map (origin_packings h.kept) (count_up 0 ORIGINS) ≡ known_packings h.kept) c.self.view_is (all_origins c.self.inside.batches.entries c.self.invariant.numbered) in
-    if_ok c.aggregate.result (λ run. PartOf (meaning c.self.inside.query) run c.deref.result.now) (IsRunOf q (known_packings c.args.self.now.kept))
-    (λ run part.
+    if_ok c.aggregate.result (IsAggregate (meaning c.self.inside.query) c.deref.result.now) (IsRunOf q (known_packings c.args.self.now.kept))
+    (λ run given.
     subst (λ packed. IsRunOf q packed run) all
     (run_of q c.loop-origin.inputs.items _ run c.loop-origin.invariant bounded
-    (subst (λ (h : Held). PartOf (meaning h.query) run c.loop-origin.inputs.items) c.self.view_is (subst (PartOf (meaning c.self.inside.query) run) c.deref.ensures.value part))))
-    c.aggregate.ensures.part
+    (subst (λ (h : Held). PartOf (meaning h.query) run c.loop-origin.inputs.items) c.self.view_is (subst (PartOf (meaning c.self.inside.query) run) c.deref.ensures.value given.part))))
+    c.aggregate.ensures
