@@ -20,7 +20,7 @@ use Rattle.group_parser.specs.Nots.{nots, negated}
 
 -- ---- NOT
 
-pub after_not : (inner : Inner) (room : ℕ) (ts behind : List Lexeme) → Some behind ≡ after (is_word (codes "not")) ts
+after_not : (inner : Inner) (room : ℕ) (ts behind : List Lexeme) → Some behind ≡ after (is_word (codes "not")) ts
     → not_at inner room ts ≡ (not_at inner room behind >>= λ x. Ok (form.Not x.0, x.1))
 unfolding not_at
 after_not inner room [] behind e = absurd cc
@@ -48,15 +48,15 @@ one_more_not inner room count whole ts behind e f =
 pub one_more_negated : (count : ℕ) (x : Named) → negated (count + 1) x ≡ form.Not (negated count x)
 one_more_negated count x = let n : count + 1 ≡ suc count = omega arith in rw n refl
 
-pub negated_inside : (n : ℕ) (x : Named) → negated n (form.Not x) ≡ form.Not (negated n x)
+negated_inside : (n : ℕ) (x : Named) → negated n (form.Not x) ≡ form.Not (negated n x)
 negated_inside zero x = refl
 negated_inside (suc n) x = ap (λ (y : Named). form.Not y) (negated_inside n x)
 
-pub nots_read : (n : ℕ) (x : Named) (rest : List Lexeme) → nots n (Ok (x, rest)) ≡ Ok (negated n x, rest)
+nots_read : (n : ℕ) (x : Named) (rest : List Lexeme) → nots n (Ok (x, rest)) ≡ Ok (negated n x, rest)
 nots_read zero x rest = refl
 nots_read (suc n) x rest = nots_read n (form.Not x) rest ∙ (let e = negated_inside n x in λ i. Ok (e i, rest))
 
-pub nots_fail : (n : ℕ) (f : Fault) → nots n (Err f) ≡ Err f
+nots_fail : (n : ℕ) (f : Fault) → nots n (Err f) ≡ Err f
 nots_fail zero f = refl
 nots_fail (suc n) f = nots_fail n f
 

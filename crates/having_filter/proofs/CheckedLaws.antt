@@ -10,14 +10,14 @@ use Rattle.having_filter.specs.Forms.{Form, Written}
 use Rattle.having_filter.specs.Reads.{filters_pass}
 use Rattle.having_filter.specs.Checks.{all_of, has_too_many, is_shallow, are_shallow, has_columns, are_plain, is_grouped, placed, checked, checked_places, kinds_fit}
 use Rattle.having_filter.specs.Parts.{IsKept, written_of_parts, checked_of}
-use Rattle.having_filter.specs.Spelling.{spelling}
+use Rattle.having_filter.specs.Spelling.{spelling, canonical_item}
 use Rattle.having_filter.specs.Writable.{IsWritable}
 use Rattle.having_filter.specs.Meaning.{Checked}
 use Rattle.having_filter.specs.declared.plan.Plan.{Plan}
 use Rattle.having_filter.specs.declared.parts.Parts.{Parts}
 use Rattle.having_filter.specs.Plans.{PlansFor}
 use Rattle.having_filter.specs.Kept.{IsQuery, by_names, headers, label_of}
-use Rattle.having_filter.proofs.NormalLaws.{PassesFirst, plain_item, columns_of_query, named_again, reaches_places, spelled_alike, label_twice}
+use Rattle.having_filter.proofs.NormalLaws.{PassesFirst, columns_of_query, named_again, reaches_places, spelled_alike, label_twice}
 use Rattle.having_filter.proofs.WellLaws.{passed_query}
 
 pub gives_too_many : (columns : List Column) (q : Written (List ℕ)) → has_too_many q ≡ true → checked columns q ≡ Err TooMany
@@ -52,11 +52,11 @@ refused_as columns q (Ok x) e failed told = absurd failed
 refused_as columns q (Err x) e failed told = subst (λ y. y ≢ NoMemory → checked columns q ≡ Err y) (sym failed) told
 
 -- the labels of a query's items are those of the checked query
-labels_plain : (items : List (Form (List ℕ) × Option (List ℕ))) → map label_of (map plain_item items) ≡ map label_of items
+labels_plain : (items : List (Form (List ℕ) × Option (List ℕ))) → map label_of (map canonical_item items) ≡ map label_of items
 labels_plain [] = refl
 labels_plain (item ∷ items) = λ i. label_twice item i ∷ labels_plain items i
 
-pub labels_named : (columns : List Column) (q : Written (List ℕ)) → has_columns columns q ≡ true → headers (record { columns = columns; written = placed columns q }) ≡ map label_of q.items
+labels_named : (columns : List Column) (q : Written (List ℕ)) → has_columns columns q ≡ true → headers (record { columns = columns; written = placed columns q }) ≡ map label_of q.items
 labels_named columns q has = ap (λ (r : Written (List ℕ)). map label_of r.items) (named_again columns q (columns_of_query columns q has)) ∙ labels_plain q.items
 
 -- what is kept of a query that passes all checks

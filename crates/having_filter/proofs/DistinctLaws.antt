@@ -14,7 +14,7 @@ pub with_one_there : {A : Type 0} (same : A → A → Bool) (xs : List A) (x : A
 with_one_there same xs x e = rw e refl
 
 -- the same of a list of images
-pub any_mapped : {A B : Type 0} (p : B → Bool) (f : A → B) (xs : List A) → list_any p (map f xs) ≡ list_any (λ x. p (f x)) xs
+any_mapped : {A B : Type 0} (p : B → Bool) (f : A → B) (xs : List A) → list_any p (map f xs) ≡ list_any (λ x. p (f x)) xs
 any_mapped p f [] = refl
 any_mapped p f (x ∷ xs) = rw (any_mapped p f xs) refl
 
@@ -25,7 +25,7 @@ pub image_there : {A B : Type 0} (same : B → B → Bool) (f : A → B) (xs : L
 image_there same f xs x e = with_one_there same (map f xs) (f x) (any_mapped (same (f x)) f xs ∙ e)
 
 -- the members of two lists, one list after the other
-pub with_each_append : {A : Type 0} (same : A → A → Bool) (members xs ys : List A) → with_each same members (xs ++ ys) ≡ with_each same (with_each same members xs) ys
+with_each_append : {A : Type 0} (same : A → A → Bool) (members xs ys : List A) → with_each same members (xs ++ ys) ≡ with_each same (with_each same members xs) ys
 with_each_append same members [] ys = refl
 with_each_append same members (x ∷ xs) ys = with_each_append same (with_one same members x) xs ys
 

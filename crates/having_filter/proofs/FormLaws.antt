@@ -38,7 +38,7 @@ binary_steps v w Conjunction x1 x2 y1 y2 e f = rw (e, f) refl
 binary_steps v w Disjunction x1 x2 y1 y2 e f = rw (e, f) refl
 binary_steps v w (Comparing comparison) x1 x2 y1 y2 e f = rw (e, f) refl
 
-pub read_in_steps : {C Leaf : Type 0} (value : Leaf → Outcome) (leaf : Form C → model.Condition Leaf) (c : Form C) → model.value_of value (condition_by leaf c) ≡ model.value_of (λ x. model.value_of value (leaf x)) (condition_by model.At c)
+read_in_steps : {C Leaf : Type 0} (value : Leaf → Outcome) (leaf : Form C → model.Condition Leaf) (c : Form C) → model.value_of value (condition_by leaf c) ≡ model.value_of (λ x. model.value_of value (leaf x)) (condition_by model.At c)
 read_in_steps value leaf (Column c) = refl
 read_in_steps value leaf (Call function column) = refl
 read_in_steps value leaf (Call_where function column filter) = refl
@@ -53,7 +53,7 @@ met_in_steps value leaf None = refl
 met_in_steps value leaf (Some c) = rw (read_in_steps value leaf (form_of c)) refl
 
 -- the place of a member in a list of images
-pub prefix_len_mapped : {A B : Type 0} (p : B → Bool) (f : A → B) (xs : List A) → prefix_len p (map f xs) ≡ prefix_len (λ x. p (f x)) xs
+prefix_len_mapped : {A B : Type 0} (p : B → Bool) (f : A → B) (xs : List A) → prefix_len p (map f xs) ≡ prefix_len (λ x. p (f x)) xs
 prefix_len_mapped p f [] = refl
 prefix_len_mapped p f (x ∷ xs) = rw (prefix_len_mapped p f xs) refl
 
@@ -78,7 +78,7 @@ column_twice : {B C D : Type 0} (f : B → C) (g : C → D) (column : Option B) 
 column_twice f g None = refl
 column_twice f g (Some c) = refl
 
-pub mapped_twice : {B C D : Type 0} (f : B → C) (g : C → D) (x : Form B) → map_form g (map_form f x) ≡ map_form (λ c. g (f c)) x
+mapped_twice : {B C D : Type 0} (f : B → C) (g : C → D) (x : Form B) → map_form g (map_form f x) ≡ map_form (λ c. g (f c)) x
 mapped_twice f g (Column c) = refl
 mapped_twice f g (Call function column) = ap (Call function) (column_twice f g column)
 mapped_twice f g (Call_where function column filter) = λ i. Call_where function (column_twice f g column i) (mapped_twice f g filter i)

@@ -14,7 +14,7 @@ row_within rows row low =
     omega (arith, low, long)
 
 -- a row that is read
-pub row_is : (rows : List (Vec Cell Global)) (row : ℕ) (cells : Vec Cell Global) → row < length (kept_rows rows) → cells ≡ slice_index_or rows row cells → slice_index_or (kept_rows rows) row [] ≡ map kept_outcome cells.items
+row_is : (rows : List (Vec Cell Global)) (row : ℕ) (cells : Vec Cell Global) → row < length (kept_rows rows) → cells ≡ slice_index_or rows row cells → slice_index_or (kept_rows rows) row [] ≡ map kept_outcome cells.items
 row_is rows row cells low is =
     get_or-map (λ (cells : Vec Cell Global). map kept_outcome cells.items) rows row cells [] (row_within rows row low)
     ∙ ap (λ (cells : Vec Cell Global). map kept_outcome cells.items) (sym is)

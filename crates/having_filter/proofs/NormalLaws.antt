@@ -12,7 +12,7 @@ use Rattle.packed_rows.specs.Columns.{Column, IsColumnName}
 use Rattle.having_filter.specs.Forms.{Form, Written, map_form}
 use Rattle.having_filter.specs.Checks.{all_of, has_too_many, is_shallow, are_shallow, is_column, has_columns, place, placed, checked_places, checked}
 use Rattle.having_filter.specs.Sameness.{first_of_each}
-use Rattle.having_filter.specs.Spelling.{own_name, kept_alias, item_text, spelling}
+use Rattle.having_filter.specs.Spelling.{own_name, kept_alias, item_text, spelling, canonical_item, canonical}
 use Rattle.having_filter.specs.Reads.{calls_in, columns_pass, filters_pass}
 use Rattle.having_filter.specs.Meaning.{distinct_calls}
 use Rattle.having_filter.specs.Writable.{IsItem, IsWritable}
@@ -21,18 +21,12 @@ use Rattle.having_filter.proofs.DistinctLaws.{all_pass, pass_all, all_distinct, 
 use Rattle.having_filter.proofs.FormLaws.{form_back}
 use Rattle.having_filter.proofs.PlaceLaws.{names_back, list_back, distinct_places}
 
--- an item without an alias that is its own name, and a query of such items that has each column of GROUP BY once
-abbrev pub plain_item : Form (List ℕ) × Option (List ℕ) → Form (List ℕ) × Option (List ℕ)
-plain_item item = (item.0, kept_alias (own_name item.0) item.1)
-
+-- an item over the names of columns again, and over their places
 abbrev pub named_item : List Column → Form ℕ × Option (List ℕ) → Form (List ℕ) × Option (List ℕ)
 named_item columns item = (map_form (name_at columns) item.0, item.1)
 
 abbrev pub placed_item : List Column → Form (List ℕ) × Option (List ℕ) → Form ℕ × Option (List ℕ)
 placed_item columns item = (map_form (place columns) item.0, kept_alias (own_name item.0) item.1)
-
-abbrev pub normal : Written (List ℕ) → Written (List ℕ)
-normal q = record { items = map plain_item q.items; condition = q.condition; keys = first_of_each bytes_eq q.keys; having = q.having }
 
 -- an alias is kept once and for all
 keeps : (own alias : List ℕ) (same : Bool) → bytes_eq alias own ≡ same → kept_alias own (kept_alias own (Some alias)) ≡ kept_alias own (Some alias)
@@ -43,7 +37,7 @@ kept_twice : (own : List ℕ) (alias : Option (List ℕ)) → kept_alias own (ke
 kept_twice own None = refl
 kept_twice own (Some alias) = keeps own alias (bytes_eq alias own) refl
 
-pub label_twice : (item : Form (List ℕ) × Option (List ℕ)) → label_of (plain_item item) ≡ label_of item
+pub label_twice : (item : Form (List ℕ) × Option (List ℕ)) → label_of (canonical_item item) ≡ label_of item
 label_twice item = ap (λ (alias : Option (List ℕ)). unwrap_or alias (own_name item.0)) (kept_twice (own_name item.0) item.1)
 
 -- the columns that a query has
@@ -60,14 +54,14 @@ columns_of_query columns q e =
     let clauses = and_parts (option_map_or (columns_pass (is_column columns)) q.condition true) (option_map_or (columns_pass (is_column columns)) q.having true) parts.1 in
     record { items = parts.0; condition = clauses.0; having = clauses.1; keys = all_pass (is_column columns) q.keys whole.1 }
 
--- placed and named again, a query is the normal one
+-- placed and named again, a query is the canonical one
 items_back : (columns : List Column) (items : List (Form (List ℕ) × Option (List ℕ))) → list_all (λ item. columns_pass (is_column columns) item.0) items ≡ true
-    → map (named_item columns) (map (placed_item columns) items) ≡ map plain_item items
+    → map (named_item columns) (map (placed_item columns) items) ≡ map canonical_item items
 items_back columns [] e = refl
 items_back columns (item ∷ items) e =
     let parts = and_parts (columns_pass (is_column columns) item.0) (list_all (λ item. columns_pass (is_column columns) item.0) items) e in
     ap (λ (x : Form (List ℕ)). (x, kept_alias (own_name item.0) item.1) ∷ map (named_item columns) (map (placed_item columns) items)) (form_back (is_column columns) (place columns) (name_at columns) (names_back columns) item.0 parts.0)
-    ∙ ap (λ (rest : List (Form (List ℕ) × Option (List ℕ))). plain_item item ∷ rest) (items_back columns items parts.1)
+    ∙ ap (λ (rest : List (Form (List ℕ) × Option (List ℕ))). canonical_item item ∷ rest) (items_back columns items parts.1)
 
 clause_back : (columns : List Column) (clause : Option (Form (List ℕ))) → option_map_or (columns_pass (is_column columns)) clause true ≡ true → option_map (map_form (name_at columns)) (option_map (map_form (place columns)) clause) ≡ clause
 clause_back columns None e = refl
@@ -76,7 +70,7 @@ clause_back columns (Some c) e = ap (λ x. Some x) (form_back (is_column columns
 keys_back : (columns : List Column) (keys : List (List ℕ)) → AllByRecursion (λ name. is_column columns name ≡ true) keys → map (name_at columns) (first_of_each ◌==◌ (map (place columns) keys)) ≡ first_of_each bytes_eq keys
 keys_back columns keys all = ap (map (name_at columns)) (distinct_places columns keys all) ∙ list_back columns (first_of_each bytes_eq keys) (all_distinct (λ name. is_column columns name ≡ true) bytes_eq keys all)
 
-pub named_again : (columns : List Column) (q : Written (List ℕ)) → HasColumns columns q → by_names (record { columns = columns; written = placed columns q }) ≡ normal q
+pub named_again : (columns : List Column) (q : Written (List ℕ)) → HasColumns columns q → by_names (record { columns = columns; written = placed columns q }) ≡ canonical q
 named_again columns q has =
     λ i. record {
       items = items_back columns q.items has.items i;
@@ -85,34 +79,34 @@ named_again columns q has =
       having = clause_back columns q.having has.having i;
     }
 
--- what is counted, spelled and placed of a normal query
-items_counted : (items : List (Form (List ℕ) × Option (List ℕ))) → flat_map (λ item. calls_in item.0) (map plain_item items) ≡ flat_map (λ item. calls_in item.0) items
+-- what is counted, spelled and placed of a canonical query
+items_counted : (items : List (Form (List ℕ) × Option (List ℕ))) → flat_map (λ item. calls_in item.0) (map canonical_item items) ≡ flat_map (λ item. calls_in item.0) items
 items_counted [] = refl
 items_counted (item ∷ items) = ap (λ calls. calls_in item.0 ++ calls) (items_counted items)
 
-items_spelled : (items : List (Form (List ℕ) × Option (List ℕ))) → map item_text (map plain_item items) ≡ map item_text items
+items_spelled : (items : List (Form (List ℕ) × Option (List ℕ))) → map item_text (map canonical_item items) ≡ map item_text items
 items_spelled [] = refl
 items_spelled (item ∷ items) = rw (kept_twice (own_name item.0) item.1, items_spelled items) refl
 
-calls_counted : (q : Written (List ℕ)) → distinct_calls bytes_eq (normal q) ≡ distinct_calls bytes_eq q
+calls_counted : (q : Written (List ℕ)) → distinct_calls bytes_eq (canonical q) ≡ distinct_calls bytes_eq q
 calls_counted q = rw (items_counted q.items) refl
 
-pub spelled_alike : (q : Written (List ℕ)) → spelling (normal q) ≡ spelling q
+pub spelled_alike : (q : Written (List ℕ)) → spelling (canonical q) ≡ spelling q
 spelled_alike q = rw (items_spelled q.items, distinct_again bytes_eq q.keys) refl
 
-counted_alike : (q : Written (List ℕ)) → has_too_many (normal q) ≡ has_too_many q
+counted_alike : (q : Written (List ℕ)) → has_too_many (canonical q) ≡ has_too_many q
 counted_alike q =
-    λ i. nat_lt MOST_ITEMS (length-map q.items plain_item i) || (nat_lt MOST_KEYS (length (distinct_again bytes_eq q.keys i))
+    λ i. nat_lt MOST_ITEMS (length-map q.items canonical_item i) || (nat_lt MOST_KEYS (length (distinct_again bytes_eq q.keys i))
     || (nat_lt MOST_CALLS (length (calls_counted q i)) || nat_lt LONGEST_QUERY (length (spelled_alike q i))))
 
-all_alike : (item_passes passes : Form (List ℕ) → Bool) (q : Written (List ℕ)) → all_of item_passes passes (normal q) ≡ all_of item_passes passes q
-all_alike item_passes passes q = rw (list_all-map (λ item. item_passes item.0) plain_item q.items) refl
+all_alike : (item_passes passes : Form (List ℕ) → Bool) (q : Written (List ℕ)) → all_of item_passes passes (canonical q) ≡ all_of item_passes passes q
+all_alike item_passes passes q = rw (list_all-map (λ item. item_passes item.0) canonical_item q.items) refl
 
 items_placed : (columns : List Column) (items : List (Form (List ℕ) × Option (List ℕ)))
-    → map (placed_item columns) (map plain_item items) ≡ map (placed_item columns) items
+    → map (placed_item columns) (map canonical_item items) ≡ map (placed_item columns) items
 items_placed columns [] = refl
 items_placed columns (item ∷ items) =
-    ap (λ (alias : Option (List ℕ)). (map_form (place columns) item.0, alias) ∷ map (placed_item columns) (map plain_item items)) (kept_twice (own_name item.0) item.1)
+    ap (λ (alias : Option (List ℕ)). (map_form (place columns) item.0, alias) ∷ map (placed_item columns) (map canonical_item items)) (kept_twice (own_name item.0) item.1)
     ∙ ap (λ (rest : List (Form ℕ × Option (List ℕ))). placed_item columns item ∷ rest) (items_placed columns items)
 
 keys_placed : (columns : List Column) (keys : List (List ℕ)) → AllByRecursion (λ name. is_column columns name ≡ true) keys → first_of_each ◌==◌ (map (place columns) (first_of_each bytes_eq keys)) ≡ first_of_each ◌==◌ (map (place columns) keys)
@@ -120,10 +114,10 @@ keys_placed columns keys all =
     distinct_places columns (first_of_each bytes_eq keys) (all_distinct (λ name. is_column columns name ≡ true) bytes_eq keys all)
     ∙ ap (map (place columns)) (distinct_again bytes_eq keys) ∙ sym (distinct_places columns keys all)
 
-placed_alike : (columns : List Column) (q : Written (List ℕ)) → HasColumns columns q → placed columns (normal q) ≡ placed columns q
+placed_alike : (columns : List Column) (q : Written (List ℕ)) → HasColumns columns q → placed columns (canonical q) ≡ placed columns q
 placed_alike columns q has = λ i. record { items = items_placed columns q.items i; condition = option_map (map_form (place columns)) q.condition; keys = keys_placed columns q.keys has.keys i; having = option_map (map_form (place columns)) q.having }
 
-columns_alike : (columns : List Column) (q : Written (List ℕ)) → has_columns columns q ≡ true → has_columns columns (normal q) ≡ true
+columns_alike : (columns : List Column) (q : Written (List ℕ)) → has_columns columns q ≡ true → has_columns columns (canonical q) ≡ true
 columns_alike columns q e =
     let whole = and_parts (all_of (columns_pass (is_column columns)) (columns_pass (is_column columns)) q) (list_all (is_column columns) q.keys) e in
     and_from _ _ (all_alike (columns_pass (is_column columns)) (columns_pass (is_column columns)) q ∙ whole.0)
@@ -139,7 +133,7 @@ pub reaches_places : (columns : List Column) (q : Written (List ℕ)) → Passes
 unfolding checked
 reaches_places columns q first = rw (first.few, first.shallow, first.columns_there) refl
 
-passes_alike : (columns : List Column) (q : Written (List ℕ)) → PassesFirst columns q → PassesFirst columns (normal q)
+passes_alike : (columns : List Column) (q : Written (List ℕ)) → PassesFirst columns q → PassesFirst columns (canonical q)
 passes_alike columns q first =
     record {
       few = counted_alike q ∙ first.few;
@@ -151,9 +145,9 @@ passes_alike columns q first =
 pub passes_again : (columns : List Column) (q : Written (List ℕ)) → PassesFirst columns q → checked columns (by_names (record { columns = columns; written = placed columns q })) ≡ checked_places columns (placed columns q)
 passes_again columns q first =
     let has = columns_of_query columns q first.columns_there in
-    ap (checked columns) (named_again columns q has) ∙ reaches_places columns (normal q) (passes_alike columns q first) ∙ ap (checked_places columns) (placed_alike columns q has)
+    ap (checked columns) (named_again columns q has) ∙ reaches_places columns (canonical q) (passes_alike columns q first) ∙ ap (checked_places columns) (placed_alike columns q has)
 
--- a text can say the normal query where it can say the query
+-- a text can say the canonical query where it can say the query
 alias_stays : (own alias : List ℕ) (same : Bool) → bytes_eq alias own ≡ same → IsColumnName alias → ForSome (kept_alias own (Some alias)) IsColumnName
 alias_stays own alias true e name = rw e (λ x h. cc h)
 alias_stays own alias false e name = rw e (λ x h. subst IsColumnName (ap (λ (o : Option (List ℕ)). unwrap_or o alias) h) name)
@@ -162,15 +156,15 @@ kept_name : (own : List ℕ) (alias : Option (List ℕ)) → ForSome alias IsCol
 kept_name own None name = λ x h. cc h
 kept_name own (Some alias) name = alias_stays own alias (bytes_eq alias own) refl (name alias refl)
 
-items_writable : (items : List (Form (List ℕ) × Option (List ℕ))) → AllByRecursion IsItem items → AllByRecursion IsItem (map plain_item items)
+items_writable : (items : List (Form (List ℕ) × Option (List ℕ))) → AllByRecursion IsItem items → AllByRecursion IsItem (map canonical_item items)
 items_writable [] all = tt
 items_writable (item ∷ items) all = (record { value = all.0.value; form = all.0.form; alias = kept_name (own_name item.0) item.1 all.0.alias }, items_writable items all.1)
 
-some_plain : (items : List (Form (List ℕ) × Option (List ℕ))) → items ≢ [] → map plain_item items ≢ []
+some_plain : (items : List (Form (List ℕ) × Option (List ℕ))) → items ≢ [] → map canonical_item items ≢ []
 some_plain [] some e = some refl
 some_plain (item ∷ items) some e = cc e
 
-pub normal_writable : (q : Written (List ℕ)) → IsWritable q → IsWritable (normal q)
+pub normal_writable : (q : Written (List ℕ)) → IsWritable q → IsWritable (canonical q)
 normal_writable q w =
     record {
       some = some_plain q.items w.some;

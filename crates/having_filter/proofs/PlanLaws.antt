@@ -35,7 +35,7 @@ pub filter_of_call : (function : Function) (column : Option ℕ) (filter : Optio
 filter_of_call function column None = refl
 filter_of_call function column (Some filter) = refl
 
-pub function_of_call : (function : Function) (column : Option ℕ) (filter : Option (Cond ℕ)) → (aggregate_of (with_filter function column (back-AggCall-filter ℕ filter))).function ≡ function
+function_of_call : (function : Function) (column : Option ℕ) (filter : Option (Cond ℕ)) → (aggregate_of (with_filter function column (back-AggCall-filter ℕ filter))).function ≡ function
 function_of_call function column None = refl
 function_of_call function column (Some filter) = refl
 

@@ -9,8 +9,8 @@ use Rattle.having_filter.specs.declared.condition.Cond.{Cond}
 use Rattle.having_filter.specs.declared.condition.Item.{Item}
 use Rattle.having_filter.specs.Forms.{Form, form_of, item_form, names_of, items_of, places_of}
 use Rattle.having_filter.specs.Reads.{columns_pass, filters_pass}
-use Rattle.having_filter.specs.Checks.{is_shallow, are_shallow, is_column}
-use Rattle.having_filter.proofs.FormLaws.{depth_mapped, filters_mapped, columns_mapped}
+use Rattle.having_filter.specs.Checks.{is_shallow, is_column}
+use Rattle.having_filter.proofs.FormLaws.{filters_mapped, columns_mapped}
 
 -- items, by what they stand for
 pub items_pass : {C : Type 0} (passes : Form C → Bool) (items : List (Item C × Option (String Global))) → list_all (λ item. passes item.0) (places_of items) ≡ list_all (λ item. passes (item_form item.0)) items
@@ -20,10 +20,6 @@ items_pass {C} passes items = list_all-map (λ (item : Form C × Option (List �
 pub items_shallow : (items : List (Item (String Global) × Option (String Global))) → list_all (λ item. filters_pass is_shallow item.0) (items_of items) ≡ list_all (λ item. filters_pass is_shallow item.0) (places_of items)
 items_shallow [] = refl
 items_shallow (item ∷ items) = rw (filters_mapped string_bytes (item_form item.0), items_shallow items) refl
-
-pub clause_shallow : (clause : Option (Cond (String Global))) → option_map_or are_shallow (option_map (λ c. names_of (form_of c)) clause) true ≡ option_map_or are_shallow (option_map form_of clause) true
-clause_shallow None = refl
-clause_shallow (Some c) = rw (depth_mapped string_bytes (form_of c), filters_mapped string_bytes (form_of c)) refl
 
 -- whether its columns are a schema's
 pub items_known : (columns : List Column) (items : List (Item (String Global) × Option (String Global)))

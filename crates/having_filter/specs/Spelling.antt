@@ -106,6 +106,13 @@ abbrev pub kept_alias : List ℕ → Option (List ℕ) → Option (List ℕ)
 kept_alias own None = None
 kept_alias own (Some alias) = if bytes_eq alias own then None else Some alias
 
+-- the query that its canonical text says: each column of GROUP BY once, and no alias that is the item's own name (own)
+abbrev pub canonical_item : Form (List ℕ) × Option (List ℕ) → Form (List ℕ) × Option (List ℕ)
+canonical_item item = (item.0, kept_alias (own_name item.0) item.1)
+
+abbrev pub canonical : Written (List ℕ) → Written (List ℕ)
+canonical q = record { items = map canonical_item q.items; condition = q.condition; keys = first_of_each bytes_eq q.keys; having = q.having }
+
 abbrev pub alias_text : Option (List ℕ) → List ℕ
 alias_text None = []
 alias_text (Some alias) = codes " AS " ++ alias

@@ -2,7 +2,7 @@
 use Rattle.std.proofs.Common.{◌≡◌, ℕ, zero, suc, ◌≤◌, ◌<◌, Bool, true, false, cond, List, [], ◌∷◌, ◌++◌, length, Option, Some, None, Ok, Err, refl, ap, subst, ◌∙◌, append_assoc, arith}
 use Rattle.std.specs.Prelude.{codes, if◌then◌else◌}
 use Rattle.std.specs.Str.{bytes_eq}
-use Rattle.std.proofs.lemmas.List.{append-nil, length-append}
+use Rattle.std.proofs.lemmas.List.{length-append}
 use Rattle.query_tokens.specs.declared.word.Symbol.{Symbol}
 use Rattle.query_tokens.specs.declared.word.Symbol.TheVariants as symbols
 use Rattle.query_tokens.specs.Words.{Lexeme, Name, Integer, Text, Sign}
@@ -334,7 +334,3 @@ mutual
 -- a condition is read, whatever follows that doesn't carry it on
 pub condition_reads : (limit room : ℕ) (ts : List Lexeme) (x : Named) → IsCondition limit room ts x → (rest : List Lexeme) → Stops 5 rest → condition_at limit room (ts ++ rest) ≡ Ok (x, rest)
 condition_reads limit room ts x p rest h = or_done limit room ts rest x h (cond_reads limit p rest (later 4 5 rest (omega arith) h))
-
-pub condition_is_read : (limit room : ℕ) (ts : List Lexeme) (x : Named) → IsCondition limit room ts x → condition_at limit room ts ≡ Ok (x, [])
-condition_is_read limit room ts x p =
-    subst (λ (u : List Lexeme). condition_at limit room u ≡ Ok (x, [])) (append-nil ts) (condition_reads limit room ts x p [] (record { at = tt {0} }))
