@@ -1,7 +1,7 @@
 -- What one more argument makes of a state, where the function takes it.
-use Rattle.std.proofs.Common.{◌≡◌, refl, ℕ, zero, suc, ◌<◌, ◌≤◌, List, [], sym, ap, subst, ◌∙◌, arith, Bool, ℤ, Option, Some}
+use Rattle.std.proofs.Common.{◌≡◌, refl, ℕ, zero, suc, ◌<◌, ◌≤◌, List, sym, ap, subst, ◌∙◌, arith, Bool, ℤ, Option, Some}
 use Rattle.grouping_model.specs.Datum.{Bigint, Boolean, Text}
-use Rattle.grouping_model.specs.Aggregates.{Function, Sum, Partial, Summed, Number, Truth_value, partial, outcome, Numeric}
+use Rattle.grouping_model.specs.Aggregates.{Function, Sum, Partial, Summed, Number, Truth_value, outcome, Numeric}
 use Rattle.grouping_model.specs.Combining.{transition}
 use Rattle.packed_rows.specs.View.{datum_of}
 use Rattle.packed_rows.specs.declared.Value.{Value}

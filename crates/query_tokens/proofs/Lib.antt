@@ -7,3 +7,4 @@ pub mod Pieces
 pub mod Legal
 pub mod Ends
 pub mod Places
+pub mod Wholes

@@ -3,3 +3,4 @@ pub mod Bytes
 pub mod Tokens
 pub mod Spelling
 pub mod Reserved
+pub mod Wholes

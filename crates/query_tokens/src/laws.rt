@@ -7,6 +7,7 @@ ghost use Rattle.query_tokens.specs.declared.fault.Fault.TheVariants.{Syntax};
 ghost use Rattle.query_tokens.specs.Bytes.{first_is};
 ghost use Rattle.query_tokens.specs.Spelling.{IsName, IsLexeme, EndsBefore, AreApart, Piece, spell, text_of, lexemes_in, lexemes_of, lexemes_read, LastEndsBefore, runs_on, is_closed, with_spaces};
 ghost use Rattle.query_tokens.specs.Tokens.{word_at, tokens_at, tokens_in};
+ghost use Rattle.query_tokens.specs.Wholes.{MakeUp};
 ghost use Rattle.query_tokens.specs.Words.{Lexeme, Name, Integer, Text, Sign, Placed, RiseWithin};
 
 /// What is spelled is read again: a lexeme before whatever doesn't run into it, and a text of lexemes and spaces,
@@ -84,4 +85,10 @@ pub fn places_in_text()
     ensures tokens { (text : List ℕ) (ts : List Placed) → tokens_in text ≡ Ok ts →
         RiseWithin 0 (length text) ts }
     ensures fault { (text : List ℕ) (at : ℕ) → tokens_in text ≡ Err (Syntax at) → at < length text }
+{}
+
+/// The tokens of a text make up the whole text, with the white space before, between and behind them.
+#[tactic(auto, using(crate::proofs::Wholes::whole_text))]
+pub fn texts_are_made_of_tokens()
+    ensures { (text : List ℕ) (ts : List Placed) → tokens_in text ≡ Ok ts → MakeUp 0 ts text }
 {}

@@ -9,7 +9,10 @@ mod word;
 mod words;
 
 pub use fault::{Fault, TokenError};
-pub use laws::{ends_of_lexemes, joined_pieces, places_in_text, spelling_is_read, what_is_read};
+pub use laws::{
+    ends_of_lexemes, joined_pieces, places_in_text, spelling_is_read, texts_are_made_of_tokens,
+    what_is_read,
+};
 pub use reading::tokens;
 pub use reserved::is_reserved;
 pub use word::{Symbol, Token, Word};
