@@ -1,4 +1,4 @@
-use group_parser::{parse, print};
+use group_parser::{ParseError, parse, print};
 use packed_rows::Schema;
 use std::test::*;
 
@@ -11,6 +11,7 @@ fn told(rt: HostRuntime, text: &str) -> Result<String, Fail> {
     let schema = Schema::parse(rt.alloc(), &columns)?;
     match parse(rt.alloc(), &schema, text) {
         Ok(query) => Ok(print(rt.alloc(), &query)?),
+        Err(ParseError::Query(error)) => Ok(format!(in rt.alloc(); "{error:?}")?),
         Err(error) => Ok(format!(in rt.alloc(); "{error:?}")?),
     }
 }

@@ -337,7 +337,10 @@ fn refused_commands_are_told_with_their_lines(rt: HostRuntime) -> Result<(), Fai
 
 #[test]
 fn refusals_have_names(rt: HostRuntime) -> Result<(), Fail> {
-    assert_eq!(rt; name(Refusal::Batch(BatchError::BadField { column: 1 })), "BadField");
+    assert_eq!(rt;
+        name(Refusal::Batch(BatchError::BadField { column: 1 })),
+        "BadField"
+    );
     assert_eq!(rt; name(Refusal::from(RunError::InputTooLong)), "InputTooLong");
     Ok(())
 }
