@@ -16,3 +16,6 @@ invariant_of-result c =
     (c.in_ok-canonical.ensures.ok ∙ c.as_str.ensures.value ∙ c.self.invariant.spelled)
     (c.in_ok-labels.ensures ∙ ap (λ xs. map string_bytes xs) c.deref.ensures.value ∙ c.self.invariant.labelled)
     c.in_ok-schema_text.ensures.printed
+
+pub returns : goal.returns
+returns c = (λ i. record { columns = c.in_ok-schema.ensures.same i; written = c.in_ok-parts.ensures i }) ∙ c.self.view_is
