@@ -1,5 +1,5 @@
 -- The function of a name.
-use Rattle.std.proofs.Common.{◌≡◌, Bool, true, false, List, [], ◌∷◌, map, Option, option_map, find, refl}
+use Rattle.std.proofs.Common.{◌≡◌, Bool, true, false, List, [], ◌∷◌, map, option_map, find, refl}
 
 -- what is found in a list of images
 found_first : {A B : Type 0} (p : B → Bool) (f : A → B) (x : A) (xs : List A) (there : Bool) → p (f x) ≡ there → option_map f (find (λ x. p (f x)) xs) ≡ find p (map f xs)
