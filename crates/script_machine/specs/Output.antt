@@ -1,7 +1,8 @@
 -- What a run of a script writes. All of this is our own.
-use Rattle.std.specs.Prelude.{ℕ, ◌≡◌, ◌≤◌, ◌<◌, List, ◌++◌, length, count_by, Option}
+use Rattle.std.specs.Prelude.{ℕ, ◌≡◌, ◌≤◌, ◌<◌, List, ◌++◌, length, count_by, Option, IfSome}
 use Rattle.std.specs.Io.KnownBytes.{Appends, Keeps}
 use Rattle.grouping_model.specs.World.{World}
+use Rattle.grouping_model.specs.declared.limits.TheConstants.{LONGEST_SCRIPT}
 use Rattle.script_io.specs.Output.{AppendsFront}
 use Rattle.script_io.specs.Records.{records_of}
 use Rattle.script_io.specs.declared.input.InputError.{InputError}
@@ -54,6 +55,14 @@ StopsAt most script old new InputTooLong = most < length script
 StopsAt most script old new ReadFault = Unit {0}
 StopsAt most script old new WriteFault = (length script ≤ most) × WritesFront (commands_in script) old new
 StopsAt most script old new NoMemory = (most < length script → Keeps old new) × WritesBefore (commands_in script) old new
+
+-- a run answered a script within the limit as the machine does, with so many refusals
+abbrev pub AnswersAll : Option (List ℕ) → Option (List ℕ) → Option (List ℕ) → ℕ → Type 0
+AnswersAll unread old new refused = IfSome unread (λ script. (length script ≤ LONGEST_SCRIPT) × WritesAll (commands_in script) old new refused)
+
+-- a run stopped before the end of its script
+abbrev pub AnswersSome : Option (List ℕ) → Option (List ℕ) → Option (List ℕ) → RunError → Type 0
+AnswersSome unread old new error = IfSome unread (λ script. StopsAt LONGEST_SCRIPT script old new error)
 
 -- a run that did not read its script wrote nothing
 abbrev pub KeepsUnread : Option (List ℕ) → Option (List ℕ) → RunError → Type 0

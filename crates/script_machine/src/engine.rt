@@ -2,7 +2,7 @@
 
 ghost use Rattle.std.specs.Prelude.{◌≡◌, ◌≤◌, ◌+◌, length, IfErr, IfOk, IfSome, MatchResult};
 ghost use Rattle.script_io.specs.Input.{ConsumesAtMost};
-ghost use Rattle.script_machine.specs.Output.{KeepsUnread, StopsAt, WritesAll, WritesSome, commands_in};
+ghost use Rattle.script_machine.specs.Output.{AnswersAll, AnswersSome, KeepsUnread, WritesAll, WritesSome, commands_in};
 
 use crate::error::RunError;
 use crate::output::put_reply;
@@ -93,12 +93,11 @@ pub fn run<R: Read, W: Write>(
     ensures reads { ConsumesAtMost (R.remaining reader.old) (R.remaining reader.new)
         (LONGEST_SCRIPT + 1) }
     // A script within the limit is answered as the machine does, with so many refusals.
-    ensures done { IfOk result (λ outcome. IfSome (R.remaining reader.old) (λ script.
-        (length script ≤ LONGEST_SCRIPT) × WritesAll (commands_in script) (W.contents writer.old)
-        (W.contents writer.new) outcome.refused)) }
+    ensures done { IfOk result (λ outcome. AnswersAll (R.remaining reader.old)
+        (W.contents writer.old) (W.contents writer.new) outcome.refused) }
     // What was written where the run stopped.
-    ensures stopped { IfErr result (λ e. IfSome (R.remaining reader.old) (λ script.
-        StopsAt LONGEST_SCRIPT script (W.contents writer.old) (W.contents writer.new) e)) }
+    ensures stopped { IfErr result (AnswersSome (R.remaining reader.old) (W.contents writer.old)
+        (W.contents writer.new)) }
     // Nothing was written where the script was not read.
     ensures silent { IfErr result (KeepsUnread (W.contents writer.old) (W.contents writer.new)) }
 {
@@ -114,11 +113,10 @@ pub fn run_observed<R: Read, W: Write, O: Observer>(
 ) -> Result<Outcome, RunError>
     ensures reads { ConsumesAtMost (R.remaining reader.old) (R.remaining reader.new)
         (LONGEST_SCRIPT + 1) }
-    ensures done { IfOk result (λ outcome. IfSome (R.remaining reader.old) (λ script.
-        (length script ≤ LONGEST_SCRIPT) × WritesAll (commands_in script) (W.contents writer.old)
-        (W.contents writer.new) outcome.refused)) }
-    ensures stopped { IfErr result (λ e. IfSome (R.remaining reader.old) (λ script.
-        StopsAt LONGEST_SCRIPT script (W.contents writer.old) (W.contents writer.new) e)) }
+    ensures done { IfOk result (λ outcome. AnswersAll (R.remaining reader.old)
+        (W.contents writer.old) (W.contents writer.new) outcome.refused) }
+    ensures stopped { IfErr result (AnswersSome (R.remaining reader.old) (W.contents writer.old)
+        (W.contents writer.new)) }
     ensures silent { IfErr result (KeepsUnread (W.contents writer.old) (W.contents writer.new)) }
 {
     let script = read_input(alloc, reader, LONGEST_SCRIPT)?;

@@ -12,6 +12,6 @@ pub aggregate-requires-2-clause-inputs : goal.aggregate-requires-2-clause-inputs
 aggregate-requires-2-clause-inputs g c =
     let late = c.in_ok-late.ensures in
     let one : all_rows (Rows c.deref.result ∷ []) ≡ 1 = omega (arith, ap length c.deref.ensures.value, c.in_ok-early.ensures.2) in
-    let run = subst (λ most. IsRun (meaning c.in_ok-query.query) most c.in_ok-early-2.early) one c.in_ok-early-2.ensures.run in
+    let run = subst (λ most. IsRun (meaning c.in_ok-query.query) most c.in_ok-early-2.early) one c.in_ok-early-2.ensures.is_run in
     let rows = subst (λ packed. ArePackings (kinds c.in_ok-query.query.columns) (bytes_of packed) late.0) (sym c.deref-2.ensures.value) late.1 in
     (run, ((late.0, rows), tt))

@@ -1,0 +1,105 @@
+use script_machine::{Outcome, run};
+use std::test::*;
+
+/// What a script's run writes, where no command is refused.
+fn written(rt: HostRuntime, script: &str) -> Result<String, Fail> {
+    let mut written = Vec::new(rt.alloc());
+    let outcome = run(rt.alloc(), &mut script.as_bytes(), &mut written);
+    if outcome != Ok(Outcome { refused: 0 }) {
+        return Err(Fail::from("a command was refused, or the run stopped"));
+    }
+    Ok(String::from_utf8(written).ok().ok_or("not UTF-8")?)
+}
+
+/// Lines, told with a `/` between each and the next.
+fn lines(rt: HostRuntime, told: &str) -> Result<String, Fail> {
+    let mut lines = String::new(rt.alloc());
+    for line in told.split('/') {
+        lines.push_str(line)?;
+        lines.push_str("\n")?;
+    }
+    Ok(lines)
+}
+
+/// The commands in front of a query over `c text, d bigint, b boolean`.
+const COLUMNS: &str = "columns,\"c text, d bigint, b boolean\"\nquery,\"";
+
+/// Three batches and an early one, and a question.
+const BATCHES: &str = "\"\nreplica,a\nfeed,a,1,3,1\noslo,1000,t\nfeed,a,1,1,1\nbergen,9,f\n\
+    feed,a,0,2,2\noslo,-2,\\N\noslo,\\N,t\nfeed,a,0,1,3\noslo,5,t\nbergen,7,f\n\\N,\\N,\\N\nanswer,a\n";
+
+/// Queries, and their answers over three batches beside an early one.
+const ANSWERS: &str = "\
+SELECT count(*), sum(d) FROM batches => answer 1/count,sum/6,19
+SELECT c, count(*), count(d), sum(d), min(d), max(d) FROM batches GROUP BY c => answer 3/c,count,count,sum,min,max/bergen,2,2,16,7,9/oslo,3,2,3,-2,5/\\N,1,0,\\N,\\N,\\N
+SELECT b, count(*) FROM batches GROUP BY b => answer 3/b,count/f,2/t,2/\\N,2
+SELECT d FROM batches GROUP BY d => answer 5/d/-2/5/7/9/\\N
+SELECT c, b FROM batches GROUP BY b, c => answer 4/c,b/bergen,f/oslo,t/oslo,\\N/\\N,\\N
+SELECT count(*) FROM batches WHERE d > 5 OR b => answer 1/count/4
+SELECT c FROM batches GROUP BY c HAVING sum(d) > 3 => answer 1/c/bergen
+SELECT count(*) FILTER (WHERE b), bool_and(b), bool_or(b), every(b), bit_and(d), bit_or(d), bit_xor(d) FROM batches => answer 1/count,bool_and,bool_or,every,bit_and,bit_or,bit_xor/2,f,t,f,0,-1,-11
+SELECT count(*), max(d), c FROM batches WHERE FALSE GROUP BY c => answer 0/count,max,c
+SELECT count(*), max(d) FROM batches WHERE FALSE => answer 1/count,max/0,\\N
+SELECT count(*) FROM batches HAVING count(*) > 6 => answer 0/count
+SELECT max(d), max(d) FROM batches GROUP BY b HAVING b IS NULL => answer 1/max,max/-2,-2";
+
+#[test]
+fn queries_are_answered(rt: HostRuntime) -> Result<(), Fail> {
+    for line in ANSWERS.lines() {
+        let (query, want) = line.split_once(" => ").ok_or("no case")?;
+        let script = format!(in rt.alloc(); "{COLUMNS}{query}{BATCHES}")?;
+        let want = lines(rt, want)?;
+        assert!(rt; written(rt, &script)?.ends_with(want.as_str()), "{line}");
+    }
+    Ok(())
+}
+
+/// The commands in front of batches, and their replies.
+const HEAD: &str =
+    "columns,\"c text, d bigint\"\nquery,\"SELECT c, count(*), sum(d) FROM batches GROUP BY c\"\nreplica,a\n";
+
+/// Batches, what is known of them, and the answer. A batch is told as `origin-number`; it has one row, with its number.
+const KNOWN: &str = "\
+0-2 5-1 => known 2/origin 0 upto 0 early 2/origin 5 upto 1/answer 1/c,count,sum/oslo,1,1
+ => known 0/answer 0/c,count,sum
+0-1 0-3 0-3 0-5 0-2 0-1 7-2 1023-1 => known 3/origin 0 upto 3 early 5/origin 7 upto 0 early 2/origin 1023 upto 1/answer 1/c,count,sum/oslo,4,7
+1023-1 7-2 0-5 0-3 0-2 0-1 => known 3/origin 0 upto 3 early 5/origin 7 upto 0 early 2/origin 1023 upto 1/answer 1/c,count,sum/oslo,4,7
+0-2 7-2 0-1 1023-1 0-2 0-5 0-3 0-3 => known 3/origin 0 upto 3 early 5/origin 7 upto 0 early 2/origin 1023 upto 1/answer 1/c,count,sum/oslo,4,7
+1023-2147483647 1023-2147483646 => known 1/origin 1023 upto 0 early 2147483646 2147483647/answer 0/c,count,sum
+0-0000000001 0-1 0-02 => known 1/origin 0 upto 2/answer 1/c,count,sum/oslo,2,3";
+
+#[test]
+fn replicas_know_what_they_were_given(rt: HostRuntime) -> Result<(), Fail> {
+    for line in KNOWN.lines() {
+        let (batches, want) = line.split_once(" => ").ok_or("no case")?;
+        let mut script = String::from_str(rt.alloc(), HEAD)?;
+        for batch in batches.split(' ') {
+            if let Some((origin, number)) = batch.split_once('-') {
+                script.push_str(&format!(in rt.alloc();
+                    "feed,a,{origin},{number},1\noslo,{number}\n"
+                )?)?;
+            }
+        }
+        script.push_str("known,a\nanswer,a\n")?;
+        let want = lines(rt, want)?;
+        assert!(rt; written(rt, &script)?.ends_with(want.as_str()), "{line}");
+    }
+    Ok(())
+}
+
+#[test]
+fn sums_are_wide(rt: HostRuntime) -> Result<(), Fail> {
+    let mut script = String::from_str(rt.alloc(), HEAD)?;
+    script.push_str("feed,a,9,1,65536\n")?;
+    for _ in 0..65_536 {
+        script.push_str("x,9223372036854775807\n")?;
+    }
+    script.push_str(
+        "feed,a,9,2,0\nfeed,a,2,1,2\ny,-9223372036854775808\ny,-9223372036854775808\n",
+    )?;
+    script.push_str("known,a\nanswer,a\n")?;
+    let want = "known 2/origin 2 upto 1/origin 9 upto 2/answer 2/c,count,sum/\
+        x,65536,604462909807314587287552/y,2,-18446744073709551616";
+    assert!(rt; written(rt, &script)?.ends_with(lines(rt, want)?.as_str()));
+    Ok(())
+}
