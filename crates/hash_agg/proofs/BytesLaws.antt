@@ -1,6 +1,6 @@
 -- What stands for groups is their bytes.
-use Rattle.std.specs.Prelude.{◌≡◌, refl, ℕ, List, [], ◌∷◌, ◌++◌, map, take, drop}
-use Rattle.std.proofs.Common.{sym, ◌∙◌, ap, subst}
+use Rattle.std.specs.Prelude.{◌≡◌, refl, ℕ, List, [], ◌∷◌, ◌++◌, map, drop}
+use Rattle.std.proofs.Common.{sym, ◌∙◌, subst}
 use Rattle.std.proofs.lemmas.List.{take-append-drop}
 use Rattle.std.specs.List.{AllByRecursion}
 use Rattle.grouping_model.specs.Aggregates as model
@@ -8,15 +8,14 @@ use Rattle.grouping_model.specs.Aggregates.{Function, Partial}
 use Rattle.grouping_model.specs.Query.{Query}
 use Rattle.grouping_model.specs.Grouping.{Group}
 use Rattle.grouping_model.specs.Parts.{functions}
-use Rattle.agg_protocol.specs.States as states
 use Rattle.agg_protocol.specs.States.{IsState, shape_of, bytes_of}
 use Rattle.agg_library.specs.declared.kind.AggKind.{AggKind}
 use Rattle.agg_library.specs.declared.kind.AggKind.TheVariants as kind
-use Rattle.agg_library.specs.Kinds.{function_of, functions_of, kind_shape, kind_width}
+use Rattle.agg_library.specs.Kinds.{function_of, functions_of, kind_width}
 use Rattle.agg_library.specs.StateRows.{Denotes}
 use Rattle.hash_agg.specs.Bytes.{state_bytes, group_bytes, run_bytes, ArePartials, IsGroupOf}
 use Rattle.hash_agg.specs.Runs.{Entry}
-use Rattle.hash_agg.specs.Standing.{AreStates, StandsFor, AreGroups}
+use Rattle.hash_agg.specs.Standing.{StandsFor, AreGroups}
 use Rattle.hash_agg.proofs.StateLaws.{joined}
 
 -- states are the bytes of their partial results

@@ -5,3 +5,4 @@ pub mod MergeLaws
 pub mod InputLaws
 pub mod WholeLaws
 pub mod BytesLaws
+pub mod FoldLaws

@@ -1,7 +1,7 @@
 -- What all inputs together give.
 use Rattle.std.specs.Prelude.{◌≡◌, refl, ℕ, zero, suc, ◌<◌, ◌≤◌, List, [], ◌∷◌, ◌++◌, length, map, Some, slice_get, slice_index_or, sum_by, take}
 use Rattle.std.proofs.Common.{sym, ◌∙◌, ap, subst, arith, append-nil, append_assoc}
-use Rattle.std.proofs.lemmas.List.{length-map, take_all}
+use Rattle.std.proofs.lemmas.List.{length-map, get_or-map, take_all}
 use Rattle.std.specs.List.{AllByRecursion}
 use Rattle.grouping_model.specs.Datum.{Row, Kind, HasKinds, row_cmp}
 use Rattle.grouping_model.specs.Rising.{distinct}
@@ -11,20 +11,19 @@ use Rattle.grouping_model.specs.Parts.{keys_of}
 use Rattle.packed_rows.specs.Packing.{packing}
 use Rattle.having_filter.specs.Kept.{key_kinds}
 use Rattle.hash_agg.specs.declared.input.Input.{Input}
-use Rattle.hash_agg.specs.declared.input.Input.TheVariants.{Rows, Groups}
 use Rattle.hash_agg.specs.Runs.{Entry, packed_keys}
 use Rattle.hash_agg.specs.Standing.{AreGroups}
-use Rattle.hash_agg.specs.Inputs.{rows_in, all_rows, on_end, IsInput, AreInputsOf, AllBring}
+use Rattle.hash_agg.specs.Inputs.{Brought, Packed, Counted, brought, rows_in, all_rows, on_end, IsInput, AreInputsOf, AllBring}
 use Rattle.hash_agg.specs.Adding.{rows_added, groups_added, Given, Of_rows, Of_groups, Gives, AllGive, given_added, all_added}
 use Rattle.hash_agg.proofs.MergeLaws.{rows_added_part, groups_added_part, puts, puts-append, puts_all, keys_of-rows_added, keys_of-groups_added, distinct_few}
 use Rattle.hash_agg.proofs.InputLaws.{packed_once, keys_packed, keys_of_kinds}
 
 -- what may be aggregated gives something
-one_given : (q : Query) (input : Input) → IsInput q input → (given : Given) × Gives q input given
-one_given q (Rows packed) (rows, are) = (Of_rows rows, are)
-one_given q (Groups run most) is = (Of_groups is.groups, is.are)
+one_given : (q : Query) (input : Brought) → IsInput q input → (given : Given) × Gives q input given
+one_given q (Packed packed) (rows, are) = (Of_rows rows, are)
+one_given q (Counted run most) is = (Of_groups is.groups, is.are)
 
-pub all_given : (q : Query) (inputs : List Input) → AllByRecursion (IsInput q) inputs → (givens : List Given) × AllGive q inputs givens
+pub all_given : (q : Query) (inputs : List Brought) → AllByRecursion (IsInput q) inputs → (givens : List Given) × AllGive q inputs givens
 all_given q [] all = ([], tt)
 all_given q (input ∷ inputs) (first, all) =
     let one = one_given q input first in
@@ -32,12 +31,12 @@ all_given q (input ∷ inputs) (first, all) =
     (one.0 ∷ rest.0, (one.1, rest.1))
 
 -- an input at a place, and what it gives
-pub record GivenAt (q : Query) (givens : List Given) (i : ℕ) (input : Input) : Type 0 where
+pub record GivenAt (q : Query) (givens : List Given) (i : ℕ) (input : Brought) : Type 0 where
   pub given : Given
   pub at : slice_get givens i ≡ Some given
   pub gives : Gives q input given
 
-pub given_at : (q : Query) (inputs : List Input) (givens : List Given) (i : ℕ) (input : Input) → AllGive q inputs givens → i < length inputs → input ≡ slice_index_or inputs i input → GivenAt q givens i input
+pub given_at : (q : Query) (inputs : List Brought) (givens : List Given) (i : ℕ) (input : Brought) → AllGive q inputs givens → i < length inputs → input ≡ slice_index_or inputs i input → GivenAt q givens i input
 given_at q [] givens i input all low is = absurd (omega arith)
 given_at q (x ∷ inputs) [] i input all low is = absurd all
 given_at q (x ∷ inputs) (g ∷ givens) zero input (first, all) low is = record { given = g; at = refl; gives = subst (λ x. Gives q x g) (sym is) first }
@@ -45,7 +44,13 @@ given_at q (x ∷ inputs) (g ∷ givens) (suc i) input (first, all) low is =
     let found = given_at q inputs givens i input all (omega arith) is in
     record { given = found.given; at = found.at; gives = found.gives }
 
-pub given_long : (q : Query) (inputs : List Input) (givens : List Given) → AllGive q inputs givens → length inputs ≡ length givens
+-- an input of the code at a place, as what it brings
+pub brought_at : (inputs : List Input) (i : ℕ) (input : Input) → i < length inputs → input ≡ slice_index_or inputs i input → (brought input ≡ slice_index_or (map brought inputs) i (brought input)) × (i < length (map brought inputs))
+brought_at inputs i input low is =
+    let same : length (map brought inputs) ≡ length inputs = length-map inputs brought in
+    (ap brought is ∙ sym (get_or-map brought inputs i input (brought input) low), omega (arith, low, same))
+
+pub given_long : (q : Query) (inputs : List Brought) (givens : List Given) → AllGive q inputs givens → length inputs ≡ length givens
 given_long q [] [] all = refl
 given_long q [] (g ∷ givens) all = absurd all
 given_long q (x ∷ inputs) [] all = absurd all
@@ -58,16 +63,16 @@ all_added_more q gs (g ∷ givens) given = all_added_more q (given_added q gs g)
 -- ---- lists of rows
 
 -- inputs that stand for lists of rows give their part
-pub record GivePart (q : Query) (inputs : List Input) (rows all : List Row) : Type 0 where
+pub record GivePart (q : Query) (inputs : List Brought) (rows all : List Row) : Type 0 where
   pub givens : List Given
   pub give : AllGive q inputs givens
   pub added : all_added q (part q rows) givens ≡ part q all
 
-pub lists_give : (q : Query) (inputs : List Input) (lists : List (List Row)) (rows : List Row) → AreInputsOf q inputs lists → GivePart q inputs rows (rows ++ on_end lists)
+pub lists_give : (q : Query) (inputs : List Brought) (lists : List (List Row)) (rows : List Row) → AreInputsOf q inputs lists → GivePart q inputs rows (rows ++ on_end lists)
 lists_give q [] [] rows are = record { givens = []; give = tt; added = ap (part q) (sym (append-nil rows)) }
 lists_give q [] (xs ∷ lists) rows are = absurd are
 lists_give q (x ∷ inputs) [] rows are = absurd are
-lists_give q (Rows packed ∷ inputs) (xs ∷ lists) rows (first, are) =
+lists_give q (Packed packed ∷ inputs) (xs ∷ lists) rows (first, are) =
     let rest = lists_give q inputs lists (rows ++ xs) are in
     record {
       givens = Of_rows xs ∷ rest.givens;
@@ -77,7 +82,7 @@ lists_give q (Rows packed ∷ inputs) (xs ∷ lists) rows (first, are) =
           ∙ rest.added
           ∙ ap (part q) (append_assoc rows xs (on_end lists));
     }
-lists_give q (Groups run most ∷ inputs) (xs ∷ lists) rows (first, are) =
+lists_give q (Counted run most ∷ inputs) (xs ∷ lists) rows (first, are) =
     let rest = lists_give q inputs lists (rows ++ xs) are in
     record {
       givens = Of_groups (part q xs) ∷ rest.givens;
@@ -101,16 +106,16 @@ packings_once kinds (x ∷ xs) (y ∷ ys) (hx, hxs) (hy, hys) e =
     λ i. packed_once kinds (packing y) x y hx hy (sym first) refl i ∷ packings_once kinds xs ys hxs hys rest i
 
 -- inputs that bring keys give groups of these keys
-pub record GiveKeys (q : Query) (inputs : List Input) (keys : List Row) : Type 0 where
+pub record GiveKeys (q : Query) (inputs : List Brought) (keys : List Row) : Type 0 where
   pub givens : List Given
   pub give : AllGive q inputs givens
   pub added : (gs : List Group) → keys_of (all_added q gs givens) ≡ puts (keys_of gs) keys
 
-pub keys_give : (q : Query) (inputs : List Input) (lists : List (List Row)) → AllByRecursion (IsInput q) inputs → AllBring q inputs lists → GiveKeys q inputs (on_end lists)
+pub keys_give : (q : Query) (inputs : List Brought) (lists : List (List Row)) → AllByRecursion (IsInput q) inputs → AllBring q inputs lists → GiveKeys q inputs (on_end lists)
 keys_give q [] [] all bring = record { givens = []; give = tt; added = λ gs. refl }
 keys_give q [] (ks ∷ lists) all bring = absurd bring
 keys_give q (x ∷ inputs) [] all bring = absurd bring
-keys_give q (Rows packed ∷ inputs) (ks ∷ lists) (first, all) (one, bring) =
+keys_give q (Packed packed ∷ inputs) (ks ∷ lists) (first, all) (one, bring) =
     let rest = keys_give q inputs lists all bring in
     record {
       givens = Of_rows one.0 ∷ rest.givens;
@@ -121,10 +126,10 @@ keys_give q (Rows packed ∷ inputs) (ks ∷ lists) (first, all) (one, bring) =
           ∙ ap (λ ls. puts ls (on_end lists)) (keys_of-rows_added q gs one.0 ∙ ap (puts (keys_of gs)) (sym one.2))
           ∙ sym (puts-append (keys_of gs) ks (on_end lists));
     }
-keys_give q (Groups run most ∷ inputs) (ks ∷ lists) (first, all) (one, bring) =
+keys_give q (Counted run most ∷ inputs) (ks ∷ lists) (first, all) (one, bring) =
     let rest = keys_give q inputs lists all bring in
     let same : keys_of first.groups ≡ ks =
-    packings_once (key_kinds q) (keys_of first.groups) ks (keys_of_kinds q most run.now first.groups first.are) one.of_kinds (sym (keys_packed q most run.now first.groups first.are) ∙ one.packings_are) in
+    packings_once (key_kinds q) (keys_of first.groups) ks (keys_of_kinds q most run first.groups first.are) one.of_kinds (sym (keys_packed q most run first.groups first.are) ∙ one.packings_are) in
     record {
       givens = Of_groups first.groups ∷ rest.givens;
       give = (first.are, rest.give);
@@ -146,7 +151,7 @@ keys_few run keys is =
     omega (arith, same, few)
 
 -- the groups after the last input
-pub whole_run : (q : Query) (inputs : List Input) (givens : List Given) (i : ℕ) (run : List Entry) → length inputs ≤ i → AllGive q inputs givens → AreGroups q (sum_by rows_in (take i inputs)) run (all_added q [] (take i givens)) → AreGroups q (all_rows inputs) run (all_added q [] givens)
+pub whole_run : (q : Query) (inputs : List Brought) (givens : List Given) (i : ℕ) (run : List Entry) → length inputs ≤ i → AllGive q inputs givens → AreGroups q (sum_by rows_in (take i inputs)) run (all_added q [] (take i givens)) → AreGroups q (all_rows inputs) run (all_added q [] givens)
 whole_run q inputs givens i run past all are =
     let long : length inputs ≡ length givens = given_long q inputs givens all in
     subst (λ xs. AreGroups q (sum_by rows_in xs) run (all_added q [] givens)) (take_all i inputs past)

@@ -8,11 +8,8 @@ use Rattle.grouping_model.specs.Condition.{is_met}
 use Rattle.grouping_model.specs.Query.{Query, Aggregate}
 use Rattle.grouping_model.specs.Grouping.{Group, argument, column_of}
 use Rattle.grouping_model.specs.Parts.{functions, partials_at, with_row}
-use Rattle.hash_agg.specs.declared.input.Input.{Input}
-use Rattle.hash_agg.specs.declared.input.Input.TheVariants.{Rows, Groups}
 use Rattle.hash_agg.specs.Standing.{AreGroups}
-use Rattle.hash_agg.specs.Inputs.{ArePackings}
-use Rattle.packed_rows.specs.View.{bytes_of}
+use Rattle.hash_agg.specs.Inputs.{Brought, Packed, Counted, ArePackings}
 
 -- one more row, which WHERE keeps or passes over
 abbrev pub row_added : Query → List Group → Row → List Group
@@ -40,12 +37,12 @@ pub data Given : Type 0 where
   Of_rows : List Row → Given
   Of_groups : List Group → Given
 
-abbrev pub Gives : Query → Input → Given → Type 0
-Gives query (Rows packed) (Of_rows rows) = ArePackings query.kinds (bytes_of packed.now) rows
-Gives query (Groups run most) (Of_groups groups) = AreGroups query most run.now groups
+abbrev pub Gives : Query → Brought → Given → Type 0
+Gives query (Packed packed) (Of_rows rows) = ArePackings query.kinds packed rows
+Gives query (Counted run most) (Of_groups groups) = AreGroups query most run groups
 Gives query input given = ⊥
 
-abbrev pub AllGive : Query → List Input → List Given → Type 0
+abbrev pub AllGive : Query → List Brought → List Given → Type 0
 AllGive query [] [] = Unit {0}
 AllGive query (input ∷ inputs) (given ∷ givens) = Gives query input given × AllGive query inputs givens
 AllGive query inputs givens = ⊥

@@ -13,6 +13,16 @@ use Rattle.hash_agg.specs.declared.input.Input.TheVariants.{Rows, Groups}
 use Rattle.hash_agg.specs.Runs.{Entry, packed_keys}
 use Rattle.hash_agg.specs.Standing.{AreGroups, IsRun}
 
+-- what an input brings: packed rows, or the groups of a run and how many rows its states count at most
+pub data Brought : Type 0 where
+  Packed : List (List ℕ) → Brought
+  Counted : List Entry → ℕ → Brought
+
+-- what an input of the code brings
+abbrev pub brought : Input → Brought
+brought (Rows packed) = Packed (bytes_of packed.now)
+brought (Groups run rows) = Counted run.now rows
+
 -- the members of some lists of rows, one list after the other
 abbrev pub on_end : List (List Row) → List Row
 on_end lists = flat_map (λ rows. rows) lists
@@ -23,44 +33,44 @@ pub record ArePackings (kinds : List Kind) (packed : List (List ℕ)) (rows : Li
   pub packings_are : packed ≡ map packing rows
 
 -- how many rows an input has, or its states count at most
-abbrev pub rows_in : Input → ℕ
-rows_in (Rows packed) = length packed.now
-rows_in (Groups run rows) = rows
+abbrev pub rows_in : Brought → ℕ
+rows_in (Packed rows) = length rows
+rows_in (Counted run most) = most
 
 -- the same of all inputs together
-abbrev pub all_rows : List Input → ℕ
+abbrev pub all_rows : List Brought → ℕ
 all_rows inputs = sum_by rows_in inputs
 
 -- what may be aggregated: packed rows of the query's table, or a run of the query
-abbrev pub IsInput : Query → Input → Type 0
-IsInput query (Rows packed) = (rows : List Row) × ArePackings query.kinds (bytes_of packed.now) rows
-IsInput query (Groups run rows) = IsRun query rows run.now
+abbrev pub IsInput : Query → Brought → Type 0
+IsInput query (Packed packed) = (rows : List Row) × ArePackings query.kinds packed rows
+IsInput query (Counted run most) = IsRun query most run
 
 -- an input stands for a list of rows: it has their packings, or the groups of their part
-abbrev pub IsInputOf : Query → Input → List Row → Type 0
-IsInputOf query (Rows packed) rows = ArePackings query.kinds (bytes_of packed.now) rows
-IsInputOf query (Groups run most) rows = AreGroups query most run.now (part query rows)
+abbrev pub IsInputOf : Query → Brought → List Row → Type 0
+IsInputOf query (Packed packed) rows = ArePackings query.kinds packed rows
+IsInputOf query (Counted run most) rows = AreGroups query most run (part query rows)
 
 -- input by input, these stand for lists of rows
-abbrev pub AreInputsOf : Query → List Input → List (List Row) → Type 0
+abbrev pub AreInputsOf : Query → List Brought → List (List Row) → Type 0
 AreInputsOf query [] [] = Unit {0}
 AreInputsOf query (input ∷ inputs) (rows ∷ lists) = IsInputOf query input rows × AreInputsOf query inputs lists
 AreInputsOf query inputs lists = ⊥
 
 -- the keys that an input brings: those of its selected rows, or of its groups
-abbrev pub Brings : Query → Input → List Row → Type 0
-Brings query (Rows packed) keys = (rows : List Row) × ArePackings query.kinds (bytes_of packed.now) rows × (keys ≡ map (key_of query) (selected query rows))
-Brings query (Groups run most) keys = ArePackings (key_kinds query) (packed_keys run.now) keys
+abbrev pub Brings : Query → Brought → List Row → Type 0
+Brings query (Packed packed) keys = (rows : List Row) × ArePackings query.kinds packed rows × (keys ≡ map (key_of query) (selected query rows))
+Brings query (Counted run most) keys = ArePackings (key_kinds query) (packed_keys run) keys
 
 -- input by input, these bring keys
-abbrev pub AllBring : Query → List Input → List (List Row) → Type 0
+abbrev pub AllBring : Query → List Brought → List (List Row) → Type 0
 AllBring query [] [] = Unit {0}
 AllBring query (input ∷ inputs) (keys ∷ lists) = Brings query input keys × AllBring query inputs lists
 AllBring query inputs lists = ⊥
 
 -- what aggregation gives of inputs: over lists of rows the groups of all of them on end; for all inputs the keys that they bring,
 -- each once and rising, and states that count at most as many rows as there are
-pub record IsAggregate (query : Query) (inputs : List Input) (run : List Entry) : Type 0 where
+pub record IsAggregate (query : Query) (inputs : List Brought) (run : List Entry) : Type 0 where
   pub part : (lists : List (List Row)) → AreInputsOf query inputs lists → AreGroups query (all_rows inputs) run (part query (on_end lists))
   pub keys : (lists : List (List Row)) → AllBring query inputs lists → packed_keys run ≡ map packing (distinct row_cmp (on_end lists))
   pub few : (lists : List (List Row)) → AllBring query inputs lists → length run ≤ length (on_end lists)

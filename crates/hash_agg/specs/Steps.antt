@@ -1,6 +1,6 @@
 -- What the steps of an aggregation ask of the groups that stand in bytes, and what they make of them. A step asks that there
 -- are such groups, and speaks of all that the bytes stand for. All of this is our own.
-use Rattle.std.specs.Prelude.{◌≡◌, ℕ, ◌+◌, ◌<◌, ◌≤◌, List, IfSome}
+use Rattle.std.specs.Prelude.{◌≡◌, ℕ, ◌+◌, ◌<◌, ◌≤◌, List, length, IfSome}
 use Rattle.grouping_model.specs.Aggregates.{Function, Partial}
 use Rattle.grouping_model.specs.Combining.{combine_all}
 use Rattle.grouping_model.specs.Datum.{Row, HasKinds}
@@ -11,10 +11,9 @@ use Rattle.packed_rows.specs.Packing.{packing}
 use Rattle.agg_protocol.specs.States.{most_rows}
 use Rattle.agg_library.specs.StateRows.{Denotes, AllWithin}
 use Rattle.agg_library.specs.declared.kind.AggKind.{AggKind}
-use Rattle.hash_agg.specs.declared.input.Input.{Input}
 use Rattle.hash_agg.specs.Runs.{Entry, Rises}
 use Rattle.hash_agg.specs.Standing.{AreStates, StandsFor, AreGroups}
-use Rattle.hash_agg.specs.Inputs.{ArePackings, rows_in}
+use Rattle.hash_agg.specs.Inputs.{Brought, ArePackings, rows_in}
 use Rattle.hash_agg.specs.Adding.{row_added, rows_added, group_added, groups_added, Given, Gives, given_added}
 
 -- the states can count one more row
@@ -39,17 +38,17 @@ AddsRow query old packed new =
     → packed ≡ packing row
     → AreGroups query (most + 1) new (row_added query groups row)
 
--- the same of packed rows, of which there are so many
-abbrev pub HasRoomForRows : Query → List Entry → ℕ → Type 0
-HasRoomForRows query old count = (most : ℕ) × (groups : List Group) × AreGroups query most old groups × (most + count ≤ most_rows)
+-- the same of packed rows
+abbrev pub HasRoomForRows : Query → List Entry → List (List ℕ) → Type 0
+HasRoomForRows query old packed = (most : ℕ) × (groups : List Group) × AreGroups query most old groups × (most + length packed ≤ most_rows)
 
-abbrev pub AddsRows : Query → List Entry → List (List ℕ) → ℕ → List Entry → Type 0
-AddsRows query old packed count new =
+abbrev pub AddsRows : Query → List Entry → List (List ℕ) → List Entry → Type 0
+AddsRows query old packed new =
     (most : ℕ) (groups : List Group) (rows : List Row)
-    → most + count ≤ most_rows
+    → most + length packed ≤ most_rows
     → AreGroups query most old groups
     → ArePackings query.kinds packed rows
-    → AreGroups query (most + count) new (rows_added query groups rows)
+    → AreGroups query (most + length packed) new (rows_added query groups rows)
 
 -- a group comes to those of its key, which count few enough rows
 abbrev pub HasRoomForGroup : Query → List Entry → Entry → Type 0
@@ -83,10 +82,10 @@ AddsRun query old run new =
     → AreGroups query (m + n) new (groups_added query groups more)
 
 -- the same of an input
-abbrev pub HasRoomForInput : Query → List Entry → Input → Type 0
+abbrev pub HasRoomForInput : Query → List Entry → Brought → Type 0
 HasRoomForInput query old input = (most : ℕ) × (groups : List Group) × AreGroups query most old groups × (most + rows_in input ≤ most_rows)
 
-abbrev pub AddsInput : Query → List Entry → Input → List Entry → Type 0
+abbrev pub AddsInput : Query → List Entry → Brought → List Entry → Type 0
 AddsInput query old input new =
     (most : ℕ) (groups : List Group) (given : Given)
     → most + rows_in input ≤ most_rows

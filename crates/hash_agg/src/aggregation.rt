@@ -1,9 +1,9 @@
 //! The aggregation of inputs.
 
-ghost use Rattle.std.specs.Prelude.{◌<◌, ◌^◌, IfOk};
+ghost use Rattle.std.specs.Prelude.{◌<◌, ◌^◌, map, IfOk};
 ghost use Rattle.std.specs.List.{AllByRecursion};
 ghost use Rattle.having_filter.specs.Meaning.{meaning};
-ghost use Rattle.hash_agg.specs.Inputs.{all_rows, IsInput, IsAggregate};
+ghost use Rattle.hash_agg.specs.Inputs.{brought, all_rows, IsInput, IsAggregate};
 
 use crate::groups::Groups;
 use crate::input::Input;
@@ -18,9 +18,9 @@ use std::alloc::{AllocError, Global};
 /// the query's aggregates that count at most `rows` rows each. All inputs together have fewer than 2^57 rows. The only
 /// error is a failed allocation.
 pub fn aggregate(alloc: Global, query: &Query, inputs: &[Input<'_>]) -> Result<Run, AllocError>
-    requires inputs { AllByRecursion (IsInput (meaning query.now)) inputs.now }
-    requires few { all_rows inputs.now < 2 ^ 57 }
-    ensures { IfOk result (IsAggregate (meaning query.now) inputs.now) }
+    requires inputs { AllByRecursion (IsInput (meaning query.now)) (map brought inputs.now) }
+    requires few { all_rows (map brought inputs.now) < 2 ^ 57 }
+    ensures { IfOk result (IsAggregate (meaning query.now) (map brought inputs.now)) }
 {
     let _schema = query.schema();
     let mut groups = Groups::new(alloc);

@@ -1,6 +1,6 @@
 //! Groups in a map, by their packed keys.
 
-ghost use Rattle.std.specs.Prelude.{◌≡◌, List, [], length, IfOk, OnOk};
+ghost use Rattle.std.specs.Prelude.{◌≡◌, List, [], IfOk, OnOk};
 ghost use Rattle.std.specs.List.{AllByRecursion};
 ghost use Rattle.grouping_model.specs.Datum.{Row, HasKinds};
 ghost use Rattle.grouping_model.specs.Grouping.{key_of};
@@ -9,7 +9,7 @@ ghost use Rattle.packed_rows.specs.View.{row_of, bytes_of};
 ghost use Rattle.having_filter.specs.Kept.{IsWellFormed};
 ghost use Rattle.having_filter.specs.Meaning.{meaning};
 ghost use Rattle.hash_agg.specs.Runs.{Rises};
-ghost use Rattle.hash_agg.specs.Inputs.{ArePackings, IsInput};
+ghost use Rattle.hash_agg.specs.Inputs.{brought, ArePackings, IsInput};
 ghost use Rattle.hash_agg.specs.Steps.{HasRoomForRow, AddsSelected, AddsRow, HasRoomForRows, AddsRows, HasRoomForGroup, AddsGroup, HasRoomForRun, AddsRun, HasRoomForInput, AddsInput};
 
 use crate::input::Input;
@@ -133,9 +133,8 @@ impl Groups {
         requires formed { IsWellFormed (meaning query.now) }
         requires rows { (list : List Row)
             × ArePackings (meaning query.now).kinds (bytes_of rows.now) list }
-        requires room { HasRoomForRows (meaning query.now) self.old (length rows.now) }
-        ensures { OnOk result (AddsRows (meaning query.now) self.old (bytes_of rows.now)
-            (length rows.now) self.new) }
+        requires room { HasRoomForRows (meaning query.now) self.old (bytes_of rows.now) }
+        ensures { OnOk result (AddsRows (meaning query.now) self.old (bytes_of rows.now) self.new) }
     {
         // One row and one key serve for all.
         let mut row = Vec::with_capacity(self.alloc, query.schema().width())?;
@@ -163,7 +162,7 @@ impl Groups {
     }
 
     /// Adds the groups of a run.
-    fn add_run(&mut self, query: &Query, run: &Run) -> Result<(), AllocError>
+    pub(crate) fn add_run(&mut self, query: &Query, run: &Run) -> Result<(), AllocError>
         requires { HasRoomForRun (meaning query.now) self.old run.now }
         ensures { OnOk result (AddsRun (meaning query.now) self.old run.now self.new) }
     {
@@ -176,9 +175,9 @@ impl Groups {
     /// Adds what an input gives.
     pub(crate) fn add_input(&mut self, query: &Query, input: &Input<'_>) -> Result<(), AllocError>
         requires formed { IsWellFormed (meaning query.now) }
-        requires input { IsInput (meaning query.now) input.now }
-        requires room { HasRoomForInput (meaning query.now) self.old input.now }
-        ensures { OnOk result (AddsInput (meaning query.now) self.old input.now self.new) }
+        requires input { IsInput (meaning query.now) (brought input.now) }
+        requires room { HasRoomForInput (meaning query.now) self.old (brought input.now) }
+        ensures { OnOk result (AddsInput (meaning query.now) self.old (brought input.now) self.new) }
     {
         match input {
             Input::Rows(rows) => self.add_rows(query, rows),

@@ -1,12 +1,12 @@
 //! Laws of runs.
 
-ghost use Rattle.std.specs.Prelude.{◌≡◌, ◌↔◌, ℕ, List};
+ghost use Rattle.std.specs.Prelude.{◌≡◌, ◌≤◌, ◌↔◌, ℕ, List, []};
 ghost use Rattle.std.specs.List.{AllByRecursion};
-ghost use Rattle.grouping_model.specs.Grouping.{Group};
+ghost use Rattle.grouping_model.specs.Grouping.{Group, part};
 ghost use Rattle.grouping_model.specs.Query.{Query};
 ghost use Rattle.hash_agg.specs.Bytes.{IsGroupOf, run_bytes};
 ghost use Rattle.hash_agg.specs.Runs.{Entry};
-ghost use Rattle.hash_agg.specs.Standing.{AreGroups};
+ghost use Rattle.hash_agg.specs.Standing.{AreGroups, IsRun};
 
 /// A run stands for groups exactly where it is their bytes, and they are groups that the query can have. So groups have one
 /// run, which is a function of them.
@@ -14,4 +14,24 @@ pub fn one_run()
     ensures { (query : Query) (most : ℕ) (run : List Entry) (groups : List Group) →
         AreGroups query most run groups ↔
         ((run ≡ run_bytes groups) × AllByRecursion (IsGroupOf query most) groups) }
+{}
+
+/// A run of groups that count at most so many rows is one of groups that count at most more rows.
+pub fn more_rows()
+    ensures groups { (query : Query) (m n : ℕ) (run : List Entry) (groups : List Group) →
+        m ≤ n → AreGroups query m run groups → AreGroups query n run groups }
+    ensures run { (query : Query) (m n : ℕ) (run : List Entry) →
+        m ≤ n → IsRun query m run → IsRun query n run }
+{}
+
+/// Two runs that stand for the same groups are the same.
+pub fn same_run()
+    ensures { (query : Query) (m n : ℕ) (run other : List Entry) (groups : List Group) →
+        AreGroups query m run groups → AreGroups query n other groups → run ≡ other }
+{}
+
+/// A run of no groups is a run of each query, and stands for the groups of no rows.
+pub fn empty_run()
+    ensures run { (query : Query) (most : ℕ) → IsRun query most [] }
+    ensures groups { (query : Query) (most : ℕ) → AreGroups query most [] (part query []) }
 {}

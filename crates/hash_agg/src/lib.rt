@@ -2,6 +2,7 @@
 #![tactic(auto)]
 
 mod aggregation;
+mod folding;
 mod groups;
 mod input;
 mod laws;
@@ -9,7 +10,8 @@ mod run;
 mod states;
 
 pub use aggregation::aggregate;
+pub use folding::fold;
 pub use input::Input;
-pub use laws::one_run;
+pub use laws::{empty_run, more_rows, one_run, same_run};
 pub use run::Run;
 pub use states::first_states;

@@ -1,4 +1,3 @@
-use Rattle.std.specs.Prelude.{◌≡◌}
 use Rattle.std.proofs.Common.{sym, subst}
 use Rattle.hash_agg.specs.Standing.{AreGroups}
 use Rattle.hash_agg.proofs.BytesLaws.{stands_spelled, spelled_stands}

@@ -11,5 +11,5 @@ use Rattle.hash_agg.proofs.groups.Groups.add_rows.Given as goal
 
 abbrev pub invariant-loop-packed : goal.invariant-loop-packed
 invariant-loop-packed l =
-    (most : ℕ) (groups : List Group) (list : List Row) → most + length l.rows ≤ most_rows → AreGroups (meaning l.query) most l.initial.self groups → ArePackings (meaning l.query).kinds (bytes_of l.rows) list
+    (most : ℕ) (groups : List Group) (list : List Row) → most + length (bytes_of l.rows) ≤ most_rows → AreGroups (meaning l.query) most l.initial.self groups → ArePackings (meaning l.query).kinds (bytes_of l.rows) list
     → AreGroups (meaning l.query) (most + l.packed-index) l.self (rows_added (meaning l.query) groups (take l.packed-index list))

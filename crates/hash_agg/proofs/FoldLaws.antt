@@ -1,0 +1,171 @@
+-- A run that takes the groups of another.
+use Rattle.std.specs.Prelude.{◌≡◌, refl, ℕ, ◌+◌, ◌<◌, ◌≤◌, cond, true, false, ◌||◌, List, [], ◌∷◌, ◌++◌, length, map, find, None, Some, option_map}
+use Rattle.std.proofs.Common.{sym, ◌∙◌, ap, subst, append-nil, append_assoc}
+use Rattle.std.proofs.lemmas.List.Sums.{sum_by-cons}
+use Rattle.std.specs.declared.cmp.Ordering.TheVariants.{Less, Equal, Greater}
+use Rattle.std.specs.Ordering.{match_ordering, is_eq, ordering_reverse}
+use Rattle.std.specs.List.{AllByRecursion}
+use Rattle.std.specs.List.Sorted.{IsStrictlySortedBy}
+use Rattle.std.specs.BTreeMap.{insert_entry}
+use Rattle.grouping_model.specs.Datum.{Row, HasKinds, row_cmp, same_row}
+use Rattle.grouping_model.specs.Rising.{put, distinct, is_among}
+use Rattle.grouping_model.specs.Rising.Facts.{distinct-rises, among-distinct, among-append, same_members}
+use Rattle.grouping_model.specs.Aggregates.{Partial}
+use Rattle.grouping_model.specs.Condition.{is_met}
+use Rattle.grouping_model.specs.Query.{Query}
+use Rattle.grouping_model.specs.Grouping.{Group, part, key_of, selected, column_of}
+use Rattle.grouping_model.specs.Parts.{keys_of, partials_at}
+use Rattle.grouping_model.proofs.DatumOrder.{row_cmp_total, row_cmp_ties}
+use Rattle.grouping_model.proofs.PartLaws.{same_row-swap}
+use Rattle.packed_rows.specs.Packing.{packing}
+use Rattle.agg_protocol.specs.States.{most_rows}
+use Rattle.having_filter.specs.Kept.{key_kinds}
+use Rattle.hash_agg.specs.Runs.{Entry, packed_keys, Rises}
+use Rattle.hash_agg.specs.Standing.{AreGroups, IsRun}
+use Rattle.hash_agg.specs.Inputs.{Brought, Packed, Counted, rows_in, all_rows, on_end, AreInputsOf, AllBring, IsAggregate}
+use Rattle.hash_agg.specs.Adding.{merged, group_added, groups_added}
+use Rattle.hash_agg.specs.Steps.{AddsRun}
+use Rattle.hash_agg.proofs.KeyLaws.{key_has}
+use Rattle.hash_agg.proofs.MergeLaws.{puts, puts_rise, among-puts, keys_of-groups_added, groups_added_part}
+use Rattle.hash_agg.proofs.InputLaws.{keys_packed, keys_of_kinds, rises_keys}
+use Rattle.hash_agg.proofs.WholeLaws.{packings_once, keys_few}
+
+-- ---- behind lower keys
+
+-- each of these groups has a key below this one
+abbrev pub AllBelow : Row → List Group → Type 0
+AllBelow key groups = AllByRecursion (λ (g : Group). row_cmp key g.0 ≡ Greater) groups
+
+pub inserted_behind : (key : Row) (ps : List Partial) (front back : List Group) → AllBelow key front → insert_entry row_cmp (front ++ back) key ps ≡ front ++ insert_entry row_cmp back key ps
+inserted_behind key ps [] back below = refl
+inserted_behind key ps (g ∷ front) back (first, below) =
+    ap (λ r. match_ordering r ((key, ps) ∷ g ∷ front ++ back) ((g.0, ps) ∷ front ++ back) (g ∷ insert_entry row_cmp (front ++ back) key ps)) first
+    ∙ ap (λ gs. g ∷ gs) (inserted_behind key ps front back below)
+
+pub found_behind : (key : Row) (front back : List Group) → AllBelow key front → partials_at key (front ++ back) ≡ partials_at key back
+found_behind key [] back below = refl
+found_behind key (g ∷ front) back (first, below) =
+    ap (λ b. option_map (λ (group : Group). group.1) (cond b (Some g) (find (λ (group : Group). same_row group.0 key) (front ++ back)))) (same_row-swap g.0 key ∙ ap is_eq first)
+    ∙ found_behind key front back below
+
+-- the groups before one of a rising list have keys below
+pub all_below : (front : List Group) (g : Group) (back : List Group) → IsStrictlySortedBy row_cmp (keys_of (front ++ g ∷ back)) → AllBelow g.0 front
+unfolding IsStrictlySortedBy
+all_below [] g back rising = tt
+all_below (h ∷ front) g back (above, rising) = (row_cmp_total.antisymm g.0 h.0 ∙ ap ordering_reverse (within front above), all_below front g back rising)
+  where
+    within : (gs : List Group) → AllByRecursion (λ z. row_cmp h.0 z ≡ Less) (keys_of (gs ++ g ∷ back)) → row_cmp h.0 g.0 ≡ Less
+    within [] all = all.0
+    within (x ∷ gs) all = within gs all.1
+
+-- groups with rising keys, one after the other
+added_behind : (q : Query) (front gs : List Group) → IsStrictlySortedBy row_cmp (keys_of (front ++ gs)) → groups_added q front gs ≡ front ++ gs
+added_behind q front [] rising = sym (append-nil front)
+added_behind q front (g ∷ gs) rising =
+    let below = all_below front g gs rising in
+    let none : partials_at g.0 front ≡ None = ap (partials_at g.0) (sym (append-nil front)) ∙ found_behind g.0 front [] below in
+    let one : group_added q front g ≡ front ++ g ∷ [] =
+    ap (λ o. insert_entry row_cmp front g.0 (merged q o g.1)) none
+    ∙ ap (λ gs. insert_entry row_cmp gs g.0 g.1) (sym (append-nil front))
+    ∙ inserted_behind g.0 g.1 front [] below in
+    ap (λ gs'. groups_added q gs' gs) one
+    ∙ added_behind q (front ++ g ∷ []) gs (subst (λ gs'. IsStrictlySortedBy row_cmp (keys_of gs')) (sym (append_assoc front (g ∷ []) gs)) rising)
+    ∙ append_assoc front (g ∷ []) gs
+
+pub run_keys_rise : (q : Query) (most : ℕ) (run : List Entry) (groups : List Group) → AreGroups q most run groups → Rises run → IsStrictlySortedBy row_cmp (keys_of groups)
+run_keys_rise q most run groups are rises = rises_keys (key_kinds q) (keys_of groups) (keys_of_kinds q most run groups are) (subst (IsStrictlySortedBy _) (keys_packed q most run groups are) rises)
+
+-- no group is changed where there was none
+pub added_to_none : (q : Query) (most : ℕ) (run : List Entry) (groups : List Group) → AreGroups q most run groups → Rises run → groups_added q [] groups ≡ groups
+added_to_none q most run groups are rises = added_behind q [] groups (run_keys_rise q most run groups are rises)
+
+-- ---- the kinds of keys
+
+all_append : {X : Type 0} (P : X → Type 0) (xs ys : List X) → AllByRecursion P xs → AllByRecursion P ys → AllByRecursion P (xs ++ ys)
+all_append P [] ys all more = more
+all_append P (x ∷ xs) ys (p, all) more = (p, all_append P xs ys all more)
+
+all_put : (P : Row → Type 0) (k : Row) (ks : List Row) → P k → AllByRecursion P ks → AllByRecursion P (put row_cmp k ks)
+all_put P k [] p all = (p, tt)
+all_put P k (l ∷ ks) p (first, all) =
+    elim (row_cmp k l) as (λ r. AllByRecursion P (match_ordering r (k ∷ l ∷ ks) (l ∷ ks) (l ∷ put row_cmp k ks))) [
+      | Less ↦ (p, (first, all))
+      | Equal ↦ (first, all)
+      | Greater ↦ (first, all_put P k ks p all)
+    ]
+
+all_distinct : (P : Row → Type 0) (ks : List Row) → AllByRecursion P ks → AllByRecursion P (distinct row_cmp ks)
+all_distinct P [] all = tt
+all_distinct P (k ∷ ks) (p, all) = all_put P k (distinct row_cmp ks) p (all_distinct P ks all)
+
+selected_keys : (q : Query) (rows : List Row) → AllByRecursion (λ place. place < length q.kinds) q.keys → AllByRecursion (HasKinds q.kinds) rows → AllByRecursion (HasKinds (key_kinds q)) (map (key_of q) (selected q rows))
+selected_keys q [] within has = tt
+selected_keys q (row ∷ rows) within (first, has) =
+    elim (is_met (column_of row) q.condition) as (λ b. AllByRecursion (HasKinds (key_kinds q)) (map (key_of q) (cond b (row ∷ selected q rows) (selected q rows)))) [
+      | true ↦ (key_has q row within first, selected_keys q rows within has)
+      | false ↦ selected_keys q rows within has
+    ]
+
+-- the keys that inputs bring have the kinds of the query's keys
+brought_kinds : (q : Query) (inputs : List Brought) (lists : List (List Row)) → AllByRecursion (λ place. place < length q.kinds) q.keys → AllBring q inputs lists → AllByRecursion (HasKinds (key_kinds q)) (on_end lists)
+brought_kinds q [] [] within bring = tt
+brought_kinds q [] (ks ∷ lists) within bring = absurd bring
+brought_kinds q (x ∷ inputs) [] within bring = absurd bring
+brought_kinds q (Packed packed ∷ inputs) (ks ∷ lists) within (one, bring) =
+    all_append (HasKinds (key_kinds q)) ks (on_end lists) (subst (AllByRecursion (HasKinds (key_kinds q))) (sym one.2) (selected_keys q one.0 within one.1.of_kinds)) (brought_kinds q inputs lists within bring)
+brought_kinds q (Counted run most ∷ inputs) (ks ∷ lists) within (one, bring) =
+    all_append (HasKinds (key_kinds q)) ks (on_end lists) one.of_kinds (brought_kinds q inputs lists within bring)
+
+-- ---- a run and what inputs gave
+
+-- keys that are put to rising ones
+puts_distinct : (ks ls : List Row) → IsStrictlySortedBy row_cmp ks → puts ks (distinct row_cmp ls) ≡ distinct row_cmp (ks ++ ls)
+puts_distinct ks ls rising =
+    same_members row_cmp_total row_cmp_ties (puts ks (distinct row_cmp ls)) (distinct row_cmp (ks ++ ls)) (puts_rise ks (distinct row_cmp ls) rising) (distinct-rises row_cmp_total (ks ++ ls))
+    (λ key.
+    among-puts key ks (distinct row_cmp ls)
+    ∙ ap (λ b. is_among row_cmp key ks || b) (among-distinct row_cmp_total key ls)
+    ∙ sym (among-append row_cmp key ks ls)
+    ∙ sym (among-distinct row_cmp_total key (ks ++ ls)))
+
+module _ (q : Query) (rows : ℕ) (old more new : List Entry) (inputs : List Brought) (low : rows + all_rows inputs ≤ most_rows) (is : IsRun q rows old) (given : IsAggregate q inputs more) (added : AddsRun q old more new) where
+  total : rows + all_rows inputs ≡ all_rows (Counted old rows ∷ inputs)
+  total = sym (sum_by-cons rows_in (Counted old rows) inputs)
+
+  folded_groups : AreGroups q (rows + all_rows inputs) new (groups_added q is.groups given.is_run.groups)
+  folded_groups = added rows (all_rows inputs) is.groups given.is_run.groups low is.are given.is_run.are
+
+  folded_part : (lists : List (List Row)) → AreInputsOf q (Counted old rows ∷ inputs) lists → AreGroups q (all_rows (Counted old rows ∷ inputs)) new (part q (on_end lists))
+  folded_part [] are = absurd are
+  folded_part (xs ∷ lists) (first, are) =
+      subst (λ n. AreGroups q n new (part q (xs ++ on_end lists))) total
+      (subst (AreGroups q (rows + all_rows inputs) new) (groups_added_part q xs (on_end lists))
+      (added rows (all_rows inputs) (part q xs) (part q (on_end lists)) low first (given.part lists are)))
+
+  folded_keys : AllByRecursion (λ place. place < length q.kinds) q.keys → (lists : List (List Row)) → AllBring q (Counted old rows ∷ inputs) lists → packed_keys new ≡ map packing (distinct row_cmp (on_end lists))
+  folded_keys within [] bring = absurd bring
+  folded_keys within (ks ∷ lists) (one, bring) =
+      let had : keys_of is.groups ≡ ks =
+      packings_once (key_kinds q) (keys_of is.groups) ks (keys_of_kinds q rows old is.groups is.are) one.of_kinds (sym (keys_packed q rows old is.groups is.are) ∙ one.packings_are) in
+      let came : keys_of given.is_run.groups ≡ distinct row_cmp (on_end lists) =
+      packings_once (key_kinds q) (keys_of given.is_run.groups) (distinct row_cmp (on_end lists)) (keys_of_kinds q (all_rows inputs) more given.is_run.groups given.is_run.are)
+      (all_distinct (HasKinds (key_kinds q)) (on_end lists) (brought_kinds q inputs lists within bring))
+      (sym (keys_packed q (all_rows inputs) more given.is_run.groups given.is_run.are) ∙ given.keys lists bring) in
+      keys_packed q (rows + all_rows inputs) new (groups_added q is.groups given.is_run.groups) folded_groups
+      ∙ ap (map packing)
+      (keys_of-groups_added q is.groups given.is_run.groups
+      ∙ (λ i. puts (had i) (came i))
+      ∙ puts_distinct ks (on_end lists) (subst (IsStrictlySortedBy row_cmp) had (run_keys_rise q rows old is.groups is.are is.rises)))
+
+  pub folded : AllByRecursion (λ place. place < length q.kinds) q.keys → Rises new → IsAggregate q (Counted old rows ∷ inputs) new
+  folded within rises =
+      record {
+        part = folded_part;
+        keys = folded_keys within;
+        few = λ lists bring. keys_few new (on_end lists) (folded_keys within lists bring);
+        is_run = record {
+          groups = groups_added q is.groups given.is_run.groups;
+          are = subst (λ n. AreGroups q n new (groups_added q is.groups given.is_run.groups)) total folded_groups;
+          rises = rises;
+        };
+      }
