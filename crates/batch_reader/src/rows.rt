@@ -1,6 +1,6 @@
 //! Packed rows.
 
-ghost use Rattle.std.specs.Prelude.{◌≡◌, ℕ, List, length, IfOk, IfErr};
+ghost use Rattle.std.specs.Prelude.{◌≡◌, ◌↔◌, ℕ, List, length, IsTrue, IfOk, IfErr};
 ghost use Rattle.csv.specs.Records.{fields_of};
 ghost use Rattle.grouping_model.specs.Datum.{Row};
 ghost use Rattle.packed_rows.specs.Columns.{kinds};
@@ -49,6 +49,24 @@ impl PackedRows {
         ensures { bytes_of result.now ≡ self.now }
     {
         &self.rows
+    }
+
+    /// Whether these are the same rows in the same order.
+    pub fn same_rows(&self, other: &PackedRows) -> bool
+        ensures { IsTrue result ↔ (self.now ≡ other.now) }
+    {
+        self.rows == other.rows
+    }
+
+    /// A copy of the rows. The only error is a failed allocation.
+    pub fn try_clone(&self, alloc: Global) -> Result<PackedRows, AllocError>
+        ensures { IfOk result (λ copy. copy ≡ self.now) }
+    {
+        let mut rows = Vec::with_capacity(alloc, self.rows.len())?;
+        for packed in &self.rows {
+            rows.push(packed.to_vec(alloc)?)?;
+        }
+        Ok(PackedRows { rows })
     }
 
     /// How many rows there are.

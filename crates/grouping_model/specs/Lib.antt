@@ -7,5 +7,6 @@ pub mod Query
 pub mod Grouping
 pub mod Parts
 pub mod World
+pub mod Replies
 pub mod Answer
 pub mod Examples

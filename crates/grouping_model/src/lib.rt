@@ -1,7 +1,10 @@
 //! What a query's answer over known batches of rows means, in mathematical types, with its laws and examples.
 #![tactic(auto)]
 
+mod delivered;
 pub mod limits;
+
+pub use delivered::Delivered;
 
 ghost use Rattle.std.specs.Prelude.{◌≡◌, ◌-◌, nat_lt, filter, ◌+◌, ◌<◌, ◌≤◌, ◌≤ℤ◌, ◌↔◌, ℕ, ℤ, Bool, IsSome, IsTrue, ◌≢◌, FitsSigned, List, Contains, [], ◌∷◌, pos, negsuc, ◌||◌, ◌++◌, true, false, codes, if◌then◌else◌};
 ghost use Rattle.std.specs.Int.{w64};

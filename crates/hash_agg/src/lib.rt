@@ -2,6 +2,7 @@
 #![tactic(auto)]
 
 mod aggregation;
+mod copying;
 mod folding;
 mod groups;
 mod input;

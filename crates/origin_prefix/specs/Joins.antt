@@ -1,0 +1,46 @@
+-- What becomes of two parts of one origin that are joined. All of this is our own.
+use Rattle.std.specs.Prelude.{◌≡◌, ◌≢◌, ℕ, ◌<◌, ◌⊎◌, nat_lt, List, map, Option, Some, None, if◌then◌else◌}
+use Rattle.std.specs.List.{AllByRecursion}
+use Rattle.std.specs.List.Sorted.{IsStrictlySortedBy}
+use Rattle.std.specs.Ordering.{nat_cmp}
+use Rattle.grouping_model.specs.Query.{Query}
+use Rattle.origin_prefix.specs.Parts.{Batches, Part, rows_at, Settles}
+
+-- the part whose prefix is the longer one, and the other
+abbrev pub longer : Part → Part → Part
+longer a b = if nat_lt a.prefix b.prefix then b else a
+
+abbrev pub shorter : Part → Part → Part
+shorter a b = if nat_lt a.prefix b.prefix then a else b
+
+-- one of two values that may be absent
+abbrev pub either : {X : Type 0} → Option X → Option X → Option X
+either None y = y
+either (Some x) y = Some x
+
+-- one number behind both prefixes is early in both, with different rows
+pub record EarlyDiffers (a b : Part) : Type 0 where
+  pub number : ℕ
+  pub behind_a : a.prefix < number
+  pub behind_b : b.prefix < number
+  pub rows : List (List ℕ)
+  pub those : List (List ℕ)
+  pub there : rows_at a.early number ≡ Some rows
+  pub there_too : rows_at b.early number ≡ Some those
+  pub differ : rows ≢ those
+
+-- two parts disagree: the same prefix has different groups, or a number different rows
+abbrev pub PartsDisagree : Part → Part → Type 0
+PartsDisagree a b = ((a.prefix ≡ b.prefix) × (a.run ≢ b.run)) ⊎ EarlyDiffers a b
+
+-- the batches behind a number that are early in either of two parts, by rising number
+pub record Unites (prefix : ℕ) (a b : Part) (behind : Batches) : Type 0 where
+  pub rising : IsStrictlySortedBy nat_cmp (map (λ (batch : ℕ × List (List ℕ)). batch.0) behind)
+  pub above : AllByRecursion (λ (batch : ℕ × List (List ℕ)). prefix < batch.0) behind
+  pub rows : (number : ℕ) → prefix < number → rows_at behind number ≡ either (rows_at a.early number) (rows_at b.early number)
+
+-- what two parts give that are joined: the longer prefix's groups, and the early batches of both, as far as they follow, folded
+pub record Joins (query : Query) (a b new : Part) : Type 0 where
+  pub behind : Batches
+  pub united : Unites (longer a b).prefix (longer a b) (shorter a b) behind
+  pub settled : Settles query (longer a b).prefix (longer a b).run behind new

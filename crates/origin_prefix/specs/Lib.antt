@@ -1,0 +1,4 @@
+pub mod Coding
+pub mod Parts
+pub mod Joins
+pub mod Fitting

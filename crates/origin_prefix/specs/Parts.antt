@@ -1,0 +1,114 @@
+-- What is held of one origin, and what becomes of it where batches follow its prefix. All of this is our own.
+use Rattle.std.specs.Prelude.{◌≡◌, ◌≢◌, ℕ, suc, ◌+◌, ◌*◌, ◌<◌, ◌≤◌, ◌==◌, ◌||◌, Bool, false, nat_le, List, [], ◌∷◌, map, take, drop, length, Option, Some, None, if◌then◌else◌, IsTrue}
+use Rattle.std.specs.List.{AllByRecursion}
+use Rattle.std.specs.List.Sorted.{IsStrictlySortedBy}
+use Rattle.std.specs.Map.{lookup}
+use Rattle.std.specs.Option.{is_some}
+use Rattle.std.specs.Ordering.{eq_by_cmp, nat_cmp}
+use Rattle.std.specs.BTreeMap.{insert_entry}
+use Rattle.grouping_model.specs.Datum.{Kind}
+use Rattle.grouping_model.specs.Query.{Query}
+use Rattle.grouping_model.specs.declared.limits.TheConstants.{LAST_NUMBER, MOST_ROWS}
+use Rattle.grouping_model.specs.declared.delivered.Delivered.{Delivered}
+use Rattle.grouping_model.specs.declared.delivered.Delivered.TheVariants as reply
+use Rattle.packed_rows.specs.Columns.{kinds}
+use Rattle.batch_reader.specs.Rows.{ArePackedRows}
+use Rattle.having_filter.specs.Meaning.{Checked, meaning}
+use Rattle.hash_agg.specs.Runs.{Entry}
+use Rattle.hash_agg.specs.Standing.{IsRun}
+use Rattle.hash_agg.specs.Inputs.{Brought, Packed, Counted, IsAggregate}
+
+-- batches by their numbers, each with its packed rows
+abbrev pub Batches : Type 0
+Batches = List (ℕ × List (List ℕ))
+
+-- what is held of an origin
+pub record Part : Type 0 where
+  -- its unbroken prefix: the batches 1 to this number are folded
+  pub prefix : ℕ
+  -- the groups of their rows
+  pub run : List Entry
+  -- the batches that came early, by rising number
+  pub early : Batches
+
+-- nothing is held
+abbrev pub empty : Part
+empty = record { prefix = 0; run = []; early = [] }
+
+-- the rows of a batch, where it is among these
+abbrev pub rows_at : Batches → ℕ → Option (List (List ℕ))
+rows_at batches number = lookup (eq_by_cmp nat_cmp number) batches
+
+-- whether a number is at most the prefix or early
+abbrev pub knows_number : Part → ℕ → Bool
+knows_number part number = nat_le number part.prefix || is_some (rows_at part.early number)
+
+-- a batch that may be early behind a prefix
+pub record IsEarly (kinds : List Kind) (prefix : ℕ) (batch : ℕ × List (List ℕ)) : Type 0 where
+  pub behind : prefix + 1 < batch.0
+  pub within : batch.0 ≤ LAST_NUMBER
+  pub rows : ArePackedRows kinds batch.1
+
+-- a batch that may follow a prefix, at once or later
+pub record IsBehind (kinds : List Kind) (prefix : ℕ) (batch : ℕ × List (List ℕ)) : Type 0 where
+  pub behind : prefix < batch.0
+  pub within : batch.0 ≤ LAST_NUMBER
+  pub rows : ArePackedRows kinds batch.1
+
+-- a part of an origin for a query: its groups count at most the rows that its prefix may have, and its early batches have a gap
+-- before them
+pub record IsPartOf (query : Checked) (part : Part) : Type 0 where
+  pub within : part.prefix ≤ LAST_NUMBER
+  pub run : IsRun (meaning query) (part.prefix * MOST_ROWS) part.run
+  pub few : length part.run ≤ part.prefix * MOST_ROWS
+  pub rising : IsStrictlySortedBy nat_cmp (map (λ (batch : ℕ × List (List ℕ)). batch.0) part.early)
+  pub early : AllByRecursion (IsEarly (kinds query.columns) part.prefix) part.early
+
+-- a prefix with its run, and batches behind it that may follow it
+pub record IsOpen (query : Checked) (prefix : ℕ) (run : List Entry) (behind : Batches) : Type 0 where
+  pub within : prefix ≤ LAST_NUMBER
+  pub is_run : IsRun (meaning query) (prefix * MOST_ROWS) run
+  pub few : length run ≤ prefix * MOST_ROWS
+  pub rising : IsStrictlySortedBy nat_cmp (map (λ (batch : ℕ × List (List ℕ)). batch.0) behind)
+  pub above : AllByRecursion (IsBehind (kinds query.columns) prefix) behind
+
+-- how many of these batches follow a number without a gap
+abbrev pub following : ℕ → Batches → ℕ
+following number [] = 0
+following number (batch ∷ batches) = if batch.0 == number + 1 then suc (following (number + 1) batches) else 0
+
+-- their rows, batch after batch
+abbrev pub rows_following : ℕ → Batches → List (List (List ℕ))
+rows_following number batches = map (λ (batch : ℕ × List (List ℕ)). batch.1) (take (following number batches) batches)
+
+-- batches are folded into a run that counts at most so many rows: it becomes what the aggregation of it and of them gives, and
+-- stays what it is where there are none
+abbrev pub Folds : Query → List Entry → ℕ → List (List (List ℕ)) → List Entry → Type 0
+Folds query old rows [] new = new ≡ old
+Folds query old rows (batch ∷ batches) new = IsAggregate query (Counted old rows ∷ map Packed (batch ∷ batches)) new
+
+-- a prefix with its run takes those of the batches behind it that follow without a gap; the others stay early
+pub record Settles (query : Query) (prefix : ℕ) (run : List Entry) (behind : Batches) (new : Part) : Type 0 where
+  pub upto : new.prefix ≡ prefix + following prefix behind
+  pub folded : Folds query run (prefix * MOST_ROWS) (rows_following prefix behind) new.run
+  pub early : new.early ≡ drop (following prefix behind) behind
+
+-- the batches behind a part's prefix, where the rows of the batch next to it are given or not
+abbrev pub with_next : Part → Option (List (List ℕ)) → Batches
+with_next part None = part.early
+with_next part (Some rows) = (part.prefix + 1, rows) ∷ part.early
+
+-- a batch is there already, with other rows
+pub record Disagrees (part : Part) (number : ℕ) (rows : List (List ℕ)) : Type 0 where
+  pub kept : List (List ℕ)
+  pub there : rows_at part.early number ≡ Some kept
+  pub other : kept ≢ rows
+
+-- what becomes of a part to which a batch is delivered, and what is replied
+abbrev pub Delivers : Query → Part → ℕ → List (List ℕ) → Part → Delivered → Type 0
+Delivers query old number rows new reply.Known =
+    IsTrue (knows_number old number) × ((kept : List (List ℕ)) → rows_at old.early number ≡ Some kept → kept ≡ rows) × (new ≡ old)
+Delivers query old number rows new reply.Early =
+    (knows_number old number ≡ false) × (number ≢ old.prefix + 1) × (new ≡ record old { early = insert_entry nat_cmp old.early number rows })
+Delivers query old number rows new (reply.Folded upto) =
+    (number ≡ old.prefix + 1) × (upto ≡ new.prefix) × Settles query old.prefix old.run ((number, rows) ∷ old.early) new

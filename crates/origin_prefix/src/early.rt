@@ -1,0 +1,93 @@
+//! Early batches, by their numbers.
+
+ghost use Rattle.std.specs.Prelude.{◌≡◌, ◌≢◌, ◌+◌, ◌<◌, ◌≤◌, ◌++◌, ◌↔◌, ℕ, List, Some, None, map, drop, length, nat_lt, IfOk, OnOk, if◌then◌else◌, IsTrue};
+ghost use Rattle.std.specs.List.{AllByRecursion};
+ghost use Rattle.grouping_model.specs.declared.limits.TheConstants.{LAST_NUMBER};
+ghost use Rattle.hash_agg.specs.Inputs.{Packed, brought};
+ghost use Rattle.origin_prefix.specs.Parts.{rows_at, following, rows_following};
+ghost use Rattle.origin_prefix.specs.Joins.{either};
+
+use batch_reader::PackedRows;
+use hash_agg::Input;
+use std::alloc::{AllocError, Global};
+use std::collections::BTreeMap;
+
+/// Adds the rows of the early batches that follow a number without a gap to the inputs. Answers the last of these numbers.
+pub(crate) fn add_following<'a>(
+    early: &'a BTreeMap<u32, PackedRows>,
+    number: u32,
+    inputs: &mut Vec<Input<'a>>,
+) -> Result<u32, AllocError>
+    requires number { number ≤ LAST_NUMBER }
+    requires early { AllByRecursion (λ (batch : ℕ × List (List ℕ)). batch.0 ≤ LAST_NUMBER)
+        early.now.entries }
+    ensures upto { IfOk result (λ upto. upto ≡ number + following number early.now.entries) }
+    ensures limit { IfOk result (λ upto. upto ≤ LAST_NUMBER) }
+    ensures inputs { OnOk result (map brought inputs.new.items ≡ map brought inputs.old.items
+        ++ map Packed (rows_following number early.now.entries)) }
+{
+    let mut upto = number;
+    for (next, rows) in early {
+        if *next != upto + 1 {
+            return Ok(upto);
+        }
+        inputs.push(Input::Rows(rows.as_slice()))?;
+        upto += 1;
+    }
+    Ok(upto)
+}
+
+/// Gives up the first early batches, so many.
+pub(crate) fn drop_first(early: &mut BTreeMap<u32, PackedRows>, count: u32)
+    requires { count ≤ length early.old.entries }
+    ensures { early.new.entries ≡ drop count early.old.entries }
+{
+    for _ in 0..count {
+        early.pop_first();
+    }
+}
+
+/// Copies the early batches above a number to others, but for those whose number is there.
+pub(crate) fn copy_above(
+    alloc: Global,
+    from: &BTreeMap<u32, PackedRows>,
+    number: u32,
+    into: &mut BTreeMap<u32, PackedRows>,
+) -> Result<(), AllocError>
+    ensures rows { OnOk result ((n : ℕ) → rows_at into.new.entries n ≡ either
+        (rows_at into.old.entries n)
+        (if nat_lt number n then rows_at from.now.entries n else None)) }
+{
+    for (next, rows) in from {
+        if *next > number && !into.contains_key(next) {
+            into.insert(*next, rows.try_clone(alloc)?)?;
+        }
+    }
+    Ok(())
+}
+
+/// Whether a number behind another one is there in both, with different rows.
+pub(crate) fn differ_behind(
+    number: u32,
+    one: &BTreeMap<u32, PackedRows>,
+    other: &BTreeMap<u32, PackedRows>,
+) -> bool
+    ensures { IsTrue result ↔ ((n : ℕ) × (rows those : List (List ℕ)) × (number < n)
+        × (rows_at one.now.entries n ≡ Some rows) × (rows_at other.now.entries n ≡ Some those)
+        × (rows ≢ those)) }
+{
+    for (next, rows) in one {
+        if *next > number && differs_from(rows, other.get(next)) {
+            return true;
+        }
+    }
+    false
+}
+
+/// Whether there are rows, and others.
+fn differs_from(rows: &PackedRows, found: Option<&PackedRows>) -> bool {
+    match found {
+        Some(those) => !rows.same_rows(those),
+        None => false,
+    }
+}

@@ -1,0 +1,13 @@
+//! What a replica holds of one origin: the groups of its unbroken prefix, and the batches that came early.
+#![tactic(auto)]
+
+mod early;
+mod error;
+mod joining;
+mod laws;
+mod part;
+
+pub use error::{JoinError, RefusedBatch};
+pub use grouping_model::Delivered;
+pub use laws::{delivered_parts, joined_parts};
+pub use part::OriginPart;

@@ -1,0 +1,214 @@
+//! What is held of one origin.
+
+ghost use Rattle.std.specs.Prelude.{◌≡◌, ◌≢◌, ◌≤◌, ◌*◌, [], IfOk, IfErr, OnOk, OnErr, IsTrue};
+ghost use Rattle.grouping_model.specs.declared.limits.TheConstants.{LAST_NUMBER, MOST_ROWS};
+ghost use Rattle.having_filter.specs.Meaning.{meaning};
+ghost use Rattle.packed_rows.specs.Columns.{kinds};
+ghost use Rattle.batch_reader.specs.Rows.{ArePackedRows};
+ghost use Rattle.origin_prefix.specs.Parts.{Part, empty, knows_number, IsOpen, IsPartOf, with_next, Settles, Delivers, Disagrees};
+ghost use Rattle.origin_prefix.specs.declared.error.JoinError.TheVariants.{NoMemory, OriginDisagrees};
+ghost use Rattle.grouping_model.specs.declared.delivered.Delivered.TheVariants as reply;
+ghost use Rattle.std.specs.BTreeMap.{insert_entry};
+ghost use Rattle.std.specs.Ordering.{nat_cmp};
+ghost use Rattle.std.specs.Option.{option_copied};
+
+use crate::early::{add_following, drop_first};
+use crate::error::{JoinError, RefusedBatch};
+use batch_reader::{Batch, PackedRows};
+use grouping_model::Delivered;
+use grouping_model::limits::MOST_ROWS;
+use hash_agg::{Input, Run, fold};
+use having_filter::Query;
+use std::alloc::{AllocError, Global};
+use std::collections::BTreeMap;
+use std::marker::Model;
+
+/// What is held of one origin: its unbroken prefix, the groups of the rows of these batches, and the batches that came early.
+#[derive(Drop)]
+pub struct OriginPart {
+    pub(crate) alloc: Global,
+    pub(crate) prefix: u32,
+    pub(crate) run: Run,
+    pub(crate) early: BTreeMap<u32, PackedRows>,
+}
+
+impl Model for OriginPart {
+    ghost use Rattle.origin_prefix.specs.Coding.{coded_part};
+    ghost use Rattle.origin_prefix.specs.Parts.{Part};
+
+    ghost Value = { Part };
+
+    ghost coded = { coded_part };
+
+    ghost view = { λ p. record { prefix = p.prefix; run = p.run; early = p.early.entries } };
+}
+
+/// The most rows that the batches 1 to a number have.
+pub(crate) fn most_rows(number: u32) -> u64
+    ensures { result ≡ number * MOST_ROWS }
+{
+    u64::from(number) * u64::from(MOST_ROWS)
+}
+
+/// A batch that is handed back, and why.
+fn refused(batch: Batch, why: JoinError) -> RefusedBatch
+    ensures { (result.batch ≡ batch) × (result.why ≡ why) }
+{
+    RefusedBatch { batch, why }
+}
+
+/// What is replied to a batch whose number is kept early, with these rows.
+fn known_again(kept: &PackedRows, batch: Batch) -> Result<Delivered, RefusedBatch>
+    ensures known { IfOk result (λ reply. (reply ≡ reply.Known) × (kept.now ≡ batch.rows)) }
+    ensures other { IfErr result (λ e. (e.batch ≡ batch) × (e.why ≡ OriginDisagrees)
+        × (kept.now ≢ batch.rows)) }
+{
+    if kept.same_rows(&batch.rows) {
+        return Ok(Delivered::Known);
+    }
+    Err(refused(batch, JoinError::OriginDisagrees))
+}
+
+impl OriginPart {
+    /// Nothing is held.
+    pub fn empty(alloc: Global) -> OriginPart
+        ensures { result ≡ empty }
+    {
+        OriginPart {
+            alloc,
+            prefix: 0,
+            run: Run::new(alloc),
+            early: BTreeMap::new(alloc),
+        }
+    }
+
+    /// A part of these: the unbroken prefix, the groups of its rows, and the batches that came early.
+    pub fn from_fields(
+        alloc: Global,
+        prefix: u32,
+        run: Run,
+        early: BTreeMap<u32, PackedRows>,
+    ) -> OriginPart
+        ensures { result ≡ record { prefix = prefix; run = run; early = early.entries } }
+    {
+        OriginPart {
+            alloc,
+            prefix,
+            run,
+            early,
+        }
+    }
+
+    /// The unbroken prefix: the batches 1 to this number are folded.
+    pub fn prefix(&self) -> u32
+        ensures { result ≡ self.now.prefix }
+    {
+        self.prefix
+    }
+
+    /// The groups of the rows of the prefix.
+    pub fn run(&self) -> &Run
+        ensures { result.now ≡ self.now.run }
+    {
+        &self.run
+    }
+
+    /// The batches that came early, by rising number.
+    pub fn early(&self) -> &BTreeMap<u32, PackedRows>
+        ensures { result.now.entries ≡ self.now.early }
+    {
+        &self.early
+    }
+
+    /// Whether a number is at most the prefix, or early.
+    pub fn knows(&self, number: u32) -> bool
+        ensures { result ≡ knows_number self.now number }
+    {
+        number <= self.prefix || self.early.contains_key(&number)
+    }
+
+    /// Folds the early batches that follow the prefix without a gap, behind the rows of the batch next to it where these
+    /// are given. Where memory is wanting, nothing is changed.
+    pub(crate) fn settle(
+        &mut self,
+        query: &Query,
+        next: Option<&PackedRows>,
+    ) -> Result<(), AllocError>
+        requires open { IsOpen query.now self.old.prefix self.old.run
+            (with_next self.old (option_copied next)) }
+        ensures settled { OnOk result (Settles (meaning query.now) self.old.prefix self.old.run
+            (with_next self.old (option_copied next)) self.new) }
+        ensures refused { OnErr result (self.new ≡ self.old) }
+    {
+        let mut inputs = Vec::new(self.alloc);
+        let mut number = self.prefix;
+        if let Some(rows) = next {
+            inputs.push(Input::Rows(rows.as_slice()))?;
+            number += 1;
+        }
+        let upto = add_following(&self.early, number, &mut inputs)?;
+        if upto == self.prefix {
+            return Ok(());
+        }
+        fold(self.alloc, query, &mut self.run, most_rows(self.prefix), &inputs)?;
+        drop_first(&mut self.early, upto - number);
+        self.prefix = upto;
+        Ok(())
+    }
+
+    /// Keeps a batch that is neither known nor next to the prefix.
+    fn keep_early(&mut self, batch: Batch) -> Result<Delivered, RefusedBatch>
+        ensures kept { IfOk result (λ reply. (reply ≡ reply.Early) × (self.new ≡ record self.old { early
+            = insert_entry nat_cmp self.old.early batch.number batch.rows })) }
+        ensures refused { IfErr result (λ e. (e.batch ≡ batch) × (e.why ≡ NoMemory)
+            × (self.new ≡ self.old)) }
+    {
+        let Batch {
+            origin,
+            number,
+            rows,
+        } = batch;
+        match self.early.insert(number, rows) {
+            Ok(_) => Ok(Delivered::Early),
+            Err(failed) => {
+                let (number, rows) = failed.value;
+                let batch = Batch {
+                    origin,
+                    number,
+                    rows,
+                };
+                Err(refused(batch, JoinError::NoMemory))
+            }
+        }
+    }
+
+    /// Takes a batch of the origin for a query, whose table it is a batch of. A number that is known already changes nothing; one
+    /// next to the unbroken prefix is folded with the early ones that follow without a gap; any other is kept until then. A refused
+    /// batch is handed back and changes nothing: one whose number is kept early with other rows disagrees. A number within the prefix
+    /// is known, whatever its rows.
+    pub fn deliver(&mut self, query: &Query, batch: Batch) -> Result<Delivered, RefusedBatch>
+        requires part { IsPartOf query.now self.old }
+        requires number { (1 ≤ batch.number) × (batch.number ≤ LAST_NUMBER) }
+        requires rows { ArePackedRows (kinds query.now.columns) batch.rows }
+        ensures delivers { IfOk result (Delivers (meaning query.now) self.old batch.number batch.rows
+            self.new) }
+        ensures part { IsPartOf query.now self.new }
+        ensures refused { IfErr result (λ e. (e.batch ≡ batch) × (self.new ≡ self.old)) }
+        ensures why { IfErr result (λ e. e.why ≡ OriginDisagrees →
+            Disagrees self.old batch.number batch.rows) }
+    {
+        if batch.number <= self.prefix {
+            return Ok(Delivered::Known);
+        }
+        if let Some(kept) = self.early.get(&batch.number) {
+            return known_again(kept, batch);
+        }
+        if batch.number - 1 != self.prefix {
+            return self.keep_early(batch);
+        }
+        match self.settle(query, Some(&batch.rows)) {
+            Ok(()) => Ok(Delivered::Folded { upto: self.prefix }),
+            Err(_) => Err(refused(batch, JoinError::NoMemory)),
+        }
+    }
+}
