@@ -1,5 +1,5 @@
 -- What becomes of two parts of one origin that are joined. All of this is our own.
-use Rattle.std.specs.Prelude.{◌≡◌, ◌≢◌, ℕ, ◌<◌, ◌⊎◌, nat_lt, List, map, Option, Some, None, if◌then◌else◌}
+use Rattle.std.specs.Prelude.{◌≡◌, ◌≢◌, ℕ, ◌<◌, ◌⊎◌, max, nat_lt, List, map, Option, Some, None, if◌then◌else◌}
 use Rattle.std.specs.List.{AllByRecursion}
 use Rattle.std.specs.List.Sorted.{IsStrictlySortedBy}
 use Rattle.std.specs.Ordering.{nat_cmp}
@@ -18,20 +18,19 @@ abbrev pub either : {X : Type 0} → Option X → Option X → Option X
 either None y = y
 either (Some x) y = Some x
 
--- one number behind both prefixes is early in both, with different rows
-pub record EarlyDiffers (a b : Part) : Type 0 where
+-- a number behind another one is there in both, with different rows
+pub record DiffersBehind (above : ℕ) (one other : Batches) : Type 0 where
   pub number : ℕ
-  pub behind_a : a.prefix < number
-  pub behind_b : b.prefix < number
+  pub behind : above < number
   pub rows : List (List ℕ)
   pub those : List (List ℕ)
-  pub there : rows_at a.early number ≡ Some rows
-  pub there_too : rows_at b.early number ≡ Some those
+  pub there : rows_at one number ≡ Some rows
+  pub there_too : rows_at other number ≡ Some those
   pub differ : rows ≢ those
 
--- two parts disagree: the same prefix has different groups, or a number different rows
+-- two parts disagree: the same prefix has different groups, or a number behind both prefixes different rows
 abbrev pub PartsDisagree : Part → Part → Type 0
-PartsDisagree a b = ((a.prefix ≡ b.prefix) × (a.run ≢ b.run)) ⊎ EarlyDiffers a b
+PartsDisagree a b = ((a.prefix ≡ b.prefix) × (a.run ≢ b.run)) ⊎ DiffersBehind (max a.prefix b.prefix) a.early b.early
 
 -- the batches behind a number that are early in either of two parts, by rising number
 pub record Unites (prefix : ℕ) (a b : Part) (behind : Batches) : Type 0 where

@@ -65,12 +65,12 @@ pub record IsPartOf (query : Checked) (part : Part) : Type 0 where
   pub early : AllByRecursion (IsEarly (kinds query.columns) part.prefix) part.early
 
 -- a prefix with its run, and batches behind it that may follow it
-pub record IsOpen (query : Checked) (prefix : ℕ) (run : List Entry) (behind : Batches) : Type 0 where
+pub record IsOpen (query : Checked) (prefix : ℕ) (run : List Entry) (batches : Batches) : Type 0 where
   pub within : prefix ≤ LAST_NUMBER
   pub is_run : IsRun (meaning query) (prefix * MOST_ROWS) run
   pub few : length run ≤ prefix * MOST_ROWS
-  pub rising : IsStrictlySortedBy nat_cmp (map (λ (batch : ℕ × List (List ℕ)). batch.0) behind)
-  pub above : AllByRecursion (IsBehind (kinds query.columns) prefix) behind
+  pub rising : IsStrictlySortedBy nat_cmp (map (λ (batch : ℕ × List (List ℕ)). batch.0) batches)
+  pub above : AllByRecursion (IsBehind (kinds query.columns) prefix) batches
 
 -- how many of these batches follow a number without a gap
 abbrev pub following : ℕ → Batches → ℕ
@@ -87,16 +87,16 @@ abbrev pub Folds : Query → List Entry → ℕ → List (List (List ℕ)) → L
 Folds query old rows [] new = new ≡ old
 Folds query old rows (batch ∷ batches) new = IsAggregate query (Counted old rows ∷ map Packed (batch ∷ batches)) new
 
--- a prefix with its run takes those of the batches behind it that follow without a gap; the others stay early
-pub record Settles (query : Query) (prefix : ℕ) (run : List Entry) (behind : Batches) (new : Part) : Type 0 where
-  pub upto : new.prefix ≡ prefix + following prefix behind
-  pub folded : Folds query run (prefix * MOST_ROWS) (rows_following prefix behind) new.run
-  pub early : new.early ≡ drop (following prefix behind) behind
+-- the batches behind a prefix: the early ones, and the one next to it where its rows are given
+abbrev pub behind : ℕ → Batches → Option (List (List ℕ)) → Batches
+behind prefix early None = early
+behind prefix early (Some rows) = (prefix + 1, rows) ∷ early
 
--- the batches behind a part's prefix, where the rows of the batch next to it are given or not
-abbrev pub with_next : Part → Option (List (List ℕ)) → Batches
-with_next part None = part.early
-with_next part (Some rows) = (part.prefix + 1, rows) ∷ part.early
+-- a prefix with its run takes those of the batches behind it that follow without a gap; the others stay early
+pub record Settles (query : Query) (prefix : ℕ) (run : List Entry) (batches : Batches) (new : Part) : Type 0 where
+  pub upto : new.prefix ≡ prefix + following prefix batches
+  pub folded : Folds query run (prefix * MOST_ROWS) (rows_following prefix batches) new.run
+  pub early : new.early ≡ drop (following prefix batches) batches
 
 -- a batch is there already, with other rows
 pub record Disagrees (part : Part) (number : ℕ) (rows : List (List ℕ)) : Type 0 where
@@ -111,4 +111,4 @@ Delivers query old number rows new reply.Known =
 Delivers query old number rows new reply.Early =
     (knows_number old number ≡ false) × (number ≢ old.prefix + 1) × (new ≡ record old { early = insert_entry nat_cmp old.early number rows })
 Delivers query old number rows new (reply.Folded upto) =
-    (number ≡ old.prefix + 1) × (upto ≡ new.prefix) × Settles query old.prefix old.run ((number, rows) ∷ old.early) new
+    (number ≡ old.prefix + 1) × (upto ≡ new.prefix) × Settles query old.prefix old.run (behind old.prefix old.early (Some rows)) new

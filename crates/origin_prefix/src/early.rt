@@ -5,7 +5,8 @@ ghost use Rattle.std.specs.List.{AllByRecursion};
 ghost use Rattle.grouping_model.specs.declared.limits.TheConstants.{LAST_NUMBER};
 ghost use Rattle.hash_agg.specs.Inputs.{Packed, brought};
 ghost use Rattle.origin_prefix.specs.Parts.{rows_at, following, rows_following};
-ghost use Rattle.origin_prefix.specs.Joins.{either};
+ghost use Rattle.origin_prefix.specs.Joins.{either, DiffersBehind};
+ghost use Rattle.std.specs.Option.{option_copied};
 
 use batch_reader::PackedRows;
 use hash_agg::Input;
@@ -39,7 +40,6 @@ pub(crate) fn add_following<'a>(
 
 /// Gives up the first early batches, so many.
 pub(crate) fn drop_first(early: &mut BTreeMap<u32, PackedRows>, count: u32)
-    requires { count ≤ length early.old.entries }
     ensures { early.new.entries ≡ drop count early.old.entries }
 {
     for _ in 0..count {
@@ -72,9 +72,7 @@ pub(crate) fn differ_behind(
     one: &BTreeMap<u32, PackedRows>,
     other: &BTreeMap<u32, PackedRows>,
 ) -> bool
-    ensures { IsTrue result ↔ ((n : ℕ) × (rows those : List (List ℕ)) × (number < n)
-        × (rows_at one.now.entries n ≡ Some rows) × (rows_at other.now.entries n ≡ Some those)
-        × (rows ≢ those)) }
+    ensures { IsTrue result ↔ DiffersBehind number one.now.entries other.now.entries }
 {
     for (next, rows) in one {
         if *next > number && differs_from(rows, other.get(next)) {
@@ -85,7 +83,10 @@ pub(crate) fn differ_behind(
 }
 
 /// Whether there are rows, and others.
-fn differs_from(rows: &PackedRows, found: Option<&PackedRows>) -> bool {
+fn differs_from(rows: &PackedRows, found: Option<&PackedRows>) -> bool
+    ensures { IsTrue result ↔ ((those : List (List ℕ)) × (option_copied found.entry ≡ Some those)
+        × (rows.now ≢ those)) }
+{
     match found {
         Some(those) => !rows.same_rows(those),
         None => false,

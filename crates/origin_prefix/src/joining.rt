@@ -1,9 +1,9 @@
 //! Joining two parts of one origin.
 
-ghost use Rattle.std.specs.Prelude.{◌≡◌, ◌≤◌, IfOk, IfErr};
+ghost use Rattle.std.specs.Prelude.{◌≡◌, ◌≤◌, ◌↔◌, IsTrue, IfOk, IfErr};
 ghost use Rattle.having_filter.specs.Meaning.{meaning};
-ghost use Rattle.origin_prefix.specs.Parts.{IsPartOf};
-ghost use Rattle.origin_prefix.specs.Joins.{PartsDisagree, Joins};
+ghost use Rattle.origin_prefix.specs.Parts.{Batches, IsPartOf, Settles};
+ghost use Rattle.origin_prefix.specs.Joins.{PartsDisagree, Joins, Unites};
 ghost use Rattle.origin_prefix.specs.declared.error.JoinError.TheVariants.{OriginDisagrees};
 
 use crate::early::{copy_above, differ_behind};

@@ -9,5 +9,4 @@ mod part;
 
 pub use error::{JoinError, RefusedBatch};
 pub use grouping_model::Delivered;
-pub use laws::{delivered_parts, joined_parts};
 pub use part::OriginPart;

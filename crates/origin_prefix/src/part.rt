@@ -1,13 +1,13 @@
 //! What is held of one origin.
 
-ghost use Rattle.std.specs.Prelude.{◌≡◌, ◌≢◌, ◌≤◌, ◌*◌, [], IfOk, IfErr, OnOk, OnErr, IsTrue};
+ghost use Rattle.std.specs.Prelude.{◌≡◌, ◌≢◌, ◌≤◌, ◌+◌, ◌*◌, [], IfOk, IfErr, OnOk, OnErr, IsTrue};
 ghost use Rattle.grouping_model.specs.declared.limits.TheConstants.{LAST_NUMBER, MOST_ROWS};
 ghost use Rattle.having_filter.specs.Meaning.{meaning};
 ghost use Rattle.packed_rows.specs.Columns.{kinds};
 ghost use Rattle.batch_reader.specs.Rows.{ArePackedRows};
-ghost use Rattle.origin_prefix.specs.Parts.{Part, empty, knows_number, IsOpen, IsPartOf, with_next, Settles, Delivers, Disagrees};
+ghost use Rattle.origin_prefix.specs.Parts.{Part, empty, knows_number, IsOpen, IsPartOf, behind, following, rows_following, Folds, Settles, Delivers, Disagrees};
 ghost use Rattle.origin_prefix.specs.declared.error.JoinError.TheVariants.{NoMemory, OriginDisagrees};
-ghost use Rattle.grouping_model.specs.declared.delivered.Delivered.TheVariants as reply;
+ghost use Rattle.grouping_model.specs.declared.delivered.Delivered.TheVariants.{Early, Known};
 ghost use Rattle.std.specs.BTreeMap.{insert_entry};
 ghost use Rattle.std.specs.Ordering.{nat_cmp};
 ghost use Rattle.std.specs.Option.{option_copied};
@@ -59,7 +59,7 @@ fn refused(batch: Batch, why: JoinError) -> RefusedBatch
 
 /// What is replied to a batch whose number is kept early, with these rows.
 fn known_again(kept: &PackedRows, batch: Batch) -> Result<Delivered, RefusedBatch>
-    ensures known { IfOk result (λ reply. (reply ≡ reply.Known) × (kept.now ≡ batch.rows)) }
+    ensures known { IfOk result (λ reply. (reply ≡ Known) × (kept.now ≡ batch.rows)) }
     ensures other { IfErr result (λ e. (e.batch ≡ batch) × (e.why ≡ OriginDisagrees)
         × (kept.now ≢ batch.rows)) }
 {
@@ -67,6 +67,38 @@ fn known_again(kept: &PackedRows, batch: Batch) -> Result<Delivered, RefusedBatc
         return Ok(Delivered::Known);
     }
     Err(refused(batch, JoinError::OriginDisagrees))
+}
+
+/// Folds into the run of a prefix the rows of the batch next to it, where they are given, and of the early batches that follow
+/// without a gap. Answers the last number that is folded. Where memory is wanting, nothing is changed.
+fn fold_following(
+    alloc: Global,
+    query: &Query,
+    prefix: u32,
+    run: &mut Run,
+    next: Option<&PackedRows>,
+    early: &BTreeMap<u32, PackedRows>,
+) -> Result<u32, AllocError>
+    requires open { IsOpen query.now prefix run.old
+        (behind prefix early.now.entries (option_copied next)) }
+    ensures upto { IfOk result (λ upto. upto ≡ prefix
+        + following prefix (behind prefix early.now.entries (option_copied next.entry))) }
+    ensures limit { IfOk result (λ upto. upto ≤ LAST_NUMBER) }
+    ensures folded { OnOk result (Folds (meaning query.now) run.old (prefix * MOST_ROWS)
+        (rows_following prefix (behind prefix early.now.entries (option_copied next.entry))) run.new) }
+    ensures refused { OnErr result (run.new ≡ run.old) }
+{
+    let mut inputs = Vec::new(alloc);
+    let mut number = prefix;
+    if let Some(rows) = next {
+        inputs.push(Input::Rows(rows.as_slice()))?;
+        number += 1;
+    }
+    let upto = add_following(early, number, &mut inputs)?;
+    if upto > prefix {
+        fold(alloc, query, run, most_rows(prefix), &inputs)?;
+    }
+    Ok(upto)
 }
 
 impl OriginPart {
@@ -135,30 +167,25 @@ impl OriginPart {
         next: Option<&PackedRows>,
     ) -> Result<(), AllocError>
         requires open { IsOpen query.now self.old.prefix self.old.run
-            (with_next self.old (option_copied next)) }
+            (behind self.old.prefix self.old.early (option_copied next)) }
         ensures settled { OnOk result (Settles (meaning query.now) self.old.prefix self.old.run
-            (with_next self.old (option_copied next)) self.new) }
+            (behind self.old.prefix self.old.early (option_copied next.entry)) self.new) }
         ensures refused { OnErr result (self.new ≡ self.old) }
     {
-        let mut inputs = Vec::new(self.alloc);
-        let mut number = self.prefix;
-        if let Some(rows) = next {
-            inputs.push(Input::Rows(rows.as_slice()))?;
-            number += 1;
+        let next_is_given = next.is_some();
+        let upto = fold_following(self.alloc, query, self.prefix, &mut self.run, next, &self.early)?;
+        let mut count = upto - self.prefix;
+        if next_is_given {
+            count -= 1;
         }
-        let upto = add_following(&self.early, number, &mut inputs)?;
-        if upto == self.prefix {
-            return Ok(());
-        }
-        fold(self.alloc, query, &mut self.run, most_rows(self.prefix), &inputs)?;
-        drop_first(&mut self.early, upto - number);
+        drop_first(&mut self.early, count);
         self.prefix = upto;
         Ok(())
     }
 
     /// Keeps a batch that is neither known nor next to the prefix.
     fn keep_early(&mut self, batch: Batch) -> Result<Delivered, RefusedBatch>
-        ensures kept { IfOk result (λ reply. (reply ≡ reply.Early) × (self.new ≡ record self.old { early
+        ensures kept { IfOk result (λ reply. (reply ≡ Early) × (self.new ≡ record self.old { early
             = insert_entry nat_cmp self.old.early batch.number batch.rows })) }
         ensures refused { IfErr result (λ e. (e.batch ≡ batch) × (e.why ≡ NoMemory)
             × (self.new ≡ self.old)) }

@@ -1,0 +1,14 @@
+use Rattle.std.specs.Prelude.{◌≡◌, Some}
+use Rattle.std.specs.List.{AllByRecursion}
+use Rattle.origin_prefix.specs.Parts.{rows_at}
+use Rattle.origin_prefix.specs.Joins.{DiffersBehind}
+use Rattle.origin_prefix.proofs.early.differ_behind.Given as goal
+
+abbrev pub invariant-loop-next : goal.invariant-loop-next
+invariant-loop-next l =
+    record {
+      left : DiffersBehind l.number l.one.entries l.other.entries → DiffersBehind l.number l.next-iterator l.other.entries;
+      found : AllByRecursion (λ e. rows_at l.one.entries e.0 ≡ Some e.1) l.next-iterator;
+      can : (goal.iterator-loop-next).can_next l.next-iterator;
+      finite : (goal.iterator-loop-next).is_finite l.next-iterator;
+    }
