@@ -20,7 +20,7 @@ use Rattle.packed_rows.proofs.PackingOrder.{packed_order, row_apart}
 use Rattle.agg_protocol.specs.States.{most_rows}
 use Rattle.agg_library.specs.StateRows.{AllWithin}
 use Rattle.having_filter.specs.Kept.{key_kinds}
-use Rattle.hash_agg.specs.Runs.{Entry, entries_of, entries_in, packed_keys, Rises}
+use Rattle.hash_agg.specs.Runs.{Entry, entries_in, packed_keys, Rises}
 use Rattle.hash_agg.specs.Standing.{StandsFor, AreGroups}
 use Rattle.hash_agg.specs.Inputs.{Brought, Packed, Counted, ArePackings, rows_in}
 use Rattle.packed_rows.specs.View.{bytes_of}
@@ -72,13 +72,14 @@ pub record GroupAt (q : Query) (most : ℕ) (groups : List Group) (i : ℕ) (ent
   pub at : slice_get groups i ≡ Some group
   pub stands : StandsFor q most entry group
 
-pub group_at : (q : Query) (most : ℕ) (items : List (Vec ℕ Global × Vec ℕ Global)) (groups : List Group) (i : ℕ) (item : Vec ℕ Global × Vec ℕ Global) → AreGroups q most (entries_of items) groups → i < length items → item ≡ slice_index_or items i item → GroupAt q most groups i (item.0.items, item.1.items)
-group_at q most [] groups i item are low is = absurd (omega arith)
-group_at q most (e ∷ items) [] i item are low is = absurd are
-group_at q most (e ∷ items) (g ∷ groups) zero item (first, rest) low is =
-    record { group = g; at = refl; stands = subst (λ (e : Vec ℕ Global × Vec ℕ Global). StandsFor q most (e.0.items, e.1.items) g) (sym is) first }
-group_at q most (e ∷ items) (g ∷ groups) (suc i) item (first, rest) low is =
-    let found = group_at q most items groups i item rest (omega arith) is in
+pub group_at : (q : Query) (most : ℕ) (run : List Entry) (groups : List Group) (i : ℕ) (entry : Entry) → AreGroups q most run groups → slice_get run i ≡ Some entry → GroupAt q most groups i entry
+group_at q most [] groups i entry are at = absurd cc
+group_at q most (e ∷ run) [] i entry are at = absurd are
+group_at q most (e ∷ run) (g ∷ groups) zero entry (first, rest) at =
+    let same : e ≡ entry = cc in
+    record { group = g; at = refl; stands = subst (λ e. StandsFor q most e g) same first }
+group_at q most (e ∷ run) (g ∷ groups) (suc i) entry (first, rest) at =
+    let found = group_at q most run groups i entry rest at in
     record { group = found.group; at = found.at; stands = found.stands }
 
 pub groups_long : (q : Query) (most : ℕ) (run : List Entry) (groups : List Group) → AreGroups q most run groups → length run ≡ length groups

@@ -6,3 +6,4 @@ pub mod InputLaws
 pub mod WholeLaws
 pub mod BytesLaws
 pub mod FoldLaws
+pub mod FlatLaws

@@ -1,5 +1,6 @@
 -- Runs of groups in bytes. All of this is our own.
-use Rattle.std.specs.Prelude.{ℕ, List, map}
+use Rattle.std.specs.Prelude.{◌≡◌, ℕ, ◌+◌, List, [], ◌∷◌, map, length, slice_range}
+use Rattle.std.specs.List.{flat_map}
 use Rattle.std.specs.Ordering.{nat_cmp}
 use Rattle.std.specs.Cmp.Lexicographic.{slice_cmp}
 use Rattle.std.specs.List.Sorted.{IsStrictlySortedBy}
@@ -10,10 +11,6 @@ use Rattle.smallvec.specs.SmallVec.{SmallVec}
 -- a packed key, and the bytes of its states
 abbrev pub Entry : Type 0
 Entry = List ℕ × List ℕ
-
--- the bytes of some entries of the code
-abbrev pub entries_of : List (Vec ℕ Global × Vec ℕ Global) → List Entry
-entries_of entries = map (λ (e : Vec ℕ Global × Vec ℕ Global). (e.0.items, e.1.items)) entries
 
 -- the bytes of some entries of a map
 abbrev pub entries_in : List (SmallVec ℕ × Vec ℕ Global) → List Entry
@@ -26,3 +23,38 @@ packed_keys run = map (λ (e : Entry). e.0) run
 -- each packed key is above the one before it, byte by byte
 abbrev pub Rises : List Entry → Type 0
 Rises run = IsStrictlySortedBy (slice_cmp nat_cmp) (packed_keys run)
+
+-- the packed keys on end, and the states on end
+abbrev pub keys_on_end : List Entry → List ℕ
+keys_on_end run = flat_map (λ (e : Entry). e.0) run
+
+abbrev pub states_on_end : List Entry → List ℕ
+states_on_end run = flat_map (λ (e : Entry). e.1) run
+
+-- where a group that begins at these places ends, in the keys and in the states
+abbrev pub end_of : ℕ × ℕ → Entry → ℕ × ℕ
+end_of from entry = (from.0 + length entry.0, from.1 + length entry.1)
+
+-- where each group ends, the first beginning at these places
+abbrev pub ends_of : ℕ × ℕ → List Entry → List (ℕ × ℕ)
+ends_of from [] = []
+ends_of from (entry ∷ run) = end_of from entry ∷ ends_of (end_of from entry) run
+
+-- the groups that keys and states on end make up, by where each ends, the first beginning at these places
+abbrev pub cut : List ℕ → List ℕ → ℕ × ℕ → List (ℕ × ℕ) → List Entry
+cut keys states from [] = []
+cut keys states from (to ∷ ends) = (slice_range keys from.0 to.0, slice_range states from.1 to.1) ∷ cut keys states to ends
+
+abbrev pub all_cut : List ℕ → List ℕ → List (ℕ × ℕ) → List Entry
+all_cut keys states ends = cut keys states (0, 0) ends
+
+-- keys on end, states on end and where each group ends are those of a run
+pub record LieAs (keys states : List ℕ) (ends : List (ℕ × ℕ)) (run : List Entry) : Type 0 where
+  pub keys_are : keys ≡ keys_on_end run
+  pub states_are : states ≡ states_on_end run
+  pub ends_are : ends ≡ ends_of (0, 0) run
+
+-- they are those of the run that they make up, whose keys rise
+pub record AreRun (keys states : List ℕ) (ends : List (ℕ × ℕ)) : Type 0 where
+  pub lie : LieAs keys states ends (all_cut keys states ends)
+  pub rises : Rises (all_cut keys states ends)

@@ -166,8 +166,9 @@ impl Groups {
         requires { HasRoomForRun (meaning query.now) self.old run.now }
         ensures { OnOk result (AddsRun (meaning query.now) self.old run.now self.new) }
     {
-        for group in run.entries() {
-            self.add_group(query, &group.0, &group.1)?;
+        for place in 0..run.len() {
+            let (key, states) = run.group(place);
+            self.add_group(query, key, states)?;
         }
         Ok(())
     }
@@ -191,10 +192,9 @@ impl Groups {
         ensures rises { IfOk result Rises }
     {
         let Groups { alloc, states } = self;
-        let mut run = Run::with_capacity(alloc, states.len())?;
+        let mut run = Run::with_capacity(alloc, states.len(), 0, 0)?;
         for (key, states) in states {
-            let key = key.as_slice().to_vec(alloc)?;
-            run.push(key, states)?;
+            run.push(key.as_slice(), states.as_slice())?;
         }
         Ok(run)
     }

@@ -1,26 +1,73 @@
 //! Runs of groups.
 
-ghost use Rattle.std.specs.Prelude.{◌≡◌, ◌<◌, ◌++◌, ◌∷◌, [], length, slice_get, Some, IsTrue, ◌↔◌, IfOk, OnOk, OnErr};
-ghost use Rattle.hash_agg.specs.Runs.{Entry, entries_of, Rises};
+ghost use Rattle.std.specs.Prelude.{◌≡◌, ◌<◌, ◌≤◌, ◌++◌, ◌∷◌, [], length, slice_get, slice_index_or, slice_range, Some, IsTrue, ◌↔◌, IfOk, OnOk, OnErr};
+ghost use Rattle.hash_agg.specs.Runs.{Rises, all_cut, LieAs, keys_on_end, states_on_end};
 
 use std::alloc::{AllocError, Global};
 use std::marker::Model;
 
 /// Groups in the order of their keys, each with the bytes of its key and of its states. No two have the same key.
+///
+/// The keys lie on end, and so do the states.
 #[derive(Drop)]
 pub struct Run {
-    groups: Vec<(Vec<u8>, Vec<u8>)>,
+    keys: Vec<u8>,
+    states: Vec<u8>,
+    /// Where the key and the states of each group end.
+    ends: Vec<(usize, usize)>,
 }
 
 impl Model for Run {
     ghost use Rattle.std.specs.Prelude.{List};
-    ghost use Rattle.hash_agg.specs.Runs.{Entry, entries_of, Rises};
+    ghost use Rattle.hash_agg.specs.Runs.{Entry, all_cut, AreRun};
 
     ghost Value = { List Entry };
 
-    ghost view = { λ r. entries_of r.groups.items };
+    ghost view = { λ r. all_cut r.keys.items r.states.items r.ends.items };
 
-    ghost invariant = { λ r. Rises (entries_of r.groups.items) };
+    ghost invariant = { λ r. AreRun r.keys.items r.states.items r.ends.items };
+}
+
+/// Where the first groups, so many of them, end.
+fn bound(ends: &[(usize, usize)], groups: usize) -> (usize, usize)
+    requires { groups ≤ length ends.now }
+    ensures { result ≡ slice_index_or ((0, 0) ∷ ends.now) groups (0, 0) }
+{
+    if groups == 0 {
+        (0, 0)
+    } else {
+        ends[groups - 1]
+    }
+}
+
+/// The bytes from a place to another.
+fn part(bytes: &[u8], from: usize, to: usize) -> &[u8]
+    requires rises { from ≤ to }
+    requires within { to ≤ length bytes.now }
+    ensures { result.now ≡ slice_range bytes.now from to }
+{
+    &bytes[from..to]
+}
+
+/// The keys and the states of the groups from a place to another, on end.
+fn parts<'a>(
+    keys: &'a [u8],
+    states: &'a [u8],
+    ends: &[(usize, usize)],
+    from: usize,
+    to: usize,
+) -> (&'a [u8], &'a [u8])
+    requires lie { LieAs keys.now states.now ends.now (all_cut keys.now states.now ends.now) }
+    requires rises { from ≤ to }
+    requires within { to ≤ length ends.now }
+    ensures keys { result.0.now ≡ keys_on_end
+        (slice_range (all_cut keys.now states.now ends.now) from to) }
+    ensures states { result.1.now ≡ states_on_end
+        (slice_range (all_cut keys.now states.now ends.now) from to) }
+{
+    let start = bound(ends, from);
+    let end = bound(ends, to);
+    (part(keys, start.0, end.0), part(states, start.1, end.1))
 }
 
 impl Run {
@@ -29,26 +76,41 @@ impl Run {
         ensures { result ≡ [] }
     {
         Run {
-            groups: Vec::new(alloc),
+            keys: Vec::new(alloc),
+            states: Vec::new(alloc),
+            ends: Vec::new(alloc),
         }
     }
 
-    /// A run of no groups that has room for so many. The only error is a failed allocation.
-    pub(crate) fn with_capacity(alloc: Global, groups: usize) -> Result<Run, AllocError>
+    /// A run of no groups that has room for so many, with keys and states of so many bytes. The only error is a failed
+    /// allocation.
+    pub fn with_capacity(
+        alloc: Global,
+        groups: usize,
+        keys: usize,
+        states: usize,
+    ) -> Result<Run, AllocError>
         ensures { IfOk result (λ run. run ≡ []) }
     {
-        let groups = Vec::with_capacity(alloc, groups)?;
-        Ok(Run { groups })
+        let keys = Vec::with_capacity(alloc, keys)?;
+        let states = Vec::with_capacity(alloc, states)?;
+        let ends = Vec::with_capacity(alloc, groups)?;
+        Ok(Run { keys, states, ends })
     }
 
     /// Adds a group at the end. Its key is above the last one. The only error is a failed allocation, which changes
     /// nothing.
-    pub fn push(&mut self, key: Vec<u8>, states: Vec<u8>) -> Result<(), AllocError>
-        requires { Rises (self.old ++ (key.items, states.items) ∷ []) }
-        ensures pushed { OnOk result (self.new ≡ self.old ++ (key.items, states.items) ∷ []) }
+    pub fn push(&mut self, key: &[u8], states: &[u8]) -> Result<(), AllocError>
+        requires { Rises (self.old ++ (key.now, states.now) ∷ []) }
+        ensures pushed { OnOk result (self.new ≡ self.old ++ (key.now, states.now) ∷ []) }
         ensures refused { OnErr result (self.new ≡ self.old) }
     {
-        self.groups.push((key, states))?;
+        // With room for all three, none of them fails once one was written.
+        self.ends.reserve(1)?;
+        self.states.reserve(states.len())?;
+        self.keys.extend_from_slice(key)?;
+        self.states.extend_from_slice(states)?;
+        self.ends.push((self.keys.len(), self.states.len()))?;
         Ok(())
     }
 
@@ -57,14 +119,14 @@ impl Run {
         ensures length { result ≡ length self.now }
         ensures rises { Rises self.now }
     {
-        self.groups.len()
+        self.ends.len()
     }
 
     /// Whether there are no groups.
     pub fn is_empty(&self) -> bool
         ensures { IsTrue result ↔ (self.now ≡ []) }
     {
-        self.groups.is_empty()
+        self.ends.is_empty()
     }
 
     /// The bytes of the key and of the states of a group, the first group being 0.
@@ -72,23 +134,6 @@ impl Run {
         requires { place < length self.now }
         ensures { slice_get self.now place ≡ Some (result.0.now, result.1.now) }
     {
-        let group = &self.groups[place];
-        (group.0.as_slice(), group.1.as_slice())
-    }
-
-    /// The groups, in their order.
-    pub(crate) fn entries(&self) -> &[(Vec<u8>, Vec<u8>)]
-        ensures { entries_of result.now ≡ self.now }
-    {
-        self.groups.as_slice()
-    }
-
-    /// The groups, in their order, each with the bytes of its key and of its states.
-    pub fn into_groups(self) -> Vec<(Vec<u8>, Vec<u8>)>
-        ensures groups { entries_of result.items ≡ self }
-        ensures rises { Rises self }
-    {
-        let Run { groups } = self;
-        groups
+        parts(&self.keys, &self.states, &self.ends, place, place + 1)
     }
 }

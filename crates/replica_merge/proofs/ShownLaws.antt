@@ -1,6 +1,6 @@
 -- The row of an answer that a group gives.
 use Rattle.std.specs.Prelude.{◌≡◌, ◌≢◌, refl, ℕ, zero, suc, ◌+◌, ◌<◌, ◌≤◌, true, false, cond, List, [], ◌∷◌, ◌++◌, map, flat_map, length, take, drop, slice_get, slice_index_or, Some}
-use Rattle.std.proofs.Common.{sym, ◌∙◌, ap, subst, arith, append-nil, append_assoc}
+use Rattle.std.proofs.Common.{sym, ◌∙◌, ap, subst, arith, add-one, append-nil, append_assoc}
 use Rattle.std.proofs.lemmas.List.Concat.{flat_map-cons}
 use Rattle.std.proofs.lemmas.List.{length-take}
 use Rattle.grouping_model.specs.Datum.{Null, Row, Bigint_kind, HasKinds, at_place}
@@ -159,3 +159,9 @@ empty_stands q bytes none states =
       of_kinds = subst (λ keys. HasKinds (map (λ place. slice_index_or q.kinds place Bigint_kind) keys) []) (sym none) tt;
       states = states;
     }
+
+-- a list from a place on, with the member there
+pub drop_at : {X : Type 0} (xs : List X) (n : ℕ) (x : X) → slice_get xs n ≡ Some x → drop n xs ≡ x ∷ drop (n + 1) xs
+drop_at [] n x e = absurd cc
+drop_at (y ∷ xs) zero x e = let same : y ≡ x = cc in ap (λ y. y ∷ xs) same
+drop_at (y ∷ xs) (suc n) x e = drop_at xs n x e ∙ ap (λ k. x ∷ drop k xs) (add-one n) ∙ ap (λ k. x ∷ drop k (y ∷ xs)) (sym (add-one (suc n)))

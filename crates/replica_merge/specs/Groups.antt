@@ -11,15 +11,15 @@ use Rattle.agg_protocol.specs.States.{most_rows}
 use Rattle.hash_agg.specs.declared.input.Input.{Input}
 use Rattle.hash_agg.specs.Runs.{Entry}
 use Rattle.hash_agg.specs.Standing.{AreGroups}
-use Rattle.hash_agg.specs.Inputs.{ArePackings, AreInputsOf, IsInput, all_rows, on_end}
+use Rattle.hash_agg.specs.Inputs.{brought, ArePackings, AreInputsOf, IsInput, all_rows, on_end}
 
 -- inputs that hold these packed rows, one list after the other
 pub record HoldRows (query : Query) (packed : List (List ℕ)) (inputs : List Input) : Type 0 where
   pub lists : List (List Row)
-  pub of_lists : AreInputsOf query inputs lists
+  pub of_lists : AreInputsOf query (map brought inputs) lists
   pub rows : ArePackings query.kinds packed (on_end lists)
-  pub may : AllByRecursion (IsInput query) inputs
-  pub counted : all_rows inputs ≡ length packed
+  pub may : AllByRecursion (IsInput query) (map brought inputs)
+  pub counted : all_rows (map brought inputs) ≡ length packed
 
 -- a run has the groups of these packed rows
 pub record IsRunOf (query : Query) (packed : List (List ℕ)) (run : List Entry) : Type 0 where

@@ -174,9 +174,9 @@ pub(crate) fn show(alloc: Global, query: &Query, run: Run) -> Result<Answer, All
         return show_none(alloc, query);
     }
     let mut answer = Answer::new(alloc);
-    // A group is given up when its row is made.
-    for (key, states) in run.into_groups() {
-        push_group(alloc, query, &key, &states, &mut answer)?;
+    for place in 0..run.len() {
+        let (key, states) = run.group(place);
+        push_group(alloc, query, key, states, &mut answer)?;
     }
     Ok(answer)
 }

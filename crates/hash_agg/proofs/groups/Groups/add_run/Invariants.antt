@@ -6,7 +6,7 @@ use Rattle.hash_agg.specs.Standing.{AreGroups}
 use Rattle.hash_agg.specs.Adding.{groups_added}
 use Rattle.hash_agg.proofs.groups.Groups.add_run.Given as goal
 
-abbrev pub invariant-loop-group : goal.invariant-loop-group
-invariant-loop-group l =
+abbrev pub invariant-loop-place : goal.invariant-loop-place
+invariant-loop-place l =
     (m n : ℕ) (groups more : List Group) → m + n ≤ most_rows → AreGroups (meaning l.query) m l.initial.self groups → AreGroups (meaning l.query) n l.run more
-    → AreGroups (meaning l.query) (m + n) l.self (groups_added (meaning l.query) groups (take l.group-index more))
+    → AreGroups (meaning l.query) (m + n) l.self (groups_added (meaning l.query) groups (take l.place more))

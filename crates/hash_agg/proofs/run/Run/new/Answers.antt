@@ -1,8 +1,5 @@
-use Rattle.std.proofs.Common.{sym, subst}
-use Rattle.std.specs.List.Sorted.{IsStrictlySortedBy}
-use Rattle.hash_agg.specs.Runs.{Rises, entries_of}
+use Rattle.hash_agg.proofs.FlatLaws.{none_are}
 use Rattle.hash_agg.proofs.run.Run.new.Goals as goal
 
 pub invariant_of-result : goal.invariant_of-result
-unfolding IsStrictlySortedBy
-invariant_of-result c = subst (λ items. Rises (entries_of items)) (sym c.new.ensures.items) tt
+invariant_of-result c = none_are c.new.result.items c.new-2.result.items c.new-3.result.items c.new.ensures.items c.new-2.ensures.items c.new-3.ensures.items

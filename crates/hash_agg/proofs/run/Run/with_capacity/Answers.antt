@@ -1,8 +1,5 @@
-use Rattle.std.proofs.Common.{sym, subst}
-use Rattle.std.specs.List.Sorted.{IsStrictlySortedBy}
-use Rattle.hash_agg.specs.Runs.{Rises, entries_of}
+use Rattle.hash_agg.proofs.FlatLaws.{none_are}
 use Rattle.hash_agg.proofs.run.Run.with_capacity.Goals as goal
 
 pub invariant_of-result : goal.invariant_of-result
-unfolding IsStrictlySortedBy
-invariant_of-result c = subst (λ items. Rises (entries_of items)) (sym c.in_ok-groups.ensures.items) tt
+invariant_of-result c = none_are c.in_ok-keys.keys.items c.in_ok-states.states.items c.in_ok-ends.ends.items c.in_ok-keys.ensures.items c.in_ok-states.ensures.items c.in_ok-ends.ensures.items

@@ -1,4 +1,4 @@
-use Rattle.std.specs.Prelude.{◌≡◌, ℕ, ◌+◌, ◌*◌, ◌≤◌, ◌<◌, ◌^◌, ◌++◌, List, [], length, flat_map}
+use Rattle.std.specs.Prelude.{◌≡◌, ℕ, ◌+◌, ◌*◌, ◌≤◌, ◌<◌, ◌^◌, ◌++◌, List, [], length, map, flat_map}
 use Rattle.std.specs.List.{AllByRecursion}
 use Rattle.std.proofs.Common.{sym, ◌∙◌, ap, subst, arith, refl}
 use Rattle.grouping_model.specs.declared.limits.TheConstants.{LAST_NUMBER, MOST_ROWS}
@@ -6,7 +6,7 @@ use Rattle.grouping_model.specs.World.{count_up}
 use Rattle.grouping_model.specs.Query.{Query}
 use Rattle.packed_rows.specs.Columns.{kinds}
 use Rattle.having_filter.specs.Meaning.{meaning}
-use Rattle.hash_agg.specs.Inputs.{IsInput, IsAggregate, all_rows}
+use Rattle.hash_agg.specs.Inputs.{brought, IsInput, IsAggregate, all_rows}
 use Rattle.hash_agg.proofs.KeyLaws.{if_ok}
 use Rattle.replica_merge.specs.declared.replica.TheConstants.{ORIGINS}
 use Rattle.replica_merge.specs.Kept.{Held, origin_packings, known_packings}
@@ -31,8 +31,8 @@ loop-origin-preserved c =
 
 pub aggregate-requires-clause-inputs : goal.aggregate-requires-clause-inputs
 aggregate-requires-clause-inputs c =
-    subst (AllByRecursion (IsInput (meaning c.self.inside.query))) (sym c.deref.ensures.value)
-    (subst (λ (h : Held). AllByRecursion (IsInput (meaning h.query)) c.loop-origin.inputs.items) (sym c.self.view_is) c.loop-origin.invariant.may)
+    subst (AllByRecursion (IsInput (meaning c.self.inside.query))) (sym (ap (map brought) c.deref.ensures.value))
+    (subst (λ (h : Held). AllByRecursion (IsInput (meaning h.query)) (map brought c.loop-origin.inputs.items)) (sym c.self.view_is) c.loop-origin.invariant.may)
 
 pub aggregate-requires-clause-few : goal.aggregate-requires-clause-few
 aggregate-requires-clause-few c =
@@ -42,8 +42,8 @@ aggregate-requires-clause-few c =
     let few : length (flat_map (origin_packings c.args.self.now.kept) (count_up 0 n)) ≤ n * (LAST_NUMBER * MOST_ROWS) =
     subst (λ (h : Held). length (flat_map (origin_packings h.kept) (count_up 0 n)) ≤ n * (LAST_NUMBER * MOST_ROWS)) c.self.view_is
     (few_in_origins (kinds c.self.inside.query.columns) c.self.inside.batches.entries n c.self.invariant.numbered c.self.invariant.packed) in
-    let counted : all_rows c.loop-origin.inputs.items ≡ length (flat_map (origin_packings c.args.self.now.kept) (count_up 0 n)) = c.loop-origin.invariant.counted in
-    subst (λ inputs. all_rows inputs < 2 ^ 57) (sym c.deref.ensures.value) (omega (arith, high, few, counted))
+    let counted : all_rows (map brought c.loop-origin.inputs.items) ≡ length (flat_map (origin_packings c.args.self.now.kept) (count_up 0 n)) = c.loop-origin.invariant.counted in
+    subst (λ inputs. all_rows (map brought inputs) < 2 ^ 57) (sym c.deref.ensures.value) (omega (arith, high, few, counted))
 
 pub returns : goal.returns
 returns c =
@@ -55,12 +55,12 @@ returns c =
     let few : length (flat_map (origin_packings c.args.self.now.kept) (count_up 0 n)) ≤ n * (LAST_NUMBER * MOST_ROWS) =
     subst (λ (h : Held). length (flat_map (origin_packings h.kept) (count_up 0 n)) ≤ n * (LAST_NUMBER * MOST_ROWS)) c.self.view_is
     (few_in_origins (kinds c.self.inside.query.columns) c.self.inside.batches.entries n c.self.invariant.numbered c.self.invariant.packed) in
-    let counted : all_rows c.loop-origin.inputs.items ≡ length (flat_map (origin_packings c.args.self.now.kept) (count_up 0 n)) = c.loop-origin.invariant.counted in
-    let bounded : all_rows c.loop-origin.inputs.items < 2 ^ 57 = omega (arith, high, few, counted) in
+    let counted : all_rows (map brought c.loop-origin.inputs.items) ≡ length (flat_map (origin_packings c.args.self.now.kept) (count_up 0 n)) = c.loop-origin.invariant.counted in
+    let bounded : all_rows (map brought c.loop-origin.inputs.items) < 2 ^ 57 = omega (arith, high, few, counted) in
     let all : flat_map (origin_packings c.args.self.now.kept) (count_up 0 n) ≡ known_packings c.args.self.now.kept =
     ap (λ n. flat_map (origin_packings c.args.self.now.kept) (count_up 0 n)) end
     ∙ subst (λ (h : Held). flat_map (origin_packings h.kept) (count_up 0 ORIGINS) ≡ known_packings h.kept) c.self.view_is (all_origins c.self.inside.batches.entries c.self.invariant.numbered) in
-    if_ok c.aggregate.result (IsAggregate (meaning c.self.inside.query) c.deref.result.now) (IsRunOf q (known_packings c.args.self.now.kept))
+    if_ok c.aggregate.result (IsAggregate (meaning c.self.inside.query) (map brought c.deref.result.now)) (IsRunOf q (known_packings c.args.self.now.kept))
     (λ run given.
     subst (λ packed. IsRunOf q packed run) all
     (run_of q c.loop-origin.inputs.items _ run c.loop-origin.invariant bounded
