@@ -2,7 +2,6 @@
 #![tactic(auto)]
 
 mod aggregation;
-mod copying;
 mod folding;
 mod groups;
 mod input;

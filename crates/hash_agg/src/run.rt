@@ -136,4 +136,32 @@ impl Run {
     {
         parts(&self.keys, &self.states, &self.ends, place, place + 1)
     }
+
+    /// The same groups again. The only error is a failed allocation.
+    pub fn try_clone(&self, alloc: Global) -> Result<Run, AllocError>
+        ensures { IfOk result (λ copy. copy ≡ self.now) }
+    {
+        Ok(Run {
+            keys: self.keys.as_slice().to_vec(alloc)?,
+            states: self.states.as_slice().to_vec(alloc)?,
+            ends: self.ends.as_slice().to_vec(alloc)?,
+        })
+    }
+
+    /// Whether these are the same groups, byte by byte.
+    pub fn same_groups(&self, other: &Run) -> bool
+        ensures { IsTrue result ↔ (self.now ≡ other.now) }
+    {
+        if self.len() != other.len() {
+            return false;
+        }
+        for place in 0..self.len() {
+            let (key, states) = self.group(place);
+            let (other_key, other_states) = other.group(place);
+            if key != other_key || states != other_states {
+                return false;
+            }
+        }
+        true
+    }
 }

@@ -1,7 +1,9 @@
 //! What is held of one origin.
 
-ghost use Rattle.std.specs.Prelude.{◌≡◌, ◌≢◌, ◌≤◌, ◌+◌, ◌*◌, [], IfOk, IfErr, OnOk, OnErr, IsTrue};
+ghost use Rattle.std.specs.Prelude.{◌≡◌, ◌≢◌, ◌≤◌, ◌+◌, ◌*◌, ℕ, List, [], map, IfOk, IfErr, OnOk, OnErr, IsTrue};
 ghost use Rattle.grouping_model.specs.declared.limits.TheConstants.{LAST_NUMBER, MOST_ROWS};
+ghost use Rattle.std.specs.List.{AllByRecursion};
+ghost use Rattle.hash_agg.specs.Inputs.{Packed, brought};
 ghost use Rattle.having_filter.specs.Meaning.{meaning};
 ghost use Rattle.packed_rows.specs.Columns.{kinds};
 ghost use Rattle.batch_reader.specs.Rows.{ArePackedRows};
@@ -69,6 +71,33 @@ fn known_again(kept: &PackedRows, batch: Batch) -> Result<Delivered, RefusedBatc
     Err(refused(batch, JoinError::OriginDisagrees))
 }
 
+/// The rows of the batch next to a prefix, where they are given, and of the early batches that follow without a gap, as inputs, and
+/// the last of their numbers.
+fn following_inputs<'a>(
+    alloc: Global,
+    prefix: u32,
+    next: Option<&'a PackedRows>,
+    early: &'a BTreeMap<u32, PackedRows>,
+) -> Result<(Vec<Input<'a>>, u32), AllocError>
+    requires within { prefix ≤ LAST_NUMBER }
+    requires batches { AllByRecursion (λ (batch : ℕ × List (List ℕ)). batch.0 ≤ LAST_NUMBER)
+        (behind prefix early.now.entries (option_copied next)) }
+    ensures inputs { IfOk result (λ found. map brought found.0.items ≡ map Packed
+        (rows_following prefix (behind prefix early.now.entries (option_copied next.entry)))) }
+    ensures upto { IfOk result (λ found. found.1 ≡ prefix
+        + following prefix (behind prefix early.now.entries (option_copied next.entry))) }
+    ensures limit { IfOk result (λ found. found.1 ≤ LAST_NUMBER) }
+{
+    let mut inputs = Vec::new(alloc);
+    let mut number = prefix;
+    if let Some(rows) = next {
+        inputs.push(Input::Rows(rows.as_slice()))?;
+        number += 1;
+    }
+    let upto = add_following(early, number, &mut inputs)?;
+    Ok((inputs, upto))
+}
+
 /// Folds into the run of a prefix the rows of the batch next to it, where they are given, and of the early batches that follow
 /// without a gap. Answers the last number that is folded. Where memory is wanting, nothing is changed.
 fn fold_following(
@@ -88,13 +117,7 @@ fn fold_following(
         (rows_following prefix (behind prefix early.now.entries (option_copied next.entry))) run.new) }
     ensures refused { OnErr result (run.new ≡ run.old) }
 {
-    let mut inputs = Vec::new(alloc);
-    let mut number = prefix;
-    if let Some(rows) = next {
-        inputs.push(Input::Rows(rows.as_slice()))?;
-        number += 1;
-    }
-    let upto = add_following(early, number, &mut inputs)?;
+    let (inputs, upto) = following_inputs(alloc, prefix, next, early)?;
     if upto > prefix {
         fold(alloc, query, run, most_rows(prefix), &inputs)?;
     }

@@ -1,0 +1,227 @@
+-- The batches that follow a prefix: what they bring, and what becomes of a part that takes them.
+use Rattle.std.specs.Prelude.{◌≡◌, ◌≢◌, refl, ℕ, zero, suc, ◌+◌, ◌*◌, ◌<◌, ◌≤◌, ◌^◌, ◌==◌, Bool, true, false, cond, List, [], ◌∷◌, map, filter, take, drop, length, All, Option, Some, None, if◌then◌else◌}
+use Rattle.std.proofs.Common.{◌∙◌, sym, ap, subst, inl, inr, arith}
+use Rattle.std.proofs.lemmas.List.Elements.{recursion_from_All}
+use Rattle.std.proofs.lemmas.List.{length-map, length-append}
+use Rattle.std.proofs.lemmas.List.Sums.{sum_by-cons}
+use Rattle.std.specs.List.{AllByRecursion}
+use Rattle.std.specs.List.Sorted.{IsStrictlySortedBy}
+use Rattle.std.specs.Ordering.{nat_cmp}
+use Rattle.std.specs.declared.cmp.Ordering.TheVariants.{Less}
+use Rattle.std.proofs.lemmas.Bool.{cases_lt}
+use Rattle.grouping_model.specs.Condition.{is_met}
+use Rattle.grouping_model.specs.Datum.{Kind, Row, HasKinds}
+use Rattle.grouping_model.specs.Grouping.{key_of, selected, column_of}
+use Rattle.grouping_model.specs.Parts.{keys_of}
+use Rattle.grouping_model.specs.Query.{Query}
+use Rattle.packed_rows.specs.Packing.{packing}
+use Rattle.grouping_model.specs.declared.limits.TheConstants.{LAST_NUMBER, MOST_ROWS}
+use Rattle.packed_rows.specs.Columns.{kinds}
+use Rattle.batch_reader.specs.Rows.{ArePackedRows}
+use Rattle.having_filter.specs.Meaning.{Checked, meaning}
+use Rattle.hash_agg.specs.Inputs.{Brought, Packed, Counted, IsInput, ArePackings, AllBring, on_end, all_rows, rows_in}
+use Rattle.hash_agg.specs.Runs.{Entry, packed_keys}
+use Rattle.hash_agg.specs.Standing.{IsRun}
+use Rattle.hash_agg.proofs.EntryLaws.{groups_raised}
+use Rattle.hash_agg.proofs.InputLaws.{keys_packed, keys_of_kinds}
+use Rattle.origin_prefix.specs.Parts.{Batches, Part, IsEarly, IsBehind, IsOpen, IsPartOf, following, rows_following, Folds, Settles}
+
+-- packed rows of a batch may be aggregated
+pub packed_input : (query : Checked) (rows : List (List ℕ)) → ArePackedRows (kinds query.columns) rows → IsInput (meaning query) (Packed rows)
+packed_input query rows are = (are.rows, record { of_kinds = recursion_from_All (HasKinds (kinds query.columns)) are.rows are.of_kinds; packings_are = are.packings_are })
+
+-- what holds of each batch holds of the rows of those that follow
+pub each_following : (P : List (List ℕ) → Type 0) (Q : ℕ × List (List ℕ) → Type 0) → ((batch : ℕ × List (List ℕ)) → Q batch → P batch.1)
+    → (n : ℕ) (batches : Batches) → AllByRecursion Q batches → AllByRecursion P (map (λ (batch : ℕ × List (List ℕ)). batch.1) (take n batches))
+each_following P Q each zero batches all = tt
+each_following P Q each (suc n) [] all = tt
+each_following P Q each (suc n) (batch ∷ batches) all = (each batch all.0, each_following P Q each n batches all.1)
+
+pub all_mapped : {X Y : Type 0} (P : X → Type 0) (Q : Y → Type 0) (f : X → Y) → ((x : X) → P x → Q (f x)) → (xs : List X) → AllByRecursion P xs → AllByRecursion Q (map f xs)
+all_mapped P Q f each [] all = tt
+all_mapped P Q f each (x ∷ xs) all = (each x all.0, all_mapped P Q f each xs all.1)
+
+pub following_inputs : (query : Checked) (prefix : ℕ) (batches : Batches) → AllByRecursion (IsBehind (kinds query.columns) prefix) batches
+    → AllByRecursion (IsInput (meaning query)) (map Packed (rows_following prefix batches))
+following_inputs query prefix batches all =
+    all_mapped (ArePackedRows (kinds query.columns)) (IsInput (meaning query)) Packed (packed_input query) (rows_following prefix batches)
+    (each_following (ArePackedRows (kinds query.columns)) (IsBehind (kinds query.columns) prefix) (λ batch is. is.rows) (following prefix batches) batches all)
+
+-- they have few rows
+few_rows : (ks : List Kind) (rows : List (List (List ℕ))) → AllByRecursion (ArePackedRows ks) rows → all_rows (map Packed rows) ≤ length rows * MOST_ROWS
+few_rows ks [] all = omega arith
+few_rows ks (batch ∷ rows) all =
+    let one : length batch ≤ MOST_ROWS = all.0.few in
+    let rest : all_rows (map Packed rows) ≤ length rows * MOST_ROWS = few_rows ks rows all.1 in
+    let sum : all_rows (map Packed (batch ∷ rows)) ≡ length batch + all_rows (map Packed rows) = sum_by-cons rows_in (Packed batch) (map Packed rows) in
+    omega (arith, one, rest, sum)
+
+taken : {X Y : Type 0} (f : X → Y) (n : ℕ) (xs : List X) → length (map f (take n xs)) ≤ n
+taken f zero xs = omega arith
+taken f (suc n) [] = omega arith
+taken f (suc n) (x ∷ xs) = let rest = taken f n xs in omega (arith, rest)
+
+pub few_following : (query : Checked) (prefix : ℕ) (batches : Batches) → AllByRecursion (IsBehind (kinds query.columns) prefix) batches
+    → all_rows (map Packed (rows_following prefix batches)) ≤ following prefix batches * MOST_ROWS
+few_following query prefix batches all =
+    let few : all_rows (map Packed (rows_following prefix batches)) ≤ length (rows_following prefix batches) * MOST_ROWS =
+    few_rows (kinds query.columns) (rows_following prefix batches)
+    (each_following (ArePackedRows (kinds query.columns)) (IsBehind (kinds query.columns) prefix) (λ batch is. is.rows) (following prefix batches) batches all) in
+    let count : length (rows_following prefix batches) ≤ following prefix batches = taken (λ (batch : ℕ × List (List ℕ)). batch.1) (following prefix batches) batches in
+    omega (arith, few, count)
+
+-- the numbers that follow lie within the limit
+pub reach_within : (n : ℕ) (batches : Batches) → n ≤ LAST_NUMBER → AllByRecursion (λ (batch : ℕ × List (List ℕ)). batch.0 ≤ LAST_NUMBER) batches → n + following n batches ≤ LAST_NUMBER
+reach_within n [] low all = omega (arith, low)
+reach_within n (batch ∷ batches) low all = go (batch.0 == n + 1) refl
+  where
+    go : (b : Bool) → (batch.0 == n + 1) ≡ b → n + (if b then suc (following (n + 1) batches) else 0) ≤ LAST_NUMBER
+    go true e =
+        let next : batch.0 ≡ n + 1 = grind arith in
+        let here : batch.0 ≤ LAST_NUMBER = all.0 in
+        let rest : n + 1 + following (n + 1) batches ≤ LAST_NUMBER = reach_within (n + 1) batches (omega (arith, next, here)) all.1 in
+        omega (arith, rest)
+    go false e = omega (arith, low)
+
+-- the numbers of batches, which rise
+abbrev pub numbers : Batches → List ℕ
+numbers batches = map (λ (batch : ℕ × List (List ℕ)). batch.0) batches
+
+nat_less : (m n : ℕ) → nat_cmp m n ≡ Less → m < n
+nat_less m n e = grind arith
+
+-- those behind the first of some rising batches are above it
+pub above_first : (n : ℕ) (rows : List (List ℕ)) (batches : Batches) → IsStrictlySortedBy nat_cmp (numbers ((n, rows) ∷ batches)) → AllByRecursion (λ (batch : ℕ × List (List ℕ)). n < batch.0) batches
+unfolding IsStrictlySortedBy
+above_first n rows batches rising = go batches rising.0
+  where
+    go : (bs : Batches) → AllByRecursion (λ m. nat_cmp n m ≡ Less) (numbers bs) → AllByRecursion (λ (batch : ℕ × List (List ℕ)). n < batch.0) bs
+    go [] all = tt
+    go (b ∷ bs) all = (nat_less n b.0 all.0, go bs all.1)
+
+pub rising_rest : (batch : ℕ × List (List ℕ)) (batches : Batches) → IsStrictlySortedBy nat_cmp (numbers (batch ∷ batches)) → IsStrictlySortedBy nat_cmp (numbers batches)
+unfolding IsStrictlySortedBy
+rising_rest batch batches rising = rising.1
+
+pub rising_drop : (k : ℕ) (batches : Batches) → IsStrictlySortedBy nat_cmp (numbers batches) → IsStrictlySortedBy nat_cmp (numbers (drop k batches))
+rising_drop zero batches rising = rising
+rising_drop (suc k) [] rising = rising
+rising_drop (suc k) (batch ∷ batches) rising = rising_drop k batches (rising_rest batch batches rising)
+
+pub all_drop : {X : Type 0} (P : X → Type 0) (k : ℕ) (xs : List X) → AllByRecursion P xs → AllByRecursion P (drop k xs)
+all_drop P zero xs all = all
+all_drop P (suc k) [] all = tt
+all_drop P (suc k) (x ∷ xs) all = all_drop P k xs all.1
+
+pub all_both : {X : Type 0} (P Q R : X → Type 0) → ((x : X) → P x → Q x → R x) → (xs : List X) → AllByRecursion P xs → AllByRecursion Q xs → AllByRecursion R xs
+all_both P Q R both [] ps qs = tt
+all_both P Q R both (x ∷ xs) ps qs = (both x ps.0 qs.0, all_both P Q R both xs ps.1 qs.1)
+
+-- behind those that follow there is a gap
+pub gap_behind : (n : ℕ) (batches : Batches) → IsStrictlySortedBy nat_cmp (numbers batches) → AllByRecursion (λ (batch : ℕ × List (List ℕ)). n < batch.0) batches
+    → AllByRecursion (λ (batch : ℕ × List (List ℕ)). n + following n batches + 1 < batch.0) (drop (following n batches) batches)
+gap_behind n [] rising above = tt
+gap_behind n (batch ∷ batches) rising above = go (batch.0 == n + 1) refl
+  where
+    later : AllByRecursion (λ (b : ℕ × List (List ℕ)). batch.0 < b.0) batches
+    later = above_first batch.0 batch.1 batches rising
+
+    go : (b : Bool) → (batch.0 == n + 1) ≡ b
+        → AllByRecursion (λ (other : ℕ × List (List ℕ)). n + (if b then suc (following (n + 1) batches) else 0) + 1 < other.0) (drop (if b then suc (following (n + 1) batches) else 0) (batch ∷ batches))
+    go true e =
+        let next : batch.0 ≡ n + 1 = grind arith in
+        all_mapped_by (λ (b : ℕ × List (List ℕ)). n + 1 + following (n + 1) batches + 1 < b.0) (λ (b : ℕ × List (List ℕ)). n + suc (following (n + 1) batches) + 1 < b.0)
+        (λ b l. omega (arith, l)) (drop (following (n + 1) batches) batches)
+        (gap_behind (n + 1) batches (rising_rest batch batches rising) (subst (λ m. AllByRecursion (λ (b : ℕ × List (List ℕ)). m < b.0) batches) next later))
+    go false e =
+        let apart : batch.0 ≡ n + 1 → ⊥ = λ same. grind arith in
+        let low : n < batch.0 = above.0 in
+        let behind : n + 1 < batch.0 = elim (cases_lt (n + 1) batch.0) [ inl l ↦ l | inr h ↦ absurd (apart (omega (arith, h, low))) ] in
+        (omega (arith, behind), all_mapped_by (λ (b : ℕ × List (List ℕ)). batch.0 < b.0) (λ (b : ℕ × List (List ℕ)). n + 0 + 1 < b.0) (λ b l. omega (arith, l, behind)) batches later)
+
+    all_mapped_by : {X : Type 0} (P Q : X → Type 0) → ((x : X) → P x → Q x) → (xs : List X) → AllByRecursion P xs → AllByRecursion Q xs
+    all_mapped_by P Q f [] all = tt
+    all_mapped_by P Q f (x ∷ xs) all = (f x all.0, all_mapped_by P Q f xs all.1)
+
+-- ---- a part that settled
+
+-- what packed rows bring: as many keys as rows at most
+brings_packed : (q : Query) (rows : List (List (List ℕ))) → AllByRecursion (IsInput q) (map Packed rows)
+    → (lists : List (List Row)) × AllBring q (map Packed rows) lists × (length (on_end lists) ≤ all_rows (map Packed rows))
+brings_packed q [] all = ([], tt, omega arith)
+brings_packed q (batch ∷ rows) all =
+    let rest = brings_packed q rows all.1 in
+    let these : List Row = all.0.0 in
+    let keys : List Row = map (key_of q) (selected q these) in
+    let few : length keys ≤ length batch =
+    let same : length keys ≡ length (selected q these) = length-map (selected q these) (key_of q) in
+    let kept : length (selected q these) ≤ length these = fewer (λ row. is_met (column_of row) q.condition) these in
+    let packed : length batch ≡ length these = ap length all.0.1.packings_are ∙ length-map these packing in
+    omega (arith, same, kept, packed)
+    in
+    let count : length (on_end (keys ∷ rest.0)) ≡ length keys + length (on_end rest.0) = length-append keys (on_end rest.0) in
+    let sum : all_rows (map Packed (batch ∷ rows)) ≡ length batch + all_rows (map Packed rows) = sum_by-cons rows_in (Packed batch) (map Packed rows) in
+    let low : length (on_end rest.0) ≤ all_rows (map Packed rows) = rest.2 in
+    (keys ∷ rest.0, ((these, all.0.1, refl), rest.1), omega (arith, few, count, sum, low))
+  where
+    fewer : {X : Type 0} (p : X → Bool) (xs : List X) → length (filter p xs) ≤ length xs
+    fewer p [] = omega arith
+    fewer p (x ∷ xs) =
+        let rest : length (filter p xs) ≤ length xs = fewer p xs in
+        elim (p x) as (λ b. length (cond b (x ∷ filter p xs) (filter p xs)) ≤ length (x ∷ xs)) [ true ↦ omega (arith, rest) | false ↦ omega (arith, rest) ]
+
+-- a run that took rows has few groups, and counts few rows
+few_groups : (q : Query) (rows : ℕ) (old new : List Entry) (batches : List (List (List ℕ))) → IsRun q rows old → AllByRecursion (IsInput q) (map Packed batches)
+    → Folds q old rows batches new → length new ≤ length old + all_rows (map Packed batches)
+few_groups q rows old new [] is all folds = let same : length new ≡ length old = ap length folds in omega (arith, same)
+few_groups q rows old new (batch ∷ batches) is all folds =
+    let these : List Row = keys_of is.groups in
+    let packed : packed_keys old ≡ map packing these = keys_packed q rows old is.groups is.are in
+    let rest = brings_packed q (batch ∷ batches) all in
+    let few : length new ≤ length (on_end (these ∷ rest.0)) =
+    folds.few (these ∷ rest.0) (record { of_kinds = keys_of_kinds q rows old is.groups is.are; packings_are = packed }, rest.1) in
+    let count : length (on_end (these ∷ rest.0)) ≡ length these + length (on_end rest.0) = length-append these (on_end rest.0) in
+    let as_many : length old ≡ length these = sym (length-map old (λ (e : Entry). e.0)) ∙ ap length packed ∙ length-map these packing in
+    let low : length (on_end rest.0) ≤ all_rows (map Packed (batch ∷ batches)) = rest.2 in
+    omega (arith, few, count, as_many, low)
+
+still_run : (q : Query) (rows : ℕ) (old new : List Entry) (batches : List (List (List ℕ))) → IsRun q rows old → Folds q old rows batches new
+    → IsRun q (rows + all_rows (map Packed batches)) new
+still_run q rows old new [] is folds =
+    let same : rows + all_rows (map Packed []) ≡ rows = omega arith in
+    subst (λ n. IsRun q n new) (sym same) (subst (IsRun q rows) (sym folds) is)
+still_run q rows old new (batch ∷ batches) is folds = subst (λ n. IsRun q n new) (sum_by-cons rows_in (Counted old rows) (map Packed (batch ∷ batches))) folds.is_run
+
+run_raised : (q : Query) (m n : ℕ) (run : List Entry) → m ≤ n → IsRun q m run → IsRun q n run
+run_raised q m n run low is = record { groups = is.groups; are = groups_raised q m n run is.groups low is.are; rises = is.rises }
+
+pub settled_part : (query : Checked) (prefix : ℕ) (run : List Entry) (batches : Batches) (new : Part) → IsOpen query prefix run batches → Settles (meaning query) prefix run batches new → IsPartOf query new
+settled_part query prefix run batches new open settles =
+    let q : Query = meaning query in
+    let k : ℕ = following prefix batches in
+    let upto : new.prefix ≡ prefix + k = settles.upto in
+    let rows : List (List (List ℕ)) = rows_following prefix batches in
+    let inputs = following_inputs query prefix batches open.above in
+    let few : all_rows (map Packed rows) ≤ k * MOST_ROWS = few_following query prefix batches open.above in
+    let groups : length new.run ≤ length run + all_rows (map Packed rows) = few_groups q (prefix * MOST_ROWS) run new.run rows open.is_run inputs settles.folded in
+    let had : length run ≤ prefix * MOST_ROWS = open.few in
+    let most : new.prefix * MOST_ROWS ≡ prefix * MOST_ROWS + k * MOST_ROWS = ap (λ n. n * MOST_ROWS) upto ∙ omega arith in
+    let limit : prefix + k ≤ LAST_NUMBER = reach_within prefix batches open.within (all_of open.above) in
+    record {
+      within = omega (arith, upto, limit);
+      run = run_raised q (prefix * MOST_ROWS + all_rows (map Packed rows)) (new.prefix * MOST_ROWS) new.run (omega (arith, few, most)) (still_run q (prefix * MOST_ROWS) run new.run rows open.is_run settles.folded);
+      few = omega (arith, groups, had, few, most);
+      rising = subst (λ bs. IsStrictlySortedBy nat_cmp (numbers bs)) (sym settles.early) (rising_drop k batches open.rising);
+      early = subst (AllByRecursion (IsEarly (kinds query.columns) new.prefix)) (sym settles.early)
+          (all_both (λ (b : ℕ × List (List ℕ)). prefix + k + 1 < b.0) (IsBehind (kinds query.columns) prefix) (IsEarly (kinds query.columns) new.prefix)
+          (λ b low is. record { behind = subst (λ n. n + 1 < b.0) (sym upto) low; within = is.within; rows = is.rows })
+          (drop k batches) (gap_behind prefix batches open.rising (all_above open.above)) (all_drop (IsBehind (kinds query.columns) prefix) k batches open.above));
+    }
+  where
+    all_of : {bs : Batches} → AllByRecursion (IsBehind (kinds query.columns) prefix) bs → AllByRecursion (λ (batch : ℕ × List (List ℕ)). batch.0 ≤ LAST_NUMBER) bs
+    all_of {[]} all = tt
+    all_of {b ∷ bs} all = (all.0.within, all_of {bs} all.1)
+
+    all_above : {bs : Batches} → AllByRecursion (IsBehind (kinds query.columns) prefix) bs → AllByRecursion (λ (batch : ℕ × List (List ℕ)). prefix < batch.0) bs
+    all_above {[]} all = tt
+    all_above {b ∷ bs} all = (all.0.behind, all_above {bs} all.1)
