@@ -1,3 +1,4 @@
 pub mod Lists
 pub mod EarlyLaws
 pub mod PartLaws
+pub mod DeliverLaws

@@ -73,15 +73,15 @@ few_following query prefix batches all =
 -- the numbers that follow lie within the limit
 pub reach_within : (n : ℕ) (batches : Batches) → n ≤ LAST_NUMBER → AllByRecursion (λ (batch : ℕ × List (List ℕ)). batch.0 ≤ LAST_NUMBER) batches → n + following n batches ≤ LAST_NUMBER
 reach_within n [] low all = omega (arith, low)
-reach_within n (batch ∷ batches) low all = go (batch.0 == n + 1) refl
-  where
-    go : (b : Bool) → (batch.0 == n + 1) ≡ b → n + (if b then suc (following (n + 1) batches) else 0) ≤ LAST_NUMBER
-    go true e =
-        let next : batch.0 ≡ n + 1 = grind arith in
-        let here : batch.0 ≤ LAST_NUMBER = all.0 in
-        let rest : n + 1 + following (n + 1) batches ≤ LAST_NUMBER = reach_within (n + 1) batches (omega (arith, next, here)) all.1 in
-        omega (arith, rest)
-    go false e = omega (arith, low)
+reach_within n (batch ∷ batches) low all =
+    elim (batch.0 == n + 1) as (λ b. (batch.0 == n + 1) ≡ b → n + (if b then suc (following (n + 1) batches) else 0) ≤ LAST_NUMBER) [
+      | true ↦ λ e.
+          let next : batch.0 ≡ n + 1 = grind arith in
+          let here : batch.0 ≤ LAST_NUMBER = all.0 in
+          let rest : n + 1 + following (n + 1) batches ≤ LAST_NUMBER = reach_within (n + 1) batches (omega (arith, next, here)) all.1 in
+          omega (arith, rest)
+      | false ↦ λ e. omega (arith, low)
+    ] refl
 
 -- the numbers of batches, which rise
 abbrev pub numbers : Batches → List ℕ
@@ -117,31 +117,29 @@ pub all_both : {X : Type 0} (P Q R : X → Type 0) → ((x : X) → P x → Q x 
 all_both P Q R both [] ps qs = tt
 all_both P Q R both (x ∷ xs) ps qs = (both x ps.0 qs.0, all_both P Q R both xs ps.1 qs.1)
 
+pub all_weaker : {X : Type 0} (P Q : X → Type 0) → ((x : X) → P x → Q x) → (xs : List X) → AllByRecursion P xs → AllByRecursion Q xs
+all_weaker P Q f [] all = tt
+all_weaker P Q f (x ∷ xs) all = (f x all.0, all_weaker P Q f xs all.1)
+
 -- behind those that follow there is a gap
 pub gap_behind : (n : ℕ) (batches : Batches) → IsStrictlySortedBy nat_cmp (numbers batches) → AllByRecursion (λ (batch : ℕ × List (List ℕ)). n < batch.0) batches
     → AllByRecursion (λ (batch : ℕ × List (List ℕ)). n + following n batches + 1 < batch.0) (drop (following n batches) batches)
 gap_behind n [] rising above = tt
-gap_behind n (batch ∷ batches) rising above = go (batch.0 == n + 1) refl
-  where
-    later : AllByRecursion (λ (b : ℕ × List (List ℕ)). batch.0 < b.0) batches
-    later = above_first batch.0 batch.1 batches rising
-
-    go : (b : Bool) → (batch.0 == n + 1) ≡ b
-        → AllByRecursion (λ (other : ℕ × List (List ℕ)). n + (if b then suc (following (n + 1) batches) else 0) + 1 < other.0) (drop (if b then suc (following (n + 1) batches) else 0) (batch ∷ batches))
-    go true e =
-        let next : batch.0 ≡ n + 1 = grind arith in
-        all_mapped_by (λ (b : ℕ × List (List ℕ)). n + 1 + following (n + 1) batches + 1 < b.0) (λ (b : ℕ × List (List ℕ)). n + suc (following (n + 1) batches) + 1 < b.0)
-        (λ b l. omega (arith, l)) (drop (following (n + 1) batches) batches)
-        (gap_behind (n + 1) batches (rising_rest batch batches rising) (subst (λ m. AllByRecursion (λ (b : ℕ × List (List ℕ)). m < b.0) batches) next later))
-    go false e =
-        let apart : batch.0 ≡ n + 1 → ⊥ = λ same. grind arith in
-        let low : n < batch.0 = above.0 in
-        let behind : n + 1 < batch.0 = elim (cases_lt (n + 1) batch.0) [ inl l ↦ l | inr h ↦ absurd (apart (omega (arith, h, low))) ] in
-        (omega (arith, behind), all_mapped_by (λ (b : ℕ × List (List ℕ)). batch.0 < b.0) (λ (b : ℕ × List (List ℕ)). n + 0 + 1 < b.0) (λ b l. omega (arith, l, behind)) batches later)
-
-    all_mapped_by : {X : Type 0} (P Q : X → Type 0) → ((x : X) → P x → Q x) → (xs : List X) → AllByRecursion P xs → AllByRecursion Q xs
-    all_mapped_by P Q f [] all = tt
-    all_mapped_by P Q f (x ∷ xs) all = (f x all.0, all_mapped_by P Q f xs all.1)
+gap_behind n (batch ∷ batches) rising above =
+    elim (batch.0 == n + 1) as (λ b. (batch.0 == n + 1) ≡ b
+    → AllByRecursion (λ (other : ℕ × List (List ℕ)). n + (if b then suc (following (n + 1) batches) else 0) + 1 < other.0) (drop (if b then suc (following (n + 1) batches) else 0) (batch ∷ batches))) [
+      | true ↦ λ e.
+          let next : batch.0 ≡ n + 1 = grind arith in
+          all_weaker (λ (b : ℕ × List (List ℕ)). n + 1 + following (n + 1) batches + 1 < b.0) (λ (b : ℕ × List (List ℕ)). n + suc (following (n + 1) batches) + 1 < b.0)
+          (λ b l. omega (arith, l)) (drop (following (n + 1) batches) batches)
+          (gap_behind (n + 1) batches (rising_rest batch batches rising)
+          (subst (λ m. AllByRecursion (λ (b : ℕ × List (List ℕ)). m < b.0) batches) next (above_first batch.0 batch.1 batches rising)))
+      | false ↦ λ e.
+          let apart : batch.0 ≡ n + 1 → ⊥ = λ same. grind arith in
+          let low : n < batch.0 = above.0 in
+          let behind : n + 1 < batch.0 = elim (cases_lt (n + 1) batch.0) [ inl l ↦ l | inr h ↦ absurd (apart (omega (arith, h, low))) ] in
+          (omega (arith, behind), all_weaker (λ (b : ℕ × List (List ℕ)). batch.0 < b.0) (λ (b : ℕ × List (List ℕ)). n + 0 + 1 < b.0) (λ b l. omega (arith, l, behind)) batches (above_first batch.0 batch.1 batches rising))
+    ] refl
 
 -- ---- a part that settled
 
@@ -196,32 +194,32 @@ run_raised : (q : Query) (m n : ℕ) (run : List Entry) → m ≤ n → IsRun q 
 run_raised q m n run low is = record { groups = is.groups; are = groups_raised q m n run is.groups low is.are; rises = is.rises }
 
 pub settled_part : (query : Checked) (prefix : ℕ) (run : List Entry) (batches : Batches) (new : Part) → IsOpen query prefix run batches → Settles (meaning query) prefix run batches new → IsPartOf query new
-settled_part query prefix run batches new open settles =
+settled_part query prefix run batches new may settles =
     let q : Query = meaning query in
     let k : ℕ = following prefix batches in
     let upto : new.prefix ≡ prefix + k = settles.upto in
     let rows : List (List (List ℕ)) = rows_following prefix batches in
-    let inputs = following_inputs query prefix batches open.above in
-    let few : all_rows (map Packed rows) ≤ k * MOST_ROWS = few_following query prefix batches open.above in
-    let groups : length new.run ≤ length run + all_rows (map Packed rows) = few_groups q (prefix * MOST_ROWS) run new.run rows open.is_run inputs settles.folded in
-    let had : length run ≤ prefix * MOST_ROWS = open.few in
+    let inputs = following_inputs query prefix batches may.above in
+    let few : all_rows (map Packed rows) ≤ k * MOST_ROWS = few_following query prefix batches may.above in
+    let groups : length new.run ≤ length run + all_rows (map Packed rows) = few_groups q (prefix * MOST_ROWS) run new.run rows may.is_run inputs settles.folded in
+    let had : length run ≤ prefix * MOST_ROWS = may.few in
     let most : new.prefix * MOST_ROWS ≡ prefix * MOST_ROWS + k * MOST_ROWS = ap (λ n. n * MOST_ROWS) upto ∙ omega arith in
-    let limit : prefix + k ≤ LAST_NUMBER = reach_within prefix batches open.within (all_of open.above) in
+    let limit : prefix + k ≤ LAST_NUMBER = reach_within prefix batches may.within (all_of batches may.above) in
     record {
       within = omega (arith, upto, limit);
-      run = run_raised q (prefix * MOST_ROWS + all_rows (map Packed rows)) (new.prefix * MOST_ROWS) new.run (omega (arith, few, most)) (still_run q (prefix * MOST_ROWS) run new.run rows open.is_run settles.folded);
+      run = run_raised q (prefix * MOST_ROWS + all_rows (map Packed rows)) (new.prefix * MOST_ROWS) new.run (omega (arith, few, most)) (still_run q (prefix * MOST_ROWS) run new.run rows may.is_run settles.folded);
       few = omega (arith, groups, had, few, most);
-      rising = subst (λ bs. IsStrictlySortedBy nat_cmp (numbers bs)) (sym settles.early) (rising_drop k batches open.rising);
+      rising = subst (λ bs. IsStrictlySortedBy nat_cmp (numbers bs)) (sym settles.early) (rising_drop k batches may.rising);
       early = subst (AllByRecursion (IsEarly (kinds query.columns) new.prefix)) (sym settles.early)
           (all_both (λ (b : ℕ × List (List ℕ)). prefix + k + 1 < b.0) (IsBehind (kinds query.columns) prefix) (IsEarly (kinds query.columns) new.prefix)
           (λ b low is. record { behind = subst (λ n. n + 1 < b.0) (sym upto) low; within = is.within; rows = is.rows })
-          (drop k batches) (gap_behind prefix batches open.rising (all_above open.above)) (all_drop (IsBehind (kinds query.columns) prefix) k batches open.above));
+          (drop k batches) (gap_behind prefix batches may.rising (all_above batches may.above)) (all_drop (IsBehind (kinds query.columns) prefix) k batches may.above));
     }
   where
-    all_of : {bs : Batches} → AllByRecursion (IsBehind (kinds query.columns) prefix) bs → AllByRecursion (λ (batch : ℕ × List (List ℕ)). batch.0 ≤ LAST_NUMBER) bs
-    all_of {[]} all = tt
-    all_of {b ∷ bs} all = (all.0.within, all_of {bs} all.1)
+    all_of : (bs : Batches) → AllByRecursion (IsBehind (kinds query.columns) prefix) bs → AllByRecursion (λ (batch : ℕ × List (List ℕ)). batch.0 ≤ LAST_NUMBER) bs
+    all_of [] all = tt
+    all_of (b ∷ bs) all = (all.0.within, all_of bs all.1)
 
-    all_above : {bs : Batches} → AllByRecursion (IsBehind (kinds query.columns) prefix) bs → AllByRecursion (λ (batch : ℕ × List (List ℕ)). prefix < batch.0) bs
-    all_above {[]} all = tt
-    all_above {b ∷ bs} all = (all.0.behind, all_above {bs} all.1)
+    all_above : (bs : Batches) → AllByRecursion (IsBehind (kinds query.columns) prefix) bs → AllByRecursion (λ (batch : ℕ × List (List ℕ)). prefix < batch.0) bs
+    all_above [] all = tt
+    all_above (b ∷ bs) all = (all.0.behind, all_above bs all.1)

@@ -3,6 +3,7 @@
 ghost use Rattle.std.specs.Prelude.{◌≡◌, ◌≢◌, ◌≤◌, ◌+◌, ◌*◌, ℕ, List, [], map, IfOk, IfErr, OnOk, OnErr, IsTrue};
 ghost use Rattle.grouping_model.specs.declared.limits.TheConstants.{LAST_NUMBER, MOST_ROWS};
 ghost use Rattle.std.specs.List.{AllByRecursion};
+ghost use Rattle.std.specs.List.Sorted.{IsStrictlySortedBy};
 ghost use Rattle.hash_agg.specs.Inputs.{Packed, brought};
 ghost use Rattle.having_filter.specs.Meaning.{meaning};
 ghost use Rattle.packed_rows.specs.Columns.{kinds};
@@ -108,7 +109,7 @@ fn fold_following(
     next: Option<&PackedRows>,
     early: &BTreeMap<u32, PackedRows>,
 ) -> Result<u32, AllocError>
-    requires open { IsOpen query.now prefix run.old
+    requires may { IsOpen query.now prefix run.old
         (behind prefix early.now.entries (option_copied next)) }
     ensures upto { IfOk result (λ upto. upto ≡ prefix
         + following prefix (behind prefix early.now.entries (option_copied next.entry))) }
@@ -189,7 +190,7 @@ impl OriginPart {
         query: &Query,
         next: Option<&PackedRows>,
     ) -> Result<(), AllocError>
-        requires open { IsOpen query.now self.old.prefix self.old.run
+        requires may { IsOpen query.now self.old.prefix self.old.run
             (behind self.old.prefix self.old.early (option_copied next)) }
         ensures settled { OnOk result (Settles (meaning query.now) self.old.prefix self.old.run
             (behind self.old.prefix self.old.early (option_copied next.entry)) self.new) }
@@ -210,6 +211,8 @@ impl OriginPart {
     fn keep_early(&mut self, batch: Batch) -> Result<Delivered, RefusedBatch>
         ensures kept { IfOk result (λ reply. (reply ≡ Early) × (self.new ≡ record self.old { early
             = insert_entry nat_cmp self.old.early batch.number batch.rows })) }
+        ensures rising { IsStrictlySortedBy nat_cmp
+            (map (λ (kept : ℕ × List (List ℕ)). kept.0) self.new.early) }
         ensures refused { IfErr result (λ e. (e.batch ≡ batch) × (e.why ≡ NoMemory)
             × (self.new ≡ self.old)) }
     {

@@ -13,13 +13,13 @@ pub fold-requires-clause-inputs : goal.fold-requires-clause-inputs
 fold-requires-clause-inputs c =
     let batches : Batches = behind c.args.prefix c.args.early.now.entries (option_copied c.args.next) in
     let are : map brought c.deref.result.now ≡ map Packed (rows_following c.args.prefix batches) = ap (map brought) c.deref.ensures.value ∙ c.in_ok-inputs.ensures.inputs in
-    subst (AllByRecursion (IsInput (meaning c.args.query.now))) (sym are) (following_inputs c.args.query.now c.args.prefix batches c.requires.open.above)
+    subst (AllByRecursion (IsInput (meaning c.args.query.now))) (sym are) (following_inputs c.args.query.now c.args.prefix batches c.requires.may.above)
 
 pub fold-requires-clause-few : goal.fold-requires-clause-few
 fold-requires-clause-few c =
     let batches : Batches = behind c.args.prefix c.args.early.now.entries (option_copied c.args.next) in
     let are : map brought c.deref.result.now ≡ map Packed (rows_following c.args.prefix batches) = ap (map brought) c.deref.ensures.value ∙ c.in_ok-inputs.ensures.inputs in
-    let few : all_rows (map Packed (rows_following c.args.prefix batches)) ≤ following c.args.prefix batches * MOST_ROWS = few_following c.args.query.now c.args.prefix batches c.requires.open.above in
+    let few : all_rows (map Packed (rows_following c.args.prefix batches)) ≤ following c.args.prefix batches * MOST_ROWS = few_following c.args.query.now c.args.prefix batches c.requires.may.above in
     let same : all_rows (map brought c.deref.result.now) ≡ all_rows (map Packed (rows_following c.args.prefix batches)) = ap all_rows are in
     let upto : c.in_ok-inputs.upto ≡ c.args.prefix + following c.args.prefix batches = c.in_ok-inputs.ensures.upto in
     let limit : c.in_ok-inputs.upto ≤ LAST_NUMBER = c.in_ok-inputs.ensures.limit in

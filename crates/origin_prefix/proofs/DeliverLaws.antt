@@ -1,0 +1,157 @@
+-- What becomes of a part to which a batch is delivered.
+use Rattle.std.specs.Prelude.{◌≡◌, ◌≢◌, refl, ℕ, ◌+◌, ◌-◌, ◌*◌, ◌<◌, ◌≤◌, ◌⊎◌, ◌||◌, nat_le, Bool, true, false, cond, List, [], ◌∷◌, map, Option, Some, None, unwrap_or, IsTrue, Result, Ok, Err, IfOk, IfErr, OnOk, OnErr}
+use Rattle.std.proofs.Common.{◌∙◌, sym, ap, subst, inl, inr, arith}
+use Rattle.std.proofs.lemmas.Bool.{true≢false, cases_lt}
+use Rattle.std.specs.Option.{is_some}
+use Rattle.std.specs.List.{AllByRecursion}
+use Rattle.std.specs.List.Sorted.{IsStrictlySortedBy}
+use Rattle.std.specs.Ordering.{eq_by_cmp, nat_cmp, match_ordering}
+use Rattle.std.specs.declared.cmp.Ordering.{Ordering}
+use Rattle.std.specs.declared.cmp.Ordering.TheVariants.{Less, Equal, Greater}
+use Rattle.std.specs.BTreeMap.{insert_entry}
+use Rattle.grouping_model.specs.Datum.{Kind}
+use Rattle.grouping_model.specs.Query.{Query}
+use Rattle.grouping_model.specs.declared.limits.TheConstants.{LAST_NUMBER, MOST_ROWS}
+use Rattle.grouping_model.specs.declared.delivered.Delivered.{Delivered}
+use Rattle.grouping_model.specs.declared.delivered.Delivered.TheVariants.{Known, Early}
+use Rattle.packed_rows.specs.Columns.{kinds}
+use Rattle.packed_rows.proofs.PackingOrder.{less}
+use Rattle.batch_reader.specs.Rows.{ArePackedRows}
+use Rattle.having_filter.specs.Meaning.{Checked, meaning}
+use Rattle.origin_prefix.specs.Parts.{Batches, Part, rows_at, knows_number, IsEarly, IsBehind, IsOpen, IsPartOf, Delivers, Disagrees, Settles, behind}
+use Rattle.batch_reader.specs.declared.batch.Batch.{Batch}
+use Rattle.origin_prefix.specs.declared.error.RefusedBatch.{RefusedBatch}
+use Rattle.origin_prefix.specs.declared.error.JoinError.TheVariants.{NoMemory, OriginDisagrees}
+use Rattle.origin_prefix.proofs.Lists.{is_same}
+use Rattle.origin_prefix.proofs.PartLaws.{numbers, all_weaker, settled_part}
+
+some_is : {X : Type 0} (x y : X) → Some x ≡ Some y → x ≡ y
+some_is x y e = ap (λ o. unwrap_or o x) e
+
+-- what holds of each batch holds of one that is found
+pub found_holds : (P : ℕ × List (List ℕ) → Type 0) (batches : Batches) (n : ℕ) (rows : List (List ℕ)) → AllByRecursion P batches → rows_at batches n ≡ Some rows → P (n, rows)
+found_holds P [] n rows all there = absurd (true≢false (sym (ap is_some there)))
+found_holds P (batch ∷ batches) n rows all there =
+    elim (eq_by_cmp nat_cmp n batch.0) as (λ b. eq_by_cmp nat_cmp n batch.0 ≡ b → cond b (Some batch.1) (rows_at batches n) ≡ Some rows → P (n, rows)) [
+      | true ↦ λ e there. subst P (λ i. (sym (is_same n batch.0 e) i, some_is batch.1 rows there i)) all.0
+      | false ↦ λ e there. found_holds P batches n rows all.1 there
+    ] refl there
+
+-- a number within the prefix isn't early
+pub within_prefix : (query : Checked) (part : Part) (number : ℕ) (rows kept : List (List ℕ)) → IsPartOf query part → number ≤ part.prefix → rows_at part.early number ≡ Some kept → kept ≡ rows
+within_prefix query part number rows kept is low there =
+    let high : part.prefix + 1 < number = (found_holds (IsEarly (kinds query.columns) part.prefix) part.early number kept is.early there).behind in
+    absurd (omega (arith, low, high))
+
+either_true : (a b : Bool) → b ≡ true → (a || b) ≡ true
+either_true true b e = refl
+either_true false b e = e
+
+pub known_within : (query : Checked) (q : Query) (part : Part) (number : ℕ) (rows : List (List ℕ)) → IsPartOf query part → number ≤ part.prefix → Delivers q part number rows part Known
+known_within query q part number rows is low =
+    (
+      ap (λ b. b || is_some (rows_at part.early number)) (let e : nat_le number part.prefix ≡ true = grind arith in e),
+      λ kept there. within_prefix query part number rows kept is low there,
+      refl,
+    )
+
+pub known_early : (q : Query) (part : Part) (number : ℕ) (rows kept : List (List ℕ)) → rows_at part.early number ≡ Some kept → kept ≡ rows → Delivers q part number rows part Known
+known_early q part number rows kept there same =
+    (
+      either_true (nat_le number part.prefix) (is_some (rows_at part.early number)) (ap is_some there),
+      λ other found. some_is other kept (sym found ∙ there) ∙ same,
+      refl,
+    )
+
+-- an early batch more
+all_inserted : (P : ℕ × List (List ℕ) → Type 0) (batches : Batches) (n : ℕ) (rows : List (List ℕ)) → P (n, rows) → AllByRecursion P batches → AllByRecursion P (insert_entry nat_cmp batches n rows)
+all_inserted P [] n rows new all = (new, tt)
+all_inserted P (batch ∷ batches) n rows new all =
+    elim (nat_cmp n batch.0) as (λ o. nat_cmp n batch.0 ≡ o → AllByRecursion P (match_ordering o ((n, rows) ∷ batch ∷ batches) ((batch.0, rows) ∷ batches) (batch ∷ insert_entry nat_cmp batches n rows))) [
+      | Less ↦ λ e. (new, all)
+      | Equal ↦ λ e. (subst (λ m. P (m, rows)) (let same : n ≡ batch.0 = grind arith in same) new, all.1)
+      | Greater ↦ λ e. (all.0, all_inserted P batches n rows new all.1)
+    ] refl
+
+pub early_kept : (query : Checked) (old new : Part) (number : ℕ) (rows : List (List ℕ)) → IsPartOf query old → old.prefix + 1 < number → number ≤ LAST_NUMBER → ArePackedRows (kinds query.columns) rows
+    → new ≡ record old { early = insert_entry nat_cmp old.early number rows } → IsStrictlySortedBy nat_cmp (numbers new.early) → IsPartOf query new
+early_kept query old new number rows is behind within are same rising =
+    subst (IsPartOf query) (sym same)
+    (record {
+      within = is.within;
+      run = is.run;
+      few = is.few;
+      rising = subst (λ (p : Part). IsStrictlySortedBy nat_cmp (numbers p.early)) same rising;
+      early = all_inserted (IsEarly (kinds query.columns) old.prefix) old.early number rows (record { behind = behind; within = within; rows = are }) is.early;
+    })
+
+-- a part without the batch next to its prefix, and with it
+pub part_open : (query : Checked) (part : Part) → IsPartOf query part → IsOpen query part.prefix part.run part.early
+part_open query part is =
+    record {
+      within = is.within;
+      is_run = is.run;
+      few = is.few;
+      rising = is.rising;
+      above = all_weaker (IsEarly (kinds query.columns) part.prefix) (IsBehind (kinds query.columns) part.prefix)
+          (λ b e. record { behind = let low = e.behind in omega (arith, low); within = e.within; rows = e.rows }) part.early is.early;
+    }
+
+pub next_open : (query : Checked) (part : Part) (rows : List (List ℕ)) → IsPartOf query part → part.prefix + 1 ≤ LAST_NUMBER → ArePackedRows (kinds query.columns) rows
+    → IsOpen query part.prefix part.run (behind part.prefix part.early (Some rows))
+unfolding IsStrictlySortedBy
+next_open query part rows is within are =
+    let without = part_open query part is in
+    record {
+      within = is.within;
+      is_run = is.run;
+      few = is.few;
+      rising = rising_next part.early is.early is.rising;
+      above = (record { behind = omega arith; within = within; rows = are }, without.above);
+    }
+  where
+    above_next : (bs : Batches) → AllByRecursion (IsEarly (kinds query.columns) part.prefix) bs → AllByRecursion (λ m. nat_cmp (part.prefix + 1) m ≡ Less) (numbers bs)
+    above_next [] all = tt
+    above_next (b ∷ bs) all = (less (part.prefix + 1) b.0 all.0.behind, above_next bs all.1)
+
+    rising_next : (bs : Batches) → AllByRecursion (IsEarly (kinds query.columns) part.prefix) bs → IsStrictlySortedBy nat_cmp (numbers bs) → IsStrictlySortedBy nat_cmp (numbers ((part.prefix + 1, rows) ∷ bs))
+    rising_next bs all rising = (above_next bs all, rising)
+
+-- ---- results
+
+if_ok_to : {T E : Type 0} (r : Result T E) (P Q : T → Type 0) → ((x : T) → P x → Q x) → IfOk r P → IfOk r Q
+if_ok_to (Ok x) P Q f p = f x p
+if_ok_to (Err e) P Q f p = tt
+
+if_err_to : {T E : Type 0} (r : Result T E) (P Q : E → Type 0) → ((e : E) → P e → Q e) → IfErr r P → IfErr r Q
+if_err_to (Ok x) P Q f p = tt
+if_err_to (Err e) P Q f p = f e p
+
+-- the reply to a number that is kept early
+pub reply_early : {E : Type 0} (q : Query) (part : Part) (number : ℕ) (rows kept : List (List ℕ)) (r : Result Delivered E) → rows_at part.early number ≡ Some kept
+    → IfOk r (λ reply. (reply ≡ Known) × (kept ≡ rows)) → IfOk r (Delivers q part number rows part)
+reply_early q part number rows kept r there known =
+    if_ok_to r (λ reply. (reply ≡ Known) × (kept ≡ rows)) (Delivers q part number rows part)
+    (λ reply e. subst (Delivers q part number rows part) (sym e.0) (known_early q part number rows kept there e.1)) known
+
+pub refused_early : (part : Part) (number : ℕ) (batch : Batch) (kept : List (List ℕ)) (r : Result Delivered RefusedBatch) → rows_at part.early number ≡ Some kept
+    → IfErr r (λ e. (e.batch ≡ batch) × (e.why ≡ OriginDisagrees) × (kept ≢ batch.rows)) → IfErr r (λ e. e.why ≡ OriginDisagrees → Disagrees part number batch.rows)
+refused_early part number batch kept r there other =
+    if_err_to r (λ e. (e.batch ≡ batch) × (e.why ≡ OriginDisagrees) × (kept ≢ batch.rows)) (λ e. e.why ≡ OriginDisagrees → Disagrees part number batch.rows)
+    (λ e is why. record { kept = kept; there = there; other = is.2 }) other
+
+-- a batch was kept early, or handed back
+pub part_kept : (r : Result Delivered RefusedBatch) (query : Checked) (old new : Part) (batch : Batch) → IsPartOf query old → old.prefix + 1 < batch.number → batch.number ≤ LAST_NUMBER
+    → ArePackedRows (kinds query.columns) batch.rows → IfOk r (λ reply. (reply ≡ Early) × (new ≡ record old { early = insert_entry nat_cmp old.early batch.number batch.rows }))
+    → IfErr r (λ e. (e.batch ≡ batch) × (e.why ≡ NoMemory) × (new ≡ old)) → IsStrictlySortedBy nat_cmp (numbers new.early) → IsPartOf query new
+part_kept (Ok x) query old new batch is behind within are kept same rising = early_kept query old new batch.number batch.rows is behind within are kept.1 rising
+part_kept (Err e) query old new batch is behind within are kept same rising = subst (IsPartOf query) (sym same.2) is
+
+-- a part settled, or stayed as it was
+pub part_settled : {T E : Type 0} (r : Result T E) (query : Checked) (old new : Part) (batches : Batches) → IsPartOf query old → IsOpen query old.prefix old.run batches
+    → OnOk r (Settles (meaning query) old.prefix old.run batches new) → OnErr r (new ≡ old) → IsPartOf query new
+part_settled (Ok x) query old new batches is may settles same = settled_part query old.prefix old.run batches new may settles
+part_settled (Err e) query old new batches is may settles same = subst (IsPartOf query) (sym same) is
+
+pub behind_gap : (prefix number : ℕ) → prefix < number → (number - 1 ≡ prefix → ⊥) → prefix + 1 < number
+behind_gap prefix number low apart = elim (cases_lt (prefix + 1) number) [ inl l ↦ l | inr h ↦ absurd (apart (omega (arith, low, h))) ]
