@@ -22,6 +22,7 @@ use Rattle.origin_prefix.specs.Parts.{Batches, Part, rows_at, knows_number, IsEa
 use Rattle.batch_reader.specs.declared.batch.Batch.{Batch}
 use Rattle.origin_prefix.specs.declared.error.RefusedBatch.{RefusedBatch}
 use Rattle.origin_prefix.specs.declared.error.JoinError.TheVariants.{NoMemory, OriginDisagrees}
+use Rattle.origin_prefix.proofs.EarlyLaws.{all_put}
 use Rattle.origin_prefix.proofs.Lists.{is_same}
 use Rattle.origin_prefix.proofs.PartLaws.{numbers, all_weaker, settled_part}
 
@@ -64,15 +65,6 @@ known_early q part number rows kept there same =
     )
 
 -- an early batch more
-all_inserted : (P : ℕ × List (List ℕ) → Type 0) (batches : Batches) (n : ℕ) (rows : List (List ℕ)) → P (n, rows) → AllByRecursion P batches → AllByRecursion P (insert_entry nat_cmp batches n rows)
-all_inserted P [] n rows new all = (new, tt)
-all_inserted P (batch ∷ batches) n rows new all =
-    elim (nat_cmp n batch.0) as (λ o. nat_cmp n batch.0 ≡ o → AllByRecursion P (match_ordering o ((n, rows) ∷ batch ∷ batches) ((batch.0, rows) ∷ batches) (batch ∷ insert_entry nat_cmp batches n rows))) [
-      | Less ↦ λ e. (new, all)
-      | Equal ↦ λ e. (subst (λ m. P (m, rows)) (let same : n ≡ batch.0 = grind arith in same) new, all.1)
-      | Greater ↦ λ e. (all.0, all_inserted P batches n rows new all.1)
-    ] refl
-
 pub early_kept : (query : Checked) (old new : Part) (number : ℕ) (rows : List (List ℕ)) → IsPartOf query old → old.prefix + 1 < number → number ≤ LAST_NUMBER → ArePackedRows (kinds query.columns) rows
     → new ≡ record old { early = insert_entry nat_cmp old.early number rows } → IsStrictlySortedBy nat_cmp (numbers new.early) → IsPartOf query new
 early_kept query old new number rows is behind within are same rising =
@@ -82,7 +74,7 @@ early_kept query old new number rows is behind within are same rising =
       run = is.run;
       few = is.few;
       rising = subst (λ (p : Part). IsStrictlySortedBy nat_cmp (numbers p.early)) same rising;
-      early = all_inserted (IsEarly (kinds query.columns) old.prefix) old.early number rows (record { behind = behind; within = within; rows = are }) is.early;
+      early = all_put (IsEarly (kinds query.columns) old.prefix) number rows old.early (record { behind = behind; within = within; rows = are }) is.early;
     })
 
 -- a part without the batch next to its prefix, and with it

@@ -3,7 +3,10 @@ use Rattle.std.specs.Option.{is_some}
 use Rattle.std.proofs.lemmas.Bool.{true≢false}
 use Rattle.std.specs.Prelude.{◌≡◌, ◌≢◌, ◌↔◌, refl, ℕ, ◌+◌, ◌<◌, ◌⊎◌, nat_lt, Bool, true, false, not, cond, IsTrue, if◌then◌else◌, List, [], ◌∷◌, Option, Some, None, unwrap_or}
 use Rattle.std.proofs.Common.{◌∙◌, sym, ap, subst, inl, inr, arith}
-use Rattle.std.specs.Ordering.{eq_by_cmp, nat_cmp}
+use Rattle.std.specs.Ordering.{eq_by_cmp, nat_cmp, match_ordering}
+use Rattle.std.specs.declared.cmp.Ordering.TheVariants.{Less, Equal, Greater}
+use Rattle.std.specs.BTreeMap.{insert_entry}
+use Rattle.std.specs.List.{AllByRecursion}
 use Rattle.origin_prefix.specs.Parts.{Batches, rows_at}
 use Rattle.origin_prefix.specs.Joins.{either, DiffersBehind}
 use Rattle.origin_prefix.proofs.Lists.{is_itself, is_other, same_or_other}
@@ -101,3 +104,33 @@ differ_from same rows those found is test = (to, back)
         go : (b : Bool) → same ≡ b → IsTrue (not same)
         go true e = absurd (w.2 (test.0 e ∙ some_is w.0 w.1))
         go false e = ap not e
+
+-- ---- copies
+
+-- a batch was passed over, which isn't behind the number or is there already
+pub passed_over : (above number : ℕ) (rows : List (List ℕ)) (old rest : Batches) → (above < number → is_some (rows_at old number) ≡ true)
+    → (n : ℕ) → either (rows_at old n) (if nat_lt above n then rows_at rest n else None) ≡ either (rows_at old n) (if nat_lt above n then rows_at ((number, rows) ∷ rest) n else None)
+passed_over above number rows old rest there n = go (same_or_other n number)
+  where
+    of_some : {X : Type 0} (o x y : Option X) → is_some o ≡ true → either o x ≡ either o y
+    of_some (Some z) x y e = refl
+    of_some None x y e = absurd (true≢false (sym e))
+
+    go : (n ≡ number) ⊎ (n ≢ number) → either (rows_at old n) (if nat_lt above n then rows_at rest n else None) ≡ either (rows_at old n) (if nat_lt above n then rows_at ((number, rows) ∷ rest) n else None)
+    go (inr other) = ap (λ o. either (rows_at old n) (if nat_lt above n then o else None)) (sym (behind_head n number rows rest other))
+    go (inl same) =
+        subst (λ m. either (rows_at old m) (if nat_lt above m then rows_at rest m else None) ≡ either (rows_at old m) (if nat_lt above m then rows_at ((number, rows) ∷ rest) m else None)) (sym same)
+        (elim (nat_lt above number) as (λ b. nat_lt above number ≡ b → either (rows_at old number) (if b then rows_at rest number else None) ≡ either (rows_at old number) (if b then rows_at ((number, rows) ∷ rest) number else None)) [
+          | true ↦ λ e. of_some (rows_at old number) (rows_at rest number) (rows_at ((number, rows) ∷ rest) number) (there (let low : above < number = grind arith in low))
+          | false ↦ λ e. refl
+        ] refl)
+
+-- what holds of the batches behind a number, after one more
+pub all_put : (P : ℕ × List (List ℕ) → Type 0) (number : ℕ) (rows : List (List ℕ)) (old : Batches) → P (number, rows) → AllByRecursion P old → AllByRecursion P (insert_entry nat_cmp old number rows)
+all_put P n rows [] new all = (new, tt)
+all_put P n rows (batch ∷ batches) new all =
+    elim (nat_cmp n batch.0) as (λ o. nat_cmp n batch.0 ≡ o → AllByRecursion P (match_ordering o ((n, rows) ∷ batch ∷ batches) ((batch.0, rows) ∷ batches) (batch ∷ insert_entry nat_cmp batches n rows))) [
+      | Less ↦ λ e. (new, all)
+      | Equal ↦ λ e. (subst (λ m. P (m, rows)) (let same : n ≡ batch.0 = grind arith in same) new, all.1)
+      | Greater ↦ λ e. (all.0, all_put P n rows batches new all.1)
+    ] refl

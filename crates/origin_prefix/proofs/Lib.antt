@@ -2,3 +2,4 @@ pub mod Lists
 pub mod EarlyLaws
 pub mod PartLaws
 pub mod DeliverLaws
+pub mod JoinLaws

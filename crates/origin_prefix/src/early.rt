@@ -4,7 +4,10 @@ ghost use Rattle.std.specs.Prelude.{◌≡◌, ◌≢◌, ◌+◌, ◌<◌, ◌�
 ghost use Rattle.std.specs.List.{AllByRecursion};
 ghost use Rattle.grouping_model.specs.declared.limits.TheConstants.{LAST_NUMBER};
 ghost use Rattle.hash_agg.specs.Inputs.{Packed, brought};
-ghost use Rattle.origin_prefix.specs.Parts.{rows_at, following, rows_following};
+ghost use Rattle.origin_prefix.specs.Parts.{rows_at, IsBehind, following, rows_following};
+ghost use Rattle.grouping_model.specs.Datum.{Kind};
+ghost use Rattle.std.specs.List.Sorted.{IsStrictlySortedBy};
+ghost use Rattle.std.specs.Ordering.{nat_cmp};
 ghost use Rattle.origin_prefix.specs.Joins.{either, DiffersBehind};
 ghost use Rattle.std.specs.Option.{option_copied};
 
@@ -54,6 +57,14 @@ pub(crate) fn copy_above(
     number: u32,
     into: &mut BTreeMap<u32, PackedRows>,
 ) -> Result<(), AllocError>
+    requires { IsStrictlySortedBy nat_cmp
+        (map (λ (batch : ℕ × List (List ℕ)). batch.0) into.old.entries) }
+    ensures rising { IsStrictlySortedBy nat_cmp
+        (map (λ (batch : ℕ × List (List ℕ)). batch.0) into.new.entries) }
+    ensures behind { OnOk result ((ks : List Kind) →
+        AllByRecursion (λ b. number < b.0 → IsBehind ks number b) from.now.entries →
+        AllByRecursion (IsBehind ks number) into.old.entries →
+        AllByRecursion (IsBehind ks number) into.new.entries) }
     ensures rows { OnOk result ((n : ℕ) → rows_at into.new.entries n ≡ either
         (rows_at into.old.entries n)
         (if nat_lt number n then rows_at from.now.entries n else None)) }

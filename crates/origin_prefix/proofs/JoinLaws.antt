@@ -1,0 +1,50 @@
+-- What two parts give that are joined.
+use Rattle.std.specs.Prelude.{◌≡◌, ◌≢◌, refl, ℕ, ◌+◌, ◌<◌, ◌≤◌, ◌⊎◌, nat_lt, max, Bool, true, false, List, [], ◌∷◌, map, Option, Some, None, if◌then◌else◌}
+use Rattle.std.proofs.Common.{◌∙◌, sym, ap, subst, inl, inr, arith}
+use Rattle.std.specs.List.{AllByRecursion}
+use Rattle.std.specs.List.Sorted.{IsStrictlySortedBy}
+use Rattle.std.specs.Ordering.{nat_cmp}
+use Rattle.grouping_model.specs.Datum.{Kind}
+use Rattle.grouping_model.specs.Query.{Query}
+use Rattle.packed_rows.specs.Columns.{kinds}
+use Rattle.having_filter.specs.Meaning.{Checked, meaning}
+use Rattle.hash_agg.specs.Runs.{Entry}
+use Rattle.origin_prefix.specs.Parts.{Batches, Part, rows_at, IsEarly, IsBehind, IsOpen, IsPartOf, Settles}
+use Rattle.origin_prefix.specs.Joins.{either, longer, shorter, DiffersBehind, PartsDisagree, Unites, Joins}
+use Rattle.origin_prefix.proofs.PartLaws.{numbers, all_weaker}
+
+-- what was copied from a part, and then from another, behind a number
+abbrev pub Copied : ℕ → Batches → Batches → Batches → Type 0
+Copied above from old new = (n : ℕ) → rows_at new n ≡ either (rows_at old n) (if nat_lt above n then rows_at from n else None)
+
+abbrev pub KeepsBehind : ℕ → Batches → Batches → Batches → Type 0
+KeepsBehind above from old new =
+    (ks : List Kind) → AllByRecursion (λ (b : ℕ × List (List ℕ)). above < b.0 → IsBehind ks above b) from → AllByRecursion (IsBehind ks above) old → AllByRecursion (IsBehind ks above) new
+
+module _ (query : Checked) (a b : Part) (first both : Batches) (is : IsPartOf query a) (other : IsPartOf query b)
+    (copied : Copied a.prefix a.early [] first) (then_copied : Copied a.prefix b.early first both)
+    (keeps : KeepsBehind a.prefix a.early [] first) (then_keeps : KeepsBehind a.prefix b.early first both)
+    (rising : IsStrictlySortedBy nat_cmp (numbers both)) where
+  behind_all : AllByRecursion (IsBehind (kinds query.columns) a.prefix) both
+  behind_all =
+      then_keeps (kinds query.columns)
+      (all_weaker (IsEarly (kinds query.columns) b.prefix) (λ (e : ℕ × List (List ℕ)). a.prefix < e.0 → IsBehind (kinds query.columns) a.prefix e)
+      (λ e early low. record { behind = low; within = early.within; rows = early.rows }) b.early other.early)
+      (keeps (kinds query.columns)
+      (all_weaker (IsEarly (kinds query.columns) a.prefix) (λ (e : ℕ × List (List ℕ)). a.prefix < e.0 → IsBehind (kinds query.columns) a.prefix e)
+      (λ e early low. record { behind = low; within = early.within; rows = early.rows }) a.early is.early) tt)
+
+  pub united_open : IsOpen query a.prefix a.run both
+  united_open = record { within = is.within; is_run = is.run; few = is.few; rising = rising; above = behind_all }
+
+  pub united_batches : Unites a.prefix a b both
+  united_batches =
+      record {
+        rising = rising;
+        above = all_weaker (IsBehind (kinds query.columns) a.prefix) (λ (e : ℕ × List (List ℕ)). a.prefix < e.0) (λ e i. i.behind) both behind_all;
+        rows = λ n low.
+            let above : nat_lt a.prefix n ≡ true = grind arith in
+            then_copied n
+            ∙ (λ i. either (copied n i) (if above i then rows_at b.early n else None))
+            ∙ ap (λ b'. either (if b' then rows_at a.early n else None) (rows_at b.early n)) above;
+      }
