@@ -153,7 +153,7 @@ united_origins a b =
         ]))
 
 -- counting on from where counting stopped
-counted_on : (first p q : ℕ) → count_up first (p + q) ≡ count_up first p ++ count_up (first + p) q
+pub counted_on : (first p q : ℕ) → count_up first (p + q) ≡ count_up first p ++ count_up (first + p) q
 counted_on first zero q = (λ i. count_up (first_is i) (zero_is i))
   where
     zero_is : zero + q ≡ q

@@ -89,25 +89,25 @@ part_open query part is =
           (λ b e. record { behind = let low = e.behind in omega (arith, low); within = e.within; rows = e.rows }) part.early is.early;
     }
 
+above_next : (ks : List Kind) (prefix : ℕ) (batches : Batches) → AllByRecursion (IsEarly ks prefix) batches → AllByRecursion (λ m. nat_cmp (prefix + 1) m ≡ Less) (numbers batches)
+above_next ks prefix [] all = tt
+above_next ks prefix (b ∷ batches) all = (less (prefix + 1) b.0 all.0.behind, above_next ks prefix batches all.1)
+
+pub next_rising : (query : Checked) (part : Part) (rows : List (List ℕ)) → IsPartOf query part → IsStrictlySortedBy nat_cmp (numbers ((part.prefix + 1, rows) ∷ part.early))
+unfolding IsStrictlySortedBy
+next_rising query part rows is = (above_next (kinds query.columns) part.prefix part.early is.early, is.rising)
+
 pub next_open : (query : Checked) (part : Part) (rows : List (List ℕ)) → IsPartOf query part → part.prefix + 1 ≤ LAST_NUMBER → ArePackedRows (kinds query.columns) rows
     → IsOpen query part.prefix part.run (behind part.prefix part.early (Some rows))
-unfolding IsStrictlySortedBy
 next_open query part rows is within are =
     let without = part_open query part is in
     record {
       within = is.within;
       is_run = is.run;
       few = is.few;
-      rising = rising_next part.early is.early is.rising;
+      rising = next_rising query part rows is;
       above = (record { behind = omega arith; within = within; rows = are }, without.above);
     }
-  where
-    above_next : (bs : Batches) → AllByRecursion (IsEarly (kinds query.columns) part.prefix) bs → AllByRecursion (λ m. nat_cmp (part.prefix + 1) m ≡ Less) (numbers bs)
-    above_next [] all = tt
-    above_next (b ∷ bs) all = (less (part.prefix + 1) b.0 all.0.behind, above_next bs all.1)
-
-    rising_next : (bs : Batches) → AllByRecursion (IsEarly (kinds query.columns) part.prefix) bs → IsStrictlySortedBy nat_cmp (numbers bs) → IsStrictlySortedBy nat_cmp (numbers ((part.prefix + 1, rows) ∷ bs))
-    rising_next bs all rising = (above_next bs all, rising)
 
 -- ---- results
 

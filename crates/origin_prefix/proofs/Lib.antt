@@ -3,3 +3,5 @@ pub mod EarlyLaws
 pub mod PartLaws
 pub mod DeliverLaws
 pub mod JoinLaws
+pub mod TellingLaws
+pub mod FittingLaws
