@@ -1,83 +1,35 @@
 -- A run that takes the groups of another.
-use Rattle.std.specs.Prelude.{◌≡◌, refl, ℕ, ◌+◌, ◌<◌, ◌≤◌, cond, true, false, ◌||◌, List, [], ◌∷◌, ◌++◌, length, map, find, None, Some, option_map}
-use Rattle.std.proofs.Common.{sym, ◌∙◌, ap, subst, append-nil, append_assoc}
+use Rattle.std.specs.Prelude.{◌≡◌, ℕ, ◌+◌, ◌<◌, ◌≤◌, cond, true, false, ◌||◌, List, [], ◌∷◌, ◌++◌, length, map}
+use Rattle.std.proofs.Common.{sym, ◌∙◌, ap, subst}
 use Rattle.std.proofs.lemmas.List.Sums.{sum_by-cons}
 use Rattle.std.specs.declared.cmp.Ordering.TheVariants.{Less, Equal, Greater}
-use Rattle.std.specs.Ordering.{match_ordering, is_eq, ordering_reverse}
+use Rattle.std.specs.Ordering.{match_ordering}
 use Rattle.std.specs.List.{AllByRecursion}
 use Rattle.std.specs.List.Sorted.{IsStrictlySortedBy}
-use Rattle.std.specs.BTreeMap.{insert_entry}
-use Rattle.grouping_model.specs.Datum.{Row, HasKinds, row_cmp, same_row}
+use Rattle.grouping_model.specs.Datum.{Row, HasKinds, row_cmp}
 use Rattle.grouping_model.specs.Rising.{put, distinct, is_among}
 use Rattle.grouping_model.specs.Rising.Facts.{distinct-rises, among-distinct, among-append, same_members}
-use Rattle.grouping_model.specs.Aggregates.{Partial}
 use Rattle.grouping_model.specs.Condition.{is_met}
 use Rattle.grouping_model.specs.Query.{Query}
 use Rattle.grouping_model.specs.Grouping.{Group, part, key_of, selected, column_of}
-use Rattle.grouping_model.specs.Parts.{keys_of, partials_at}
+use Rattle.grouping_model.specs.Parts.{keys_of}
 use Rattle.grouping_model.proofs.DatumOrder.{row_cmp_total, row_cmp_ties}
-use Rattle.grouping_model.proofs.PartLaws.{same_row-swap}
 use Rattle.packed_rows.specs.Packing.{packing}
 use Rattle.agg_protocol.specs.States.{most_rows}
 use Rattle.having_filter.specs.Kept.{key_kinds}
 use Rattle.hash_agg.specs.Runs.{Entry, packed_keys, Rises}
 use Rattle.hash_agg.specs.Standing.{AreGroups, IsRun}
 use Rattle.hash_agg.specs.Inputs.{Brought, Packed, Counted, rows_in, all_rows, on_end, AreInputsOf, AllBring, IsAggregate}
-use Rattle.hash_agg.specs.Adding.{merged, group_added, groups_added}
+use Rattle.hash_agg.specs.Adding.{groups_added}
 use Rattle.hash_agg.specs.Steps.{AddsRun}
 use Rattle.hash_agg.proofs.KeyLaws.{key_has}
 use Rattle.hash_agg.proofs.MergeLaws.{puts, puts_rise, among-puts, keys_of-groups_added, groups_added_part}
 use Rattle.hash_agg.proofs.InputLaws.{keys_packed, keys_of_kinds, rises_keys}
 use Rattle.hash_agg.proofs.WholeLaws.{packings_once, keys_few}
-
--- ---- behind lower keys
-
--- each of these groups has a key below this one
-abbrev pub AllBelow : Row → List Group → Type 0
-AllBelow key groups = AllByRecursion (λ (g : Group). row_cmp key g.0 ≡ Greater) groups
-
-pub inserted_behind : (key : Row) (ps : List Partial) (front back : List Group) → AllBelow key front → insert_entry row_cmp (front ++ back) key ps ≡ front ++ insert_entry row_cmp back key ps
-inserted_behind key ps [] back below = refl
-inserted_behind key ps (g ∷ front) back (first, below) =
-    ap (λ r. match_ordering r ((key, ps) ∷ g ∷ front ++ back) ((g.0, ps) ∷ front ++ back) (g ∷ insert_entry row_cmp (front ++ back) key ps)) first
-    ∙ ap (λ gs. g ∷ gs) (inserted_behind key ps front back below)
-
-pub found_behind : (key : Row) (front back : List Group) → AllBelow key front → partials_at key (front ++ back) ≡ partials_at key back
-found_behind key [] back below = refl
-found_behind key (g ∷ front) back (first, below) =
-    ap (λ b. option_map (λ (group : Group). group.1) (cond b (Some g) (find (λ (group : Group). same_row group.0 key) (front ++ back)))) (same_row-swap g.0 key ∙ ap is_eq first)
-    ∙ found_behind key front back below
-
--- the groups before one of a rising list have keys below
-pub all_below : (front : List Group) (g : Group) (back : List Group) → IsStrictlySortedBy row_cmp (keys_of (front ++ g ∷ back)) → AllBelow g.0 front
-unfolding IsStrictlySortedBy
-all_below [] g back rising = tt
-all_below (h ∷ front) g back (above, rising) = (row_cmp_total.antisymm g.0 h.0 ∙ ap ordering_reverse (within front above), all_below front g back rising)
-  where
-    within : (gs : List Group) → AllByRecursion (λ z. row_cmp h.0 z ≡ Less) (keys_of (gs ++ g ∷ back)) → row_cmp h.0 g.0 ≡ Less
-    within [] all = all.0
-    within (x ∷ gs) all = within gs all.1
-
--- groups with rising keys, one after the other
-added_behind : (q : Query) (front gs : List Group) → IsStrictlySortedBy row_cmp (keys_of (front ++ gs)) → groups_added q front gs ≡ front ++ gs
-added_behind q front [] rising = sym (append-nil front)
-added_behind q front (g ∷ gs) rising =
-    let below = all_below front g gs rising in
-    let none : partials_at g.0 front ≡ None = ap (partials_at g.0) (sym (append-nil front)) ∙ found_behind g.0 front [] below in
-    let one : group_added q front g ≡ front ++ g ∷ [] =
-    ap (λ o. insert_entry row_cmp front g.0 (merged q o g.1)) none
-    ∙ ap (λ gs. insert_entry row_cmp gs g.0 g.1) (sym (append-nil front))
-    ∙ inserted_behind g.0 g.1 front [] below in
-    ap (λ gs'. groups_added q gs' gs) one
-    ∙ added_behind q (front ++ g ∷ []) gs (subst (λ gs'. IsStrictlySortedBy row_cmp (keys_of gs')) (sym (append_assoc front (g ∷ []) gs)) rising)
-    ∙ append_assoc front (g ∷ []) gs
+use Rattle.hash_agg.proofs.SpliceLaws.{packed_rise}
 
 pub run_keys_rise : (q : Query) (most : ℕ) (run : List Entry) (groups : List Group) → AreGroups q most run groups → Rises run → IsStrictlySortedBy row_cmp (keys_of groups)
 run_keys_rise q most run groups are rises = rises_keys (key_kinds q) (keys_of groups) (keys_of_kinds q most run groups are) (subst (IsStrictlySortedBy _) (keys_packed q most run groups are) rises)
-
--- no group is changed where there was none
-pub added_to_none : (q : Query) (most : ℕ) (run : List Entry) (groups : List Group) → AreGroups q most run groups → Rises run → groups_added q [] groups ≡ groups
-added_to_none q most run groups are rises = added_behind q [] groups (run_keys_rise q most run groups are rises)
 
 -- ---- the kinds of keys
 
@@ -157,8 +109,13 @@ module _ (q : Query) (rows : ℕ) (old more new : List Entry) (inputs : List Bro
       ∙ (λ i. puts (had i) (came i))
       ∙ puts_distinct ks (on_end lists) (subst (IsStrictlySortedBy row_cmp) had (run_keys_rise q rows old is.groups is.are is.rises)))
 
-  pub folded : AllByRecursion (λ place. place < length q.kinds) q.keys → Rises new → IsAggregate q (Counted old rows ∷ inputs) new
-  folded within rises =
+  folded_rises : Rises new
+  folded_rises =
+      packed_rise q (rows + all_rows inputs) new (groups_added q is.groups given.is_run.groups) folded_groups
+      (subst (IsStrictlySortedBy row_cmp) (sym (keys_of-groups_added q is.groups given.is_run.groups)) (puts_rise (keys_of is.groups) (keys_of given.is_run.groups) (run_keys_rise q rows old is.groups is.are is.rises)))
+
+  pub folded : AllByRecursion (λ place. place < length q.kinds) q.keys → IsAggregate q (Counted old rows ∷ inputs) new
+  folded within =
       record {
         part = folded_part;
         keys = folded_keys within;
@@ -166,6 +123,6 @@ module _ (q : Query) (rows : ℕ) (old more new : List Entry) (inputs : List Bro
         is_run = record {
           groups = groups_added q is.groups given.is_run.groups;
           are = subst (λ n. AreGroups q n new (groups_added q is.groups given.is_run.groups)) total folded_groups;
-          rises = rises;
+          rises = folded_rises;
         };
       }

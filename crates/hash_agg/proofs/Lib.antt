@@ -7,3 +7,5 @@ pub mod WholeLaws
 pub mod BytesLaws
 pub mod FoldLaws
 pub mod FlatLaws
+pub mod PlaceLaws
+pub mod SpliceLaws

@@ -4,3 +4,4 @@ pub mod Inputs
 pub mod Adding
 pub mod Steps
 pub mod Bytes
+pub mod Places

@@ -1,5 +1,5 @@
 -- Runs of groups in bytes. All of this is our own.
-use Rattle.std.specs.Prelude.{◌≡◌, ℕ, ◌+◌, List, [], ◌∷◌, map, length, slice_range}
+use Rattle.std.specs.Prelude.{◌≡◌, ℕ, ◌+◌, ◌-◌, ◌^◌, ◌<◌, ◌≤◌, List, [], ◌∷◌, map, length, slice_range}
 use Rattle.std.specs.List.{flat_map}
 use Rattle.std.specs.Ordering.{nat_cmp}
 use Rattle.std.specs.Cmp.Lexicographic.{slice_cmp}
@@ -58,3 +58,11 @@ pub record LieAs (keys states : List ℕ) (ends : List (ℕ × ℕ)) (run : List
 pub record AreRun (keys states : List ℕ) (ends : List (ℕ × ℕ)) : Type 0 where
   pub lie : LieAs keys states ends (all_cut keys states ends)
   pub rises : Rises (all_cut keys states ends)
+
+-- an end of a group that begins at these places or behind them
+abbrev pub IsEndFrom : ℕ × ℕ → ℕ × ℕ → Type 0
+IsEndFrom start end = (start.0 ≤ end.0) × (end.0 < 2 ^ 63) × (start.1 ≤ end.1) × (end.1 < 2 ^ 63)
+
+-- where it ends if what began at the first places begins at the others
+abbrev pub moved : ℕ × ℕ → ℕ × ℕ → ℕ × ℕ → ℕ × ℕ
+moved start behind end = (behind.0 + (end.0 - start.0), behind.1 + (end.1 - start.1))

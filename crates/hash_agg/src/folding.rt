@@ -3,32 +3,14 @@
 ghost use Rattle.std.specs.Prelude.{◌≡◌, ◌+◌, ◌<◌, ◌^◌, ◌∷◌, map, OnOk, OnErr};
 ghost use Rattle.std.specs.List.{AllByRecursion};
 ghost use Rattle.having_filter.specs.Meaning.{meaning};
-ghost use Rattle.hash_agg.specs.Runs.{Rises};
 ghost use Rattle.hash_agg.specs.Standing.{IsRun};
-ghost use Rattle.hash_agg.specs.Steps.{HasRoomForRun, AddsRun};
 ghost use Rattle.hash_agg.specs.Inputs.{Counted, brought, all_rows, IsInput, IsAggregate};
 
 use crate::aggregation::aggregate;
-use crate::groups::Groups;
 use crate::input::Input;
 use crate::run::Run;
 use having_filter::Query;
 use std::alloc::{AllocError, Global};
-
-/// Adds the groups of another run. The only error is a failed allocation, which leaves the run as it was.
-fn absorb(alloc: Global, query: &Query, run: &mut Run, more: &Run) -> Result<(), AllocError>
-    requires rises { Rises run.old }
-    requires room { HasRoomForRun (meaning query.now) run.old more.now }
-    ensures added { OnOk result (AddsRun (meaning query.now) run.old more.now run.new) }
-    ensures rises { OnOk result (Rises run.new) }
-    ensures refused { OnErr result (run.new ≡ run.old) }
-{
-    let mut groups = Groups::new(alloc);
-    groups.add_run(query, run)?;
-    groups.add_run(query, more)?;
-    *run = groups.into_run()?;
-    Ok(())
-}
 
 /// Adds what inputs give to a run, which becomes the run that `aggregate` gives of it and of them.
 ///
@@ -50,5 +32,5 @@ pub fn fold(
 {
     let _schema = query.schema();
     let more = aggregate(alloc, query, more)?;
-    absorb(alloc, query, run, &more)
+    run.absorb(alloc, query, &more)
 }

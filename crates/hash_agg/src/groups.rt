@@ -162,7 +162,7 @@ impl Groups {
     }
 
     /// Adds the groups of a run.
-    pub(crate) fn add_run(&mut self, query: &Query, run: &Run) -> Result<(), AllocError>
+    fn add_run(&mut self, query: &Query, run: &Run) -> Result<(), AllocError>
         requires { HasRoomForRun (meaning query.now) self.old run.now }
         ensures { OnOk result (AddsRun (meaning query.now) self.old run.now self.new) }
     {

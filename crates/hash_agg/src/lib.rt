@@ -6,6 +6,7 @@ mod folding;
 mod groups;
 mod input;
 mod laws;
+mod merging;
 mod run;
 mod states;
 

@@ -1,8 +1,15 @@
 //! Runs of groups.
 
-ghost use Rattle.std.specs.Prelude.{◌≡◌, ◌<◌, ◌≤◌, ◌++◌, ◌∷◌, [], length, slice_get, slice_index_or, slice_range, Some, IsTrue, ◌↔◌, IfOk, OnOk, OnErr};
-ghost use Rattle.hash_agg.specs.Runs.{Rises, all_cut, LieAs, keys_on_end, states_on_end};
+ghost use Rattle.std.specs.Prelude.{◌≡◌, ℕ, ◌+◌, ◌-◌, ◌^◌, ◌<◌, ◌≤◌, ◌++◌, ◌∷◌, List, [], length, map, take, drop, slice_get, slice_index_or, slice_range, Some, IsTrue, ◌↔◌, IfOk, OnOk, OnErr};
+ghost use Rattle.std.specs.List.{AllByRecursion};
+ghost use Rattle.grouping_model.specs.Parts.{functions};
+ghost use Rattle.having_filter.specs.Meaning.{meaning};
+ghost use Rattle.hash_agg.specs.Runs.{Rises, all_cut, LieAs, keys_on_end, states_on_end, IsEndFrom, moved};
+ghost use Rattle.hash_agg.specs.Steps.{HaveRoomForMore, CombineWith};
+ghost use Rattle.hash_agg.specs.Places.{HasStatesFor, CombinesAt, LieFor, CombinesIn};
 
+use crate::states::combine_slice;
+use having_filter::Query;
 use std::alloc::{AllocError, Global};
 use std::marker::Model;
 
@@ -40,13 +47,21 @@ fn bound(ends: &[(usize, usize)], groups: usize) -> (usize, usize)
     }
 }
 
-/// The bytes from a place to another.
-fn part(bytes: &[u8], from: usize, to: usize) -> &[u8]
-    requires rises { from ≤ to }
-    requires within { to ≤ length bytes.now }
-    ensures { result.now ≡ slice_range bytes.now from to }
+/// Where the group at a place ends.
+fn end(ends: &[(usize, usize)], place: usize) -> (usize, usize)
+    requires { place < length ends.now }
+    ensures { result ≡ slice_index_or ((0, 0) ∷ ends.now) (place + 1) (0, 0) }
 {
-    &bytes[from..to]
+    ends[place]
+}
+
+/// What lies from a place to another.
+fn part<T>(all: &[T], from: usize, to: usize) -> &[T]
+    requires rises { from ≤ to }
+    requires within { to ≤ length all.now }
+    ensures { result.now ≡ slice_range all.now from to }
+{
+    &all[from..to]
 }
 
 /// The keys and the states of the groups from a place to another, on end.
@@ -68,6 +83,60 @@ fn parts<'a>(
     let start = bound(ends, from);
     let end = bound(ends, to);
     (part(keys, start.0, end.0), part(states, start.1, end.1))
+}
+
+/// Adds the ends of groups that began at `start` in another run, and begin at `behind` in this one. A failed allocation
+/// changes nothing.
+fn push_ends(
+    ends: &mut Vec<(usize, usize)>,
+    more: &[(usize, usize)],
+    start: (usize, usize),
+    behind: (usize, usize),
+) -> Result<(), AllocError>
+    requires few { (behind.0 < 2 ^ 63) × (behind.1 < 2 ^ 63) }
+    requires within { AllByRecursion (IsEndFrom start) more.now }
+    ensures pushed { OnOk result (ends.new.items ≡ ends.old.items ++ map (moved start behind) more.now) }
+    ensures refused { OnErr result (ends.new.items ≡ ends.old.items) }
+{
+    ends.reserve(more.len())?;
+    for end in more {
+        let keys = behind.0 + (end.0 - start.0);
+        let states = behind.1 + (end.1 - start.1);
+        ends.push((keys, states))?;
+    }
+    Ok(())
+}
+
+/// Combines the states from a place to another with others, which come behind.
+fn combine_part(query: &Query, states: &mut Vec<u8>, from: usize, to: usize, more: &[u8])
+    requires order { from ≤ to }
+    requires within { to ≤ length states.old.items }
+    requires room { HaveRoomForMore (functions (meaning query.now))
+        (slice_range states.old.items from to) more.now }
+    ensures { (part : List ℕ)
+        × (states.new.items ≡ take from states.old.items ++ (part ++ drop to states.old.items))
+        × (length part ≡ to - from)
+        × CombineWith (functions (meaning query.now)) (slice_range states.old.items from to)
+        more.now part }
+{
+    combine_slice(query, &mut states[from..to], more);
+}
+
+/// Combines the states of the group at a place with others, which come behind.
+fn combine_one(
+    query: &Query,
+    states: &mut Vec<u8>,
+    ends: &[(usize, usize)],
+    place: usize,
+    more: &[u8],
+)
+    requires { LieFor (functions (meaning query.now)) states.old.items ends.now place more.now }
+    ensures { CombinesIn (functions (meaning query.now)) states.old.items ends.now place more.now
+        states.new.items }
+{
+    let from = bound(ends, place);
+    let to = end(ends, place);
+    combine_part(query, states, from.1, to.1, more);
 }
 
 impl Run {
@@ -96,6 +165,18 @@ impl Run {
         let states = Vec::with_capacity(alloc, states)?;
         let ends = Vec::with_capacity(alloc, groups)?;
         Ok(Run { keys, states, ends })
+    }
+
+    /// A run of no groups that has room for those of two runs. The only error is a failed allocation.
+    pub(crate) fn with_room_of(alloc: Global, one: &Run, other: &Run) -> Result<Run, AllocError>
+        ensures { IfOk result (λ run. run ≡ []) }
+    {
+        Run::with_capacity(
+            alloc,
+            one.ends.len().saturating_add(other.ends.len()),
+            one.keys.len().saturating_add(other.keys.len()),
+            one.states.len().saturating_add(other.states.len()),
+        )
     }
 
     /// Adds a group at the end. Its key is above the last one. The only error is a failed allocation, which changes
@@ -135,6 +216,39 @@ impl Run {
         ensures { slice_get self.now place ≡ Some (result.0.now, result.1.now) }
     {
         parts(&self.keys, &self.states, &self.ends, place, place + 1)
+    }
+
+    /// Adds some groups of another run at the end, from a place to another. The only error is a failed allocation, which
+    /// changes nothing.
+    pub(crate) fn push_range(
+        &mut self,
+        other: &Run,
+        from: usize,
+        to: usize,
+    ) -> Result<(), AllocError>
+        requires order { from ≤ to }
+        requires within { to ≤ length other.now }
+        requires rises { Rises (self.old ++ slice_range other.now from to) }
+        ensures pushed { OnOk result (self.new ≡ self.old ++ slice_range other.now from to) }
+        ensures refused { OnErr result (self.new ≡ self.old) }
+    {
+        let start = bound(&other.ends, from);
+        let (keys, states) = parts(&other.keys, &other.states, &other.ends, from, to);
+        let behind = (self.keys.len(), self.states.len());
+        self.keys.reserve(keys.len())?;
+        self.states.reserve(states.len())?;
+        push_ends(&mut self.ends, part(&other.ends, from, to), start, behind)?;
+        self.keys.extend_from_slice(keys)?;
+        self.states.extend_from_slice(states)?;
+        Ok(())
+    }
+
+    /// Combines the states of a group with others of its key, which come behind.
+    pub(crate) fn combine_at(&mut self, query: &Query, place: usize, more: &[u8])
+        requires { HasStatesFor (functions (meaning query.now)) self.old place more.now }
+        ensures { CombinesAt (functions (meaning query.now)) self.old place more.now self.new }
+    {
+        combine_one(query, &mut self.states, &self.ends, place, more);
     }
 
     /// The same groups again. The only error is a failed allocation.

@@ -110,13 +110,21 @@ pub fn first_states(alloc: Global, query: &Query) -> Result<Vec<u8>, AllocError>
 }
 
 /// Combines the states of a group with others of its key, which come behind.
+pub(crate) fn combine_slice(query: &Query, states: &mut [u8], more: &[u8])
+    requires { HaveRoomForMore (functions (meaning query.now)) states.old more.now }
+    ensures { CombineWith (functions (meaning query.now)) states.old more.now states.new }
+{
+    match StateRow::combine_into(query.agg_kinds(), states, more, MOST_ROWS) {
+        Ok(()) => {}
+        Err(BadState) => unreachable!(),
+    }
+}
+
+/// The same of states in a vector.
 pub(crate) fn combine(query: &Query, states: &mut Vec<u8>, more: &[u8])
     requires { HaveRoomForMore (functions (meaning query.now)) states.old.items more.now }
     ensures { CombineWith (functions (meaning query.now)) states.old.items more.now
         states.new.items }
 {
-    match StateRow::combine_into(query.agg_kinds(), states.as_mut_slice(), more, MOST_ROWS) {
-        Ok(()) => {}
-        Err(BadState) => unreachable!(),
-    }
+    combine_slice(query, states.as_mut_slice(), more);
 }

@@ -3,35 +3,19 @@ use Rattle.std.proofs.Common.{sym, subst, rules}
 use Rattle.grouping_model.specs.Query.{Query}
 use Rattle.grouping_model.specs.Combining.{combine_all}
 use Rattle.grouping_model.specs.Parts.{functions}
-use Rattle.agg_library.specs.StateRows.{Denotes}
 use Rattle.having_filter.specs.Meaning.{meaning}
 use Rattle.hash_agg.specs.Standing.{AreStates}
-use Rattle.hash_agg.proofs.StateLaws.{states_by, combined, can_combine, written_over}
+use Rattle.hash_agg.specs.Steps.{HaveRoomForMore}
+use Rattle.hash_agg.proofs.StateLaws.{written_over}
 use Rattle.hash_agg.proofs.states.combine.Goals as goal
 
-pub unreachable-requires : goal.unreachable-requires
-unreachable-requires c =
-    let q : Query = meaning c.args.query.now in
-    let r = c.requires in
-    can_combine r.0 r.1 c.agg_kinds.result.now c.as_mut_slice.result.now c.args.more.now r.2 r.3 r.6
-    (subst (λ b. Denotes r.0 c.agg_kinds.result.now b r.2) (sym c.as_mut_slice.ensures.value) (states_by (functions q) r.0 c.agg_kinds.result.now c.args.states.now.items r.2 c.agg_kinds.ensures.functions r.4))
-    (states_by (functions q) r.1 c.agg_kinds.result.now c.args.more.now r.3 c.agg_kinds.ensures.functions r.5)
-    c.in-Err.ensures.err
+pub combine_slice-requires : goal.combine_slice-requires
+combine_slice-requires c = subst (λ b. HaveRoomForMore (functions (meaning c.args.query.now)) b c.args.more.now) (sym c.as_mut_slice.ensures.value) c.requires
 
 pub returns : goal.returns
 returns c =
     λ m n ps qs low are more.
     let q : Query = meaning c.args.query.now in
-    let both = c.in-Ok.ensures.ok in
     subst (λ b. AreStates (functions q) (m + n) b (combine_all (functions q) ps qs))
-    (sym (written_over c.args.states.now.items c.combine_into.new.into c.args.states.now.len (search rules) (search rules)))
-    (record {
-      kinds = c.agg_kinds.result.now;
-      named = c.agg_kinds.ensures.functions;
-      denote =
-          subst (λ these. Denotes (m + n) c.agg_kinds.result.now c.combine_into.new.into (combine_all these ps qs)) c.agg_kinds.ensures.functions
-          (combined m n c.agg_kinds.result.now c.as_mut_slice.result.now c.args.more.now c.combine_into.new.into ps qs both.0 both.1 low
-          (subst (λ b. Denotes m c.agg_kinds.result.now b ps) (sym c.as_mut_slice.ensures.value) (states_by (functions q) m c.agg_kinds.result.now c.args.states.now.items ps c.agg_kinds.ensures.functions are))
-          (states_by (functions q) n c.agg_kinds.result.now c.args.more.now qs c.agg_kinds.ensures.functions more)
-          both.2 both.3 both.4);
-    })
+    (sym (written_over c.args.states.now.items c.combine_slice.new.states c.args.states.now.len (search rules) (search rules)))
+    (c.combine_slice.ensures m n ps qs low (subst (λ b. AreStates (functions q) m b ps) (sym c.as_mut_slice.ensures.value) are) more)
