@@ -10,4 +10,4 @@ mod part;
 pub use error::{JoinError, RefusedBatch};
 pub use grouping_model::Delivered;
 pub use laws::{fitting_parts, told_numbers};
-pub use part::OriginPart;
+pub use part::{OriginPart, most_rows};

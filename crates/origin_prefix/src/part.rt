@@ -47,7 +47,7 @@ impl Model for OriginPart {
 }
 
 /// The most rows that the batches 1 to a number have.
-pub(crate) fn most_rows(number: u32) -> u64
+pub fn most_rows(number: u32) -> u64
     ensures { result ≡ number * MOST_ROWS }
 {
     u64::from(number) * u64::from(MOST_ROWS)

@@ -14,3 +14,4 @@ pub mod Writables
 pub mod Texts
 pub mod Printed
 pub mod PrintedQuery
+pub mod OneText

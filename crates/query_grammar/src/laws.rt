@@ -4,6 +4,10 @@ ghost use Rattle.std.specs.Prelude.{◌≡◌, ℕ, true, List, [], Ok, Err};
 ghost use Rattle.std.specs.List.{AllByRecursion};
 ghost use Rattle.query_tokens.specs.Words.{Lexeme};
 ghost use Rattle.query_tokens.specs.Spelling.{IsLexeme};
+ghost use Rattle.packed_rows.specs.Columns.{printed};
+ghost use Rattle.having_filter.specs.Kept as kept;
+ghost use Rattle.having_filter.specs.Kept.{by_names};
+ghost use Rattle.having_filter.specs.Meaning.{Checked};
 ghost use Rattle.having_filter.specs.Writable.{IsWritable};
 ghost use Rattle.having_filter.specs.Checks.{all_of, filters_pass, is_shallow, are_shallow};
 ghost use Rattle.having_filter.specs.Spelling.{spelling};
@@ -65,4 +69,12 @@ pub fn canonical_text_is_read()
     ensures { (q : Written (List ℕ)) → IsWritable q →
         all_of (filters_pass is_shallow) are_shallow q ≡ true →
         IsSpelled (spelling q) (canonical q) }
+{}
+
+/// Two checked queries whose schemas and canonical texts are the same are the same query.
+#[tactic(auto, using(crate::proofs::OneText::one_text))]
+pub fn one_text_one_query()
+    ensures { (q r : Checked) → kept.IsQuery q → kept.IsQuery r →
+        printed q.columns ≡ printed r.columns →
+        spelling (by_names q) ≡ spelling (by_names r) → q ≡ r }
 {}

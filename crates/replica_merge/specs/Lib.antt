@@ -1,3 +1,4 @@
-pub mod Kept
+pub mod Replicas
 pub mod Coding
 pub mod Groups
+pub mod Errors

@@ -1,11 +1,13 @@
 //! Replicas: what a site knows of the numbered batches of many origins, and its answer to a query over them.
 #![tactic(auto)]
 
-mod delivered;
-mod laws;
+mod error;
+mod known;
+
 mod replica;
 mod showing;
 
-pub use delivered::{Delivered, Known, RefusedBatch};
-pub use laws::{building, fitting};
+pub use error::MergeError;
+pub use known::Known;
+pub use origin_prefix::{Delivered, JoinError, RefusedBatch};
 pub use replica::Replica;

@@ -1,81 +1,153 @@
-//! The batches that a replica keeps.
+//! What a replica holds, and what it tells of it.
 
-ghost use Rattle.std.specs.Prelude.{◌≡◌, ◌≢◌, ◌⊎◌, ◌↔◌, ◌+◌, ◌<◌, ◌≤◌, ◌++◌, ℕ, List, All, [], filter, map, length, nat_lt, false, IsTrue, OnOk, IfOk, IfErr};
-ghost use Rattle.grouping_model.specs.declared.limits.TheConstants.{LAST_NUMBER};
+ghost use Rattle.std.specs.Prelude.{◌≡◌, ◌≢◌, ◌≤◌, ℕ, List, None, All, [], map, length, Some, IsSome, IfSome, IsTrue, IfOk, IfErr, OnOk, OnErr};
 ghost use Rattle.std.specs.BTreeMap.{insert_entry};
+ghost use Rattle.std.specs.Option.{option_copied};
+ghost use Rattle.grouping_model.specs.declared.limits.TheConstants.{LAST_NUMBER};
 ghost use Rattle.grouping_model.specs.Answer.{answer};
-ghost use Rattle.grouping_model.specs.World.{World, IsWorld, batch_cmp, knows, learn, prefix, numbers_of};
+ghost use Rattle.grouping_model.specs.Datum.{Row};
+ghost use Rattle.grouping_model.specs.Replies.{InLimits, reply_of, known_list};
+ghost use Rattle.grouping_model.specs.World.{World, IsWorld, knows, learn, prefix};
 ghost use Rattle.packed_rows.specs.Columns.{kinds};
+ghost use Rattle.batch_reader.specs.Rows.{ArePackedRows, packings};
 ghost use Rattle.having_filter.specs.Meaning.{meaning};
-ghost use Rattle.replica_merge.specs.Groups.{HoldRows, IsRunOf};
-ghost use Rattle.replica_merge.specs.Kept.{told, reply_of, InLimits, ArePackedRows, KeepsRows, Fits, batch_packings, origin_packings, known_packings, known_list, known_of};
+ghost use Rattle.hash_agg.specs.Inputs.{brought, IsAggregate};
+ghost use Rattle.origin_prefix.specs.Parts.{IsPartOf, Disagrees};
+ghost use Rattle.origin_prefix.specs.declared.error.JoinError.TheVariants.{OriginDisagrees};
+ghost use Rattle.replica_merge.specs.Replicas.{part_at, part_of, told, Fits, AreHeldParts, DeliversAt, known_of, known_part, counted_part};
 
-use crate::delivered::{Delivered, Known, RefusedBatch};
+use crate::known::Known;
 use crate::showing::show;
 use batch_reader::{Batch, PackedRows};
-use grouping_model::limits::LAST_ORIGIN;
 use hash_agg::{Input, Run, aggregate};
 use having_filter::{Answer, Query};
+use origin_prefix::{Delivered, JoinError, OriginPart, RefusedBatch, most_rows};
 use std::alloc::{AllocError, Global};
 use std::collections::BTreeMap;
 use std::marker::Model;
 
-/// How many origins there can be: 0 to 1,023.
-const ORIGINS: u16 = LAST_ORIGIN + 1;
-
-/// A query, the batches that a replica was given to answer it, and each origin's unbroken prefix of them.
+/// A query, and what is held to answer it: of each origin the groups of its unbroken prefix and the batches that came early.
 #[derive(Drop)]
 pub struct Replica {
-    alloc: Global,
-    query: Query,
-    batches: BTreeMap<(u16, u32), PackedRows>,
-    prefixes: BTreeMap<u16, u32>,
+    pub(crate) alloc: Global,
+    pub(crate) query: Query,
+    pub(crate) parts: BTreeMap<u16, OriginPart>,
 }
 
 impl Model for Replica {
-    ghost use Rattle.packed_rows.specs.Columns.{kinds};
     ghost use Rattle.replica_merge.specs.Coding.{coded_held};
-    ghost use Rattle.replica_merge.specs.Kept.{Held, IsReplica};
+    ghost use Rattle.replica_merge.specs.Replicas.{Held, AreHeldParts};
 
     ghost Value = { Held };
 
     ghost coded = { coded_held };
 
-    ghost view = { λ r. record { query = r.query; kept = r.batches.entries } };
+    ghost view = { λ r. record { query = r.query; parts = r.parts.entries } };
 
-    ghost invariant = { λ r. IsReplica (kinds r.query.columns) r.batches.entries r.prefixes };
+    ghost invariant = { λ r. AreHeldParts r.query r.parts.entries };
 }
 
-/// Whether an origin with this prefix and these early numbers has a batch that is known.
-fn is_any_known(upto: u32, early: &[u32]) -> bool
-    ensures { IsTrue result ↔ ((0 < upto) ⊎ (early.now ≢ [])) }
+/// The numbers of early batches, rising.
+fn early_numbers(
+    alloc: Global,
+    early: &BTreeMap<u32, PackedRows>,
+) -> Result<Vec<u32>, AllocError>
+    ensures { IfOk result (λ numbers. numbers.items
+        ≡ map (λ (batch : ℕ × List (List ℕ)). batch.0) early.now.entries) }
 {
-    upto > 0 || !early.is_empty()
+    let mut numbers = Vec::with_capacity(alloc, early.len())?;
+    for (number, _) in early {
+        numbers.push(*number)?;
+    }
+    Ok(numbers)
 }
 
-/// Keeps the rows of a batch. Where memory is wanting, the batch is handed back and nothing is changed.
-fn keep(batches: &mut BTreeMap<(u16, u32), PackedRows>, batch: Batch) -> Result<(), RefusedBatch>
-    ensures kept { OnOk result (batches.new.entries
-        ≡ insert_entry batch_cmp batches.old.entries (batch.origin, batch.number) batch.rows) }
+/// What is known of origins.
+fn known_parts(
+    alloc: Global,
+    parts: &BTreeMap<u16, OriginPart>,
+) -> Result<Vec<Known>, AllocError>
+    ensures { IfOk result (λ list. map known_of list.items ≡ map known_part parts.now.entries) }
+{
+    let mut list = Vec::with_capacity(alloc, parts.len())?;
+    for (origin, part) in parts {
+        let early = early_numbers(alloc, part.early())?;
+        list.push(Known {
+            origin: *origin,
+            upto: part.prefix(),
+            early,
+        })?;
+    }
+    Ok(list)
+}
+
+/// The groups of some parts, as inputs.
+fn part_inputs(
+    alloc: Global,
+    parts: &BTreeMap<u16, OriginPart>,
+) -> Result<Vec<Input<'_>>, AllocError>
+    ensures { IfOk result (λ inputs. map brought inputs.items ≡ map counted_part parts.now.entries) }
+{
+    let mut inputs = Vec::with_capacity(alloc, parts.len())?;
+    for (_, part) in parts {
+        let run = part.run();
+        let rows = most_rows(part.prefix());
+        inputs.push(Input::Groups { run, rows })?;
+    }
+    Ok(inputs)
+}
+
+/// Takes a batch of an origin of which there is a part. A refused batch is handed back and changes nothing.
+fn deliver_to(
+    query: &Query,
+    parts: &mut BTreeMap<u16, OriginPart>,
+    batch: Batch,
+) -> Result<Delivered, RefusedBatch>
+    requires there { IsSome (part_at parts.old.entries batch.origin) }
+    requires part { IsPartOf query.now (part_of parts.old.entries batch.origin) }
+    requires number { (1 ≤ batch.number) × (batch.number ≤ LAST_NUMBER) }
+    requires rows { ArePackedRows (kinds query.now.columns) batch.rows }
+    ensures delivers { IfOk result (DeliversAt query.now parts.old.entries batch.origin batch.number
+        batch.rows parts.new.entries) }
     ensures refused { IfErr result (λ e. (e.batch ≡ batch)
-        × (batches.new.entries ≡ batches.old.entries)) }
+        × (parts.new.entries ≡ parts.old.entries)) }
+    ensures why { IfErr result (λ e. e.why ≡ OriginDisagrees →
+        Disagrees (part_of parts.old.entries batch.origin) batch.number batch.rows) }
 {
-    let Batch {
-        origin,
-        number,
-        rows,
-    } = batch;
-    match batches.insert((origin, number), rows) {
-        Ok(_) => Ok(()),
-        Err(failed) => {
-            let (_, rows) = failed.value;
-            Err(RefusedBatch {
-                batch: Batch {
-                    origin,
-                    number,
-                    rows,
-                },
-            })
+    match parts.get_mut(&batch.origin) {
+        Some(part) => part.deliver(query, batch),
+        None => unreachable!(),
+    }
+}
+
+/// Takes a batch of an origin of which there is no part yet.
+fn deliver_first(
+    alloc: Global,
+    query: &Query,
+    parts: &mut BTreeMap<u16, OriginPart>,
+    batch: Batch,
+) -> Result<Delivered, RefusedBatch>
+    requires none { part_at parts.old.entries batch.origin ≡ None }
+    requires number { (1 ≤ batch.number) × (batch.number ≤ LAST_NUMBER) }
+    requires rows { ArePackedRows (kinds query.now.columns) batch.rows }
+    ensures delivers { IfOk result (DeliversAt query.now parts.old.entries batch.origin batch.number
+        batch.rows parts.new.entries) }
+    ensures refused { IfErr result (λ e. (e.batch ≡ batch)
+        × (parts.new.entries ≡ parts.old.entries)) }
+    ensures why { IfErr result (λ e. e.why ≡ OriginDisagrees →
+        Disagrees (part_of parts.old.entries batch.origin) batch.number batch.rows) }
+{
+    let origin = batch.origin;
+    // The part has its place before the batch is taken, so that a batch is never lost.
+    if parts.insert(origin, OriginPart::empty(alloc)).is_err() {
+        let why = JoinError::NoMemory;
+        return Err(RefusedBatch { batch, why });
+    }
+    match deliver_to(query, parts, batch) {
+        Ok(delivered) => Ok(delivered),
+        Err(refused) => {
+            parts.remove(&origin);
+            Err(refused)
         }
     }
 }
@@ -83,13 +155,12 @@ fn keep(batches: &mut BTreeMap<(u16, u32), PackedRows>, batch: Batch) -> Result<
 impl Replica {
     /// A replica that knows nothing, to answer a query.
     pub fn new(alloc: Global, query: Query) -> Replica
-        ensures { result ≡ record { query = query; kept = [] } }
+        ensures { result ≡ record { query = query; parts = [] } }
     {
         Replica {
             alloc,
             query,
-            batches: BTreeMap::new(alloc),
-            prefixes: BTreeMap::new(alloc),
+            parts: BTreeMap::new(alloc),
         }
     }
 
@@ -102,185 +173,70 @@ impl Replica {
 
     /// The unbroken prefix of an origin.
     pub fn prefix(&self, origin: u16) -> u32
-        ensures prefix { result ≡ prefix (told self.now.kept) origin }
+        ensures prefix { result ≡ prefix (told self.now.parts) origin }
         ensures limit { result ≤ LAST_NUMBER }
     {
-        match self.prefixes.get(&origin) {
-            Some(upto) => *upto,
+        match self.parts.get(&origin) {
+            Some(part) => part.prefix(),
             None => 0,
         }
     }
 
     /// Whether a batch is known.
     pub fn knows(&self, origin: u16, number: u32) -> bool
-        ensures known { result ≡ knows (told self.now.kept) (origin, number) }
+        ensures known { result ≡ knows (told self.now.parts) (origin, number) }
         ensures limits { IsTrue result → InLimits (origin, number) }
     {
-        self.batches.contains_key(&(origin, number))
-    }
-
-    /// The numbers of an origin that are known above a number, rising.
-    fn numbers_above(&self, origin: u16, upto: u32) -> Result<Vec<u32>, AllocError>
-        ensures { IfOk result (λ numbers. numbers.items
-            ≡ filter (λ n. nat_lt upto n) (numbers_of (told self.now.kept) origin)) }
-    {
-        let mut numbers = Vec::new(self.alloc);
-        for (key, _) in self.batches.range((origin, 0)..=(origin, u32::MAX)) {
-            if key.1 > upto {
-                numbers.push(key.1)?;
-            }
+        match self.parts.get(&origin) {
+            Some(part) => number > 0 && part.knows(number),
+            None => false,
         }
-        Ok(numbers)
     }
 
     /// What is known, by rising origin.
     pub fn known(&self) -> Result<Vec<Known>, AllocError>
-        ensures { IfOk result (λ list. map known_of list.items ≡ known_list (told self.now.kept)) }
+        ensures { IfOk result (λ list. map known_of list.items ≡ known_list (told self.now.parts)) }
     {
-        let mut list = Vec::new(self.alloc);
-        for origin in 0..ORIGINS {
-            let upto = self.prefix(origin);
-            let early = self.numbers_above(origin, upto)?;
-            if is_any_known(upto, &early) {
-                list.push(Known {
-                    origin,
-                    upto,
-                    early,
-                })?;
-            }
-        }
-        Ok(list)
-    }
-
-    /// The last number that follows a number of an origin without a gap.
-    fn reach(&self, origin: u16, number: u32) -> u32
-        requires { number ≤ LAST_NUMBER }
-        ensures from { number ≤ result }
-        ensures follow { (m : ℕ) → number < m → m ≤ result →
-            IsTrue (knows (told self.now.kept) (origin, m)) }
-        ensures gap { knows (told self.now.kept) (origin, result + 1) ≡ false }
-    {
-        let mut upto = number;
-        while self.knows(origin, upto + 1) {
-            upto += 1;
-        }
-        upto
-    }
-
-    /// Keeps a batch that is neither known nor next to its origin's prefix.
-    fn keep_early(&mut self, batch: Batch) -> Result<(), RefusedBatch>
-        requires limits { InLimits (batch.origin, batch.number) }
-        requires rows { ArePackedRows (kinds self.old.query.columns) batch.rows }
-        requires unknown { knows (told self.old.kept) (batch.origin, batch.number) ≡ false }
-        requires early { batch.number ≢ prefix (told self.old.kept) batch.origin + 1 }
-        ensures told { OnOk result (told self.new.kept
-            ≡ learn (told self.old.kept) (batch.origin, batch.number)) }
-        ensures rows { OnOk result (KeepsRows self.old.kept self.new.kept (batch.origin, batch.number)
-            batch.rows) }
-        ensures query { self.new.query ≡ self.old.query }
-        ensures refused { IfErr result (λ e. (e.batch ≡ batch) × (self.new ≡ self.old)) }
-    {
-        keep(&mut self.batches, batch)?;
-        Ok(())
-    }
-
-    /// Keeps the batch that is next to its origin's prefix, which reaches up to a number from then on.
-    fn keep_next(&mut self, batch: Batch, upto: u32) -> Result<(), RefusedBatch>
-        requires limits { InLimits (batch.origin, batch.number) }
-        requires rows { ArePackedRows (kinds self.old.query.columns) batch.rows }
-        requires next { batch.number ≡ prefix (told self.old.kept) batch.origin + 1 }
-        requires upto { prefix (learn (told self.old.kept) (batch.origin, batch.number)) batch.origin
-            ≡ upto }
-        ensures told { OnOk result (told self.new.kept
-            ≡ learn (told self.old.kept) (batch.origin, batch.number)) }
-        ensures rows { OnOk result (KeepsRows self.old.kept self.new.kept (batch.origin, batch.number)
-            batch.rows) }
-        ensures query { self.new.query ≡ self.old.query }
-        ensures refused { IfErr result (λ e. (e.batch ≡ batch) × (self.new ≡ self.old)) }
-    {
-        let (origin, number) = (batch.origin, batch.number);
-        // The place of the prefix is taken before the batch, so that writing it anew takes no memory.
-        if self.prefixes.insert(origin, number - 1).is_err() {
-            return Err(RefusedBatch { batch });
-        }
-        keep(&mut self.batches, batch)?;
-        match self.prefixes.insert(origin, upto) {
-            Ok(_) => Ok(()),
-            Err(_) => unreachable!(),
-        }
+        known_parts(self.alloc, &self.parts)
     }
 
     /// Takes a batch of the query's table, with an origin from 0 to 1,023, a number from 1 to 2,147,483,647 and at most
     /// 65,536 rows. A number that is known already changes nothing; one next to its origin's unbroken prefix is folded
-    /// with the early ones that follow without a gap; any other is kept until then. Where memory is wanting, the batch
-    /// is handed back and nothing is changed.
+    /// with the early ones that follow without a gap; any other is kept until then. A refused batch is handed back and changes
+    /// nothing: for want of memory, or since its number is kept early with other rows.
     pub fn deliver(&mut self, batch: Batch) -> Result<Delivered, RefusedBatch>
         requires limits { InLimits (batch.origin, batch.number) }
         requires rows { ArePackedRows (kinds self.old.query.columns) batch.rows }
         ensures query { self.new.query ≡ self.old.query }
         ensures reply { IfOk result (λ reply. reply
-            ≡ reply_of (told self.old.kept) (batch.origin, batch.number)) }
-        ensures told { OnOk result (told self.new.kept
-            ≡ learn (told self.old.kept) (batch.origin, batch.number)) }
-        ensures rows { OnOk result (KeepsRows self.old.kept self.new.kept (batch.origin, batch.number)
-            batch.rows) }
+            ≡ reply_of (told self.old.parts) (batch.origin, batch.number)) }
+        ensures told { OnOk result (told self.new.parts
+            ≡ learn (told self.old.parts) (batch.origin, batch.number)) }
+        // A replica that fits a world whose batch this is fits it still.
+        ensures fits { OnOk result ((world : World) (those : List Row) →
+            IsWorld (kinds self.old.query.columns) world → Fits world self.old →
+            world batch.origin batch.number ≡ Some those → batch.rows ≡ packings those →
+            Fits world self.new) }
         ensures refused { IfErr result (λ e. (e.batch ≡ batch) × (self.new ≡ self.old)) }
+        ensures why { IfErr result (λ e. e.why ≡ OriginDisagrees →
+            Disagrees (part_of self.old.parts batch.origin) batch.number batch.rows) }
+        // Such a world's batch never disagrees.
+        ensures agrees { IfErr result (λ e. e.why ≡ OriginDisagrees →
+            (world : World) (those : List Row) → Fits world self.old →
+            world batch.origin batch.number ≡ Some those → batch.rows ≢ packings those) }
     {
-        let (origin, number) = (batch.origin, batch.number);
-        if self.knows(origin, number) {
-            return Ok(Delivered::Known);
+        if self.parts.contains_key(&batch.origin) {
+            return deliver_to(&self.query, &mut self.parts, batch);
         }
-        if number - 1 != self.prefix(origin) {
-            self.keep_early(batch)?;
-            return Ok(Delivered::Early);
-        }
-        let upto = self.reach(origin, number);
-        self.keep_next(batch, upto)?;
-        Ok(Delivered::Folded { upto })
-    }
-
-    /// Adds the rows that are kept of a batch to the inputs.
-    fn add_batch<'a>(
-        &'a self,
-        origin: u16,
-        number: u32,
-        inputs: &mut Vec<Input<'a>>,
-    ) -> Result<(), AllocError>
-        ensures { OnOk result ((done : List (List ℕ)) →
-            HoldRows (meaning self.now.query) done inputs.old.items →
-            HoldRows (meaning self.now.query) (done ++ batch_packings self.now.kept origin number)
-            inputs.new.items) }
-    {
-        match self.batches.get(&(origin, number)) {
-            Some(rows) => {
-                inputs.push(Input::Rows(rows.as_slice()))?;
-                Ok(())
-            }
-            None => Ok(()),
-        }
-    }
-
-    /// Adds the rows of an origin's unbroken prefix to the inputs.
-    fn add_origin<'a>(&'a self, origin: u16, inputs: &mut Vec<Input<'a>>) -> Result<(), AllocError>
-        ensures { OnOk result ((done : List (List ℕ)) →
-            HoldRows (meaning self.now.query) done inputs.old.items →
-            HoldRows (meaning self.now.query) (done ++ origin_packings self.now.kept origin)
-            inputs.new.items) }
-    {
-        for number in 1..=self.prefix(origin) {
-            self.add_batch(origin, number, inputs)?;
-        }
-        Ok(())
+        deliver_first(self.alloc, &self.query, &mut self.parts, batch)
     }
 
     /// The groups of the rows of all unbroken prefixes.
     fn groups(&self) -> Result<Run, AllocError>
-        ensures { IfOk result (IsRunOf (meaning self.now.query) (known_packings self.now.kept)) }
+        ensures { IfOk result (IsAggregate (meaning self.now.query)
+            (map counted_part self.now.parts)) }
     {
-        let mut inputs = Vec::new(self.alloc);
-        for origin in 0..ORIGINS {
-            self.add_origin(origin, &mut inputs)?;
-        }
+        let inputs = part_inputs(self.alloc, &self.parts)?;
         aggregate(self.alloc, &self.query, &inputs)
     }
 
@@ -291,8 +247,8 @@ impl Replica {
         ensures width { IfOk result (All (λ row. length row
             ≡ length (meaning self.now.query).items)) }
         ensures answer { IfOk result (λ rows. (world : World) →
-            IsWorld (kinds self.now.query.columns) world → Fits world self.now.kept →
-            rows ≡ answer (meaning self.now.query) world (told self.now.kept)) }
+            IsWorld (kinds self.now.query.columns) world → Fits world self.now →
+            rows ≡ answer (meaning self.now.query) world (told self.now.parts)) }
     {
         let run = self.groups()?;
         show(self.alloc, &self.query, run)

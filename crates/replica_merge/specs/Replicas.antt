@@ -1,0 +1,99 @@
+-- What a replica holds and tells, and when it fits a world. All of this is our own.
+use Rattle.std.specs.Prelude.{◌≡◌, ◌≢◌, ℕ, ◌+◌, ◌*◌, ◌<◌, ◌≤◌, ◌⊎◌, List, [], ◌++◌, map, flat_map, Option, Some, None, unwrap_or}
+use Rattle.std.specs.List.{AllByRecursion}
+use Rattle.std.specs.List.Sorted.{IsStrictlySortedBy}
+use Rattle.std.specs.Map.{lookup}
+use Rattle.std.specs.Ordering.{eq_by_cmp, nat_cmp}
+use Rattle.grouping_model.specs.declared.limits.TheConstants.{LAST_ORIGIN, MOST_ROWS}
+use Rattle.grouping_model.specs.declared.delivered.Delivered.{Delivered}
+use Rattle.hash_agg.specs.Inputs.{Brought, Counted}
+use Rattle.grouping_model.specs.Replies.{KnownOrigin}
+use Rattle.grouping_model.specs.World.{World, Batch, Knowledge, knowing, count_up}
+use Rattle.packed_rows.specs.Columns.{printed}
+use Rattle.having_filter.specs.Kept.{by_names}
+use Rattle.having_filter.specs.Meaning.{Checked, meaning}
+use Rattle.having_filter.specs.Spelling.{spelling}
+use Rattle.origin_prefix.specs.Parts.{Part, empty, IsPartOf, Delivers}
+use Rattle.origin_prefix.specs.Joins.{Joins, PartsDisagree}
+use Rattle.origin_prefix.specs.Fitting.{FitsOrigin}
+use Rattle.replica_merge.specs.declared.known.Known.{Known}
+
+-- the parts of some origins, by rising origin
+abbrev pub Parts : Type 0
+Parts = List (ℕ × Part)
+
+-- the part of an origin, if there is one
+abbrev pub part_at : Parts → ℕ → Option Part
+part_at parts origin = lookup (eq_by_cmp nat_cmp origin) parts
+
+-- what is held of an origin: nothing where there is no part
+abbrev pub part_of : Parts → ℕ → Part
+part_of parts origin = unwrap_or (part_at parts origin) empty
+
+-- the batches that a part of an origin tells: 1 to its prefix, and the early ones
+abbrev pub batches_of : ℕ × Part → List Batch
+batches_of held = map (λ (number : ℕ). (held.0, number)) (count_up 1 held.1.prefix ++ map (λ (batch : ℕ × List (List ℕ)). batch.0) held.1.early)
+
+-- what is told
+abbrev pub told : Parts → Knowledge
+told parts = knowing (flat_map batches_of parts)
+
+-- a part that is held of an origin for a query: it tells something
+pub record IsHeldPart (query : Checked) (held : ℕ × Part) : Type 0 where
+  pub within : held.0 ≤ LAST_ORIGIN
+  pub part : IsPartOf query held.1
+  pub some : (0 < held.1.prefix) ⊎ (held.1.early ≢ [])
+
+-- what is held for a query
+pub record AreHeldParts (query : Checked) (parts : Parts) : Type 0 where
+  pub rising : IsStrictlySortedBy nat_cmp (map (λ (held : ℕ × Part). held.0) parts)
+  pub each : AllByRecursion (IsHeldPart query) parts
+
+-- what a replica holds: the query that it answers, and the parts of the origins that it knows something of
+pub record Held : Type 0 where
+  pub query : Checked
+  pub parts : Parts
+
+-- a replica fits a world: what it holds of each origin does
+abbrev pub Fits : World → Held → Type 0
+Fits world held = (origin : ℕ) → FitsOrigin (meaning held.query) world origin (part_of held.parts origin)
+
+-- two queries have the same schema and the same canonical text
+abbrev pub SameQuery : Checked → Checked → Type 0
+SameQuery a b = (printed a.columns ≡ printed b.columns) × (spelling (by_names a) ≡ spelling (by_names b))
+
+-- the parts of one replica and of another, origin by origin: where the other has none, there is what there was
+abbrev pub JoinsAt : Checked → Part → Option Part → Option Part → Option Part → Type 0
+JoinsAt query own old None new = new ≡ old
+JoinsAt query own old (Some theirs) new = (part : Part) × (new ≡ Some part) × Joins (meaning query) own theirs part
+
+abbrev pub Merges : Checked → Parts → Parts → Parts → Type 0
+Merges query old other new = (origin : ℕ) → JoinsAt query (part_of old origin) (part_at old origin) (part_at other origin) (part_at new origin)
+
+-- the parts of an origin disagree
+pub record DisagreeSomewhere (old other : Parts) : Type 0 where
+  pub origin : ℕ
+  pub theirs : Part
+  pub there : part_at other origin ≡ Some theirs
+  pub parts : PartsDisagree (part_of old origin) theirs
+
+-- the part of a batch's origin takes the batch, and the others stay
+pub record DeliversAt (query : Checked) (old : Parts) (origin number : ℕ) (rows : List (List ℕ)) (new : Parts) (reply : Delivered) : Type 0 where
+  pub part : Part
+  pub own : part_at new origin ≡ Some part
+  pub delivers : Delivers (meaning query) (part_of old origin) number rows part reply
+  pub is_part : IsPartOf query part
+  pub others : (other : ℕ) → other ≢ origin → part_at new other ≡ part_at old other
+  pub rising : IsStrictlySortedBy nat_cmp (map (λ (held : ℕ × Part). held.0) new)
+
+-- what a part of an origin says of it
+abbrev pub known_part : ℕ × Part → KnownOrigin
+known_part held = record { origin = held.0; upto = held.1.prefix; early = map (λ (batch : ℕ × List (List ℕ)). batch.0) held.1.early }
+
+-- what a part brings to an answer: its groups, which count at most the rows that its prefix may have
+abbrev pub counted_part : ℕ × Part → Brought
+counted_part held = Counted held.1.run (held.1.prefix * MOST_ROWS)
+
+-- what the code says of an origin
+abbrev pub known_of : Known → KnownOrigin
+known_of k = record { origin = k.origin; upto = k.upto; early = k.early.items }
