@@ -22,21 +22,8 @@ use Rattle.origin_prefix.specs.Parts.{Batches, Part, rows_at, knows_number, IsEa
 use Rattle.batch_reader.specs.declared.batch.Batch.{Batch}
 use Rattle.origin_prefix.specs.declared.error.RefusedBatch.{RefusedBatch}
 use Rattle.origin_prefix.specs.declared.error.JoinError.TheVariants.{NoMemory, OriginDisagrees}
-use Rattle.origin_prefix.proofs.EarlyLaws.{all_put}
-use Rattle.origin_prefix.proofs.Lists.{is_same}
-use Rattle.origin_prefix.proofs.PartLaws.{numbers, all_weaker, settled_part}
-
-some_is : {X : Type 0} (x y : X) → Some x ≡ Some y → x ≡ y
-some_is x y e = ap (λ o. unwrap_or o x) e
-
--- what holds of each batch holds of one that is found
-pub found_holds : (P : ℕ × List (List ℕ) → Type 0) (batches : Batches) (n : ℕ) (rows : List (List ℕ)) → AllByRecursion P batches → rows_at batches n ≡ Some rows → P (n, rows)
-found_holds P [] n rows all there = absurd (true≢false (sym (ap is_some there)))
-found_holds P (batch ∷ batches) n rows all there =
-    elim (eq_by_cmp nat_cmp n batch.0) as (λ b. eq_by_cmp nat_cmp n batch.0 ≡ b → cond b (Some batch.1) (rows_at batches n) ≡ Some rows → P (n, rows)) [
-      | true ↦ λ e there. subst P (λ i. (sym (is_same n batch.0 e) i, some_is batch.1 rows there i)) all.0
-      | false ↦ λ e there. found_holds P batches n rows all.1 there
-    ] refl there
+use Rattle.origin_prefix.proofs.ByNumber.{numbers, some_is, found_holds, all_put}
+use Rattle.origin_prefix.proofs.PartLaws.{all_weaker, settled_part}
 
 -- a number within the prefix isn't early
 pub within_prefix : (query : Checked) (part : Part) (number : ℕ) (rows kept : List (List ℕ)) → IsPartOf query part → number ≤ part.prefix → rows_at part.early number ≡ Some kept → kept ≡ rows

@@ -9,14 +9,8 @@ use Rattle.std.specs.BTreeMap.{insert_entry}
 use Rattle.std.specs.List.{AllByRecursion}
 use Rattle.origin_prefix.specs.Parts.{Batches, rows_at}
 use Rattle.origin_prefix.specs.Joins.{either, DiffersBehind}
+use Rattle.origin_prefix.proofs.ByNumber.{at_head, behind_head}
 use Rattle.origin_prefix.proofs.Lists.{is_itself, is_other, same_or_other}
-
--- a number's rows in batches that begin with it, and with another one
-pub at_head : (number : ℕ) (rows : List (List ℕ)) (rest : Batches) → rows_at ((number, rows) ∷ rest) number ≡ Some rows
-at_head number rows rest = ap (λ b. cond b (Some rows) (rows_at rest number)) (is_itself number)
-
-pub behind_head : (n number : ℕ) (rows : List (List ℕ)) (rest : Batches) → n ≢ number → rows_at ((number, rows) ∷ rest) n ≡ rows_at rest n
-behind_head n number rows rest other = ap (λ b. cond b (Some rows) (rows_at rest n)) (is_other n number other)
 
 -- a batch that was put under its number
 abbrev pub AtNumber : Batches → ℕ → List (List ℕ) → Batches → Type 0
@@ -43,11 +37,6 @@ copied above number rows old new rest low none put n = go (same_or_other n numbe
     go (inr other) =
         ap (λ o. either o (if nat_lt above n then rows_at rest n else None)) (put_elsewhere old new number rows put n other)
         ∙ ap (λ o. either (rows_at old n) (if nat_lt above n then o else None)) (sym (behind_head n number rows rest other))
-
--- what isn't there
-pub none_there : {X : Type 0} (o : Option X) → is_some o ≡ false → o ≡ None
-none_there None e = refl
-none_there (Some x) e = absurd (true≢false e)
 
 -- ---- batches that differ
 
@@ -124,13 +113,3 @@ passed_over above number rows old rest there n = go (same_or_other n number)
           | true ↦ λ e. of_some (rows_at old number) (rows_at rest number) (rows_at ((number, rows) ∷ rest) number) (there (let low : above < number = grind arith in low))
           | false ↦ λ e. refl
         ] refl)
-
--- what holds of the batches behind a number, after one more
-pub all_put : (P : ℕ × List (List ℕ) → Type 0) (number : ℕ) (rows : List (List ℕ)) (old : Batches) → P (number, rows) → AllByRecursion P old → AllByRecursion P (insert_entry nat_cmp old number rows)
-all_put P n rows [] new all = (new, tt)
-all_put P n rows (batch ∷ batches) new all =
-    elim (nat_cmp n batch.0) as (λ o. nat_cmp n batch.0 ≡ o → AllByRecursion P (match_ordering o ((n, rows) ∷ batch ∷ batches) ((batch.0, rows) ∷ batches) (batch ∷ insert_entry nat_cmp batches n rows))) [
-      | Less ↦ λ e. (new, all)
-      | Equal ↦ λ e. (subst (λ m. P (m, rows)) (let same : n ≡ batch.0 = grind arith in same) new, all.1)
-      | Greater ↦ λ e. (all.0, all_put P n rows batches new all.1)
-    ] refl

@@ -33,27 +33,14 @@ use Rattle.origin_prefix.specs.Parts.{Batches, Part, rows_at, IsPartOf, followin
 use Rattle.origin_prefix.specs.Joins.{either, longer, shorter, DiffersBehind, PartsDisagree, Unites, Joins}
 use Rattle.origin_prefix.specs.Fitting.{rows_upto, FitsOrigin}
 use Rattle.origin_prefix.proofs.Lists.{same_or_other}
-use Rattle.origin_prefix.proofs.EarlyLaws.{at_head, behind_head}
-use Rattle.origin_prefix.proofs.PartLaws.{numbers, above_first, rising_rest, all_drop}
-use Rattle.origin_prefix.proofs.DeliverLaws.{found_holds, next_rising}
-use Rattle.origin_prefix.proofs.TellingLaws.{put_same, put_else}
+use Rattle.origin_prefix.proofs.ByNumber.{found_holds, all_found, put_same, put_else}
+use Rattle.origin_prefix.proofs.PartLaws.{all_drop}
 
 -- ---- batches of a world
 
 -- a batch has the world's rows, packed
 abbrev pub IsOfWorld : World → ℕ → ℕ × List (List ℕ) → Type 0
 IsOfWorld world origin batch = (those : List Row) × (world origin batch.0 ≡ Some those) × (batch.1 ≡ packings those)
-
--- what holds of each batch that is found holds of each
-pub all_found : (P : ℕ × List (List ℕ) → Type 0) (batches : Batches) → IsStrictlySortedBy nat_cmp (numbers batches) → ((n : ℕ) (rows : List (List ℕ)) → rows_at batches n ≡ Some rows → P (n, rows)) → AllByRecursion P batches
-all_found P [] rising each = tt
-all_found P (b ∷ batches) rising each =
-    (
-      each b.0 b.1 (at_head b.0 b.1 batches),
-      all_found P batches (rising_rest b batches rising) (λ n rows there.
-      let above : b.0 < n = found_holds (λ (e : ℕ × List (List ℕ)). b.0 < e.0) batches n rows (above_first b.0 b.1 batches rising) there in
-      each n rows (behind_head n b.0 b.1 batches (λ same. omega (arith, same, above)) ∙ there)),
-    )
 
 -- the packings of a batch of a world
 abbrev pub packed_batch : World → ℕ → ℕ → List (List ℕ)

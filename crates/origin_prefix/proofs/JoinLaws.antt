@@ -11,7 +11,8 @@ use Rattle.having_filter.specs.Meaning.{Checked, meaning}
 use Rattle.hash_agg.specs.Runs.{Entry}
 use Rattle.origin_prefix.specs.Parts.{Batches, Part, rows_at, IsEarly, IsBehind, IsOpen, IsPartOf, Settles}
 use Rattle.origin_prefix.specs.Joins.{either, longer, shorter, DiffersBehind, PartsDisagree, Unites, Joins}
-use Rattle.origin_prefix.proofs.PartLaws.{numbers, all_weaker}
+use Rattle.origin_prefix.proofs.ByNumber.{numbers}
+use Rattle.origin_prefix.proofs.PartLaws.{all_weaker}
 
 -- what was copied from a part, and then from another, behind a number
 abbrev pub Copied : ℕ → Batches → Batches → Batches → Type 0

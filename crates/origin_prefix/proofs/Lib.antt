@@ -1,3 +1,4 @@
+pub mod ByNumber
 pub mod Lists
 pub mod EarlyLaws
 pub mod PartLaws

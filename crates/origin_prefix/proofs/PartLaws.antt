@@ -24,6 +24,7 @@ use Rattle.hash_agg.specs.Runs.{Entry, packed_keys}
 use Rattle.hash_agg.specs.Standing.{IsRun}
 use Rattle.hash_agg.proofs.EntryLaws.{groups_raised}
 use Rattle.hash_agg.proofs.InputLaws.{keys_packed, keys_of_kinds}
+use Rattle.origin_prefix.proofs.ByNumber.{numbers, above_first, rising_rest}
 use Rattle.origin_prefix.specs.Parts.{Batches, Part, IsEarly, IsBehind, IsOpen, IsPartOf, following, rows_following, Folds, Settles}
 
 -- packed rows of a batch may be aggregated
@@ -82,26 +83,6 @@ reach_within n (batch ∷ batches) low all =
           omega (arith, rest)
       | false ↦ λ e. omega (arith, low)
     ] refl
-
--- the numbers of batches, which rise
-abbrev pub numbers : Batches → List ℕ
-numbers batches = map (λ (batch : ℕ × List (List ℕ)). batch.0) batches
-
-nat_less : (m n : ℕ) → nat_cmp m n ≡ Less → m < n
-nat_less m n e = grind arith
-
--- those behind the first of some rising batches are above it
-pub above_first : (n : ℕ) (rows : List (List ℕ)) (batches : Batches) → IsStrictlySortedBy nat_cmp (numbers ((n, rows) ∷ batches)) → AllByRecursion (λ (batch : ℕ × List (List ℕ)). n < batch.0) batches
-unfolding IsStrictlySortedBy
-above_first n rows batches rising = go batches rising.0
-  where
-    go : (bs : Batches) → AllByRecursion (λ m. nat_cmp n m ≡ Less) (numbers bs) → AllByRecursion (λ (batch : ℕ × List (List ℕ)). n < batch.0) bs
-    go [] all = tt
-    go (b ∷ bs) all = (nat_less n b.0 all.0, go bs all.1)
-
-pub rising_rest : (batch : ℕ × List (List ℕ)) (batches : Batches) → IsStrictlySortedBy nat_cmp (numbers (batch ∷ batches)) → IsStrictlySortedBy nat_cmp (numbers batches)
-unfolding IsStrictlySortedBy
-rising_rest batch batches rising = rising.1
 
 pub rising_drop : (k : ℕ) (batches : Batches) → IsStrictlySortedBy nat_cmp (numbers batches) → IsStrictlySortedBy nat_cmp (numbers (drop k batches))
 rising_drop zero batches rising = rising

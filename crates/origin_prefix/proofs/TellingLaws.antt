@@ -17,31 +17,8 @@ use Rattle.origin_prefix.specs.Parts.{Batches, Part, rows_at, knows_number, IsEa
 use Rattle.origin_prefix.specs.Joins.{either, longer, shorter, Unites, Joins}
 use Rattle.origin_prefix.specs.Fitting.{tells}
 use Rattle.origin_prefix.proofs.Lists.{is_itself, is_other, is_same, same_or_other}
-use Rattle.origin_prefix.proofs.EarlyLaws.{at_head, behind_head}
-use Rattle.origin_prefix.proofs.PartLaws.{numbers, above_first, rising_rest}
-use Rattle.origin_prefix.proofs.DeliverLaws.{found_holds, next_rising}
-
--- ---- one batch more
-
-pub put_same : (batches : Batches) (n : ℕ) (rows : List (List ℕ)) → rows_at (insert_entry nat_cmp batches n rows) n ≡ Some rows
-put_same [] n rows = at_head n rows []
-put_same (b ∷ batches) n rows =
-    elim (nat_cmp n b.0) as (λ o. nat_cmp n b.0 ≡ o → rows_at (match_ordering o ((n, rows) ∷ b ∷ batches) ((b.0, rows) ∷ batches) (b ∷ insert_entry nat_cmp batches n rows)) n ≡ Some rows) [
-      | Less ↦ λ e. at_head n rows (b ∷ batches)
-      | Equal ↦ λ e. ap (λ o. cond (is_eq o) (Some rows) (rows_at batches n)) e
-      | Greater ↦ λ e. ap (λ o. cond (is_eq o) (Some b.1) (rows_at (insert_entry nat_cmp batches n rows) n)) e ∙ put_same batches n rows
-    ] refl
-
-pub put_else : (batches : Batches) (n : ℕ) (rows : List (List ℕ)) (m : ℕ) → m ≢ n → rows_at (insert_entry nat_cmp batches n rows) m ≡ rows_at batches m
-put_else [] n rows m other = behind_head m n rows [] other
-put_else (b ∷ batches) n rows m other =
-    elim (nat_cmp n b.0) as (λ o. nat_cmp n b.0 ≡ o → rows_at (match_ordering o ((n, rows) ∷ b ∷ batches) ((b.0, rows) ∷ batches) (b ∷ insert_entry nat_cmp batches n rows)) m ≡ rows_at (b ∷ batches) m) [
-      | Less ↦ λ e. behind_head m n rows (b ∷ batches) other
-      | Equal ↦ λ e.
-          let apart : m ≢ b.0 = λ same. other (same ∙ sym (is_same n b.0 (ap is_eq e))) in
-          behind_head m b.0 rows batches apart ∙ sym (behind_head m b.0 b.1 batches apart)
-      | Greater ↦ λ e. ap (λ o. cond (eq_by_cmp nat_cmp m b.0) (Some b.1) o) (put_else batches n rows m other)
-    ] refl
+use Rattle.origin_prefix.proofs.ByNumber.{numbers, at_head, behind_head, none_found, above_first, rising_rest, put_same, put_else}
+use Rattle.origin_prefix.proofs.DeliverLaws.{next_rising}
 
 -- ---- a prefix and the batches behind it
 
@@ -128,13 +105,6 @@ delivered_tells query q old new number rows (Folded upto) is low d =
     (λ m other. after m ∙ ap (λ o. (nat_le 1 m && nat_le m old.prefix) || is_some o) (behind_head m (old.prefix + 1) rows old.early (λ same. other (same ∙ sym next))))
 
 -- ---- parts that are joined
-
-none_found : (P : ℕ × List (List ℕ) → Type 0) (batches : Batches) (n : ℕ) → AllByRecursion P batches → ((rows : List (List ℕ)) → P (n, rows) → ⊥) → rows_at batches n ≡ None
-none_found P batches n all never =
-    elim (rows_at batches n) as (λ o. rows_at batches n ≡ o → o ≡ None) [
-      | None ↦ λ e. refl
-      | Some rows ↦ λ e. absurd (never rows (found_holds P batches n rows all e))
-    ] refl
 
 either_some : {X : Type 0} (x y : Option X) → is_some (either x y) ≡ (is_some x || is_some y)
 either_some None y = refl

@@ -5,7 +5,8 @@ use Rattle.std.specs.Option.{is_some}
 use Rattle.std.specs.Ordering.{eq_by_cmp, nat_cmp}
 use Rattle.origin_prefix.specs.Parts.{Batches, rows_at, IsBehind}
 use Rattle.origin_prefix.specs.Joins.{either}
-use Rattle.origin_prefix.proofs.EarlyLaws.{AtNumber, copied, none_there, passed_over, all_put}
+use Rattle.origin_prefix.proofs.ByNumber.{none_there, all_put}
+use Rattle.origin_prefix.proofs.EarlyLaws.{AtNumber, copied, passed_over}
 use Rattle.origin_prefix.proofs.early.copy_above.Goals as goal
 use Rattle.origin_prefix.proofs.early.copy_above.Goals.{else-next-number-via-then-next-number+else-not-contains_key, else-next-number-via-else-next-number}
 
