@@ -1,2 +1,4 @@
 pub mod ShownLaws
 pub mod ToldLaws
+pub mod AnswerLaws
+pub mod HeldLaws
