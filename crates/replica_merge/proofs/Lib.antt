@@ -2,3 +2,4 @@ pub mod ShownLaws
 pub mod ToldLaws
 pub mod AnswerLaws
 pub mod HeldLaws
+pub mod DeliveredLaws
