@@ -196,6 +196,28 @@ all_mapped P Q (x ∷ xs) gives (p, all) = (gives x p, all_mapped P Q xs gives a
 pub some_moved : (done old : List Entry) (from place : ℕ) → from ≤ place → done ++ drop from old ≡ (done ++ slice_range old from place) ++ drop place old
 some_moved done old from place low = ap (λ es. done ++ es) (drop_split old from place low) ∙ sym (append_assoc done (slice_range old from place) (drop place old))
 
+drop_none : {X : Type 0} (n : ℕ) → drop {A = X} n [] ≡ []
+drop_none zero = refl
+drop_none (suc n) = refl
+
+dropped_twice : {X : Type 0} (m n : ℕ) (xs : List X) → drop n (drop m xs) ≡ drop (m + n) xs
+dropped_twice zero n xs = let same : 0 + n ≡ n = omega arith in ap (λ k. drop k xs) (sym same)
+dropped_twice (suc m) n [] = drop_none n ∙ sym (drop_none (suc m + n))
+dropped_twice (suc m) n (x ∷ xs) = let same : suc (m + n) ≡ suc m + n = omega arith in dropped_twice m n xs ∙ ap (λ k. drop k (x ∷ xs)) same
+
+-- a range in two parts
+pub range_parts : {X : Type 0} (xs : List X) (from low place : ℕ) → from ≤ low → low ≤ place → slice_range xs from place ≡ slice_range xs from low ++ slice_range xs low place
+range_parts xs from low place first second =
+    let long : place - from ≡ low - from + (place - low) = omega (arith, first, second) in
+    let there : from + (low - from) ≡ low = omega (arith, first) in
+    ap (λ n. take n (drop from xs)) long
+    ∙ take-add (low - from) (place - low) (drop from xs)
+    ∙ ap (λ es. slice_range xs from low ++ take (place - low) es) (dropped_twice from (low - from) xs ∙ ap (λ n. drop n xs) there)
+
+-- nothing lies between a place and itself
+pub range_none : {X : Type 0} (xs : List X) (n : ℕ) → slice_range xs n n ≡ []
+range_none xs n = let none : n - n ≡ 0 = omega arith in ap (λ k. take k (drop n xs)) none
+
 pub range_more : {X : Type 0} (xs : List X) (from place : ℕ) (x : X) → from ≤ place → drop place xs ≡ x ∷ drop (place + 1) xs → slice_range xs from (place + 1) ≡ slice_range xs from place ++ x ∷ []
 range_more {X = X} xs from place x low left =
     let long : place + 1 - from ≡ place - from + 1 = omega (arith, low) in
@@ -203,15 +225,6 @@ range_more {X = X} xs from place x low left =
     ap (λ n. take n (drop from xs)) long
     ∙ take-add (place - from) 1 (drop from xs)
     ∙ ap (λ es. slice_range xs from place ++ take 1 es) (dropped_twice from (place - from) xs ∙ ap (λ n. drop n xs) (sym there) ∙ left)
-  where
-    drop_none : (n : ℕ) → drop {A = X} n [] ≡ []
-    drop_none zero = refl
-    drop_none (suc n) = refl
-
-    dropped_twice : (m n : ℕ) (xs : List X) → drop n (drop m xs) ≡ drop (m + n) xs
-    dropped_twice zero n xs = let same : 0 + n ≡ n = omega arith in ap (λ k. drop k xs) (sym same)
-    dropped_twice (suc m) n [] = drop_none n ∙ sym (drop_none (suc m + n))
-    dropped_twice (suc m) n (x ∷ xs) = let same : suc (m + n) ≡ suc m + n = omega arith in dropped_twice m n xs ∙ ap (λ k. drop k (x ∷ xs)) same
 
 -- what is up to a key is below a higher one
 up_to_below : (key higher : List ℕ) (e : Entry) → slice_cmp nat_cmp key higher ≡ Less → slice_cmp nat_cmp e.0 key ≢ Greater → IsBelow higher e

@@ -4,7 +4,7 @@ ghost use Rattle.std.specs.Prelude.{◌≡◌, ◌+◌, ◌^◌, ◌<◌, ◌≤
 ghost use Rattle.std.specs.List.{AllByRecursion};
 ghost use Rattle.having_filter.specs.Meaning.{meaning};
 ghost use Rattle.hash_agg.specs.Runs.{Rises, packed_keys};
-ghost use Rattle.hash_agg.specs.Places.{AllBelow, AreUpTo, HasKey, HasKeyAt, IsPlaceOf};
+ghost use Rattle.hash_agg.specs.Places.{AllBelow, AreUpTo, HasKey, HasKeyAt, IsBetween, IsPlaceOf};
 ghost use Rattle.hash_agg.specs.Steps.{HasRoomForGroup, AddsGroup, HasRoomForRun, AddsRun};
 
 use crate::run::Run;
@@ -12,15 +12,16 @@ use having_filter::Query;
 use std::alloc::{AllocError, Global};
 
 impl Run {
-    /// The place of a key among the groups from a place on: that of the first one whose key is not below it.
-    fn seek(&self, from: usize, key: &[u8]) -> usize
-        requires { from ≤ length self.now }
+    /// The place of a key among the groups from one place to another, from where on none is below the key.
+    fn bisect(&self, from: usize, to: usize, key: &[u8]) -> usize
+        requires { IsBetween self.now from from to key.now }
         ensures place { IsPlaceOf self.now from key.now result }
         ensures rises { Rises self.now }
         ensures few { length self.now < 2 ^ 64 }
     {
+        let _count = self.len();
         let mut low = from;
-        let mut high = self.len();
+        let mut high = to;
         while low < high {
             let middle = low + (high - low) / 2;
             if self.group(middle).0.cmp(key).is_lt() {
@@ -30,6 +31,36 @@ impl Run {
             }
         }
         low
+    }
+
+    /// Two places between which the place of a key lies, found by steps that double, so that what is near is found soon.
+    fn reach(&self, from: usize, key: &[u8]) -> (usize, usize)
+        requires { from ≤ length self.now }
+        ensures { IsBetween self.now from result.0 result.1 key.now }
+    {
+        let count = self.len();
+        let mut low = from;
+        let mut step: usize = 1;
+        while step <= count - low {
+            let last = low + (step - 1);
+            if !self.group(last).0.cmp(key).is_lt() {
+                return (low, last);
+            }
+            low = last + 1;
+            step = step.saturating_mul(2);
+        }
+        (low, count)
+    }
+
+    /// The place of a key among the groups from a place on: that of the first one whose key is not below it.
+    fn seek(&self, from: usize, key: &[u8]) -> usize
+        requires { from ≤ length self.now }
+        ensures place { IsPlaceOf self.now from key.now result }
+        ensures rises { Rises self.now }
+        ensures few { length self.now < 2 ^ 64 }
+    {
+        let (low, high) = self.reach(from, key);
+        self.bisect(low, high, key)
     }
 
     /// Whether the group at a place is there and has a key.
@@ -61,7 +92,7 @@ impl Run {
         ensures added { AddsGroup (meaning query.now) self.old (key.now, states.now) self.new }
         ensures keys { packed_keys self.new ≡ packed_keys self.old }
     {
-        let place = self.seek(0, key);
+        let place = self.bisect(0, self.len(), key);
         self.combine_at(query, place, states);
     }
 

@@ -13,15 +13,15 @@ pub combine_at-requires : goal.combine_at-requires
 combine_at-requires c =
     let q : Query = meaning c.args.query.now in
     let run : List Entry = c.args.self.now in
-    let place = c.seek-place.result in
-    let here = key_stands run place c.args.key.now (found_place run c.args.key.now place c.seek-place.ensures.rises c.seek-place.ensures.place c.requires.there) in
+    let place = c.bisect-place.result in
+    let here = key_stands run place c.args.key.now (found_place run c.args.key.now place c.bisect-place.ensures.rises c.bisect-place.ensures.place c.requires.there) in
     record {
       front = take place run;
       entry = (c.args.key.now, here.states);
       back = drop (place + 1) run;
       is = here.is;
       long = here.long;
-      room = present_room q c.args.key.now here.states c.args.states.now (take place run) (drop (place + 1) run) (below_front run c.args.key.now place c.seek-place.ensures.place)
+      room = present_room q c.args.key.now here.states c.args.states.now (take place run) (drop (place + 1) run) (below_front run c.args.key.now place c.bisect-place.ensures.place)
           (subst (λ run. HasRoomForGroup q run (c.args.key.now, c.args.states.now)) here.is c.requires.room);
     }
 
@@ -29,17 +29,17 @@ pub returns-clause-added : goal.returns-clause-added
 returns-clause-added c =
     let q : Query = meaning c.args.query.now in
     let run : List Entry = c.args.self.now in
-    let place = c.seek-place.result in
-    let here = key_stands run place c.args.key.now (found_place run c.args.key.now place c.seek-place.ensures.rises c.seek-place.ensures.place c.requires.there) in
+    let place = c.bisect-place.result in
+    let here = key_stands run place c.args.key.now (found_place run c.args.key.now place c.bisect-place.ensures.rises c.bisect-place.ensures.place c.requires.there) in
     let given = c.combine_at.ensures (take place run) (c.args.key.now, here.states) (drop (place + 1) run) here.is here.long in
     subst (AddsGroup q run (c.args.key.now, c.args.states.now)) (sym given.1)
     (subst (λ run. AddsGroup q run (c.args.key.now, c.args.states.now) (take place c.args.self.now ++ (c.args.key.now, given.0) ∷ drop (place + 1) c.args.self.now)) (sym here.is)
-    (present_added q c.args.key.now here.states c.args.states.now given.0 (take place run) (drop (place + 1) run) (below_front run c.args.key.now place c.seek-place.ensures.place) given.2))
+    (present_added q c.args.key.now here.states c.args.states.now given.0 (take place run) (drop (place + 1) run) (below_front run c.args.key.now place c.bisect-place.ensures.place) given.2))
 
 pub returns-clause-keys : goal.returns-clause-keys
 returns-clause-keys c =
     let run : List Entry = c.args.self.now in
-    let place = c.seek-place.result in
-    let here = key_stands run place c.args.key.now (found_place run c.args.key.now place c.seek-place.ensures.rises c.seek-place.ensures.place c.requires.there) in
+    let place = c.bisect-place.result in
+    let here = key_stands run place c.args.key.now (found_place run c.args.key.now place c.bisect-place.ensures.rises c.bisect-place.ensures.place c.requires.there) in
     let given = c.combine_at.ensures (take place run) (c.args.key.now, here.states) (drop (place + 1) run) here.is here.long in
     ap packed_keys given.1 ∙ same_keys (take place run) c.args.key.now given.0 here.states (drop (place + 1) run) ∙ ap packed_keys (sym here.is)
