@@ -9,8 +9,8 @@ use Rattle.grouping_model.proofs.Members.{false_is_not_true}
 use Rattle.std.specs.Cmp.{IsTotalOrder}
 use Rattle.std.specs.FinMap.{nat_cmp-IsAntisymmetric, slice_cmp-IsAntisymmetric}
 use Rattle.std.proofs.lemmas.List.Folds.{drop_split}
-use Rattle.std.proofs.lemmas.List.{take-append-drop, length-take}
-use Rattle.std.proofs.Math.Seq.{take-add}
+use Rattle.std.proofs.lemmas.List.{take-append-drop, length-append, length-take}
+use Rattle.std.proofs.Math.Seq.{take-add, take-append_seam}
 use Rattle.std.specs.Cmp.Lexicographic.{slice_cmp, on_texts}
 use Rattle.std.specs.List.{AllByRecursion}
 use Rattle.std.specs.List.Sorted.{IsStrictlySortedBy}
@@ -26,6 +26,10 @@ key_total = on_texts (λ (key : List ℕ). key)
 all_front : {X : Type 0} (P : X → Type 0) (xs ys : List X) → AllByRecursion P (xs ++ ys) → AllByRecursion P xs
 all_front P [] ys all = tt
 all_front P (x ∷ xs) ys (p, all) = (p, all_front P xs ys all)
+
+pub all_both : {X : Type 0} (P : X → Type 0) (xs ys : List X) → AllByRecursion P xs → AllByRecursion P ys → AllByRecursion P (xs ++ ys)
+all_both P [] ys all more = more
+all_both P (x ∷ xs) ys (p, all) more = (p, all_both P xs ys all more)
 
 pub all_drop : {X : Type 0} (P : X → Type 0) (n : ℕ) (xs : List X) → AllByRecursion P xs → AllByRecursion P (drop n xs)
 all_drop P zero xs all = all
@@ -136,13 +140,15 @@ place_has (e ∷ run) key (suc place) zero (above, rises) below high at =
     let same : e.0 ≡ key = cc in absurd (not_itself key (subst (λ k. slice_cmp nat_cmp k key ≡ Less) same below.0))
 place_has (e ∷ run) key (suc place) (suc i) (above, rises) below high at = place_has run key place i rises below.1 high at
 
-pub found_place : (run : List Entry) (key : List ℕ) (place : ℕ) → Rises run → IsPlaceOf run 0 key place → HasKey run key → HasKeyAt run place key
-found_place run key place rises is has =
-    let whole : place - 0 ≡ place = omega arith in
-    place_has run key place has.0 rises (subst (λ n. AllBelow key (take n run)) whole is.below) is.not_below has.1
+-- those before the place of a key, where those before a place are below it
+pub below_front : (run : List Entry) (from : ℕ) (key : List ℕ) (place : ℕ) → AllBelow key (take from run) → IsPlaceOf run from key place → AllBelow key (take place run)
+below_front run from key place below is =
+    let low = is.behind in
+    let whole : place ≡ from + (place - from) = omega (arith, low) in
+    subst (AllBelow key) (sym (ap (λ n. take n run) whole ∙ take-add from (place - from) run)) (all_both (IsBelow key) (take from run) (slice_range run from place) below is.below)
 
-pub below_front : (run : List Entry) (key : List ℕ) (place : ℕ) → IsPlaceOf run 0 key place → AllBelow key (take place run)
-below_front run key place is = let whole : place - 0 ≡ place = omega arith in subst (λ n. AllBelow key (take n run)) whole is.below
+pub found_place : (run : List Entry) (from : ℕ) (key : List ℕ) (place : ℕ) → Rises run → AllBelow key (take from run) → IsPlaceOf run from key place → HasKey run key → HasKeyAt run place key
+found_place run from key place rises below is has = place_has run key place has.0 rises (below_front run from key place below is) is.not_below has.1
 
 -- ---- a key that is not there
 
@@ -183,10 +189,6 @@ rises_between (e ∷ front) back key states (over, rises) (low, below) above = (
     through (x ∷ es) (first, all) = (first, through es all)
 
 -- ---- what is done of a merge, and what is left
-
-pub all_both : {X : Type 0} (P : X → Type 0) (xs ys : List X) → AllByRecursion P xs → AllByRecursion P ys → AllByRecursion P (xs ++ ys)
-all_both P [] ys all more = more
-all_both P (x ∷ xs) ys (p, all) more = (p, all_both P xs ys all more)
 
 pub all_mapped : {X : Type 0} (P Q : X → Type 0) (xs : List X) → ((x : X) → P x → Q x) → AllByRecursion P xs → AllByRecursion Q xs
 all_mapped P Q [] gives all = tt
@@ -291,3 +293,11 @@ passes done old from place key rises below is none =
       below = all_both (IsBelow key) done (slice_range old from place) below is.below;
       above = above_from old place key rises is.not_below none;
     }
+
+-- those before a key and it
+pub up_to_here : (front back : List Entry) (key states : List ℕ) (place : ℕ) → length front ≡ place → AllBelow key front → AreUpTo key (take (place + 1) (front ++ (key, states) ∷ back))
+up_to_here front back key states place long below =
+    let some : List Entry = front ++ (key, states) ∷ [] in
+    let more : place + 1 ≡ length some = let both = length-append front ((key, states) ∷ []) in omega (arith, both, long) in
+    subst (AreUpTo key) (sym ((λ i. take (more i) (sym (append_assoc front ((key, states) ∷ []) back) i)) ∙ take-append_seam some back))
+    (all_both (λ (e : Entry). slice_cmp nat_cmp e.0 key ≢ Greater) front ((key, states) ∷ []) (below_up_to key front below) (itself_up_to key, tt))

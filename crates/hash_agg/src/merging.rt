@@ -1,6 +1,6 @@
 //! Merging runs.
 
-ghost use Rattle.std.specs.Prelude.{◌≡◌, ◌+◌, ◌^◌, ◌<◌, ◌≤◌, ◌++◌, ◌↔◌, IfOk, IsTrue, OnOk, OnErr, length, drop};
+ghost use Rattle.std.specs.Prelude.{◌≡◌, ◌+◌, ◌^◌, ◌<◌, ◌≤◌, ◌++◌, ◌↔◌, IfOk, IsTrue, OnOk, OnErr, length, take, drop};
 ghost use Rattle.std.specs.List.{AllByRecursion};
 ghost use Rattle.having_filter.specs.Meaning.{meaning};
 ghost use Rattle.hash_agg.specs.Runs.{Rises, packed_keys};
@@ -85,15 +85,21 @@ impl Run {
         true
     }
 
-    /// Combines the states of a key that is there with others.
-    fn combine_group(&mut self, query: &Query, key: &[u8], states: &[u8])
+    /// Combines the states of a key that is there with others. It stands behind `from` groups at least, and the result is how many
+    /// there are up to it.
+    fn combine_group(&mut self, query: &Query, from: usize, key: &[u8], states: &[u8]) -> usize
         requires there { HasKey self.old key.now }
+        requires within { from ≤ length self.old }
+        requires below { AllBelow key.now (take from self.old) }
         requires room { HasRoomForGroup (meaning query.now) self.old (key.now, states.now) }
         ensures added { AddsGroup (meaning query.now) self.old (key.now, states.now) self.new }
         ensures keys { packed_keys self.new ≡ packed_keys self.old }
+        ensures within { result ≤ length self.new }
+        ensures up_to { AreUpTo key.now (take result self.new) }
     {
-        let place = self.bisect(0, self.len(), key);
+        let place = self.seek(from, key);
         self.combine_at(query, place, states);
+        place + 1
     }
 
     /// Combines the groups with those of another run, all of whose keys are there.
@@ -102,9 +108,10 @@ impl Run {
         requires room { HasRoomForRun (meaning query.now) self.old more.now }
         ensures { AddsRun (meaning query.now) self.old more.now self.new }
     {
+        let mut from = 0;
         for place in 0..more.len() {
             let (key, states) = more.group(place);
-            self.combine_group(query, key, states);
+            from = self.combine_group(query, from, key, states);
         }
     }
 
