@@ -72,11 +72,19 @@ fn parts(rt: HostRuntime, query: &Query) -> Result<String, Fail> {
     Ok(told)
 }
 
-/// A query's copy by its parts, if it is the same.
+/// A copy of a query by its parts, if it is the same query.
+fn told_as_same(rt: HostRuntime, query: &Query, copy: &Query) -> Result<String, Fail> {
+    if !query.same_query(copy) {
+        return Err(Fail::from("a copy is another query"));
+    }
+    parts(rt, copy)
+}
+
+/// A query's copy by its parts.
 fn copied(rt: HostRuntime, query: &Query) -> Result<String, Fail> {
     match query.try_clone() {
-        Ok(copy) if query.same_query(&copy) => parts(rt, &copy),
-        _ => Err(Fail::from("no copy")),
+        Ok(copy) => told_as_same(rt, query, &copy),
+        Err(_) => Err(Fail::from("out of memory")),
     }
 }
 

@@ -28,12 +28,7 @@ fn told(rt: HostRuntime, query: &str) -> Result<String, Fail> {
     let script = asked(rt, query)?;
     let mut last = LastRefusal { why: None };
     let mut written = Vec::new(rt.alloc());
-    run_observed(
-        rt.alloc(),
-        &mut script.as_bytes(),
-        &mut written,
-        &mut last,
-    )?;
+    run_observed(rt.alloc(), &mut script.as_bytes(), &mut written, &mut last)?;
     if let Some(why) = last.why {
         return Ok(format!(in rt.alloc(); "{why}")?);
     }
@@ -212,7 +207,10 @@ const MANY: &str = "\
 fn calls_and_keys_are_counted(rt: HostRuntime) -> Result<(), Fail> {
     for line in MANY.lines() {
         let (case, want) = line.split_once(" => ").ok_or("no case")?;
-        assert!(rt; measured(rt, &of_many(rt, case)?)?.as_str() == want, "{line}");
+        assert!(rt;
+            measured(rt, &of_many(rt, case)?)?.as_str() == want,
+            "{line}"
+        );
     }
     Ok(())
 }
@@ -290,7 +288,8 @@ fn conditions_hold_of_a_row(rt: HostRuntime) -> Result<(), Fail> {
 }
 
 /// The commands in front of the rows of a batch.
-const TOWNS_HEAD: &str = "columns,\"c text, d bigint\"\nquery,\"SELECT count(*) FROM batches GROUP BY c \
+const TOWNS_HEAD: &str =
+    "columns,\"c text, d bigint\"\nquery,\"SELECT count(*) FROM batches GROUP BY c \
     HAVING c = 'oslo' AND sum(d) > 3 OR count(*) = 9\"\nreplica,a\nfeed,a,0,1,";
 
 /// The rows of a town, and the last line of the answer: how many they are, or else the header, where HAVING leaves none.
