@@ -1,4 +1,3 @@
 pub mod Views
 pub mod Nots
 pub mod Parsing
-pub mod Steps

@@ -1,13 +1,11 @@
 //! Reading a whole query.
 
-ghost use Rattle.std.specs.Prelude.{◌≡◌, ◌<◌, ◌≤◌, ℕ, List, Option, [], map, option_map, IfOk, IfErr, length, string_bytes, codes};
+ghost use Rattle.std.specs.Prelude.{◌≡◌, ◌<◌, ◌≤◌, [], map, option_map, IfOk, length, string_bytes, codes};
 ghost use Rattle.having_filter.specs.Forms.{written_of, items_of};
 ghost use Rattle.query_grammar.specs.Queries.{most_open};
-ghost use Rattle.query_grammar.specs.Grammar.{Named};
 ghost use Rattle.query_grammar.specs.Reading.{name_at};
 ghost use Rattle.query_grammar.specs.Whole.{item_value_at, alias_or_none, alias_at, item_at, list_at, clause_at, keys_at, end_at, query_at};
-ghost use Rattle.group_parser.specs.Steps.{clauses_at};
-ghost use Rattle.group_parser.specs.Views.{lexemes, condition_read, item_read, alias_read, Fails, Gives};
+ghost use Rattle.group_parser.specs.Views.{lexemes, condition_read, item_read, alias_read, Gives};
 
 use crate::conditions::condition;
 use crate::cursor::{after_symbol, after_word, expect_word, name};
@@ -165,50 +163,20 @@ fn end(tokens: &[Token]) -> Result<(), ReadError>
     }
 }
 
-/// What a query selects from the table.
-#[tactic(auto, unfolding(query_grammar::specs::Whole::query_at, crate::specs::Steps::clauses_at))]
-fn selected<'a>(alloc: Global, tokens: &'a [Token]) -> Read<'a, Vec<(Item<String>, Option<String>)>>
-    ensures read { IfOk result (λ x. query_at most_open (lexemes tokens.now)
-        ≡ clauses_at most_open (items_of x.0.items) (lexemes x.1.now)) }
-    ensures refused { IfErr result (λ e. Fails e (query_at most_open (lexemes tokens.now))) }
+/// The query that tokens say, all of them. It takes time linear in their number, and calls itself as deep as parentheses
+/// and FILTERs stand in one another.
+#[tactic(auto, unfolding(query_grammar::specs::Whole::query_at))]
+pub(crate) fn query(alloc: Global, tokens: &[Token]) -> Result<RawQuery, ReadError>
+    ensures { Gives (λ q. (written_of q, [])) result (query_at most_open (lexemes tokens.now)) }
 {
     let rest = expect_word(tokens, "select")?;
     let (items, rest) = items(alloc, rest)?;
     let rest = expect_word(rest, "from")?;
     let rest = expect_word(rest, "batches")?;
-    Ok((items, rest))
-}
-
-/// The clauses of a query behind what it selects: WHERE, the columns of GROUP BY, and HAVING.
-type Clauses = (Option<Cond<String>>, Vec<String>, Option<Cond<String>>);
-
-/// The clauses of a query, up to its end.
-#[tactic(auto, unfolding(crate::specs::Steps::clauses_at))]
-fn clauses(alloc: Global, tokens: &[Token]) -> Result<Clauses, ReadError>
-    ensures { (items : List (Named × Option (List ℕ))) → Gives (λ x. (
-      record {
-        items = items;
-        condition = option_map condition_read x.0;
-        keys = map string_bytes x.1.items;
-        having = option_map condition_read x.2;
-      },
-      [],
-    )) result (clauses_at most_open items (lexemes tokens.now)) }
-{
-    let (condition, rest) = clause(alloc, "where", tokens)?;
+    let (condition, rest) = clause(alloc, "where", rest)?;
     let (keys, rest) = keys(alloc, rest)?;
     let (having, rest) = clause(alloc, "having", rest)?;
     end(rest)?;
-    Ok((condition, keys, having))
-}
-
-/// The query that tokens say, all of them. It takes time linear in their number, and calls itself as deep as parentheses
-/// and FILTERs stand in one another.
-pub(crate) fn query(alloc: Global, tokens: &[Token]) -> Result<RawQuery, ReadError>
-    ensures { Gives (λ q. (written_of q, [])) result (query_at most_open (lexemes tokens.now)) }
-{
-    let (items, rest) = selected(alloc, tokens)?;
-    let (condition, keys, having) = clauses(alloc, rest)?;
     Ok(RawQuery {
         items,
         condition,
