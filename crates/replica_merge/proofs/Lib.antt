@@ -1,2 +1,5 @@
 pub mod ShownLaws
 pub mod ToldLaws
+pub mod AnswerLaws
+pub mod HeldLaws
+pub mod DeliveredLaws

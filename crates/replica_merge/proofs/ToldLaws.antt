@@ -101,7 +101,7 @@ among_part o n held =
       | inr below ↦ let one : nat_lt n (1 + held.1.prefix) ≡ true = grind arith in let two : nat_le n held.1.prefix ≡ true = grind arith in one ∙ sym two
     ])
 
-empty_tells : (n : ℕ) → tells empty n ≡ false
+pub empty_tells : (n : ℕ) → tells empty n ≡ false
 empty_tells n =
     elim (cases_lt 0 n) [
       | inl some ↦ let one : nat_le n 0 ≡ false = grind arith in ap (λ b. (nat_le 1 n && b) || false) one ∙ none (nat_le 1 n)

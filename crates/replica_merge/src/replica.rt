@@ -152,6 +152,29 @@ fn deliver_first(
     }
 }
 
+/// Takes a batch to the part of its origin, which is made where there is none yet.
+fn deliver_in(
+    alloc: Global,
+    query: &Query,
+    parts: &mut BTreeMap<u16, OriginPart>,
+    batch: Batch,
+) -> Result<Delivered, RefusedBatch>
+    requires held { AreHeldParts query.now parts.old.entries }
+    requires number { (1 ≤ batch.number) × (batch.number ≤ LAST_NUMBER) }
+    requires rows { ArePackedRows (kinds query.now.columns) batch.rows }
+    ensures delivers { IfOk result (DeliversAt query.now parts.old.entries batch.origin batch.number
+        batch.rows parts.new.entries) }
+    ensures refused { IfErr result (λ e. (e.batch ≡ batch)
+        × (parts.new.entries ≡ parts.old.entries)) }
+    ensures why { IfErr result (λ e. e.why ≡ OriginDisagrees →
+        Disagrees (part_of parts.old.entries batch.origin) batch.number batch.rows) }
+{
+    if parts.contains_key(&batch.origin) {
+        return deliver_to(query, parts, batch);
+    }
+    deliver_first(alloc, query, parts, batch)
+}
+
 impl Replica {
     /// A replica that knows nothing, to answer a query.
     pub fn new(alloc: Global, query: Query) -> Replica
@@ -225,10 +248,7 @@ impl Replica {
             (world : World) (those : List Row) → Fits world self.old →
             world batch.origin batch.number ≡ Some those → batch.rows ≢ packings those) }
     {
-        if self.parts.contains_key(&batch.origin) {
-            return deliver_to(&self.query, &mut self.parts, batch);
-        }
-        deliver_first(self.alloc, &self.query, &mut self.parts, batch)
+        deliver_in(self.alloc, &self.query, &mut self.parts, batch)
     }
 
     /// The groups of the rows of all unbroken prefixes.

@@ -1,24 +1,17 @@
-use Rattle.std.proofs.Common.{rules, ◌≡◌, ◌≢◌, ◌≤◌, ℕ, List, None, All, [], map, length, Some, IsSome, IfSome, IsTrue, IfOk, IfErr, OnOk, OnErr, ◌+◌, ◌-◌, ◌*◌, ◌<◌, ◌/◌, ◌%◌, Bool, true, false, nat_eq, nat_lt, ◌∷◌, ◌++◌, slice_index_or, slice_set, bit_and, bit_or, w8, w32, w64, Bor, MutBor}
-use Rattle.std.specs.BTreeMap.{insert_entry}
-use Rattle.std.specs.Option.{option_copied}
-use Rattle.grouping_model.specs.declared.limits.TheConstants.{LAST_NUMBER}
-use Rattle.grouping_model.specs.Answer.{answer}
-use Rattle.grouping_model.specs.Datum.{Row}
-use Rattle.grouping_model.specs.Replies.{InLimits, reply_of, known_list}
-use Rattle.grouping_model.specs.World.{World, IsWorld, knows, learn, prefix}
-use Rattle.packed_rows.specs.Columns.{kinds}
-use Rattle.batch_reader.specs.Rows.{ArePackedRows, packings}
+use Rattle.std.specs.Prelude.{◌≡◌, ◌<◌, ◌^◌, map}
+use Rattle.std.proofs.Common.{◌∙◌, sym, ap, subst}
+use Rattle.std.specs.List.{AllByRecursion}
 use Rattle.having_filter.specs.Meaning.{meaning}
-use Rattle.hash_agg.specs.Inputs.{brought, IsAggregate}
-use Rattle.origin_prefix.specs.Parts.{IsPartOf, Disagrees}
-use Rattle.origin_prefix.specs.declared.error.JoinError.TheVariants.{OriginDisagrees}
-use Rattle.replica_merge.specs.Replicas.{part_at, part_of, told, Fits, AreHeldParts, DeliversAt, known_of, known_part, counted_part}
+use Rattle.hash_agg.specs.Inputs.{brought, IsInput, all_rows}
+use Rattle.replica_merge.specs.Replicas.{counted_part}
+use Rattle.replica_merge.proofs.AnswerLaws.{part_inputs, few_parts}
 use Rattle.replica_merge.proofs.replica.Replica.groups.Goals as goal
 
--- src/replica.rt:240:9
 pub aggregate-requires-clause-inputs : goal.aggregate-requires-clause-inputs
-aggregate-requires-clause-inputs c = ?
+aggregate-requires-clause-inputs c =
+    subst (AllByRecursion (IsInput (meaning c.self.inside.query))) (sym (ap (map brought) c.deref.ensures.value ∙ c.in_ok-inputs.ensures))
+    (part_inputs c.self.inside.query c.self.inside.parts.entries c.self.invariant.each)
 
--- src/replica.rt:240:9
 pub aggregate-requires-clause-few : goal.aggregate-requires-clause-few
-aggregate-requires-clause-few c = ?
+aggregate-requires-clause-few c =
+    subst (λ inputs. all_rows inputs < 2 ^ 57) (sym (ap (map brought) c.deref.ensures.value ∙ c.in_ok-inputs.ensures)) (few_parts c.self.inside.query c.self.inside.parts.entries c.self.invariant)

@@ -1,20 +1,13 @@
-use Rattle.std.proofs.Common.{rules, ◌≡◌, ◌≢◌, ◌≤◌, ℕ, List, None, All, [], map, length, Some, IsSome, IfSome, IsTrue, IfOk, IfErr, OnOk, OnErr, ◌+◌, ◌-◌, ◌*◌, ◌<◌, ◌/◌, ◌%◌, Bool, true, false, nat_eq, nat_lt, ◌∷◌, ◌++◌, slice_index_or, slice_set, bit_and, bit_or, w8, w32, w64, Bor, MutBor}
-use Rattle.std.specs.BTreeMap.{insert_entry}
-use Rattle.std.specs.Option.{option_copied}
-use Rattle.grouping_model.specs.declared.limits.TheConstants.{LAST_NUMBER}
-use Rattle.grouping_model.specs.Answer.{answer}
-use Rattle.grouping_model.specs.Datum.{Row}
-use Rattle.grouping_model.specs.Replies.{InLimits, reply_of, known_list}
-use Rattle.grouping_model.specs.World.{World, IsWorld, knows, learn, prefix}
-use Rattle.packed_rows.specs.Columns.{kinds}
-use Rattle.batch_reader.specs.Rows.{ArePackedRows, packings}
-use Rattle.having_filter.specs.Meaning.{meaning}
-use Rattle.hash_agg.specs.Inputs.{brought, IsAggregate}
-use Rattle.origin_prefix.specs.Parts.{IsPartOf, Disagrees}
-use Rattle.origin_prefix.specs.declared.error.JoinError.TheVariants.{OriginDisagrees}
-use Rattle.replica_merge.specs.Replicas.{part_at, part_of, told, Fits, AreHeldParts, DeliversAt, known_of, known_part, counted_part}
+use Rattle.std.specs.Prelude.{◌≡◌, map}
+use Rattle.std.proofs.Common.{◌∙◌, sym, ap}
+use Rattle.grouping_model.specs.Replies.{known_list}
+use Rattle.hash_agg.proofs.KeyLaws.{if_ok}
+use Rattle.replica_merge.specs.Replicas.{Held, told, known_of, known_part}
+use Rattle.replica_merge.proofs.ToldLaws.{known_told}
 use Rattle.replica_merge.proofs.replica.Replica.known.Goals as goal
 
--- src/replica.rt:197:5
 pub returns : goal.returns
-returns c = ?
+returns c =
+    if_ok c.known_parts.result (λ list. map known_of list.items ≡ map known_part c.self.inside.parts.entries) (λ list. map known_of list.items ≡ known_list (told c.args.self.now.parts))
+    (λ list is. is ∙ sym (known_told c.self.inside.query c.self.inside.parts.entries c.self.invariant) ∙ ap (λ (h : Held). known_list (told h.parts)) c.self.view_is)
+    c.known_parts.ensures

@@ -1,32 +1,35 @@
-use Rattle.std.proofs.Common.{rules, ◌≡◌, ◌≢◌, ◌≤◌, ℕ, List, None, All, [], map, length, Some, IsSome, IfSome, IsTrue, IfOk, IfErr, OnOk, OnErr, ◌+◌, ◌-◌, ◌*◌, ◌<◌, ◌/◌, ◌%◌, Bool, true, false, nat_eq, nat_lt, ◌∷◌, ◌++◌, slice_index_or, slice_set, bit_and, bit_or, w8, w32, w64, Bor, MutBor}
-use Rattle.std.specs.BTreeMap.{insert_entry}
+use Rattle.std.specs.Prelude.{◌≡◌, ◌<◌, ◌≤◌, nat_lt, false, ℕ, Some, None, IsTrue}
+use Rattle.std.proofs.Common.{◌∙◌, sym, ap, subst, arith}
 use Rattle.std.specs.Option.{option_copied}
-use Rattle.grouping_model.specs.declared.limits.TheConstants.{LAST_NUMBER}
-use Rattle.grouping_model.specs.Answer.{answer}
-use Rattle.grouping_model.specs.Datum.{Row}
-use Rattle.grouping_model.specs.Replies.{InLimits, reply_of, known_list}
-use Rattle.grouping_model.specs.World.{World, IsWorld, knows, learn, prefix}
-use Rattle.packed_rows.specs.Columns.{kinds}
-use Rattle.batch_reader.specs.Rows.{ArePackedRows, packings}
-use Rattle.having_filter.specs.Meaning.{meaning}
-use Rattle.hash_agg.specs.Inputs.{brought, IsAggregate}
-use Rattle.origin_prefix.specs.Parts.{IsPartOf, Disagrees}
-use Rattle.origin_prefix.specs.declared.error.JoinError.TheVariants.{OriginDisagrees}
-use Rattle.replica_merge.specs.Replicas.{part_at, part_of, told, Fits, AreHeldParts, DeliversAt, known_of, known_part, counted_part}
+use Rattle.grouping_model.specs.World.{knows}
+use Rattle.replica_merge.specs.Replicas.{Parts, Held, part_at, told}
+use Rattle.replica_merge.proofs.HeldLaws.{knows_there, knows_nowhere, zero_unknown, within_limits}
 use Rattle.replica_merge.proofs.replica.Replica.knows.Goals as goal
 
--- src/replica.rt:186:5
 pub returns-then-number-gt0-clause-known : goal.returns-then-number-gt0-clause-known
-returns-then-number-gt0-clause-known c = ?
+returns-then-number-gt0-clause-known c =
+    let parts : Parts = c.self.inside.parts.entries in
+    let there : part_at parts c.args.origin ≡ Some c.in-Some.part.now = sym c.get.ensures.value ∙ ap option_copied c.in-Some.is in
+    c.knows.ensures ∙ sym (knows_there c.self.inside.query parts c.self.invariant c.args.origin c.args.number c.in-Some.part.now there c.if-number-gt0.true)
+    ∙ ap (λ (h : Held). knows (told h.parts) (c.args.origin, c.args.number)) c.self.view_is
 
--- src/replica.rt:186:5
 pub returns-then-number-gt0-clause-limits : goal.returns-then-number-gt0-clause-limits
-returns-then-number-gt0-clause-limits c = ?
+returns-then-number-gt0-clause-limits c = λ known.
+    let parts : Parts = c.self.inside.parts.entries in
+    let there : part_at parts c.args.origin ≡ Some c.in-Some.part.now = sym c.get.ensures.value ∙ ap option_copied c.in-Some.is in
+    within_limits c.self.inside.query parts c.self.invariant c.args.origin c.args.number c.in-Some.part.now there c.if-number-gt0.true (sym c.knows.ensures ∙ known)
 
--- src/replica.rt:186:5
 pub returns-else-number-gt0-clause-known : goal.returns-else-number-gt0-clause-known
-returns-else-number-gt0-clause-known c = ?
+returns-else-number-gt0-clause-known c =
+    let parts : Parts = c.self.inside.parts.entries in
+    let there : part_at parts c.args.origin ≡ Some c.in-Some.part.now = sym c.get.ensures.value ∙ ap option_copied c.in-Some.is in
+    let low = c.if-number-gt0.false in
+    let none : nat_lt 0 c.args.number ≡ false = grind arith in
+    none ∙ sym (zero_unknown c.self.inside.query parts c.self.invariant c.args.origin c.args.number c.in-Some.part.now there low)
+    ∙ ap (λ (h : Held). knows (told h.parts) (c.args.origin, c.args.number)) c.self.view_is
 
--- src/replica.rt:186:5
 pub returns-in-None-clause-known : goal.returns-in-None-clause-known
-returns-in-None-clause-known c = ?
+returns-in-None-clause-known c =
+    let parts : Parts = c.self.inside.parts.entries in
+    let none : part_at parts c.args.origin ≡ None = sym c.get.ensures.value ∙ ap option_copied c.in-None.is in
+    sym (knows_nowhere c.self.inside.query parts c.self.invariant c.args.origin c.args.number none) ∙ ap (λ (h : Held). knows (told h.parts) (c.args.origin, c.args.number)) c.self.view_is

@@ -1,28 +1,28 @@
-use Rattle.std.proofs.Common.{rules, ◌≡◌, ◌≢◌, ◌≤◌, ℕ, List, None, All, [], map, length, Some, IsSome, IfSome, IsTrue, IfOk, IfErr, OnOk, OnErr, ◌+◌, ◌-◌, ◌*◌, ◌<◌, ◌/◌, ◌%◌, Bool, true, false, nat_eq, nat_lt, ◌∷◌, ◌++◌, slice_index_or, slice_set, bit_and, bit_or, w8, w32, w64, Bor, MutBor}
-use Rattle.std.specs.BTreeMap.{insert_entry}
+use Rattle.std.specs.Prelude.{◌≡◌, ◌≤◌, ℕ, Some, None}
+use Rattle.std.proofs.Common.{◌∙◌, sym, ap, subst, arith}
 use Rattle.std.specs.Option.{option_copied}
 use Rattle.grouping_model.specs.declared.limits.TheConstants.{LAST_NUMBER}
-use Rattle.grouping_model.specs.Answer.{answer}
-use Rattle.grouping_model.specs.Datum.{Row}
-use Rattle.grouping_model.specs.Replies.{InLimits, reply_of, known_list}
-use Rattle.grouping_model.specs.World.{World, IsWorld, knows, learn, prefix}
-use Rattle.packed_rows.specs.Columns.{kinds}
-use Rattle.batch_reader.specs.Rows.{ArePackedRows, packings}
-use Rattle.having_filter.specs.Meaning.{meaning}
-use Rattle.hash_agg.specs.Inputs.{brought, IsAggregate}
-use Rattle.origin_prefix.specs.Parts.{IsPartOf, Disagrees}
-use Rattle.origin_prefix.specs.declared.error.JoinError.TheVariants.{OriginDisagrees}
-use Rattle.replica_merge.specs.Replicas.{part_at, part_of, told, Fits, AreHeldParts, DeliversAt, known_of, known_part, counted_part}
+use Rattle.grouping_model.specs.World.{prefix}
+use Rattle.replica_merge.specs.Replicas.{Parts, Held, part_at, told}
+use Rattle.replica_merge.proofs.HeldLaws.{held_part, prefix_there, prefix_nowhere}
 use Rattle.replica_merge.proofs.replica.Replica.prefix.Goals as goal
 
--- src/replica.rt:175:5
 pub returns-in-Some-clause-prefix : goal.returns-in-Some-clause-prefix
-returns-in-Some-clause-prefix c = ?
+returns-in-Some-clause-prefix c =
+    let parts : Parts = c.self.inside.parts.entries in
+    let there : part_at parts c.args.origin ≡ Some c.in-Some.part.now = sym c.get.ensures.value ∙ ap option_copied c.in-Some.is in
+    c.prefix.ensures ∙ sym (prefix_there c.self.inside.query parts c.self.invariant c.args.origin c.in-Some.part.now there) ∙ ap (λ (h : Held). prefix (told h.parts) c.args.origin) c.self.view_is
 
--- src/replica.rt:175:5
 pub returns-in-Some-clause-limit : goal.returns-in-Some-clause-limit
-returns-in-Some-clause-limit c = ?
+returns-in-Some-clause-limit c =
+    let parts : Parts = c.self.inside.parts.entries in
+    let there : part_at parts c.args.origin ≡ Some c.in-Some.part.now = sym c.get.ensures.value ∙ ap option_copied c.in-Some.is in
+    let high = (held_part c.self.inside.query parts c.self.invariant c.args.origin c.in-Some.part.now there).part.within in
+    let same = c.prefix.ensures in
+    omega (arith, high, same)
 
--- src/replica.rt:175:5
 pub returns-in-None-clause-prefix : goal.returns-in-None-clause-prefix
-returns-in-None-clause-prefix c = ?
+returns-in-None-clause-prefix c =
+    let parts : Parts = c.self.inside.parts.entries in
+    let none : part_at parts c.args.origin ≡ None = sym c.get.ensures.value ∙ ap option_copied c.in-None.is in
+    sym (prefix_nowhere c.self.inside.query parts c.self.invariant c.args.origin none) ∙ ap (λ (h : Held). prefix (told h.parts) c.args.origin) c.self.view_is

@@ -1,0 +1,183 @@
+-- The inputs of an answer, and the answer that their groups give.
+use Rattle.std.specs.Prelude.{◌≡◌, ◌≢◌, refl, ℕ, suc, ◌+◌, ◌*◌, ◌^◌, ◌<◌, ◌≤◌, ◌⊎◌, true, false, cond, List, [], ◌∷◌, ◌++◌, map, filter, flat_map, length, All, Option, Some, None, unwrap_or}
+use Rattle.std.proofs.Common.{sym, ◌∙◌, ap, subst, inl, inr, append_assoc, append-nil, arith}
+use Rattle.std.proofs.lemmas.Bool.{cases_lt}
+use Rattle.std.proofs.lemmas.Grind.{flat_map-append}
+use Rattle.std.proofs.lemmas.List.{length-map}
+use Rattle.std.proofs.lemmas.List.Sums.{sum_by-cons}
+use Rattle.std.proofs.lemmas.List.Elements.{All-from_recursion}
+use Rattle.std.specs.List.{AllByRecursion}
+use Rattle.std.specs.List.Sorted.{IsStrictlySortedBy}
+use Rattle.std.specs.Ordering.{nat_cmp}
+use Rattle.grouping_model.specs.declared.limits.TheConstants.{LAST_ORIGIN, LAST_NUMBER, MOST_ROWS}
+use Rattle.grouping_model.specs.Datum.{Row, row_cmp, at_place}
+use Rattle.grouping_model.specs.Rising.{put, distinct}
+use Rattle.grouping_model.specs.Aggregates.{Outcome}
+use Rattle.grouping_model.specs.Condition.{is_met}
+use Rattle.grouping_model.specs.Query.{Query}
+use Rattle.grouping_model.specs.Grouping.{Group, part, key_of, selected, group, partials}
+use Rattle.grouping_model.specs.Parts.{answered, source_in}
+use Rattle.grouping_model.specs.World.{World, prefix, origin_rows, known_rows}
+use Rattle.grouping_model.specs.Answer.{answer, answer_over}
+use Rattle.grouping_model.proofs.GroupLaws.{answer_of_part}
+use Rattle.agg_protocol.specs.States.{most_rows}
+use Rattle.having_filter.specs.Meaning.{Checked, meaning}
+use Rattle.hash_agg.specs.Runs.{Entry}
+use Rattle.hash_agg.specs.Standing.{AreGroups}
+use Rattle.hash_agg.specs.Inputs.{Counted, IsInput, AreInputsOf, IsAggregate, all_rows, rows_in, on_end}
+use Rattle.origin_prefix.specs.Parts.{Part, IsPartOf}
+use Rattle.origin_prefix.specs.Fitting.{rows_upto, FitsOrigin}
+use Rattle.origin_prefix.proofs.ByNumber.{numbers, above_first, rising_rest}
+use Rattle.replica_merge.specs.Groups.{answer_rows, shown_of_none, groups_shown}
+use Rattle.replica_merge.specs.Replicas.{Parts, part_at, part_of, told, Held, Fits, IsHeldPart, AreHeldParts, counted_part}
+use Rattle.replica_merge.proofs.ToldLaws.{HasGap, part_gap, prefix_told, origins_told, each_at, part_here}
+
+-- ---- inputs
+
+-- the parts may be aggregated
+pub part_inputs : (query : Checked) (parts : Parts) → AllByRecursion (IsHeldPart query) parts → AllByRecursion (IsInput (meaning query)) (map counted_part parts)
+part_inputs query [] each = tt
+part_inputs query (held ∷ parts) each = (each.0.part.run, part_inputs query parts each.1)
+
+-- there are few parts
+few_origins : (query : Checked) (first : ℕ) (parts : Parts) → first ≤ LAST_ORIGIN + 1 → IsStrictlySortedBy nat_cmp (numbers parts) → AllByRecursion (IsHeldPart query) parts
+    → AllByRecursion (λ (e : ℕ × Part). first ≤ e.0) parts → first + length parts ≤ LAST_ORIGIN + 1
+few_origins query first [] low rising each above = omega (arith, low)
+few_origins query first (held ∷ parts) low rising each above =
+    let here : held.0 ≤ LAST_ORIGIN = each.0.within in
+    let from : first ≤ held.0 = above.0 in
+    let rest : held.0 + 1 + length parts ≤ LAST_ORIGIN + 1 =
+    few_origins query (held.0 + 1) parts (omega (arith, here)) (rising_rest held parts rising) each.1 (later parts (above_first held.0 held.1 parts rising)) in
+    omega (arith, rest, from)
+  where
+    later : (ps : Parts) → AllByRecursion (λ (e : ℕ × Part). held.0 < e.0) ps → AllByRecursion (λ (e : ℕ × Part). held.0 + 1 ≤ e.0) ps
+    later [] all = tt
+    later (e ∷ ps) all = (let l = all.0 in omega (arith, l), later ps all.1)
+
+few_each : (query : Checked) (parts : Parts) → AllByRecursion (IsHeldPart query) parts → all_rows (map counted_part parts) ≤ length parts * (LAST_NUMBER * MOST_ROWS)
+few_each query [] each = omega arith
+few_each query (held ∷ parts) each =
+    let one : held.1.prefix ≤ LAST_NUMBER = each.0.part.within in
+    let rest : all_rows (map counted_part parts) ≤ length parts * (LAST_NUMBER * MOST_ROWS) = few_each query parts each.1 in
+    let sum : all_rows (map counted_part (held ∷ parts)) ≡ held.1.prefix * MOST_ROWS + all_rows (map counted_part parts) = sum_by-cons rows_in (counted_part held) (map counted_part parts) in
+    omega (arith, one, rest, sum)
+
+all_above_zero : (ps : Parts) → AllByRecursion (λ (e : ℕ × Part). 0 ≤ e.0) ps
+all_above_zero [] = tt
+all_above_zero (e ∷ ps) = (omega arith, all_above_zero ps)
+
+pub few_parts : (query : Checked) (parts : Parts) → AreHeldParts query parts → all_rows (map counted_part parts) < 2 ^ 57
+few_parts query parts held =
+    let count : 0 + length parts ≤ LAST_ORIGIN + 1 = few_origins query 0 parts (omega arith) held.rising held.each (all_above_zero parts) in
+    let rows : all_rows (map counted_part parts) ≤ length parts * (LAST_NUMBER * MOST_ROWS) = few_each query parts held.each in
+    omega (arith, count, rows)
+
+pub few_enough : (n : ℕ) → n < 2 ^ 57 → n ≤ most_rows
+few_enough n low = omega (arith, low)
+
+-- ---- rows of a world
+
+-- the rows of the prefixes, part by part
+abbrev pub part_rows : World → ℕ × Part → List Row
+part_rows world held = rows_upto world held.0 held.1.prefix
+
+are_inputs : (q : Query) (world : World) (parts : Parts) → AllByRecursion (λ (e : ℕ × Part). FitsOrigin q world e.0 e.1) parts → AreInputsOf q (map counted_part parts) (map (part_rows world) parts)
+are_inputs q world [] all = tt
+are_inputs q world (e ∷ parts) all = (all.0.run, are_inputs q world parts all.1)
+
+flat_same : (f : ℕ → List Row) (g : ℕ × Part → List Row) (es : Parts) → AllByRecursion (λ (e : ℕ × Part). f e.0 ≡ g e) es → flat_map f (numbers es) ≡ on_end (map g es)
+flat_same f g [] all = refl
+flat_same f g (e ∷ es) all = (λ i. all.0 i ++ flat_same f g es all.1 i)
+
+all_weak : {X : Type 0} (P Q : X → Type 0) → ((x : X) → P x → Q x) → (xs : List X) → AllByRecursion P xs → AllByRecursion Q xs
+all_weak P Q f [] all = tt
+all_weak P Q f (x ∷ xs) all = (f x all.0, all_weak P Q f xs all.1)
+
+all_two : {X : Type 0} (P Q R : X → Type 0) → ((x : X) → P x → Q x → R x) → (xs : List X) → AllByRecursion P xs → AllByRecursion Q xs → AllByRecursion R xs
+all_two P Q R both [] ps qs = tt
+all_two P Q R both (x ∷ xs) ps qs = (both x ps.0 qs.0, all_two P Q R both xs ps.1 qs.1)
+
+known_rows_are : (query : Checked) (world : World) (parts : Parts) → AreHeldParts query parts → known_rows world (told parts) ≡ on_end (map (part_rows world) parts)
+known_rows_are query world parts held =
+    ap (flat_map (origin_rows world (told parts))) (origins_told query parts held)
+    ∙ flat_same (origin_rows world (told parts)) (part_rows world) parts
+    (all_two (IsHeldPart query) (λ (e : ℕ × Part). part_at parts e.0 ≡ Some e.1) (λ (e : ℕ × Part). origin_rows world (told parts) e.0 ≡ part_rows world e)
+    (λ e is there.
+    let here : part_of parts e.0 ≡ e.1 = part_here parts e.0 e.1 there in
+    ap (rows_upto world e.0) (prefix_told parts held.rising e.0 (subst HasGap (sym here) (part_gap query e.1 is.part)) ∙ ap (λ (p : Part). p.prefix) here))
+    parts held.each (each_at parts held.rising))
+
+fit_each : (world : World) (held : Held) → Fits world held → IsStrictlySortedBy nat_cmp (numbers held.parts) → AllByRecursion (λ (e : ℕ × Part). FitsOrigin (meaning held.query) world e.0 e.1) held.parts
+fit_each world held fits rising =
+    all_weak (λ (e : ℕ × Part). part_at held.parts e.0 ≡ Some e.1) (λ (e : ℕ × Part). FitsOrigin (meaning held.query) world e.0 e.1)
+    (λ e there. subst (FitsOrigin (meaning held.query) world e.0) (part_here held.parts e.0 e.1 there) (fits e.0)) held.parts (each_at held.parts rising)
+
+-- the groups of the rows of the unbroken prefixes
+pub groups_known : (held : Held) (run : List Entry) (world : World) → AreHeldParts held.query held.parts → Fits world held → IsAggregate (meaning held.query) (map counted_part held.parts) run
+    → AreGroups (meaning held.query) (all_rows (map counted_part held.parts)) run (part (meaning held.query) (known_rows world (told held.parts)))
+groups_known held run world is fits given =
+    subst (λ rows. AreGroups (meaning held.query) (all_rows (map counted_part held.parts)) run (part (meaning held.query) rows)) (sym (known_rows_are held.query world held.parts is))
+    (given.part (map (part_rows world) held.parts) (are_inputs (meaning held.query) world held.parts (fit_each world held fits is.rising)))
+
+-- ---- answers
+
+-- the rows that are shown are those that HAVING keeps
+shown_rows : (q : Query) (groups : List Group) → flat_map (answer_rows q) groups ≡ map (λ (group : Group). map (source_in group) q.items) (filter (λ (group : Group). is_met (source_in group) q.having) groups)
+shown_rows q [] = refl
+shown_rows q (g ∷ groups) =
+    elim (is_met (source_in g) q.having) as (λ b. cond b (map (source_in g) q.items ∷ []) [] ++ flat_map (answer_rows q) groups ≡ map (λ (group : Group). map (source_in group) q.items) (cond b (g ∷ filter (λ (group : Group). is_met (source_in group) q.having) groups) (filter (λ (group : Group). is_met (source_in group) q.having) groups))) [
+      | true ↦ ap (λ rows. map (source_in g) q.items ∷ rows) (shown_rows q groups)
+      | false ↦ shown_rows q groups
+    ]
+
+-- without GROUP BY, all rows have one key
+one_key : (q : Query) (rows : List Row) → q.keys ≡ [] → (distinct row_cmp (map (key_of q) rows) ≡ []) ⊎ (distinct row_cmp (map (key_of q) rows) ≡ [] ∷ [])
+one_key q [] none = inl refl
+one_key q (row ∷ rows) none =
+    let key : key_of q row ≡ [] = ap (map (at_place row)) none in
+    elim (one_key q rows none) [
+      | inl e ↦ inr (λ i. put row_cmp (key i) (e i))
+      | inr e ↦ inr (λ i. put row_cmp (key i) (e i))
+    ]
+
+answered_shown : (q : Query) (rows : List Row) → answered q q.keys (part q rows) ≡ groups_shown q (part q rows)
+answered_shown q rows = of_keys q.keys refl
+  where
+    with_keys : List Row → List Group
+    with_keys = λ ks. map (λ key. (key, partials q (group q rows key))) ks
+
+    some_keys : (place : ℕ) (places : List ℕ) (gs : List Group) → q.keys ≡ place ∷ places → answered q q.keys gs ≡ groups_shown q gs
+    some_keys place places [] is = ap (λ ks. answered q ks []) is ∙ sym (ap (shown_of_none q) is)
+    some_keys place places (g ∷ gs) is = ap (λ ks. answered q ks (g ∷ gs)) is
+
+    of_keys : (places : List ℕ) → q.keys ≡ places → answered q q.keys (part q rows) ≡ groups_shown q (part q rows)
+    of_keys (place ∷ places) is = some_keys place places (part q rows) is
+    of_keys [] is =
+        elim (one_key q (selected q rows) is) [
+          | inl e ↦ ap (λ ks. answered q ks (part q rows)) is ∙ ap (λ ks. answered q [] (with_keys ks)) e ∙ sym (ap (shown_of_none q) is) ∙ ap (λ ks. groups_shown q (with_keys ks)) (sym e)
+          | inr e ↦ ap (λ ks. answered q ks (part q rows)) is ∙ ap (λ ks. answered q [] (with_keys ks)) e ∙ ap (λ ks. groups_shown q (with_keys ks)) (sym e)
+        ]
+
+-- the groups of what is known give the answer
+pub answer_shown : (q : Query) (world : World) (parts : Parts) → flat_map (answer_rows q) (groups_shown q (part q (known_rows world (told parts)))) ≡ answer q world (told parts)
+answer_shown q world parts =
+    let rows : List Row = known_rows world (told parts) in
+    shown_rows q (groups_shown q (part q rows))
+    ∙ ap (λ groups. map (λ (group : Group). map (source_in group) q.items) (filter (λ (group : Group). is_met (source_in group) q.having) groups)) (sym (answered_shown q rows))
+    ∙ sym (answer_of_part q rows)
+
+-- each row has the query's items
+pub rows_wide : (q : Query) (groups : List Group) → All (λ (row : List Outcome). length row ≡ length q.items) (flat_map (answer_rows q) groups)
+rows_wide q groups = All-from_recursion (λ (row : List Outcome). length row ≡ length q.items) (flat_map (answer_rows q) groups) (each groups)
+  where
+    each : (groups : List Group) → AllByRecursion (λ (row : List Outcome). length row ≡ length q.items) (flat_map (answer_rows q) groups)
+    each [] = tt
+    each (g ∷ groups) =
+        elim (is_met (source_in g) q.having) as (λ b. AllByRecursion (λ (row : List Outcome). length row ≡ length q.items) (cond b (map (source_in g) q.items ∷ []) [] ++ flat_map (answer_rows q) groups)) [
+          | true ↦ (length-map q.items (source_in g), each groups)
+          | false ↦ each groups
+        ]
+
+-- rows that the groups of a run show
+abbrev pub ShownBy : Query → List Entry → List (List Outcome) → Type 0
+ShownBy q run rows = (most : ℕ) (groups : List Group) → most ≤ most_rows → AreGroups q most run groups → rows ≡ flat_map (answer_rows q) (groups_shown q groups)

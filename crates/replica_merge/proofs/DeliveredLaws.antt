@@ -1,0 +1,290 @@
+-- What a replica holds and tells after a batch.
+use Rattle.std.specs.Prelude.{◌≡◌, ◌≢◌, refl, ℕ, suc, ◌+◌, ◌<◌, ◌≤◌, ◌⊎◌, ◌==◌, ◌||◌, ◌&&◌, nat_le, Bool, true, false, cond, List, [], ◌∷◌, map, Option, Some, None, unwrap_or, if◌then◌else◌, IsTrue, Result, Ok, Err, IfOk, IfErr, OnOk, OnErr}
+use Rattle.std.proofs.Common.{◌∙◌, sym, ap, subst, inl, inr, arith, eq-eqb}
+use Rattle.std.proofs.lemmas.Bool.{true≢false}
+use Rattle.std.proofs.lemmas.Map.Steps.{set_value_same}
+use Rattle.std.specs.Option.{is_some}
+use Rattle.std.specs.Result.{is_err}
+use Rattle.std.specs.List.{AllByRecursion}
+use Rattle.std.specs.List.Sorted.{IsStrictlySortedBy}
+use Rattle.std.specs.Map.{set_value, remove_entry}
+use Rattle.std.specs.BTreeMap.{BTreeMap, insert_entry, is_at, WritesThrough}
+use Rattle.std.specs.Ordering.{eq_by_cmp, nat_cmp, is_eq, match_ordering}
+use Rattle.std.specs.declared.cmp.Ordering.TheVariants.{Less, Equal, Greater}
+use Rattle.grouping_model.specs.declared.limits.TheConstants.{LAST_ORIGIN}
+use Rattle.grouping_model.specs.Datum.{Row}
+use Rattle.grouping_model.specs.declared.delivered.Delivered.{Delivered}
+use Rattle.grouping_model.specs.declared.delivered.Delivered.TheVariants.{Folded, Early, Known}
+use Rattle.grouping_model.specs.Replies.{InLimits, reply_of}
+use Rattle.grouping_model.specs.World.{World, IsWorld, Batch, batch_cmp, Knowledge, knows, learn, prefix}
+use Rattle.grouping_model.proofs.KnowledgeLaws.{same_knowledge, knows_learn}
+use Rattle.packed_rows.specs.Columns.{kinds}
+use Rattle.batch_reader.specs.Rows.{packings}
+use Rattle.having_filter.specs.Meaning.{Checked, meaning}
+use Rattle.origin_prefix.specs.Parts.{Part, empty, rows_at, knows_number, IsPartOf, Delivers, Disagrees}
+use Rattle.origin_prefix.specs.Fitting.{tells, FitsOrigin}
+use Rattle.origin_prefix.proofs.Lists.{is_itself, is_same, is_other, same_or_other}
+use Rattle.origin_prefix.proofs.ByNumber.{numbers, at, at_head, behind_head, found_holds, all_found, put_same, put_else}
+use Rattle.origin_prefix.proofs.TellingLaws.{delivered_tells}
+use Rattle.origin_prefix.proofs.FittingLaws.{fits_delivered, agrees_delivered}
+use Rattle.replica_merge.specs.Replicas.{Parts, Held, part_at, part_of, told, Fits, IsHeldPart, AreHeldParts, DeliversAt}
+use Rattle.replica_merge.proofs.ToldLaws.{told_is, same_batch, HasGap, part_gap, empty_gap, prefix_told, part_here}
+use Rattle.replica_merge.proofs.HeldLaws.{held_part}
+
+-- ---- maps
+
+-- an entry that was put and taken out again
+pub taken_out : {X : Type 0} (es : List (ℕ × X)) (n : ℕ) (x : X) → at es n ≡ None → remove_entry (is_at (nat_cmp n)) (insert_entry nat_cmp es n x) ≡ es
+taken_out [] n x none = ap (λ b. cond b [] ((n, x) ∷ [])) (is_itself n)
+taken_out (e ∷ es) n x none =
+    elim (nat_cmp n e.0) as (λ o. nat_cmp n e.0 ≡ o → cond (is_eq o) (Some e.1) (at es n) ≡ None
+    → remove_entry (is_at (nat_cmp n)) (match_ordering o ((n, x) ∷ e ∷ es) ((e.0, x) ∷ es) (e ∷ insert_entry nat_cmp es n x)) ≡ e ∷ es) [
+      | Less ↦ λ is none. ap (λ b. cond b (e ∷ es) ((n, x) ∷ remove_entry (is_at (nat_cmp n)) (e ∷ es))) (is_itself n)
+      | Equal ↦ λ is none. absurd (some_none none)
+      | Greater ↦ λ is none. ap (λ o. cond (is_eq o) (insert_entry nat_cmp es n x) (e ∷ remove_entry (is_at (nat_cmp n)) (insert_entry nat_cmp es n x))) is ∙ ap (λ fs. e ∷ fs) (taken_out es n x none)
+    ] refl none
+  where
+    some_none : {X : Type 0} {y : X} → ◌≡◌ {A = Option X} (Some y) None → ⊥
+    some_none e = true≢false (ap is_some e)
+
+-- what holds where the result isn't an error
+pub when_fine : {T E : Type 0} (r : Result T E) (P : Type 0) → OnOk r P → is_err r ≡ false → P
+when_fine (Ok x) P p e = p
+when_fine (Err x) P p e = absurd (true≢false e)
+
+-- ---- one part takes the batch
+
+pub delivers_at : {E : Type 0} (r : Result Delivered E) (query : Checked) (old : BTreeMap ℕ Part) (new : BTreeMap ℕ Part) (o n : ℕ) (rows : List (List ℕ)) (before after : Part)
+    → part_at old.entries o ≡ Some before → WritesThrough nat_cmp (nat_cmp o) old after new → IsPartOf query after
+    → IfOk r (Delivers (meaning query) before n rows after) → IfOk r (DeliversAt query old.entries o n rows new.entries)
+delivers_at (Err e) query old new o n rows before after there written is d = tt
+delivers_at (Ok reply) query old new o n rows before after there written is d =
+    let updates = written.3 (ap is_some there) in
+    record {
+      part = after;
+      own = updates.1;
+      delivers = subst (λ (p : Part). Delivers (meaning query) p n rows after reply) (sym (part_here old.entries o before there)) d;
+      is_part = is;
+      others = λ other apart. updates.2 other (is_other o other (λ e. apart (sym e)));
+      rising = written.4;
+    }
+
+pub refused_at : {E F : Type 0} (r : Result Delivered E) (batch : E → F) (given : F) (old new : BTreeMap ℕ Part) (o : ℕ) (before after : Part)
+    → part_at old.entries o ≡ Some before → WritesThrough nat_cmp (nat_cmp o) old after new
+    → IfErr r (λ e. (batch e ≡ given) × (after ≡ before)) → IfErr r (λ e. (batch e ≡ given) × (new.entries ≡ old.entries))
+refused_at (Ok reply) batch given old new o before after there written is = tt
+refused_at (Err e) batch given old new o before after there written is =
+    (is.0, written.0 ∙ ap (set_value (is_at (nat_cmp o)) old.entries) is.1 ∙ set_value_same (is_at (nat_cmp o)) old.entries before there)
+
+-- the first batch of an origin: its part was nothing before
+pub first_delivers : (query : Checked) (old between new : Parts) (o n : ℕ) (rows : List (List ℕ)) (reply : Delivered) → part_at old o ≡ None → between ≡ insert_entry nat_cmp old o empty
+    → DeliversAt query between o n rows new reply → DeliversAt query old o n rows new reply
+first_delivers query old between new o n rows reply none put d =
+    let nothing : part_of between o ≡ part_of old o =
+    ap (λ ps. part_of ps o) put ∙ ap (λ found. unwrap_or found empty) (put_same old o empty) ∙ sym (ap (λ found. unwrap_or found empty) none) in
+    record {
+      part = d.part;
+      own = d.own;
+      delivers = subst (λ (p : Part). Delivers (meaning query) p n rows d.part reply) nothing d.delivers;
+      is_part = d.is_part;
+      others = λ other apart. d.others other apart ∙ ap (λ ps. part_at ps other) put ∙ put_else old o empty other apart;
+      rising = d.rising;
+    }
+
+-- what is there once the place that was made is given up
+pub place_given_up : (old between failed new : Parts) (o : ℕ) → part_at old o ≡ None → between ≡ insert_entry nat_cmp old o empty → failed ≡ between
+    → new ≡ remove_entry (is_at (nat_cmp o)) failed → new ≡ old
+place_given_up old between failed new o none put same removed = removed ∙ ap (remove_entry (is_at (nat_cmp o))) (same ∙ put) ∙ taken_out old o empty none
+
+pub disagrees_first : (old between : Parts) (o n : ℕ) (rows : List (List ℕ)) → part_at old o ≡ None → between ≡ insert_entry nat_cmp old o empty → Disagrees (part_of between o) n rows → Disagrees (part_of old o) n rows
+disagrees_first old between o n rows none put d =
+    subst (λ (p : Part). Disagrees p n rows)
+    (ap (λ ps. part_of ps o) put ∙ ap (λ found. unwrap_or found empty) (put_same old o empty) ∙ sym (ap (λ found. unwrap_or found empty) none)) d
+
+-- ---- the whole replica
+
+pub empty_part : (query : Checked) → IsPartOf query empty
+unfolding IsStrictlySortedBy
+empty_part query =
+    record {
+      within = omega arith;
+      run = record { groups = []; are = tt; rises = tt };
+      few = omega arith;
+      rising = tt;
+      early = tt;
+    }
+
+pub part_is : (query : Checked) (parts : Parts) → AreHeldParts query parts → (o : ℕ) → IsPartOf query (part_of parts o)
+part_is query parts held o =
+    elim (part_at parts o) as (λ found. part_at parts o ≡ found → IsPartOf query (unwrap_or found empty)) [
+      | None ↦ λ e. empty_part query
+      | Some p ↦ λ e. (held_part query parts held o p e).part
+    ] refl
+
+pub part_has_gap : (query : Checked) (parts : Parts) → AreHeldParts query parts → (o : ℕ) → HasGap (part_of parts o)
+part_has_gap query parts held o = part_gap query (part_of parts o) (part_is query parts held o)
+
+-- a part that tells a number isn't empty
+pub some_if_tells : (p : Part) (n : ℕ) → tells p n ≡ true → (0 < p.prefix) ⊎ (p.early ≢ [])
+some_if_tells p n known =
+    elim p.early as (λ es. p.early ≡ es → (0 < p.prefix) ⊎ (p.early ≢ [])) [
+      | [] ↦ λ e. inl (within (nat_le 1 n) (nat_le n p.prefix) refl refl (sym (ap (λ es. (nat_le 1 n && nat_le n p.prefix) || is_some (rows_at es n)) e) ∙ known))
+      | b ∷ bs ↦ λ e. inr (λ none. absurd (some_none (sym e ∙ none)))
+    ] refl
+  where
+    some_none : {X : Type 0} {x : X} {xs : List X} → ◌≡◌ {A = List X} (x ∷ xs) [] → ⊥
+    some_none {X} e = true≢false (ap is_cons e)
+      where
+        is_cons : List X → Bool
+        is_cons [] = false
+        is_cons (y ∷ ys) = true
+
+    within : (a b : Bool) → nat_le 1 n ≡ a → nat_le n p.prefix ≡ b → ((a && b) || false) ≡ true → 0 < p.prefix
+    within true true one two e = let low : 1 ≤ n = grind arith in let high : n ≤ p.prefix = grind arith in omega (arith, low, high)
+    within true false one two e = absurd (true≢false (sym e))
+    within false b one two e = absurd (true≢false (sym e))
+
+module _ (query : Checked) (old new : Parts) (o n : ℕ) (rows : List (List ℕ)) (reply : Delivered) (held : AreHeldParts query old) (limits : InLimits (o, n)) (d : DeliversAt query old o n rows new reply) where
+  tells_more : (m : ℕ) → tells d.part m ≡ (eq_by_cmp nat_cmp m n || tells (part_of old o) m)
+  tells_more m = delivered_tells query (meaning query) (part_of old o) d.part n rows reply (part_is query old held o) limits.1 d.delivers m
+
+  pub delivered_held : AreHeldParts query new
+  delivered_held =
+      record {
+        rising = d.rising;
+        each = all_found (IsHeldPart query) new d.rising (λ m p there. each m p there (same_or_other m o));
+      }
+    where
+      here : d.part ≡ d.part
+      here = refl
+
+      each : (m : ℕ) (p : Part) → part_at new m ≡ Some p → (m ≡ o) ⊎ (m ≢ o) → IsHeldPart query (m, p)
+      each m p there (inl same) =
+          let is : d.part ≡ p = ap (λ found. unwrap_or found d.part) (sym d.own ∙ ap (part_at new) (sym same) ∙ there) in
+          subst (λ q. IsHeldPart query (m, q)) is
+          (record {
+            within = subst (λ k. k ≤ LAST_ORIGIN) (sym same) limits.0;
+            part = d.is_part;
+            some = some_if_tells d.part n (tells_more n ∙ ap (λ b. b || tells (part_of old o) n) (is_itself n));
+          })
+      each m p there (inr other) = held_part query old held m p (sym (d.others m other) ∙ there)
+
+  pub delivered_told : told new ≡ learn (told old) (o, n)
+  delivered_told =
+      same_knowledge (told new) (learn (told old) (o, n)) (λ batch.
+      told_is new d.rising batch.0 batch.1
+      ∙ go batch.0 batch.1 (same_or_other batch.0 o)
+      ∙ sym (knows_learn (told old) (o, n) batch ∙ ap (λ b. b || knows (told old) batch) (same_batch batch.0 batch.1 o n) ∙ ap (λ b. (eq_by_cmp nat_cmp batch.0 o && eq_by_cmp nat_cmp batch.1 n) || b) (told_is old held.rising batch.0 batch.1)))
+    where
+      go : (k m : ℕ) → (k ≡ o) ⊎ (k ≢ o) → tells (part_of new k) m ≡ ((eq_by_cmp nat_cmp k o && eq_by_cmp nat_cmp m n) || tells (part_of old k) m)
+      go k m (inl same) =
+          ap (λ j. tells (part_of new j) m) same
+          ∙ ap (λ found. tells (unwrap_or found empty) m) d.own
+          ∙ tells_more m
+          ∙ sym (ap (λ j. (eq_by_cmp nat_cmp j o && eq_by_cmp nat_cmp m n) || tells (part_of old j) m) same ∙ ap (λ b. (b && eq_by_cmp nat_cmp m n) || tells (part_of old o) m) (is_itself o))
+      go k m (inr other) =
+          ap (λ found. tells (unwrap_or found empty) m) (d.others k other)
+          ∙ sym (ap (λ b. (b && eq_by_cmp nat_cmp m n) || tells (part_of old k) m) (is_other k o other))
+
+  old_prefix : prefix (told old) o ≡ (part_of old o).prefix
+  old_prefix = prefix_told old held.rising o (part_has_gap query old held o)
+
+  pub delivered_reply : reply ≡ reply_of (told old) (o, n)
+  delivered_reply = go reply refl d.delivers
+    where
+      knows_tells : knows (told old) (o, n) ≡ tells (part_of old o) n
+      knows_tells = told_is old held.rising o n
+
+      one : nat_le 1 n ≡ true
+      one = let low = limits.1 in grind arith
+
+      -- for a number from 1 on, to be told is to be known
+      same_known : tells (part_of old o) n ≡ knows_number (part_of old o) n
+      same_known = ap (λ b. (b && nat_le n (part_of old o).prefix) || is_some (rows_at (part_of old o).early n)) one
+
+      unknown : (answer : Delivered) → knows (told old) (o, n) ≡ false → (if n == prefix (told old) o + 1 then Folded (prefix (learn (told old) (o, n)) o) else Early) ≡ answer → answer ≡ reply_of (told old) (o, n)
+      unknown answer not_known is = sym is ∙ ap (λ b. if b then Known else (if n == prefix (told old) o + 1 then Folded (prefix (learn (told old) (o, n)) o) else Early)) (sym not_known)
+
+      go : (answer : Delivered) → reply ≡ answer → Delivers (meaning query) (part_of old o) n rows d.part answer → answer ≡ reply_of (told old) (o, n)
+      go Known is delivers =
+          ap (λ b. if b then Known else (if n == prefix (told old) o + 1 then Folded (prefix (learn (told old) (o, n)) o) else Early)) (sym (knows_tells ∙ same_known ∙ delivers.0))
+      go Early is delivers =
+          unknown Early (knows_tells ∙ same_known ∙ delivers.0)
+          (ap (λ b. if b then Folded (prefix (learn (told old) (o, n)) o) else Early) (ap (λ p. n == p + 1) old_prefix ∙ apart delivers.1))
+        where
+          apart : n ≢ (part_of old o).prefix + 1 → (n == (part_of old o).prefix + 1) ≡ false
+          apart other = elim (n == (part_of old o).prefix + 1) as (λ b. (n == (part_of old o).prefix + 1) ≡ b → b ≡ false) [
+            | true ↦ λ e. absurd (other (let same : n ≡ (part_of old o).prefix + 1 = grind arith in same))
+            | false ↦ λ e. refl
+          ] refl
+      go (Folded upto) is delivers =
+          let next : n ≡ (part_of old o).prefix + 1 = delivers.0 in
+          unknown (Folded upto) (knows_tells ∙ ap (tells (part_of old o)) next ∙ part_has_gap query old held o)
+          (ap (λ b. if b then Folded (prefix (learn (told old) (o, n)) o) else Early) (ap (λ p. n == p + 1) old_prefix ∙ ap (λ m. m == (part_of old o).prefix + 1) next ∙ itself ((part_of old o).prefix + 1))
+          ∙ ap Folded (sym (ap (λ k. prefix k o) delivered_told) ∙ prefix_told new d.rising o (subst HasGap (sym own) (part_gap query d.part d.is_part)) ∙ ap (λ (p : Part). p.prefix) own ∙ sym delivers.1))
+        where
+          itself : (m : ℕ) → (m == m) ≡ true
+          itself m = grind arith
+
+          own : part_of new o ≡ d.part
+          own = ap (λ found. unwrap_or found empty) d.own
+
+pub delivered_fits : (query : Checked) (old new : Parts) (o n : ℕ) (rows : List (List ℕ)) (reply : Delivered) → AreHeldParts query old → DeliversAt query old o n rows new reply
+    → (world : World) (those : List Row) → IsWorld (kinds query.columns) world → Fits world (record { query = query; parts = old }) → world o n ≡ Some those → rows ≡ packings those
+    → Fits world (record { query = query; parts = new })
+delivered_fits query old new o n rows reply held d world those is fits there same k = go (same_or_other k o)
+  where
+    go : (k ≡ o) ⊎ (k ≢ o) → FitsOrigin (meaning query) world k (part_of new k)
+    go (inr other) = subst (FitsOrigin (meaning query) world k) (sym (ap (λ found. unwrap_or found empty) (d.others k other))) (fits k)
+    go (inl here) =
+        subst (λ j. FitsOrigin (meaning query) world j (part_of new j)) (sym here)
+        (subst (FitsOrigin (meaning query) world o) (sym (ap (λ found. unwrap_or found empty) d.own))
+        (fits_delivered query world is o (part_of old o) d.part n those reply (part_is query old held o) (fits o) there (subst (λ r. Delivers (meaning query) (part_of old o) n r d.part reply) same d.delivers)))
+
+pub never_disagrees : (query : Checked) (old : Parts) (o n : ℕ) (rows : List (List ℕ)) → Disagrees (part_of old o) n rows → (world : World) (those : List Row) → Fits world (record { query = query; parts = old })
+    → world o n ≡ Some those → rows ≢ packings those
+never_disagrees query old o n rows d world those fits there same =
+    agrees_delivered (meaning query) world o (part_of old o) n those (fits o) there (subst (Disagrees (part_of old o) n) same d)
+
+-- ---- results
+
+if_ok_to : {T E : Type 0} (r : Result T E) (P Q : T → Type 0) → ((x : T) → P x → Q x) → IfOk r P → IfOk r Q
+if_ok_to (Ok x) P Q f p = f x p
+if_ok_to (Err e) P Q f p = tt
+
+if_err_to : {T E : Type 0} (r : Result T E) (P Q : E → Type 0) → ((e : E) → P e → Q e) → IfErr r P → IfErr r Q
+if_err_to (Ok x) P Q f p = tt
+if_err_to (Err e) P Q f p = f e p
+
+on_ok_to : {T E : Type 0} (r : Result T E) (P : T → Type 0) (Q : Type 0) → ((x : T) → P x → Q) → IfOk r P → OnOk r Q
+on_ok_to (Ok x) P Q f p = f x p
+on_ok_to (Err e) P Q f p = tt
+
+module _ {E : Type 0} (r : Result Delivered E) (query : Checked) (old new : Parts) (o n : ℕ) (rows : List (List ℕ)) (held : AreHeldParts query old) (limits : InLimits (o, n))
+    (delivers : IfOk r (DeliversAt query old o n rows new)) where
+  pub still_held : IfErr r (λ e. new ≡ old) → AreHeldParts query new
+  still_held same = go r delivers same
+    where
+      go : (s : Result Delivered E) → IfOk s (DeliversAt query old o n rows new) → IfErr s (λ e. new ≡ old) → AreHeldParts query new
+      go (Ok reply) d same = delivered_held query old new o n rows reply held limits d
+      go (Err e) d same = subst (AreHeldParts query) (sym same) held
+
+  pub reply_told : IfOk r (λ reply. reply ≡ reply_of (told old) (o, n))
+  reply_told = if_ok_to r (DeliversAt query old o n rows new) (λ reply. reply ≡ reply_of (told old) (o, n)) (λ reply d. delivered_reply query old new o n rows reply held limits d) delivers
+
+  pub more_told : OnOk r (told new ≡ learn (told old) (o, n))
+  more_told = on_ok_to r (DeliversAt query old o n rows new) (told new ≡ learn (told old) (o, n)) (λ reply d. delivered_told query old new o n rows reply held limits d) delivers
+
+  pub still_fits : OnOk r ((world : World) (those : List Row) → IsWorld (kinds query.columns) world → Fits world (record { query = query; parts = old }) → world o n ≡ Some those → rows ≡ packings those
+      → Fits world (record { query = query; parts = new }))
+  still_fits =
+      on_ok_to r (DeliversAt query old o n rows new) _ (λ reply d world those is fits there same. delivered_fits query old new o n rows reply held d world those is fits there same) delivers
+
+pub parts_stay : {F : Type 0} (P : Type 0) (r : Result Delivered F) (Q : F → Type 0) → IfErr r (λ e. Q e × P) → IfErr r (λ e. P)
+parts_stay P (Ok x) Q both = tt
+parts_stay P (Err e) Q both = both.1
+
+pub agrees_told : {F : Type 0} (r : Result Delivered F) (Why : F → Type 0) (query : Checked) (old : Parts) (o n : ℕ) (rows : List (List ℕ)) → IfErr r (λ e. Why e → Disagrees (part_of old o) n rows)
+    → IfErr r (λ e. Why e → (world : World) (those : List Row) → Fits world (record { query = query; parts = old }) → world o n ≡ Some those → rows ≢ packings those)
+agrees_told r Why query old o n rows why =
+    if_err_to r (λ e. Why e → Disagrees (part_of old o) n rows) _ (λ e d is world those fits there. never_disagrees query old o n rows (d is) world those fits there) why
