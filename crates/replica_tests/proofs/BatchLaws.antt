@@ -1,9 +1,11 @@
 -- The rows of a batch are packed rows. All of this is our own.
-use Rattle.std.specs.Prelude.{◌≡◌, ℕ, List, [], ◌∷◌}
+use Rattle.std.specs.Prelude.{◌≡◌, ◌≤◌, ℕ, List, [], ◌∷◌, length}
 use Rattle.std.specs.List.{AllByRecursion}
+use Rattle.std.proofs.lemmas.List.Elements.{All-from_recursion}
 use Rattle.grouping_model.specs.Datum.{Row, Kind, HasKinds}
 use Rattle.packed_rows.proofs.FieldLaws.{read_kinds}
-use Rattle.batch_reader.specs.Rows.{ReadsRows, packings}
+use Rattle.grouping_model.specs.declared.limits.TheConstants.{MOST_ROWS}
+use Rattle.batch_reader.specs.Rows.{ArePackedRows, ReadsRows, packings}
 use Rattle.hash_agg.specs.Inputs.{ArePackings}
 
 -- the rows that records stand for have the kinds of the columns
@@ -16,3 +18,8 @@ rows_of_kinds kinds (fields ∷ records) (row ∷ rows) (first, reads) = (read_k
 -- and their packings are packings of rows
 pub batch_packings : (kinds : List Kind) (records : List (List (List ℕ))) (rows : List Row) (packed : List (List ℕ)) → ReadsRows kinds records rows → packed ≡ packings rows → ArePackings kinds packed rows
 batch_packings kinds records rows packed reads is = record { of_kinds = rows_of_kinds kinds records rows reads; packings_are = is }
+
+-- and they are packed rows of a batch, where they are few enough
+pub built : (kinds : List Kind) (records : List (List (List ℕ))) (rows : List Row) (packed : List (List ℕ)) → ReadsRows kinds records rows → packed ≡ packings rows → length packed ≤ MOST_ROWS → ArePackedRows kinds packed
+built kinds records rows packed reads is few =
+    record { few = few; rows = rows; of_kinds = All-from_recursion (HasKinds kinds) rows (rows_of_kinds kinds records rows reads); packings_are = is }

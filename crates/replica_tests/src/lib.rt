@@ -1,10 +1,12 @@
-//! Tests of batches, of aggregation and of replicas, by their crates' public calls alone.
+//! Tests of batches, of aggregation, of parts of an origin and of replicas, by their crates' public calls alone.
 #![tactic(auto)]
 
 #[cfg(test)]
 mod batches;
 #[cfg(test)]
 mod fixtures;
+#[cfg(test)]
+mod parts;
 #[cfg(test)]
 mod replicas;
 #[cfg(test)]

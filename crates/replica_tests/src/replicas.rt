@@ -13,7 +13,7 @@ fn replica(rt: HostRuntime, text: &str) -> Result<Replica, Fail> {
 const TOWNS: &str = "SELECT c, count(*), sum(d) FROM batches GROUP BY c";
 
 /// What becomes of a batch of rows, or nothing where memory is wanting.
-#[tactic(auto, using(replica_merge::proofs::PackedLaws::built))]
+#[tactic(auto, using(crate::proofs::BatchLaws::built))]
 fn deliver(
     rt: HostRuntime,
     replica: &mut Replica,

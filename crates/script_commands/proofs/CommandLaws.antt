@@ -9,7 +9,7 @@ use Rattle.std.specs.Str.{is_utf8}
 use Rattle.csv.specs.Records.{field_at}
 use Rattle.std.specs.Str.Parse.{digits_value}
 use Rattle.script_io.specs.Records.{Record}
-use Rattle.script_commands.specs.Commands.{Unknown, begins_feed, commands_after, commands_of, feed_request, is_row_count, one_field, owned_by, request_of}
+use Rattle.script_commands.specs.Commands.{Unknown, begins_feed, commands_after, commands_of, feed_request, is_row_count, one_field, owned_by, request_of, two_fields}
 
 pub field_is : (fields : Record) (i : ℕ) → i < length fields → field_at fields i ≡ Some (get_or fields i [])
 unfolding field_at
@@ -24,6 +24,15 @@ request_two (a ∷ []) h = absurd (omega arith)
 request_two (a ∷ b ∷ []) h = refl
 request_two (a ∷ b ∷ c ∷ rest) h = absurd (omega arith)
 
+pub request_three : (fields : Record) → length fields ≡ 3
+    → request_of fields ≡ two_fields (get_or fields 0 []) (get_or fields 1 []) (get_or fields 2 [])
+unfolding request_of
+request_three [] h = absurd (omega arith)
+request_three (a ∷ []) h = absurd (omega arith)
+request_three (a ∷ b ∷ []) h = absurd (omega arith)
+request_three (a ∷ b ∷ c ∷ []) h = refl
+request_three (a ∷ b ∷ c ∷ d ∷ rest) h = absurd (omega arith)
+
 pub request_five : (fields : Record) → length fields ≡ 5
     → request_of fields ≡ feed_request (get_or fields 0 []) (get_or fields 1 []) (get_or fields 2 []) (get_or fields 3 []) (get_or fields 4 [])
 unfolding request_of
@@ -35,15 +44,15 @@ request_five (a ∷ b ∷ c ∷ d ∷ []) h = absurd (omega arith)
 request_five (a ∷ b ∷ c ∷ d ∷ e ∷ []) h = refl
 request_five (a ∷ b ∷ c ∷ d ∷ e ∷ f ∷ rest) h = absurd (omega arith)
 
-pub request_other : (fields : Record) → length fields ≢ 2 → length fields ≢ 5 → request_of fields ≡ Unknown
+pub request_other : (fields : Record) → length fields ≢ 2 → length fields ≢ 3 → length fields ≢ 5 → request_of fields ≡ Unknown
 unfolding request_of
-request_other [] two five = refl
-request_other (a ∷ []) two five = refl
-request_other (a ∷ b ∷ []) two five = absurd (two refl)
-request_other (a ∷ b ∷ c ∷ []) two five = refl
-request_other (a ∷ b ∷ c ∷ d ∷ []) two five = refl
-request_other (a ∷ b ∷ c ∷ d ∷ e ∷ []) two five = absurd (five refl)
-request_other (a ∷ b ∷ c ∷ d ∷ e ∷ f ∷ rest) two five = refl
+request_other [] two three five = refl
+request_other (a ∷ []) two three five = refl
+request_other (a ∷ b ∷ []) two three five = absurd (two refl)
+request_other (a ∷ b ∷ c ∷ []) two three five = absurd (three refl)
+request_other (a ∷ b ∷ c ∷ d ∷ []) two three five = refl
+request_other (a ∷ b ∷ c ∷ d ∷ e ∷ []) two three five = absurd (five refl)
+request_other (a ∷ b ∷ c ∷ d ∷ e ∷ f ∷ rest) two three five = refl
 
 pub owned_five : (fields : Record) → length fields ≡ 5 → owned_by fields
     ≡ (if begins_feed (get_or fields 0 []) (get_or fields 4 []) then digits_value 10 (get_or fields 4 []) else 0)

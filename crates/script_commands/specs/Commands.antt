@@ -15,6 +15,7 @@ pub data Request : Type 0 where
   Feed : (name origin number : List ℕ) (told : ℕ) → Request
   Known : (name : List ℕ) → Request
   Answer : (name : List ℕ) → Request
+  Merge : (into from : List ℕ) → Request
   Unknown : Request
 
 -- a command: the record that asks, and the records that belong to it
@@ -47,6 +48,10 @@ one_field word field =
     if bytes_eq word (codes "query") then (if is_utf8 field then Query field else Unknown) else
     if is_name field then name_request word field else Unknown
 
+-- what a word and two fields ask; a replica may be merged into itself
+abbrev pub two_fields : List ℕ → List ℕ → List ℕ → Request
+two_fields word into from = if bytes_eq word (codes "merge") && is_name into && is_name from then Merge into from else Unknown
+
 -- a word and a number of rows begin a command that owns rows, whether or not it is right otherwise
 abbrev pub begins_feed : List ℕ → List ℕ → Bool
 begins_feed word rows = bytes_eq word (codes "feed") && is_row_count rows
@@ -59,6 +64,7 @@ feed_request word name origin number rows =
 -- what a record asks: no command has another number of fields
 unfoldable pub request_of : Record → Request
 request_of (word ∷ field ∷ []) = one_field word field
+request_of (word ∷ into ∷ from ∷ []) = two_fields word into from
 request_of (word ∷ name ∷ origin ∷ number ∷ rows ∷ []) = feed_request word name origin number rows
 request_of _ = Unknown
 

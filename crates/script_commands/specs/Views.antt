@@ -14,6 +14,7 @@ request_view (r.Replica name) = ask.Replica name.now
 request_view (r.Feed name origin number told) = ask.Feed name.now origin.now number.now told
 request_view (r.Known name) = ask.Known name.now
 request_view (r.Answer name) = ask.Answer name.now
+request_view (r.Merge into from) = ask.Merge into.now from.now
 request_view r.Unknown = ask.Unknown
 
 -- a command as its records

@@ -6,7 +6,7 @@ ghost use Rattle.std.specs.Char.{is_ascii_digit};
 ghost use Rattle.std.specs.List.{list_all};
 ghost use Rattle.std.specs.Str.{is_utf8};
 ghost use Rattle.csv.specs.Records.{fields_of};
-ghost use Rattle.script_commands.specs.Commands.{is_name, is_name_byte, is_row_count, begins_feed, one_field, name_request, feed_request, owned_by, request_of};
+ghost use Rattle.script_commands.specs.Commands.{is_name, is_name_byte, is_row_count, begins_feed, one_field, two_fields, name_request, feed_request, owned_by, request_of};
 ghost use Rattle.script_commands.specs.Views.{request_view};
 
 use csv::ByteRecord;
@@ -36,6 +36,11 @@ pub enum Request<'c> {
     Known(&'c [u8]),
     /// `answer,NAME`: a replica's answer.
     Answer(&'c [u8]),
+    /// `merge,INTO,FROM`: one replica is to know what another knows too. They may be the same.
+    Merge {
+        into: &'c [u8],
+        from: &'c [u8],
+    },
     /// None of these: another word, a wrong number of fields, a text that isn't UTF-8, a bad name or number of rows.
     Unknown,
 }
@@ -137,6 +142,17 @@ fn ask_of_one<'c>(word: &[u8], field: &'c [u8]) -> Request<'c>
     }
 }
 
+/// What a word and two fields behind it ask.
+fn ask_of_two<'c>(word: &[u8], into: &'c [u8], from: &'c [u8]) -> Request<'c>
+    ensures { request_view result ≡ two_fields word.now into.now from.now }
+{
+    if word == b"merge".as_slice() && is_legal_name(into) && is_legal_name(from) {
+        Request::Merge { into, from }
+    } else {
+        Request::Unknown
+    }
+}
+
 /// Whether a word and a number of rows are those of a `feed`.
 fn is_feed(word: &[u8], rows: &[u8]) -> bool
     ensures { result ≡ begins_feed word.now rows.now }
@@ -168,12 +184,13 @@ fn ask_to_feed<'c>(
 }
 
 /// What a record asks.
-#[tactic(auto, using(crate::proofs::CommandLaws::request_two, crate::proofs::CommandLaws::request_five))]
+#[tactic(auto, using(crate::proofs::CommandLaws::request_two, crate::proofs::CommandLaws::request_three, crate::proofs::CommandLaws::request_five))]
 pub(crate) fn ask(head: &ByteRecord) -> Request<'_>
     ensures { request_view result ≡ request_of (fields_of head.now) }
 {
     match head.len() {
         2 => ask_of_one(field(head, 0), field(head, 1)),
+        3 => ask_of_two(field(head, 0), field(head, 1), field(head, 2)),
         5 => ask_to_feed(
             field(head, 0),
             field(head, 1),

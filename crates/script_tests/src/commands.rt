@@ -3,7 +3,7 @@ use script_io::Records;
 use std::test::*;
 
 /// Records, what each asks, and how many of those behind it belong to it. The longest name has 63 bytes.
-const REQUESTS: [(&str, Request<'static>, usize); 28] = [
+const REQUESTS: [(&str, Request<'static>, usize); 36] = [
     ("columns,c", Request::Columns("c"), 0),
     ("query,\u{e9}", Request::Query("\u{e9}"), 0),
     ("columns,", Request::Columns(""), 0),
@@ -15,6 +15,22 @@ const REQUESTS: [(&str, Request<'static>, usize); 28] = [
         0,
     ),
     ("answer,a", Request::Answer(b"a"), 0),
+    (
+        "merge,A_9,b",
+        Request::Merge {
+            into: b"A_9",
+            from: b"b",
+        },
+        0,
+    ),
+    (
+        "merge,a,a",
+        Request::Merge {
+            into: b"a",
+            from: b"a",
+        },
+        0,
+    ),
     (
         "feed,a,7,8,002\nx\ny,z",
         Request::Feed {
@@ -47,6 +63,12 @@ const REQUESTS: [(&str, Request<'static>, usize); 28] = [
         0,
     ),
     ("answer,a-b", Request::Unknown, 0),
+    ("merge,a", Request::Unknown, 0),
+    ("merge,a,b,c", Request::Unknown, 0),
+    ("merge,,b", Request::Unknown, 0),
+    ("merge,a,b!", Request::Unknown, 0),
+    ("merges,a,b", Request::Unknown, 0),
+    ("answer,a,a", Request::Unknown, 0),
     ("replica,", Request::Unknown, 0),
     ("known,\u{e9}", Request::Unknown, 0),
     ("feed,a b,0,1,1\nx", Request::Unknown, 1),
