@@ -17,8 +17,8 @@ use Rattle.batch_reader.specs.Rows.{ReadsRows}
 use Rattle.batch_reader.specs.Refusal.{RecordFault, FirstFault, BuildFault}
 use Rattle.batch_reader.specs.declared.error.BatchError.{BatchError}
 use Rattle.batch_reader.specs.declared.error.BatchError.TheVariants as batch
-use Rattle.replica_merge.specs.Kept.{reply_of}
-use Rattle.replica_merge.specs.declared.delivered.Delivered.{Delivered}
+use Rattle.grouping_model.specs.Replies.{reply_of}
+use Rattle.grouping_model.specs.declared.delivered.Delivered.{Delivered}
 use Rattle.script_io.specs.Records.{Record}
 use Rattle.script_commands.specs.Commands as ask
 use Rattle.script_commands.specs.Commands.{Request}
@@ -195,18 +195,21 @@ one_columns None text (machine.Has_columns cs) (machine.Has_query q') x y = absu
 one_columns None text (machine.Has_columns cs) (machine.Created n') x y = absurd y
 one_columns None text (machine.Has_columns cs) (machine.Took n' f' d') x y = absurd y
 one_columns None text (machine.Has_columns cs) (machine.Listed l') x y = absurd y
+one_columns None text (machine.Has_columns cs) (machine.Merged i' j') x y = absurd y
 one_columns None text (machine.Has_columns cs) (machine.Answered q' k') x y = absurd y
 one_columns None text (machine.Has_columns cs) (machine.Refused w') x y = absurd (y.1 cs x)
 one_columns None text (machine.Has_query q) b x y = absurd x
 one_columns None text (machine.Created n) b x y = absurd x
 one_columns None text (machine.Took n f d) b x y = absurd x
 one_columns None text (machine.Listed l) b x y = absurd x
+one_columns None text (machine.Merged i j) b x y = absurd x
 one_columns None text (machine.Answered q k) b x y = absurd x
 one_columns None text (machine.Refused w) (machine.Has_columns cs') x y = absurd (x.1 cs' y)
 one_columns None text (machine.Refused w) (machine.Has_query q') x y = absurd y
 one_columns None text (machine.Refused w) (machine.Created n') x y = absurd y
 one_columns None text (machine.Refused w) (machine.Took n' f' d') x y = absurd y
 one_columns None text (machine.Refused w) (machine.Listed l') x y = absurd y
+one_columns None text (machine.Refused w) (machine.Merged i' j') x y = absurd y
 one_columns None text (machine.Refused w) (machine.Answered q' k') x y = absurd y
 one_columns None text (machine.Refused w) (machine.Refused w') x y = ap machine.Refused (x.0 ∙ sym y.0)
 
@@ -219,17 +222,20 @@ one_asked (Some columns) None text (machine.Has_query q) (machine.Has_query q') 
 one_asked (Some columns) None text (machine.Has_query q) (machine.Created n') x y = absurd y
 one_asked (Some columns) None text (machine.Has_query q) (machine.Took n' f' d') x y = absurd y
 one_asked (Some columns) None text (machine.Has_query q) (machine.Listed l') x y = absurd y
+one_asked (Some columns) None text (machine.Has_query q) (machine.Merged i' j') x y = absurd y
 one_asked (Some columns) None text (machine.Has_query q) (machine.Answered q' k') x y = absurd y
 one_asked (Some columns) None text (machine.Has_query q) (machine.Refused w') x y = absurd (not_both columns text q y.error x y.fault)
 one_asked (Some columns) None text (machine.Created n) b x y = absurd x
 one_asked (Some columns) None text (machine.Took n f d) b x y = absurd x
 one_asked (Some columns) None text (machine.Listed l) b x y = absurd x
+one_asked (Some columns) None text (machine.Merged i j) b x y = absurd x
 one_asked (Some columns) None text (machine.Answered q k) b x y = absurd x
 one_asked (Some columns) None text (machine.Refused w) (machine.Has_columns cs') x y = absurd y
 one_asked (Some columns) None text (machine.Refused w) (machine.Has_query q') x y = absurd (not_both columns text q' x.error y x.fault)
 one_asked (Some columns) None text (machine.Refused w) (machine.Created n') x y = absurd y
 one_asked (Some columns) None text (machine.Refused w) (machine.Took n' f' d') x y = absurd y
 one_asked (Some columns) None text (machine.Refused w) (machine.Listed l') x y = absurd y
+one_asked (Some columns) None text (machine.Refused w) (machine.Merged i' j') x y = absurd y
 one_asked (Some columns) None text (machine.Refused w) (machine.Answered q' k') x y = absurd y
 one_asked (Some columns) None text (machine.Refused w) (machine.Refused w') x y = ap machine.Refused (x.named ∙ ap query_refusal (one_refused columns text x.error y.error x.fault y.fault) ∙ sym y.named)
 
@@ -244,15 +250,18 @@ one_feed columns (Some known) name origin number told_rows owned (machine.Took n
 one_feed columns (Some known) name origin number told_rows owned (machine.Took n f d) (machine.Created n') x y = absurd y
 one_feed columns (Some known) name origin number told_rows owned (machine.Took n f d) (machine.Took n' f' d') x y = same_took name n n' f f' d d' (λ fed. reply_of known (fed.origin, fed.number)) x.0 y.0 (one_fed (kinds columns) origin number told_rows owned f f' x.1 y.1) x.2 y.2
 one_feed columns (Some known) name origin number told_rows owned (machine.Took n f d) (machine.Listed l') x y = absurd y
+one_feed columns (Some known) name origin number told_rows owned (machine.Took n f d) (machine.Merged i' j') x y = absurd y
 one_feed columns (Some known) name origin number told_rows owned (machine.Took n f d) (machine.Answered q' k') x y = absurd y
 one_feed columns (Some known) name origin number told_rows owned (machine.Took n f d) (machine.Refused w') x y = absurd (no_fault (kinds columns) origin number told_rows owned f y.error x.1 y.found y.fault)
 one_feed columns (Some known) name origin number told_rows owned (machine.Listed l) b x y = absurd x
+one_feed columns (Some known) name origin number told_rows owned (machine.Merged i j) b x y = absurd x
 one_feed columns (Some known) name origin number told_rows owned (machine.Answered q k) b x y = absurd x
 one_feed columns (Some known) name origin number told_rows owned (machine.Refused w) (machine.Has_columns cs') x y = absurd y
 one_feed columns (Some known) name origin number told_rows owned (machine.Refused w) (machine.Has_query q') x y = absurd y
 one_feed columns (Some known) name origin number told_rows owned (machine.Refused w) (machine.Created n') x y = absurd y
 one_feed columns (Some known) name origin number told_rows owned (machine.Refused w) (machine.Took n' f' d') x y = absurd (no_fault (kinds columns) origin number told_rows owned f' x.error y.1 x.found x.fault)
 one_feed columns (Some known) name origin number told_rows owned (machine.Refused w) (machine.Listed l') x y = absurd y
+one_feed columns (Some known) name origin number told_rows owned (machine.Refused w) (machine.Merged i' j') x y = absurd y
 one_feed columns (Some known) name origin number told_rows owned (machine.Refused w) (machine.Answered q' k') x y = absurd y
 one_feed columns (Some known) name origin number told_rows owned (machine.Refused w) (machine.Refused w') x y = ap machine.Refused (x.named ∙ ap batch_refusal (one_build_fault (kinds columns) origin number told_rows owned x.error y.error x.found y.found x.fault y.fault) ∙ sym y.named)
 
@@ -263,4 +272,5 @@ one_reply old (ask.Replica name) owned a b x y = x ∙ sym y
 one_reply old (ask.Feed name origin number told) owned a b x y = one_feed (unwrap_or old.columns []) (old.replicas name) name origin number told owned a b x y
 one_reply old (ask.Known name) owned a b x y = x ∙ sym y
 one_reply old (ask.Answer name) owned a b x y = x ∙ sym y
+one_reply old (ask.Merge into from) owned a b x y = x ∙ sym y
 one_reply old ask.Unknown owned a b x y = x ∙ sym y

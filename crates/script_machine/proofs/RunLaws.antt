@@ -14,7 +14,7 @@ use Rattle.script_io.specs.declared.input.InputError.TheVariants as input
 use Rattle.script_io.proofs.InputFacts.{consumes-all, consumes-longer}
 use Rattle.script_io.proofs.OutputFacts.{front-first, front-second}
 use Rattle.script_commands.specs.Commands.{Command, request_of}
-use Rattle.script_machine.specs.Machine.{State, Reply, Refused, Run, MayReply, Agrees, AgreesWith, start, after, is_refused}
+use Rattle.script_machine.specs.Machine.{State, Reply, Refused, Run, StrictRun, MayReply, IsReply, Agrees, AgreesAt, start, after, is_refused}
 use Rattle.script_machine.specs.Text.{reply_text, replies_text}
 use Rattle.script_machine.specs.Output.{WritesAll, WritesFront, WritesBefore, WritesSome, StopsAt, commands_in, run_error}
 use Rattle.script_machine.specs.Views.{Store, Represents, FitsWorld, Steps, said_text, is_refusal}
@@ -54,15 +54,42 @@ refusals commands = map (λ c. Refused NoMemory) commands
 run_refused : (old : State) (cs : List Command) → Run old cs (refusals cs)
 unfolding Run
 run_refused old [] = tt
-run_refused old (c ∷ cs) = (inl refl, run_refused old cs)
+run_refused old (c ∷ cs) = (inl (inl refl), run_refused old cs)
 
-agrees_front : (world : World) (xs ys : List Reply) → Agrees world (xs ++ ys) → Agrees world xs
-agrees_front world [] ys all = tt
-agrees_front world (x ∷ xs) ys all = (all.0, agrees_front world xs ys all.1)
+strict_refused : (old : State) (cs : List Command) → StrictRun old cs (refusals cs)
+unfolding StrictRun
+strict_refused old [] = tt
+strict_refused old (c ∷ cs) = (inl refl, strict_refused old cs)
 
-agrees_next : (world : World) (xs ys : List Reply) (y : Reply) → Agrees world (xs ++ y ∷ ys) → AgreesWith world y
-agrees_next world [] ys y all = all.0
-agrees_next world (x ∷ xs) ys y all = agrees_next world xs ys y all.1
+strict_append : (old : State) (cs ds : List Command) (xs ys : List Reply) → StrictRun old cs xs → StrictRun (state_after old xs) ds ys → StrictRun old (cs ++ ds) (xs ++ ys)
+unfolding StrictRun
+strict_append old [] ds [] ys p q = q
+strict_append old (c ∷ cs) ds (x ∷ xs) ys p q = (p.0, strict_append (after old x) cs ds xs ys p.1 q)
+strict_append old [] ds (x ∷ xs) ys p q = absurd p
+strict_append old (c ∷ cs) ds [] ys p q = absurd p
+
+strict_one : (old : State) (c : Command) (x : Reply) → IsReply old (request_of c.head) c.owned x → StrictRun old (c ∷ []) (x ∷ [])
+unfolding StrictRun
+strict_one old c x p = (p, tt)
+
+strict_none : StrictRun start [] []
+unfolding StrictRun
+strict_none = tt
+
+agrees_front : (world : World) (old : State) (cs ds : List Command) (xs ys : List Reply) → Run old cs xs → Agrees world old (cs ++ ds) (xs ++ ys) → Agrees world old cs xs
+unfolding Run Agrees
+agrees_front world old [] ds [] ys run all = tt
+agrees_front world old (c ∷ cs) ds (x ∷ xs) ys run all = (all.0, agrees_front world (after old x) cs ds xs ys run.1 all.1)
+agrees_front world old [] ds (x ∷ xs) ys run all = absurd run
+agrees_front world old (c ∷ cs) ds [] ys run all = absurd run
+
+agrees_next : (world : World) (old : State) (cs ds : List Command) (c : Command) (xs ys : List Reply) (y : Reply) → Run old cs xs → Agrees world old (cs ++ c ∷ ds) (xs ++ y ∷ ys)
+    → AgreesAt world (state_after old xs) (request_of c.head) c.owned y
+unfolding Run Agrees
+agrees_next world old [] ds c [] ys y run all = all.0
+agrees_next world old (d ∷ cs) ds c (x ∷ xs) ys y run all = agrees_next world (after old x) cs ds c xs ys y run.1 all.1
+agrees_next world old [] ds c (x ∷ xs) ys y run all = absurd run
+agrees_next world old (d ∷ cs) ds c [] ys y run all = absurd run
 
 count_one : (reply : Reply) → count_by is_refused (reply ∷ []) ≡ (if is_refused reply then 1 else 0)
 count_one reply = grind arith
@@ -78,8 +105,9 @@ pub record Ran (commands : List Command) (old new : Option (List ℕ)) (refused 
   pub runs : Run start before replies
   pub counts : count_by is_refused replies ≡ refused
   pub represents : Represents (state_after start replies) store
-  pub fits : (world : World) → Agrees world replies → FitsWorld world store
-  pub writes : (world : World) → Agrees world replies → Appends old new (replies_text world replies)
+  pub strict : (world : World) → Agrees world start before replies → StrictRun start before replies
+  pub fits : (world : World) → Agrees world start before replies → FitsWorld world store
+  pub writes : (world : World) → Agrees world start before replies → Appends old new (replies_text world replies)
 
 abbrev pub empty : Store
 empty = record { columns = None; query = None; replicas = [] }
@@ -94,6 +122,7 @@ ran_start commands known store is =
       runs = run_none;
       counts = refl;
       represents = record { columns = refl; query = refl; replicas = λ name. refl };
+      strict = λ world agrees. strict_none;
       fits = λ world agrees. record { of_columns = tt; fit = λ name. tt };
       writes = λ world agrees. Appends-nil known;
     })
@@ -111,10 +140,15 @@ ran_more commands left old mid new refused more store next c reply ran step wrot
       counts = count_append ran.replies answers.said ∙ ap (λ n. n + (if is_refused answers.said then 1 else 0)) ran.counts
           ∙ ap (λ b. refused + (if b then 1 else 0)) (sym answers.refused) ∙ sym counts;
       represents = subst (λ state. Represents state next) (sym (state_append start ran.replies (answers.said ∷ []))) answers.represents;
-      fits = λ world agrees. answers.fits world (ran.fits world (agrees_front world ran.replies _ agrees)) (agrees_next world ran.replies [] answers.said agrees);
+      strict = λ world agrees.
+          let front = agrees_front world start ran.before (c ∷ []) ran.replies (answers.said ∷ []) ran.runs agrees in
+          strict_append start ran.before (c ∷ []) ran.replies (answers.said ∷ []) (ran.strict world front)
+          (strict_one (state_after start ran.replies) c answers.said (answers.strict world (ran.fits world front) (agrees_next world start ran.before [] c ran.replies [] answers.said ran.runs agrees)));
+      fits = λ world agrees.
+          answers.fits world (ran.fits world (agrees_front world start ran.before (c ∷ []) ran.replies (answers.said ∷ []) ran.runs agrees)) (agrees_next world start ran.before [] c ran.replies [] answers.said ran.runs agrees);
       writes = λ world agrees.
-          let front = agrees_front world ran.replies _ agrees in
-          let text = answers.text world (ran.fits world front) (agrees_next world ran.replies [] answers.said agrees) in
+          let front = agrees_front world start ran.before (c ∷ []) ran.replies (answers.said ∷ []) ran.runs agrees in
+          let text = answers.text world (ran.fits world front) (agrees_next world start ran.before [] c ran.replies [] answers.said ran.runs agrees) in
           subst (Appends old new) (sym (flat_map-append (reply_text world) ran.replies (answers.said ∷ []) ∙ ap (λ l. replies_text world ran.replies ++ l) (append-nil (reply_text world answers.said))))
           (Appends-trans old mid new _ _ (ran.writes world front) (subst (Appends mid new) text wrote));
     }
@@ -125,7 +159,8 @@ ran_all commands old new refused store ran =
       replies = ran.replies;
       runs = subst (λ cs. Run start cs ran.replies) (sym (ran.all ∙ append-nil ran.before)) ran.runs;
       counts = ran.counts;
-      writes = ran.writes;
+      strict = λ world agrees. subst (λ cs. StrictRun start cs ran.replies) (sym (ran.all ∙ append-nil ran.before)) (ran.strict world (subst (λ cs. Agrees world start cs ran.replies) (ran.all ∙ append-nil ran.before) agrees));
+      writes = λ world agrees. ran.writes world (subst (λ cs. Agrees world start cs ran.replies) (ran.all ∙ append-nil ran.before) agrees);
     }
 
 -- it stops with commands left
@@ -136,7 +171,7 @@ ran_stop commands left old new refused store ran =
       left = left;
       all = ran.all;
       refused = refused;
-      writes = record { replies = ran.replies; runs = ran.runs; counts = ran.counts; writes = ran.writes };
+      writes = record { replies = ran.replies; runs = ran.runs; counts = ran.counts; strict = ran.strict; writes = ran.writes };
     }
 
 -- it stops within a reply: what was written is the front of an output in which each command behind is refused
@@ -153,9 +188,18 @@ ran_front commands left old mid new refused store next c reply ran step wrote =
           (run_append start ran.before (c ∷ left) ran.replies (said ∷ later) ran.runs
           (run_append (state_after start ran.replies) (c ∷ []) left (said ∷ []) later
           (run_one (state_after start ran.replies) c said answers.may) (run_refused (after (state_after start ran.replies) said) left)));
+      strict = λ world agrees.
+          let whole = subst (λ cs. Agrees world start cs (ran.replies ++ (said ∷ later))) ran.all agrees in
+          let front = agrees_front world start ran.before (c ∷ left) ran.replies (said ∷ later) ran.runs whole in
+          subst (λ cs. StrictRun start cs (ran.replies ++ (said ∷ later))) (sym ran.all)
+          (strict_append start ran.before (c ∷ left) ran.replies (said ∷ later) (ran.strict world front)
+          (strict_append (state_after start ran.replies) (c ∷ []) left (said ∷ []) later
+          (strict_one (state_after start ran.replies) c said (answers.strict world (ran.fits world front) (agrees_next world start ran.before left c ran.replies later said ran.runs whole)))
+          (strict_refused (after (state_after start ran.replies) said) left)));
       writes = λ world agrees.
-          let front = agrees_front world ran.replies _ agrees in
-          let text = answers.text world (ran.fits world front) (agrees_next world ran.replies later said agrees) in
+          let whole = subst (λ cs. Agrees world start cs (ran.replies ++ (said ∷ later))) ran.all agrees in
+          let front = agrees_front world start ran.before (c ∷ left) ran.replies (said ∷ later) ran.runs whole in
+          let text = answers.text world (ran.fits world front) (agrees_next world start ran.before left c ran.replies later said ran.runs whole) in
           subst (AppendsFront old new) (sym (flat_map-append (reply_text world) ran.replies (said ∷ later)))
           (front-second old mid new (replies_text world ran.replies) (replies_text world (said ∷ later)) (ran.writes world front)
           (front-first mid new (reply_text world said) (replies_text world later) (subst (AppendsFront mid new) text wrote)));

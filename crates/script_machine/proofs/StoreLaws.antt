@@ -1,6 +1,6 @@
 -- What the code keeps, before and after a command.
 use Rattle.std.specs.Prelude.{◌≡◌, ◌≢◌, ◌⊎◌, refl, ℕ, Bool, true, false, if◌then◌else◌, List, [], length, Option, Some, None, IfSome, option_map, unwrap_or, string_bytes}
-use Rattle.std.proofs.Common.{◌∙◌, ap, sym, subst, inl, inr}
+use Rattle.std.proofs.Common.{◌∙◌, ap, sym, subst, inl, inr, arith}
 use Rattle.std.specs.declared.alloc.Global.{Global}
 use Rattle.std.specs.declared.vec.Vec.{Vec}
 use Rattle.std.specs.Borrow.{Bor}
@@ -12,24 +12,24 @@ use Rattle.std.specs.Str.{bytes_eq}
 use Rattle.std.specs.HashMap.{HashMap, UpdatesBy}
 use Rattle.std.proofs.lemmas.Slice.Eq.{bytes_eq-Decides}
 use Rattle.std.proofs.lemmas.Bool.{true≢false, false_from_ne_true}
-use Rattle.grouping_model.specs.World.{World, IsWorld, nothing, learn}
+use Rattle.grouping_model.specs.World.{World, IsWorld, Knowledge, nothing, learn, union}
 use Rattle.grouping_model.specs.Answer.{answer}
-use Rattle.packed_rows.specs.Columns.{Column, kinds, IsSchemaText}
+use Rattle.packed_rows.specs.Columns.{Column, kinds, IsSchemaText, printed}
 use Rattle.having_filter.specs.Meaning.{Checked, meaning}
 use Rattle.having_filter.specs.Spelling.{spelling}
 use Rattle.having_filter.specs.Kept.{by_names, headers}
 use Rattle.group_parser.specs.Parsing.{Accepts}
-use Rattle.replica_merge.specs.Kept.{Held, told, known_list, Fits}
-use Rattle.replica_merge.specs.declared.delivered.Delivered.{Delivered}
-use Rattle.replica_merge.proofs.KeptLaws.{fits_nothing, fits_more}
+use Rattle.grouping_model.specs.Replies.{known_list, reply_of}
+use Rattle.grouping_model.specs.declared.delivered.Delivered.{Delivered}
+use Rattle.replica_merge.specs.Replicas.{Held, told, Fits, SameQuery}
 use Rattle.script_io.specs.Records.{Record}
 use Rattle.script_commands.specs.Commands as ask
 use Rattle.script_commands.specs.Commands.{Request}
 use Rattle.table_print.specs.Table.{table_text}
 use Rattle.script_machine.specs.Machine as machine
-use Rattle.script_machine.specs.Machine.{State, Fed, IsBatch, IsNoBatch, ColumnsReply, IsNoQuery, QueryReply, replica_reply, FeedReply, known_reply, answer_reply, Replies, AgreesWith, after, with_replica}
+use Rattle.script_machine.specs.Machine.{State, Fed, IsBatch, IsNoBatch, ColumnsReply, IsNoQuery, QueryReply, replica_reply, FeedReply, known_reply, answer_reply, merge_reply, Replies, IsReply, IsDisagreement, AgreesAt, FeedAgrees, after, with_replica}
 use Rattle.script_machine.specs.Text.{line, known_text, answer_text}
-use Rattle.script_machine.specs.Views.{Store, IsStore, Represents, FitsWorld, Steps, Takes, Updates, replica_at, knowledge_of, said_text}
+use Rattle.script_machine.specs.Views.{Store, IsStore, Represents, FitsWorld, Steps, Takes, IsOtherBatch, JoinRefused, Updates, replica_at, knowledge_of, said_text}
 use Rattle.script_machine.specs.declared.refusal.Refusal.{Refusal}
 use Rattle.script_machine.specs.declared.refusal.Refusal.TheVariants as why
 use Rattle.script_machine.specs.declared.reply.Reply.TheVariants as says
@@ -90,11 +90,11 @@ known_updated state old new name held r u other = go (bytes_eq name other) refl
     go false e = r.replicas other ∙ ap (option_map knowledge_of) (sym (u.others other e))
 
 -- the rows fit a world after a change at a name
-pub fits_updated : (world : World) (old new : Store) (name : List ℕ) (held : Held) → Updates old new name held → Fits world held.kept → FitsWorld world old → FitsWorld world new
+pub fits_updated : (world : World) (old new : Store) (name : List ℕ) (held : Held) → Updates old new name held → Fits world held → FitsWorld world old → FitsWorld world new
 fits_updated world old new name held u fits f =
     record {
       of_columns = subst (λ cs. IfSome cs (λ (columns : List Column). IsWorld (kinds columns) world)) (sym u.columns) f.of_columns;
-      fit = each_replica (λ h. Fits world h.kept) old new name held u fits f.fit;
+      fit = each_replica (λ h. Fits world h) old new name held u fits f.fit;
     }
 
 -- ---- refusals
@@ -130,18 +130,19 @@ still_fits : (world : World) (old new : Store) → Same old new → FitsWorld wo
 still_fits world old new s f =
     record {
       of_columns = subst (λ cs. IfSome cs (λ columns. IsWorld (kinds columns) world)) (sym s.columns) f.of_columns;
-      fit = λ name. subst (λ o. IfSome o (λ (h : Held). Fits world h.kept)) (sym (s.replicas name)) (f.fit name);
+      fit = λ name. subst (λ o. IfSome o (λ (h : Held). Fits world h)) (sym (s.replicas name)) (f.fit name);
     }
 
 -- a refusal of the code is one of the machine's
 pub refused_for : (request : Request) (owned : List Record) (old new : Store) (refusal : Refusal) → Same old new
-    → ((state : State) → Represents state old → (machine.Refused refusal ≡ machine.Refused why.NoMemory) ⊎ Replies state request owned (machine.Refused refusal))
+    → ((state : State) → Represents state old → IsReply state request owned (machine.Refused refusal))
     → Steps request owned old (says.Refused refusal) new
 refused_for request owned old new refusal s may =
     record {
       steps = λ state r. record {
         said = machine.Refused refusal;
-        may = may state r;
+        may = inl (may state r);
+        strict = λ world f agrees. may state r;
         represents = still state old new s r;
         refused = refl;
         fits = λ world f agrees. still_fits world old new s f;
@@ -162,6 +163,7 @@ refused request owned store refusal replies = refused_for request owned store st
 -- no memory, or another refusal
 memory_or : (refusal : Refusal) → (refusal ≡ why.NoMemory) ⊎ (refusal ≢ why.NoMemory)
 memory_or why.NoMemory = inl refl
+memory_or why.OriginDisagrees = inr (λ e. cc)
 memory_or why.BadSchema = inr (λ e. cc)
 memory_or (why.Query error) = inr (λ e. cc)
 memory_or (why.Batch error) = inr (λ e. cc)
@@ -207,10 +209,11 @@ columns_told store text owned columns count none is counted =
     record {
       steps = λ state r. record {
         said = machine.Has_columns columns;
-        may = inr (subst (λ cs. ColumnsReply cs text (machine.Has_columns columns)) (sym (r.columns ∙ none_there store.columns none)) is);
+        may = inl (inr (subst (λ cs. ColumnsReply cs text (machine.Has_columns columns)) (sym (r.columns ∙ none_there store.columns none)) is));
+        strict = λ world f agrees. inr (subst (λ cs. ColumnsReply cs text (machine.Has_columns columns)) (sym (r.columns ∙ none_there store.columns none)) is);
         represents = record { columns = refl; query = r.query; replicas = r.replicas };
         refused = refl;
-        fits = λ world f agrees. record { of_columns = agrees; fit = f.fit };
+        fits = λ world f agrees. record { of_columns = agrees.0; fit = f.fit };
         text = λ world f agrees. ap (λ n. said_text (says.Columns n)) counted;
       };
     }
@@ -248,7 +251,8 @@ query_told store text owned columns query shown told none is spelled =
     record {
       steps = λ state r. record {
         said = machine.Has_query query;
-        may = inr (query_says state store text columns None (machine.Has_query query) r told (none_there store.query none) is);
+        may = inl (inr (query_says state store text columns None (machine.Has_query query) r told (none_there store.query none) is));
+        strict = λ world f agrees. inr (query_says state store text columns None (machine.Has_query query) r told (none_there store.query none) is);
         represents = record { columns = r.columns; query = refl; replicas = r.replicas };
         refused = refl;
         fits = λ world f agrees. record { of_columns = f.of_columns; fit = f.fit };
@@ -271,6 +275,18 @@ store_asked store columns query is told none over =
 
 -- ---- replicas
 
+-- a replica that knows nothing fits each world
+fits_nothing : (query : Checked) (world : World) → Fits world (record { query = query; parts = [] })
+fits_nothing query world origin =
+    record {
+      there = λ n low high. absurd (omega (arith, low, high));
+      run = tt;
+      early = λ n rows found. absurd (none_is found);
+    }
+  where
+    none_is : {X : Type 0} {x : X} → ◌≡◌ {A = Option X} None (Some x) → ⊥
+    none_is e = true≢false (sym (ap is_some e))
+
 some_there : {X : Type 0} (o : Option X) → is_some o ≡ true → (x : X) × (o ≡ Some x)
 some_there None e = absurd (true≢false (sym e))
 some_there (Some x) e = (x, refl)
@@ -289,20 +305,22 @@ name_taken store name owned query told there =
     ∙ ap (λ known. replica_reply (Some query) known name) (r.replicas name ∙ ap (option_map knowledge_of) found.1)))
 
 pub replica_made : (old new : Store) (name : Bor (List ℕ)) (owned : List Record) (query : Checked) → old.query ≡ Some query → is_some (replica_at old name.now) ≡ false
-    → Updates old new name.now (record { query = query; kept = [] }) → Steps (ask.Replica name.now) owned old (says.Created name) new
+    → Updates old new name.now (record { query = query; parts = [] }) → Steps (ask.Replica name.now) owned old (says.Created name) new
 replica_made old new name owned query told none u =
     record {
       steps = λ state r. record {
         said = machine.Created name.now;
-        may = inr (sym (ap (λ q. replica_reply q (state.replicas name.now) name.now) (r.query ∙ told)
+        may = inl (inr (sym (ap (λ q. replica_reply q (state.replicas name.now) name.now) (r.query ∙ told)
+            ∙ ap (λ known. replica_reply (Some query) known name.now) (r.replicas name.now ∙ ap (option_map knowledge_of) (none_there (replica_at old name.now) none)))));
+        strict = λ world f agrees. inr (sym (ap (λ q. replica_reply q (state.replicas name.now) name.now) (r.query ∙ told)
             ∙ ap (λ known. replica_reply (Some query) known name.now) (r.replicas name.now ∙ ap (option_map knowledge_of) (none_there (replica_at old name.now) none))));
         represents = record {
           columns = r.columns ∙ sym u.columns;
           query = r.query ∙ sym u.query;
-          replicas = known_updated state old new name.now (record { query = query; kept = [] }) r u;
+          replicas = known_updated state old new name.now (record { query = query; parts = [] }) r u;
         };
         refused = refl;
-        fits = λ world f agrees. fits_updated world old new name.now (record { query = query; kept = [] }) u (fits_nothing world) f;
+        fits = λ world f agrees. fits_updated world old new name.now (record { query = query; parts = [] }) u (fits_nothing query world) f;
         text = λ world f agrees. refl;
       };
     }
@@ -326,6 +344,51 @@ feed_columns : (state : State) (store : Store) (name : List ℕ) (held : Held) �
     → unwrap_or state.columns [] ≡ held.query.columns
 feed_columns state store name held r is there = ap (λ cs. unwrap_or cs []) (r.columns ∙ (held_asks store name held is there).1)
 
+-- a world that a store fits is one of its replicas' columns
+columns_of_world : (world : World) (store : Store) (name : List ℕ) (held : Held) → IsStore store → replica_at store name ≡ Some held → FitsWorld world store → IsWorld (kinds held.query.columns) world
+columns_of_world world store name held is there f = subst (λ cs. IfSome cs (λ (columns : List Column). IsWorld (kinds columns) world)) (held_asks store name held is there).1 f.of_columns
+
+-- a batch that was fed is the world's
+fed_of_world : (world : World) (state : State) (store : Store) (name origin number : List ℕ) (told_rows : ℕ) (owned : List Record) (held : Held) → IsStore store → replica_at store name ≡ Some held → Represents state store
+    → FeedAgrees world state (ask.Feed name origin number told_rows) owned → (fed : Fed) → IsBatch (kinds held.query.columns) origin number told_rows owned fed → world fed.origin fed.number ≡ Some fed.rows
+fed_of_world world state store name origin number told_rows owned held is there r agrees fed batch =
+    subst (λ o. IfSome o (λ known. (other : Fed) → IsBatch (kinds (unwrap_or state.columns [])) origin number told_rows owned other → world other.origin other.number ≡ Some other.rows)) (known_there state store name held r there) agrees fed
+    (subst (λ cs. IsBatch (kinds cs) origin number told_rows owned fed) (sym (feed_columns state store name held r is there)) batch)
+
+-- a batch of another world
+pub feed_disagrees : (old new : Store) (name origin number : List ℕ) (told_rows : ℕ) (owned : List Record) (held : Held) → IsStore old → replica_at old name ≡ Some held → Same old new
+    → IsOtherBatch origin number told_rows owned held → Steps (ask.Feed name origin number told_rows) owned old (says.Refused why.OriginDisagrees) new
+feed_disagrees old new name origin number told_rows owned held is there s other =
+    record {
+      steps = λ state r. record {
+        said = machine.Refused why.OriginDisagrees;
+        may = inr (record {
+          instead = machine.Took name other.fed (reply_of (told held.parts) (other.fed.origin, other.fed.number));
+          would = subst (λ known. FeedReply (unwrap_or state.columns []) known name origin number told_rows owned (machine.Took name other.fed (reply_of (told held.parts) (other.fed.origin, other.fed.number)))) (sym (known_there state old name held r there))
+              (refl, subst (λ cs. IsBatch (kinds cs) origin number told_rows owned other.fed) (sym (feed_columns state old name held r is there)) other.is_batch, refl);
+          takes = refl;
+          refused = refl;
+        });
+        strict = λ world f agrees.
+            absurd (other.never world (subst (λ o. IfSome o (Fits world)) there (f.fit name)) (fed_of_world world state old name origin number told_rows owned held is there r agrees.1 other.fed other.is_batch));
+        represents = still state old new s r;
+        refused = refl;
+        fits = λ world f agrees. still_fits world old new s f;
+        text = λ world f agrees. refl;
+      };
+    }
+
+pub disagrees_or : (refusal : Refusal) → (refusal ≡ why.OriginDisagrees) ⊎ (refusal ≢ why.OriginDisagrees)
+disagrees_or why.OriginDisagrees = inl refl
+disagrees_or why.NoMemory = inr (λ e. cc)
+disagrees_or why.BadSchema = inr (λ e. cc)
+disagrees_or (why.Query error) = inr (λ e. cc)
+disagrees_or (why.Batch error) = inr (λ e. cc)
+disagrees_or (why.Run error) = inr (λ e. cc)
+disagrees_or why.BadCommand = inr (λ e. cc)
+disagrees_or why.NoSuchName = inr (λ e. cc)
+disagrees_or why.NameTaken = inr (λ e. cc)
+
 pub feed_nowhere : (store : Store) (name origin number : List ℕ) (told_rows : ℕ) (owned : List Record) → replica_at store name ≡ None
     → Steps (ask.Feed name origin number told_rows) owned store (says.Refused why.NoSuchName) store
 feed_nowhere store name origin number told_rows owned none =
@@ -334,13 +397,13 @@ feed_nowhere store name origin number told_rows owned none =
     (sym (known_nowhere state store name r none)) refl)
 
 pub feed_refused : (old new : Store) (name origin number : List ℕ) (told_rows : ℕ) (owned : List Record) (held : Held) (refusal : Refusal) → IsStore old
-    → replica_at old name ≡ Some held → Same old new → (refusal ≢ why.NoMemory → IsNoBatch (kinds held.query.columns) origin number told_rows owned refusal)
+    → replica_at old name ≡ Some held → Same old new → refusal ≢ why.OriginDisagrees → (refusal ≢ why.NoMemory → refusal ≢ why.OriginDisagrees → IsNoBatch (kinds held.query.columns) origin number told_rows owned refusal)
     → Steps (ask.Feed name origin number told_rows) owned old (says.Refused refusal) new
-feed_refused old new name origin number told_rows owned held refusal is there s bad =
+feed_refused old new name origin number told_rows owned held refusal is there s agreed bad =
     refused_or_memory (ask.Feed name origin number told_rows) owned old new refusal s
     (λ other state r.
     subst (λ known. FeedReply (unwrap_or state.columns []) known name origin number told_rows owned (machine.Refused refusal)) (sym (known_there state old name held r there))
-    (subst (λ cs. IsNoBatch (kinds cs) origin number told_rows owned refusal) (sym (feed_columns state old name held r is there)) (bad other)))
+    (subst (λ cs. IsNoBatch (kinds cs) origin number told_rows owned refusal) (sym (feed_columns state old name held r is there)) (bad other agreed)))
 
 pub feed_took : (old new : Store) (name origin number : List ℕ) (told_rows : ℕ) (owned : List Record) (held later : Held) (delivered : Delivered) → IsStore old
     → replica_at old name ≡ Some held → Takes origin number told_rows owned held later delivered → Updates old new name later
@@ -349,7 +412,9 @@ feed_took old new name origin number told_rows owned held later delivered is the
     record {
       steps = λ state r. record {
         said = machine.Took name takes.fed delivered;
-        may = inr (subst (λ known. FeedReply (unwrap_or state.columns []) known name origin number told_rows owned (machine.Took name takes.fed delivered)) (sym (known_there state old name held r there))
+        may = inl (inr (subst (λ known. FeedReply (unwrap_or state.columns []) known name origin number told_rows owned (machine.Took name takes.fed delivered)) (sym (known_there state old name held r there))
+            (refl, subst (λ cs. IsBatch (kinds cs) origin number told_rows owned takes.fed) (sym (feed_columns state old name held r is there)) takes.is_batch, takes.reply)));
+        strict = λ world f agrees. inr (subst (λ known. FeedReply (unwrap_or state.columns []) known name origin number told_rows owned (machine.Took name takes.fed delivered)) (sym (known_there state old name held r there))
             (refl, subst (λ cs. IsBatch (kinds cs) origin number told_rows owned takes.fed) (sym (feed_columns state old name held r is there)) takes.is_batch, takes.reply));
         represents = record {
           columns = r.columns ∙ sym u.columns;
@@ -360,7 +425,7 @@ feed_took old new name origin number told_rows owned held later delivered is the
         };
         refused = refl;
         fits = λ world f agrees. fits_updated world old new name later u
-            (fits_more world held.kept later.kept (takes.fed.origin, takes.fed.number) _ takes.fed.rows (subst (λ o. IfSome o (λ (h : Held). Fits world h.kept)) there (f.fit name)) agrees refl takes.keeps) f;
+            (takes.fits world (columns_of_world world old name held is there f) (subst (λ o. IfSome o (Fits world)) there (f.fit name)) (fed_of_world world state old name origin number told_rows owned held is there r agrees.1 takes.fed takes.is_batch)) f;
         text = λ world f agrees. refl;
       };
     }
@@ -372,12 +437,13 @@ known_nowhere_at store name owned none =
     refused (ask.Known name) owned store why.NoSuchName (λ state r. sym (ap known_reply (known_nowhere state store name r none)))
 
 pub known_listed : (store : Store) (name : List ℕ) (owned : List Record) (held : Held) (lines : Vec ℕ Global) → replica_at store name ≡ Some held
-    → lines.items ≡ known_text (known_list (told held.kept)) → Steps (ask.Known name) owned store (says.Known lines) store
+    → lines.items ≡ known_text (known_list (told held.parts)) → Steps (ask.Known name) owned store (says.Known lines) store
 known_listed store name owned held lines there shown =
     record {
       steps = λ state r. record {
-        said = machine.Listed (known_list (told held.kept));
-        may = inr (sym (ap known_reply (known_there state store name held r there)));
+        said = machine.Listed (known_list (told held.parts));
+        may = inl (inr (sym (ap known_reply (known_there state store name held r there))));
+        strict = λ world f agrees. inr (sym (ap known_reply (known_there state store name held r there)));
         represents = r;
         refused = refl;
         fits = λ world f agrees. f;
@@ -395,21 +461,109 @@ answer_nowhere store name owned none =
     go (Some q) = refl
 
 pub answered : (store : Store) (name : List ℕ) (owned : List Record) (held : Held) (rows : ℕ) (table : Vec ℕ Global) → IsStore store → replica_at store name ≡ Some held
-    → ((world : World) → IsWorld (kinds held.query.columns) world → Fits world held.kept
-    → (rows ≡ length (answer (meaning held.query) world (told held.kept))) × (table.items ≡ table_text (headers held.query) (answer (meaning held.query) world (told held.kept))))
+    → ((world : World) → IsWorld (kinds held.query.columns) world → Fits world held
+    → (rows ≡ length (answer (meaning held.query) world (told held.parts))) × (table.items ≡ table_text (headers held.query) (answer (meaning held.query) world (told held.parts))))
     → Steps (ask.Answer name) owned store (says.Answer rows table) store
 answered store name owned held rows table is there shown =
     let asks = held_asks store name held is there in
     record {
       steps = λ state r. record {
-        said = machine.Answered held.query (told held.kept);
-        may = inr (sym (ap (λ q. answer_reply q (state.replicas name)) (r.query ∙ asks.0) ∙ ap (λ known. answer_reply (Some held.query) known) (known_there state store name held r there)));
+        said = machine.Answered held.query (told held.parts);
+        may = inl (inr (sym (ap (λ q. answer_reply q (state.replicas name)) (r.query ∙ asks.0) ∙ ap (λ known. answer_reply (Some held.query) known) (known_there state store name held r there))));
+        strict = λ world f agrees. inr (sym (ap (λ q. answer_reply q (state.replicas name)) (r.query ∙ asks.0) ∙ ap (λ known. answer_reply (Some held.query) known) (known_there state store name held r there)));
         represents = r;
         refused = refl;
         fits = λ world f agrees. f;
         text = λ world f agrees.
             let of_world = subst (λ cs. IfSome cs (λ (columns : List Column). IsWorld (kinds columns) world)) asks.1 f.of_columns in
-            let right = shown world of_world (subst (λ o. IfSome o (λ (h : Held). Fits world h.kept)) there (f.fit name)) in
-            ap (λ n. answer_text n table.items) right.0 ∙ ap (λ bytes. answer_text (length (answer (meaning held.query) world (told held.kept))) bytes) right.1;
+            let right = shown world of_world (subst (λ o. IfSome o (λ (h : Held). Fits world h)) there (f.fit name)) in
+            ap (λ n. answer_text n table.items) right.0 ∙ ap (λ bytes. answer_text (length (answer (meaning held.query) world (told held.parts))) bytes) right.1;
       };
     }
+
+-- ---- merging
+
+pub merge_nowhere : (store : Store) (into from : List ℕ) (owned : List Record) → (replica_at store into ≡ None) ⊎ (replica_at store from ≡ None)
+    → Steps (ask.Merge into from) owned store (says.Refused why.NoSuchName) store
+merge_nowhere store into from owned none =
+    refused (ask.Merge into from) owned store why.NoSuchName (λ state r. go state r none)
+  where
+    second : (known : Option Knowledge) → machine.Refused why.NoSuchName ≡ merge_reply known None into from
+    second None = refl
+    second (Some known) = refl
+
+    go : (state : State) → Represents state store → (replica_at store into ≡ None) ⊎ (replica_at store from ≡ None) → machine.Refused why.NoSuchName ≡ merge_reply (state.replicas into) (state.replicas from) into from
+    go state r (inl e) = sym (ap (λ known. merge_reply known (state.replicas from) into from) (known_nowhere state store into r e))
+    go state r (inr e) = second (state.replicas into) ∙ sym (ap (λ known. merge_reply (state.replicas into) known into from) (known_nowhere state store from r e))
+
+pub merge_refused : (store : Store) (into from : List ℕ) (owned : List Record) (refusal : Refusal) → JoinRefused (replica_at store into) (replica_at store from) refusal
+    → Steps (ask.Merge into from) owned store (says.Refused refusal) store
+merge_refused store into from owned refusal refused_is = go (replica_at store into) (replica_at store from) refl refl refusal refused_is
+  where
+    both : (own theirs : Held) → replica_at store into ≡ Some own → replica_at store from ≡ Some theirs → (state : State) → Represents state store
+        → machine.Merged into from ≡ merge_reply (state.replicas into) (state.replicas from) into from
+    both own theirs one two state r = sym (λ i. merge_reply (known_there state store into own r one i) (known_there state store from theirs r two i) into from)
+
+    go : (own theirs : Option Held) → replica_at store into ≡ own → replica_at store from ≡ theirs → (refusal : Refusal) → JoinRefused own theirs refusal → Steps (ask.Merge into from) owned store (says.Refused refusal) store
+    go None theirs one two refusal is = subst (λ w. Steps (ask.Merge into from) owned store (says.Refused w) store) (sym is) (merge_nowhere store into from owned (inl one))
+    go (Some own) None one two refusal is = subst (λ w. Steps (ask.Merge into from) owned store (says.Refused w) store) (sym is) (merge_nowhere store into from owned (inr two))
+    go (Some own) (Some theirs) one two why.NoMemory is = out_of_memory (ask.Merge into from) owned store
+    go (Some own) (Some theirs) one two why.OriginDisagrees never =
+        record {
+          steps = λ state r. record {
+            said = machine.Refused why.OriginDisagrees;
+            may = inr (record { instead = machine.Merged into from; would = both own theirs one two state r; takes = refl; refused = refl });
+            strict = λ world f agrees.
+                absurd (never world (subst (λ o. IfSome o (Fits world)) one (f.fit into)) (subst (λ o. IfSome o (Fits world)) two (f.fit from)));
+            represents = r;
+            refused = refl;
+            fits = λ world f agrees. f;
+            text = λ world f agrees. refl;
+          };
+        }
+    go (Some own) (Some theirs) one two why.BadSchema is = absurd is
+    go (Some own) (Some theirs) one two (why.Query error) is = absurd is
+    go (Some own) (Some theirs) one two (why.Batch error) is = absurd is
+    go (Some own) (Some theirs) one two (why.Run error) is = absurd is
+    go (Some own) (Some theirs) one two why.BadCommand is = absurd is
+    go (Some own) (Some theirs) one two why.NoSuchName is = absurd is
+    go (Some own) (Some theirs) one two why.NameTaken is = absurd is
+
+pub merged : (old new : Store) (into from : List ℕ) (owned : List Record) (own theirs later : Held) → IsStore old → replica_at old into ≡ Some own → replica_at old from ≡ Some theirs
+    → told later.parts ≡ union (told own.parts) (told theirs.parts)
+    → ((world : World) → IsWorld (kinds own.query.columns) world → Fits world own → Fits world theirs → Fits world later)
+    → Updates old new into later → Steps (ask.Merge into from) owned old says.Merged new
+merged old new into from owned own theirs later is one two learns fits u =
+    record {
+      steps = λ state r.
+          let reply : machine.Merged into from ≡ merge_reply (state.replicas into) (state.replicas from) into from =
+          sym (λ i. merge_reply (known_there state old into own r one i) (known_there state old from theirs r two i) into from) in
+          record {
+            said = machine.Merged into from;
+            may = inl (inr reply);
+            strict = λ world f agrees. inr reply;
+            represents = record {
+              columns = r.columns ∙ sym u.columns;
+              query = r.query ∙ sym u.query;
+              replicas = λ other. ap (λ known. with_replica state.replicas into known other)
+                  ((λ i. union (unwrap_or (known_there state old into own r one i) nothing) (unwrap_or (known_there state old from theirs r two i) nothing)) ∙ sym learns)
+                  ∙ known_updated state old new into later r u other;
+            };
+            refused = refl;
+            fits = λ world f agrees. fits_updated world old new into later u
+                (fits world (columns_of_world world old into own is one f) (subst (λ o. IfSome o (Fits world)) one (f.fit into)) (subst (λ o. IfSome o (Fits world)) two (f.fit from))) f;
+            text = λ world f agrees. refl;
+          };
+    }
+
+-- all replicas have one query
+pub one_query : (store : Store) (into from : List ℕ) (own theirs : Held) → IsStore store → replica_at store into ≡ Some own → replica_at store from ≡ Some theirs → own.query ≡ theirs.query
+one_query store into from own theirs is one two =
+    ap (λ o. unwrap_or o own.query) (sym (held_asks store into own is one).0 ∙ (held_asks store from theirs is two).0)
+
+pub same_texts : (a b : Checked) → a ≡ b → SameQuery a b
+same_texts a b same = (ap (λ (q : Checked). printed q.columns) same, ap (λ (q : Checked). spelling (by_names q)) same)
+
+-- what is there is one
+pub one_there : {o : Option Held} (a b : Held) → o ≡ Some a → o ≡ Some b → a ≡ b
+one_there a b one two = ap (λ x. unwrap_or x a) (sym one ∙ two)

@@ -10,7 +10,7 @@ use Rattle.packed_rows.specs.Columns.{Column}
 use Rattle.having_filter.specs.Coding.{coded_kind, coded_checked}
 use Rattle.having_filter.specs.Meaning.{Checked}
 use Rattle.replica_merge.specs.Coding.{coded_held}
-use Rattle.replica_merge.specs.Kept.{Held}
+use Rattle.replica_merge.specs.Replicas.{Held}
 use Rattle.script_machine.specs.Views.{Store}
 
 abbrev pub coded_column : Coded Column

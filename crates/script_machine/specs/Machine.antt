@@ -1,10 +1,11 @@
 -- The machine that a script runs: what is known under each name, and how each command is answered. All of this is our own.
-use Rattle.std.specs.Prelude.{ℕ, ◌≡◌, ◌≢◌, ◌≤◌, ◌⊎◌, Bool, true, false, List, [], ◌∷◌, length, Option, Some, None, unwrap_or, if◌then◌else◌}
-use Rattle.std.specs.List.{AllByRecursion}
+use Rattle.std.specs.Prelude.{ℕ, ◌≡◌, ◌≢◌, ◌≤◌, ◌⊎◌, Bool, true, false, List, [], ◌∷◌, length, Option, Some, None, IfSome, unwrap_or, if◌then◌else◌}
 use Rattle.std.specs.Str.{bytes_eq}
 use Rattle.grouping_model.specs.Datum.{Kind, Row}
 use Rattle.grouping_model.specs.declared.limits.TheConstants.{MOST_ROWS}
-use Rattle.grouping_model.specs.World.{World, IsWorld, Knowledge, nothing, learn}
+use Rattle.grouping_model.specs.Replies.{KnownOrigin, known_list, reply_of}
+use Rattle.grouping_model.specs.World.{World, IsWorld, Knowledge, nothing, learn, union}
+use Rattle.grouping_model.specs.declared.delivered.Delivered.{Delivered}
 use Rattle.packed_rows.specs.Columns.{Column, kinds, IsSchemaText}
 use Rattle.having_filter.specs.Meaning.{Checked}
 use Rattle.group_parser.specs.Parsing.{Accepts, Refuses}
@@ -15,14 +16,14 @@ use Rattle.batch_reader.specs.Rows.{ReadsRows}
 use Rattle.batch_reader.specs.Refusal.{BuildFault}
 use Rattle.batch_reader.specs.declared.error.BatchError.{BatchError}
 use Rattle.batch_reader.specs.declared.error.BatchError.TheVariants as batch
-use Rattle.replica_merge.specs.Kept.{KnownOrigin, known_list, reply_of}
-use Rattle.replica_merge.specs.declared.delivered.Delivered.{Delivered}
+use Rattle.origin_prefix.specs.declared.error.JoinError.{JoinError}
+use Rattle.origin_prefix.specs.declared.error.JoinError.TheVariants as join
 use Rattle.script_io.specs.Records.{Record}
-use Rattle.script_commands.specs.Commands.{Command, Request, Columns, Query, Replica, Feed, Known, Answer, Unknown, request_of}
+use Rattle.script_commands.specs.Commands.{Command, Request, Columns, Query, Replica, Feed, Known, Answer, Merge, Unknown, request_of}
 use Rattle.script_machine.specs.declared.refusal.Refusal.{Refusal}
 use Rattle.having_filter.specs.declared.error.QueryError.TheVariants as checks
 use Rattle.script_machine.specs.declared.refusal.Refusal.TheVariants as refuse
-use Rattle.script_machine.specs.declared.refusal.Refusal.TheVariants.{NoMemory, BadSchema, Batch, BadCommand, NoSuchName, NameTaken}
+use Rattle.script_machine.specs.declared.refusal.Refusal.TheVariants.{NoMemory, BadSchema, Batch, OriginDisagrees, BadCommand, NoSuchName, NameTaken}
 
 -- what is there: the columns and the query, once they were told, and what each replica knows, by its name
 pub record State : Type 0 where
@@ -50,6 +51,8 @@ pub data Reply : Type 0 where
   Created : (name : List ℕ) → Reply
   -- the replica of this name took a batch
   Took : (name : List ℕ) → Fed → Delivered → Reply
+  -- the replica of the first name knows what that of the second does, too
+  Merged : (into from : List ℕ) → Reply
   -- what is known, origin by origin
   Listed : List KnownOrigin → Reply
   -- the answer of a query over what is known
@@ -76,6 +79,11 @@ pub record IsNoBatch (kinds : List Kind) (origin number : List ℕ) (told : ℕ)
   pub found : error ≢ batch.NoMemory
   pub fault : BuildFault kinds origin number told owned error
   pub named : why ≡ batch_refusal error
+
+-- the refusal of a batch that a replica does not take
+abbrev pub delivery_refusal : JoinError → Refusal
+delivery_refusal join.NoMemory = NoMemory
+delivery_refusal join.OriginDisagrees = OriginDisagrees
 
 -- the reply to a schema's text: columns are told once
 abbrev pub ColumnsReply : Option (List Column) → List ℕ → Reply → Type 0
@@ -126,6 +134,11 @@ abbrev pub answer_reply : Option Checked → Option Knowledge → Reply
 answer_reply (Some query) (Some known) = Answered query known
 answer_reply query known = Refused NoSuchName
 
+-- the reply to a merge
+abbrev pub merge_reply : Option Knowledge → Option Knowledge → (into from : List ℕ) → Reply
+merge_reply (Some known) (Some more) into from = Merged into from
+merge_reply known more into from = Refused NoSuchName
+
 -- how a command is answered that asks for this and owns these records, where memory is there. There is one way only (law one_reply)
 abbrev pub Replies : State → Request → List Record → Reply → Type 0
 Replies old (Columns text) owned reply = ColumnsReply old.columns text reply
@@ -135,11 +148,29 @@ Replies old (Feed name origin number told) owned reply =
     FeedReply (unwrap_or old.columns []) (old.replicas name) name origin number told owned reply
 Replies old (Known name) owned reply = reply ≡ known_reply (old.replicas name)
 Replies old (Answer name) owned reply = reply ≡ answer_reply old.query (old.replicas name)
+Replies old (Merge into from) owned reply = reply ≡ merge_reply (old.replicas into) (old.replicas from) into from
 Replies old Unknown owned reply = reply ≡ Refused BadCommand
 
 -- how a command may be answered: in its one way, or memory is wanting
+abbrev pub IsReply : State → Request → List Record → Reply → Type 0
+IsReply old request owned reply = (reply ≡ Refused NoMemory) ⊎ Replies old request owned reply
+
+-- whether a replica takes batches with a reply
+abbrev pub takes_batches : Reply → Bool
+takes_batches (Took name fed delivered) = true
+takes_batches (Merged into from) = true
+takes_batches reply = false
+
+-- a command by which a replica would take batches is refused, since one number was given to two batches
+pub record IsDisagreement (old : State) (request : Request) (owned : List Record) (reply : Reply) : Type 0 where
+  pub instead : Reply
+  pub would : Replies old request owned instead
+  pub takes : takes_batches instead ≡ true
+  pub refused : reply ≡ Refused OriginDisagrees
+
+-- the same where origins need not keep to one batch a number
 abbrev pub MayReply : State → Command → Reply → Type 0
-MayReply old command reply = (reply ≡ Refused NoMemory) ⊎ Replies old (request_of command.head) command.owned reply
+MayReply old command reply = IsReply old (request_of command.head) command.owned reply ⊎ IsDisagreement old (request_of command.head) command.owned reply
 
 -- a replica of this name knows this, and the others what they knew
 abbrev pub with_replica : (List ℕ → Option Knowledge) → List ℕ → Knowledge → List ℕ → Option Knowledge
@@ -152,6 +183,8 @@ after old (Has_query query) = record old { query = Some query }
 after old (Created name) = record old { replicas = with_replica old.replicas name nothing }
 after old (Took name fed delivered) =
     record old { replicas = with_replica old.replicas name (learn (unwrap_or (old.replicas name) nothing) (fed.origin, fed.number)) }
+after old (Merged into from) =
+    record old { replicas = with_replica old.replicas into (union (unwrap_or (old.replicas into) nothing) (unwrap_or (old.replicas from) nothing)) }
 after old reply = old
 
 -- commands may be answered so, one after the other
@@ -164,13 +197,29 @@ abbrev pub is_refused : Reply → Bool
 is_refused (Refused why) = true
 is_refused reply = false
 
--- a reply agrees with a world: the world is one of the columns, and the batch that was taken is the world's
+-- the same, each in its one way or for want of memory
+unfoldable pub StrictRun : State → List Command → List Reply → Type 0
+StrictRun old [] [] = Unit {0}
+StrictRun old (command ∷ commands) (reply ∷ replies) = IsReply old (request_of command.head) command.owned reply × StrictRun (after old reply) commands replies
+StrictRun old commands replies = ⊥
+
+-- a world is one of the columns that were told
 abbrev pub AgreesWith : World → Reply → Type 0
 AgreesWith world (Has_columns columns) = IsWorld (kinds columns) world
-AgreesWith world (Took name fed delivered) = world fed.origin fed.number ≡ Some fed.rows
 AgreesWith world reply = Unit {0}
 
--- a script agrees with a world if each batch that was taken from it is the world's: then no origin gave a number to two
--- batches
-abbrev pub Agrees : World → List Reply → Type 0
-Agrees world replies = AllByRecursion (AgreesWith world) replies
+-- a feed to a replica that is there agrees with a world: if it reads as a batch, it is the world's, whatever is replied
+abbrev pub FeedAgrees : World → State → Request → List Record → Type 0
+FeedAgrees world old (Feed name origin number told) owned =
+    IfSome (old.replicas name) (λ known. (fed : Fed) → IsBatch (kinds (unwrap_or old.columns [])) origin number told owned fed → world fed.origin fed.number ≡ Some fed.rows)
+FeedAgrees world old request owned = Unit {0}
+
+abbrev pub AgreesAt : World → State → Request → List Record → Reply → Type 0
+AgreesAt world old request owned reply = AgreesWith world reply × FeedAgrees world old request owned
+
+-- a script agrees with a world if each batch that it feeds is the world's: then no origin gave a number to two batches
+unfoldable pub Agrees : World → State → List Command → List Reply → Type 0
+Agrees world old [] [] = Unit {0}
+Agrees world old (command ∷ commands) (reply ∷ replies) =
+    AgreesAt world old (request_of command.head) command.owned reply × Agrees world (after old reply) commands replies
+Agrees world old commands replies = ⊥

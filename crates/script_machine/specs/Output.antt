@@ -8,7 +8,7 @@ use Rattle.script_io.specs.Records.{records_of}
 use Rattle.script_io.specs.declared.input.InputError.{InputError}
 use Rattle.script_io.specs.declared.input.InputError.TheVariants as input
 use Rattle.script_commands.specs.Commands.{Command, commands_of}
-use Rattle.script_machine.specs.Machine.{Reply, Run, start, is_refused, Agrees}
+use Rattle.script_machine.specs.Machine.{Reply, Run, StrictRun, start, is_refused, Agrees}
 use Rattle.script_machine.specs.Text.{replies_text}
 use Rattle.script_machine.specs.declared.refusal.Refusal.{Refusal}
 use Rattle.script_machine.specs.declared.refusal.Refusal.TheVariants as refusal
@@ -20,18 +20,20 @@ abbrev pub commands_in : List ℕ → List Command
 commands_in script = commands_of (records_of script)
 
 -- what was written is an output of the commands: the replies of a run of the machine over them, in order, of which so many
--- are refusals. For each world with which the script agrees, these are the bytes
+-- are refusals. For each world with which the script agrees, none is for disagreement, and these are the bytes
 pub record WritesAll (commands : List Command) (old new : Option (List ℕ)) (refused : ℕ) : Type 0 where
   pub replies : List Reply
   pub runs : Run start commands replies
   pub counts : count_by is_refused replies ≡ refused
-  pub writes : (world : World) → Agrees world replies → Appends old new (replies_text world replies)
+  pub strict : (world : World) → Agrees world start commands replies → StrictRun start commands replies
+  pub writes : (world : World) → Agrees world start commands replies → Appends old new (replies_text world replies)
 
 -- what was written is the front of an output of the commands
 pub record WritesFront (commands : List Command) (old new : Option (List ℕ)) : Type 0 where
   pub replies : List Reply
   pub runs : Run start commands replies
-  pub writes : (world : World) → Agrees world replies → AppendsFront old new (replies_text world replies)
+  pub strict : (world : World) → Agrees world start commands replies → StrictRun start commands replies
+  pub writes : (world : World) → Agrees world start commands replies → AppendsFront old new (replies_text world replies)
 
 -- what was written is an output of the commands before some command
 pub record WritesBefore (commands : List Command) (old new : Option (List ℕ)) : Type 0 where

@@ -11,13 +11,13 @@ use Rattle.group_parser.specs.declared.error.ParseError.{ParseError}
 use Rattle.group_parser.specs.declared.error.ParseError.TheVariants as parse
 use Rattle.batch_reader.specs.declared.error.BatchError.{BatchError}
 use Rattle.batch_reader.specs.declared.error.BatchError.TheVariants as batch
-use Rattle.replica_merge.specs.Kept.{KnownOrigin}
-use Rattle.replica_merge.specs.declared.delivered.Delivered.{Delivered}
-use Rattle.replica_merge.specs.declared.delivered.Delivered.TheVariants.{Folded, Early, Known}
+use Rattle.grouping_model.specs.Replies.{KnownOrigin}
+use Rattle.grouping_model.specs.declared.delivered.Delivered.{Delivered}
+use Rattle.grouping_model.specs.declared.delivered.Delivered.TheVariants.{Folded, Early, Known}
 use Rattle.table_print.specs.Table.{table_text}
-use Rattle.script_machine.specs.Machine.{Reply, Has_columns, Has_query, Created, Took, Listed, Answered, Refused}
+use Rattle.script_machine.specs.Machine.{Reply, Has_columns, Has_query, Created, Took, Merged, Listed, Answered, Refused}
 use Rattle.script_machine.specs.declared.refusal.Refusal.{Refusal}
-use Rattle.script_machine.specs.declared.refusal.Refusal.TheVariants.{NoMemory, BadSchema, Query, Batch, Run, BadCommand, NoSuchName, NameTaken}
+use Rattle.script_machine.specs.declared.refusal.Refusal.TheVariants.{NoMemory, BadSchema, Query, Batch, OriginDisagrees, Run, BadCommand, NoSuchName, NameTaken}
 use Rattle.script_machine.specs.declared.error.RunError.{RunError}
 use Rattle.script_machine.specs.declared.error.RunError.TheVariants as stop
 
@@ -55,6 +55,7 @@ refusal_name NoMemory = codes "NoMemory"
 refusal_name BadSchema = codes "BadSchema"
 refusal_name (Query error) = parse_name error
 refusal_name (Batch error) = batch_name error
+refusal_name OriginDisagrees = codes "OriginDisagrees"
 refusal_name (Run error) = run_name error
 refusal_name BadCommand = codes "BadCommand"
 refusal_name NoSuchName = codes "NoSuchName"
@@ -96,6 +97,7 @@ reply_text world (Has_columns columns) = line (codes "columns ") (decimal (lengt
 reply_text world (Has_query query) = line (codes "query ") (spelling (by_names query))
 reply_text world (Created name) = line (codes "replica ") name
 reply_text world (Took name fed delivered) = delivered_text delivered
+reply_text world (Merged into from) = line (codes "merged") []
 reply_text world (Listed list) = known_text list
 reply_text world (Answered query known) =
     let rows = answer (meaning query) world known in

@@ -1,5 +1,5 @@
 -- What a clause sees of the values of the code.
-use Rattle.std.specs.Prelude.{ℕ, ◌≡◌, ◌⊎◌, Bool, true, false, List, codes, decimal, Option, Some, IfSome, option_map, string_bytes}
+use Rattle.std.specs.Prelude.{ℕ, ◌≡◌, ◌⊎◌, Bool, true, false, List, [], codes, decimal, Option, Some, IfSome, option_map, string_bytes, Result, Ok, Err}
 use Rattle.std.specs.declared.alloc.Global.{Global}
 use Rattle.std.specs.declared.vec.Vec.{Vec}
 use Rattle.std.specs.Map.{lookup}
@@ -7,15 +7,16 @@ use Rattle.std.specs.Str.{bytes_eq}
 use Rattle.grouping_model.specs.World.{World, IsWorld, Knowledge, learn}
 use Rattle.packed_rows.specs.Columns.{Column, kinds}
 use Rattle.having_filter.specs.Meaning.{Checked}
-use Rattle.batch_reader.specs.Rows.{packings}
-use Rattle.replica_merge.specs.Kept.{Held, told, reply_of, KeepsRows, Fits}
-use Rattle.replica_merge.specs.declared.delivered.Delivered.{Delivered}
+use Rattle.grouping_model.specs.Replies.{reply_of}
+use Rattle.grouping_model.specs.declared.delivered.Delivered.{Delivered}
+use Rattle.replica_merge.specs.Replicas.{Parts, Held, told, Fits, AreHeldParts, JoinedAside}
 use Rattle.script_io.specs.Records.{Record}
 use Rattle.script_commands.specs.Commands.{Request}
 use Rattle.script_machine.specs.Machine as machine
-use Rattle.script_machine.specs.Machine.{State, Fed, IsBatch, IsNoBatch, Replies, AgreesWith, after}
+use Rattle.script_machine.specs.Machine.{State, Fed, IsBatch, IsNoBatch, IsReply, IsDisagreement, AgreesAt, after}
 use Rattle.script_machine.specs.Text.{line, delivered_text, refusal_name, answer_text, reply_text}
-use Rattle.script_machine.specs.declared.refusal.Refusal.TheVariants.{NoMemory}
+use Rattle.script_machine.specs.declared.refusal.Refusal.TheVariants.{NoMemory, OriginDisagrees, NoSuchName}
+use Rattle.script_machine.specs.declared.refusal.Refusal.{Refusal}
 use Rattle.script_machine.specs.declared.reply.Reply.{Reply}
 use Rattle.script_machine.specs.declared.reply.Reply.TheVariants as says
 
@@ -25,6 +26,7 @@ said_text (says.Columns count) = line (codes "columns ") (decimal count)
 said_text (says.Query text) = line (codes "query ") (string_bytes text)
 said_text (says.Created name) = line (codes "replica ") name.now
 said_text (says.Delivered delivered) = delivered_text delivered
+said_text says.Merged = line (codes "merged") []
 said_text (says.Known lines) = lines.items
 said_text (says.Answer rows table) = answer_text rows table.items
 said_text (says.Refused why) = line (codes "refused ") (refusal_name why)
@@ -50,7 +52,7 @@ pub record IsStore (store : Store) : Type 0 where
 
 -- what a replica knows
 abbrev pub knowledge_of : Held → Knowledge
-knowledge_of held = told held.kept
+knowledge_of held = told held.parts
 
 -- what the code keeps is what is there
 pub record Represents (state : State) (store : Store) : Type 0 where
@@ -58,19 +60,20 @@ pub record Represents (state : State) (store : Store) : Type 0 where
   pub query : state.query ≡ store.query
   pub replicas : (name : List ℕ) → state.replicas name ≡ option_map knowledge_of (replica_at store name)
 
--- the rows that are kept are those of a world of the columns
+-- what is held fits a world of the columns
 pub record FitsWorld (world : World) (store : Store) : Type 0 where
   pub of_columns : IfSome store.columns (λ columns. IsWorld (kinds columns) world)
-  pub fit : (name : List ℕ) → IfSome (replica_at store name) (λ held. Fits world held.kept)
+  pub fit : (name : List ℕ) → IfSome (replica_at store name) (Fits world)
 
 -- a reply of the code to what is asked is one of the machine's, and what is kept then is what is there then
 pub record Answers (state : State) (request : Request) (owned : List Record) (old : Store) (reply : Reply) (new : Store) : Type 0 where
   pub said : machine.Reply
-  pub may : (said ≡ machine.Refused NoMemory) ⊎ Replies state request owned said
+  pub may : IsReply state request owned said ⊎ IsDisagreement state request owned said
   pub represents : Represents (after state said) new
   pub refused : is_refusal reply ≡ machine.is_refused said
-  pub fits : (world : World) → FitsWorld world old → AgreesWith world said → FitsWorld world new
-  pub text : (world : World) → FitsWorld world old → AgreesWith world said → said_text reply ≡ reply_text world said
+  pub strict : (world : World) → FitsWorld world old → AgreesAt world state request owned said → IsReply state request owned said
+  pub fits : (world : World) → FitsWorld world old → AgreesAt world state request owned said → FitsWorld world new
+  pub text : (world : World) → FitsWorld world old → AgreesAt world state request owned said → said_text reply ≡ reply_text world said
 
 -- the same for whatever is there
 pub record Steps (request : Request) (owned : List Record) (old : Store) (reply : Reply) (new : Store) : Type 0 where
@@ -87,7 +90,29 @@ pub record Updates (old new : Store) (name : List ℕ) (held : Held) : Type 0 wh
 pub record Takes (origin number : List ℕ) (told_rows : ℕ) (owned : List Record) (old new : Held) (delivered : Delivered) : Type 0 where
   pub fed : Fed
   pub is_batch : IsBatch (kinds old.query.columns) origin number told_rows owned fed
-  pub reply : delivered ≡ reply_of (told old.kept) (fed.origin, fed.number)
-  pub learns : told new.kept ≡ learn (told old.kept) (fed.origin, fed.number)
-  pub keeps : KeepsRows old.kept new.kept (fed.origin, fed.number) (packings fed.rows)
+  pub reply : delivered ≡ reply_of (told old.parts) (fed.origin, fed.number)
+  pub learns : told new.parts ≡ learn (told old.parts) (fed.origin, fed.number)
+  pub fits : (world : World) → IsWorld (kinds old.query.columns) world → Fits world old → world fed.origin fed.number ≡ Some fed.rows → Fits world new
   pub asked : new.query ≡ old.query
+
+-- a batch that was fed disagrees with what a replica holds: no world that this fits has the batch
+pub record IsOtherBatch (origin number : List ℕ) (told_rows : ℕ) (owned : List Record) (held : Held) : Type 0 where
+  pub fed : Fed
+  pub is_batch : IsBatch (kinds held.query.columns) origin number told_rows owned fed
+  pub never : (world : World) → Fits world held → ¬ (world fed.origin fed.number ≡ Some fed.rows)
+
+-- what the replicas of two names hold together, or why it is refused
+pub record JoinsHeld (own theirs : Held) (joined : Parts) : Type 0 where
+  pub held : AreHeldParts own.query theirs.parts
+  pub aside : JoinedAside own.query own.parts theirs.parts joined
+
+abbrev pub JoinRefused : Option Held → Option Held → Refusal → Type 0
+JoinRefused (Some own) (Some theirs) NoMemory = Unit {0}
+JoinRefused (Some own) (Some theirs) OriginDisagrees = (world : World) → Fits world own → ¬ (Fits world theirs)
+JoinRefused (Some own) (Some theirs) why = ⊥
+JoinRefused own theirs why = why ≡ NoSuchName
+
+abbrev pub JoinsNames : Store → List ℕ → List ℕ → Result Parts Refusal → Type 0
+JoinsNames store into from (Ok joined) =
+    (own theirs : Held) × (replica_at store into ≡ Some own) × (replica_at store from ≡ Some theirs) × JoinsHeld own theirs joined
+JoinsNames store into from (Err why) = JoinRefused (replica_at store into) (replica_at store from) why

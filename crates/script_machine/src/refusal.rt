@@ -28,6 +28,9 @@ pub enum Refusal {
     /// The fields and records of a `feed` are no batch of the columns.
     #[error(transparent)]
     Batch(BatchError),
+    /// One number of an origin has two different batches, or equal prefixes of an origin have different groups.
+    #[error("one number of an origin has two different batches")]
+    OriginDisagrees,
     /// The run stopped before the end of its script.
     #[error(transparent)]
     Run(RunError),
@@ -104,6 +107,7 @@ pub fn name(refusal: Refusal) -> &'static str
         Refusal::BadSchema => "BadSchema",
         Refusal::Query(error) => parse_name(error),
         Refusal::Batch(error) => batch_name(error),
+        Refusal::OriginDisagrees => "OriginDisagrees",
         Refusal::Run(error) => run_name(error),
         Refusal::BadCommand => "BadCommand",
         Refusal::NoSuchName => "NoSuchName",

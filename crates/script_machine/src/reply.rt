@@ -17,6 +17,8 @@ pub(crate) enum Reply<'c> {
     Created(&'c [u8]),
     /// What became of a batch.
     Delivered(Delivered),
+    /// A replica knows what another knew, too.
+    Merged,
     /// What a replica knows, in its lines.
     Known(Vec<u8>),
     /// An answer: how many rows it has, and its table.

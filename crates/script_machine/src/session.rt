@@ -8,16 +8,17 @@ ghost use Rattle.having_filter.specs.Meaning.{meaning};
 ghost use Rattle.having_filter.specs.Spelling.{spelling};
 ghost use Rattle.having_filter.specs.Kept.{by_names, headers};
 ghost use Rattle.group_parser.specs.Parsing.{Accepts};
-ghost use Rattle.replica_merge.specs.Kept.{told, known_list, Fits};
+ghost use Rattle.grouping_model.specs.Replies.{known_list};
+ghost use Rattle.replica_merge.specs.Replicas.{Parts, told, Fits, AreHeldParts, JoinedAside};
 ghost use Rattle.script_io.specs.Records.{Record};
 ghost use Rattle.table_print.specs.Table.{table_text};
 ghost use Rattle.script_machine.specs.Text.{known_text};
 ghost use Rattle.packed_rows.specs.Columns.{kinds};
 ghost use Rattle.script_commands.specs.Commands as ask;
 ghost use Rattle.script_commands.specs.Commands.{request_of};
-ghost use Rattle.script_machine.specs.Machine.{IsNoBatch, IsNoQuery};
-ghost use Rattle.script_machine.specs.Views.{Store, IsStore, Steps, Takes};
-ghost use Rattle.script_machine.specs.declared.refusal.Refusal.TheVariants.{NoMemory};
+ghost use Rattle.script_machine.specs.Machine.{IsNoBatch, IsNoQuery, delivery_refusal};
+ghost use Rattle.script_machine.specs.Views.{Store, IsStore, Steps, Takes, IsOtherBatch, JoinsNames};
+ghost use Rattle.script_machine.specs.declared.refusal.Refusal.TheVariants.{NoMemory, OriginDisagrees};
 
 use crate::refusal::Refusal;
 use crate::reply::Reply;
@@ -28,7 +29,7 @@ use group_parser::{parse, print};
 use having_filter::Query;
 use indexmap::IndexMap;
 use packed_rows::{RowError, Schema};
-use replica_merge::{Delivered, Replica};
+use replica_merge::{Delivered, JoinError, Joined, MergeError, Replica};
 use script_commands::{Command, Request};
 use std::alloc::{AllocError, Global};
 use std::marker::Model;
@@ -72,15 +73,27 @@ fn deliver(
         replica.old replica.new) }
     ensures query { replica.new.query ≡ replica.old.query }
     ensures same { OnErr result (replica.new ≡ replica.old) }
-    ensures why { IfErr result (λ why. why ≢ NoMemory → IsNoBatch
+    ensures why { IfErr result (λ why. why ≢ NoMemory → why ≢ OriginDisagrees → IsNoBatch
         (kinds replica.old.query.columns) origin.now number.now told (map fields_of rows.now)
         why) }
+    ensures other { IfErr result (λ why. why ≡ OriginDisagrees → IsOtherBatch origin.now number.now
+        told (map fields_of rows.now) replica.old) }
 {
     let schema = replica.query().schema();
     let batch = build_batch(alloc, schema, origin, number, told, rows)?;
     match replica.deliver(batch) {
         Ok(delivered) => Ok(delivered),
-        Err(_) => Err(Refusal::NoMemory),
+        Err(refused) => Err(delivery_refusal(refused.why)),
+    }
+}
+
+/// The refusal of a batch that was delivered.
+fn delivery_refusal(why: JoinError) -> Refusal
+    ensures { result ≡ delivery_refusal why }
+{
+    match why {
+        JoinError::NoMemory => Refusal::NoMemory,
+        JoinError::OriginDisagrees => Refusal::OriginDisagrees,
     }
 }
 
@@ -100,7 +113,7 @@ fn read_query(alloc: Global, schema: &Schema, text: &str) -> Result<(Query, Stri
 /// A replica that knows nothing, behind a copy of its name.
 fn new_replica(alloc: Global, name: &[u8], query: &Query) -> Result<(Vec<u8>, Replica), AllocError>
     ensures { IfOk result (λ made. (made.0.items ≡ name.now)
-        × (made.1 ≡ record { query = query.now; kept = [] })) }
+        × (made.1 ≡ record { query = query.now; parts = [] })) }
 {
     let query = query.try_clone()?;
     let key = name.to_vec(alloc)?;
@@ -109,7 +122,7 @@ fn new_replica(alloc: Global, name: &[u8], query: &Query) -> Result<(Vec<u8>, Re
 
 /// The lines of what a replica knows.
 fn known_of_replica(alloc: Global, replica: &Replica) -> Result<Vec<u8>, AllocError>
-    ensures { IfOk result (λ lines. lines.items ≡ known_text (known_list (told replica.now.kept))) }
+    ensures { IfOk result (λ lines. lines.items ≡ known_text (known_list (told replica.now.parts))) }
 {
     let list = replica.known()?;
     known_lines(alloc, &list)
@@ -118,9 +131,9 @@ fn known_of_replica(alloc: Global, replica: &Replica) -> Result<Vec<u8>, AllocEr
 /// How many rows a replica's answer has, and its table.
 fn answer_of_replica(alloc: Global, replica: &Replica) -> Result<(usize, Vec<u8>), AllocError>
     ensures { IfOk result (λ found. (world : World) → IsWorld (kinds replica.now.query.columns) world
-        → Fits world replica.now.kept → (found.0 ≡ length (answer (meaning replica.now.query) world
-        (told replica.now.kept))) × (found.1.items ≡ table_text (headers replica.now.query) (answer
-        (meaning replica.now.query) world (told replica.now.kept)))) }
+        → Fits world replica.now → (found.0 ≡ length (answer (meaning replica.now.query) world
+        (told replica.now.parts))) × (found.1.items ≡ table_text (headers replica.now.query) (answer
+        (meaning replica.now.query) world (told replica.now.parts)))) }
 {
     let answer = replica.answer()?;
     let table = print_csv(alloc, replica.query(), &answer)?;
@@ -245,6 +258,43 @@ impl Session {
         }
     }
 
+    /// What two replicas hold together, aside from both.
+    fn join(&self, into: &[u8], from: &[u8]) -> Result<Joined, Refusal>
+        ensures { JoinsNames self.now into.now from.now result }
+    {
+        let Some(own) = self.replicas.get(into) else {
+            return Err(Refusal::NoSuchName);
+        };
+        let Some(theirs) = self.replicas.get(from) else {
+            return Err(Refusal::NoSuchName);
+        };
+        match own.join(theirs) {
+            Ok(joined) => Ok(joined),
+            Err(MergeError::NoMemory) => Err(Refusal::NoMemory),
+            Err(MergeError::OriginDisagrees) => Err(Refusal::OriginDisagrees),
+            // All replicas have the query that was told.
+            Err(MergeError::DifferentQuery) => unreachable!(),
+        }
+    }
+
+    /// Answers `merge`.
+    fn merge(&mut self, into: &[u8], from: &[u8]) -> Reply<'static>
+        ensures { (owned : List Record) → Steps (ask.Merge into.now from.now) owned self.old result
+            self.new }
+    {
+        let joined = match self.join(into, from) {
+            Ok(joined) => joined,
+            Err(why) => return Reply::Refused(why),
+        };
+        match self.replicas.get_mut(into) {
+            Some(replica) => {
+                replica.commit(joined);
+                Reply::Merged
+            }
+            None => unreachable!(),
+        }
+    }
+
     /// Answers a command.
     pub(crate) fn execute<'c>(&mut self, command: &'c Command) -> Reply<'c>
         ensures { Steps (request_of (fields_of command.now.head))
@@ -262,6 +312,7 @@ impl Session {
             } => self.feed(name, origin, number, told, &command.owned),
             Request::Known(name) => self.known(name),
             Request::Answer(name) => self.answer(name),
+            Request::Merge { into, from } => self.merge(into, from),
             Request::Unknown => Reply::Refused(Refusal::BadCommand),
         }
     }

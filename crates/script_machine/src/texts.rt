@@ -1,7 +1,7 @@
 //! The text of long replies, made in memory before they are written.
 
 ghost use Rattle.std.specs.Prelude.{◌≡◌, ◌++◌, map, flat_map, decimal, IfOk, OnOk};
-ghost use Rattle.replica_merge.specs.Kept.{known_of};
+ghost use Rattle.replica_merge.specs.Replicas.{known_of};
 ghost use Rattle.script_machine.specs.Text.{early_text, number_text, origin_text, known_text};
 
 use itoa::Buffer;

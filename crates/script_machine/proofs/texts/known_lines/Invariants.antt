@@ -1,5 +1,5 @@
 use Rattle.std.proofs.Common.{◌≡◌, ◌++◌, flat_map, map, take, length, codes, decimal}
-use Rattle.replica_merge.specs.Kept.{known_of}
+use Rattle.replica_merge.specs.Replicas.{known_of}
 use Rattle.script_machine.specs.Text.{line, origin_text}
 use Rattle.script_machine.proofs.texts.known_lines.Given as goal
 

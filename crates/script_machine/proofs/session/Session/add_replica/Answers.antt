@@ -6,7 +6,7 @@ use Rattle.std.specs.Prelude.{ℕ}
 use Rattle.std.specs.Str.{bytes_eq}
 use Rattle.std.specs.HashMap.{UpdatesBy}
 use Rattle.script_commands.specs.Commands as ask
-use Rattle.replica_merge.specs.Kept.{Held}
+use Rattle.replica_merge.specs.Replicas.{Held}
 use Rattle.script_machine.specs.Views.{Store, Steps}
 use Rattle.script_machine.specs.declared.refusal.Refusal.TheVariants as why
 use Rattle.script_machine.specs.declared.reply.Reply.TheVariants as says
@@ -28,7 +28,7 @@ returns-in_default-new_replica c = λ owned. out_of_memory (ask.Replica c.args.n
 
 pub invariant_of-self : goal.invariant_of-self
 invariant_of-self c =
-    let held : Held = record { query = c.in-Some.query; kept = [] } in
+    let held : Held = record { query = c.in-Some.query; parts = [] } in
     let same_key : c.in-Ok.made.0.items ≡ c.args.name.now = c.in-Ok.ensures.0 in
     let cloned : c.in-Ok.made.1 ≡ held = c.in-Ok.ensures.1 in
     let u : UpdatesBy (λ (x y : Vec ℕ Global). bytes_eq x.items y.items) (λ (k : Vec ℕ Global). bytes_eq c.args.name.now k.items) c.self.inside.replicas c.insert.new.self (Some held) =
@@ -39,7 +39,7 @@ invariant_of-self c =
 
 pub returns-in-Ok-insert : goal.returns-in-Ok-insert
 returns-in-Ok-insert c = λ owned.
-    let held : Held = record { query = c.in-Some.query; kept = [] } in
+    let held : Held = record { query = c.in-Some.query; parts = [] } in
     let old : Store = record { columns = c.self.inside.columns; query = c.self.inside.query; replicas = c.self.inside.replicas.entries } in
     let new : Store = record { columns = c.self.inside.columns; query = c.self.inside.query; replicas = c.insert.new.self.entries } in
     let same_key : c.in-Ok.made.0.items ≡ c.args.name.now = c.in-Ok.ensures.0 in

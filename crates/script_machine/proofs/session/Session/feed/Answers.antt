@@ -1,12 +1,12 @@
 use Rattle.std.specs.Prelude.{Some, map}
-use Rattle.std.proofs.Common.{◌∙◌, ap, sym, subst}
+use Rattle.std.proofs.Common.{◌∙◌, ap, sym, subst, inl, inr}
 use Rattle.std.specs.Option.{is_some}
 use Rattle.csv.specs.Records.{fields_of}
 use Rattle.script_commands.specs.Commands as ask
 use Rattle.script_machine.specs.Views.{Store, Steps, Updates}
 use Rattle.script_machine.specs.declared.refusal.Refusal.TheVariants as why
 use Rattle.script_machine.specs.declared.reply.Reply.TheVariants as says
-use Rattle.script_machine.proofs.StoreLaws.{feed_nowhere, feed_refused, feed_took, held_asks, same_updated, store_updated, updated}
+use Rattle.script_machine.proofs.StoreLaws.{disagrees_or, feed_disagrees, feed_nowhere, feed_refused, feed_took, held_asks, same_updated, store_updated, updated}
 use Rattle.script_machine.proofs.session.Session.feed.Goals as goal
 use Rattle.script_machine.proofs.session.Session.feed.Goals.{in-Ok, in-Err}
 
@@ -47,6 +47,12 @@ returns c =
           c.self.invariant there w.in-Ok.ensures.took u))
       | in-Err w ↦ rw w.result-is
           (subst (λ s. Steps request owned s (says.Refused w.in-Err.why) new) c.self.view_is
-          (feed_refused old new c.args.name.now c.args.origin.now c.args.number.now c.args.told owned c.in-Some.replica.now w.in-Err.why
-          c.self.invariant there (same_updated old new c.args.name.now c.in-Some.replica.now (subst (Updates old new c.args.name.now) w.in-Err.ensures.same u) there) w.in-Err.ensures.why))
+          (elim (disagrees_or w.in-Err.why) [
+            | inl is ↦ subst (λ why'. Steps request owned old (says.Refused why') new) (sym is)
+                (feed_disagrees old new c.args.name.now c.args.origin.now c.args.number.now c.args.told owned c.in-Some.replica.now
+                c.self.invariant there (same_updated old new c.args.name.now c.in-Some.replica.now (subst (Updates old new c.args.name.now) w.in-Err.ensures.same u) there) (w.in-Err.ensures.other is))
+            | inr agreed ↦
+                feed_refused old new c.args.name.now c.args.origin.now c.args.number.now c.args.told owned c.in-Some.replica.now w.in-Err.why
+                c.self.invariant there (same_updated old new c.args.name.now c.in-Some.replica.now (subst (Updates old new c.args.name.now) w.in-Err.ensures.same u) there) agreed w.in-Err.ensures.why
+          ]))
     ]

@@ -1,0 +1,45 @@
+use Rattle.std.specs.Prelude.{◌≡◌, List, ℕ, Some}
+use Rattle.std.proofs.Common.{◌∙◌, ap, sym, subst}
+use Rattle.std.specs.Option.{is_some}
+use Rattle.grouping_model.specs.World.{World}
+use Rattle.having_filter.specs.Meaning.{Checked}
+use Rattle.replica_merge.specs.Replicas.{Parts, Held, Fits}
+use Rattle.script_commands.specs.Commands as ask
+use Rattle.script_io.specs.Records.{Record}
+use Rattle.script_machine.specs.Views.{Store, Steps, Updates, JoinsHeld, replica_at}
+use Rattle.script_machine.specs.declared.reply.Reply.TheVariants as says
+use Rattle.script_machine.proofs.StoreLaws.{held_asks, merge_refused, merged, one_query, one_there, store_updated, updated}
+use Rattle.script_machine.proofs.session.Session.merge.Goals as goal
+
+pub returns-in-Err : goal.returns-in-Err
+returns-in-Err c = λ owned. merge_refused c.args.self.now c.args.into.now c.args.from.now owned c.in-Err.why c.in-Err.ensures
+
+pub invariant_of-self : goal.invariant_of-self
+invariant_of-self c =
+    let there = sym c.in-Some.ensures.value in
+    let old : Store = record { columns = c.self.inside.columns; query = c.self.inside.query; replicas = c.self.inside.replicas.entries } in
+    let asks = held_asks old c.args.into.now c.in-Some.replica.now c.self.invariant there in
+    store_updated old _ c.args.into.now c.commit.new.self
+    (updated c.self.inside.columns c.self.inside.query c.args.into.now c.commit.new.self c.self.inside.replicas (c.get_mut.follows.lender c.commit.new.self)
+    ((c.get_mut.follows.holds c.commit.new.self).3 (ap is_some there)))
+    (asks.0 ∙ ap Some (sym c.commit.ensures.query)) c.self.invariant
+
+pub returns : goal.returns
+returns c = λ owned.
+    let request = ask.Merge c.args.into.now c.args.from.now in
+    let there = sym c.in-Some.ensures.value in
+    let old : Store = record { columns = c.self.inside.columns; query = c.self.inside.query; replicas = c.self.inside.replicas.entries } in
+    let new : Store = record { columns = c.self.inside.columns; query = c.self.inside.query; replicas = (c.get_mut.follows.lender c.commit.new.self).entries } in
+    let u : Updates old new c.args.into.now c.commit.new.self =
+    updated c.self.inside.columns c.self.inside.query c.args.into.now c.commit.new.self c.self.inside.replicas (c.get_mut.follows.lender c.commit.new.self)
+    ((c.get_mut.follows.holds c.commit.new.self).3 (ap is_some there)) in
+    let found = subst (λ (s : Store). (own theirs : Held) × (replica_at s c.args.into.now ≡ Some own) × (replica_at s c.args.from.now ≡ Some theirs) × JoinsHeld own theirs c.in-Ok.joined) (sym c.self.view_is) c.in-Ok.ensures in
+    let own : Held = c.in-Some.replica.now in
+    let theirs : Held = found.1 in
+    let joins : JoinsHeld own theirs c.in-Ok.joined = subst (λ (h : Held). JoinsHeld h theirs c.in-Ok.joined) (one_there found.0 own found.2 there) found.4 in
+    let same : own.query ≡ theirs.query = one_query old c.args.into.now c.args.from.now own theirs c.self.invariant there found.3 in
+    subst (λ (s : Store). Steps request owned s says.Merged new) c.self.view_is
+    (merged old new c.args.into.now c.args.from.now owned own theirs c.commit.new.self c.self.invariant there found.3
+    (c.commit.ensures.told theirs.parts joins.held joins.aside)
+    (λ world is fits fits_theirs. c.commit.ensures.fits theirs.parts joins.held joins.aside world is fits (subst (λ (q : Checked). Fits world (record { query = q; parts = theirs.parts })) (sym same) fits_theirs))
+    u)
