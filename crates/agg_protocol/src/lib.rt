@@ -38,6 +38,22 @@ pub enum ResultValue<'a> {
     Text(&'a str),
 }
 
+/// A value as it stands beside answers.
+impl<'a> From<Value<'a>> for ResultValue<'a> {
+    ghost use Rattle.grouping_model.specs.Aggregates.{Plain};
+
+    ghost from_gives = { λ value found. outcome_of found ≡ Plain (datum_of value) };
+
+    fn from(value: Value<'a>) -> ResultValue<'a> {
+        match value {
+            Value::Null => ResultValue::Null,
+            Value::Bigint(number) => ResultValue::Bigint(number),
+            Value::Boolean(truth) => ResultValue::Boolean(truth),
+            Value::Text(text) => ResultValue::Text(text),
+        }
+    }
+}
+
 /// An aggregate function, by the protocol of PostgreSQL 17's `CREATE AGGREGATE` (36.12 User-Defined Aggregates).
 ///
 /// A state denotes what the function knows of some list of arguments, and counts at most 2^62 - 1 rows. No call takes

@@ -9,8 +9,8 @@ use Rattle.grouping_model.proofs.Members.{false_is_not_true}
 use Rattle.std.specs.Cmp.{IsTotalOrder}
 use Rattle.std.specs.FinMap.{nat_cmp-IsAntisymmetric, slice_cmp-IsAntisymmetric}
 use Rattle.std.proofs.lemmas.List.Folds.{drop_split}
-use Rattle.std.proofs.lemmas.List.{take-append-drop, length-take}
-use Rattle.std.proofs.Math.Seq.{take-add}
+use Rattle.std.proofs.lemmas.List.{take-append-drop, length-append, length-take}
+use Rattle.std.proofs.Math.Seq.{take-add, take-append_seam}
 use Rattle.std.specs.Cmp.Lexicographic.{slice_cmp, on_texts}
 use Rattle.std.specs.List.{AllByRecursion}
 use Rattle.std.specs.List.Sorted.{IsStrictlySortedBy}
@@ -26,6 +26,10 @@ key_total = on_texts (λ (key : List ℕ). key)
 all_front : {X : Type 0} (P : X → Type 0) (xs ys : List X) → AllByRecursion P (xs ++ ys) → AllByRecursion P xs
 all_front P [] ys all = tt
 all_front P (x ∷ xs) ys (p, all) = (p, all_front P xs ys all)
+
+pub all_both : {X : Type 0} (P : X → Type 0) (xs ys : List X) → AllByRecursion P xs → AllByRecursion P ys → AllByRecursion P (xs ++ ys)
+all_both P [] ys all more = more
+all_both P (x ∷ xs) ys (p, all) more = (p, all_both P xs ys all more)
 
 pub all_drop : {X : Type 0} (P : X → Type 0) (n : ℕ) (xs : List X) → AllByRecursion P xs → AllByRecursion P (drop n xs)
 all_drop P zero xs all = all
@@ -136,13 +140,15 @@ place_has (e ∷ run) key (suc place) zero (above, rises) below high at =
     let same : e.0 ≡ key = cc in absurd (not_itself key (subst (λ k. slice_cmp nat_cmp k key ≡ Less) same below.0))
 place_has (e ∷ run) key (suc place) (suc i) (above, rises) below high at = place_has run key place i rises below.1 high at
 
-pub found_place : (run : List Entry) (key : List ℕ) (place : ℕ) → Rises run → IsPlaceOf run 0 key place → HasKey run key → HasKeyAt run place key
-found_place run key place rises is has =
-    let whole : place - 0 ≡ place = omega arith in
-    place_has run key place has.0 rises (subst (λ n. AllBelow key (take n run)) whole is.below) is.not_below has.1
+-- those before the place of a key, where those before a place are below it
+pub below_front : (run : List Entry) (from : ℕ) (key : List ℕ) (place : ℕ) → AllBelow key (take from run) → IsPlaceOf run from key place → AllBelow key (take place run)
+below_front run from key place below is =
+    let low = is.behind in
+    let whole : place ≡ from + (place - from) = omega (arith, low) in
+    subst (AllBelow key) (sym (ap (λ n. take n run) whole ∙ take-add from (place - from) run)) (all_both (IsBelow key) (take from run) (slice_range run from place) below is.below)
 
-pub below_front : (run : List Entry) (key : List ℕ) (place : ℕ) → IsPlaceOf run 0 key place → AllBelow key (take place run)
-below_front run key place is = let whole : place - 0 ≡ place = omega arith in subst (λ n. AllBelow key (take n run)) whole is.below
+pub found_place : (run : List Entry) (from : ℕ) (key : List ℕ) (place : ℕ) → Rises run → AllBelow key (take from run) → IsPlaceOf run from key place → HasKey run key → HasKeyAt run place key
+found_place run from key place rises below is has = place_has run key place has.0 rises (below_front run from key place below is) is.not_below has.1
 
 -- ---- a key that is not there
 
@@ -184,10 +190,6 @@ rises_between (e ∷ front) back key states (over, rises) (low, below) above = (
 
 -- ---- what is done of a merge, and what is left
 
-pub all_both : {X : Type 0} (P : X → Type 0) (xs ys : List X) → AllByRecursion P xs → AllByRecursion P ys → AllByRecursion P (xs ++ ys)
-all_both P [] ys all more = more
-all_both P (x ∷ xs) ys (p, all) more = (p, all_both P xs ys all more)
-
 pub all_mapped : {X : Type 0} (P Q : X → Type 0) (xs : List X) → ((x : X) → P x → Q x) → AllByRecursion P xs → AllByRecursion Q xs
 all_mapped P Q [] gives all = tt
 all_mapped P Q (x ∷ xs) gives (p, all) = (gives x p, all_mapped P Q xs gives all)
@@ -196,6 +198,28 @@ all_mapped P Q (x ∷ xs) gives (p, all) = (gives x p, all_mapped P Q xs gives a
 pub some_moved : (done old : List Entry) (from place : ℕ) → from ≤ place → done ++ drop from old ≡ (done ++ slice_range old from place) ++ drop place old
 some_moved done old from place low = ap (λ es. done ++ es) (drop_split old from place low) ∙ sym (append_assoc done (slice_range old from place) (drop place old))
 
+drop_none : {X : Type 0} (n : ℕ) → drop {A = X} n [] ≡ []
+drop_none zero = refl
+drop_none (suc n) = refl
+
+dropped_twice : {X : Type 0} (m n : ℕ) (xs : List X) → drop n (drop m xs) ≡ drop (m + n) xs
+dropped_twice zero n xs = let same : 0 + n ≡ n = omega arith in ap (λ k. drop k xs) (sym same)
+dropped_twice (suc m) n [] = drop_none n ∙ sym (drop_none (suc m + n))
+dropped_twice (suc m) n (x ∷ xs) = let same : suc (m + n) ≡ suc m + n = omega arith in dropped_twice m n xs ∙ ap (λ k. drop k (x ∷ xs)) same
+
+-- a range in two parts
+pub range_parts : {X : Type 0} (xs : List X) (from low place : ℕ) → from ≤ low → low ≤ place → slice_range xs from place ≡ slice_range xs from low ++ slice_range xs low place
+range_parts xs from low place first second =
+    let long : place - from ≡ low - from + (place - low) = omega (arith, first, second) in
+    let there : from + (low - from) ≡ low = omega (arith, first) in
+    ap (λ n. take n (drop from xs)) long
+    ∙ take-add (low - from) (place - low) (drop from xs)
+    ∙ ap (λ es. slice_range xs from low ++ take (place - low) es) (dropped_twice from (low - from) xs ∙ ap (λ n. drop n xs) there)
+
+-- nothing lies between a place and itself
+pub range_none : {X : Type 0} (xs : List X) (n : ℕ) → slice_range xs n n ≡ []
+range_none xs n = let none : n - n ≡ 0 = omega arith in ap (λ k. take k (drop n xs)) none
+
 pub range_more : {X : Type 0} (xs : List X) (from place : ℕ) (x : X) → from ≤ place → drop place xs ≡ x ∷ drop (place + 1) xs → slice_range xs from (place + 1) ≡ slice_range xs from place ++ x ∷ []
 range_more {X = X} xs from place x low left =
     let long : place + 1 - from ≡ place - from + 1 = omega (arith, low) in
@@ -203,15 +227,6 @@ range_more {X = X} xs from place x low left =
     ap (λ n. take n (drop from xs)) long
     ∙ take-add (place - from) 1 (drop from xs)
     ∙ ap (λ es. slice_range xs from place ++ take 1 es) (dropped_twice from (place - from) xs ∙ ap (λ n. drop n xs) (sym there) ∙ left)
-  where
-    drop_none : (n : ℕ) → drop {A = X} n [] ≡ []
-    drop_none zero = refl
-    drop_none (suc n) = refl
-
-    dropped_twice : (m n : ℕ) (xs : List X) → drop n (drop m xs) ≡ drop (m + n) xs
-    dropped_twice zero n xs = let same : 0 + n ≡ n = omega arith in ap (λ k. drop k xs) (sym same)
-    dropped_twice (suc m) n [] = drop_none n ∙ sym (drop_none (suc m + n))
-    dropped_twice (suc m) n (x ∷ xs) = let same : suc (m + n) ≡ suc m + n = omega arith in dropped_twice m n xs ∙ ap (λ k. drop k (x ∷ xs)) same
 
 -- what is up to a key is below a higher one
 up_to_below : (key higher : List ℕ) (e : Entry) → slice_cmp nat_cmp key higher ≡ Less → slice_cmp nat_cmp e.0 key ≢ Greater → IsBelow higher e
@@ -278,3 +293,11 @@ passes done old from place key rises below is none =
       below = all_both (IsBelow key) done (slice_range old from place) below is.below;
       above = above_from old place key rises is.not_below none;
     }
+
+-- those before a key and it
+pub up_to_here : (front back : List Entry) (key states : List ℕ) (place : ℕ) → length front ≡ place → AllBelow key front → AreUpTo key (take (place + 1) (front ++ (key, states) ∷ back))
+up_to_here front back key states place long below =
+    let some : List Entry = front ++ (key, states) ∷ [] in
+    let more : place + 1 ≡ length some = let both = length-append front ((key, states) ∷ []) in omega (arith, both, long) in
+    subst (AreUpTo key) (sym ((λ i. take (more i) (sym (append_assoc front ((key, states) ∷ []) back) i)) ∙ take-append_seam some back))
+    (all_both (λ (e : Entry). slice_cmp nat_cmp e.0 key ≢ Greater) front ((key, states) ∷ []) (below_up_to key front below) (itself_up_to key, tt))

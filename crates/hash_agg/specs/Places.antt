@@ -34,6 +34,15 @@ pub record IsPlaceOf (run : List Entry) (from : ℕ) (key : List ℕ) (place : �
   pub below : AllBelow key (slice_range run from place)
   pub not_below : AllByRecursion (IsNotBelow key) (drop place run)
 
+-- two places between which the place of a key lies: groups below it stand from a place up to the first of them, and from the
+-- second on none is below
+pub record IsBetween (run : List Entry) (from low high : ℕ) (key : List ℕ) : Type 0 where
+  pub behind : from ≤ low
+  pub order : low ≤ high
+  pub within : high ≤ length run
+  pub below : AllBelow key (slice_range run from low)
+  pub not_below : AllByRecursion (IsNotBelow key) (drop high run)
+
 -- a run has a key; it has it at a place
 abbrev pub HasKey : List Entry → List ℕ → Type 0
 HasKey run key = (i : ℕ) × (slice_get (packed_keys run) i ≡ Some key)

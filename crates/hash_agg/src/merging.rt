@@ -1,10 +1,10 @@
 //! Merging runs.
 
-ghost use Rattle.std.specs.Prelude.{◌≡◌, ◌+◌, ◌^◌, ◌<◌, ◌≤◌, ◌++◌, ◌↔◌, IfOk, IsTrue, OnOk, OnErr, length, drop};
+ghost use Rattle.std.specs.Prelude.{◌≡◌, ◌+◌, ◌^◌, ◌<◌, ◌≤◌, ◌++◌, ◌↔◌, IfOk, IsTrue, OnOk, OnErr, length, take, drop};
 ghost use Rattle.std.specs.List.{AllByRecursion};
 ghost use Rattle.having_filter.specs.Meaning.{meaning};
 ghost use Rattle.hash_agg.specs.Runs.{Rises, packed_keys};
-ghost use Rattle.hash_agg.specs.Places.{AllBelow, AreUpTo, HasKey, HasKeyAt, IsPlaceOf};
+ghost use Rattle.hash_agg.specs.Places.{AllBelow, AreUpTo, HasKey, HasKeyAt, IsBetween, IsPlaceOf};
 ghost use Rattle.hash_agg.specs.Steps.{HasRoomForGroup, AddsGroup, HasRoomForRun, AddsRun};
 
 use crate::run::Run;
@@ -12,15 +12,16 @@ use having_filter::Query;
 use std::alloc::{AllocError, Global};
 
 impl Run {
-    /// The place of a key among the groups from a place on: that of the first one whose key is not below it.
-    fn seek(&self, from: usize, key: &[u8]) -> usize
-        requires { from ≤ length self.now }
+    /// The place of a key among the groups from one place to another, from where on none is below the key.
+    fn bisect(&self, from: usize, to: usize, key: &[u8]) -> usize
+        requires { IsBetween self.now from from to key.now }
         ensures place { IsPlaceOf self.now from key.now result }
         ensures rises { Rises self.now }
         ensures few { length self.now < 2 ^ 64 }
     {
+        let _count = self.len();
         let mut low = from;
-        let mut high = self.len();
+        let mut high = to;
         while low < high {
             let middle = low + (high - low) / 2;
             if self.group(middle).0.cmp(key).is_lt() {
@@ -30,6 +31,36 @@ impl Run {
             }
         }
         low
+    }
+
+    /// Two places between which the place of a key lies, found by steps that double, so that what is near is found soon.
+    fn reach(&self, from: usize, key: &[u8]) -> (usize, usize)
+        requires { from ≤ length self.now }
+        ensures { IsBetween self.now from result.0 result.1 key.now }
+    {
+        let count = self.len();
+        let mut low = from;
+        let mut step: usize = 1;
+        while step <= count - low {
+            let last = low + (step - 1);
+            if !self.group(last).0.cmp(key).is_lt() {
+                return (low, last);
+            }
+            low = last + 1;
+            step = step.saturating_mul(2);
+        }
+        (low, count)
+    }
+
+    /// The place of a key among the groups from a place on: that of the first one whose key is not below it.
+    fn seek(&self, from: usize, key: &[u8]) -> usize
+        requires { from ≤ length self.now }
+        ensures place { IsPlaceOf self.now from key.now result }
+        ensures rises { Rises self.now }
+        ensures few { length self.now < 2 ^ 64 }
+    {
+        let (low, high) = self.reach(from, key);
+        self.bisect(low, high, key)
     }
 
     /// Whether the group at a place is there and has a key.
@@ -54,15 +85,21 @@ impl Run {
         true
     }
 
-    /// Combines the states of a key that is there with others.
-    fn combine_group(&mut self, query: &Query, key: &[u8], states: &[u8])
+    /// Combines the states of a key that is there with others. It stands behind `from` groups at least, and the result is how many
+    /// there are up to it.
+    fn combine_group(&mut self, query: &Query, from: usize, key: &[u8], states: &[u8]) -> usize
         requires there { HasKey self.old key.now }
+        requires within { from ≤ length self.old }
+        requires below { AllBelow key.now (take from self.old) }
         requires room { HasRoomForGroup (meaning query.now) self.old (key.now, states.now) }
         ensures added { AddsGroup (meaning query.now) self.old (key.now, states.now) self.new }
         ensures keys { packed_keys self.new ≡ packed_keys self.old }
+        ensures within { result ≤ length self.new }
+        ensures up_to { AreUpTo key.now (take result self.new) }
     {
-        let place = self.seek(0, key);
+        let place = self.seek(from, key);
         self.combine_at(query, place, states);
+        place + 1
     }
 
     /// Combines the groups with those of another run, all of whose keys are there.
@@ -71,9 +108,10 @@ impl Run {
         requires room { HasRoomForRun (meaning query.now) self.old more.now }
         ensures { AddsRun (meaning query.now) self.old more.now self.new }
     {
+        let mut from = 0;
         for place in 0..more.len() {
             let (key, states) = more.group(place);
-            self.combine_group(query, key, states);
+            from = self.combine_group(query, from, key, states);
         }
     }
 

@@ -35,6 +35,13 @@ impl Model for Run {
     ghost invariant = { λ r. AreRun r.keys.items r.states.items r.ends.items };
 }
 
+/// Room for so many and so many. It is rounded up, so that a run which grows little by little asks for blocks of few sizes, and
+/// an allocator can give it those that it gave back.
+fn room_for(one: usize, other: usize) -> usize {
+    let both = one.saturating_add(other);
+    both.checked_next_power_of_two().unwrap_or(both)
+}
+
 /// Where the first groups, so many of them, end.
 fn bound(ends: &[(usize, usize)], groups: usize) -> (usize, usize)
     requires { groups ≤ length ends.now }
@@ -173,9 +180,9 @@ impl Run {
     {
         Run::with_capacity(
             alloc,
-            one.ends.len().saturating_add(other.ends.len()),
-            one.keys.len().saturating_add(other.keys.len()),
-            one.states.len().saturating_add(other.states.len()),
+            room_for(one.ends.len(), other.ends.len()),
+            room_for(one.keys.len(), other.keys.len()),
+            room_for(one.states.len(), other.states.len()),
         )
     }
 

@@ -5,7 +5,7 @@ ghost use Rattle.grouping_model.specs.Datum.{Null};
 ghost use Rattle.grouping_model.specs.Aggregates.{Plain};
 ghost use Rattle.grouping_model.specs.Condition.{At, value_of, is_met, is_true};
 ghost use Rattle.grouping_model.specs.Grouping.{column_of};
-ghost use Rattle.packed_rows.specs.View.{datum_of, row_of};
+ghost use Rattle.packed_rows.specs.View.{row_of};
 ghost use Rattle.agg_protocol.specs.Results.{outcome_of};
 ghost use Rattle.having_filter.specs.Forms.{Column, form_of, call_form};
 ghost use Rattle.having_filter.specs.Truths.{truth_of};
@@ -44,20 +44,8 @@ fn column_value<'a>(row: &'a [Value<'a>], place: usize) -> ResultValue<'a>
     ensures { outcome_of result ≡ column_of (row_of row.now) place }
 {
     match row.get(place) {
-        Some(value) => as_result(*value),
+        Some(value) => ResultValue::from(*value),
         None => ResultValue::Null,
-    }
-}
-
-/// A value as a result.
-fn as_result(value: Value<'_>) -> ResultValue<'_>
-    ensures { outcome_of result ≡ Plain (datum_of value.entry) }
-{
-    match value {
-        Value::Null => ResultValue::Null,
-        Value::Bigint(number) => ResultValue::Bigint(number),
-        Value::Boolean(truth) => ResultValue::Boolean(truth),
-        Value::Text(text) => ResultValue::Text(text),
     }
 }
 

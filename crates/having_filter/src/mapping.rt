@@ -1,6 +1,6 @@
 //! Conditions over other columns.
 
-ghost use Rattle.std.specs.Prelude.{◌≡◌, Option, option_map, IfOk};
+ghost use Rattle.std.specs.Prelude.{◌≡◌, Option, option_map, IfOk, Ok};
 ghost use Rattle.having_filter.specs.Forms.{Form, form_of, call_form, item_form, exchanged, map_reads};
 
 use crate::condition::{AggCall, Cond, Item};
@@ -21,6 +21,16 @@ pub(crate) trait Mapping<C, D> {
     /// The column that a call becomes, if it doesn't stay a call.
     fn call(&self, call: &AggCall<C>) -> Option<D>
         ensures { result ≡ call_as self.now (call_form call.now) };
+}
+
+/// Two operands, if there was memory for both.
+fn both<D: Drop>(
+    left: Result<Box<Cond<D>>, AllocError>,
+    right: Result<Box<Cond<D>>, AllocError>,
+) -> Result<(Box<Cond<D>>, Box<Cond<D>>), AllocError>
+    ensures { IfOk result (λ made. (left ≡ Ok made.0) × (right ≡ Ok made.1)) }
+{
+    Ok((left?, right?))
 }
 
 /// A call over other columns.
@@ -73,16 +83,16 @@ pub(crate) fn mapped<C, D: Drop, M: Mapping<C, D>>(
         Cond::Null => Ok(Cond::Null),
         Cond::Not(c) => Ok(Cond::Not(boxed(alloc, mapping, c)?)),
         Cond::Or(c, d) => {
-            let c = boxed(alloc, mapping, c)?;
-            Ok(Cond::Or(c, boxed(alloc, mapping, d)?))
+            let (c, d) = both(boxed(alloc, mapping, c), boxed(alloc, mapping, d))?;
+            Ok(Cond::Or(c, d))
         }
         Cond::And(c, d) => {
-            let c = boxed(alloc, mapping, c)?;
-            Ok(Cond::And(c, boxed(alloc, mapping, d)?))
+            let (c, d) = both(boxed(alloc, mapping, c), boxed(alloc, mapping, d))?;
+            Ok(Cond::And(c, d))
         }
         Cond::Compare(comparison, c, d) => {
-            let c = boxed(alloc, mapping, c)?;
-            Ok(Cond::Compare(*comparison, c, boxed(alloc, mapping, d)?))
+            let (c, d) = both(boxed(alloc, mapping, c), boxed(alloc, mapping, d))?;
+            Ok(Cond::Compare(*comparison, c, d))
         }
         Cond::Is {
             test,

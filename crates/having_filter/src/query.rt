@@ -1,6 +1,6 @@
 //! Queries that were checked.
 
-ghost use Rattle.std.specs.Prelude.{◌≡◌, ◌≢◌, ◌==◌, ◌<◌, ◌↔◌, true, OnOk, IsTrue, List, map, length, option_map, IfOk, IfErr, Ok, Err, Some, slice_get, string_bytes};
+ghost use Rattle.std.specs.Prelude.{◌≡◌, ◌≢◌, ◌==◌, ◌<◌, ◌↔◌, true, false, OnOk, IsTrue, List, map, length, option_map, IfOk, IfErr, Ok, Err, Some, slice_get, string_bytes};
 ghost use Rattle.grouping_model.specs.Query.{Aggregate};
 ghost use Rattle.grouping_model.specs.Condition.{is_met};
 ghost use Rattle.grouping_model.specs.Grouping.{column_of};
@@ -11,11 +11,12 @@ ghost use Rattle.agg_library.specs.Kinds.{function_of};
 ghost use Rattle.having_filter.specs.declared.error.QueryError.TheVariants.{NoMemory};
 ghost use Rattle.having_filter.specs.Forms.{form_of, call_form, places_of, written_of};
 ghost use Rattle.having_filter.specs.Meaning.{Checked, meaning, distinct_calls};
-ghost use Rattle.having_filter.specs.Checks.{checked, checked_places, kinds_fit};
+ghost use Rattle.having_filter.specs.Reads.{filters_pass};
+ghost use Rattle.having_filter.specs.Checks.{all_of, has_too_many, is_shallow, are_shallow, has_columns, placed, checked, checked_places, kinds_fit};
 ghost use Rattle.having_filter.specs.Spelling.{spelling};
 ghost use Rattle.having_filter.specs.Writable.{IsWritable};
 ghost use Rattle.having_filter.specs.Kept.{IsQuery, by_names, headers, key_kinds, outcome_at};
-ghost use Rattle.having_filter.specs.Plans.{source_of};
+ghost use Rattle.having_filter.specs.Plans.{PlansFor, source_of};
 ghost use Rattle.having_filter.specs.Parts.{written_of_parts, checked_of};
 
 use crate::condition::{AggCall, Cond, Item, RawQuery};
@@ -80,6 +81,63 @@ fn check_parts(schema: &Schema, parts: &Parts) -> Result<(), QueryError>
     Ok(())
 }
 
+/// The canonical text of a query that keeps within the limits and whose columns are there: the first of these that it
+/// fails is told.
+#[tactic(auto, using(crate::proofs::CheckedLaws::gives_too_deep, crate::proofs::CheckedLaws::gives_no_column))]
+fn text_of_known(alloc: Global, schema: &Schema, raw: &RawQuery) -> Result<String, QueryError>
+    ensures text { IfOk result (λ text. string_bytes text ≡ spelling (written_of raw.now)) }
+    ensures few { OnOk result (has_too_many (written_of raw.now) ≡ false) }
+    ensures shallow { OnOk result (all_of (filters_pass is_shallow) are_shallow (written_of raw.now) ≡ true) }
+    ensures columns { OnOk result (has_columns schema.now (written_of raw.now) ≡ true) }
+    ensures refused { IfErr result (λ e. e ≢ NoMemory →
+        checked schema.now (written_of raw.now) ≡ Err e) }
+{
+    let canonical = text_within(alloc, raw)?;
+    if !is_shallow_query(raw) {
+        return Err(QueryError::TooDeep);
+    }
+    if !has_columns(schema, raw) {
+        return Err(QueryError::NoSuchColumn);
+    }
+    Ok(canonical)
+}
+
+/// The parts of a query over places, which all its columns have, with their plan, if they pass the checks over places.
+fn placed_with_plan(
+    alloc: Global,
+    schema: &Schema,
+    raw: &RawQuery,
+) -> Result<(Parts, Plan), QueryError>
+    ensures placed { IfOk result (λ made.
+        written_of_parts made.0 ≡ placed schema.now (written_of raw.now)) }
+    ensures fit { IfOk result (λ made.
+        kinds_fit (kinds schema.now) (written_of_parts made.0) ≡ true) }
+    ensures passed { IfOk result (λ made. checked_places schema.now (written_of_parts made.0)
+        ≡ Ok (checked_of schema.now made.0)) }
+    ensures plans { IfOk result (λ made. PlansFor (checked_of schema.now made.0) made.1) }
+    ensures refused { IfErr result (λ e. e ≢ NoMemory →
+        checked_places schema.now (placed schema.now (written_of raw.now)) ≡ Err e) }
+{
+    let parts = Parts::placed(alloc, schema, raw)?;
+    check_parts(schema, &parts)?;
+    let plan = Plan::new(alloc, schema, &parts)?;
+    Ok((parts, plan))
+}
+
+/// A copy of the parts of a query over places, with their plan.
+fn copied_with_plan(
+    alloc: Global,
+    schema: &Schema,
+    parts: &Parts,
+) -> Result<(Parts, Plan), AllocError>
+    ensures same { IfOk result (λ made. written_of_parts made.0 ≡ written_of_parts parts.now) }
+    ensures plans { IfOk result (λ made. PlansFor (checked_of schema.now made.0) made.1) }
+{
+    let parts = parts.try_clone(alloc)?;
+    let plan = Plan::new(alloc, schema, &parts)?;
+    Ok((parts, plan))
+}
+
 impl Query {
     /// The query that a text says, over the columns of a schema. A repeated column of GROUP BY counts once, and an alias
     /// that is the item's own name is as none.
@@ -97,22 +155,14 @@ impl Query {
         ensures refused { IfErr result (λ e. e ≢ NoMemory →
             checked schema.now (written_of raw.now) ≡ Err e) }
     {
-        let canonical = text_within(alloc, raw)?;
-        if !is_shallow_query(raw) {
-            return Err(QueryError::TooDeep);
-        }
-        if !has_columns(schema, raw) {
-            return Err(QueryError::NoSuchColumn);
-        }
-        let parts = Parts::placed(alloc, schema, raw)?;
-        check_parts(schema, &parts)?;
-        let plan = Plan::new(alloc, schema, &parts)?;
+        let canonical = text_of_known(alloc, schema, raw)?;
         let labels = labels_of(alloc, &raw.items)?;
-        let schema = schema.try_clone()?;
         let schema_text = schema.print()?;
+        let columns = schema.try_clone()?;
+        let (parts, plan) = placed_with_plan(alloc, schema, raw)?;
         Ok(Query {
             alloc,
-            schema,
+            schema: columns,
             schema_text,
             parts,
             canonical,
@@ -253,12 +303,11 @@ impl Query {
     pub fn try_clone(&self) -> Result<Query, AllocError>
         ensures { IfOk result (λ query. query ≡ self.now) }
     {
-        let schema = self.schema.try_clone()?;
-        let parts = self.parts.try_clone(self.alloc)?;
         let canonical = String::from_str(self.alloc, self.canonical.as_str())?;
         let labels = copied_texts(self.alloc, &self.labels)?;
-        let plan = Plan::new(self.alloc, &schema, &parts)?;
+        let schema = self.schema.try_clone()?;
         let schema_text = schema.print()?;
+        let (parts, plan) = copied_with_plan(self.alloc, &schema, &self.parts)?;
         Ok(Query {
             alloc: self.alloc,
             schema,

@@ -1,5 +1,5 @@
 -- What is held of one origin, and what becomes of it where batches follow its prefix. All of this is our own.
-use Rattle.std.specs.Prelude.{◌≡◌, ◌≢◌, ℕ, suc, ◌+◌, ◌*◌, ◌<◌, ◌≤◌, ◌==◌, ◌||◌, Bool, false, nat_le, List, [], ◌∷◌, map, take, drop, length, Option, Some, None, if◌then◌else◌, IsTrue}
+use Rattle.std.specs.Prelude.{◌≡◌, ◌≢◌, ℕ, suc, ◌+◌, ◌*◌, ◌<◌, ◌≤◌, ◌==◌, ◌||◌, ◌&&◌, Bool, false, nat_le, nat_eq, List, [], ◌∷◌, map, take, drop, length, Option, Some, None, if◌then◌else◌, IsTrue}
 use Rattle.std.specs.List.{AllByRecursion}
 use Rattle.std.specs.List.Sorted.{IsStrictlySortedBy}
 use Rattle.std.specs.Map.{lookup}
@@ -42,6 +42,10 @@ rows_at batches number = lookup (eq_by_cmp nat_cmp number) batches
 -- whether a number is at most the prefix or early
 abbrev pub knows_number : Part → ℕ → Bool
 knows_number part number = nat_le number part.prefix || is_some (rows_at part.early number)
+
+-- whether nothing is held
+abbrev pub is_nothing : Part → Bool
+is_nothing part = nat_eq part.prefix 0 && nat_eq (length part.early) 0
 
 -- a batch that may be early behind a prefix
 pub record IsEarly (kinds : List Kind) (prefix : ℕ) (batch : ℕ × List (List ℕ)) : Type 0 where

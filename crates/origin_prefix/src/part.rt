@@ -8,7 +8,7 @@ ghost use Rattle.hash_agg.specs.Inputs.{Packed, brought};
 ghost use Rattle.having_filter.specs.Meaning.{meaning};
 ghost use Rattle.packed_rows.specs.Columns.{kinds};
 ghost use Rattle.batch_reader.specs.Rows.{ArePackedRows};
-ghost use Rattle.origin_prefix.specs.Parts.{Part, empty, knows_number, IsOpen, IsPartOf, behind, following, rows_following, Folds, Settles, Delivers, Disagrees};
+ghost use Rattle.origin_prefix.specs.Parts.{Part, empty, is_nothing, knows_number, IsOpen, IsPartOf, behind, following, rows_following, Folds, Settles, Delivers, Disagrees};
 ghost use Rattle.origin_prefix.specs.declared.error.JoinError.TheVariants.{NoMemory, OriginDisagrees};
 ghost use Rattle.grouping_model.specs.declared.delivered.Delivered.TheVariants.{Early, Known};
 ghost use Rattle.std.specs.BTreeMap.{insert_entry};
@@ -174,6 +174,13 @@ impl OriginPart {
         ensures { result.now.entries ≡ self.now.early }
     {
         &self.early
+    }
+
+    /// Whether nothing is held.
+    pub fn is_empty(&self) -> bool
+        ensures { result ≡ is_nothing self.now }
+    {
+        self.prefix == 0 && self.early.len() == 0
     }
 
     /// Whether a number is at most the prefix, or early.

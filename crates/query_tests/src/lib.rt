@@ -1,12 +1,8 @@
-//! Tests of queries, from text to text, and of answers, by their crates' public calls alone. A test goes through the
-//! lines of a table: a case, and what is wanted of it behind ` => `.
+//! Tests of queries by what they tell of themselves, and of answers, by their crates' public calls alone. What queries
+//! answer, and why texts are refused, is tested by scripts.
 #![tactic(auto)]
 
 #[cfg(test)]
 mod answers;
 #[cfg(test)]
-mod conditions;
-#[cfg(test)]
 mod queries;
-#[cfg(test)]
-mod texts;

@@ -1,12 +1,13 @@
 ghost use Rattle.std.specs.Prelude.{◌<◌, length};
 
-use group_parser::parse;
+use group_parser::{parse, print};
 use having_filter::Query;
 use packed_rows::Schema;
 use std::test::*;
 
 /// A query over some columns.
-fn query(rt: HostRuntime, columns: &str, text: &str) -> Result<Query, Fail> {
+fn query(rt: HostRuntime, case: &str) -> Result<Query, Fail> {
+    let (columns, text) = case.split_once('|').ok_or("no text")?;
     let schema = Schema::parse(rt.alloc(), columns)?;
     Ok(parse(rt.alloc(), &schema, text)?)
 }
@@ -28,9 +29,6 @@ fn headers(rt: HostRuntime, query: &Query) -> Result<String, Fail> {
     Ok(headers)
 }
 
-const TEXT: &str = "SELECT b, sum(d) AS total, c, count(*) FROM batches WHERE d > 0 \
-                    GROUP BY c, b HAVING max(d) > 1 AND sum(d) > 2";
-
 /// The columns of GROUP BY and their kinds.
 fn keys(rt: HostRuntime, query: &Query) -> Result<String, Fail> {
     let (keys, kinds) = (query.keys(), query.key_kinds());
@@ -44,45 +42,99 @@ fn sources(rt: HostRuntime, query: &Query) -> Result<String, Fail> {
 }
 
 /// Whether there are WHERE and HAVING, and how many distinct aggregates.
-fn clauses(query: &Query) -> (bool, bool, usize) {
-    let (condition, having) = (query.condition(), query.having());
-    (
-        condition.is_some(),
-        having.is_some(),
-        query.aggregates().len(),
-    )
+fn clauses(rt: HostRuntime, query: &Query) -> Result<String, Fail> {
+    let (condition, having) = (query.condition().is_some(), query.having().is_some());
+    let calls = query.aggregates().len();
+    Ok(format!(in rt.alloc(); "{condition} {having} {calls}")?)
 }
 
-#[test]
-fn queries_are_read_by_their_parts(rt: HostRuntime) -> Result<(), Fail> {
-    let query = query(rt, "c text, d bigint, b boolean", TEXT)?;
-    assert!(rt; query.spelling() == TEXT);
-    assert!(rt; clauses(&query) == (true, true, 3));
-    assert!(rt; headers(rt, &query)?.as_str() == "b total c count ");
-    assert!(rt; keys(rt, &query)?.as_str() == "[0, 2] [Text, Boolean]");
-    let sources = sources(rt, &query)?;
-    assert!(rt; sources.as_str() == "[Sum, CountRows, Max] [Key(1), Call(0), Key(0), Call(1)]");
+/// A query's columns and its canonical text.
+fn texts(rt: HostRuntime, query: &Query) -> Result<String, Fail> {
+    let columns = query.schema().print()?;
+    let text = print(rt.alloc(), query)?;
+    Ok(format!(in rt.alloc(); "{columns}|{text}")?)
+}
+
+/// Appends a part behind what was told.
+fn push_part(told: &mut String, part: &str) -> Result<(), Fail> {
+    told.push_str(" / ")?;
+    told.push_str(part)?;
     Ok(())
 }
 
-/// A query's copy as it is printed, and its columns.
+/// A query by its parts.
+fn parts(rt: HostRuntime, query: &Query) -> Result<String, Fail> {
+    let mut told = texts(rt, query)?;
+    push_part(&mut told, &headers(rt, query)?)?;
+    push_part(&mut told, &clauses(rt, query)?)?;
+    push_part(&mut told, &keys(rt, query)?)?;
+    push_part(&mut told, &sources(rt, query)?)?;
+    Ok(told)
+}
+
+/// A copy of a query by its parts, if it is the same query.
+fn told_as_same(rt: HostRuntime, query: &Query, copy: &Query) -> Result<String, Fail> {
+    if !query.same_query(copy) {
+        return Err(Fail::from("a copy is another query"));
+    }
+    parts(rt, copy)
+}
+
+/// A query's copy by its parts.
 fn copied(rt: HostRuntime, query: &Query) -> Result<String, Fail> {
-    let copy = query.try_clone()?;
-    let columns = copy.schema().print()?;
-    Ok(format!(in rt.alloc(); "{} over {columns}", copy.spelling())?)
+    match query.try_clone() {
+        Ok(copy) => told_as_same(rt, query, &copy),
+        Err(_) => Err(Fail::from("out of memory")),
+    }
 }
 
+/// A query's copy by its parts, or why a text is refused.
+fn told(rt: HostRuntime, case: &str) -> Result<String, Fail> {
+    match query(rt, case) {
+        Ok(query) => copied(rt, &query),
+        Err(fail) => Err(fail),
+    }
+}
+
+/// Columns and a text, and the parts of the query: its columns and its canonical text, the columns of its answer, whether it
+/// has WHERE and HAVING and how many distinct aggregates, its keys and their kinds, and the functions of the aggregates and
+/// where the items are found.
+const PARTS: &str = "\
+c text, d bigint, b boolean|select b, sum(d) as total, c, count(*) from batches where d>0 group by c, b having max(d)>1 and sum(d)>2; => \
+c text, d bigint, b boolean|SELECT b, sum(d) AS total, c, count(*) FROM batches WHERE d > 0 GROUP BY c, b HAVING max(d) > 1 AND sum(d) > 2 \
+/ b total c count  / true true 3 / [0, 2] [Text, Boolean] / [Sum, CountRows, Max] [Key(1), Call(0), Key(0), Call(1)]
+c text, d int8|SELECT sum(d) FROM batches; => \
+c text, d bigint|SELECT sum(d) FROM batches / sum  / false false 1 / [] [] / [Sum] [Call(0)]";
+
 #[test]
-fn queries_are_copied(rt: HostRuntime) -> Result<(), Fail> {
-    let copy = copied(
-        rt,
-        &query(rt, "c text, d int8", "SELECT sum(d) FROM batches;")?,
-    )?;
-    assert!(rt; copy.as_str() == "SELECT sum(d) FROM batches over c text, d bigint");
+fn queries_have_their_parts(rt: HostRuntime) -> Result<(), Fail> {
+    for line in PARTS.lines() {
+        let (case, want) = line.split_once(" => ").ok_or("no case")?;
+        assert!(rt; told(rt, case)?.as_str() == want, "{line}");
+    }
     Ok(())
 }
 
-/// Columns and a text of another query, and whether it is the same as that of `c`'s sums.
+/// Whether a query is the same as that of `c`'s sums.
+fn is_first(rt: HostRuntime, other: &Query) -> Result<bool, Fail> {
+    match query(
+        rt,
+        "c text, d bigint|SELECT c, sum(d) FROM batches GROUP BY c",
+    ) {
+        Ok(first) => Ok(first.same_query(other)),
+        Err(fail) => Err(fail),
+    }
+}
+
+/// Whether columns and a text make a query that is the same as the first.
+fn is_same(rt: HostRuntime, case: &str) -> Result<bool, Fail> {
+    match query(rt, case) {
+        Ok(other) => is_first(rt, &other),
+        Err(fail) => Err(fail),
+    }
+}
+
+/// Columns and a text, and whether the query is the same as that of `c`'s sums.
 const OTHERS: &str = "\
 C TEXT,D INT8|select c, sum(d) sum from batches group by c, c; => true
 d bigint, c text|SELECT c, sum(d) FROM batches GROUP BY c => false
@@ -92,18 +144,6 @@ c text, d bigint|SELECT c, sum(d) AS total FROM batches GROUP BY c => false
 c text, d bigint|SELECT sum(d), c FROM batches GROUP BY c => false
 c text, d bigint|SELECT c, sum(d) FROM batches WHERE TRUE GROUP BY c => false
 c text, d bigint|SELECT c, sum(d) FROM batches GROUP BY c HAVING TRUE => false";
-
-/// Whether a query is the same as the first.
-fn is_same(rt: HostRuntime, case: &str) -> Result<bool, Fail> {
-    let (columns, text) = case.split_once('|').ok_or("no text")?;
-    let other = query(rt, columns, text)?;
-    let first = query(
-        rt,
-        "c text, d bigint",
-        "SELECT c, sum(d) FROM batches GROUP BY c",
-    )?;
-    Ok(first.same_query(&other))
-}
 
 #[test]
 fn same_queries_are_told(rt: HostRuntime) -> Result<(), Fail> {

@@ -3,3 +3,4 @@ pub mod ToldLaws
 pub mod AnswerLaws
 pub mod HeldLaws
 pub mod DeliveredLaws
+pub mod MergedLaws

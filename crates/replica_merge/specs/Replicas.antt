@@ -1,5 +1,5 @@
 -- What a replica holds and tells, and when it fits a world. All of this is our own.
-use Rattle.std.specs.Prelude.{◌≡◌, ◌≢◌, ℕ, ◌+◌, ◌*◌, ◌<◌, ◌≤◌, ◌⊎◌, List, [], ◌++◌, map, flat_map, Option, Some, None, unwrap_or}
+use Rattle.std.specs.Prelude.{◌≡◌, ◌≢◌, ℕ, ◌+◌, ◌*◌, ◌<◌, ◌≤◌, ◌⊎◌, List, [], ◌++◌, map, flat_map, Option, Some, None, option_map, unwrap_or, if◌then◌else◌}
 use Rattle.std.specs.List.{AllByRecursion}
 use Rattle.std.specs.List.Sorted.{IsStrictlySortedBy}
 use Rattle.std.specs.Map.{lookup}
@@ -13,7 +13,7 @@ use Rattle.packed_rows.specs.Columns.{printed}
 use Rattle.having_filter.specs.Kept.{by_names}
 use Rattle.having_filter.specs.Meaning.{Checked, meaning}
 use Rattle.having_filter.specs.Spelling.{spelling}
-use Rattle.origin_prefix.specs.Parts.{Part, empty, IsPartOf, Delivers}
+use Rattle.origin_prefix.specs.Parts.{Part, empty, is_nothing, IsPartOf, Delivers}
 use Rattle.origin_prefix.specs.Joins.{Joins, PartsDisagree}
 use Rattle.origin_prefix.specs.Fitting.{FitsOrigin}
 use Rattle.replica_merge.specs.declared.known.Known.{Known}
@@ -69,6 +69,22 @@ JoinsAt query own old (Some theirs) new = (part : Part) × (new ≡ Some part) �
 
 abbrev pub Merges : Checked → Parts → Parts → Parts → Type 0
 Merges query old other new = (origin : ℕ) → JoinsAt query (part_of old origin) (part_at old origin) (part_at other origin) (part_at new origin)
+
+-- what stands aside of an origin while two replicas are merged: the parts of both, joined, or where the other has none, a place for
+-- the own one
+abbrev pub AsideAt : Checked → Part → Option Part → Option Part → Option Part → Type 0
+AsideAt query own old None new = new ≡ option_map (λ (_ : Part). empty) old
+AsideAt query own old (Some theirs) new = (part : Part) × (new ≡ Some part) × Joins (meaning query) own theirs part × IsPartOf query part × ¬ (PartsDisagree own theirs)
+
+pub record JoinedAside (query : Checked) (old other joined : Parts) : Type 0 where
+  pub rising : IsStrictlySortedBy nat_cmp (map (λ (held : ℕ × Part). held.0) joined)
+  pub at : (origin : ℕ) → AsideAt query (part_of old origin) (part_at old origin) (part_at other origin) (part_at joined origin)
+
+-- what a place holds once the own part was put back where nothing else came
+abbrev pub filled : Option Part → Option Part → Option Part
+filled None old = None
+filled (Some new) None = Some new
+filled (Some new) (Some old) = if is_nothing new then Some old else Some new
 
 -- the parts of an origin disagree
 pub record DisagreeSomewhere (old other : Parts) : Type 0 where

@@ -3,11 +3,13 @@
 
 mod error;
 mod known;
+mod merging;
 
 mod replica;
 mod showing;
 
 pub use error::MergeError;
 pub use known::Known;
+pub use merging::Joined;
 pub use origin_prefix::{Delivered, JoinError, RefusedBatch};
 pub use replica::Replica;

@@ -8,4 +8,6 @@ mod commands;
 #[cfg(test)]
 mod machine;
 #[cfg(test)]
+mod queries;
+#[cfg(test)]
 mod streams;

@@ -11,20 +11,20 @@ use Rattle.hash_agg.proofs.StateLaws.{all_at}
 use Rattle.hash_agg.proofs.EntryLaws.{groups_raised}
 use Rattle.hash_agg.proofs.MergeLaws.{groups_added_more}
 use Rattle.hash_agg.proofs.InputLaws.{take_found, group_at, groups_long, within_at}
-use Rattle.hash_agg.proofs.PlaceLaws.{key_at}
+use Rattle.hash_agg.proofs.PlaceLaws.{key_at, all_up_to, keys_next}
 use Rattle.hash_agg.proofs.run.Run.combine_all.Goals as goal
 
 pub loop-place-init : goal.loop-place-init
-loop-place-init c = record { keys = refl; added = λ m n groups more low are new. groups_raised (meaning c.args.query.now) m (m + n) c.args.self.now groups (omega arith) are }
+loop-place-init c = record { within = omega arith; below = λ e at. tt; keys = refl; added = λ m n groups more low are new. groups_raised (meaning c.args.query.now) m (m + n) c.args.self.now groups (omega arith) are }
 
-pub combine_group-requires-clause-there : goal.combine_group-requires-clause-there
-combine_group-requires-clause-there c =
+pub combine_group-from-requires-clause-there : goal.combine_group-from-requires-clause-there
+combine_group-from-requires-clause-there c =
     let key = c.group.result.0.now in
     let has : HasKey c.args.self.now key = all_at (HasKey c.args.self.now) (packed_keys c.args.more.now) c.loop-place.place key c.requires.there (key_at c.args.more.now c.loop-place.place (key, c.group.result.1.now) c.group.ensures) in
     (has.0, ap (λ keys. slice_get keys has.0) c.loop-place.invariant.keys ∙ has.1)
 
-pub combine_group-requires-clause-room : goal.combine_group-requires-clause-room
-combine_group-requires-clause-room c =
+pub combine_group-from-requires-clause-room : goal.combine_group-from-requires-clause-room
+combine_group-from-requires-clause-room c =
     let q : Query = meaning c.args.query.now in
     let r = c.requires.room in
     let i : ℕ = c.loop-place.place in
@@ -44,12 +44,14 @@ loop-place-preserved c =
     let q : Query = meaning c.args.query.now in
     let i : ℕ = c.loop-place.place in
     record {
-      keys = c.combine_group.ensures.keys ∙ c.loop-place.invariant.keys;
+      within = c.combine_group-from.ensures.within;
+      below = λ e at. all_up_to c.group.result.0.now e.0 (take c.combine_group-from.result c.combine_group-from.new.self) (keys_next c.args.more.now i (c.group.result.0.now, c.group.result.1.now) e c.len-place-end.ensures.rises c.group.ensures at) c.combine_group-from.ensures.up_to;
+      keys = c.combine_group-from.ensures.keys ∙ c.loop-place.invariant.keys;
       added =
           λ m n groups more low are new.
           let found = group_at q n c.args.more.now more i _ new c.group.ensures in
-          subst (AreGroups q (m + n) c.combine_group.new.self) (sym (ap (groups_added q groups) (take_found more i found.group found.at) ∙ groups_added_more q groups (take i more) found.group))
-          (c.combine_group.ensures.added m n (groups_added q groups (take i more)) found.group low (c.loop-place.invariant.added m n groups more low are new)
+          subst (AreGroups q (m + n) c.combine_group-from.new.self) (sym (ap (groups_added q groups) (take_found more i found.group found.at) ∙ groups_added_more q groups (take i more) found.group))
+          (c.combine_group-from.ensures.added m n (groups_added q groups (take i more)) found.group low (c.loop-place.invariant.added m n groups more low are new)
           (within_at q m n c.args.self.now c.args.more.now groups more i found.group are new c.requires.room.6 found.at)
           found.stands);
     }
@@ -63,3 +65,6 @@ returns c =
     let counted = c.len-place-end.ensures.length in
     subst (λ more. AreGroups q (m + n) c.loop-place.self (groups_added q groups more)) (take_all c.loop-place.place more (omega (arith, past, long, counted)))
     (c.loop-place.invariant.added m n groups more low are new)
+
+pub combine_group-from-requires-clause-below : goal.combine_group-from-requires-clause-below
+combine_group-from-requires-clause-below c = c.loop-place.invariant.below (c.group.result.0.now, c.group.result.1.now) c.group.ensures

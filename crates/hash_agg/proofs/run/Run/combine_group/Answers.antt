@@ -5,7 +5,11 @@ use Rattle.having_filter.specs.Meaning.{meaning}
 use Rattle.hash_agg.specs.Runs.{Entry, packed_keys}
 use Rattle.hash_agg.specs.Steps.{HasRoomForGroup, AddsGroup}
 use Rattle.hash_agg.proofs.FlatLaws.{same_keys}
-use Rattle.hash_agg.proofs.PlaceLaws.{key_stands, found_place, below_front}
+use Rattle.std.proofs.Common.{arith}
+use Rattle.std.specs.Prelude.{length}
+use Rattle.std.proofs.lemmas.List.{length-append}
+use Rattle.hash_agg.specs.Places.{AreUpTo}
+use Rattle.hash_agg.proofs.PlaceLaws.{up_to_here, key_stands, found_place, below_front}
 use Rattle.hash_agg.proofs.SpliceLaws.{present_room, present_added}
 use Rattle.hash_agg.proofs.run.Run.combine_group.Goals as goal
 
@@ -14,14 +18,14 @@ combine_at-requires c =
     let q : Query = meaning c.args.query.now in
     let run : List Entry = c.args.self.now in
     let place = c.seek-place.result in
-    let here = key_stands run place c.args.key.now (found_place run c.args.key.now place c.seek-place.ensures.rises c.seek-place.ensures.place c.requires.there) in
+    let here = key_stands run place c.args.key.now (found_place run c.args.from c.args.key.now place c.seek-place.ensures.rises c.requires.below c.seek-place.ensures.place c.requires.there) in
     record {
       front = take place run;
       entry = (c.args.key.now, here.states);
       back = drop (place + 1) run;
       is = here.is;
       long = here.long;
-      room = present_room q c.args.key.now here.states c.args.states.now (take place run) (drop (place + 1) run) (below_front run c.args.key.now place c.seek-place.ensures.place)
+      room = present_room q c.args.key.now here.states c.args.states.now (take place run) (drop (place + 1) run) (below_front run c.args.from c.args.key.now place c.requires.below c.seek-place.ensures.place)
           (subst (λ run. HasRoomForGroup q run (c.args.key.now, c.args.states.now)) here.is c.requires.room);
     }
 
@@ -30,16 +34,45 @@ returns-clause-added c =
     let q : Query = meaning c.args.query.now in
     let run : List Entry = c.args.self.now in
     let place = c.seek-place.result in
-    let here = key_stands run place c.args.key.now (found_place run c.args.key.now place c.seek-place.ensures.rises c.seek-place.ensures.place c.requires.there) in
+    let here = key_stands run place c.args.key.now (found_place run c.args.from c.args.key.now place c.seek-place.ensures.rises c.requires.below c.seek-place.ensures.place c.requires.there) in
     let given = c.combine_at.ensures (take place run) (c.args.key.now, here.states) (drop (place + 1) run) here.is here.long in
     subst (AddsGroup q run (c.args.key.now, c.args.states.now)) (sym given.1)
     (subst (λ run. AddsGroup q run (c.args.key.now, c.args.states.now) (take place c.args.self.now ++ (c.args.key.now, given.0) ∷ drop (place + 1) c.args.self.now)) (sym here.is)
-    (present_added q c.args.key.now here.states c.args.states.now given.0 (take place run) (drop (place + 1) run) (below_front run c.args.key.now place c.seek-place.ensures.place) given.2))
+    (present_added q c.args.key.now here.states c.args.states.now given.0 (take place run) (drop (place + 1) run) (below_front run c.args.from c.args.key.now place c.requires.below c.seek-place.ensures.place) given.2))
 
 pub returns-clause-keys : goal.returns-clause-keys
 returns-clause-keys c =
     let run : List Entry = c.args.self.now in
     let place = c.seek-place.result in
-    let here = key_stands run place c.args.key.now (found_place run c.args.key.now place c.seek-place.ensures.rises c.seek-place.ensures.place c.requires.there) in
+    let here = key_stands run place c.args.key.now (found_place run c.args.from c.args.key.now place c.seek-place.ensures.rises c.requires.below c.seek-place.ensures.place c.requires.there) in
     let given = c.combine_at.ensures (take place run) (c.args.key.now, here.states) (drop (place + 1) run) here.is here.long in
     ap packed_keys given.1 ∙ same_keys (take place run) c.args.key.now given.0 here.states (drop (place + 1) run) ∙ ap packed_keys (sym here.is)
+
+pub overflow_add-result : goal.overflow_add-result
+overflow_add-result c =
+    let run : List Entry = c.args.self.now in
+    let place = c.seek-place.result in
+    let here = key_stands run place c.args.key.now (found_place run c.args.from c.args.key.now place c.seek-place.ensures.rises c.requires.below c.seek-place.ensures.place c.requires.there) in
+    let low = here.low in
+    let few = c.seek-place.ensures.few in
+    omega (arith, low, few)
+
+pub returns-clause-within : goal.returns-clause-within
+returns-clause-within c =
+    let run : List Entry = c.args.self.now in
+    let place = c.seek-place.result in
+    let here = key_stands run place c.args.key.now (found_place run c.args.from c.args.key.now place c.seek-place.ensures.rises c.requires.below c.seek-place.ensures.place c.requires.there) in
+    let given = c.combine_at.ensures (take place run) (c.args.key.now, here.states) (drop (place + 1) run) here.is here.long in
+    let all = ap length given.1 ∙ length-append (take place run) ((c.args.key.now, given.0) ∷ drop (place + 1) run) in
+    let long = here.long in
+    omega (arith, all, long)
+
+pub returns-clause-up_to : goal.returns-clause-up_to
+returns-clause-up_to c =
+    let run : List Entry = c.args.self.now in
+    let place = c.seek-place.result in
+    let key = c.args.key.now in
+    let here = key_stands run place key (found_place run c.args.from key place c.seek-place.ensures.rises c.requires.below c.seek-place.ensures.place c.requires.there) in
+    let given = c.combine_at.ensures (take place run) (key, here.states) (drop (place + 1) run) here.is here.long in
+    subst (λ new. AreUpTo key (take (place + 1) new)) (sym given.1)
+    (up_to_here (take place run) (drop (place + 1) run) key given.0 place here.long (below_front run c.args.from key place c.requires.below c.seek-place.ensures.place))

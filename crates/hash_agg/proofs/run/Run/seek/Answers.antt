@@ -1,42 +1,31 @@
-use Rattle.std.specs.Prelude.{◌+◌, ◌/◌, ◌-◌, ℕ}
-use Rattle.std.proofs.Common.{arith, rules}
-use Rattle.hash_agg.specs.Runs.{Entry}
-use Rattle.hash_agg.specs.Places.{IsBelow, IsNotBelow}
-use Rattle.hash_agg.proofs.PlaceLaws.{below_to, not_below_from}
+use Rattle.std.specs.Prelude.{slice_range}
+use Rattle.std.proofs.Common.{sym, subst, arith}
+use Rattle.hash_agg.specs.Places.{IsBelow, AllBelow}
+use Rattle.hash_agg.proofs.PlaceLaws.{all_both, range_parts, range_none}
 use Rattle.hash_agg.proofs.run.Run.seek.Goals as goal
 
-pub loop-low-preserved-then-is_lt : goal.loop-low-preserved-then-is_lt
-loop-low-preserved-then-is_lt c =
-    let i = c.loop-low.invariant in
-    let low : ℕ = c.loop-low.low in
-    let high : ℕ = c.loop-low.high in
-    let middle : ℕ = low + (high - low) / 2 in
-    let behind = i.behind in
-    let apart = c.loop-low-test.true in
-    let entry : Entry = (c.group.result.0.now, c.group.result.1.now) in
-    let below : IsBelow c.args.key.now entry = search rules in
+pub bisect-requires : goal.bisect-requires
+bisect-requires c =
+    let between = c.reach-low.ensures in
     record {
-      behind = omega (arith, behind);
-      order = omega (arith, apart);
-      within = i.within;
-      below = below_to c.args.self.now c.args.from middle entry c.args.key.now c.len-high.ensures.rises (omega (arith, behind)) c.group.ensures below;
-      not_below = i.not_below;
+      behind = omega arith;
+      order = between.order;
+      within = between.within;
+      below = subst (AllBelow c.args.key.now) (sym (range_none c.args.self.now c.reach-low.result.0)) tt;
+      not_below = between.not_below;
     }
 
-pub loop-low-preserved : goal.loop-low-preserved
-loop-low-preserved c =
-    let i = c.loop-low.invariant in
-    let low : ℕ = c.loop-low.low in
-    let high : ℕ = c.loop-low.high in
-    let middle : ℕ = low + (high - low) / 2 in
-    let apart = c.loop-low-test.true in
-    let within = i.within in
-    let entry : Entry = (c.group.result.0.now, c.group.result.1.now) in
-    let not_below : IsNotBelow c.args.key.now entry = search rules in
+pub returns-clause-place : goal.returns-clause-place
+returns-clause-place c =
+    let between = c.reach-low.ensures in
+    let place = c.bisect.ensures.place in
+    let first = between.behind in
+    let second = place.behind in
     record {
-      behind = i.behind;
-      order = omega arith;
-      within = omega (arith, apart, within);
-      below = i.below;
-      not_below = not_below_from c.args.self.now middle entry c.args.key.now c.len-high.ensures.rises c.group.ensures not_below;
+      behind = omega (arith, first, second);
+      within = place.within;
+      below =
+          subst (AllBelow c.args.key.now) (sym (range_parts c.args.self.now c.args.from c.reach-low.result.0 c.bisect.result first second))
+          (all_both (IsBelow c.args.key.now) (slice_range c.args.self.now c.args.from c.reach-low.result.0) (slice_range c.args.self.now c.reach-low.result.0 c.bisect.result) between.below place.below);
+      not_below = place.not_below;
     }

@@ -1,0 +1,261 @@
+-- What a replica holds and tells after a merge.
+use Rattle.std.specs.Prelude.{◌≡◌, ◌≢◌, refl, ℕ, ◌+◌, ◌<◌, ◌≤◌, ◌⊎◌, ◌||◌, ◌&&◌, nat_eq, Bool, true, false, cond, List, [], ◌∷◌, map, length, Option, Some, None, option_map, unwrap_or, if◌then◌else◌}
+use Rattle.std.proofs.Common.{◌∙◌, sym, ap, subst, inl, inr, arith}
+use Rattle.std.proofs.lemmas.Bool.{true≢false, cases_lt}
+use Rattle.std.specs.Option.{is_some}
+use Rattle.std.specs.List.{AllByRecursion}
+use Rattle.std.specs.List.Sorted.{IsStrictlySortedBy}
+use Rattle.std.specs.BTreeMap.{BTreeMap, insert_entry, is_at, WritesThrough}
+use Rattle.std.specs.Ordering.{eq_by_cmp, nat_cmp}
+use Rattle.grouping_model.specs.World.{World, IsWorld, Batch, knows, union}
+use Rattle.grouping_model.proofs.KnowledgeLaws.{same_knowledge, knows_union}
+use Rattle.packed_rows.specs.Columns.{kinds}
+use Rattle.having_filter.specs.Meaning.{Checked, meaning}
+use Rattle.origin_prefix.specs.Parts.{Part, empty, is_nothing, IsPartOf}
+use Rattle.origin_prefix.specs.Joins.{either, Joins, PartsDisagree}
+use Rattle.origin_prefix.specs.Fitting.{tells, FitsOrigin}
+use Rattle.origin_prefix.proofs.Lists.{is_itself, is_other, same_or_other}
+use Rattle.origin_prefix.proofs.ByNumber.{numbers, at, at_head, behind_head, found_holds, all_found, put_same, put_else, first_alone, some_is}
+use Rattle.origin_prefix.proofs.TellingLaws.{joined_tells}
+use Rattle.origin_prefix.proofs.FittingLaws.{fits_joined, agrees_joined}
+use Rattle.origin_prefix.specs.declared.error.JoinError.{JoinError}
+use Rattle.origin_prefix.specs.declared.error.JoinError.TheVariants as join
+use Rattle.replica_merge.specs.Errors.{merge_error}
+use Rattle.replica_merge.specs.declared.error.MergeError.TheVariants as merge
+use Rattle.replica_merge.specs.Replicas.{Parts, Held, part_at, part_of, told, Fits, IsHeldPart, AreHeldParts, AsideAt, JoinedAside, JoinsAt, Merges, DisagreeSomewhere, filled}
+use Rattle.replica_merge.proofs.ToldLaws.{told_is, some_told, empty_tells, part_here}
+use Rattle.replica_merge.proofs.HeldLaws.{held_part}
+use Rattle.replica_merge.proofs.DeliveredLaws.{part_is, some_if_tells}
+
+-- what stands aside of an origin while some of the other's parts are left
+abbrev pub JoinedSoFar : Checked → Part → Option Part → Option Part → Option Part → Option Part → Type 0
+JoinedSoFar query own old theirs None new = AsideAt query own old theirs new
+JoinedSoFar query own old theirs (Some left) new = (theirs ≡ Some left) × (new ≡ option_map (λ (_ : Part). empty) old)
+
+-- ---- places
+
+-- a place more
+pub placed : (old rest : Parts) (n : ℕ) (p : Part) (all : Option Part) (o : ℕ) → either (part_at old o) (option_map (λ (_ : Part). empty) (part_at ((n, p) ∷ rest) o)) ≡ option_map (λ (_ : Part). empty) all
+    → either (part_at (insert_entry nat_cmp old n empty) o) (option_map (λ (_ : Part). empty) (part_at rest o)) ≡ option_map (λ (_ : Part). empty) all
+placed old rest n p all o before = go (same_or_other o n)
+  where
+    is_empty : (x : Option Part) (all : Option Part) → either x (Some empty) ≡ option_map (λ (_ : Part). empty) all → Some empty ≡ option_map (λ (_ : Part). empty) all
+    is_empty x (Some q) e = refl
+    is_empty None None e = e
+    is_empty (Some q) None e = absurd (true≢false (ap is_some e))
+
+    go : (o ≡ n) ⊎ (o ≢ n) → either (part_at (insert_entry nat_cmp old n empty) o) (option_map (λ (_ : Part). empty) (part_at rest o)) ≡ option_map (λ (_ : Part). empty) all
+    go (inl same) =
+        let here : part_at ((n, p) ∷ rest) o ≡ Some p = ap (part_at ((n, p) ∷ rest)) same ∙ at_head n p rest in
+        let put : part_at (insert_entry nat_cmp old n empty) o ≡ Some empty = ap (part_at (insert_entry nat_cmp old n empty)) same ∙ put_same old n empty in
+        ap (λ x. either x (option_map (λ (_ : Part). empty) (part_at rest o))) put
+        ∙ is_empty (part_at old o) all (sym (ap (λ x. either (part_at old o) (option_map (λ (_ : Part). empty) x)) here) ∙ before)
+    go (inr other) =
+        (λ i. either (put_else old n empty o other i) (option_map (λ (_ : Part). empty) (part_at rest o)))
+        ∙ ap (λ x. either (part_at old o) (option_map (λ (_ : Part). empty) x)) (sym (behind_head o n p rest other))
+        ∙ before
+
+-- ---- joining
+
+-- one origin more was joined
+pub joined_more : (query : Checked) (own old_parts theirs_all old rest : Parts) (n : ℕ) (p new : Part) → IsStrictlySortedBy nat_cmp (numbers ((n, p) ∷ rest))
+    → Joins (meaning query) (part_of own n) p new → IsPartOf query new → ¬ (PartsDisagree (part_of own n) p)
+    → (o : ℕ) → JoinedSoFar query (part_of own o) (part_at own o) (part_at theirs_all o) (part_at ((n, p) ∷ rest) o) (part_at old o)
+    → JoinedSoFar query (part_of own o) (part_at own o) (part_at theirs_all o) (part_at rest o) (part_at (insert_entry nat_cmp old n new) o)
+joined_more query own old_parts all old rest n p new rising joins is agree o before = go (same_or_other o n)
+  where
+    at_one : (all_o : Option Part) → all_o ≡ Some p → JoinedSoFar query (part_of own n) (part_at own n) all_o None (Some new)
+    at_one None e = absurd (true≢false (sym (ap is_some e)))
+    at_one (Some q) e = (new, refl, subst (λ (t : Part). Joins (meaning query) (part_of own n) t new) new_is joins, is, λ d. agree (subst (PartsDisagree (part_of own n)) (sym new_is) d))
+      where
+        new_is : p ≡ q
+        new_is = some_is p q (sym e)
+
+    here : JoinedSoFar query (part_of own n) (part_at own n) (part_at all n) (Some p) (part_at old n) → JoinedSoFar query (part_of own n) (part_at own n) (part_at all n) (part_at rest n) (part_at (insert_entry nat_cmp old n new) n)
+    here had =
+        subst (λ left. JoinedSoFar query (part_of own n) (part_at own n) (part_at all n) left (part_at (insert_entry nat_cmp old n new) n)) (sym (first_alone n p rest rising))
+        (subst (λ found. JoinedSoFar query (part_of own n) (part_at own n) (part_at all n) None found) (sym (put_same old n new)) (at_one (part_at all n) had.0))
+
+    go : (o ≡ n) ⊎ (o ≢ n) → JoinedSoFar query (part_of own o) (part_at own o) (part_at all o) (part_at rest o) (part_at (insert_entry nat_cmp old n new) o)
+    go (inl same) =
+        subst (λ k. JoinedSoFar query (part_of own k) (part_at own k) (part_at all k) (part_at rest k) (part_at (insert_entry nat_cmp old n new) k)) (sym same)
+        (here (subst (λ left. JoinedSoFar query (part_of own n) (part_at own n) (part_at all n) left (part_at old n)) (at_head n p rest)
+        (subst (λ k. JoinedSoFar query (part_of own k) (part_at own k) (part_at all k) (part_at ((n, p) ∷ rest) k) (part_at old k)) same before)))
+    go (inr other) =
+        subst (λ found. JoinedSoFar query (part_of own o) (part_at own o) (part_at all o) (part_at rest o) found) (sym (put_else old n new o other))
+        (subst (λ left. JoinedSoFar query (part_of own o) (part_at own o) (part_at all o) left (part_at old o)) (behind_head o n p rest other) before)
+
+-- before the first
+pub joined_none : (query : Checked) (own all places : Parts) → ((o : ℕ) → part_at places o ≡ option_map (λ (_ : Part). empty) (part_at own o))
+    → (o : ℕ) → JoinedSoFar query (part_of own o) (part_at own o) (part_at all o) (part_at all o) (part_at places o)
+joined_none query own all places at o = go (part_at all o)
+  where
+    go : (found : Option Part) → JoinedSoFar query (part_of own o) (part_at own o) found found (part_at places o)
+    go None = at o
+    go (Some p) = (refl, at o)
+
+-- the parts of an origin disagree
+pub found_disagreement : (query : Checked) (own all old : Parts) (n : ℕ) (p : Part) (rest : Parts) → JoinedSoFar query (part_of own n) (part_at own n) (part_at all n) (part_at ((n, p) ∷ rest) n) (part_at old n)
+    → PartsDisagree (part_of own n) p → DisagreeSomewhere own all
+found_disagreement query own all old n p rest before d =
+    let had = subst (λ left. JoinedSoFar query (part_of own n) (part_at own n) (part_at all n) left (part_at old n)) (at_head n p rest) before in
+    record { origin = n; theirs = p; there = had.0; parts = d }
+
+-- ---- putting back
+
+-- a part was put back
+pub back_at : (old rest : Parts) (n : ℕ) (p : Part) (new : Parts) → IsStrictlySortedBy nat_cmp (numbers ((n, p) ∷ rest))
+    → ((o : ℕ) → part_at new o ≡ cond (eq_by_cmp nat_cmp o n) (filled (part_at old o) (Some p)) (part_at old o))
+    → (o : ℕ) → filled (part_at new o) (part_at rest o) ≡ filled (part_at old o) (part_at ((n, p) ∷ rest) o)
+back_at old rest n p new rising put o = go (same_or_other o n)
+  where
+    settled : (x : Option Part) → filled (filled x (Some p)) None ≡ filled x (Some p)
+    settled None = refl
+    settled (Some q) = elim (is_nothing q) as (λ b. filled (if b then Some p else Some q) None ≡ (if b then Some p else Some q)) [ true ↦ refl | false ↦ refl ]
+
+    go : (o ≡ n) ⊎ (o ≢ n) → filled (part_at new o) (part_at rest o) ≡ filled (part_at old o) (part_at ((n, p) ∷ rest) o)
+    go (inl same) =
+        subst (λ k. filled (part_at new k) (part_at rest k) ≡ filled (part_at old k) (part_at ((n, p) ∷ rest) k)) (sym same)
+        ((λ i. filled ((put n ∙ ap (λ b. cond b (filled (part_at old n) (Some p)) (part_at old n)) (is_itself n)) i) (first_alone n p rest rising i))
+        ∙ settled (part_at old n)
+        ∙ sym (ap (filled (part_at old n)) (at_head n p rest)))
+    go (inr other) =
+        (λ i. filled ((put o ∙ ap (λ b. cond b (filled (part_at old o) (Some p)) (part_at old o)) (is_other o n other)) i) (part_at rest o))
+        ∙ ap (filled (part_at old o)) (sym (behind_head o n p rest other))
+
+-- what a place holds after something was written through it, or nothing
+pub written_at : (old new : BTreeMap ℕ Part) (n : ℕ) (before after : Part) (p : Part) → part_at old.entries n ≡ Some before → WritesThrough nat_cmp (nat_cmp n) old after new
+    → Some after ≡ filled (Some before) (Some p) → (o : ℕ) → part_at new.entries o ≡ cond (eq_by_cmp nat_cmp o n) (filled (part_at old.entries o) (Some p)) (part_at old.entries o)
+written_at old new n before after p there written is o = go (same_or_other o n)
+  where
+    go : (o ≡ n) ⊎ (o ≢ n) → part_at new.entries o ≡ cond (eq_by_cmp nat_cmp o n) (filled (part_at old.entries o) (Some p)) (part_at old.entries o)
+    go (inl same) =
+        subst (λ k. part_at new.entries k ≡ cond (eq_by_cmp nat_cmp k n) (filled (part_at old.entries k) (Some p)) (part_at old.entries k)) (sym same)
+        ((written.3 (ap is_some there)).1 ∙ is ∙ sym (ap (λ b. cond b (filled (part_at old.entries n) (Some p)) (part_at old.entries n)) (is_itself n) ∙ ap (λ x. filled x (Some p)) there))
+    go (inr other) =
+        (written.3 (ap is_some there)).2 o (is_other n o (λ e. other (sym e))) ∙ sym (ap (λ b. cond b (filled (part_at old.entries o) (Some p)) (part_at old.entries o)) (is_other o n other))
+
+pub nothing_at : (old new : Parts) (n : ℕ) (p : Part) → part_at old n ≡ None → new ≡ old → (o : ℕ) → part_at new o ≡ cond (eq_by_cmp nat_cmp o n) (filled (part_at old o) (Some p)) (part_at old o)
+nothing_at old new n p none same o = ap (λ ps. part_at ps o) same ∙ go (same_or_other o n)
+  where
+    go : (o ≡ n) ⊎ (o ≢ n) → part_at old o ≡ cond (eq_by_cmp nat_cmp o n) (filled (part_at old o) (Some p)) (part_at old o)
+    go (inl same) =
+        subst (λ k. part_at old k ≡ cond (eq_by_cmp nat_cmp k n) (filled (part_at old k) (Some p)) (part_at old k)) (sym same)
+        (none ∙ sym (ap (λ b. cond b (filled (part_at old n) (Some p)) (part_at old n)) (is_itself n) ∙ ap (λ x. filled x (Some p)) none))
+    go (inr other) = sym (ap (λ b. cond b (filled (part_at old o) (Some p)) (part_at old o)) (is_other o n other))
+
+-- ---- the whole merge
+
+-- parts that are joined with one that tells something tell something
+some_joined : (query : Checked) (own theirs new : Part) (o : ℕ) → IsPartOf query own → IsHeldPart query (o, theirs) → Joins (meaning query) own theirs new → (0 < new.prefix) ⊎ (new.early ≢ [])
+some_joined query own theirs new o is held joins =
+    let some = some_told query o theirs held in
+    some_if_tells new some.0 (joined_tells query (meaning query) own theirs new is held.part joins some.0 ∙ or_true (tells own some.0) (tells theirs some.0) some.2)
+  where
+    or_true : (a b : Bool) → b ≡ true → (a || b) ≡ true
+    or_true true b e = refl
+    or_true false b e = e
+
+not_nothing : (p : Part) → (0 < p.prefix) ⊎ (p.early ≢ []) → is_nothing p ≡ false
+not_nothing p (inl some) = let e : nat_eq p.prefix 0 ≡ false = grind arith in ap (λ b. b && nat_eq (length p.early) 0) e
+not_nothing p (inr some) = both (nat_eq p.prefix 0) (nat_eq (length p.early) 0) (of_early p.early some)
+  where
+    both : (a b : Bool) → b ≡ false → (a && b) ≡ false
+    both true b e = e
+    both false b e = refl
+
+    of_early : (es : List (ℕ × List (List ℕ))) → es ≢ [] → nat_eq (length es) 0 ≡ false
+    of_early [] some = absurd (some refl)
+    of_early (e ∷ es) some = grind arith
+
+module _ (query : Checked) (old other joined new : Parts) (held : AreHeldParts query old) (theirs : AreHeldParts query other) (aside : JoinedAside query old other joined)
+    (back : (o : ℕ) → part_at new o ≡ filled (part_at joined o) (part_at old o)) where
+  merges_at : (o : ℕ) → JoinsAt query (part_of old o) (part_at old o) (part_at other o) (part_at new o)
+  merges_at o = go (part_at other o) refl (aside.at o)
+    where
+      own_back : (mine : Option Part) → filled (option_map (λ (_ : Part). empty) mine) mine ≡ mine
+      own_back None = refl
+      own_back (Some p) = refl
+
+      kept : (p : Part) (mine : Option Part) → is_nothing p ≡ false → filled (Some p) mine ≡ Some p
+      kept p None e = refl
+      kept p (Some q) e = ap (λ b. if b then Some q else Some p) e
+
+      go : (found : Option Part) → part_at other o ≡ found → AsideAt query (part_of old o) (part_at old o) found (part_at joined o) → JoinsAt query (part_of old o) (part_at old o) found (part_at new o)
+      go None e at = back o ∙ ap (λ x. filled x (part_at old o)) at ∙ own_back (part_at old o)
+      go (Some t) e at =
+          (
+            at.0,
+            back o ∙ ap (λ x. filled x (part_at old o)) at.1
+            ∙ kept at.0 (part_at old o) (not_nothing at.0 (some_joined query (part_of old o) t at.0 o (part_is query old held o) (held_part query other theirs o t e) at.2)),
+            at.2,
+          )
+
+  pub merges : Merges query old other new
+  merges = merges_at
+
+  pub merged_held : IsStrictlySortedBy nat_cmp (numbers new) → AreHeldParts query new
+  merged_held rising =
+      record { rising = rising; each = all_found (IsHeldPart query) new rising (λ o p there. go o p there (part_at other o) refl (aside.at o)) }
+    where
+      go : (o : ℕ) (p : Part) → part_at new o ≡ Some p → (found : Option Part) → part_at other o ≡ found → AsideAt query (part_of old o) (part_at old o) found (part_at joined o) → IsHeldPart query (o, p)
+      go o p there None e at = held_part query old held o p (sym (back o ∙ ap (λ x. filled x (part_at old o)) at ∙ own_back (part_at old o)) ∙ there)
+        where
+          own_back : (mine : Option Part) → filled (option_map (λ (_ : Part). empty) mine) mine ≡ mine
+          own_back None = refl
+          own_back (Some q) = refl
+      go o p there (Some t) e at =
+          let h : IsHeldPart query (o, t) = held_part query other theirs o t e in
+          let some = some_joined query (part_of old o) t at.0 o (part_is query old held o) h at.2 in
+          let is : at.0 ≡ p = some_is at.0 p (sym (back o ∙ ap (λ x. filled x (part_at old o)) at.1 ∙ kept (part_at old o) (not_nothing at.0 some)) ∙ there) in
+          subst (λ q. IsHeldPart query (o, q)) is (record { within = h.within; part = at.3; some = some })
+        where
+          kept : (mine : Option Part) → is_nothing at.0 ≡ false → filled (Some at.0) mine ≡ Some at.0
+          kept None e = refl
+          kept (Some q) e = ap (λ b. if b then Some q else Some at.0) e
+
+  merged_tells : (o n : ℕ) → tells (part_of new o) n ≡ (tells (part_of old o) n || tells (part_of other o) n)
+  merged_tells o n = go (part_at other o) refl (merges_at o)
+    where
+      or_false : (b : Bool) → b ≡ (b || false)
+      or_false true = refl
+      or_false false = refl
+
+      go : (found : Option Part) → part_at other o ≡ found → JoinsAt query (part_of old o) (part_at old o) found (part_at new o) → tells (part_of new o) n ≡ (tells (part_of old o) n || tells (unwrap_or (part_at other o) empty) n)
+      go None e at =
+          ap (λ x. tells (unwrap_or x empty) n) at ∙ or_false (tells (part_of old o) n)
+          ∙ sym (ap (λ b. tells (part_of old o) n || b) (ap (λ x. tells (unwrap_or x empty) n) e ∙ empty_tells n))
+      go (Some t) e at =
+          ap (λ x. tells (unwrap_or x empty) n) at.1
+          ∙ joined_tells query (meaning query) (part_of old o) t at.0 (part_is query old held o) (held_part query other theirs o t e).part at.2 n
+          ∙ sym (ap (λ x. tells (part_of old o) n || tells (unwrap_or x empty) n) e)
+
+  pub merged_told : IsStrictlySortedBy nat_cmp (numbers new) → told new ≡ union (told old) (told other)
+  merged_told rising =
+      same_knowledge (told new) (union (told old) (told other)) (λ batch.
+      told_is new rising batch.0 batch.1 ∙ merged_tells batch.0 batch.1
+      ∙ sym (knows_union (told old) (told other) batch ∙ (λ i. told_is old held.rising batch.0 batch.1 i || told_is other theirs.rising batch.0 batch.1 i)))
+
+  pub merged_fits : (world : World) → IsWorld (kinds query.columns) world → Fits world (record { query = query; parts = old }) → Fits world (record { query = query; parts = other }) → Fits world (record { query = query; parts = new })
+  merged_fits world is fits fits_other o = go (part_at other o) refl (merges_at o)
+    where
+      go : (found : Option Part) → part_at other o ≡ found → JoinsAt query (part_of old o) (part_at old o) found (part_at new o) → FitsOrigin (meaning query) world o (part_of new o)
+      go None e at = subst (λ x. FitsOrigin (meaning query) world o (unwrap_or x empty)) (sym at) (fits o)
+      go (Some t) e at =
+          subst (λ x. FitsOrigin (meaning query) world o (unwrap_or x empty)) (sym at.1)
+          (fits_joined query world is o (part_of old o) t at.0 (fits o) (subst (FitsOrigin (meaning query) world o) (part_here other o t e) (fits_other o)) at.2)
+
+-- replicas that fit one world never disagree
+pub never_somewhere : (query : Checked) (old other : Parts) → DisagreeSomewhere old other → (world : World) → Fits world (record { query = query; parts = old }) → Fits world (record { query = query; parts = other }) → ⊥
+never_somewhere query old other d world fits fits_other =
+    absurd (agrees_joined (meaning query) world d.origin (part_of old d.origin) d.theirs (fits d.origin)
+    (subst (FitsOrigin (meaning query) world d.origin) (part_here other d.origin d.theirs d.there) (fits_other d.origin)) d.parts)
+
+-- the error of a join, as that of a merge
+pub join_error : (error : JoinError) → merge_error error ≡ merge.OriginDisagrees → error ≡ join.OriginDisagrees
+join_error join.NoMemory e = cc
+join_error join.OriginDisagrees e = refl
+
+pub not_another_query : (error : JoinError) → merge_error error ≡ merge.DifferentQuery → ⊥
+not_another_query join.NoMemory e = cc
+not_another_query join.OriginDisagrees e = cc

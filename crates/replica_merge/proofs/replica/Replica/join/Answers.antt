@@ -1,0 +1,51 @@
+use Rattle.std.specs.Prelude.{◌≡◌, ◌≢◌, IfErr}
+use Rattle.std.proofs.Common.{◌∙◌, sym, ap, subst}
+use Rattle.std.proofs.lemmas.Result.{err_from_is_err_and}
+use Rattle.grouping_model.specs.World.{World}
+use Rattle.having_filter.specs.Meaning.{Checked}
+use Rattle.query_grammar.proofs.OneText.{one_text}
+use Rattle.replica_merge.specs.Replicas.{Parts, Held, Fits, AreHeldParts}
+use Rattle.replica_merge.specs.declared.error.MergeError.TheVariants.{DifferentQuery, OriginDisagrees}
+use Rattle.replica_merge.proofs.MergedLaws.{never_somewhere}
+use Rattle.replica_merge.proofs.replica.Replica.join.Goals as goal
+
+pub join_all-requires-clause-theirs : goal.join_all-requires-clause-theirs
+join_all-requires-clause-theirs c =
+    let texts = c.same_query.ensures.0 c.if-not-same_query.false in
+    let same : c.self.inside.query ≡ c.other.inside.query = one_text c.self.inside.query c.other.inside.query c.schema-own.ensures.query c.schema-theirs.ensures.query texts.0 texts.1 in
+    subst (λ (q : Checked). AreHeldParts q c.other.inside.parts.entries) (sym same) c.other.invariant
+
+pub returns-in_err-parts-clause-same : goal.returns-in_err-parts-clause-same
+returns-in_err-parts-clause-same c =
+    let texts = c.same_query.ensures.0 c.if-not-same_query.false in
+    let same : c.self.inside.query ≡ c.other.inside.query = one_text c.self.inside.query c.other.inside.query c.schema-own.ensures.query c.schema-theirs.ensures.query texts.0 texts.1 in
+    let p = err_from_is_err_and c.from_residual.result c.from_residual.ensures.1 in
+    subst (λ r. IfErr r (λ e. e ≢ DifferentQuery → c.args.other.now.query ≡ c.args.self.now.query)) (sym p.1)
+    (λ _. sym (ap (λ (h : Held). h.query) c.other.view_is) ∙ sym same ∙ ap (λ (h : Held). h.query) c.self.view_is)
+
+pub returns-in_err-parts-clause-agree : goal.returns-in_err-parts-clause-agree
+returns-in_err-parts-clause-agree c =
+    let texts = c.same_query.ensures.0 c.if-not-same_query.false in
+    let same : c.self.inside.query ≡ c.other.inside.query = one_text c.self.inside.query c.other.inside.query c.schema-own.ensures.query c.schema-theirs.ensures.query texts.0 texts.1 in
+    let p = err_from_is_err_and c.from_residual.result c.from_residual.ensures.1 in
+    let own : Held = record { query = c.self.inside.query; parts = c.self.inside.parts.entries } in
+    let theirs : Held = record { query = c.other.inside.query; parts = c.other.inside.parts.entries } in
+    subst (λ r. IfErr r (λ e. e ≡ OriginDisagrees → (world : World) → Fits world c.args.self.now → Fits world c.args.other.now → ⊥)) (sym p.1)
+    (λ is world fits fits_other.
+    never_somewhere c.self.inside.query c.self.inside.parts.entries c.other.inside.parts.entries (c.in_err-parts.ensures.disagree (sym p.2 ∙ is)) world
+    (subst (Fits world) (sym c.self.view_is) fits)
+    (subst (λ (q : Checked). Fits world (record { query = q; parts = c.other.inside.parts.entries })) (sym same) (subst (Fits world) (sym c.other.view_is) fits_other)))
+
+pub returns-clause-query : goal.returns-clause-query
+returns-clause-query c =
+    let texts = c.same_query.ensures.0 c.if-not-same_query.false in
+    let same : c.self.inside.query ≡ c.other.inside.query = one_text c.self.inside.query c.other.inside.query c.schema-own.ensures.query c.schema-theirs.ensures.query texts.0 texts.1 in
+    sym (ap (λ (h : Held). h.query) c.other.view_is) ∙ sym same ∙ ap (λ (h : Held). h.query) c.self.view_is
+
+pub returns-clause-held : goal.returns-clause-held
+returns-clause-held c =
+    let texts = c.same_query.ensures.0 c.if-not-same_query.false in
+    let same : c.self.inside.query ≡ c.other.inside.query = one_text c.self.inside.query c.other.inside.query c.schema-own.ensures.query c.schema-theirs.ensures.query texts.0 texts.1 in
+    subst (λ (h : Held). AreHeldParts h.query c.args.other.now.parts) c.self.view_is
+    (subst (λ (h : Held). AreHeldParts c.self.inside.query h.parts) c.other.view_is
+    (subst (λ (q : Checked). AreHeldParts q c.other.inside.parts.entries) (sym same) c.other.invariant))

@@ -1,0 +1,225 @@
+//! Merging two replicas: the parts of both are joined aside, and then moved in without taking memory.
+
+ghost use Rattle.std.specs.Prelude.{◌≡◌, ◌≢◌, ℕ, map, cond, option_map, unwrap_or, Some, IfOk, IfErr, OnOk, OnErr};
+ghost use Rattle.std.specs.List.Sorted.{IsStrictlySortedBy};
+ghost use Rattle.std.specs.BTreeMap.{insert_entry};
+ghost use Rattle.std.specs.Option.{option_copied};
+ghost use Rattle.std.specs.Ordering.{eq_by_cmp, nat_cmp};
+ghost use Rattle.grouping_model.specs.World.{World, IsWorld, union};
+ghost use Rattle.packed_rows.specs.Columns.{kinds};
+ghost use Rattle.having_filter.specs.Meaning.{meaning};
+ghost use Rattle.origin_prefix.specs.Parts.{Part, empty, IsPartOf};
+ghost use Rattle.origin_prefix.specs.Joins.{Joins, PartsDisagree};
+ghost use Rattle.origin_prefix.specs.declared.error.JoinError.TheVariants as joins;
+ghost use Rattle.replica_merge.specs.Replicas.{Parts, part_at, part_of, told, Fits, SameQuery, AreHeldParts, JoinedAside, Merges, DisagreeSomewhere, filled};
+ghost use Rattle.replica_merge.specs.declared.error.MergeError.TheVariants.{DifferentQuery, OriginDisagrees};
+
+use crate::error::MergeError;
+use crate::replica::Replica;
+use having_filter::Query;
+use origin_prefix::{JoinError, OriginPart};
+use std::alloc::{AllocError, Global};
+use std::collections::BTreeMap;
+use std::marker::Model;
+use std::mem::replace;
+
+/// What two replicas hold together, aside from both: the parts of an origin that the other one has, joined, and a place for each
+/// other part.
+#[derive(Drop)]
+pub struct Joined {
+    parts: BTreeMap<u16, OriginPart>,
+}
+
+impl Model for Joined {
+    ghost use Rattle.replica_merge.specs.Coding.{coded_parts};
+    ghost use Rattle.replica_merge.specs.Replicas.{Parts};
+
+    ghost Value = { Parts };
+
+    ghost coded = { coded_parts };
+
+    ghost view = { λ j. j.parts.entries };
+}
+
+/// Puts a part under its origin. The only error is a failed allocation.
+fn put(
+    parts: &mut BTreeMap<u16, OriginPart>,
+    origin: u16,
+    part: OriginPart,
+) -> Result<(), AllocError>
+    ensures entries { OnOk result
+        (parts.new.entries ≡ insert_entry nat_cmp parts.old.entries origin part) }
+    ensures rising { IsStrictlySortedBy nat_cmp
+        (map (λ (held : ℕ × Part). held.0) parts.new.entries) }
+{
+    match parts.insert(origin, part) {
+        Ok(_) => Ok(()),
+        Err(_) => Err(AllocError),
+    }
+}
+
+/// A place for each part.
+fn places(
+    alloc: Global,
+    parts: &BTreeMap<u16, OriginPart>,
+) -> Result<BTreeMap<u16, OriginPart>, AllocError>
+    ensures at { IfOk result (λ places. (origin : ℕ) → part_at places.entries origin
+        ≡ option_map (λ _. empty) (part_at parts.now.entries origin)) }
+    ensures rising { IfOk result (λ places. IsStrictlySortedBy nat_cmp
+        (map (λ (held : ℕ × Part). held.0) places.entries)) }
+{
+    let mut places = BTreeMap::new(alloc);
+    for (origin, _) in parts {
+        put(&mut places, *origin, OriginPart::empty(alloc))?;
+    }
+    Ok(places)
+}
+
+/// The own part of an origin, if there is one, joined with another.
+fn join_part(
+    alloc: Global,
+    query: &Query,
+    own: Option<&OriginPart>,
+    theirs: &OriginPart,
+) -> Result<OriginPart, JoinError>
+    requires own { IsPartOf query.now (unwrap_or (option_copied own) empty) }
+    requires theirs { IsPartOf query.now theirs.now }
+    ensures joins { IfOk result
+        (Joins (meaning query.now) (unwrap_or (option_copied own.entry) empty) theirs.now) }
+    ensures part { IfOk result (IsPartOf query.now) }
+    ensures agree { IfOk result (λ _. ¬ (PartsDisagree (unwrap_or (option_copied own.entry) empty)
+        theirs.now)) }
+    ensures disagree { IfErr result (λ e. e ≡ joins.OriginDisagrees →
+        PartsDisagree (unwrap_or (option_copied own.entry) empty) theirs.now) }
+{
+    match own {
+        Some(own) => own.join(theirs, query),
+        None => OriginPart::empty(alloc).join(theirs, query),
+    }
+}
+
+/// The parts of both, joined aside.
+fn join_all(
+    alloc: Global,
+    query: &Query,
+    own: &BTreeMap<u16, OriginPart>,
+    theirs: &BTreeMap<u16, OriginPart>,
+) -> Result<BTreeMap<u16, OriginPart>, MergeError>
+    requires own { AreHeldParts query.now own.now.entries }
+    requires theirs { AreHeldParts query.now theirs.now.entries }
+    ensures joined { IfOk result (λ joined.
+        JoinedAside query.now own.now.entries theirs.now.entries joined.entries) }
+    ensures disagree { IfErr result (λ e. e ≡ OriginDisagrees →
+        DisagreeSomewhere own.now.entries theirs.now.entries) }
+    ensures same { IfErr result (λ e. e ≢ DifferentQuery) }
+{
+    let mut joined = places(alloc, own)?;
+    for (origin, part) in theirs {
+        let part = join_part(alloc, query, own.get(origin), part)?;
+        put(&mut joined, *origin, part)?;
+    }
+    Ok(joined)
+}
+
+/// Puts a part back to its place, if nothing else came there.
+fn put_back(parts: &mut BTreeMap<u16, OriginPart>, origin: u16, part: OriginPart)
+    ensures at { (o : ℕ) → part_at parts.new.entries o ≡ cond (eq_by_cmp nat_cmp o origin)
+        (filled (part_at parts.old.entries o) (Some part)) (part_at parts.old.entries o) }
+    ensures rising { IsStrictlySortedBy nat_cmp
+        (map (λ (held : ℕ × Part). held.0) parts.new.entries) }
+{
+    if let Some(place) = parts.get_mut(&origin) {
+        if place.is_empty() {
+            *place = part;
+        }
+    }
+}
+
+/// Puts parts back to their places, where nothing else came.
+fn fill(parts: &mut BTreeMap<u16, OriginPart>, old: BTreeMap<u16, OriginPart>)
+    requires { IsStrictlySortedBy nat_cmp
+        (map (λ (held : ℕ × Part). held.0) parts.old.entries) }
+    ensures at { (o : ℕ) → part_at parts.new.entries o
+        ≡ filled (part_at parts.old.entries o) (part_at old.entries o) }
+    ensures rising { IsStrictlySortedBy nat_cmp
+        (map (λ (held : ℕ × Part). held.0) parts.new.entries) }
+{
+    for (origin, part) in old {
+        put_back(parts, origin, part);
+    }
+}
+
+impl Replica {
+    /// What this replica and another hold together, aside from both: `commit` moves it in. `OriginDisagrees` is told where the parts of an
+    /// origin disagree.
+    pub fn join(&self, other: &Replica) -> Result<Joined, MergeError>
+        ensures joined { IfOk result
+            (JoinedAside self.now.query self.now.parts other.now.parts) }
+        ensures held { IfOk result (λ _. AreHeldParts self.now.query other.now.parts) }
+        ensures query { IfOk result (λ _. other.now.query ≡ self.now.query) }
+        ensures different { IfErr result (λ e. e ≡ DifferentQuery →
+            ¬ (SameQuery self.now.query other.now.query)) }
+        ensures same { IfErr result (λ e. e ≢ DifferentQuery →
+            other.now.query ≡ self.now.query) }
+        ensures disagree { IfErr result (λ e. e ≡ OriginDisagrees →
+            DisagreeSomewhere self.now.parts other.now.parts) }
+        // Replicas that fit one world never disagree.
+        ensures agree { IfErr result (λ e. e ≡ OriginDisagrees → (world : World) →
+            Fits world self.now → Fits world other.now → ⊥) }
+    {
+        if !self.query.same_query(&other.query) {
+            return Err(MergeError::DifferentQuery);
+        }
+        let _own = self.query.schema();
+        let _theirs = other.query.schema();
+        let parts = join_all(self.alloc, &self.query, &self.parts, &other.parts)?;
+        Ok(Joined { parts })
+    }
+
+    /// Takes what this replica and another hold together in the place of what it held. It takes no memory.
+    pub fn commit(&mut self, joined: Joined)
+        requires { (other : Parts) × AreHeldParts self.old.query other
+            × JoinedAside self.old.query self.old.parts other joined }
+        ensures query { self.new.query ≡ self.old.query }
+        ensures merges { (other : Parts) → AreHeldParts self.old.query other →
+            JoinedAside self.old.query self.old.parts other joined →
+            Merges self.old.query self.old.parts other self.new.parts }
+        ensures told { (other : Parts) → AreHeldParts self.old.query other →
+            JoinedAside self.old.query self.old.parts other joined →
+            told self.new.parts ≡ union (told self.old.parts) (told other) }
+        ensures fits { (other : Parts) → AreHeldParts self.old.query other →
+            JoinedAside self.old.query self.old.parts other joined → (world : World) →
+            IsWorld (kinds self.old.query.columns) world → Fits world self.old →
+            Fits world (record { query = self.old.query; parts = other }) →
+            Fits world self.new }
+    {
+        let Joined { parts } = joined;
+        let old = replace(&mut self.parts, parts);
+        fill(&mut self.parts, old);
+    }
+
+    /// Takes what another replica holds beside what this one does: afterwards it knows what either knew. The other must answer the same
+    /// query over the same schema, else `DifferentQuery` is told, and hold no other batch of a number, as far as that can still be
+    /// seen, else `OriginDisagrees`. A refused merge changes nothing.
+    pub fn merge(&mut self, other: &Replica) -> Result<(), MergeError>
+        ensures query { self.new.query ≡ self.old.query }
+        ensures merges { OnOk result
+            (Merges self.old.query self.old.parts other.now.parts self.new.parts) }
+        ensures told { OnOk result (told self.new.parts
+            ≡ union (told self.old.parts) (told other.now.parts)) }
+        ensures fits { OnOk result ((world : World) → IsWorld (kinds self.old.query.columns) world →
+            Fits world self.old → Fits world other.now → Fits world self.new) }
+        ensures refused { OnErr result (self.new ≡ self.old) }
+        ensures different { IfErr result (λ e. e ≡ DifferentQuery →
+            ¬ (SameQuery self.old.query other.now.query)) }
+        ensures same { OnOk result (other.now.query ≡ self.old.query) }
+        ensures disagree { IfErr result (λ e. e ≡ OriginDisagrees →
+            DisagreeSomewhere self.old.parts other.now.parts) }
+        ensures agree { IfErr result (λ e. e ≡ OriginDisagrees → (world : World) →
+            Fits world self.old → Fits world other.now → ⊥) }
+    {
+        let joined = self.join(other)?;
+        self.commit(joined);
+        Ok(())
+    }
+}
