@@ -119,6 +119,16 @@ refused_early part number batch kept r there other =
     if_err_to r (λ e. (e.batch ≡ batch) × (e.why ≡ OriginDisagrees) × (kept ≢ batch.rows)) (λ e. e.why ≡ OriginDisagrees → Disagrees part number batch.rows)
     (λ e is why. record { kept = kept; there = there; other = is.2 }) other
 
+-- a number behind the prefix that isn't early is not known
+pub unknown : (part : Part) (number : ℕ) → part.prefix < number → rows_at part.early number ≡ None → knows_number part number ≡ false
+unknown part number above none = grind (arith, above, ap is_some none)
+
+-- and so whatever is refused
+pub unknown_refused : {T : Type 0} (r : Result T RefusedBatch) (part : Part) (number : ℕ) → part.prefix < number → rows_at part.early number ≡ None
+    → IfErr r (λ e. e.why ≡ NoMemory → knows_number part number ≡ false)
+unknown_refused (Ok x) part number above none = tt
+unknown_refused (Err e) part number above none = λ _. unknown part number above none
+
 -- a batch was kept early, or handed back
 pub part_kept : (r : Result Delivered RefusedBatch) (query : Checked) (old new : Part) (batch : Batch) → IsPartOf query old → old.prefix + 1 < batch.number → batch.number ≤ LAST_NUMBER
     → ArePackedRows (kinds query.columns) batch.rows → IfOk r (λ reply. (reply ≡ Early) × (new ≡ record old { early = insert_entry nat_cmp old.early batch.number batch.rows }))

@@ -4,7 +4,7 @@ ghost use Rattle.std.specs.Prelude.{◌≡◌, ◌≤◌, ◌↔◌, IsTrue, IfO
 ghost use Rattle.having_filter.specs.Meaning.{meaning};
 ghost use Rattle.origin_prefix.specs.Parts.{Batches, IsPartOf, Settles};
 ghost use Rattle.origin_prefix.specs.Joins.{PartsDisagree, Joins, Unites};
-ghost use Rattle.origin_prefix.specs.declared.error.JoinError.TheVariants.{OriginDisagrees};
+ghost use Rattle.origin_prefix.specs.declared.error.JoinError.TheVariants.{NoMemory, OriginDisagrees};
 
 use crate::early::{copy_above, differ_behind};
 use crate::error::JoinError;
@@ -25,6 +25,8 @@ impl OriginPart {
         ensures agree { IfOk result (λ _. ¬ (PartsDisagree self.now other.now)) }
         ensures disagree { IfErr result (λ e. e ≡ OriginDisagrees →
             PartsDisagree self.now other.now) }
+        ensures memory { IfErr result (λ e. e ≡ NoMemory →
+            ¬ (PartsDisagree self.now other.now)) }
     {
         if self.disagrees(other) {
             return Err(JoinError::OriginDisagrees);

@@ -1,6 +1,6 @@
 //! What is held of one origin.
 
-ghost use Rattle.std.specs.Prelude.{◌≡◌, ◌≢◌, ◌≤◌, ◌+◌, ◌*◌, ℕ, List, [], map, IfOk, IfErr, OnOk, OnErr, IsTrue};
+ghost use Rattle.std.specs.Prelude.{◌≡◌, ◌≢◌, ◌≤◌, ◌+◌, ◌*◌, ℕ, List, [], map, false, IfOk, IfErr, OnOk, OnErr, IsTrue};
 ghost use Rattle.grouping_model.specs.declared.limits.TheConstants.{LAST_NUMBER, MOST_ROWS};
 ghost use Rattle.std.specs.List.{AllByRecursion};
 ghost use Rattle.std.specs.List.Sorted.{IsStrictlySortedBy};
@@ -256,6 +256,8 @@ impl OriginPart {
         ensures refused { IfErr result (λ e. (e.batch ≡ batch) × (self.new ≡ self.old)) }
         ensures why { IfErr result (λ e. e.why ≡ OriginDisagrees →
             Disagrees self.old batch.number batch.rows) }
+        ensures memory { IfErr result (λ e. e.why ≡ NoMemory →
+            knows_number self.old batch.number ≡ false) }
     {
         if batch.number <= self.prefix {
             return Ok(Delivered::Known);

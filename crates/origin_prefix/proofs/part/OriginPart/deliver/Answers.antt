@@ -1,4 +1,4 @@
-use Rattle.std.specs.Prelude.{◌≡◌, ◌≢◌, ◌+◌, ◌<◌, ◌≤◌, ℕ, List, Some}
+use Rattle.std.specs.Prelude.{◌≡◌, ◌≢◌, ◌+◌, ◌<◌, ◌≤◌, ℕ, List, Some, None}
 use Rattle.std.proofs.Common.{◌∙◌, sym, ap, subst, inl, inr, arith}
 use Rattle.std.proofs.lemmas.Bool.{cases_lt}
 use Rattle.std.specs.Option.{option_copied}
@@ -7,7 +7,7 @@ use Rattle.grouping_model.specs.declared.delivered.Delivered.{Delivered}
 use Rattle.grouping_model.specs.declared.delivered.Delivered.TheVariants.{Known}
 use Rattle.having_filter.specs.Meaning.{meaning}
 use Rattle.origin_prefix.specs.Parts.{Part, rows_at, IsPartOf, Delivers, Disagrees, behind}
-use Rattle.origin_prefix.proofs.DeliverLaws.{known_within, reply_early, refused_early, part_kept, part_settled, behind_gap, next_open}
+use Rattle.origin_prefix.proofs.DeliverLaws.{known_within, reply_early, refused_early, unknown_refused, part_kept, part_settled, behind_gap, next_open}
 use Rattle.origin_prefix.proofs.part.OriginPart.deliver.Goals as goal
 
 pub returns-then-batch-self-clause-delivers : goal.returns-then-batch-self-clause-delivers
@@ -55,3 +55,19 @@ returns-clause-part c =
     part_settled c.settle.result c.args.query.now c.args.self.now c.settle.new.self (behind c.args.self.now.prefix c.args.self.now.early (Some c.args.batch.rows)) c.requires.part
     (next_open c.args.query.now c.args.self.now c.args.batch.rows c.requires.part (omega (arith, above, next, prefix, high)) c.requires.rows)
     c.settle.ensures.settled c.settle.ensures.refused
+
+pub returns-then-batch-self-2-clause-memory : goal.returns-then-batch-self-2-clause-memory
+returns-then-batch-self-2-clause-memory c =
+    let part : Part = c.args.self.now in
+    let above : part.prefix < c.args.batch.number = grind (arith, c.if-batch-self.false, ap (λ (p : Part). p.prefix) c.self.view_is) in
+    let none : rows_at part.early c.args.batch.number ≡ None =
+    subst (λ (p : Part). rows_at p.early c.args.batch.number ≡ None) c.self.view_is (sym c.get.ensures.value ∙ ap option_copied c.in_default.is) in
+    unknown_refused c.keep_early.result part c.args.batch.number above none
+
+pub returns-clause-memory : goal.returns-clause-memory
+returns-clause-memory c =
+    let part : Part = c.args.self.now in
+    let above : part.prefix < c.args.batch.number = grind (arith, c.if-batch-self.false, ap (λ (p : Part). p.prefix) c.self.view_is) in
+    let none : rows_at part.early c.args.batch.number ≡ None =
+    subst (λ (p : Part). rows_at p.early c.args.batch.number ≡ None) c.self.view_is (sym c.get.ensures.value ∙ ap option_copied c.in_default.is) in
+    unknown_refused c.match-settle.result part c.args.batch.number above none
