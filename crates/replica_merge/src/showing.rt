@@ -5,7 +5,7 @@ ghost use Rattle.grouping_model.specs.Datum.{Null, Row, HasKinds};
 ghost use Rattle.grouping_model.specs.Aggregates.{Partial, Plain, outcome};
 ghost use Rattle.grouping_model.specs.Grouping.{Group};
 ghost use Rattle.packed_rows.specs.Packing.{packing};
-ghost use Rattle.packed_rows.specs.View.{datum_of, row_of};
+ghost use Rattle.packed_rows.specs.View.{row_of};
 ghost use Rattle.agg_protocol.specs.Results.{outcome_of};
 ghost use Rattle.agg_protocol.specs.States.{most_rows};
 ghost use Rattle.agg_library.specs.StateRows.{Denotes};
@@ -22,25 +22,13 @@ use having_filter::{Answer, Query, Source};
 use packed_rows::{RowError, Value, unpack_key};
 use std::alloc::{AllocError, Global};
 
-/// A value of a key, as an answer has it.
-fn key_value(value: Value<'_>) -> ResultValue<'_>
-    ensures { outcome_of result ≡ Plain (datum_of value.entry) }
-{
-    match value {
-        Value::Null => ResultValue::Null,
-        Value::Bigint(number) => ResultValue::Bigint(number),
-        Value::Boolean(truth) => ResultValue::Boolean(truth),
-        Value::Text(text) => ResultValue::Text(text),
-    }
-}
-
 /// The values of a key, as an answer has them.
 fn key_values<'a>(alloc: Global, key: &[Value<'a>]) -> Result<Vec<ResultValue<'a>>, AllocError>
     ensures { IfOk result (λ values. map outcome_of values.items ≡ map Plain (row_of key.now)) }
 {
     let mut values = Vec::with_capacity(alloc, key.len())?;
     for value in key {
-        values.push(key_value(*value))?;
+        values.push(ResultValue::from(*value))?;
     }
     Ok(values)
 }
