@@ -4,8 +4,6 @@
 mod delivered;
 pub mod limits;
 
-pub use delivered::Delivered;
-
 ghost use Rattle.std.specs.Prelude.{◌≡◌, ◌-◌, nat_lt, filter, ◌+◌, ◌<◌, ◌≤◌, ◌≤ℤ◌, ◌↔◌, ℕ, ℤ, Bool, IsSome, IsTrue, ◌≢◌, FitsSigned, List, Contains, [], ◌∷◌, pos, negsuc, ◌||◌, ◌++◌, true, false, codes, if◌then◌else◌};
 ghost use Rattle.std.specs.Int.{w64};
 ghost use Rattle.std.specs.Ordering.{eq_by_cmp, nat_cmp};
@@ -24,6 +22,8 @@ ghost use Rattle.grouping_model.specs.Answer.{answer, answer_over};
 ghost use Rattle.grouping_model.specs.Datum.{Datum, Kind, HasKind, HasKinds, datum_cmp, Row, row_cmp, same_row, Null, Boolean, Text};
 ghost use Rattle.grouping_model.specs.Aggregates.{bits_of_all, bits_of_some, bits_of_odd, Function, partial, Outcome, Plain, Numeric, least, greatest, has_bit, number_of_bits};
 ghost use Rattle.grouping_model.specs.Examples.{sums, three_rows, three_batches, one_to_five, six_and_eight, triple, oslo, bergen, grand_total, any_rows, extremes, of_nulls, a, nulls_and_numbers, last_unknown, big_ones, not_itself, bits_and_booleans, twelve_and_ten, number};
+
+pub use delivered::Delivered;
 
 /// Uniting what is known doesn't depend on order, grouping or repetition, and gives what either side knows.
 pub fn uniting()

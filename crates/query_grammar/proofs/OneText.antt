@@ -1,18 +1,15 @@
 -- Checked queries are told apart by their texts.
-use Rattle.std.specs.Prelude.{◌≡◌, ℕ, List, Result, Ok, Err}
+use Rattle.std.specs.Prelude.{◌≡◌, Result, Ok, Err}
 use Rattle.std.proofs.Common.{sym, ◌∙◌, ap, subst}
 use Rattle.query_tokens.specs.Tokens.{tokens_in}
-use Rattle.query_tokens.specs.Words.{Placed}
-use Rattle.query_tokens.specs.declared.fault.Fault.{Fault}
 use Rattle.query_tokens.specs.Spelling.{lexemes_of}
-use Rattle.packed_rows.specs.Columns.{Column, IsSchemaText, printed}
+use Rattle.packed_rows.specs.Columns.{IsSchemaText, printed}
 use Rattle.packed_rows.proofs.PrintedColumns.{printed_again, one_schema}
 use Rattle.having_filter.specs.Checks.{checked}
 use Rattle.having_filter.specs.Kept as kept
 use Rattle.having_filter.specs.Kept.{by_names}
 use Rattle.having_filter.specs.Meaning.{Checked}
 use Rattle.having_filter.specs.Spelling.{spelling}
-use Rattle.having_filter.specs.declared.error.QueryError.{QueryError}
 use Rattle.having_filter.proofs.PassedLaws.{passes_first, passes_places}
 use Rattle.having_filter.proofs.NormalLaws.{columns_of_query, named_again}
 use Rattle.query_grammar.specs.Canonical.{canonical}

@@ -8,6 +8,6 @@
 mod laws;
 
 pub use laws::{
-    canonical_text_is_read, one_query, one_text_one_query, refused_tokens, what_is_a_query_can_be_written,
-    what_is_a_query_is_read, what_is_read_is_a_query,
+    canonical_text_is_read, one_query, one_text_one_query, refused_tokens,
+    what_is_a_query_can_be_written, what_is_a_query_is_read, what_is_read_is_a_query,
 };

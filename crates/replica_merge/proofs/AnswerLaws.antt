@@ -1,8 +1,6 @@
 -- The inputs of an answer, and the answer that their groups give.
-use Rattle.std.specs.Prelude.{◌≡◌, ◌≢◌, refl, ℕ, suc, ◌+◌, ◌*◌, ◌^◌, ◌<◌, ◌≤◌, ◌⊎◌, true, false, cond, List, [], ◌∷◌, ◌++◌, map, filter, flat_map, length, All, Option, Some, None, unwrap_or}
-use Rattle.std.proofs.Common.{sym, ◌∙◌, ap, subst, inl, inr, append_assoc, append-nil, arith}
-use Rattle.std.proofs.lemmas.Bool.{cases_lt}
-use Rattle.std.proofs.lemmas.Grind.{flat_map-append}
+use Rattle.std.specs.Prelude.{◌≡◌, refl, ℕ, ◌+◌, ◌*◌, ◌^◌, ◌<◌, ◌≤◌, ◌⊎◌, true, false, cond, List, [], ◌∷◌, ◌++◌, map, filter, flat_map, length, All, Some}
+use Rattle.std.proofs.Common.{sym, ◌∙◌, ap, subst, inl, inr, arith}
 use Rattle.std.proofs.lemmas.List.{length-map}
 use Rattle.std.proofs.lemmas.List.Sums.{sum_by-cons}
 use Rattle.std.proofs.lemmas.List.Elements.{All-from_recursion}
@@ -17,15 +15,15 @@ use Rattle.grouping_model.specs.Condition.{is_met}
 use Rattle.grouping_model.specs.Query.{Query}
 use Rattle.grouping_model.specs.Grouping.{Group, part, key_of, selected, group, partials}
 use Rattle.grouping_model.specs.Parts.{answered, source_in}
-use Rattle.grouping_model.specs.World.{World, prefix, origin_rows, known_rows}
-use Rattle.grouping_model.specs.Answer.{answer, answer_over}
+use Rattle.grouping_model.specs.World.{World, origin_rows, known_rows}
+use Rattle.grouping_model.specs.Answer.{answer}
 use Rattle.grouping_model.proofs.GroupLaws.{answer_of_part}
 use Rattle.agg_protocol.specs.States.{most_rows}
 use Rattle.having_filter.specs.Meaning.{Checked, meaning}
 use Rattle.hash_agg.specs.Runs.{Entry}
 use Rattle.hash_agg.specs.Standing.{AreGroups}
-use Rattle.hash_agg.specs.Inputs.{Counted, IsInput, AreInputsOf, IsAggregate, all_rows, rows_in, on_end}
-use Rattle.origin_prefix.specs.Parts.{Part, IsPartOf}
+use Rattle.hash_agg.specs.Inputs.{IsInput, AreInputsOf, IsAggregate, all_rows, rows_in, on_end}
+use Rattle.origin_prefix.specs.Parts.{Part}
 use Rattle.origin_prefix.specs.Fitting.{rows_upto, FitsOrigin}
 use Rattle.origin_prefix.proofs.ByNumber.{numbers, above_first, rising_rest}
 use Rattle.replica_merge.specs.Groups.{answer_rows, shown_of_none, groups_shown}

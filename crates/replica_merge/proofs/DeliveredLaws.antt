@@ -1,11 +1,10 @@
 -- What a replica holds and tells after a batch.
-use Rattle.std.specs.Prelude.{◌≡◌, ◌≢◌, refl, ℕ, suc, ◌+◌, ◌<◌, ◌≤◌, ◌⊎◌, ◌==◌, ◌||◌, ◌&&◌, nat_le, Bool, true, false, cond, List, [], ◌∷◌, map, Option, Some, None, unwrap_or, if◌then◌else◌, IsTrue, Result, Ok, Err, IfOk, IfErr, OnOk, OnErr}
-use Rattle.std.proofs.Common.{◌∙◌, sym, ap, subst, inl, inr, arith, eq-eqb}
+use Rattle.std.specs.Prelude.{◌≡◌, ◌≢◌, refl, ℕ, ◌+◌, ◌<◌, ◌≤◌, ◌⊎◌, ◌==◌, ◌||◌, ◌&&◌, nat_le, Bool, true, false, cond, List, [], ◌∷◌, Option, Some, None, unwrap_or, if◌then◌else◌, Result, Ok, Err, IfOk, IfErr, OnOk}
+use Rattle.std.proofs.Common.{◌∙◌, sym, ap, subst, inl, inr, arith}
 use Rattle.std.proofs.lemmas.Bool.{true≢false}
 use Rattle.std.proofs.lemmas.Map.Steps.{set_value_same}
 use Rattle.std.specs.Option.{is_some}
 use Rattle.std.specs.Result.{is_err}
-use Rattle.std.specs.List.{AllByRecursion}
 use Rattle.std.specs.List.Sorted.{IsStrictlySortedBy}
 use Rattle.std.specs.Map.{set_value, remove_entry}
 use Rattle.std.specs.BTreeMap.{BTreeMap, insert_entry, is_at, WritesThrough}
@@ -16,19 +15,19 @@ use Rattle.grouping_model.specs.Datum.{Row}
 use Rattle.grouping_model.specs.declared.delivered.Delivered.{Delivered}
 use Rattle.grouping_model.specs.declared.delivered.Delivered.TheVariants.{Folded, Early, Known}
 use Rattle.grouping_model.specs.Replies.{InLimits, reply_of}
-use Rattle.grouping_model.specs.World.{World, IsWorld, Batch, batch_cmp, Knowledge, knows, learn, prefix}
+use Rattle.grouping_model.specs.World.{World, IsWorld, knows, learn, prefix}
 use Rattle.grouping_model.proofs.KnowledgeLaws.{same_knowledge, knows_learn}
 use Rattle.packed_rows.specs.Columns.{kinds}
 use Rattle.batch_reader.specs.Rows.{packings}
 use Rattle.having_filter.specs.Meaning.{Checked, meaning}
 use Rattle.origin_prefix.specs.Parts.{Part, empty, rows_at, knows_number, IsPartOf, Delivers, Disagrees}
 use Rattle.origin_prefix.specs.Fitting.{tells, FitsOrigin}
-use Rattle.origin_prefix.proofs.Lists.{is_itself, is_same, is_other, same_or_other}
-use Rattle.origin_prefix.proofs.ByNumber.{numbers, at, at_head, behind_head, found_holds, all_found, put_same, put_else}
+use Rattle.origin_prefix.proofs.Lists.{is_itself, is_other, same_or_other}
+use Rattle.origin_prefix.proofs.ByNumber.{at, all_found, put_same, put_else}
 use Rattle.origin_prefix.proofs.TellingLaws.{delivered_tells}
 use Rattle.origin_prefix.proofs.FittingLaws.{fits_delivered, agrees_delivered}
-use Rattle.replica_merge.specs.Replicas.{Parts, Held, part_at, part_of, told, Fits, IsHeldPart, AreHeldParts, DeliversAt}
-use Rattle.replica_merge.proofs.ToldLaws.{told_is, same_batch, HasGap, part_gap, empty_gap, prefix_told, part_here}
+use Rattle.replica_merge.specs.Replicas.{Parts, part_at, part_of, told, Fits, IsHeldPart, AreHeldParts, DeliversAt}
+use Rattle.replica_merge.proofs.ToldLaws.{told_is, same_batch, HasGap, part_gap, prefix_told, part_here}
 use Rattle.replica_merge.proofs.HeldLaws.{held_part}
 
 -- ---- maps

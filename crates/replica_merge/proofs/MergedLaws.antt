@@ -1,13 +1,12 @@
 -- What a replica holds and tells after a merge.
-use Rattle.std.specs.Prelude.{◌≡◌, ◌≢◌, refl, ℕ, ◌+◌, ◌<◌, ◌≤◌, ◌⊎◌, ◌||◌, ◌&&◌, nat_eq, Bool, true, false, cond, List, [], ◌∷◌, map, length, Option, Some, None, option_map, unwrap_or, if◌then◌else◌}
+use Rattle.std.specs.Prelude.{◌≡◌, ◌≢◌, refl, ℕ, ◌<◌, ◌⊎◌, ◌||◌, ◌&&◌, nat_eq, Bool, true, false, cond, List, [], ◌∷◌, length, Option, Some, None, option_map, unwrap_or, if◌then◌else◌}
 use Rattle.std.proofs.Common.{◌∙◌, sym, ap, subst, inl, inr, arith}
-use Rattle.std.proofs.lemmas.Bool.{true≢false, cases_lt}
+use Rattle.std.proofs.lemmas.Bool.{true≢false}
 use Rattle.std.specs.Option.{is_some}
-use Rattle.std.specs.List.{AllByRecursion}
 use Rattle.std.specs.List.Sorted.{IsStrictlySortedBy}
-use Rattle.std.specs.BTreeMap.{BTreeMap, insert_entry, is_at, WritesThrough}
+use Rattle.std.specs.BTreeMap.{BTreeMap, insert_entry, WritesThrough}
 use Rattle.std.specs.Ordering.{eq_by_cmp, nat_cmp}
-use Rattle.grouping_model.specs.World.{World, IsWorld, Batch, knows, union}
+use Rattle.grouping_model.specs.World.{World, IsWorld, union}
 use Rattle.grouping_model.proofs.KnowledgeLaws.{same_knowledge, knows_union}
 use Rattle.packed_rows.specs.Columns.{kinds}
 use Rattle.having_filter.specs.Meaning.{Checked, meaning}
@@ -15,14 +14,14 @@ use Rattle.origin_prefix.specs.Parts.{Part, empty, is_nothing, IsPartOf}
 use Rattle.origin_prefix.specs.Joins.{either, Joins, PartsDisagree}
 use Rattle.origin_prefix.specs.Fitting.{tells, FitsOrigin}
 use Rattle.origin_prefix.proofs.Lists.{is_itself, is_other, same_or_other}
-use Rattle.origin_prefix.proofs.ByNumber.{numbers, at, at_head, behind_head, found_holds, all_found, put_same, put_else, first_alone, some_is}
+use Rattle.origin_prefix.proofs.ByNumber.{numbers, at, at_head, behind_head, all_found, put_same, put_else, first_alone, some_is}
 use Rattle.origin_prefix.proofs.TellingLaws.{joined_tells}
 use Rattle.origin_prefix.proofs.FittingLaws.{fits_joined, agrees_joined}
 use Rattle.origin_prefix.specs.declared.error.JoinError.{JoinError}
 use Rattle.origin_prefix.specs.declared.error.JoinError.TheVariants as join
 use Rattle.replica_merge.specs.Errors.{merge_error}
 use Rattle.replica_merge.specs.declared.error.MergeError.TheVariants as merge
-use Rattle.replica_merge.specs.Replicas.{Parts, Held, part_at, part_of, told, Fits, IsHeldPart, AreHeldParts, AsideAt, JoinedAside, JoinsAt, Merges, DisagreeSomewhere, filled}
+use Rattle.replica_merge.specs.Replicas.{Parts, part_at, part_of, told, Fits, IsHeldPart, AreHeldParts, AsideAt, JoinedAside, JoinsAt, Merges, DisagreeSomewhere, filled}
 use Rattle.replica_merge.proofs.ToldLaws.{told_is, some_told, empty_tells, part_here}
 use Rattle.replica_merge.proofs.HeldLaws.{held_part}
 use Rattle.replica_merge.proofs.DeliveredLaws.{part_is, some_if_tells}
@@ -168,6 +167,30 @@ not_nothing p (inr some) = both (nat_eq p.prefix 0) (nat_eq (length p.early) 0) 
     of_early [] some = absurd (some refl)
     of_early (e ∷ es) some = grind arith
 
+-- what is told after a merge
+merges_tells : (query : Checked) (old other new : Parts) → AreHeldParts query old → AreHeldParts query other → Merges query old other new
+    → (o n : ℕ) → tells (part_of new o) n ≡ (tells (part_of old o) n || tells (part_of other o) n)
+merges_tells query old other new held theirs merges o n = go (part_at other o) refl (merges o)
+  where
+    or_false : (b : Bool) → b ≡ (b || false)
+    or_false true = refl
+    or_false false = refl
+
+    go : (found : Option Part) → part_at other o ≡ found → JoinsAt query (part_of old o) (part_at old o) found (part_at new o) → tells (part_of new o) n ≡ (tells (part_of old o) n || tells (unwrap_or (part_at other o) empty) n)
+    go None e at =
+        ap (λ x. tells (unwrap_or x empty) n) at ∙ or_false (tells (part_of old o) n)
+        ∙ sym (ap (λ b. tells (part_of old o) n || b) (ap (λ x. tells (unwrap_or x empty) n) e ∙ empty_tells n))
+    go (Some t) e at =
+        ap (λ x. tells (unwrap_or x empty) n) at.1
+        ∙ joined_tells query (meaning query) (part_of old o) t at.0 (part_is query old held o) (held_part query other theirs o t e).part at.2 n
+        ∙ sym (ap (λ x. tells (part_of old o) n || tells (unwrap_or x empty) n) e)
+
+pub merges_told : (query : Checked) (old other new : Parts) → AreHeldParts query old → AreHeldParts query other → IsStrictlySortedBy nat_cmp (numbers new) → Merges query old other new → told new ≡ union (told old) (told other)
+merges_told query old other new held theirs rising merges =
+    same_knowledge (told new) (union (told old) (told other)) (λ batch.
+    told_is new rising batch.0 batch.1 ∙ merges_tells query old other new held theirs merges batch.0 batch.1
+    ∙ sym (knows_union (told old) (told other) batch ∙ (λ i. told_is old held.rising batch.0 batch.1 i || told_is other theirs.rising batch.0 batch.1 i)))
+
 module _ (query : Checked) (old other joined new : Parts) (held : AreHeldParts query old) (theirs : AreHeldParts query other) (aside : JoinedAside query old other joined)
     (back : (o : ℕ) → part_at new o ≡ filled (part_at joined o) (part_at old o)) where
   merges_at : (o : ℕ) → JoinsAt query (part_of old o) (part_at old o) (part_at other o) (part_at new o)
@@ -183,13 +206,12 @@ module _ (query : Checked) (old other joined new : Parts) (held : AreHeldParts q
 
       go : (found : Option Part) → part_at other o ≡ found → AsideAt query (part_of old o) (part_at old o) found (part_at joined o) → JoinsAt query (part_of old o) (part_at old o) found (part_at new o)
       go None e at = back o ∙ ap (λ x. filled x (part_at old o)) at ∙ own_back (part_at old o)
-      go (Some t) e at =
-          (
-            at.0,
-            back o ∙ ap (λ x. filled x (part_at old o)) at.1
+      go (Some t) e at = (
+        at.0,
+        back o ∙ ap (λ x. filled x (part_at old o)) at.1
             ∙ kept at.0 (part_at old o) (not_nothing at.0 (some_joined query (part_of old o) t at.0 o (part_is query old held o) (held_part query other theirs o t e) at.2)),
-            at.2,
-          )
+        at.2,
+      )
 
   pub merges : Merges query old other new
   merges = merges_at
@@ -214,27 +236,8 @@ module _ (query : Checked) (old other joined new : Parts) (held : AreHeldParts q
           kept None e = refl
           kept (Some q) e = ap (λ b. if b then Some q else Some at.0) e
 
-  merged_tells : (o n : ℕ) → tells (part_of new o) n ≡ (tells (part_of old o) n || tells (part_of other o) n)
-  merged_tells o n = go (part_at other o) refl (merges_at o)
-    where
-      or_false : (b : Bool) → b ≡ (b || false)
-      or_false true = refl
-      or_false false = refl
-
-      go : (found : Option Part) → part_at other o ≡ found → JoinsAt query (part_of old o) (part_at old o) found (part_at new o) → tells (part_of new o) n ≡ (tells (part_of old o) n || tells (unwrap_or (part_at other o) empty) n)
-      go None e at =
-          ap (λ x. tells (unwrap_or x empty) n) at ∙ or_false (tells (part_of old o) n)
-          ∙ sym (ap (λ b. tells (part_of old o) n || b) (ap (λ x. tells (unwrap_or x empty) n) e ∙ empty_tells n))
-      go (Some t) e at =
-          ap (λ x. tells (unwrap_or x empty) n) at.1
-          ∙ joined_tells query (meaning query) (part_of old o) t at.0 (part_is query old held o) (held_part query other theirs o t e).part at.2 n
-          ∙ sym (ap (λ x. tells (part_of old o) n || tells (unwrap_or x empty) n) e)
-
   pub merged_told : IsStrictlySortedBy nat_cmp (numbers new) → told new ≡ union (told old) (told other)
-  merged_told rising =
-      same_knowledge (told new) (union (told old) (told other)) (λ batch.
-      told_is new rising batch.0 batch.1 ∙ merged_tells batch.0 batch.1
-      ∙ sym (knows_union (told old) (told other) batch ∙ (λ i. told_is old held.rising batch.0 batch.1 i || told_is other theirs.rising batch.0 batch.1 i)))
+  merged_told rising = merges_told query old other new held theirs rising merges_at
 
   pub merged_fits : (world : World) → IsWorld (kinds query.columns) world → Fits world (record { query = query; parts = old }) → Fits world (record { query = query; parts = other }) → Fits world (record { query = query; parts = new })
   merged_fits world is fits fits_other o = go (part_at other o) refl (merges_at o)

@@ -13,8 +13,8 @@ use Rattle.std.specs.Cmp.{nat_cmp_total}
 use Rattle.std.specs.FinMap.{nat_cmp-IsAntisymmetric}
 use Rattle.grouping_model.specs.Rising.{is_among}
 use Rattle.grouping_model.specs.Rising.Facts.{among-append, same_members}
-use Rattle.grouping_model.specs.Replies.{KnownOrigin, of_origin, known_list}
-use Rattle.grouping_model.specs.World.{Batch, batch_cmp, Knowledge, knows, prefix, early, origins, count_up}
+use Rattle.grouping_model.specs.Replies.{of_origin, known_list}
+use Rattle.grouping_model.specs.World.{batch_cmp, knows, prefix, early, origins, count_up}
 use Rattle.grouping_model.proofs.Members.{Member, from_contains, to_contains, among_member}
 use Rattle.grouping_model.proofs.KnowledgeLaws.{knows_knowing}
 use Rattle.grouping_model.proofs.EarlyLaws.{early_are, early_rise, origins_are, origins_rise}
@@ -24,8 +24,8 @@ use Rattle.having_filter.specs.Meaning.{Checked}
 use Rattle.std.specs.Map.{lookup}
 use Rattle.origin_prefix.specs.Parts.{Part, empty, rows_at, IsEarly, IsPartOf}
 use Rattle.origin_prefix.specs.Fitting.{tells}
-use Rattle.origin_prefix.proofs.Lists.{is_itself, is_same, is_other, same_or_other}
-use Rattle.origin_prefix.proofs.ByNumber.{numbers, at_head, behind_head, found_holds, none_found, above_first, rising_rest, first_alone, all_found}
+use Rattle.origin_prefix.proofs.Lists.{is_itself, is_other, same_or_other}
+use Rattle.origin_prefix.proofs.ByNumber.{numbers, at_head, behind_head, found_holds, none_found, rising_rest, first_alone, all_found}
 use Rattle.replica_merge.specs.Replicas.{Parts, part_at, part_of, batches_of, told, IsHeldPart, AreHeldParts, known_part}
 
 -- ---- membership

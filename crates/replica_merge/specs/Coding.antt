@@ -1,5 +1,4 @@
 -- What a replica holds as plain parts, which tell two of them apart. All of this is our own.
-use Rattle.std.specs.Prelude.{ℕ, List}
 use mathlib.Core.Path.{refl}
 use base.Stored.{Coded}
 use Rattle.std.specs.Coded.{code_by, coded×, coded_list, coded_ℕ}

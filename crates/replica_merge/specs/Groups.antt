@@ -1,17 +1,10 @@
 -- The inputs that a replica aggregates, and the rows of an answer. All of this is our own.
-use Rattle.std.specs.Prelude.{◌≡◌, ℕ, ◌≤◌, List, [], ◌∷◌, map, length, if◌then◌else◌}
-use Rattle.std.specs.List.{AllByRecursion}
-use Rattle.grouping_model.specs.Datum.{Row}
+use Rattle.std.specs.Prelude.{ℕ, List, [], ◌∷◌, map, if◌then◌else◌}
 use Rattle.grouping_model.specs.Aggregates.{Outcome}
 use Rattle.grouping_model.specs.Condition.{is_met}
 use Rattle.grouping_model.specs.Query.{Query}
-use Rattle.grouping_model.specs.Grouping.{Group, part, partials}
+use Rattle.grouping_model.specs.Grouping.{Group, partials}
 use Rattle.grouping_model.specs.Parts.{source_in}
-use Rattle.agg_protocol.specs.States.{most_rows}
-use Rattle.hash_agg.specs.declared.input.Input.{Input}
-use Rattle.hash_agg.specs.Runs.{Entry}
-use Rattle.hash_agg.specs.Standing.{AreGroups}
-use Rattle.hash_agg.specs.Inputs.{brought, ArePackings, AreInputsOf, IsInput, all_rows, on_end}
 
 -- the row of an answer that a group gives, and none where HAVING isn't true of it
 abbrev pub answer_rows : Query → Group → List (List Outcome)

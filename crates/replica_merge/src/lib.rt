@@ -3,13 +3,14 @@
 
 mod error;
 mod known;
+mod laws;
 mod merging;
-
 mod replica;
 mod showing;
 
 pub use error::MergeError;
 pub use known::Known;
+pub use laws::merged_knowledge;
 pub use merging::Joined;
 pub use origin_prefix::{Delivered, JoinError, RefusedBatch};
 pub use replica::Replica;

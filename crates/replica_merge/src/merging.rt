@@ -213,6 +213,8 @@ impl Replica {
         ensures different { IfErr result (λ e. e ≡ DifferentQuery →
             ¬ (SameQuery self.old.query other.now.query)) }
         ensures same { OnOk result (other.now.query ≡ self.old.query) }
+        ensures same_else { IfErr result (λ e. e ≢ DifferentQuery →
+            other.now.query ≡ self.old.query) }
         ensures disagree { IfErr result (λ e. e ≡ OriginDisagrees →
             DisagreeSomewhere self.old.parts other.now.parts) }
         ensures agree { IfErr result (λ e. e ≡ OriginDisagrees → (world : World) →

@@ -48,10 +48,7 @@ impl Model for Replica {
 }
 
 /// The numbers of early batches, rising.
-fn early_numbers(
-    alloc: Global,
-    early: &BTreeMap<u32, PackedRows>,
-) -> Result<Vec<u32>, AllocError>
+fn early_numbers(alloc: Global, early: &BTreeMap<u32, PackedRows>) -> Result<Vec<u32>, AllocError>
     ensures { IfOk result (λ numbers. numbers.items
         ≡ map (λ (batch : ℕ × List (List ℕ)). batch.0) early.now.entries) }
 {
@@ -63,10 +60,7 @@ fn early_numbers(
 }
 
 /// What is known of origins.
-fn known_parts(
-    alloc: Global,
-    parts: &BTreeMap<u16, OriginPart>,
-) -> Result<Vec<Known>, AllocError>
+fn known_parts(alloc: Global, parts: &BTreeMap<u16, OriginPart>) -> Result<Vec<Known>, AllocError>
     ensures { IfOk result (λ list. map known_of list.items ≡ map known_part parts.now.entries) }
 {
     let mut list = Vec::with_capacity(alloc, parts.len())?;

@@ -6,3 +6,4 @@ pub mod RunLaws
 pub mod ReplyLaws
 pub mod QueryLaws
 pub mod SameLaws
+pub mod AgreementLaws

@@ -1,8 +1,13 @@
--- Two replicas, of one script or of two, that know the same. All of this is our own.
-use Rattle.std.specs.Prelude.{ℕ, ◌≡◌, List, [], ◌∷◌, Some, IsTrue}
+-- When a script agrees with a world, and two replicas, of one script or of two, that know the same. All of this is our own.
+use Rattle.std.specs.Prelude.{ℕ, ◌≡◌, ◌≤◌, ◌==◌, ◌&&◌, List, [], ◌∷◌, All, Contains, length, Some, None, IfSome, IsTrue, unwrap_or, if◌then◌else◌}
+use Rattle.grouping_model.specs.Datum.{HasKinds}
+use Rattle.grouping_model.specs.declared.limits.TheConstants.{LAST_ORIGIN, LAST_NUMBER, MOST_ROWS}
+use Rattle.packed_rows.specs.Columns.{Column, kinds}
+use Rattle.script_io.specs.Records.{Record}
+use Rattle.script_commands.specs.Commands.{Command, Request, Feed, request_of}
 use Rattle.grouping_model.specs.World.{World, Batch, Knowledge, knows}
 use Rattle.having_filter.specs.Meaning.{Checked}
-use Rattle.script_machine.specs.Machine.{State, Reply, after}
+use Rattle.script_machine.specs.Machine.{State, Reply, Has_columns, Fed, IsBatch, after}
 
 -- what is there after replies, one after the other
 abbrev pub after_all : State → List Reply → State
@@ -20,3 +25,38 @@ pub record KnowTheSame (here there : State) (a b : List ℕ) (world other : Worl
   pub knows_there : there.replicas b ≡ Some known_there
   pub same : (batch : Batch) → knows known batch ≡ knows known_there batch
   pub rows : (origin number : ℕ) → IsTrue (knows known (origin, number)) → world origin number ≡ other origin number
+
+-- the world of some batches: the first that has a number counts
+abbrev pub world_of : List Fed → World
+world_of [] origin number = None
+world_of (fed ∷ feds) origin number = if fed.origin == origin && fed.number == number then Some fed.rows else world_of feds origin number
+
+-- no origin gave one number to two batches
+abbrev pub OneBatchEach : List Fed → Type 0
+OneBatchEach feds = (a b : Fed) → Contains feds a → Contains feds b → a.origin ≡ b.origin → a.number ≡ b.number → a.rows ≡ b.rows
+
+-- a batch within the limits, of these columns
+pub record IsOfColumns (columns : List Column) (fed : Fed) : Type 0 where
+  pub origin : fed.origin ≤ LAST_ORIGIN
+  pub first : 1 ≤ fed.number
+  pub last : fed.number ≤ LAST_NUMBER
+  pub few : length fed.rows ≤ MOST_ROWS
+  pub rows : All (HasKinds (kinds columns)) fed.rows
+
+-- the columns that were told are those of these batches
+abbrev pub ColumnsOf : List Fed → Reply → Type 0
+ColumnsOf feds (Has_columns columns) = All (IsOfColumns columns) feds
+ColumnsOf feds reply = Unit {0}
+
+-- a feed to a replica that is there feeds one of these batches, if it reads as a batch
+abbrev pub FeedsAmong : List Fed → State → Request → List Record → Type 0
+FeedsAmong feds old (Feed name origin number told) owned =
+    IfSome (old.replicas name) (λ known. (fed : Fed) → IsBatch (kinds (unwrap_or old.columns [])) origin number told owned fed → Contains feds fed)
+FeedsAmong feds old request owned = Unit {0}
+
+-- the batches that a run feeds are among these
+unfoldable pub AreAmong : List Fed → State → List Command → List Reply → Type 0
+AreAmong feds old [] [] = Unit {0}
+AreAmong feds old (command ∷ commands) (reply ∷ replies) =
+    ColumnsOf feds reply × FeedsAmong feds old (request_of command.head) command.owned × AreAmong feds (after old reply) commands replies
+AreAmong feds old commands replies = ⊥

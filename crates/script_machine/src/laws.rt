@@ -3,9 +3,9 @@
 ghost use Rattle.std.specs.Prelude.{◌≡◌, List, ℕ};
 ghost use Rattle.grouping_model.specs.World.{World};
 ghost use Rattle.script_io.specs.Records.{Record};
-ghost use Rattle.script_commands.specs.Commands.{Request, Answer, Known};
-ghost use Rattle.script_machine.specs.Agreement.{after_all, KnowTheSame};
-ghost use Rattle.script_machine.specs.Machine.{State, Reply, Replies, start};
+ghost use Rattle.script_commands.specs.Commands.{Command, Request, Answer, Known};
+ghost use Rattle.script_machine.specs.Agreement.{after_all, KnowTheSame, OneBatchEach, AreAmong, world_of};
+ghost use Rattle.script_machine.specs.Machine.{State, Reply, Fed, Replies, Agrees, start};
 ghost use Rattle.script_machine.specs.Text.{reply_text};
 
 /// A command has one reply, memory being there: the machine's step is a function of what is there and the command.
@@ -29,4 +29,12 @@ pub fn same_batches_same_bytes()
         Replies (after_all start here) (Known a) owned r →
         Replies (after_all start there) (Known b) owned s →
         reply_text world r ≡ reply_text other s }
+{}
+
+/// A script agrees with a world if its origins give each number to one batch: the world of the batches that are fed.
+#[tactic(auto, using(crate::proofs::AgreementLaws::agrees))]
+pub fn one_batch_each_agrees()
+    ensures { (feds : List Fed) (commands : List Command) (replies : List Reply) →
+        OneBatchEach feds → AreAmong feds start commands replies →
+        Agrees (world_of feds) start commands replies }
 {}

@@ -13,5 +13,5 @@ mod texts;
 
 pub use engine::{Observer, Outcome, run, run_observed};
 pub use error::RunError;
-pub use laws::{one_reply, same_batches_same_bytes};
+pub use laws::{one_batch_each_agrees, one_reply, same_batches_same_bytes};
 pub use refusal::{Refusal, name};

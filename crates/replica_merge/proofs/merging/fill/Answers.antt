@@ -1,4 +1,3 @@
-use Rattle.std.specs.Prelude.{◌≡◌, ℕ, map}
 use Rattle.std.proofs.Common.{◌∙◌, sym, ap, subst}
 use Rattle.std.specs.List.Sorted.{IsStrictlySortedBy}
 use Rattle.std.specs.Ordering.{nat_cmp}

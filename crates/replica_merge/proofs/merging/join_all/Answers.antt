@@ -1,10 +1,8 @@
-use Rattle.std.specs.Prelude.{◌≡◌, ℕ, List, Some, Err, unwrap_or, IfErr}
-use Rattle.std.proofs.Common.{◌∙◌, sym, ap, subst}
+use Rattle.std.specs.Prelude.{◌≡◌, ℕ, unwrap_or, IfErr}
+use Rattle.std.proofs.Common.{◌∙◌, sym, subst}
 use Rattle.std.proofs.lemmas.Result.{err_from_is_err_and}
 use Rattle.std.specs.List.{AllByRecursion}
 use Rattle.std.specs.List.Sorted.{IsStrictlySortedBy}
-use Rattle.std.specs.Option.{option_copied}
-use Rattle.std.specs.BTreeMap.{insert_entry}
 use Rattle.std.specs.Ordering.{nat_cmp}
 use Rattle.having_filter.specs.Meaning.{meaning}
 use Rattle.origin_prefix.specs.Joins.{Joins, PartsDisagree}
@@ -13,7 +11,7 @@ use Rattle.origin_prefix.proofs.ByNumber.{numbers, rising_rest}
 use Rattle.replica_merge.specs.Replicas.{Parts, part_at, part_of, IsHeldPart, DisagreeSomewhere}
 use Rattle.replica_merge.specs.declared.error.MergeError.TheVariants.{OriginDisagrees}
 use Rattle.replica_merge.proofs.DeliveredLaws.{part_is}
-use Rattle.replica_merge.proofs.MergedLaws.{JoinedSoFar, joined_more, joined_none, found_disagreement, join_error, not_another_query}
+use Rattle.replica_merge.proofs.MergedLaws.{JoinedSoFar, joined_more, found_disagreement, join_error}
 use Rattle.replica_merge.proofs.merging.join_all.Goals as goal
 
 pub join_part-requires-clause-own : goal.join_part-requires-clause-own

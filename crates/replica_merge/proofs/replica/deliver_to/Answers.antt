@@ -1,6 +1,4 @@
-use Rattle.std.specs.Prelude.{◌≡◌, Some}
 use Rattle.std.proofs.Common.{sym}
-use Rattle.replica_merge.specs.Replicas.{part_at}
 use Rattle.replica_merge.proofs.DeliveredLaws.{delivers_at, refused_at}
 use Rattle.replica_merge.proofs.replica.deliver_to.Goals as goal
 

@@ -1,4 +1,4 @@
-use Rattle.std.specs.Prelude.{◌≡◌, ◌++◌, map}
+use Rattle.std.specs.Prelude.{◌≡◌, ◌++◌}
 use Rattle.origin_prefix.proofs.ByNumber.{numbers}
 use Rattle.replica_merge.proofs.replica.early_numbers.Given as goal
 

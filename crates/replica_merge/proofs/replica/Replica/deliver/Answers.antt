@@ -1,12 +1,12 @@
 use Rattle.std.specs.Prelude.{◌≡◌, ◌≢◌, List, Some, IfOk, IfErr, OnOk}
-use Rattle.std.proofs.Common.{subst, sym}
+use Rattle.std.proofs.Common.{subst}
 use Rattle.grouping_model.specs.Datum.{Row}
 use Rattle.grouping_model.specs.Replies.{reply_of}
 use Rattle.grouping_model.specs.World.{World, IsWorld, learn}
 use Rattle.packed_rows.specs.Columns.{kinds}
 use Rattle.batch_reader.specs.Rows.{packings}
 use Rattle.origin_prefix.specs.declared.error.JoinError.TheVariants.{OriginDisagrees}
-use Rattle.replica_merge.specs.Replicas.{Parts, Held, told, Fits}
+use Rattle.replica_merge.specs.Replicas.{Held, told, Fits}
 use Rattle.replica_merge.proofs.DeliveredLaws.{parts_stay, still_held, reply_told, more_told, still_fits, agrees_told}
 use Rattle.replica_merge.proofs.replica.Replica.deliver.Goals as goal
 

@@ -1,9 +1,8 @@
-use Rattle.std.specs.Prelude.{◌≡◌, ◌<◌, ◌^◌, map}
+use Rattle.std.specs.Prelude.{◌<◌, ◌^◌, map}
 use Rattle.std.proofs.Common.{◌∙◌, sym, ap, subst}
 use Rattle.std.specs.List.{AllByRecursion}
 use Rattle.having_filter.specs.Meaning.{meaning}
 use Rattle.hash_agg.specs.Inputs.{brought, IsInput, all_rows}
-use Rattle.replica_merge.specs.Replicas.{counted_part}
 use Rattle.replica_merge.proofs.AnswerLaws.{part_inputs, few_parts}
 use Rattle.replica_merge.proofs.replica.Replica.groups.Goals as goal
 

@@ -4,7 +4,7 @@ use Rattle.std.proofs.lemmas.Result.{err_from_is_err_and}
 use Rattle.grouping_model.specs.World.{World}
 use Rattle.having_filter.specs.Meaning.{Checked}
 use Rattle.query_grammar.proofs.OneText.{one_text}
-use Rattle.replica_merge.specs.Replicas.{Parts, Held, Fits, AreHeldParts}
+use Rattle.replica_merge.specs.Replicas.{Held, Fits, AreHeldParts}
 use Rattle.replica_merge.specs.declared.error.MergeError.TheVariants.{DifferentQuery, OriginDisagrees}
 use Rattle.replica_merge.proofs.MergedLaws.{never_somewhere}
 use Rattle.replica_merge.proofs.replica.Replica.join.Goals as goal

@@ -1,5 +1,5 @@
-use Rattle.std.specs.Prelude.{◌≡◌, ◌<◌, ◌≤◌, nat_lt, false, ℕ, Some, None, IsTrue}
-use Rattle.std.proofs.Common.{◌∙◌, sym, ap, subst, arith}
+use Rattle.std.specs.Prelude.{◌≡◌, nat_lt, false, Some, None}
+use Rattle.std.proofs.Common.{◌∙◌, sym, ap, arith}
 use Rattle.std.specs.Option.{option_copied}
 use Rattle.grouping_model.specs.World.{knows}
 use Rattle.replica_merge.specs.Replicas.{Parts, Held, part_at, told}

@@ -1,6 +1,6 @@
-use Rattle.std.proofs.Common.{sym, subst}
+use Rattle.std.proofs.Common.{subst}
 use Rattle.having_filter.specs.Meaning.{Checked}
-use Rattle.replica_merge.specs.Replicas.{Held, Fits}
+use Rattle.replica_merge.specs.Replicas.{Fits}
 use Rattle.replica_merge.proofs.replica.Replica.merge.Goals as goal
 
 pub commit-requires : goal.commit-requires

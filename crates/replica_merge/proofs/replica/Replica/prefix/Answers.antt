@@ -1,7 +1,6 @@
-use Rattle.std.specs.Prelude.{◌≡◌, ◌≤◌, ℕ, Some, None}
-use Rattle.std.proofs.Common.{◌∙◌, sym, ap, subst, arith}
+use Rattle.std.specs.Prelude.{◌≡◌, Some, None}
+use Rattle.std.proofs.Common.{◌∙◌, sym, ap, arith}
 use Rattle.std.specs.Option.{option_copied}
-use Rattle.grouping_model.specs.declared.limits.TheConstants.{LAST_NUMBER}
 use Rattle.grouping_model.specs.World.{prefix}
 use Rattle.replica_merge.specs.Replicas.{Parts, Held, part_at, told}
 use Rattle.replica_merge.proofs.HeldLaws.{held_part, prefix_there, prefix_nowhere}

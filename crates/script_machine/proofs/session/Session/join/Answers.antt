@@ -1,7 +1,6 @@
-use Rattle.std.specs.Prelude.{◌≡◌, Some, refl}
 use Rattle.std.proofs.Common.{◌∙◌, ap, sym}
 use Rattle.std.specs.Option.{option_copied}
-use Rattle.script_machine.specs.Views.{Store, replica_at}
+use Rattle.script_machine.specs.Views.{Store}
 use Rattle.script_machine.proofs.StoreLaws.{one_query, same_texts}
 use Rattle.script_machine.proofs.session.Session.join.Goals as goal
 

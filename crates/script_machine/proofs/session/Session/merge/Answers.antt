@@ -1,11 +1,9 @@
-use Rattle.std.specs.Prelude.{◌≡◌, List, ℕ, Some}
+use Rattle.std.specs.Prelude.{◌≡◌, Some}
 use Rattle.std.proofs.Common.{◌∙◌, ap, sym, subst}
 use Rattle.std.specs.Option.{is_some}
-use Rattle.grouping_model.specs.World.{World}
 use Rattle.having_filter.specs.Meaning.{Checked}
-use Rattle.replica_merge.specs.Replicas.{Parts, Held, Fits}
+use Rattle.replica_merge.specs.Replicas.{Held, Fits}
 use Rattle.script_commands.specs.Commands as ask
-use Rattle.script_io.specs.Records.{Record}
 use Rattle.script_machine.specs.Views.{Store, Steps, Updates, JoinsHeld, replica_at}
 use Rattle.script_machine.specs.declared.reply.Reply.TheVariants as says
 use Rattle.script_machine.proofs.StoreLaws.{held_asks, merge_refused, merged, one_query, one_there, store_updated, updated}
