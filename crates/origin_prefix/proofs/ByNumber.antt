@@ -74,13 +74,12 @@ module _ {X : Type 0} where
   -- what holds of each that is found holds of each
   pub all_found : (P : ℕ × X → Type 0) (es : List (ℕ × X)) → IsStrictlySortedBy nat_cmp (numbers es) → ((n : ℕ) (x : X) → at es n ≡ Some x → P (n, x)) → AllByRecursion P es
   all_found P [] rising each = tt
-  all_found P (e ∷ es) rising each =
-      (
-        each e.0 e.1 (at_head e.0 e.1 es),
-        all_found P es (rising_rest e es rising) (λ n x there.
+  all_found P (e ∷ es) rising each = (
+    each e.0 e.1 (at_head e.0 e.1 es),
+    all_found P es (rising_rest e es rising) (λ n x there.
         let above : e.0 < n = found_holds (λ (f : ℕ × X). e.0 < f.0) es n x (above_first e.0 e.1 es rising) there in
         each n x (behind_head n e.0 e.1 es (λ same. omega (arith, same, above)) ∙ there)),
-      )
+  )
 
   -- one entry more
   pub put_same : (es : List (ℕ × X)) (n : ℕ) (x : X) → at (insert_entry nat_cmp es n x) n ≡ Some x

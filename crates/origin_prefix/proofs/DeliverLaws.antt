@@ -1,17 +1,16 @@
 -- What becomes of a part to which a batch is delivered.
-use Rattle.std.specs.Prelude.{◌≡◌, ◌≢◌, refl, ℕ, ◌+◌, ◌-◌, ◌*◌, ◌<◌, ◌≤◌, ◌⊎◌, ◌||◌, nat_le, Bool, true, false, cond, List, [], ◌∷◌, map, Option, Some, None, unwrap_or, IsTrue, Result, Ok, Err, IfOk, IfErr, OnOk, OnErr}
+use Rattle.std.specs.Prelude.{◌≡◌, ◌≢◌, refl, ℕ, ◌+◌, ◌-◌, ◌<◌, ◌≤◌, ◌||◌, nat_le, Bool, true, false, List, [], ◌∷◌, Some, None, Result, Ok, Err, IfOk, IfErr, OnOk, OnErr}
 use Rattle.std.proofs.Common.{◌∙◌, sym, ap, subst, inl, inr, arith}
-use Rattle.std.proofs.lemmas.Bool.{true≢false, cases_lt}
+use Rattle.std.proofs.lemmas.Bool.{cases_lt}
 use Rattle.std.specs.Option.{is_some}
 use Rattle.std.specs.List.{AllByRecursion}
 use Rattle.std.specs.List.Sorted.{IsStrictlySortedBy}
-use Rattle.std.specs.Ordering.{eq_by_cmp, nat_cmp, match_ordering}
-use Rattle.std.specs.declared.cmp.Ordering.{Ordering}
-use Rattle.std.specs.declared.cmp.Ordering.TheVariants.{Less, Equal, Greater}
+use Rattle.std.specs.Ordering.{nat_cmp}
+use Rattle.std.specs.declared.cmp.Ordering.TheVariants.{Less}
 use Rattle.std.specs.BTreeMap.{insert_entry}
 use Rattle.grouping_model.specs.Datum.{Kind}
 use Rattle.grouping_model.specs.Query.{Query}
-use Rattle.grouping_model.specs.declared.limits.TheConstants.{LAST_NUMBER, MOST_ROWS}
+use Rattle.grouping_model.specs.declared.limits.TheConstants.{LAST_NUMBER}
 use Rattle.grouping_model.specs.declared.delivered.Delivered.{Delivered}
 use Rattle.grouping_model.specs.declared.delivered.Delivered.TheVariants.{Known, Early}
 use Rattle.packed_rows.specs.Columns.{kinds}
@@ -36,20 +35,18 @@ either_true true b e = refl
 either_true false b e = e
 
 pub known_within : (query : Checked) (q : Query) (part : Part) (number : ℕ) (rows : List (List ℕ)) → IsPartOf query part → number ≤ part.prefix → Delivers q part number rows part Known
-known_within query q part number rows is low =
-    (
-      ap (λ b. b || is_some (rows_at part.early number)) (let e : nat_le number part.prefix ≡ true = grind arith in e),
-      λ kept there. within_prefix query part number rows kept is low there,
-      refl,
-    )
+known_within query q part number rows is low = (
+  ap (λ b. b || is_some (rows_at part.early number)) (let e : nat_le number part.prefix ≡ true = grind arith in e),
+  λ kept there. within_prefix query part number rows kept is low there,
+  refl,
+)
 
 pub known_early : (q : Query) (part : Part) (number : ℕ) (rows kept : List (List ℕ)) → rows_at part.early number ≡ Some kept → kept ≡ rows → Delivers q part number rows part Known
-known_early q part number rows kept there same =
-    (
-      either_true (nat_le number part.prefix) (is_some (rows_at part.early number)) (ap is_some there),
-      λ other found. some_is other kept (sym found ∙ there) ∙ same,
-      refl,
-    )
+known_early q part number rows kept there same = (
+  either_true (nat_le number part.prefix) (is_some (rows_at part.early number)) (ap is_some there),
+  λ other found. some_is other kept (sym found ∙ there) ∙ same,
+  refl,
+)
 
 -- an early batch more
 pub early_kept : (query : Checked) (old new : Part) (number : ℕ) (rows : List (List ℕ)) → IsPartOf query old → old.prefix + 1 < number → number ≤ LAST_NUMBER → ArePackedRows (kinds query.columns) rows

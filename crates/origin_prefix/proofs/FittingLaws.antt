@@ -1,14 +1,13 @@
 -- Parts that fit a world.
-use Rattle.std.specs.Prelude.{◌≡◌, ◌≢◌, refl, ℕ, zero, suc, ◌+◌, ◌*◌, ◌<◌, ◌≤◌, ◌⊎◌, ◌==◌, nat_lt, max, Bool, true, false, cond, List, [], ◌∷◌, ◌++◌, map, flat_map, take, drop, length, All, Option, Some, None, IsSome, unwrap_or, if◌then◌else◌}
-use Rattle.std.proofs.Common.{◌∙◌, sym, ap, subst, inl, inr, append-nil, arith}
-use Rattle.std.proofs.lemmas.Bool.{true≢false, cases_lt}
+use Rattle.std.specs.Prelude.{◌≡◌, ◌≢◌, refl, ℕ, zero, suc, ◌+◌, ◌*◌, ◌<◌, ◌≤◌, ◌⊎◌, ◌==◌, nat_lt, true, false, List, [], ◌∷◌, ◌++◌, map, flat_map, take, length, Option, Some, None, IsSome, unwrap_or, if◌then◌else◌}
+use Rattle.std.proofs.Common.{◌∙◌, sym, ap, subst, inl, inr, arith}
+use Rattle.std.proofs.lemmas.Bool.{cases_lt}
 use Rattle.std.proofs.lemmas.Grind.{flat_map-append}
 use Rattle.std.proofs.lemmas.List.{length-map}
 use Rattle.std.proofs.lemmas.List.Sums.{sum_by-cons}
 use Rattle.std.proofs.lemmas.List.Elements.{recursion_from_All}
 use Rattle.std.specs.Option.{is_some}
 use Rattle.std.specs.List.{AllByRecursion}
-use Rattle.std.specs.List.Sorted.{IsStrictlySortedBy}
 use Rattle.std.specs.Ordering.{nat_cmp}
 use Rattle.std.specs.BTreeMap.{insert_entry}
 use Rattle.grouping_model.specs.Datum.{Row, Kind, HasKinds}
@@ -26,11 +25,11 @@ use Rattle.having_filter.specs.Meaning.{Checked, meaning}
 use Rattle.hash_agg.specs.Runs.{Entry}
 use Rattle.hash_agg.specs.Bytes.{run_bytes}
 use Rattle.hash_agg.specs.Standing.{AreGroups}
-use Rattle.hash_agg.specs.Inputs.{Packed, Counted, ArePackings, AreInputsOf, on_end, all_rows, rows_in}
+use Rattle.hash_agg.specs.Inputs.{Packed, Counted, AreInputsOf, on_end, all_rows, rows_in}
 use Rattle.hash_agg.proofs.EntryLaws.{groups_raised}
 use Rattle.hash_agg.proofs.BytesLaws.{stands_spelled}
 use Rattle.origin_prefix.specs.Parts.{Batches, Part, rows_at, IsPartOf, following, rows_following, Folds, Settles, Disagrees, Delivers}
-use Rattle.origin_prefix.specs.Joins.{either, longer, shorter, DiffersBehind, PartsDisagree, Unites, Joins}
+use Rattle.origin_prefix.specs.Joins.{either, longer, shorter, PartsDisagree, Joins}
 use Rattle.origin_prefix.specs.Fitting.{rows_upto, FitsOrigin}
 use Rattle.origin_prefix.proofs.Lists.{same_or_other}
 use Rattle.origin_prefix.proofs.ByNumber.{found_holds, all_found, put_same, put_else}
@@ -188,8 +187,7 @@ fits_delivered query world is origin old new number those Early part fits there 
         (those, ap (world origin) same ∙ there, some_is rows (packings those) (sym here ∙ put_same old.early number (packings those)))
     go n rows found (inr other) = fits.early n rows (sym (put_else old.early number (packings those) n other) ∙ found)
 fits_delivered query world is origin old new number those (Folded upto) part fits there d =
-    settled_fits query world is origin old.prefix old.run ((old.prefix + 1, packings those) ∷ old.early) new fits.there fits.run
-    (
+    settled_fits query world is origin old.prefix old.run ((old.prefix + 1, packings those) ∷ old.early) new fits.there fits.run (
       (those, ap (world origin) (sym d.0) ∙ there, refl),
       all_found (IsOfWorld world origin) old.early part.rising (λ n rows found. fits.early n rows found),
     ) d.2

@@ -1,16 +1,14 @@
 -- What two parts give that are joined.
-use Rattle.std.specs.Prelude.{◌≡◌, ◌≢◌, refl, ℕ, ◌+◌, ◌<◌, ◌≤◌, ◌⊎◌, nat_lt, max, Bool, true, false, List, [], ◌∷◌, map, Option, Some, None, if◌then◌else◌}
-use Rattle.std.proofs.Common.{◌∙◌, sym, ap, subst, inl, inr, arith}
+use Rattle.std.specs.Prelude.{◌≡◌, ℕ, ◌<◌, nat_lt, true, List, [], None, if◌then◌else◌}
+use Rattle.std.proofs.Common.{◌∙◌, ap, arith}
 use Rattle.std.specs.List.{AllByRecursion}
 use Rattle.std.specs.List.Sorted.{IsStrictlySortedBy}
 use Rattle.std.specs.Ordering.{nat_cmp}
 use Rattle.grouping_model.specs.Datum.{Kind}
-use Rattle.grouping_model.specs.Query.{Query}
 use Rattle.packed_rows.specs.Columns.{kinds}
-use Rattle.having_filter.specs.Meaning.{Checked, meaning}
-use Rattle.hash_agg.specs.Runs.{Entry}
-use Rattle.origin_prefix.specs.Parts.{Batches, Part, rows_at, IsEarly, IsBehind, IsOpen, IsPartOf, Settles}
-use Rattle.origin_prefix.specs.Joins.{either, longer, shorter, DiffersBehind, PartsDisagree, Unites, Joins}
+use Rattle.having_filter.specs.Meaning.{Checked}
+use Rattle.origin_prefix.specs.Parts.{Batches, Part, rows_at, IsEarly, IsBehind, IsOpen, IsPartOf}
+use Rattle.origin_prefix.specs.Joins.{either, Unites}
 use Rattle.origin_prefix.proofs.ByNumber.{numbers}
 use Rattle.origin_prefix.proofs.PartLaws.{all_weaker}
 

@@ -1,6 +1,6 @@
 -- The rest of a list, and what is found by a number.
-use Rattle.std.specs.Prelude.{◌≡◌, ◌≢◌, refl, ℕ, zero, suc, ◌+◌, ◌<◌, ◌⊎◌, Bool, true, false, cond, List, [], ◌∷◌, drop, length, Option, Some, None, IsSome, IfSome, IfNone}
-use Rattle.std.proofs.Common.{◌∙◌, sym, ap, subst, inl, inr, arith}
+use Rattle.std.specs.Prelude.{◌≡◌, ◌≢◌, refl, ℕ, zero, suc, ◌+◌, ◌<◌, ◌⊎◌, Bool, true, false, List, [], ◌∷◌, drop, length, Option, Some, None, IsSome, IfSome, IfNone}
+use Rattle.std.proofs.Common.{◌∙◌, sym, ap, inl, inr, arith}
 use Rattle.std.proofs.lemmas.Bool.{true≢false, false_from_ne_true}
 use Rattle.std.specs.Ordering.{eq_by_cmp, nat_cmp, is_eq}
 use Rattle.std.specs.Cmp.{nat_cmp_total, tied_itself, Equal-is}

@@ -1,5 +1,5 @@
 -- The batches that follow a prefix: what they bring, and what becomes of a part that takes them.
-use Rattle.std.specs.Prelude.{◌≡◌, ◌≢◌, refl, ℕ, zero, suc, ◌+◌, ◌*◌, ◌<◌, ◌≤◌, ◌^◌, ◌==◌, Bool, true, false, cond, List, [], ◌∷◌, map, filter, take, drop, length, All, Option, Some, None, if◌then◌else◌}
+use Rattle.std.specs.Prelude.{◌≡◌, refl, ℕ, zero, suc, ◌+◌, ◌*◌, ◌<◌, ◌≤◌, ◌==◌, Bool, true, false, cond, List, [], ◌∷◌, map, filter, take, drop, length, if◌then◌else◌}
 use Rattle.std.proofs.Common.{◌∙◌, sym, ap, subst, inl, inr, arith}
 use Rattle.std.proofs.lemmas.List.Elements.{recursion_from_All}
 use Rattle.std.proofs.lemmas.List.{length-map, length-append}
@@ -7,7 +7,6 @@ use Rattle.std.proofs.lemmas.List.Sums.{sum_by-cons}
 use Rattle.std.specs.List.{AllByRecursion}
 use Rattle.std.specs.List.Sorted.{IsStrictlySortedBy}
 use Rattle.std.specs.Ordering.{nat_cmp}
-use Rattle.std.specs.declared.cmp.Ordering.TheVariants.{Less}
 use Rattle.std.proofs.lemmas.Bool.{cases_lt}
 use Rattle.grouping_model.specs.Condition.{is_met}
 use Rattle.grouping_model.specs.Datum.{Kind, Row, HasKinds}
@@ -19,7 +18,7 @@ use Rattle.grouping_model.specs.declared.limits.TheConstants.{LAST_NUMBER, MOST_
 use Rattle.packed_rows.specs.Columns.{kinds}
 use Rattle.batch_reader.specs.Rows.{ArePackedRows}
 use Rattle.having_filter.specs.Meaning.{Checked, meaning}
-use Rattle.hash_agg.specs.Inputs.{Brought, Packed, Counted, IsInput, ArePackings, AllBring, on_end, all_rows, rows_in}
+use Rattle.hash_agg.specs.Inputs.{Packed, Counted, IsInput, AllBring, on_end, all_rows, rows_in}
 use Rattle.hash_agg.specs.Runs.{Entry, packed_keys}
 use Rattle.hash_agg.specs.Standing.{IsRun}
 use Rattle.hash_agg.proofs.EntryLaws.{groups_raised}

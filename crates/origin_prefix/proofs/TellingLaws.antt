@@ -1,23 +1,20 @@
 -- What a part tells, before and after.
-use Rattle.std.specs.Prelude.{◌≡◌, ◌≢◌, refl, ℕ, zero, suc, ◌+◌, ◌<◌, ◌≤◌, ◌⊎◌, ◌==◌, ◌||◌, ◌&&◌, nat_le, nat_lt, Bool, true, false, cond, List, [], ◌∷◌, map, drop, Option, Some, None, if◌then◌else◌, IsTrue}
+use Rattle.std.specs.Prelude.{◌≡◌, ◌≢◌, refl, ℕ, suc, ◌+◌, ◌<◌, ◌≤◌, ◌⊎◌, ◌==◌, ◌||◌, ◌&&◌, nat_le, nat_lt, Bool, true, false, List, [], ◌∷◌, drop, Option, Some, None, if◌then◌else◌}
 use Rattle.std.proofs.Common.{◌∙◌, sym, ap, subst, inl, inr, arith}
-use Rattle.std.proofs.lemmas.Bool.{true≢false, cases_lt}
+use Rattle.std.proofs.lemmas.Bool.{cases_lt}
 use Rattle.std.specs.Option.{is_some}
-use Rattle.std.specs.List.{AllByRecursion}
 use Rattle.std.specs.List.Sorted.{IsStrictlySortedBy}
-use Rattle.std.specs.Ordering.{eq_by_cmp, nat_cmp, is_eq, match_ordering}
-use Rattle.std.specs.declared.cmp.Ordering.TheVariants.{Less, Equal, Greater}
-use Rattle.std.specs.BTreeMap.{insert_entry}
+use Rattle.std.specs.Ordering.{eq_by_cmp, nat_cmp}
 use Rattle.grouping_model.specs.Query.{Query}
 use Rattle.grouping_model.specs.declared.delivered.Delivered.{Delivered}
 use Rattle.grouping_model.specs.declared.delivered.Delivered.TheVariants.{Folded, Early, Known}
 use Rattle.packed_rows.specs.Columns.{kinds}
 use Rattle.having_filter.specs.Meaning.{Checked}
-use Rattle.origin_prefix.specs.Parts.{Batches, Part, rows_at, knows_number, IsEarly, IsPartOf, following, Settles, Delivers, behind}
-use Rattle.origin_prefix.specs.Joins.{either, longer, shorter, Unites, Joins}
+use Rattle.origin_prefix.specs.Parts.{Batches, Part, rows_at, IsEarly, IsPartOf, following, Settles, Delivers}
+use Rattle.origin_prefix.specs.Joins.{either, longer, Unites, Joins}
 use Rattle.origin_prefix.specs.Fitting.{tells}
-use Rattle.origin_prefix.proofs.Lists.{is_itself, is_other, is_same, same_or_other}
-use Rattle.origin_prefix.proofs.ByNumber.{numbers, at_head, behind_head, none_found, above_first, rising_rest, put_same, put_else}
+use Rattle.origin_prefix.proofs.Lists.{is_itself, is_other, same_or_other}
+use Rattle.origin_prefix.proofs.ByNumber.{numbers, at_head, behind_head, none_found, rising_rest, put_same, put_else}
 use Rattle.origin_prefix.proofs.DeliverLaws.{next_rising}
 
 -- ---- a prefix and the batches behind it

@@ -1,5 +1,5 @@
 -- What a part tells, and when it fits a world. All of this is our own.
-use Rattle.std.specs.Prelude.{◌≡◌, ℕ, ◌*◌, ◌≤◌, ◌||◌, ◌&&◌, Bool, nat_le, List, flat_map, Option, Some, IsSome}
+use Rattle.std.specs.Prelude.{◌≡◌, ℕ, ◌*◌, ◌≤◌, ◌||◌, ◌&&◌, Bool, nat_le, List, flat_map, Some, IsSome}
 use Rattle.std.specs.Option.{is_some}
 use Rattle.grouping_model.specs.Datum.{Row}
 use Rattle.grouping_model.specs.Query.{Query}

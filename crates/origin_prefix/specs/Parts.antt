@@ -16,7 +16,7 @@ use Rattle.batch_reader.specs.Rows.{ArePackedRows}
 use Rattle.having_filter.specs.Meaning.{Checked, meaning}
 use Rattle.hash_agg.specs.Runs.{Entry}
 use Rattle.hash_agg.specs.Standing.{IsRun}
-use Rattle.hash_agg.specs.Inputs.{Brought, Packed, Counted, IsAggregate}
+use Rattle.hash_agg.specs.Inputs.{Packed, Counted, IsAggregate}
 
 -- batches by their numbers, each with its packed rows
 abbrev pub Batches : Type 0

@@ -204,7 +204,14 @@ impl OriginPart {
         ensures refused { OnErr result (self.new ≡ self.old) }
     {
         let next_is_given = next.is_some();
-        let upto = fold_following(self.alloc, query, self.prefix, &mut self.run, next, &self.early)?;
+        let upto = fold_following(
+            self.alloc,
+            query,
+            self.prefix,
+            &mut self.run,
+            next,
+            &self.early,
+        )?;
         let mut count = upto - self.prefix;
         if next_is_given {
             count -= 1;
@@ -216,8 +223,10 @@ impl OriginPart {
 
     /// Keeps a batch that is neither known nor next to the prefix.
     fn keep_early(&mut self, batch: Batch) -> Result<Delivered, RefusedBatch>
-        ensures kept { IfOk result (λ reply. (reply ≡ Early) × (self.new ≡ record self.old { early
-            = insert_entry nat_cmp self.old.early batch.number batch.rows })) }
+        ensures kept { IfOk result (λ reply. (reply ≡ Early) × (self.new ≡ record self.old {
+          early
+              = insert_entry nat_cmp self.old.early batch.number batch.rows;
+        })) }
         ensures rising { IsStrictlySortedBy nat_cmp
             (map (λ (kept : ℕ × List (List ℕ)). kept.0) self.new.early) }
         ensures refused { IfErr result (λ e. (e.batch ≡ batch) × (e.why ≡ NoMemory)

@@ -1,4 +1,4 @@
-use Rattle.std.specs.Prelude.{◌≡◌, ◌<◌, ℕ, Bool, true, false, cond, not, nat_lt, List, Option, Some, None, if◌then◌else◌}
+use Rattle.std.specs.Prelude.{◌≡◌, ◌<◌, ℕ, true, cond, nat_lt, List, Some, None, if◌then◌else◌}
 use Rattle.std.proofs.Common.{◌∙◌, sym, ap, subst, rules, arith}
 use Rattle.std.specs.List.{AllByRecursion}
 use Rattle.std.specs.Option.{is_some}
@@ -26,10 +26,9 @@ loop-next-preserved-then-not-contains_key c =
       rising = c.in_ok-insert.ensures.ordered;
       behind = λ ks all had.
           let before = c.loop-next.invariant.behind ks all had in
-          let rest = subst (AllByRecursion (λ (b : ℕ × List (List ℕ)). c.args.number < b.0 → IsBehind ks c.args.number b)) c.in-Some.ensures.steps before.1 in
-          (
+          let rest = subst (AllByRecursion (λ (b : ℕ × List (List ℕ)). c.args.number < b.0 → IsBehind ks c.args.number b)) c.in-Some.ensures.steps before.1 in (
             subst (AllByRecursion (IsBehind ks c.args.number)) (sym c.in_ok-insert.ensures.entries)
-            (all_put (IsBehind ks c.args.number) number c.in_ok-try_clone.field-0 old (subst (λ (r : List (List ℕ)). IsBehind ks c.args.number (number, r)) (sym packed) (rest.0 c.if-next-number.true)) before.0),
+                (all_put (IsBehind ks c.args.number) number c.in_ok-try_clone.field-0 old (subst (λ (r : List (List ℕ)). IsBehind ks c.args.number (number, r)) (sym packed) (rest.0 c.if-next-number.true)) before.0),
             rest.1,
           );
       can = tt;

@@ -1,7 +1,6 @@
 use Rattle.std.proofs.lemmas.Bool.{true≢false}
 use Rattle.std.specs.Prelude.{refl, ◌≡◌, ◌≢◌, ◌<◌, ℕ, List, Some}
-use Rattle.std.proofs.Common.{◌∙◌, sym, ap, subst, arith}
-use Rattle.std.specs.Option.{option_copied}
+use Rattle.std.proofs.Common.{◌∙◌, sym, subst, arith}
 use Rattle.std.specs.List.{AllByRecursion}
 use Rattle.std.proofs.lemmas.List.Elements.{recursion_from_All}
 use Rattle.origin_prefix.specs.Parts.{Batches, rows_at}
@@ -41,8 +40,7 @@ loop-next-preserved c =
 pub returns-then-differs_from : goal.returns-then-differs_from
 returns-then-differs_from c =
     let d = c.if-differs_from.ensures.0 refl in
-    let found = (subst (AllByRecursion (λ (e : ℕ × List (List ℕ)). rows_at c.args.one.now.entries e.0 ≡ Some e.1)) c.in-Some.ensures.steps c.loop-next.invariant.found).0 in
-    (
+    let found = (subst (AllByRecursion (λ (e : ℕ × List (List ℕ)). rows_at c.args.one.now.entries e.0 ≡ Some e.1)) c.in-Some.ensures.steps c.loop-next.invariant.found).0 in (
       λ _. record {
         number = c.in-Some.next.now;
         behind = c.if-next-number.true;

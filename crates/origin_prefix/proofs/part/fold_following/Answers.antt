@@ -1,10 +1,10 @@
-use Rattle.std.specs.Prelude.{◌≡◌, ◌+◌, ◌*◌, ◌<◌, ◌≤◌, ◌^◌, ℕ, List, map}
+use Rattle.std.specs.Prelude.{◌≡◌, ◌+◌, ◌*◌, ◌≤◌, map}
 use Rattle.std.proofs.Common.{◌∙◌, sym, ap, subst, arith}
 use Rattle.std.specs.List.{AllByRecursion}
 use Rattle.std.specs.Option.{option_copied}
 use Rattle.grouping_model.specs.declared.limits.TheConstants.{LAST_NUMBER, MOST_ROWS}
 use Rattle.having_filter.specs.Meaning.{meaning}
-use Rattle.hash_agg.specs.Inputs.{Packed, brought, Brought, IsInput, all_rows}
+use Rattle.hash_agg.specs.Inputs.{Packed, brought, IsInput, all_rows}
 use Rattle.origin_prefix.specs.Parts.{Batches, behind, following, rows_following}
 use Rattle.origin_prefix.proofs.PartLaws.{following_inputs, few_following}
 use Rattle.origin_prefix.proofs.part.fold_following.Goals as goal

@@ -1,12 +1,9 @@
-use Rattle.std.specs.Prelude.{◌≡◌, ◌≢◌, ◌+◌, ◌<◌, ◌≤◌, ℕ, List, Some, None}
-use Rattle.std.proofs.Common.{◌∙◌, sym, ap, subst, inl, inr, arith}
-use Rattle.std.proofs.lemmas.Bool.{cases_lt}
+use Rattle.std.specs.Prelude.{◌≡◌, ◌+◌, ◌<◌, ◌≤◌, Some, None}
+use Rattle.std.proofs.Common.{◌∙◌, sym, ap, subst, arith}
 use Rattle.std.specs.Option.{option_copied}
 use Rattle.grouping_model.specs.declared.limits.TheConstants.{LAST_NUMBER}
-use Rattle.grouping_model.specs.declared.delivered.Delivered.{Delivered}
-use Rattle.grouping_model.specs.declared.delivered.Delivered.TheVariants.{Known}
 use Rattle.having_filter.specs.Meaning.{meaning}
-use Rattle.origin_prefix.specs.Parts.{Part, rows_at, IsPartOf, Delivers, Disagrees, behind}
+use Rattle.origin_prefix.specs.Parts.{Part, rows_at, behind}
 use Rattle.origin_prefix.proofs.DeliverLaws.{known_within, reply_early, refused_early, unknown_refused, part_kept, part_settled, behind_gap, next_open}
 use Rattle.origin_prefix.proofs.part.OriginPart.deliver.Goals as goal
 

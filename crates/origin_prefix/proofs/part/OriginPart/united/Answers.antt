@@ -1,7 +1,7 @@
-use Rattle.std.specs.Prelude.{◌≡◌, ℕ, List, []}
-use Rattle.std.proofs.Common.{◌∙◌, sym, ap, subst}
-use Rattle.having_filter.specs.Meaning.{Checked, meaning}
-use Rattle.origin_prefix.specs.Parts.{Batches, Part, IsOpen, IsPartOf, Settles, rows_at}
+use Rattle.std.specs.Prelude.{◌≡◌, []}
+use Rattle.std.proofs.Common.{sym, subst}
+use Rattle.having_filter.specs.Meaning.{meaning}
+use Rattle.origin_prefix.specs.Parts.{Batches, Part, IsOpen, IsPartOf, Settles}
 use Rattle.origin_prefix.specs.Joins.{Unites}
 use Rattle.origin_prefix.proofs.PartLaws.{settled_part}
 use Rattle.origin_prefix.proofs.JoinLaws.{Copied, KeepsBehind, united_open, united_batches}
@@ -16,8 +16,10 @@ settle-requires c =
     let none : c.new-early.result.entries ≡ [] = c.new-early.ensures.empty in
     let first : Copied a.prefix a.early [] c.copy_above.new.into.entries = subst (λ old. Copied a.prefix a.early old c.copy_above.new.into.entries) none c.in_ok-copy_above.ensures.rows in
     let keeps : KeepsBehind a.prefix a.early [] c.copy_above.new.into.entries = subst (λ old. KeepsBehind a.prefix a.early old c.copy_above.new.into.entries) none c.in_ok-copy_above.ensures.behind in
-    record { may = subst (λ run. IsOpen c.args.query.now a.prefix run c.copy_above-2.new.into.entries) (sym c.in_ok-try_clone.ensures)
-        (united_open c.args.query.now a b c.copy_above.new.into.entries c.copy_above-2.new.into.entries is other first c.in_ok-copy_above-2.ensures.rows keeps c.in_ok-copy_above-2.ensures.behind c.in_ok-copy_above-2.ensures.rising) }
+    record {
+      may = subst (λ run. IsOpen c.args.query.now a.prefix run c.copy_above-2.new.into.entries) (sym c.in_ok-try_clone.ensures)
+          (united_open c.args.query.now a b c.copy_above.new.into.entries c.copy_above-2.new.into.entries is other first c.in_ok-copy_above-2.ensures.rows keeps c.in_ok-copy_above-2.ensures.behind c.in_ok-copy_above-2.ensures.rising);
+    }
 
 pub returns-clause-joins : goal.returns-clause-joins
 returns-clause-joins c =
@@ -32,8 +34,7 @@ returns-clause-joins c =
     let united : Unites a.prefix a b both =
     united_batches c.args.query.now a b c.copy_above.new.into.entries both is other first c.in_ok-copy_above-2.ensures.rows keeps c.in_ok-copy_above-2.ensures.behind c.in_ok-copy_above-2.ensures.rising in
     let settled : Settles (meaning c.args.query.now) a.prefix a.run both c.settle.new.self =
-    subst (λ run. Settles (meaning c.args.query.now) a.prefix run both c.settle.new.self) c.in_ok-try_clone.ensures c.in_ok-settle.ensures.settled in
-    (
+    subst (λ run. Settles (meaning c.args.query.now) a.prefix run both c.settle.new.self) c.in_ok-try_clone.ensures c.in_ok-settle.ensures.settled in (
       both,
       subst (λ (p : Part). Unites p.prefix p c.args.shorter.now both) c.self.view_is (subst (λ (p : Part). Unites a.prefix a p both) c.shorter.view_is united),
       subst (λ (p : Part). Settles (meaning c.args.query.now) p.prefix p.run both c.settle.new.self) c.self.view_is settled,
