@@ -12,7 +12,7 @@ fn written(rt: HostRuntime, script: &str) -> Result<String, Fail> {
 }
 
 /// Lines, told with a `/` between each and the next.
-fn lines(rt: HostRuntime, told: &str) -> Result<String, Fail> {
+pub(crate) fn lines(rt: HostRuntime, told: &str) -> Result<String, Fail> {
     let mut lines = String::new(rt.alloc());
     for line in told.split('/') {
         lines.push_str(line)?;
