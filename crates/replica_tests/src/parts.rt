@@ -31,12 +31,7 @@ fn batch(rt: HostRuntime, query: &Query, told: &str) -> Result<Batch, Fail>
 }
 
 /// What is replied to a batch; where it is refused, also whether it is handed back as it was.
-fn reply(
-    rt: HostRuntime,
-    query: &Query,
-    part: &mut OriginPart,
-    told: &str,
-) -> Result<String, Fail>
+fn reply(rt: HostRuntime, query: &Query, part: &mut OriginPart, told: &str) -> Result<String, Fail>
     requires { IsPartOf query.now part.old }
     ensures { IsPartOf query.now part.new }
 {
@@ -100,7 +95,10 @@ fn parts_take_batches(rt: HostRuntime) -> Result<(), Fail> {
         let (batches, rest) = line.split_once("=> ").ok_or("no batches")?;
         let (replies, held) = rest.split_once("=> ").ok_or("no replies")?;
         let (part, found) = part(rt, &query, batches)?;
-        assert!(rt; found.as_str() == replies && shown(rt, &part)?.as_str() == held, "{line}");
+        assert!(rt;
+            found.as_str() == replies && shown(rt, &part)?.as_str() == held,
+            "{line}"
+        );
     }
     Ok(())
 }
@@ -143,8 +141,14 @@ fn parts_join(rt: HostRuntime) -> Result<(), Fail> {
         let (one, other) = batches.split_once('|').ok_or("no parts")?;
         let (one, _) = part(rt, &query, one)?;
         let (other, _) = part(rt, &query, other)?;
-        assert!(rt; joined(rt, &query, &one, &other)?.as_str() == held, "{line}");
-        assert!(rt; joined(rt, &query, &other, &one)?.as_str() == held, "{line}");
+        assert!(rt;
+            joined(rt, &query, &one, &other)?.as_str() == held,
+            "{line}"
+        );
+        assert!(rt;
+            joined(rt, &query, &other, &one)?.as_str() == held,
+            "{line}"
+        );
     }
     Ok(())
 }
@@ -154,6 +158,8 @@ fn parts_have_their_fields(rt: HostRuntime) -> Result<(), Fail> {
     let (part, _) = part(rt, &query(rt, TOWNS)?, "1 2 4")?;
     let run = part.run().try_clone(rt.alloc())?;
     let again = OriginPart::from_fields(rt.alloc(), part.prefix(), run, BTreeMap::new(rt.alloc()));
-    assert!(rt; shown(rt, &again)?.as_str() == "upto 2 knows 1 2 early 0 count Some(2) sum Some(3)");
+    assert!(rt;
+        shown(rt, &again)?.as_str() == "upto 2 knows 1 2 early 0 count Some(2) sum Some(3)"
+    );
     Ok(())
 }
