@@ -83,43 +83,32 @@ const DELIVERIES: &str = r#"
 0/3 0/3! 0/1 0/1! => Early; OriginDisagrees true; Folded { upto: 1 }; Known; => 0 upto 1 early [3]; Text("oslo") Bigint(1) Numeric(1)
 "#;
 
-/// What is replied to batches, and what is known and answered then.
-fn delivered(rt: HostRuntime, batches: &str) -> Result<String, Fail> {
-    let mut replica = fed(rt, TOWNS, "")?;
-    let replies = feed(rt, &mut replica, batches)?;
-    let shown = shown(rt, &replica)?;
-    Ok(format!(in rt.alloc(); "{replies}=> {shown}")?)
-}
-
 #[test]
 fn deliveries_are_replied_to(rt: HostRuntime) -> Result<(), Fail> {
     for line in DELIVERIES.trim().lines() {
-        let (batches, want) = line.split_once("=> ").ok_or("no batches")?;
-        assert!(rt; delivered(rt, batches)?.trim() == want.trim(), "{line}");
+        let (batches, rest) = line.split_once("=>").ok_or("no batches")?;
+        let (replies, held) = rest.split_once("=>").ok_or("no replies")?;
+        let mut replica = fed(rt, TOWNS, "")?;
+        let found = feed(rt, &mut replica, batches)?;
+        assert!(rt; found.trim() == replies.trim(), "{line}");
+        assert!(rt; shown(rt, &replica)?.trim() == held.trim(), "{line}");
     }
     Ok(())
 }
 
-/// Whether a replica tells its query, prefixes and which batches it knows.
-fn tells(rt: HostRuntime) -> Result<bool, Fail> {
-    let replica = fed(rt, TOWNS, "0/1 0/3 0/5 0/2")?;
-    let prefixes = (replica.prefix(0), replica.prefix(9)) == (3, 0);
-    let known = replica.knows(0, 5) && !replica.knows(0, 4);
-    Ok(prefixes && known && replica.query().spelling() == TOWNS)
-}
-
 #[test]
 fn replicas_tell_what_they_know(rt: HostRuntime) -> Result<(), Fail> {
-    assert!(rt; tells(rt)?);
+    let replica = fed(rt, TOWNS, "0/1 0/3 0/5 0/2")?;
+    let (upto, other) = (replica.prefix(0), replica.prefix(9));
+    assert!(rt; upto == 3 && other == 0 && replica.knows(0, 5) && !replica.knows(0, 4));
+    assert!(rt; replica.query().spelling() == TOWNS);
     Ok(())
 }
 
-/// What becomes of merging the second of two replicas into the first, and what the first knows and answers then.
-fn merged(rt: HostRuntime, texts: (&str, &str), batches: (&str, &str)) -> Result<String, Fail> {
-    let mut own = fed(rt, texts.0, batches.0)?;
-    let other = fed(rt, texts.1, batches.1)?;
-    let became = own.merge(&other);
-    let shown = shown(rt, &own)?;
+/// What becomes of a merge, and what the replica knows and answers then.
+fn merged(rt: HostRuntime, own: &mut Replica, other: &Replica) -> Result<String, Fail> {
+    let became = own.merge(other);
+    let shown = shown(rt, own)?;
     Ok(format!(in rt.alloc(); "{became:?}; {shown}")?)
 }
 
@@ -140,10 +129,11 @@ const MERGES: &str = r#"
 #[test]
 fn replicas_merge(rt: HostRuntime) -> Result<(), Fail> {
     for line in MERGES.trim().lines() {
-        let (batches, want) = line.split_once("=>").ok_or("no batches")?;
-        let batches = batches.split_once('|').ok_or("no replicas")?;
-        let found = merged(rt, (TOWNS, TOWNS), batches)?;
-        assert!(rt; found.trim() == want.trim(), "{line}");
+        let (batches, held) = line.split_once("=>").ok_or("no batches")?;
+        let (own, other) = batches.split_once('|').ok_or("no replicas")?;
+        let mut own = fed(rt, TOWNS, own)?;
+        let found = merged(rt, &mut own, &fed(rt, TOWNS, other)?)?;
+        assert!(rt; found.trim() == held.trim(), "{line}");
     }
     Ok(())
 }
@@ -157,28 +147,28 @@ SELECT c, count(*) FROM batches GROUP BY c | SELECT c, count(*) FROM batches GRO
 #[test]
 fn replicas_of_one_query_merge(rt: HostRuntime) -> Result<(), Fail> {
     for line in QUERIES.trim().lines() {
-        let (texts, want) = line.split_once("=>").ok_or("no queries")?;
-        let texts = texts.split_once('|').ok_or("no query")?;
-        let found = merged(rt, texts, ("", "0/1"))?;
-        assert!(rt; found.trim() == want.trim(), "{line}");
+        let (texts, held) = line.split_once("=>").ok_or("no queries")?;
+        let (own, other) = texts.split_once('|').ok_or("no query")?;
+        let mut own = fed(rt, own, "")?;
+        let found = merged(rt, &mut own, &fed(rt, other, "0/1")?)?;
+        assert!(rt; found.trim() == held.trim(), "{line}");
     }
     Ok(())
 }
 
-/// What a replica knows and answers, before and after it is merged with itself.
-fn merged_with_itself(rt: HostRuntime, batches: &str) -> Result<(String, String), Fail> {
+/// A replica that was merged with itself.
+fn merged_with_itself(rt: HostRuntime, batches: &str) -> Result<Replica, Fail> {
     let mut replica = fed(rt, TOWNS, batches)?;
-    let before = shown(rt, &replica)?;
     let joined = replica.join(&replica)?;
     replica.commit(joined);
-    let after = shown(rt, &replica)?;
-    Ok((before, after))
+    Ok(replica)
 }
 
 #[test]
 fn a_merge_with_itself_changes_nothing(rt: HostRuntime) -> Result<(), Fail> {
     for batches in ["", "0/1 0/2 0/4 3/2", "3/2! 5/1"] {
-        let (before, after) = merged_with_itself(rt, batches)?;
+        let before = shown(rt, &fed(rt, TOWNS, batches)?)?;
+        let after = shown(rt, &merged_with_itself(rt, batches)?)?;
         assert!(rt; after.as_str() == before.as_str(), "{batches}");
     }
     Ok(())
