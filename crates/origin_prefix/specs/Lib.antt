@@ -2,3 +2,4 @@ pub mod Coding
 pub mod Parts
 pub mod Joins
 pub mod Fitting
+pub mod Held

@@ -16,11 +16,8 @@ use Rattle.having_filter.specs.Spelling.{spelling}
 use Rattle.origin_prefix.specs.Parts.{Part, empty, is_nothing, IsPartOf, Delivers}
 use Rattle.origin_prefix.specs.Joins.{Joins, PartsDisagree}
 use Rattle.origin_prefix.specs.Fitting.{FitsOrigin}
+pub use Rattle.origin_prefix.specs.Held.{Parts, IsHeldPart, AreHeldParts}
 use Rattle.replica_merge.specs.declared.known.Known.{Known}
-
--- the parts of some origins, by rising origin
-abbrev pub Parts : Type 0
-Parts = List (ℕ × Part)
 
 -- the part of an origin, if there is one
 abbrev pub part_at : Parts → ℕ → Option Part
@@ -37,17 +34,6 @@ batches_of held = map (λ (number : ℕ). (held.0, number)) (count_up 1 held.1.p
 -- what is told
 abbrev pub told : Parts → Knowledge
 told parts = knowing (flat_map batches_of parts)
-
--- a part that is held of an origin for a query: it tells something
-pub record IsHeldPart (query : Checked) (held : ℕ × Part) : Type 0 where
-  pub within : held.0 ≤ LAST_ORIGIN
-  pub part : IsPartOf query held.1
-  pub some : (0 < held.1.prefix) ⊎ (held.1.early ≢ [])
-
--- what is held for a query
-pub record AreHeldParts (query : Checked) (parts : Parts) : Type 0 where
-  pub rising : IsStrictlySortedBy nat_cmp (map (λ (held : ℕ × Part). held.0) parts)
-  pub each : AllByRecursion (IsHeldPart query) parts
 
 -- what a replica holds: the query that it answers, and the parts of the origins that it knows something of
 pub record Held : Type 0 where

@@ -1,0 +1,42 @@
+-- Groups of a file.
+use Rattle.std.proofs.Common.{◌≡◌, refl, ℕ, suc, arith, ◌-◌, ◌+◌, List, [], ◌∷◌, ◌++◌, length, map, slice_get, Some, sym, ap, subst, ◌∙◌, IfSome, option_map, unwrap_or}
+use Rattle.std.proofs.lemmas.List.{length-map, map-append}
+use Rattle.std.proofs.lemmas.Option.{slice_get-map}
+use Rattle.std.proofs.lemmas.List.Sums.{sum_by-cons}
+use Rattle.std.specs.Prelude.{sum_by}
+use Rattle.std.specs.List.{AllByRecursion}
+use Rattle.std.specs.List.Sorted.{IsStrictlySortedBy}
+use Rattle.std.specs.Cmp.{IsTotalOrder}
+use Rattle.std.specs.Ordering.{nat_cmp}
+use Rattle.std.specs.Cmp.Lexicographic.{slice_cmp}
+use Rattle.std.specs.declared.cmp.Ordering.{Ordering}
+use Rattle.std.specs.declared.cmp.Ordering.TheVariants.{Less}
+use Rattle.grouping_model.specs.Aggregates.{Function}
+use Rattle.agg_protocol.specs.States.{shape_of, width_of}
+use Rattle.agg_library.specs.declared.kind.AggKind.{AggKind}
+use Rattle.agg_library.specs.Kinds.{functions_of, kind_width, row_width}
+use Rattle.hash_agg.specs.Runs.{Entry, Rises, packed_keys}
+use Rattle.hash_agg.proofs.PlaceLaws.{key_total}
+use Rattle.summary_codec.specs.Reading.{IsNext}
+use Rattle.summary_codec.proofs.RisingLaws.{rises_next}
+
+-- how many bytes a row of states has, by the functions of the aggregates
+pub width_by_functions : (kinds : List AggKind) → row_width kinds ≡ sum_by (λ function. width_of (shape_of function)) (functions_of kinds)
+width_by_functions [] = refl
+width_by_functions (k ∷ ks) =
+    sum_by-cons kind_width k ks
+    ∙ ap (λ n. kind_width k + n) (width_by_functions ks)
+    ∙ sym (sum_by-cons (λ function. width_of (shape_of function)) _ (functions_of ks))
+
+-- the last key of a run
+pub last_key : (run : List Entry) (n : ℕ) (key states : List ℕ) → n ≡ length run - 1 → slice_get run n ≡ Some (key, states) → slice_get (packed_keys run) (length (packed_keys run) - 1) ≡ Some key
+last_key run n key states last there =
+    ap (λ k. slice_get (packed_keys run) (k - 1)) (length-map run (λ (e : Entry). e.0))
+    ∙ ap (slice_get (packed_keys run)) (sym last)
+    ∙ slice_get-map (λ (e : Entry). e.0) run n
+    ∙ ap (option_map (λ (e : Entry). e.0)) there
+
+pub run_rises : (run : List Entry) (key states : List ℕ) → Rises run → IsNext (slice_cmp nat_cmp) (packed_keys run) key → Rises (run ++ (key, states) ∷ [])
+run_rises run key states rises above =
+    subst (IsStrictlySortedBy (slice_cmp nat_cmp)) (sym (map-append (λ (e : Entry). e.0) run ((key, states) ∷ [])))
+    (rises_next (slice_cmp nat_cmp) key_total (packed_keys run) key rises above)

@@ -1,0 +1,5 @@
+pub mod FieldLaws
+pub mod FaultLaws
+pub mod RisingLaws
+pub mod LoopLaws
+pub mod GroupLaws

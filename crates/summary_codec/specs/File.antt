@@ -1,0 +1,44 @@
+-- Summary files: the bytes of a query and of what is held of some origins. There is one spelling of each, and the layout is our own.
+-- Numbers are unsigned, their highest byte first.
+use Rattle.std.specs.Prelude.{ℕ, List, ◌++◌, length, flat_map, codes}
+use Rattle.std.specs.Int.{bytes_high_first}
+use Rattle.packed_rows.specs.Columns.{printed}
+use Rattle.having_filter.specs.Kept.{by_names}
+use Rattle.having_filter.specs.Meaning.{Checked}
+use Rattle.having_filter.specs.Spelling.{spelling}
+use Rattle.hash_agg.specs.Runs.{Entry}
+use Rattle.origin_prefix.specs.Parts.{Part}
+use Rattle.origin_prefix.specs.Held.{Parts}
+
+-- what each file begins with
+abbrev pub opening : List ℕ
+opening = codes "AGGSUM01"
+
+-- bytes behind their length, which has two bytes
+abbrev pub sized_bytes : List ℕ → List ℕ
+sized_bytes bytes = bytes_high_first 2 (length bytes) ++ bytes
+
+-- a group: its packed key, and the states of its aggregates, whose width the query tells
+abbrev pub group_bytes : Entry → List ℕ
+group_bytes entry = sized_bytes entry.0 ++ entry.1
+
+-- an early batch: its number, how many rows it has, and these, packed
+abbrev pub batch_bytes : ℕ × List (List ℕ) → List ℕ
+batch_bytes batch = bytes_high_first 4 batch.0 ++ bytes_high_first 4 (length batch.1) ++ flat_map sized_bytes batch.1
+
+-- what is held of an origin: the origin, its prefix, how many groups there are, these, how many early batches, and these
+abbrev pub part_bytes : ℕ × Part → List ℕ
+part_bytes held =
+    bytes_high_first 2 held.0
+    ++ bytes_high_first 4 held.1.prefix
+    ++ bytes_high_first 8 (length held.1.run) ++ flat_map group_bytes held.1.run
+    ++ bytes_high_first 4 (length held.1.early) ++ flat_map batch_bytes held.1.early
+
+-- a file: what each begins with, the canonical texts of the schema and of the query, how many origins there are, and what is held of
+-- each
+abbrev pub file_bytes : Checked → Parts → List ℕ
+file_bytes query parts =
+    opening
+    ++ sized_bytes (printed query.columns)
+    ++ sized_bytes (spelling (by_names query))
+    ++ bytes_high_first 2 (length parts) ++ flat_map part_bytes parts

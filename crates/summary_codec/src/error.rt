@@ -1,0 +1,59 @@
+//! Why bytes are no summary file.
+
+ghost use Rattle.std.specs.Prelude.{◌≡◌};
+ghost use Rattle.summary_codec.specs.declared.error.SummaryError.TheVariants.{NoMemory};
+
+use group_parser::ParseError;
+use std::alloc::{AllocError, AllocFailed};
+use thiserror::Error;
+
+/// Why bytes are no summary file: the first fault from the left is told, `NoMemory` aside.
+#[derive(Clone, Copy, Debug, PartialEq, Eq, Error)]
+pub enum SummaryError {
+    /// An allocation failed.
+    #[error("out of memory")]
+    NoMemory,
+    /// The first bytes aren't those of a summary file.
+    #[error("no summary file")]
+    NotASummary,
+    /// The file ends within a field.
+    #[error("the summary file is cut short")]
+    Truncated,
+    /// Bytes follow the last field.
+    #[error("bytes follow the end of the summary file")]
+    Trailing,
+    /// A text isn't canonical, or origins, keys or early batches don't rise.
+    #[error("the summary file isn't in its canonical form")]
+    NotCanonical,
+    /// A number is above its limit.
+    #[error("a number of the summary file is out of range")]
+    OutOfRange,
+    /// The schema's text is none.
+    #[error("the summary file has no schema")]
+    BadSchema,
+    /// A key or a row isn't packed rightly.
+    #[error("a packed row or key of the summary file is damaged")]
+    BadPacked,
+    /// The states of a group aren't those of so many rows.
+    #[error("a state of the summary file is damaged")]
+    BadState,
+    /// The query's text is refused.
+    #[error(transparent)]
+    Query(ParseError),
+}
+
+impl From<AllocError> for SummaryError {
+    ghost from_gives = { λ _ e. e ≡ NoMemory };
+
+    fn from(_error: AllocError) -> SummaryError {
+        SummaryError::NoMemory
+    }
+}
+
+impl<T: Drop> From<AllocFailed<T>> for SummaryError {
+    ghost from_gives = { λ _ e. e ≡ NoMemory };
+
+    fn from(_error: AllocFailed<T>) -> SummaryError {
+        SummaryError::NoMemory
+    }
+}

@@ -1,0 +1,120 @@
+//! Fields of a summary file, from the left.
+
+ghost use Rattle.std.specs.Prelude.{◌≡◌, ◌≤◌, ◌<◌, ◌^◌, ℕ, List, length, Ok, Err, IfOk, IfErr, OnOk};
+ghost use Rattle.std.specs.Int.{bytes_high_first};
+ghost use Rattle.summary_codec.specs.Reading.{taken, number, number_within, sized, ended, opened};
+
+use crate::error::SummaryError;
+use byteorder::{BigEndian, ByteOrder};
+use std::marker::Model;
+
+/// What each file begins with.
+pub(crate) const OPENING: &[u8] = b"AGGSUM01";
+
+/// The bytes that are still to be read.
+#[derive(Drop)]
+pub(crate) struct Fields<'a> {
+    left: &'a [u8],
+}
+
+impl<'a> Model for Fields<'a> {
+    ghost Value = { List ℕ };
+
+    ghost view = { λ f. f.left.now };
+}
+
+/// The number that bytes spell, of which there are 1 to 8.
+fn spelled(bytes: &[u8]) -> u64
+    requires some { 1 ≤ length bytes.now }
+    requires few { length bytes.now ≤ 8 }
+    ensures spelled { bytes.now ≡ bytes_high_first (length bytes.now) result }
+    ensures fits { result < 256 ^ length bytes.now }
+{
+    BigEndian::read_uint(bytes, bytes.len())
+}
+
+impl<'a> Fields<'a> {
+    /// All of these bytes.
+    pub(crate) fn new(bytes: &'a [u8]) -> Fields<'a>
+        ensures { result ≡ bytes.now }
+    {
+        Fields { left: bytes }
+    }
+
+    /// So many bytes.
+    pub(crate) fn take(&mut self, count: usize) -> Result<&'a [u8], SummaryError>
+        ensures taken { IfOk result (λ front. taken count self.old (Ok (front.now, self.new))) }
+        ensures short { IfErr result (λ e. taken count self.old (Err e)) }
+    {
+        let Some((front, rest)) = self.left.split_at_checked(count) else {
+            return Err(SummaryError::Truncated);
+        };
+        self.left = rest;
+        Ok(front)
+    }
+
+    /// A number of so many bytes, 1 to 8.
+    #[tactic(auto, unfolding(crate::specs::Reading::number))]
+    pub(crate) fn number(&mut self, width: usize) -> Result<u64, SummaryError>
+        requires some { 1 ≤ width }
+        requires few { width ≤ 8 }
+        ensures read { IfOk result (λ n. number width self.old (Ok (n, self.new))) }
+        ensures short { IfErr result (λ e. number width self.old (Err e)) }
+    {
+        let bytes = self.take(width)?;
+        Ok(spelled(bytes))
+    }
+
+    /// A number of so many bytes, 1 to 8, that is not above another.
+    #[tactic(auto, unfolding(crate::specs::Reading::number_within))]
+    pub(crate) fn number_within(&mut self, width: usize, most: u64) -> Result<u64, SummaryError>
+        requires some { 1 ≤ width }
+        requires few { width ≤ 8 }
+        ensures read { IfOk result (λ n. number_within width most self.old (Ok (n, self.new))) }
+        ensures within { IfOk result (λ n. n ≤ most) }
+        ensures fault { IfErr result (λ e. number_within width most self.old (Err e)) }
+    {
+        let number = self.number(width)?;
+        if number > most {
+            return Err(SummaryError::OutOfRange);
+        }
+        Ok(number)
+    }
+
+    /// Bytes behind their length.
+    #[tactic(auto, unfolding(crate::specs::Reading::sized))]
+    pub(crate) fn sized(&mut self) -> Result<&'a [u8], SummaryError>
+        ensures read { IfOk result (λ bytes. sized self.old (Ok (bytes.now, self.new))) }
+        ensures short { IfErr result (λ e. sized self.old (Err e)) }
+    {
+        let length = self.number(2)?;
+        self.take(length as usize)
+    }
+
+    /// What each file begins with.
+    #[tactic(auto, unfolding(crate::specs::Reading::opened), using(crate::proofs::FieldLaws::cut_short, crate::proofs::FieldLaws::no_opening))]
+    pub(crate) fn open(&mut self) -> Result<(), SummaryError>
+        ensures opened { OnOk result (opened self.old (Ok (tt, self.new))) }
+        ensures fault { IfErr result (λ e. opened self.old (Err e)) }
+    {
+        if let Some(rest) = self.left.strip_prefix(OPENING) {
+            self.left = rest;
+            return Ok(());
+        }
+        if OPENING.starts_with(self.left) {
+            return Err(SummaryError::Truncated);
+        }
+        Err(SummaryError::NotASummary)
+    }
+
+    /// Nothing follows.
+    pub(crate) fn end(&mut self) -> Result<(), SummaryError>
+        ensures ended { OnOk result (ended self.old (Ok (tt, self.new))) }
+        ensures fault { IfErr result (λ e. ended self.old (Err e)) }
+    {
+        if self.left.is_empty() {
+            return Ok(());
+        }
+        Err(SummaryError::Trailing)
+    }
+}
