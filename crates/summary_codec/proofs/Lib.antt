@@ -3,3 +3,5 @@ pub mod FaultLaws
 pub mod RisingLaws
 pub mod LoopLaws
 pub mod GroupLaws
+pub mod WriteLaws
+pub mod LengthLaws

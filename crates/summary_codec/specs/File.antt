@@ -27,7 +27,7 @@ abbrev pub batch_bytes : ℕ × List (List ℕ) → List ℕ
 batch_bytes batch = bytes_high_first 4 batch.0 ++ bytes_high_first 4 (length batch.1) ++ flat_map sized_bytes batch.1
 
 -- what is held of an origin: the origin, its prefix, how many groups there are, these, how many early batches, and these
-abbrev pub part_bytes : ℕ × Part → List ℕ
+unfoldable pub part_bytes : ℕ × Part → List ℕ
 part_bytes held =
     bytes_high_first 2 held.0
     ++ bytes_high_first 4 held.1.prefix

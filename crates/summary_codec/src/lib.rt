@@ -1,10 +1,11 @@
 //! Summary files: what is known of a query as bytes, and back.
 #![tactic(auto)]
 
-mod reading;
-
 mod error;
 mod fields;
+mod reading;
+mod writing;
 
-pub use reading::decode;
 pub use error::SummaryError;
+pub use reading::decode;
+pub use writing::encode;
