@@ -46,7 +46,7 @@ short_values (k ∷ ks) (d ∷ row) has =
     let both = length-append (value_packing d) (packing row) in
     omega (arith, one, more, both)
 
-short_packing : (kinds : List Kind) (row : Row) → length kinds ≤ MOST_COLUMNS → HasKinds kinds row → IsShort (packing row)
+pub short_packing : (kinds : List Kind) (row : Row) → length kinds ≤ MOST_COLUMNS → HasKinds kinds row → IsShort (packing row)
 short_packing kinds row few has = let all = short_values kinds row has in omega (arith, few, all)
 
 -- ---- groups
@@ -57,7 +57,7 @@ short_keys q most (e ∷ run) [] few are = absurd are
 short_keys q most (e ∷ run) (g ∷ groups) few are =
     (subst IsShort (sym are.0.key) (short_packing (key_kinds q) g.0 few are.0.of_kinds), short_keys q most run groups few are.1)
 
-few_key_kinds : (q : Checked) → IsQuery q → length (key_kinds (meaning q)) ≤ MOST_COLUMNS
+pub few_key_kinds : (q : Checked) → IsQuery q → length (key_kinds (meaning q)) ≤ MOST_COLUMNS
 few_key_kinds q is =
     let few = is.well_formed.few_keys in
     let same = length-map (meaning q).keys (λ place. slice_index_or (meaning q).kinds place Bigint_kind) in
@@ -107,7 +107,7 @@ none_below (e ∷ xs) = (omega arith, none_below xs)
 
 -- ---- parts
 
-short_part : (q : Checked) (part : Part) → IsQuery q → IsPartOf q part → IsShortPart part
+pub short_part : (q : Checked) (part : Part) → IsQuery q → IsPartOf q part → IsShortPart part
 short_part q part is of_query =
     let within = of_query.within in
     let few = of_query.few in

@@ -5,3 +5,7 @@ pub mod LoopLaws
 pub mod GroupLaws
 pub mod WriteLaws
 pub mod LengthLaws
+pub mod ReaderLaws
+pub mod OneReading
+pub mod WrittenRead
+pub mod SpelledRead

@@ -41,3 +41,15 @@ rises_next order total (x ∷ []) next rising above = ((next_is order (x ∷ [])
 rises_next order total (x ∷ y ∷ ys) next rising above =
     let rest = rises_next order total (y ∷ ys) next rising.1 (subst (λ o. IfSome o (λ l. order l next ≡ Less)) (same_last x y ys) above) in
     ((rising.0.0, all_and (λ z. order x z ≡ Less) ys next rising.0.1 (total.trans x y next rising.0.0 (last_of_all (λ z. order y z ≡ Less) ys next rest.0))), rest)
+
+-- what goes on rising is above what was last
+first_above : {A : Type 0} (P : A → Type 0) (xs : List A) (y : A) (ys : List A) → AllByRecursion P (xs ++ y ∷ ys) → P y
+first_above P [] y ys all = all.0
+first_above P (x ∷ xs) y ys all = first_above P xs y ys all.1
+
+pub next_of : {K : Type 0} (order : K → K → Ordering) (before : List K) (next : K) (after : List K) → IsStrictlySortedBy order (before ++ next ∷ after) → IsNext order before next
+unfolding IsStrictlySortedBy
+next_of order [] next after rising = tt
+next_of order (x ∷ []) next after rising = is_next order (x ∷ []) x next (only_last x) rising.0.0
+next_of order (x ∷ y ∷ ys) next after rising =
+    subst (λ o. IfSome o (λ l. order l next ≡ Less)) (sym (same_last x y ys)) (next_of order (y ∷ ys) next after rising.1)

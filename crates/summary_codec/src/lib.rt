@@ -3,9 +3,11 @@
 
 mod error;
 mod fields;
+mod laws;
 mod reading;
 mod writing;
 
 pub use error::SummaryError;
+pub use laws::one_spelling;
 pub use reading::decode;
 pub use writing::encode;

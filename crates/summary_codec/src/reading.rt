@@ -502,6 +502,8 @@ pub fn decode(
     bytes: &[u8],
 ) -> Result<(Query, BTreeMap<u16, OriginPart>), SummaryError>
     ensures read { IfOk result (λ found. IsSummary bytes.now found.0 found.1.entries) }
+    // What is read may be held: no group counts more rows than its prefix may have.
+    ensures held { IfOk result (λ found. AreHeldParts found.0 found.1.entries) }
     ensures fault { IfErr result (λ e. e ≢ NoMemory → HasFault bytes.now e) }
 {
     let mut fields = Fields::new(bytes);

@@ -1,6 +1,6 @@
 //! From a query and what is held of some origins to a file.
 
-ghost use Rattle.std.specs.Prelude.{◌≡◌, ◌≤◌, ◌<◌, ◌^◌, ◌++◌, ℕ, List, length, flat_map, IfOk, OnOk};
+ghost use Rattle.std.specs.Prelude.{◌≡◌, ◌≤◌, ◌<◌, ◌^◌, ◌++◌, ℕ, List, length, flat_map, IfOk, OnOk, IsUtf8};
 ghost use Rattle.std.specs.Int.{bytes_high_first};
 ghost use Rattle.std.specs.List.{AllByRecursion};
 ghost use Rattle.having_filter.specs.Kept.{IsQuery, by_names};
@@ -9,6 +9,7 @@ ghost use Rattle.origin_prefix.specs.Held.{AreHeldParts};
 ghost use Rattle.origin_prefix.specs.Parts.{Part};
 ghost use Rattle.packed_rows.specs.Columns.{printed};
 ghost use Rattle.summary_codec.specs.File.{batch_bytes, file_bytes, group_bytes, opening, part_bytes, sized_bytes};
+ghost use Rattle.summary_codec.specs.Reading.{IsSummary};
 ghost use Rattle.summary_codec.specs.Short.{IsShort, HaveShortKeys, IsShortBatch, IsShortPart};
 
 use crate::fields::OPENING;
@@ -127,10 +128,12 @@ fn push_heading(out: &mut Vec<u8>, query: &Query) -> Result<(), AllocError>
         ++ sized_bytes (printed query.now.columns)
         ++ sized_bytes (spelling (by_names query.now))) }
     ensures query { OnOk result (IsQuery query.now) }
+    ensures texts { OnOk result (IsUtf8 (printed query.now.columns)
+        × IsUtf8 (spelling (by_names query.now))) }
 {
     let schema = query.schema().print()?;
     out.extend_from_slice(OPENING)?;
-    push_sized(out, schema.as_bytes())?;
+    push_sized(out, schema.as_str().as_bytes())?;
     push_sized(out, query.spelling().as_bytes())
 }
 
@@ -141,7 +144,8 @@ pub fn encode(
     parts: &BTreeMap<u16, OriginPart>,
 ) -> Result<Vec<u8>, AllocError>
     requires { AreHeldParts query.now parts.now.entries }
-    ensures { IfOk result (λ bytes. bytes.items ≡ file_bytes query.now parts.now.entries) }
+    ensures spelled { IfOk result (λ bytes. bytes.items ≡ file_bytes query.now parts.now.entries) }
+    ensures read_again { IfOk result (λ bytes. IsSummary bytes.items query.now parts.now.entries) }
 {
     let mut out = Vec::new(alloc);
     push_heading(&mut out, query)?;

@@ -1,5 +1,8 @@
-use Rattle.std.proofs.Common.{arith}
+use Rattle.std.proofs.Common.{◌≡◌, rules, arith, sym, subst}
 use Rattle.summary_codec.proofs.LengthLaws.{short_parts, few_parts}
+use Rattle.summary_codec.specs.File.{file_bytes}
+use Rattle.summary_codec.specs.Reading.{IsSummary}
+use Rattle.summary_codec.proofs.WrittenRead.{read_again}
 use Rattle.summary_codec.proofs.writing.encode.Goals as goal
 
 pub push_number-requires-clause-fits : goal.push_number-requires-clause-fits
@@ -10,3 +13,11 @@ push_number-requires-clause-fits c =
 
 pub push_parts-requires : goal.push_parts-requires
 push_parts-requires c = short_parts c.args.query.now c.args.parts.now.entries c.in_ok-push_heading.ensures.query c.requires
+
+pub returns-clause-read_again : goal.returns-clause-read_again
+returns-clause-read_again c =
+    let q = c.args.query.now in
+    let held = c.args.parts.now.entries in
+    let texts = c.in_ok-push_heading.ensures.texts in
+    let spelled : c.push_parts.new.out.items ≡ file_bytes q held = search rules in
+    subst (λ bytes. IsSummary bytes q held) (sym spelled) (read_again q held c.in_ok-push_heading.ensures.query texts.0 texts.1 c.requires)

@@ -1,0 +1,20 @@
+use Rattle.std.proofs.Common.{ap}
+use Rattle.summary_codec.proofs.OneReading as one
+use Rattle.summary_codec.proofs.SpelledRead as spelled
+use Rattle.summary_codec.proofs.WrittenRead as written
+use Rattle.summary_codec.proofs.laws.one_spelling.Goals as goal
+
+pub returns-clause-read_again : goal.returns-clause-read_again
+returns-clause-read_again c = written.read_again
+
+pub returns-clause-spelled : goal.returns-clause-spelled
+returns-clause-spelled c = spelled.spelled
+
+pub returns-clause-one_reading : goal.returns-clause-one_reading
+returns-clause-one_reading c = one.one_reading
+
+pub returns-clause-one_fault : goal.returns-clause-one_fault
+returns-clause-one_fault c = one.one_first_fault
+
+pub returns-clause-not_both : goal.returns-clause-not_both
+returns-clause-not_both c = one.read_or_refused

@@ -1,0 +1,27 @@
+//! Laws of summary files.
+
+ghost use Rattle.std.specs.Prelude.{◌≡◌, ℕ, List, IsUtf8};
+ghost use Rattle.packed_rows.specs.Columns.{printed};
+ghost use Rattle.having_filter.specs.Kept.{IsQuery, by_names};
+ghost use Rattle.having_filter.specs.Meaning.{Checked};
+ghost use Rattle.having_filter.specs.Spelling.{spelling};
+ghost use Rattle.origin_prefix.specs.Held.{Parts, AreHeldParts};
+ghost use Rattle.summary_codec.specs.File.{file_bytes};
+ghost use Rattle.summary_codec.specs.Reading.{IsSummary, HasFault};
+ghost use Rattle.summary_codec.specs.declared.error.SummaryError.{SummaryError};
+
+/// Each query, with what is held for it, has one spelling, which is read as it was, and bytes that are read are such a spelling. No
+/// bytes are read in two ways, or have two first faults, or are read and have a fault. A query's texts are UTF-8.
+pub fn one_spelling()
+    ensures read_again { (query : Checked) (held : Parts) → IsQuery query → IsUtf8 (printed query.columns) →
+        IsUtf8 (spelling (by_names query)) → AreHeldParts query held →
+        IsSummary (file_bytes query held) query held }
+    ensures spelled { (bytes : List ℕ) (query : Checked) (held : Parts) → IsSummary bytes query held →
+        (bytes ≡ file_bytes query held) × AreHeldParts query held }
+    ensures one_reading { (bytes : List ℕ) (query other : Checked) (held those : Parts) →
+        IsSummary bytes query held → IsSummary bytes other those → (query ≡ other) × (held ≡ those) }
+    ensures one_fault { (bytes : List ℕ) (fault other : SummaryError) → HasFault bytes fault →
+        HasFault bytes other → fault ≡ other }
+    ensures not_both { (bytes : List ℕ) (query : Checked) (held : Parts) (fault : SummaryError) →
+        IsSummary bytes query held → ¬ (HasFault bytes fault) }
+{}
