@@ -105,7 +105,7 @@ known_rows_are query world parts held =
     ap (rows_upto world e.0) (prefix_told parts held.rising e.0 (subst HasGap (sym here) (part_gap query e.1 is.part)) ∙ ap (λ (p : Part). p.prefix) here))
     parts held.each (each_at parts held.rising))
 
-fit_each : (world : World) (held : Held) → Fits world held → IsStrictlySortedBy nat_cmp (numbers held.parts) → AllByRecursion (λ (e : ℕ × Part). FitsOrigin (meaning held.query) world e.0 e.1) held.parts
+pub fit_each : (world : World) (held : Held) → Fits world held → IsStrictlySortedBy nat_cmp (numbers held.parts) → AllByRecursion (λ (e : ℕ × Part). FitsOrigin (meaning held.query) world e.0 e.1) held.parts
 fit_each world held fits rising =
     all_weak (λ (e : ℕ × Part). part_at held.parts e.0 ≡ Some e.1) (λ (e : ℕ × Part). FitsOrigin (meaning held.query) world e.0 e.1)
     (λ e there. subst (FitsOrigin (meaning held.query) world e.0) (part_here held.parts e.0 e.1 there) (fits e.0)) held.parts (each_at held.parts rising)

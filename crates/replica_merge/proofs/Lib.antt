@@ -4,3 +4,4 @@ pub mod AnswerLaws
 pub mod HeldLaws
 pub mod DeliveredLaws
 pub mod MergedLaws
+pub mod SavedLaws

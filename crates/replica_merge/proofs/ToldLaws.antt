@@ -261,11 +261,11 @@ origins_told query parts held =
 pub each_at : {X : Type 0} (es : List (ℕ × X)) → IsStrictlySortedBy nat_cmp (numbers es) → AllByRecursion (λ (e : ℕ × X). lookup (eq_by_cmp nat_cmp e.0) es ≡ Some e.1) es
 each_at {X} es rising = all_found (λ (e : ℕ × X). lookup (eq_by_cmp nat_cmp e.0) es ≡ Some e.1) es rising (λ n x there. there)
 
-map_same : {X Y : Type 0} (f : ℕ → Y) (g : ℕ × X → Y) (es : List (ℕ × X)) → AllByRecursion (λ (e : ℕ × X). f e.0 ≡ g e) es → map f (numbers es) ≡ map g es
+pub map_same : {X Y : Type 0} (f : ℕ → Y) (g : ℕ × X → Y) (es : List (ℕ × X)) → AllByRecursion (λ (e : ℕ × X). f e.0 ≡ g e) es → map f (numbers es) ≡ map g es
 map_same f g [] all = refl
 map_same f g (e ∷ es) all = (λ i. all.0 i ∷ map_same f g es all.1 i)
 
-all_with : {X : Type 0} (P Q R : X → Type 0) → ((x : X) → P x → Q x → R x) → (xs : List X) → AllByRecursion P xs → AllByRecursion Q xs → AllByRecursion R xs
+pub all_with : {X : Type 0} (P Q R : X → Type 0) → ((x : X) → P x → Q x → R x) → (xs : List X) → AllByRecursion P xs → AllByRecursion Q xs → AllByRecursion R xs
 all_with P Q R both [] ps qs = tt
 all_with P Q R both (x ∷ xs) ps qs = (both x ps.0 qs.0, all_with P Q R both xs ps.1 qs.1)
 

@@ -6,6 +6,7 @@ mod known;
 mod laws;
 mod merging;
 mod replica;
+mod saving;
 mod showing;
 
 pub use error::MergeError;
@@ -14,3 +15,4 @@ pub use laws::merged_knowledge;
 pub use merging::Joined;
 pub use origin_prefix::{Delivered, JoinError, RefusedBatch};
 pub use replica::Replica;
+pub use summary_codec::SummaryError;

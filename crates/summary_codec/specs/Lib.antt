@@ -1,3 +1,4 @@
 pub mod File
 pub mod Short
 pub mod Reading
+pub mod WorldFile

@@ -1,0 +1,6 @@
+use Rattle.replica_merge.proofs.SavedLaws.{one_held}
+use Rattle.replica_merge.proofs.replica.Replica.load.Goals as goal
+
+pub returns-clause-saved : goal.returns-clause-saved
+returns-clause-saved c =
+    λ held is. one_held c.args.bytes.now (record { query = c.in_ok-query.query; parts = c.in_ok-query.parts.entries }) held c.in_ok-query.ensures.read is

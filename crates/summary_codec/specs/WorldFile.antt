@@ -1,0 +1,24 @@
+-- The summary file of a query, a world and what is known of it. It has no row of an unbroken prefix, only the groups of these rows. All
+-- of this is our own.
+use Rattle.std.specs.Prelude.{ℕ, List, map}
+use Rattle.grouping_model.specs.Grouping.{part}
+use Rattle.grouping_model.specs.World.{World, Knowledge, origins, prefix, early, batch_rows, origin_rows}
+use Rattle.batch_reader.specs.Rows.{packings}
+use Rattle.having_filter.specs.Meaning.{Checked, meaning}
+use Rattle.hash_agg.specs.Bytes.{run_bytes}
+use Rattle.origin_prefix.specs.Parts.{Part}
+use Rattle.summary_codec.specs.File.{file_bytes}
+
+-- what is known of an origin: its unbroken prefix, the bytes of the groups of the prefix's rows, and its early batches
+abbrev pub world_part : Checked → World → Knowledge → ℕ → ℕ × Part
+world_part query world known origin =
+    (origin,
+     record {
+       prefix = prefix known origin;
+       run = run_bytes (part (meaning query) (origin_rows world known origin));
+       early = map (λ number. (number, packings (batch_rows world origin number))) (early known origin);
+     })
+
+-- the file of these, by rising origin
+abbrev pub world_file : Checked → World → Knowledge → List ℕ
+world_file query world known = file_bytes query (map (world_part query world known) (origins known))
