@@ -1,15 +1,13 @@
 -- The fields of a record, and the commands of a list of records.
-use Rattle.std.proofs.Common.{◌≡◌, ◌≢◌, ◌<◌, if◌then◌else◌, ℕ, zero, suc, List, [], ◌∷◌, length, drop, take, get_or, Some, refl, ap, arith, ◌∙◌, sym}
-use Rattle.std.proofs.Common.{◌≤◌, ◌+◌, ◌*◌, ◌^◌, IsTrue, IsUtf8, false}
+use Rattle.std.proofs.Common.{◌≡◌, ◌≢◌, ◌<◌, ℕ, zero, suc, List, [], ◌∷◌, length, drop, take, get_or, Some, refl, ap, arith, ◌∙◌, sym}
+use Rattle.std.proofs.Common.{IsTrue, IsUtf8, false}
 use Rattle.std.proofs.lemmas.Bool.{false_from_ne_true}
 use Rattle.std.proofs.lemmas.List.{length-drop}
 use Rattle.std.proofs.lemmas.Str.{is_utf8-from_IsUtf8, IsUtf8-from_is_utf8}
-use Rattle.std.proofs.Math.Nat.{pow-le-pow_right}
 use Rattle.std.specs.Str.{is_utf8}
 use Rattle.csv.specs.Records.{field_at}
-use Rattle.std.specs.Str.Parse.{digits_value}
 use Rattle.script_io.specs.Records.{Record}
-use Rattle.script_commands.specs.Commands.{Unknown, begins_feed, commands_after, commands_of, feed_request, is_row_count, one_field, owned_by, request_of, two_fields}
+use Rattle.script_commands.specs.Commands.{Unknown, commands_after, commands_of, feed_request, one_field, owned_by, owned_rows, request_of, two_fields}
 
 pub field_is : (fields : Record) (i : ℕ) → i < length fields → field_at fields i ≡ Some (get_or fields i [])
 unfolding field_at
@@ -55,7 +53,7 @@ request_other (a ∷ b ∷ c ∷ d ∷ e ∷ []) two three five = absurd (five r
 request_other (a ∷ b ∷ c ∷ d ∷ e ∷ f ∷ rest) two three five = refl
 
 pub owned_five : (fields : Record) → length fields ≡ 5 → owned_by fields
-    ≡ (if begins_feed (get_or fields 0 []) (get_or fields 4 []) then digits_value 10 (get_or fields 4 []) else 0)
+    ≡ owned_rows (get_or fields 0 []) (get_or fields 4 [])
 unfolding owned_by
 owned_five [] h = absurd (omega arith)
 owned_five (a ∷ []) h = absurd (omega arith)
@@ -112,10 +110,3 @@ text_is bytes h = is_utf8-from_IsUtf8 bytes h
 
 pub no_text : (bytes : List ℕ) → ¬ (IsUtf8 bytes) → is_utf8 bytes ≡ false
 no_text bytes h = false_from_ne_true (is_utf8 bytes) (λ e. h (IsUtf8-from_is_utf8 bytes e))
-
--- up to nine digits stand for a number of 32 bits
-pub nine_digits : (count index : ℕ) → count < 10 ^ index → index < 9 → count * 10 + 256 ≤ 2 ^ 32
-nine_digits count index h few = omega (arith, pow-le-pow_right {n = 10} (omega arith) {i = index} {j = 8} (omega arith))
-
-pub few_digits : (digits : List ℕ) → IsTrue (is_row_count digits) → length digits < 10
-few_digits digits h = grind (arith, h)
