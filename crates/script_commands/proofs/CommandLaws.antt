@@ -1,19 +1,12 @@
 -- The fields of a record, and the commands of a list of records.
-use Rattle.std.proofs.Common.{◌≡◌, ◌≢◌, ◌<◌, ℕ, zero, suc, List, [], ◌∷◌, length, drop, take, get_or, Some, refl, ap, arith, ◌∙◌, sym}
+use Rattle.std.proofs.Common.{◌≡◌, ◌≢◌, ◌<◌, ℕ, zero, suc, List, [], ◌∷◌, length, drop, take, get_or, refl, ap, arith, ◌∙◌, sym}
 use Rattle.std.proofs.Common.{IsTrue, IsUtf8, false}
 use Rattle.std.proofs.lemmas.Bool.{false_from_ne_true}
 use Rattle.std.proofs.lemmas.List.{length-drop}
 use Rattle.std.proofs.lemmas.Str.{is_utf8-from_IsUtf8, IsUtf8-from_is_utf8}
 use Rattle.std.specs.Str.{is_utf8}
-use Rattle.csv.specs.Records.{field_at}
 use Rattle.script_io.specs.Records.{Record}
 use Rattle.script_commands.specs.Commands.{Unknown, commands_after, commands_of, feed_request, one_field, owned_by, owned_rows, request_of, two_fields}
-
-pub field_is : (fields : Record) (i : ℕ) → i < length fields → field_at fields i ≡ Some (get_or fields i [])
-unfolding field_at
-field_is [] i h = absurd (omega arith)
-field_is (f ∷ fs) zero h = refl
-field_is (f ∷ fs) (suc i) h = field_is fs i (omega arith)
 
 pub request_two : (fields : Record) → length fields ≡ 2 → request_of fields ≡ one_field (get_or fields 0 []) (get_or fields 1 [])
 unfolding request_of

@@ -9,7 +9,7 @@ ghost use Rattle.script_commands.specs.Views.{request_view};
 
 use csv::ByteRecord;
 use grouping_model::limits::LONGEST_NAME;
-use script_io::read_row_count;
+use script_io::{field, read_row_count};
 use std::str;
 
 /// What a command asks. Names are 1 to 63 ASCII letters, digits or `_`.
@@ -54,15 +54,6 @@ fn is_legal_name(name: &[u8]) -> bool
     ensures { result ≡ is_name name.now }
 {
     !name.is_empty() && name.len() <= LONGEST_NAME && are_name_bytes(name)
-}
-
-/// The field at a place.
-#[tactic(auto, using(crate::proofs::CommandLaws::field_is))]
-fn field(head: &ByteRecord, i: usize) -> &[u8]
-    requires { i < length (fields_of head.now) }
-    ensures { result.now ≡ get_or (fields_of head.now) i [] }
-{
-    head.get(i).unwrap()
 }
 
 /// What a word and a name ask.

@@ -1,6 +1,6 @@
 //! The records of a script, one after the other.
 
-ghost use Rattle.std.specs.Prelude.{◌≡◌, [], ◌∷◌, map, take, drop, MatchOption, MatchResult};
+ghost use Rattle.std.specs.Prelude.{◌≡◌, ◌<◌, [], ◌∷◌, get_or, length, map, take, drop, MatchOption, MatchResult};
 ghost use Rattle.csv.specs.Records.{fields_of};
 ghost use Rattle.script_io.specs.Records.{records_of};
 
@@ -95,4 +95,13 @@ impl<'a> Records<'a> {
         }
         Ok(taken)
     }
+}
+
+/// The field of a record at a place, the first being 0.
+#[tactic(auto, using(crate::proofs::RecordFacts::field_is))]
+pub fn field(of: &ByteRecord, place: usize) -> &[u8]
+    requires { place < length (fields_of of.now) }
+    ensures { result.now ≡ get_or (fields_of of.now) place [] }
+{
+    of.get(place).unwrap()
 }
