@@ -1,3 +1,4 @@
 pub mod HeadLaws
 pub mod RecordLaws
 pub mod SameRows
+pub mod FileLaws

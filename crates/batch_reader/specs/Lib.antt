@@ -1,3 +1,5 @@
 pub mod Head
 pub mod Rows
 pub mod Refusal
+pub mod File
+pub mod Views

@@ -33,10 +33,16 @@ pub record HeadReads (origin number : List ℕ) : Type 0 where
   pub reads_origin : ReadsOrigin origin origin_value
   pub reads_number : ReadsBatchNumber number number_value
 
+-- the error of a batch that its head tells
+abbrev pub HeadFault : List ℕ → List ℕ → ℕ → BatchError → Type 0
+HeadFault origin number told BadBatchHead = ¬ (HeadReads origin number)
+HeadFault origin number told TooManyRows = HeadReads origin number × (MOST_ROWS < told)
+HeadFault origin number told error = ⊥
+
 -- the error of a batch, unless memory ran out, in this order
 abbrev pub BuildFault : List Kind → List ℕ → List ℕ → ℕ → List (List (List ℕ)) → BatchError → Type 0
 BuildFault kinds origin number told records NoMemory = Unit {0}
-BuildFault kinds origin number told records BadBatchHead = ¬ (HeadReads origin number)
-BuildFault kinds origin number told records TooManyRows = HeadReads origin number × (MOST_ROWS < told)
+BuildFault kinds origin number told records BadBatchHead = HeadFault origin number told BadBatchHead
+BuildFault kinds origin number told records TooManyRows = HeadFault origin number told TooManyRows
 BuildFault kinds origin number told records RowCount = HeadReads origin number × (told ≤ MOST_ROWS) × (length records ≢ told)
 BuildFault kinds origin number told records error = HeadReads origin number × (told ≤ MOST_ROWS) × (length records ≡ told) × FirstFault kinds records error

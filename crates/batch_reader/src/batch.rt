@@ -3,15 +3,15 @@
 ghost use Rattle.std.specs.Prelude.{◌≡◌, ◌≤◌, List, length, IfOk, IfErr};
 ghost use Rattle.grouping_model.specs.Datum.{Row};
 ghost use Rattle.packed_rows.specs.Columns.{kinds};
+ghost use Rattle.grouping_model.specs.declared.limits.TheConstants.{MOST_ROWS};
 ghost use Rattle.batch_reader.specs.Head.{ReadsOrigin, ReadsBatchNumber};
 ghost use Rattle.batch_reader.specs.Rows.{ReadsRows, packings, records_of};
 ghost use Rattle.batch_reader.specs.Refusal.{BuildFault};
 
 use crate::error::BatchError;
-use crate::head::{read_batch_number, read_origin};
+use crate::head::checked_head;
 use crate::rows::{PackedRows, pack_records};
 use csv::ByteRecord;
-use grouping_model::limits::MOST_ROWS;
 use packed_rows::Schema;
 use std::alloc::Global;
 
@@ -46,15 +46,7 @@ pub fn build_batch(
     ensures refused { IfErr result (BuildFault (kinds schema.now) origin.now number.now told
         (records_of records.now)) }
 {
-    let Some(origin) = read_origin(origin) else {
-        return Err(BatchError::BadBatchHead);
-    };
-    let Some(number) = read_batch_number(number) else {
-        return Err(BatchError::BadBatchHead);
-    };
-    if told > MOST_ROWS {
-        return Err(BatchError::TooManyRows);
-    }
+    let (origin, number) = checked_head(origin, number, told)?;
     if records.len() != told as usize {
         return Err(BatchError::RowCount);
     }

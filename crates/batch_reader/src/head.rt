@@ -1,10 +1,12 @@
 //! The head of a batch: its origin and its number.
 
-ghost use Rattle.std.specs.Prelude.{◌≡◌, ◌<◌, ◌≤◌, ◌^◌, IfSome, IfNone, ℕ};
+ghost use Rattle.std.specs.Prelude.{◌≡◌, ◌<◌, ◌≤◌, ◌^◌, IfSome, IfNone, IfOk, IfErr, OnOk, ℕ};
 ghost use Rattle.std.specs.Str.Parse.{IsNumeral, digits_value};
 ghost use Rattle.batch_reader.specs.Head.{ReadsNumber, ReadsOrigin, ReadsBatchNumber};
+ghost use Rattle.batch_reader.specs.Refusal.{HeadFault};
 
-use grouping_model::limits::{LAST_NUMBER, LAST_ORIGIN};
+use crate::error::BatchError;
+use grouping_model::limits::{LAST_NUMBER, LAST_ORIGIN, MOST_ROWS};
 use std::str;
 
 /// The most digits of an origin or a number, leading zeros included.
@@ -55,4 +57,27 @@ pub(crate) fn read_batch_number(field: &[u8]) -> Option<u32>
 {
     let number = read_number(field, FIRST_NUMBER, u64::from(LAST_NUMBER))?;
     Some(number as u32)
+}
+
+/// The origin and the number of a batch, where its head is right and tells no more rows than a batch may have.
+pub(crate) fn checked_head(
+    origin: &[u8],
+    number: &[u8],
+    told: u32,
+) -> Result<(u16, u32), BatchError>
+    ensures origin { IfOk result (λ head. ReadsOrigin origin.now head.0) }
+    ensures number { IfOk result (λ head. ReadsBatchNumber number.now head.1) }
+    ensures few { OnOk result (told ≤ MOST_ROWS) }
+    ensures refused { IfErr result (HeadFault origin.now number.now told) }
+{
+    let Some(origin) = read_origin(origin) else {
+        return Err(BatchError::BadBatchHead);
+    };
+    let Some(number) = read_batch_number(number) else {
+        return Err(BatchError::BadBatchHead);
+    };
+    if told > MOST_ROWS {
+        return Err(BatchError::TooManyRows);
+    }
+    Ok((origin, number))
 }

@@ -3,9 +3,11 @@
 
 mod batch;
 mod error;
+mod file;
 mod head;
 mod rows;
 
 pub use batch::{Batch, build_batch};
 pub use error::BatchError;
+pub use file::read_batch;
 pub use rows::PackedRows;

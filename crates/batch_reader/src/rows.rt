@@ -78,23 +78,27 @@ impl PackedRows {
 }
 
 /// The fields of a record.
-fn fields(alloc: Global, record: &ByteRecord) -> Result<Vec<&[u8]>, AllocError>
-    ensures { IfOk result (λ fields. texts_of fields.items ≡ fields_of record.now) }
+fn fields(alloc: Global, csv_record: &ByteRecord) -> Result<Vec<&[u8]>, AllocError>
+    ensures { IfOk result (λ fields. texts_of fields.items ≡ fields_of csv_record.now) }
 {
     let mut fields = Vec::new(alloc);
-    while let Some(field) = record.get(fields.len()) {
+    while let Some(field) = csv_record.get(fields.len()) {
         fields.push(field)?;
     }
     Ok(fields)
 }
 
 /// The packing of the row that a record's fields stand for.
-fn pack_record(alloc: Global, schema: &Schema, record: &ByteRecord) -> Result<Vec<u8>, BatchError>
+fn pack_record(
+    alloc: Global,
+    schema: &Schema,
+    csv_record: &ByteRecord,
+) -> Result<Vec<u8>, BatchError>
     ensures packed { IfOk result (λ bytes. (row : Row)
-        × ReadsRow (kinds schema.now) (fields_of record.now) row × (bytes.items ≡ packing row)) }
-    ensures refused { IfErr result (RecordFault (kinds schema.now) (fields_of record.now)) }
+        × ReadsRow (kinds schema.now) (fields_of csv_record.now) row × (bytes.items ≡ packing row)) }
+    ensures refused { IfErr result (RecordFault (kinds schema.now) (fields_of csv_record.now)) }
 {
-    match pack_row(alloc, schema, &fields(alloc, record)?) {
+    match pack_row(alloc, schema, &fields(alloc, csv_record)?) {
         Ok(bytes) => Ok(bytes),
         Err(RowError::NoMemory) => Err(BatchError::NoMemory),
         Err(RowError::WrongWidth) => Err(BatchError::WrongWidth),

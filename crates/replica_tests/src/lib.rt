@@ -1,4 +1,4 @@
-//! Tests of batches, of aggregation, of parts of an origin and of replicas, by their crates' public calls alone.
+//! Tests of batches, of aggregation, of parts of an origin, of replicas and of tables, by their crates' public calls alone.
 #![tactic(auto)]
 
 #[cfg(test)]
@@ -11,3 +11,5 @@ mod parts;
 mod replicas;
 #[cfg(test)]
 mod runs;
+#[cfg(test)]
+mod tables;

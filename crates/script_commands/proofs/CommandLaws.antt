@@ -1,21 +1,16 @@
 -- The fields of a record, and the commands of a list of records.
-use Rattle.std.proofs.Common.{◌≡◌, ◌≢◌, ◌<◌, if◌then◌else◌, ℕ, zero, suc, List, [], ◌∷◌, length, drop, take, get_or, Some, refl, ap, arith, ◌∙◌, sym}
-use Rattle.std.proofs.Common.{◌≤◌, ◌+◌, ◌*◌, ◌^◌, IsTrue, IsUtf8, false}
+use Rattle.std.proofs.Common.{◌≡◌, ◌≢◌, ◌<◌, ℕ, zero, suc, List, [], ◌∷◌, length, drop, take, get_or, refl, ap, arith, ◌∙◌, sym}
+use Rattle.std.proofs.Common.{◌≤◌, ◌&&◌, Bool, true, false, if◌then◌else◌, IsTrue, IsUtf8, Option, Some, None, codes, unwrap_or}
 use Rattle.std.proofs.lemmas.Bool.{false_from_ne_true}
-use Rattle.std.proofs.lemmas.List.{length-drop}
+use Rattle.std.proofs.lemmas.List.{length-drop, length-take, take_all}
 use Rattle.std.proofs.lemmas.Str.{is_utf8-from_IsUtf8, IsUtf8-from_is_utf8}
-use Rattle.std.proofs.Math.Nat.{pow-le-pow_right}
-use Rattle.std.specs.Str.{is_utf8}
-use Rattle.csv.specs.Records.{field_at}
-use Rattle.std.specs.Str.Parse.{digits_value}
+use Rattle.std.specs.Option.{option_map_or}
+use Rattle.std.specs.Str.{bytes_eq, is_utf8}
+use Rattle.grouping_model.specs.declared.limits.TheConstants.{MOST_ROWS}
 use Rattle.script_io.specs.Records.{Record}
-use Rattle.script_commands.specs.Commands.{Unknown, begins_feed, commands_after, commands_of, feed_request, is_row_count, one_field, owned_by, request_of, two_fields}
-
-pub field_is : (fields : Record) (i : ℕ) → i < length fields → field_at fields i ≡ Some (get_or fields i [])
-unfolding field_at
-field_is [] i h = absurd (omega arith)
-field_is (f ∷ fs) zero h = refl
-field_is (f ∷ fs) (suc i) h = field_is fs i (omega arith)
+use Rattle.script_io.specs.RowCount.{row_count}
+use Rattle.script_commands.specs.Commands.{Request, Columns, Query, Replica, Feed, Known, Answer, Merge, Unknown, commands_after, commands_of, feed_request, is_name, name_request, one_field, owned_by, owned_rows, request_of, two_fields}
+use Rattle.script_commands.specs.Views.{HasItsRows}
 
 pub request_two : (fields : Record) → length fields ≡ 2 → request_of fields ≡ one_field (get_or fields 0 []) (get_or fields 1 [])
 unfolding request_of
@@ -55,7 +50,7 @@ request_other (a ∷ b ∷ c ∷ d ∷ e ∷ []) two three five = absurd (five r
 request_other (a ∷ b ∷ c ∷ d ∷ e ∷ f ∷ rest) two three five = refl
 
 pub owned_five : (fields : Record) → length fields ≡ 5 → owned_by fields
-    ≡ (if begins_feed (get_or fields 0 []) (get_or fields 4 []) then digits_value 10 (get_or fields 4 []) else 0)
+    ≡ owned_rows (get_or fields 0 []) (get_or fields 4 [])
 unfolding owned_by
 owned_five [] h = absurd (omega arith)
 owned_five (a ∷ []) h = absurd (omega arith)
@@ -113,9 +108,67 @@ text_is bytes h = is_utf8-from_IsUtf8 bytes h
 pub no_text : (bytes : List ℕ) → ¬ (IsUtf8 bytes) → is_utf8 bytes ≡ false
 no_text bytes h = false_from_ne_true (is_utf8 bytes) (λ e. h (IsUtf8-from_is_utf8 bytes e))
 
--- up to nine digits stand for a number of 32 bits
-pub nine_digits : (count index : ℕ) → count < 10 ^ index → index < 9 → count * 10 + 256 ≤ 2 ^ 32
-nine_digits count index h few = omega (arith, pow-le-pow_right {n = 10} (omega arith) {i = index} {j = 8} (omega arith))
+-- ---- a feed owns as many records as it tells
 
-pub few_digits : (digits : List ℕ) → IsTrue (is_row_count digits) → length digits < 10
-few_digits digits h = grind (arith, h)
+abbrev pub IsNoFeed : Request → Type 0
+IsNoFeed request = (name origin number : List ℕ) (told : ℕ) → request ≢ Feed name origin number told
+
+either_no_feed : (b : Bool) (x y : Request) → IsNoFeed x → IsNoFeed y → IsNoFeed (if b then x else y)
+either_no_feed true x y p q = p
+either_no_feed false x y p q = q
+
+unknown_no_feed : IsNoFeed Unknown
+unknown_no_feed name origin number told e = cc
+
+name_no_feed : (word name : List ℕ) → IsNoFeed (name_request word name)
+name_no_feed word name =
+    either_no_feed (bytes_eq word (codes "replica")) _ _ (λ n o m t e. cc)
+    (either_no_feed (bytes_eq word (codes "known")) _ _ (λ n o m t e. cc)
+    (either_no_feed (bytes_eq word (codes "answer")) _ _ (λ n o m t e. cc) unknown_no_feed))
+
+one_no_feed : (word field : List ℕ) → IsNoFeed (one_field word field)
+one_no_feed word field =
+    either_no_feed (bytes_eq word (codes "columns")) _ _ (either_no_feed (is_utf8 field) _ _ (λ n o m t e. cc) unknown_no_feed)
+    (either_no_feed (bytes_eq word (codes "query")) _ _ (either_no_feed (is_utf8 field) _ _ (λ n o m t e. cc) unknown_no_feed)
+    (either_no_feed (is_name field) _ _ (name_no_feed word field) unknown_no_feed))
+
+two_no_feed : (word into from : List ℕ) → IsNoFeed (two_fields word into from)
+two_no_feed word into from = either_no_feed (bytes_eq word (codes "merge") && is_name into && is_name from) _ _ (λ n o m t e. cc) unknown_no_feed
+
+feed_owns : (is_feed named : Bool) (count : Option ℕ) (name origin number other other_origin other_number : List ℕ) (told : ℕ)
+    → (if is_feed && named then option_map_or (Feed name origin number) count Unknown else Unknown) ≡ Feed other other_origin other_number told
+    → (if is_feed then unwrap_or count 0 else 0) ≡ told
+feed_owns true true (Some n) name origin number other other_origin other_number told e = cc
+feed_owns true true None name origin number other other_origin other_number told e = absurd cc
+feed_owns true false count name origin number other other_origin other_number told e = absurd cc
+feed_owns false named count name origin number other other_origin other_number told e = absurd cc
+
+pub owned_told : (fields : Record) (name origin number : List ℕ) (told : ℕ) → request_of fields ≡ Feed name origin number told → owned_by fields ≡ told
+unfolding request_of owned_by
+owned_told [] name origin number told e = absurd cc
+owned_told (a ∷ []) name origin number told e = absurd cc
+owned_told (a ∷ b ∷ []) name origin number told e = absurd (one_no_feed a b name origin number told e)
+owned_told (a ∷ b ∷ c ∷ []) name origin number told e = absurd (two_no_feed a b c name origin number told e)
+owned_told (a ∷ b ∷ c ∷ d ∷ []) name origin number told e = absurd cc
+owned_told (a ∷ b ∷ c ∷ d ∷ f ∷ []) name origin number told e =
+    feed_owns (bytes_eq a (codes "feed")) (is_name b) (row_count f) b c d name origin number told e
+owned_told (a ∷ b ∷ c ∷ d ∷ f ∷ g ∷ rest) name origin number told e = absurd cc
+
+-- the records of a feed are all kept, if it tells few enough
+pub has_its_rows : (request : Request) (kept owned : List Record)
+    → ((name origin number : List ℕ) (told : ℕ) → request ≡ Feed name origin number told → told ≤ MOST_ROWS → kept ≡ owned) → HasItsRows request kept owned
+has_its_rows (Columns text) kept owned all = tt
+has_its_rows (Query text) kept owned all = tt
+has_its_rows (Replica name) kept owned all = tt
+has_its_rows (Feed name origin number told) kept owned all = all name origin number told refl
+has_its_rows (Known name) kept owned all = tt
+has_its_rows (Answer name) kept owned all = tt
+has_its_rows (Merge into from) kept owned all = tt
+has_its_rows Unknown kept owned all = tt
+
+pub keeps_rows : (most : ℕ) (head : Record) (rest kept : List Record) (name origin number : List ℕ) (told : ℕ) → kept ≡ take most (take (owned_by head) rest)
+    → request_of head ≡ Feed name origin number told → told ≤ most → kept ≡ take (owned_by head) rest
+keeps_rows most head rest kept name origin number told first asks few =
+    let owned = take (owned_by head) rest in
+    let short : length owned ≤ most = omega (arith, length-take (owned_by head) rest, owned_told head name origin number told asks) in
+    first ∙ take_all most owned short

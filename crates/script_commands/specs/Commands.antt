@@ -1,11 +1,12 @@
 -- The commands of a script, and what each asks. All of this is our own.
-use Rattle.std.specs.Prelude.{ℕ, zero, suc, ◌==◌, ◌&&◌, ◌||◌, Bool, List, [], ◌∷◌, length, take, codes, nat_le, nat_lt, if◌then◌else◌}
+use Rattle.std.specs.Prelude.{ℕ, zero, suc, ◌==◌, ◌&&◌, ◌||◌, Bool, List, [], ◌∷◌, length, take, codes, nat_le, nat_lt, unwrap_or, if◌then◌else◌}
 use Rattle.std.specs.Str.{bytes_eq, is_utf8}
-use Rattle.std.specs.Str.Parse.{digits_value}
 use Rattle.std.specs.List.{list_all}
-use Rattle.std.specs.Char.{is_ascii_alphanumeric, is_ascii_digit}
+use Rattle.std.specs.Char.{is_ascii_alphanumeric}
+use Rattle.std.specs.Option.{option_map_or}
 use Rattle.grouping_model.specs.declared.limits.TheConstants.{LONGEST_NAME}
 use Rattle.script_io.specs.Records.{Record}
+use Rattle.script_io.specs.RowCount.{row_count}
 
 -- what a command asks
 pub data Request : Type 0 where
@@ -30,10 +31,6 @@ is_name_byte b = is_ascii_alphanumeric b || (b == 95)
 abbrev pub is_name : List ℕ → Bool
 is_name bytes = nat_lt 0 (length bytes) && nat_le (length bytes) LONGEST_NAME && list_all is_name_byte bytes
 
--- a number of rows: 1 to 9 digits
-abbrev pub is_row_count : List ℕ → Bool
-is_row_count bytes = nat_lt 0 (length bytes) && nat_lt (length bytes) 10 && list_all is_ascii_digit bytes
-
 -- what a word and a name ask
 abbrev pub name_request : List ℕ → List ℕ → Request
 name_request word name =
@@ -52,14 +49,10 @@ one_field word field =
 abbrev pub two_fields : List ℕ → List ℕ → List ℕ → Request
 two_fields word into from = if bytes_eq word (codes "merge") && is_name into && is_name from then Merge into from else Unknown
 
--- a word and a number of rows begin a command that owns rows, whether or not it is right otherwise
-abbrev pub begins_feed : List ℕ → List ℕ → Bool
-begins_feed word rows = bytes_eq word (codes "feed") && is_row_count rows
-
 -- what a word and four fields ask
 abbrev pub feed_request : List ℕ → List ℕ → List ℕ → List ℕ → List ℕ → Request
 feed_request word name origin number rows =
-    if begins_feed word rows && is_name name then Feed name origin number (digits_value 10 rows) else Unknown
+    if bytes_eq word (codes "feed") && is_name name then option_map_or (Feed name origin number) (row_count rows) Unknown else Unknown
 
 -- what a record asks: no command has another number of fields
 unfoldable pub request_of : Record → Request
@@ -68,9 +61,14 @@ request_of (word ∷ into ∷ from ∷ []) = two_fields word into from
 request_of (word ∷ name ∷ origin ∷ number ∷ rows ∷ []) = feed_request word name origin number rows
 request_of _ = Unknown
 
+-- how many of the records after it belong to a record of this word that tells this number of rows, whether or not it is
+-- right otherwise
+abbrev pub owned_rows : List ℕ → List ℕ → ℕ
+owned_rows word rows = if bytes_eq word (codes "feed") then unwrap_or (row_count rows) 0 else 0
+
 -- how many of the records after it belong to a record
 unfoldable pub owned_by : Record → ℕ
-owned_by (word ∷ name ∷ origin ∷ number ∷ rows ∷ []) = if begins_feed word rows then digits_value 10 rows else 0
+owned_by (word ∷ name ∷ origin ∷ number ∷ rows ∷ []) = owned_rows word rows
 owned_by _ = 0
 
 -- the commands of these records, of which the first ones belong to a command before

@@ -2,11 +2,13 @@
 
 ghost use Rattle.std.specs.Prelude.{◌≡◌, ◌∷◌, [], ◌<◌, length, map, MatchOption, OnOk, IfOk};
 ghost use Rattle.csv.specs.Records.{fields_of};
+ghost use Rattle.script_commands.specs.Commands as asks;
 ghost use Rattle.script_commands.specs.Commands.{commands_of, request_of};
-ghost use Rattle.script_commands.specs.Views.{command_view, request_view};
+ghost use Rattle.script_commands.specs.Views.{Keeps, request_view};
 
 use crate::request::{Request, ask, count_owned};
 use csv::ByteRecord;
+use grouping_model::limits::MOST_ROWS;
 use script_io::Records;
 use std::alloc::AllocError;
 
@@ -16,7 +18,7 @@ pub struct Command {
     /// The record that asks.
     pub head: ByteRecord,
     /// The records that belong to it: the rows of a `feed`, as many as it tells or as are left, and none of any other
-    /// command.
+    /// command. Of more than 65,536, which are no batch, the first 65,536.
     pub owned: Vec<ByteRecord>,
 }
 
@@ -29,17 +31,19 @@ impl Command {
     }
 }
 
-/// The next command of a script, if there is one. The only error is that memory ran out, and after it no more commands
+/// The next command of a script, if there is one. At most 65,536 of the records that belong to it are held in memory,
+/// however many it tells. The only error is that memory ran out, and after it no more commands
 /// come.
 pub fn next_command(records: &mut Records<'_>) -> Result<Option<Command>, AllocError>
     ensures found { IfOk result (λ found. MatchOption found (commands_of records.old ≡ [])
-        (λ command. commands_of records.old ≡ command_view command ∷ commands_of records.new)) }
+        (λ command. (whole : asks.Command)
+        × (commands_of records.old ≡ whole ∷ commands_of records.new) × Keeps whole command)) }
     ensures fewer { IfOk result (λ found. MatchOption found (records.new ≡ [])
         (λ command. length records.new < length records.old)) }
 {
     let Some(head) = records.next()? else {
         return Ok(None);
     };
-    let owned = records.take(count_owned(&head))?;
+    let owned = records.take_first(count_owned(&head), MOST_ROWS as usize)?;
     Ok(Some(Command { head, owned }))
 }

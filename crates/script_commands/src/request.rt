@@ -1,20 +1,16 @@
 //! What a record asks.
 
 ghost use Rattle.std.specs.Prelude.{◌≡◌, ◌<◌, false, IsTrue, IfSome, IfNone, length, get_or, []};
-ghost use Rattle.std.specs.Str.Parse.{digits_value};
-ghost use Rattle.std.specs.Char.{is_ascii_digit};
 ghost use Rattle.std.specs.List.{list_all};
 ghost use Rattle.std.specs.Str.{is_utf8};
 ghost use Rattle.csv.specs.Records.{fields_of};
-ghost use Rattle.script_commands.specs.Commands.{is_name, is_name_byte, is_row_count, begins_feed, one_field, two_fields, name_request, feed_request, owned_by, request_of};
+ghost use Rattle.script_commands.specs.Commands.{is_name, is_name_byte, one_field, two_fields, name_request, feed_request, owned_rows, owned_by, request_of};
 ghost use Rattle.script_commands.specs.Views.{request_view};
 
 use csv::ByteRecord;
 use grouping_model::limits::LONGEST_NAME;
+use script_io::{field, read_row_count};
 use std::str;
-
-/// The most digits of a number of rows.
-const MOST_COUNT_DIGITS: usize = 9;
 
 /// What a command asks. Names are 1 to 63 ASCII letters, digits or `_`.
 #[derive(Clone, Copy, Debug, PartialEq, Eq)]
@@ -53,45 +49,11 @@ fn are_name_bytes(bytes: &[u8]) -> bool
         .all(|b| b.is_ascii_alphanumeric() || *b == b'_')
 }
 
-fn are_digits(bytes: &[u8]) -> bool
-    ensures { result ≡ list_all is_ascii_digit bytes.now }
-{
-    bytes.iter().all(|b| b.is_ascii_digit())
-}
-
 /// Whether a field is a name.
 fn is_legal_name(name: &[u8]) -> bool
     ensures { result ≡ is_name name.now }
 {
     !name.is_empty() && name.len() <= LONGEST_NAME && are_name_bytes(name)
-}
-
-/// Whether a field is a number of rows.
-fn is_count(digits: &[u8]) -> bool
-    ensures { result ≡ is_row_count digits.now }
-{
-    !digits.is_empty() && digits.len() <= MOST_COUNT_DIGITS && are_digits(digits)
-}
-
-/// The number that digits stand for.
-fn count_of(digits: &[u8]) -> u32
-    requires { IsTrue (is_row_count digits.now) }
-    ensures { result ≡ digits_value 10 digits.now }
-{
-    let mut count = 0;
-    for digit in digits {
-        count = count * 10 + (*digit - b'0') as u32;
-    }
-    count
-}
-
-/// The field at a place.
-#[tactic(auto, using(crate::proofs::CommandLaws::field_is))]
-fn field(head: &ByteRecord, i: usize) -> &[u8]
-    requires { i < length (fields_of head.now) }
-    ensures { result.now ≡ get_or (fields_of head.now) i [] }
-{
-    head.get(i).unwrap()
 }
 
 /// What a word and a name ask.
@@ -153,13 +115,6 @@ fn ask_of_two<'c>(word: &[u8], into: &'c [u8], from: &'c [u8]) -> Request<'c>
     }
 }
 
-/// Whether a word and a number of rows are those of a `feed`.
-fn is_feed(word: &[u8], rows: &[u8]) -> bool
-    ensures { result ≡ begins_feed word.now rows.now }
-{
-    word == b"feed".as_slice() && is_count(rows)
-}
-
 /// What a word and four fields behind it ask.
 fn ask_to_feed<'c>(
     word: &[u8],
@@ -170,16 +125,17 @@ fn ask_to_feed<'c>(
 ) -> Request<'c>
     ensures { request_view result ≡ feed_request word.now name.now origin.now number.now rows.now }
 {
-    if is_feed(word, rows) && is_legal_name(name) {
-        let told = count_of(rows);
-        Request::Feed {
+    if word != b"feed".as_slice() || !is_legal_name(name) {
+        return Request::Unknown;
+    }
+    match read_row_count(rows) {
+        Some(told) => Request::Feed {
             name,
             origin,
             number,
             told,
-        }
-    } else {
-        Request::Unknown
+        },
+        None => Request::Unknown,
     }
 }
 
@@ -202,6 +158,19 @@ pub(crate) fn ask(head: &ByteRecord) -> Request<'_>
     }
 }
 
+/// How many of the records after it belong to a record of this word that tells this number of rows.
+fn owned_rows(word: &[u8], rows: &[u8]) -> usize
+    ensures { result ≡ owned_rows word.now rows.now }
+{
+    if word != b"feed".as_slice() {
+        return 0;
+    }
+    match read_row_count(rows) {
+        Some(told) => told as usize,
+        None => 0,
+    }
+}
+
 /// How many of the records after it belong to a record.
 #[tactic(auto, using(crate::proofs::CommandLaws::owned_five, crate::proofs::CommandLaws::owned_other))]
 pub(crate) fn count_owned(head: &ByteRecord) -> usize
@@ -210,10 +179,5 @@ pub(crate) fn count_owned(head: &ByteRecord) -> usize
     if head.len() != 5 {
         return 0;
     }
-    let (word, rows) = (field(head, 0), field(head, 4));
-    if is_feed(word, rows) {
-        count_of(rows) as usize
-    } else {
-        0
-    }
+    owned_rows(field(head, 0), field(head, 4))
 }

@@ -1,4 +1,5 @@
 pub mod InputFacts
 pub mod RecordFacts
+pub mod RowCountFacts
 pub mod ListFacts
 pub mod OutputFacts

@@ -1,7 +1,8 @@
 -- Each record takes a byte at least, so as many turns as a text has bytes read all of its records.
-use Rattle.std.proofs.Common.{◌≡◌, ◌≤◌, ◌<◌, ◌+◌, ℕ, zero, suc, List, [], ◌∷◌, length, Option, Some, None, true, false, refl, sym, ap, subst, arith, ◌∙◌}
+use Rattle.std.proofs.Common.{◌≡◌, ◌≤◌, ◌<◌, ◌+◌, ℕ, zero, suc, List, [], ◌∷◌, length, get_or, Option, Some, None, true, false, refl, sym, ap, subst, arith, ◌∙◌}
 use Rattle.csv.specs.Machine.{Read, ends_at_end, field_after, fields_after, is_end, next_record, step}
 use Rattle.csv.specs.Reading.{default_config, records_from, records_next}
+use Rattle.csv.specs.Records.{field_at}
 use Rattle.csv.specs.declared.parser.State.{State}
 use Rattle.csv.specs.declared.parser.State.TheVariants as st
 use Rattle.csv.specs.declared.reader.Reader.{Reader}
@@ -124,3 +125,10 @@ strip-short (a ∷ b ∷ c ∷ rest) = grind arith
 
 pub length-records_of : (script : List ℕ) → length (records_of script) ≤ length script + 1
 length-records_of script = let few = records-few (length (strip_bom script) + 1) st.StartRecord (strip_bom script) in let short = strip-short script in omega arith
+
+-- the field at a place
+pub field_is : (fields : Record) (i : ℕ) → i < length fields → field_at fields i ≡ Some (get_or fields i [])
+unfolding field_at
+field_is [] i h = absurd (omega arith)
+field_is (f ∷ fs) zero h = refl
+field_is (f ∷ fs) (suc i) h = field_is fs i (omega arith)

@@ -1,4 +1,5 @@
 pub mod Input
 pub mod Records
+pub mod RowCount
 pub mod Left
 pub mod Output

@@ -1,6 +1,6 @@
 //! The records of a script, one after the other.
 
-ghost use Rattle.std.specs.Prelude.{◌≡◌, [], ◌∷◌, map, take, drop, MatchOption, MatchResult};
+ghost use Rattle.std.specs.Prelude.{◌≡◌, ◌<◌, [], ◌∷◌, get_or, length, map, take, drop, MatchOption, MatchResult};
 ghost use Rattle.csv.specs.Records.{fields_of};
 ghost use Rattle.script_io.specs.Records.{records_of};
 
@@ -95,4 +95,39 @@ impl<'a> Records<'a> {
         }
         Ok(taken)
     }
+
+    /// Passes over the next records: as many as this, or all where fewer are left. The only error is that memory ran
+    /// out, and after it no more records come.
+    fn skip(&mut self, count: usize) -> Result<(), AllocError>
+        ensures { MatchResult result (λ _. self.new ≡ drop count self.old) (λ _. self.new ≡ []) }
+    {
+        for _ in 0..count {
+            let Some(_) = self.next()? else {
+                break;
+            };
+        }
+        Ok(())
+    }
+
+    /// The first of the next records, in turn, and `most` of them at most: as many as told are read, or all where
+    /// fewer are left, and the others are not kept. The only error is that memory ran out, and after it no more
+    /// records come.
+    pub fn take_first(&mut self, told: usize, most: usize) -> Result<Vec<ByteRecord>, AllocError>
+        ensures { MatchResult result (λ taken. (map fields_of taken.items ≡ take most (take told self.old))
+            × (self.new ≡ drop told self.old))
+            (λ _. self.new ≡ []) }
+    {
+        let taken = self.take(told.min(most))?;
+        self.skip(told.saturating_sub(most))?;
+        Ok(taken)
+    }
+}
+
+/// The field of a record at a place, the first being 0.
+#[tactic(auto, using(crate::proofs::RecordFacts::field_is))]
+pub fn field(of: &ByteRecord, place: usize) -> &[u8]
+    requires { place < length (fields_of of.now) }
+    ensures { result.now ≡ get_or (fields_of of.now) place [] }
+{
+    of.get(place).unwrap()
 }

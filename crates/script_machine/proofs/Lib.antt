@@ -7,3 +7,4 @@ pub mod ReplyLaws
 pub mod QueryLaws
 pub mod SameLaws
 pub mod AgreementLaws
+pub mod KeepLaws

@@ -2,34 +2,16 @@
 
 ghost use Rattle.std.specs.Prelude.{All, ◌≡◌, ◌<◌, ◌++◌, ◌∷◌, [], length, map, flat_map, IfOk, OnOk, slice_index_or};
 ghost use Rattle.csv.specs.Records.{fields_of, partial_of};
-ghost use Rattle.agg_protocol.specs.Results.{outcome_of};
 ghost use Rattle.having_filter.specs.Meaning.{meaning};
 ghost use Rattle.having_filter.specs.Kept.{headers};
 ghost use Rattle.table_print.specs.Table.{cell_text, row_line, table_text};
 ghost use Rattle.table_print.specs.Writer.{IsBetween, Writes, WritesLine};
 
-use agg_protocol::ResultValue;
+use crate::cell::cell;
 use csv::{ByteRecord, Writer};
 use having_filter::{Answer, Query};
 use itoa::Buffer;
 use std::alloc::{AllocError, Global};
-
-/// Appends a value to a record, as it shows.
-fn push_value(line: &mut ByteRecord, value: ResultValue<'_>) -> Result<(), AllocError>
-    requires { partial_of line.old ≡ [] }
-    ensures cell { OnOk result (fields_of line.new
-        ≡ fields_of line.old ++ cell_text (outcome_of value.entry) ∷ []) }
-    ensures whole { OnOk result (partial_of line.new ≡ []) }
-{
-    match value {
-        ResultValue::Null => line.push_field(b"\\N"),
-        ResultValue::Bigint(number) => line.push_field(Buffer::new().format(number).as_bytes()),
-        ResultValue::Numeric(number) => line.push_field(Buffer::new().format(number).as_bytes()),
-        ResultValue::Boolean(true) => line.push_field(b"t"),
-        ResultValue::Boolean(false) => line.push_field(b"f"),
-        ResultValue::Text(text) => line.push_field(text.as_bytes()),
-    }
-}
 
 /// Appends the items of a row to a record.
 fn push_row(line: &mut ByteRecord, answer: &Answer, row: usize) -> Result<(), AllocError>
@@ -40,7 +22,7 @@ fn push_row(line: &mut ByteRecord, answer: &Answer, row: usize) -> Result<(), Al
         ≡ map cell_text (slice_index_or answer.now row [])) }
 {
     for item in 0..answer.width(row) {
-        push_value(line, answer.value(row, item))?;
+        line.push_field(cell(&mut Buffer::new(), answer.value(row, item)))?;
     }
     Ok(())
 }

@@ -1,9 +1,11 @@
-//! Tests of tokens, of values and packed rows, and of the aggregate functions, by their crates' public calls alone.
+//! Tests of tokens, of values and packed rows, of batch files, and of the aggregate functions, by their crates' public calls alone.
 //! A test goes through the lines of a table: a case, and what is wanted of it behind ` => `.
 #![tactic(auto)]
 
 #[cfg(test)]
 mod aggregates;
+#[cfg(test)]
+mod files;
 #[cfg(test)]
 mod rows;
 #[cfg(test)]

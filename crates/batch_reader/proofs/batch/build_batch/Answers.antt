@@ -10,5 +10,5 @@ returns-clause-told c = packed_long (kinds c.args.schema.now) c.args.records.now
 pub returns-clause-few : goal.returns-clause-few
 returns-clause-few c =
     let long : length c.in_ok-rows.rows ≡ c.args.told = packed_long (kinds c.args.schema.now) c.args.records.now c.in_ok-rows.rows c.in_ok-rows.ensures.packed ∙ c.if-records-told.false in
-    let few = c.if-told-gt-MOST_ROWS.false in
+    let few = c.in_ok-origin.ensures.few in
     omega (arith, long, few)

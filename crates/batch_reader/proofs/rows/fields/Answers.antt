@@ -9,7 +9,7 @@ use Rattle.batch_reader.proofs.rows.fields.Goals as goal
 
 pub loop-field-smaller : goal.loop-field-smaller
 loop-field-smaller c =
-    let fs = fields_of c.args.record.now in
+    let fs = fields_of c.args.csv_record.now in
     let n = length c.loop-field.fields.items in
     let at : field_at fs n ≡ Some c.in-Some.field.now = ap (field_at fs) (sym (c.len.ensures ∙ c.loop-field.fields.ok.0)) ∙ sym c.in-Some.ensures.value in
     let within = field_within fs n c.in-Some.field.now at in
@@ -18,7 +18,7 @@ loop-field-smaller c =
 
 pub loop-field-preserved : goal.loop-field-preserved
 loop-field-preserved c =
-    let fs = fields_of c.args.record.now in
+    let fs = fields_of c.args.csv_record.now in
     let old = c.loop-field.fields.items in
     let n = length old in
     let f = c.in-Some.field in
@@ -30,6 +30,6 @@ loop-field-preserved c =
 
 pub returns : goal.returns
 returns c =
-    let fs = fields_of c.args.record.now in
+    let fs = fields_of c.args.csv_record.now in
     let n = length c.loop-field.fields.items in
     c.loop-field.invariant ∙ field_none fs n (ap (field_at fs) (sym (c.len.ensures ∙ c.loop-field.fields.ok.0)) ∙ sym c.in_default.ensures.value)

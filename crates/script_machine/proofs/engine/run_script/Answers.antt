@@ -1,10 +1,10 @@
 use Rattle.std.specs.Prelude.{◌≡◌, ◌≤◌, ◌+◌, refl, if◌then◌else◌}
 use Rattle.std.proofs.Common.{arith, sym}
-use Rattle.script_commands.specs.Views.{command_view}
 use Rattle.script_machine.specs.Output.{commands_in}
 use Rattle.script_machine.specs.Views.{is_refusal}
 use Rattle.script_machine.specs.declared.error.RunError.TheVariants as stop
 use Rattle.script_io.proofs.RecordFacts.{length-records_of}
+use Rattle.script_machine.proofs.KeepLaws.{steps_whole}
 use Rattle.script_machine.proofs.OutputLaws.{passed_as}
 use Rattle.script_machine.proofs.RunLaws.{ran_front, ran_more, ran_start, ran_stop}
 use Rattle.script_machine.proofs.engine.run_script.Goals as goal
@@ -24,7 +24,7 @@ pub returns-in_err-put_reply : goal.returns-in_err-put_reply
 returns-in_err-put_reply g c =
     let next = rw c.in-Some.is at c.in_ok-command.ensures.found in
     passed_as c.from_residual-in_err-put_reply.result stop.WriteFault _ _ c.from_residual-in_err-put_reply.ensures.1
-    (ran_front _ _ _ _ _ _ _ _ (command_view c.in-Some.command) _ (rw next at c.loop-session.invariant.1) c.execute-reply.ensures c.in_err-put_reply.ensures)
+    (ran_front _ _ _ _ _ _ _ _ next.0 _ (rw next.1 at c.loop-session.invariant.1) (steps_whole next.0 c.in-Some.command _ _ _ next.2 c.execute-reply.ensures) c.in_err-put_reply.ensures)
 
 pub loop-session-preserved : goal.loop-session-preserved
 loop-session-preserved g c =
@@ -39,4 +39,4 @@ loop-session-preserved g c =
     let bounded : c.if-is_refused.refused ≤ c.loop-session.refused + 1 =
     elim c.if-is_refused.branch [ then-is_refused w ↦ omega arith | else-is_refused w ↦ omega arith ] in
     let room = inv.0 in
-    (omega arith, ran_more _ _ _ _ _ _ _ _ _ (command_view c.in-Some.command) _ (rw next at inv.1) c.execute-reply.ensures c.in_ok-put_reply.ensures counts)
+    (omega arith, ran_more _ _ _ _ _ _ _ _ _ next.0 _ (rw next.1 at inv.1) (steps_whole next.0 c.in-Some.command _ _ _ next.2 c.execute-reply.ensures) c.in_ok-put_reply.ensures counts)

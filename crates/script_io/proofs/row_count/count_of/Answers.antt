@@ -1,6 +1,6 @@
 use Rattle.std.proofs.Common.{arith}
-use Rattle.script_commands.proofs.CommandLaws.{few_digits, nine_digits}
-use Rattle.script_commands.proofs.request.count_of.Goals as goal
+use Rattle.script_io.proofs.RowCountFacts.{few_digits, nine_digits}
+use Rattle.script_io.proofs.row_count.count_of.Goals as goal
 
 pub overflow_mul-count : goal.overflow_mul-count
 overflow_mul-count c =

@@ -1,0 +1,7 @@
+-- What a clause sees of the head of a batch file in code.
+use Rattle.batch_reader.specs.File as file
+use Rattle.batch_reader.specs.declared.file.FileHead.{FileHead}
+
+-- a head without where its fields lie in memory
+abbrev pub head_view : FileHead → file.FileHead
+head_view h = record { origin = h.origin.now; number = h.number.now; told = h.told }

@@ -1,0 +1,108 @@
+//! Batch files.
+
+ghost use Rattle.std.specs.Prelude.{◌≡◌, ◌≢◌, ◌≤◌, List, [], map, length, option_map, IfOk, IfErr, IsSomeAnd, MatchOption};
+ghost use Rattle.csv.specs.Records.{fields_of};
+ghost use Rattle.grouping_model.specs.Datum.{Row};
+ghost use Rattle.grouping_model.specs.declared.limits.TheConstants.{MOST_ROWS};
+ghost use Rattle.packed_rows.specs.Columns.{kinds};
+ghost use Rattle.batch_reader.specs.Head.{ReadsOrigin, ReadsBatchNumber};
+ghost use Rattle.batch_reader.specs.Rows.{ReadsRows, packings};
+ghost use Rattle.batch_reader.specs.File.{FileFault, file_head, read_file, told_by};
+ghost use Rattle.batch_reader.specs.Views.{head_view};
+
+use crate::batch::Batch;
+use crate::error::BatchError;
+use crate::head::checked_head;
+use crate::rows::pack_records;
+use csv::ByteRecord;
+use packed_rows::Schema;
+use script_io::{Records, field, read_row_count};
+use std::alloc::{AllocError, Global};
+
+/// What the first record of a batch file tells.
+#[derive(Clone, Copy)]
+struct FileHead<'a> {
+    origin: &'a [u8],
+    number: &'a [u8],
+    told: u32,
+}
+
+/// What four fields tell as the head of a batch file.
+fn told_by<'a>(word: &[u8], origin: &'a [u8], number: &'a [u8], rows: &[u8]) -> Option<FileHead<'a>>
+    ensures { option_map head_view result ≡ told_by word.now origin.now number.now rows.now }
+{
+    if word != b"batch".as_slice() {
+        return None;
+    }
+    match read_row_count(rows) {
+        Some(told) => Some(FileHead {
+            origin,
+            number,
+            told,
+        }),
+        None => None,
+    }
+}
+
+/// What a record tells as the head of a batch file.
+#[tactic(auto, using(crate::proofs::FileLaws::head_of_four, crate::proofs::FileLaws::head_of_other))]
+fn file_head(first: &ByteRecord) -> Option<FileHead<'_>>
+    ensures { option_map head_view result ≡ file_head (fields_of first.now) }
+{
+    if first.len() != 4 {
+        return None;
+    }
+    told_by(
+        field(first, 0),
+        field(first, 1),
+        field(first, 2),
+        field(first, 3),
+    )
+}
+
+/// The records that are left, where they are as many as told. No more than that are held.
+fn told_records(records: &mut Records<'_>, told: u32) -> Result<Option<Vec<ByteRecord>>, AllocError>
+    ensures { IfOk result (λ found. MatchOption found (length records.old ≢ told)
+        (λ rows. (map fields_of rows.items ≡ records.old) × (length records.old ≡ told))) }
+{
+    let rows = records.take(told as usize)?;
+    if rows.len() < told as usize || records.next()?.is_some() {
+        return Ok(None);
+    }
+    Ok(Some(rows))
+}
+
+/// The batch of a batch file: records in CSV, as `csv` reads them by default, of which the first is
+/// `batch,ORIGIN,NUMBER,ROWS` and the others stand for rows of a schema. Origin and number are 1 to 10 digits each, and
+/// ROWS, which tells how many rows there are, 1 to 9; leading zeros are allowed. The first refusal is told, in the order of
+/// `BatchError`. A batch that is refused by its head has no record read after it, and no more records are held than told.
+pub fn read_batch(alloc: Global, schema: &Schema, file: &[u8]) -> Result<Batch, BatchError>
+    ensures origin { IfOk result (λ batch. IsSomeAnd (read_file file.now) (λ read.
+        ReadsOrigin read.head.origin batch.origin)) }
+    ensures number { IfOk result (λ batch. IsSomeAnd (read_file file.now) (λ read.
+        ReadsBatchNumber read.head.number batch.number)) }
+    ensures few { IfOk result (λ batch. length batch.rows ≤ MOST_ROWS) }
+    ensures told { IfOk result (λ batch. IsSomeAnd (read_file file.now) (λ read.
+        length batch.rows ≡ read.head.told)) }
+    ensures rows { IfOk result (λ batch. IsSomeAnd (read_file file.now) (λ read. (rows : List Row)
+        × ReadsRows (kinds schema.now) read.records rows × (batch.rows ≡ packings rows))) }
+    ensures refused { IfErr result (FileFault (kinds schema.now) (read_file file.now)) }
+{
+    let mut records = Records::new(alloc, file);
+    let Some(first) = records.next()? else {
+        return Err(BatchError::BadBatchHead);
+    };
+    let Some(head) = file_head(&first) else {
+        return Err(BatchError::BadBatchHead);
+    };
+    let (origin, number) = checked_head(head.origin, head.number, head.told)?;
+    let Some(told) = told_records(&mut records, head.told)? else {
+        return Err(BatchError::RowCount);
+    };
+    let rows = pack_records(alloc, schema, &told)?;
+    Ok(Batch {
+        origin,
+        number,
+        rows,
+    })
+}

@@ -1,0 +1,15 @@
+use Rattle.std.proofs.Common.{◌∙◌, Some, ap, get_or, sym}
+use Rattle.packed_rows.specs.Columns.{kinds}
+use Rattle.having_filter.specs.Checks.{kind_of_form}
+use Rattle.having_filter.specs.Forms.{item_form}
+use Rattle.table_print.specs.Aligned.{side_of}
+use Rattle.table_print.proofs.AlignedLaws.{side_at}
+use Rattle.table_print.proofs.aligned_table.side_of_item.Goals as goal
+
+pub returns : goal.returns
+returns c =
+    let items = c.items.result.now in
+    let item = get_or items c.args.item c.index-items-item.result in
+    let kind = c.kind_of_item.ensures ∙ ap (λ columns. kind_of_form (kinds columns) (item_form item.0)) c.schema.ensures.columns in
+    side_at c.args.query.now items c.args.item c.index-items-item.result c.items.ensures c.requires
+    ∙ ap (λ side. Some side) (sym (c.side_of.ensures ∙ ap side_of kind))
