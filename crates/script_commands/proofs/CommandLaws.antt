@@ -9,7 +9,7 @@ use Rattle.std.specs.Str.{bytes_eq, is_utf8}
 use Rattle.grouping_model.specs.declared.limits.TheConstants.{MOST_ROWS}
 use Rattle.script_io.specs.Records.{Record}
 use Rattle.script_io.specs.RowCount.{row_count}
-use Rattle.script_commands.specs.Commands.{Request, Columns, Query, Replica, Feed, Known, Answer, Merge, Unknown, commands_after, commands_of, feed_request, is_name, name_request, one_field, owned_by, owned_rows, request_of, two_fields}
+use Rattle.script_commands.specs.Commands.{Request, Columns, Query, Replica, Feed, Known, Answer, Merge, Save, Load, Unknown, commands_after, commands_of, feed_request, is_name, name_request, names_request, one_field, owned_by, owned_rows, request_of, two_fields}
 use Rattle.script_commands.specs.Views.{HasItsRows}
 
 pub request_two : (fields : Record) → length fields ≡ 2 → request_of fields ≡ one_field (get_or fields 0 []) (get_or fields 1 [])
@@ -132,8 +132,14 @@ one_no_feed word field =
     (either_no_feed (bytes_eq word (codes "query")) _ _ (either_no_feed (is_utf8 field) _ _ (λ n o m t e. cc) unknown_no_feed)
     (either_no_feed (is_name field) _ _ (name_no_feed word field) unknown_no_feed))
 
-two_no_feed : (word into from : List ℕ) → IsNoFeed (two_fields word into from)
-two_no_feed word into from = either_no_feed (bytes_eq word (codes "merge") && is_name into && is_name from) _ _ (λ n o m t e. cc) unknown_no_feed
+names_no_feed : (word name other : List ℕ) → IsNoFeed (names_request word name other)
+names_no_feed word name other =
+    either_no_feed (bytes_eq word (codes "merge")) _ _ (λ n o m t e. cc)
+    (either_no_feed (bytes_eq word (codes "save")) _ _ (λ n o m t e. cc)
+    (either_no_feed (bytes_eq word (codes "load")) _ _ (λ n o m t e. cc) unknown_no_feed))
+
+two_no_feed : (word name other : List ℕ) → IsNoFeed (two_fields word name other)
+two_no_feed word name other = either_no_feed (is_name name && is_name other) _ _ (names_no_feed word name other) unknown_no_feed
 
 feed_owns : (is_feed named : Bool) (count : Option ℕ) (name origin number other other_origin other_number : List ℕ) (told : ℕ)
     → (if is_feed && named then option_map_or (Feed name origin number) count Unknown else Unknown) ≡ Feed other other_origin other_number told
@@ -164,6 +170,8 @@ has_its_rows (Feed name origin number told) kept owned all = all name origin num
 has_its_rows (Known name) kept owned all = tt
 has_its_rows (Answer name) kept owned all = tt
 has_its_rows (Merge into from) kept owned all = tt
+has_its_rows (Save name saved) kept owned all = tt
+has_its_rows (Load name saved) kept owned all = tt
 has_its_rows Unknown kept owned all = tt
 
 pub keeps_rows : (most : ℕ) (head : Record) (rest kept : List Record) (name origin number : List ℕ) (told : ℕ) → kept ≡ take most (take (owned_by head) rest)

@@ -17,6 +17,8 @@ pub data Request : Type 0 where
   Known : (name : List ℕ) → Request
   Answer : (name : List ℕ) → Request
   Merge : (into from : List ℕ) → Request
+  Save : (name saved : List ℕ) → Request
+  Load : (name saved : List ℕ) → Request
   Unknown : Request
 
 -- a command: the record that asks, and the records that belong to it
@@ -45,9 +47,16 @@ one_field word field =
     if bytes_eq word (codes "query") then (if is_utf8 field then Query field else Unknown) else
     if is_name field then name_request word field else Unknown
 
--- what a word and two fields ask; a replica may be merged into itself
+-- what a word and two names ask; a replica may be merged into itself
+abbrev pub names_request : List ℕ → List ℕ → List ℕ → Request
+names_request word name other =
+    if bytes_eq word (codes "merge") then Merge name other else
+    if bytes_eq word (codes "save") then Save name other else
+    if bytes_eq word (codes "load") then Load name other else Unknown
+
+-- what a word and two fields ask
 abbrev pub two_fields : List ℕ → List ℕ → List ℕ → Request
-two_fields word into from = if bytes_eq word (codes "merge") && is_name into && is_name from then Merge into from else Unknown
+two_fields word name other = if is_name name && is_name other then names_request word name other else Unknown
 
 -- what a word and four fields ask
 abbrev pub feed_request : List ℕ → List ℕ → List ℕ → List ℕ → List ℕ → Request
@@ -57,7 +66,7 @@ feed_request word name origin number rows =
 -- what a record asks: no command has another number of fields
 unfoldable pub request_of : Record → Request
 request_of (word ∷ field ∷ []) = one_field word field
-request_of (word ∷ into ∷ from ∷ []) = two_fields word into from
+request_of (word ∷ name ∷ other ∷ []) = two_fields word name other
 request_of (word ∷ name ∷ origin ∷ number ∷ rows ∷ []) = feed_request word name origin number rows
 request_of _ = Unknown
 

@@ -18,6 +18,8 @@ request_view (r.Feed name origin number told) = ask.Feed name.now origin.now num
 request_view (r.Known name) = ask.Known name.now
 request_view (r.Answer name) = ask.Answer name.now
 request_view (r.Merge into from) = ask.Merge into.now from.now
+request_view (r.Save name saved) = ask.Save name.now saved.now
+request_view (r.Load name saved) = ask.Load name.now saved.now
 request_view r.Unknown = ask.Unknown
 
 -- the records that are kept of those that belong to a command: where it is a feed that tells no more rows than a batch may have,

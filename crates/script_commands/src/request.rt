@@ -4,7 +4,7 @@ ghost use Rattle.std.specs.Prelude.{◌≡◌, ◌<◌, false, IsTrue, IfSome, I
 ghost use Rattle.std.specs.List.{list_all};
 ghost use Rattle.std.specs.Str.{is_utf8};
 ghost use Rattle.csv.specs.Records.{fields_of};
-ghost use Rattle.script_commands.specs.Commands.{is_name, is_name_byte, one_field, two_fields, name_request, feed_request, owned_rows, owned_by, request_of};
+ghost use Rattle.script_commands.specs.Commands.{is_name, is_name_byte, one_field, two_fields, name_request, names_request, feed_request, owned_rows, owned_by, request_of};
 ghost use Rattle.script_commands.specs.Views.{request_view};
 
 use csv::ByteRecord;
@@ -37,6 +37,10 @@ pub enum Request<'c> {
         into: &'c [u8],
         from: &'c [u8],
     },
+    /// `save,NAME,SAVED`: what a replica knows is to be kept as a summary file of this name, in the place of an older one.
+    Save { name: &'c [u8], saved: &'c [u8] },
+    /// `load,NAME,SAVED`: a replica of this name, made or replaced, is to know what was saved.
+    Load { name: &'c [u8], saved: &'c [u8] },
     /// None of these: another word, a wrong number of fields, a text that isn't UTF-8, a bad name or number of rows.
     Unknown,
 }
@@ -104,12 +108,30 @@ fn ask_of_one<'c>(word: &[u8], field: &'c [u8]) -> Request<'c>
     }
 }
 
-/// What a word and two fields behind it ask.
-fn ask_of_two<'c>(word: &[u8], into: &'c [u8], from: &'c [u8]) -> Request<'c>
-    ensures { request_view result ≡ two_fields word.now into.now from.now }
+/// What a word and two names behind it ask.
+fn ask_by_names<'c>(word: &[u8], name: &'c [u8], other: &'c [u8]) -> Request<'c>
+    ensures { request_view result ≡ names_request word.now name.now other.now }
 {
-    if word == b"merge".as_slice() && is_legal_name(into) && is_legal_name(from) {
-        Request::Merge { into, from }
+    if word == b"merge".as_slice() {
+        Request::Merge {
+            into: name,
+            from: other,
+        }
+    } else if word == b"save".as_slice() {
+        Request::Save { name, saved: other }
+    } else if word == b"load".as_slice() {
+        Request::Load { name, saved: other }
+    } else {
+        Request::Unknown
+    }
+}
+
+/// What a word and two fields behind it ask.
+fn ask_of_two<'c>(word: &[u8], name: &'c [u8], other: &'c [u8]) -> Request<'c>
+    ensures { request_view result ≡ two_fields word.now name.now other.now }
+{
+    if is_legal_name(name) && is_legal_name(other) {
+        ask_by_names(word, name, other)
     } else {
         Request::Unknown
     }

@@ -88,6 +88,8 @@ agrees_reply feds (machine.Has_query q) of = tt
 agrees_reply feds (machine.Created n) of = tt
 agrees_reply feds (machine.Took n f d) of = tt
 agrees_reply feds (machine.Merged i j) of = tt
+agrees_reply feds (machine.Saved n q k) of = tt
+agrees_reply feds (machine.Loaded n k) of = tt
 agrees_reply feds (machine.Listed l) of = tt
 agrees_reply feds (machine.Answered q k) of = tt
 agrees_reply feds (machine.Refused w) of = tt
@@ -99,6 +101,8 @@ agrees_feed feds one old (ask.Replica name) owned among = tt
 agrees_feed feds one old (ask.Known name) owned among = tt
 agrees_feed feds one old (ask.Answer name) owned among = tt
 agrees_feed feds one old (ask.Merge into from) owned among = tt
+agrees_feed feds one old (ask.Save name saved) owned among = tt
+agrees_feed feds one old (ask.Load name saved) owned among = tt
 agrees_feed feds one old ask.Unknown owned among = tt
 agrees_feed feds one old (ask.Feed name origin number told) owned among = go (old.replicas name) among
   where

@@ -59,6 +59,8 @@ replies_whole state (ask.Feed name origin number told) kept owned reply all is =
 replies_whole state (ask.Known name) kept owned reply all is = is
 replies_whole state (ask.Answer name) kept owned reply all is = is
 replies_whole state (ask.Merge into from) kept owned reply all is = is
+replies_whole state (ask.Save name saved) kept owned reply all is = is
+replies_whole state (ask.Load name saved) kept owned reply all is = is
 replies_whole state ask.Unknown kept owned reply all is = is
 
 feed_agrees : (world : World) (ks : List Kind) (found : Option Knowledge) (origin number : List ℕ) (told : ℕ) (kept owned : List Record) → IsWhole told kept owned
@@ -77,6 +79,8 @@ agrees_kept world state (ask.Feed name origin number told) kept owned all agrees
 agrees_kept world state (ask.Known name) kept owned all agrees = tt
 agrees_kept world state (ask.Answer name) kept owned all agrees = tt
 agrees_kept world state (ask.Merge into from) kept owned all agrees = tt
+agrees_kept world state (ask.Save name saved) kept owned all agrees = tt
+agrees_kept world state (ask.Load name saved) kept owned all agrees = tt
 agrees_kept world state ask.Unknown kept owned all agrees = tt
 
 reply_whole : (state : State) (request : Request) (kept owned : List Record) (reply : machine.Reply) → HasItsRows request kept owned

@@ -110,7 +110,7 @@ pub record Ran (commands : List Command) (old new : Option (List ℕ)) (refused 
   pub writes : (world : World) → Agrees world start before replies → Appends old new (replies_text world replies)
 
 abbrev pub empty : Store
-empty = record { columns = None; query = None; replicas = [] }
+empty = record { columns = None; query = None; replicas = []; saved = [] }
 
 pub ran_start : (commands : List Command) (known : Option (List ℕ)) (store : Store) → store ≡ empty → Ran commands known known 0 commands store
 ran_start commands known store is =
@@ -121,9 +121,9 @@ ran_start commands known store is =
       all = refl;
       runs = run_none;
       counts = refl;
-      represents = record { columns = refl; query = refl; replicas = λ name. refl };
+      represents = record { columns = refl; query = refl; replicas = λ name. refl; saved = λ name. tt };
       strict = λ world agrees. strict_none;
-      fits = λ world agrees. record { of_columns = tt; fit = λ name. tt };
+      fits = λ world agrees. record { of_columns = tt; fit = λ name. tt; files = λ name. tt };
       writes = λ world agrees. Appends-nil known;
     })
 

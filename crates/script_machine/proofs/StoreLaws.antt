@@ -22,14 +22,16 @@ use Rattle.group_parser.specs.Parsing.{Accepts}
 use Rattle.grouping_model.specs.Replies.{known_list, reply_of}
 use Rattle.grouping_model.specs.declared.delivered.Delivered.{Delivered}
 use Rattle.replica_merge.specs.Replicas.{Held, told, Fits, SameQuery}
+use Rattle.summary_codec.specs.Reading.{IsSummary}
+use Rattle.summary_codec.specs.WorldFile.{world_file}
 use Rattle.script_io.specs.Records.{Record}
 use Rattle.script_commands.specs.Commands as ask
 use Rattle.script_commands.specs.Commands.{Request}
 use Rattle.table_print.specs.Table.{table_text}
 use Rattle.script_machine.specs.Machine as machine
-use Rattle.script_machine.specs.Machine.{State, Fed, IsBatch, IsNoBatch, ColumnsReply, IsNoQuery, QueryReply, replica_reply, FeedReply, known_reply, answer_reply, merge_reply, Replies, IsReply, IsDisagreement, AgreesAt, FeedAgrees, after, with_replica}
+use Rattle.script_machine.specs.Machine.{State, Fed, IsBatch, IsNoBatch, ColumnsReply, IsNoQuery, QueryReply, replica_reply, FeedReply, known_reply, answer_reply, merge_reply, save_reply, load_reply, Replies, IsReply, IsDisagreement, AgreesAt, FeedAgrees, after, with_replica}
 use Rattle.script_machine.specs.Text.{line, known_text, answer_text}
-use Rattle.script_machine.specs.Views.{Store, IsStore, Represents, FitsWorld, Steps, Takes, IsOtherBatch, JoinRefused, Updates, replica_at, knowledge_of, said_text}
+use Rattle.script_machine.specs.Views.{Store, IsStore, IsFileOf, HasSaved, AreSaved, IsFitting, Represents, FitsWorld, Answers, Steps, Takes, IsOtherBatch, JoinRefused, Updates, Files, replica_at, saved_at, knowledge_of, said_text}
 use Rattle.script_machine.specs.declared.refusal.Refusal.{Refusal}
 use Rattle.script_machine.specs.declared.refusal.Refusal.TheVariants as why
 use Rattle.script_machine.specs.declared.reply.Reply.TheVariants as says
@@ -45,7 +47,7 @@ alike : (name x y : List ℕ) → bytes_eq name x ≡ true → bytes_eq name y �
 alike name x y same = ap (λ bytes. bytes_eq bytes y) ((bytes_eq-Decides name x).0 same)
 
 -- what a change at one name leaves at the others
-others_kept : (name other : List ℕ) (old new : List (Vec ℕ Global × Held))
+others_kept : {X : Type 0} (name other : List ℕ) (old new : List (Vec ℕ Global × X))
     → KeepsOthers (λ (x y : Vec ℕ Global). bytes_eq x.items y.items) (λ (key : Vec ℕ Global). bytes_eq name key.items) old new
     → bytes_eq name other ≡ false
     → lookup (λ (key : Vec ℕ Global). bytes_eq other key.items) new ≡ lookup (λ (key : Vec ℕ Global). bytes_eq other key.items) old
@@ -54,11 +56,15 @@ others_kept name other old new keeps different =
     keeps (λ (key : Vec ℕ Global). bytes_eq other key.items) (λ x y. alike other x.items y.items) (λ key. apart name other key.items different)
 
 -- a map that was updated at a name is a store that was
-pub updated : {S : Type 0} (columns : Option (List Column)) (query : Option Checked) (name : List ℕ) (held : Held) (old new : HashMap (Vec ℕ Global) Held S)
+pub updated : {S : Type 0} (columns : Option (List Column)) (query : Option Checked) (saved : List (Vec ℕ Global × Vec ℕ Global)) (name : List ℕ) (held : Held) (old new : HashMap (Vec ℕ Global) Held S)
     → UpdatesBy (λ (x y : Vec ℕ Global). bytes_eq x.items y.items) (λ (key : Vec ℕ Global). bytes_eq name key.items) old new (Some held)
-    → Updates (record { columns = columns; query = query; replicas = old.entries }) (record { columns = columns; query = query; replicas = new.entries }) name held
-updated columns query name held old new u =
-    record { columns = refl; query = refl; own = u.1; others = λ other. others_kept name other old.entries new.entries u.3 }
+    → Updates (record { columns = columns; query = query; replicas = old.entries; saved = saved }) (record { columns = columns; query = query; replicas = new.entries; saved = saved }) name held
+updated columns query saved name held old new u =
+    record { columns = refl; query = refl; own = u.1; others = λ other. others_kept name other old.entries new.entries u.3; saved = refl }
+
+-- files that stay are found as they were
+files_at : (old new : Store) → new.saved ≡ old.saved → (name : List ℕ) → saved_at new name ≡ saved_at old name
+files_at old new stay name = ap (λ es. lookup (λ (key : Vec ℕ Global). bytes_eq name key.items) es) stay
 
 -- what holds of each replica, and of the new one, holds of each replica then
 pub each_replica : (P : Held → Type 0) (old new : Store) (name : List ℕ) (held : Held) → Updates old new name held → P held
@@ -78,6 +84,8 @@ store_updated old new name held u asks is =
       asked =
           subst (λ q. (other : List ℕ) → IfSome (replica_at new other) (λ (h : Held). q ≡ Some h.query)) (sym u.query)
           (each_replica (λ h. old.query ≡ Some h.query) old new name held u asks is.asked);
+      files = λ other. subst (λ o. IfSome o (IsFileOf new.query)) (sym (files_at old new u.saved other))
+          (subst (λ q. IfSome (saved_at old other) (IsFileOf q)) (sym u.query) (is.files other));
     }
 
 -- what is known after a change at a name
@@ -95,7 +103,12 @@ fits_updated world old new name held u fits f =
     record {
       of_columns = subst (λ cs. IfSome cs (λ (columns : List Column). IsWorld (kinds columns) world)) (sym u.columns) f.of_columns;
       fit = each_replica (λ h. Fits world h) old new name held u fits f.fit;
+      files = λ other. subst (λ o. IfSome o (IsFitting world)) (sym (files_at old new u.saved other)) (f.files other);
     }
+
+-- the files are what was saved, where they stay
+saved_still : (state : State) (old new : Store) → new.saved ≡ old.saved → Represents state old → (name : List ℕ) → AreSaved (state.saved name) (saved_at new name)
+saved_still state old new stay r name = subst (AreSaved (state.saved name)) (sym (files_at old new stay name)) (r.saved name)
 
 -- ---- refusals
 
@@ -104,33 +117,45 @@ pub record Same (old new : Store) : Type 0 where
   pub columns : new.columns ≡ old.columns
   pub query : new.query ≡ old.query
   pub replicas : (name : List ℕ) → replica_at new name ≡ replica_at old name
+  pub saved : (name : List ℕ) → saved_at new name ≡ saved_at old name
 
 pub same : (store : Store) → Same store store
-same store = record { columns = refl; query = refl; replicas = λ name. refl }
+same store = record { columns = refl; query = refl; replicas = λ name. refl; saved = λ name. refl }
 
 -- a replica that was replaced by itself
 pub same_updated : (old new : Store) (name : List ℕ) (held : Held) → Updates old new name held → replica_at old name ≡ Some held → Same old new
-same_updated old new name held u there = record { columns = u.columns; query = u.query; replicas = λ other. go other (bytes_eq name other) refl }
+same_updated old new name held u there = record { columns = u.columns; query = u.query; replicas = λ other. go other (bytes_eq name other) refl; saved = files_at old new u.saved }
   where
     go : (other : List ℕ) (b : Bool) → bytes_eq name other ≡ b → replica_at new other ≡ replica_at old other
     go other true e = ap (replica_at new) (sym ((bytes_eq-Decides name other).0 e)) ∙ u.own ∙ sym there ∙ ap (replica_at old) ((bytes_eq-Decides name other).0 e)
     go other false e = u.others other e
 
 -- a map that is as it was
-pub same_entries : (columns : Option (List Column)) (query : Option Checked) (old new : List (Vec ℕ Global × Held)) → new ≡ old
-    → Same (record { columns = columns; query = query; replicas = old }) (record { columns = columns; query = query; replicas = new })
-same_entries columns query old new e =
-    record { columns = refl; query = refl; replicas = λ name. ap (λ es. lookup (λ (key : Vec ℕ Global). bytes_eq name key.items) es) e }
+pub same_entries : (columns : Option (List Column)) (query : Option Checked) (saved : List (Vec ℕ Global × Vec ℕ Global)) (old new : List (Vec ℕ Global × Held)) → new ≡ old
+    → Same (record { columns = columns; query = query; replicas = old; saved = saved }) (record { columns = columns; query = query; replicas = new; saved = saved })
+same_entries columns query saved old new e =
+    record { columns = refl; query = refl; replicas = λ name. ap (λ es. lookup (λ (key : Vec ℕ Global). bytes_eq name key.items) es) e; saved = λ name. refl }
+
+pub same_files : (columns : Option (List Column)) (query : Option Checked) (replicas : List (Vec ℕ Global × Held)) (old new : List (Vec ℕ Global × Vec ℕ Global)) → new ≡ old
+    → Same (record { columns = columns; query = query; replicas = replicas; saved = old }) (record { columns = columns; query = query; replicas = replicas; saved = new })
+same_files columns query replicas old new e =
+    record { columns = refl; query = refl; replicas = λ name. refl; saved = λ name. ap (λ es. lookup (λ (key : Vec ℕ Global). bytes_eq name key.items) es) e }
 
 still : (state : State) (old new : Store) → Same old new → Represents state old → Represents state new
 still state old new s r =
-    record { columns = r.columns ∙ sym s.columns; query = r.query ∙ sym s.query; replicas = λ name. r.replicas name ∙ ap (option_map knowledge_of) (sym (s.replicas name)) }
+    record {
+      columns = r.columns ∙ sym s.columns;
+      query = r.query ∙ sym s.query;
+      replicas = λ name. r.replicas name ∙ ap (option_map knowledge_of) (sym (s.replicas name));
+      saved = λ name. subst (AreSaved (state.saved name)) (sym (s.saved name)) (r.saved name);
+    }
 
 still_fits : (world : World) (old new : Store) → Same old new → FitsWorld world old → FitsWorld world new
 still_fits world old new s f =
     record {
       of_columns = subst (λ cs. IfSome cs (λ columns. IsWorld (kinds columns) world)) (sym s.columns) f.of_columns;
       fit = λ name. subst (λ o. IfSome o (λ (h : Held). Fits world h)) (sym (s.replicas name)) (f.fit name);
+      files = λ name. subst (λ o. IfSome o (IsFitting world)) (sym (s.saved name)) (f.files name);
     }
 
 -- a refusal of the code is one of the machine's
@@ -211,9 +236,9 @@ columns_told store text owned columns count none is counted =
         said = machine.Has_columns columns;
         may = inl (inr (subst (λ cs. ColumnsReply cs text (machine.Has_columns columns)) (sym (r.columns ∙ none_there store.columns none)) is));
         strict = λ world f agrees. inr (subst (λ cs. ColumnsReply cs text (machine.Has_columns columns)) (sym (r.columns ∙ none_there store.columns none)) is);
-        represents = record { columns = refl; query = r.query; replicas = r.replicas };
+        represents = record { columns = refl; query = r.query; replicas = r.replicas; saved = r.saved };
         refused = refl;
-        fits = λ world f agrees. record { of_columns = agrees.0; fit = f.fit };
+        fits = λ world f agrees. record { of_columns = agrees.0; fit = f.fit; files = f.files };
         text = λ world f agrees. ap (λ n. said_text (says.Columns n)) counted;
       };
     }
@@ -253,9 +278,9 @@ query_told store text owned columns query shown told none is spelled =
         said = machine.Has_query query;
         may = inl (inr (query_says state store text columns None (machine.Has_query query) r told (none_there store.query none) is));
         strict = λ world f agrees. inr (query_says state store text columns None (machine.Has_query query) r told (none_there store.query none) is);
-        represents = record { columns = r.columns; query = refl; replicas = r.replicas };
+        represents = record { columns = r.columns; query = refl; replicas = r.replicas; saved = r.saved };
         refused = refl;
-        fits = λ world f agrees. record { of_columns = f.of_columns; fit = f.fit };
+        fits = λ world f agrees. record { of_columns = f.of_columns; fit = f.fit; files = f.files };
         text = λ world f agrees. ap (λ bytes. line (codes "query ") bytes) spelled;
       };
     }
@@ -267,8 +292,13 @@ store_asked store columns query is told none over =
     record {
       over = told ∙ ap Some (sym over);
       asked = λ name. go (replica_at store name) (subst (λ q. IfSome (replica_at store name) (λ (held : Held). q ≡ Some held.query)) (none_there store.query none) (is.asked name));
+      files = λ name. never (saved_at store name) (subst (λ q. IfSome (saved_at store name) (IsFileOf q)) (none_there store.query none) (is.files name));
     }
   where
+    never : (o : Option (Vec ℕ Global)) → IfSome o (IsFileOf None) → IfSome o (IsFileOf (Some query))
+    never None h = tt
+    never (Some bytes) h = absurd (let e = h.asked in cc)
+
     go : (o : Option Held) → IfSome o (λ (held : Held). (◌≡◌ {A = Option Checked} None (Some held.query))) → IfSome o (λ (held : Held). (◌≡◌ {A = Option Checked} (Some query) (Some held.query)))
     go None h = tt
     go (Some held) h = absurd cc
@@ -318,6 +348,7 @@ replica_made old new name owned query told none u =
           columns = r.columns ∙ sym u.columns;
           query = r.query ∙ sym u.query;
           replicas = known_updated state old new name.now (record { query = query; parts = [] }) r u;
+          saved = saved_still state old new u.saved r;
         };
         refused = refl;
         fits = λ world f agrees. fits_updated world old new name.now (record { query = query; parts = [] }) u (fits_nothing query world) f;
@@ -422,6 +453,7 @@ feed_took old new name origin number told_rows owned held later delivered is the
           replicas = λ other. ap (λ known. with_replica state.replicas name known other)
               (ap (λ known. learn (unwrap_or known nothing) (takes.fed.origin, takes.fed.number)) (known_there state old name held r there) ∙ sym takes.learns)
               ∙ known_updated state old new name later r u other;
+          saved = saved_still state old new u.saved r;
         };
         refused = refl;
         fits = λ world f agrees. fits_updated world old new name later u
@@ -548,6 +580,7 @@ merged old new into from owned own theirs later is one two learns fits u =
               replicas = λ other. ap (λ known. with_replica state.replicas into known other)
                   ((λ i. union (unwrap_or (known_there state old into own r one i) nothing) (unwrap_or (known_there state old from theirs r two i) nothing)) ∙ sym learns)
                   ∙ known_updated state old new into later r u other;
+              saved = saved_still state old new u.saved r;
             };
             refused = refl;
             fits = λ world f agrees. fits_updated world old new into later u
@@ -567,3 +600,119 @@ same_texts a b same = (ap (λ (q : Checked). printed q.columns) same, ap (λ (q 
 -- what is there is one
 pub one_there : {o : Option Held} (a b : Held) → o ≡ Some a → o ≡ Some b → a ≡ b
 one_there a b one two = ap (λ x. unwrap_or x a) (sym one ∙ two)
+
+-- ---- saving and loading
+
+pub save_nowhere : (store : Store) (name saved : List ℕ) (owned : List Record) → replica_at store name ≡ None → Steps (ask.Save name saved) owned store (says.Refused why.NoSuchName) store
+save_nowhere store name saved owned none =
+    refused (ask.Save name saved) owned store why.NoSuchName
+    (λ state r. sym (ap (λ known. save_reply state.query known saved) (known_nowhere state store name r none) ∙ go state.query))
+  where
+    go : (q : Option Checked) → save_reply q None saved ≡ machine.Refused why.NoSuchName
+    go None = refl
+    go (Some q) = refl
+
+-- a map that was updated at a name has another file
+pub filed : {S : Type 0} (columns : Option (List Column)) (query : Option Checked) (replicas : List (Vec ℕ Global × Held)) (name : List ℕ) (bytes : Vec ℕ Global) (old new : HashMap (Vec ℕ Global) (Vec ℕ Global) S)
+    → UpdatesBy (λ (x y : Vec ℕ Global). bytes_eq x.items y.items) (λ (key : Vec ℕ Global). bytes_eq name key.items) old new (Some bytes)
+    → Files (record { columns = columns; query = query; replicas = replicas; saved = old.entries }) (record { columns = columns; query = query; replicas = replicas; saved = new.entries }) name bytes
+filed columns query replicas name bytes old new u =
+    record { columns = refl; query = refl; replicas = refl; own = u.1; others = λ other. others_kept name other old.entries new.entries u.3 }
+
+-- what holds of each file, and of the new one, holds of each file then
+each_file : (P : List ℕ → Option (Vec ℕ Global) → Type 0) (old new : Store) (name : List ℕ) (bytes : Vec ℕ Global) → Files old new name bytes
+    → P name (Some bytes) → ((other : List ℕ) → bytes_eq name other ≡ false → P other (saved_at old other)) → (other : List ℕ) → P other (saved_at new other)
+each_file P old new name bytes u p all other = go (bytes_eq name other) refl
+  where
+    go : (b : Bool) → bytes_eq name other ≡ b → P other (saved_at new other)
+    go true e = subst (λ n. P n (saved_at new n)) ((bytes_eq-Decides name other).0 e) (subst (P name) (sym u.own) p)
+    go false e = subst (P other) (sym (u.others other e)) (all other e)
+
+replicas_at : (old new : Store) → new.replicas ≡ old.replicas → (name : List ℕ) → replica_at new name ≡ replica_at old name
+replicas_at old new stay name = ap (λ es. lookup (λ (key : Vec ℕ Global). bytes_eq name key.items) es) stay
+
+-- a store stays one with a file of its query
+pub store_filed : (old new : Store) (name : List ℕ) (bytes : Vec ℕ Global) → Files old new name bytes → IsFileOf old.query bytes → IsStore old → IsStore new
+store_filed old new name bytes u file is =
+    record {
+      over = subst (λ q. IfSome q (λ (query : Checked). new.columns ≡ Some query.columns)) (sym u.query)
+          (subst (λ cs. IfSome old.query (λ (query : Checked). cs ≡ Some query.columns)) (sym u.columns) is.over);
+      asked = λ other. subst (λ o. IfSome o (λ (h : Held). new.query ≡ Some h.query)) (sym (replicas_at old new u.replicas other))
+          (subst (λ q. IfSome (replica_at old other) (λ (h : Held). q ≡ Some h.query)) (sym u.query) (is.asked other));
+      files = subst (λ q. (other : List ℕ) → IfSome (saved_at new other) (IsFileOf q)) (sym u.query)
+          (each_file (λ other o. IfSome o (IsFileOf old.query)) old new name bytes u file (λ other different. is.files other));
+    }
+
+pub saved_as : (old new : Store) (name saved : List ℕ) (owned : List Record) (held : Held) (bytes : Vec ℕ Global) (count : ℕ) → IsStore old → replica_at old name ≡ Some held
+    → IsSummary bytes.items held.query held.parts → ((world : World) → Fits world held → bytes.items ≡ world_file held.query world (told held.parts)) → count ≡ length bytes.items
+    → Files old new saved bytes → Steps (ask.Save name saved) owned old (says.Saved count) new
+saved_as old new name saved owned held bytes count is there file world_is counted u =
+    let asks = held_asks old name held is there in
+    record {
+      steps = λ state r.
+          let reply : machine.Saved saved held.query (told held.parts) ≡ save_reply state.query (state.replicas name) saved =
+          sym (ap (λ q. save_reply q (state.replicas name) saved) (r.query ∙ asks.0) ∙ ap (λ known. save_reply (Some held.query) known saved) (known_there state old name held r there)) in
+          record {
+            said = machine.Saved saved held.query (told held.parts);
+            may = inl (inr reply);
+            strict = λ world f agrees. inr reply;
+            represents = record {
+              columns = r.columns ∙ sym u.columns;
+              query = r.query ∙ sym u.query;
+              replicas = λ other. r.replicas other ∙ ap (option_map knowledge_of) (sym (replicas_at old new u.replicas other));
+              saved = each_file (λ other o. AreSaved (with_replica state.saved saved (told held.parts) other) o) old new saved bytes u
+                  (subst (λ b. AreSaved (if b then Some (told held.parts) else state.saved saved) (Some bytes)) (sym ((bytes_eq-Decides saved saved).1 refl)) (record { held = held; is = file; tells = refl }))
+                  (λ other different. subst (λ b. AreSaved (if b then Some (told held.parts) else state.saved other) (saved_at old other)) (sym different) (r.saved other));
+            };
+            refused = refl;
+            fits = λ world f agrees. record {
+              of_columns = subst (λ cs. IfSome cs (λ (columns : List Column). IsWorld (kinds columns) world)) (sym u.columns) f.of_columns;
+              fit = λ other. subst (λ o. IfSome o (λ (h : Held). Fits world h)) (sym (replicas_at old new u.replicas other)) (f.fit other);
+              files = each_file (λ other o. IfSome o (IsFitting world)) old new saved bytes u
+                  (record { held = held; is = file; fits = subst (λ o. IfSome o (λ (h : Held). Fits world h)) there (f.fit name) }) (λ other different. f.files other);
+            };
+            text = λ world f agrees.
+                ap (λ n. said_text (says.Saved n)) (counted ∙ ap length (world_is world (subst (λ o. IfSome o (λ (h : Held). Fits world h)) there (f.fit name))));
+          };
+    }
+
+pub load_nowhere : (store : Store) (name saved : List ℕ) (owned : List Record) → saved_at store saved ≡ None → Steps (ask.Load name saved) owned store (says.Refused why.NoSuchName) store
+load_nowhere store name saved owned none =
+    refused (ask.Load name saved) owned store why.NoSuchName (λ state r. go (state.saved saved) (subst (AreSaved (state.saved saved)) none (r.saved saved)))
+  where
+    go : (known : Option Knowledge) → AreSaved known None → machine.Refused why.NoSuchName ≡ load_reply known name
+    go None are = refl
+    go (Some known) are = absurd are
+
+pub loaded : (old new : Store) (name saved : List ℕ) (owned : List Record) (bytes : Vec ℕ Global) (later : Held) → saved_at old saved ≡ Some bytes
+    → ((held : Held) → IsSummary bytes.items held.query held.parts → later ≡ held) → Updates old new name later → Steps (ask.Load name saved) owned old says.Loaded new
+loaded old new name saved owned bytes later there is u =
+    record { steps = λ state r. go state r (state.saved saved) refl (subst (AreSaved (state.saved saved)) there (r.saved saved)) }
+  where
+    go : (state : State) → Represents state old → (known : Option Knowledge) → state.saved saved ≡ known → AreSaved known (Some bytes) → Answers state (ask.Load name saved) owned old says.Loaded new
+    go state r None e are = absurd are
+    go state r (Some known) e are =
+        let reply : machine.Loaded name known ≡ load_reply (state.saved saved) name = sym (ap (λ k. load_reply k name) e) in
+        record {
+          said = machine.Loaded name known;
+          may = inl (inr reply);
+          strict = λ world f agrees. inr reply;
+          represents = record {
+            columns = r.columns ∙ sym u.columns;
+            query = r.query ∙ sym u.query;
+            replicas = λ other. ap (λ k. with_replica state.replicas name k other) (sym are.tells ∙ ap knowledge_of (sym (is are.held are.is))) ∙ known_updated state old new name later r u other;
+            saved = saved_still state old new u.saved r;
+          };
+          refused = refl;
+          fits = λ world f agrees.
+              let file = subst (λ o. IfSome o (IsFitting world)) there (f.files saved) in
+              fits_updated world old new name later u (subst (Fits world) (sym (is file.held file.is)) file.fits) f;
+          text = λ world f agrees. refl;
+        }
+
+-- what is loaded has the query
+pub loaded_asks : (store : Store) (saved : List ℕ) (bytes : Vec ℕ Global) (later : Held) → IsStore store → saved_at store saved ≡ Some bytes → ((held : Held) → IsSummary bytes.items held.query held.parts → later ≡ held)
+    → store.query ≡ Some later.query
+loaded_asks store saved bytes later is there same =
+    let file = subst (λ o. IfSome o (IsFileOf store.query)) there (is.files saved) in
+    file.asked ∙ ap (λ (h : Held). Some h.query) (sym (same file.held file.is))

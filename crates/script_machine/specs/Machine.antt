@@ -19,21 +19,23 @@ use Rattle.batch_reader.specs.declared.error.BatchError.TheVariants as batch
 use Rattle.origin_prefix.specs.declared.error.JoinError.{JoinError}
 use Rattle.origin_prefix.specs.declared.error.JoinError.TheVariants as join
 use Rattle.script_io.specs.Records.{Record}
-use Rattle.script_commands.specs.Commands.{Command, Request, Columns, Query, Replica, Feed, Known, Answer, Merge, Unknown, request_of}
+use Rattle.script_commands.specs.Commands.{Command, Request, Columns, Query, Replica, Feed, Known, Answer, Merge, Save, Load, Unknown, request_of}
 use Rattle.script_machine.specs.declared.refusal.Refusal.{Refusal}
 use Rattle.having_filter.specs.declared.error.QueryError.TheVariants as checks
 use Rattle.script_machine.specs.declared.refusal.Refusal.TheVariants as refuse
 use Rattle.script_machine.specs.declared.refusal.Refusal.TheVariants.{NoMemory, BadSchema, Batch, OriginDisagrees, BadCommand, NoSuchName, NameTaken}
 
--- what is there: the columns and the query, once they were told, and what each replica knows, by its name
+-- what is there: the columns and the query, once they were told, what each replica knows, by its name, and what was saved, by the name
+-- that it was given
 pub record State : Type 0 where
   pub columns : Option (List Column)
   pub query : Option Checked
   pub replicas : List ℕ → Option Knowledge
+  pub saved : List ℕ → Option Knowledge
 
 -- nothing is there
 abbrev pub start : State
-start = record { columns = None; query = None; replicas = λ name. None }
+start = record { columns = None; query = None; replicas = λ name. None; saved = λ name. None }
 
 -- a batch as it was fed
 pub record Fed : Type 0 where
@@ -53,6 +55,10 @@ pub data Reply : Type 0 where
   Took : (name : List ℕ) → Fed → Delivered → Reply
   -- the replica of the first name knows what that of the second does, too
   Merged : (into from : List ℕ) → Reply
+  -- what a replica knows of a query is saved under a name
+  Saved : (saved : List ℕ) → Checked → Knowledge → Reply
+  -- a replica of this name knows what was saved
+  Loaded : (name : List ℕ) → Knowledge → Reply
   -- what is known, origin by origin
   Listed : List KnownOrigin → Reply
   -- the answer of a query over what is known
@@ -139,6 +145,16 @@ abbrev pub merge_reply : Option Knowledge → Option Knowledge → (into from : 
 merge_reply (Some known) (Some more) into from = Merged into from
 merge_reply known more into from = Refused NoSuchName
 
+-- the reply to a replica's saving
+abbrev pub save_reply : Option Checked → Option Knowledge → (saved : List ℕ) → Reply
+save_reply (Some query) (Some known) saved = Saved saved query known
+save_reply query known saved = Refused NoSuchName
+
+-- the reply to loading what was saved, if it was
+abbrev pub load_reply : Option Knowledge → (name : List ℕ) → Reply
+load_reply (Some known) name = Loaded name known
+load_reply None name = Refused NoSuchName
+
 -- how a command is answered that asks for this and owns these records, where memory is there. There is one way only (law one_reply)
 abbrev pub Replies : State → Request → List Record → Reply → Type 0
 Replies old (Columns text) owned reply = ColumnsReply old.columns text reply
@@ -149,6 +165,8 @@ Replies old (Feed name origin number told) owned reply =
 Replies old (Known name) owned reply = reply ≡ known_reply (old.replicas name)
 Replies old (Answer name) owned reply = reply ≡ answer_reply old.query (old.replicas name)
 Replies old (Merge into from) owned reply = reply ≡ merge_reply (old.replicas into) (old.replicas from) into from
+Replies old (Save name saved) owned reply = reply ≡ save_reply old.query (old.replicas name) saved
+Replies old (Load name saved) owned reply = reply ≡ load_reply (old.saved saved) name
 Replies old Unknown owned reply = reply ≡ Refused BadCommand
 
 -- how a command may be answered: in its one way, or memory is wanting
@@ -172,7 +190,7 @@ pub record IsDisagreement (old : State) (request : Request) (owned : List Record
 abbrev pub MayReply : State → Command → Reply → Type 0
 MayReply old command reply = IsReply old (request_of command.head) command.owned reply ⊎ IsDisagreement old (request_of command.head) command.owned reply
 
--- a replica of this name knows this, and the others what they knew
+-- under a name is this, and under the others what was there
 abbrev pub with_replica : (List ℕ → Option Knowledge) → List ℕ → Knowledge → List ℕ → Option Knowledge
 with_replica replicas name known other = if bytes_eq name other then Some known else replicas other
 
@@ -185,6 +203,8 @@ after old (Took name fed delivered) =
     record old { replicas = with_replica old.replicas name (learn (unwrap_or (old.replicas name) nothing) (fed.origin, fed.number)) }
 after old (Merged into from) =
     record old { replicas = with_replica old.replicas into (union (unwrap_or (old.replicas into) nothing) (unwrap_or (old.replicas from) nothing)) }
+after old (Saved saved query known) = record old { saved = with_replica old.saved saved known }
+after old (Loaded name known) = record old { replicas = with_replica old.replicas name known }
 after old reply = old
 
 -- commands may be answered so, one after the other

@@ -14,8 +14,9 @@ use Rattle.batch_reader.specs.declared.error.BatchError.TheVariants as batch
 use Rattle.grouping_model.specs.Replies.{KnownOrigin}
 use Rattle.grouping_model.specs.declared.delivered.Delivered.{Delivered}
 use Rattle.grouping_model.specs.declared.delivered.Delivered.TheVariants.{Folded, Early, Known}
+use Rattle.summary_codec.specs.WorldFile.{world_file}
 use Rattle.table_print.specs.Table.{table_text}
-use Rattle.script_machine.specs.Machine.{Reply, Has_columns, Has_query, Created, Took, Merged, Listed, Answered, Refused}
+use Rattle.script_machine.specs.Machine.{Reply, Has_columns, Has_query, Created, Took, Merged, Saved, Loaded, Listed, Answered, Refused}
 use Rattle.script_machine.specs.declared.refusal.Refusal.{Refusal}
 use Rattle.script_machine.specs.declared.refusal.Refusal.TheVariants.{NoMemory, BadSchema, Query, Batch, OriginDisagrees, Run, BadCommand, NoSuchName, NameTaken}
 use Rattle.script_machine.specs.declared.error.RunError.{RunError}
@@ -98,6 +99,8 @@ reply_text world (Has_query query) = line (codes "query ") (spelling (by_names q
 reply_text world (Created name) = line (codes "replica ") name
 reply_text world (Took name fed delivered) = delivered_text delivered
 reply_text world (Merged into from) = line (codes "merged") []
+reply_text world (Saved saved query known) = line (codes "saved ") (decimal (length (world_file query world known)))
+reply_text world (Loaded name known) = line (codes "loaded") []
 reply_text world (Listed list) = known_text list
 reply_text world (Answered query known) =
     let rows = answer (meaning query) world known in

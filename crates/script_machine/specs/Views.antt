@@ -1,5 +1,5 @@
 -- What a clause sees of the values of the code.
-use Rattle.std.specs.Prelude.{ℕ, ◌≡◌, ◌⊎◌, Bool, true, false, List, [], codes, decimal, Option, Some, IfSome, option_map, string_bytes, Result, Ok, Err}
+use Rattle.std.specs.Prelude.{ℕ, ◌≡◌, ◌⊎◌, Bool, true, false, List, [], codes, decimal, Option, Some, None, IfSome, option_map, string_bytes, Result, Ok, Err}
 use Rattle.std.specs.declared.alloc.Global.{Global}
 use Rattle.std.specs.declared.vec.Vec.{Vec}
 use Rattle.std.specs.Map.{lookup}
@@ -10,6 +10,7 @@ use Rattle.having_filter.specs.Meaning.{Checked}
 use Rattle.grouping_model.specs.Replies.{reply_of}
 use Rattle.grouping_model.specs.declared.delivered.Delivered.{Delivered}
 use Rattle.replica_merge.specs.Replicas.{Parts, Held, told, Fits, AreHeldParts, JoinedAside}
+use Rattle.summary_codec.specs.Reading.{IsSummary}
 use Rattle.script_io.specs.Records.{Record}
 use Rattle.script_commands.specs.Commands.{Request}
 use Rattle.script_machine.specs.Machine as machine
@@ -27,6 +28,8 @@ said_text (says.Query text) = line (codes "query ") (string_bytes text)
 said_text (says.Created name) = line (codes "replica ") name.now
 said_text (says.Delivered delivered) = delivered_text delivered
 said_text says.Merged = line (codes "merged") []
+said_text (says.Saved count) = line (codes "saved ") (decimal count)
+said_text says.Loaded = line (codes "loaded") []
 said_text (says.Known lines) = lines.items
 said_text (says.Answer rows table) = answer_text rows table.items
 said_text (says.Refused why) = line (codes "refused ") (refusal_name why)
@@ -35,35 +38,66 @@ abbrev pub is_refusal : Reply → Bool
 is_refusal (says.Refused why) = true
 is_refusal reply = false
 
--- what the code keeps: the columns and the query, once they were told, and the replicas by their names
+-- what the code keeps: the columns and the query, once they were told, the replicas by their names, and the summary files by theirs
 pub record Store : Type 0 where
   pub columns : Option (List Column)
   pub query : Option Checked
   pub replicas : List (Vec ℕ Global × Held)
+  pub saved : List (Vec ℕ Global × Vec ℕ Global)
 
 -- the replica of a name
 abbrev pub replica_at : Store → List ℕ → Option Held
 replica_at store name = lookup (λ (key : Vec ℕ Global). bytes_eq name key.items) store.replicas
 
--- the query is over the columns, and each replica has it
+-- the file of a name
+abbrev pub saved_at : Store → List ℕ → Option (Vec ℕ Global)
+saved_at store name = lookup (λ (key : Vec ℕ Global). bytes_eq name key.items) store.saved
+
+-- bytes are the file of what was held for a query
+pub record IsFileOf (query : Option Checked) (bytes : Vec ℕ Global) : Type 0 where
+  pub held : Held
+  pub asked : query ≡ Some held.query
+  pub is : IsSummary bytes.items held.query held.parts
+
+-- the query is over the columns, and each replica and each file has it
 pub record IsStore (store : Store) : Type 0 where
   pub over : IfSome store.query (λ query. store.columns ≡ Some query.columns)
   pub asked : (name : List ℕ) → IfSome (replica_at store name) (λ held. store.query ≡ Some held.query)
+  pub files : (name : List ℕ) → IfSome (saved_at store name) (IsFileOf store.query)
 
 -- what a replica knows
 abbrev pub knowledge_of : Held → Knowledge
 knowledge_of held = told held.parts
+
+-- a file has what was saved
+pub record HasSaved (known : Knowledge) (bytes : Vec ℕ Global) : Type 0 where
+  pub held : Held
+  pub is : IsSummary bytes.items held.query held.parts
+  pub tells : knowledge_of held ≡ known
+
+abbrev pub AreSaved : Option Knowledge → Option (Vec ℕ Global) → Type 0
+AreSaved None None = Unit {0}
+AreSaved (Some known) (Some bytes) = HasSaved known bytes
+AreSaved known bytes = ⊥
 
 -- what the code keeps is what is there
 pub record Represents (state : State) (store : Store) : Type 0 where
   pub columns : state.columns ≡ store.columns
   pub query : state.query ≡ store.query
   pub replicas : (name : List ℕ) → state.replicas name ≡ option_map knowledge_of (replica_at store name)
+  pub saved : (name : List ℕ) → AreSaved (state.saved name) (saved_at store name)
 
--- what is held fits a world of the columns
+-- the file of what fits a world
+pub record IsFitting (world : World) (bytes : Vec ℕ Global) : Type 0 where
+  pub held : Held
+  pub is : IsSummary bytes.items held.query held.parts
+  pub fits : Fits world held
+
+-- what is held and what was saved fits a world of the columns
 pub record FitsWorld (world : World) (store : Store) : Type 0 where
   pub of_columns : IfSome store.columns (λ columns. IsWorld (kinds columns) world)
   pub fit : (name : List ℕ) → IfSome (replica_at store name) (Fits world)
+  pub files : (name : List ℕ) → IfSome (saved_at store name) (IsFitting world)
 
 -- a reply of the code to what is asked is one of the machine's, and what is kept then is what is there then
 pub record Answers (state : State) (request : Request) (owned : List Record) (old : Store) (reply : Reply) (new : Store) : Type 0 where
@@ -85,6 +119,15 @@ pub record Updates (old new : Store) (name : List ℕ) (held : Held) : Type 0 wh
   pub query : new.query ≡ old.query
   pub own : replica_at new name ≡ Some held
   pub others : (other : List ℕ) → bytes_eq name other ≡ false → replica_at new other ≡ replica_at old other
+  pub saved : new.saved ≡ old.saved
+
+-- one name has this file now, and nothing else changed
+pub record Files (old new : Store) (name : List ℕ) (bytes : Vec ℕ Global) : Type 0 where
+  pub columns : new.columns ≡ old.columns
+  pub query : new.query ≡ old.query
+  pub replicas : new.replicas ≡ old.replicas
+  pub own : saved_at new name ≡ Some bytes
+  pub others : (other : List ℕ) → bytes_eq name other ≡ false → saved_at new other ≡ saved_at old other
 
 -- a replica took a batch that was fed
 pub record Takes (origin number : List ℕ) (told_rows : ℕ) (owned : List Record) (old new : Held) (delivered : Delivered) : Type 0 where

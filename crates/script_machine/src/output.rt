@@ -85,6 +85,8 @@ pub(crate) fn put_reply<W: Write>(writer: &mut W, reply: &Reply<'_>) -> Result<(
         Reply::Created(name) => put_line(writer, b"replica ", *name),
         Reply::Delivered(delivered) => put_delivered(writer, *delivered),
         Reply::Merged => put_line(writer, b"merged", b""),
+        Reply::Saved(count) => put_count(writer, b"saved ", *count),
+        Reply::Loaded => put_line(writer, b"loaded", b""),
         Reply::Known(lines) => put_all(writer, lines),
         Reply::Answer { rows, table } => put_answer(writer, *rows, table),
         Reply::Refused(why) => put_line(writer, b"refused ", name(*why).as_bytes()),

@@ -19,6 +19,10 @@ pub(crate) enum Reply<'c> {
     Delivered(Delivered),
     /// A replica knows what another knew, too.
     Merged,
+    /// What a replica knows was saved as a file of so many bytes.
+    Saved(usize),
+    /// A replica knows what was saved.
+    Loaded,
     /// What a replica knows, in its lines.
     Known(Vec<u8>),
     /// An answer: how many rows it has, and its table.

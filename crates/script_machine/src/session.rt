@@ -9,7 +9,9 @@ ghost use Rattle.having_filter.specs.Spelling.{spelling};
 ghost use Rattle.having_filter.specs.Kept.{by_names, headers};
 ghost use Rattle.group_parser.specs.Parsing.{Accepts};
 ghost use Rattle.grouping_model.specs.Replies.{known_list};
-ghost use Rattle.replica_merge.specs.Replicas.{Parts, told, Fits, AreHeldParts, JoinedAside};
+ghost use Rattle.summary_codec.specs.Reading.{IsSummary};
+ghost use Rattle.summary_codec.specs.WorldFile.{world_file};
+ghost use Rattle.replica_merge.specs.Replicas.{Held, Parts, told, Fits, AreHeldParts, JoinedAside};
 ghost use Rattle.script_io.specs.Records.{Record};
 ghost use Rattle.table_print.specs.Table.{table_text};
 ghost use Rattle.script_machine.specs.Text.{known_text};
@@ -35,13 +37,15 @@ use std::alloc::{AllocError, Global};
 use std::marker::Model;
 use table_print::print_csv;
 
-/// The columns and the query, once they were told, and the replicas by their names, in the order in which they came.
+/// The columns and the query, once they were told, the replicas by their names, and what was saved of them.
 #[derive(Drop)]
 pub(crate) struct Session {
     alloc: Global,
     columns: Option<Schema>,
     query: Option<Query>,
     replicas: IndexMap<Vec<u8>, Replica>,
+    /// Summary files, by the names that they were saved under.
+    saved: IndexMap<Vec<u8>, Vec<u8>>,
 }
 
 impl Model for Session {
@@ -54,10 +58,20 @@ impl Model for Session {
     ghost coded = { coded_store (Prim.hlevel codes) };
 
     ghost view = { λ s.
-        record { columns = s.columns; query = s.query; replicas = s.replicas.entries } };
+        record {
+          columns = s.columns;
+          query = s.query;
+          replicas = s.replicas.entries;
+          saved = s.saved.entries;
+        } };
 
     ghost invariant = { λ s. IsStore
-        (record { columns = s.columns; query = s.query; replicas = s.replicas.entries }) };
+        (record {
+          columns = s.columns;
+          query = s.query;
+          replicas = s.replicas.entries;
+          saved = s.saved.entries;
+        }) };
 }
 
 /// The batch of a feed, delivered to a replica.
@@ -140,16 +154,52 @@ fn answer_of_replica(alloc: Global, replica: &Replica) -> Result<(usize, Vec<u8>
     Ok((answer.len(), table))
 }
 
+/// The summary file of a replica, behind a copy of the name that it is saved under.
+fn file_of_replica(
+    alloc: Global,
+    replica: &Replica,
+    saved: &[u8],
+) -> Result<(Vec<u8>, Vec<u8>), AllocError>
+    ensures name { IfOk result (λ made. made.0.items ≡ saved.now) }
+    ensures file { IfOk result (λ made.
+        IsSummary made.1.items replica.now.query replica.now.parts) }
+    ensures world { IfOk result (λ made. (world : World) → Fits world replica.now →
+        made.1.items ≡ world_file replica.now.query world (told replica.now.parts)) }
+{
+    let file = replica.save()?;
+    let key = saved.to_vec(alloc)?;
+    Ok((key, file))
+}
+
+/// The replica that a summary file is of, behind a copy of its name. A file that a replica saved has no fault, so that the only
+/// error is a failed allocation.
+fn replica_of_file(
+    alloc: Global,
+    name: &[u8],
+    file: &[u8],
+) -> Result<(Vec<u8>, Replica), AllocError>
+    ensures name { IfOk result (λ made. made.0.items ≡ name.now) }
+    ensures saved { IfOk result (λ made. (held : Held) →
+        IsSummary file.now held.query held.parts → made.1 ≡ held) }
+{
+    let key = name.to_vec(alloc)?;
+    match Replica::load(alloc, file) {
+        Ok(replica) => Ok((key, replica)),
+        Err(_) => Err(AllocError),
+    }
+}
+
 impl Session {
     /// Nothing is there.
     pub(crate) fn new(alloc: Global) -> Session
-        ensures { result ≡ record { columns = None; query = None; replicas = [] } }
+        ensures { result ≡ record { columns = None; query = None; replicas = []; saved = [] } }
     {
         Session {
             alloc,
             columns: None,
             query: None,
             replicas: IndexMap::new(alloc),
+            saved: IndexMap::new(alloc),
         }
     }
 
@@ -295,6 +345,43 @@ impl Session {
         }
     }
 
+    /// Answers `save`.
+    fn save(&mut self, name: &[u8], saved: &[u8]) -> Reply<'static>
+        ensures { (owned : List Record) → Steps (ask.Save name.now saved.now) owned self.old result
+            self.new }
+    {
+        let Some(replica) = self.replicas.get(name) else {
+            return Reply::Refused(Refusal::NoSuchName);
+        };
+        let Ok(made) = file_of_replica(self.alloc, replica, saved) else {
+            return Reply::Refused(Refusal::NoMemory);
+        };
+        let (key, file) = made;
+        let length = file.len();
+        match self.saved.insert(key, file) {
+            Ok(_) => Reply::Saved(length),
+            Err(_) => Reply::Refused(Refusal::NoMemory),
+        }
+    }
+
+    /// Answers `load`.
+    fn load(&mut self, name: &[u8], saved: &[u8]) -> Reply<'static>
+        ensures { (owned : List Record) → Steps (ask.Load name.now saved.now) owned self.old result
+            self.new }
+    {
+        let Some(file) = self.saved.get(saved) else {
+            return Reply::Refused(Refusal::NoSuchName);
+        };
+        let Ok(made) = replica_of_file(self.alloc, name, file) else {
+            return Reply::Refused(Refusal::NoMemory);
+        };
+        let (key, replica) = made;
+        match self.replicas.insert(key, replica) {
+            Ok(_) => Reply::Loaded,
+            Err(_) => Reply::Refused(Refusal::NoMemory),
+        }
+    }
+
     /// Answers a command.
     pub(crate) fn execute<'c>(&mut self, command: &'c Command) -> Reply<'c>
         ensures { Steps (request_of (fields_of command.now.head))
@@ -313,6 +400,8 @@ impl Session {
             Request::Known(name) => self.known(name),
             Request::Answer(name) => self.answer(name),
             Request::Merge { into, from } => self.merge(into, from),
+            Request::Save { name, saved } => self.save(name, saved),
+            Request::Load { name, saved } => self.load(name, saved),
             Request::Unknown => Reply::Refused(Refusal::BadCommand),
         }
     }

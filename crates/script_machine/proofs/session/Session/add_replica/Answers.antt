@@ -34,14 +34,14 @@ invariant_of-self c =
     let u : UpdatesBy (λ (x y : Vec ℕ Global). bytes_eq x.items y.items) (λ (k : Vec ℕ Global). bytes_eq c.args.name.now k.items) c.self.inside.replicas c.insert.new.self (Some held) =
     subst (λ h. UpdatesBy (λ (x y : Vec ℕ Global). bytes_eq x.items y.items) (λ (k : Vec ℕ Global). bytes_eq c.args.name.now k.items) c.self.inside.replicas c.insert.new.self (Some h)) cloned
     (subst (λ q. UpdatesBy (λ (x y : Vec ℕ Global). bytes_eq x.items y.items) (λ (k : Vec ℕ Global). bytes_eq q k.items) c.self.inside.replicas c.insert.new.self (Some c.in-Ok.made.1)) same_key c.in-Ok-insert.ensures.updates) in
-    store_updated (record { columns = c.self.inside.columns; query = c.self.inside.query; replicas = c.self.inside.replicas.entries }) _ c.args.name.now held
-    (updated c.self.inside.columns c.self.inside.query c.args.name.now held c.self.inside.replicas c.insert.new.self u) c.in-Some.is c.self.invariant
+    store_updated (record { columns = c.self.inside.columns; query = c.self.inside.query; replicas = c.self.inside.replicas.entries; saved = c.self.inside.saved.entries }) _ c.args.name.now held
+    (updated c.self.inside.columns c.self.inside.query c.self.inside.saved.entries c.args.name.now held c.self.inside.replicas c.insert.new.self u) c.in-Some.is c.self.invariant
 
 pub returns-in-Ok-insert : goal.returns-in-Ok-insert
 returns-in-Ok-insert c = λ owned.
     let held : Held = record { query = c.in-Some.query; parts = [] } in
-    let old : Store = record { columns = c.self.inside.columns; query = c.self.inside.query; replicas = c.self.inside.replicas.entries } in
-    let new : Store = record { columns = c.self.inside.columns; query = c.self.inside.query; replicas = c.insert.new.self.entries } in
+    let old : Store = record { columns = c.self.inside.columns; query = c.self.inside.query; replicas = c.self.inside.replicas.entries; saved = c.self.inside.saved.entries } in
+    let new : Store = record { columns = c.self.inside.columns; query = c.self.inside.query; replicas = c.insert.new.self.entries; saved = c.self.inside.saved.entries } in
     let same_key : c.in-Ok.made.0.items ≡ c.args.name.now = c.in-Ok.ensures.0 in
     let cloned : c.in-Ok.made.1 ≡ held = c.in-Ok.ensures.1 in
     let u : UpdatesBy (λ (x y : Vec ℕ Global). bytes_eq x.items y.items) (λ (k : Vec ℕ Global). bytes_eq c.args.name.now k.items) c.self.inside.replicas c.insert.new.self (Some held) =
@@ -49,11 +49,11 @@ returns-in-Ok-insert c = λ owned.
     (subst (λ q. UpdatesBy (λ (x y : Vec ℕ Global). bytes_eq x.items y.items) (λ (k : Vec ℕ Global). bytes_eq q k.items) c.self.inside.replicas c.insert.new.self (Some c.in-Ok.made.1)) same_key c.in-Ok-insert.ensures.updates) in
     subst (λ s. Steps (ask.Replica c.args.name.now) owned s (says.Created c.args.name) new) c.self.view_is
     (replica_made old new c.args.name owned c.in-Some.query c.in-Some.is (sym c.contains_key.ensures ∙ c.if-contains_key.false)
-    (updated c.self.inside.columns c.self.inside.query c.args.name.now held c.self.inside.replicas c.insert.new.self u))
+    (updated c.self.inside.columns c.self.inside.query c.self.inside.saved.entries c.args.name.now held c.self.inside.replicas c.insert.new.self u))
 
 pub returns : goal.returns
 returns c = λ owned.
-    let new : Store = record { columns = c.self.inside.columns; query = c.self.inside.query; replicas = c.insert.new.self.entries } in
+    let new : Store = record { columns = c.self.inside.columns; query = c.self.inside.query; replicas = c.insert.new.self.entries; saved = c.self.inside.saved.entries } in
     subst (λ s. Steps (ask.Replica c.args.name.now) owned s (says.Refused why.NoMemory) new) c.self.view_is
     (no_memory_same (ask.Replica c.args.name.now) owned _ new
-    (same_entries c.self.inside.columns c.self.inside.query c.self.inside.replicas.entries c.insert.new.self.entries c.in-Err.ensures.err))
+    (same_entries c.self.inside.columns c.self.inside.query c.self.inside.saved.entries c.self.inside.replicas.entries c.insert.new.self.entries c.in-Err.ensures.err))

@@ -14,19 +14,19 @@ pub returns-in_default : goal.returns-in_default
 returns-in_default c =
     let request = ask.Feed c.args.name.now c.args.origin.now c.args.number.now c.args.told in
     let owned = map fields_of c.args.rows.now in
-    let new : Store = record { columns = c.self.inside.columns; query = c.self.inside.query; replicas = c.get_mut.follows.lender-at-none.entries } in
-    let old : Store = record { columns = c.self.inside.columns; query = c.self.inside.query; replicas = c.self.inside.replicas.entries } in
+    let new : Store = record { columns = c.self.inside.columns; query = c.self.inside.query; replicas = c.get_mut.follows.lender-at-none.entries; saved = c.self.inside.saved.entries } in
+    let old : Store = record { columns = c.self.inside.columns; query = c.self.inside.query; replicas = c.self.inside.replicas.entries; saved = c.self.inside.saved.entries } in
     subst (λ s. Steps request owned s (says.Refused why.NoSuchName) new) c.self.view_is
-    (subst (λ m. Steps request owned old (says.Refused why.NoSuchName) (record { columns = c.self.inside.columns; query = c.self.inside.query; replicas = m.entries })) (sym c.get_mut.follows.holds-at-none)
+    (subst (λ m. Steps request owned old (says.Refused why.NoSuchName) (record { columns = c.self.inside.columns; query = c.self.inside.query; replicas = m.entries; saved = c.self.inside.saved.entries })) (sym c.get_mut.follows.holds-at-none)
     (feed_nowhere old c.args.name.now c.args.origin.now c.args.number.now c.args.told owned (sym c.in_default.ensures.value)))
 
 pub invariant_of-self-2 : goal.invariant_of-self-2
 invariant_of-self-2 c =
     let there = sym c.in-Some.ensures.value in
-    let old : Store = record { columns = c.self.inside.columns; query = c.self.inside.query; replicas = c.self.inside.replicas.entries } in
+    let old : Store = record { columns = c.self.inside.columns; query = c.self.inside.query; replicas = c.self.inside.replicas.entries; saved = c.self.inside.saved.entries } in
     let asks = held_asks old c.args.name.now c.in-Some.replica.now c.self.invariant there in
     store_updated old _ c.args.name.now c.deliver.new.replica
-    (updated c.self.inside.columns c.self.inside.query c.args.name.now c.deliver.new.replica c.self.inside.replicas (c.get_mut.follows.lender c.deliver.new.replica)
+    (updated c.self.inside.columns c.self.inside.query c.self.inside.saved.entries c.args.name.now c.deliver.new.replica c.self.inside.replicas (c.get_mut.follows.lender c.deliver.new.replica)
     ((c.get_mut.follows.holds c.deliver.new.replica).3 (ap is_some there)))
     (asks.0 ∙ ap Some (sym c.deliver.ensures.query)) c.self.invariant
 
@@ -35,10 +35,10 @@ returns c =
     let request = ask.Feed c.args.name.now c.args.origin.now c.args.number.now c.args.told in
     let owned = map fields_of c.args.rows.now in
     let there = sym c.in-Some.ensures.value in
-    let old : Store = record { columns = c.self.inside.columns; query = c.self.inside.query; replicas = c.self.inside.replicas.entries } in
-    let new : Store = record { columns = c.self.inside.columns; query = c.self.inside.query; replicas = (c.get_mut.follows.lender c.deliver.new.replica).entries } in
+    let old : Store = record { columns = c.self.inside.columns; query = c.self.inside.query; replicas = c.self.inside.replicas.entries; saved = c.self.inside.saved.entries } in
+    let new : Store = record { columns = c.self.inside.columns; query = c.self.inside.query; replicas = (c.get_mut.follows.lender c.deliver.new.replica).entries; saved = c.self.inside.saved.entries } in
     let u : Updates old new c.args.name.now c.deliver.new.replica =
-    updated c.self.inside.columns c.self.inside.query c.args.name.now c.deliver.new.replica c.self.inside.replicas (c.get_mut.follows.lender c.deliver.new.replica)
+    updated c.self.inside.columns c.self.inside.query c.self.inside.saved.entries c.args.name.now c.deliver.new.replica c.self.inside.replicas (c.get_mut.follows.lender c.deliver.new.replica)
     ((c.get_mut.follows.holds c.deliver.new.replica).3 (ap is_some there)) in
     elim c.match-deliver.branch [
       | in-Ok w ↦ rw w.result-is

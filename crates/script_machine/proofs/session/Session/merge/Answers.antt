@@ -15,10 +15,10 @@ returns-in-Err c = λ owned. merge_refused c.args.self.now c.args.into.now c.arg
 pub invariant_of-self : goal.invariant_of-self
 invariant_of-self c =
     let there = sym c.in-Some.ensures.value in
-    let old : Store = record { columns = c.self.inside.columns; query = c.self.inside.query; replicas = c.self.inside.replicas.entries } in
+    let old : Store = record { columns = c.self.inside.columns; query = c.self.inside.query; replicas = c.self.inside.replicas.entries; saved = c.self.inside.saved.entries } in
     let asks = held_asks old c.args.into.now c.in-Some.replica.now c.self.invariant there in
     store_updated old _ c.args.into.now c.commit.new.self
-    (updated c.self.inside.columns c.self.inside.query c.args.into.now c.commit.new.self c.self.inside.replicas (c.get_mut.follows.lender c.commit.new.self)
+    (updated c.self.inside.columns c.self.inside.query c.self.inside.saved.entries c.args.into.now c.commit.new.self c.self.inside.replicas (c.get_mut.follows.lender c.commit.new.self)
     ((c.get_mut.follows.holds c.commit.new.self).3 (ap is_some there)))
     (asks.0 ∙ ap Some (sym c.commit.ensures.query)) c.self.invariant
 
@@ -26,10 +26,10 @@ pub returns : goal.returns
 returns c = λ owned.
     let request = ask.Merge c.args.into.now c.args.from.now in
     let there = sym c.in-Some.ensures.value in
-    let old : Store = record { columns = c.self.inside.columns; query = c.self.inside.query; replicas = c.self.inside.replicas.entries } in
-    let new : Store = record { columns = c.self.inside.columns; query = c.self.inside.query; replicas = (c.get_mut.follows.lender c.commit.new.self).entries } in
+    let old : Store = record { columns = c.self.inside.columns; query = c.self.inside.query; replicas = c.self.inside.replicas.entries; saved = c.self.inside.saved.entries } in
+    let new : Store = record { columns = c.self.inside.columns; query = c.self.inside.query; replicas = (c.get_mut.follows.lender c.commit.new.self).entries; saved = c.self.inside.saved.entries } in
     let u : Updates old new c.args.into.now c.commit.new.self =
-    updated c.self.inside.columns c.self.inside.query c.args.into.now c.commit.new.self c.self.inside.replicas (c.get_mut.follows.lender c.commit.new.self)
+    updated c.self.inside.columns c.self.inside.query c.self.inside.saved.entries c.args.into.now c.commit.new.self c.self.inside.replicas (c.get_mut.follows.lender c.commit.new.self)
     ((c.get_mut.follows.holds c.commit.new.self).3 (ap is_some there)) in
     let found = subst (λ (s : Store). (own theirs : Held) × (replica_at s c.args.into.now ≡ Some own) × (replica_at s c.args.from.now ≡ Some theirs) × JoinsHeld own theirs c.in-Ok.joined) (sym c.self.view_is) c.in-Ok.ensures in
     let own : Held = c.in-Some.replica.now in

@@ -14,7 +14,7 @@ returns-then-is_some c = λ owned. columns_there c.args.self.now c.args.text.now
 
 pub returns-in-Ok : goal.returns-in-Ok
 returns-in-Ok c = λ owned.
-    let new : Store = record { columns = Some c.in-Ok.schema; query = c.self.inside.query; replicas = c.self.inside.replicas.entries } in
+    let new : Store = record { columns = Some c.in-Ok.schema; query = c.self.inside.query; replicas = c.self.inside.replicas.entries; saved = c.self.inside.saved.entries } in
     subst (λ s. Steps (ask.Columns c.args.text.now) owned s (says.Columns c.width-count.result) new) c.self.view_is
     (columns_told _ c.args.text.now owned c.in-Ok.schema c.width-count.result (sym c.is_some.ensures ∙ c.if-is_some.false) c.in-Ok.ensures.parsed c.width-count.ensures.width)
 

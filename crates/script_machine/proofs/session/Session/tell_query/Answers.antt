@@ -19,12 +19,12 @@ returns-then-is_some c = λ owned.
 
 pub invariant_of-self : goal.invariant_of-self
 invariant_of-self c =
-    store_asked (record { columns = c.self.inside.columns; query = c.self.inside.query; replicas = c.self.inside.replicas.entries })
+    store_asked (record { columns = c.self.inside.columns; query = c.self.inside.query; replicas = c.self.inside.replicas.entries; saved = c.self.inside.saved.entries })
     c.in-Some.schema c.in-Ok.query c.self.invariant c.in-Some.is (sym c.is_some.ensures ∙ c.if-is_some.false) c.in-Ok.ensures.columns
 
 pub returns-in-Ok : goal.returns-in-Ok
 returns-in-Ok c = λ owned.
-    let new : Store = record { columns = c.self.inside.columns; query = Some c.in-Ok.query; replicas = c.self.inside.replicas.entries } in
+    let new : Store = record { columns = c.self.inside.columns; query = Some c.in-Ok.query; replicas = c.self.inside.replicas.entries; saved = c.self.inside.saved.entries } in
     subst (λ s. Steps (ask.Query c.args.text.now) owned s (says.Query c.in-Ok.canonical) new) c.self.view_is
     (query_told _ c.args.text.now owned c.in-Some.schema c.in-Ok.query c.in-Ok.canonical c.in-Some.is (sym c.is_some.ensures ∙ c.if-is_some.false)
     c.in-Ok.ensures.read.0 c.in-Ok.ensures.read.1)
