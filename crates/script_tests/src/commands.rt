@@ -119,3 +119,18 @@ fn scripts_begin_and_end(rt: HostRuntime) -> Result<(), Fail> {
     assert!(rt; next_command(&mut records)?.is_none());
     Ok(())
 }
+
+#[test]
+fn commands_hold_65536_records(rt: HostRuntime) -> Result<(), Fail> {
+    let mut script = String::from_str(rt.alloc(), "feed,a,0,1,65540\n")?;
+    for _ in 0..65_540 {
+        script.push_str("oslo,5\n")?;
+    }
+    script.push_str("known,a\n")?;
+    let mut records = Records::new(rt.alloc(), script.as_bytes());
+    let feed = next_command(&mut records)?;
+    assert!(rt; feed.is_some_and(|command| command.owned.len() == 65_536));
+    let next = next_command(&mut records)?;
+    assert!(rt; next.is_some_and(|command| command.request() == Request::Known(b"a")));
+    Ok(())
+}

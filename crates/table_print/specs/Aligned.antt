@@ -34,7 +34,7 @@ header_cells headers = map shown headers
 abbrev pub row_cells : List Outcome → List (List ℕ)
 row_cells row = map (λ value. shown (cell_text value)) row
 
--- how many characters the longest of these cells has
+-- how many characters (Unicode scalar values) the longest of these cells has
 abbrev pub longest : List (List ℕ) → ℕ
 longest cells = fold (λ width cell. max width (char_count cell)) 0 cells
 
