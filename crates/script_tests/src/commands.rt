@@ -3,7 +3,7 @@ use script_io::Records;
 use std::test::*;
 
 /// Records, what each asks, and how many of those behind it belong to it. The longest name has 63 bytes.
-const REQUESTS: [(&str, Request<'static>, usize); 36] = [
+const REQUESTS: [(&str, Request<'static>, usize); 42] = [
     ("columns,c", Request::Columns("c"), 0),
     ("query,\u{e9}", Request::Query("\u{e9}"), 0),
     ("columns,", Request::Columns(""), 0),
@@ -28,6 +28,22 @@ const REQUESTS: [(&str, Request<'static>, usize); 36] = [
         Request::Merge {
             into: b"a",
             from: b"a",
+        },
+        0,
+    ),
+    (
+        "save,a,X_1",
+        Request::Save {
+            name: b"a",
+            saved: b"X_1",
+        },
+        0,
+    ),
+    (
+        "load,c,c",
+        Request::Load {
+            name: b"c",
+            saved: b"c",
         },
         0,
     ),
@@ -68,6 +84,10 @@ const REQUESTS: [(&str, Request<'static>, usize); 36] = [
     ("merge,,b", Request::Unknown, 0),
     ("merge,a,b!", Request::Unknown, 0),
     ("merges,a,b", Request::Unknown, 0),
+    ("save,a", Request::Unknown, 0),
+    ("save,a,b,c", Request::Unknown, 0),
+    ("load,,b", Request::Unknown, 0),
+    ("load,a,b!", Request::Unknown, 0),
     ("answer,a,a", Request::Unknown, 0),
     ("replica,", Request::Unknown, 0),
     ("known,\u{e9}", Request::Unknown, 0),

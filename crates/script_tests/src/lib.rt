@@ -12,4 +12,6 @@ mod merges;
 #[cfg(test)]
 mod queries;
 #[cfg(test)]
+mod saves;
+#[cfg(test)]
 mod streams;

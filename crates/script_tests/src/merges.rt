@@ -3,14 +3,14 @@ use script_machine::{Outcome, run};
 use std::test::*;
 
 /// What a script's run writes, and how many of its commands are refused.
-fn written(rt: HostRuntime, script: &str) -> Result<(String, u64), Fail> {
+pub(crate) fn written(rt: HostRuntime, script: &str) -> Result<(String, u64), Fail> {
     let mut written = Vec::new(rt.alloc());
     let Outcome { refused } = run(rt.alloc(), &mut script.as_bytes(), &mut written)?;
     Ok((String::from_utf8(written).ok().ok_or("not UTF-8")?, refused))
 }
 
 /// How many of the replies are refusals.
-fn refusals(replies: &str) -> u64 {
+pub(crate) fn refusals(replies: &str) -> u64 {
     let mut count = 0u64;
     for line in replies.lines() {
         if line.starts_with("refused ") {
@@ -21,19 +21,23 @@ fn refusals(replies: &str) -> u64 {
 }
 
 /// The commands in front of the steps, and their replies.
-const HEAD: &str =
+pub(crate) const HEAD: &str =
     "columns,\"c text, d bigint\"\nquery,\"select c, count(*), sum(d) from batches group by c\"\n\
     replica,a\nreplica,b\nreplica,c\n";
 
-const HEAD_REPLIES: &str =
+pub(crate) const HEAD_REPLIES: &str =
     "columns 2\nquery SELECT c, count(*), sum(d) FROM batches GROUP BY c\nreplica a\nreplica b\nreplica c\n";
 
-/// Appends the commands of steps. `a<b` merges b into a, `a?` asks a for what it knows and for its answer, `a=0.3` feeds a the
-/// batch 3 of origin 0, whose row is `oslo,3`, and `a=0.3.9` feeds it with the row `oslo,9`.
-fn push_steps(rt: HostRuntime, script: &mut String, steps: &str) -> Result<(), Fail> {
+/// Appends the commands of steps. `a<b` merges b into a, `a>x` saves a as x, `a:x` loads x as a, `a?` asks a for what it knows and for
+/// its answer, `a=0.3` feeds a the batch 3 of origin 0, whose row is `oslo,3`, and `a=0.3.9` feeds it with the row `oslo,9`.
+pub(crate) fn push_steps(rt: HostRuntime, script: &mut String, steps: &str) -> Result<(), Fail> {
     for step in steps.split(' ') {
         let commands = if let Some((into, from)) = step.split_once('<') {
             format!(in rt.alloc(); "merge,{into},{from}\n")?
+        } else if let Some((name, saved)) = step.split_once('>') {
+            format!(in rt.alloc(); "save,{name},{saved}\n")?
+        } else if let Some((name, saved)) = step.split_once(':') {
+            format!(in rt.alloc(); "load,{name},{saved}\n")?
         } else if let Some(name) = step.strip_suffix('?') {
             format!(in rt.alloc(); "known,{name}\nanswer,{name}\n")?
         } else {
@@ -113,7 +117,7 @@ fn replicas_merge_in_any_order(rt: HostRuntime) -> Result<(), Fail> {
     Ok(())
 }
 
-/// Merges that name no two replicas, behind those that do.
+/// Merges that name no two replicas, behind one that does, and savings and loadings that name nothing.
 const REFUSED: &str = "\
 merge,a,b => merged
 merge,a,z => refused NoSuchName
@@ -133,10 +137,20 @@ merge,z,b! => refused BadCommand
 merge,a,\u{e9} => refused BadCommand
 merge,a,a_name_that_has_as_many_letters_as_a_name_may_have_which_are_63 => refused NoSuchName
 merge,a,aa_name_that_has_as_many_letters_as_a_name_may_have_which_are_63 => refused BadCommand
-Merge,a,b => refused BadCommand";
+Merge,a,b => refused BadCommand
+save,z,x => refused NoSuchName
+save,a => refused BadCommand
+save,a,x,y => refused BadCommand
+save,a,x! => refused BadCommand
+save,,x => refused BadCommand
+load,a,x => refused NoSuchName
+load,z,a => refused NoSuchName
+load,a => refused BadCommand
+load,a b,x => refused BadCommand
+load,a, => refused BadCommand";
 
 #[test]
-fn merges_are_refused(rt: HostRuntime) -> Result<(), Fail> {
+fn commands_that_name_nothing_are_refused(rt: HostRuntime) -> Result<(), Fail> {
     let kept = lines(
         rt,
         "known 1/origin 0 upto 1 early 3/answer 1/c,count,sum/oslo,1,1\
