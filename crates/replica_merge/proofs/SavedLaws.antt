@@ -1,7 +1,6 @@
 -- What a replica saves.
 use Rattle.std.specs.Prelude.{◌≡◌, refl, ℕ, List, [], ◌∷◌, ◌*◌, map, Some, unwrap_or, Result, Ok, Err, IfOk}
 use Rattle.std.proofs.Common.{◌∙◌, sym, ap, subst}
-use Rattle.std.specs.List.{AllByRecursion}
 use Rattle.grouping_model.specs.World.{World, origins, prefix, early, batch_rows, origin_rows}
 use Rattle.grouping_model.specs.Grouping.{part}
 use Rattle.grouping_model.specs.declared.limits.TheConstants.{MOST_ROWS}
@@ -16,8 +15,7 @@ use Rattle.summary_codec.specs.File.{file_bytes}
 use Rattle.summary_codec.specs.Reading.{IsSummary}
 use Rattle.summary_codec.specs.WorldFile.{world_part, world_file}
 use Rattle.summary_codec.proofs.OneReading.{one_reading}
-use Rattle.summary_codec.proofs.SpelledRead.{spelled}
-use Rattle.replica_merge.specs.Replicas.{Parts, Held, part_at, part_of, told, Fits, IsHeldPart, AreHeldParts}
+use Rattle.replica_merge.specs.Replicas.{Held, part_at, part_of, told, Fits, IsHeldPart, AreHeldParts}
 use Rattle.replica_merge.proofs.AnswerLaws.{fit_each}
 use Rattle.replica_merge.proofs.ToldLaws.{origins_told, early_told, prefix_told, map_same, all_with, each_at, part_here, HasGap, part_gap}
 
@@ -30,8 +28,8 @@ early_are : (query : Checked) (world : World) (o : ℕ) (p : Part) → IsHeldPar
 early_are query world o p held fits =
     map_same (λ n. (n, packings (batch_rows world o n))) (λ (b : ℕ × List (List ℕ)). b) p.early (all_with (λ (b : ℕ × List (List ℕ)). at p.early b.0 ≡ Some b.1) (λ (b : ℕ × List (List ℕ)). at p.early b.0 ≡ Some b.1) (λ (b : ℕ × List (List ℕ)). (b.0, packings (batch_rows world o b.0)) ≡ b)
     (λ b there _.
-        let those = fits.early b.0 b.1 there in
-        (λ i. (b.0, (ap (λ found. packings (unwrap_or found [])) those.1 ∙ sym those.2) i)))
+    let those = fits.early b.0 b.1 there in
+    (λ i. (b.0, (ap (λ found. packings (unwrap_or found [])) those.1 ∙ sym those.2) i)))
     p.early (each_at p.early held.part.rising) (each_at p.early held.part.rising))
     ∙ map_itself p.early
 

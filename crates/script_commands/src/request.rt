@@ -38,9 +38,15 @@ pub enum Request<'c> {
         from: &'c [u8],
     },
     /// `save,NAME,SAVED`: what a replica knows is to be kept as a summary file of this name, in the place of an older one.
-    Save { name: &'c [u8], saved: &'c [u8] },
+    Save {
+        name: &'c [u8],
+        saved: &'c [u8],
+    },
     /// `load,NAME,SAVED`: a replica of this name, made or replaced, is to know what was saved.
-    Load { name: &'c [u8], saved: &'c [u8] },
+    Load {
+        name: &'c [u8],
+        saved: &'c [u8],
+    },
     /// None of these: another word, a wrong number of fields, a text that isn't UTF-8, a bad name or number of rows.
     Unknown,
 }
