@@ -31,7 +31,7 @@ use Rattle.table_print.specs.Table.{table_text}
 use Rattle.script_machine.specs.Machine as machine
 use Rattle.script_machine.specs.Machine.{State, Fed, IsBatch, IsNoBatch, ColumnsReply, IsNoQuery, QueryReply, replica_reply, FeedReply, known_reply, answer_reply, merge_reply, save_reply, load_reply, Replies, IsReply, IsDisagreement, AgreesAt, FeedAgrees, after, with_replica}
 use Rattle.script_machine.specs.Text.{line, known_text, answer_text}
-use Rattle.script_machine.specs.Views.{Store, IsStore, IsFileOf, HasSaved, AreSaved, IsFitting, Represents, FitsWorld, Answers, Steps, Takes, IsOtherBatch, JoinRefused, Updates, Files, replica_at, saved_at, knowledge_of, said_text}
+use Rattle.script_machine.specs.Views.{Store, IsStore, IsFileOf, AreSaved, IsFitting, Represents, FitsWorld, Answers, Steps, Takes, IsOtherBatch, JoinRefused, Updates, Files, replica_at, saved_at, knowledge_of, said_text}
 use Rattle.script_machine.specs.declared.refusal.Refusal.{Refusal}
 use Rattle.script_machine.specs.declared.refusal.Refusal.TheVariants as why
 use Rattle.script_machine.specs.declared.reply.Reply.TheVariants as says

@@ -9,3 +9,4 @@ pub mod ReaderLaws
 pub mod OneReading
 pub mod WrittenRead
 pub mod SpelledRead
+pub mod TotalLaws
