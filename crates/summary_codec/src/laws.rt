@@ -1,6 +1,6 @@
 //! Laws of summary files.
 
-ghost use Rattle.std.specs.Prelude.{◌≡◌, ℕ, List, IsUtf8};
+ghost use Rattle.std.specs.Prelude.{◌≡◌, ◌<◌, ℕ, List, slice_index, IsUtf8};
 ghost use Rattle.packed_rows.specs.Columns.{printed};
 ghost use Rattle.having_filter.specs.Kept.{IsQuery, by_names};
 ghost use Rattle.having_filter.specs.Meaning.{Checked};
@@ -11,7 +11,7 @@ ghost use Rattle.summary_codec.specs.Reading.{IsSummary, HasFault};
 ghost use Rattle.summary_codec.specs.declared.error.SummaryError.{SummaryError};
 
 /// Each query, with what is held for it, has one spelling, which is read as it was, and bytes that are read are such a spelling. No
-/// bytes are read in two ways, or have two first faults, or are read and have a fault. A query's texts are UTF-8.
+/// bytes are read in two ways, or have two first faults, or are read and have a fault, or neither. A query's texts are UTF-8.
 pub fn one_spelling()
     ensures read_again { (query : Checked) (held : Parts) → IsQuery query → IsUtf8 (printed query.columns) →
         IsUtf8 (spelling (by_names query)) → AreHeldParts query held →
@@ -24,4 +24,7 @@ pub fn one_spelling()
         HasFault bytes other → fault ≡ other }
     ensures not_both { (bytes : List ℕ) (query : Checked) (held : Parts) (fault : SummaryError) →
         IsSummary bytes query held → ¬ (HasFault bytes fault) }
+    ensures not_neither { (bytes : List ℕ) → ((i : ℕ) → slice_index bytes i < 256) →
+        ((query : Checked) (held : Parts) → ¬ (IsSummary bytes query held)) →
+        ((fault : SummaryError) → ¬ (HasFault bytes fault)) → ⊥ }
 {}
