@@ -3,14 +3,14 @@ use script_machine::{Outcome, run};
 use std::test::*;
 
 /// What a script's run writes, and how many of its commands are refused.
-pub(crate) fn written(rt: HostRuntime, script: &str) -> Result<(String, u64), Fail> {
+fn written(rt: HostRuntime, script: &str) -> Result<(String, u64), Fail> {
     let mut written = Vec::new(rt.alloc());
     let Outcome { refused } = run(rt.alloc(), &mut script.as_bytes(), &mut written)?;
     Ok((String::from_utf8(written).ok().ok_or("not UTF-8")?, refused))
 }
 
 /// How many of the replies are refusals.
-pub(crate) fn refusals(replies: &str) -> u64 {
+fn refusals(replies: &str) -> u64 {
     let mut count = 0u64;
     for line in replies.lines() {
         if line.starts_with("refused ") {
@@ -21,16 +21,16 @@ pub(crate) fn refusals(replies: &str) -> u64 {
 }
 
 /// The commands in front of the steps, and their replies.
-pub(crate) const HEAD: &str =
+const HEAD: &str =
     "columns,\"c text, d bigint\"\nquery,\"select c, count(*), sum(d) from batches group by c\"\n\
     replica,a\nreplica,b\nreplica,c\n";
 
-pub(crate) const HEAD_REPLIES: &str =
+const HEAD_REPLIES: &str =
     "columns 2\nquery SELECT c, count(*), sum(d) FROM batches GROUP BY c\nreplica a\nreplica b\nreplica c\n";
 
 /// Appends the commands of steps. `a<b` merges b into a, `a>x` saves a as x, `a:x` loads x as a, `a?` asks a for what it knows and for
 /// its answer, `a=0.3` feeds a the batch 3 of origin 0, whose row is `oslo,3`, and `a=0.3.9` feeds it with the row `oslo,9`.
-pub(crate) fn push_steps(rt: HostRuntime, script: &mut String, steps: &str) -> Result<(), Fail> {
+fn push_steps(rt: HostRuntime, script: &mut String, steps: &str) -> Result<(), Fail> {
     for step in steps.split(' ') {
         let commands = if let Some((into, from)) = step.split_once('<') {
             format!(in rt.alloc(); "merge,{into},{from}\n")?
@@ -65,20 +65,24 @@ a=0.1 a=1.1.5 b=0.1 b=0.2 b=1.1.6 a<b a? b? a=0.2 a=1.2 => folded upto 1/folded 
 a=0.1 b=0.3 a=9.4.5 b=9.4.6 b=0.2 a<b a? b? a<c c<a c? => folded upto 1/early/early/early/early/refused OriginDisagrees/known 2/origin 0 upto 1/origin 9 upto 0 early 4/answer 1/c,count,sum/oslo,1,1/known 2/origin 0 upto 0 early 2 3/origin 9 upto 0 early 4/answer 0/c,count,sum/merged/merged/known 2/origin 0 upto 1/origin 9 upto 0 early 4/answer 1/c,count,sum/oslo,1,1
 a=1023.2147483647 b=1023.2147483646 b=0.1 a<b a? => early/early/folded upto 1/merged/known 2/origin 0 upto 1/origin 1023 upto 0 early 2147483646 2147483647/answer 1/c,count,sum/oslo,1,1";
 
-#[test]
-fn replicas_merge(rt: HostRuntime) -> Result<(), Fail> {
-    for line in MERGES.lines() {
+/// The first case of a table whose steps have other replies than it tells, or are counted otherwise.
+pub(crate) fn differing<'t>(rt: HostRuntime, table: &'t str) -> Result<Option<&'t str>, Fail> {
+    for line in table.lines() {
         let (steps, want) = line.split_once(" => ").ok_or("no case")?;
         let mut script = String::from_str(rt.alloc(), HEAD)?;
         push_steps(rt, &mut script, steps)?;
         let want = lines(rt, want)?;
         let (replies, refused) = written(rt, &script)?;
-        assert!(rt;
-            replies.strip_prefix(HEAD_REPLIES) == Some(want.as_str()),
-            "{line}"
-        );
-        assert_eq!(rt; refused, refusals(&want), "{line}");
+        if replies.strip_prefix(HEAD_REPLIES) != Some(want.as_str()) || refused != refusals(&want) {
+            return Ok(Some(line));
+        }
     }
+    Ok(None)
+}
+
+#[test]
+fn replicas_merge(rt: HostRuntime) -> Result<(), Fail> {
+    assert_eq!(rt; differing(rt, MERGES)?, None);
     Ok(())
 }
 

@@ -1,5 +1,4 @@
-use crate::answers::lines;
-use crate::merges::{HEAD, HEAD_REPLIES, push_steps, refusals, written};
+use crate::merges::differing;
 use std::test::*;
 
 /// Steps that save and load, and all replies to them. A file of this query has 80 bytes where nothing is known.
@@ -16,17 +15,6 @@ a=0.1.5 a>x b=0.1.6 d:x b<d d<b b? d? => folded upto 1/saved 138/folded upto 1/l
 
 #[test]
 fn replicas_are_saved_and_loaded(rt: HostRuntime) -> Result<(), Fail> {
-    for line in SAVES.lines() {
-        let (steps, want) = line.split_once(" => ").ok_or("no case")?;
-        let mut script = String::from_str(rt.alloc(), HEAD)?;
-        push_steps(rt, &mut script, steps)?;
-        let want = lines(rt, want)?;
-        let (replies, refused) = written(rt, &script)?;
-        assert!(rt;
-            replies.strip_prefix(HEAD_REPLIES) == Some(want.as_str()),
-            "{line}"
-        );
-        assert_eq!(rt; refused, refusals(&want), "{line}");
-    }
+    assert_eq!(rt; differing(rt, SAVES)?, None);
     Ok(())
 }

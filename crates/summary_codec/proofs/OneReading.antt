@@ -1,5 +1,5 @@
--- Bytes have one reading or one fault.
-use Rattle.std.proofs.Common.{◌≡◌, refl, ℕ, ◌*◌, ◌<◌, ◌⊎◌, ◌+◌, List, [], ◌∷◌, ◌++◌, map, length, arith, Ok, Err, sym, ap, subst, ◌∙◌}
+-- Bytes have one reading or one fault, and never neither.
+use Rattle.std.proofs.Common.{◌≡◌, refl, ℕ, ◌*◌, ◌<◌, ◌≤◌, ◌⊎◌, ◌+◌, List, [], ◌∷◌, ◌++◌, map, length, arith, Ok, Err, sym, ap, subst, ◌∙◌}
 use Rattle.std.proofs.lemmas.List.{append_cancel_left, length-append}
 use Rattle.std.specs.Prelude.{IsUtf8}
 use Rattle.std.specs.Ordering.{nat_cmp}
@@ -21,7 +21,8 @@ use Rattle.summary_codec.specs.Reading.{IsSummary, HasFault, Outcome, Reader, do
 use Rattle.summary_codec.specs.declared.error.SummaryError.{SummaryError}
 use Rattle.summary_codec.specs.declared.error.SummaryError.TheVariants as fault
 use Rattle.summary_codec.specs.declared.error.SummaryError.TheVariants.{NotASummary, Truncated, Trailing, NotCanonical, OutOfRange, BadPacked, BadState}
-use Rattle.summary_codec.proofs.ReaderLaws.{IsOne, error_of, is_ok, one_both, one_done, one_must, one_taken, one_number, one_within, one_sized, one_each}
+use Rattle.summary_codec.proofs.TotalLaws.{AreBytes, LeavesBytes, HasOutcome, some_done, some_both, some_must, some_taken, some_number, some_each, some_columns, some_query_in, some_opened, some_ended}
+use Rattle.summary_codec.proofs.ReaderLaws.{IsOne, error_of, is_ok, one_both, one_done, one_must, one_taken, one_number, one_each}
 
 -- bytes that begin as a file does aren't cut short
 whole_or_short : (bytes rest : List ℕ) → bytes ≡ opening ++ rest → IsCutShort bytes → ⊥
@@ -34,71 +35,17 @@ whole_or_short bytes rest whole (more, some, short) =
     none [] l = refl
     none (x ∷ xs) l = absurd (omega (arith, l))
 
-one_group : (q : Query) (most : ℕ) (before : List Entry) → IsOne (group q most before)
-unfolding group
-one_group q most before =
-    one_both sized _ one_sized (λ key.
-    one_must (IsPacking (key_kinds q) key) BadPacked _
-    (one_must (IsNext (slice_cmp nat_cmp) (packed_keys before) key) NotCanonical _
-    (one_both (taken (states_width q)) _ (one_taken (states_width q)) (λ states. one_must (AreStateBytes q most states) BadState _ (one_done (key, states))))))
-
-one_row : (kinds : List Kind) (before : List (List ℕ)) → IsOne (row kinds before)
-unfolding row
-one_row kinds before = one_both sized _ one_sized (λ packed. one_must (IsPacking kinds packed) BadPacked _ (one_done packed))
-
-one_batch : (kinds : List Kind) (prefix : ℕ) (before : List (ℕ × List (List ℕ))) → IsOne (batch kinds prefix before)
-unfolding batch
-one_batch kinds prefix before =
-    one_both (number_within 4 LAST_NUMBER) _ (one_within 4 LAST_NUMBER) (λ n.
-    one_must (MayFollow prefix before n) NotCanonical _
-    (one_both (number_within 4 MOST_ROWS) _ (one_within 4 MOST_ROWS) (λ rows.
-    one_both (each (row kinds) rows []) _ (one_each (row kinds) (one_row kinds) rows []) (λ packed. one_done (n, packed)))))
-
-one_batches : (kinds : List Kind) (prefix : ℕ) → IsOne (batches kinds prefix)
-unfolding batches
-one_batches kinds prefix =
-    one_both (number 4) _ (one_number 4) (λ count. one_must ((0 < prefix) ⊎ (0 < count)) NotCanonical _ (one_each (batch kinds prefix) (one_batch kinds prefix) count []))
-
-one_contents : (q : Checked) (prefix : ℕ) → IsOne (contents q prefix)
-unfolding contents
-one_contents q prefix =
-    one_both (number_within 8 (prefix * MOST_ROWS)) _ (one_within 8 (prefix * MOST_ROWS)) (λ groups.
-    one_both (each (group (meaning q) (prefix * MOST_ROWS)) groups []) _ (one_each (group (meaning q) (prefix * MOST_ROWS)) (one_group (meaning q) (prefix * MOST_ROWS)) groups []) (λ run.
-    one_both (batches (kinds q.columns) prefix) _ (one_batches (kinds q.columns) prefix) (λ early. one_done (record { prefix = prefix; run = run; early = early }))))
-
-one_part : (q : Checked) (before : Parts) → IsOne (part q before)
-unfolding part
-one_part q before =
-    one_both (number_within 2 LAST_ORIGIN) _ (one_within 2 LAST_ORIGIN) (λ origin.
-    one_must (IsNext nat_cmp (map (λ (held : ℕ × Part). held.0) before) origin) NotCanonical _
-    (one_both (number_within 4 LAST_NUMBER) _ (one_within 4 LAST_NUMBER) (λ prefix.
-    one_both (contents q prefix) _ (one_contents q prefix) (λ held. one_done (origin, held)))))
-
 one_columns : (bytes : List ℕ) → IsOne (columns_in bytes)
 one_columns said bytes (Ok a) (Ok b) left right = λ i. Ok (one_schema said a.0 b.0 left.0 right.0 i, (left.1 ∙ sym right.1) i)
 one_columns said bytes (Ok a) (Err f) left right = absurd (right.0 a.0 left.0)
 one_columns said bytes (Err e) (Ok b) left right = absurd (left.0 b.0 right.0)
 one_columns said bytes (Err e) (Err f) left right = ap Err (left.1 ∙ sym right.1)
 
-one_text : IsOne text
-unfolding text
-one_text = one_both sized _ one_sized (λ bytes. one_must (IsUtf8 bytes) NotCanonical _ (one_done bytes))
-
-one_schema_read : IsOne schema
-unfolding schema
-one_schema_read =
-    one_both text _ one_text (λ bytes. one_both (columns_in bytes) _ (one_columns bytes) (λ columns. one_must (printed columns ≡ bytes) NotCanonical _ (one_done columns)))
-
 one_query_in : (columns : List Column) (said : List ℕ) → IsOne (query_in columns said)
 one_query_in columns said bytes (Ok a) (Ok b) left right = λ i. Ok (one_accepted columns said a.0 b.0 left.0 right.0 i, (left.1 ∙ sym right.1) i)
 one_query_in columns said bytes (Ok a) (Err f) left right = absurd (not_both columns said a.0 right.0 left.0 right.1)
 one_query_in columns said bytes (Err e) (Ok b) left right = absurd (not_both columns said b.0 left.0 right.0 left.1)
 one_query_in columns said bytes (Err e) (Err f) left right = ap Err (left.2 ∙ ap fault.Query (one_refused columns said left.0 right.0 left.1 right.1) ∙ sym right.2)
-
-one_query_read : (columns : List Column) → IsOne (query columns)
-unfolding query
-one_query_read columns =
-    one_both text _ one_text (λ bytes. one_both (query_in columns bytes) _ (one_query_in columns bytes) (λ found. one_must (spelling (by_names found) ≡ bytes) NotCanonical _ (one_done found)))
 
 one_opened : IsOne opened
 unfolding opened
@@ -122,21 +69,117 @@ one_ended bytes (Ok a) (Err f) left right = absurd (right.0 left.0)
 one_ended bytes (Err e) (Ok b) left right = absurd (left.0 right.0)
 one_ended bytes (Err e) (Err f) left right = ap Err (left.1 ∙ sym right.1)
 
-one_parts : (q : Checked) → IsOne (parts q)
+-- bytes have exactly one outcome
+abbrev IsSure : {A : Type 0} → Reader A → Type 0
+IsSure r = IsOne r × HasOutcome r
+
+sure_done : {A : Type 0} (x : A) → IsSure (done x)
+sure_done x = (one_done x, some_done x)
+
+sure_both : {A B : Type 0} (first : Reader A) (next : A → Reader B) → IsSure first → ((x : A) → IsSure (next x)) → IsSure (both first next)
+sure_both first next one more = (one_both first next one.0 (λ x. (more x).0), some_both first next one.1 (λ x. (more x).1))
+
+sure_must : {A : Type 0} (right : Type 0) (error : SummaryError) (next : Reader A) → IsSure next → IsSure (must right error next)
+sure_must right error next more = (one_must right error next more.0, some_must right error next more.1)
+
+sure_taken : (count : ℕ) → IsSure (taken count)
+sure_taken count = (one_taken count, some_taken count)
+
+sure_number : (width : ℕ) → IsSure (number width)
+sure_number width = (one_number width, some_number width)
+
+sure_within : (width most : ℕ) → IsSure (number_within width most)
+unfolding number_within
+sure_within width most = sure_both (number width) (λ n. must (n ≤ most) OutOfRange (done n)) (sure_number width) (λ n. sure_must (n ≤ most) OutOfRange (done n) (sure_done n))
+
+sure_sized : IsSure sized
+unfolding sized
+sure_sized = sure_both (number 2) taken (sure_number 2) sure_taken
+
+sure_each : {A : Type 0} (item : List A → Reader A) → ((before : List A) → IsSure (item before)) → (n : ℕ) (before : List A) → IsSure (each item n before)
+sure_each item sure n before = (one_each item (λ b. (sure b).0) n before, some_each item (λ b. (sure b).1) n before)
+
+sure_columns : (said : List ℕ) → IsSure (columns_in said)
+sure_columns said = (one_columns said, some_columns said)
+
+sure_query_in : (columns : List Column) (said : List ℕ) → IsSure (query_in columns said)
+sure_query_in columns said = (one_query_in columns said, some_query_in columns said)
+
+sure_opened : IsSure opened
+sure_opened = (one_opened, some_opened)
+
+sure_ended : IsSure ended
+sure_ended = (one_ended, some_ended)
+
+sure_group : (q : Query) (most : ℕ) (before : List Entry) → IsSure (group q most before)
+unfolding group
+sure_group q most before =
+    sure_both sized _ sure_sized (λ key.
+    sure_must (IsPacking (key_kinds q) key) BadPacked _
+    (sure_must (IsNext (slice_cmp nat_cmp) (packed_keys before) key) NotCanonical _
+    (sure_both (taken (states_width q)) _ (sure_taken (states_width q)) (λ states. sure_must (AreStateBytes q most states) BadState _ (sure_done (key, states))))))
+
+sure_row : (kinds : List Kind) (before : List (List ℕ)) → IsSure (row kinds before)
+unfolding row
+sure_row kinds before = sure_both sized _ sure_sized (λ packed. sure_must (IsPacking kinds packed) BadPacked _ (sure_done packed))
+
+sure_batch : (kinds : List Kind) (prefix : ℕ) (before : List (ℕ × List (List ℕ))) → IsSure (batch kinds prefix before)
+unfolding batch
+sure_batch kinds prefix before =
+    sure_both (number_within 4 LAST_NUMBER) _ (sure_within 4 LAST_NUMBER) (λ n.
+    sure_must (MayFollow prefix before n) NotCanonical _
+    (sure_both (number_within 4 MOST_ROWS) _ (sure_within 4 MOST_ROWS) (λ rows.
+    sure_both (each (row kinds) rows []) _ (sure_each (row kinds) (sure_row kinds) rows []) (λ packed. sure_done (n, packed)))))
+
+sure_batches : (kinds : List Kind) (prefix : ℕ) → IsSure (batches kinds prefix)
+unfolding batches
+sure_batches kinds prefix =
+    sure_both (number 4) _ (sure_number 4) (λ count. sure_must ((0 < prefix) ⊎ (0 < count)) NotCanonical _ (sure_each (batch kinds prefix) (sure_batch kinds prefix) count []))
+
+sure_contents : (q : Checked) (prefix : ℕ) → IsSure (contents q prefix)
+unfolding contents
+sure_contents q prefix =
+    sure_both (number_within 8 (prefix * MOST_ROWS)) _ (sure_within 8 (prefix * MOST_ROWS)) (λ groups.
+    sure_both (each (group (meaning q) (prefix * MOST_ROWS)) groups []) _ (sure_each (group (meaning q) (prefix * MOST_ROWS)) (sure_group (meaning q) (prefix * MOST_ROWS)) groups []) (λ run.
+    sure_both (batches (kinds q.columns) prefix) _ (sure_batches (kinds q.columns) prefix) (λ early. sure_done (record { prefix = prefix; run = run; early = early }))))
+
+sure_part : (q : Checked) (before : Parts) → IsSure (part q before)
+unfolding part
+sure_part q before =
+    sure_both (number_within 2 LAST_ORIGIN) _ (sure_within 2 LAST_ORIGIN) (λ origin.
+    sure_must (IsNext nat_cmp (map (λ (held : ℕ × Part). held.0) before) origin) NotCanonical _
+    (sure_both (number_within 4 LAST_NUMBER) _ (sure_within 4 LAST_NUMBER) (λ prefix.
+    sure_both (contents q prefix) _ (sure_contents q prefix) (λ held. sure_done (origin, held)))))
+
+sure_text : IsSure text
+unfolding text
+sure_text = sure_both sized _ sure_sized (λ bytes. sure_must (IsUtf8 bytes) NotCanonical _ (sure_done bytes))
+
+sure_schema : IsSure schema
+unfolding schema
+sure_schema =
+    sure_both text _ sure_text (λ bytes. sure_both (columns_in bytes) _ (sure_columns bytes) (λ columns. sure_must (printed columns ≡ bytes) NotCanonical _ (sure_done columns)))
+
+sure_query : (columns : List Column) → IsSure (query columns)
+unfolding query
+sure_query columns =
+    sure_both text _ sure_text (λ bytes. sure_both (query_in columns bytes) _ (sure_query_in columns bytes) (λ found. sure_must (spelling (by_names found) ≡ bytes) NotCanonical _ (sure_done found)))
+
+sure_parts : (q : Checked) → IsSure (parts q)
 unfolding parts
-one_parts q = one_both (number_within 2 (LAST_ORIGIN + 1)) _ (one_within 2 (LAST_ORIGIN + 1)) (λ origins. one_each (part q) (one_part q) origins [])
+sure_parts q = sure_both (number_within 2 (LAST_ORIGIN + 1)) _ (sure_within 2 (LAST_ORIGIN + 1)) (λ origins. sure_each (part q) (sure_part q) origins [])
 
-one_heading : IsOne heading
+sure_heading : IsSure heading
 unfolding heading
-one_heading = one_both opened _ one_opened (λ _. one_both schema _ one_schema_read (λ columns. one_query_read columns))
+sure_heading = sure_both opened _ sure_opened (λ _. sure_both schema _ sure_schema (λ columns. sure_query columns))
 
-one_rest : (q : Checked) → IsOne (rest q)
+sure_rest : (q : Checked) → IsSure (rest q)
 unfolding rest
-one_rest q = one_both (parts q) _ (one_parts q) (λ held. one_both ended _ one_ended (λ _. one_done held))
+sure_rest q = sure_both (parts q) _ (sure_parts q) (λ held. sure_both ended _ sure_ended (λ _. sure_done held))
 
-pub one_summary : IsOne summary
+sure_summary : IsSure summary
 unfolding summary
-one_summary = one_both heading _ one_heading (λ q. one_both (rest q) _ (one_rest q) (λ held. one_done (q, held)))
+sure_summary = sure_both heading _ sure_heading (λ q. sure_both (rest q) _ (sure_rest q) (λ held. sure_done (q, held)))
 
 -- what an outcome has
 found_or : Checked × Parts → Outcome (Checked × Parts) → Checked × Parts
@@ -146,11 +189,23 @@ found_or d (Err e) = d
 pub one_reading : (bytes : List ℕ) (q r : Checked) (held those : Parts) → IsSummary bytes q held → IsSummary bytes r those → (q ≡ r) × (held ≡ those)
 unfolding found_or
 one_reading bytes q r held those left right =
-    let same = one_summary bytes (Ok ((q, held), [])) (Ok ((r, those), [])) left right in
+    let same = sure_summary.0 bytes (Ok ((q, held), [])) (Ok ((r, those), [])) left right in
     (ap (λ o. (found_or (q, held) o).0) same, ap (λ o. (found_or (q, held) o).1) same)
 
 pub one_first_fault : (bytes : List ℕ) (e f : SummaryError) → HasFault bytes e → HasFault bytes f → e ≡ f
-one_first_fault bytes e f left right = ap (error_of e) (one_summary bytes (Err e) (Err f) left right)
+one_first_fault bytes e f left right = ap (error_of e) (sure_summary.0 bytes (Err e) (Err f) left right)
 
 pub read_or_refused : (bytes : List ℕ) (q : Checked) (held : Parts) (e : SummaryError) → IsSummary bytes q held → HasFault bytes e → ⊥
-read_or_refused bytes q held e read fault = subst is_ok (one_summary bytes (Ok ((q, held), [])) (Err e) read fault) tt
+read_or_refused bytes q held e read fault = subst is_ok (sure_summary.0 bytes (Ok ((q, held), [])) (Err e) read fault) tt
+
+-- nothing is left of what is read as a file
+nothing_left : (bytes : List ℕ) (found : (Checked × Parts) × List ℕ) → summary bytes (Ok found) → found.1 ≡ []
+unfolding summary rest
+nothing_left bytes found (q, r, head, (held, u, (kept, v, counted, (y, w, (end, last), (is, rests))), (same, none))) = none ∙ rests ∙ last
+
+pub read_or_fault : (bytes : List ℕ) → AreBytes bytes → ((q : Checked) (held : Parts) → ¬ (IsSummary bytes q held)) → ((e : SummaryError) → ¬ (HasFault bytes e)) → ⊥
+read_or_fault bytes are unread faultless = sure_summary.1 bytes are go
+  where
+    go : (out : Outcome (Checked × Parts)) → summary bytes out → LeavesBytes out → ⊥
+    go (Ok found) there left = unread found.0.0 found.0.1 (subst (λ l. summary bytes (Ok (found.0, l))) (nothing_left bytes found there) there)
+    go (Err e) there left = faultless e there

@@ -100,14 +100,6 @@ one_number width bytes (Ok a) (Err f) left right = absurd (long_enough width byt
 one_number width bytes (Err e) (Ok b) left right = absurd (long_enough width bytes (bytes_high_first width b.0) b.1 right.0 (length-bytes_high_first width b.0) left.0)
 one_number width bytes (Err e) (Err f) left right = ap Err (left.1 ∙ sym right.1)
 
-pub one_within : (width most : ℕ) → IsOne (number_within width most)
-unfolding number_within
-one_within width most = one_both (number width) (λ n. must (n ≤ most) OutOfRange (done n)) (one_number width) (λ n. one_must (n ≤ most) OutOfRange (done n) (one_done n))
-
-pub one_sized : IsOne sized
-unfolding sized
-one_sized = one_both (number 2) taken (one_number 2) one_taken
-
 pub one_each : {A : Type 0} (item : List A → Reader A) → ((before : List A) → IsOne (item before)) → (n : ℕ) (before : List A) → IsOne (each item n before)
 one_each item one zero before = one_done before
 one_each item one (suc n) before = one_both (item before) (λ x. each item n (before ++ x ∷ [])) (one before) (λ x. one_each item one n (before ++ x ∷ []))

@@ -1,7 +1,6 @@
 use Rattle.std.proofs.Common.{ap}
 use Rattle.summary_codec.proofs.OneReading as one
 use Rattle.summary_codec.proofs.SpelledRead as spelled
-use Rattle.summary_codec.proofs.TotalLaws as total
 use Rattle.summary_codec.proofs.WrittenRead as written
 use Rattle.summary_codec.proofs.laws.one_spelling.Goals as goal
 
@@ -21,4 +20,4 @@ pub returns-clause-not_both : goal.returns-clause-not_both
 returns-clause-not_both c = one.read_or_refused
 
 pub returns-clause-not_neither : goal.returns-clause-not_neither
-returns-clause-not_neither c = total.read_or_fault
+returns-clause-not_neither c = one.read_or_fault
