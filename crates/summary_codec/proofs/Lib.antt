@@ -10,3 +10,4 @@ pub mod OneReading
 pub mod WrittenRead
 pub mod SpelledRead
 pub mod TotalLaws
+pub mod KnownLaws

@@ -1,12 +1,14 @@
 //! Laws of summary files.
 
-ghost use Rattle.std.specs.Prelude.{◌≡◌, ◌<◌, ℕ, List, slice_index, IsUtf8};
+ghost use Rattle.std.specs.Prelude.{◌≡◌, ◌<◌, ℕ, List, slice_index, IsUtf8, IsTrue};
 ghost use Rattle.packed_rows.specs.Columns.{printed};
 ghost use Rattle.having_filter.specs.Kept.{IsQuery, by_names};
 ghost use Rattle.having_filter.specs.Meaning.{Checked};
 ghost use Rattle.having_filter.specs.Spelling.{spelling};
 ghost use Rattle.origin_prefix.specs.Held.{Parts, AreHeldParts};
 ghost use Rattle.summary_codec.specs.File.{file_bytes};
+ghost use Rattle.grouping_model.specs.World.{World, Knowledge, knows};
+ghost use Rattle.summary_codec.specs.WorldFile.{world_file};
 ghost use Rattle.summary_codec.specs.Reading.{IsSummary, HasFault};
 ghost use Rattle.summary_codec.specs.declared.error.SummaryError.{SummaryError};
 
@@ -27,4 +29,13 @@ pub fn one_spelling()
     ensures not_neither { (bytes : List ℕ) → ((i : ℕ) → slice_index bytes i < 256) →
         ((query : Checked) (held : Parts) → ¬ (IsSummary bytes query held)) →
         ((fault : SummaryError) → ¬ (HasFault bytes fault)) → ⊥ }
+{}
+
+/// The file of a query, a world and what is known of it depends on the rows of the batches that are known alone. So replicas that know the
+/// same batches have equal files.
+pub fn files_of_the_known()
+    ensures { (query : Checked) (world other : World) (known : Knowledge) →
+        ((origin number : ℕ) → IsTrue (knows known (origin, number)) →
+        world origin number ≡ other origin number) →
+        world_file query world known ≡ world_file query other known }
 {}

@@ -1,0 +1,5 @@
+use Rattle.summary_codec.proofs.KnownLaws.{known_file}
+use Rattle.summary_codec.proofs.laws.files_of_the_known.Goals as goal
+
+pub returns : goal.returns
+returns c = known_file
