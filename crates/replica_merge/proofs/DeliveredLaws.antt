@@ -19,14 +19,17 @@ use Rattle.grouping_model.specs.World.{World, IsWorld, knows, learn, prefix}
 use Rattle.grouping_model.proofs.KnowledgeLaws.{same_knowledge, knows_learn}
 use Rattle.packed_rows.specs.Columns.{kinds}
 use Rattle.batch_reader.specs.Rows.{packings}
+use Rattle.batch_reader.specs.declared.batch.Batch.{Batch}
 use Rattle.having_filter.specs.Meaning.{Checked, meaning}
-use Rattle.origin_prefix.specs.Parts.{Part, empty, rows_at, knows_number, IsPartOf, Delivers, Disagrees}
+use Rattle.origin_prefix.specs.Parts.{Part, empty, rows_at, knows_number, IsEarly, IsPartOf, Delivers, Disagrees}
+use Rattle.origin_prefix.specs.declared.error.JoinError.TheVariants.{NoMemory, OriginDisagrees}
+use Rattle.origin_prefix.specs.declared.error.RefusedBatch.{RefusedBatch}
 use Rattle.origin_prefix.specs.Fitting.{tells, FitsOrigin}
 use Rattle.origin_prefix.proofs.Lists.{is_itself, is_other, same_or_other}
-use Rattle.origin_prefix.proofs.ByNumber.{at, all_found, put_same, put_else}
+use Rattle.origin_prefix.proofs.ByNumber.{at, numbers, found_holds, all_found, put_same, put_else}
 use Rattle.origin_prefix.proofs.TellingLaws.{delivered_tells}
 use Rattle.origin_prefix.proofs.FittingLaws.{fits_delivered, agrees_delivered}
-use Rattle.replica_merge.specs.Replicas.{Parts, part_at, part_of, told, Fits, IsHeldPart, AreHeldParts, DeliversAt}
+use Rattle.replica_merge.specs.Replicas.{Parts, part_at, part_of, told, Held, Fits, IsHeldPart, AreHeldParts, DeliversAt, RefusesAt, DeliveredTo}
 use Rattle.replica_merge.proofs.ToldLaws.{told_is, same_batch, HasGap, part_gap, prefix_told, part_here}
 use Rattle.replica_merge.proofs.HeldLaws.{held_part}
 
@@ -53,27 +56,29 @@ when_fine (Err x) P p e = absurd (true≢false e)
 
 -- ---- one part takes the batch
 
-pub delivers_at : {E : Type 0} (r : Result Delivered E) (query : Checked) (old : BTreeMap ℕ Part) (new : BTreeMap ℕ Part) (o n : ℕ) (rows : List (List ℕ)) (before after : Part)
-    → part_at old.entries o ≡ Some before → WritesThrough nat_cmp (nat_cmp o) old after new → IsPartOf query after
-    → IfOk r (Delivers (meaning query) before n rows after) → IfOk r (DeliversAt query old.entries o n rows new.entries)
-delivers_at (Err e) query old new o n rows before after there written is d = tt
-delivers_at (Ok reply) query old new o n rows before after there written is d =
+pub taken_at : (r : Result Delivered RefusedBatch) (query : Checked) (old new : BTreeMap ℕ Part) (batch : Batch) (before after : Part)
+    → part_at old.entries batch.origin ≡ Some before → WritesThrough nat_cmp (nat_cmp batch.origin) old after new → IsPartOf query after
+    → IfOk r (Delivers (meaning query) before batch.number batch.rows after) → IfErr r (λ e. (e.batch ≡ batch) × (after ≡ before))
+    → IfErr r (λ e. e.why ≡ OriginDisagrees → Disagrees before batch.number batch.rows) → IfErr r (λ e. e.why ≡ NoMemory → knows_number before batch.number ≡ false)
+    → DeliveredTo query old.entries batch new.entries r
+taken_at (Ok reply) query old new batch before after there written is d refused other memory =
     let updates = written.3 (ap is_some there) in
     record {
       part = after;
       own = updates.1;
-      delivers = subst (λ (p : Part). Delivers (meaning query) p n rows after reply) (sym (part_here old.entries o before there)) d;
+      delivers = subst (λ (p : Part). Delivers (meaning query) p batch.number batch.rows after reply) (sym (part_here old.entries batch.origin before there)) d;
       is_part = is;
-      others = λ other apart. updates.2 other (is_other o other (λ e. apart (sym e)));
+      others = λ other apart. updates.2 other (is_other batch.origin other (λ e. apart (sym e)));
       rising = written.4;
     }
-
-pub refused_at : {E F : Type 0} (r : Result Delivered E) (batch : E → F) (given : F) (old new : BTreeMap ℕ Part) (o : ℕ) (before after : Part)
-    → part_at old.entries o ≡ Some before → WritesThrough nat_cmp (nat_cmp o) old after new
-    → IfErr r (λ e. (batch e ≡ given) × (after ≡ before)) → IfErr r (λ e. (batch e ≡ given) × (new.entries ≡ old.entries))
-refused_at (Ok reply) batch given old new o before after there written is = tt
-refused_at (Err e) batch given old new o before after there written is =
-    (is.0, written.0 ∙ ap (set_value (is_at (nat_cmp o)) old.entries) is.1 ∙ set_value_same (is_at (nat_cmp o)) old.entries before there)
+taken_at (Err e) query old new batch before after there written is d refused other memory =
+    let here : before ≡ part_of old.entries batch.origin = sym (part_here old.entries batch.origin before there) in
+    record {
+      back = refused.0;
+      same = written.0 ∙ ap (set_value (is_at (nat_cmp batch.origin)) old.entries) refused.1 ∙ set_value_same (is_at (nat_cmp batch.origin)) old.entries before there;
+      other = λ why. subst (λ (p : Part). Disagrees p batch.number batch.rows) here (other why);
+      memory = λ why. subst (λ (p : Part). knows_number p batch.number ≡ false) here (memory why);
+    }
 
 -- the first batch of an origin: its part was nothing before
 pub first_delivers : (query : Checked) (old between new : Parts) (o n : ℕ) (rows : List (List ℕ)) (reply : Delivered) → part_at old o ≡ None → between ≡ insert_entry nat_cmp old o empty
@@ -91,14 +96,27 @@ first_delivers query old between new o n rows reply none put d =
     }
 
 -- what is there once the place that was made is given up
-pub place_given_up : (old between failed new : Parts) (o : ℕ) → part_at old o ≡ None → between ≡ insert_entry nat_cmp old o empty → failed ≡ between
+place_given_up : (old between failed new : Parts) (o : ℕ) → part_at old o ≡ None → between ≡ insert_entry nat_cmp old o empty → failed ≡ between
     → new ≡ remove_entry (is_at (nat_cmp o)) failed → new ≡ old
 place_given_up old between failed new o none put same removed = removed ∙ ap (remove_entry (is_at (nat_cmp o))) (same ∙ put) ∙ taken_out old o empty none
 
-pub disagrees_first : (old between : Parts) (o n : ℕ) (rows : List (List ℕ)) → part_at old o ≡ None → between ≡ insert_entry nat_cmp old o empty → Disagrees (part_of between o) n rows → Disagrees (part_of old o) n rows
-disagrees_first old between o n rows none put d =
-    subst (λ (p : Part). Disagrees p n rows)
-    (ap (λ ps. part_of ps o) put ∙ ap (λ found. unwrap_or found empty) (put_same old o empty) ∙ sym (ap (λ found. unwrap_or found empty) none)) d
+-- of nothing no number from 1 on is known
+nothing_known : (old : Parts) (o n : ℕ) → part_at old o ≡ None → 1 ≤ n → knows_number (part_of old o) n ≡ false
+nothing_known old o n none low =
+    let zero : nat_le n 0 ≡ false = grind arith in
+    ap (λ found. knows_number (unwrap_or found empty) n) none ∙ ap (λ b. b || false) zero
+
+pub first_refused : (old between failed new : Parts) (batch : Batch) (e : RefusedBatch) → part_at old batch.origin ≡ None → 1 ≤ batch.number → between ≡ insert_entry nat_cmp old batch.origin empty
+    → RefusesAt between batch failed e → new ≡ remove_entry (is_at (nat_cmp batch.origin)) failed → RefusesAt old batch new e
+first_refused old between failed new batch e none low put r removed =
+    let nothing : part_of between batch.origin ≡ part_of old batch.origin =
+    ap (λ ps. part_of ps batch.origin) put ∙ ap (λ found. unwrap_or found empty) (put_same old batch.origin empty) ∙ sym (ap (λ found. unwrap_or found empty) none) in
+    record {
+      back = r.back;
+      same = place_given_up old between failed new batch.origin none put r.same removed;
+      other = λ why. subst (λ (p : Part). Disagrees p batch.number batch.rows) nothing (r.other why);
+      memory = λ why. nothing_known old batch.origin batch.number none low;
+    }
 
 -- ---- the whole replica
 
@@ -142,6 +160,25 @@ some_if_tells p n known =
     within true true one two e = let low : 1 ≤ n = grind arith in let high : n ≤ p.prefix = grind arith in omega (arith, low, high)
     within true false one two e = absurd (true≢false (sym e))
     within false b one two e = absurd (true≢false (sym e))
+
+-- a number from 1 on is told exactly where the part of its origin knows it
+known_at : (parts : Parts) → IsStrictlySortedBy nat_cmp (numbers parts) → (o n : ℕ) → 1 ≤ n → knows (told parts) (o, n) ≡ knows_number (part_of parts o) n
+known_at parts rising o n low =
+    let one : nat_le 1 n ≡ true = grind arith in
+    told_is parts rising o n ∙ ap (λ b. (b && nat_le n (part_of parts o).prefix) || is_some (rows_at (part_of parts o).early n)) one
+
+-- a batch that is taken isn't there already with other rows
+taken_agrees : (query : Checked) (old new : Part) (n : ℕ) (rows : List (List ℕ)) (reply : Delivered) → IsPartOf query old → Delivers (meaning query) old n rows new reply → ¬ (Disagrees old n rows)
+taken_agrees query old new n rows Known is d there = there.other (d.1 there.kept there.there)
+taken_agrees query old new n rows Early is d there = absurd (true≢false (sym (ap is_some there.there) ∙ not_early (nat_le n old.prefix) (is_some (rows_at old.early n)) d.0))
+  where
+    not_early : (a b : Bool) → (a || b) ≡ false → b ≡ false
+    not_early true b e = absurd (true≢false e)
+    not_early false b e = e
+taken_agrees query old new n rows (Folded upto) is d there =
+    let behind : old.prefix + 1 < n = (found_holds (IsEarly (kinds query.columns) old.prefix) old.early n there.kept is.early there.there).behind in
+    let next : n ≡ old.prefix + 1 = d.0 in
+    absurd (omega (arith, behind, next))
 
 module _ (query : Checked) (old new : Parts) (o n : ℕ) (rows : List (List ℕ)) (reply : Delivered) (held : AreHeldParts query old) (limits : InLimits (o, n)) (d : DeliversAt query old o n rows new reply) where
   tells_more : (m : ℕ) → tells d.part m ≡ (eq_by_cmp nat_cmp m n || tells (part_of old o) m)
@@ -194,21 +231,14 @@ module _ (query : Checked) (old new : Parts) (o n : ℕ) (rows : List (List ℕ)
       knows_tells : knows (told old) (o, n) ≡ tells (part_of old o) n
       knows_tells = told_is old held.rising o n
 
-      one : nat_le 1 n ≡ true
-      one = let low = limits.1 in grind arith
-
-      -- for a number from 1 on, to be told is to be known
-      same_known : tells (part_of old o) n ≡ knows_number (part_of old o) n
-      same_known = ap (λ b. (b && nat_le n (part_of old o).prefix) || is_some (rows_at (part_of old o).early n)) one
-
       unknown : (answer : Delivered) → knows (told old) (o, n) ≡ false → (if n == prefix (told old) o + 1 then Folded (prefix (learn (told old) (o, n)) o) else Early) ≡ answer → answer ≡ reply_of (told old) (o, n)
       unknown answer not_known is = sym is ∙ ap (λ b. if b then Known else (if n == prefix (told old) o + 1 then Folded (prefix (learn (told old) (o, n)) o) else Early)) (sym not_known)
 
       go : (answer : Delivered) → reply ≡ answer → Delivers (meaning query) (part_of old o) n rows d.part answer → answer ≡ reply_of (told old) (o, n)
       go Known is delivers =
-          ap (λ b. if b then Known else (if n == prefix (told old) o + 1 then Folded (prefix (learn (told old) (o, n)) o) else Early)) (sym (knows_tells ∙ same_known ∙ delivers.0))
+          ap (λ b. if b then Known else (if n == prefix (told old) o + 1 then Folded (prefix (learn (told old) (o, n)) o) else Early)) (sym (known_at old held.rising o n limits.1 ∙ delivers.0))
       go Early is delivers =
-          unknown Early (knows_tells ∙ same_known ∙ delivers.0)
+          unknown Early (known_at old held.rising o n limits.1 ∙ delivers.0)
           (ap (λ b. if b then Folded (prefix (learn (told old) (o, n)) o) else Early) (ap (λ p. n == p + 1) old_prefix ∙ apart delivers.1))
         where
           apart : n ≢ (part_of old o).prefix + 1 → (n == (part_of old o).prefix + 1) ≡ false
@@ -259,31 +289,57 @@ on_ok_to : {T E : Type 0} (r : Result T E) (P : T → Type 0) (Q : Type 0) → (
 on_ok_to (Ok x) P Q f p = f x p
 on_ok_to (Err e) P Q f p = tt
 
-module _ {E : Type 0} (r : Result Delivered E) (query : Checked) (old new : Parts) (o n : ℕ) (rows : List (List ℕ)) (held : AreHeldParts query old) (limits : InLimits (o, n))
-    (delivers : IfOk r (DeliversAt query old o n rows new)) where
-  pub still_held : IfErr r (λ e. new ≡ old) → AreHeldParts query new
-  still_held same = go r delivers same
+module _ (r : Result Delivered RefusedBatch) (query : Checked) (old new : Parts) (batch : Batch) (held : AreHeldParts query old) (limits : InLimits (batch.origin, batch.number))
+    (done : DeliveredTo query old batch new r) where
+  takes : IfOk r (DeliversAt query old batch.origin batch.number batch.rows new)
+  takes = go r done
     where
-      go : (s : Result Delivered E) → IfOk s (DeliversAt query old o n rows new) → IfErr s (λ e. new ≡ old) → AreHeldParts query new
-      go (Ok reply) d same = delivered_held query old new o n rows reply held limits d
-      go (Err e) d same = subst (AreHeldParts query) (sym same) held
+      go : (s : Result Delivered RefusedBatch) → DeliveredTo query old batch new s → IfOk s (DeliversAt query old batch.origin batch.number batch.rows new)
+      go (Ok reply) d = d
+      go (Err e) d = tt
 
-  pub reply_told : IfOk r (λ reply. reply ≡ reply_of (told old) (o, n))
-  reply_told = if_ok_to r (DeliversAt query old o n rows new) (λ reply. reply ≡ reply_of (told old) (o, n)) (λ reply d. delivered_reply query old new o n rows reply held limits d) delivers
+  refuses : IfErr r (RefusesAt old batch new)
+  refuses = go r done
+    where
+      go : (s : Result Delivered RefusedBatch) → DeliveredTo query old batch new s → IfErr s (RefusesAt old batch new)
+      go (Ok reply) d = tt
+      go (Err e) d = d
 
-  pub more_told : OnOk r (told new ≡ learn (told old) (o, n))
-  more_told = on_ok_to r (DeliversAt query old o n rows new) (told new ≡ learn (told old) (o, n)) (λ reply d. delivered_told query old new o n rows reply held limits d) delivers
+  pub still_held : AreHeldParts query new
+  still_held = go r done
+    where
+      go : (s : Result Delivered RefusedBatch) → DeliveredTo query old batch new s → AreHeldParts query new
+      go (Ok reply) d = delivered_held query old new batch.origin batch.number batch.rows reply held limits d
+      go (Err e) d = subst (AreHeldParts query) (sym d.same) held
 
-  pub still_fits : OnOk r ((world : World) (those : List Row) → IsWorld (kinds query.columns) world → Fits world (record { query = query; parts = old }) → world o n ≡ Some those → rows ≡ packings those
-      → Fits world (record { query = query; parts = new }))
+  pub reply_told : IfOk r (λ reply. reply ≡ reply_of (told old) (batch.origin, batch.number))
+  reply_told = if_ok_to r (DeliversAt query old batch.origin batch.number batch.rows new) _ (λ reply d. delivered_reply query old new batch.origin batch.number batch.rows reply held limits d) takes
+
+  pub more_told : OnOk r (told new ≡ learn (told old) (batch.origin, batch.number))
+  more_told = on_ok_to r (DeliversAt query old batch.origin batch.number batch.rows new) _ (λ reply d. delivered_told query old new batch.origin batch.number batch.rows reply held limits d) takes
+
+  pub still_fits : OnOk r ((world : World) (those : List Row) → IsWorld (kinds query.columns) world → Fits world (record { query = query; parts = old }) → world batch.origin batch.number ≡ Some those
+      → batch.rows ≡ packings those → Fits world (record { query = query; parts = new }))
   still_fits =
-      on_ok_to r (DeliversAt query old o n rows new) _ (λ reply d world those is fits there same. delivered_fits query old new o n rows reply held d world those is fits there same) delivers
+      on_ok_to r (DeliversAt query old batch.origin batch.number batch.rows new) _
+      (λ reply d world those is fits there same. delivered_fits query old new batch.origin batch.number batch.rows reply held d world those is fits there same) takes
 
-pub parts_stay : {F : Type 0} (P : Type 0) (r : Result Delivered F) (Q : F → Type 0) → IfErr r (λ e. Q e × P) → IfErr r (λ e. P)
-parts_stay P (Ok x) Q both = tt
-parts_stay P (Err e) Q both = both.1
+  pub handed_back : IfErr r (λ e. (e.batch ≡ batch) × ◌≡◌ {A = Held} (record { query = query; parts = new }) (record { query = query; parts = old }))
+  handed_back = if_err_to r (RefusesAt old batch new) _ (λ e d. (d.back, λ i. record { query = query; parts = d.same i })) refuses
 
-pub agrees_told : {F : Type 0} (r : Result Delivered F) (Why : F → Type 0) (query : Checked) (old : Parts) (o n : ℕ) (rows : List (List ℕ)) → IfErr r (λ e. Why e → Disagrees (part_of old o) n rows)
-    → IfErr r (λ e. Why e → (world : World) (those : List Row) → Fits world (record { query = query; parts = old }) → world o n ≡ Some those → rows ≢ packings those)
-agrees_told r Why query old o n rows why =
-    if_err_to r (λ e. Why e → Disagrees (part_of old o) n rows) _ (λ e d is world those fits there. never_disagrees query old o n rows (d is) world those fits there) why
+  pub disagreed : IfErr r (λ e. e.why ≡ OriginDisagrees → Disagrees (part_of old batch.origin) batch.number batch.rows)
+  disagreed = if_err_to r (RefusesAt old batch new) _ (λ e d. d.other) refuses
+
+  pub agreed_else : IfOk r (λ _. ¬ (Disagrees (part_of old batch.origin) batch.number batch.rows))
+  agreed_else =
+      if_ok_to r (DeliversAt query old batch.origin batch.number batch.rows new) _
+      (λ reply d. taken_agrees query (part_of old batch.origin) d.part batch.number batch.rows reply (part_is query old held batch.origin) d.delivers) takes
+
+  pub memory_wanting : IfErr r (λ e. e.why ≡ NoMemory → knows (told old) (batch.origin, batch.number) ≡ false)
+  memory_wanting = if_err_to r (RefusesAt old batch new) _ (λ e d why. known_at old held.rising batch.origin batch.number limits.1 ∙ d.memory why) refuses
+
+  pub world_agrees : IfErr r (λ e. e.why ≡ OriginDisagrees → (world : World) (those : List Row) → Fits world (record { query = query; parts = old }) → world batch.origin batch.number ≡ Some those
+      → batch.rows ≢ packings those)
+  world_agrees =
+      if_err_to r (RefusesAt old batch new) _
+      (λ e d why world those fits there. never_disagrees query old batch.origin batch.number batch.rows (d.other why) world those fits there) refuses

@@ -248,6 +248,11 @@ module _ (query : Checked) (old other joined new : Parts) (held : AreHeldParts q
           subst (λ x. FitsOrigin (meaning query) world o (unwrap_or x empty)) (sym at.1)
           (fits_joined query world is o (part_of old o) t at.0 (fits o) (subst (FitsOrigin (meaning query) world o) (part_here other o t e) (fits_other o)) at.2)
 
+-- where there are joined parts aside of each origin, none disagree
+pub aside_agree : (query : Checked) (old other joined : Parts) → JoinedAside query old other joined → ¬ (DisagreeSomewhere old other)
+aside_agree query old other joined aside d =
+    (subst (λ found. AsideAt query (part_of old d.origin) (part_at old d.origin) found (part_at joined d.origin)) d.there (aside.at d.origin)).4 d.parts
+
 -- replicas that fit one world never disagree
 pub never_somewhere : (query : Checked) (old other : Parts) → DisagreeSomewhere old other → (world : World) → Fits world (record { query = query; parts = old }) → Fits world (record { query = query; parts = other }) → ⊥
 never_somewhere query old other d world fits fits_other =

@@ -1,5 +1,5 @@
 -- What a replica holds and tells, and when it fits a world. All of this is our own.
-use Rattle.std.specs.Prelude.{◌≡◌, ◌≢◌, ℕ, ◌*◌, List, ◌++◌, map, flat_map, Option, Some, None, option_map, unwrap_or, if◌then◌else◌}
+use Rattle.std.specs.Prelude.{◌≡◌, ◌≢◌, ℕ, ◌*◌, List, ◌++◌, map, flat_map, Option, Some, None, option_map, unwrap_or, if◌then◌else◌, Result, Ok, Err, false}
 use Rattle.std.specs.List.Sorted.{IsStrictlySortedBy}
 use Rattle.std.specs.Map.{lookup}
 use Rattle.std.specs.Ordering.{eq_by_cmp, nat_cmp}
@@ -12,7 +12,10 @@ use Rattle.packed_rows.specs.Columns.{printed}
 use Rattle.having_filter.specs.Kept.{by_names}
 use Rattle.having_filter.specs.Meaning.{Checked, meaning}
 use Rattle.having_filter.specs.Spelling.{spelling}
-use Rattle.origin_prefix.specs.Parts.{Part, empty, is_nothing, IsPartOf, Delivers}
+use Rattle.batch_reader.specs.declared.batch.Batch as packed
+use Rattle.origin_prefix.specs.Parts.{Part, empty, knows_number, is_nothing, IsPartOf, Delivers, Disagrees}
+use Rattle.origin_prefix.specs.declared.error.JoinError.TheVariants.{NoMemory, OriginDisagrees}
+use Rattle.origin_prefix.specs.declared.error.RefusedBatch.{RefusedBatch}
 use Rattle.origin_prefix.specs.Joins.{Joins, PartsDisagree}
 use Rattle.origin_prefix.specs.Fitting.{FitsOrigin}
 pub use Rattle.origin_prefix.specs.Held.{Parts, IsHeldPart, AreHeldParts}
@@ -86,6 +89,19 @@ pub record DeliversAt (query : Checked) (old : Parts) (origin number : ℕ) (row
   pub is_part : IsPartOf query part
   pub others : (other : ℕ) → other ≢ origin → part_at new other ≡ part_at old other
   pub rising : IsStrictlySortedBy nat_cmp (map (λ (held : ℕ × Part). held.0) new)
+
+-- a batch is refused: it is handed back and the parts stay; where it disagrees it is there with other rows, and memory is wanting
+-- only for a number that is not known
+pub record RefusesAt (old : Parts) (batch : packed.Batch) (new : Parts) (refused : RefusedBatch) : Type 0 where
+  pub back : refused.batch ≡ batch
+  pub same : new ≡ old
+  pub other : refused.why ≡ OriginDisagrees → Disagrees (part_of old batch.origin) batch.number batch.rows
+  pub memory : refused.why ≡ NoMemory → knows_number (part_of old batch.origin) batch.number ≡ false
+
+-- what becomes of parts to which a batch is delivered: that of its origin takes it, or it is refused
+abbrev pub DeliveredTo : Checked → Parts → packed.Batch → Parts → Result Delivered RefusedBatch → Type 0
+DeliveredTo query old batch new (Ok reply) = DeliversAt query old batch.origin batch.number batch.rows new reply
+DeliveredTo query old batch new (Err refused) = RefusesAt old batch new refused
 
 -- what a part of an origin says of it
 abbrev pub known_part : ℕ × Part → KnownOrigin

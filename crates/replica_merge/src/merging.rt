@@ -215,6 +215,7 @@ impl Replica {
         ensures same { OnOk result (other.now.query ≡ self.old.query) }
         ensures same_else { IfErr result (λ e. e ≢ DifferentQuery →
             other.now.query ≡ self.old.query) }
+        ensures agreed { OnOk result (¬ (DisagreeSomewhere self.old.parts other.now.parts)) }
         ensures disagree { IfErr result (λ e. e ≡ OriginDisagrees →
             DisagreeSomewhere self.old.parts other.now.parts) }
         ensures agree { IfErr result (λ e. e ≡ OriginDisagrees → (world : World) →

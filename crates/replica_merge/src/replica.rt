@@ -1,6 +1,6 @@
 //! What a replica holds, and what it tells of it.
 
-ghost use Rattle.std.specs.Prelude.{◌≡◌, ◌≢◌, ◌≤◌, ℕ, List, None, All, [], map, length, Some, IsSome, IfSome, IsTrue, IfOk, IfErr, OnOk, OnErr};
+ghost use Rattle.std.specs.Prelude.{◌≡◌, ◌≢◌, ◌≤◌, ℕ, List, None, All, [], map, length, Some, IsSome, IfSome, IsTrue, false, IfOk, IfErr, OnOk, OnErr};
 ghost use Rattle.std.specs.BTreeMap.{insert_entry};
 ghost use Rattle.std.specs.Option.{option_copied};
 ghost use Rattle.grouping_model.specs.declared.limits.TheConstants.{LAST_NUMBER};
@@ -13,8 +13,8 @@ ghost use Rattle.batch_reader.specs.Rows.{ArePackedRows, packings};
 ghost use Rattle.having_filter.specs.Meaning.{meaning};
 ghost use Rattle.hash_agg.specs.Inputs.{brought, IsAggregate};
 ghost use Rattle.origin_prefix.specs.Parts.{IsPartOf, Disagrees};
-ghost use Rattle.origin_prefix.specs.declared.error.JoinError.TheVariants.{OriginDisagrees};
-ghost use Rattle.replica_merge.specs.Replicas.{part_at, part_of, told, Fits, AreHeldParts, DeliversAt, known_of, known_part, counted_part};
+ghost use Rattle.origin_prefix.specs.declared.error.JoinError.TheVariants.{NoMemory, OriginDisagrees};
+ghost use Rattle.replica_merge.specs.Replicas.{part_at, part_of, told, Fits, AreHeldParts, DeliveredTo, known_of, known_part, counted_part};
 
 use crate::known::Known;
 use crate::showing::show;
@@ -101,12 +101,7 @@ fn deliver_to(
     requires part { IsPartOf query.now (part_of parts.old.entries batch.origin) }
     requires number { (1 ≤ batch.number) × (batch.number ≤ LAST_NUMBER) }
     requires rows { ArePackedRows (kinds query.now.columns) batch.rows }
-    ensures delivers { IfOk result (DeliversAt query.now parts.old.entries batch.origin batch.number
-        batch.rows parts.new.entries) }
-    ensures refused { IfErr result (λ e. (e.batch ≡ batch)
-        × (parts.new.entries ≡ parts.old.entries)) }
-    ensures why { IfErr result (λ e. e.why ≡ OriginDisagrees →
-        Disagrees (part_of parts.old.entries batch.origin) batch.number batch.rows) }
+    ensures { DeliveredTo query.now parts.old.entries batch parts.new.entries result }
 {
     match parts.get_mut(&batch.origin) {
         Some(part) => part.deliver(query, batch),
@@ -124,12 +119,7 @@ fn deliver_first(
     requires none { part_at parts.old.entries batch.origin ≡ None }
     requires number { (1 ≤ batch.number) × (batch.number ≤ LAST_NUMBER) }
     requires rows { ArePackedRows (kinds query.now.columns) batch.rows }
-    ensures delivers { IfOk result (DeliversAt query.now parts.old.entries batch.origin batch.number
-        batch.rows parts.new.entries) }
-    ensures refused { IfErr result (λ e. (e.batch ≡ batch)
-        × (parts.new.entries ≡ parts.old.entries)) }
-    ensures why { IfErr result (λ e. e.why ≡ OriginDisagrees →
-        Disagrees (part_of parts.old.entries batch.origin) batch.number batch.rows) }
+    ensures { DeliveredTo query.now parts.old.entries batch parts.new.entries result }
 {
     let origin = batch.origin;
     // The part has its place before the batch is taken, so that a batch is never lost.
@@ -156,12 +146,7 @@ fn deliver_in(
     requires held { AreHeldParts query.now parts.old.entries }
     requires number { (1 ≤ batch.number) × (batch.number ≤ LAST_NUMBER) }
     requires rows { ArePackedRows (kinds query.now.columns) batch.rows }
-    ensures delivers { IfOk result (DeliversAt query.now parts.old.entries batch.origin batch.number
-        batch.rows parts.new.entries) }
-    ensures refused { IfErr result (λ e. (e.batch ≡ batch)
-        × (parts.new.entries ≡ parts.old.entries)) }
-    ensures why { IfErr result (λ e. e.why ≡ OriginDisagrees →
-        Disagrees (part_of parts.old.entries batch.origin) batch.number batch.rows) }
+    ensures { DeliveredTo query.now parts.old.entries batch parts.new.entries result }
 {
     if parts.contains_key(&batch.origin) {
         return deliver_to(query, parts, batch);
@@ -237,6 +222,12 @@ impl Replica {
         ensures refused { IfErr result (λ e. (e.batch ≡ batch) × (self.new ≡ self.old)) }
         ensures why { IfErr result (λ e. e.why ≡ OriginDisagrees →
             Disagrees (part_of self.old.parts batch.origin) batch.number batch.rows) }
+        // Disagreement is told wherever there is one.
+        ensures agreed { IfOk result (λ _.
+            ¬ (Disagrees (part_of self.old.parts batch.origin) batch.number batch.rows)) }
+        // For a number that is known already memory is never wanting.
+        ensures memory { IfErr result (λ e. e.why ≡ NoMemory →
+            knows (told self.old.parts) (batch.origin, batch.number) ≡ false) }
         // Such a world's batch never disagrees.
         ensures agrees { IfErr result (λ e. e.why ≡ OriginDisagrees →
             (world : World) (those : List Row) → Fits world self.old →

@@ -3,23 +3,21 @@ use Rattle.std.proofs.Common.{sym, ◌∙◌, ap}
 use Rattle.std.specs.BTreeMap.{insert_entry}
 use Rattle.std.specs.Ordering.{nat_cmp}
 use Rattle.replica_merge.specs.Replicas.{Parts}
-use Rattle.replica_merge.proofs.DeliveredLaws.{when_fine, first_delivers, place_given_up}
+use Rattle.replica_merge.proofs.DeliveredLaws.{when_fine, first_delivers, first_refused}
 use Rattle.replica_merge.proofs.replica.deliver_first.Goals as goal
 
-pub returns-in-Ok-clause-delivers : goal.returns-in-Ok-clause-delivers
-returns-in-Ok-clause-delivers c =
+pub returns-in-Ok : goal.returns-in-Ok
+returns-in-Ok c =
     let old : Parts = c.args.parts.now.entries in
     let between : Parts = c.insert.new.self.entries in
     let put : between ≡ insert_entry nat_cmp old c.args.batch.origin c.empty.result = when_fine c.insert.result _ c.insert.ensures.entries (sym c.if-is_err.ensures.value) in
     first_delivers c.args.query.now old between c.deliver_to.new.parts.entries c.args.batch.origin c.args.batch.number c.args.batch.rows c.in-Ok.delivered c.requires.none
-    (put ∙ ap (insert_entry nat_cmp old c.args.batch.origin) c.empty.ensures) c.in-Ok.ensures.delivers
+    (put ∙ ap (insert_entry nat_cmp old c.args.batch.origin) c.empty.ensures) c.in-Ok.ensures
 
-pub returns-in-Err-clause-refused : goal.returns-in-Err-clause-refused
-returns-in-Err-clause-refused c =
+pub returns-in-Err : goal.returns-in-Err
+returns-in-Err c =
     let old : Parts = c.args.parts.now.entries in
     let between : Parts = c.insert.new.self.entries in
-    let put : between ≡ insert_entry nat_cmp old c.args.batch.origin c.empty.result = when_fine c.insert.result _ c.insert.ensures.entries (sym c.if-is_err.ensures.value) in (
-      c.in-Err.ensures.refused.0,
-      place_given_up old between c.deliver_to.new.parts.entries c.remove.new.self.entries c.args.batch.origin c.requires.none
-          (put ∙ ap (insert_entry nat_cmp old c.args.batch.origin) c.empty.ensures) c.in-Err.ensures.refused.1 c.remove.ensures.entries,
-    )
+    let put : between ≡ insert_entry nat_cmp old c.args.batch.origin c.empty.result = when_fine c.insert.result _ c.insert.ensures.entries (sym c.if-is_err.ensures.value) in
+    first_refused old between c.deliver_to.new.parts.entries c.remove.new.self.entries c.args.batch c.in-Err.refused c.requires.none c.requires.number.0
+    (put ∙ ap (insert_entry nat_cmp old c.args.batch.origin) c.empty.ensures) c.in-Err.ensures c.remove.ensures.entries
