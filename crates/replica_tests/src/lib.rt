@@ -1,4 +1,4 @@
-//! Tests of batches, of aggregation, of parts of an origin, of replicas and of tables, by their crates' public calls alone.
+//! Tests of batches, of aggregation, of parts of an origin, of summary files, of replicas and of tables, by their crates' public calls alone.
 #![tactic(auto)]
 
 #[cfg(test)]
@@ -11,5 +11,9 @@ mod parts;
 mod replicas;
 #[cfg(test)]
 mod runs;
+#[cfg(test)]
+mod saving;
+#[cfg(test)]
+mod summaries;
 #[cfg(test)]
 mod tables;

@@ -1,0 +1,283 @@
+use hex::decode as read_hex;
+use std::alloc::Global;
+use std::test::*;
+use summary_codec::{SummaryError, decode, encode};
+
+/// The bytes of what was read from a file.
+fn read_and_written(alloc: Global, bytes: &[u8]) -> Result<Vec<u8>, SummaryError> {
+    let (query, parts) = decode(alloc, bytes)?;
+    Ok(encode(alloc, &query, &parts)?)
+}
+
+/// Whether bytes are a file, which is written as it was read, or why they are none.
+fn told(rt: HostRuntime, bytes: &[u8]) -> Result<String, Fail> {
+    match read_and_written(rt.alloc(), bytes) {
+        Ok(written) => Ok(format!(in rt.alloc(); "{}", written.as_slice() == bytes)?),
+        Err(error) => Ok(format!(in rt.alloc(); "{error:?}")?),
+    }
+}
+
+/// A file: columns and a query, one origin with prefix 1, and two groups of a key, a count and a sum.
+pub(crate) const FILE: &str = "\
+41474753554d3031
+0010 6320746578742c206420626967696e74
+0032 53454c45435420632c20636f756e74282a292c2073756d2864292046524f4d20626174636865732047524f55502042592063
+0001
+0000 00000001 0000000000000002
+0008 0162657267656e00
+0000000000000001
+0000000000000001 00000000000000000000000000000007
+0006 016f736c6f00
+0000000000000002
+0000000000000002 00000000000000000000000000000003
+00000000";
+
+/// The pieces of files that the tables name.
+const PIECES: [(&str, &str); 7] = [
+    ("opening", "41474753554d3031"),
+    // The columns `c text, d bigint`, and the query `SELECT c, count(*), sum(d) FROM batches GROUP BY c`.
+    (
+        "towns",
+        "41474753554d3031\
+        00106320746578742c206420626967696e74\
+        003253454c45435420632c20636f756e74282a292c2073756d2864292046524f4d20626174636865732047524f55502042592063",
+    ),
+    // The columns `b boolean, d bigint`, and the query `SELECT b, bool_and(b), min(d) FROM batches GROUP BY b`.
+    (
+        "flags",
+        "41474753554d3031\
+        0013\
+        6220626f6f6c65616e2c206420626967696e74\
+        0035\
+        53454c45435420622c20626f6f6c5f616e642862292c206d696e2864292046524f4d20626174636865732047524f55502042592062",
+    ),
+    // The column `d bigint`, and the query `SELECT count(*) FROM batches`.
+    (
+        "total",
+        "41474753554d3031\
+        00086420626967696e74\
+        001c53454c45435420636f756e74282a292046524f4d2062617463686573",
+    ),
+    (
+        "bergen",
+        "00080162657267656e00\
+        0000000000000001000000000000000100000000000000000000000000000007",
+    ),
+    (
+        "oslo",
+        "0006016f736c6f00\
+        0000000000000002000000000000000200000000000000000000000000000003",
+    ),
+    // The row `oslo,5`.
+    ("row", "000f016f736c6f00018000000000000005"),
+];
+
+/// The hexadecimal digits that a word stands for.
+fn digits(word: &str) -> &str {
+    for (name, digits) in &PIECES {
+        if *name == word {
+            return digits;
+        }
+    }
+    word
+}
+
+/// The bytes of some words.
+pub(crate) fn bytes_of(rt: HostRuntime, words: &str) -> Result<Vec<u8>, Fail> {
+    let mut text = String::new(rt.alloc());
+    for word in words.split_whitespace() {
+        text.push_str(digits(word))?;
+    }
+    Ok(read_hex(rt.alloc(), text.as_str())?)
+}
+
+#[test]
+fn a_file_is_read_and_written(rt: HostRuntime) -> Result<(), Fail> {
+    let mut bytes = bytes_of(rt, FILE)?;
+    assert!(rt; bytes.len() == 180);
+    assert!(rt; told(rt, &bytes)?.as_str() == "true");
+    bytes.push(0)?;
+    assert!(rt; told(rt, &bytes)?.as_str() == "Trailing");
+    Ok(())
+}
+
+#[test]
+fn no_front_of_a_file_is_one(rt: HostRuntime) -> Result<(), Fail> {
+    let bytes = bytes_of(rt, FILE)?;
+    for end in 0..bytes.len() {
+        assert!(rt; told(rt, &bytes[..end])?.as_str() == "Truncated", "{end}");
+    }
+    Ok(())
+}
+
+#[test]
+fn each_byte_counts(rt: HostRuntime) -> Result<(), Fail> {
+    let mut bytes = bytes_of(rt, FILE)?;
+    for place in 0..bytes.len() {
+        let was = bytes[place];
+        for byte in [was ^ 1, was ^ 128, was ^ 32, 0, 1, 127, 255] {
+            bytes[place] = byte;
+            // What is read is written as it was: a file has one spelling.
+            assert!(rt; told(rt, &bytes)?.as_str() != "false", "{place} {byte}");
+        }
+        bytes[place] = was;
+    }
+    Ok(())
+}
+
+/// Files, and others that have a fault.
+const FILES: &str = "\
+towns 0000 => true
+towns 0001 0000 00000001 0000000000000002 bergen oslo 00000000 => true
+towns 0001 03ff 7fffffff 0000000000000001 oslo 00000000 => true
+towns 0001 0000 00000000 0000000000000000 00000001 00000002 00000001 row => true
+towns 0001 0000 00000000 0000000000000000 00000002 00000002 00000002 row row 7fffffff 00000000 => true
+towns 0001 0000 00000001 0000000000000000 00000001 00000003 00000001 0002 0202 => true
+towns 0002 0000 00000001 0000000000000000 00000000 03ff 00000002 0000000000000001 oslo 00000001 00000005 00000001 row => true
+towns 0001 0000 00000001 0000000000000001 0001 02 0000000000000001 0000000000000000 00000000000000000000000000000000 00000000 => true
+flags 0001 0000 00000001 0000000000000003 \
+0002 0100 01 01 8000000000000000 0002 0101 02 01 7fffffffffffffff 0001 02 00 00 0000000000000000 \
+00000001 00000009 00000002 000b 0101 018000000000000005 0002 0202 => true
+total 0001 0000 00000001 0000000000000001 0000 0000000000010000 00000000 => true
+total 0001 0000 7fffffff 0000000000000001 0000 00007fffffff0000 00000000 => true
+ => Truncated
+41474753554d30 => Truncated
+opening => Truncated
+42 => NotASummary
+41474753554e => NotASummary
+42474753554d3031 => NotASummary
+41474753554d3032 => NotASummary
+41474753554d303200 => NotASummary
+opening 00 => Truncated
+opening 0001 => Truncated
+towns 0401 => OutOfRange
+towns 0400 => Truncated
+towns 0001 0400 => OutOfRange
+towns 0001 03ff => Truncated
+towns 0001 0000 80000000 => OutOfRange
+towns 0001 0000 7fffffff => Truncated
+towns 0001 0000 00000001 0000000000010001 => OutOfRange
+towns 0001 0000 00000001 0000000000010000 => Truncated
+towns 0001 0000 00000000 0000000000000001 => OutOfRange
+towns 0001 0000 7fffffff 00007fffffff0001 => OutOfRange
+towns 0001 0000 00000001 0000000000000001 0007 016f736c6f => Truncated
+towns 0001 0000 00000001 0000000000000001 0002 0301 => BadPacked
+towns 0001 0000 00000001 0000000000000001 0003 01ff00 => BadPacked
+towns 0001 0000 00000001 0000000000000001 0004 015c4e00 => BadPacked
+towns 0001 0000 00000001 0000000000000001 0005 016f736c6f => BadPacked
+towns 0001 0000 00000001 0000000000000001 0007 016f736c6f0000 => BadPacked
+towns 0001 0000 00000001 0000000000000001 0002 0202 => BadPacked
+towns 0001 0000 00000001 0000000000000001 0000 => BadPacked
+towns 0001 0000 00000001 0000000000000002 oslo 0006 016f736c6f00 => NotCanonical
+towns 0001 0000 00000001 0000000000000002 oslo 0008 0162657267656e00 => NotCanonical
+towns 0001 0000 00000001 0000000000000002 oslo bergen 00000000 => NotCanonical
+towns 0001 0000 00000001 0000000000000002 oslo 0001 03 => BadPacked
+towns 0001 0000 00000001 0000000000000001 0006 016f736c6f00 0000000000010001 00 => Truncated
+towns 0001 0000 00000001 0000000000000001 0006 016f736c6f00 \
+0000000000010001 0000000000000002 00000000000000000000000000000003 00000000 => BadState
+towns 0001 0000 00000001 0000000000000001 0006 016f736c6f00 \
+0000000000000002 0000000000010001 00000000000000000000000000000003 00000000 => BadState
+towns 0001 0000 00000001 0000000000000001 0006 016f736c6f00 \
+0000000000000002 0000000000000001 00000000000000008000000000000000 00000000 => BadState
+towns 0001 0000 00000001 0000000000000001 0006 016f736c6f00 \
+0000000000000002 0000000000000000 00000000000000000000000000000003 00000000 => BadState
+flags 0001 0000 00000001 0000000000000001 0001 02 03 00 0000000000000000 => BadState
+flags 0001 0000 00000001 0000000000000001 0001 02 00 00 0000000000000001 => BadState
+flags 0001 0000 00000001 0000000000000001 0001 02 00 02 0000000000000000 => BadState
+flags 0001 0000 00000001 0000000000000001 0002 0102 => BadPacked
+flags 0001 0000 00000001 0000000000000002 0001 02 00 00 0000000000000000 0002 0101 => NotCanonical
+total 0001 0000 00000001 0000000000000001 0000 0000000000010001 => BadState
+total 0001 0000 7fffffff 0000000000000001 0000 00007fffffff0001 => BadState
+total 0001 0000 7fffffff 0000000000000001 0000 4000000000000000 => BadState
+total 0001 0000 7fffffff 0000000000000002 0000 0000000000000001 0000 => NotCanonical
+total 0001 0000 7fffffff 0000000000000001 0001 02 => BadPacked
+towns 0001 0000 00000000 0000000000000000 00000000 => NotCanonical
+towns 0001 0000 00000001 0000000000000000 00000001 80000000 => OutOfRange
+towns 0001 0000 00000000 0000000000000000 00000001 00000000 => NotCanonical
+towns 0001 0000 00000000 0000000000000000 00000001 00000001 => NotCanonical
+towns 0001 0000 00000001 0000000000000000 00000001 00000001 => NotCanonical
+towns 0001 0000 00000001 0000000000000000 00000001 00000002 => NotCanonical
+towns 0001 0000 7fffffff 0000000000000000 00000001 7fffffff => NotCanonical
+towns 0001 0000 00000001 0000000000000000 00000002 00000004 00000000 00000004 => NotCanonical
+towns 0001 0000 00000001 0000000000000000 00000002 00000004 00000000 00000003 => NotCanonical
+towns 0001 0000 00000001 0000000000000000 00000001 00000003 00010001 => OutOfRange
+towns 0001 0000 00000001 0000000000000000 00000001 00000003 00010000 => Truncated
+towns 0001 0000 00000001 0000000000000000 00000001 00000003 00000001 0010 => Truncated
+towns 0001 0000 00000001 0000000000000000 00000001 00000003 00000001 0006 016f736c6f00 => BadPacked
+towns 0001 0000 00000001 0000000000000000 00000001 00000003 00000001 0003 020200 => BadPacked
+towns 0001 0000 00000001 0000000000000000 00000001 00000003 00000001 0002 0102 => BadPacked
+towns 0001 0000 00000001 0000000000000000 ffffffff 00000003 00000000 => Truncated
+towns 0002 0000 00000001 0000000000000000 00000000 0000 => NotCanonical
+towns 0002 0001 00000001 0000000000000000 00000000 0000 => NotCanonical
+towns 0002 0001 00000001 0000000000000000 00000000 0400 => OutOfRange
+towns 0002 0001 00000001 0000000000000000 00000000 => Truncated
+towns 0000 00 => Trailing
+towns 0001 0000 00000001 0000000000000000 00000000 00 => Trailing
+towns 0001 0000 00000001 0000000000000000 00000001 00000003 00000001 row 0000 => Trailing
+towns 0401 00 => OutOfRange
+towns 0001 0000 00000000 0000000000000000 00000000 00 => NotCanonical
+total 0001 0000 00000001 0000000000000001 0000 0000000000010001 00000000 00 => BadState
+opening 0001 ff => NotCanonical
+opening 0006 632074657874 0001 ff => NotCanonical";
+
+#[test]
+fn files_are_read_to_their_first_fault(rt: HostRuntime) -> Result<(), Fail> {
+    for line in FILES.lines() {
+        let (words, want) = line.split_once(" => ").ok_or("no bytes")?;
+        let bytes = bytes_of(rt, words)?;
+        assert!(rt; told(rt, &bytes)?.as_str() == want, "{line}");
+    }
+    Ok(())
+}
+
+/// Columns and queries, and what becomes of a file of them with no origin.
+const TEXTS: &str = "\
+c text, d bigint|SELECT c, count(*), sum(d) FROM batches GROUP BY c => true
+b boolean|SELECT bool_or(b) AS any FROM batches WHERE b IS NOT NULL HAVING count(*) > 1 => true
+|SELECT => BadSchema
+c  texts|SELECT => BadSchema
+c text, c text|SELECT => BadSchema
+c  text|SELECT => NotCanonical
+c text,d bigint|SELECT => NotCanonical
+C text|SELECT => NotCanonical
+c text |SELECT => NotCanonical
+c text|SELECT => Query(Syntax { at: 6 })
+c text| => Query(Syntax { at: 0 })
+c text|SELECT x FROM batches GROUP BY x => Query(Query(NoSuchColumn))
+c text|SELECT c FROM batches => Query(Query(NotGrouped))
+c text|SELECT sum(c) FROM batches => Query(Query(TypeMismatch))
+c text|SELECT count(*) FROM batches WHERE count(*) > 1 => Query(Query(AggregateHere))
+c text|SELECT count(*) FROM batches WHERE 1 < 9223372036854775808 => Query(NumberTooLarge)
+c text|SELECT c FROM batches GROUP BY c; => NotCanonical
+c text|SELECT  c FROM batches GROUP BY c => NotCanonical
+c text|select c FROM batches GROUP BY c => NotCanonical
+c text|SELECT c FROM batches GROUP BY c, c => NotCanonical
+c text|SELECT c AS c FROM batches GROUP BY c => NotCanonical";
+
+/// Appends a text behind its length.
+fn push_text(bytes: &mut Vec<u8>, text: &str) -> Result<(), Fail> {
+    let length = u16::try_from(text.len())?;
+    bytes.extend_from_slice(&length.to_be_bytes())?;
+    bytes.extend_from_slice(text.as_bytes())?;
+    Ok(())
+}
+
+/// The file of a schema and a query with no origin.
+fn file_of(rt: HostRuntime, schema: &str, query: &str) -> Result<Vec<u8>, Fail> {
+    let mut bytes = bytes_of(rt, "opening")?;
+    push_text(&mut bytes, schema)?;
+    push_text(&mut bytes, query)?;
+    bytes.extend_from_slice(&[0, 0])?;
+    Ok(bytes)
+}
+
+#[test]
+fn texts_are_canonical(rt: HostRuntime) -> Result<(), Fail> {
+    for line in TEXTS.lines() {
+        let (texts, want) = line.split_once(" => ").ok_or("no texts")?;
+        let (schema, query) = texts.split_once('|').ok_or("no query")?;
+        let bytes = file_of(rt, schema, query)?;
+        assert!(rt; told(rt, &bytes)?.as_str() == want, "{line}");
+    }
+    Ok(())
+}
