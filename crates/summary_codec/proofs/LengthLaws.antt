@@ -1,5 +1,5 @@
 -- How long the fields of a file are.
-use Rattle.std.proofs.Common.{◌≡◌, refl, ℕ, ◌+◌, ◌*◌, ◌^◌, ◌<◌, ◌≤◌, List, [], ◌∷◌, ◌++◌, map, length, slice_index_or, sym, ap, subst, ◌∙◌, arith, true, false}
+use Rattle.std.proofs.Common.{◌≡◌, ℕ, ◌+◌, ◌*◌, ◌^◌, ◌<◌, ◌≤◌, List, [], ◌∷◌, ◌++◌, map, length, slice_index_or, sym, subst, arith}
 use Rattle.std.proofs.lemmas.List.{length-append, length-map}
 use Rattle.std.proofs.lemmas.List.Elements.{recursion_from_All}
 use Rattle.std.specs.Prelude.{codes}
@@ -10,10 +10,10 @@ use Rattle.std.specs.declared.cmp.Ordering.TheVariants.{Less}
 use Rattle.grouping_model.specs.Datum.{Datum, Kind, Row, HasKind, HasKinds, Null, Bigint, Boolean, Text, Bigint_kind, Boolean_kind, Text_kind}
 use Rattle.grouping_model.specs.Grouping.{Group}
 use Rattle.grouping_model.specs.Query.{Query}
-use Rattle.grouping_model.specs.declared.limits.TheConstants.{LAST_NUMBER, LAST_ORIGIN, MOST_ROWS, MOST_COLUMNS, MOST_KEYS}
+use Rattle.grouping_model.specs.declared.limits.TheConstants.{LAST_NUMBER, LAST_ORIGIN, MOST_ROWS, MOST_COLUMNS}
 use Rattle.packed_rows.specs.Columns.{Column, kinds, names, printed, column_text, kind_text, AreColumns, IsColumnName}
 use Rattle.packed_rows.specs.Packing.{packing, value_packing}
-use Rattle.batch_reader.specs.Rows.{ArePackedRows, packings}
+use Rattle.batch_reader.specs.Rows.{packings}
 use Rattle.having_filter.specs.Kept.{IsQuery, key_kinds}
 use Rattle.having_filter.specs.Meaning.{Checked, meaning}
 use Rattle.hash_agg.specs.Runs.{Entry}

@@ -1,9 +1,8 @@
 -- What readers have in common: bytes have one reading or one fault, and what is read in turn spells the bytes.
-use Rattle.std.proofs.Common.{◌≡◌, refl, ℕ, zero, suc, ◌-◌, ◌^◌, ◌<◌, ◌≤◌, ◌⊎◌, List, [], ◌∷◌, ◌++◌, take, drop, length, flat_map, Result, Ok, Err, inl, inr, sym, ap, subst, ◌∙◌, append-nil, append_assoc, arith}
+use Rattle.std.proofs.Common.{◌≡◌, refl, ℕ, zero, suc, ◌^◌, ◌<◌, ◌≤◌, ◌⊎◌, List, [], ◌∷◌, ◌++◌, take, drop, length, flat_map, Ok, Err, inl, inr, sym, ap, subst, ◌∙◌, append-nil, append_assoc, arith}
 use Rattle.std.proofs.lemmas.List.{length-append}
 use Rattle.std.proofs.Math.Seq.{take-append_seam, drop-append_seam}
 use Rattle.std.specs.Int.{bytes_high_first}
-use Rattle.byteorder.specs.Endian.{big_from}
 use Rattle.byteorder.specs.Numbers.{length-bytes_high_first}
 use Rattle.agg_protocol.proofs.Bytes.{reads}
 use Rattle.summary_codec.specs.File.{sized_bytes}
@@ -130,9 +129,12 @@ pub read_each : {A : Type 0} (item : List A → Reader A) (write : A → List �
     → (xs before : List A) (rest : List ℕ) → AreRight right before xs → each item (length xs) before (flat_map write xs ++ rest) (Ok (before ++ xs, rest))
 read_each item write right reads_one [] before rest are = (append-nil before, refl)
 read_each item write right reads_one (x ∷ xs) before rest (is, are) =
-    subst (λ all. each item (suc (length xs)) before all (Ok (before ++ x ∷ xs, rest))) (sym (append_assoc (write x) (flat_map write xs) rest))
-    (x, flat_map write xs ++ rest, reads_one before x (flat_map write xs ++ rest) is,
-     subst (λ all. each item (length xs) (before ++ x ∷ []) (flat_map write xs ++ rest) (Ok (all, rest))) (append_assoc before (x ∷ []) xs) (read_each item write right reads_one xs (before ++ x ∷ []) rest are))
+    subst (λ all. each item (suc (length xs)) before all (Ok (before ++ x ∷ xs, rest))) (sym (append_assoc (write x) (flat_map write xs) rest)) (
+      x,
+      flat_map write xs ++ rest,
+      reads_one before x (flat_map write xs ++ rest) is,
+      subst (λ all. each item (length xs) (before ++ x ∷ []) (flat_map write xs ++ rest) (Ok (all, rest))) (append_assoc before (x ∷ []) xs) (read_each item write right reads_one xs (before ++ x ∷ []) rest are),
+    )
 
 -- ---- what is read spells the bytes
 

@@ -1,5 +1,5 @@
 -- What is read spells the bytes, and may be held.
-use Rattle.std.proofs.Common.{◌≡◌, ◌≢◌, refl, ℕ, suc, ◌+◌, ◌*◌, ◌<◌, ◌≤◌, ◌⊎◌, Bool, true, false, cond, not, List, [], ◌∷◌, ◌++◌, map, length, flat_map, Result, Ok, Err, inl, inr, sym, ap, subst, ◌∙◌, append_assoc, append-nil, arith}
+use Rattle.std.proofs.Common.{◌≡◌, ◌≢◌, refl, ℕ, ◌+◌, ◌*◌, ◌<◌, ◌≤◌, ◌⊎◌, Bool, true, false, cond, not, List, [], ◌∷◌, ◌++◌, map, length, flat_map, Result, Ok, Err, inl, inr, sym, ap, subst, ◌∙◌, append_assoc, append-nil, arith}
 use Rattle.std.proofs.lemmas.List.{map-append}
 use Rattle.std.proofs.lemmas.List.Elements.{All-from_recursion}
 use Rattle.std.specs.Int.{bytes_high_first}
@@ -16,23 +16,21 @@ use Rattle.grouping_model.specs.Grouping.{Group}
 use Rattle.grouping_model.specs.Query.{Query}
 use Rattle.grouping_model.specs.declared.limits.TheConstants.{LAST_NUMBER, LAST_ORIGIN, MOST_ROWS}
 use Rattle.packed_rows.specs.Columns.{Column, kinds, printed}
-use Rattle.batch_reader.specs.Rows.{ArePackedRows, packings}
+use Rattle.batch_reader.specs.Rows.{packings}
 use Rattle.having_filter.specs.Checks.{checked, checked_places, all_of, has_too_many, is_shallow, are_shallow, has_columns, placed, are_plain, kinds_fit, is_grouped}
 use Rattle.having_filter.specs.Forms.{Written}
 use Rattle.having_filter.specs.Kept.{by_names, key_kinds}
 use Rattle.having_filter.specs.Meaning.{Checked, meaning}
 use Rattle.having_filter.specs.Spelling.{spelling}
 use Rattle.having_filter.specs.declared.error.QueryError.{QueryError}
-use Rattle.hash_agg.specs.Runs.{Entry, Rises, packed_keys}
+use Rattle.hash_agg.specs.Runs.{Entry, packed_keys}
 use Rattle.hash_agg.specs.Standing.{AreGroups}
 use Rattle.origin_prefix.specs.Parts.{Part, IsEarly, IsPartOf}
 use Rattle.origin_prefix.specs.Held.{Parts, IsHeldPart, AreHeldParts}
 use Rattle.summary_codec.specs.File.{opening, sized_bytes, group_bytes, batch_bytes, part_bytes, file_bytes}
-use Rattle.summary_codec.specs.Short.{IsShort}
 use Rattle.summary_codec.specs.Reading.{IsNext, IsPacking, AreStateBytes, MayFollow, number, group, row, batch, batches, contents, part, text, schema, query, opened, parts, heading, rest, summary, IsSummary}
-use Rattle.summary_codec.proofs.GroupLaws.{run_rises}
 use Rattle.summary_codec.proofs.RisingLaws.{rises_next}
-use Rattle.summary_codec.proofs.ReaderLaws.{AreRight, Spells, SpellsEach, spells_within, spells_sized, spells_each}
+use Rattle.summary_codec.proofs.ReaderLaws.{AreRight, Spells, spells_within, spells_sized, spells_each}
 
 -- ---- lists that are right one behind the other
 
@@ -106,11 +104,14 @@ spells_batch ks prefix before bytes found (n, r, there, (follows, (count, s, tol
     (record {
       is = first.is ∙ ap (λ l. bytes_high_first 4 n ++ l) (second.is ∙ (λ i. bytes_high_first 4 (sym few i) ++ behind i))
           ∙ sym (append_assoc (bytes_high_first 4 n ++ bytes_high_first 4 (length packed)) (flat_map sized_bytes packed) t ∙ append_assoc (bytes_high_first 4 n) (bytes_high_first 4 (length packed)) (flat_map sized_bytes packed ++ t));
-      right = (follows, record {
-        behind = follows.0;
-        within = first.right.1;
-        rows = record { few = subst (λ k. k ≤ MOST_ROWS) (sym few) second.right.1; rows = these.0; of_kinds = All-from_recursion (HasKinds ks) these.0 these.1; packings_are = these.2 };
-      });
+      right = (
+        follows,
+        record {
+          behind = follows.0;
+          within = first.right.1;
+          rows = record { few = subst (λ k. k ≤ MOST_ROWS) (sym few) second.right.1; rows = these.0; of_kinds = All-from_recursion (HasKinds ks) these.0 these.1; packings_are = these.2 };
+        },
+      );
     })
 
 -- what is read of the batches behind a prefix
@@ -232,9 +233,10 @@ spells_schema bytes found (said, r, there, (columns, s, (is, stays), (canonical,
 
 spells_query : (columns : List Column) (bytes : List ℕ) (found : Checked × List ℕ) → query columns bytes (Ok found) → (bytes ≡ sized_bytes (spelling (by_names found.0)) ++ found.1) × (found.0.columns ≡ columns)
 unfolding query
-spells_query columns bytes found (said, r, there, (q, s, (is, stays), (canonical, (same, rests)))) =
-    (spells_text bytes (said, r) there ∙ (λ i. sized_bytes ((sym canonical ∙ ap (λ (c : Checked). spelling (by_names c)) (sym same)) i) ++ (sym stays ∙ sym rests) i),
-     ap (λ (c : Checked). c.columns) same ∙ checked_over columns is.written q is.passed)
+spells_query columns bytes found (said, r, there, (q, s, (is, stays), (canonical, (same, rests)))) = (
+  spells_text bytes (said, r) there ∙ (λ i. sized_bytes ((sym canonical ∙ ap (λ (c : Checked). spelling (by_names c)) (sym same)) i) ++ (sym stays ∙ sym rests) i),
+  ap (λ (c : Checked). c.columns) same ∙ checked_over columns is.written q is.passed,
+)
 
 -- what is read of all origins, to the end
 spells_parts : (q : Checked) (bytes : List ℕ) (held : Parts) → parts q bytes (Ok (held, [])) → (bytes ≡ bytes_high_first 2 (length held) ++ flat_map part_bytes held) × AreHeldParts q held
@@ -244,12 +246,13 @@ spells_parts q bytes held (count, r, there, items) =
     let all = spells_each (part q) part_bytes (IsPartRead q) (spells_part q) count [] r (held, []) items in
     let few : length held ≡ count = ap length all.all ∙ all.count in
     let are : AreRight (IsPartRead q) [] held = subst (AreRight (IsPartRead q) []) (sym all.all) all.are in
-    let behind : r ≡ flat_map part_bytes held = all.is ∙ append-nil (flat_map part_bytes all.more) ∙ ap (flat_map part_bytes) (sym all.all) in
-    (first.is ∙ (λ i. bytes_high_first 2 (sym few i) ++ behind i),
-     record {
-       rising = rising_right nat_cmp nat_cmp_total (λ (p : ℕ × Part). p.0) (IsPartRead q) (λ before p is. is.0) held [] are (none_rise nat_cmp);
-       each = each_right (IsPartRead q) (IsHeldPart q) (λ before p is. is.1) held [] are;
-     })
+    let behind : r ≡ flat_map part_bytes held = all.is ∙ append-nil (flat_map part_bytes all.more) ∙ ap (flat_map part_bytes) (sym all.all) in (
+      first.is ∙ (λ i. bytes_high_first 2 (sym few i) ++ behind i),
+      record {
+        rising = rising_right nat_cmp nat_cmp_total (λ (p : ℕ × Part). p.0) (IsPartRead q) (λ before p is. is.0) held [] are (none_rise nat_cmp);
+        each = each_right (IsPartRead q) (IsHeldPart q) (λ before p is. is.1) held [] are;
+      },
+    )
 
 -- what is read as a file may be held, and its bytes are the one spelling
 pub spelled : (bytes : List ℕ) (q : Checked) (held : Parts) → IsSummary bytes q held → (bytes ≡ file_bytes q held) × AreHeldParts q held

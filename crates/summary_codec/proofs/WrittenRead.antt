@@ -1,5 +1,5 @@
 -- What is written is read as it was.
-use Rattle.std.proofs.Common.{◌≡◌, ◌≢◌, refl, ℕ, suc, ◌+◌, ◌-◌, ◌*◌, ◌^◌, ◌<◌, ◌≤◌, ◌⊎◌, List, [], ◌∷◌, ◌++◌, map, take, drop, length, flat_map, Ok, inl, inr, sym, ap, subst, ◌∙◌, append_assoc, append-nil, arith, sum_by, slice_get, Some, IfSome}
+use Rattle.std.proofs.Common.{◌≡◌, ◌≢◌, refl, ℕ, ◌+◌, ◌*◌, ◌^◌, ◌<◌, ◌≤◌, ◌⊎◌, List, [], ◌∷◌, ◌++◌, map, take, drop, length, flat_map, Ok, inl, inr, sym, ap, subst, ◌∙◌, append_assoc, append-nil, arith, sum_by}
 use Rattle.std.proofs.lemmas.List.{length-append, length-map, map-append, take-append-drop}
 use Rattle.std.proofs.lemmas.List.Elements.{recursion_from_All}
 use Rattle.std.proofs.lemmas.List.Sums.{sum_by-cons}
@@ -12,7 +12,6 @@ use Rattle.std.specs.Cmp.Lexicographic.{slice_cmp}
 use Rattle.grouping_model.specs.Aggregates.{Function, Partial}
 use Rattle.grouping_model.specs.Datum.{Kind, Row, HasKinds}
 use Rattle.grouping_model.specs.Grouping.{Group}
-use Rattle.grouping_model.specs.Parts.{functions}
 use Rattle.grouping_model.specs.Query.{Query}
 use Rattle.grouping_model.specs.declared.limits.TheConstants.{LAST_NUMBER, LAST_ORIGIN, MOST_ROWS, MOST_COLUMNS}
 use Rattle.packed_rows.specs.Packing.{packing}
@@ -22,7 +21,7 @@ use Rattle.packed_rows.proofs.PrintedColumns.{printed_again}
 use Rattle.agg_protocol.specs.States.{shape_of, width_of}
 use Rattle.agg_protocol.proofs.Denoting.{width_known}
 use Rattle.agg_library.specs.declared.kind.AggKind.{AggKind}
-use Rattle.agg_library.specs.Kinds.{functions_of, kind_shape, kind_width, row_width}
+use Rattle.agg_library.specs.Kinds.{kind_shape, kind_width, row_width}
 use Rattle.agg_library.specs.StateRows.{Denotes}
 use Rattle.having_filter.specs.Kept.{IsQuery, by_names, key_kinds}
 use Rattle.having_filter.specs.Meaning.{Checked, meaning}
@@ -30,12 +29,12 @@ use Rattle.having_filter.specs.Spelling.{spelling}
 use Rattle.group_parser.specs.Parsing.{Accepts}
 use Rattle.group_parser.proofs.PrintLaws.{parsed_again}
 use Rattle.hash_agg.specs.Runs.{Entry, Rises, packed_keys}
-use Rattle.hash_agg.specs.Standing.{AreStates, AreGroups}
+use Rattle.hash_agg.specs.Standing.{AreGroups}
 use Rattle.origin_prefix.specs.Parts.{Part, IsEarly, IsPartOf}
 use Rattle.origin_prefix.specs.Held.{Parts, IsHeldPart, AreHeldParts}
 use Rattle.summary_codec.specs.File.{opening, sized_bytes, group_bytes, batch_bytes, part_bytes, file_bytes}
-use Rattle.summary_codec.specs.Short.{IsShort, IsShortBatch, IsShortPart}
-use Rattle.summary_codec.specs.Reading.{both, number, each, IsNext, IsPacking, AreStateBytes, states_width, MayFollow, group, row, batch, batches, contents, part, text, schema, query, parts, heading, rest, opened, summary, IsSummary}
+use Rattle.summary_codec.specs.Short.{IsShort, IsShortPart}
+use Rattle.summary_codec.specs.Reading.{IsNext, IsPacking, AreStateBytes, states_width, MayFollow, group, row, batch, batches, contents, part, text, schema, query, parts, heading, rest, opened, summary, IsSummary}
 use Rattle.summary_codec.proofs.GroupLaws.{width_by_functions}
 use Rattle.summary_codec.proofs.LengthLaws.{short_packing, short_part, few_key_kinds, few_parts, short_schema}
 use Rattle.summary_codec.proofs.RisingLaws.{next_of}
@@ -69,22 +68,26 @@ states_wide q most bytes (partials, are) =
 read_group : (q : Query) (most : ℕ) (before : List Entry) (entry : Entry) (behind : List ℕ) → IsGroupNext q most before entry → group q most before (group_bytes entry ++ behind) (Ok (entry, behind))
 unfolding group
 read_group q most before entry behind is =
-    subst (λ bytes. group q most before bytes (Ok (entry, behind))) (sym (append_assoc (sized_bytes entry.0) entry.1 behind))
-    (entry.0, entry.1 ++ behind, read_sized entry.0 (entry.1 ++ behind) is.short,
-     (is.key, (is.above, (entry.1, behind, (refl, states_wide q most entry.1 is.states), (is.states, (refl, refl))))))
+    subst (λ bytes. group q most before bytes (Ok (entry, behind))) (sym (append_assoc (sized_bytes entry.0) entry.1 behind)) (
+      entry.0,
+      entry.1 ++ behind,
+      read_sized entry.0 (entry.1 ++ behind) is.short,
+      (is.key, (is.above, (entry.1, behind, (refl, states_wide q most entry.1 is.states), (is.states, (refl, refl))))),
+    )
 
 -- the groups of a run stand one behind the other
 groups_next : (q : Query) (most : ℕ) (run : List Entry) (groups : List Group) (before : List Entry) → length (key_kinds q) ≤ MOST_COLUMNS → AreGroups q most run groups → Rises (before ++ run) → AreRight (IsGroupNext q most) before run
 groups_next q most [] groups before few are rises = tt
 groups_next q most (e ∷ run) [] before few are rises = absurd are
-groups_next q most (e ∷ run) (g ∷ groups) before few (is, are) rises =
-    (record {
-       key = (g.0, is.of_kinds, is.key);
-       short = subst IsShort (sym is.key) (short_packing (key_kinds q) g.0 few is.of_kinds);
-       above = next_of (slice_cmp nat_cmp) (packed_keys before) e.0 (packed_keys run) (subst (IsStrictlySortedBy (slice_cmp nat_cmp)) (map-append (λ (x : Entry). x.0) before (e ∷ run)) rises);
-       states = (g.1, is.states);
-     },
-     groups_next q most run groups (before ++ e ∷ []) few are (subst Rises (sym (append_assoc before (e ∷ []) run)) rises))
+groups_next q most (e ∷ run) (g ∷ groups) before few (is, are) rises = (
+  record {
+    key = (g.0, is.of_kinds, is.key);
+    short = subst IsShort (sym is.key) (short_packing (key_kinds q) g.0 few is.of_kinds);
+    above = next_of (slice_cmp nat_cmp) (packed_keys before) e.0 (packed_keys run) (subst (IsStrictlySortedBy (slice_cmp nat_cmp)) (map-append (λ (x : Entry). x.0) before (e ∷ run)) rises);
+    states = (g.1, is.states);
+  },
+  groups_next q most run groups (before ++ e ∷ []) few are (subst Rises (sym (append_assoc before (e ∷ []) run)) rises),
+)
 
 -- ---- early batches
 
@@ -111,30 +114,44 @@ read_batch ks prefix before b behind is =
     let rows : List ℕ = flat_map sized_bytes b.1 in
     let within = is.within in
     let few = is.few in
-    subst (λ bytes. batch ks prefix before bytes (Ok (b, behind))) (sym (append_assoc (n ++ m) rows behind ∙ append_assoc n m (rows ++ behind)))
-    (b.0, m ++ (rows ++ behind), read_within 4 LAST_NUMBER b.0 (m ++ (rows ++ behind)) (omega (arith, within)) is.within,
-     (is.follows, (length b.1, rows ++ behind, read_within 4 MOST_ROWS (length b.1) (rows ++ behind) (omega (arith, few)) is.few,
-      (b.1, behind, read_each (row ks) sized_bytes (λ _ packed. IsPacking ks packed × IsShort packed) (read_row ks) b.1 [] behind is.rows, (refl, refl)))))
+    subst (λ bytes. batch ks prefix before bytes (Ok (b, behind))) (sym (append_assoc (n ++ m) rows behind ∙ append_assoc n m (rows ++ behind))) (
+      b.0,
+      m ++ (rows ++ behind),
+      read_within 4 LAST_NUMBER b.0 (m ++ (rows ++ behind)) (omega (arith, within)) is.within,
+      (
+        is.follows,
+        (
+          length b.1,
+          rows ++ behind,
+          read_within 4 MOST_ROWS (length b.1) (rows ++ behind) (omega (arith, few)) is.few,
+          (b.1, behind, read_each (row ks) sized_bytes (λ _ packed. IsPacking ks packed × IsShort packed) (read_row ks) b.1 [] behind is.rows, (refl, refl)),
+        ),
+      ),
+    )
 
 batches_next : (ks : List Kind) (prefix : ℕ) (early before : List (ℕ × List (List ℕ))) → length ks ≤ MOST_COLUMNS → AllByRecursion (IsEarly ks prefix) early → IsStrictlySortedBy nat_cmp (map (λ (b : ℕ × List (List ℕ)). b.0) (before ++ early))
     → AreRight (IsBatchNext ks prefix) before early
 batches_next ks prefix [] before few all rising = tt
 batches_next ks prefix (b ∷ early) before few all rising =
-    let keys = λ (x : ℕ × List (List ℕ)). x.0 in
-    (record {
-       follows = (all.0.behind, next_of nat_cmp (map keys before) b.0 (map keys early) (subst (IsStrictlySortedBy nat_cmp) (map-append keys before (b ∷ early)) rising));
-       within = all.0.within;
-       few = all.0.rows.few;
-       rows = subst (AreRight (λ _ packed. IsPacking ks packed × IsShort packed) []) (sym all.0.rows.packings_are) (rows_next ks all.0.rows.rows [] few (recursion_from_All (HasKinds ks) all.0.rows.rows all.0.rows.of_kinds));
-     },
-     batches_next ks prefix early (before ++ b ∷ []) few all.1 (subst (λ es. IsStrictlySortedBy nat_cmp (map keys es)) (sym (append_assoc before (b ∷ []) early)) rising))
+    let keys = λ (x : ℕ × List (List ℕ)). x.0 in (
+      record {
+        follows = (all.0.behind, next_of nat_cmp (map keys before) b.0 (map keys early) (subst (IsStrictlySortedBy nat_cmp) (map-append keys before (b ∷ early)) rising));
+        within = all.0.within;
+        few = all.0.rows.few;
+        rows = subst (AreRight (λ _ packed. IsPacking ks packed × IsShort packed) []) (sym all.0.rows.packings_are) (rows_next ks all.0.rows.rows [] few (recursion_from_All (HasKinds ks) all.0.rows.rows all.0.rows.of_kinds));
+      },
+      batches_next ks prefix early (before ++ b ∷ []) few all.1 (subst (λ es. IsStrictlySortedBy nat_cmp (map keys es)) (sym (append_assoc before (b ∷ []) early)) rising),
+    )
 
 read_batches : (ks : List Kind) (prefix : ℕ) (early : List (ℕ × List (List ℕ))) (behind : List ℕ) → length early < 256 ^ 4 → (0 < prefix) ⊎ (0 < length early) → AreRight (IsBatchNext ks prefix) [] early
     → batches ks prefix (bytes_high_first 4 (length early) ++ (flat_map batch_bytes early ++ behind)) (Ok (early, behind))
 unfolding batches
-read_batches ks prefix early behind few some are =
-    (length early, flat_map batch_bytes early ++ behind, read_number 4 (length early) (flat_map batch_bytes early ++ behind) few,
-     (some, read_each (batch ks prefix) batch_bytes (IsBatchNext ks prefix) (read_batch ks prefix) early [] behind are))
+read_batches ks prefix early behind few some are = (
+  length early,
+  flat_map batch_bytes early ++ behind,
+  read_number 4 (length early) (flat_map batch_bytes early ++ behind) few,
+  (some, read_each (batch ks prefix) batch_bytes (IsBatchNext ks prefix) (read_batch ks prefix) early [] behind are),
+)
 
 -- ---- parts
 
@@ -145,13 +162,23 @@ read_contents q p behind is_query is some =
     let short : IsShortPart p = short_part q p is_query is in
     let most = p.prefix * MOST_ROWS in
     let columns : length (kinds q.columns) ≤ MOST_COLUMNS = subst (λ n. n ≤ MOST_COLUMNS) (sym (length-map q.columns (λ (c : Column). c.kind))) is_query.columns_are.most in
-    let early : List ℕ = bytes_high_first 4 (length p.early) ++ (flat_map batch_bytes p.early ++ behind) in
-    (length p.run, flat_map group_bytes p.run ++ early, read_within 8 most (length p.run) (flat_map group_bytes p.run ++ early) short.few_groups is.few,
-     (p.run, early,
-      read_each (group (meaning q) most) group_bytes (IsGroupNext (meaning q) most) (read_group (meaning q) most) p.run [] early
-      (groups_next (meaning q) most p.run is.run.groups [] (few_key_kinds q is_query) is.run.are is.run.rises),
-      (p.early, behind, read_batches (kinds q.columns) p.prefix p.early behind short.few_batches some (batches_next (kinds q.columns) p.prefix p.early [] columns is.early is.rising),
-       (refl, refl))))
+    let early : List ℕ = bytes_high_first 4 (length p.early) ++ (flat_map batch_bytes p.early ++ behind) in (
+      length p.run,
+      flat_map group_bytes p.run ++ early,
+      read_within 8 most (length p.run) (flat_map group_bytes p.run ++ early) short.few_groups is.few,
+      (
+        p.run,
+        early,
+        read_each (group (meaning q) most) group_bytes (IsGroupNext (meaning q) most) (read_group (meaning q) most) p.run [] early
+            (groups_next (meaning q) most p.run is.run.groups [] (few_key_kinds q is_query) is.run.are is.run.rises),
+        (
+          p.early,
+          behind,
+          read_batches (kinds q.columns) p.prefix p.early behind short.few_batches some (batches_next (kinds q.columns) p.prefix p.early [] columns is.early is.rising),
+          (refl, refl),
+        ),
+      ),
+    )
 
 -- a part may stand behind others in a file
 pub record IsPartNext (q : Checked) (before : Parts) (held : ℕ × Part) : Type 0 where
@@ -176,10 +203,20 @@ read_part q is_query before held behind is =
     let within = is.is.part.within in
     let rest : List ℕ = n ++ (g ++ (m ++ (e ++ behind))) in
     subst (λ bytes. part q before bytes (Ok (held, behind)))
-    (sym (append_assoc (o ++ f ++ n ++ g ++ m) e behind ∙ append_assoc (o ++ f ++ n ++ g) m (e ++ behind) ∙ append_assoc (o ++ f ++ n) g (m ++ (e ++ behind)) ∙ append_assoc (o ++ f) n (g ++ (m ++ (e ++ behind))) ∙ append_assoc o f rest))
-    (held.0, f ++ rest, read_within 2 LAST_ORIGIN held.0 (f ++ rest) (omega (arith, low)) is.is.within,
-     (is.above, (p.prefix, rest, read_within 4 LAST_NUMBER p.prefix rest (omega (arith, within)) is.is.part.within,
-      (p, behind, read_contents q p behind is_query is.is.part (some is.is.some), (refl, refl)))))
+    (sym (append_assoc (o ++ f ++ n ++ g ++ m) e behind ∙ append_assoc (o ++ f ++ n ++ g) m (e ++ behind) ∙ append_assoc (o ++ f ++ n) g (m ++ (e ++ behind)) ∙ append_assoc (o ++ f) n (g ++ (m ++ (e ++ behind))) ∙ append_assoc o f rest)) (
+      held.0,
+      f ++ rest,
+      read_within 2 LAST_ORIGIN held.0 (f ++ rest) (omega (arith, low)) is.is.within,
+      (
+        is.above,
+        (
+          p.prefix,
+          rest,
+          read_within 4 LAST_NUMBER p.prefix rest (omega (arith, within)) is.is.part.within,
+          (p, behind, read_contents q p behind is_query is.is.part (some is.is.some), (refl, refl)),
+        ),
+      ),
+    )
   where
     some : (0 < held.1.prefix) ⊎ (held.1.early ≢ []) → (0 < held.1.prefix) ⊎ (0 < length held.1.early)
     some (inl low) = inl low
@@ -188,16 +225,20 @@ read_part q is_query before held behind is =
 parts_next : (q : Checked) (held before : Parts) → AllByRecursion (IsHeldPart q) held → IsStrictlySortedBy nat_cmp (map (λ (p : ℕ × Part). p.0) (before ++ held)) → AreRight (IsPartNext q) before held
 parts_next q [] before all rising = tt
 parts_next q (p ∷ held) before all rising =
-    let keys = λ (x : ℕ × Part). x.0 in
-    (record { above = next_of nat_cmp (map keys before) p.0 (map keys held) (subst (IsStrictlySortedBy nat_cmp) (map-append keys before (p ∷ held)) rising); is = all.0 },
-     parts_next q held (before ++ p ∷ []) all.1 (subst (λ ps. IsStrictlySortedBy nat_cmp (map keys ps)) (sym (append_assoc before (p ∷ []) held)) rising))
+    let keys = λ (x : ℕ × Part). x.0 in (
+      record { above = next_of nat_cmp (map keys before) p.0 (map keys held) (subst (IsStrictlySortedBy nat_cmp) (map-append keys before (p ∷ held)) rising); is = all.0 },
+      parts_next q held (before ++ p ∷ []) all.1 (subst (λ ps. IsStrictlySortedBy nat_cmp (map keys ps)) (sym (append_assoc before (p ∷ []) held)) rising),
+    )
 
 read_parts : (q : Checked) (held : Parts) (behind : List ℕ) → IsQuery q → AreHeldParts q held → parts q (bytes_high_first 2 (length held) ++ (flat_map part_bytes held ++ behind)) (Ok (held, behind))
 unfolding parts
 read_parts q held behind is_query are =
-    let few = few_parts q held are in
-    (length held, flat_map part_bytes held ++ behind, read_within 2 (LAST_ORIGIN + 1) (length held) (flat_map part_bytes held ++ behind) (omega (arith, few)) few,
-     read_each (part q) part_bytes (IsPartNext q) (read_part q is_query) held [] behind (parts_next q held [] are.each are.rising))
+    let few = few_parts q held are in (
+      length held,
+      flat_map part_bytes held ++ behind,
+      read_within 2 (LAST_ORIGIN + 1) (length held) (flat_map part_bytes held ++ behind) (omega (arith, few)) few,
+      read_each (part q) part_bytes (IsPartNext q) (read_part q is_query) held [] behind (parts_next q held [] are.each are.rising),
+    )
 
 -- ---- the whole file
 
@@ -226,8 +267,14 @@ read_again q held is columns spelled are =
     let n : List ℕ = bytes_high_first 2 (length held) in
     let p : List ℕ = flat_map part_bytes held in
     subst (λ bytes. IsSummary bytes q held)
-    (sym (append_assoc (opening ++ c ++ t) n p ∙ append_assoc (opening ++ c) t (n ++ p) ∙ append_assoc opening c (t ++ (n ++ p))))
-    (q, n ++ p,
-     (tt, c ++ (t ++ (n ++ p)), refl, (q.columns, t ++ (n ++ p), read_schema q.columns (t ++ (n ++ p)) is.columns_are columns, read_query q (n ++ p) is spelled)),
-     (held, [], (held, [], subst (λ bytes. parts q bytes (Ok (held, []))) (ap (λ r. n ++ r) (append-nil p)) (read_parts q held [] is are), (tt, [], (refl, refl), (refl, refl))),
-      (refl, refl)))
+    (sym (append_assoc (opening ++ c ++ t) n p ∙ append_assoc (opening ++ c) t (n ++ p) ∙ append_assoc opening c (t ++ (n ++ p)))) (
+      q,
+      n ++ p,
+      (tt, c ++ (t ++ (n ++ p)), refl, (q.columns, t ++ (n ++ p), read_schema q.columns (t ++ (n ++ p)) is.columns_are columns, read_query q (n ++ p) is spelled)),
+      (
+        held,
+        [],
+        (held, [], subst (λ bytes. parts q bytes (Ok (held, []))) (ap (λ r. n ++ r) (append-nil p)) (read_parts q held [] is are), (tt, [], (refl, refl), (refl, refl))),
+        (refl, refl),
+      ),
+    )

@@ -11,13 +11,14 @@ use Rattle.summary_codec.specs.File.{file_bytes}
 
 -- what is known of an origin: its unbroken prefix, the bytes of the groups of the prefix's rows, and its early batches
 abbrev pub world_part : Checked → World → Knowledge → ℕ → ℕ × Part
-world_part query world known origin =
-    (origin,
-     record {
-       prefix = prefix known origin;
-       run = run_bytes (part (meaning query) (origin_rows world known origin));
-       early = map (λ number. (number, packings (batch_rows world origin number))) (early known origin);
-     })
+world_part query world known origin = (
+  origin,
+  record {
+    prefix = prefix known origin;
+    run = run_bytes (part (meaning query) (origin_rows world known origin));
+    early = map (λ number. (number, packings (batch_rows world origin number))) (early known origin);
+  },
+)
 
 -- the file of these, by rising origin
 abbrev pub world_file : Checked → World → Knowledge → List ℕ

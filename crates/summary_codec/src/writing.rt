@@ -85,10 +85,7 @@ fn push_batch(out: &mut Vec<u8>, number: u32, rows: &PackedRows) -> Result<(), A
 }
 
 /// Appends early batches, one after the other.
-fn push_batches(
-    out: &mut Vec<u8>,
-    early: &BTreeMap<u32, PackedRows>,
-) -> Result<(), AllocError>
+fn push_batches(out: &mut Vec<u8>, early: &BTreeMap<u32, PackedRows>) -> Result<(), AllocError>
     requires { AllByRecursion IsShortBatch early.now.entries }
     ensures { OnOk result (out.new.items ≡ out.old.items ++ flat_map batch_bytes early.now.entries) }
 {

@@ -1,4 +1,3 @@
-use Rattle.std.proofs.Common.{ap}
 use Rattle.summary_codec.proofs.OneReading as one
 use Rattle.summary_codec.proofs.SpelledRead as spelled
 use Rattle.summary_codec.proofs.WrittenRead as written

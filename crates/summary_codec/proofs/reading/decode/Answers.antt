@@ -9,7 +9,7 @@ unfolding summary
 returns-in_err-parts-clause-fault c =
     handed_on c.from_residual-in_err-parts.result c.in_err-parts.field-0.0 _ c.from_residual-in_err-parts.ensures.1
     (λ memory. subst (λ bytes. HasFault bytes c.in_err-parts.field-0.0) c.new-fields.ensures
-        (inr (c.in_ok-query.query, c.read_heading.new.fields, c.in_ok-query.ensures.read, inl (c.in_err-parts.ensures.fault memory))))
+    (inr (c.in_ok-query.query, c.read_heading.new.fields, c.in_ok-query.ensures.read, inl (c.in_err-parts.ensures.fault memory))))
 
 pub returns-clause-held : goal.returns-clause-held
 unfolding summary

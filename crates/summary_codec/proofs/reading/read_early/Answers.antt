@@ -8,7 +8,7 @@ pub returns-in_err-read_batch-clause-fault : goal.returns-in_err-read_batch-clau
 returns-in_err-read_batch-clause-fault c =
     handed_on c.from_residual.result c.in_err-read_batch.field-0.0 _ c.from_residual.ensures.1
     (λ memory. read_fault (batch (kinds c.args.schema.now) c.args.prefix) c.args.count c.args.fields.now c.loop.counter c.loop.early.entries c.loop.fields c.in_err-read_batch.field-0.0 c.loop-test.true
-        (c.in_err-read_batch.ensures.fault memory) c.loop.invariant)
+    (c.in_err-read_batch.ensures.fault memory) c.loop.invariant)
 
 pub loop-preserved : goal.loop-preserved
 loop-preserved c =

@@ -7,7 +7,7 @@ pub returns-in_err-read_part-clause-fault : goal.returns-in_err-read_part-clause
 returns-in_err-read_part-clause-fault c =
     handed_on c.from_residual.result c.in_err-read_part.field-0.0 _ c.from_residual.ensures.1
     (λ memory. read_fault (part c.args.query.now) c.args.count c.args.fields.now c.loop.counter c.loop.parts.entries c.loop.fields c.in_err-read_part.field-0.0 c.loop-test.true
-        (c.in_err-read_part.ensures.fault memory) c.loop.invariant)
+    (c.in_err-read_part.ensures.fault memory) c.loop.invariant)
 
 pub loop-preserved : goal.loop-preserved
 loop-preserved c =

@@ -9,7 +9,7 @@ pub returns-in_err-read_row-clause-fault : goal.returns-in_err-read_row-clause-f
 returns-in_err-read_row-clause-fault c =
     handed_on c.from_residual.result c.in_err-read_row.field-0.0 _ c.from_residual.ensures.1
     (λ memory. read_fault (row (kinds_of c.args.kinds.now)) c.args.count c.args.fields.now c.loop.counter (bytes_of c.loop.rows.items) c.loop.fields c.in_err-read_row.field-0.0 c.loop-test.true
-        (c.in_err-read_row.ensures.fault memory) c.loop.invariant)
+    (c.in_err-read_row.ensures.fault memory) c.loop.invariant)
 
 pub loop-preserved : goal.loop-preserved
 loop-preserved c =

@@ -1,6 +1,5 @@
-use Rattle.std.proofs.Common.{Ok, sym, subst}
 use Rattle.packed_rows.specs.View.{kinds_of, bytes_of}
-use Rattle.summary_codec.specs.Reading.{row, each}
+use Rattle.summary_codec.specs.Reading.{row}
 use Rattle.summary_codec.proofs.LoopLaws.{ReadSoFar}
 use Rattle.summary_codec.proofs.reading.read_rows.Given as goal
 

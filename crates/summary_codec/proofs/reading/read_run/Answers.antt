@@ -1,4 +1,3 @@
-use Rattle.std.proofs.Common.{sym}
 use Rattle.having_filter.specs.Meaning.{meaning}
 use Rattle.summary_codec.specs.Reading.{group}
 use Rattle.summary_codec.proofs.FaultLaws.{handed_on}
@@ -9,7 +8,7 @@ pub returns-in_err-read_group-clause-fault : goal.returns-in_err-read_group-clau
 returns-in_err-read_group-clause-fault c =
     handed_on c.from_residual.result c.in_err-read_group.field-0.0 _ c.from_residual.ensures.1
     (λ memory. read_fault (group (meaning c.args.query.now) c.args.most) c.args.count c.args.fields.now c.loop.counter c.loop.run c.loop.fields c.in_err-read_group.field-0.0 c.loop-test.true
-        (c.in_err-read_group.ensures.fault memory) c.loop.invariant)
+    (c.in_err-read_group.ensures.fault memory) c.loop.invariant)
 
 pub loop-preserved : goal.loop-preserved
 loop-preserved c =

@@ -1,4 +1,4 @@
-use Rattle.std.specs.Prelude.{◌≡◌, ℕ, ◌++◌, flat_map}
+use Rattle.std.specs.Prelude.{◌≡◌, ◌++◌, flat_map}
 use Rattle.std.specs.List.{AllByRecursion}
 use Rattle.summary_codec.specs.Short.{IsShortBatch}
 use Rattle.summary_codec.specs.File.{batch_bytes}

@@ -1,4 +1,4 @@
-use Rattle.std.specs.Prelude.{length, ◌<◌, ◌≤◌, List, ℕ, IsUtf8}
+use Rattle.std.specs.Prelude.{length, ◌<◌, List, ℕ, IsUtf8}
 use Rattle.std.proofs.Common.{subst, sym, ◌∙◌, arith, refl, ap}
 use Rattle.having_filter.specs.Kept.{by_names}
 use Rattle.having_filter.specs.Spelling.{spelling}

@@ -1,6 +1,6 @@
 use Rattle.std.specs.Prelude.{◌≡◌, ◌++◌, length, List, ℕ, flat_map}
 use Rattle.std.specs.Int.{bytes_high_first}
-use Rattle.std.proofs.Common.{refl, ap, ◌∙◌}
+use Rattle.std.proofs.Common.{ap, ◌∙◌}
 use Rattle.summary_codec.specs.File.{batch_bytes, group_bytes, part_bytes}
 use Rattle.summary_codec.proofs.WriteLaws.{says, behind}
 use Rattle.summary_codec.proofs.writing.push_part.Goals as goal
