@@ -1,7 +1,6 @@
 -- The file of a world depends on what is known alone.
 use Rattle.std.specs.Prelude.{◌≡◌, refl, ℕ, List, [], ◌∷◌, map, unwrap_or, IsTrue}
 use Rattle.std.proofs.Common.{ap, inl, inr, arith}
-use Rattle.grouping_model.specs.Datum.{Row}
 use Rattle.grouping_model.specs.Grouping.{part}
 use Rattle.grouping_model.specs.World.{World, Knowledge, knows, origins, prefix, early, count_up, batch_rows, origin_rows}
 use Rattle.grouping_model.proofs.Members.{Member, to_contains}

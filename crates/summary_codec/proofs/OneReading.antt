@@ -17,7 +17,7 @@ use Rattle.hash_agg.specs.Runs.{Entry, packed_keys}
 use Rattle.origin_prefix.specs.Parts.{Part}
 use Rattle.origin_prefix.specs.Held.{Parts}
 use Rattle.summary_codec.specs.File.{opening}
-use Rattle.summary_codec.specs.Reading.{IsSummary, HasFault, Outcome, taken, number, number_within, sized, each, IsNext, IsPacking, AreStateBytes, states_width, MayFollow, IsCutShort, group, row, batch, batches, contents, part, columns_in, query_in, text, schema, query, opened, ended, parts, heading, rest, summary}
+use Rattle.summary_codec.specs.Reading.{IsSummary, HasFault, Outcome, Reader, done, both, must, taken, number, number_within, sized, each, IsNext, IsPacking, AreStateBytes, states_width, MayFollow, IsCutShort, group, row, batch, batches, contents, part, columns_in, query_in, text, schema, query, opened, ended, parts, heading, rest, summary}
 use Rattle.summary_codec.specs.declared.error.SummaryError.{SummaryError}
 use Rattle.summary_codec.specs.declared.error.SummaryError.TheVariants as fault
 use Rattle.summary_codec.specs.declared.error.SummaryError.TheVariants.{NotASummary, Truncated, Trailing, NotCanonical, OutOfRange, BadPacked, BadState}

@@ -8,7 +8,6 @@ use Rattle.agg_protocol.proofs.Bytes.{reads}
 use Rattle.summary_codec.specs.File.{sized_bytes}
 use Rattle.summary_codec.specs.Reading.{Outcome, Reader, done, both, must, taken, number, number_within, sized, each}
 use Rattle.summary_codec.specs.declared.error.SummaryError.{SummaryError}
-use Rattle.summary_codec.specs.declared.error.SummaryError.TheVariants.{OutOfRange}
 
 -- ---- one outcome
 

@@ -1,6 +1,6 @@
 -- No bytes are without an outcome. Whether bytes are a packing, or a state, or a schema's text, is stated and not computed, so this is said
 -- of what would follow if there were none.
-use Rattle.std.proofs.Common.{◌≡◌, ◌≢◌, refl, ℕ, zero, suc, ◌<◌, ◌≤◌, List, [], ◌∷◌, ◌++◌, take, drop, length, slice_index, Result, Ok, Err, inl, inr, sym, ap, subst, ◌∙◌, arith}
+use Rattle.std.proofs.Common.{◌≡◌, ◌≢◌, refl, ℕ, zero, suc, ◌<◌, List, [], ◌∷◌, ◌++◌, take, drop, length, slice_index, Result, Ok, Err, inl, inr, sym, ap, subst, ◌∙◌, arith}
 use Rattle.std.proofs.lemmas.List.{length-take, take-append-drop}
 use Rattle.std.proofs.lemmas.Bool.{cases_lt}
 use Rattle.byteorder.specs.Endian.{big_from}
@@ -66,24 +66,24 @@ in_two count bytes = sym (take-append-drop count bytes)
 
 pub some_taken : (count : ℕ) → HasOutcome (taken count)
 some_taken count bytes are never = elim (cases_lt (length bytes) count) [
-    | inl low ↦ never (Err Truncated) (low, refl) tt
-    | inr high ↦
-        let wide = length-take count bytes in
-        never (Ok (take count bytes, drop count bytes)) (in_two count bytes, omega (arith, wide, high)) (rest_of (take count bytes) (drop count bytes) (subst AreBytes (in_two count bytes) are))
-  ]
+  | inl low ↦ never (Err Truncated) (low, refl) tt
+  | inr high ↦
+      let wide = length-take count bytes in
+      never (Ok (take count bytes, drop count bytes)) (in_two count bytes, omega (arith, wide, high)) (rest_of (take count bytes) (drop count bytes) (subst AreBytes (in_two count bytes) are))
+]
 
 pub some_number : (width : ℕ) → HasOutcome (number width)
 unfolding number
 some_number width bytes are never = elim (cases_lt (length bytes) width) [
-    | inl low ↦ never (Err Truncated) (low, refl) tt
-    | inr high ↦
-        let wide = length-take width bytes in
-        let whole = subst AreBytes (in_two width bytes) are in
-        let front = front_of (take width bytes) (drop width bytes) whole in
-        never (Ok (big_from 0 width (take width bytes), drop width bytes))
-        (in_two width bytes ∙ ap (λ f. f ++ drop width bytes) (own_bytes width (take width bytes) front (omega (arith, wide, high))), big_from-lt 0 width (take width bytes) front)
-        (rest_of (take width bytes) (drop width bytes) whole)
-  ]
+  | inl low ↦ never (Err Truncated) (low, refl) tt
+  | inr high ↦
+      let wide = length-take width bytes in
+      let whole = subst AreBytes (in_two width bytes) are in
+      let front = front_of (take width bytes) (drop width bytes) whole in
+      never (Ok (big_from 0 width (take width bytes), drop width bytes))
+      (in_two width bytes ∙ ap (λ f. f ++ drop width bytes) (own_bytes width (take width bytes) front (omega (arith, wide, high))), big_from-lt 0 width (take width bytes) front)
+      (rest_of (take width bytes) (drop width bytes) whole)
+]
 
 pub some_each : {A : Type 0} (item : List A → Reader A) → ((before : List A) → HasOutcome (item before)) → (n : ℕ) (before : List A) → HasOutcome (each item n before)
 some_each item some zero before = some_done before
