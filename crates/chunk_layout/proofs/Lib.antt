@@ -7,3 +7,4 @@ pub mod Numbers
 pub mod Carves
 pub mod Lending
 pub mod Fields
+pub mod PieceLaws

@@ -76,6 +76,11 @@ with_block [] block x = Some x ∷ []
 with_block (b ∷ bs) zero x = Some x ∷ bs
 with_block (b ∷ bs) (suc block) x = b ∷ with_block bs block x
 
+-- whether a block is the one that is kept
+abbrev pub is_kept : Option ℕ → ℕ → Bool
+is_kept None block = false
+is_kept (Some kept) block = kept == block
+
 -- the blocks of which one is kept, or none
 abbrev pub only : List (Option ℕ) → Option ℕ → List (Option ℕ)
 only blocks None = replicate (length blocks) None

@@ -3,7 +3,7 @@ ghost use Rattle.std.specs.Prelude.{◌≡◌, ◌+◌, ◌*◌, ◌-◌, ◌^�
 ghost use Rattle.std.specs.Borrow.{sem};
 ghost use Rattle.block_memory.specs.Cells.{zeros};
 ghost use Rattle.chunk_layout.specs.Every.{Every};
-ghost use Rattle.chunk_layout.specs.Pieces.{has, piece_at, put_at, with_piece, without, outside, with_block, size_at, total, only, IsClear};
+ghost use Rattle.chunk_layout.specs.Pieces.{has, same_place, is_kept, piece_at, put_at, with_piece, without, outside, with_block, size_at, total, only, IsClear};
 
 use crate::blocks::{
     HEADER, drop_block, put_block, read_bytes, read_word, write_bytes, write_header, write_zeros,
@@ -12,6 +12,9 @@ use crate::place::{Note, Place, Spot};
 use block_memory::{GhostNotes, RawBlock};
 use std::alloc::{AllocError, Global};
 use std::marker::Model;
+
+/// How many bytes are copied at once.
+const PART: usize = 256;
 
 /// Blocks, and the chunks that lie in them.
 #[derive(Drop)]
@@ -64,7 +67,8 @@ impl ChunkLayout {
     pub fn get(&self, place: Place, len: usize) -> &[u8]
         requires there { IsTrue (has self.now.pieces place) }
         requires len { length (piece_at self.now.pieces place).bytes ≡ len }
-        ensures { result.now ≡ (piece_at self.now.pieces place).bytes }
+        ensures value { result.now ≡ (piece_at self.now.pieces place).bytes }
+        ensures len { length result.now ≡ len }
     {
         read_bytes(
             &self.blocks,
@@ -80,6 +84,7 @@ impl ChunkLayout {
         requires len { length (piece_at self.old.pieces place).bytes ≡ len }
         ensures* writes_back { sem 𝓛 (lends_piece self.entry place result) }
         ensures value { result.now ≡ (piece_at self.old.pieces place).bytes }
+        ensures len { length result.now ≡ len }
     {
         let block = self.blocks[place.block as usize].as_mut().unwrap();
         block.bytes_mut(place.offset as usize, len)
@@ -182,5 +187,63 @@ impl ChunkLayout {
         let size = drop_block(&mut self.blocks, &mut self.vacant, block);
         self.held -= size as u64;
         self.notes.add(&Note::Returned(block));
+    }
+
+    /// Gives up all chunks. Their room is not used again before their blocks are given back.
+    fn forget_all(&mut self)
+        ensures { self.new ≡ record { head = self.old.head; blocks = self.old.blocks; pieces = [] } }
+    {
+        self.notes.add(&Note::Cleared);
+    }
+
+    /// The number of the last block that there was, and one more.
+    fn numbers(&self) -> u32
+        ensures { result ≡ length self.now.blocks }
+    {
+        self.blocks.len() as u32
+    }
+
+    /// Gives up all chunks, and gives all blocks back but the one to keep.
+    pub fn clear(&mut self, keep: Option<u32>)
+        ensures { self.new ≡ record { head = self.old.head; blocks = only self.old.blocks keep; pieces = [] } }
+    {
+        self.forget_all();
+        for block in 0..self.numbers() {
+            if !is_kept(keep, block) {
+                self.give_back(block);
+            }
+        }
+    }
+
+    /// Copies the first `n` of the `len` bytes of a chunk to another one, which has no other bytes then.
+    pub fn copy(&mut self, from: Place, len: usize, to: Place, n: usize)
+        requires apart { same_place from to ≡ false }
+        requires from { IsTrue (has self.old.pieces from) }
+        requires to { IsTrue (has self.old.pieces to) }
+        requires len { length (piece_at self.old.pieces from).bytes ≡ len }
+        requires few { n ≤ len }
+        requires room { n ≤ (piece_at self.old.pieces to).room }
+        ensures { self.new ≡ put_at self.old to 0 (take n (piece_at self.old.pieces from).bytes) true }
+    {
+        let mut part = [0u8; PART];
+        self.put_zeros(to, 0, 0);
+        let mut done = 0;
+        while done < n {
+            let step = (n - done).min(PART);
+            let bytes = self.get(from, len);
+            part[..step].copy_from_slice(&bytes[done..done + step]);
+            self.put(to, done, &part[..step], true);
+            done += step;
+        }
+    }
+}
+
+/// Whether a block is the one that is kept.
+fn is_kept(keep: Option<u32>, block: u32) -> bool
+    ensures { result ≡ is_kept keep block }
+{
+    match keep {
+        Some(kept) => kept == block,
+        None => false,
     }
 }

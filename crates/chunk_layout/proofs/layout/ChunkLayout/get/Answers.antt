@@ -20,8 +20,8 @@ read_bytes-requires-clause-written c =
     (subst (IsWritten (block_at c.self.inside.blocks.items c.args.place.block) c.args.place.offset) c.requires.len
     (found-written c.self.inside c.self.invariant c.args.self.now c.self.view_is c.args.place c.requires.there))
 
-pub returns : goal.returns
-returns c =
+pub returns-clause-value : goal.returns-clause-value
+returns-clause-value c =
     holds_unique (block_at c.self.inside.blocks.items c.args.place.block) c.args.place.offset c.read_bytes.result.now _ (c.read_bytes.ensures.len ∙ sym c.requires.len)
     (subst (λ (bs : Blocks). Holds (block_at bs c.args.place.block) c.args.place.offset c.read_bytes.result.now) c.deref.ensures.value c.read_bytes.ensures.value)
     (found-bytes c.self.inside c.self.invariant c.args.self.now c.self.view_is c.args.place c.requires.there)

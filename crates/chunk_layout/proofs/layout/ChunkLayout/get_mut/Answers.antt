@@ -57,5 +57,6 @@ returns c =
         value = holds_unique (block_at x.blocks.items b) c.args.place.offset c.bytes_mut.result.now _ (c.bytes_mut.ensures.len ∙ sym c.requires.len)
             (subst (λ (cells : Cells). Holds cells c.args.place.offset c.bytes_mut.result.now) there c.bytes_mut.ensures.value)
             (found-bytes x c.self.invariant c.args.self.now c.self.view_is c.args.place c.requires.there);
+        len = c.bytes_mut.ensures.len;
       },
     )
