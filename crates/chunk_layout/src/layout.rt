@@ -170,6 +170,7 @@ impl ChunkLayout {
         requires some { 1 ≤ len }
         requires small { len ≤ 2 ^ 31 }
         ensures was_free { IfOk result (λ block. (block ≤ length self.old.blocks) × (get_or self.old.blocks block None ≡ None)) }
+        ensures name { IfOk result (λ block. block < 2 ^ 32) }
         ensures taken { IfOk result (λ block. self.new ≡ record { head = self.old.head; blocks = with_block self.old.blocks block len; pieces = self.old.pieces }) }
         ensures refused { OnErr result (self.new ≡ self.old) }
     {

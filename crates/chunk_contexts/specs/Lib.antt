@@ -1,0 +1,5 @@
+pub mod Chunks
+pub mod Rooms
+pub mod Free
+pub mod Set
+pub mod SetFields

@@ -1,0 +1,160 @@
+//! `AllocSet`: chunks by classes, with a free list for each.
+ghost use Rattle.std.specs.Prelude.{◌≡◌, ◌+◌, ◌*◌, ◌-◌, ◌<◌, ◌≤◌, ◌^◌, min, true, false, [], ◌∷◌, Some, None, IsTrue, IfSome, IfNone, IfOk, OnErr, length, get_or, nat_le};
+ghost use Rattle.block_memory.specs.Cells.{zeros};
+ghost use Rattle.chunk_layout.specs.Pieces.{has, piece_at, total, with_block, resized};
+ghost use Rattle.chunk_contexts.specs.Rooms.{most, rounded, rooms, room_of, largest};
+ghost use Rattle.chunk_contexts.specs.Free.{is_in};
+ghost use Rattle.chunk_contexts.specs.Set.{new_set, set_growth, set_room, block_size, grown, carved, reused, dedicated, set_taken, set_freed, set_put, set_reset};
+
+use crate::active::Active;
+use crate::error::ContextError;
+use crate::free_lists::FreeLists;
+use crate::rooms::{CLASSES, HEADER, LARGEST, MOST, class_of, room_of, rounded};
+use chunk_layout::{ChunkLayout, Place};
+use std::alloc::{AllocError, Global};
+use std::marker::Model;
+
+/// The size of the first block that has chunks of the classes, in bytes.
+const FIRST_BLOCK: usize = 8192;
+
+/// The largest size of a block that has chunks of the classes, in bytes.
+const LAST_BLOCK: usize = 1_048_576;
+
+/// A context for chunks of any size, which are freed one by one.
+#[derive(Drop)]
+pub struct AllocSet {
+    lists: FreeLists,
+    active: Active,
+    next: usize,
+    first: Option<u32>,
+}
+
+impl Model for AllocSet {
+    ghost use Rattle.chunk_contexts.specs.Set.{SetState};
+
+    ghost Value = { SetState };
+
+    ghost use Rattle.chunk_contexts.specs.SetFields.{set_of, AreFields};
+
+    ghost view = { set_of };
+
+    ghost invariant = { AreFields };
+}
+
+/// The size of a new block for a chunk of this room.
+fn block_size(next: usize, room: usize) -> usize
+    requires next { next ≤ 1048576 }
+    requires least { 8192 ≤ next }
+    requires room { room ≤ 8192 }
+    ensures value { result ≡ block_size next room }
+    ensures room { room + 8 ≤ result }
+    ensures small { result ≤ 1048576 }
+{
+    if room + HEADER <= next { next } else { 2 * next }
+}
+
+impl AllocSet {
+    /// Makes a context with no block.
+    pub fn new(alloc: Global) -> AllocSet
+        ensures { result ≡ new_set }
+    {
+        AllocSet {
+            lists: FreeLists {
+                layout: ChunkLayout::new(alloc, true),
+                heads: [None; CLASSES],
+            },
+            active: Active::NONE,
+            next: FIRST_BLOCK,
+            first: None,
+        }
+    }
+
+    /// How many bytes of the block in use are left.
+    fn left(&self) -> usize
+        ensures { result ≡ self.now.left }
+    {
+        self.active.left()
+    }
+
+    /// Takes the first free chunk of a class, if there is one. It has no bytes then.
+    fn reuse(&mut self, class: usize) -> Option<Place>
+        requires { class < 11 }
+        ensures some { IfSome result (λ place. (is_in (room_of class) self.old.free ≡ true) × (self.new ≡ reused self.old (record { place = place; room = room_of class; is_live = true; bytes = [] }))) }
+        ensures fresh { IfSome result (λ place. has self.old.chunks place ≡ false) }
+        ensures none { IfNone result ((is_in (room_of class) self.old.free ≡ false) × (self.new ≡ self.old)) }
+    {
+        let Some(place) = self.lists.reuse(class) else {
+            return None;
+        };
+        Some(place)
+    }
+
+    /// Makes a chunk of no bytes in the block in use.
+    fn carve(&mut self, room: usize) -> Place
+        requires known { IsTrue (is_in room rooms) }
+        requires fits { room + 8 ≤ self.old.left }
+        ensures carved { self.new ≡ carved self.old (record { place = result; room = room; is_live = true; bytes = [] }) }
+        ensures fresh { has self.old.chunks result ≡ false }
+    {
+        self.active.carve(&mut self.lists.layout, HEADER, room)
+    }
+
+    /// Makes a chunk of no bytes in a new block, which is then in use. What was left of the one before is cut up.
+    fn carve_new(&mut self, room: usize) -> Result<Place, AllocError>
+        requires known { IsTrue (is_in room rooms) }
+        requires small { room ≤ 8192 }
+        ensures carved { IfOk result (λ place. self.new ≡ carved (grown self.old place.block (block_size self.old.next room)) (record { place = place; room = room; is_live = true; bytes = [] })) }
+        ensures fresh { IfOk result (λ place. has self.old.chunks place ≡ false) }
+        ensures refused { OnErr result ((self.new ≡ self.old) × (0 < block_size self.old.next room)) }
+    {
+        let size = block_size(self.next, room);
+        let block = self.lists.layout.take_block(size)?;
+        self.lists.cut_up(self.active);
+        self.active = Active {
+            block,
+            used: 0,
+            size,
+        };
+        self.next = (2 * self.next).min(LAST_BLOCK);
+        self.first = self.first.or(Some(block));
+        Ok(self.active.carve(&mut self.lists.layout, HEADER, room))
+    }
+
+    /// Makes a chunk of no bytes in a block of its own.
+    fn dedicate(&mut self, room: usize) -> Result<Place, AllocError>
+        requires large { largest < room }
+        requires small { room ≤ most + 8 }
+        ensures taken { IfOk result (λ place. self.new ≡ dedicated self.old (record { place = place; room = room; is_live = true; bytes = [] })) }
+        ensures fresh { IfOk result (λ place. has self.old.chunks place ≡ false) }
+        ensures refused { OnErr result (self.new ≡ self.old) }
+    {
+        let block = self.lists.layout.take_block(room + HEADER)?;
+        let place = Place {
+            block,
+            offset: HEADER as u32,
+        };
+        self.lists.layout.carve(place, room);
+        Ok(place)
+    }
+
+    /// Makes a chunk of no bytes, with room for `n`.
+    fn claim(&mut self, n: usize) -> Result<Place, AllocError>
+        requires { n ≤ most }
+        ensures taken { IfOk result (λ place. self.new ≡ set_taken self.old n (record { place = place; room = set_room n; is_live = true; bytes = [] })) }
+        ensures fresh { IfOk result (λ place. has self.old.chunks place ≡ false) }
+        ensures refused { OnErr result ((self.new ≡ self.old) × (0 < set_growth self.old n)) }
+    {
+        if n > LARGEST {
+            return self.dedicate(rounded(n));
+        }
+        let class = class_of(n);
+        if let Some(place) = self.reuse(class) {
+            return Ok(place);
+        }
+        let room = room_of(class);
+        if room + HEADER <= self.left() {
+            return Ok(self.carve(room));
+        }
+        self.carve_new(room)
+    }
+}
