@@ -4,3 +4,4 @@ pub mod ListLaws
 pub mod CutLaws
 pub mod SetLaws
 pub mod Growth
+pub mod SetViews

@@ -1,7 +1,7 @@
 //! `AllocSet`: chunks by classes, with a free list for each.
-ghost use Rattle.std.specs.Prelude.{◌≡◌, ◌+◌, ◌*◌, ◌-◌, ◌<◌, ◌≤◌, ◌^◌, min, true, false, [], ◌∷◌, Some, None, IsTrue, IfSome, IfNone, IfOk, OnErr, length, get_or, nat_le};
+ghost use Rattle.std.specs.Prelude.{◌≡◌, ◌+◌, ◌*◌, ◌-◌, ◌<◌, ◌≤◌, ◌^◌, min, true, false, [], ◌∷◌, Some, None, IsTrue, IfSome, IfNone, IfOk, OnOk, OnErr, IfErr, length, get_or, nat_le, take, ◌++◌};
 ghost use Rattle.block_memory.specs.Cells.{zeros};
-ghost use Rattle.chunk_layout.specs.Pieces.{has, piece_at, total, with_block, resized};
+ghost use Rattle.chunk_layout.specs.Pieces.{has, same_place, piece_at, total, with_block, resized};
 ghost use Rattle.chunk_contexts.specs.Rooms.{most, rounded, rooms, room_of, largest};
 ghost use Rattle.chunk_contexts.specs.Free.{is_in};
 ghost use Rattle.chunk_contexts.specs.Set.{new_set, set_growth, set_room, block_size, grown, carved, reused, dedicated, set_taken, set_freed, set_put, set_reset};
@@ -10,7 +10,7 @@ use crate::active::Active;
 use crate::error::ContextError;
 use crate::free_lists::FreeLists;
 use crate::rooms::{CLASSES, HEADER, LARGEST, MOST, class_of, room_of, rounded};
-use chunk_layout::{ChunkLayout, Place};
+use chunk_layout::{ChunkLayout, ChunkName, Place};
 use std::alloc::{AllocError, Global};
 use std::marker::Model;
 
@@ -105,6 +105,7 @@ impl AllocSet {
         requires small { room ≤ 8192 }
         ensures carved { IfOk result (λ place. self.new ≡ carved (grown self.old place.block (block_size self.old.next room)) (record { place = place; room = room; is_live = true; bytes = [] })) }
         ensures fresh { IfOk result (λ place. has self.old.chunks place ≡ false) }
+        ensures held { OnOk result (total self.new.blocks ≡ total self.old.blocks + block_size self.old.next room) }
         ensures refused { OnErr result ((self.new ≡ self.old) × (0 < block_size self.old.next room)) }
     {
         let size = block_size(self.next, room);
@@ -126,6 +127,7 @@ impl AllocSet {
         requires small { room ≤ most + 8 }
         ensures taken { IfOk result (λ place. self.new ≡ dedicated self.old (record { place = place; room = room; is_live = true; bytes = [] })) }
         ensures fresh { IfOk result (λ place. has self.old.chunks place ≡ false) }
+        ensures held { OnOk result (total self.new.blocks ≡ total self.old.blocks + (room + 8)) }
         ensures refused { OnErr result (self.new ≡ self.old) }
     {
         let block = self.lists.layout.take_block(room + HEADER)?;
@@ -142,6 +144,7 @@ impl AllocSet {
         requires { n ≤ most }
         ensures taken { IfOk result (λ place. self.new ≡ set_taken self.old n (record { place = place; room = set_room n; is_live = true; bytes = [] })) }
         ensures fresh { IfOk result (λ place. has self.old.chunks place ≡ false) }
+        ensures held { OnOk result (total self.new.blocks ≡ total self.old.blocks + set_growth self.old n) }
         ensures refused { OnErr result ((self.new ≡ self.old) × (0 < set_growth self.old n)) }
     {
         if n > LARGEST {
@@ -156,5 +159,73 @@ impl AllocSet {
             return Ok(self.carve(room));
         }
         self.carve_new(room)
+    }
+
+    /// Writes `bytes` to a chunk behind the first `kept` of its own, and answers its name.
+    fn write(&mut self, place: Place, kept: usize, bytes: &[u8]) -> ChunkName
+        requires there { IsTrue (has self.old.chunks place) }
+        requires kept { kept ≤ length (piece_at self.old.chunks place).bytes }
+        requires room { kept + length bytes.now ≤ (piece_at self.old.chunks place).room }
+        requires small { kept + length bytes.now ≤ most }
+        ensures name { result ≡ record { block = place.block; offset = place.offset; len = kept + length bytes.now } }
+        ensures put { self.new ≡ set_put self.old place (take kept (piece_at self.old.chunks place).bytes ++ bytes.now) }
+    {
+        self.lists.layout.put(place, kept, bytes, true);
+        ChunkName {
+            block: place.block,
+            offset: place.offset,
+            len: (kept + bytes.len()) as u32,
+        }
+    }
+
+    /// Writes `n` zeros to a chunk behind the first `kept` of its bytes, and answers its name.
+    fn write_zeros(&mut self, place: Place, kept: usize, n: usize) -> ChunkName
+        requires there { IsTrue (has self.old.chunks place) }
+        requires kept { kept ≤ length (piece_at self.old.chunks place).bytes }
+        requires room { kept + n ≤ (piece_at self.old.chunks place).room }
+        requires small { kept + n ≤ most }
+        ensures name { result ≡ record { block = place.block; offset = place.offset; len = kept + n } }
+        ensures put { self.new ≡ set_put self.old place (take kept (piece_at self.old.chunks place).bytes ++ zeros n) }
+    {
+        self.lists.layout.put_zeros(place, kept, n);
+        ChunkName {
+            block: place.block,
+            offset: place.offset,
+            len: (kept + n) as u32,
+        }
+    }
+
+    /// Copies the first `n` of the `len` bytes of a chunk to another, which has no other bytes then.
+    fn copy(&mut self, from: Place, len: usize, to: Place, n: usize)
+        requires apart { same_place from to ≡ false }
+        requires from { IsTrue (has self.old.chunks from) }
+        requires to { IsTrue (has self.old.chunks to) }
+        requires len { length (piece_at self.old.chunks from).bytes ≡ len }
+        requires few { n ≤ len }
+        requires room { n ≤ (piece_at self.old.chunks to).room }
+        ensures { self.new ≡ set_put self.old to (take n (piece_at self.old.chunks from).bytes) }
+    {
+        self.lists.layout.copy(from, len, to, n);
+    }
+
+    /// How many bytes a chunk has room for.
+    fn room(&self, place: Place) -> usize
+        requires { IsTrue (has self.now.chunks place) }
+        ensures { result ≡ (piece_at self.now.chunks place).room }
+    {
+        self.lists.layout.room(place)
+    }
+
+    /// Gives a chunk up.
+    fn release(&mut self, place: Place)
+        requires { IsTrue (has self.old.chunks place) }
+        ensures { self.new ≡ set_freed self.old place }
+    {
+        let room = self.lists.layout.room(place);
+        if room > LARGEST {
+            self.lists.layout.give_back(place.block);
+            return;
+        }
+        self.lists.release(place, room);
     }
 }

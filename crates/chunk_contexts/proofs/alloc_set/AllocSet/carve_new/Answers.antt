@@ -1,5 +1,5 @@
 use Rattle.std.proofs.Common.{◌≡◌, ◌≢◌, ◌+◌, ◌-◌, ◌∷◌, ◌≤◌, ◌<◌, ℕ, List, [], Option, Some, None, true, false, inl, refl, sym, ap, ◌∙◌, subst, arith}
-use Rattle.chunk_layout.specs.Pieces.{Layout, Piece, has, with_block}
+use Rattle.chunk_layout.specs.Pieces.{Layout, Piece, has, total, with_block}
 use Rattle.chunk_layout.specs.declared.place.Place.{Place}
 use Rattle.chunk_contexts.specs.declared.active.Active.{Active}
 use Rattle.chunk_contexts.specs.Chunks.{live}
@@ -10,6 +10,7 @@ use Rattle.std.specs.Option.{option_or}
 use Rattle.chunk_contexts.specs.SetFields.{IsSet}
 use Rattle.chunk_contexts.proofs.ClassLaws.{in-some}
 use Rattle.chunk_contexts.proofs.CutLaws.{cut-live, cut-free}
+use Rattle.chunk_contexts.proofs.SetViews.{total-taken}
 use Rattle.chunk_contexts.proofs.FreeLaws.{live-none}
 use Rattle.chunk_contexts.proofs.SetLaws.{set-rest, rest-taken, set-grown, set-carved}
 use Rattle.chunk_contexts.proofs.alloc_set.AllocSet.carve_new.Goals as goal
@@ -81,3 +82,10 @@ returns-clause-fresh c =
     let cut = cut-is l c.take_block.new.self c.cut_up.new.self.layout x.active b c.block_size-size.result c.in_ok-block.ensures.taken c.cut_up.ensures.cut in
     let chunks = ap (λ (z : Layout). live z.pieces) cut ∙ cut-live rooms_down x.active.block x.active.size x.active.used l.pieces in
     ap (λ (s : SetState). has s.chunks c.carve.result) (sym c.self.view_is) ∙ ap (λ (cs : List Piece). has cs c.carve.result) (sym chunks) ∙ live-none c.cut_up.new.self.layout.pieces c.carve.result c.carve.ensures.fresh
+
+pub returns-clause-held : goal.returns-clause-held
+returns-clause-held c =
+    let x = c.self.inside in let l = x.lists.layout in let b = c.in_ok-block.block in let size = c.block_size-size.result in
+    let cut = cut-is l c.take_block.new.self c.cut_up.new.self.layout x.active b size c.in_ok-block.ensures.taken c.cut_up.ensures.cut in
+    total-taken c.args.self.now l c.carve.new.layout b size (ap (λ (s : SetState). s.blocks) c.self.view_is) c.in_ok-block.ensures.was_free.1 (ap (λ (z : Layout). z.blocks) c.carve.ensures.carved ∙ ap (λ (z : Layout). z.blocks) cut)
+    ∙ ap (λ (n : ℕ). total c.args.self.now.blocks + n) (c.block_size-size.ensures.value ∙ ap (λ (s : SetState). block_size s.next c.args.room) c.self.view_is)

@@ -8,6 +8,7 @@ use Rattle.chunk_contexts.specs.Chunks.{live}
 use Rattle.chunk_contexts.specs.Free.{free_rooms}
 use Rattle.chunk_contexts.specs.Set.{SetState, dedicated}
 use Rattle.chunk_contexts.specs.SetFields.{IsSet}
+use Rattle.chunk_contexts.proofs.SetViews.{total-taken}
 use Rattle.chunk_contexts.proofs.FreeLaws.{live-none}
 use Rattle.chunk_contexts.proofs.SetLaws.{elsewhere-all, size-here, own-fresh, set-dedicated}
 use Rattle.chunk_contexts.proofs.alloc_set.AllocSet.dedicate.Goals as goal
@@ -53,3 +54,9 @@ returns-clause-fresh c =
     let x = c.self.inside in let l = x.lists.layout in let b = c.in_ok-block.block in let f = c.in_ok-block.ensures.was_free in let n = c.in_ok-block.ensures.name in let is = c.self.invariant.set in
     let place : Place = record { block = b; offset = 8 } in
     ap (λ (s : SetState). has s.chunks place) (sym c.self.view_is) ∙ live-none l.pieces place (own-fresh l x.lists.heads x.active x.first is b (c.args.room + 8) f.1 f.0 n c.args.room c.requires.large)
+
+pub returns-clause-held : goal.returns-clause-held
+returns-clause-held c =
+    let x = c.self.inside in let l = x.lists.layout in let b = c.in_ok-block.block in
+    total-taken c.args.self.now l c.carve.new.self b (c.args.room + 8) (ap (λ (s : SetState). s.blocks) c.self.view_is) c.in_ok-block.ensures.was_free.1
+    (ap (λ (z : Layout). z.blocks) c.carve.ensures ∙ ap (λ (z : Layout). z.blocks) c.in_ok-block.ensures.taken)
