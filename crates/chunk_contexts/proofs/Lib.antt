@@ -5,3 +5,5 @@ pub mod CutLaws
 pub mod SetLaws
 pub mod Growth
 pub mod SetViews
+pub mod OverLaws
+pub mod SetMoves

@@ -3,3 +3,4 @@ pub mod Rooms
 pub mod Free
 pub mod Set
 pub mod SetFields
+pub mod ContextLends

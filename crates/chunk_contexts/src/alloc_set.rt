@@ -1,15 +1,17 @@
 //! `AllocSet`: chunks by classes, with a free list for each.
 ghost use Rattle.std.specs.Prelude.{◌≡◌, ◌+◌, ◌*◌, ◌-◌, ◌<◌, ◌≤◌, ◌^◌, min, true, false, [], ◌∷◌, Some, None, IsTrue, IfSome, IfNone, IfOk, OnOk, OnErr, IfErr, length, get_or, nat_le, take, ◌++◌};
 ghost use Rattle.block_memory.specs.Cells.{zeros};
-ghost use Rattle.chunk_layout.specs.Pieces.{has, same_place, piece_at, total, with_block, resized};
+ghost use Rattle.chunk_layout.specs.Pieces.{has, same_place, place_of, piece_at, total, with_block, resized};
 ghost use Rattle.chunk_contexts.specs.Rooms.{most, rounded, rooms, room_of, largest};
+ghost use Rattle.chunk_contexts.specs.Chunks.{chunk_of};
 ghost use Rattle.chunk_contexts.specs.Free.{is_in};
 ghost use Rattle.chunk_contexts.specs.Set.{new_set, set_growth, set_room, block_size, grown, carved, reused, dedicated, set_taken, set_freed, set_put, set_reset};
 
 use crate::active::Active;
 use crate::error::ContextError;
 use crate::free_lists::FreeLists;
-use crate::rooms::{CLASSES, HEADER, LARGEST, MOST, class_of, room_of, rounded};
+use crate::context::ChunkContext;
+use crate::rooms::{CLASSES, HEADER, LARGEST, MOST, check_len, class_of, room_of, rounded};
 use chunk_layout::{ChunkLayout, ChunkName, Place};
 use std::alloc::{AllocError, Global};
 use std::marker::Model;
@@ -143,6 +145,7 @@ impl AllocSet {
     fn claim(&mut self, n: usize) -> Result<Place, AllocError>
         requires { n ≤ most }
         ensures taken { IfOk result (λ place. self.new ≡ set_taken self.old n (record { place = place; room = set_room n; is_live = true; bytes = [] })) }
+        ensures room { OnOk result (n ≤ set_room n) }
         ensures fresh { IfOk result (λ place. has self.old.chunks place ≡ false) }
         ensures held { OnOk result (total self.new.blocks ≡ total self.old.blocks + set_growth self.old n) }
         ensures refused { OnErr result ((self.new ≡ self.old) × (0 < set_growth self.old n)) }
@@ -227,5 +230,133 @@ impl AllocSet {
             return;
         }
         self.lists.release(place, room);
+    }
+
+    /// Makes a chunk of `len` bytes `n` bytes long, where it is.
+    fn stay(&mut self, place: Place, len: usize, n: usize) -> ChunkName
+        requires there { IsTrue (has self.old.chunks place) }
+        requires len { length (piece_at self.old.chunks place).bytes ≡ len }
+        requires room { n ≤ (piece_at self.old.chunks place).room }
+        requires small { n ≤ most }
+        ensures name { result ≡ record { block = place.block; offset = place.offset; len = n } }
+        ensures put { self.new ≡ set_put self.old place (resized (piece_at self.old.chunks place).bytes n) }
+    {
+        let kept = len.min(n);
+        self.write_zeros(place, kept, n - kept)
+    }
+
+    /// Makes a chunk of `len` bytes `n` bytes long, in a new chunk.
+    fn relocate(&mut self, from: Place, len: usize, n: usize) -> Result<ChunkName, AllocError>
+        requires there { IsTrue (has self.old.chunks from) }
+        requires len { length (piece_at self.old.chunks from).bytes ≡ len }
+        requires small { n ≤ most }
+        ensures len { IfOk result (λ moved. moved.len ≡ n) }
+        ensures fresh { IfOk result (λ moved. has self.old.chunks (place_of moved) ≡ false) }
+        ensures moved { IfOk result (λ moved. self.new ≡ set_freed (set_taken self.old n (chunk_of moved (set_room n) (resized (piece_at self.old.chunks from).bytes n))) from) }
+        ensures refused { OnErr result ((self.new ≡ self.old) × (0 < set_growth self.old n)) }
+    {
+        let kept = len.min(n);
+        let place = self.claim(n)?;
+        self.copy(from, len, place, kept);
+        let moved = self.write_zeros(place, kept, n - kept);
+        self.release(from);
+        Ok(moved)
+    }
+}
+
+impl ChunkContext for AllocSet {
+    ghost use Rattle.std.specs.Prelude.{true};
+    ghost use Rattle.chunk_contexts.specs.Rooms.{over_most};
+    ghost use Rattle.chunk_contexts.specs.Set.{set_room, set_growth, set_taken, set_put, set_wrote, set_freed, set_reset};
+
+    ghost chunks = { λ s. s.chunks };
+
+    ghost blocks = { λ s. s.blocks };
+
+    ghost room = { λ s n. set_room n };
+
+    ghost refusal = { λ s n. over_most n };
+
+    ghost growth = { set_growth };
+
+    ghost frees = { λ s. true };
+
+    ghost taken = { set_taken };
+
+    ghost wrote = { set_wrote };
+
+    ghost put = { set_put };
+
+    ghost freed = { set_freed };
+
+    ghost emptied = { set_reset };
+
+    fn alloc(&mut self, bytes: &[u8]) -> Result<ChunkName, ContextError> {
+        check_len(bytes.len())?;
+        let place = self.claim(bytes.len())?;
+        Ok(self.write(place, 0, bytes))
+    }
+
+    fn alloc_zeroed(&mut self, n: u32) -> Result<ChunkName, ContextError> {
+        let len = n as usize;
+        check_len(len)?;
+        let place = self.claim(len)?;
+        Ok(self.write_zeros(place, 0, len))
+    }
+
+    fn get(&self, name: ChunkName) -> &[u8] {
+        self.lists.layout.get(name.place(), name.len as usize)
+    }
+
+    fn get_mut(&mut self, name: ChunkName) -> &mut [u8] {
+        self.lists.layout.get_mut(name.place(), name.len as usize)
+    }
+
+    fn free(&mut self, name: ChunkName) -> Result<(), ContextError> {
+        self.release(name.place());
+        Ok(())
+    }
+
+    fn resize(&mut self, name: ChunkName, n: u32) -> Result<ChunkName, ContextError> {
+        let len = n as usize;
+        check_len(len)?;
+        let place = name.place();
+        if len <= self.room(place) {
+            return Ok(self.stay(place, name.len as usize, len));
+        }
+        Ok(self.relocate(place, name.len as usize, len)?)
+    }
+
+    fn reset(&mut self) {
+        self.lists.clear(self.first);
+        self.active = match self.first {
+            Some(block) => Active {
+                block,
+                used: 0,
+                size: self.lists.layout.size(block),
+            },
+            None => Active::NONE,
+        };
+        self.next = if self.first.is_some() { 2 * FIRST_BLOCK } else { FIRST_BLOCK };
+    }
+
+    fn held(&self) -> u64 {
+        self.lists.layout.held()
+    }
+
+    fn growth_for(&self, n: u32) -> u64 {
+        let len = n as usize;
+        if len > MOST {
+            return 0;
+        }
+        if len > LARGEST {
+            return (rounded(len) + HEADER) as u64;
+        }
+        let class = class_of(len);
+        let room = room_of(class);
+        if self.lists.has_free(class) || room + HEADER <= self.left() {
+            return 0;
+        }
+        block_size(self.next, room) as u64
     }
 }

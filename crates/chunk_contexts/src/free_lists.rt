@@ -1,9 +1,9 @@
 //! Free lists by classes, whose links stand in the free chunks.
 ghost use Rattle.std.specs.Prelude.{◌≡◌, ◌+◌, ◌-◌, ◌<◌, ◌≤◌, true, false, [], ◌∷◌, Some, None, IsTrue, IfSome, IfNone, length, get_or};
 ghost use Rattle.chunk_layout.specs.Every.{Every};
-ghost use Rattle.chunk_layout.specs.Pieces.{has, piece_at, put_at, with_piece, size_at, IsClear};
+ghost use Rattle.chunk_layout.specs.Pieces.{has, piece_at, put_at, only, size_at, IsClear};
 ghost use Rattle.chunk_contexts.specs.Rooms.{room_of, rooms, rooms_down};
-ghost use Rattle.chunk_contexts.specs.Free.{is_in, first_free, link_bytes, cut_used, cut_piece, cut_pieces, AreLists, IsRest, IsLinkable};
+ghost use Rattle.chunk_contexts.specs.Free.{is_in, free_rooms, first_free, link_bytes, cut_used, cut_piece, cut_pieces, AreLists, IsRest, IsLinkable};
 ghost use Rattle.chunk_contexts.specs.Chunks.{live};
 
 use crate::active::Active;
@@ -100,5 +100,24 @@ impl FreeLists {
             let room = room_of(CLASSES - 1 - index);
             self.cut_one(&mut rest, room);
         }
+    }
+
+    /// Whether a chunk of a class is free.
+    pub(crate) fn has_free(&self, class: usize) -> bool
+        requires lists { AreLists self.now.layout self.now.heads }
+        requires class { class < 11 }
+        ensures { result ≡ is_in (room_of class) (free_rooms self.now.layout.pieces) }
+    {
+        self.heads[class].is_some()
+    }
+
+    /// Gives up all chunks, and all blocks but the one to keep.
+    pub(crate) fn clear(&mut self, keep: Option<u32>)
+        requires lists { AreLists self.old.layout self.old.heads }
+        ensures lists { AreLists self.new.layout self.new.heads }
+        ensures cleared { self.new.layout ≡ record { head = 8; blocks = only self.old.layout.blocks keep; pieces = [] } }
+    {
+        self.layout.clear(keep);
+        self.heads = [None; CLASSES];
     }
 }

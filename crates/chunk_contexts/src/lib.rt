@@ -6,6 +6,7 @@
 
 mod active;
 mod alloc_set;
+mod context;
 mod error;
 mod free_lists;
 mod link;
@@ -13,4 +14,5 @@ mod rooms;
 
 pub use alloc_set::AllocSet;
 pub use chunk_layout::ChunkName;
+pub use context::ChunkContext;
 pub use error::ContextError;

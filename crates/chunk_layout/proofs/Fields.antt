@@ -308,3 +308,18 @@ module _ (x : Inside) (ok : AreFields x) (l : Layout) (e : layout_of x ≡ l) (b
     layout-dropped =
         let pieces = ap (λ (z : Blocks × List Note). map (piece_of z.0) (spots_of z.1)) (λ i. (blocks i, notes i)) ∙ pieces-dropped gs x.head b (spots_of x.notes.notes) in
         (λ i. record { head = head i; blocks = sizes-back i; pieces = pieces i }) ∙ ap (λ (z : Layout). record { head = z.head; blocks = set z.blocks b None; pieces = outside z.pieces b }) e
+
+-- the size of a block, also where there is none
+pub size-any : (bs : Blocks) (b : ℕ) → size_at (sizes_of bs) b ≡ length (block_at bs b)
+size-any bs b = elim (cases_lt b (length bs)) [
+  | inl low ↦ size-at bs b low
+  | inr past ↦
+      ap (λ (o : Option ℕ). unwrap_or o 0) (get_or_past (sizes_of bs) b None (omega (arith, past, length-map bs (option_map {T = Cells} length))))
+      ∙ ap (λ (o : Option Cells). length (cells_of o)) (sym (get_or_past bs b None past))
+]
+
+pub small-any : (x : Inside) → AreFields x → (b : ℕ) → length (block_at x.blocks.items b) ≤ 2147483648
+small-any x ok b = elim (cases_lt b (length x.blocks.items)) [
+  | inl low ↦ small-block x ok b low
+  | inr past ↦ omega (arith, ap (λ (o : Option Cells). length (cells_of o)) (get_or_past x.blocks.items b None past))
+]

@@ -132,6 +132,19 @@ pub(crate) fn put_block(
     push_block(blocks, vacant, block)
 }
 
+/// How many bytes the block of a number has: 0 where there is none.
+pub(crate) fn block_len(blocks: &[Option<RawBlock>], number: usize) -> usize
+    ensures { result ≡ length (block_at blocks.now number) }
+{
+    if number >= blocks.len() {
+        return 0;
+    }
+    match &blocks[number] {
+        Some(block) => block.len(),
+        None => 0,
+    }
+}
+
 /// Gives the block of a number back, and answers how many bytes it had: 0 where there was none.
 pub(crate) fn drop_block(
     blocks: &mut Vec<Option<RawBlock>>,

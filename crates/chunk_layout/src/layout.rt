@@ -6,7 +6,7 @@ ghost use Rattle.chunk_layout.specs.Every.{Every};
 ghost use Rattle.chunk_layout.specs.Pieces.{has, same_place, is_kept, piece_at, put_at, with_piece, without, outside, with_block, size_at, total, only, IsClear};
 
 use crate::blocks::{
-    HEADER, drop_block, put_block, read_bytes, read_word, write_bytes, write_header, write_zeros,
+    HEADER, block_len, drop_block, put_block, read_bytes, read_word, write_bytes, write_header, write_zeros,
 };
 use crate::place::{Note, Place, Spot};
 use block_memory::{GhostNotes, RawBlock};
@@ -61,6 +61,14 @@ impl ChunkLayout {
         ensures { result ≡ total self.now.blocks }
     {
         self.held
+    }
+
+    /// The size of a block in bytes, and 0 where there is none.
+    pub fn size(&self, block: u32) -> usize
+        ensures value { result ≡ size_at self.now.blocks block }
+        ensures small { result ≤ 2 ^ 31 }
+    {
+        block_len(&self.blocks, block as usize)
     }
 
     /// The bytes of a chunk that has `len` of them.

@@ -1,4 +1,6 @@
 //! Where a chunk lies, and its name.
+ghost use Rattle.std.specs.Prelude.{◌≡◌};
+ghost use Rattle.chunk_layout.specs.Pieces.{place_of};
 
 /// Where the bytes of a chunk begin: the number of its block, and an offset in bytes from the block's start.
 #[derive(Clone, Copy, Debug, PartialEq, Eq)]
@@ -16,6 +18,18 @@ pub struct ChunkName {
     pub offset: u32,
     /// How many bytes it has.
     pub len: u32,
+}
+
+impl ChunkName {
+    /// Where its bytes begin.
+    pub fn place(self) -> Place
+        ensures { result ≡ place_of self }
+    {
+        Place {
+            block: self.block,
+            offset: self.offset,
+        }
+    }
 }
 
 /// What is noted of a chunk: where it lies, how many bytes it has room for, how many of these were written, and whether
