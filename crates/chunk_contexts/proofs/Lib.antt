@@ -7,3 +7,5 @@ pub mod Growth
 pub mod SetViews
 pub mod OverLaws
 pub mod SetMoves
+pub mod RunLaws
+pub mod RunMoves

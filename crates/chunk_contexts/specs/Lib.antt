@@ -4,3 +4,4 @@ pub mod Free
 pub mod Set
 pub mod SetFields
 pub mod ContextLends
+pub mod Run

@@ -6,6 +6,7 @@
 
 mod active;
 mod alloc_set;
+mod runs;
 mod context;
 mod error;
 mod free_lists;
