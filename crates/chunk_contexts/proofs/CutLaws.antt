@@ -1,9 +1,9 @@
 -- Chunks that are cut from what is left of a block.
-use Rattle.std.proofs.Common.{◌≡◌, ◌≢◌, ℕ, ◌+◌, ◌-◌, ◌<◌, ◌≤◌, inl, inr, Bool, true, false, List, [], ◌∷◌, Option, Some, None, cond, refl, sym, ap, ◌∙◌, subst, arith}
+use Rattle.std.proofs.Common.{◌≡◌, ◌≢◌, ℕ, ◌+◌, ◌-◌, ◌<◌, ◌≤◌, inl, inr, Bool, true, false, List, [], ◌∷◌, cond, refl, sym, ap, ◌∙◌, arith}
 use Rattle.std.specs.Prelude.{◌||◌, nat_le}
-use Rattle.std.proofs.lemmas.Bool.{cases_eq, cases_Bool, cond-true, cond-false, cond_both, leb-true, leb-false, false_from_ne_true}
+use Rattle.std.proofs.lemmas.Bool.{cases_eq, leb-true, false_from_ne_true}
 use Rattle.chunk_layout.specs.Every.{Every, Pairwise}
-use Rattle.chunk_layout.specs.Pieces.{Layout, Piece, same_place, is_at, has, size_at, IsClear}
+use Rattle.chunk_layout.specs.Pieces.{Layout, Piece, is_at, has, size_at, IsClear}
 use Rattle.chunk_layout.specs.declared.place.Place.{Place}
 use Rattle.chunk_layout.proofs.Lists.{by_cond, every_weaker, every_both}
 use Rattle.chunk_layout.proofs.Finding.{same-place}
@@ -103,10 +103,10 @@ cut-free (room ∷ rs) block size used ps =
     let free : free_rooms (cut_piece room block used size ps) ≡ cond b (room ∷ free_rooms ps) (free_rooms ps) = free-by b in
     cut-free rs block size (cut_used room used size) (cut_piece room block used size ps) ∙ (λ i. cut_up rs (left i) (free i))
   where
-  left-by : (b : Bool) → size - cond b (used + 8 + room) used ≡ cond b (size - used - (room + 8)) (size - used)
-  left-by true = omega arith
-  left-by false = refl
+    left-by : (b : Bool) → size - cond b (used + 8 + room) used ≡ cond b (size - used - (room + 8)) (size - used)
+    left-by true = omega arith
+    left-by false = refl
 
-  free-by : (b : Bool) → free_rooms (cond b (cut_one room block used ps ∷ ps) ps) ≡ cond b (room ∷ free_rooms ps) (free_rooms ps)
-  free-by true = refl
-  free-by false = refl
+    free-by : (b : Bool) → free_rooms (cond b (cut_one room block used ps ∷ ps) ps) ≡ cond b (room ∷ free_rooms ps) (free_rooms ps)
+    free-by true = refl
+    free-by false = refl

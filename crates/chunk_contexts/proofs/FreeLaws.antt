@@ -1,12 +1,12 @@
 -- Laws of free chunks, and of live ones among them.
-use Rattle.std.proofs.Common.{◌≡◌, ◌≢◌, ℕ, ◌+◌, ◌<◌, ◌≤◌, ◌⊎◌, inl, inr, Bool, true, false, not, List, [], ◌∷◌, Option, Some, None, length, cond, refl, sym, ap, ◌∙◌, subst, arith}
-use Rattle.std.specs.Prelude.{◌||◌, ◌&&◌, ◌==◌, is_some}
-use Rattle.std.specs.List.{filter, list_any}
-use Rattle.std.proofs.lemmas.Bool.{cases_Bool, cond-true, cond-false, not_from_true, not_from_false, not-true, not-false, true≢false, false≢true, and_parts, and_cases, and_from, or_parts, eqb-true, eqb-false, eq-eqb, ne_eqb}
+use Rattle.std.proofs.Common.{◌≡◌, ◌≢◌, ℕ, inl, inr, Bool, true, false, not, List, [], ◌∷◌, Option, Some, None, length, cond, refl, sym, ap, ◌∙◌, subst}
+use Rattle.std.specs.Prelude.{◌&&◌, ◌==◌, is_some}
+use Rattle.std.specs.List.{filter}
+use Rattle.std.proofs.lemmas.Bool.{cases_Bool, cond-true, cond-false, not_from_false, not-true, true≢false, false≢true, and_parts, and_from, or_parts, eqb-true, eq-eqb, ne_eqb}
 use Rattle.chunk_layout.specs.Every.{Every, Pairwise}
 use Rattle.chunk_layout.specs.Pieces.{Piece, same_place, is_at, has, piece_at, no_piece, without, outside}
 use Rattle.chunk_layout.specs.declared.place.Place.{Place}
-use Rattle.chunk_layout.proofs.Lists.{every_filter, every_weaker, every_passes, pairwise_filter, first_has, first_passes}
+use Rattle.chunk_layout.proofs.Lists.{every_weaker, every_passes, first_has, first_passes}
 use Rattle.chunk_layout.proofs.Finding.{same-place, place-same}
 use Rattle.chunk_layout.proofs.PieceLaws.{same_place-sym, has-first, piece_at-first, without-first, has-later, piece_at-later, without-later, without-none}
 use Rattle.chunk_contexts.specs.Chunks.{live}
@@ -225,12 +225,12 @@ popped room (p ∷ ps) place places linked first = elim (cases_Bool (is_free roo
       }
 ]
   where
-  minus-over : (xs : List ℕ) → (p.is_live ≡ false → p.room ≢ room) → cond p.is_live (minus room xs) (p.room ∷ minus room xs) ≡ minus room (cond p.is_live xs (p.room ∷ xs))
-  minus-over xs not_room = elim (cases_Bool p.is_live) [
-    | inl lives ↦ cond-true p.is_live (minus room xs) (p.room ∷ minus room xs) lives ∙ ap (minus room) (sym (cond-true p.is_live xs (p.room ∷ xs) lives))
-    | inr dead ↦ cond-false p.is_live (minus room xs) (p.room ∷ minus room xs) dead
-        ∙ sym (ap (minus room) (cond-false p.is_live xs (p.room ∷ xs) dead) ∙ cond-false (p.room == room) xs (p.room ∷ minus room xs) (ne_eqb p.room room (not_room dead)))
-  ]
+    minus-over : (xs : List ℕ) → (p.is_live ≡ false → p.room ≢ room) → cond p.is_live (minus room xs) (p.room ∷ minus room xs) ≡ minus room (cond p.is_live xs (p.room ∷ xs))
+    minus-over xs not_room = elim (cases_Bool p.is_live) [
+      | inl lives ↦ cond-true p.is_live (minus room xs) (p.room ∷ minus room xs) lives ∙ ap (minus room) (sym (cond-true p.is_live xs (p.room ∷ xs) lives))
+      | inr dead ↦ cond-false p.is_live (minus room xs) (p.room ∷ minus room xs) dead
+          ∙ sym (ap (minus room) (cond-false p.is_live xs (p.room ∷ xs) dead) ∙ cond-false (p.room == room) xs (p.room ∷ minus room xs) (ne_eqb p.room room (not_room dead)))
+    ]
 
 -- there is a free chunk of a room just where its list has a first
 pub in-free_rooms : (room : ℕ) (ps : List Piece) → is_in room (free_rooms ps) ≡ is_some (first_free room ps)
@@ -244,9 +244,9 @@ in-free_rooms room (p ∷ ps) = elim (cases_Bool p.is_live) [
       ∙ some-cond (p.room == room) ∙ ap (λ (b : Bool). is_some (cond b (Some p.place) (first_free room ps))) (sym same)
 ]
   where
-  some-cond : (b : Bool) → cond b true (is_some (first_free room ps)) ≡ is_some (cond b (Some p.place) (first_free room ps))
-  some-cond true = refl
-  some-cond false = refl
+    some-cond : (b : Bool) → cond b true (is_some (first_free room ps)) ≡ is_some (cond b (Some p.place) (first_free room ps))
+    some-cond true = refl
+    some-cond false = refl
 
 pub length-link : (o : Option Place) → length (link_bytes o) ≡ 8
 length-link None = refl

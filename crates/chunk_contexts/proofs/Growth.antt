@@ -1,7 +1,7 @@
 -- What an `AllocSet` takes of blocks.
-use Rattle.std.proofs.Common.{◌≡◌, ℕ, ◌+◌, ◌<◌, ◌≤◌, Bool, true, false, refl, sym, ap, ◌∙◌, subst, arith}
+use Rattle.std.proofs.Common.{◌≡◌, ℕ, ◌+◌, ◌<◌, ◌≤◌, false, ap, ◌∙◌, arith}
 use Rattle.std.specs.Prelude.{nat_le, nat_lt, is_some, OnErr, Result, Ok, Err}
-use Rattle.std.proofs.lemmas.Bool.{le-leb, lt-leb, le-ltb, lt-ltb, cond-false, cond-true}
+use Rattle.std.proofs.lemmas.Bool.{le-leb, lt-leb, le-ltb, cond-false, cond-true}
 use Rattle.chunk_contexts.specs.Rooms.{most, over_most, room_of, class_of, rounded, largest}
 use Rattle.chunk_contexts.specs.Free.{is_in}
 use Rattle.chunk_contexts.specs.Set.{SetState, set_growth, growth_by, set_room, block_size}

@@ -1,19 +1,19 @@
 -- What the free lists of a layout are after a chunk is made, written, freed or taken again.
-use Rattle.std.proofs.Common.{◌≡◌, ◌≢◌, ℕ, ◌+◌, ◌<◌, ◌≤◌, inl, inr, Bool, true, false, not, List, [], ◌∷◌, ◌++◌, Option, Some, None, length, get_or, set, take, cond, refl, sym, ap, ◌∙◌, subst, arith}
+use Rattle.std.proofs.Common.{◌≡◌, ◌≢◌, ℕ, ◌<◌, inl, inr, Bool, true, false, not, List, [], ◌∷◌, ◌++◌, Option, Some, None, get_or, set, take, sym, ap, ◌∙◌, subst, arith}
 use Rattle.std.specs.Prelude.{◌==◌, ◌&&◌}
 use Rattle.std.proofs.lemmas.Bool.{cases_eq, cond-true, cond-false, true≢false, eq-eqb, ne_eqb, cases_Bool}
 use Rattle.std.proofs.lemmas.List.{get_or-set_same, get_or-set_other, length-set}
-use Rattle.chunk_layout.specs.Every.{Every, Pairwise}
-use Rattle.chunk_layout.specs.Pieces.{Layout, Piece, same_place, is_at, has, piece_at, no_piece, without, put_at, with_piece}
+use Rattle.chunk_layout.specs.Every.{Every}
+use Rattle.chunk_layout.specs.Pieces.{Layout, Piece, is_at, has, piece_at, no_piece, without, put_at, with_piece}
 use Rattle.chunk_layout.specs.declared.place.Place.{Place}
-use Rattle.chunk_layout.proofs.Lists.{every_filter, every_weaker, pairwise_filter, first_has, first_passes}
-use Rattle.chunk_layout.proofs.Finding.{same-place, place-same}
+use Rattle.chunk_layout.proofs.Lists.{every_filter, pairwise_filter, first_has, first_passes}
+use Rattle.chunk_layout.proofs.Finding.{same-place}
 use Rattle.chunk_layout.proofs.PieceLaws.{without-none, has_not-without}
 use Rattle.chunk_contexts.specs.Chunks.{live}
 use Rattle.chunk_contexts.specs.Rooms.{rooms, room_of, class_of}
 use Rattle.chunk_contexts.specs.Free.{is_free, is_in, minus, free_rooms, first_free, link_bytes, Linked, Elsewhere, IsLinkable, IsLink, AreLists}
 use Rattle.chunk_contexts.proofs.ClassLaws.{room-inj, class-of_room}
-use Rattle.chunk_contexts.proofs.FreeLaws.{IsLiveAt, LiveAt, live-found, Popped, popped, without-elsewhere, first_free-kept, free_rooms-kept, linked-kept, live-without, live-first, live-none}
+use Rattle.chunk_contexts.proofs.FreeLaws.{IsLiveAt, live-found, Popped, popped, without-elsewhere, first_free-kept, free_rooms-kept, linked-kept, live-without, live-first, live-none}
 
 pub link-first : (room : ℕ) (ps : List Piece) → Every (λ (p : Piece). IsLinkable p.place) ps → IsLink (first_free room ps)
 link-first room [] every = tt

@@ -1,10 +1,9 @@
 -- The bytes of a live chunk are written over where they stand.
-use Rattle.std.proofs.Common.{◌≡◌, ◌≢◌, ℕ, ◌<◌, ◌≤◌, inl, inr, Bool, true, false, List, [], ◌∷◌, Option, Some, None, map, length, get_or, cond, refl, sym, ap, ◌∙◌, subst, arith}
-use Rattle.std.specs.Prelude.{IsTrue, is_some}
-use Rattle.std.specs.List.{refill, list_any}
+use Rattle.std.proofs.Common.{◌≡◌, ℕ, inl, inr, Bool, false, List, [], ◌∷◌, Option, Some, map, length, cond, refl, sym, ap, ◌∙◌, subst}
+use Rattle.std.specs.List.{refill}
 use Rattle.std.proofs.lemmas.Bool.{cases_Bool, cond-true, cond-false, true≢false}
 use Rattle.chunk_layout.specs.Every.{Every, Pairwise}
-use Rattle.chunk_layout.specs.Pieces.{Layout, Piece, same_place, is_at, has, rewritten, with_bytes_of}
+use Rattle.chunk_layout.specs.Pieces.{Layout, Piece, same_place, is_at, rewritten, with_bytes_of}
 use Rattle.chunk_layout.specs.Lends.{layout_with}
 use Rattle.chunk_layout.specs.declared.place.Place.{Place}
 use Rattle.chunk_layout.proofs.Lists.{every_map, every_weaker, pairwise_filter, filter_map_same}
@@ -57,11 +56,11 @@ linked-over place ws (p ∷ ps) lives linked = (
   linked-over place ws ps lives.1 linked.1,
 )
   where
-  away : p.is_live ≡ false → is_at place p ≡ false
-  away dead = elim (cases_Bool (is_at place p)) [
-    | inl here ↦ absurd (true≢false (sym (lives.0 here) ∙ dead))
-    | inr not_here ↦ not_here
-  ]
+    away : p.is_live ≡ false → is_at place p ≡ false
+    away dead = elim (cases_Bool (is_at place p)) [
+      | inl here ↦ absurd (true≢false (sym (lives.0 here) ∙ dead))
+      | inr not_here ↦ not_here
+    ]
 
 -- a list of chunks of which one is written over, and its live and free ones
 module _ (place : Place) (ws : List ℕ) (ps : List Piece) (places : Pairwise Elsewhere ps) where

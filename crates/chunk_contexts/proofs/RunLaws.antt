@@ -1,16 +1,14 @@
 -- Blocks that are taken for chunks which lie one after the other.
-use Rattle.std.proofs.Common.{◌≡◌, ◌≢◌, ℕ, ◌+◌, ◌-◌, ◌<◌, ◌≤◌, inl, inr, Bool, true, false, List, [], ◌∷◌, Option, Some, None, length, get_or, refl, sym, ap, ◌∙◌, subst, arith}
+use Rattle.std.proofs.Common.{◌≡◌, ◌≢◌, ℕ, ◌+◌, ◌<◌, ◌≤◌, inl, true, false, List, [], ◌∷◌, Option, None, length, get_or, sym, ap, ◌∙◌, subst, arith}
 use Rattle.std.specs.Prelude.{IsTrue, is_some, unwrap_or}
 use Rattle.std.proofs.lemmas.Bool.{false≢true}
 use Rattle.chunk_layout.specs.Every.{Every}
-use Rattle.chunk_layout.specs.Pieces.{Layout, Piece, has, without, with_piece, with_block, size_at, total, IsClear}
+use Rattle.chunk_layout.specs.Pieces.{Layout, Piece, has, with_piece, with_block, size_at, total, IsClear}
 use Rattle.chunk_layout.specs.declared.place.Place.{Place}
 use Rattle.chunk_layout.proofs.Lists.{every_weaker}
 use Rattle.chunk_layout.proofs.Numbers.{with_block-here, with_block-other, total-with_block}
 use Rattle.chunk_layout.proofs.PieceLaws.{without-none}
-use Rattle.chunk_contexts.specs.declared.active.Active.{Active}
 use Rattle.chunk_contexts.specs.declared.runs.Runs.{Runs}
-use Rattle.chunk_contexts.specs.Free.{IsRest}
 use Rattle.chunk_contexts.specs.Run.{IsRun}
 use Rattle.chunk_contexts.proofs.CutLaws.{none-at}
 use Rattle.chunk_contexts.proofs.SetLaws.{some-block}
@@ -72,8 +70,8 @@ module _ (head : ℕ) (r : Runs) (is : IsRun head r) (b size : ℕ) (none : get_
       there = (ap is_some (with_block-here l.blocks b size low), still-there);
     })
       where
-      active-some : 0 < r.active.size → IsTrue (is_some (get_or l.blocks r.active.block None))
-      active-some some' = some-block l.blocks r.active.block (omega (arith, is.rest.size some', some'))
+        active-some : 0 < r.active.size → IsTrue (is_some (get_or l.blocks r.active.block None))
+        active-some some' = some-block l.blocks r.active.block (omega (arith, is.rest.size some', some'))
 
   -- the block is the one in use
   pub started-run : (m : Layout) → m ≡ record { head = l.head; blocks = blocks'; pieces = ps } → size ≤ 1048576 → IsRun head (record { layout = m; active = record { block = b; used = 0; size = size } })

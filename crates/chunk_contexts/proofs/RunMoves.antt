@@ -1,5 +1,5 @@
 -- Chunks that lie one after the other are written.
-use Rattle.std.proofs.Common.{◌≡◌, ◌≢◌, ℕ, ◌+◌, ◌-◌, ◌<◌, ◌≤◌, inl, inr, Bool, true, false, List, [], ◌∷◌, ◌++◌, Option, Some, None, length, get_or, take, cond, refl, sym, ap, ◌∙◌, subst, arith}
+use Rattle.std.proofs.Common.{◌≡◌, ℕ, ◌+◌, ◌<◌, ◌≤◌, inl, inr, Bool, true, false, List, [], ◌∷◌, ◌++◌, None, get_or, take, refl, sym, ap, ◌∙◌, subst, arith}
 use Rattle.std.specs.Prelude.{IsTrue, is_some}
 use Rattle.std.proofs.lemmas.Bool.{cases_Bool, cond-true, cond-false}
 use Rattle.chunk_layout.specs.Every.{Every}
@@ -9,10 +9,8 @@ use Rattle.chunk_layout.specs.declared.place.Place.{Place}
 use Rattle.chunk_layout.proofs.Lists.{every_filter, first_has, first_passes}
 use Rattle.chunk_layout.proofs.Finding.{same-place, place-same}
 use Rattle.chunk_layout.proofs.PieceLaws.{piece_at-first, without-first, without-none}
-use Rattle.chunk_contexts.specs.declared.active.Active.{Active}
 use Rattle.chunk_contexts.specs.declared.runs.Runs.{Runs}
-use Rattle.chunk_contexts.specs.Free.{IsRest}
-use Rattle.chunk_contexts.specs.Run.{RunState, run_taken, run_taken_by, run_put, run_of, IsRun}
+use Rattle.chunk_contexts.specs.Run.{RunState, run_taken, run_taken_by, run_put, IsRun}
 
 -- what holds of a chunk by its place and room
 every-put : (P : Piece → Type 0) → ((p q : Piece) → p.place ≡ q.place → p.room ≡ q.room → P p → P q) → (ps : List Piece) (place : Place) → has ps place ≡ true → (q : Piece) → place ≡ q.place → (piece_at ps place).room ≡ q.room
@@ -44,7 +42,10 @@ module _ (head : ℕ) (r : Runs) (is : IsRun head r) where
       subst (λ (z : Layout). IsRun head (record { layout = z; active = r.active })) (sym made) (record {
         head = is.head;
         rest = record {
-          size = is.rest.size; used = is.rest.used; bound = is.rest.bound; block = is.rest.block;
+          size = is.rest.size;
+          used = is.rest.used;
+          bound = is.rest.bound;
+          block = is.rest.block;
           clear = every-put (λ (p : Piece). 0 < r.active.size → p.place.block ≡ r.active.block → p.place.offset + p.room ≤ r.active.used) clear-by r.layout.pieces place there q refl refl is.rest.clear;
           rooms = every-put (λ (p : Piece). 1 ≤ p.room) rooms-by r.layout.pieces place there q refl refl is.rest.rooms;
         };
@@ -55,7 +56,10 @@ module _ (head : ℕ) (r : Runs) (is : IsRun head r) where
   run-lent place ws = record {
     head = is.head;
     rest = record {
-      size = is.rest.size; used = is.rest.used; bound = is.rest.bound; block = is.rest.block;
+      size = is.rest.size;
+      used = is.rest.used;
+      bound = is.rest.bound;
+      block = is.rest.block;
       clear = every-rewritten (λ (p : Piece). 0 < r.active.size → p.place.block ≡ r.active.block → p.place.offset + p.room ≤ r.active.used) clear-by r.layout.pieces place ws is.rest.clear;
       rooms = every-rewritten (λ (p : Piece). 1 ≤ p.room) rooms-by r.layout.pieces place ws is.rest.rooms;
     };

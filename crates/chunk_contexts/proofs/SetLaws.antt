@@ -1,33 +1,32 @@
 -- What holds of the fields of an `AllocSet` after its chunks and blocks changed.
-use Rattle.std.proofs.Common.{◌≡◌, ◌≢◌, ℕ, ◌+◌, ◌-◌, ◌^◌, ◌<◌, ◌≤◌, ◌⊎◌, inl, inr, Bool, true, false, not, List, [], ◌∷◌, ◌++◌, Option, Some, None, length, get_or, set, take, replicate, cond, refl, sym, ap, ◌∙◌, subst, arith}
-use Rattle.std.specs.Prelude.{IsTrue, is_some, unwrap_or, ◌==◌, nat_le, nat_lt}
+use Rattle.std.proofs.Common.{◌≡◌, ◌≢◌, ℕ, ◌+◌, ◌<◌, ◌≤◌, ◌⊎◌, inl, inr, Bool, true, false, not, List, [], ◌∷◌, ◌++◌, Option, Some, None, length, get_or, set, take, cond, refl, sym, ap, ◌∙◌, subst, arith}
+use Rattle.std.specs.Prelude.{IsTrue, is_some, unwrap_or, ◌==◌}
 use Rattle.std.specs.List.{filter}
-use Rattle.std.proofs.lemmas.Bool.{cases_eq, cases_lt, cases_Bool, cond-true, cond-false, true≢false, false≢true, eq-eqb, ne_eqb, eqb-false, not-true}
-use Rattle.std.proofs.lemmas.List.{get_or-set_same, get_or-set_other, get_or_past, get_or-replicate, length-replicate}
+use Rattle.std.proofs.lemmas.Bool.{cases_lt, cases_Bool, false≢true, eq-eqb, ne_eqb, eqb-false, not-true}
+use Rattle.std.proofs.lemmas.List.{get_or-set_other}
 use Rattle.chunk_layout.specs.Every.{Every, Pairwise}
-use Rattle.chunk_layout.specs.Pieces.{Layout, Piece, same_place, is_at, has, piece_at, no_piece, without, outside, put_at, with_piece, with_block, size_at, only}
+use Rattle.chunk_layout.specs.Pieces.{Layout, Piece, is_at, has, piece_at, no_piece, without, outside, put_at, with_block, size_at}
 use Rattle.chunk_layout.specs.declared.place.Place.{Place}
 use Rattle.chunk_layout.proofs.Lists.{every_passes, every_filter, every_weaker, every_both, pairwise_filter, first_has, first_passes}
-use Rattle.chunk_layout.proofs.Finding.{same-place, place-same}
+use Rattle.chunk_layout.proofs.Finding.{same-place}
 use Rattle.chunk_layout.proofs.Numbers.{with_block-here, with_block-other}
-use Rattle.chunk_layout.proofs.PieceLaws.{without-none, has_not-without, without-first, without-later, only-at}
+use Rattle.chunk_layout.proofs.PieceLaws.{without-none, without-first, without-later}
 use Rattle.chunk_contexts.specs.declared.active.Active.{Active}
-use Rattle.chunk_contexts.specs.Chunks.{live}
 use Rattle.chunk_contexts.specs.Rooms.{rooms, rooms_down, room_of, largest}
-use Rattle.chunk_contexts.specs.Free.{is_in, free_rooms, first_free, link_bytes, Linked, Elsewhere, IsLinkable, AreLists, IsRest, cut_used, cut_piece, cut_pieces}
-use Rattle.chunk_contexts.specs.Set.{cut_up, or_first}
+use Rattle.chunk_contexts.specs.Free.{is_in, first_free, Linked, Elsewhere, IsLinkable, AreLists, IsRest, cut_pieces}
+use Rattle.chunk_contexts.specs.Set.{or_first}
 use Rattle.chunk_contexts.specs.SetFields.{IsSet, IsSetPiece, Alone}
 use Rattle.chunk_contexts.proofs.ClassLaws.{in-small, in-some}
-use Rattle.chunk_contexts.proofs.FreeLaws.{IsLiveAt, LiveAt, live-found, pairwise-found, linked-kept, first_free-kept, free_rooms-kept, live-without}
+use Rattle.chunk_contexts.proofs.FreeLaws.{IsLiveAt, pairwise-found, linked-kept, first_free-kept}
 use Rattle.chunk_contexts.proofs.ListLaws.{lists-new}
 use Rattle.chunk_contexts.proofs.CutLaws.{rest-none, none-at, cut-every, cut-alone, down-known}
 
 pub some-block : (blocks : List (Option ℕ)) (b : ℕ) → 0 < size_at blocks b → IsTrue (is_some (get_or blocks b None))
 some-block blocks b big = by-option (get_or blocks b None) big
   where
-  by-option : (o : Option ℕ) → 0 < unwrap_or o 0 → IsTrue (is_some o)
-  by-option None low = absurd (omega (arith, low))
-  by-option (Some n) low = refl
+    by-option : (o : Option ℕ) → 0 < unwrap_or o 0 → IsTrue (is_some o)
+    by-option None low = absurd (omega (arith, low))
+    by-option (Some n) low = refl
 
 pub alone-sym : (p q : Piece) → Alone p q → Alone q p
 alone-sym p q a h e = a (elim h [ inl x ↦ inr x | inr y ↦ inl y ]) (sym e)
@@ -110,9 +109,9 @@ module _ (l : Layout) (heads : List (Option Place)) (active : Active) (first : O
       start = is.start;
     }
       where
-      alone-new : (q : Piece) → IsSetPiece l.blocks active first q → Alone p q
-      alone-new q g (inl big) e = absurd (omega (arith, big, in-small room known))
-      alone-new q g (inr big) e = (g.large big).1.0 not_empty (sym e)
+        alone-new : (q : Piece) → IsSetPiece l.blocks active first q → Alone p q
+        alone-new q g (inl big) e = absurd (omega (arith, big, in-small room known))
+        alone-new q g (inr big) e = (g.large big).1.0 not_empty (sym e)
 
   -- ---- a chunk is written, freed or taken again
   module _ (place : Place) (there : has ps place ≡ true) where
@@ -270,7 +269,11 @@ module _ (l : Layout) (heads : List (Option Place)) (active : Active) (first : O
                 large = λ _. (refl, (λ some e. not-none active.block (active-some some) (sym e), λ e. not-none b (is.start b e).0 refl));
               },
               every_weaker (IsSetPiece l.blocks active first) (IsSetPiece blocks' active first) (λ q g. record {
-                there = subst (λ (o : Option ℕ). IsTrue (is_some o)) (sym (same-block q.place.block g.there)) g.there; used = g.used; small = g.small; large = g.large }) ps is.good,
+                there = subst (λ (o : Option ℕ). IsTrue (is_some o)) (sym (same-block q.place.block g.there)) g.there;
+                used = g.used;
+                small = g.small;
+                large = g.large;
+              }) ps is.good,
             );
             size = λ some. is.size some ∙ ap (λ (o : Option ℕ). unwrap_or o 0) (sym (same-block active.block (active-some some)));
             used = is.used;
@@ -298,12 +301,12 @@ module _ (l : Layout) (heads : List (Option Place)) (active : Active) (first : O
         large = λ big. ((large big).0, (λ _. not-none q.place.block there, not-first first (large big).1));
       }
         where
-        not-first : (f : Option ℕ) → f ≢ Some q.place.block → or_first f b ≢ Some q.place.block
-        not-first None ne e = not-none q.place.block there (some-eq b q.place.block e)
-          where
-          some-eq : (x y : ℕ) → Some x ≡ Some y → y ≡ x
-          some-eq x y same = cc
-        not-first (Some f) ne e = ne e
+          not-first : (f : Option ℕ) → f ≢ Some q.place.block → or_first f b ≢ Some q.place.block
+          not-first None ne e = not-none q.place.block there (some-eq b q.place.block e)
+            where
+              some-eq : (x y : ℕ) → Some x ≡ Some y → y ≡ x
+              some-eq x y same = cc
+          not-first (Some f) ne e = ne e
 
       good-cut : Every (IsSetPiece blocks' next first') cut
       good-cut = cut-every (IsSetPiece blocks' next first') active.block active.size
@@ -328,11 +331,11 @@ module _ (l : Layout) (heads : List (Option Place)) (active : Active) (first : O
         start = start-next first refl;
       }
         where
-        start-next : (f : Option ℕ) → f ≡ first → (k : ℕ) → or_first f b ≡ Some k → IsTrue (is_some (get_or blocks' k None)) × (size_at blocks' k ≤ 1048576)
-        start-next None _ k e =
-            let same : b ≡ k = some-eq b k e in
-            (subst (λ (c : ℕ). IsTrue (is_some (get_or blocks' c None))) same (ap is_some (with_block-here l.blocks b size low)), subst (λ (c : ℕ). size_at blocks' c ≤ 1048576) same (omega (arith, size-here, fits)))
-          where
-          some-eq : (x y : ℕ) → Some x ≡ Some y → x ≡ y
-          some-eq x y same = cc
-        start-next (Some f) is' k e = start-kept k (sym is' ∙ e)
+          start-next : (f : Option ℕ) → f ≡ first → (k : ℕ) → or_first f b ≡ Some k → IsTrue (is_some (get_or blocks' k None)) × (size_at blocks' k ≤ 1048576)
+          start-next None _ k e =
+              let same : b ≡ k = some-eq b k e in
+              (subst (λ (c : ℕ). IsTrue (is_some (get_or blocks' c None))) same (ap is_some (with_block-here l.blocks b size low)), subst (λ (c : ℕ). size_at blocks' c ≤ 1048576) same (omega (arith, size-here, fits)))
+            where
+              some-eq : (x y : ℕ) → Some x ≡ Some y → x ≡ y
+              some-eq x y same = cc
+          start-next (Some f) is' k e = start-kept k (sym is' ∙ e)

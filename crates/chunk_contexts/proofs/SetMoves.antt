@@ -1,8 +1,8 @@
 -- States of an `AllocSet` after one change and another.
-use Rattle.std.proofs.Common.{◌≡◌, ◌≢◌, ℕ, ◌+◌, ◌-◌, ◌<◌, ◌≤◌, min, inl, inr, Bool, true, false, List, [], ◌∷◌, ◌++◌, Option, Some, None, length, take, cond, refl, sym, ap, ◌∙◌, subst, arith}
-use Rattle.std.specs.Prelude.{IsTrue, ◌==◌, ◌&&◌}
-use Rattle.std.proofs.lemmas.Bool.{cases_lt, and_from, and_parts, eq-eqb, eqb-true, true≢false, false_from_ne_true}
-use Rattle.std.proofs.lemmas.List.{take_all, length-append, length-take-le, take-take}
+use Rattle.std.proofs.Common.{◌≡◌, ℕ, ◌-◌, ◌<◌, ◌≤◌, min, inl, inr, Bool, true, false, List, [], ◌∷◌, ◌++◌, length, take, refl, sym, ap, ◌∙◌, subst, arith}
+use Rattle.std.specs.Prelude.{IsTrue, ◌==◌}
+use Rattle.std.proofs.lemmas.Bool.{cases_lt, and_from, eq-eqb, true≢false, false_from_ne_true}
+use Rattle.std.proofs.lemmas.List.{take_all, length-append, length-take-le}
 use Rattle.block_memory.specs.Cells.{zeros}
 use Rattle.block_memory.proofs.CellLemmas.{length-zeros}
 use Rattle.chunk_layout.specs.Pieces.{Piece, same_place, is_at, place_of, has, piece_at, without, resized}
@@ -11,7 +11,7 @@ use Rattle.chunk_layout.specs.declared.place.ChunkName.{ChunkName}
 use Rattle.chunk_layout.proofs.Finding.{same-place, place-same}
 use Rattle.chunk_layout.proofs.PieceLaws.{same_place-sym, has-first, piece_at-first, without-first, has-later, piece_at-later, without-later, without-none, without-twice, has-without, piece_at-without, has_not-without}
 use Rattle.chunk_contexts.specs.Chunks.{is_live, bytes_of, IsResized}
-use Rattle.chunk_contexts.specs.Set.{SetState, set_taken, taken_by, dedicated, reused, carved, grown, block_size, set_put, set_freed}
+use Rattle.chunk_contexts.specs.Set.{SetState, set_taken, taken_by, set_put}
 
 -- ---- a request is served
 chunks-by : (a b c : Bool) (s : SetState) (p : Piece) → (taken_by a b c s p).chunks ≡ p ∷ s.chunks
@@ -64,14 +64,14 @@ resized-is bytes old n long = elim (cases_lt n old) [
       (λ i. kept i ++ zeros (rest more i))
 ]
   where
-  short : n < old → min old n ≡ n
-  short less = omega (arith, less)
+    short : n < old → min old n ≡ n
+    short less = omega (arith, less)
 
-  none : n < old → n - min old n ≡ n - length bytes
-  none less = omega (arith, less, long)
+    none : n < old → n - min old n ≡ n - length bytes
+    none less = omega (arith, less, long)
 
-  rest : old ≤ n → n - min old n ≡ n - length bytes
-  rest more = omega (arith, more, long)
+    rest : old ≤ n → n - min old n ≡ n - length bytes
+    rest more = omega (arith, more, long)
 
 pub length-resized : (bytes : List ℕ) (n : ℕ) → length (resized bytes n) ≡ n
 length-resized bytes n = elim (cases_lt n (length bytes)) [
@@ -116,8 +116,8 @@ resized-moved before name new n room there none len =
       gone = λ _. (has-later p rest (place_of name) apart ∙ has_not-without before (place_of name), none);
     })
   where
-  not-same : has before (place_of name) ≡ true → has before (place_of new) ≡ false → same_place (place_of new) (place_of name) ≡ false
-  not-same yes' no' = false_from_ne_true (same_place (place_of new) (place_of name)) (λ e. true≢false (sym yes' ∙ ap (has before) (sym (same-place (place_of new) (place_of name) e)) ∙ no'))
+    not-same : has before (place_of name) ≡ true → has before (place_of new) ≡ false → same_place (place_of new) (place_of name) ≡ false
+    not-same yes' no' = false_from_ne_true (same_place (place_of new) (place_of name)) (λ e. true≢false (sym yes' ∙ ap (has before) (sym (same-place (place_of new) (place_of name) e)) ∙ no'))
 
 pub apart-places : (before : List Piece) (a b : Place) → has before a ≡ true → has before b ≡ false → same_place a b ≡ false
 apart-places before a b yes' no' = false_from_ne_true (same_place a b) (λ e. true≢false (sym yes' ∙ ap (has before) (same-place a b e) ∙ no'))

@@ -1,5 +1,5 @@
 -- What the state of an `AllocSet` says of its fields at a live chunk, and what it is after they changed.
-use Rattle.std.proofs.Common.{◌≡◌, ◌≢◌, ℕ, ◌+◌, ◌-◌, ◌<◌, ◌≤◌, inl, inr, Bool, true, false, List, [], ◌∷◌, ◌++◌, Option, Some, None, length, get_or, set, take, cond, refl, sym, ap, ◌∙◌, subst, arith}
+use Rattle.std.proofs.Common.{◌≡◌, ℕ, ◌+◌, ◌-◌, ◌<◌, ◌≤◌, inl, inr, true, false, List, ◌∷◌, ◌++◌, Option, None, length, get_or, set, take, refl, sym, ap, ◌∙◌, subst, arith}
 use Rattle.std.specs.Prelude.{IsTrue, is_some, nat_lt}
 use Rattle.std.proofs.lemmas.Bool.{lt-ltb, le-ltb, cond-true, cond-false, cases_lt, false≢true}
 use Rattle.std.proofs.lemmas.List.{get_or_past}
@@ -90,7 +90,11 @@ module _ (x : Inside) (ok : AreFields x) (s : SetState) (e : set_of x ≡ s) (pl
         (λ i. record { chunks = chunks i; blocks = (is i).blocks; free = free i; left = x.active.size - x.active.used; next = x.next; first = x.first })
         ∙ (λ i. record {
           chunks = (record { place = place; room = (was.same i).room; is_live = true; bytes = take kept (was.same i).bytes ++ bytes }) ∷ without (live ps) place;
-          blocks = l.blocks; free = free_rooms ps; left = x.active.size - x.active.used; next = x.next; first = x.first;
+          blocks = l.blocks;
+          free = free_rooms ps;
+          left = x.active.size - x.active.used;
+          next = x.next;
+          first = x.first;
         })
         ∙ ap (λ (z : SetState). set_put z place (take kept (piece_at z.chunks place).bytes ++ bytes)) e
 

@@ -5,3 +5,4 @@ pub mod Set
 pub mod SetFields
 pub mod ContextLends
 pub mod Run
+pub mod BumpFields

@@ -1,13 +1,12 @@
 -- The rules of space of a `Generation` and a `Bump`: chunks lie one after the other in blocks of 8,192 bytes. A chunk that
 -- is longer, with its header if chunks have one, has a block of its own, and the block in use stays. (After
 -- `src/backend/utils/mmgr/generation.c` and `bump.c` of PostgreSQL.)
-use Rattle.std.specs.Prelude.{◌≡◌, ℕ, ◌+◌, ◌-◌, ◌<◌, ◌≤◌, nat_le, Bool, true, false, List, [], ◌∷◌, Option, Some, None, replicate, length, get_or, is_some, IsTrue}
+use Rattle.std.specs.Prelude.{◌≡◌, ℕ, ◌+◌, ◌-◌, nat_le, Bool, true, false, List, [], ◌∷◌, Option, None, replicate, length, get_or, is_some, IsTrue}
 use Rattle.chunk_layout.specs.Every.{Every}
-use Rattle.chunk_layout.specs.Pieces.{Layout, Piece, piece_at, with_block, without, rewritten}
+use Rattle.chunk_layout.specs.Pieces.{Piece, piece_at, with_block, without, rewritten}
 use Rattle.chunk_layout.specs.declared.place.Place.{Place}
 use Rattle.chunk_contexts.specs.Rooms.{rounded, over_most}
 use Rattle.chunk_contexts.specs.Free.{IsRest}
-use Rattle.chunk_contexts.specs.declared.active.Active.{Active}
 use Rattle.chunk_contexts.specs.declared.runs.Runs.{Runs}
 
 -- the size of a block, in bytes
@@ -52,7 +51,9 @@ run_wrote s place bytes = record { chunks = rewritten s.chunks place bytes; bloc
 abbrev pub run_put : RunState → Place → List ℕ → RunState
 run_put s place bytes = record {
   chunks = (record { place = place; room = (piece_at s.chunks place).room; is_live = true; bytes = bytes }) ∷ without s.chunks place;
-  blocks = s.blocks; active = s.active; left = s.left;
+  blocks = s.blocks;
+  active = s.active;
+  left = s.left;
 }
 
 -- without any chunk or block

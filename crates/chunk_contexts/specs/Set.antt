@@ -3,8 +3,8 @@
 -- Each chunk has 8 bytes before it. Chunks of up to 8,192 bytes have the room of a class, and lie in blocks that double in
 -- size, from 8,192 bytes up to 1,048,576; one that is freed serves later requests of its class. A larger chunk has a block
 -- of its own, which goes back when it is freed. (The rules follow `src/backend/utils/mmgr/aset.c` of PostgreSQL.)
-use Rattle.std.specs.Prelude.{◌≡◌, ℕ, ◌+◌, ◌-◌, ◌*◌, ◌<◌, ◌≤◌, nat_le, nat_lt, min, Bool, true, false, cond, if◌then◌else◌, List, [], ◌∷◌, Option, Some, None, length, slice_set, is_some}
-use Rattle.chunk_layout.specs.Pieces.{Piece, place_of, piece_at, without, with_block, rewritten, size_at, only}
+use Rattle.std.specs.Prelude.{ℕ, ◌+◌, ◌-◌, ◌*◌, nat_le, nat_lt, min, Bool, true, false, cond, if◌then◌else◌, List, [], ◌∷◌, Option, Some, None, slice_set, is_some}
+use Rattle.chunk_layout.specs.Pieces.{Piece, piece_at, without, with_block, rewritten, size_at, only}
 use Rattle.chunk_layout.specs.declared.place.Place.{Place}
 use Rattle.chunk_contexts.specs.Rooms.{rounded, rooms_down, largest, room_of, class_of, over_most}
 use Rattle.chunk_contexts.specs.Free.{is_in, minus}
@@ -99,7 +99,11 @@ set_freed s place = let room = (piece_at s.chunks place).room in record {
 abbrev pub set_put : SetState → Place → List ℕ → SetState
 set_put s place bytes = record {
   chunks = (record { place = place; room = (piece_at s.chunks place).room; is_live = true; bytes = bytes }) ∷ without s.chunks place;
-  blocks = s.blocks; free = s.free; left = s.left; next = s.next; first = s.first;
+  blocks = s.blocks;
+  free = s.free;
+  left = s.left;
+  next = s.next;
+  first = s.first;
 }
 
 -- with other bytes in the chunk at a place, as many as there were

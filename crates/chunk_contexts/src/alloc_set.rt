@@ -8,9 +8,9 @@ ghost use Rattle.chunk_contexts.specs.Free.{is_in};
 ghost use Rattle.chunk_contexts.specs.Set.{new_set, set_growth, set_room, block_size, grown, carved, reused, dedicated, set_taken, set_freed, set_put, set_reset};
 
 use crate::active::Active;
+use crate::context::ChunkContext;
 use crate::error::ContextError;
 use crate::free_lists::FreeLists;
-use crate::context::ChunkContext;
 use crate::rooms::{CLASSES, HEADER, LARGEST, MOST, check_len, class_of, room_of, rounded};
 use chunk_layout::{ChunkLayout, ChunkName, Place};
 use std::alloc::{AllocError, Global};
@@ -52,7 +52,11 @@ fn block_size(next: usize, room: usize) -> usize
     ensures room { room + 8 ≤ result }
     ensures small { result ≤ 1048576 }
 {
-    if room + HEADER <= next { next } else { 2 * next }
+    if room + HEADER <= next {
+        next
+    } else {
+        2 * next
+    }
 }
 
 impl AllocSet {
@@ -337,7 +341,11 @@ impl ChunkContext for AllocSet {
             },
             None => Active::NONE,
         };
-        self.next = if self.first.is_some() { 2 * FIRST_BLOCK } else { FIRST_BLOCK };
+        self.next = if self.first.is_some() {
+            2 * FIRST_BLOCK
+        } else {
+            FIRST_BLOCK
+        };
     }
 
     fn held(&self) -> u64 {

@@ -6,14 +6,16 @@
 
 mod active;
 mod alloc_set;
-mod runs;
+mod bump;
 mod context;
 mod error;
 mod free_lists;
 mod link;
 mod rooms;
+mod runs;
 
 pub use alloc_set::AllocSet;
+pub use bump::Bump;
 pub use chunk_layout::ChunkName;
 pub use context::ChunkContext;
 pub use error::ContextError;

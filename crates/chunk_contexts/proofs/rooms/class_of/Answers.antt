@@ -1,5 +1,4 @@
-use Rattle.std.proofs.Common.{◌≡◌, ◌<◌, ◌≤◌, ℕ, sym, ap, ◌∙◌, subst, arith}
-use Rattle.chunk_contexts.specs.Rooms.{room_of, class_of}
+use Rattle.std.proofs.Common.{arith}
 use Rattle.chunk_contexts.proofs.ClassLaws.{class_found, room_last}
 use Rattle.chunk_contexts.proofs.rooms.class_of.Goals as goal
 

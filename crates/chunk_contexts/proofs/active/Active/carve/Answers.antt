@@ -1,5 +1,5 @@
-use Rattle.std.proofs.Common.{add_assoc, ◌≡◌, ◌+◌, ◌∷◌, ℕ, List, [], true, refl, sym, ap, ◌∙◌, subst}
-use Rattle.chunk_layout.specs.Pieces.{Layout, Piece, with_piece}
+use Rattle.std.proofs.Common.{add_assoc, ◌≡◌, ◌+◌, ◌∷◌, ℕ, [], true, refl, sym, ◌∙◌, subst}
+use Rattle.chunk_layout.specs.Pieces.{Layout, Piece}
 use Rattle.chunk_layout.proofs.PieceLaws.{without-none}
 use Rattle.chunk_layout.specs.declared.place.Place.{Place}
 use Rattle.chunk_contexts.specs.Free.{IsRest}

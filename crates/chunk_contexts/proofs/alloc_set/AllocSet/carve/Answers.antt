@@ -1,6 +1,5 @@
-use Rattle.std.proofs.Common.{◌≡◌, ◌+◌, ◌-◌, ◌∷◌, ◌≤◌, ℕ, List, [], true, refl, sym, ap, ◌∙◌, subst, arith}
-use Rattle.chunk_layout.specs.Pieces.{Layout, Piece, has}
-use Rattle.chunk_layout.specs.declared.place.Place.{Place}
+use Rattle.std.proofs.Common.{◌≡◌, ◌+◌, ◌-◌, ◌∷◌, ◌≤◌, [], true, sym, ap, ◌∙◌, subst, arith}
+use Rattle.chunk_layout.specs.Pieces.{Layout, has}
 use Rattle.chunk_contexts.specs.declared.active.Active.{Active}
 use Rattle.chunk_contexts.specs.Set.{SetState}
 use Rattle.chunk_contexts.specs.SetFields.{IsSet}

@@ -1,4 +1,4 @@
-use Rattle.std.proofs.Common.{◌≡◌, ◌≢◌, ◌+◌, ◌-◌, ◌∷◌, ◌≤◌, ◌<◌, ℕ, List, [], Option, Some, None, true, false, inl, refl, sym, ap, ◌∙◌, subst, arith}
+use Rattle.std.proofs.Common.{◌≡◌, ◌+◌, ◌-◌, ◌∷◌, ℕ, List, [], Option, Some, None, true, refl, sym, ap, ◌∙◌, subst, arith}
 use Rattle.chunk_layout.specs.Pieces.{Layout, Piece, has, total, with_block}
 use Rattle.chunk_layout.specs.declared.place.Place.{Place}
 use Rattle.chunk_contexts.specs.declared.active.Active.{Active}

@@ -1,7 +1,7 @@
 use Rattle.std.proofs.Common.{◌≡◌, ◌<◌, ◌+◌, ℕ, false, sym, ap, ◌∙◌, subst, arith}
 use Rattle.chunk_contexts.specs.Rooms.{room_of, class_of}
 use Rattle.chunk_contexts.specs.Free.{is_in}
-use Rattle.chunk_contexts.specs.Set.{SetState, set_growth, block_size}
+use Rattle.chunk_contexts.specs.Set.{SetState, block_size}
 use Rattle.chunk_contexts.proofs.Growth.{on_err, growth-new}
 use Rattle.chunk_contexts.proofs.alloc_set.AllocSet.claim.Goals as goal
 

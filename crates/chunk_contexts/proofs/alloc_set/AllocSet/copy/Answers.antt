@@ -1,4 +1,4 @@
-use Rattle.std.proofs.Common.{◌≤◌, ◌≡◌, true, length, take, sym, ap, ◌∙◌, subst, arith}
+use Rattle.std.proofs.Common.{true, length, take, ap, ◌∙◌, arith}
 use Rattle.chunk_layout.specs.Pieces.{Piece, put_at}
 use Rattle.chunk_contexts.proofs.SetViews.{seen, seen-there, fields-put, state-put}
 use Rattle.chunk_contexts.proofs.alloc_set.AllocSet.copy.Goals as goal

@@ -1,6 +1,6 @@
-use Rattle.std.proofs.Common.{◌≡◌, ◌≢◌, ◌+◌, ◌-◌, ◌∷◌, ◌≤◌, ◌<◌, ℕ, List, [], Option, true, false, inl, refl, sym, ap, ◌∙◌, subst, arith}
+use Rattle.std.proofs.Common.{◌≡◌, ◌≢◌, ◌+◌, ◌-◌, ◌∷◌, ℕ, [], true, false, inl, sym, ap, ◌∙◌, subst, arith}
 use Rattle.chunk_layout.specs.Every.{Every}
-use Rattle.chunk_layout.specs.Pieces.{Layout, Piece, has, without, with_piece, with_block, size_at, IsClear}
+use Rattle.chunk_layout.specs.Pieces.{Layout, Piece, has, with_piece, with_block, size_at, IsClear}
 use Rattle.chunk_layout.specs.declared.place.Place.{Place}
 use Rattle.chunk_layout.proofs.Lists.{every_weaker}
 use Rattle.chunk_layout.proofs.PieceLaws.{without-none}

@@ -1,5 +1,5 @@
-use Rattle.std.proofs.Common.{◌<◌, ◌≤◌, sym, ap, ◌∙◌, arith}
-use Rattle.chunk_contexts.proofs.SetViews.{seen, seen-there, seen-block, seen-known, fields-back, state-back, fields-released, state-released}
+use Rattle.std.proofs.Common.{sym, arith}
+use Rattle.chunk_contexts.proofs.SetViews.{seen-there, seen-block, seen-known, fields-back, state-back, fields-released, state-released}
 use Rattle.chunk_contexts.proofs.alloc_set.AllocSet.release.Goals as goal
 
 pub room-room-requires-clause-there : goal.room-room-requires-clause-there

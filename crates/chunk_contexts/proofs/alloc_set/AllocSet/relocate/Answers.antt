@@ -1,9 +1,8 @@
-use Rattle.std.proofs.Common.{◌≡◌, ◌++◌, ◌-◌, ◌≤◌, ◌+◌, ℕ, List, length, take, min, true, false, refl, sym, ap, ◌∙◌, subst, arith}
+use Rattle.std.proofs.Common.{◌≡◌, ◌++◌, ◌-◌, ℕ, List, length, take, min, true, sym, ap, ◌∙◌, arith}
 use Rattle.block_memory.specs.Cells.{zeros}
 use Rattle.chunk_layout.specs.Pieces.{Piece, has, piece_at, place_of, resized}
 use Rattle.chunk_layout.specs.declared.place.ChunkName.{ChunkName}
-use Rattle.chunk_contexts.specs.Chunks.{chunk_of}
-use Rattle.chunk_contexts.specs.Set.{SetState, set_room, set_taken, set_put, set_freed}
+use Rattle.chunk_contexts.specs.Set.{SetState, set_room, set_taken, set_freed}
 use Rattle.chunk_contexts.proofs.SetMoves.{resized-is, made-apart, made-from, made-source, made-there, made-piece, copied-there, copied-piece, copied-long, written-is, written-from}
 use Rattle.chunk_contexts.proofs.alloc_set.AllocSet.relocate.Goals as goal
 

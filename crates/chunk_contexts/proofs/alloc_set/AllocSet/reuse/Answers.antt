@@ -1,6 +1,6 @@
-use Rattle.std.proofs.Common.{◌≡◌, ◌-◌, ◌∷◌, ℕ, List, [], Option, Some, None, true, false, inl, refl, sym, ap, ◌∙◌, subst, arith}
+use Rattle.std.proofs.Common.{◌-◌, [], true, inl, refl, sym, ap, ◌∙◌, subst}
 use Rattle.std.specs.Prelude.{is_some}
-use Rattle.chunk_layout.specs.Pieces.{Layout, Piece, has, put_at}
+use Rattle.chunk_layout.specs.Pieces.{Layout, Piece, has}
 use Rattle.chunk_contexts.specs.Chunks.{live}
 use Rattle.chunk_contexts.specs.Free.{is_in, free_rooms, AreLists}
 use Rattle.chunk_contexts.specs.Rooms.{room_of}

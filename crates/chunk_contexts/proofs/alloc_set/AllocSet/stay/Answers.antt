@@ -1,8 +1,7 @@
-use Rattle.std.proofs.Common.{◌≡◌, ◌++◌, ◌-◌, ◌≤◌, ◌+◌, ℕ, List, length, take, min, refl, sym, ap, ◌∙◌, subst, arith}
+use Rattle.std.proofs.Common.{◌≡◌, ◌++◌, ◌-◌, ℕ, List, take, min, ap, ◌∙◌}
 use Rattle.block_memory.specs.Cells.{zeros}
-use Rattle.chunk_layout.specs.Pieces.{piece_at, resized}
-use Rattle.chunk_layout.specs.declared.place.ChunkName.{ChunkName}
-use Rattle.chunk_contexts.specs.Set.{SetState, set_put}
+use Rattle.chunk_layout.specs.Pieces.{piece_at}
+use Rattle.chunk_contexts.specs.Set.{set_put}
 use Rattle.chunk_contexts.proofs.SetMoves.{resized-is}
 use Rattle.chunk_contexts.proofs.alloc_set.AllocSet.stay.Goals as goal
 

@@ -1,6 +1,5 @@
-use Rattle.std.proofs.Common.{◌≤◌, ◌+◌, length, sym, ap, subst, arith}
+use Rattle.std.proofs.Common.{◌≤◌, length, sym, ap, subst, arith}
 use Rattle.chunk_layout.specs.Pieces.{Piece}
-use Rattle.block_memory.specs.Cells.{zeros}
 use Rattle.chunk_contexts.proofs.SetViews.{seen, seen-there, fields-put, state-put}
 use Rattle.chunk_contexts.proofs.alloc_set.AllocSet.write.Goals as goal
 

@@ -1,12 +1,11 @@
-use Rattle.std.proofs.Common.{◌≡◌, ◌≤◌, ◌+◌, ◌∷◌, ℕ, List, [], length, true, refl, sym, ap, ◌∙◌, subst, arith}
+use Rattle.std.proofs.Common.{◌≡◌, List, [], true, sym, ap, ◌∙◌, arith}
 use Rattle.block_memory.specs.Cells.{zeros}
 use Rattle.block_memory.proofs.CellLemmas.{length-zeros}
 use Rattle.chunk_layout.specs.Pieces.{Piece, has, piece_at, place_of}
-use Rattle.chunk_layout.specs.declared.place.Place.{Place}
 use Rattle.chunk_layout.specs.declared.place.ChunkName.{ChunkName}
 use Rattle.chunk_layout.proofs.Finding.{place-same}
-use Rattle.chunk_layout.proofs.PieceLaws.{has-first, piece_at-first}
-use Rattle.chunk_contexts.specs.Chunks.{Adds, chunk_of}
+use Rattle.chunk_layout.proofs.PieceLaws.{piece_at-first}
+use Rattle.chunk_contexts.specs.Chunks.{chunk_of}
 use Rattle.chunk_contexts.specs.Set.{SetState, set_room, set_taken, set_put}
 use Rattle.chunk_contexts.proofs.SetMoves.{taken-chunks, put-taken}
 use Rattle.chunk_contexts.proofs.alloc_set.AllocSetChunkContext.alloc_zeroed.Goals as goal

@@ -1,4 +1,4 @@
-use Rattle.std.proofs.Common.{◌≡◌, ◌==◌, length, sym, ap, ◌∙◌, subst}
+use Rattle.std.proofs.Common.{length, sym, ap, ◌∙◌, subst}
 use Rattle.std.specs.Prelude.{IsTrue}
 use Rattle.chunk_layout.specs.Pieces.{Piece, has, piece_at, place_of}
 use Rattle.chunk_layout.specs.declared.place.Place.{Place}

@@ -1,6 +1,6 @@
-use Rattle.std.proofs.Common.{◌≡◌, ◌-◌, ℕ, List, length, refl, sym, ap, ◌∙◌, subst}
+use Rattle.std.proofs.Common.{◌-◌, length, refl, sym, ap, ◌∙◌, subst}
 use Rattle.std.specs.Prelude.{IsTrue}
-use Rattle.chunk_layout.specs.Pieces.{Layout, Piece, has, piece_at, place_of, rewritten}
+use Rattle.chunk_layout.specs.Pieces.{Piece, has, piece_at, place_of, rewritten}
 use Rattle.chunk_layout.specs.Lends.{layout_with}
 use Rattle.chunk_layout.specs.declared.place.Place.{Place}
 use Rattle.chunk_contexts.specs.Chunks.{live}

@@ -1,5 +1,5 @@
-use Rattle.std.proofs.Common.{◌≡◌, ◌∷◌, ◌<◌, ℕ, List, [], Option, true, false, refl, sym, ap, ◌∙◌, subst, arith}
-use Rattle.chunk_layout.specs.Pieces.{Layout, Piece, piece_at, put_at, with_piece, without}
+use Rattle.std.proofs.Common.{◌≡◌, ◌∷◌, [], true, false, refl, sym, ap, ◌∙◌, subst, arith}
+use Rattle.chunk_layout.specs.Pieces.{Layout, Piece, put_at, without}
 use Rattle.chunk_layout.proofs.Finding.{place-same}
 use Rattle.chunk_layout.proofs.PieceLaws.{piece_at-first, without-first, without-none, without-twice}
 use Rattle.chunk_contexts.specs.Free.{first_free, link_bytes, AreLists}

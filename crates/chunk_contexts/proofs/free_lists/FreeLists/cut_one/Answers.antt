@@ -1,6 +1,5 @@
-use Rattle.std.proofs.Common.{add_assoc, ◌≡◌, ◌+◌, ◌∷◌, ◌≤◌, ◌<◌, ℕ, List, [], true, false, refl, sym, ap, ◌∙◌, subst, arith}
+use Rattle.std.proofs.Common.{add_assoc, ◌+◌, ◌∷◌, ◌≤◌, ℕ, false, refl, sym, subst, arith}
 use Rattle.chunk_layout.specs.Pieces.{Layout, Piece}
-use Rattle.chunk_contexts.specs.declared.active.Active.{Active}
 use Rattle.chunk_contexts.specs.Free.{first_free, link_bytes, IsRest}
 use Rattle.chunk_contexts.proofs.ClassLaws.{in-some}
 use Rattle.chunk_contexts.proofs.CutLaws.{rest-inside, rest-clear, rest-none, rest-more}

@@ -1,9 +1,9 @@
-use Rattle.std.proofs.Common.{◌≡◌, ◌+◌, ◌-◌, ◌<◌, ◌∷◌, ℕ, List, [], length, get_or, drop, refl, sym, ap, ◌∙◌, subst, arith}
+use Rattle.std.proofs.Common.{◌≡◌, ◌+◌, ◌<◌, ◌∷◌, ℕ, List, [], length, get_or, drop, sym, ap, ◌∙◌, arith}
 use Rattle.std.proofs.lemmas.List.{drop_more, drop_all}
 use Rattle.chunk_layout.specs.Pieces.{Layout, Piece}
 use Rattle.chunk_contexts.specs.declared.active.Active.{Active}
-use Rattle.chunk_contexts.specs.Rooms.{rooms_down, room_of}
-use Rattle.chunk_contexts.specs.Free.{cut_used, cut_piece, cut_pieces, IsRest}
+use Rattle.chunk_contexts.specs.Rooms.{rooms_down}
+use Rattle.chunk_contexts.specs.Free.{cut_used, cut_piece, cut_pieces}
 use Rattle.chunk_contexts.proofs.ClassLaws.{room-down, length-down}
 use Rattle.chunk_contexts.proofs.free_lists.FreeLists.cut_up.Goals as goal
 

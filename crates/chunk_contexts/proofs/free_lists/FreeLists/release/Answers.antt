@@ -1,4 +1,4 @@
-use Rattle.std.proofs.Common.{◌≡◌, ℕ, List, Option, Some, None, false, length, get_or, set, sym, ap, ◌∙◌, subst, arith}
+use Rattle.std.proofs.Common.{◌≡◌, ℕ, List, Some, None, false, length, get_or, set, sym, ap, ◌∙◌, subst, arith}
 use Rattle.chunk_layout.specs.Pieces.{Layout, put_at}
 use Rattle.chunk_contexts.specs.Free.{first_free, AreLists, link_bytes}
 use Rattle.chunk_contexts.proofs.ClassLaws.{in-small, in-some}

@@ -1,9 +1,7 @@
-use Rattle.std.proofs.Common.{◌≡◌, ℕ, List, Option, Some, None, true, length, get_or, set, sym, ap, ◌∙◌, subst}
-use Rattle.std.proofs.lemmas.List.{length-append}
-use Rattle.chunk_layout.specs.Pieces.{Layout, Piece, piece_at, put_at, without}
-use Rattle.chunk_layout.specs.declared.place.Place.{Place}
+use Rattle.std.proofs.Common.{length, set, sym, ap, ◌∙◌, subst}
+use Rattle.chunk_layout.specs.Pieces.{Layout, without}
 use Rattle.chunk_contexts.specs.Rooms.{room_of}
-use Rattle.chunk_contexts.specs.Free.{first_free, link_bytes, AreLists}
+use Rattle.chunk_contexts.specs.Free.{first_free, AreLists}
 use Rattle.chunk_contexts.proofs.FreeLaws.{length-link}
 use Rattle.chunk_contexts.proofs.ListLaws.{was, link-next, lists-reused}
 use Rattle.chunk_contexts.proofs.free_lists.FreeLists.reuse.Goals as goal

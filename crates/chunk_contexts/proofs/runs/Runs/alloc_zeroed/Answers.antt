@@ -1,11 +1,11 @@
-use Rattle.std.proofs.Common.{◌≡◌, ◌≤◌, ◌+◌, ◌∷◌, ℕ, List, [], length, true, refl, sym, ap, ◌∙◌, subst, arith}
+use Rattle.std.proofs.Common.{◌≡◌, sym, ap, ◌∙◌, arith}
 use Rattle.block_memory.specs.Cells.{zeros}
 use Rattle.block_memory.proofs.CellLemmas.{length-zeros}
-use Rattle.chunk_layout.specs.Pieces.{Piece, has, piece_at, place_of}
+use Rattle.chunk_layout.specs.Pieces.{Piece, has, place_of}
 use Rattle.chunk_layout.specs.declared.place.ChunkName.{ChunkName}
-use Rattle.chunk_contexts.specs.Chunks.{Adds, chunk_of}
+use Rattle.chunk_contexts.specs.Chunks.{chunk_of}
 use Rattle.chunk_contexts.specs.Rooms.{rounded}
-use Rattle.chunk_contexts.specs.Run.{RunState, run_of, run_taken, run_put}
+use Rattle.chunk_contexts.specs.Run.{RunState, run_of, run_taken}
 use Rattle.chunk_contexts.proofs.RunMoves.{run-chunks, run-piece, run-written}
 use Rattle.chunk_contexts.proofs.runs.Runs.alloc_zeroed.Goals as goal
 

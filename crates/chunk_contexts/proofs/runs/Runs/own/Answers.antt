@@ -1,9 +1,8 @@
-use Rattle.std.proofs.Common.{◌≡◌, ◌+◌, ◌-◌, ◌∷◌, ℕ, List, [], true, refl, sym, ap, ◌∙◌, subst, arith}
+use Rattle.std.proofs.Common.{◌+◌, sym, ap, ◌∙◌, subst, arith}
 use Rattle.chunk_layout.specs.Every.{Every}
-use Rattle.chunk_layout.specs.Pieces.{Layout, Piece, size_at, with_piece, IsClear}
+use Rattle.chunk_layout.specs.Pieces.{Layout, size_at, IsClear}
 use Rattle.chunk_layout.specs.declared.place.Place.{Place}
-use Rattle.chunk_contexts.specs.Run.{RunState, run_of}
-use Rattle.chunk_contexts.specs.declared.runs.Runs.{Runs}
+use Rattle.chunk_contexts.specs.Run.{run_of}
 use Rattle.chunk_contexts.proofs.RunLaws.{taken-size, taken-total, own-clear, own-fresh, own-made, own-run}
 use Rattle.chunk_contexts.proofs.runs.Runs.own.Goals as goal
 
