@@ -1,6 +1,7 @@
 -- A layout as its users see it: the sizes of its blocks, and the chunks that lie in them.
 use Rattle.std.specs.Prelude.{◌≢◌, ℕ, zero, suc, ◌+◌, ◌≤◌, ◌==◌, ◌&&◌, ◌⊎◌, Bool, false, not, List, [], ◌∷◌, ◌++◌, Option, Some, None}
 use Rattle.std.specs.Prelude.{if◌then◌else◌, ◌-◌, length, get_or, slice_set, replicate, unwrap_or, take}
+use Rattle.std.specs.Int.{w32, to_be_bytes}
 use Rattle.std.specs.List.{filter, list_any, refill}
 use Rattle.block_memory.specs.Cells.{zeros}
 use Rattle.chunk_layout.specs.Every.{first_by}
@@ -20,6 +21,10 @@ same_place p q = (p.block == q.block) && (p.offset == q.offset)
 -- where the chunk of a name begins
 abbrev pub place_of : ChunkName → Place
 place_of name = record { block = name.block; offset = name.offset }
+
+-- the bytes of a name
+abbrev pub name_bytes : ChunkName → List ℕ
+name_bytes name = to_be_bytes w32 name.block ++ to_be_bytes w32 name.offset ++ to_be_bytes w32 name.len
 
 abbrev pub is_at : Place → Piece → Bool
 is_at place p = same_place p.place place

@@ -6,7 +6,8 @@ ghost use Rattle.chunk_layout.specs.Every.{Every};
 ghost use Rattle.chunk_layout.specs.Pieces.{has, same_place, is_kept, piece_at, put_at, with_piece, without, outside, with_block, size_at, total, only, IsClear};
 
 use crate::blocks::{
-    HEADER, block_len, drop_block, put_block, read_bytes, read_word, write_bytes, write_header, write_zeros,
+    HEADER, block_len, drop_block, put_block, read_bytes, read_word, write_bytes, write_header,
+    write_zeros,
 };
 use crate::place::{Note, Place, Spot};
 use block_memory::{GhostNotes, RawBlock};

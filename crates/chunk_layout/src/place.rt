@@ -1,6 +1,7 @@
 //! Where a chunk lies, and its name.
-ghost use Rattle.std.specs.Prelude.{◌≡◌};
-ghost use Rattle.chunk_layout.specs.Pieces.{place_of};
+ghost use Rattle.std.specs.Prelude.{◌≡◌, length};
+ghost use Rattle.std.specs.Int.{w32, to_be_bytes};
+ghost use Rattle.chunk_layout.specs.Pieces.{name_bytes, place_of};
 
 /// Where the bytes of a chunk begin: the number of its block, and an offset in bytes from the block's start.
 #[derive(Clone, Copy, Debug, PartialEq, Eq)]
@@ -20,7 +21,36 @@ pub struct ChunkName {
     pub len: u32,
 }
 
+/// The number of four bytes, the highest first.
+fn number(bytes: &[u8]) -> u32
+    requires { length bytes.now ≡ 4 }
+    ensures { to_be_bytes w32 result ≡ bytes.now }
+{
+    u32::from_be_bytes([bytes[0], bytes[1], bytes[2], bytes[3]])
+}
+
 impl ChunkName {
+    /// The twelve bytes of a name: its block, its offset and its length, each with its highest byte first.
+    pub fn to_bytes(self) -> [u8; 12]
+        ensures { result ≡ name_bytes self }
+    {
+        let [a, b, c, d] = self.block.to_be_bytes();
+        let [e, f, g, h] = self.offset.to_be_bytes();
+        let [i, j, k, l] = self.len.to_be_bytes();
+        [a, b, c, d, e, f, g, h, i, j, k, l]
+    }
+
+    /// The name that twelve bytes are.
+    pub fn from_bytes(bytes: [u8; 12]) -> ChunkName
+        ensures { name_bytes result ≡ bytes }
+    {
+        ChunkName {
+            block: number(&bytes[..4]),
+            offset: number(&bytes[4..8]),
+            len: number(&bytes[8..]),
+        }
+    }
+
     /// Where its bytes begin.
     pub fn place(self) -> Place
         ensures { result ≡ place_of self }
