@@ -4,6 +4,8 @@ use Rattle.std.specs.Prelude.{nat_le, nat_lt, is_some, OnErr, Result, Ok, Err}
 use Rattle.std.proofs.lemmas.Bool.{le-leb, lt-leb, le-ltb, cond-false, cond-true}
 use Rattle.chunk_contexts.specs.Rooms.{most, over_most, room_of, class_of, rounded, largest}
 use Rattle.chunk_contexts.specs.Free.{is_in}
+use Rattle.std.specs.Prelude.{IfOk}
+use Rattle.chunk_contexts.specs.Run.{RunState, run_block, run_growth, run_growth_by}
 use Rattle.chunk_contexts.specs.Set.{SetState, set_growth, growth_by, set_room, block_size}
 
 pub on_err : {T E P Q : Type 0} (r : Result T E) → (P → Q) → OnErr r P → OnErr r Q
@@ -32,3 +34,21 @@ growth-own s n low high =
     let room = room-own n high in let over = growth-over n low in
     let classed = lt-leb n largest high in
     (λ i. growth_by (over i) (classed i) (is_in (set_room n) s.free) (nat_le (set_room n + 8) s.left) s (room i))
+
+-- ---- chunks that lie one after the other
+pub if_ok : {T E : Type 0} {P Q : T → Type 0} (r : Result T E) → ((x : T) → P x → Q x) → IfOk r P → IfOk r Q
+if_ok (Ok x) f h = f x h
+if_ok (Err e) f h = h
+
+module _ (head : ℕ) (s : RunState) (n : ℕ) (low : n ≤ most) where
+  size : ℕ
+  size = head + rounded n
+
+  pub run-own : 8192 < head + rounded n → run_growth head s n ≡ head + rounded n
+  run-own big = λ i. run_growth_by (growth-over n low i) (lt-leb (head + rounded n) run_block big i) (nat_le (head + rounded n) s.left) (head + rounded n)
+
+  pub run-fits : head + rounded n ≤ 8192 → head + rounded n ≤ s.left → run_growth head s n ≡ 0
+  run-fits small fits = λ i. run_growth_by (growth-over n low i) (le-leb (head + rounded n) run_block small i) (le-leb (head + rounded n) s.left fits i) (head + rounded n)
+
+  pub run-new : head + rounded n ≤ 8192 → s.left < head + rounded n → run_growth head s n ≡ 8192
+  run-new small full = λ i. run_growth_by (growth-over n low i) (le-leb (head + rounded n) run_block small i) (lt-leb (head + rounded n) s.left full i) (head + rounded n)

@@ -9,3 +9,6 @@ pub mod OverLaws
 pub mod SetMoves
 pub mod RunLaws
 pub mod RunMoves
+pub mod GenLaws
+pub mod GenMoves
+pub mod GenAllocs

@@ -83,9 +83,9 @@ other-bytes false b size s place room xs ys = refl
 other-bytes true true size s place room xs ys = refl
 other-bytes true false size s place room xs ys = refl
 
-module _ (head : ℕ) (s t : RunState) (place : Place) (room : ℕ) (ys : List ℕ) (none : has s.chunks place ≡ false) (made : t ≡ run_taken head s (record { place = place; room = room; is_live = true; bytes = [] })) where
+module _ (head : ℕ) (s t : RunState) (place : Place) (room : ℕ) (ys xs : List ℕ) (none : has s.chunks place ≡ false) (made : t ≡ run_taken head s (record { place = place; room = room; is_live = true; bytes = xs })) where
   abbrev p : Piece
-  p = record { place = place; room = room; is_live = true; bytes = [] }
+  p = record { place = place; room = room; is_live = true; bytes = xs }
 
   chunks : t.chunks ≡ p ∷ s.chunks
   chunks = ap (λ (z : RunState). z.chunks) made ∙ run-chunks head s p
@@ -97,4 +97,4 @@ module _ (head : ℕ) (s t : RunState) (place : Place) (room : ℕ) (ys : List �
   run-written =
       let rest : without t.chunks place ≡ s.chunks = ap (λ (cs : List Piece). without cs place) chunks ∙ without-first p s.chunks place (place-same place) ∙ without-none s.chunks place none in
       (λ i. record { chunks = (record { place = place; room = (run-piece i).room; is_live = true; bytes = ys }) ∷ rest i; blocks = (made i).blocks; active = (made i).active; left = (made i).left })
-      ∙ other-bytes _ _ _ s place room [] ys
+      ∙ other-bytes _ _ _ s place room xs ys

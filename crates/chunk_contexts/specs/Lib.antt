@@ -6,3 +6,5 @@ pub mod SetFields
 pub mod ContextLends
 pub mod Run
 pub mod BumpFields
+pub mod Generation
+pub mod GenerationFields

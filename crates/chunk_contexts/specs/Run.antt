@@ -1,7 +1,7 @@
 -- The rules of space of a `Generation` and a `Bump`: chunks lie one after the other in blocks of 8,192 bytes. A chunk that
 -- is longer, with its header if chunks have one, has a block of its own, and the block in use stays. (After
 -- `src/backend/utils/mmgr/generation.c` and `bump.c` of PostgreSQL.)
-use Rattle.std.specs.Prelude.{◌≡◌, ℕ, ◌+◌, ◌-◌, nat_le, Bool, true, false, List, [], ◌∷◌, Option, None, replicate, length, get_or, is_some, IsTrue}
+use Rattle.std.specs.Prelude.{◌≡◌, ℕ, ◌+◌, ◌-◌, ◌<◌, nat_le, Bool, true, false, List, [], ◌∷◌, Option, None, replicate, length, get_or, is_some, IsTrue}
 use Rattle.chunk_layout.specs.Every.{Every}
 use Rattle.chunk_layout.specs.Pieces.{Piece, piece_at, with_block, without, rewritten}
 use Rattle.chunk_layout.specs.declared.place.Place.{Place}
@@ -42,6 +42,10 @@ run_taken_by true false size s p = record { chunks = p ∷ s.chunks; blocks = wi
 
 abbrev pub run_taken : ℕ → RunState → Piece → RunState
 run_taken head s p = run_taken_by (nat_le (head + p.room) run_block) (nat_le (head + p.room) s.left) (head + p.room) s p
+
+-- the block of a chunk that is made: the one in use, or a new one where blocks grow
+abbrev pub IsBlockOf : RunState → ℕ → ℕ → Type 0
+IsBlockOf s growth b = (growth ≡ 0 → b ≡ s.active) × (0 < growth → get_or s.blocks b None ≡ None)
 
 -- with other bytes in the chunk at a place, as many as there were
 abbrev pub run_wrote : RunState → Place → List ℕ → RunState

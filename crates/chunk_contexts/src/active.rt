@@ -1,5 +1,5 @@
 //! The block in use: the one that chunks are cut from.
-ghost use Rattle.std.specs.Prelude.{◌≡◌, ◌+◌, ◌-◌, ◌≤◌, true, false, [], ◌∷◌};
+ghost use Rattle.std.specs.Prelude.{◌≡◌, cond, ◌==◌, ◌+◌, ◌-◌, ◌≤◌, true, false, [], ◌∷◌};
 ghost use Rattle.chunk_layout.specs.Pieces.{has};
 
 use chunk_layout::{ChunkLayout, Place};
@@ -31,6 +31,20 @@ impl Active {
         ensures { result ≡ self.now.size - self.now.used }
     {
         self.size - self.used
+    }
+
+    /// The block in use after a block was given back: nothing is left if it was this one.
+    pub(crate) fn without(self, block: u32) -> Active
+        ensures { result ≡ record { block = self.block; used = cond (self.block == block) 0 self.used; size = cond (self.block == block) 0 self.size } }
+    {
+        if self.block != block {
+            return self;
+        }
+        Active {
+            block: self.block,
+            used: 0,
+            size: 0,
+        }
     }
 
     /// Makes a live chunk of no bytes in the block, behind `head` bytes for its header.

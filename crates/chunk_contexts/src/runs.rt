@@ -22,7 +22,7 @@ pub struct Runs {
 }
 
 impl Runs {
-    ghost use Rattle.chunk_contexts.specs.Run.{run_block, new_run, run_growth, run_taken, run_put, run_of, run_reset, IsRun};
+    ghost use Rattle.chunk_contexts.specs.Run.{run_block, new_run, run_growth, run_taken, run_put, run_of, run_reset, IsBlockOf, IsRun};
 
     /// Makes a layout with no block.
     pub(crate) fn new(alloc: Global, headers: bool) -> Runs
@@ -44,6 +44,7 @@ impl Runs {
         ensures run { IsRun head self.new }
         ensures made { IfOk result (λ place. run_of self.new ≡ record { chunks = (record { place = place; room = room; is_live = true; bytes = [] }) ∷ (run_of self.old).chunks; blocks = with_block (run_of self.old).blocks place.block (head + room); active = (run_of self.old).active; left = (run_of self.old).left }) }
         ensures fresh { IfOk result (λ place. has self.old.layout.pieces place ≡ false) }
+        ensures vacant { IfOk result (λ place. get_or self.old.layout.blocks place.block None ≡ None) }
         ensures held { OnOk result (total self.new.layout.blocks ≡ total self.old.layout.blocks + (head + room)) }
         ensures refused { OnErr result (self.new ≡ self.old) }
     {
@@ -62,6 +63,7 @@ impl Runs {
         requires head { head ≤ 8 }
         ensures run { IsRun head self.new }
         ensures started { OnOk result (run_of self.new ≡ record { chunks = (run_of self.old).chunks; blocks = with_block (run_of self.old).blocks self.new.active.block run_block; active = self.new.active.block; left = run_block }) }
+        ensures vacant { OnOk result (get_or self.old.layout.blocks self.new.active.block None ≡ None) }
         ensures held { OnOk result (total self.new.layout.blocks ≡ total self.old.layout.blocks + run_block) }
         ensures refused { OnErr result (self.new ≡ self.old) }
     {
@@ -98,6 +100,7 @@ impl Runs {
         ensures fresh { IfOk result (λ place. has self.old.layout.pieces place ≡ false) }
         ensures room { OnOk result (n ≤ rounded n) }
         ensures held { OnOk result (total self.new.layout.blocks ≡ total self.old.layout.blocks + run_growth head (run_of self.old) n) }
+        ensures block { IfOk result (λ made. IsBlockOf (run_of self.old) (run_growth head (run_of self.old) n) made.block) }
         ensures refused { OnErr result ((self.new ≡ self.old) × (0 < run_growth head (run_of self.old) n)) }
     {
         let room = rounded(n);
@@ -184,6 +187,7 @@ impl Runs {
         ensures added { IfOk result (λ name. Adds (run_of self.old).chunks (run_of self.new).chunks name (rounded (length bytes.now)) (bytes.now)) }
         ensures space { IfOk result (λ name. run_of self.new ≡ run_taken head (run_of self.old) (chunk_of name (rounded (length bytes.now)) (bytes.now))) }
         ensures grown { OnOk result (total (run_of self.new).blocks ≡ total (run_of self.old).blocks + run_growth head (run_of self.old) (length bytes.now)) }
+        ensures block { IfOk result (λ made. IsBlockOf (run_of self.old) (run_growth head (run_of self.old) (length bytes.now)) made.block) }
         ensures refused { IfErr result (IsRefused (over_most (length bytes.now)) (run_growth head (run_of self.old) (length bytes.now))) }
         ensures unchanged { OnErr result (self.new ≡ self.old) }
     {
@@ -201,6 +205,7 @@ impl Runs {
         ensures added { IfOk result (λ name. Adds (run_of self.old).chunks (run_of self.new).chunks name (rounded (n)) (zeros n)) }
         ensures space { IfOk result (λ name. run_of self.new ≡ run_taken head (run_of self.old) (chunk_of name (rounded (n)) (zeros n))) }
         ensures grown { OnOk result (total (run_of self.new).blocks ≡ total (run_of self.old).blocks + run_growth head (run_of self.old) (n)) }
+        ensures block { IfOk result (λ made. IsBlockOf (run_of self.old) (run_growth head (run_of self.old) n) made.block) }
         ensures refused { IfErr result (IsRefused (over_most (n)) (run_growth head (run_of self.old) (n))) }
         ensures unchanged { OnErr result (self.new ≡ self.old) }
     {

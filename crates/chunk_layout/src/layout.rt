@@ -206,8 +206,8 @@ impl ChunkLayout {
         self.notes.add(&Note::Cleared);
     }
 
-    /// The number of the last block that there was, and one more.
-    fn numbers(&self) -> u32
+    /// The highest number that a block had so far, and one more.
+    pub fn numbers(&self) -> u32
         ensures { result ≡ length self.now.blocks }
     {
         self.blocks.len() as u32
