@@ -1,4 +1,4 @@
-use chunk_contexts::{AllocSet, Bump, ChunkContext, ChunkName, ContextError};
+use chunk_contexts::{AllocSet, Bump, ChunkContext, ChunkName, ContextError, Generation};
 use std::test::Fail;
 
 #[test]
@@ -58,6 +58,26 @@ fn a_chunk_is_changed(rt: HostRuntime) -> Result<(), Fail> {
     bytes.copy_from_slice(b"other");
     assert!(rt; set.get(first) == b"other".as_slice());
     assert!(rt; set.get(second) == b"second".as_slice());
+    Ok(())
+}
+
+#[test]
+fn chunks_of_a_generation(rt: HostRuntime) -> Result<(), Fail> {
+    let mut generation = Generation::new(rt.alloc());
+    let large = generation.alloc_zeroed(8192)?;
+    assert_eq!(rt; generation.held(), 8200);
+    generation.free(large)?;
+    assert_eq!(rt; generation.held(), 0);
+    let first = generation.alloc(b"first")?;
+    let second = generation.alloc(b"second")?;
+    assert_eq!(rt; generation.held(), 8192);
+    let first = generation.resize(first, 20)?;
+    assert!(rt; generation.get(first) == b"first\0\0\0\0\0\0\0\0\0\0\0\0\0\0\0".as_slice());
+    generation.free(first)?;
+    assert_eq!(rt; generation.held(), 8192);
+    generation.free(second)?;
+    assert_eq!(rt; generation.held(), 0);
+    assert!(rt; generation.alloc_zeroed(1_073_741_824) == Err(ContextError::TooLarge));
     Ok(())
 }
 
