@@ -91,7 +91,7 @@ impl RawBlock {
     /// Lends the `n` bytes from `at` on, which were all written, to be changed. The other bytes stay as they are.
     pub fn bytes_mut(&mut self, at: usize, n: usize) -> &mut [u8]
         requires { IsWritten self.old at n }
-        ensures* writes_back { sem 𝓛 (lends_bytes self.entry at result) }
+        ensures* writes_back { sem 𝓛 (lends_bytes self.entry at n result) }
         ensures value { Holds self.old at result.now }
         ensures len { length result.now ≡ n }
     {

@@ -97,7 +97,7 @@ impl Memory {
         requires here { start ≡ self.old.start }
         requires written { IsWritten self.old.cells at n }
         requires small { n < 2 ^ 63 }
-        ensures* writes_back { sem 𝓛 (lends_run self.entry at result) }
+        ensures* writes_back { sem 𝓛 (lends_run self.entry at n result) }
         ensures value { Holds self.old.cells at result.now }
         ensures len { length result.now ≡ n }
     {

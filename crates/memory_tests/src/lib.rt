@@ -3,3 +3,5 @@
 
 #[cfg(test)]
 mod blocks;
+#[cfg(test)]
+mod contexts;

@@ -1,10 +1,10 @@
-use Rattle.std.proofs.Common.{◌≡◌, ◌+◌, ◌≤◌, ◌∷◌, [], ◌∙◌, List, ℕ, length, set, get_or, arith, subst, sym, ap, refl}
+use Rattle.std.proofs.Common.{◌≡◌, ◌+◌, ◌≤◌, ◌∷◌, [], ◌∙◌, List, ℕ, length, set, take, get_or, arith, subst, sym, ap, refl}
 use Rattle.std.specs.List.{splice}
 use Rattle.block_memory.specs.Cells.{Cells, Holds, with_bytes}
 use Rattle.block_memory.proofs.CellLemmas.{holds_by_write, holds_over, holds_unique, length_over, written_by_write, written_of_holds, written_part}
 use Rattle.memory_tests.proofs.blocks.write_twice.Goals as goal
 
-set_one : (xs : List ℕ) (x : ℕ) → length xs ≡ 1 → set xs 0 x ≡ x ∷ []
+set_one : (xs : List ℕ) (x : ℕ) → length xs ≡ 1 → take 1 (set xs 0 x) ≡ x ∷ []
 set_one [] x long = absurd (omega (arith, long))
 set_one (y ∷ []) x long = refl
 set_one (y ∷ z ∷ xs) x long = absurd (omega (arith, long))
@@ -16,7 +16,7 @@ second_is (a ∷ b ∷ src) x long = refl
 
 -- the bytes that stand in the end
 stands : (old : Cells) (at : ℕ) (src part : List ℕ) (second : ℕ) → at + length src ≤ length old → 2 ≤ length src → length part ≡ 1
-    → Holds (with_bytes (with_bytes old at src) (at + 1) (set part 0 second)) at (splice src 1 2 (second ∷ []))
+    → Holds (with_bytes (with_bytes old at src) (at + 1) (take 1 (set part 0 second))) at (splice src 1 2 (second ∷ []))
 stands old at src part second room long one =
     subst (λ (ws : List ℕ). Holds (with_bytes (with_bytes old at src) (at + 1) ws) at (splice src 1 2 (second ∷ []))) (sym (set_one part second one))
     (holds_over (with_bytes old at src) at src 1 (second ∷ []) long (holds_by_write old at src room))

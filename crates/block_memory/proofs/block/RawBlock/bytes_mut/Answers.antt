@@ -1,4 +1,4 @@
-use Rattle.std.proofs.Common.{◌∙◌}
+use Rattle.std.proofs.Common.{◌∙◌, take}
 use Rattle.block_memory.proofs.CellLemmas.{length-with_bytes}
 use Rattle.block_memory.proofs.block.RawBlock.bytes_mut.Goals as goal
 
@@ -7,7 +7,7 @@ invariant_of-self-lent c = λ w.
     let fields = c.self.invariant in
     record {
       here = fields.here;
-      whole = length-with_bytes c.self.inside.memory.cells c.args.at w ∙ fields.whole;
+      whole = length-with_bytes c.self.inside.memory.cells c.args.at (take c.args.n w) ∙ fields.whole;
       not_empty = fields.not_empty;
       small = fields.small;
     }

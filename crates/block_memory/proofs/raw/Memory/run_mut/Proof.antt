@@ -25,6 +25,8 @@ use Rattle.block_memory.specs.contracts.raw.Memory.{the_row as R, the_type}
 use Rattle.block_memory.specs.contracts.raw.Memory.run_mut as f
 use Rattle.block_memory.proofs.raw.Memory.run_mut.Statement.{statement}
 use Rattle.block_memory.proofs.raw.Memory.run_mut.Code as code
+use Rattle.std.proofs.lemmas.List.{take_all}
+use Rattle.std.proofs.Common.{take}
 use Rattle.block_memory.proofs.CellLemmas.{bytes_of_written, length-with_bytes}
 use Rattle.block_memory.proofs.MemoryLemmas.{front, back, run_out, run_in, bytes_out, bytes_in}
 
@@ -32,24 +34,25 @@ abbrev stayed : Stays f.ended.signature.params f.ended.kept
 stayed = (stay_dropped _ _, (stay_dropped _ _, (stay_dropped _ _, (stay_dropped _ _, tt))))
 
 -- the memory m at the block b', of which xs are lent from `at` on, and whose owner lies at (b, o)
-module _ {L : Type 1} {𝓤 : Ura L} (𝓛 : Logic 𝓤) (m : Memory) (at : ℕ) (xs : List ℕ) (h : Holds m.cells at xs) (b o b' o' : ℕ) (us : List Val) where
+module _ {L : Type 1} {𝓤 : Ura L} (𝓛 : Logic 𝓤) (m : Memory) (at n : ℕ) (xs : List ℕ) (count : length xs ≡ n) (h : Holds m.cells at xs) (b o b' o' : ℕ) (us : List Val) where
   -- what stays behind: the other cells, the right to give back, and the owner itself
   abbrev others : SProp 𝓤
   others = sep 𝓤 (sep 𝓤 (sem 𝓛 (cells_own (front 𝓛 b' m.cells o' at xs h) b' o')) (sem 𝓛 (cells_own (back 𝓛 b' m.cells o' at xs h) b' (at + o' + length xs))))
       (sep 𝓤 (sem 𝓛 (may_give_back (length m.cells) (block_ptr b' o'))) (sep 𝓤 (sem 𝓛 ((Struct (shape the_type)).own_val (to the_type m) us)) (sem 𝓛 (cell_at full_share R.mir us b o))))
 
   -- with other bytes in the place of xs they are the memory with those bytes
-  whole : m.start ≡ block_ptr b' o' → (ws : List ℕ) → length ws ≡ length xs → ent 𝓤 (sep 𝓤 (sem 𝓛 (bytes_lie (mem u8) ws b' (at + o'))) others) (sem 𝓛 ((mem R).own_at (memory_with m at ws) b o))
+  whole : m.start ≡ block_ptr b' o' → (ws : List ℕ) → length ws ≡ length xs → ent 𝓤 (sep 𝓤 (sem 𝓛 (bytes_lie (mem u8) ws b' (at + o'))) others) (sem 𝓛 ((mem R).own_at (memory_with m at n ws) b o))
   unfolding part_of
   whole e ws same =
+      let all : take n ws ≡ ws = take_all n ws (omega (arith, same, count)) in
       let long : length (with_bytes m.cells at ws) ≡ length m.cells = length-with_bytes m.cells at ws in
       qed 𝓛 (‵ (bytes_lie (mem u8) ws b' (at + o')) ∷ ((‵ (cells_own (front 𝓛 b' m.cells o' at xs h) b' o') ⊛ ‵ (cells_own (back 𝓛 b' m.cells o' at xs h) b' (at + o' + length xs)))
       ⊛ (‵ (may_give_back (length m.cells) (block_ptr b' o')) ⊛ (‵ ((Struct (shape the_type)).own_val (to the_type m) us) ⊛ ‵ (cell_at full_share R.mir us b o)))) ∷ []) ∵
       use1 𝓛 (‵ (cells_own (map Some ws) b' (at + o'))) (bytes_in 𝓛 b' ws (at + o')) $ move ! (1 ∷ []) $ split ! $ move ! (2 ∷ 0 ∷ []) $ join ! $
       use1 𝓛 (‵ (cells_own (with_bytes m.cells at ws) b' o')) (run_in 𝓛 b' m.cells o' at xs h cell_owns ws same) $ move ! (1 ∷ []) $ split ! $
       rewrite ! 0 (λ (n : ℕ). ‵ (may_give_back n (block_ptr b' o'))) (sym long) refl $ move ! (2 ∷ 0 ∷ []) $ fjoin ! $
-      rewrite ! 0 (λ (p : Ptr). ‵ (memory_owns p (with_bytes m.cells at ws))) (sym e) refl $ move ! (1 ∷ []) $ split ! $ move ! (0 ∷ 2 ∷ []) $ fjoin ! $
-      move ! (1 ∷ []) $ fjoin ! $ fpack ! (List Val) (λ vs. fsep (cell_at full_share R.mir vs b o) (R.own_val (memory_with m at ws) vs)) us $ done !
+      rewrite ! 0 (λ (p : Ptr). ‵ (memory_owns p (with_bytes m.cells at ws))) (sym e) refl $ rewrite ! 0 (λ (ys : List ℕ). ‵ (memory_owns m.start (with_bytes m.cells at ys))) (sym all) refl $ move ! (1 ∷ []) $ split ! $ move ! (0 ∷ 2 ∷ []) $ fjoin ! $
+      move ! (1 ∷ []) $ fjoin ! $ fpack ! (List Val) (λ vs. fsep (cell_at full_share R.mir vs b o) (R.own_val (memory_with m at n ws) vs)) us $ done !
 
 pub run_mut_spec : {M : Type 1} → statement M
 run_mut_spec 𝓤 𝓛 𝓜 𝓡 wired =
@@ -84,8 +87,8 @@ run_mut_spec 𝓤 𝓛 𝓜 𝓡 wired =
     sets ! (of_opd ! (get ! refl)) refl (tt, (tt, (record { fits = fits }, tt))) $
     move ! (3 ∷ 4 ∷ []) $ join ! $ move ! (3 ∷ 0 ∷ []) $ join ! $ move ! (2 ∷ 0 ∷ []) $ join ! $ move ! (2 ∷ 3 ∷ 4 ∷ 1 ∷ 0 ∷ []) $ group ! 5 $
     use1 𝓛 (later (some (λ (γ : ℕ). ‵ ((MutSlice (named 0) κs.0 u8).own_val (record { ref_ptr = (b', at + o'); ghost_name = γ; now = xs }) (slice_val (b', at + o') (length xs) ∷ []))
-    ⊛ (‵ (flft κs.0 qs.0) ⊛ ‵ (follows R (Array u8 0) a.0.ghost_name γ (memory_with m at))))))
-    (lends_Elements 𝓛 R u8 (memory_with m at) (named 0) κs.0 qs.0 b o b' (at + o') a.0.ghost_name xs (fits, room) (others 𝓛 m at xs h b o b' o' us) (whole 𝓛 m at xs h b o b' o' us e) _ _) $
+    ⊛ (‵ (flft κs.0 qs.0) ⊛ ‵ (follows R (Array u8 0) a.0.ghost_name γ (memory_with m at n))))))
+    (lends_Elements 𝓛 R u8 (memory_with m at n) (named 0) κs.0 qs.0 b o b' (at + o') a.0.ghost_name xs (fits, room) (others 𝓛 m at n xs long h b o b' o' us) (whole 𝓛 m at n xs long h b o b' o' us e) _ _) $
     await ! tt $ pick ! (λ γ. split3 ! $
     returns ! (look_at ! 0 refl) $ free_all ! refl $ keep ! (1 ∷ 0 ∷ 2 ∷ []) $
     let r : MutBor (List ℕ) = record { ref_ptr = (b', at + o'); ghost_name = γ; now = xs } in

@@ -1,0 +1,40 @@
+-- A `Generation` after a request was served.
+use Rattle.std.proofs.Common.{◌≡◌, ℕ, ◌+◌, ◌-◌, ◌<◌, ◌≤◌, Bool, false, List, Option, None, length, get_or, set, sym, ap, ◌∙◌, subst, arith}
+use Rattle.std.specs.Prelude.{is_some, nat_le}
+use Rattle.std.proofs.lemmas.Bool.{leb-true}
+use Rattle.chunk_layout.specs.Pieces.{Piece}
+use Rattle.chunk_layout.specs.declared.place.ChunkName.{ChunkName}
+use Rattle.chunk_contexts.specs.declared.error.ContextError.{ContextError}
+use Rattle.chunk_contexts.specs.declared.runs.Runs.{Runs}
+use Rattle.chunk_contexts.specs.Chunks.{Adds, chunk_of}
+use Rattle.chunk_contexts.specs.Rooms.{rounded, over_most}
+use Rattle.chunk_contexts.specs.Run.{run_block, run_of, run_growth, run_growth_by, run_taken, IsBlockOf, IsRun}
+use Rattle.chunk_contexts.specs.Generation.{IsCounted}
+use Rattle.chunk_contexts.proofs.GenLaws.{made-low, counted-made}
+
+module _ (r t : Runs) (cs ds : List ℕ) (is : IsCounted r cs) (run : IsRun 8 t) (n : ℕ) (bytes : List ℕ) (name : ChunkName) (admitted : over_most n ≡ None) (space : run_of t ≡ run_taken 8 (run_of r) (chunk_of name (rounded n) bytes))
+    (added : Adds r.layout.pieces t.layout.pieces name (rounded n) bytes) (block : IsBlockOf (run_of r) (run_growth 8 (run_of r) n) name.block)
+    (same : (k : ℕ) → get_or ds k 0 ≡ get_or cs k 0) (longer : length cs ≤ length ds) (enough : 0 < run_growth 8 (run_of r) n → length r.layout.blocks < length ds) where
+  abbrev a : Bool
+  a = nat_le (8 + rounded n) run_block
+
+  abbrev b : Bool
+  b = nat_le (8 + rounded n) (r.active.size - r.active.used)
+
+  -- what it takes, as it was not refused
+  grows : run_growth 8 (run_of r) n ≡ run_growth_by false a b (8 + rounded n)
+  grows = ap (λ (o : Option ContextError). run_growth_by (is_some o) a b (8 + rounded n)) admitted
+
+  some : 1 ≤ 8 + rounded n
+  some = omega arith
+
+  abbrev p : Piece
+  p = chunk_of name (rounded n) bytes
+
+  pub made-there : name.block < length ds
+  made-there = made-low r t cs ds is run p a b (8 + rounded n) some space added.fresh (λ _ fits. leb-true (8 + rounded n) (r.active.size - r.active.used) fits) (λ small. leb-true (8 + rounded n) run_block small)
+      (λ none. block.0 (grows ∙ none)) (λ more. block.1 (subst (λ (g : ℕ). 0 < g) (sym grows) more)) same longer (λ more. enough (subst (λ (g : ℕ). 0 < g) (sym grows) more))
+
+  pub made-counted : IsCounted t (set ds name.block (get_or ds name.block 0 + 1))
+  made-counted = counted-made r t cs ds is run p a b (8 + rounded n) some space added.fresh (λ _ fits. leb-true (8 + rounded n) (r.active.size - r.active.used) fits) (λ small. leb-true (8 + rounded n) run_block small)
+      (λ none. block.0 (grows ∙ none)) (λ more. block.1 (subst (λ (g : ℕ). 0 < g) (sym grows) more)) same longer (λ more. enough (subst (λ (g : ℕ). 0 < g) (sym grows) more))

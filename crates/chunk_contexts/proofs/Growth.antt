@@ -1,0 +1,54 @@
+-- What an `AllocSet` takes of blocks.
+use Rattle.std.proofs.Common.{◌≡◌, ℕ, ◌+◌, ◌<◌, ◌≤◌, false, ap, ◌∙◌, arith}
+use Rattle.std.specs.Prelude.{nat_le, nat_lt, is_some, OnErr, Result, Ok, Err}
+use Rattle.std.proofs.lemmas.Bool.{le-leb, lt-leb, le-ltb, cond-false, cond-true}
+use Rattle.chunk_contexts.specs.Rooms.{most, over_most, room_of, class_of, rounded, largest}
+use Rattle.chunk_contexts.specs.Free.{is_in}
+use Rattle.std.specs.Prelude.{IfOk}
+use Rattle.chunk_contexts.specs.Run.{RunState, run_block, run_growth, run_growth_by}
+use Rattle.chunk_contexts.specs.Set.{SetState, set_growth, growth_by, set_room, block_size}
+
+pub on_err : {T E P Q : Type 0} (r : Result T E) → (P → Q) → OnErr r P → OnErr r Q
+on_err (Ok x) f h = h
+on_err (Err e) f h = f h
+
+pub growth-over : (n : ℕ) → n ≤ most → is_some (over_most n) ≡ false
+growth-over n low = ap is_some (cond-false (nat_lt most n) _ _ (le-ltb most n low))
+
+pub room-classed : (n : ℕ) → n ≤ largest → set_room n ≡ room_of (class_of n)
+room-classed n low = cond-true (nat_le n largest) (room_of (class_of n)) (rounded n) (le-leb n largest low)
+
+pub room-own : (n : ℕ) → largest < n → set_room n ≡ rounded n
+room-own n high = cond-false (nat_le n largest) (room_of (class_of n)) (rounded n) (lt-leb n largest high)
+
+-- a request of a class, for which nothing is free and nothing is left
+pub growth-new : (s : SetState) (n : ℕ) → n ≤ largest → is_in (room_of (class_of n)) s.free ≡ false → s.left < room_of (class_of n) + 8 → set_growth s n ≡ block_size s.next (room_of (class_of n))
+growth-new s n low none full =
+    let room = room-classed n low in let over = growth-over n (omega (arith, low)) in
+    let classed = le-leb n largest low in
+    let fits : nat_le (set_room n + 8) s.left ≡ false = ap (λ (r : ℕ). nat_le (r + 8) s.left) room ∙ lt-leb (room_of (class_of n) + 8) s.left full in
+    (λ i. growth_by (over i) (classed i) ((ap (λ (r : ℕ). is_in r s.free) room ∙ none) i) (fits i) s (room i))
+
+pub growth-own : (s : SetState) (n : ℕ) → n ≤ most → largest < n → set_growth s n ≡ rounded n + 8
+growth-own s n low high =
+    let room = room-own n high in let over = growth-over n low in
+    let classed = lt-leb n largest high in
+    (λ i. growth_by (over i) (classed i) (is_in (set_room n) s.free) (nat_le (set_room n + 8) s.left) s (room i))
+
+-- ---- chunks that lie one after the other
+pub if_ok : {T E : Type 0} {P Q : T → Type 0} (r : Result T E) → ((x : T) → P x → Q x) → IfOk r P → IfOk r Q
+if_ok (Ok x) f h = f x h
+if_ok (Err e) f h = h
+
+module _ (head : ℕ) (s : RunState) (n : ℕ) (low : n ≤ most) where
+  size : ℕ
+  size = head + rounded n
+
+  pub run-own : 8192 < head + rounded n → run_growth head s n ≡ head + rounded n
+  run-own big = λ i. run_growth_by (growth-over n low i) (lt-leb (head + rounded n) run_block big i) (nat_le (head + rounded n) s.left) (head + rounded n)
+
+  pub run-fits : head + rounded n ≤ 8192 → head + rounded n ≤ s.left → run_growth head s n ≡ 0
+  run-fits small fits = λ i. run_growth_by (growth-over n low i) (le-leb (head + rounded n) run_block small i) (le-leb (head + rounded n) s.left fits i) (head + rounded n)
+
+  pub run-new : head + rounded n ≤ 8192 → s.left < head + rounded n → run_growth head s n ≡ 8192
+  run-new small full = λ i. run_growth_by (growth-over n low i) (le-leb (head + rounded n) run_block small i) (lt-leb (head + rounded n) s.left full i) (head + rounded n)

@@ -1,0 +1,14 @@
+pub mod ClassLaws
+pub mod FreeLaws
+pub mod ListLaws
+pub mod CutLaws
+pub mod SetLaws
+pub mod Growth
+pub mod SetViews
+pub mod OverLaws
+pub mod SetMoves
+pub mod RunLaws
+pub mod RunMoves
+pub mod GenLaws
+pub mod GenMoves
+pub mod GenAllocs

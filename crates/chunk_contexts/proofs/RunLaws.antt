@@ -1,0 +1,89 @@
+-- Blocks that are taken for chunks which lie one after the other.
+use Rattle.std.proofs.Common.{◌≡◌, ◌≢◌, ℕ, ◌+◌, ◌<◌, ◌≤◌, inl, true, false, List, [], ◌∷◌, Option, None, length, get_or, sym, ap, ◌∙◌, subst, arith}
+use Rattle.std.specs.Prelude.{IsTrue, is_some, unwrap_or}
+use Rattle.std.proofs.lemmas.Bool.{false≢true}
+use Rattle.chunk_layout.specs.Every.{Every}
+use Rattle.chunk_layout.specs.Pieces.{Layout, Piece, has, with_piece, with_block, size_at, total, IsClear}
+use Rattle.chunk_layout.specs.declared.place.Place.{Place}
+use Rattle.chunk_layout.proofs.Lists.{every_weaker}
+use Rattle.chunk_layout.proofs.Numbers.{with_block-here, with_block-other, total-with_block}
+use Rattle.chunk_layout.proofs.PieceLaws.{without-none}
+use Rattle.chunk_contexts.specs.declared.runs.Runs.{Runs}
+use Rattle.chunk_contexts.specs.Run.{IsRun}
+use Rattle.chunk_contexts.proofs.CutLaws.{none-at}
+use Rattle.chunk_contexts.proofs.SetLaws.{some-block}
+
+module _ (head : ℕ) (r : Runs) (is : IsRun head r) (b size : ℕ) (none : get_or r.layout.blocks b None ≡ None) (low : b ≤ length r.layout.blocks) (name : b < 4294967296) where
+  abbrev l : Layout
+  l = r.layout
+
+  abbrev ps : List Piece
+  ps = l.pieces
+
+  abbrev blocks' : List (Option ℕ)
+  blocks' = with_block l.blocks b size
+
+  not-none : (c : ℕ) → IsTrue (is_some (get_or l.blocks c None)) → c ≢ b
+  not-none c some e = false≢true (sym (ap is_some (ap (λ (k : ℕ). get_or l.blocks k None) e ∙ none)) ∙ some)
+
+  same-block : (c : ℕ) → IsTrue (is_some (get_or l.blocks c None)) → get_or blocks' c None ≡ get_or l.blocks c None
+  same-block c some = with_block-other l.blocks b c size low (not-none c some)
+
+  elsewhere : Every (λ (q : Piece). q.place.block ≢ b) ps
+  elsewhere = every_weaker (λ (q : Piece). IsTrue (is_some (get_or l.blocks q.place.block None))) (λ (q : Piece). q.place.block ≢ b) (λ q g. not-none q.place.block g) ps is.there
+
+  still-there : Every (λ (q : Piece). IsTrue (is_some (get_or blocks' q.place.block None))) ps
+  still-there = every_weaker (λ (q : Piece). IsTrue (is_some (get_or l.blocks q.place.block None))) (λ (q : Piece). IsTrue (is_some (get_or blocks' q.place.block None)))
+      (λ q g. subst (λ (o : Option ℕ). IsTrue (is_some o)) (sym (same-block q.place.block g)) g) ps is.there
+
+  pub taken-size : size_at blocks' b ≡ size
+  taken-size = ap (λ (o : Option ℕ). unwrap_or o 0) (with_block-here l.blocks b size low)
+
+  pub taken-total : (m : Layout) → m.blocks ≡ blocks' → total m.blocks ≡ total l.blocks + size
+  taken-total m same = ap total same ∙ total-with_block l.blocks b size none
+
+  -- the block is for one chunk
+  module _ (room : ℕ) (some : 1 ≤ room) where
+    abbrev own : Piece
+    own = record { place = record { block = b; offset = head }; room = room; is_live = true; bytes = [] }
+
+    pub own-clear : Every (IsClear l.head own.place room) ps
+    own-clear = every_weaker (λ (q : Piece). q.place.block ≢ b) (IsClear l.head own.place room) (λ q ne. inl ne) ps elsewhere
+
+    pub own-fresh : has ps own.place ≡ false
+    own-fresh = none-at own.place ps (every_weaker (λ (q : Piece). q.place.block ≢ b) (λ (q : Piece). q.place ≡ own.place → ⊥) (λ q ne e. ne (ap (λ (x : Place). x.block) e)) ps elsewhere)
+
+    pub own-made : (t m : Layout) → t ≡ record { head = l.head; blocks = blocks'; pieces = ps } → m ≡ with_piece t own → m ≡ record { head = l.head; blocks = blocks'; pieces = own ∷ ps }
+    own-made t m taken carved = carved ∙ ap (λ (z : Layout). with_piece z own) taken ∙ (λ i. record { head = l.head; blocks = blocks'; pieces = own ∷ without-none ps own.place own-fresh i })
+
+    pub own-run : (m : Layout) → m ≡ record { head = l.head; blocks = blocks'; pieces = own ∷ ps } → IsRun head (record { layout = m; active = r.active })
+    own-run m made = subst (λ (z : Layout). IsRun head (record { layout = z; active = r.active })) (sym made) (record {
+      head = is.head;
+      rest = record {
+        size = λ some'. is.rest.size some' ∙ ap (λ (o : Option ℕ). unwrap_or o 0) (sym (same-block r.active.block (active-some some')));
+        used = is.rest.used;
+        bound = is.rest.bound;
+        block = is.rest.block;
+        clear = (λ some' e. absurd (not-none r.active.block (active-some some') (sym e)), is.rest.clear);
+        rooms = (some, is.rest.rooms);
+      };
+      there = (ap is_some (with_block-here l.blocks b size low), still-there);
+    })
+      where
+        active-some : 0 < r.active.size → IsTrue (is_some (get_or l.blocks r.active.block None))
+        active-some some' = some-block l.blocks r.active.block (omega (arith, is.rest.size some', some'))
+
+  -- the block is the one in use
+  pub started-run : (m : Layout) → m ≡ record { head = l.head; blocks = blocks'; pieces = ps } → size ≤ 1048576 → IsRun head (record { layout = m; active = record { block = b; used = 0; size = size } })
+  started-run m made fits = subst (λ (z : Layout). IsRun head (record { layout = z; active = record { block = b; used = 0; size = size } })) (sym made) (record {
+    head = is.head;
+    rest = record {
+      size = λ _. sym taken-size;
+      used = omega arith;
+      bound = fits;
+      block = name;
+      clear = every_weaker (λ (q : Piece). q.place.block ≢ b) (λ (q : Piece). 0 < size → q.place.block ≡ b → q.place.offset + q.room ≤ 0) (λ q ne _ e. absurd (ne e)) ps elsewhere;
+      rooms = is.rest.rooms;
+    };
+    there = still-there;
+  })

@@ -1,0 +1,100 @@
+-- Chunks that lie one after the other are written.
+use Rattle.std.proofs.Common.{◌≡◌, ℕ, ◌+◌, ◌<◌, ◌≤◌, inl, inr, Bool, true, false, List, [], ◌∷◌, ◌++◌, None, get_or, take, refl, sym, ap, ◌∙◌, subst, arith}
+use Rattle.std.specs.Prelude.{IsTrue, is_some}
+use Rattle.std.proofs.lemmas.Bool.{cases_Bool, cond-true, cond-false}
+use Rattle.chunk_layout.specs.Every.{Every}
+use Rattle.chunk_layout.specs.Pieces.{Layout, Piece, is_at, has, piece_at, no_piece, without, put_at, rewritten, with_bytes_of}
+use Rattle.chunk_layout.specs.Lends.{layout_with}
+use Rattle.chunk_layout.specs.declared.place.Place.{Place}
+use Rattle.chunk_layout.proofs.Lists.{every_filter, first_has, first_passes}
+use Rattle.chunk_layout.proofs.Finding.{same-place, place-same}
+use Rattle.chunk_layout.proofs.PieceLaws.{piece_at-first, without-first, without-none}
+use Rattle.chunk_contexts.specs.declared.runs.Runs.{Runs}
+use Rattle.chunk_contexts.specs.Run.{RunState, run_taken, run_taken_by, run_put, IsRun}
+
+-- what holds of a chunk by its place and room
+every-put : (P : Piece → Type 0) → ((p q : Piece) → p.place ≡ q.place → p.room ≡ q.room → P p → P q) → (ps : List Piece) (place : Place) → has ps place ≡ true → (q : Piece) → place ≡ q.place → (piece_at ps place).room ≡ q.room
+    → Every P ps → Every P (q ∷ without ps place)
+every-put P by ps place there q at room every =
+    let t = piece_at ps place in
+    (by t q (same-place t.place place (first_passes (is_at place) no_piece ps there) ∙ at) room (first_has P (is_at place) no_piece ps there every), every_filter P _ ps every)
+
+every-rewritten : (P : Piece → Type 0) → ((p q : Piece) → p.place ≡ q.place → p.room ≡ q.room → P p → P q) → (ps : List Piece) (place : Place) (ws : List ℕ) → Every P ps → Every P (rewritten ps place ws)
+every-rewritten P by [] place ws every = tt
+every-rewritten P by (p ∷ ps) place ws every = elim (cases_Bool (is_at place p)) [
+  | inl here ↦ subst (Every P) (sym (cond-true (is_at place p) (with_bytes_of p ws ∷ ps) (p ∷ rewritten ps place ws) here)) (by p (with_bytes_of p ws) refl refl every.0, every.1)
+  | inr away ↦ subst (Every P) (sym (cond-false (is_at place p) (with_bytes_of p ws ∷ ps) (p ∷ rewritten ps place ws) away)) (every.0, every-rewritten P by ps place ws every.1)
+]
+
+module _ (head : ℕ) (r : Runs) (is : IsRun head r) where
+  clear-by : (p q : Piece) → p.place ≡ q.place → p.room ≡ q.room → (0 < r.active.size → p.place.block ≡ r.active.block → p.place.offset + p.room ≤ r.active.used) → 0 < r.active.size → q.place.block ≡ r.active.block → q.place.offset + q.room ≤ r.active.used
+  clear-by p q at room h some e = let o = ap (λ (x : Place). x.offset) at in omega (arith, h some (ap (λ (x : Place). x.block) at ∙ e), room, o)
+
+  rooms-by : (p q : Piece) → p.place ≡ q.place → p.room ≡ q.room → 1 ≤ p.room → 1 ≤ q.room
+  rooms-by p q at room h = omega (arith, room, h)
+
+  there-by : (p q : Piece) → p.place ≡ q.place → p.room ≡ q.room → IsTrue (is_some (get_or r.layout.blocks p.place.block None)) → IsTrue (is_some (get_or r.layout.blocks q.place.block None))
+  there-by p q at room h = subst (λ (x : Place). IsTrue (is_some (get_or r.layout.blocks x.block None))) at h
+
+  pub run-put : (place : Place) → has r.layout.pieces place ≡ true → (kept : ℕ) (bytes : List ℕ) (m : Layout) → m ≡ put_at r.layout place kept bytes true → IsRun head (record { layout = m; active = r.active })
+  run-put place there kept bytes m made =
+      let q : Piece = record { place = place; room = (piece_at r.layout.pieces place).room; is_live = true; bytes = take kept (piece_at r.layout.pieces place).bytes ++ bytes } in
+      subst (λ (z : Layout). IsRun head (record { layout = z; active = r.active })) (sym made) (record {
+        head = is.head;
+        rest = record {
+          size = is.rest.size;
+          used = is.rest.used;
+          bound = is.rest.bound;
+          block = is.rest.block;
+          clear = every-put (λ (p : Piece). 0 < r.active.size → p.place.block ≡ r.active.block → p.place.offset + p.room ≤ r.active.used) clear-by r.layout.pieces place there q refl refl is.rest.clear;
+          rooms = every-put (λ (p : Piece). 1 ≤ p.room) rooms-by r.layout.pieces place there q refl refl is.rest.rooms;
+        };
+        there = every-put (λ (p : Piece). IsTrue (is_some (get_or r.layout.blocks p.place.block None))) there-by r.layout.pieces place there q refl refl is.there;
+      })
+
+  pub run-lent : (place : Place) (ws : List ℕ) → IsRun head (record { layout = layout_with r.layout place ws; active = r.active })
+  run-lent place ws = record {
+    head = is.head;
+    rest = record {
+      size = is.rest.size;
+      used = is.rest.used;
+      bound = is.rest.bound;
+      block = is.rest.block;
+      clear = every-rewritten (λ (p : Piece). 0 < r.active.size → p.place.block ≡ r.active.block → p.place.offset + p.room ≤ r.active.used) clear-by r.layout.pieces place ws is.rest.clear;
+      rooms = every-rewritten (λ (p : Piece). 1 ≤ p.room) rooms-by r.layout.pieces place ws is.rest.rooms;
+    };
+    there = every-rewritten (λ (p : Piece). IsTrue (is_some (get_or r.layout.blocks p.place.block None))) there-by r.layout.pieces place ws is.there;
+  }
+
+-- ---- a request is served, and other bytes are written to its chunk
+chunks-by : (a b : Bool) (size : ℕ) (s : RunState) (p : Piece) → (run_taken_by a b size s p).chunks ≡ p ∷ s.chunks
+chunks-by false b size s p = refl
+chunks-by true true size s p = refl
+chunks-by true false size s p = refl
+
+pub run-chunks : (head : ℕ) (s : RunState) (p : Piece) → (run_taken head s p).chunks ≡ p ∷ s.chunks
+run-chunks head s p = chunks-by _ _ _ s p
+
+other-bytes : (a b : Bool) (size : ℕ) (s : RunState) (place : Place) (room : ℕ) (xs ys : List ℕ)
+    → let t = run_taken_by a b size s (record { place = place; room = room; is_live = true; bytes = xs }) in
+    record { chunks = (record { place = place; room = room; is_live = true; bytes = ys }) ∷ s.chunks; blocks = t.blocks; active = t.active; left = t.left }
+    ≡ run_taken_by a b size s (record { place = place; room = room; is_live = true; bytes = ys })
+other-bytes false b size s place room xs ys = refl
+other-bytes true true size s place room xs ys = refl
+other-bytes true false size s place room xs ys = refl
+
+module _ (head : ℕ) (s t : RunState) (place : Place) (room : ℕ) (ys xs : List ℕ) (none : has s.chunks place ≡ false) (made : t ≡ run_taken head s (record { place = place; room = room; is_live = true; bytes = xs })) where
+  abbrev p : Piece
+  p = record { place = place; room = room; is_live = true; bytes = xs }
+
+  chunks : t.chunks ≡ p ∷ s.chunks
+  chunks = ap (λ (z : RunState). z.chunks) made ∙ run-chunks head s p
+
+  pub run-piece : piece_at t.chunks place ≡ p
+  run-piece = ap (λ (cs : List Piece). piece_at cs place) chunks ∙ piece_at-first p s.chunks place (place-same place)
+
+  pub run-written : run_put t place ys ≡ run_taken head s (record { place = place; room = room; is_live = true; bytes = ys })
+  run-written =
+      let rest : without t.chunks place ≡ s.chunks = ap (λ (cs : List Piece). without cs place) chunks ∙ without-first p s.chunks place (place-same place) ∙ without-none s.chunks place none in
+      (λ i. record { chunks = (record { place = place; room = (run-piece i).room; is_live = true; bytes = ys }) ∷ rest i; blocks = (made i).blocks; active = (made i).active; left = (made i).left })
+      ∙ other-bytes _ _ _ s place room xs ys

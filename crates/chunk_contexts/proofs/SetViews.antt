@@ -1,0 +1,146 @@
+-- What the state of an `AllocSet` says of its fields at a live chunk, and what it is after they changed.
+use Rattle.std.proofs.Common.{◌≡◌, ℕ, ◌+◌, ◌-◌, ◌<◌, ◌≤◌, inl, inr, true, false, List, ◌∷◌, ◌++◌, Option, None, length, get_or, set, take, refl, sym, ap, ◌∙◌, subst, arith}
+use Rattle.std.specs.Prelude.{IsTrue, is_some, nat_lt}
+use Rattle.std.proofs.lemmas.Bool.{lt-ltb, le-ltb, cond-true, cond-false, cases_lt, false≢true}
+use Rattle.std.proofs.lemmas.List.{get_or_past}
+use Rattle.chunk_layout.specs.Pieces.{Layout, Piece, has, is_at, piece_at, no_piece, without, outside, put_at, total, with_block}
+use Rattle.chunk_layout.specs.declared.place.Place.{Place}
+use Rattle.chunk_layout.proofs.Lists.{first_has, first_passes}
+use Rattle.chunk_layout.proofs.Finding.{same-place}
+use Rattle.chunk_layout.proofs.Numbers.{total-with_block}
+use Rattle.std.specs.Prelude.{◌==◌}
+use Rattle.std.proofs.lemmas.Bool.{and_parts, eqb-true}
+use Rattle.chunk_layout.specs.Every.{Every}
+use Rattle.chunk_layout.specs.Pieces.{place_of}
+use Rattle.chunk_layout.specs.declared.place.ChunkName.{ChunkName}
+use Rattle.chunk_contexts.specs.Chunks.{live, is_live}
+use Rattle.chunk_contexts.specs.Rooms.{rooms, largest}
+use Rattle.chunk_contexts.specs.Free.{is_in, free_rooms, first_free, link_bytes, AreLists}
+use Rattle.chunk_contexts.specs.Set.{SetState, set_put, set_freed}
+use Rattle.chunk_contexts.specs.SetFields.{set_of, IsSet, IsSetPiece, AreFields}
+use Rattle.chunk_contexts.specs.declared.free_lists.FreeLists.{FreeLists}
+use Rattle.chunk_contexts.specs.declared.alloc_set.AllocSet.TheInside.{Inside}
+use Rattle.chunk_contexts.proofs.FreeLaws.{IsLiveAt, LiveAt, live-found, live-without, free_rooms-kept}
+use Rattle.chunk_contexts.proofs.ListLaws.{lists-put, live-put, rooms-put, live-released, rooms-released}
+use Rattle.chunk_contexts.proofs.SetLaws.{set-put, set-back, outside-is}
+
+-- what a live name says
+pub name-there : (chunks : List Piece) (name : ChunkName) → IsTrue (is_live chunks name) → IsTrue (has chunks (place_of name))
+name-there chunks name lives = (and_parts (has chunks (place_of name)) (length (piece_at chunks (place_of name)).bytes == name.len) lives).0
+
+pub name-len : (chunks : List Piece) (name : ChunkName) → IsTrue (is_live chunks name) → length (piece_at chunks (place_of name)).bytes ≡ name.len
+name-len chunks name lives = eqb-true (length (piece_at chunks (place_of name)).bytes) name.len (and_parts (has chunks (place_of name)) (length (piece_at chunks (place_of name)).bytes == name.len) lives).1
+
+module _ (x : Inside) (ok : AreFields x) (s : SetState) (e : set_of x ≡ s) (place : Place) (there : IsTrue (has s.chunks place)) where
+  abbrev l : Layout
+  l = x.lists.layout
+
+  abbrev ps : List Piece
+  ps = l.pieces
+
+  here : has (live ps) place ≡ true
+  here = ap (λ (z : SetState). has z.chunks place) e ∙ there
+
+  was : IsLiveAt ps place
+  was = live-found ps place ok.set.lists.places here
+
+  pub seen-there : has ps place ≡ true
+  seen-there = was.there
+
+  pub seen-only : Every (LiveAt place) ps
+  seen-only = was.only
+
+  pub seen-live : IsTrue (has (live ps) place)
+  seen-live = here
+
+  pub seen : piece_at ps place ≡ piece_at s.chunks place
+  seen = was.same ∙ ap (λ (z : SetState). piece_at z.chunks place) e
+
+  good : IsSetPiece l.blocks x.active x.first (piece_at ps place)
+  good = first_has (IsSetPiece l.blocks x.active x.first) (is_at place) no_piece ps was.there ok.set.good
+
+  at : (piece_at ps place).place ≡ place
+  at = same-place (piece_at ps place).place place (first_passes (is_at place) no_piece ps was.there)
+
+  pub seen-block : place.block < length l.blocks
+  seen-block = elim (cases_lt place.block (length l.blocks)) [
+    | inl low ↦ low
+    | inr past ↦ absurd (false≢true (ap is_some (sym (get_or_past l.blocks place.block None past)) ∙ subst (λ (q : Place). IsTrue (is_some (get_or l.blocks q.block None))) at good.there))
+  ]
+
+  pub seen-known : (room : ℕ) → room ≡ (piece_at ps place).room → room ≤ largest → IsTrue (is_in room rooms)
+  seen-known room is low = subst (λ (r : ℕ). IsTrue (is_in r rooms)) (sym is) (good.small (omega (arith, is, low)))
+
+  -- other bytes
+  module _ (kept : ℕ) (bytes : List ℕ) (m : Layout) (is : m ≡ put_at l place kept bytes true) where
+    abbrev y : Inside
+    y = record { lists = record { layout = m; heads = x.lists.heads }; active = x.active; next = x.next; first = x.first }
+
+    pub fields-put : AreFields y
+    fields-put = record {
+      set = subst (λ (z : Layout). IsSet z x.lists.heads x.active x.first) (sym is)
+          (set-put l x.lists.heads x.active x.first ok.set place was.there kept bytes true x.lists.heads (inl refl) (lists-put l x.lists.heads ok.set.lists place here kept bytes));
+      next = ok.next;
+    }
+
+    pub state-put : set_of y ≡ set_put s place (take kept (piece_at s.chunks place).bytes ++ bytes)
+    state-put =
+        let chunks = ap (λ (z : Layout). live z.pieces) is ∙ live-put l x.lists.heads ok.set.lists place here kept bytes in
+        let free = ap (λ (z : Layout). free_rooms z.pieces) is ∙ rooms-put l x.lists.heads ok.set.lists place here kept bytes in
+        (λ i. record { chunks = chunks i; blocks = (is i).blocks; free = free i; left = x.active.size - x.active.used; next = x.next; first = x.first })
+        ∙ (λ i. record {
+          chunks = (record { place = place; room = (was.same i).room; is_live = true; bytes = take kept (was.same i).bytes ++ bytes }) ∷ without (live ps) place;
+          blocks = l.blocks;
+          free = free_rooms ps;
+          left = x.active.size - x.active.used;
+          next = x.next;
+          first = x.first;
+        })
+        ∙ ap (λ (z : SetState). set_put z place (take kept (piece_at z.chunks place).bytes ++ bytes)) e
+
+  -- a chunk of a class is freed
+  module _ (low : (piece_at ps place).room ≤ largest) (room : ℕ) (size : (piece_at ps place).room ≡ room) (known : is_in room rooms ≡ true)
+      (n : FreeLists) (is : n.layout ≡ put_at l place 0 (link_bytes (first_free room ps)) false) (lists : AreLists n.layout n.heads) where
+    pub fields-released : AreFields (record { lists = n; active = x.active; next = x.next; first = x.first })
+    fields-released = record {
+      set = subst (λ (z : Layout). IsSet z n.heads x.active x.first) (sym is)
+          (set-put l x.lists.heads x.active x.first ok.set place was.there 0 (link_bytes (first_free room ps)) false n.heads (inr low) (subst (λ (z : Layout). AreLists z n.heads) is lists));
+      next = ok.next;
+    }
+
+    pub state-released : set_of (record { lists = n; active = x.active; next = x.next; first = x.first }) ≡ set_freed s place
+    state-released =
+        let chunks = ap (λ (z : Layout). live z.pieces) is ∙ live-released l x.lists.heads ok.set.lists place here room size known in
+        let free = ap (λ (z : Layout). free_rooms z.pieces) is ∙ rooms-released l x.lists.heads ok.set.lists place here room size known in
+        let same : (piece_at (live ps) place).room ≡ room = ap (λ (q : Piece). q.room) (sym was.same) ∙ size in
+        let small : nat_lt largest (piece_at (live ps) place).room ≡ false = le-ltb largest (piece_at (live ps) place).room (omega (arith, same, size, low)) in
+        let free' : free_rooms n.layout.pieces ≡ (piece_at (live ps) place).room ∷ free_rooms ps = free ∙ ap (λ (r : ℕ). r ∷ free_rooms ps) (sym same) in
+        let blocks = ap (λ (z : Layout). z.blocks) is ∙ sym (cond-false (nat_lt largest (piece_at (live ps) place).room) (set l.blocks place.block None) l.blocks small) in
+        (λ i. record { chunks = chunks i; blocks = blocks i; free = (free' ∙ sym (cond-false (nat_lt largest (piece_at (live ps) place).room) (free_rooms ps) ((piece_at (live ps) place).room ∷ free_rooms ps) small)) i; left = x.active.size - x.active.used; next = x.next; first = x.first })
+        ∙ ap (λ (z : SetState). set_freed z place) e
+
+  -- a larger chunk is freed
+  module _ (big : largest < (piece_at ps place).room) (m : Layout) (is : m ≡ record { head = l.head; blocks = set l.blocks place.block None; pieces = outside ps place.block }) where
+    abbrev w : Inside
+    w = record { lists = record { layout = m; heads = x.lists.heads }; active = x.active; next = x.next; first = x.first }
+
+    pub fields-back : AreFields w
+    fields-back = record {
+      set = subst (λ (z : Layout). IsSet z x.lists.heads x.active x.first) (sym is) (set-back l x.lists.heads x.active x.first ok.set place was.there was big);
+      next = ok.next;
+    }
+
+    pub state-back : set_of w ≡ set_freed s place
+    state-back =
+        let rest = outside-is l x.lists.heads x.active x.first ok.set place was.there was big in
+        let chunks = ap (λ (z : Layout). live z.pieces) is ∙ ap live rest ∙ live-without ps place in
+        let free = ap (λ (z : Layout). free_rooms z.pieces) is ∙ ap free_rooms rest ∙ free_rooms-kept ps place was.only in
+        let room = ap (λ (q : Piece). q.room) was.same in
+        let large : nat_lt largest (piece_at (live ps) place).room ≡ true = lt-ltb largest (piece_at (live ps) place).room (omega (arith, room, big)) in
+        let blocks = ap (λ (z : Layout). z.blocks) is ∙ sym (cond-true (nat_lt largest (piece_at (live ps) place).room) (set l.blocks place.block None) l.blocks large) in
+        (λ i. record { chunks = chunks i; blocks = blocks i; free = (free ∙ sym (cond-true (nat_lt largest (piece_at (live ps) place).room) (free_rooms ps) ((piece_at (live ps) place).room ∷ free_rooms ps) large)) i; left = x.active.size - x.active.used; next = x.next; first = x.first })
+        ∙ ap (λ (z : SetState). set_freed z place) e
+
+-- a block more
+pub total-taken : (s : SetState) (l t : Layout) (b size : ℕ) → l.blocks ≡ s.blocks → get_or l.blocks b None ≡ None → t.blocks ≡ with_block l.blocks b size → total t.blocks ≡ total s.blocks + size
+total-taken s l t b size same none is = ap total is ∙ total-with_block l.blocks b size none ∙ ap (λ (z : List (Option ℕ)). total z + size) same

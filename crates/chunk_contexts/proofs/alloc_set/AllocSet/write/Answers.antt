@@ -1,0 +1,19 @@
+use Rattle.std.proofs.Common.{◌≤◌, length, sym, ap, subst, arith}
+use Rattle.chunk_layout.specs.Pieces.{Piece}
+use Rattle.chunk_contexts.proofs.SetViews.{seen, seen-there, fields-put, state-put}
+use Rattle.chunk_contexts.proofs.alloc_set.AllocSet.write.Goals as goal
+
+pub put-requires-clause-there : goal.put-requires-clause-there
+put-requires-clause-there c = seen-there c.self.inside c.self.invariant c.args.self.now c.self.view_is c.args.place c.requires.there
+
+pub put-requires-clause-kept : goal.put-requires-clause-kept
+put-requires-clause-kept c = subst (λ (p : Piece). c.args.kept ≤ length p.bytes) (sym (seen c.self.inside c.self.invariant c.args.self.now c.self.view_is c.args.place c.requires.there)) c.requires.kept
+
+pub put-requires-clause-room : goal.put-requires-clause-room
+put-requires-clause-room c = omega (arith, ap (λ (p : Piece). p.room) (seen c.self.inside c.self.invariant c.args.self.now c.self.view_is c.args.place c.requires.there), c.requires.room)
+
+pub invariant_of-self : goal.invariant_of-self
+invariant_of-self c = fields-put c.self.inside c.self.invariant c.args.self.now c.self.view_is c.args.place c.requires.there c.args.kept c.args.bytes.now c.put.new.self c.put.ensures
+
+pub returns-clause-put : goal.returns-clause-put
+returns-clause-put c = state-put c.self.inside c.self.invariant c.args.self.now c.self.view_is c.args.place c.requires.there c.args.kept c.args.bytes.now c.put.new.self c.put.ensures

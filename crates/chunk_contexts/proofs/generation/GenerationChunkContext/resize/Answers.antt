@@ -1,0 +1,84 @@
+use Rattle.std.proofs.Common.{◌≡◌, ◌∷◌, ℕ, List, true, false, refl, sym, ap, ◌∙◌, subst}
+use Rattle.block_memory.specs.Cells.{zeros}
+use Rattle.std.proofs.Common.{Bool}
+use Rattle.block_memory.proofs.CellLemmas.{length-zeros}
+use Rattle.chunk_layout.specs.Pieces.{Piece, same_place, place_of, has, piece_at, without, resized}
+use Rattle.chunk_layout.specs.declared.place.Place.{Place}
+use Rattle.chunk_layout.specs.declared.place.ChunkName.{ChunkName}
+use Rattle.chunk_layout.proofs.PieceLaws.{same_place-sym, has-later, piece_at-later}
+use Rattle.chunk_contexts.specs.Chunks.{bytes_of, chunk_of, IsResized}
+use Rattle.chunk_contexts.specs.Rooms.{rounded}
+use Rattle.chunk_contexts.specs.Run.{RunState, run_put, run_taken}
+use Rattle.chunk_contexts.specs.Generation.{freed_by, gen_freed}
+use Rattle.chunk_contexts.proofs.RunMoves.{run-chunks, run-written}
+use Rattle.chunk_contexts.proofs.SetMoves.{resized-stays, resized-moved, apart-places}
+use Rattle.chunk_contexts.proofs.SetViews.{name-there}
+use Rattle.chunk_contexts.proofs.generation.GenerationChunkContext.resize.Goals as goal
+
+pub returns-then-len-room-clause-resized : goal.returns-then-len-room-clause-resized
+returns-then-len-room-clause-resized c =
+    let s = c.args.self.now in let name = c.args.name in let n = c.args.n in
+    let same : place_of c.stay.result ≡ place_of name = ap place_of c.stay.ensures.name ∙ c.place-place.ensures in
+    let state : c.stay.new.self ≡ run_put s (place_of name) (resized (bytes_of s.chunks name) n) =
+    c.stay.ensures.put ∙ ap (λ (p : Place). run_put s p (resized (piece_at s.chunks p).bytes n)) c.place-place.ensures in
+    subst (λ (t : RunState). IsResized s.chunks t.chunks name c.stay.result n) (sym state)
+    (resized-stays s.chunks name c.stay.result n (piece_at s.chunks (place_of name)).room same (ap (λ (m : ChunkName). m.len) c.stay.ensures.name))
+
+-- a new chunk has the bytes of another
+module _ (s t u : RunState) (name new : ChunkName) (n room : ℕ) (xs : List ℕ) (there : has s.chunks (place_of name) ≡ true) (none : has s.chunks (place_of new) ≡ false) (made : t ≡ run_taken 8 s (chunk_of new room xs))
+    (a b : Place) (is-old : a ≡ place_of name) (is-new : b ≡ place_of new) (filled : u ≡ run_put t b (resized (piece_at t.chunks a).bytes n)) where
+  apart : same_place (place_of new) (place_of name) ≡ false
+  apart = same_place-sym (place_of new) (place_of name) ∙ apart-places s.chunks (place_of name) (place_of new) there none
+
+  chunks : t.chunks ≡ chunk_of new room xs ∷ s.chunks
+  chunks = ap (λ (z : RunState). z.chunks) made ∙ run-chunks 8 s (chunk_of new room xs)
+
+  source : piece_at t.chunks a ≡ piece_at s.chunks (place_of name)
+  source = ap (piece_at t.chunks) is-old ∙ ap (λ (cs : List Piece). piece_at cs (place_of name)) chunks ∙ piece_at-later (chunk_of new room xs) s.chunks (place_of name) apart
+
+  abbrev p : Piece
+  p = chunk_of new room (resized (bytes_of s.chunks name) n)
+
+  filled-is : u ≡ run_taken 8 s p
+  filled-is = filled ∙ (λ i. run_put t (is-new i) (resized (source i).bytes n)) ∙ run-written 8 s t (place_of new) room (resized (bytes_of s.chunks name) n) xs none made
+
+  filled-there : has u.chunks a ≡ true
+  filled-there = ap (has u.chunks) is-old ∙ ap (λ (z : RunState). has z.chunks (place_of name)) filled-is ∙ ap (λ (cs : List Piece). has cs (place_of name)) (run-chunks 8 s p)
+      ∙ has-later p s.chunks (place_of name) apart ∙ there
+
+pub release-requires : goal.release-requires
+release-requires c =
+    let s = c.args.self.now in let new = c.in_ok-moved.moved in
+    filled-there s c.alloc_zeroed.new.self c.fill.new.self c.args.name new c.args.n (rounded c.args.n) (zeros c.args.n) (name-there s.chunks c.args.name c.requires) c.in_ok-moved.ensures.added.fresh c.in_ok-moved.ensures.space
+    c.place-place.result c.place.result c.place-place.ensures c.place.ensures c.fill.ensures
+
+moved-is : (s u w : RunState) (name : ChunkName) (a : Place) (p : Piece) → u ≡ run_taken 8 s p → w ≡ gen_freed u a → a ≡ place_of name → w ≡ gen_freed (run_taken 8 s p) (place_of name)
+moved-is s u w name a p made freed at = freed ∙ (λ i. gen_freed (made i) (at i))
+
+freed-chunks : (x : RunState) (place : Place) → (gen_freed x place).chunks ≡ without x.chunks place
+freed-chunks x place = by-bool _
+  where
+    by-bool : (b : Bool) → (freed_by b x place).chunks ≡ without x.chunks place
+    by-bool true = refl
+    by-bool false = refl
+
+pub returns-clause-moved : goal.returns-clause-moved
+returns-clause-moved c = λ _.
+    let s = c.args.self.now in let new = c.in_ok-moved.moved in let name = c.args.name in
+    moved-is s c.fill.new.self c.release.new.self name c.place-place.result (chunk_of new (rounded c.args.n) (resized (bytes_of s.chunks name) c.args.n))
+    (filled-is s c.alloc_zeroed.new.self c.fill.new.self name new c.args.n (rounded c.args.n) (zeros c.args.n) (name-there s.chunks name c.requires) c.in_ok-moved.ensures.added.fresh c.in_ok-moved.ensures.space
+    c.place-place.result c.place.result c.place-place.ensures c.place.ensures c.fill.ensures) c.release.ensures c.place-place.ensures
+
+pub returns-clause-resized : goal.returns-clause-resized
+returns-clause-resized c =
+    let s = c.args.self.now in let new = c.in_ok-moved.moved in let name = c.args.name in let n = c.args.n in
+    let p : Piece = chunk_of new (rounded n) (resized (bytes_of s.chunks name) n) in
+    let there = name-there s.chunks name c.requires in
+    let state : c.release.new.self ≡ gen_freed (run_taken 8 s p) (place_of name) =
+    moved-is s c.fill.new.self c.release.new.self name c.place-place.result p
+    (filled-is s c.alloc_zeroed.new.self c.fill.new.self name new n (rounded n) (zeros n) there c.in_ok-moved.ensures.added.fresh c.in_ok-moved.ensures.space
+    c.place-place.result c.place.result c.place-place.ensures c.place.ensures c.fill.ensures) c.release.ensures c.place-place.ensures in
+    let chunks : c.release.new.self.chunks ≡ without (p ∷ s.chunks) (place_of name) =
+    ap (λ (t : RunState). t.chunks) state ∙ freed-chunks (run_taken 8 s p) (place_of name) ∙ ap (λ (cs : List Piece). without cs (place_of name)) (run-chunks 8 s p) in
+    subst (λ (cs : List Piece). IsResized s.chunks cs name new n) (sym chunks)
+    (resized-moved s.chunks name new n (rounded n) there c.in_ok-moved.ensures.added.fresh (c.in_ok-moved.ensures.added.len ∙ length-zeros n))

@@ -1,0 +1,6 @@
+use Rattle.std.proofs.Common.{ℕ, ◌<◌}
+use Rattle.chunk_contexts.specs.Rooms.{room_of}
+use Rattle.chunk_contexts.proofs.rooms.class_of.Given as goal
+
+abbrev pub invariant-loop-class : goal.invariant-loop-class
+invariant-loop-class l = (k : ℕ) → k < l.class → room_of k < l.n

@@ -1,0 +1,49 @@
+-- The content of a context: a finite map from the names of its live chunks to their bytes, as the list of these chunks.
+use Rattle.std.specs.Prelude.{◌≡◌, ℕ, ◌<◌, ◌==◌, ◌&&◌, Bool, true, false, List, ◌∷◌, Option, Some, None, length, IsTrue}
+use Rattle.std.specs.List.{filter}
+use Rattle.chunk_layout.specs.Pieces.{Piece, place_of, same_place, has, piece_at, resized}
+use Rattle.chunk_layout.specs.declared.place.Place.{Place}
+use Rattle.chunk_layout.specs.declared.place.ChunkName.{ChunkName}
+use Rattle.chunk_contexts.specs.declared.error.ContextError.{ContextError}
+use Rattle.chunk_contexts.specs.declared.error.ContextError.TheVariants.{NoMemory, NotSupported}
+
+-- the chunks of which somebody has the name
+abbrev pub live : List Piece → List Piece
+live ps = filter (λ p. p.is_live) ps
+
+-- whether a name is that of one of the chunks
+abbrev pub is_live : List Piece → ChunkName → Bool
+is_live chunks name = has chunks (place_of name) && (length (piece_at chunks (place_of name)).bytes == name.len)
+
+-- the bytes of a chunk
+abbrev pub bytes_of : List Piece → ChunkName → List ℕ
+bytes_of chunks name = (piece_at chunks (place_of name)).bytes
+
+-- after are the chunks before with one more, whose place none of them had
+pub record Adds (before after : List Piece) (name : ChunkName) (room : ℕ) (bytes : List ℕ) : Type 0 where
+  pub len : name.len ≡ length bytes
+  pub fresh : has before (place_of name) ≡ false
+  pub chunks : after ≡ (record { place = place_of name; room = room; is_live = true; bytes = bytes }) ∷ before
+
+-- why a request is refused: as the kind says, and else for want of memory alone where blocks would have to grow
+abbrev pub IsRefused : Option ContextError → ℕ → ContextError → Type 0
+IsRefused None growth error = (error ≡ NoMemory) × (0 < growth)
+IsRefused (Some refusal) growth error = error ≡ refusal
+
+-- a live chunk by its name
+abbrev pub chunk_of : ChunkName → ℕ → List ℕ → Piece
+chunk_of name room bytes = record { place = place_of name; room = room; is_live = true; bytes = bytes }
+
+-- why a chunk is not resized: the kind has no such call, or refuses the size, or blocks would have to grow
+abbrev pub IsResizeRefused : Bool → Option ContextError → ℕ → ℕ → ℕ → ContextError → Type 0
+IsResizeRefused false refusal growth room n error = error ≡ NotSupported
+IsResizeRefused true None growth room n error = (error ≡ NoMemory) × (0 < growth) × (room < n)
+IsResizeRefused true (Some refusal) growth room n error = error ≡ refusal
+
+-- after are the chunks before with one of n bytes in the place of one of any length
+pub record IsResized (before after : List Piece) (name new : ChunkName) (n : ℕ) : Type 0 where
+  pub len : new.len ≡ n
+  pub lives : IsTrue (is_live after new)
+  pub bytes : bytes_of after new ≡ resized (bytes_of before name) n
+  pub others : (q : Place) → same_place (place_of name) q ≡ false → same_place (place_of new) q ≡ false → (has after q ≡ has before q) × (piece_at after q ≡ piece_at before q)
+  pub gone : same_place (place_of name) (place_of new) ≡ false → (has after (place_of name) ≡ false) × (has before (place_of new) ≡ false)

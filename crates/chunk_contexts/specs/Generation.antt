@@ -1,0 +1,30 @@
+-- The rules of space of a `Generation` beside those of `Run`: a block goes back at once when its last chunk is given up.
+use Rattle.std.specs.Prelude.{◌≡◌, ℕ, ◌+◌, ◌-◌, ◌≤◌, ◌==◌, Bool, true, false, cond, List, [], ◌∷◌, None, length, get_or, slice_set}
+use Rattle.chunk_layout.specs.Every.{Pairwise}
+use Rattle.chunk_layout.specs.Pieces.{Piece, without}
+use Rattle.chunk_layout.specs.declared.place.Place.{Place}
+use Rattle.chunk_contexts.specs.Free.{Elsewhere}
+use Rattle.chunk_contexts.specs.Run.{RunState, IsRun}
+use Rattle.chunk_contexts.specs.declared.runs.Runs.{Runs}
+
+-- how many of the chunks are in a block
+abbrev pub in_block : List Piece → ℕ → ℕ
+in_block [] block = 0
+in_block (p ∷ ps) block = cond (p.place.block == block) (in_block ps block + 1) (in_block ps block)
+
+-- without a chunk: if it was the last of its block, without the block, of which nothing is left then
+abbrev pub freed_by : Bool → RunState → Place → RunState
+freed_by true s place = record { chunks = without s.chunks place; blocks = slice_set s.blocks place.block None; active = s.active; left = cond (s.active == place.block) 0 s.left }
+freed_by false s place = record { chunks = without s.chunks place; blocks = s.blocks; active = s.active; left = s.left }
+
+abbrev pub gen_freed : RunState → Place → RunState
+gen_freed s place = freed_by (in_block (without s.chunks place) place.block == 0) s place
+
+-- how many chunks there are is counted for each block
+pub record IsCounted (r : Runs) (numbers : List ℕ) : Type 0 where
+  pub run : IsRun 8 r
+  pub places : Pairwise Elsewhere r.layout.pieces
+  pub counts : (block : ℕ) → get_or numbers block 0 ≡ in_block r.layout.pieces block
+  pub long : length r.layout.blocks ≤ length numbers
+  pub few : (block : ℕ) → in_block r.layout.pieces block ≤ 8192
+  pub left : in_block r.layout.pieces r.active.block + (r.active.size - r.active.used) ≤ 8192

@@ -1,0 +1,370 @@
+//! `AllocSet`: chunks by classes, with a free list for each.
+ghost use Rattle.std.specs.Prelude.{◌≡◌, ◌+◌, ◌*◌, ◌-◌, ◌<◌, ◌≤◌, ◌^◌, min, true, false, [], ◌∷◌, Some, None, IsTrue, IfSome, IfNone, IfOk, OnOk, OnErr, IfErr, length, get_or, nat_le, take, ◌++◌};
+ghost use Rattle.block_memory.specs.Cells.{zeros};
+ghost use Rattle.chunk_layout.specs.Pieces.{has, same_place, place_of, piece_at, total, with_block, resized};
+ghost use Rattle.chunk_contexts.specs.Rooms.{most, rounded, rooms, room_of, largest};
+ghost use Rattle.chunk_contexts.specs.Chunks.{chunk_of};
+ghost use Rattle.chunk_contexts.specs.Free.{is_in};
+ghost use Rattle.chunk_contexts.specs.Set.{new_set, set_growth, set_room, block_size, grown, carved, reused, dedicated, set_taken, set_freed, set_put, set_reset};
+
+use crate::active::Active;
+use crate::context::ChunkContext;
+use crate::error::ContextError;
+use crate::free_lists::FreeLists;
+use crate::rooms::{CLASSES, HEADER, LARGEST, MOST, check_len, class_of, room_of, rounded};
+use chunk_layout::{ChunkLayout, ChunkName, Place};
+use std::alloc::{AllocError, Global};
+use std::marker::Model;
+
+/// The size of the first block that has chunks of the classes, in bytes.
+const FIRST_BLOCK: usize = 8192;
+
+/// The largest size of a block that has chunks of the classes, in bytes.
+const LAST_BLOCK: usize = 1_048_576;
+
+/// A context for chunks of any size, which are freed one by one.
+#[derive(Drop)]
+pub struct AllocSet {
+    lists: FreeLists,
+    active: Active,
+    next: usize,
+    first: Option<u32>,
+}
+
+impl Model for AllocSet {
+    ghost use Rattle.chunk_contexts.specs.Set.{SetState};
+
+    ghost Value = { SetState };
+
+    ghost use Rattle.chunk_contexts.specs.SetFields.{set_of, AreFields};
+
+    ghost view = { set_of };
+
+    ghost invariant = { AreFields };
+}
+
+/// The size of a new block for a chunk of this room.
+fn block_size(next: usize, room: usize) -> usize
+    requires next { next ≤ 1048576 }
+    requires least { 8192 ≤ next }
+    requires room { room ≤ 8192 }
+    ensures value { result ≡ block_size next room }
+    ensures room { room + 8 ≤ result }
+    ensures small { result ≤ 1048576 }
+{
+    if room + HEADER <= next {
+        next
+    } else {
+        2 * next
+    }
+}
+
+impl AllocSet {
+    /// Makes a context with no block.
+    pub fn new(alloc: Global) -> AllocSet
+        ensures { result ≡ new_set }
+    {
+        AllocSet {
+            lists: FreeLists {
+                layout: ChunkLayout::new(alloc, true),
+                heads: [None; CLASSES],
+            },
+            active: Active::NONE,
+            next: FIRST_BLOCK,
+            first: None,
+        }
+    }
+
+    /// How many bytes of the block in use are left.
+    fn left(&self) -> usize
+        ensures { result ≡ self.now.left }
+    {
+        self.active.left()
+    }
+
+    /// Takes the first free chunk of a class, if there is one. It has no bytes then.
+    fn reuse(&mut self, class: usize) -> Option<Place>
+        requires { class < 11 }
+        ensures some { IfSome result (λ place. (is_in (room_of class) self.old.free ≡ true) × (self.new ≡ reused self.old (record { place = place; room = room_of class; is_live = true; bytes = [] }))) }
+        ensures fresh { IfSome result (λ place. has self.old.chunks place ≡ false) }
+        ensures none { IfNone result ((is_in (room_of class) self.old.free ≡ false) × (self.new ≡ self.old)) }
+    {
+        let Some(place) = self.lists.reuse(class) else {
+            return None;
+        };
+        Some(place)
+    }
+
+    /// Makes a chunk of no bytes in the block in use.
+    fn carve(&mut self, room: usize) -> Place
+        requires known { IsTrue (is_in room rooms) }
+        requires fits { room + 8 ≤ self.old.left }
+        ensures carved { self.new ≡ carved self.old (record { place = result; room = room; is_live = true; bytes = [] }) }
+        ensures fresh { has self.old.chunks result ≡ false }
+    {
+        self.active.carve(&mut self.lists.layout, HEADER, room)
+    }
+
+    /// Makes a chunk of no bytes in a new block, which is then in use. What was left of the one before is cut up.
+    fn carve_new(&mut self, room: usize) -> Result<Place, AllocError>
+        requires known { IsTrue (is_in room rooms) }
+        requires small { room ≤ 8192 }
+        ensures carved { IfOk result (λ place. self.new ≡ carved (grown self.old place.block (block_size self.old.next room)) (record { place = place; room = room; is_live = true; bytes = [] })) }
+        ensures fresh { IfOk result (λ place. has self.old.chunks place ≡ false) }
+        ensures held { OnOk result (total self.new.blocks ≡ total self.old.blocks + block_size self.old.next room) }
+        ensures refused { OnErr result ((self.new ≡ self.old) × (0 < block_size self.old.next room)) }
+    {
+        let size = block_size(self.next, room);
+        let block = self.lists.layout.take_block(size)?;
+        self.lists.cut_up(self.active);
+        self.active = Active {
+            block,
+            used: 0,
+            size,
+        };
+        self.next = (2 * self.next).min(LAST_BLOCK);
+        self.first = self.first.or(Some(block));
+        Ok(self.active.carve(&mut self.lists.layout, HEADER, room))
+    }
+
+    /// Makes a chunk of no bytes in a block of its own.
+    fn dedicate(&mut self, room: usize) -> Result<Place, AllocError>
+        requires large { largest < room }
+        requires small { room ≤ most + 8 }
+        ensures taken { IfOk result (λ place. self.new ≡ dedicated self.old (record { place = place; room = room; is_live = true; bytes = [] })) }
+        ensures fresh { IfOk result (λ place. has self.old.chunks place ≡ false) }
+        ensures held { OnOk result (total self.new.blocks ≡ total self.old.blocks + (room + 8)) }
+        ensures refused { OnErr result (self.new ≡ self.old) }
+    {
+        let block = self.lists.layout.take_block(room + HEADER)?;
+        let place = Place {
+            block,
+            offset: HEADER as u32,
+        };
+        self.lists.layout.carve(place, room);
+        Ok(place)
+    }
+
+    /// Makes a chunk of no bytes, with room for `n`.
+    fn claim(&mut self, n: usize) -> Result<Place, AllocError>
+        requires { n ≤ most }
+        ensures taken { IfOk result (λ place. self.new ≡ set_taken self.old n (record { place = place; room = set_room n; is_live = true; bytes = [] })) }
+        ensures room { OnOk result (n ≤ set_room n) }
+        ensures fresh { IfOk result (λ place. has self.old.chunks place ≡ false) }
+        ensures held { OnOk result (total self.new.blocks ≡ total self.old.blocks + set_growth self.old n) }
+        ensures refused { OnErr result ((self.new ≡ self.old) × (0 < set_growth self.old n)) }
+    {
+        if n > LARGEST {
+            return self.dedicate(rounded(n));
+        }
+        let class = class_of(n);
+        if let Some(place) = self.reuse(class) {
+            return Ok(place);
+        }
+        let room = room_of(class);
+        if room + HEADER <= self.left() {
+            return Ok(self.carve(room));
+        }
+        self.carve_new(room)
+    }
+
+    /// Writes `bytes` to a chunk behind the first `kept` of its own, and answers its name.
+    fn write(&mut self, place: Place, kept: usize, bytes: &[u8]) -> ChunkName
+        requires there { IsTrue (has self.old.chunks place) }
+        requires kept { kept ≤ length (piece_at self.old.chunks place).bytes }
+        requires room { kept + length bytes.now ≤ (piece_at self.old.chunks place).room }
+        requires small { kept + length bytes.now ≤ most }
+        ensures name { result ≡ record { block = place.block; offset = place.offset; len = kept + length bytes.now } }
+        ensures put { self.new ≡ set_put self.old place (take kept (piece_at self.old.chunks place).bytes ++ bytes.now) }
+    {
+        self.lists.layout.put(place, kept, bytes, true);
+        ChunkName {
+            block: place.block,
+            offset: place.offset,
+            len: (kept + bytes.len()) as u32,
+        }
+    }
+
+    /// Writes `n` zeros to a chunk behind the first `kept` of its bytes, and answers its name.
+    fn write_zeros(&mut self, place: Place, kept: usize, n: usize) -> ChunkName
+        requires there { IsTrue (has self.old.chunks place) }
+        requires kept { kept ≤ length (piece_at self.old.chunks place).bytes }
+        requires room { kept + n ≤ (piece_at self.old.chunks place).room }
+        requires small { kept + n ≤ most }
+        ensures name { result ≡ record { block = place.block; offset = place.offset; len = kept + n } }
+        ensures put { self.new ≡ set_put self.old place (take kept (piece_at self.old.chunks place).bytes ++ zeros n) }
+    {
+        self.lists.layout.put_zeros(place, kept, n);
+        ChunkName {
+            block: place.block,
+            offset: place.offset,
+            len: (kept + n) as u32,
+        }
+    }
+
+    /// Copies the first `n` of the `len` bytes of a chunk to another, which has no other bytes then.
+    fn copy(&mut self, from: Place, len: usize, to: Place, n: usize)
+        requires apart { same_place from to ≡ false }
+        requires from { IsTrue (has self.old.chunks from) }
+        requires to { IsTrue (has self.old.chunks to) }
+        requires len { length (piece_at self.old.chunks from).bytes ≡ len }
+        requires few { n ≤ len }
+        requires room { n ≤ (piece_at self.old.chunks to).room }
+        ensures { self.new ≡ set_put self.old to (take n (piece_at self.old.chunks from).bytes) }
+    {
+        self.lists.layout.copy(from, len, to, n);
+    }
+
+    /// How many bytes a chunk has room for.
+    fn room(&self, place: Place) -> usize
+        requires { IsTrue (has self.now.chunks place) }
+        ensures { result ≡ (piece_at self.now.chunks place).room }
+    {
+        self.lists.layout.room(place)
+    }
+
+    /// Gives a chunk up.
+    fn release(&mut self, place: Place)
+        requires { IsTrue (has self.old.chunks place) }
+        ensures { self.new ≡ set_freed self.old place }
+    {
+        let room = self.lists.layout.room(place);
+        if room > LARGEST {
+            self.lists.layout.give_back(place.block);
+            return;
+        }
+        self.lists.release(place, room);
+    }
+
+    /// Makes a chunk of `len` bytes `n` bytes long, where it is.
+    fn stay(&mut self, place: Place, len: usize, n: usize) -> ChunkName
+        requires there { IsTrue (has self.old.chunks place) }
+        requires len { length (piece_at self.old.chunks place).bytes ≡ len }
+        requires room { n ≤ (piece_at self.old.chunks place).room }
+        requires small { n ≤ most }
+        ensures name { result ≡ record { block = place.block; offset = place.offset; len = n } }
+        ensures put { self.new ≡ set_put self.old place (resized (piece_at self.old.chunks place).bytes n) }
+    {
+        let kept = len.min(n);
+        self.write_zeros(place, kept, n - kept)
+    }
+
+    /// Makes a chunk of `len` bytes `n` bytes long, in a new chunk.
+    fn relocate(&mut self, from: Place, len: usize, n: usize) -> Result<ChunkName, AllocError>
+        requires there { IsTrue (has self.old.chunks from) }
+        requires len { length (piece_at self.old.chunks from).bytes ≡ len }
+        requires small { n ≤ most }
+        ensures len { IfOk result (λ moved. moved.len ≡ n) }
+        ensures fresh { IfOk result (λ moved. has self.old.chunks (place_of moved) ≡ false) }
+        ensures moved { IfOk result (λ moved. self.new ≡ set_freed (set_taken self.old n (chunk_of moved (set_room n) (resized (piece_at self.old.chunks from).bytes n))) from) }
+        ensures refused { OnErr result ((self.new ≡ self.old) × (0 < set_growth self.old n)) }
+    {
+        let kept = len.min(n);
+        let place = self.claim(n)?;
+        self.copy(from, len, place, kept);
+        let moved = self.write_zeros(place, kept, n - kept);
+        self.release(from);
+        Ok(moved)
+    }
+}
+
+impl ChunkContext for AllocSet {
+    ghost use Rattle.std.specs.Prelude.{true};
+    ghost use Rattle.chunk_contexts.specs.Rooms.{over_most};
+    ghost use Rattle.chunk_contexts.specs.Set.{set_room, set_growth, set_taken, set_put, set_wrote, set_freed, set_reset};
+
+    ghost chunks = { λ s. s.chunks };
+
+    ghost blocks = { λ s. s.blocks };
+
+    ghost room = { λ s n. set_room n };
+
+    ghost refusal = { λ s n. over_most n };
+
+    ghost growth = { set_growth };
+
+    ghost frees = { λ s. true };
+
+    ghost taken = { set_taken };
+
+    ghost wrote = { set_wrote };
+
+    ghost put = { set_put };
+
+    ghost freed = { set_freed };
+
+    ghost emptied = { set_reset };
+
+    fn alloc(&mut self, bytes: &[u8]) -> Result<ChunkName, ContextError> {
+        check_len(bytes.len())?;
+        let place = self.claim(bytes.len())?;
+        Ok(self.write(place, 0, bytes))
+    }
+
+    fn alloc_zeroed(&mut self, n: u32) -> Result<ChunkName, ContextError> {
+        let len = n as usize;
+        check_len(len)?;
+        let place = self.claim(len)?;
+        Ok(self.write_zeros(place, 0, len))
+    }
+
+    fn get(&self, name: ChunkName) -> &[u8] {
+        self.lists.layout.get(name.place(), name.len as usize)
+    }
+
+    fn get_mut(&mut self, name: ChunkName) -> &mut [u8] {
+        self.lists.layout.get_mut(name.place(), name.len as usize)
+    }
+
+    fn free(&mut self, name: ChunkName) -> Result<(), ContextError> {
+        self.release(name.place());
+        Ok(())
+    }
+
+    fn resize(&mut self, name: ChunkName, n: u32) -> Result<ChunkName, ContextError> {
+        let len = n as usize;
+        check_len(len)?;
+        let place = name.place();
+        if len <= self.room(place) {
+            return Ok(self.stay(place, name.len as usize, len));
+        }
+        Ok(self.relocate(place, name.len as usize, len)?)
+    }
+
+    fn reset(&mut self) {
+        self.lists.clear(self.first);
+        self.active = match self.first {
+            Some(block) => Active {
+                block,
+                used: 0,
+                size: self.lists.layout.size(block),
+            },
+            None => Active::NONE,
+        };
+        self.next = if self.first.is_some() {
+            2 * FIRST_BLOCK
+        } else {
+            FIRST_BLOCK
+        };
+    }
+
+    fn held(&self) -> u64 {
+        self.lists.layout.held()
+    }
+
+    fn growth_for(&self, n: u32) -> u64 {
+        let len = n as usize;
+        if len > MOST {
+            return 0;
+        }
+        if len > LARGEST {
+            return (rounded(len) + HEADER) as u64;
+        }
+        let class = class_of(len);
+        let room = room_of(class);
+        if self.lists.has_free(class) || room + HEADER <= self.left() {
+            return 0;
+        }
+        block_size(self.next, room) as u64
+    }
+}

@@ -1,0 +1,123 @@
+//! Free lists by classes, whose links stand in the free chunks.
+ghost use Rattle.std.specs.Prelude.{◌≡◌, ◌+◌, ◌-◌, ◌<◌, ◌≤◌, true, false, [], ◌∷◌, Some, None, IsTrue, IfSome, IfNone, length, get_or};
+ghost use Rattle.chunk_layout.specs.Every.{Every};
+ghost use Rattle.chunk_layout.specs.Pieces.{has, piece_at, put_at, only, size_at, IsClear};
+ghost use Rattle.chunk_contexts.specs.Rooms.{room_of, rooms, rooms_down};
+ghost use Rattle.chunk_contexts.specs.Free.{is_in, free_rooms, first_free, link_bytes, cut_used, cut_piece, cut_pieces, AreLists, IsRest, IsLinkable};
+ghost use Rattle.chunk_contexts.specs.Chunks.{live};
+
+use crate::active::Active;
+use crate::link::{link_bytes, read_link};
+use crate::rooms::{CLASSES, HEADER, class_of, room_of};
+use chunk_layout::{ChunkLayout, Place};
+
+/// A layout of chunks with headers, and the first free chunk of each class.
+#[derive(Drop)]
+pub struct FreeLists {
+    pub(crate) layout: ChunkLayout,
+    pub(crate) heads: [Option<Place>; 11],
+}
+
+impl FreeLists {
+    /// Takes the first free chunk of a class, if there is one. It is live then, and has no bytes.
+    pub(crate) fn reuse(&mut self, class: usize) -> Option<Place>
+        requires lists { AreLists self.old.layout self.old.heads }
+        requires class { class < 11 }
+        ensures lists { AreLists self.new.layout self.new.heads }
+        ensures none { IfNone result ((first_free (room_of class) self.old.layout.pieces ≡ None) × (self.new ≡ self.old)) }
+        ensures some { IfSome result (λ place. first_free (room_of class) self.old.layout.pieces ≡ Some place) }
+        ensures taken { IfSome result (λ place. self.new.layout ≡ put_at self.old.layout place 0 [] true) }
+    {
+        let place = self.heads[class]?;
+        let next = read_link(self.layout.get(place, 8));
+        self.layout.put(place, 0, &[], true);
+        self.heads[class] = next;
+        Some(place)
+    }
+
+    /// Puts a live chunk in front of the free list of its room.
+    pub(crate) fn release(&mut self, place: Place, room: usize)
+        requires lists { AreLists self.old.layout self.old.heads }
+        requires live { IsTrue (has (live self.old.layout.pieces) place) }
+        requires room { (piece_at self.old.layout.pieces place).room ≡ room }
+        requires known { IsTrue (is_in room rooms) }
+        ensures lists { AreLists self.new.layout self.new.heads }
+        ensures freed { self.new.layout ≡ put_at self.old.layout place 0 (link_bytes (first_free room self.old.layout.pieces)) false }
+    {
+        let class = class_of(room);
+        let link = link_bytes(self.heads[class]);
+        self.layout.put(place, 0, &link, false);
+        self.heads[class] = Some(place);
+    }
+
+    /// Makes a free chunk where no chunk is.
+    fn cut(&mut self, place: Place, room: usize)
+        requires lists { AreLists self.old.layout self.old.heads }
+        requires known { IsTrue (is_in room rooms) }
+        requires inside { place.offset + room ≤ size_at self.old.layout.blocks place.block }
+        requires after { 8 ≤ place.offset }
+        requires clear { Every (IsClear 8 place room) self.old.layout.pieces }
+        requires none { has self.old.layout.pieces place ≡ false }
+        requires links { IsLinkable place }
+        ensures lists { AreLists self.new.layout self.new.heads }
+        ensures cut { self.new.layout ≡ record { head = 8; blocks = self.old.layout.blocks; pieces = (record { place = place; room = room; is_live = false; bytes = link_bytes (first_free room self.old.layout.pieces) }) ∷ self.old.layout.pieces } }
+    {
+        self.layout.carve(place, room);
+        self.release(place, room);
+    }
+
+    /// Cuts a free chunk from what is left of a block, if there is room for it.
+    fn cut_one(&mut self, block: &mut Active, room: usize)
+        requires lists { AreLists self.old.layout self.old.heads }
+        requires rest { IsRest self.old.layout block.old }
+        requires known { IsTrue (is_in room rooms) }
+        requires small { room ≤ 8192 }
+        ensures lists { AreLists self.new.layout self.new.heads }
+        ensures rest { IsRest self.new.layout block.new }
+        ensures used { block.new ≡ record { block = block.old.block; used = cut_used room block.old.used block.old.size; size = block.old.size } }
+        ensures cut { self.new.layout ≡ record { head = 8; blocks = self.old.layout.blocks; pieces = cut_piece room block.old.block block.old.used block.old.size self.old.layout.pieces } }
+    {
+        if room + HEADER > block.left() {
+            return;
+        }
+        let place = Place {
+            block: block.block,
+            offset: (block.used + HEADER) as u32,
+        };
+        self.cut(place, room);
+        block.used += HEADER + room;
+    }
+
+    /// Cuts what is left of a block into free chunks, the largest first.
+    pub(crate) fn cut_up(&mut self, block: Active)
+        requires lists { AreLists self.old.layout self.old.heads }
+        requires rest { IsRest self.old.layout block }
+        ensures lists { AreLists self.new.layout self.new.heads }
+        ensures cut { self.new.layout ≡ record { head = 8; blocks = self.old.layout.blocks; pieces = cut_pieces rooms_down block.block block.used block.size self.old.layout.pieces } }
+    {
+        let mut rest = block;
+        for index in 0..CLASSES {
+            let room = room_of(CLASSES - 1 - index);
+            self.cut_one(&mut rest, room);
+        }
+    }
+
+    /// Whether a chunk of a class is free.
+    pub(crate) fn has_free(&self, class: usize) -> bool
+        requires lists { AreLists self.now.layout self.now.heads }
+        requires class { class < 11 }
+        ensures { result ≡ is_in (room_of class) (free_rooms self.now.layout.pieces) }
+    {
+        self.heads[class].is_some()
+    }
+
+    /// Gives up all chunks, and all blocks but the one to keep.
+    pub(crate) fn clear(&mut self, keep: Option<u32>)
+        requires lists { AreLists self.old.layout self.old.heads }
+        ensures lists { AreLists self.new.layout self.new.heads }
+        ensures cleared { self.new.layout ≡ record { head = 8; blocks = only self.old.layout.blocks keep; pieces = [] } }
+    {
+        self.layout.clear(keep);
+        self.heads = [None; CLASSES];
+    }
+}

@@ -1,0 +1,23 @@
+//! Memory contexts: memory that is taken in blocks and given out in chunks, and goes back as a whole.
+//!
+//! The kinds are those of PostgreSQL's memory manager (its README: `src/backend/utils/mmgr/README`), with rules of space of
+//! this project's own.
+#![tactic(auto)]
+
+mod active;
+mod alloc_set;
+mod bump;
+mod context;
+mod error;
+mod free_lists;
+mod generation;
+mod link;
+mod rooms;
+mod runs;
+
+pub use alloc_set::AllocSet;
+pub use bump::Bump;
+pub use chunk_layout::ChunkName;
+pub use context::ChunkContext;
+pub use error::ContextError;
+pub use generation::Generation;

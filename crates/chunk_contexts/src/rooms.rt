@@ -1,0 +1,70 @@
+//! How many bytes a chunk has room for.
+ghost use Rattle.std.specs.Prelude.{◌≡◌, ◌+◌, ◌≤◌, ◌<◌, IsTrue, IsSome, Some, IsOk, MatchResult, is_some};
+ghost use Rattle.chunk_contexts.specs.Rooms.{most, rounded, room_of, class_of, over_most, rooms};
+ghost use Rattle.chunk_contexts.specs.Free.{is_in};
+ghost use Rattle.std.specs.Prelude.{None};
+
+use crate::error::ContextError;
+
+/// The longest chunk, in bytes.
+pub(crate) const MOST: usize = 1_073_741_823;
+
+/// How many classes there are.
+pub(crate) const CLASSES: usize = 11;
+
+/// The rooms of the classes.
+const ROOMS: [usize; CLASSES] = [8, 16, 32, 64, 128, 256, 512, 1024, 2048, 4096, 8192];
+
+/// How many bytes stand before a chunk for its header.
+pub(crate) const HEADER: usize = 8;
+
+/// The room of the largest class.
+pub(crate) const LARGEST: usize = 8192;
+
+/// Refuses a request that is too long for any kind.
+pub(crate) fn check_len(n: usize) -> Result<(), ContextError>
+    ensures { MatchResult result (λ _. over_most n ≡ None) (λ e. over_most n ≡ Some e) }
+{
+    if n > MOST {
+        return Err(ContextError::TooLarge);
+    }
+    Ok(())
+}
+
+/// `n` raised to a multiple of 8, at least 8.
+pub(crate) fn rounded(n: usize) -> usize
+    requires { n ≤ most }
+    ensures value { result ≡ rounded n }
+    ensures room { n ≤ result }
+    ensures some { 8 ≤ result }
+    ensures small { result ≤ n + 8 }
+{
+    (n.max(1) + 7) / 8 * 8
+}
+
+/// The room of a class.
+#[tactic(auto, unfolding(crate::specs::Rooms::room_of, crate::specs::Rooms::rooms))]
+pub(crate) fn room_of(class: usize) -> usize
+    requires { class < 11 }
+    ensures value { result ≡ room_of class }
+    ensures known { IsTrue (is_in result rooms) }
+    ensures some { 8 ≤ result }
+    ensures small { result ≤ 8192 }
+{
+    ROOMS[class]
+}
+
+/// The first class with room for `n` bytes.
+pub(crate) fn class_of(n: usize) -> usize
+    requires { n ≤ 8192 }
+    ensures value { result ≡ class_of n }
+    ensures class { result < 11 }
+    ensures room { n ≤ room_of result }
+{
+    for class in 0..CLASSES {
+        if n <= room_of(class) {
+            return class;
+        }
+    }
+    CLASSES - 1
+}

@@ -1,0 +1,165 @@
+-- A chunk is made where no other is, and blocks come and go.
+use Rattle.std.proofs.Common.{◌≡◌, ◌≢◌, ℕ, ◌+◌, ◌-◌, ◌≤◌, ◌⊎◌, inl, inr, Bool, true, not, List, [], ◌∷◌, Option, None, map, length, get_or, set, refl, sym, ap, ◌∙◌, subst, arith}
+use Rattle.std.specs.Prelude.{IsTrue, is_some, ◌==◌}
+use Rattle.std.specs.List.{filter}
+use Rattle.std.proofs.lemmas.Bool.{eq-eqb, ne_eqb, eqb-false, not-true, cond-true, cond-false, false≢true}
+use Rattle.std.proofs.lemmas.List.{get_or-set_other}
+use Rattle.block_memory.specs.Cells.{Cells, Holds, IsWritten}
+use Rattle.block_memory.specs.Words.{word_bytes}
+use Rattle.block_memory.proofs.CellLemmas.{holds_by_set_word, length-word_bytes}
+use Rattle.chunk_layout.specs.Every.{Every}
+use Rattle.chunk_layout.specs.Pieces.{Piece, IsClear, without, outside}
+use Rattle.chunk_layout.specs.Spots.{Blocks, cells_of, block_at, poke, headed, read, piece_of, spot_is_at, without_spot, Stands, Apart, IsLayout}
+use Rattle.chunk_layout.specs.declared.place.Place.{Place}
+use Rattle.chunk_layout.specs.declared.place.Spot.{Spot}
+use Rattle.chunk_layout.proofs.Lists.{every_both, every_weaker, every_filter, every_passes, every_unmap, pairwise_filter, map_same, filter_map_same}
+use Rattle.chunk_layout.proofs.Pokes.{poke-here, length-poke, some-poke, piece-poke, stands-poke}
+use Rattle.chunk_layout.proofs.Finding.{without-spot}
+
+-- a chunk whose block is the same stands there as before
+module _ (bs after : Blocks) (head : ℕ) where
+  pub stands-same : (s : Spot) → get_or after s.place.block None ≡ get_or bs s.place.block None → Stands head bs s → Stands head after s
+  stands-same s same h =
+      let here : block_at bs s.place.block ≡ block_at after s.place.block = ap cells_of (sym same) in
+      record {
+        there = ap is_some same ∙ h.there;
+        after = h.after;
+        inside = subst (λ (cs : Cells). s.place.offset + s.room ≤ length cs) here h.inside;
+        fits = h.fits;
+        written = subst (λ (cs : Cells). IsWritten cs s.place.offset s.len) here h.written;
+        header = λ eight. subst (λ (cs : Cells). Holds cs (s.place.offset - 8) (word_bytes s.room)) here (h.header eight);
+      }
+
+  pub piece-same : (s : Spot) → get_or after s.place.block None ≡ get_or bs s.place.block None → piece_of after s ≡ piece_of bs s
+  piece-same s same = ap (λ (o : Option Cells). let p : Piece = record { place = s.place; room = s.room; is_live = s.is_live; bytes = read (cells_of o) s.place.offset s.len } in p) same
+
+  -- where the blocks of all chunks are the same
+  module _ (ss : List Spot) (same : Every (λ (s : Spot). get_or after s.place.block None ≡ get_or bs s.place.block None) ss) where
+    pub laid-same : IsLayout head bs ss → IsLayout head after ss
+    laid-same laid = record {
+      header = laid.header;
+      stand = every_both _ (Stands head bs) (Stands head after) stands-same ss same laid.stand;
+      apart = laid.apart;
+    }
+
+    pub pieces-same : map (piece_of after) ss ≡ map (piece_of bs) ss
+    pieces-same = map_same (piece_of after) (piece_of bs) ss (every_weaker _ (λ (s : Spot). piece_of after s ≡ piece_of bs s) piece-same ss same)
+
+-- a block is added at a free number
+pub same-added : (bs after : Blocks) (head b : ℕ) (ss : List Spot) → get_or bs b None ≡ None → ((c : ℕ) → c ≢ b → get_or after c None ≡ get_or bs c None)
+    → Every (Stands head bs) ss → Every (λ (s : Spot). get_or after s.place.block None ≡ get_or bs s.place.block None) ss
+same-added bs after head b ss none other stand =
+    every_weaker (Stands head bs) _ (λ s h. other s.place.block (λ e. false≢true (sym (ap is_some (ap (λ (k : ℕ). get_or bs k None) e ∙ none)) ∙ h.there))) ss stand
+
+-- fewer chunks
+pub laid-fewer : (bs : Blocks) (head : ℕ) (test : Spot → Bool) (ss : List Spot) → IsLayout head bs ss → IsLayout head bs (filter test ss)
+laid-fewer bs head test ss laid = record {
+  header = laid.header;
+  stand = every_filter (Stands head bs) test ss laid.stand;
+  apart = pairwise_filter (Apart head) test ss laid.apart;
+}
+
+-- a block is given back with its chunks
+module _ (bs : Blocks) (head b : ℕ) (ss : List Spot) where
+  abbrev rest : List Spot
+  rest = filter (λ s. not (s.place.block == b)) ss
+
+  same-rest : Every (λ (s : Spot). get_or (set bs b None) s.place.block None ≡ get_or bs s.place.block None) rest
+  same-rest = every_weaker (λ (s : Spot). not (s.place.block == b) ≡ true) _
+      (λ s t. get_or-set_other bs b s.place.block None None (eqb-false s.place.block b (not-true (s.place.block == b) t))) rest
+      (every_passes (λ (s : Spot). not (s.place.block == b)) ss)
+
+  pub laid-dropped : IsLayout head bs ss → IsLayout head (set bs b None) rest
+  laid-dropped laid = laid-same bs (set bs b None) head rest same-rest (laid-fewer bs head (λ s. not (s.place.block == b)) ss laid)
+
+  pub pieces-dropped : map (piece_of (set bs b None)) rest ≡ outside (map (piece_of bs) ss) b
+  pieces-dropped = pieces-same bs (set bs b None) head rest same-rest ∙ filter_map_same (λ (p : Piece). not (p.place.block == b)) (piece_of bs) ss
+
+-- a new chunk
+module _ (head : ℕ) (bs : Blocks) (ss : List Spot) (laid : IsLayout head bs ss) (place : Place) (room : ℕ) (some : IsTrue (is_some (get_or bs place.block None)))
+    (after : head ≤ place.offset) (inside : place.offset + room ≤ length (block_at bs place.block)) (clear : Every (IsClear head place room) (map (piece_of bs) ss)) where
+  abbrev bs' : Blocks
+  bs' = headed head bs place room
+
+  abbrev x : Spot
+  x = record { place = place; room = room; len = 0; is_live = true }
+
+  clear' : Every (λ (s : Spot). IsClear head place room (piece_of bs s)) ss
+  clear' = every_unmap (IsClear head place room) (piece_of bs) ss clear
+
+  -- the blocks where there is a header, and where there is none
+  abbrev poked : Blocks
+  poked = poke bs place.block (place.offset - 8) (word_bytes room)
+
+  with-header : head ≡ 8 → bs' ≡ poked
+  with-header eight = cond-true (head == 8) poked bs (eq-eqb head 8 eight)
+
+  no-header : head ≡ 0 → bs' ≡ bs
+  no-header none = cond-false (head == 8) poked bs (ne_eqb head 8 (λ e. absurd (omega (arith, e, none))))
+
+  fits : head ≡ 8 → place.offset - 8 + length (word_bytes room) ≤ length (block_at bs place.block)
+  fits eight = omega (arith, length-word_bytes room, after, inside, eight)
+
+  untouched : head ≡ 8 → (s : Spot) → IsClear head place room (piece_of bs s) → (s.place.block ≢ place.block) ⊎ ((s.place.offset + s.room ≤ place.offset - 8) ⊎ (place.offset - 8 + length (word_bytes room) + head ≤ s.place.offset))
+  untouched eight s (inl ne) = inl ne
+  untouched eight s (inr (inl before)) = inr (inl (omega (arith, before, eight)))
+  untouched eight s (inr (inr behind)) = inr (inr (omega (arith, behind, eight, after, length-word_bytes room)))
+
+  stands-carved : (s : Spot) → Stands head bs s → IsClear head place room (piece_of bs s) → Stands head bs' s
+  stands-carved s h away = elim laid.header [
+    | inl none ↦ subst (λ (z : Blocks). Stands head z s) (sym (no-header none)) h
+    | inr eight ↦ subst (λ (z : Blocks). Stands head z s) (sym (with-header eight)) (stands-poke bs place.block (place.offset - 8) (word_bytes room) some head (fits eight) s h (untouched eight s away))
+  ]
+
+  piece-carved : (s : Spot) → Stands head bs s → IsClear head place room (piece_of bs s) → piece_of bs' s ≡ piece_of bs s
+  piece-carved s h away = elim laid.header [
+    | inl none ↦ ap (λ (z : Blocks). piece_of z s) (no-header none)
+    | inr eight ↦ ap (λ (z : Blocks). piece_of z s) (with-header eight) ∙ piece-poke bs place.block (place.offset - 8) (word_bytes room) some head (fits eight) s h (untouched eight s away)
+  ]
+
+  same-length : length (block_at bs' place.block) ≡ length (block_at bs place.block)
+  same-length = elim laid.header [
+    | inl none ↦ ap (λ (z : Blocks). length (block_at z place.block)) (no-header none)
+    | inr eight ↦ ap (λ (z : Blocks). length (block_at z place.block)) (with-header eight) ∙ length-poke bs place.block (place.offset - 8) (word_bytes room) some place.block
+  ]
+
+  still-some : IsTrue (is_some (get_or bs' place.block None))
+  still-some = elim laid.header [
+    | inl none ↦ ap (λ (z : Blocks). is_some (get_or z place.block None)) (no-header none) ∙ some
+    | inr eight ↦ ap (λ (z : Blocks). is_some (get_or z place.block None)) (with-header eight) ∙ some-poke bs place.block (place.offset - 8) (word_bytes room) some place.block some
+  ]
+
+  stands-new : Stands head bs' x
+  stands-new = record {
+    there = still-some;
+    after = after;
+    inside = omega (arith, inside, same-length);
+    fits = omega arith;
+    written = (omega (arith, inside, same-length), refl);
+    header = λ eight. subst (λ (z : Blocks). Holds (block_at z place.block) (place.offset - 8) (word_bytes room)) (sym (with-header eight))
+        (subst (λ (cs : Cells). Holds cs (place.offset - 8) (word_bytes room)) (sym (poke-here bs place.block (place.offset - 8) (word_bytes room) some))
+        (holds_by_set_word (block_at bs place.block) (place.offset - 8) room (omega (arith, after, inside, eight))));
+  }
+
+  clear-apart : (s : Spot) → IsClear head place room (piece_of bs s) → Apart head x s
+  clear-apart s (inl ne) = inl (λ e. ne (sym e))
+  clear-apart s (inr (inl before)) = inr (inr before)
+  clear-apart s (inr (inr behind)) = inr (inl behind)
+
+  abbrev keeps : Spot → Bool
+  keeps s = not (spot_is_at place s)
+
+  pub laid-carved : IsLayout head bs' (x ∷ without_spot ss place)
+  laid-carved = record {
+    header = laid.header;
+    stand = (stands-new, every_filter (Stands head bs') keeps ss (every_both (Stands head bs) (λ (s : Spot). IsClear head place room (piece_of bs s)) (Stands head bs') stands-carved ss laid.stand clear'));
+    apart = (every_filter (Apart head x) keeps ss (every_weaker (λ (s : Spot). IsClear head place room (piece_of bs s)) (Apart head x) clear-apart ss clear'), pairwise_filter (Apart head) keeps ss laid.apart);
+  }
+
+  pub pieces-carved : map (piece_of bs') (x ∷ without_spot ss place) ≡ (record { place = place; room = room; is_live = true; bytes = [] }) ∷ without (map (piece_of bs) ss) place
+  pieces-carved =
+      let rest : map (piece_of bs') (without_spot ss place) ≡ without (map (piece_of bs) ss) place =
+      map_same (piece_of bs') (piece_of bs) (without_spot ss place)
+      (every_filter (λ (s : Spot). piece_of bs' s ≡ piece_of bs s) keeps ss (every_both (Stands head bs) (λ (s : Spot). IsClear head place room (piece_of bs s)) (λ (s : Spot). piece_of bs' s ≡ piece_of bs s) piece-carved ss laid.stand clear'))
+      ∙ without-spot bs ss place in
+      ap (λ (t : List Piece). record { place = place; room = room; is_live = true; bytes = [] } ∷ t) rest

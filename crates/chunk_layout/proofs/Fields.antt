@@ -1,0 +1,325 @@
+-- What is known of the fields of a layout at a chunk, and after they changed.
+use Rattle.std.proofs.Common.{◌≡◌, ℕ, ◌+◌, ◌-◌, ◌<◌, ◌≤◌, Bool, true, List, [], ◌∷◌, Option, Some, None, map, length, get_or, set, take, refl, sym, ap, ◌∙◌, subst, arith}
+use Rattle.std.specs.Prelude.{IsTrue, is_some, unwrap_or, option_map}
+use Rattle.std.proofs.lemmas.List.{get_or-map, length-map, length-set}
+use Rattle.block_memory.specs.Cells.{Cells, Holds, IsWritten}
+use Rattle.block_memory.specs.Words.{word_bytes}
+use Rattle.chunk_layout.specs.Every.{Every}
+use Rattle.chunk_layout.specs.Pieces.{Layout, Piece, has, piece_at, put_at, with_block, outside, total, without, with_piece, IsClear, size_at}
+use Rattle.chunk_layout.specs.Spots.{Blocks, cells_of, block_at, poke, headed, piece_of, sizes_of, spots_of, spot_at, Stands, IsLayout}
+use Rattle.chunk_layout.specs.Fields.{layout_of, AreFields}
+use Rattle.chunk_layout.specs.Lends.{layout_with}
+use Rattle.chunk_layout.specs.declared.place.Place.{Place}
+use Rattle.chunk_layout.specs.declared.place.Spot.{Spot}
+use Rattle.chunk_layout.specs.declared.place.Note.{Note}
+use Rattle.chunk_layout.specs.declared.place.Note.TheVariants.{Chunk, Written, Gone, Returned}
+use Rattle.chunk_layout.specs.declared.layout.ChunkLayout.TheInside.{Inside}
+use Rattle.chunk_layout.proofs.Lists.{every_get}
+use Rattle.chunk_layout.proofs.Reading.{length-read, holds-read}
+use Rattle.chunk_layout.proofs.Pokes.{some-within, sizes-poke}
+use Rattle.chunk_layout.proofs.Finding.{without-spot, found-place, found-stands, piece-found}
+use Rattle.chunk_layout.proofs.Puts.{laid-put, pieces-put}
+use Rattle.chunk_layout.proofs.Carves.{laid-fewer, laid-same, pieces-same, same-added, laid-dropped, pieces-dropped, laid-carved, pieces-carved}
+use Rattle.chunk_layout.proofs.Numbers.{map-with_block, total-with_block, total-bound, total-set_none, with_block-other, length-with_block, length-with_block_low, every-with_block, every-set}
+use Rattle.std.proofs.Common.{◌⊎◌, inl, inr}
+use Rattle.std.specs.Prelude.{◌==◌}
+use Rattle.std.proofs.lemmas.Bool.{cases_lt, cond-true, cond-false, eq-eqb, ne_eqb}
+use Rattle.std.proofs.lemmas.List.{get_or_past, map-set}
+use Rattle.chunk_layout.proofs.Lending.{laid-lent_back, pieces-lent_back}
+
+size-is : (o : Option Cells) → unwrap_or (option_map length o) 0 ≡ length (cells_of o)
+size-is None = refl
+size-is (Some cells) = refl
+
+-- the size of a block by its number
+pub size-at : (bs : Blocks) (b : ℕ) → b < length bs → size_at (sizes_of bs) b ≡ length (block_at bs b)
+size-at bs b low = ap (λ (o : Option ℕ). unwrap_or o 0) (get_or-map (option_map length) bs b None None low) ∙ size-is (get_or bs b None)
+
+pub small-block : (x : Inside) → AreFields x → (b : ℕ) → b < length x.blocks.items → length (block_at x.blocks.items b) ≤ 2147483648
+small-block x ok b low =
+    let bs = x.blocks.items in
+    let h : unwrap_or (get_or (sizes_of bs) b None) 0 ≤ 2147483648 = every_get (λ (o : Option ℕ). unwrap_or o 0 ≤ 2147483648) (sizes_of bs) b None (omega (arith, low, length-map bs (option_map {T = Cells} length))) ok.small in
+    omega (arith, h, size-at bs b low)
+
+-- a chunk at a place
+module _ (x : Inside) (ok : AreFields x) (l : Layout) (e : layout_of x ≡ l) (place : Place) (some : IsTrue (has l.pieces place)) where
+  abbrev bs : Blocks
+  bs = x.blocks.items
+
+  abbrev ss : List Spot
+  ss = spots_of x.notes.notes
+
+  abbrev p : Piece
+  p = piece_at l.pieces place
+
+  pub here : has (map (piece_of bs) ss) place ≡ true
+  here = ap (λ (z : Layout). has z.pieces place) e ∙ some
+
+  abbrev t : Spot
+  t = spot_at ss place
+
+  abbrev t' : Spot
+  t' = record { place = place; room = t.room; len = t.len; is_live = t.is_live }
+
+  same : t ≡ t'
+  same = ap (λ (q : Place). let s : Spot = record { place = q; room = t.room; len = t.len; is_live = t.is_live } in s) (found-place bs ss place here)
+
+  stands : Stands x.head bs t'
+  stands = subst (Stands x.head bs) same (found-stands bs ss place here x.head ok.laid.stand)
+
+  found : piece_of bs t' ≡ p
+  found = ap (piece_of bs) (sym same) ∙ sym (piece-found bs ss place here) ∙ ap (λ (z : Layout). piece_at z.pieces place) e
+
+  pub found-some : IsTrue (is_some (get_or bs place.block None))
+  found-some = stands.there
+
+  pub found-low : place.block < length bs
+  found-low = some-within bs place.block stands.there
+
+  len : t.len ≡ length p.bytes
+  len = sym (length-read (block_at bs place.block) place.offset t.len stands.written) ∙ ap (λ (q : Piece). length q.bytes) found
+
+  pub found-inside : place.offset + p.room ≤ length (block_at bs place.block)
+  found-inside = subst (λ (q : Piece). place.offset + q.room ≤ length (block_at bs place.block)) found stands.inside
+
+  pub found-small : length (block_at bs place.block) ≤ 2147483648
+  found-small = small-block x ok place.block found-low
+
+  pub found-fits : length p.bytes ≤ p.room
+  found-fits = let f = stands.fits in let r = ap (λ (q : Piece). q.room) found in omega (arith, len, f, r)
+
+  pub found-written : IsWritten (block_at bs place.block) place.offset (length p.bytes)
+  found-written = subst (IsWritten (block_at bs place.block) place.offset) len stands.written
+
+  pub found-bytes : Holds (block_at bs place.block) place.offset p.bytes
+  found-bytes = subst (λ (q : Piece). Holds (block_at bs place.block) place.offset q.bytes) found (holds-read (block_at bs place.block) place.offset t.len stands.written)
+
+  pub found-header : x.head ≡ 8 → (8 ≤ place.offset) × Holds (block_at bs place.block) (place.offset - 8) (word_bytes p.room)
+  found-header eight = (omega (arith, stands.after, eight), subst (λ (q : Piece). Holds (block_at bs place.block) (place.offset - 8) (word_bytes q.room)) found (stands.header eight))
+
+  old-is : piece_at (map (piece_of bs) ss) place ≡ p
+  old-is = ap (λ (z : Layout). piece_at z.pieces place) e
+
+  -- bytes are written to it
+  module _ (kept : ℕ) (bytes : List ℕ) (live : Bool) (few : kept ≤ length p.bytes) (fits : kept + length bytes ≤ p.room) where
+    few' : kept ≤ length (piece_at (map (piece_of bs) ss) place).bytes
+    few' = subst (λ (q : Piece). kept ≤ length q.bytes) (sym old-is) few
+
+    fits' : kept + length bytes ≤ (piece_at (map (piece_of bs) ss) place).room
+    fits' = subst (λ (q : Piece). kept + length bytes ≤ q.room) (sym old-is) fits
+
+    module _ (y : Inside) (head : y.head ≡ x.head) (held : y.held ≡ x.held) (blocks : y.blocks.items ≡ poke bs place.block (place.offset + kept) bytes)
+        (notes : y.notes.notes ≡ Written place (kept + length bytes) live ∷ x.notes.notes) where
+      sizes : sizes_of bs ≡ sizes_of y.blocks.items
+      sizes = sym (sizes-poke bs place.block (place.offset + kept) bytes found-some) ∙ ap sizes_of (sym blocks)
+
+      pub fields-put : AreFields y
+      fields-put = record {
+        laid = subst (λ (z : ℕ × (Blocks × List Note)). IsLayout z.0 z.1.0 (spots_of z.1.1)) (λ i. (sym head i, (sym blocks i, sym notes i))) (laid-put x.head bs ss ok.laid place here kept bytes live few' fits');
+        held = held ∙ ok.held ∙ ap total sizes;
+        small = subst (Every (λ (o : Option ℕ). unwrap_or o 0 ≤ 2147483648)) sizes ok.small;
+        few = subst (λ (z : List (Option ℕ)). length z < 4294967296) sizes ok.few;
+      }
+
+      pub layout-put : layout_of y ≡ put_at l place kept bytes live
+      layout-put =
+          let pieces = ap (λ (z : Blocks × List Note). map (piece_of z.0) (spots_of z.1)) (λ i. (blocks i, notes i)) ∙ pieces-put x.head bs ss ok.laid place here kept bytes live few' fits' in
+          (λ i. record { head = head i; blocks = sym sizes i; pieces = pieces i }) ∙ ap (λ (z : Layout). put_at z place kept bytes live) e
+
+  -- its bytes are lent
+  module _ (n : ℕ) (count : length p.bytes ≡ n) (ws : List ℕ) where
+    count' : length (piece_at (map (piece_of bs) ss) place).bytes ≡ n
+    count' = ap (λ (q : Piece). length q.bytes) old-is ∙ count
+
+    module _ (y : Inside) (head : y.head ≡ x.head) (held : y.held ≡ x.held) (blocks : y.blocks.items ≡ poke bs place.block place.offset (take n ws)) (notes : y.notes.notes ≡ x.notes.notes) where
+      sizes-lent : sizes_of bs ≡ sizes_of y.blocks.items
+      sizes-lent = sym (sizes-poke bs place.block place.offset (take n ws) found-some) ∙ ap sizes_of (sym blocks)
+
+      pub fields-lent : AreFields y
+      fields-lent = record {
+        laid = subst (λ (z : ℕ × (Blocks × List Note)). IsLayout z.0 z.1.0 (spots_of z.1.1)) (λ i. (sym head i, (sym blocks i, sym notes i))) (laid-lent_back x.head bs ss ok.laid place here n count' ws);
+        held = held ∙ ok.held ∙ ap total sizes-lent;
+        small = subst (Every (λ (o : Option ℕ). unwrap_or o 0 ≤ 2147483648)) sizes-lent ok.small;
+        few = subst (λ (z : List (Option ℕ)). length z < 4294967296) sizes-lent ok.few;
+      }
+
+      pub layout-lent : layout_of y ≡ layout_with l place ws
+      layout-lent =
+          let pieces = ap (λ (z : Blocks × List Note). map (piece_of z.0) (spots_of z.1)) (λ i. (blocks i, notes i)) ∙ pieces-lent_back x.head bs ss ok.laid place here n count' ws in
+          (λ i. record { head = head i; blocks = sym sizes-lent i; pieces = pieces i }) ∙ ap (λ (z : Layout). layout_with z place ws) e
+
+-- fewer chunks, in the same blocks
+module _ (x : Inside) (ok : AreFields x) (l : Layout) (e : layout_of x ≡ l) (place : Place) (y : Inside) (head : y.head ≡ x.head) (held : y.held ≡ x.held) (blocks : y.blocks.items ≡ x.blocks.items)
+    (notes : y.notes.notes ≡ Gone place ∷ x.notes.notes) where
+  pub fields-gone : AreFields y
+  fields-gone = record {
+    laid = subst (λ (z : ℕ × (Blocks × List Note)). IsLayout z.0 z.1.0 (spots_of z.1.1)) (λ i. (sym head i, (sym blocks i, sym notes i)))
+        (laid-fewer x.blocks.items x.head _ (spots_of x.notes.notes) ok.laid);
+    held = held ∙ ok.held ∙ ap (λ (z : Blocks). total (sizes_of z)) (sym blocks);
+    small = subst (λ (z : Blocks). Every (λ (o : Option ℕ). unwrap_or o 0 ≤ 2147483648) (sizes_of z)) (sym blocks) ok.small;
+    few = subst (λ (z : Blocks). length (sizes_of z) < 4294967296) (sym blocks) ok.few;
+  }
+
+  pub layout-gone : layout_of y ≡ record { head = l.head; blocks = l.blocks; pieces = without l.pieces place }
+  layout-gone =
+      let pieces = ap (λ (z : Blocks × List Note). map (piece_of z.0) (spots_of z.1)) (λ i. (blocks i, notes i)) ∙ without-spot x.blocks.items (spots_of x.notes.notes) place in
+      (λ i. record { head = head i; blocks = sizes_of (blocks i); pieces = pieces i }) ∙ ap (λ (z : Layout). record { head = z.head; blocks = z.blocks; pieces = without z.pieces place }) e
+
+-- a chunk is made
+module _ (x : Inside) (ok : AreFields x) (l : Layout) (e : layout_of x ≡ l) (place : Place) (room : ℕ) (some' : 1 ≤ room) (inside' : place.offset + room ≤ size_at l.blocks place.block)
+    (after : l.head ≤ place.offset) (clear : Every (IsClear l.head place room) l.pieces) where
+  abbrev cs : Blocks
+  cs = x.blocks.items
+
+  size-here : place.offset + room ≤ size_at (sizes_of cs) place.block
+  size-here = subst (λ (z : Layout). place.offset + room ≤ size_at z.blocks place.block) (sym e) inside'
+
+  pub carve-low : place.block < length cs
+  carve-low = elim (cases_lt place.block (length cs)) [
+    | inl low ↦ low
+    | inr past ↦
+        let none : size_at (sizes_of cs) place.block ≡ 0 = ap (λ (o : Option ℕ). unwrap_or o 0) (get_or_past (sizes_of cs) place.block None (omega (arith, past, length-map cs (option_map {T = Cells} length)))) in
+        absurd (omega (arith, none, size-here, some'))
+  ]
+
+  pub carve-inside : place.offset + room ≤ length (block_at cs place.block)
+  carve-inside = omega (arith, size-here, size-at cs place.block carve-low)
+
+  pub carve-some : IsTrue (is_some (get_or cs place.block None))
+  carve-some = is-there (get_or cs place.block None) (omega (arith, carve-inside, some'))
+    where
+      is-there : (o : Option Cells) → 1 ≤ length (cells_of o) → IsTrue (is_some o)
+      is-there None low = absurd (omega (arith, low))
+      is-there (Some cells) low = refl
+
+  pub carve-after : x.head ≤ place.offset
+  carve-after = subst (λ (z : Layout). z.head ≤ place.offset) (sym e) after
+
+  clear' : Every (IsClear x.head place room) (map (piece_of cs) (spots_of x.notes.notes))
+  clear' = subst (λ (z : Layout). Every (IsClear z.head place room) z.pieces) (sym e) clear
+
+  module _ (y : Inside) (head : y.head ≡ x.head) (held : y.held ≡ x.held) (blocks : y.blocks.items ≡ headed x.head cs place room)
+      (notes : y.notes.notes ≡ Chunk (record { place = place; room = room; len = 0; is_live = true }) ∷ x.notes.notes) where
+    same-sizes : sizes_of cs ≡ sizes_of y.blocks.items
+    same-sizes = elim ok.laid.header [
+      | inl none ↦ sym (ap sizes_of (blocks ∙ cond-false (x.head == 8) _ cs (ne_eqb x.head 8 (λ q. absurd (omega (arith, q, none))))))
+      | inr eight ↦ sym (ap sizes_of (blocks ∙ cond-true (x.head == 8) _ cs (eq-eqb x.head 8 eight)) ∙ sizes-poke cs place.block (place.offset - 8) (word_bytes room) carve-some)
+    ]
+
+    pub fields-carved : AreFields y
+    fields-carved = record {
+      laid = subst (λ (z : ℕ × (Blocks × List Note)). IsLayout z.0 z.1.0 (spots_of z.1.1)) (λ i. (sym head i, (sym blocks i, sym notes i)))
+          (laid-carved x.head cs (spots_of x.notes.notes) ok.laid place room carve-some carve-after carve-inside clear');
+      held = held ∙ ok.held ∙ ap total same-sizes;
+      small = subst (Every (λ (o : Option ℕ). unwrap_or o 0 ≤ 2147483648)) same-sizes ok.small;
+      few = subst (λ (z : List (Option ℕ)). length z < 4294967296) same-sizes ok.few;
+    }
+
+    pub layout-carved : layout_of y ≡ with_piece l (record { place = place; room = room; is_live = true; bytes = [] })
+    layout-carved =
+        let pieces = ap (λ (z : Blocks × List Note). map (piece_of z.0) (spots_of z.1)) (λ i. (blocks i, notes i)) ∙ pieces-carved x.head cs (spots_of x.notes.notes) ok.laid place room carve-some carve-after carve-inside clear' in
+        (λ i. record { head = head i; blocks = sym same-sizes i; pieces = pieces i }) ∙ ap (λ (z : Layout). with_piece z (record { place = place; room = room; is_live = true; bytes = [] })) e
+
+-- a block is taken
+module _ (x : Inside) (ok : AreFields x) (l : Layout) (e : layout_of x ≡ l) (b len : ℕ) (low : b ≤ length x.blocks.items) (none : get_or x.blocks.items b None ≡ None) (small : len ≤ 2147483648)
+    (few : (b < 4294967295) ⊎ (b < length x.blocks.items)) (block : Cells) (long : length block ≡ len) where
+  abbrev ds : Blocks
+  ds = x.blocks.items
+
+  pub vacant : get_or l.blocks b None ≡ None
+  vacant = ap (λ (z : Layout). get_or z.blocks b None) (sym e) ∙ none-size
+    where
+      none-size : get_or (sizes_of ds) b None ≡ None
+      none-size = elim (cases_lt b (length ds)) [
+        | inl inside ↦ get_or-map (option_map length) ds b None None inside ∙ ap (option_map length) none
+        | inr past ↦ get_or_past (sizes_of ds) b None (omega (arith, past, length-map ds (option_map {T = Cells} length)))
+      ]
+
+  pub vacant-low : b ≤ length l.blocks
+  vacant-low = subst (λ (z : Layout). b ≤ length z.blocks) e (omega (arith, low, length-map ds (option_map {T = Cells} length)))
+
+  sizes-taken : sizes_of (with_block ds b block) ≡ with_block (sizes_of ds) b len
+  sizes-taken = map-with_block length ds b block ∙ ap (with_block (sizes_of ds) b) long
+
+  total-taken : total (with_block (sizes_of ds) b len) ≡ total (sizes_of ds) + len
+  total-taken = total-with_block (sizes_of ds) b len (ap (λ (z : Layout). get_or z.blocks b None) e ∙ vacant)
+
+  pub held-small : x.held + len < 18446744073709551616
+  held-small = let h = ok.held in let f = ok.few in omega (arith, total-bound (sizes_of ds) ok.small, h, f, small)
+
+  module _ (y : Inside) (head : y.head ≡ x.head) (held : y.held ≡ x.held + len) (blocks : y.blocks.items ≡ with_block ds b block) (notes : y.notes.notes ≡ x.notes.notes) where
+    sizes' : sizes_of y.blocks.items ≡ with_block (sizes_of ds) b len
+    sizes' = ap sizes_of blocks ∙ sizes-taken
+
+    same-blocks : Every (λ (s : Spot). get_or (with_block ds b block) s.place.block None ≡ get_or ds s.place.block None) (spots_of x.notes.notes)
+    same-blocks = same-added ds (with_block ds b block) x.head b (spots_of x.notes.notes) none (λ c ne. with_block-other ds b c block low ne) ok.laid.stand
+
+    pub fields-taken : AreFields y
+    fields-taken = record {
+      laid = subst (λ (z : ℕ × (Blocks × List Note)). IsLayout z.0 z.1.0 (spots_of z.1.1)) (λ i. (sym head i, (sym blocks i, sym notes i)))
+          (laid-same ds (with_block ds b block) x.head (spots_of x.notes.notes) same-blocks ok.laid);
+      held = held ∙ ap (λ (n : ℕ). n + len) ok.held ∙ sym (ap total sizes' ∙ total-taken);
+      small = subst (Every (λ (o : Option ℕ). unwrap_or o 0 ≤ 2147483648)) (sym sizes') (every-with_block (λ (o : Option ℕ). unwrap_or o 0 ≤ 2147483648) (sizes_of ds) b len small ok.small);
+      few = subst (λ (z : List (Option ℕ)). length z < 4294967296) (sym sizes') (count few);
+    }
+      where
+        count : (b < 4294967295) ⊎ (b < length ds) → length (with_block (sizes_of ds) b len) < 4294967296
+        count h = elim (cases_lt b (length (sizes_of ds))) [
+          | inl inside ↦ let f = ok.few in omega (arith, length-with_block_low (sizes_of ds) b len inside, f)
+          | inr past ↦ elim h [
+            | inl lower ↦ omega (arith, length-with_block (sizes_of ds) b len, lower, past)
+            | inr inside ↦ absurd (omega (arith, inside, past, length-map ds (option_map {T = Cells} length)))
+          ]
+        ]
+
+    pub layout-taken : layout_of y ≡ record { head = l.head; blocks = with_block l.blocks b len; pieces = l.pieces }
+    layout-taken =
+        let pieces = ap (λ (z : Blocks × List Note). map (piece_of z.0) (spots_of z.1)) (λ i. (blocks i, notes i)) ∙ pieces-same ds (with_block ds b block) x.head (spots_of x.notes.notes) same-blocks in
+        (λ i. record { head = head i; blocks = sizes' i; pieces = pieces i }) ∙ ap (λ (z : Layout). record { head = z.head; blocks = with_block z.blocks b len; pieces = z.pieces }) e
+
+-- a block is given back
+module _ (x : Inside) (ok : AreFields x) (l : Layout) (e : layout_of x ≡ l) (b : ℕ) where
+  abbrev gs : Blocks
+  gs = x.blocks.items
+
+  sizes-dropped : sizes_of (set gs b None) ≡ set (sizes_of gs) b None
+  sizes-dropped = map-set (option_map length) gs b None
+
+  held-dropped : b < length gs → total (set (sizes_of gs) b None) + length (block_at gs b) ≡ x.held
+  held-dropped low = let t = total-set_none (sizes_of gs) b in let h = ok.held in let s = size-at gs b low in omega (arith, t, h, s)
+
+  pub held-enough : b < length gs → length (block_at gs b) ≤ x.held
+  held-enough low = omega (arith, held-dropped low)
+
+  module _ (low : b < length gs) (y : Inside) (head : y.head ≡ x.head) (held : y.held ≡ x.held - length (block_at gs b)) (blocks : y.blocks.items ≡ set gs b None) (notes : y.notes.notes ≡ Returned b ∷ x.notes.notes) where
+    sizes-back : sizes_of y.blocks.items ≡ set (sizes_of gs) b None
+    sizes-back = ap sizes_of blocks ∙ sizes-dropped
+
+    pub fields-dropped : AreFields y
+    fields-dropped = record {
+      laid = subst (λ (z : ℕ × (Blocks × List Note)). IsLayout z.0 z.1.0 (spots_of z.1.1)) (λ i. (sym head i, (sym blocks i, sym notes i)))
+          (laid-dropped gs x.head b (spots_of x.notes.notes) ok.laid);
+      held = held ∙ (omega (arith, held-dropped low)) ∙ sym (ap total sizes-back);
+      small = subst (Every (λ (o : Option ℕ). unwrap_or o 0 ≤ 2147483648)) (sym sizes-back) (every-set (λ (o : Option ℕ). unwrap_or o 0 ≤ 2147483648) (sizes_of gs) b None (omega arith) ok.small);
+      few = subst (λ (z : List (Option ℕ)). length z < 4294967296) (sym sizes-back) (let f = ok.few in omega (arith, length-set (sizes_of gs) b None, f));
+    }
+
+    pub layout-dropped : layout_of y ≡ record { head = l.head; blocks = set l.blocks b None; pieces = outside l.pieces b }
+    layout-dropped =
+        let pieces = ap (λ (z : Blocks × List Note). map (piece_of z.0) (spots_of z.1)) (λ i. (blocks i, notes i)) ∙ pieces-dropped gs x.head b (spots_of x.notes.notes) in
+        (λ i. record { head = head i; blocks = sizes-back i; pieces = pieces i }) ∙ ap (λ (z : Layout). record { head = z.head; blocks = set z.blocks b None; pieces = outside z.pieces b }) e
+
+-- the size of a block, also where there is none
+pub size-any : (bs : Blocks) (b : ℕ) → size_at (sizes_of bs) b ≡ length (block_at bs b)
+size-any bs b = elim (cases_lt b (length bs)) [
+  | inl low ↦ size-at bs b low
+  | inr past ↦
+      ap (λ (o : Option ℕ). unwrap_or o 0) (get_or_past (sizes_of bs) b None (omega (arith, past, length-map bs (option_map {T = Cells} length))))
+      ∙ ap (λ (o : Option Cells). length (cells_of o)) (sym (get_or_past bs b None past))
+]
+
+pub small-any : (x : Inside) → AreFields x → (b : ℕ) → length (block_at x.blocks.items b) ≤ 2147483648
+small-any x ok b = elim (cases_lt b (length x.blocks.items)) [
+  | inl low ↦ small-block x ok b low
+  | inr past ↦ omega (arith, ap (λ (o : Option Cells). length (cells_of o)) (get_or_past x.blocks.items b None past))
+]

@@ -1,0 +1,10 @@
+pub mod Lists
+pub mod Reading
+pub mod Pokes
+pub mod Finding
+pub mod Puts
+pub mod Numbers
+pub mod Carves
+pub mod Lending
+pub mod Fields
+pub mod PieceLaws

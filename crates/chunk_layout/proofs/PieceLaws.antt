@@ -1,0 +1,121 @@
+-- Laws of chunks by their places.
+use Rattle.std.proofs.Common.{◌≡◌, ℕ, ◌+◌, ◌<◌, ◌≤◌, Bool, true, false, not, List, [], ◌∷◌, ◌++◌, Option, Some, None, length, get_or, set, take, drop, replicate, cond, refl, sym, ap, ◌∙◌, inl, inr, arith}
+use Rattle.std.specs.Prelude.{◌||◌, ◌==◌}
+use Rattle.std.proofs.lemmas.Bool.{false≢true, cases_Bool, cond-true, cond-false, not_from_true, not_from_false, or_parts, cases_eq, eq-eqb, ne_eqb}
+use Rattle.std.proofs.lemmas.List.{get_or-replicate, get_or-set_same, get_or-set_other, length-replicate, length-set, length-take-le, take_all, take-take, drop-take, take-append-drop}
+use Rattle.chunk_layout.specs.Pieces.{Layout, Piece, same_place, is_at, has, piece_at, without, put_at, only, is_kept}
+use Rattle.chunk_layout.specs.declared.place.Place.{Place}
+use Rattle.chunk_layout.proofs.Finding.{same-place, place-same}
+
+pub same_place-sym : (p q : Place) → same_place p q ≡ same_place q p
+same_place-sym p q = elim (cases_Bool (same_place p q)) [
+  | inl yes' ↦ yes' ∙ sym (ap (λ (r : Place). same_place q r) (same-place p q yes') ∙ place-same q)
+  | inr no' ↦ no' ∙ sym (elim (cases_Bool (same_place q p)) [
+    | inl yes' ↦ absurd (false≢true (sym no' ∙ ap (λ (r : Place). same_place p r) (same-place q p yes') ∙ place-same p))
+    | inr other ↦ other
+  ])
+]
+
+-- a chunk is at one place alone
+pub other-place : (p : Piece) (a b : Place) → is_at a p ≡ true → same_place a b ≡ false → is_at b p ≡ false
+other-place p a b here ne = ap (λ (q : Place). same_place q b) (same-place p.place a here) ∙ ne
+
+module _ (p : Piece) (ps : List Piece) where
+  pub has-first : (place : Place) → is_at place p ≡ true → has (p ∷ ps) place ≡ true
+  has-first place here = ap (λ (b : Bool). b || has ps place) here
+
+  pub piece_at-first : (place : Place) → is_at place p ≡ true → piece_at (p ∷ ps) place ≡ p
+  piece_at-first place here = cond-true (is_at place p) p (piece_at ps place) here
+
+  pub without-first : (place : Place) → is_at place p ≡ true → without (p ∷ ps) place ≡ without ps place
+  without-first place here = cond-false (not (is_at place p)) (p ∷ without ps place) (without ps place) (not_from_true (is_at place p) here)
+
+  pub has-later : (place : Place) → is_at place p ≡ false → has (p ∷ ps) place ≡ has ps place
+  has-later place there = ap (λ (b : Bool). b || has ps place) there
+
+  pub piece_at-later : (place : Place) → is_at place p ≡ false → piece_at (p ∷ ps) place ≡ piece_at ps place
+  piece_at-later place there = cond-false (is_at place p) p (piece_at ps place) there
+
+  pub without-later : (place : Place) → is_at place p ≡ false → without (p ∷ ps) place ≡ p ∷ without ps place
+  without-later place there = cond-true (not (is_at place p)) (p ∷ without ps place) (without ps place) (not_from_false (is_at place p) there)
+
+-- the chunks without one have all others
+pub has-without : (ps : List Piece) (place other : Place) → same_place place other ≡ false → has (without ps place) other ≡ has ps other
+has-without [] place other ne = refl
+has-without (p ∷ ps) place other ne = elim (cases_Bool (is_at place p)) [
+  | inl here ↦ ap (λ (t : List Piece). has t other) (without-first p ps place here) ∙ has-without ps place other ne ∙ sym (has-later p ps other (other-place p place other here ne))
+  | inr there ↦ ap (λ (t : List Piece). has t other) (without-later p ps place there) ∙ ap (λ (b : Bool). is_at other p || b) (has-without ps place other ne)
+]
+
+pub piece_at-without : (ps : List Piece) (place other : Place) → same_place place other ≡ false → piece_at (without ps place) other ≡ piece_at ps other
+piece_at-without [] place other ne = refl
+piece_at-without (p ∷ ps) place other ne = elim (cases_Bool (is_at place p)) [
+  | inl here ↦ ap (λ (t : List Piece). piece_at t other) (without-first p ps place here) ∙ piece_at-without ps place other ne ∙ sym (piece_at-later p ps other (other-place p place other here ne))
+  | inr there ↦ ap (λ (t : List Piece). piece_at t other) (without-later p ps place there) ∙ ap (λ (q : Piece). cond (is_at other p) p q) (piece_at-without ps place other ne)
+]
+
+pub has_not-without : (ps : List Piece) (place : Place) → has (without ps place) place ≡ false
+has_not-without [] place = refl
+has_not-without (p ∷ ps) place = elim (cases_Bool (is_at place p)) [
+  | inl here ↦ ap (λ (t : List Piece). has t place) (without-first p ps place here) ∙ has_not-without ps place
+  | inr there ↦ ap (λ (t : List Piece). has t place) (without-later p ps place there) ∙ has-later p (without ps place) place there ∙ has_not-without ps place
+]
+
+-- where there is no chunk, none is left out
+pub without-none : (ps : List Piece) (place : Place) → has ps place ≡ false → without ps place ≡ ps
+without-none [] place none = refl
+without-none (p ∷ ps) place none = let parts = or_parts (is_at place p) (has ps place) none in
+    without-later p ps place parts.0 ∙ ap (λ (t : List Piece). p ∷ t) (without-none ps place parts.1)
+
+pub without-twice : (ps : List Piece) (place : Place) → without (without ps place) place ≡ without ps place
+without-twice ps place = without-none (without ps place) place (has_not-without ps place)
+
+-- ---- one call of `put` after another
+module _ (l : Layout) (place : Place) where
+  abbrev p : Piece
+  p = piece_at l.pieces place
+
+  pub has-put : (kept : ℕ) (bytes : List ℕ) (live : Bool) → has (put_at l place kept bytes live).pieces place ≡ true
+  has-put kept bytes live = has-first (record { place = place; room = p.room; is_live = live; bytes = take kept p.bytes ++ bytes }) (without l.pieces place) place (place-same place)
+
+  pub piece_at-put : (kept : ℕ) (bytes : List ℕ) (live : Bool) → piece_at (put_at l place kept bytes live).pieces place ≡ record { place = place; room = p.room; is_live = live; bytes = take kept p.bytes ++ bytes }
+  piece_at-put kept bytes live = piece_at-first (record { place = place; room = p.room; is_live = live; bytes = take kept p.bytes ++ bytes }) (without l.pieces place) place (place-same place)
+
+  pub has-put_other : (kept : ℕ) (bytes : List ℕ) (live : Bool) (other : Place) → same_place place other ≡ false → has (put_at l place kept bytes live).pieces other ≡ has l.pieces other
+  has-put_other kept bytes live other ne = has-later (record { place = place; room = p.room; is_live = live; bytes = take kept p.bytes ++ bytes }) (without l.pieces place) other ne ∙ has-without l.pieces place other ne
+
+  pub piece_at-put_other : (kept : ℕ) (bytes : List ℕ) (live : Bool) (other : Place) → same_place place other ≡ false → piece_at (put_at l place kept bytes live).pieces other ≡ piece_at l.pieces other
+  piece_at-put_other kept bytes live other ne = piece_at-later (record { place = place; room = p.room; is_live = live; bytes = take kept p.bytes ++ bytes }) (without l.pieces place) other ne ∙ piece_at-without l.pieces place other ne
+
+  -- bytes behind those that were written are bytes that were written at once
+  pub put-more : (xs ys : List ℕ) (n : ℕ) → length xs ≡ n → put_at (put_at l place 0 xs true) place n ys true ≡ put_at l place 0 (xs ++ ys) true
+  put-more xs ys n long =
+      let q = piece_at-put 0 xs true in
+      let bytes : take n (piece_at (put_at l place 0 xs true).pieces place).bytes ++ ys ≡ xs ++ ys = ap (λ (r : Piece). take n r.bytes ++ ys) q ∙ ap (λ (t : List ℕ). t ++ ys) (take_all n xs (omega (arith, long))) in
+      let room = ap (λ (r : Piece). r.room) q in
+      let rest = without-first (record { place = place; room = p.room; is_live = true; bytes = xs }) (without l.pieces place) place (place-same place) ∙ without-twice l.pieces place in
+      λ i. record { head = l.head; blocks = l.blocks; pieces = (record { place = place; room = room i; is_live = true; bytes = bytes i }) ∷ rest i }
+
+  -- one part of a copy after the others
+  pub put-part : (src : List ℕ) (k m : ℕ) (part : List ℕ) → k + m ≤ length src → part ≡ take m (drop k src) → put_at (put_at l place 0 (take k src) true) place k part true ≡ put_at l place 0 (take (k + m) src) true
+  put-part src k m part few is =
+      let both : take k src ++ part ≡ take (k + m) src =
+      (λ i. sym (take-take k (k + m) src (omega arith)) i ++ (is ∙ sym (drop-take k m src)) i) ∙ take-append-drop k (take (k + m) src) in
+      put-more (take k src) part k (length-take-le k src (omega arith)) ∙ ap (λ (t : List ℕ). put_at l place 0 t true) both
+
+-- ---- the blocks of which one is kept
+pub length-only : (xs : List (Option ℕ)) (keep : Option ℕ) → length (only xs keep) ≡ length xs
+length-only xs None = length-replicate (length xs) None
+length-only xs (Some b) = length-set (replicate (length xs) None) b (get_or xs b None) ∙ length-replicate (length xs) None
+
+pub only-at : (xs : List (Option ℕ)) (keep : Option ℕ) (k : ℕ) → k < length xs → get_or (only xs keep) k None ≡ cond (is_kept keep k) (get_or xs k None) None
+only-at xs None k low = get_or-replicate (length xs) k None None low
+only-at xs (Some b) k low = elim (cases_eq k b) [
+  | inl same ↦
+      ap (λ (j : ℕ). get_or (set (replicate (length xs) None) j (get_or xs b None)) k None) (sym same)
+      ∙ get_or-set_same (replicate (length xs) None) k (get_or xs b None) None (omega (arith, low, length-replicate {A = Option ℕ} (length xs) None))
+      ∙ ap (λ (j : ℕ). get_or xs j None) (sym same) ∙ sym (cond-true (b == k) (get_or xs k None) None (eq-eqb b k (sym same)))
+  | inr ne ↦
+      get_or-set_other (replicate (length xs) None) b k (get_or xs b None) None ne ∙ get_or-replicate (length xs) k None None low
+      ∙ sym (cond-false (b == k) (get_or xs k None) None (ne_eqb b k (λ e. ne (sym e))))
+]

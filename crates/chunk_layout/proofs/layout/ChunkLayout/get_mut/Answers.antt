@@ -1,0 +1,62 @@
+use Rattle.std.proofs.Common.{◌≡◌, Some, None, take, refl, ap, sym, ◌∙◌, subst, arith}
+use Rattle.std.proofs.lemmas.List.{get_or_default}
+use Rattle.std.specs.Option.{option_copied_mut, is_some}
+use Rattle.std.specs.Vec.{with_item}
+use Rattle.block_memory.specs.Cells.{Cells, Holds, IsWritten, with_bytes}
+use Rattle.block_memory.proofs.CellLemmas.{holds_unique}
+use Rattle.chunk_layout.specs.Spots.{block_at, cells_of}
+use Rattle.chunk_layout.specs.declared.layout.ChunkLayout.TheInside.{Inside}
+use Rattle.chunk_layout.proofs.Fields.{found-low, found-some, found-written, found-bytes, fields-lent, layout-lent}
+use Rattle.chunk_layout.proofs.layout.ChunkLayout.get_mut.Goals as goal
+
+pub index_mut-requires : goal.index_mut-requires
+index_mut-requires c =
+    omega (arith, c.self.inside.blocks.ok.0, found-low c.self.inside c.self.invariant c.args.self.now c.self.view_is c.args.place c.requires.there)
+
+pub unwrap-block-requires : goal.unwrap-block-requires
+unwrap-block-requires c =
+    let low = found-low c.self.inside c.self.invariant c.args.self.now c.self.view_is c.args.place c.requires.there in
+    c.as_mut.ensures.variant ∙ ap is_some (c.index_mut.ensures.value ∙ get_or_default c.self.inside.blocks.items c.args.place.block c.index_mut.result.now None low)
+    ∙ found-some c.self.inside c.self.invariant c.args.self.now c.self.view_is c.args.place c.requires.there
+
+pub bytes_mut-requires : goal.bytes_mut-requires
+bytes_mut-requires c =
+    let x = c.self.inside in let b = c.args.place.block in
+    let low = found-low x c.self.invariant c.args.self.now c.self.view_is c.args.place c.requires.there in
+    let there : c.unwrap-block.result.now ≡ block_at x.blocks.items b =
+    ap cells_of (ap option_copied_mut (sym c.unwrap-block.ensures) ∙ c.as_mut.ensures.value ∙ c.index_mut.ensures.value ∙ get_or_default x.blocks.items b c.index_mut.result.now None low) in
+    subst (λ (cells : Cells). IsWritten cells c.args.place.offset c.args.len) (sym there)
+    (subst (IsWritten (block_at x.blocks.items b) c.args.place.offset) c.requires.len (found-written x c.self.invariant c.args.self.now c.self.view_is c.args.place c.requires.there))
+
+pub invariant_of-self-lent : goal.invariant_of-self-lent
+invariant_of-self-lent c =
+    let x = c.self.inside in let b = c.args.place.block in
+    let low = found-low x c.self.invariant c.args.self.now c.self.view_is c.args.place c.requires.there in
+    let there : c.unwrap-block.result.now ≡ block_at x.blocks.items b =
+    ap cells_of (ap option_copied_mut (sym c.unwrap-block.ensures) ∙ c.as_mut.ensures.value ∙ c.index_mut.ensures.value ∙ get_or_default x.blocks.items b c.index_mut.result.now None low) in
+    λ w.
+    let y : Inside = record { head = x.head; blocks = with_item x.blocks b (Some (with_bytes c.unwrap-block.result.now c.args.place.offset (take c.args.len w))); vacant = x.vacant; held = x.held; notes = x.notes; alloc = x.alloc } in
+    fields-lent x c.self.invariant c.args.self.now c.self.view_is c.args.place c.requires.there c.args.len c.requires.len w y refl refl
+    (ap (λ (cells : Cells). (with_item x.blocks b (Some (with_bytes cells c.args.place.offset (take c.args.len w)))).items) there) refl
+
+pub returns : goal.returns
+returns c =
+    let x = c.self.inside in let b = c.args.place.block in
+    let low = found-low x c.self.invariant c.args.self.now c.self.view_is c.args.place c.requires.there in
+    let there : c.unwrap-block.result.now ≡ block_at x.blocks.items b =
+    ap cells_of (ap option_copied_mut (sym c.unwrap-block.ensures) ∙ c.as_mut.ensures.value ∙ c.index_mut.ensures.value ∙ get_or_default x.blocks.items b c.index_mut.result.now None low) in (
+      (
+        refl,
+        λ w.
+            let y : Inside = record { head = x.head; blocks = with_item x.blocks b (Some (with_bytes c.unwrap-block.result.now c.args.place.offset (take c.args.len w))); vacant = x.vacant; held = x.held; notes = x.notes; alloc = x.alloc } in
+            layout-lent x c.self.invariant c.args.self.now c.self.view_is c.args.place c.requires.there c.args.len c.requires.len w y refl refl
+            (ap (λ (cells : Cells). (with_item x.blocks b (Some (with_bytes cells c.args.place.offset (take c.args.len w)))).items) there) refl,
+      ),
+      record {
+        writes_back = tt;
+        value = holds_unique (block_at x.blocks.items b) c.args.place.offset c.bytes_mut.result.now _ (c.bytes_mut.ensures.len ∙ sym c.requires.len)
+            (subst (λ (cells : Cells). Holds cells c.args.place.offset c.bytes_mut.result.now) there c.bytes_mut.ensures.value)
+            (found-bytes x c.self.invariant c.args.self.now c.self.view_is c.args.place c.requires.there);
+        len = c.bytes_mut.ensures.len;
+      },
+    )

@@ -1,0 +1,5 @@
+pub mod Every
+pub mod Pieces
+pub mod Spots
+pub mod Fields
+pub mod Lends
