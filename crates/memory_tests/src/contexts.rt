@@ -69,15 +69,23 @@ fn chunks_of_a_generation(rt: HostRuntime) -> Result<(), Fail> {
     generation.free(large)?;
     assert_eq!(rt; generation.held(), 0);
     let first = generation.alloc(b"first")?;
-    let second = generation.alloc(b"second")?;
-    assert_eq!(rt; generation.held(), 8192);
     let first = generation.resize(first, 20)?;
     assert!(rt; generation.get(first) == b"first\0\0\0\0\0\0\0\0\0\0\0\0\0\0\0".as_slice());
+    assert_eq!(rt; generation.held(), 8192);
+    assert!(rt; generation.alloc_zeroed(1_073_741_824) == Err(ContextError::TooLarge));
+    Ok(())
+}
+
+#[test]
+fn a_block_goes_with_its_last_chunk(rt: HostRuntime) -> Result<(), Fail> {
+    let mut generation = Generation::new(rt.alloc());
+    let first = generation.alloc(b"first")?;
+    let second = generation.alloc(b"second")?;
+    assert_eq!(rt; generation.held(), 8192);
     generation.free(first)?;
     assert_eq!(rt; generation.held(), 8192);
     generation.free(second)?;
     assert_eq!(rt; generation.held(), 0);
-    assert!(rt; generation.alloc_zeroed(1_073_741_824) == Err(ContextError::TooLarge));
     Ok(())
 }
 
