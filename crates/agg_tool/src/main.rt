@@ -1,52 +1,29 @@
-//! `agg_tool` groups numbered batches of rows, replica by replica, as a script tells.
-//!
-//! The program reads a script of CSV records from standard input, and writes the replies to standard output. It ends
-//! with status 0, or 1 where a command was refused, memory ran out or the script is too long, or 3 where the input could
-//! not be read or the output not written. Standard error has a sentence for each refused command, and for a run that
-//! stopped before the end of its script.
+//! `agg_tool` groups numbered batches of rows, and merges what several sites know of them: `agg_tool --help`.
 #![tactic(auto)]
 
-ghost use Rattle.std.specs.Prelude.{◌≡◌};
-ghost use Rattle.agg_tool.specs.Status.{status_of};
-
-use script_machine::{Observer, Outcome, Refusal, RunError, name, run_observed};
+use command_line::command;
 use std::process::ExitCode;
+use std::{env, io};
 
-/// Writes a sentence on standard error for each refused command.
-#[derive(Drop)]
-struct Complaints {
-    rt: HostRuntime,
-}
-
-impl Observer for Complaints {
-    fn refused(&mut self, line: u64, why: Refusal) {
-        // Nothing is left to do where standard error fails too.
-        let _ = eprintln!(self.rt; "line {line}: refused {}: {why}", name(why));
-    }
-}
-
-/// The status of the program after a run.
-fn status(run: &Result<Outcome, RunError>) -> u8
-    ensures { result ≡ status_of run.now }
-{
-    match run {
-        Ok(outcome) if outcome.refused == 0 => 0,
-        Ok(_) => 1,
-        Err(RunError::NoMemory | RunError::InputTooLong) => 1,
-        Err(RunError::ReadFault | RunError::WriteFault) => 3,
-    }
+/// The words of the command line, of which the first is the program's name.
+fn words(rt: &HostRuntime) -> io::Result<Vec<String>> {
+    Ok(env::args(rt)?.collect(rt.alloc())?)
 }
 
 fn main(rt: HostRuntime) -> ExitCode {
-    let mut complaints = Complaints { rt };
-    let run = run_observed(
-        rt.alloc(),
+    let words = match words(&rt) {
+        Ok(words) => words,
+        Err(error) => {
+            let _ = eprintln!(rt; "error: the command line could not be read: {error}");
+            return ExitCode::from(2);
+        }
+    };
+    let status = command(
+        &rt,
+        &words,
         &mut rt.stdin(),
         &mut rt.stdout(),
-        &mut complaints,
+        &mut rt.stderr(),
     );
-    if let Err(error) = run {
-        let _ = eprintln!(rt; "refused {}: {error}", name(error.into()));
-    }
-    ExitCode::from(status(&run))
+    ExitCode::from(status)
 }

@@ -4,17 +4,14 @@ use Rattle.std.proofs.lemmas.List.{length-map, length-take, length-drop, take_al
 use Rattle.std.proofs.lemmas.Bool.{false≢true}
 use Rattle.csv.specs.Records.{fields_of}
 use Rattle.csv.specs.declared.record.ByteRecord.{ByteRecord}
-use Rattle.std.specs.List.{AllByRecursion}
-use Rattle.std.proofs.lemmas.List.Elements.{All-from_recursion}
-use Rattle.grouping_model.specs.Datum.{Kind, Row, HasKinds}
+use Rattle.grouping_model.specs.Datum.{Kind, Row}
 use Rattle.grouping_model.specs.Replies.{InLimits}
 use Rattle.grouping_model.specs.declared.limits.TheConstants.{MOST_ROWS}
-use Rattle.packed_rows.proofs.FieldLaws.{read_kinds}
 use Rattle.batch_reader.specs.Head.{ReadsBatchNumber, ReadsOrigin}
 use Rattle.script_io.specs.Records.{Record}
 use Rattle.batch_reader.specs.File.{BatchFile, FileHead, batch_file, file_head, told_by}
 use Rattle.batch_reader.specs.Rows.{ArePackedRows, ReadsRows, packings, records_of}
-use Rattle.batch_reader.proofs.RecordLaws.{packed_long}
+use Rattle.batch_reader.proofs.RecordLaws.{packed_long, built_rows}
 
 pub head_of_four : (fields : Record) → length fields ≡ 4
     → file_head fields ≡ told_by (get_or fields 0 []) (get_or fields 1 []) (get_or fields 2 []) (get_or fields 3 [])
@@ -66,19 +63,11 @@ pub packed_as_told : (kinds : List Kind) (rs : List ByteRecord) (bytes : List (L
     → (rows : List Row) × ReadsRows kinds (records_of rs) rows × (bytes ≡ packings rows) → (map fields_of rs ≡ records) × (length records ≡ told) → length bytes ≡ told
 packed_as_told kinds rs bytes records told packed found = packed_long kinds rs bytes packed ∙ sym (length-map rs fields_of) ∙ ap length found.0 ∙ found.1
 
--- the rows that records stand for have the kinds of the columns
-rows_of_kinds : (kinds : List Kind) (records : List Record) (rows : List Row) → ReadsRows kinds records rows → AllByRecursion (HasKinds kinds) rows
-rows_of_kinds kinds [] [] reads = tt
-rows_of_kinds kinds [] (row ∷ rows) reads = absurd reads
-rows_of_kinds kinds (fields ∷ records) [] reads = absurd reads
-rows_of_kinds kinds (fields ∷ records) (row ∷ rows) (first, reads) = (read_kinds kinds fields row first, rows_of_kinds kinds records rows reads)
-
 -- the rows of a batch file are packed rows of the columns
 pub file_rows : (kinds : List Kind) (file : Option BatchFile) (packed : List (List ℕ)) → length packed ≤ MOST_ROWS
     → IsSomeAnd file (λ read. (rows : List Row) × ReadsRows kinds read.records rows × (packed ≡ packings rows)) → ArePackedRows kinds packed
 file_rows kinds None packed few reads = absurd reads
-file_rows kinds (Some read) packed few reads =
-    record { few = few; rows = reads.0; of_kinds = All-from_recursion (HasKinds kinds) reads.0 (rows_of_kinds kinds read.records reads.0 reads.1); packings_are = reads.2 }
+file_rows kinds (Some read) packed few reads = built_rows kinds read.records reads.0 packed reads.1 reads.2 few
 
 -- and its origin and number are within the limits
 pub file_limits : (file : Option BatchFile) (origin number : ℕ) → IsSomeAnd file (λ read. ReadsOrigin read.head.origin origin)

@@ -1,13 +1,17 @@
 -- Fields of a record one by one, and records one by one.
-use Rattle.std.specs.Prelude.{◌≡◌, ℕ, zero, suc, ◌+◌, ◌<◌, List, [], ◌∷◌, ◌++◌, take, length, slice_index_or, Option, Some, None}
+use Rattle.std.specs.Prelude.{◌≡◌, ℕ, zero, suc, ◌+◌, ◌<◌, ◌≤◌, List, [], ◌∷◌, ◌++◌, take, length, slice_index_or, Option, Some, None}
 use Rattle.std.proofs.Common.{refl, sym, ◌∙◌, ap, subst, arith}
 use Rattle.std.proofs.lemmas.List.{map-append, take_more, take_all, length-map, get_or-map}
+use Rattle.std.specs.List.{AllByRecursion}
+use Rattle.std.proofs.lemmas.List.Elements.{All-from_recursion}
 use Rattle.csv.specs.Records.{fields_of, field_at}
 use Rattle.csv.specs.declared.record.ByteRecord.{ByteRecord}
-use Rattle.grouping_model.specs.Datum.{Kind, Row}
+use Rattle.grouping_model.specs.Datum.{Kind, Row, HasKinds}
+use Rattle.grouping_model.specs.declared.limits.TheConstants.{MOST_ROWS}
+use Rattle.packed_rows.proofs.FieldLaws.{read_kinds}
 use Rattle.packed_rows.specs.Field.{ReadsRow}
 use Rattle.packed_rows.specs.Packing.{packing}
-use Rattle.batch_reader.specs.Rows.{ReadsRows, packings, records_of}
+use Rattle.batch_reader.specs.Rows.{ArePackedRows, ReadsRows, packings, records_of}
 use Rattle.batch_reader.specs.Refusal.{RecordFault, RowsFault}
 use Rattle.batch_reader.specs.declared.error.BatchError.{BatchError}
 use Rattle.batch_reader.specs.declared.error.BatchError.TheVariants.{NoMemory, WrongWidth, BadField}
@@ -79,3 +83,15 @@ rows_long kinds (f ∷ records) [] r = absurd r
 
 pub packed_long : (kinds : List Kind) (rs : List ByteRecord) (bytes : List (List ℕ)) → (rows : List Row) × ReadsRows kinds (records_of rs) rows × (bytes ≡ packings rows) → length bytes ≡ length rs
 packed_long kinds rs bytes packed = ap length packed.2 ∙ rows_long kinds (records_of rs) packed.0 packed.1 ∙ records_long rs
+
+-- the rows that records stand for have the kinds of the columns
+rows_of_kinds : (kinds : List Kind) (records : List (List (List ℕ))) (rows : List Row) → ReadsRows kinds records rows → AllByRecursion (HasKinds kinds) rows
+rows_of_kinds kinds [] [] reads = tt
+rows_of_kinds kinds [] (row ∷ rows) reads = absurd reads
+rows_of_kinds kinds (fields ∷ records) [] reads = absurd reads
+rows_of_kinds kinds (fields ∷ records) (row ∷ rows) (first, reads) = (read_kinds kinds fields row first, rows_of_kinds kinds records rows reads)
+
+-- and their packings are the packed rows of a batch, where they are few enough
+pub built_rows : (kinds : List Kind) (records : List (List (List ℕ))) (rows : List Row) (packed : List (List ℕ)) → ReadsRows kinds records rows → packed ≡ packings rows → length packed ≤ MOST_ROWS → ArePackedRows kinds packed
+built_rows kinds records rows packed reads is few =
+    record { few = few; rows = rows; of_kinds = All-from_recursion (HasKinds kinds) rows (rows_of_kinds kinds records rows reads); packings_are = is }

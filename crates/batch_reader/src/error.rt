@@ -14,19 +14,19 @@ pub enum BatchError {
     #[error("out of memory")]
     NoMemory,
     /// The origin isn't 0 to 1,023, or the number isn't 1 to 2,147,483,647, in 1 to 10 digits each.
-    #[error("bad head of a batch")]
+    #[error("no head of a batch, or an origin or a number out of range")]
     BadBatchHead,
     /// More than 65,536 rows are told.
-    #[error("too many rows")]
+    #[error("more than 65,536 rows are told")]
     TooManyRows,
     /// There are more or fewer rows than told.
-    #[error("wrong number of rows")]
+    #[error("more or fewer rows than told")]
     RowCount,
     /// A row has more or fewer fields than the schema has columns.
-    #[error("wrong number of fields")]
+    #[error("a row has more or fewer fields than there are columns")]
     WrongWidth,
     /// A row's field stands for no value of its column, the first being column 0.
-    #[error("bad field in column {column}")]
+    #[error("a field stands for no value of column {column}, the first being column 0")]
     BadField { column: usize },
 }
 

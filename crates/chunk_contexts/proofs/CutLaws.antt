@@ -13,7 +13,8 @@ use Rattle.chunk_contexts.specs.Rooms.{rooms, rooms_down, largest}
 use Rattle.chunk_contexts.specs.Set.{cut_up}
 use Rattle.chunk_contexts.specs.SetFields.{Alone}
 use Rattle.chunk_contexts.proofs.ClassLaws.{in-small}
-use Rattle.chunk_contexts.specs.Free.{IsRest, is_in, free_rooms, first_free, link_bytes, cut_used, cut_piece, cut_pieces}
+use Rattle.chunk_contexts.specs.Free.{by_room, IsRest, is_in, free_rooms, first_free, cut_used, cut_piece, cut_pieces}
+use Rattle.chunk_layout.specs.Links.{link_bytes}
 
 -- no chunk is where each is somewhere else
 pub none-at : (place : Place) (ps : List Piece) → Every (λ (p : Piece). p.place ≡ place → ⊥) ps → has ps place ≡ false
@@ -67,7 +68,7 @@ unfolding rooms rooms_down
 down-known = (refl, (refl, (refl, (refl, (refl, (refl, (refl, (refl, (refl, (refl, (refl, tt)))))))))))
 
 abbrev cut_one : ℕ → ℕ → ℕ → List Piece → Piece
-cut_one room block used ps = record { place = record { block = block; offset = used + 8 }; room = room; is_live = false; bytes = link_bytes (first_free room ps) }
+cut_one room block used ps = record { place = record { block = block; offset = used + 8 }; room = room; is_live = false; bytes = link_bytes (first_free by_room room ps) }
 
 pub cut-every : (P : Piece → Type 0) (block size : ℕ)
     → ((room used : ℕ) (bytes : List ℕ) → is_in room rooms ≡ true → room + 8 ≤ size - used → P (record { place = record { block = block; offset = used + 8 }; room = room; is_live = false; bytes = bytes }))

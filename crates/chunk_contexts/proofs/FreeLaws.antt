@@ -10,7 +10,8 @@ use Rattle.chunk_layout.proofs.Lists.{every_weaker, every_passes, first_has, fir
 use Rattle.chunk_layout.proofs.Finding.{same-place, place-same}
 use Rattle.chunk_layout.proofs.PieceLaws.{same_place-sym, has-first, piece_at-first, without-first, has-later, piece_at-later, without-later, without-none}
 use Rattle.chunk_contexts.specs.Chunks.{live}
-use Rattle.chunk_contexts.specs.Free.{is_free, free_rooms, first_free, is_in, minus, link_bytes, Linked, Elsewhere}
+use Rattle.chunk_contexts.specs.Free.{by_room, is_free, free_rooms, first_free, is_in, minus, Linked, Elsewhere}
+use Rattle.chunk_layout.specs.Links.{link_bytes}
 
 -- ---- filters one after the other
 pub filter-swap : {X : Type 0} (f g : X → Bool) (xs : List X) → filter f (filter g xs) ≡ filter g (filter f xs)
@@ -139,16 +140,16 @@ live-none (p ∷ ps) place none = let parts = or_parts (is_at place p) (has ps p
     ]
 
 -- ---- a live chunk is left out, or is no free one
-not-free : (room : ℕ) (p : Piece) → p.is_live ≡ true → is_free room p ≡ false
-not-free room p lives = ap (λ (b : Bool). not b && (p.room == room)) lives
+not-free : (key : Place → ℕ → ℕ) (k : ℕ) (p : Piece) → p.is_live ≡ true → is_free key k p ≡ false
+not-free key k p lives = ap (λ (b : Bool). not b && (key p.place p.room == k)) lives
 
-pub first_free-kept : (room : ℕ) (ps : List Piece) (place : Place) → Every (LiveAt place) ps → first_free room (without ps place) ≡ first_free room ps
-first_free-kept room [] place every = refl
-first_free-kept room (p ∷ ps) place every =
-    let rest = first_free-kept room ps place every.1 in
+pub first_free-kept : (key : Place → ℕ → ℕ) (k : ℕ) (ps : List Piece) (place : Place) → Every (LiveAt place) ps → first_free key k (without ps place) ≡ first_free key k ps
+first_free-kept key k [] place every = refl
+first_free-kept key k (p ∷ ps) place every =
+    let rest = first_free-kept key k ps place every.1 in
     elim (cases_Bool (is_at place p)) [
-      | inl here ↦ ap (first_free room) (without-first p ps place here) ∙ rest ∙ sym (cond-false (is_free room p) (Some p.place) (first_free room ps) (not-free room p (every.0 here)))
-      | inr there ↦ ap (first_free room) (without-later p ps place there) ∙ ap (λ (o : Option Place). cond (is_free room p) (Some p.place) o) rest
+      | inl here ↦ ap (first_free key k) (without-first p ps place here) ∙ rest ∙ sym (cond-false (is_free key k p) (Some p.place) (first_free key k ps) (not-free key k p (every.0 here)))
+      | inr there ↦ ap (first_free key k) (without-later p ps place there) ∙ ap (λ (o : Option Place). cond (is_free key k p) (Some p.place) o) rest
     ]
 
 pub free_rooms-kept : (ps : List Piece) (place : Place) → Every (LiveAt place) ps → free_rooms (without ps place) ≡ free_rooms ps
@@ -160,37 +161,36 @@ free_rooms-kept (p ∷ ps) place every =
       | inr there ↦ ap free_rooms (without-later p ps place there) ∙ ap (λ (t : List ℕ). cond p.is_live t (p.room ∷ t)) rest
     ]
 
-pub linked-kept : (ps : List Piece) (place : Place) → Every (LiveAt place) ps → Linked ps → Linked (without ps place)
-linked-kept [] place every linked = tt
-linked-kept (p ∷ ps) place every linked =
-    let rest = linked-kept ps place every.1 linked.1 in
+pub linked-kept : (key : Place → ℕ → ℕ) (ps : List Piece) (place : Place) → Every (LiveAt place) ps → Linked key ps → Linked key (without ps place)
+linked-kept key [] place every linked = tt
+linked-kept key (p ∷ ps) place every linked =
+    let rest = linked-kept key ps place every.1 linked.1 in
     elim (cases_Bool (is_at place p)) [
-      | inl here ↦ subst Linked (sym (without-first p ps place here)) rest
-      | inr there ↦ subst Linked (sym (without-later p ps place there)) (λ dead. linked.0 dead ∙ ap link_bytes (sym (first_free-kept p.room ps place every.1)), rest)
+      | inl here ↦ subst (Linked key) (sym (without-first p ps place here)) rest
+      | inr there ↦ subst (Linked key) (sym (without-later p ps place there)) (λ dead. linked.0 dead ∙ ap link_bytes (sym (first_free-kept key (key p.place p.room) ps place every.1)), rest)
     ]
 
--- ---- the first free chunk of a room is taken
-pub record Popped (ps : List Piece) (place : Place) (room : ℕ) : Type 0 where
+-- ---- the first free chunk of a list is taken
+pub record Popped (key : Place → ℕ → ℕ) (ps : List Piece) (place : Place) (k : ℕ) : Type 0 where
   pub there : has ps place ≡ true
   pub dead : (piece_at ps place).is_live ≡ false
-  pub size : (piece_at ps place).room ≡ room
-  pub bytes : (piece_at ps place).bytes ≡ link_bytes (first_free room (without ps place))
-  pub others : (other : ℕ) → other ≢ room → first_free other (without ps place) ≡ first_free other ps
-  pub rooms : free_rooms (without ps place) ≡ minus room (free_rooms ps)
-  pub linked : Linked (without ps place)
+  pub listed : key (piece_at ps place).place (piece_at ps place).room ≡ k
+  pub bytes : (piece_at ps place).bytes ≡ link_bytes (first_free key k (without ps place))
+  pub others : (other : ℕ) → other ≢ k → first_free key other (without ps place) ≡ first_free key other ps
+  pub linked : Linked key (without ps place)
   pub lives : live (without ps place) ≡ live ps
 
 some-inj : (p q : Place) → Some p ≡ Some q → p ≡ q
 some-inj p q e = cc
 
-pub popped : (room : ℕ) (ps : List Piece) (place : Place) → Pairwise Elsewhere ps → Linked ps → first_free room ps ≡ Some place → Popped ps place room
-popped room [] place places linked first = absurd (cc)
-popped room (p ∷ ps) place places linked first = elim (cases_Bool (is_free room p)) [
+pub popped : (key : Place → ℕ → ℕ) (k : ℕ) (ps : List Piece) (place : Place) → Pairwise Elsewhere ps → Linked key ps → first_free key k ps ≡ Some place → Popped key ps place k
+popped key k [] place places linked first = absurd (cc)
+popped key k (p ∷ ps) place places linked first = elim (cases_Bool (is_free key k p)) [
   | inl free ↦
-      let parts = and_parts (not p.is_live) (p.room == room) free in
+      let parts = and_parts (not p.is_live) (key p.place p.room == k) free in
       let dead : p.is_live ≡ false = not-true p.is_live parts.0 in
-      let size : p.room ≡ room = eqb-true p.room room parts.1 in
-      let is : p.place ≡ place = some-inj p.place place (sym (cond-true (is_free room p) (Some p.place) (first_free room ps) free) ∙ first) in
+      let listed : key p.place p.room ≡ k = eqb-true (key p.place p.room) k parts.1 in
+      let is : p.place ≡ place = some-inj p.place place (sym (cond-true (is_free key k p) (Some p.place) (first_free key k ps) free) ∙ first) in
       let here : is_at place p ≡ true = ap (λ (q : Place). same_place p.place q) (sym is) ∙ place-same p.place in
       let none : has ps place ≡ false = subst (λ (q : Place). has ps q ≡ false) is (elsewhere-none p ps places.0) in
       let rest : without (p ∷ ps) place ≡ ps = without-first p ps place here ∙ without-none ps place none in
@@ -198,31 +198,48 @@ popped room (p ∷ ps) place places linked first = elim (cases_Bool (is_free roo
       record {
         there = has-first p ps place here;
         dead = ap (λ (q : Piece). q.is_live) one ∙ dead;
-        size = ap (λ (q : Piece). q.room) one ∙ size;
-        bytes = ap (λ (q : Piece). q.bytes) one ∙ linked.0 dead ∙ (λ i. link_bytes (first_free (size i) (sym rest i)));
-        others = λ other ne. ap (first_free other) rest ∙ sym (cond-false (is_free other p) (Some p.place) (first_free other ps)
-            (ap (λ (b : Bool). not p.is_live && b) (ne_eqb p.room other (λ e. ne (sym e ∙ size))) ∙ (ap (λ (b : Bool). not b && false) dead)));
-        rooms = ap free_rooms rest ∙ sym (ap (minus room) (cond-false p.is_live (free_rooms ps) (p.room ∷ free_rooms ps) dead) ∙ cond-true (p.room == room) (free_rooms ps) (p.room ∷ minus room (free_rooms ps)) parts.1);
-        linked = subst Linked (sym rest) linked.1;
+        listed = ap (λ (q : Piece). key q.place q.room) one ∙ listed;
+        bytes = ap (λ (q : Piece). q.bytes) one ∙ linked.0 dead ∙ (λ i. link_bytes (first_free key (listed i) (sym rest i)));
+        others = λ other ne. ap (first_free key other) rest ∙ sym (cond-false (is_free key other p) (Some p.place) (first_free key other ps)
+            (ap (λ (b : Bool). not p.is_live && b) (ne_eqb (key p.place p.room) other (λ e. ne (sym e ∙ listed))) ∙ (ap (λ (b : Bool). not b && false) dead)));
+        linked = subst (Linked key) (sym rest) linked.1;
         lives = ap live rest ∙ sym (live-later p ps dead);
       }
-  | inr other_room ↦
-      let later : first_free room ps ≡ Some place = sym (cond-false (is_free room p) (Some p.place) (first_free room ps) other_room) ∙ first in
-      let tail = popped room ps place places.1 linked.1 later in
+  | inr other_list ↦
+      let later : first_free key k ps ≡ Some place = sym (cond-false (is_free key k p) (Some p.place) (first_free key k ps) other_list) ∙ first in
+      let tail = popped key k ps place places.1 linked.1 later in
       let elsewhere = elsewhere-not p ps place places.0 tail.there in
       let one = piece_at-later p ps place elsewhere in
       let rest = without-later p ps place elsewhere in
-      let not_room : p.is_live ≡ false → p.room ≢ room = λ dead e. true≢false (sym (and_from (not p.is_live) (p.room == room) (not_from_false p.is_live dead) (eq-eqb p.room room e)) ∙ other_room) in
+      let not_listed : p.is_live ≡ false → key p.place p.room ≢ k = λ dead e. true≢false (sym (and_from (not p.is_live) (key p.place p.room == k) (not_from_false p.is_live dead) (eq-eqb (key p.place p.room) k e)) ∙ other_list) in
       record {
         there = has-later p ps place elsewhere ∙ tail.there;
         dead = ap (λ (q : Piece). q.is_live) one ∙ tail.dead;
-        size = ap (λ (q : Piece). q.room) one ∙ tail.size;
-        bytes = ap (λ (q : Piece). q.bytes) one ∙ tail.bytes ∙ ap link_bytes (sym (ap (first_free room) rest ∙ cond-false (is_free room p) (Some p.place) (first_free room (without ps place)) other_room));
-        others = λ other ne. ap (first_free other) rest ∙ ap (λ (o : Option Place). cond (is_free other p) (Some p.place) o) (tail.others other ne);
-        rooms = ap free_rooms rest ∙ ap (λ (t : List ℕ). cond p.is_live t (p.room ∷ t)) tail.rooms ∙ minus-over (free_rooms ps) not_room;
-        linked = subst Linked (sym rest) (λ dead. linked.0 dead ∙ ap link_bytes (sym (tail.others p.room (not_room dead))), tail.linked);
+        listed = ap (λ (q : Piece). key q.place q.room) one ∙ tail.listed;
+        bytes = ap (λ (q : Piece). q.bytes) one ∙ tail.bytes ∙ ap link_bytes (sym (ap (first_free key k) rest ∙ cond-false (is_free key k p) (Some p.place) (first_free key k (without ps place)) other_list));
+        others = λ other ne. ap (first_free key other) rest ∙ ap (λ (o : Option Place). cond (is_free key other p) (Some p.place) o) (tail.others other ne);
+        linked = subst (Linked key) (sym rest) (λ dead. linked.0 dead ∙ ap link_bytes (sym (tail.others (key p.place p.room) (not_listed dead))), tail.linked);
         lives = ap live rest ∙ ap (λ (t : List Piece). cond p.is_live (p ∷ t) t) tail.lives;
       }
+]
+
+-- the rooms of the free chunks then
+pub rooms-popped : (room : ℕ) (ps : List Piece) (place : Place) → Pairwise Elsewhere ps → Linked by_room ps → first_free by_room room ps ≡ Some place → free_rooms (without ps place) ≡ minus room (free_rooms ps)
+rooms-popped room [] place places linked first = absurd (cc)
+rooms-popped room (p ∷ ps) place places linked first = elim (cases_Bool (is_free by_room room p)) [
+  | inl free ↦
+      let parts = and_parts (not p.is_live) (p.room == room) free in
+      let dead : p.is_live ≡ false = not-true p.is_live parts.0 in
+      let is : p.place ≡ place = some-inj p.place place (sym (cond-true (is_free by_room room p) (Some p.place) (first_free by_room room ps) free) ∙ first) in
+      let here : is_at place p ≡ true = ap (λ (q : Place). same_place p.place q) (sym is) ∙ place-same p.place in
+      let none : has ps place ≡ false = subst (λ (q : Place). has ps q ≡ false) is (elsewhere-none p ps places.0) in
+      ap free_rooms (without-first p ps place here ∙ without-none ps place none)
+      ∙ sym (ap (minus room) (cond-false p.is_live (free_rooms ps) (p.room ∷ free_rooms ps) dead) ∙ cond-true (p.room == room) (free_rooms ps) (p.room ∷ minus room (free_rooms ps)) parts.1)
+  | inr other_list ↦
+      let later : first_free by_room room ps ≡ Some place = sym (cond-false (is_free by_room room p) (Some p.place) (first_free by_room room ps) other_list) ∙ first in
+      let elsewhere = elsewhere-not p ps place places.0 (popped by_room room ps place places.1 linked.1 later).there in
+      let not_room : p.is_live ≡ false → p.room ≢ room = λ dead e. true≢false (sym (and_from (not p.is_live) (p.room == room) (not_from_false p.is_live dead) (eq-eqb p.room room e)) ∙ other_list) in
+      ap free_rooms (without-later p ps place elsewhere) ∙ ap (λ (t : List ℕ). cond p.is_live t (p.room ∷ t)) (rooms-popped room ps place places.1 linked.1 later) ∙ minus-over (free_rooms ps) not_room
 ]
   where
     minus-over : (xs : List ℕ) → (p.is_live ≡ false → p.room ≢ room) → cond p.is_live (minus room xs) (p.room ∷ minus room xs) ≡ minus room (cond p.is_live xs (p.room ∷ xs))
@@ -233,18 +250,18 @@ popped room (p ∷ ps) place places linked first = elim (cases_Bool (is_free roo
     ]
 
 -- there is a free chunk of a room just where its list has a first
-pub in-free_rooms : (room : ℕ) (ps : List Piece) → is_in room (free_rooms ps) ≡ is_some (first_free room ps)
+pub in-free_rooms : (room : ℕ) (ps : List Piece) → is_in room (free_rooms ps) ≡ is_some (first_free by_room room ps)
 in-free_rooms room [] = refl
 in-free_rooms room (p ∷ ps) = elim (cases_Bool p.is_live) [
   | inl lives ↦ ap (is_in room) (cond-true p.is_live (free_rooms ps) (p.room ∷ free_rooms ps) lives) ∙ in-free_rooms room ps
-      ∙ ap is_some (sym (cond-false (is_free room p) (Some p.place) (first_free room ps) (not-free room p lives)))
+      ∙ ap is_some (sym (cond-false (is_free by_room room p) (Some p.place) (first_free by_room room ps) (not-free by_room room p lives)))
   | inr dead ↦
-      let same : is_free room p ≡ (p.room == room) = ap (λ (b : Bool). not b && (p.room == room)) dead in
+      let same : is_free by_room room p ≡ (p.room == room) = ap (λ (b : Bool). not b && (p.room == room)) dead in
       ap (is_in room) (cond-false p.is_live (free_rooms ps) (p.room ∷ free_rooms ps) dead) ∙ ap (λ (b : Bool). cond (p.room == room) true b) (in-free_rooms room ps)
-      ∙ some-cond (p.room == room) ∙ ap (λ (b : Bool). is_some (cond b (Some p.place) (first_free room ps))) (sym same)
+      ∙ some-cond (p.room == room) ∙ ap (λ (b : Bool). is_some (cond b (Some p.place) (first_free by_room room ps))) (sym same)
 ]
   where
-    some-cond : (b : Bool) → cond b true (is_some (first_free room ps)) ≡ is_some (cond b (Some p.place) (first_free room ps))
+    some-cond : (b : Bool) → cond b true (is_some (first_free by_room room ps)) ≡ is_some (cond b (Some p.place) (first_free by_room room ps))
     some-cond true = refl
     some-cond false = refl
 

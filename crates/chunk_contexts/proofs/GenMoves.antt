@@ -21,7 +21,7 @@ use Rattle.chunk_contexts.proofs.OverLaws.{over, rewritten-map, pairwise_map}
 use Rattle.chunk_contexts.proofs.RunMoves.{run-put, run-lent}
 use Rattle.chunk_contexts.proofs.GenLaws.{in-here, in-other, in-without_other, in-without_here, outside-none}
 
-in-rewritten : (ps : List Piece) (place : Place) (ws : List ℕ) (c : ℕ) → in_block (rewritten ps place ws) c ≡ in_block ps c
+pub in-rewritten : (ps : List Piece) (place : Place) (ws : List ℕ) (c : ℕ) → in_block (rewritten ps place ws) c ≡ in_block ps c
 in-rewritten [] place ws c = refl
 in-rewritten (p ∷ ps) place ws c = elim (cases_Bool (is_at place p)) [
   | inl here ↦ ap (λ (t : List Piece). in_block t c) (cond-true (is_at place p) (with_bytes_of p ws ∷ ps) (p ∷ rewritten ps place ws) here)
@@ -29,7 +29,7 @@ in-rewritten (p ∷ ps) place ws c = elim (cases_Bool (is_at place p)) [
       ∙ ap (λ (n : ℕ). cond (p.place.block == c) (n + 1) n) (in-rewritten ps place ws c)
 ]
 
-in-put : (ps : List Piece) (place : Place) (q : Piece) (c : ℕ) → has ps place ≡ true → Pairwise Elsewhere ps → q.place ≡ place → in_block (q ∷ without ps place) c ≡ in_block ps c
+pub in-put : (ps : List Piece) (place : Place) (q : Piece) (c : ℕ) → has ps place ≡ true → Pairwise Elsewhere ps → q.place ≡ place → in_block (q ∷ without ps place) c ≡ in_block ps c
 in-put ps place q c there places at = elim (cases_eq place.block c) [
   | inl same ↦
       in-here q (without ps place) c (ap (λ (x : Place). x.block) at ∙ same)
@@ -37,7 +37,7 @@ in-put ps place q c there places at = elim (cases_eq place.block c) [
   | inr ne ↦ in-other q (without ps place) c (λ e. ne (sym (ap (λ (x : Place). x.block) at) ∙ e)) ∙ in-without_other ps place c ne
 ]
 
-in-zero : (ps : List Piece) (b : ℕ) → in_block ps b ≡ 0 → Every (λ (p : Piece). p.place.block ≢ b) ps
+pub in-zero : (ps : List Piece) (b : ℕ) → in_block ps b ≡ 0 → Every (λ (p : Piece). p.place.block ≢ b) ps
 in-zero [] b none = tt
 in-zero (p ∷ ps) b none = elim (cases_eq p.place.block b) [
   | inl same ↦ absurd (omega (arith, none, in-here p ps b same))

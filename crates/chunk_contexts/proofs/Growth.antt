@@ -8,6 +8,10 @@ use Rattle.std.specs.Prelude.{IfOk}
 use Rattle.chunk_contexts.specs.Run.{RunState, run_block, run_growth, run_growth_by}
 use Rattle.chunk_contexts.specs.Set.{SetState, set_growth, growth_by, set_room, block_size}
 
+pub always_err : {T E P : Type 0} (r : Result T E) → P → OnErr r P
+always_err (Ok x) p = tt
+always_err (Err e) p = p
+
 pub on_err : {T E P Q : Type 0} (r : Result T E) → (P → Q) → OnErr r P → OnErr r Q
 on_err (Ok x) f h = h
 on_err (Err e) f h = f h

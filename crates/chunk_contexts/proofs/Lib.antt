@@ -1,5 +1,6 @@
 pub mod ClassLaws
 pub mod FreeLaws
+pub mod LinkLaws
 pub mod ListLaws
 pub mod CutLaws
 pub mod SetLaws
@@ -12,3 +13,8 @@ pub mod RunMoves
 pub mod GenLaws
 pub mod GenMoves
 pub mod GenAllocs
+pub mod SlabLaws
+pub mod SlabMoves
+pub mod SlabStates
+pub mod SlabViews
+pub mod SlabCounts

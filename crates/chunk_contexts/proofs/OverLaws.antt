@@ -11,7 +11,8 @@ use Rattle.chunk_layout.proofs.Finding.{same-place}
 use Rattle.chunk_contexts.specs.declared.active.Active.{Active}
 use Rattle.chunk_contexts.specs.Chunks.{live}
 use Rattle.chunk_contexts.specs.Rooms.{room_of}
-use Rattle.chunk_contexts.specs.Free.{is_free, free_rooms, first_free, link_bytes, Linked, Elsewhere, IsLinkable, AreLists}
+use Rattle.chunk_contexts.specs.Free.{by_room, is_free, free_rooms, first_free, Linked, Elsewhere, AreLinked, AreLists}
+use Rattle.chunk_layout.specs.Links.{link_bytes, IsLinkable}
 use Rattle.chunk_contexts.specs.SetFields.{IsSet, IsSetPiece, Alone}
 use Rattle.chunk_contexts.proofs.FreeLaws.{LiveAt, elsewhere-sym}
 
@@ -41,19 +42,19 @@ pub pairwise_map : {X Y : Type 0} (R : Y → Y → Type 0) (f : X → Y) (xs : L
 pairwise_map R f [] pairs = tt
 pairwise_map R f (x ∷ xs) pairs = (every_map (R (f x)) f xs pairs.0, pairwise_map R f xs pairs.1)
 
-first_free-over : (place : Place) (ws : List ℕ) (room : ℕ) (ps : List Piece) → first_free room (map (over place ws) ps) ≡ first_free room ps
-first_free-over place ws room [] = refl
-first_free-over place ws room (p ∷ ps) = ap (λ (o : Option Place). cond (is_free room p) (Some p.place) o) (first_free-over place ws room ps)
+pub first_free-over : (key : Place → ℕ → ℕ) (place : Place) (ws : List ℕ) (k : ℕ) (ps : List Piece) → first_free key k (map (over place ws) ps) ≡ first_free key k ps
+first_free-over key place ws k [] = refl
+first_free-over key place ws k (p ∷ ps) = ap (λ (o : Option Place). cond (is_free key k p) (Some p.place) o) (first_free-over key place ws k ps)
 
 free_rooms-over : (place : Place) (ws : List ℕ) (ps : List Piece) → free_rooms (map (over place ws) ps) ≡ free_rooms ps
 free_rooms-over place ws [] = refl
 free_rooms-over place ws (p ∷ ps) = ap (λ (t : List ℕ). cond p.is_live t (p.room ∷ t)) (free_rooms-over place ws ps)
 
-linked-over : (place : Place) (ws : List ℕ) (ps : List Piece) → Every (LiveAt place) ps → Linked ps → Linked (map (over place ws) ps)
-linked-over place ws [] lives linked = tt
-linked-over place ws (p ∷ ps) lives linked = (
-  λ dead. ap (λ (q : Piece). q.bytes) (over-not place ws p (away dead)) ∙ linked.0 dead ∙ ap link_bytes (sym (first_free-over place ws p.room ps)),
-  linked-over place ws ps lives.1 linked.1,
+linked-over : (key : Place → ℕ → ℕ) (place : Place) (ws : List ℕ) (ps : List Piece) → Every (LiveAt place) ps → Linked key ps → Linked key (map (over place ws) ps)
+linked-over key place ws [] lives linked = tt
+linked-over key place ws (p ∷ ps) lives linked = (
+  λ dead. ap (λ (q : Piece). q.bytes) (over-not place ws p (away dead)) ∙ linked.0 dead ∙ ap link_bytes (sym (first_free-over key place ws (key p.place p.room) ps)),
+  linked-over key place ws ps lives.1 linked.1,
 )
   where
     away : p.is_live ≡ false → is_at place p ≡ false
@@ -61,6 +62,15 @@ linked-over place ws (p ∷ ps) lives linked = (
       | inl here ↦ absurd (true≢false (sym (lives.0 here) ∙ dead))
       | inr not_here ↦ not_here
     ]
+
+-- the chunks of a layout, of which a live one is written over
+pub links-over : (key : Place → ℕ → ℕ) (l : Layout) → AreLinked key l → (place : Place) (ws : List ℕ) → Every (LiveAt place) l.pieces → AreLinked key (record { head = l.head; blocks = l.blocks; pieces = map (over place ws) l.pieces })
+links-over key l are place ws lives = record {
+  head = are.head;
+  places = pairwise_map Elsewhere (over place ws) l.pieces are.places;
+  ranges = every_map (λ (p : Piece). IsLinkable p.place) (over place ws) l.pieces are.ranges;
+  linked = linked-over key place ws l.pieces lives are.linked;
+}
 
 -- a list of chunks of which one is written over, and its live and free ones
 module _ (place : Place) (ws : List ℕ) (ps : List Piece) (places : Pairwise Elsewhere ps) where
@@ -82,12 +92,9 @@ module _ (l : Layout) (heads : List (Option Place)) (active : Active) (first : O
 
   lists-over : AreLists (record { head = l.head; blocks = l.blocks; pieces = qs }) heads
   lists-over = record {
-    head = is.lists.head;
-    places = pairwise_map Elsewhere (over place ws) ps is.lists.places;
-    ranges = every_map (λ (p : Piece). IsLinkable p.place) (over place ws) ps is.lists.ranges;
-    linked = linked-over place ws ps lives is.lists.linked;
+    links = links-over by_room l is.lists.links place ws lives;
     count = is.lists.count;
-    firsts = λ class low. is.lists.firsts class low ∙ sym (first_free-over place ws (room_of class) ps);
+    firsts = λ class low. is.lists.firsts class low ∙ sym (first_free-over by_room place ws (room_of class) ps);
   }
 
   set-over : IsSet (record { head = l.head; blocks = l.blocks; pieces = qs }) heads active first
@@ -104,4 +111,4 @@ module _ (l : Layout) (heads : List (Option Place)) (active : Active) (first : O
   }
 
   pub set-lent : IsSet (layout_with l place ws) heads active first
-  set-lent = subst (λ (xs : List Piece). IsSet (record { head = l.head; blocks = l.blocks; pieces = xs }) heads active first) (sym (rewritten-map place ws ps is.lists.places)) set-over
+  set-lent = subst (λ (xs : List Piece). IsSet (record { head = l.head; blocks = l.blocks; pieces = xs }) heads active first) (sym (rewritten-map place ws ps is.lists.links.places)) set-over

@@ -8,18 +8,18 @@ use Rattle.chunk_layout.specs.Lends.{layout_with}
 use Rattle.chunk_layout.specs.declared.place.Place.{Place}
 use Rattle.chunk_layout.proofs.Lists.{every_filter, first_has, first_passes}
 use Rattle.chunk_layout.proofs.Finding.{same-place, place-same}
-use Rattle.chunk_layout.proofs.PieceLaws.{piece_at-first, without-first, without-none}
+use Rattle.chunk_layout.proofs.PieceLaws.{has-first, piece_at-first, without-first, without-none}
 use Rattle.chunk_contexts.specs.declared.runs.Runs.{Runs}
 use Rattle.chunk_contexts.specs.Run.{RunState, run_taken, run_taken_by, run_put, IsRun}
 
 -- what holds of a chunk by its place and room
-every-put : (P : Piece → Type 0) → ((p q : Piece) → p.place ≡ q.place → p.room ≡ q.room → P p → P q) → (ps : List Piece) (place : Place) → has ps place ≡ true → (q : Piece) → place ≡ q.place → (piece_at ps place).room ≡ q.room
+pub every-put : (P : Piece → Type 0) → ((p q : Piece) → p.place ≡ q.place → p.room ≡ q.room → P p → P q) → (ps : List Piece) (place : Place) → has ps place ≡ true → (q : Piece) → place ≡ q.place → (piece_at ps place).room ≡ q.room
     → Every P ps → Every P (q ∷ without ps place)
 every-put P by ps place there q at room every =
     let t = piece_at ps place in
     (by t q (same-place t.place place (first_passes (is_at place) no_piece ps there) ∙ at) room (first_has P (is_at place) no_piece ps there every), every_filter P _ ps every)
 
-every-rewritten : (P : Piece → Type 0) → ((p q : Piece) → p.place ≡ q.place → p.room ≡ q.room → P p → P q) → (ps : List Piece) (place : Place) (ws : List ℕ) → Every P ps → Every P (rewritten ps place ws)
+pub every-rewritten : (P : Piece → Type 0) → ((p q : Piece) → p.place ≡ q.place → p.room ≡ q.room → P p → P q) → (ps : List Piece) (place : Place) (ws : List ℕ) → Every P ps → Every P (rewritten ps place ws)
 every-rewritten P by [] place ws every = tt
 every-rewritten P by (p ∷ ps) place ws every = elim (cases_Bool (is_at place p)) [
   | inl here ↦ subst (Every P) (sym (cond-true (is_at place p) (with_bytes_of p ws ∷ ps) (p ∷ rewritten ps place ws) here)) (by p (with_bytes_of p ws) refl refl every.0, every.1)
@@ -89,6 +89,9 @@ module _ (head : ℕ) (s t : RunState) (place : Place) (room : ℕ) (ys xs : Lis
 
   chunks : t.chunks ≡ p ∷ s.chunks
   chunks = ap (λ (z : RunState). z.chunks) made ∙ run-chunks head s p
+
+  pub run-here : has t.chunks place ≡ true
+  run-here = ap (λ (cs : List Piece). has cs place) chunks ∙ has-first p s.chunks place (place-same place)
 
   pub run-piece : piece_at t.chunks place ≡ p
   run-piece = ap (λ (cs : List Piece). piece_at cs place) chunks ∙ piece_at-first p s.chunks place (place-same place)

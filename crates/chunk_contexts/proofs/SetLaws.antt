@@ -13,7 +13,8 @@ use Rattle.chunk_layout.proofs.Numbers.{with_block-here, with_block-other}
 use Rattle.chunk_layout.proofs.PieceLaws.{without-none, without-first, without-later}
 use Rattle.chunk_contexts.specs.declared.active.Active.{Active}
 use Rattle.chunk_contexts.specs.Rooms.{rooms, rooms_down, room_of, largest}
-use Rattle.chunk_contexts.specs.Free.{is_in, first_free, Linked, Elsewhere, IsLinkable, AreLists, IsRest, cut_pieces}
+use Rattle.chunk_contexts.specs.Free.{by_room, is_in, first_free, Linked, Elsewhere, AreLists, IsRest, cut_pieces}
+use Rattle.chunk_layout.specs.Links.{IsLinkable}
 use Rattle.chunk_contexts.specs.Set.{or_first}
 use Rattle.chunk_contexts.specs.SetFields.{IsSet, IsSetPiece, Alone}
 use Rattle.chunk_contexts.proofs.ClassLaws.{in-small, in-some}
@@ -90,7 +91,7 @@ module _ (l : Layout) (heads : List (Option Place)) (active : Active) (first : O
 
     pub set-carved : IsSet carved heads more first
     set-carved = record {
-      lists = subst (λ (z : Layout). AreLists z heads) (λ i. record { head = is.lists.head i; blocks = l.blocks; pieces = p ∷ without-none ps p.place fresh i }) (lists-new l heads is.lists p refl fresh links);
+      lists = subst (λ (z : Layout). AreLists z heads) (λ i. record { head = is.lists.links.head i; blocks = l.blocks; pieces = p ∷ without-none ps p.place fresh i }) (lists-new l heads is.lists p refl fresh links);
       alone = (every_weaker (IsSetPiece l.blocks active first) (Alone p) alone-new ps is.good, is.alone);
       good = (
         record {
@@ -125,7 +126,7 @@ module _ (l : Layout) (heads : List (Option Place)) (active : Active) (first : O
     good-t = first_has (IsSetPiece l.blocks active first) (is_at place) no_piece ps there is.good
 
     alone-t : Every (Alone t) (without ps place)
-    alone-t = pairwise-found Alone alone-sym ps place there is.lists.places is.alone
+    alone-t = pairwise-found Alone alone-sym ps place there is.lists.links.places is.alone
 
     pub set-put : (kept : ℕ) (bytes : List ℕ) (lives : Bool) (heads' : List (Option Place)) → (lives ≡ true) ⊎ (t.room ≤ largest)
         → AreLists (put_at l place kept bytes lives) heads' → IsSet (put_at l place kept bytes lives) heads' active first
@@ -185,12 +186,14 @@ module _ (l : Layout) (heads : List (Option Place)) (active : Active) (first : O
       pub set-back : IsSet back heads active first
       set-back = record {
         lists = record {
-          head = is.lists.head;
-          places = pairwise_filter Elsewhere _ ps is.lists.places;
-          ranges = every_filter _ _ ps is.lists.ranges;
-          linked = subst Linked (sym outside-is) (linked-kept ps place was.only is.lists.linked);
+          links = record {
+            head = is.lists.links.head;
+            places = pairwise_filter Elsewhere _ ps is.lists.links.places;
+            ranges = every_filter _ _ ps is.lists.links.ranges;
+            linked = subst (Linked by_room) (sym outside-is) (linked-kept by_room ps place was.only is.lists.links.linked);
+          };
           count = is.lists.count;
-          firsts = λ class low. is.lists.firsts class low ∙ sym (first_free-kept (room_of class) ps place was.only) ∙ ap (first_free (room_of class)) (sym outside-is);
+          firsts = λ class low. is.lists.firsts class low ∙ sym (first_free-kept by_room (room_of class) ps place was.only) ∙ ap (first_free by_room (room_of class)) (sym outside-is);
         };
         alone = pairwise_filter Alone _ ps is.alone;
         good = every_both (IsSetPiece l.blocks active first) (λ (q : Piece). not (q.place.block == b) ≡ true) (IsSetPiece (set l.blocks b None) active first) good-other (outside ps b)
@@ -253,10 +256,12 @@ module _ (l : Layout) (heads : List (Option Place)) (active : Active) (first : O
           let rest = without-none ps own.place own-fresh in
           record {
             lists = record {
-              head = refl;
-              places = subst (λ (xs : List Piece). Pairwise Elsewhere (own ∷ xs)) rest lists.places;
-              ranges = subst (λ (xs : List Piece). Every (λ (q : Piece). IsLinkable q.place) (own ∷ xs)) rest lists.ranges;
-              linked = subst (λ (xs : List Piece). Linked (own ∷ xs)) rest lists.linked;
+              links = record {
+                head = refl;
+                places = subst (λ (xs : List Piece). Pairwise Elsewhere (own ∷ xs)) rest lists.links.places;
+                ranges = subst (λ (xs : List Piece). Every (λ (q : Piece). IsLinkable q.place) (own ∷ xs)) rest lists.links.ranges;
+                linked = subst (λ (xs : List Piece). Linked by_room (own ∷ xs)) rest lists.links.linked;
+              };
               count = lists.count;
               firsts = λ class less. is.lists.firsts class less;
             };

@@ -15,7 +15,8 @@ use Rattle.chunk_layout.specs.Pieces.{place_of}
 use Rattle.chunk_layout.specs.declared.place.ChunkName.{ChunkName}
 use Rattle.chunk_contexts.specs.Chunks.{live, is_live}
 use Rattle.chunk_contexts.specs.Rooms.{rooms, largest}
-use Rattle.chunk_contexts.specs.Free.{is_in, free_rooms, first_free, link_bytes, AreLists}
+use Rattle.chunk_contexts.specs.Free.{by_room, is_in, free_rooms, first_free, AreLists}
+use Rattle.chunk_layout.specs.Links.{link_bytes}
 use Rattle.chunk_contexts.specs.Set.{SetState, set_put, set_freed}
 use Rattle.chunk_contexts.specs.SetFields.{set_of, IsSet, IsSetPiece, AreFields}
 use Rattle.chunk_contexts.specs.declared.free_lists.FreeLists.{FreeLists}
@@ -42,7 +43,7 @@ module _ (x : Inside) (ok : AreFields x) (s : SetState) (e : set_of x ≡ s) (pl
   here = ap (λ (z : SetState). has z.chunks place) e ∙ there
 
   was : IsLiveAt ps place
-  was = live-found ps place ok.set.lists.places here
+  was = live-found ps place ok.set.lists.links.places here
 
   pub seen-there : has ps place ≡ true
   seen-there = was.there
@@ -100,11 +101,11 @@ module _ (x : Inside) (ok : AreFields x) (s : SetState) (e : set_of x ≡ s) (pl
 
   -- a chunk of a class is freed
   module _ (low : (piece_at ps place).room ≤ largest) (room : ℕ) (size : (piece_at ps place).room ≡ room) (known : is_in room rooms ≡ true)
-      (n : FreeLists) (is : n.layout ≡ put_at l place 0 (link_bytes (first_free room ps)) false) (lists : AreLists n.layout n.heads) where
+      (n : FreeLists) (is : n.layout ≡ put_at l place 0 (link_bytes (first_free by_room room ps)) false) (lists : AreLists n.layout n.heads) where
     pub fields-released : AreFields (record { lists = n; active = x.active; next = x.next; first = x.first })
     fields-released = record {
       set = subst (λ (z : Layout). IsSet z n.heads x.active x.first) (sym is)
-          (set-put l x.lists.heads x.active x.first ok.set place was.there 0 (link_bytes (first_free room ps)) false n.heads (inr low) (subst (λ (z : Layout). AreLists z n.heads) is lists));
+          (set-put l x.lists.heads x.active x.first ok.set place was.there 0 (link_bytes (first_free by_room room ps)) false n.heads (inr low) (subst (λ (z : Layout). AreLists z n.heads) is lists));
       next = ok.next;
     }
 

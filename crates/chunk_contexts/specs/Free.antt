@@ -1,26 +1,33 @@
 -- The free chunks of a layout, and the lists that link them.
-use Rattle.std.specs.Prelude.{◌≡◌, ℕ, ◌+◌, ◌≤◌, ◌==◌, ◌&&◌, not, Bool, true, false, cond, List, [], ◌∷◌, ◌++◌, Option, Some, None, nat_le, ◌-◌, length}
-use Rattle.std.specs.Int.{w32, to_be_bytes}
+use Rattle.std.specs.Prelude.{◌≡◌, ℕ, ◌+◌, ◌≤◌, ◌==◌, ◌&&◌, not, Bool, true, false, cond, List, [], ◌∷◌, Option, Some, None, nat_le, ◌-◌, length}
 use Rattle.std.specs.Prelude.{◌^◌, ◌<◌, get_or}
 use Rattle.chunk_layout.specs.Every.{Every, Pairwise}
 use Rattle.chunk_layout.specs.Pieces.{Layout, Piece, same_place, size_at}
 use Rattle.chunk_contexts.specs.declared.active.Active.{Active}
 use Rattle.chunk_contexts.specs.Rooms.{room_of}
 use Rattle.chunk_layout.specs.declared.place.Place.{Place}
+use Rattle.chunk_layout.specs.Links.{link_bytes, IsLinkable}
 
--- a chunk is free and has this room
-abbrev pub is_free : ℕ → Piece → Bool
-is_free room p = not p.is_live && (p.room == room)
+-- free chunks are kept in lists by a number that a chunk has by its place and room: its room, or its block
+abbrev pub by_room : Place → ℕ → ℕ
+by_room place room = room
+
+abbrev pub by_block : Place → ℕ → ℕ
+by_block place room = place.block
+
+-- a chunk is free and in the list of this number
+abbrev pub is_free : (Place → ℕ → ℕ) → ℕ → Piece → Bool
+is_free key k p = not p.is_live && (key p.place p.room == k)
 
 -- the rooms of the free chunks, the last one that was freed first
 abbrev pub free_rooms : List Piece → List ℕ
 free_rooms [] = []
 free_rooms (p ∷ ps) = cond p.is_live (free_rooms ps) (p.room ∷ free_rooms ps)
 
--- the first free chunk of a room
-abbrev pub first_free : ℕ → List Piece → Option Place
-first_free room [] = None
-first_free room (p ∷ ps) = cond (is_free room p) (Some p.place) (first_free room ps)
+-- the first free chunk of a list
+abbrev pub first_free : (Place → ℕ → ℕ) → ℕ → List Piece → Option Place
+first_free key k [] = None
+first_free key k (p ∷ ps) = cond (is_free key k p) (Some p.place) (first_free key k ps)
 
 -- whether a number is in a list, and the list without its first
 abbrev pub is_in : ℕ → List ℕ → Bool
@@ -31,21 +38,10 @@ abbrev pub minus : ℕ → List ℕ → List ℕ
 minus n [] = []
 minus n (x ∷ xs) = cond (x == n) xs (x ∷ minus n xs)
 
--- the bytes of a place, and those by which a free chunk names the next: no chunk begins at offset 0
-abbrev pub place_bytes : Place → List ℕ
-place_bytes p = to_be_bytes w32 p.block ++ to_be_bytes w32 p.offset
-
-abbrev pub no_place : Place
-no_place = record { block = 0; offset = 0 }
-
-abbrev pub link_bytes : Option Place → List ℕ
-link_bytes None = place_bytes no_place
-link_bytes (Some p) = place_bytes p
-
--- each free chunk names the next one of its room
-abbrev pub Linked : List Piece → Type 0
-Linked [] = Unit {0}
-Linked (p ∷ ps) = (p.is_live ≡ false → p.bytes ≡ link_bytes (first_free p.room ps)) × Linked ps
+-- each free chunk names the next one of its list
+abbrev pub Linked : (Place → ℕ → ℕ) → List Piece → Type 0
+Linked key [] = Unit {0}
+Linked key (p ∷ ps) = (p.is_live ≡ false → p.bytes ≡ link_bytes (first_free key (key p.place p.room) ps)) × Linked key ps
 
 -- what is left of a block of so many bytes is cut into free chunks, in front of the others: for each room in turn one, if
 -- it fits with its header
@@ -54,7 +50,7 @@ cut_used room used size = cond (nat_le (room + 8) (size - used)) (used + 8 + roo
 
 abbrev pub cut_piece : ℕ → ℕ → ℕ → ℕ → List Piece → List Piece
 cut_piece room block used size ps =
-    cond (nat_le (room + 8) (size - used)) ((record { place = record { block = block; offset = used + 8 }; room = room; is_live = false; bytes = link_bytes (first_free room ps) }) ∷ ps) ps
+    cond (nat_le (room + 8) (size - used)) ((record { place = record { block = block; offset = used + 8 }; room = room; is_live = false; bytes = link_bytes (first_free by_room room ps) }) ∷ ps) ps
 
 abbrev pub cut_pieces : List ℕ → ℕ → ℕ → ℕ → List Piece → List Piece
 cut_pieces [] block used size ps = ps
@@ -64,24 +60,18 @@ cut_pieces (room ∷ rooms) block used size ps = cut_pieces rooms block (cut_use
 abbrev pub Elsewhere : Piece → Piece → Type 0
 Elsewhere p q = same_place p.place q.place ≡ false
 
--- a place that a link can name
-pub record IsLinkable (p : Place) : Type 0 where
-  pub block : p.block < 2 ^ 32
-  pub some : 0 < p.offset
-  pub offset : p.offset < 2 ^ 32
-
-abbrev pub IsLink : Option Place → Type 0
-IsLink None = Unit {0}
-IsLink (Some p) = IsLinkable p
-
--- the free lists of a layout: what each list has first, by its class
-pub record AreLists (l : Layout) (heads : List (Option Place)) : Type 0 where
+-- chunks with headers, of which each free one names the next of its list
+pub record AreLinked (key : Place → ℕ → ℕ) (l : Layout) : Type 0 where
   pub head : l.head ≡ 8
   pub places : Pairwise Elsewhere l.pieces
   pub ranges : Every (λ p. IsLinkable p.place) l.pieces
-  pub linked : Linked l.pieces
+  pub linked : Linked key l.pieces
+
+-- the free lists of a layout by rooms: what each list has first, by its class
+pub record AreLists (l : Layout) (heads : List (Option Place)) : Type 0 where
+  pub links : AreLinked by_room l
   pub count : length heads ≡ 11
-  pub firsts : (class : ℕ) → class < 11 → get_or heads class None ≡ first_free (room_of class) l.pieces
+  pub firsts : (class : ℕ) → class < 11 → get_or heads class None ≡ first_free by_room (room_of class) l.pieces
 
 -- no chunk lies in what is left of a block
 pub record IsRest (l : Layout) (active : Active) : Type 0 where

@@ -8,3 +8,5 @@ pub mod Run
 pub mod BumpFields
 pub mod Generation
 pub mod GenerationFields
+pub mod Slab
+pub mod SlabFields

@@ -3,13 +3,13 @@ ghost use Rattle.std.specs.Prelude.{◌≡◌, ◌+◌, ◌-◌, ◌<◌, ◌≤
 ghost use Rattle.chunk_layout.specs.Every.{Every};
 ghost use Rattle.chunk_layout.specs.Pieces.{has, piece_at, put_at, only, size_at, IsClear};
 ghost use Rattle.chunk_contexts.specs.Rooms.{room_of, rooms, rooms_down};
-ghost use Rattle.chunk_contexts.specs.Free.{is_in, free_rooms, first_free, link_bytes, cut_used, cut_piece, cut_pieces, AreLists, IsRest, IsLinkable};
+ghost use Rattle.chunk_contexts.specs.Free.{by_room, is_in, free_rooms, first_free, cut_used, cut_piece, cut_pieces, AreLists, IsRest};
+ghost use Rattle.chunk_layout.specs.Links.{link_bytes, IsLinkable};
 ghost use Rattle.chunk_contexts.specs.Chunks.{live};
 
 use crate::active::Active;
-use crate::link::{link_bytes, read_link};
 use crate::rooms::{CLASSES, HEADER, class_of, room_of};
-use chunk_layout::{ChunkLayout, Place};
+use chunk_layout::{ChunkLayout, Place, put_first, take_first};
 
 /// A layout of chunks with headers, and the first free chunk of each class.
 #[derive(Drop)]
@@ -24,14 +24,13 @@ impl FreeLists {
         requires lists { AreLists self.old.layout self.old.heads }
         requires class { class < 11 }
         ensures lists { AreLists self.new.layout self.new.heads }
-        ensures none { IfNone result ((first_free (room_of class) self.old.layout.pieces ≡ None) × (self.new ≡ self.old)) }
-        ensures some { IfSome result (λ place. first_free (room_of class) self.old.layout.pieces ≡ Some place) }
+        ensures none { IfNone result ((first_free by_room (room_of class) self.old.layout.pieces ≡ None) × (self.new ≡ self.old)) }
+        ensures some { IfSome result (λ place. first_free by_room (room_of class) self.old.layout.pieces ≡ Some place) }
         ensures taken { IfSome result (λ place. self.new.layout ≡ put_at self.old.layout place 0 [] true) }
     {
-        let place = self.heads[class]?;
-        let next = read_link(self.layout.get(place, 8));
-        self.layout.put(place, 0, &[], true);
-        self.heads[class] = next;
+        let mut first = self.heads[class];
+        let place = take_first(&mut self.layout, &mut first)?;
+        self.heads[class] = first;
         Some(place)
     }
 
@@ -42,12 +41,12 @@ impl FreeLists {
         requires room { (piece_at self.old.layout.pieces place).room ≡ room }
         requires known { IsTrue (is_in room rooms) }
         ensures lists { AreLists self.new.layout self.new.heads }
-        ensures freed { self.new.layout ≡ put_at self.old.layout place 0 (link_bytes (first_free room self.old.layout.pieces)) false }
+        ensures freed { self.new.layout ≡ put_at self.old.layout place 0 (link_bytes (first_free by_room room self.old.layout.pieces)) false }
     {
         let class = class_of(room);
-        let link = link_bytes(self.heads[class]);
-        self.layout.put(place, 0, &link, false);
-        self.heads[class] = Some(place);
+        let mut first = self.heads[class];
+        put_first(&mut self.layout, &mut first, place);
+        self.heads[class] = first;
     }
 
     /// Makes a free chunk where no chunk is.
@@ -60,7 +59,7 @@ impl FreeLists {
         requires none { has self.old.layout.pieces place ≡ false }
         requires links { IsLinkable place }
         ensures lists { AreLists self.new.layout self.new.heads }
-        ensures cut { self.new.layout ≡ record { head = 8; blocks = self.old.layout.blocks; pieces = (record { place = place; room = room; is_live = false; bytes = link_bytes (first_free room self.old.layout.pieces) }) ∷ self.old.layout.pieces } }
+        ensures cut { self.new.layout ≡ record { head = 8; blocks = self.old.layout.blocks; pieces = (record { place = place; room = room; is_live = false; bytes = link_bytes (first_free by_room room self.old.layout.pieces) }) ∷ self.old.layout.pieces } }
     {
         self.layout.carve(place, room);
         self.release(place, room);

@@ -11,9 +11,10 @@ mod context;
 mod error;
 mod free_lists;
 mod generation;
-mod link;
 mod rooms;
 mod runs;
+mod slab;
+mod slab_chunks;
 
 pub use alloc_set::AllocSet;
 pub use bump::Bump;
@@ -21,3 +22,4 @@ pub use chunk_layout::ChunkName;
 pub use context::ChunkContext;
 pub use error::ContextError;
 pub use generation::Generation;
+pub use slab::Slab;

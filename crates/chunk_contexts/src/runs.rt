@@ -114,42 +114,6 @@ impl Runs {
         Ok(self.append(head, room))
     }
 
-    /// Writes `bytes` to a chunk behind the first `kept` of its own, and answers its name.
-    pub(crate) fn write(&mut self, place: Place, kept: usize, bytes: &[u8]) -> ChunkName
-        requires there { IsTrue (has self.old.layout.pieces place) }
-        requires kept { kept ≤ length (piece_at self.old.layout.pieces place).bytes }
-        requires room { kept + length bytes.now ≤ (piece_at self.old.layout.pieces place).room }
-        requires small { kept + length bytes.now ≤ most }
-        ensures name { result ≡ record { block = place.block; offset = place.offset; len = kept + length bytes.now } }
-        ensures run { (head : ℕ) → IsRun head self.old → IsRun head self.new }
-        ensures put { run_of self.new ≡ run_put (run_of self.old) place (take kept (piece_at self.old.layout.pieces place).bytes ++ bytes.now) }
-    {
-        self.layout.put(place, kept, bytes, true);
-        ChunkName {
-            block: place.block,
-            offset: place.offset,
-            len: (kept + bytes.len()) as u32,
-        }
-    }
-
-    /// Writes `n` zeros to a chunk behind the first `kept` of its bytes, and answers its name.
-    pub(crate) fn write_zeros(&mut self, place: Place, kept: usize, n: usize) -> ChunkName
-        requires there { IsTrue (has self.old.layout.pieces place) }
-        requires kept { kept ≤ length (piece_at self.old.layout.pieces place).bytes }
-        requires room { kept + n ≤ (piece_at self.old.layout.pieces place).room }
-        requires small { kept + n ≤ most }
-        ensures name { result ≡ record { block = place.block; offset = place.offset; len = kept + n } }
-        ensures run { (head : ℕ) → IsRun head self.old → IsRun head self.new }
-        ensures put { run_of self.new ≡ run_put (run_of self.old) place (take kept (piece_at self.old.layout.pieces place).bytes ++ zeros n) }
-    {
-        self.layout.put_zeros(place, kept, n);
-        ChunkName {
-            block: place.block,
-            offset: place.offset,
-            len: (kept + n) as u32,
-        }
-    }
-
     /// Gives up all chunks, and all blocks.
     pub(crate) fn clear(&mut self)
         ensures run { (head : ℕ) → IsRun head self.old → IsRun head self.new }
@@ -193,7 +157,8 @@ impl Runs {
     {
         check_len(bytes.len())?;
         let place = self.claim(head, bytes.len())?;
-        Ok(self.write(place, 0, bytes))
+        self.layout.put(place, 0, bytes, true);
+        Ok(place.named(bytes.len()))
     }
 
     /// Takes a chunk of `n` zeros.
@@ -212,6 +177,7 @@ impl Runs {
         let len = n as usize;
         check_len(len)?;
         let place = self.claim(head, len)?;
-        Ok(self.write_zeros(place, 0, len))
+        self.layout.put_zeros(place, 0, len);
+        Ok(place.named(len))
     }
 }

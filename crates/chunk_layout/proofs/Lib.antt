@@ -8,3 +8,4 @@ pub mod Carves
 pub mod Lending
 pub mod Fields
 pub mod PieceLaws
+pub mod MarkLaws

@@ -8,7 +8,11 @@
 
 mod blocks;
 mod layout;
+mod link;
+mod marks;
 mod place;
 
 pub use layout::ChunkLayout;
+pub use link::{put_first, take_first};
+pub use marks::BlockMarks;
 pub use place::{ChunkName, Note, Place, Spot};

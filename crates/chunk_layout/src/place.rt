@@ -1,5 +1,5 @@
 //! Where a chunk lies, and its name.
-ghost use Rattle.std.specs.Prelude.{◌≡◌, length};
+ghost use Rattle.std.specs.Prelude.{◌≡◌, ◌<◌, ◌^◌, length};
 ghost use Rattle.std.specs.Int.{w32, to_be_bytes};
 ghost use Rattle.chunk_layout.specs.Pieces.{name_bytes, place_of};
 
@@ -8,6 +8,20 @@ ghost use Rattle.chunk_layout.specs.Pieces.{name_bytes, place_of};
 pub struct Place {
     pub block: u32,
     pub offset: u32,
+}
+
+impl Place {
+    /// The name of the chunk here, if it has so many bytes.
+    pub fn named(self, len: usize) -> ChunkName
+        requires { len < 2 ^ 32 }
+        ensures { result ≡ record { block = self.block; offset = self.offset; len = len } }
+    {
+        ChunkName {
+            block: self.block,
+            offset: self.offset,
+            len: len as u32,
+        }
+    }
 }
 
 /// The name of a chunk: where its bytes begin, and how many they are.

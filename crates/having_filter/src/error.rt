@@ -13,22 +13,22 @@ pub enum QueryError {
     #[error("out of memory")]
     NoMemory,
     /// It names a column that the schema doesn't have.
-    #[error("no such column")]
+    #[error("there is no such column")]
     NoSuchColumn,
     /// A column among the items or in HAVING is none of GROUP BY.
-    #[error("column is not grouped")]
+    #[error("a column outside of an aggregate is not in GROUP BY")]
     NotGrouped,
     /// An argument, an operand or a condition has the wrong kind.
-    #[error("wrong kind")]
+    #[error("an operand or an argument is of the wrong kind")]
     TypeMismatch,
     /// An aggregate stands in WHERE or FILTER.
-    #[error("aggregate in WHERE or FILTER")]
+    #[error("an aggregate stands in WHERE or FILTER")]
     AggregateHere,
     /// There are more items, keys or aggregates than there may be, or the canonical text is too long.
-    #[error("too many")]
+    #[error("too many items, keys or calls, or too long a text")]
     TooMany,
     /// A condition is nested too deeply.
-    #[error("too deep")]
+    #[error("conditions are nested too deeply")]
     TooDeep,
 }
 

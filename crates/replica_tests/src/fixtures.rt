@@ -1,27 +1,108 @@
+ghost use Rattle.std.specs.Prelude.{IfOk};
+ghost use Rattle.grouping_model.specs.Replies.{InLimits};
+ghost use Rattle.packed_rows.specs.Columns.{kinds};
+ghost use Rattle.batch_reader.specs.Rows.{ArePackedRows};
+
+use batch_reader::{Batch, build_batch};
 use csv::ByteRecord;
 use group_parser::parse;
 use having_filter::Query;
+use hex::encode;
+use origin_prefix::RefusedBatch;
 use packed_rows::Schema;
 use std::test::*;
 
-/// The columns of all batches.
-pub(crate) const COLUMNS: &str = "c text, d bigint, b boolean";
+/// The columns of most batches.
+pub(crate) const COLUMNS: &str = "c text, d bigint";
 
-/// A query over these columns.
-pub(crate) fn query(rt: HostRuntime, text: &str) -> Result<Query, Fail> {
-    let schema = Schema::parse(rt.alloc(), COLUMNS)?;
-    Ok(parse(rt.alloc(), &schema, text)?)
+/// The count and the sum of each town.
+pub(crate) const TOWNS: &str = "SELECT c, count(*), sum(d) FROM batches GROUP BY c";
+
+/// A query over some columns.
+pub(crate) fn query(rt: HostRuntime, columns: &str, text: &str) -> Result<Query, Fail> {
+    let schema = Schema::parse(rt.alloc(), columns)?;
+    match parse(rt.alloc(), &schema, text) {
+        Ok(query) => Ok(query),
+        Err(error) => Err(Fail::from(error)),
+    }
 }
 
-/// Records of fields that a comma parts.
-pub(crate) fn records(rt: HostRuntime, lines: &[&str]) -> Result<Vec<ByteRecord>, Fail> {
+/// What is told of a case by the query of towns. Where tests can, they let go of a query here alone, and of a replica in
+/// `of_replica` alone, since the proof of that is long.
+pub(crate) fn of_towns<F: FnOnce(HostRuntime, &Query, &str) -> Result<String, Fail>>(
+    rt: HostRuntime,
+    case: &str,
+    told: F,
+) -> Result<String, Fail>
+    requires { F.IsAlwaysCallable told }
+{
+    match query(rt, COLUMNS, TOWNS) {
+        Ok(query) => told(rt, &query, case),
+        Err(fail) => Err(fail),
+    }
+}
+
+/// A record of fields that a comma parts.
+fn csv_record(rt: HostRuntime, line: &str) -> Result<ByteRecord, Fail> {
+    let mut fields = ByteRecord::new(rt.alloc());
+    for field in line.split(',') {
+        fields.push_field(field.as_bytes())?;
+    }
+    Ok(fields)
+}
+
+/// Records with a `;` between them.
+pub(crate) fn records(rt: HostRuntime, lines: &str) -> Result<Vec<ByteRecord>, Fail> {
     let mut records = Vec::new(rt.alloc());
-    for line in lines {
-        let mut record = ByteRecord::new(rt.alloc());
-        for field in line.split(',') {
-            record.push_field(field.as_bytes())?;
-        }
-        records.push(record)?;
+    for line in lines.split_terminator(';') {
+        records.push(csv_record(rt, line)?)?;
     }
     Ok(records)
+}
+
+/// The batch `ORIGIN/NUMBER:ROWS`.
+#[tactic(auto, using(batch_reader::proofs::RecordLaws::built_rows))]
+pub(crate) fn batch(rt: HostRuntime, query: &Query, told: &str) -> Result<Batch, Fail>
+    ensures limits { IfOk result (λ batch. InLimits (batch.origin, batch.number)) }
+    ensures rows { IfOk result (λ batch. ArePackedRows (kinds query.now.columns) batch.rows) }
+{
+    let (head, rows) = told.split_once(':').ok_or("no rows")?;
+    let (origin, number) = head.split_once('/').ok_or("no number")?;
+    let (origin, number) = (origin.as_bytes(), number.as_bytes());
+    let records = records(rt, rows)?;
+    let told = u32::try_from(records.len())?;
+    Ok(build_batch(rt.alloc(), query.schema(), origin, number, told, &records)?)
+}
+
+/// A batch's origin and number, and the bytes of its rows.
+pub(crate) fn shown_batch(rt: HostRuntime, batch: &Batch) -> Result<String, Fail> {
+    let mut shown = format!(in rt.alloc(); "{}/{}", batch.origin, batch.number)?;
+    for row in batch.rows.as_slice() {
+        shown.push(' ')?;
+        shown.push_str(&encode(rt.alloc(), row.as_slice())?)?;
+    }
+    Ok(shown)
+}
+
+/// Why a batch was refused, and the batch that was handed back.
+pub(crate) fn shown_refusal(rt: HostRuntime, refused: &RefusedBatch) -> Result<String, Fail> {
+    let back = shown_batch(rt, &refused.batch)?;
+    Ok(format!(in rt.alloc(); "{:?} {back}; ", refused.why)?)
+}
+
+/// The first line of a table whose case, in front of ` => `, has another outcome than the line tells.
+pub(crate) fn differing<'t, F: Fn(HostRuntime, &'t str) -> Result<String, Fail>>(
+    rt: HostRuntime,
+    table: &'t str,
+    outcome: F,
+) -> Result<Option<&'t str>, Fail>
+    requires { F.IsAlwaysCallable outcome }
+{
+    for line in table.lines() {
+        let (case, want) = line.split_once(" => ").ok_or("no case")?;
+        if outcome(rt, case)?.as_str() != want {
+            return Ok(Some(line));
+        }
+    }
+    Ok(None)
 }

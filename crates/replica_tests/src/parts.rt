@@ -1,67 +1,58 @@
-ghost use Rattle.std.specs.Prelude.{◌≤◌, IfOk};
-ghost use Rattle.grouping_model.specs.declared.limits.TheConstants.{LAST_NUMBER};
-ghost use Rattle.packed_rows.specs.Columns.{kinds};
-ghost use Rattle.batch_reader.specs.Rows.{ArePackedRows};
+ghost use Rattle.std.specs.Prelude.{IfOk};
 ghost use Rattle.origin_prefix.specs.Parts.{IsPartOf};
 
-use crate::fixtures::{query, records};
-use batch_reader::{Batch, build_batch};
+use crate::fixtures::{batch, differing, of_towns, shown_refusal};
+use hash_agg::Run;
 use having_filter::Query;
 use origin_prefix::OriginPart;
 use std::collections::BTreeMap;
 use std::test::*;
 
-/// The count and the sum of each town.
-const TOWNS: &str = "SELECT c, count(*), sum(d) FROM batches GROUP BY c";
-
-/// The batch `N` of an origin, with one row that has the batch's number, or `N!` with another row.
-#[tactic(auto, using(crate::proofs::BatchLaws::built))]
-fn batch(rt: HostRuntime, query: &Query, told: &str) -> Result<Batch, Fail>
-    ensures number { IfOk result (λ batch. (1 ≤ batch.number) × (batch.number ≤ LAST_NUMBER)) }
-    ensures rows { IfOk result (λ batch. ArePackedRows (kinds query.now.columns) batch.rows) }
-{
-    let (number, value) = match told.strip_suffix('!') {
-        Some(number) => (number, "100"),
-        None => (told, told),
-    };
-    let row = format!(in rt.alloc(); "oslo,{value},t")?;
-    let records = records(rt, &[&row])?;
-    let number = number.as_bytes();
-    Ok(build_batch(rt.alloc(), query.schema(), b"0", number, 1, &records)?)
-}
-
-/// What is replied to a batch; where it is refused, also whether it is handed back as it was.
+/// What is replied to a batch, and where it is refused, the batch that is handed back.
 fn reply(rt: HostRuntime, query: &Query, part: &mut OriginPart, told: &str) -> Result<String, Fail>
     requires { IsPartOf query.now part.old }
     ensures { IsPartOf query.now part.new }
 {
-    let same = batch(rt, query, told)?;
-    match part.deliver(query, batch(rt, query, told)?) {
-        Ok(delivered) => Ok(format!(in rt.alloc(); "{delivered:?}")?),
-        Err(refused) => {
-            let number = refused.batch.number;
-            let back = number == same.number && refused.batch.rows.same_rows(&same.rows);
-            Ok(format!(in rt.alloc(); "{:?} {back}", refused.why)?)
-        }
+    match batch(rt, query, told) {
+        Ok(batch) => match part.deliver(query, batch) {
+            Ok(delivered) => Ok(format!(in rt.alloc(); "{delivered:?}; ")?),
+            Err(refused) => shown_refusal(rt, &refused),
+        },
+        Err(fail) => Err(fail),
     }
 }
 
-/// A part to which batches were delivered, and what was replied.
+/// What is replied to batches that are delivered one after the other.
 #[tactic(auto)]
-fn part(rt: HostRuntime, query: &Query, batches: &str) -> Result<(OriginPart, String), Fail>
-    ensures { IfOk result (λ made. IsPartOf query.now made.0) }
+fn replies(
+    rt: HostRuntime,
+    query: &Query,
+    part: &mut OriginPart,
+    batches: &str,
+) -> Result<String, Fail>
+    requires { IsPartOf query.now part.old }
+    ensures { IsPartOf query.now part.new }
 {
-    let mut part = OriginPart::empty(rt.alloc());
     let mut replies = String::new(rt.alloc());
     for told in batches.split_whitespace() {
-        replies.push_str(&reply(rt, query, &mut part, told)?)?;
-        replies.push_str("; ")?;
+        replies.push_str(&reply(rt, query, part, told)?)?;
     }
-    Ok((part, replies))
+    Ok(replies)
 }
 
-/// The prefix of a part, which of the numbers 1 to 9 it knows, how many are early, and the count and the sum of its one group.
-fn shown(rt: HostRuntime, part: &OriginPart) -> Result<String, Fail> {
+/// A part to which batches were delivered.
+fn fed(rt: HostRuntime, query: &Query, batches: &str) -> Result<OriginPart, Fail>
+    ensures { IfOk result (IsPartOf query.now) }
+{
+    let mut part = OriginPart::empty(rt.alloc());
+    match replies(rt, query, &mut part, batches) {
+        Ok(_) => Ok(part),
+        Err(fail) => Err(fail),
+    }
+}
+
+/// The prefix of a part, which of the numbers 1 to 9 it knows, and how many are early.
+fn numbers(rt: HostRuntime, part: &OriginPart) -> Result<String, Fail> {
     let mut shown = format!(in rt.alloc(); "upto {} knows", part.prefix())?;
     for number in 1..10_u32 {
         if part.knows(number) {
@@ -69,37 +60,53 @@ fn shown(rt: HostRuntime, part: &OriginPart) -> Result<String, Fail> {
         }
     }
     shown.push_str(&format!(in rt.alloc(); " early {}", part.early().len())?)?;
-    for place in 0..part.run().len() {
-        // A count has 8 bytes, and a sum has the last ones.
-        let (_, states) = part.run().group(place);
+    Ok(shown)
+}
+
+/// The count and the sum of each group. A count has 8 bytes, and a sum has the last ones.
+fn groups(rt: HostRuntime, run: &Run) -> Result<String, Fail> {
+    let mut shown = String::new(rt.alloc());
+    for place in 0..run.len() {
+        let (_, states) = run.group(place);
         let (count, sum) = (states.get(7), states.last());
         shown.push_str(&format!(in rt.alloc(); " count {count:?} sum {sum:?}")?)?;
     }
     Ok(shown)
 }
 
+/// The numbers and the groups of a part.
+fn shown(rt: HostRuntime, part: &OriginPart) -> Result<String, Fail> {
+    let (numbers, groups) = (numbers(rt, part)?, groups(rt, part.run())?);
+    Ok(format!(in rt.alloc(); "{numbers}{groups}")?)
+}
+
 /// Batches that are delivered one after the other, what is replied, and what is held then.
 const DELIVERIES: &str = "\
-=> => upto 0 knows early 0
-1 2 => Folded { upto: 1 }; Folded { upto: 2 }; => upto 2 knows 1 2 early 0 count Some(2) sum Some(3)
-3 2 5 1 => Early; Early; Early; Folded { upto: 3 }; => upto 3 knows 1 2 3 5 early 1 count Some(3) sum Some(6)
-1 1 1! => Folded { upto: 1 }; Known; Known; => upto 1 knows 1 early 0 count Some(1) sum Some(1)
-3 3 3! => Early; Known; OriginDisagrees true; => upto 0 knows 3 early 1
-3! 3 1 2 => Early; OriginDisagrees true; Folded { upto: 1 }; Folded { upto: 3 }; \
-    => upto 3 knows 1 2 3 early 0 count Some(3) sum Some(103)";
+0/1:oslo,1 0/2:oslo,2 => Folded { upto: 1 }; Folded { upto: 2 }; upto 2 knows 1 2 early 0 count Some(2) sum Some(3)
+ => upto 0 knows early 0
+0/3:oslo,3 0/2:oslo,2 0/5:oslo,5 0/1:oslo,1 => Early; Early; Early; Folded { upto: 3 }; \
+upto 3 knows 1 2 3 5 early 1 count Some(3) sum Some(6)
+0/1:oslo,1 0/1:oslo,1 0/1:oslo,100 => Folded { upto: 1 }; Known; Known; upto 1 knows 1 early 0 count Some(1) sum Some(1)
+0/3:oslo,3 0/3:oslo,3 0/3:oslo,100 => Early; Known; OriginDisagrees 0/3 016f736c6f00018000000000000064; upto 0 knows 3 early 1
+0/3:oslo,100 0/3:oslo,3 0/1:oslo,1 0/2:oslo,2 => Early; OriginDisagrees 0/3 016f736c6f00018000000000000003; \
+Folded { upto: 1 }; Folded { upto: 3 }; upto 3 knows 1 2 3 early 0 count Some(3) sum Some(103)";
+
+/// What is replied to batches, and what is held then.
+fn taken(rt: HostRuntime, query: &Query, batches: &str) -> Result<String, Fail> {
+    let mut part = OriginPart::empty(rt.alloc());
+    let replies = replies(rt, query, &mut part, batches)?;
+    let held = shown(rt, &part)?;
+    Ok(format!(in rt.alloc(); "{replies}{held}")?)
+}
+
+/// The same for the query of towns.
+fn delivered(rt: HostRuntime, batches: &str) -> Result<String, Fail> {
+    of_towns(rt, batches, taken)
+}
 
 #[test]
 fn parts_take_batches(rt: HostRuntime) -> Result<(), Fail> {
-    let query = query(rt, TOWNS)?;
-    for line in DELIVERIES.lines() {
-        let (batches, rest) = line.split_once("=> ").ok_or("no batches")?;
-        let (replies, held) = rest.split_once("=> ").ok_or("no replies")?;
-        let (part, found) = part(rt, &query, batches)?;
-        assert!(rt;
-            found.as_str() == replies && shown(rt, &part)?.as_str() == held,
-            "{line}"
-        );
-    }
+    assert_eq!(rt; differing(rt, DELIVERIES, delivered)?, None);
     Ok(())
 }
 
@@ -122,44 +129,90 @@ fn joined(
 /// The batches of two parts, and what becomes of them, whichever is joined to the other.
 const JOINS: &str = "\
 | => upto 0 knows early 0
-1 2 | => upto 2 knows 1 2 early 0 count Some(2) sum Some(3)
-1 2 3 4 5 | 6 8 => upto 6 knows 1 2 3 4 5 6 8 early 1 count Some(6) sum Some(21)
-1 2 3 4 5 | 1 2 3 4 5 6 7 => upto 7 knows 1 2 3 4 5 6 7 early 0 count Some(7) sum Some(28)
-1 2 4 | 3 => upto 4 knows 1 2 3 4 early 0 count Some(4) sum Some(10)
-3 | 2 3 5 => upto 0 knows 2 3 5 early 3
-1 2 4 7 | 1 3 4 8 => upto 4 knows 1 2 3 4 7 8 early 2 count Some(4) sum Some(10)
-1 2 | 2! 4 => upto 2 knows 1 2 4 early 1 count Some(2) sum Some(3)
-1 | 1! => OriginDisagrees
-2 | 2! => OriginDisagrees
-1 3 | 2 3! => OriginDisagrees";
+0/1:oslo,1 0/2:oslo,2 | => upto 2 knows 1 2 early 0 count Some(2) sum Some(3)
+0/1:oslo,1 0/2:oslo,2 0/3:oslo,3 0/4:oslo,4 0/5:oslo,5 | 0/6:oslo,6 0/8:oslo,8 => \
+upto 6 knows 1 2 3 4 5 6 8 early 1 count Some(6) sum Some(21)
+0/1:oslo,1 0/2:oslo,2 0/3:oslo,3 0/4:oslo,4 0/5:oslo,5 \
+| 0/1:oslo,1 0/2:oslo,2 0/3:oslo,3 0/4:oslo,4 0/5:oslo,5 0/6:oslo,6 0/7:oslo,7 => \
+upto 7 knows 1 2 3 4 5 6 7 early 0 count Some(7) sum Some(28)
+0/1:oslo,1 0/2:oslo,2 0/4:oslo,4 | 0/3:oslo,3 => upto 4 knows 1 2 3 4 early 0 count Some(4) sum Some(10)
+0/3:oslo,3 | 0/2:oslo,2 0/3:oslo,3 0/5:oslo,5 => upto 0 knows 2 3 5 early 3
+0/1:oslo,1 0/2:oslo,2 0/4:oslo,4 0/7:oslo,7 | 0/1:oslo,1 0/3:oslo,3 0/4:oslo,4 0/8:oslo,8 => \
+upto 4 knows 1 2 3 4 7 8 early 2 count Some(4) sum Some(10)
+0/1:oslo,1 0/2:oslo,2 | 0/2:oslo,100 0/4:oslo,4 => upto 2 knows 1 2 4 early 1 count Some(2) sum Some(3)
+0/1:oslo,1 | 0/1:oslo,100 => OriginDisagrees
+0/2:oslo,2 | 0/2:oslo,100 => OriginDisagrees
+0/1:oslo,1 0/3:oslo,3 | 0/2:oslo,2 0/3:oslo,100 => OriginDisagrees";
+
+/// What becomes of two parts, if it is the same whichever is joined to the other.
+fn joined_both_ways(
+    rt: HostRuntime,
+    query: &Query,
+    one: &OriginPart,
+    other: &OriginPart,
+) -> Result<String, Fail>
+    requires one { IsPartOf query.now one.now }
+    requires other { IsPartOf query.now other.now }
+{
+    let (there, back) = (
+        joined(rt, query, one, other)?,
+        joined(rt, query, other, one)?,
+    );
+    if there != back {
+        return Err("the other way differs")?;
+    }
+    Ok(there)
+}
+
+/// The same of a part and of batches that another takes.
+fn joined_to_fed(
+    rt: HostRuntime,
+    query: &Query,
+    one: &OriginPart,
+    batches: &str,
+) -> Result<String, Fail>
+    requires { IsPartOf query.now one.now }
+{
+    let other = fed(rt, query, batches)?;
+    joined_both_ways(rt, query, one, &other)
+}
+
+/// The same of two lists of batches and a query.
+fn joined_of_query(rt: HostRuntime, query: &Query, case: &str) -> Result<String, Fail> {
+    let (one, other) = case.split_once('|').ok_or("no parts")?;
+    let one = fed(rt, query, one)?;
+    joined_to_fed(rt, query, &one, other)
+}
+
+/// The same for the query of towns.
+fn joined_of_towns(rt: HostRuntime, case: &str) -> Result<String, Fail> {
+    of_towns(rt, case, joined_of_query)
+}
 
 #[test]
 fn parts_join(rt: HostRuntime) -> Result<(), Fail> {
-    let query = query(rt, TOWNS)?;
-    for line in JOINS.lines() {
-        let (batches, held) = line.split_once(" => ").ok_or("no batches")?;
-        let (one, other) = batches.split_once('|').ok_or("no parts")?;
-        let (one, _) = part(rt, &query, one)?;
-        let (other, _) = part(rt, &query, other)?;
-        assert!(rt;
-            joined(rt, &query, &one, &other)?.as_str() == held,
-            "{line}"
-        );
-        assert!(rt;
-            joined(rt, &query, &other, &one)?.as_str() == held,
-            "{line}"
-        );
-    }
+    assert_eq!(rt; differing(rt, JOINS, joined_of_towns)?, None);
     Ok(())
+}
+
+/// What a part holds that has the prefix and the groups of another, and nothing early.
+fn rebuilt(rt: HostRuntime, part: &OriginPart) -> Result<String, Fail> {
+    let run = part.run().try_clone(rt.alloc())?;
+    let again = OriginPart::from_fields(rt.alloc(), part.prefix(), run, BTreeMap::new(rt.alloc()));
+    shown(rt, &again)
+}
+
+/// The same of a part to which batches were delivered.
+fn rebuilt_of(rt: HostRuntime, query: &Query, batches: &str) -> Result<String, Fail> {
+    let part = fed(rt, query, batches)?;
+    rebuilt(rt, &part)
 }
 
 #[test]
 fn parts_have_their_fields(rt: HostRuntime) -> Result<(), Fail> {
-    let (part, _) = part(rt, &query(rt, TOWNS)?, "1 2 4")?;
-    let run = part.run().try_clone(rt.alloc())?;
-    let again = OriginPart::from_fields(rt.alloc(), part.prefix(), run, BTreeMap::new(rt.alloc()));
     assert!(rt;
-        shown(rt, &again)?.as_str() == "upto 2 knows 1 2 early 0 count Some(2) sum Some(3)"
+        of_towns(rt, "0/1:oslo,1 0/2:oslo,2 0/4:oslo,4", rebuilt_of)?.as_str()
+            == "upto 2 knows 1 2 early 0 count Some(2) sum Some(3)"
     );
     Ok(())
 }

@@ -1,20 +1,19 @@
-ghost use Rattle.std.specs.Prelude.{◌≡◌, List, length, IfOk};
+ghost use Rattle.std.specs.Prelude.{◌≡◌, ◌+◌, List, length, IfOk, OnOk};
 ghost use Rattle.grouping_model.specs.Datum.{Row};
 ghost use Rattle.having_filter.specs.Meaning.{meaning};
 ghost use Rattle.hash_agg.specs.Inputs.{ArePackings};
+ghost use Rattle.hash_agg.specs.Standing.{IsRun};
 ghost use Rattle.packed_rows.specs.View.{bytes_of};
 
-use crate::fixtures::{query, records};
+use crate::fixtures::{of_towns, records};
 use batch_reader::build_batch;
 use hash_agg::{Input, Run, aggregate, first_states, fold};
 use having_filter::Query;
+use hex::encode;
 use std::test::*;
 
-/// The count and the sum of each town.
-const TOWNS: &str = "SELECT c, count(*), sum(d) FROM batches GROUP BY c";
-
 /// So many rows of the query's table, packed.
-fn packed(rt: HostRuntime, query: &Query, told: u32, lines: &[&str]) -> Result<Vec<Vec<u8>>, Fail>
+fn packed(rt: HostRuntime, query: &Query, told: u32, lines: &str) -> Result<Vec<Vec<u8>>, Fail>
     ensures { IfOk result (λ packed. (rows : List Row)
         × ArePackings (meaning query.now).kinds (bytes_of packed.items) rows
         × (length packed.items ≡ told)) }
@@ -24,21 +23,30 @@ fn packed(rt: HostRuntime, query: &Query, told: u32, lines: &[&str]) -> Result<V
     Ok(batch.rows.into_vec())
 }
 
-/// The bytes of a state of `count(*)`, and of a state of `sum` behind it.
-fn states(rt: HostRuntime, count: u64, total: i128) -> Result<Vec<u8>, Fail> {
-    let mut states = Vec::new(rt.alloc());
-    states.extend_from_slice(&count.to_be_bytes())?;
-    states.extend_from_slice(&count.to_be_bytes())?;
-    states.extend_from_slice(&total.to_be_bytes())?;
-    Ok(states)
+/// The groups of so many rows.
+fn groups(rt: HostRuntime, query: &Query, told: u32, lines: &str) -> Result<Run, Fail>
+    ensures { IfOk result (λ run. IsRun (meaning query.now) told run) }
+{
+    let rows = packed(rt, query, told, lines)?;
+    Ok(aggregate(rt.alloc(), query, &[Input::Rows(&rows)])?)
 }
 
-#[test]
-fn a_run_is_aggregated_with_rows(rt: HostRuntime) -> Result<(), Fail> {
-    let query = query(rt, TOWNS)?;
-    let early = packed(rt, &query, 1, &["oslo,5,t"])?;
-    let early = aggregate(rt.alloc(), &query, &[Input::Rows(&early)])?;
-    let late = packed(rt, &query, 2, &["oslo,-2,t", "bergen,7,t"])?;
+/// The bytes of the keys and of the states of a run's groups.
+fn shown(rt: HostRuntime, run: &Run) -> Result<String, Fail> {
+    let mut shown = String::new(rt.alloc());
+    for place in 0..run.len() {
+        let (key, states) = run.group(place);
+        let (key, states) = (encode(rt.alloc(), key)?, encode(rt.alloc(), states)?);
+        shown.push_str(&format!(in rt.alloc(); "{key} {states}; ")?)?;
+    }
+    Ok(shown)
+}
+
+/// The groups of a row and of two more behind a `|`.
+fn groups_of_three(rt: HostRuntime, query: &Query, lines: &str) -> Result<String, Fail> {
+    let (first, more) = lines.split_once('|').ok_or("no more rows")?;
+    let early = groups(rt, query, 1, first)?;
+    let late = packed(rt, query, 2, more)?;
     let inputs = [
         Input::Groups {
             run: &early,
@@ -46,68 +54,102 @@ fn a_run_is_aggregated_with_rows(rt: HostRuntime) -> Result<(), Fail> {
         },
         Input::Rows(&late),
     ];
-    let run = aggregate(rt.alloc(), &query, &inputs)?;
-    assert_eq!(rt; run.len(), 2);
-    let (key, found) = run.group(0);
-    assert!(rt; key == b"\x01bergen\x00".as_slice());
-    assert!(rt; found == states(rt, 1, 7)?.as_slice());
-    let (key, found) = run.group(1);
-    assert!(rt; key == b"\x01oslo\x00".as_slice());
-    assert!(rt; found == states(rt, 2, 3)?.as_slice());
+    shown(rt, &aggregate(rt.alloc(), query, &inputs)?)
+}
+
+#[test]
+fn a_run_is_aggregated_with_rows(rt: HostRuntime) -> Result<(), Fail> {
+    assert!(rt;
+        of_towns(rt, "oslo,5|oslo,-2;bergen,7", groups_of_three)?.as_str()
+            == "0162657267656e00 0000000000000001000000000000000100000000000000000000000000000007; \
+            016f736c6f00 0000000000000002000000000000000200000000000000000000000000000003; "
+    );
     Ok(())
+}
+
+/// A run of one group of no rows, and whether it was empty before and is so now.
+fn pushed(rt: HostRuntime, query: &Query, key: &str) -> Result<String, Fail> {
+    let states = first_states(rt.alloc(), query)?;
+    let mut run = Run::new(rt.alloc());
+    let before = run.is_empty();
+    run.push(key.as_bytes(), &states)?;
+    let (now, shown) = (run.is_empty(), shown(rt, &run)?);
+    Ok(format!(in rt.alloc(); "{before} {now} {shown}")?)
 }
 
 #[test]
 fn a_run_takes_groups(rt: HostRuntime) -> Result<(), Fail> {
-    let query = query(rt, TOWNS)?;
-    let mut run = Run::new(rt.alloc());
-    assert!(rt; run.is_empty());
-    let states = first_states(rt.alloc(), &query)?;
-    run.push(b"\x02", &states)?;
-    assert!(rt; !run.is_empty());
-    assert_eq!(rt; run.len(), 1);
-    let (key, found) = run.group(0);
-    assert!(rt; key == b"\x02".as_slice());
-    assert!(rt; found == states.as_slice());
+    assert!(rt;
+        of_towns(rt, "\u{2}", pushed)?.as_str()
+            == "true false 02 0000000000000000000000000000000000000000000000000000000000000000; "
+    );
     Ok(())
 }
 
-/// Whether a run has this group at a place.
-fn has_group(
+/// Gives more rows to a run of so many rows at most.
+fn give(
     rt: HostRuntime,
-    run: &Run,
-    place: usize,
-    key: &[u8],
-    count: u64,
-    total: i128,
-) -> Result<bool, Fail> {
-    if place >= run.len() {
-        return Ok(false);
-    }
-    let (found, states_found) = run.group(place);
-    Ok(found == key && states_found == states(rt, count, total)?.as_slice())
+    query: &Query,
+    run: &mut Run,
+    most: u32,
+    told: u32,
+    lines: &str,
+) -> Result<(), Fail>
+    requires { IsRun (meaning query.now) most run.old }
+    ensures { OnOk result (IsRun (meaning query.now) (most + told) run.new) }
+{
+    let rows = packed(rt, query, told, lines)?;
+    let more = [Input::Rows(&rows)];
+    Ok(fold(rt.alloc(), query, run, u64::from(most), &more)?)
+}
+
+/// The groups of three rows and of three more behind a `|`.
+fn groups_of_six(rt: HostRuntime, query: &Query, lines: &str) -> Result<String, Fail> {
+    let (early, late) = lines.split_once('|').ok_or("no more rows")?;
+    let mut run = groups(rt, query, 3, early)?;
+    give(rt, query, &mut run, 3, 3, late)?;
+    shown(rt, &run)
+}
+
+/// The groups of three rows, of three more and of two more.
+fn groups_of_eight(rt: HostRuntime, query: &Query, lines: &str) -> Result<String, Fail> {
+    let (early, more) = lines.split_once('|').ok_or("no more rows")?;
+    let (late, last) = more.split_once('|').ok_or("no last rows")?;
+    let mut run = groups(rt, query, 3, early)?;
+    give(rt, query, &mut run, 3, 3, late)?;
+    give(rt, query, &mut run, 6, 2, last)?;
+    shown(rt, &run)
 }
 
 #[test]
 fn a_run_takes_more_rows(rt: HostRuntime) -> Result<(), Fail> {
-    let query = query(rt, TOWNS)?;
-    let early = packed(rt, &query, 3, &["oslo,5,t", "voss,1,t", "moss,2,t"])?;
-    let mut run = aggregate(rt.alloc(), &query, &[Input::Rows(&early)])?;
     // One town is there already, one comes first and one comes last.
-    let late = packed(rt, &query, 3, &["oslo,-2,t", "bergen,7,t", "ytre,8,t"])?;
-    fold(rt.alloc(), &query, &mut run, 3, &[Input::Rows(&late)])?;
-    assert_eq!(rt; run.len(), 5);
-    assert!(rt; has_group(rt, &run, 0, b"\x01bergen\x00", 1, 7)?);
-    assert!(rt; has_group(rt, &run, 1, b"\x01moss\x00", 1, 2)?);
-    assert!(rt; has_group(rt, &run, 2, b"\x01oslo\x00", 2, 3)?);
-    assert!(rt; has_group(rt, &run, 3, b"\x01voss\x00", 1, 1)?);
-    assert!(rt; has_group(rt, &run, 4, b"\x01ytre\x00", 1, 8)?);
+    assert!(rt;
+        of_towns(
+            rt,
+            "oslo,5;voss,1;moss,2|oslo,-2;bergen,7;ytre,8",
+            groups_of_six
+        )?
+        .as_str()
+            == "0162657267656e00 0000000000000001000000000000000100000000000000000000000000000007; \
+            016d6f737300 0000000000000001000000000000000100000000000000000000000000000002; \
+            016f736c6f00 0000000000000002000000000000000200000000000000000000000000000003; \
+            01766f737300 0000000000000001000000000000000100000000000000000000000000000001; \
+            017974726500 0000000000000001000000000000000100000000000000000000000000000008; "
+    );
     // All towns are there.
-    let last = packed(rt, &query, 2, &["voss,4,f", "bergen,1,t"])?;
-    fold(rt.alloc(), &query, &mut run, 6, &[Input::Rows(&last)])?;
-    assert_eq!(rt; run.len(), 5);
-    assert!(rt; has_group(rt, &run, 0, b"\x01bergen\x00", 2, 8)?);
-    assert!(rt; has_group(rt, &run, 1, b"\x01moss\x00", 1, 2)?);
-    assert!(rt; has_group(rt, &run, 3, b"\x01voss\x00", 2, 5)?);
+    assert!(rt;
+        of_towns(
+            rt,
+            "oslo,5;voss,1;moss,2|oslo,-2;bergen,7;ytre,8|voss,4;bergen,1",
+            groups_of_eight
+        )?
+        .as_str()
+            == "0162657267656e00 0000000000000002000000000000000200000000000000000000000000000008; \
+            016d6f737300 0000000000000001000000000000000100000000000000000000000000000002; \
+            016f736c6f00 0000000000000002000000000000000200000000000000000000000000000003; \
+            01766f737300 0000000000000002000000000000000200000000000000000000000000000005; \
+            017974726500 0000000000000001000000000000000100000000000000000000000000000008; "
+    );
     Ok(())
 }

@@ -1,3 +1,4 @@
+use crate::fixtures::differing;
 use hex::decode as read_hex;
 use std::alloc::Global;
 use std::test::*;
@@ -5,8 +6,13 @@ use summary_codec::{SummaryError, decode, encode};
 
 /// The bytes of what was read from a file.
 fn read_and_written(alloc: Global, bytes: &[u8]) -> Result<Vec<u8>, SummaryError> {
-    let (query, parts) = decode(alloc, bytes)?;
-    Ok(encode(alloc, &query, &parts)?)
+    match decode(alloc, bytes) {
+        Ok((query, parts)) => match encode(alloc, &query, &parts) {
+            Ok(written) => Ok(written),
+            Err(error) => Err(SummaryError::from(error)),
+        },
+        Err(error) => Err(error),
+    }
 }
 
 /// Whether bytes are a file, which is written as it was read, or why they are none.
@@ -15,6 +21,12 @@ fn told(rt: HostRuntime, bytes: &[u8]) -> Result<String, Fail> {
         Ok(written) => Ok(format!(in rt.alloc(); "{}", written.as_slice() == bytes)?),
         Err(error) => Ok(format!(in rt.alloc(); "{error:?}")?),
     }
+}
+
+/// The same of bytes that words tell.
+fn told_of_words(rt: HostRuntime, words: &str) -> Result<String, Fail> {
+    let bytes = bytes_of(rt, words)?;
+    told(rt, &bytes)
 }
 
 /// A file: columns and a query, one origin with prefix 1, and two groups of a key, a count and a sum.
@@ -82,12 +94,18 @@ fn digits(word: &str) -> &str {
     word
 }
 
-/// The bytes of some words.
-pub(crate) fn bytes_of(rt: HostRuntime, words: &str) -> Result<Vec<u8>, Fail> {
+/// The hexadecimal digits of some words.
+pub(crate) fn digits_of(rt: HostRuntime, words: &str) -> Result<String, Fail> {
     let mut text = String::new(rt.alloc());
     for word in words.split_whitespace() {
         text.push_str(digits(word))?;
     }
+    Ok(text)
+}
+
+/// The bytes of some words.
+pub(crate) fn bytes_of(rt: HostRuntime, words: &str) -> Result<Vec<u8>, Fail> {
+    let text = digits_of(rt, words)?;
     Ok(read_hex(rt.alloc(), text.as_str())?)
 }
 
@@ -222,11 +240,7 @@ opening 0006 632074657874 0001 ff => NotCanonical";
 
 #[test]
 fn files_are_read_to_their_first_fault(rt: HostRuntime) -> Result<(), Fail> {
-    for line in FILES.lines() {
-        let (words, want) = line.split_once(" => ").ok_or("no bytes")?;
-        let bytes = bytes_of(rt, words)?;
-        assert!(rt; told(rt, &bytes)?.as_str() == want, "{line}");
-    }
+    assert_eq!(rt; differing(rt, FILES, told_of_words)?, None);
     Ok(())
 }
 
@@ -271,13 +285,15 @@ fn file_of(rt: HostRuntime, schema: &str, query: &str) -> Result<Vec<u8>, Fail> 
     Ok(bytes)
 }
 
+/// What becomes of a file of columns and a query.
+fn told_of_texts(rt: HostRuntime, texts: &str) -> Result<String, Fail> {
+    let (schema, query) = texts.split_once('|').ok_or("no query")?;
+    let bytes = file_of(rt, schema, query)?;
+    told(rt, &bytes)
+}
+
 #[test]
 fn texts_are_canonical(rt: HostRuntime) -> Result<(), Fail> {
-    for line in TEXTS.lines() {
-        let (texts, want) = line.split_once(" => ").ok_or("no texts")?;
-        let (schema, query) = texts.split_once('|').ok_or("no query")?;
-        let bytes = file_of(rt, schema, query)?;
-        assert!(rt; told(rt, &bytes)?.as_str() == want, "{line}");
-    }
+    assert_eq!(rt; differing(rt, TEXTS, told_of_texts)?, None);
     Ok(())
 }

@@ -1,4 +1,5 @@
 pub mod Machine
+pub mod FileRefusals
 pub mod Text
 pub mod Output
 pub mod Views

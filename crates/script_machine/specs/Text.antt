@@ -15,14 +15,17 @@ use Rattle.grouping_model.specs.Replies.{KnownOrigin}
 use Rattle.grouping_model.specs.declared.delivered.Delivered.{Delivered}
 use Rattle.grouping_model.specs.declared.delivered.Delivered.TheVariants.{Folded, Early, Known}
 use Rattle.summary_codec.specs.WorldFile.{world_file}
+use Rattle.summary_codec.specs.declared.error.SummaryError.{SummaryError}
+use Rattle.summary_codec.specs.declared.error.SummaryError.TheVariants as summary
 use Rattle.table_print.specs.Table.{table_text}
 use Rattle.script_machine.specs.Machine.{Reply, Has_columns, Has_query, Created, Took, Merged, Saved, Loaded, Listed, Answered, Refused}
 use Rattle.script_machine.specs.declared.refusal.Refusal.{Refusal}
-use Rattle.script_machine.specs.declared.refusal.Refusal.TheVariants.{NoMemory, BadSchema, Query, Batch, OriginDisagrees, Run, BadCommand, NoSuchName, NameTaken}
+use Rattle.script_machine.specs.declared.refusal.Refusal.TheVariants.{NoMemory, BadSchema, Query, Batch, Summary, DifferentQuery, OriginDisagrees, Run, BadCommand, NoSuchName, NameTaken}
 use Rattle.script_machine.specs.declared.error.RunError.{RunError}
 use Rattle.script_machine.specs.declared.error.RunError.TheVariants as stop
 
--- the names of refusals: of what a query's checks refuse, of what is wrong with its text or with a batch, and of what stops a run
+-- the names of refusals: of what a query's checks refuse, of what is wrong with its text, with a batch or with a summary file, and of
+-- what stops a run
 abbrev pub query_name : QueryError → List ℕ
 query_name checks.NoMemory = codes "NoMemory"
 query_name checks.NoSuchColumn = codes "NoSuchColumn"
@@ -45,6 +48,18 @@ batch_name batch.RowCount = codes "RowCount"
 batch_name batch.WrongWidth = codes "WrongWidth"
 batch_name (batch.BadField column) = codes "BadField"
 
+abbrev pub summary_name : SummaryError → List ℕ
+summary_name summary.NoMemory = codes "NoMemory"
+summary_name summary.NotASummary = codes "NotASummary"
+summary_name summary.Truncated = codes "Truncated"
+summary_name summary.Trailing = codes "Trailing"
+summary_name summary.NotCanonical = codes "NotCanonical"
+summary_name summary.OutOfRange = codes "OutOfRange"
+summary_name summary.BadSchema = codes "BadSchema"
+summary_name summary.BadPacked = codes "BadPacked"
+summary_name summary.BadState = codes "BadState"
+summary_name (summary.Query error) = parse_name error
+
 abbrev pub run_name : RunError → List ℕ
 run_name stop.NoMemory = codes "NoMemory"
 run_name stop.InputTooLong = codes "InputTooLong"
@@ -56,6 +71,8 @@ refusal_name NoMemory = codes "NoMemory"
 refusal_name BadSchema = codes "BadSchema"
 refusal_name (Query error) = parse_name error
 refusal_name (Batch error) = batch_name error
+refusal_name (Summary error) = summary_name error
+refusal_name DifferentQuery = codes "DifferentQuery"
 refusal_name OriginDisagrees = codes "OriginDisagrees"
 refusal_name (Run error) = run_name error
 refusal_name BadCommand = codes "BadCommand"
@@ -85,8 +102,12 @@ early_text (number ∷ numbers) = codes " early" ++ flat_map number_text (number
 abbrev pub origin_text : KnownOrigin → List ℕ
 origin_text known = line (codes "origin ") (decimal known.origin ++ codes " upto " ++ decimal known.upto ++ early_text known.early)
 
+-- what is known, a line for each origin
+abbrev pub origins_text : List KnownOrigin → List ℕ
+origins_text list = flat_map origin_text list
+
 abbrev pub known_text : List KnownOrigin → List ℕ
-known_text list = line (codes "known ") (decimal (length list)) ++ flat_map origin_text list
+known_text list = line (codes "known ") (decimal (length list)) ++ origins_text list
 
 -- how many rows an answer has, and its table
 abbrev pub answer_text : ℕ → List ℕ → List ℕ

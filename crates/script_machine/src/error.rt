@@ -16,10 +16,10 @@ pub enum RunError {
     #[error("out of memory")]
     NoMemory,
     /// The script has more than 67,108,864 bytes. Nothing was written.
-    #[error("the script is too long")]
+    #[error("the input has more than 67,108,864 bytes")]
     InputTooLong,
     /// The reader failed, or was interrupted. Nothing was written.
-    #[error("the script could not be read")]
+    #[error("the input could not be read")]
     ReadFault,
     /// The writer failed, was interrupted or took no byte. What was written is the front of the output.
     #[error("the output could not be written")]

@@ -14,4 +14,7 @@ mod texts;
 pub use engine::{Observer, Outcome, run, run_observed};
 pub use error::RunError;
 pub use laws::{one_batch_each_agrees, one_reply, same_batches_same_bytes};
+pub use output::put_reply;
 pub use refusal::{Refusal, name};
+pub use reply::Reply;
+pub use texts::origin_lines;

@@ -72,8 +72,8 @@ fn put_answer<W: Write>(writer: &mut W, rows: usize, table: &[u8]) -> Result<(),
     put_all(writer, table)
 }
 
-/// Writes a reply. It takes no memory.
-pub(crate) fn put_reply<W: Write>(writer: &mut W, reply: &Reply<'_>) -> Result<(), WriteFault>
+/// Writes the text of a reply. It takes no memory.
+pub fn put_reply<W: Write>(writer: &mut W, reply: &Reply<'_>) -> Result<(), WriteFault>
     ensures { MatchResult result
         (λ _. Appends (W.contents writer.old) (W.contents writer.new) (said_text reply.now))
         (λ _. AppendsFront (W.contents writer.old) (W.contents writer.new)

@@ -1,14 +1,16 @@
 //! Why a command, or a whole script, is refused.
 
 ghost use Rattle.std.specs.Prelude.{◌≡◌};
-ghost use Rattle.script_machine.specs.Machine.{batch_refusal, query_refusal};
-ghost use Rattle.script_machine.specs.Text.{refusal_name, query_name, parse_name, batch_name, run_name};
+ghost use Rattle.script_machine.specs.Machine.{batch_refusal, delivery_refusal, query_refusal};
+ghost use Rattle.script_machine.specs.FileRefusals.{summary_refusal, merge_refusal};
+ghost use Rattle.script_machine.specs.Text.{refusal_name, query_name, parse_name, batch_name, summary_name, run_name};
 ghost use Rattle.script_machine.specs.declared.refusal.Refusal.TheVariants.{NoMemory};
 
 use crate::error::RunError;
 use batch_reader::BatchError;
 use group_parser::ParseError;
 use having_filter::QueryError;
+use replica_merge::{JoinError, MergeError, SummaryError};
 use std::alloc::AllocError;
 use thiserror::Error;
 
@@ -28,6 +30,12 @@ pub enum Refusal {
     /// The fields and records of a `feed` are no batch of the columns.
     #[error(transparent)]
     Batch(BatchError),
+    /// The bytes are those of no summary file.
+    #[error(transparent)]
+    Summary(SummaryError),
+    /// A replica answers another query, or has another schema.
+    #[error("the replicas answer different queries")]
+    DifferentQuery,
     /// One number of an origin has two different batches, or equal prefixes of an origin have different groups.
     #[error("one number of an origin has two different batches")]
     OriginDisagrees,
@@ -86,6 +94,24 @@ fn batch_name(error: BatchError) -> &'static str
     }
 }
 
+/// The name of what is wrong with a summary file.
+fn summary_name(error: SummaryError) -> &'static str
+    ensures { result.now ≡ summary_name error }
+{
+    match error {
+        SummaryError::NoMemory => "NoMemory",
+        SummaryError::NotASummary => "NotASummary",
+        SummaryError::Truncated => "Truncated",
+        SummaryError::Trailing => "Trailing",
+        SummaryError::NotCanonical => "NotCanonical",
+        SummaryError::OutOfRange => "OutOfRange",
+        SummaryError::BadSchema => "BadSchema",
+        SummaryError::BadPacked => "BadPacked",
+        SummaryError::BadState => "BadState",
+        SummaryError::Query(error) => parse_name(error),
+    }
+}
+
 /// The name of what stopped a run.
 fn run_name(error: RunError) -> &'static str
     ensures { result.now ≡ run_name error }
@@ -107,6 +133,8 @@ pub fn name(refusal: Refusal) -> &'static str
         Refusal::BadSchema => "BadSchema",
         Refusal::Query(error) => parse_name(error),
         Refusal::Batch(error) => batch_name(error),
+        Refusal::Summary(error) => summary_name(error),
+        Refusal::DifferentQuery => "DifferentQuery",
         Refusal::OriginDisagrees => "OriginDisagrees",
         Refusal::Run(error) => run_name(error),
         Refusal::BadCommand => "BadCommand",
@@ -141,6 +169,40 @@ impl From<ParseError> for Refusal {
         match error {
             ParseError::Query(QueryError::NoMemory) => Refusal::NoMemory,
             error => Refusal::Query(error),
+        }
+    }
+}
+
+impl From<JoinError> for Refusal {
+    ghost from_gives = { λ error refusal. refusal ≡ delivery_refusal error };
+
+    fn from(error: JoinError) -> Refusal {
+        match error {
+            JoinError::NoMemory => Refusal::NoMemory,
+            JoinError::OriginDisagrees => Refusal::OriginDisagrees,
+        }
+    }
+}
+
+impl From<SummaryError> for Refusal {
+    ghost from_gives = { λ error refusal. refusal ≡ summary_refusal error };
+
+    fn from(error: SummaryError) -> Refusal {
+        match error {
+            SummaryError::NoMemory => Refusal::NoMemory,
+            error => Refusal::Summary(error),
+        }
+    }
+}
+
+impl From<MergeError> for Refusal {
+    ghost from_gives = { λ error refusal. refusal ≡ merge_refusal error };
+
+    fn from(error: MergeError) -> Refusal {
+        match error {
+            MergeError::NoMemory => Refusal::NoMemory,
+            MergeError::DifferentQuery => Refusal::DifferentQuery,
+            MergeError::OriginDisagrees => Refusal::OriginDisagrees,
         }
     }
 }

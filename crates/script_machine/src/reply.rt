@@ -8,7 +8,7 @@ use replica_merge::Delivered;
 
 /// The reply to a command.
 #[derive(Drop)]
-pub(crate) enum Reply<'c> {
+pub enum Reply<'c> {
     /// There are so many columns.
     Columns(usize),
     /// The query, in its canonical text.
@@ -33,7 +33,7 @@ pub(crate) enum Reply<'c> {
 
 impl Reply<'_> {
     /// Whether the command was refused.
-    pub(crate) fn is_refused(&self) -> bool
+    pub fn is_refused(&self) -> bool
         ensures { result ≡ is_refusal self.now }
     {
         matches!(self, Reply::Refused(_))

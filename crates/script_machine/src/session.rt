@@ -18,7 +18,7 @@ ghost use Rattle.script_machine.specs.Text.{known_text};
 ghost use Rattle.packed_rows.specs.Columns.{kinds};
 ghost use Rattle.script_commands.specs.Commands as ask;
 ghost use Rattle.script_commands.specs.Commands.{request_of};
-ghost use Rattle.script_machine.specs.Machine.{IsNoBatch, IsNoQuery, delivery_refusal};
+ghost use Rattle.script_machine.specs.Machine.{IsNoBatch, IsNoQuery};
 ghost use Rattle.script_machine.specs.Views.{Store, IsStore, Steps, Takes, IsOtherBatch, JoinsNames};
 ghost use Rattle.script_machine.specs.declared.refusal.Refusal.TheVariants.{NoMemory, OriginDisagrees};
 
@@ -31,7 +31,7 @@ use group_parser::{parse, print};
 use having_filter::Query;
 use indexmap::IndexMap;
 use packed_rows::{RowError, Schema};
-use replica_merge::{Delivered, JoinError, Joined, MergeError, Replica};
+use replica_merge::{Delivered, Joined, MergeError, Replica};
 use script_commands::{Command, Request};
 use std::alloc::{AllocError, Global};
 use std::marker::Model;
@@ -97,17 +97,7 @@ fn deliver(
     let batch = build_batch(alloc, schema, origin, number, told, rows)?;
     match replica.deliver(batch) {
         Ok(delivered) => Ok(delivered),
-        Err(refused) => Err(delivery_refusal(refused.why)),
-    }
-}
-
-/// The refusal of a batch that was delivered.
-fn delivery_refusal(why: JoinError) -> Refusal
-    ensures { result ≡ delivery_refusal why }
-{
-    match why {
-        JoinError::NoMemory => Refusal::NoMemory,
-        JoinError::OriginDisagrees => Refusal::OriginDisagrees,
+        Err(refused) => Err(Refusal::from(refused.why)),
     }
 }
 

@@ -2,7 +2,7 @@
 
 ghost use Rattle.std.specs.Prelude.{◌≡◌, ◌++◌, map, flat_map, decimal, IfOk, OnOk};
 ghost use Rattle.replica_merge.specs.Replicas.{known_of};
-ghost use Rattle.script_machine.specs.Text.{early_text, number_text, origin_text, known_text};
+ghost use Rattle.script_machine.specs.Text.{early_text, number_text, origin_text, origins_text, known_text};
 
 use itoa::Buffer;
 use replica_merge::Known;
@@ -50,7 +50,27 @@ fn push_origin(text: &mut Vec<u8>, known: &Known) -> Result<(), AllocError>
     Ok(())
 }
 
-/// The lines of what is known.
+/// Appends a line for each origin.
+fn push_origins(text: &mut Vec<u8>, list: &[Known]) -> Result<(), AllocError>
+    ensures { OnOk result (text.new.items
+        ≡ text.old.items ++ origins_text (map known_of list.now)) }
+{
+    for known in list {
+        push_origin(text, known)?;
+    }
+    Ok(())
+}
+
+/// The lines of what is known, one for each origin: `origin O upto P`, and the numbers that came early behind it.
+pub fn origin_lines(alloc: Global, list: &[Known]) -> Result<Vec<u8>, AllocError>
+    ensures { IfOk result (λ text. text.items ≡ origins_text (map known_of list.now)) }
+{
+    let mut text = Vec::new(alloc);
+    push_origins(&mut text, list)?;
+    Ok(text)
+}
+
+/// The lines of what is known, behind one that counts the origins.
 pub(crate) fn known_lines(alloc: Global, list: &[Known]) -> Result<Vec<u8>, AllocError>
     ensures { IfOk result (λ text. text.items ≡ known_text (map known_of list.now)) }
 {
@@ -58,8 +78,6 @@ pub(crate) fn known_lines(alloc: Global, list: &[Known]) -> Result<Vec<u8>, Allo
     text.extend_from_slice(b"known ")?;
     push_number(&mut text, list.len())?;
     text.push(b'\n')?;
-    for known in list {
-        push_origin(&mut text, known)?;
-    }
+    push_origins(&mut text, list)?;
     Ok(text)
 }

@@ -1,25 +1,5 @@
-use script_machine::{Outcome, run};
+use crate::tables::{differing, last_replies};
 use std::test::*;
-
-/// What a script's run writes, where no command is refused.
-fn written(rt: HostRuntime, script: &str) -> Result<String, Fail> {
-    let mut written = Vec::new(rt.alloc());
-    let outcome = run(rt.alloc(), &mut script.as_bytes(), &mut written);
-    if outcome != Ok(Outcome { refused: 0 }) {
-        return Err(Fail::from("a command was refused, or the run stopped"));
-    }
-    Ok(String::from_utf8(written).ok().ok_or("not UTF-8")?)
-}
-
-/// Lines, told with a `/` between each and the next.
-pub(crate) fn lines(rt: HostRuntime, told: &str) -> Result<String, Fail> {
-    let mut lines = String::new(rt.alloc());
-    for line in told.split('/') {
-        lines.push_str(line)?;
-        lines.push_str("\n")?;
-    }
-    Ok(lines)
-}
 
 /// The commands in front of a query over `c text, d bigint, b boolean`.
 const COLUMNS: &str = "columns,\"c text, d bigint, b boolean\"\nquery,\"";
@@ -43,14 +23,15 @@ SELECT count(*), max(d) FROM batches WHERE FALSE => answer 1/count,max/0,\\N
 SELECT count(*) FROM batches HAVING count(*) > 6 => answer 0/count
 SELECT max(d), max(d) FROM batches GROUP BY b HAVING b IS NULL => answer 1/max,max/-2,-2";
 
+/// A query's answer.
+fn answered(rt: HostRuntime, query: &str) -> Result<String, Fail> {
+    let script = format!(in rt.alloc(); "{COLUMNS}{query}{BATCHES}")?;
+    last_replies(rt, &script, "answer ")
+}
+
 #[test]
 fn queries_are_answered(rt: HostRuntime) -> Result<(), Fail> {
-    for line in ANSWERS.lines() {
-        let (query, want) = line.split_once(" => ").ok_or("no case")?;
-        let script = format!(in rt.alloc(); "{COLUMNS}{query}{BATCHES}")?;
-        let want = lines(rt, want)?;
-        assert!(rt; written(rt, &script)?.ends_with(want.as_str()), "{line}");
-    }
+    assert_eq!(rt; differing(rt, ANSWERS, answered)?, None);
     Ok(())
 }
 
@@ -68,27 +49,31 @@ const KNOWN: &str = "\
 1023-2147483647 1023-2147483646 => known 1/origin 1023 upto 0 early 2147483646 2147483647/answer 0/c,count,sum
 0-0000000001 0-1 0-02 => known 1/origin 0 upto 2/answer 1/c,count,sum/oslo,2,3";
 
-#[test]
-fn replicas_know_what_they_were_given(rt: HostRuntime) -> Result<(), Fail> {
-    for line in KNOWN.lines() {
-        let (batches, want) = line.split_once(" => ").ok_or("no case")?;
-        let mut script = String::from_str(rt.alloc(), HEAD)?;
-        for batch in batches.split(' ') {
-            if let Some((origin, number)) = batch.split_once('-') {
-                script.push_str(&format!(in rt.alloc();
-                    "feed,a,{origin},{number},1\noslo,{number}\n"
-                )?)?;
-            }
-        }
-        script.push_str("known,a\nanswer,a\n")?;
-        let want = lines(rt, want)?;
-        assert!(rt; written(rt, &script)?.ends_with(want.as_str()), "{line}");
+/// Commands that feed batches, and a question.
+fn fed(rt: HostRuntime, batches: &str) -> Result<String, Fail> {
+    let mut script = String::from_str(rt.alloc(), HEAD)?;
+    for batch in batches.split_terminator(' ') {
+        let (origin, number) = batch.split_once('-').ok_or("no batch")?;
+        script.push_str(&format!(in rt.alloc(); "feed,a,{origin},{number},1\noslo,{number}\n")?)?;
     }
-    Ok(())
+    script.push_str("known,a\nanswer,a\n")?;
+    Ok(script)
+}
+
+/// What is known of batches, and the answer.
+fn known(rt: HostRuntime, batches: &str) -> Result<String, Fail> {
+    let script = fed(rt, batches)?;
+    last_replies(rt, &script, "known ")
 }
 
 #[test]
-fn sums_are_wide(rt: HostRuntime) -> Result<(), Fail> {
+fn replicas_know_what_they_were_given(rt: HostRuntime) -> Result<(), Fail> {
+    assert_eq!(rt; differing(rt, KNOWN, known)?, None);
+    Ok(())
+}
+
+/// Commands that feed 65,536 of the greatest numbers and two of the least, and a question.
+fn wide_sums(rt: HostRuntime) -> Result<String, Fail> {
     let mut script = String::from_str(rt.alloc(), HEAD)?;
     script.push_str("feed,a,9,1,65536\n")?;
     for _ in 0..65_536 {
@@ -98,8 +83,15 @@ fn sums_are_wide(rt: HostRuntime) -> Result<(), Fail> {
         "feed,a,9,2,0\nfeed,a,2,1,2\ny,-9223372036854775808\ny,-9223372036854775808\n",
     )?;
     script.push_str("known,a\nanswer,a\n")?;
-    let want = "known 2/origin 2 upto 1/origin 9 upto 2/answer 2/c,count,sum/\
-        x,65536,604462909807314587287552/y,2,-18446744073709551616";
-    assert!(rt; written(rt, &script)?.ends_with(lines(rt, want)?.as_str()));
+    Ok(script)
+}
+
+#[test]
+fn sums_are_wide(rt: HostRuntime) -> Result<(), Fail> {
+    assert_eq!(rt;
+        last_replies(rt, &wide_sums(rt)?, "known ")?.as_str(),
+        "known 2/origin 2 upto 1/origin 9 upto 2/answer 2/c,count,sum/\
+        x,65536,604462909807314587287552/y,2,-18446744073709551616"
+    );
     Ok(())
 }

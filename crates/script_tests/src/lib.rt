@@ -15,3 +15,5 @@ mod queries;
 mod saves;
 #[cfg(test)]
 mod streams;
+#[cfg(test)]
+mod tables;

@@ -1,3 +1,4 @@
+use crate::tables::{accepted, written};
 use batch_reader::BatchError;
 use script_machine::{Observer, Outcome, Refusal, RunError, name, run, run_observed};
 use std::io;
@@ -5,60 +6,60 @@ use std::io::{Error, ErrorKind, Read, Write};
 use std::test::*;
 
 /// The commands that each example begins with, and their replies.
-const HEAD: &[u8] = b"columns,\"c text, d bigint\"\n\
+const HEAD: &str = "columns,\"c text, d bigint\"\n\
     query,\"select c, count(*), sum(d) from batches group by c\"\nreplica,a\n";
 
-const HEAD_REPLIES: &[u8] =
-    b"columns 2\nquery SELECT c, count(*), sum(d) FROM batches GROUP BY c\nreplica a\n";
+const HEAD_REPLIES: &str =
+    "columns 2\nquery SELECT c, count(*), sum(d) FROM batches GROUP BY c\nreplica a\n";
 
 /// An example: its commands and their replies behind the head's, and how many are refused.
 #[derive(Clone, Copy)]
 struct Example {
-    commands: &'static [u8],
-    replies: &'static [u8],
+    commands: &'static str,
+    replies: &'static str,
     refused: u64,
 }
 
 const EXAMPLES: [Example; 6] = [
     // A first run.
     Example {
-        commands: b"feed,a,0,1,3\noslo,5\nbergen,7\noslo,-2\nknown,a\nanswer,a\n",
-        replies: b"folded upto 1\nknown 1\norigin 0 upto 1\nanswer 2\nc,count,sum\nbergen,1,7\noslo,2,3\n",
+        commands: "feed,a,0,1,3\noslo,5\nbergen,7\noslo,-2\nknown,a\nanswer,a\n",
+        replies: "folded upto 1\nknown 1\norigin 0 upto 1\nanswer 2\nc,count,sum\nbergen,1,7\noslo,2,3\n",
         refused: 0,
     },
     // A gap, which is closed.
     Example {
-        commands: b"feed,a,0,1,1\noslo,5\nfeed,a,0,3,1\noslo,100\nknown,a\nanswer,a\n\
+        commands: "feed,a,0,1,1\noslo,5\nfeed,a,0,3,1\noslo,100\nknown,a\nanswer,a\n\
             feed,a,0,2,1\nbergen,7\nanswer,a\n",
-        replies: b"folded upto 1\nearly\nknown 1\norigin 0 upto 1 early 3\nanswer 1\nc,count,sum\noslo,1,5\n\
+        replies: "folded upto 1\nearly\nknown 1\norigin 0 upto 1 early 3\nanswer 1\nc,count,sum\noslo,1,5\n\
             folded upto 3\nanswer 2\nc,count,sum\nbergen,1,7\noslo,2,105\n",
         refused: 0,
     },
     // Batches out of order, and one that is repeated.
     Example {
-        commands: b"feed,a,0,2,1\nbergen,7\nanswer,a\nfeed,a,0,1,1\noslo,5\nfeed,a,0,1,1\noslo,5\nanswer,a\n",
-        replies: b"early\nanswer 0\nc,count,sum\nfolded upto 2\nknown\nanswer 2\nc,count,sum\nbergen,1,7\noslo,1,5\n",
+        commands: "feed,a,0,2,1\nbergen,7\nanswer,a\nfeed,a,0,1,1\noslo,5\nfeed,a,0,1,1\noslo,5\nanswer,a\n",
+        replies: "early\nanswer 0\nc,count,sum\nfolded upto 2\nknown\nanswer 2\nc,count,sum\nbergen,1,7\noslo,1,5\n",
         refused: 0,
     },
     // A batch of no rows.
     Example {
-        commands: b"feed,a,0,1,1\noslo,5\nfeed,a,0,3,1\noslo,7\nfeed,a,0,2,0\nanswer,a\n",
-        replies: b"folded upto 1\nearly\nfolded upto 3\nanswer 1\nc,count,sum\noslo,2,12\n",
+        commands: "feed,a,0,1,1\noslo,5\nfeed,a,0,3,1\noslo,7\nfeed,a,0,2,0\nanswer,a\n",
+        replies: "folded upto 1\nearly\nfolded upto 3\nanswer 1\nc,count,sum\noslo,2,12\n",
         refused: 0,
     },
     // Sums of more than 64 bits.
     Example {
-        commands: b"feed,a,0,1,4\nx,9223372036854775807\nx,9223372036854775807\n\
+        commands: "feed,a,0,1,4\nx,9223372036854775807\nx,9223372036854775807\n\
             y,-9223372036854775808\ny,-9223372036854775808\nanswer,a\n",
-        replies: b"folded upto 1\nanswer 2\nc,count,sum\n\
+        replies: "folded upto 1\nanswer 2\nc,count,sum\n\
             x,2,18446744073709551614\ny,2,-18446744073709551616\n",
         refused: 0,
     },
     // Refusals.
     Example {
-        commands: b"feed,a,0,1,2\noslo,5\noslo,x\nfeed,a,0,1,1\noslo,5,6\nfeed,a,1024,1,0\nfeed,z,0,1,0\n\
+        commands: "feed,a,0,1,2\noslo,5\noslo,x\nfeed,a,0,1,1\noslo,5,6\nfeed,a,1024,1,0\nfeed,z,0,1,0\n\
             replica,a\nhello\nanswer,a\nfeed,a,0,1,3\noslo,1\n",
-        replies: b"refused BadField\nrefused WrongWidth\nrefused BadBatchHead\nrefused NoSuchName\n\
+        replies: "refused BadField\nrefused WrongWidth\nrefused BadBatchHead\nrefused NoSuchName\n\
             refused NameTaken\nrefused BadCommand\nanswer 0\nc,count,sum\nrefused RowCount\n",
         refused: 7,
     },
@@ -67,55 +68,55 @@ const EXAMPLES: [Example; 6] = [
 /// A whole script and its replies.
 #[derive(Clone, Copy)]
 struct Scenario {
-    script: &'static [u8],
-    replies: &'static [u8],
+    script: &'static str,
+    replies: &'static str,
 }
 
 /// Scripts of one query each, none of whose commands is refused.
 const SCENARIOS: [Scenario; 6] = [
     // Nothing was fed, with one group.
     Scenario {
-        script: b"columns,\"c text, d bigint\"\nquery,\"SELECT count(*), sum(d) FROM batches\"\n\
+        script: "columns,\"c text, d bigint\"\nquery,\"SELECT count(*), sum(d) FROM batches\"\n\
             replica,a\nanswer,a\n",
-        replies: b"columns 2\nquery SELECT count(*), sum(d) FROM batches\nreplica a\nanswer 1\n\
+        replies: "columns 2\nquery SELECT count(*), sum(d) FROM batches\nreplica a\nanswer 1\n\
             count,sum\n0,\\N\n",
     },
     // Nothing was fed, and HAVING leaves no group.
     Scenario {
-        script: b"columns,\"c text, d bigint\"\n\
+        script: "columns,\"c text, d bigint\"\n\
             query,\"SELECT count(*) FROM batches HAVING count(*) > 0\"\nreplica,a\nanswer,a\n",
-        replies: b"columns 2\nquery SELECT count(*) FROM batches HAVING count(*) > 0\nreplica a\n\
+        replies: "columns 2\nquery SELECT count(*) FROM batches HAVING count(*) > 0\nreplica a\n\
             answer 0\ncount\n",
     },
     // Nulls are one group, and are passed over by functions of a column.
     Scenario {
-        script: b"columns,\"c text, d bigint\"\nquery,\"SELECT c, count(*), count(d), sum(d), min(d), \
+        script: "columns,\"c text, d bigint\"\nquery,\"SELECT c, count(*), count(d), sum(d), min(d), \
             bit_xor(d) FROM batches GROUP BY c\"\nreplica,a\nfeed,a,0,1,4\n\\N,\\N\na,3\n\\N,\\N\na,5\n\
             answer,a\n",
-        replies: b"columns 2\nquery SELECT c, count(*), count(d), sum(d), min(d), bit_xor(d) FROM batches \
+        replies: "columns 2\nquery SELECT c, count(*), count(d), sum(d), min(d), bit_xor(d) FROM batches \
             GROUP BY c\nreplica a\nfolded upto 1\nanswer 2\nc,count,count,sum,min,bit_xor\n\
             a,2,2,8,3,6\n\\N,2,0,\\N,\\N,\\N\n",
     },
     // What is unknown passes no FILTER.
     Scenario {
-        script: b"columns,\"c text, d bigint\"\nquery,\"SELECT count(*), count(*) FILTER (WHERE d > 1) AS \
+        script: "columns,\"c text, d bigint\"\nquery,\"SELECT count(*), count(*) FILTER (WHERE d > 1) AS \
             big FROM batches\"\nreplica,a\nfeed,a,0,1,3\na,1\na,2\na,\\N\nanswer,a\n",
-        replies: b"columns 2\nquery SELECT count(*), count(*) FILTER (WHERE d > 1) AS big FROM batches\n\
+        replies: "columns 2\nquery SELECT count(*), count(*) FILTER (WHERE d > 1) AS big FROM batches\n\
             replica a\nfolded upto 1\nanswer 1\ncount,big\n3,1\n",
     },
     // A comparison binds more tightly than IS.
     Scenario {
-        script: b"columns,\"c text, d bigint\"\nquery,\"SELECT count(*) FROM batches WHERE d = d IS NULL\"\n\
+        script: "columns,\"c text, d bigint\"\nquery,\"SELECT count(*) FROM batches WHERE d = d IS NULL\"\n\
             replica,a\nfeed,a,0,1,3\na,1\na,2\na,\\N\nanswer,a\n",
-        replies: b"columns 2\nquery SELECT count(*) FROM batches WHERE d = d IS NULL\nreplica a\n\
+        replies: "columns 2\nquery SELECT count(*) FROM batches WHERE d = d IS NULL\nreplica a\n\
             folded upto 1\nanswer 1\ncount\n1\n",
     },
     // Bits and truth values.
     Scenario {
-        script: b"columns,\"b boolean, d bigint\"\nquery,\"SELECT bool_and(b), bool_or(b), every(b), \
+        script: "columns,\"b boolean, d bigint\"\nquery,\"SELECT bool_and(b), bool_or(b), every(b), \
             bit_and(d), bit_or(d), max(d) FROM batches\"\nreplica,a\nfeed,a,0,1,3\nt,12\nf,10\n\\N,\\N\n\
             answer,a\n",
-        replies: b"columns 2\nquery SELECT bool_and(b), bool_or(b), every(b), bit_and(d), bit_or(d), max(d) \
+        replies: "columns 2\nquery SELECT bool_and(b), bool_or(b), every(b), bit_and(d), bit_or(d), max(d) \
             FROM batches\nreplica a\nfolded upto 1\nanswer 1\nbool_and,bool_or,every,bit_and,bit_or,max\n\
             f,t,f,8,14,12\n",
     },
@@ -123,13 +124,13 @@ const SCENARIOS: [Scenario; 6] = [
 
 /// Queries that are refused, and then one that is not: the canonical text is shown.
 const QUERIES: Scenario = Scenario {
-    script: b"columns,\"c text, d bigint\"\nquery,SELECT x FROM batches GROUP BY x\n\
+    script: "columns,\"c text, d bigint\"\nquery,SELECT x FROM batches GROUP BY x\n\
         query,\"SELECT d, count(*) FROM batches GROUP BY c\"\nquery,SELECT c FROM batches\n\
         query,SELECT sum(c) FROM batches\nquery,SELECT count(*) FROM batches WHERE count(*) > 1\n\
         query,SELECT avg(d) FROM batches\nquery,SELECT count(*) FROM batches WHERE d < d < d\n\
         query,SELECT count(*) FROM batches WHERE d > 9223372036854775808\n\
         query,select count(*) from batches where not (d = 1 or d = 2) and (c!='x' is true);\n",
-    replies: b"columns 2\nrefused NoSuchColumn\nrefused NotGrouped\nrefused NotGrouped\n\
+    replies: "columns 2\nrefused NoSuchColumn\nrefused NotGrouped\nrefused NotGrouped\n\
         refused TypeMismatch\nrefused AggregateHere\nrefused Syntax\nrefused Syntax\n\
         refused NumberTooLarge\n\
         query SELECT count(*) FROM batches WHERE NOT (d = 1 OR d = 2) AND c <> 'x' IS TRUE\n",
@@ -196,26 +197,24 @@ impl Observer for Refusals {
 }
 
 /// Commands behind those of the head.
-fn script(rt: HostRuntime, commands: &[u8]) -> Result<Vec<u8>, Fail> {
-    let mut script = HEAD.to_vec(rt.alloc())?;
-    script.extend_from_slice(commands)?;
-    Ok(script)
+fn script(rt: HostRuntime, commands: &str) -> Result<String, Fail> {
+    Ok(format!(in rt.alloc(); "{HEAD}{commands}")?)
+}
+
+/// The replies to commands behind those of the head, and how many are refused.
+fn replies_to(rt: HostRuntime, commands: &str) -> Result<(String, u64), Fail> {
+    let script = script(rt, commands)?;
+    let (replies, refused) = written(rt, &script)?;
+    let replies = replies.strip_prefix(HEAD_REPLIES).ok_or("no head")?;
+    Ok((String::from_str(rt.alloc(), replies)?, refused))
 }
 
 #[test]
 fn examples_answer_as_told(rt: HostRuntime) -> Result<(), Fail> {
     for example in EXAMPLES {
-        let script = script(rt, example.commands)?;
-        let mut written = Vec::new(rt.alloc());
-        let outcome = run(rt.alloc(), &mut script.as_slice(), &mut written);
-        let mut replies = HEAD_REPLIES.to_vec(rt.alloc())?;
-        replies.extend_from_slice(example.replies)?;
-        assert_eq!(rt;
-            String::from_utf8_lossy(rt.alloc(), &written)?.as_str(),
-            String::from_utf8_lossy(rt.alloc(), &replies)?.as_str()
-        );
-        let refused = example.refused;
-        assert_eq!(rt; outcome, Ok(Outcome { refused }));
+        let (replies, refused) = replies_to(rt, example.commands)?;
+        assert_eq!(rt; replies.as_str(), example.replies);
+        assert_eq!(rt; refused, example.refused);
     }
     Ok(())
 }
@@ -223,66 +222,71 @@ fn examples_answer_as_told(rt: HostRuntime) -> Result<(), Fail> {
 #[test]
 fn queries_answer_as_told(rt: HostRuntime) -> Result<(), Fail> {
     for example in SCENARIOS {
-        let mut written = Vec::new(rt.alloc());
-        let outcome = run(rt.alloc(), &mut &*example.script, &mut written);
-        assert_eq!(rt;
-            String::from_utf8_lossy(rt.alloc(), &written)?.as_str(),
-            String::from_utf8_lossy(rt.alloc(), example.replies)?.as_str()
-        );
-        assert_eq!(rt; outcome, Ok(Outcome { refused: 0 }));
+        assert_eq!(rt; accepted(rt, example.script)?.as_str(), example.replies);
     }
     Ok(())
 }
 
 #[test]
 fn queries_are_refused_and_printed(rt: HostRuntime) -> Result<(), Fail> {
-    let mut written = Vec::new(rt.alloc());
-    let outcome = run(rt.alloc(), &mut &*QUERIES.script, &mut written);
-    assert_eq!(rt;
-        String::from_utf8_lossy(rt.alloc(), &written)?.as_str(),
-        String::from_utf8_lossy(rt.alloc(), QUERIES.replies)?.as_str()
-    );
-    assert_eq!(rt; outcome, Ok(Outcome { refused: 8 }));
+    let (replies, refused) = written(rt, QUERIES.script)?;
+    assert_eq!(rt; replies.as_str(), QUERIES.replies);
+    assert_eq!(rt; refused, 8);
     Ok(())
 }
 
 #[test]
 fn commands_come_in_their_order(rt: HostRuntime) -> Result<(), Fail> {
     let script =
-        b"replica,a\nquery,select\nanswer,a\ncolumns,c\ncolumns,c text\ncolumns,d text\nreplica,a\n\
+        "replica,a\nquery,select\nanswer,a\ncolumns,c\ncolumns,c text\ncolumns,d text\nreplica,a\n\
         query,select c\nknown,a\nfeed,a,0,1,x\nfeed,a,0,1,0\n";
-    let replies =
-        b"refused BadCommand\nrefused BadCommand\nrefused NoSuchName\nrefused BadSchema\ncolumns 1\n\
+    let want =
+        "refused BadCommand\nrefused BadCommand\nrefused NoSuchName\nrefused BadSchema\ncolumns 1\n\
         refused BadCommand\nrefused BadCommand\nrefused Syntax\nrefused NoSuchName\nrefused BadCommand\n\
         refused NoSuchName\n";
-    let mut written = Vec::new(rt.alloc());
-    let outcome = run(rt.alloc(), &mut script.as_slice(), &mut written);
-    assert_eq!(rt; written.as_slice(), replies.as_slice());
-    assert_eq!(rt; outcome, Ok(Outcome { refused: 10 }));
+    let (replies, refused) = written(rt, script)?;
+    assert_eq!(rt; replies.as_str(), want);
+    assert_eq!(rt; refused, 10);
+    Ok(())
+}
+
+/// What becomes of a run whose writer takes so many bytes, and how many it took.
+fn written_to(rt: HostRuntime, script: &str, room: usize) -> (Result<Outcome, RunError>, usize) {
+    let mut writer = FailingWriter {
+        taken: Vec::new(rt.alloc()),
+        room,
+    };
+    let outcome = run(rt.alloc(), &mut script.as_bytes(), &mut writer);
+    (outcome, writer.taken.len())
+}
+
+#[test]
+fn faults_of_writers_end_a_run(rt: HostRuntime) -> Result<(), Fail> {
+    let script = script(rt, EXAMPLES[0].commands)?;
+    for room in [0usize, 1, 60, 100] {
+        let (outcome, taken) = written_to(rt, &script, room);
+        assert_eq!(rt; outcome, Err(RunError::WriteFault));
+        assert_eq!(rt; taken, room);
+    }
     Ok(())
 }
 
 #[test]
-fn faults_end_a_run(rt: HostRuntime) -> Result<(), Fail> {
-    let script = script(rt, EXAMPLES[0].commands)?;
-    for room in [0usize, 1, 60, 100] {
-        let mut writer = FailingWriter {
-            taken: Vec::new(rt.alloc()),
-            room,
-        };
-        let outcome = run(rt.alloc(), &mut script.as_slice(), &mut writer);
-        assert_eq!(rt; outcome, Err(RunError::WriteFault));
-        assert_eq!(rt; writer.taken.len(), room);
-    }
+fn faults_of_readers_end_a_run(rt: HostRuntime) {
     let mut written = Vec::new(rt.alloc());
     let outcome = run(rt.alloc(), &mut FailingReader, &mut written);
     assert_eq!(rt; outcome, Err(RunError::ReadFault));
+    assert!(rt; written.is_empty());
+}
+
+#[test]
+fn readers_without_an_end_end_a_run(rt: HostRuntime) {
+    let mut written = Vec::new(rt.alloc());
     let mut endless = EndlessReader { taken: 0 };
     let outcome = run(rt.alloc(), &mut endless, &mut written);
     assert_eq!(rt; outcome, Err(RunError::InputTooLong));
     assert_eq!(rt; endless.taken, 67_108_865);
     assert!(rt; written.is_empty());
-    Ok(())
 }
 
 #[test]
@@ -296,32 +300,30 @@ fn nothing_is_answered_by_nothing(rt: HostRuntime) -> Result<(), Fail> {
 
 #[test]
 fn the_same_batches_give_the_same_bytes(rt: HostRuntime) -> Result<(), Fail> {
-    let commands = b"replica,b\n\
+    let commands = "replica,b\n\
         feed,a,0,1,2\noslo,5\nbergen,7\nfeed,a,0,2,1\noslo,-1\nfeed,a,7,1,1\nbergen,2\nanswer,a\n\
         feed,b,7,1,1\nbergen,2\nfeed,b,0,2,1\noslo,-1\nfeed,b,0,2,1\noslo,-1\n\
         feed,b,0,1,2\noslo,5\nbergen,7\nanswer,b\n";
-    let replies = b"replica b\nfolded upto 1\nfolded upto 2\nfolded upto 1\n\
+    let want = "replica b\nfolded upto 1\nfolded upto 2\nfolded upto 1\n\
         answer 2\nc,count,sum\nbergen,2,9\noslo,2,4\n\
         folded upto 1\nearly\nknown\nfolded upto 2\n\
         answer 2\nc,count,sum\nbergen,2,9\noslo,2,4\n";
-    let script = script(rt, commands)?;
-    let mut written = Vec::new(rt.alloc());
-    let outcome = run(rt.alloc(), &mut script.as_slice(), &mut written);
-    assert_eq!(rt; outcome, Ok(Outcome { refused: 0 }));
-    assert!(rt; written.as_slice().strip_prefix(HEAD_REPLIES) == Some(replies.as_slice()));
+    let (replies, refused) = replies_to(rt, commands)?;
+    assert_eq!(rt; replies.as_str(), want);
+    assert_eq!(rt; refused, 0);
     Ok(())
 }
 
 #[test]
 fn refused_commands_are_told_with_their_lines(rt: HostRuntime) -> Result<(), Fail> {
-    let script = script(rt, b"feed,a,0,1,2\noslo,5\noslo,x\nhello\nanswer,b\n")?;
+    let script = script(rt, "feed,a,0,1,2\noslo,5\noslo,x\nhello\nanswer,b\n")?;
     let mut refusals = Refusals {
         lines: Vec::new(rt.alloc()),
     };
     let mut written = Vec::new(rt.alloc());
     let outcome = run_observed(
         rt.alloc(),
-        &mut script.as_slice(),
+        &mut script.as_bytes(),
         &mut written,
         &mut refusals,
     );

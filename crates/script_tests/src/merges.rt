@@ -1,13 +1,5 @@
-use crate::answers::lines;
-use script_machine::{Outcome, run};
+use crate::tables::{differing, last_replies, on_one_line, written};
 use std::test::*;
-
-/// What a script's run writes, and how many of its commands are refused.
-fn written(rt: HostRuntime, script: &str) -> Result<(String, u64), Fail> {
-    let mut written = Vec::new(rt.alloc());
-    let Outcome { refused } = run(rt.alloc(), &mut script.as_bytes(), &mut written)?;
-    Ok((String::from_utf8(written).ok().ok_or("not UTF-8")?, refused))
-}
 
 /// How many of the replies are refusals.
 fn refusals(replies: &str) -> u64 {
@@ -63,26 +55,34 @@ a<a a? a=7.2 a<a a? => merged/known 0/answer 0/c,count,sum/early/merged/known 1/
 a=3.1 a=3.3 b<a a=3.2 a? b? => folded upto 1/early/merged/folded upto 3/known 1/origin 3 upto 3/answer 1/c,count,sum/oslo,3,6/known 1/origin 3 upto 1 early 3/answer 1/c,count,sum/oslo,1,1
 a=0.1 a=1.1.5 b=0.1 b=0.2 b=1.1.6 a<b a? b? a=0.2 a=1.2 => folded upto 1/folded upto 1/folded upto 1/folded upto 2/folded upto 1/refused OriginDisagrees/known 2/origin 0 upto 1/origin 1 upto 1/answer 1/c,count,sum/oslo,2,6/known 2/origin 0 upto 2/origin 1 upto 1/answer 1/c,count,sum/oslo,3,9/folded upto 2/folded upto 2
 a=0.1 b=0.3 a=9.4.5 b=9.4.6 b=0.2 a<b a? b? a<c c<a c? => folded upto 1/early/early/early/early/refused OriginDisagrees/known 2/origin 0 upto 1/origin 9 upto 0 early 4/answer 1/c,count,sum/oslo,1,1/known 2/origin 0 upto 0 early 2 3/origin 9 upto 0 early 4/answer 0/c,count,sum/merged/merged/known 2/origin 0 upto 1/origin 9 upto 0 early 4/answer 1/c,count,sum/oslo,1,1
+a<b a? => merged/known 0/answer 0/c,count,sum
+b=0.1 b=3.2 a<b a? => folded upto 1/early/merged/known 2/origin 0 upto 1/origin 3 upto 0 early 2/answer 1/c,count,sum/oslo,1,1
+a=0.1 a=3.2 a<b a? => folded upto 1/early/merged/known 2/origin 0 upto 1/origin 3 upto 0 early 2/answer 1/c,count,sum/oslo,1,1
+a=0.6 a=0.8 b=0.1 b=0.2 b=0.3 b=0.4 b=0.5 a<b a? => early/early/folded upto 1/folded upto 2/folded upto 3/folded upto 4/folded upto 5/merged/known 1/origin 0 upto 6 early 8/answer 1/c,count,sum/oslo,6,21
+a=0.1 a=0.2 a=0.3 a=0.4 a=0.5 a=0.6 a=0.7 b=0.1 b=0.2 b=0.3 b=0.4 b=0.5 a<b a? => folded upto 1/folded upto 2/folded upto 3/folded upto 4/folded upto 5/folded upto 6/folded upto 7/folded upto 1/folded upto 2/folded upto 3/folded upto 4/folded upto 5/merged/known 1/origin 0 upto 7/answer 1/c,count,sum/oslo,7,28
+a=0.1 a=5.4 b=3.1 b=5.1 a<b a? => folded upto 1/early/folded upto 1/folded upto 1/merged/known 3/origin 0 upto 1/origin 3 upto 1/origin 5 upto 1 early 4/answer 1/c,count,sum/oslo,3,3
+a=0.1 a=3.4 b=0.1 b=0.2 b=3.4.100 a<b a? => folded upto 1/early/folded upto 1/folded upto 2/early/refused OriginDisagrees/known 2/origin 0 upto 1/origin 3 upto 0 early 4/answer 1/c,count,sum/oslo,1,1
 a=1023.2147483647 b=1023.2147483646 b=0.1 a<b a? => early/early/folded upto 1/merged/known 2/origin 0 upto 1/origin 1023 upto 0 early 2147483646 2147483647/answer 1/c,count,sum/oslo,1,1";
 
-/// The first case of a table whose steps have other replies than it tells, or are counted otherwise.
-pub(crate) fn differing<'t>(rt: HostRuntime, table: &'t str) -> Result<Option<&'t str>, Fail> {
-    for line in table.lines() {
-        let (steps, want) = line.split_once(" => ").ok_or("no case")?;
-        let mut script = String::from_str(rt.alloc(), HEAD)?;
-        push_steps(rt, &mut script, steps)?;
-        let want = lines(rt, want)?;
-        let (replies, refused) = written(rt, &script)?;
-        if replies.strip_prefix(HEAD_REPLIES) != Some(want.as_str()) || refused != refusals(&want) {
-            return Ok(Some(line));
-        }
+/// The replies to a script behind those of the head, on one line, if they are as many refusals as are counted.
+fn counted_replies(rt: HostRuntime, script: &str) -> Result<String, Fail> {
+    let (replies, refused) = written(rt, script)?;
+    if refused != refusals(&replies) {
+        return Err("refusals are counted otherwise")?;
     }
-    Ok(None)
+    on_one_line(rt, replies.strip_prefix(HEAD_REPLIES).ok_or("no head")?)
+}
+
+/// All replies to steps.
+pub(crate) fn replies_to_steps(rt: HostRuntime, steps: &str) -> Result<String, Fail> {
+    let mut script = String::from_str(rt.alloc(), HEAD)?;
+    push_steps(rt, &mut script, steps)?;
+    counted_replies(rt, &script)
 }
 
 #[test]
 fn replicas_merge(rt: HostRuntime) -> Result<(), Fail> {
-    assert_eq!(rt; differing(rt, MERGES)?, None);
+    assert_eq!(rt; differing(rt, MERGES, replies_to_steps)?, None);
     Ok(())
 }
 
@@ -104,19 +104,22 @@ c<b c<a c?
 b<a c<b a<c a?
 a<b b<a c<b a<c b<c b?";
 
+/// What is known and answered then.
+const KNOWN: &str =
+    "known 3/origin 0 upto 3 early 5/origin 1 upto 3/origin 7 upto 0 early 2/answer 1/c,count,sum/oslo,6,12";
+
+/// What is known and answered behind an order of merges.
+fn known_behind(rt: HostRuntime, order: &str) -> Result<String, Fail> {
+    let mut script = String::from_str(rt.alloc(), HEAD)?;
+    push_steps(rt, &mut script, FED)?;
+    push_steps(rt, &mut script, order)?;
+    last_replies(rt, &script, "known ")
+}
+
 #[test]
 fn replicas_merge_in_any_order(rt: HostRuntime) -> Result<(), Fail> {
-    let want = lines(
-        rt,
-        "known 3/origin 0 upto 3 early 5/origin 1 upto 3/origin 7 upto 0 early 2/answer 1/c,count,sum/oslo,6,12",
-    )?;
     for order in ORDERS.lines() {
-        let mut script = String::from_str(rt.alloc(), HEAD)?;
-        push_steps(rt, &mut script, FED)?;
-        push_steps(rt, &mut script, order)?;
-        let (replies, refused) = written(rt, &script)?;
-        assert!(rt; replies.ends_with(want.as_str()), "{order}");
-        assert_eq!(rt; refused, 0, "{order}");
+        assert!(rt; known_behind(rt, order)?.as_str() == KNOWN, "{order}");
     }
     Ok(())
 }
@@ -153,27 +156,34 @@ load,a => refused BadCommand
 load,a b,x => refused BadCommand
 load,a, => refused BadCommand";
 
+/// The replies in front of the command's, and those behind it.
+const BEFORE: &str = "folded upto 1/early/merged/merged/";
+
+const BEHIND: &str = "/known 1/origin 0 upto 1 early 3/answer 1/c,count,sum/oslo,1,1\
+    /known 1/origin 0 upto 1 early 3/answer 1/c,count,sum/oslo,1,1";
+
+/// A command between steps that feed two replicas and merge them, and questions.
+fn between_steps(rt: HostRuntime, command: &str) -> Result<String, Fail> {
+    let mut script = String::from_str(rt.alloc(), HEAD)?;
+    push_steps(rt, &mut script, "a=0.1 b=0.3 a<b b<a")?;
+    script.push_str(command)?;
+    script.push('\n')?;
+    push_steps(rt, &mut script, "a? b?")?;
+    Ok(script)
+}
+
+/// The reply to such a command, if all others are as ever.
+fn reply_to_command(rt: HostRuntime, command: &str) -> Result<String, Fail> {
+    let script = between_steps(rt, command)?;
+    let replies = counted_replies(rt, &script)?;
+    let reply = replies.strip_prefix(BEFORE).ok_or("others in front")?;
+    let reply = reply.strip_suffix(BEHIND).ok_or("others behind")?;
+    Ok(String::from_str(rt.alloc(), reply)?)
+}
+
 #[test]
 fn commands_that_name_nothing_are_refused(rt: HostRuntime) -> Result<(), Fail> {
-    let kept = lines(
-        rt,
-        "known 1/origin 0 upto 1 early 3/answer 1/c,count,sum/oslo,1,1\
-        /known 1/origin 0 upto 1 early 3/answer 1/c,count,sum/oslo,1,1",
-    )?;
-    for line in REFUSED.lines() {
-        let (command, reply) = line.split_once(" => ").ok_or("no case")?;
-        let mut script = String::from_str(rt.alloc(), HEAD)?;
-        push_steps(rt, &mut script, "a=0.1 b=0.3 a<b b<a")?;
-        script.push_str(command)?;
-        script.push('\n')?;
-        push_steps(rt, &mut script, "a? b?")?;
-        let want = format!(in rt.alloc();
-            "{HEAD_REPLIES}folded upto 1\nearly\nmerged\nmerged\n{reply}\n{kept}"
-        )?;
-        let (replies, refused) = written(rt, &script)?;
-        assert_eq!(rt; replies.as_str(), want.as_str());
-        assert_eq!(rt; refused, refusals(&want), "{line}");
-    }
+    assert_eq!(rt; differing(rt, REFUSED, reply_to_command)?, None);
     Ok(())
 }
 
@@ -186,7 +196,7 @@ fn merges_before_replicas_name_none(rt: HostRuntime) -> Result<(), Fail> {
         "refused NoSuchName/columns 1/refused NoSuchName/query SELECT c FROM batches GROUP BY c/\
         refused NoSuchName/replica a/refused NoSuchName/refused NoSuchName/merged";
     let (replies, refused) = written(rt, script)?;
-    assert_eq!(rt; replies.as_str(), lines(rt, want)?.as_str());
+    assert_eq!(rt; on_one_line(rt, &replies)?.as_str(), want);
     assert_eq!(rt; refused, 5);
     Ok(())
 }

@@ -1,4 +1,5 @@
-use script_machine::{Observer, Outcome, Refusal, run, run_observed};
+use crate::tables::{accepted, differing};
+use script_machine::{Observer, Refusal, run_observed};
 use std::test::*;
 
 /// Keeps why the last of the commands that were refused was.
@@ -75,25 +76,23 @@ select 'a from batches => syntax error at byte 7
 select where from 9223372036854775808 => integer out of the range of 64 bits
 select d from batches where d = 99999999999999999999 ? => integer out of the range of 64 bits
 select d from batches where d = ? 99999999999999999999 => syntax error at byte 32
-select batches from batches => no such column
-select count(*) from batches group by x => no such column
-select count(*) from batches having max(x) = 1 => no such column
-select count(*) from batches where count(*) = 1 => aggregate in WHERE or FILTER
-select sum(d) filter (where max(d) = 1) from batches => aggregate in WHERE or FILTER
-select count(*) from batches where d => wrong kind
-select sum(c) from batches => wrong kind
-select every(d) from batches => wrong kind
-select c from batches => column is not grouped
-select x from batches where count(*) = 1 => no such column
-select sum(c) from batches where count(*) = 1 => aggregate in WHERE or FILTER
-select d from batches where d => wrong kind";
+select batches from batches => there is no such column
+select count(*) from batches group by x => there is no such column
+select count(*) from batches having max(x) = 1 => there is no such column
+select count(*) from batches where count(*) = 1 => an aggregate stands in WHERE or FILTER
+select sum(d) filter (where max(d) = 1) from batches => an aggregate stands in WHERE or FILTER
+select count(*) from batches where d => an operand or an argument is of the wrong kind
+select sum(c) from batches => an operand or an argument is of the wrong kind
+select every(d) from batches => an operand or an argument is of the wrong kind
+select c from batches => a column outside of an aggregate is not in GROUP BY
+select x from batches where count(*) = 1 => there is no such column
+select sum(c) from batches where count(*) = 1 => an aggregate stands in WHERE or FILTER
+select d from batches where d => an operand or an argument is of the wrong kind";
 
 #[test]
 fn queries_are_printed_or_refused(rt: HostRuntime) -> Result<(), Fail> {
-    for line in CANONICAL.lines().chain(FAULTS.lines()) {
-        let (text, want) = line.split_once(" => ").ok_or("no case")?;
-        assert!(rt; told(rt, text)?.as_str() == want, "{line}");
-    }
+    assert_eq!(rt; differing(rt, CANONICAL, told)?, None);
+    assert_eq!(rt; differing(rt, FAULTS, told)?, None);
     Ok(())
 }
 
@@ -101,28 +100,28 @@ fn queries_are_printed_or_refused(rt: HostRuntime) -> Result<(), Fail> {
 /// repeated between others, and another part that is repeated as often behind them: how often stands first.
 const GREAT: &str = "\
 64|SELECT count(*) FROM batches WHERE |(|b|)| => 36 bytes
-65|SELECT count(*) FROM batches WHERE |(|b|)| => too deep
+65|SELECT count(*) FROM batches WHERE |(|b|)| => conditions are nested too deeply
 63|SELECT count(*) FROM batches WHERE |NOT |TRUE|| => 291 bytes
-64|SELECT count(*) FROM batches WHERE |NOT |TRUE|| => too deep
-64|SELECT count(*) FROM batches WHERE |NOT |x|| => too deep
-4080|SELECT count(*) FROM batches WHERE |NOT |b|| => too deep
+64|SELECT count(*) FROM batches WHERE |NOT |TRUE|| => conditions are nested too deeply
+64|SELECT count(*) FROM batches WHERE |NOT |x|| => conditions are nested too deeply
+4080|SELECT count(*) FROM batches WHERE |NOT |b|| => conditions are nested too deeply
 63|SELECT count(*) FROM batches WHERE |b AND |b|| => 414 bytes
-64|SELECT count(*) FROM batches WHERE |b AND |b|| => too deep
+64|SELECT count(*) FROM batches WHERE |b AND |b|| => conditions are nested too deeply
 1|SELECT count(*) FROM batches WHERE |d IS NULL||| => 44 bytes
 63|SELECT count(*) FROM batches WHERE b| IS TRUE||| => 540 bytes
-64|SELECT count(*) FROM batches WHERE b| IS TRUE||| => too deep
+64|SELECT count(*) FROM batches WHERE b| IS TRUE||| => conditions are nested too deeply
 63|SELECT count(*)|, count(*)||| FROM batches => 658 bytes
-64|SELECT count(*)|, count(*)||| FROM batches => too many
+64|SELECT count(*)|, count(*)||| FROM batches => too many items, keys or calls, or too long a text
 63|SELECT count(*)|, count(c) FILTER (WHERE c = 'it is a text of some hundred bytes, so that all of the sixty-four items have more than eight thousand bytes')||| FROM batches => 8785 bytes
 16343|SELECT count(*) FROM batches WHERE c='|x|'|| => 16384 bytes
-16344|SELECT count(*) FROM batches WHERE c='|x|'|| => too many
+16344|SELECT count(*) FROM batches WHERE c='|x|'|| => too many items, keys or calls, or too long a text
 16356|SELECT count(*) FROM batches| ||| => 28 bytes
-16357|SELECT count(*) FROM batches| ||| => too many
-16384|?| ||| => too many
+16357|SELECT count(*) FROM batches| ||| => too many items, keys or calls, or too long a text
+16384|?| ||| => too many items, keys or calls, or too long a text
 0|SELECT count(*)| FILTER (WHERE count(*)| FILTER (WHERE b)|)| FROM batches => 45 bytes
-1|SELECT count(*)| FILTER (WHERE count(*)| FILTER (WHERE b)|)| FROM batches => aggregate in WHERE or FILTER
-670|SELECT count(*)| FILTER (WHERE count(*)| FILTER (WHERE b)|)| FROM batches => aggregate in WHERE or FILTER
-690|SELECT count(*)| FILTER (WHERE count(*)| FILTER (WHERE b)|)| FROM batches => too many";
+1|SELECT count(*)| FILTER (WHERE count(*)| FILTER (WHERE b)|)| FROM batches => an aggregate stands in WHERE or FILTER
+670|SELECT count(*)| FILTER (WHERE count(*)| FILTER (WHERE b)|)| FROM batches => an aggregate stands in WHERE or FILTER
+690|SELECT count(*)| FILTER (WHERE count(*)| FILTER (WHERE b)|)| FROM batches => too many items, keys or calls, or too long a text";
 
 /// A text that repeats two parts.
 fn great(rt: HostRuntime, case: &str) -> Result<String, Fail> {
@@ -157,12 +156,15 @@ fn measured(rt: HostRuntime, query: &str) -> Result<String, Fail> {
     Ok(format!(in rt.alloc(); "{} bytes", told.len())?)
 }
 
+/// The same of a text that repeats two parts.
+fn measured_great(rt: HostRuntime, case: &str) -> Result<String, Fail> {
+    let text = great(rt, case)?;
+    measured(rt, &text)
+}
+
 #[test]
 fn great_queries_are_measured(rt: HostRuntime) -> Result<(), Fail> {
-    for line in GREAT.lines() {
-        let (case, want) = line.split_once(" => ").ok_or("no case")?;
-        assert!(rt; measured(rt, &great(rt, case)?)?.as_str() == want, "{line}");
-    }
+    assert_eq!(rt; differing(rt, GREAT, measured_great)?, None);
     Ok(())
 }
 
@@ -197,33 +199,29 @@ fn of_many(rt: HostRuntime, case: &str) -> Result<String, Fail> {
 /// How many sums, greatest numbers and keys a query has, and why it is refused or how long its canonical text is.
 const MANY: &str = "\
 16 16 16 => 426 bytes
-16 17 16 => too many
-16 16 17 => too many
-1 1 17 => too many
+16 17 16 => too many items, keys or calls, or too long a text
+16 16 17 => too many items, keys or calls, or too long a text
+1 1 17 => too many items, keys or calls, or too long a text
 1 29 1 => 331 bytes
-29 29 1 => too many";
+29 29 1 => too many items, keys or calls, or too long a text";
+
+/// Why such a query is refused, or how long its canonical text is.
+fn measured_many(rt: HostRuntime, case: &str) -> Result<String, Fail> {
+    let text = of_many(rt, case)?;
+    measured(rt, &text)
+}
 
 #[test]
 fn calls_and_keys_are_counted(rt: HostRuntime) -> Result<(), Fail> {
-    for line in MANY.lines() {
-        let (case, want) = line.split_once(" => ").ok_or("no case")?;
-        assert!(rt;
-            measured(rt, &of_many(rt, case)?)?.as_str() == want,
-            "{line}"
-        );
-    }
+    assert_eq!(rt; differing(rt, MANY, measured_many)?, None);
     Ok(())
 }
 
 /// The last line of what a script's run writes, where no command is refused.
 fn last_line(rt: HostRuntime, script: &str) -> Result<String, Fail> {
-    let mut written = Vec::new(rt.alloc());
-    let outcome = run(rt.alloc(), &mut script.as_bytes(), &mut written);
-    if outcome != Ok(Outcome { refused: 0 }) {
-        return Err(Fail::from("a command was refused, or the run stopped"));
-    }
-    let last = str::from_utf8(&written)?.lines().last();
-    Ok(String::from_str(rt.alloc(), last.ok_or("no line")?)?)
+    let replies = accepted(rt, script)?;
+    let last = replies.lines().last().ok_or("no line")?;
+    Ok(String::from_str(rt.alloc(), last)?)
 }
 
 /// The commands behind a query: a row, of which the last two columns are null, and a question.
@@ -275,15 +273,17 @@ count(*) FROM batches WHERE NOT (NOT b AND u) => 1
 count(*) FROM batches WHERE b OR b AND u => 1
 count(*) FROM batches WHERE (b OR b) AND u => 0";
 
+/// The answer over the row.
+fn answered(rt: HostRuntime, query: &str) -> Result<String, Fail> {
+    let script = format!(in rt.alloc();
+        "columns,\"c text, d bigint, b boolean, n bigint, u boolean\"\nquery,\"SELECT {query}{ROW}"
+    )?;
+    last_line(rt, &script)
+}
+
 #[test]
 fn conditions_hold_of_a_row(rt: HostRuntime) -> Result<(), Fail> {
-    for line in CONDITIONS.lines() {
-        let (query, want) = line.split_once(" => ").ok_or("no case")?;
-        let script = format!(in rt.alloc();
-            "columns,\"c text, d bigint, b boolean, n bigint, u boolean\"\nquery,\"SELECT {query}{ROW}"
-        )?;
-        assert!(rt; last_line(rt, &script)?.as_str() == want, "{line}");
-    }
+    assert_eq!(rt; differing(rt, CONDITIONS, answered)?, None);
     Ok(())
 }
 
@@ -302,18 +302,16 @@ bergen,\\N/bergen,\\N/bergen,\\N/bergen,\\N/bergen,\\N/bergen,\\N/bergen,\\N/ber
 oslo,9223372036854775807/oslo,1 => 2
 oslo,-9223372036854775808/oslo,-9223372036854775808 => count";
 
+/// The last line of the answer over rows.
+fn kept(rt: HostRuntime, rows: &str) -> Result<String, Fail> {
+    let count = rows.split('/').count();
+    let rows = rows.replace(rt.alloc(), "/", "\n")?;
+    let script = format!(in rt.alloc(); "{TOWNS_HEAD}{count}\n{rows}\nanswer,a\n")?;
+    last_line(rt, &script)
+}
+
 #[test]
 fn having_keeps_what_is_true(rt: HostRuntime) -> Result<(), Fail> {
-    for line in TOWNS.lines() {
-        let (rows, want) = line.split_once(" => ").ok_or("no case")?;
-        let count = rows.split('/').count();
-        let mut script = format!(in rt.alloc(); "{TOWNS_HEAD}{count}\n")?;
-        for row in rows.split('/') {
-            script.push_str(row)?;
-            script.push('\n')?;
-        }
-        script.push_str("answer,a\n")?;
-        assert!(rt; last_line(rt, &script)?.as_str() == want, "{line}");
-    }
+    assert_eq!(rt; differing(rt, TOWNS, kept)?, None);
     Ok(())
 }

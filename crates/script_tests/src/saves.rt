@@ -1,4 +1,5 @@
-use crate::merges::differing;
+use crate::merges::replies_to_steps;
+use crate::tables::differing;
 use std::test::*;
 
 /// Steps that save and load, and all replies to them. A file of this query has 80 bytes where nothing is known.
@@ -15,6 +16,6 @@ a=0.1.5 a>x b=0.1.6 d:x b<d d<b b? d? => folded upto 1/saved 138/folded upto 1/l
 
 #[test]
 fn replicas_are_saved_and_loaded(rt: HostRuntime) -> Result<(), Fail> {
-    assert_eq!(rt; differing(rt, SAVES)?, None);
+    assert_eq!(rt; differing(rt, SAVES, replies_to_steps)?, None);
     Ok(())
 }

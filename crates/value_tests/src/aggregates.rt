@@ -1,8 +1,11 @@
-ghost use Rattle.std.specs.Prelude.{IsTrue};
+ghost use Rattle.std.specs.Prelude.{◌≤◌, IsTrue, IfOk};
+ghost use Rattle.std.specs.Option.{ForSome};
 ghost use Rattle.packed_rows.specs.View.{datum_of};
 ghost use Rattle.agg_protocol.specs.Arguments.{Takes};
+ghost use Rattle.agg_protocol.specs.States.{most_rows};
 ghost use Rattle.agg_library.specs.Kinds.{function_of};
 
+use crate::tables::differing;
 use agg_library::{AggKind, BoolOr, CountRows, CountValues, MOST_ROWS, Min, StateRow, Sum};
 use agg_protocol::{Aggregate, BadState, ResultValue, aggregate_in_parts, aggregate_values};
 use hex::{decode, encode};
@@ -108,21 +111,14 @@ fn answered(rt: HostRuntime, case: &str) -> Result<String, Fail> {
     let (name, values) = case.split_once(' ').ok_or("no arguments")?;
     let (first, values) = values.split_once(' ').ok_or("one argument")?;
     let (second, third) = values.split_once(' ').ok_or("two arguments")?;
-    let answer = answer(
-        kind_named(name)?,
-        value(first)?,
-        value(second)?,
-        value(third)?,
-    )?;
+    let (first, second, third) = (value(first)?, value(second)?, value(third)?);
+    let answer = answer(kind_named(name)?, first, second, third)?;
     Ok(format!(in rt.alloc(); "{answer:?}")?)
 }
 
 #[test]
 fn functions_answer(rt: HostRuntime) -> Result<(), Fail> {
-    for line in ANSWERS.lines() {
-        let (case, want) = line.split_once(" => ").ok_or("no case")?;
-        assert!(rt; answered(rt, case)?.as_str() == want, "{line}");
-    }
+    assert_eq!(rt; differing(rt, ANSWERS, answered)?, None);
     Ok(())
 }
 
@@ -158,28 +154,40 @@ count,every 5 000000000000000503 => false
 count,every 5 0000000000000005 => false
 every,count 5 020000000000000006 => false";
 
-/// Whether bytes are those of a row of states.
-fn is_row(rt: HostRuntime, case: &str) -> Result<bool, Fail> {
-    let (names, rest) = case.split_once(' ').ok_or("no rows")?;
-    let (most, bytes) = rest.split_once(' ').ok_or("no bytes")?;
+/// The functions of some names.
+fn kinds_named(rt: HostRuntime, names: &str) -> Result<Vec<AggKind>, Fail> {
     let mut kinds = Vec::new(rt.alloc());
     for name in names.split(',') {
         kinds.push(kind_named(name)?)?;
     }
-    let most = most.parse::<u64>()?;
+    Ok(kinds)
+}
+
+/// So many rows, if a state may count them.
+fn rows_named(number: &str) -> Result<u64, Fail>
+    ensures { IfOk result (λ most. most ≤ most_rows) }
+{
+    let most = number.parse::<u64>()?;
     if most > MOST_ROWS {
         return Err("too many rows")?;
     }
+    Ok(most)
+}
+
+/// Whether bytes are those of a row of states.
+fn checked(rt: HostRuntime, case: &str) -> Result<String, Fail> {
+    let (names, rest) = case.split_once(' ').ok_or("no rows")?;
+    let (most, bytes) = rest.split_once(' ').ok_or("no bytes")?;
+    let most = rows_named(most)?;
+    let kinds = kinds_named(rt, names)?;
     let bytes = decode(rt.alloc(), bytes)?;
-    Ok(StateRow::check(&kinds, &bytes, most).is_ok())
+    let is_row = StateRow::check(&kinds, &bytes, most).is_ok();
+    Ok(format!(in rt.alloc(); "{is_row}")?)
 }
 
 #[test]
 fn states_are_checked(rt: HostRuntime) -> Result<(), Fail> {
-    for line in STATES.lines() {
-        let (case, want) = line.split_once(" => ").ok_or("no case")?;
-        assert!(rt; is_row(rt, case)? == (want == "true"), "{line}");
-    }
+    assert_eq!(rt; differing(rt, STATES, checked)?, None);
     Ok(())
 }
 
@@ -242,32 +250,41 @@ min 0 030000000000000000 5 => 030000000000000000 false
 every 0 02 f => 01 true
 every 0 0200 f => 0200 false";
 
+/// An argument that a function takes, or none where the filter keeps the row away.
+fn argument(kind: AggKind, field: &str) -> Result<Option<Value<'_>>, Fail>
+    ensures { IfOk result (λ reach. ForSome reach (λ value. Takes (function_of kind) (datum_of value))) }
+{
+    if field == "-" {
+        return Ok(None);
+    }
+    let value = value(field)?;
+    if !takes(kind, value) {
+        return Err("a wrong argument")?;
+    }
+    Ok(Some(value))
+}
+
+/// The bytes of states as text, and whether what was done with them was.
+fn shown(rt: HostRuntime, states: &[u8], done: bool) -> Result<String, Fail> {
+    let text = encode(rt.alloc(), states)?;
+    Ok(format!(in rt.alloc(); "{text} {done}")?)
+}
+
 /// What becomes of the bytes of a state.
 fn moved(rt: HostRuntime, case: &str) -> Result<String, Fail> {
     let (name, rest) = case.split_once(' ').ok_or("no rows")?;
     let (most, rest) = rest.split_once(' ').ok_or("no bytes")?;
     let (bytes, field) = rest.split_once(' ').ok_or("no argument")?;
-    let (kind, most) = (kind_named(name)?, most.parse::<u64>()?);
-    let reach = if field == "-" {
-        None
-    } else {
-        Some(value(field)?)
-    };
-    if most > MOST_ROWS || reach.is_some_and(|value| !takes(kind, value)) {
-        return Err("a wrong case")?;
-    }
+    let (kind, most) = (kind_named(name)?, rows_named(most)?);
+    let reach = argument(kind, field)?;
     let mut part = decode(rt.alloc(), bytes)?;
-    let result = StateRow::advance(kind, &mut part, reach, most);
-    let text = encode(rt.alloc(), part.as_slice())?;
-    Ok(format!(in rt.alloc(); "{text} {}", result.is_ok())?)
+    let done = StateRow::advance(kind, &mut part, reach, most).is_ok();
+    shown(rt, &part, done)
 }
 
 #[test]
 fn states_are_moved(rt: HostRuntime) -> Result<(), Fail> {
-    for line in MOVES.lines() {
-        let (case, want) = line.split_once(" => ").ok_or("no case")?;
-        assert!(rt; moved(rt, case)?.as_str() == want, "{line}");
-    }
+    assert_eq!(rt; differing(rt, MOVES, moved)?, None);
     Ok(())
 }
 
@@ -285,22 +302,15 @@ const COMBINED: &str = "\
 fn combined(rt: HostRuntime, case: &str) -> Result<String, Fail> {
     let (most, rows) = case.split_once(' ').ok_or("no rows")?;
     let (into, from) = rows.split_once(' ').ok_or("one row")?;
-    let most = most.parse::<u64>()?;
-    if most > MOST_ROWS {
-        return Err("too many rows")?;
-    }
+    let most = rows_named(most)?;
     let mut into = decode(rt.alloc(), into)?;
     let from = decode(rt.alloc(), from)?;
-    let result = StateRow::combine_into(&KINDS, &mut into, &from, most);
-    let text = encode(rt.alloc(), into.as_slice())?;
-    Ok(format!(in rt.alloc(); "{text} {}", result.is_ok())?)
+    let done = StateRow::combine_into(&KINDS, &mut into, &from, most).is_ok();
+    shown(rt, &into, done)
 }
 
 #[test]
 fn rows_are_combined(rt: HostRuntime) -> Result<(), Fail> {
-    for line in COMBINED.lines() {
-        let (case, want) = line.split_once(" => ").ok_or("no case")?;
-        assert!(rt; combined(rt, case)?.as_str() == want, "{line}");
-    }
+    assert_eq!(rt; differing(rt, COMBINED, combined)?, None);
     Ok(())
 }

@@ -11,4 +11,6 @@ mod rows;
 #[cfg(test)]
 mod schemas;
 #[cfg(test)]
+mod tables;
+#[cfg(test)]
 mod tokens;

@@ -1,3 +1,4 @@
+use crate::tables::differing;
 use hex::{decode, encode};
 use packed_rows::{
     Schema, Value, ValueKind, compare, pack_key, pack_row, pack_value, read_value, same,
@@ -44,10 +45,7 @@ fn field(rt: HostRuntime, case: &str) -> Result<String, Fail> {
 
 #[test]
 fn fields_are_read(rt: HostRuntime) -> Result<(), Fail> {
-    for line in FIELDS.lines() {
-        let (case, want) = line.split_once(" => ").ok_or("no case")?;
-        assert!(rt; field(rt, case)?.as_str() == want, "{line}");
-    }
+    assert_eq!(rt; differing(rt, FIELDS, field)?, None);
     Ok(())
 }
 
@@ -77,14 +75,20 @@ c text,d bigint|\\N,7a => BadField { column: 1 }
 c text,d bigint|oslo, => BadField { column: 1 }
 c bigint|a,b => WrongWidth";
 
-/// The bytes of a row, and its values again.
-fn packed(rt: HostRuntime, case: &str) -> Result<String, Fail> {
-    let (columns, row) = case.split_once('|').ok_or("no row")?;
-    let schema = Schema::parse(rt.alloc(), columns)?;
+/// The fields of a row.
+fn fields(rt: HostRuntime, row: &str) -> Result<Vec<&[u8]>, Fail> {
     let mut fields = Vec::new(rt.alloc());
     for field in row.split(',') {
         fields.push(field.as_bytes())?;
     }
+    Ok(fields)
+}
+
+/// The bytes of a row, or why there are none.
+fn packed(rt: HostRuntime, case: &str) -> Result<String, Fail> {
+    let (columns, row) = case.split_once('|').ok_or("no row")?;
+    let fields = fields(rt, row)?;
+    let schema = Schema::parse(rt.alloc(), columns)?;
     match pack_row(rt.alloc(), &schema, &fields) {
         Ok(bytes) => Ok(encode(rt.alloc(), bytes.as_slice())?),
         Err(error) => Ok(format!(in rt.alloc(); "{error:?}")?),
@@ -93,10 +97,7 @@ fn packed(rt: HostRuntime, case: &str) -> Result<String, Fail> {
 
 #[test]
 fn rows_are_packed(rt: HostRuntime) -> Result<(), Fail> {
-    for line in ROWS.lines() {
-        let (case, want) = line.split_once(" => ").ok_or("no case")?;
-        assert!(rt; packed(rt, case)?.as_str() == want, "{line}");
-    }
+    assert_eq!(rt; differing(rt, ROWS, packed)?, None);
     Ok(())
 }
 
@@ -120,23 +121,25 @@ c bigint|0180000000000000 => BadPacked
 c bigint,d text|02 => BadPacked
 c bigint,d text|0161620002 => BadPacked";
 
-/// The values of a row of these bytes, which are those of a key too.
-fn unpacked(rt: HostRuntime, case: &str) -> Result<String, Fail> {
-    let (columns, text) = case.split_once('|').ok_or("no bytes")?;
-    let schema = Schema::parse(rt.alloc(), columns)?;
-    let bytes = decode(rt.alloc(), text)?;
-    match unpack_row(rt.alloc(), &schema, &bytes) {
+/// The values of a row of these bytes.
+fn values(rt: HostRuntime, schema: &Schema, bytes: &[u8]) -> Result<String, Fail> {
+    match unpack_row(rt.alloc(), schema, bytes) {
         Ok(row) => Ok(format!(in rt.alloc(); "{row:?}")?),
         Err(error) => Ok(format!(in rt.alloc(); "{error:?}")?),
     }
 }
 
+/// The values of a row of some columns and bytes, or why there are none.
+fn unpacked(rt: HostRuntime, case: &str) -> Result<String, Fail> {
+    let (columns, text) = case.split_once('|').ok_or("no bytes")?;
+    let bytes = decode(rt.alloc(), text)?;
+    let schema = Schema::parse(rt.alloc(), columns)?;
+    values(rt, &schema, &bytes)
+}
+
 #[test]
 fn rows_are_unpacked(rt: HostRuntime) -> Result<(), Fail> {
-    for line in PACKINGS.lines() {
-        let (case, want) = line.split_once(" => ").ok_or("no case")?;
-        assert!(rt; unpacked(rt, case)?.as_str() == want, "{line}");
-    }
+    assert_eq!(rt; differing(rt, PACKINGS, unpacked)?, None);
     Ok(())
 }
 
@@ -155,28 +158,37 @@ fn keys_are_packed_and_unpacked(rt: HostRuntime) -> Result<(), Fail> {
 }
 
 /// Bytes, and what a vector holds that serves for each of them in turn.
-const IN_TURN: &str = "\
-0202 => [Null, Null]
-0201 => BadPacked
-01616200018000000000000000 => [Text(\"ab\"), Bigint(0)]
-020202 => BadPacked
-010002 => [Text(\"\"), Null]";
+const IN_TURN: [(&[u8], &str); 5] = [
+    (b"\x02\x02", "[Null, Null]"),
+    (b"\x02\x01", "BadPacked"),
+    (
+        b"\x01ab\x00\x01\x80\x00\x00\x00\x00\x00\x00\x00",
+        "[Text(\"ab\"), Bigint(0)]",
+    ),
+    (b"\x02\x02\x02", "BadPacked"),
+    (b"\x01\x00\x02", "[Text(\"\"), Null]"),
+];
+
+/// What a vector holds that serves for a key, or why it holds none.
+fn unpacked_into(
+    rt: HostRuntime,
+    bytes: &'static [u8],
+    found: &mut Vec<Value<'static>>,
+) -> Result<String, Fail> {
+    match unpack_into(&[ValueKind::Text, ValueKind::Bigint], bytes, found) {
+        Ok(()) => Ok(format!(in rt.alloc(); "{found:?}")?),
+        Err(error) => Ok(format!(in rt.alloc(); "{error:?}")?),
+    }
+}
 
 #[test]
 fn one_vector_serves_for_many_keys(rt: HostRuntime) -> Result<(), Fail> {
-    let kinds = [ValueKind::Text, ValueKind::Bigint];
-    let mut all = Vec::new(rt.alloc());
-    for line in IN_TURN.lines() {
-        let (text, want) = line.split_once(" => ").ok_or("no case")?;
-        all.push((decode(rt.alloc(), text)?, want))?;
-    }
     let mut found = Vec::new(rt.alloc());
-    for (bytes, want) in &all {
-        let told = match unpack_into(&kinds, bytes, &mut found) {
-            Ok(()) => format!(in rt.alloc(); "{found:?}")?,
-            Err(error) => format!(in rt.alloc(); "{error:?}")?,
-        };
-        assert!(rt; told.as_str() == *want, "{want}");
+    for (bytes, want) in IN_TURN {
+        assert!(rt;
+            unpacked_into(rt, bytes, &mut found)?.as_str() == want,
+            "{want}"
+        );
     }
     Ok(())
 }

@@ -1,3 +1,4 @@
+use crate::tables::differing;
 use packed_rows::Schema;
 use std::test::*;
 
@@ -26,25 +27,27 @@ c text, d 9223372036854775808 => BadSchema
 na\u{ef}ve text => BadSchema
 xa_name_that_has_as_many_letters_as_a_name_may_have_which_are_63 bigint => BadSchema";
 
+/// How a copy of a schema is printed.
+fn copied(schema: &Schema) -> Result<String, Fail> {
+    Ok(schema.try_clone()?.print()?)
+}
+
 /// How a text's schema is printed.
 fn printed(rt: HostRuntime, text: &str) -> Result<String, Fail> {
     match Schema::parse(rt.alloc(), text) {
-        Ok(schema) => Ok(schema.try_clone()?.print()?),
+        Ok(schema) => copied(&schema),
         Err(error) => Ok(format!(in rt.alloc(); "{error:?}")?),
     }
 }
 
 #[test]
 fn schemas_are_read_and_printed(rt: HostRuntime) -> Result<(), Fail> {
-    for line in SCHEMAS.lines() {
-        let (text, want) = line.split_once(" => ").ok_or("no case")?;
-        assert!(rt; printed(rt, text)?.as_str() == want, "{line}");
-    }
+    assert_eq!(rt; differing(rt, SCHEMAS, printed)?, None);
     assert!(rt; printed(rt, "\n c\r text\x0b\x0c\n")?.as_str() == "c text");
     Ok(())
 }
 
-/// The columns of a schema, one by one.
+/// The columns of a schema, one by one, and their kinds, and whether it has a column `C`.
 fn columns(rt: HostRuntime, schema: &Schema) -> Result<String, Fail> {
     let mut columns = String::new(rt.alloc());
     for column in 0..schema.width() {
@@ -52,17 +55,23 @@ fn columns(rt: HostRuntime, schema: &Schema) -> Result<String, Fail> {
         let place = schema.place(name);
         columns.push_str(&format!(in rt.alloc(); "{name} {kind:?} {place:?} ")?)?;
     }
+    let (kinds, other) = (schema.kinds(), schema.place("C"));
+    columns.push_str(&format!(in rt.alloc(); "{kinds:?} {other:?}")?)?;
     Ok(columns)
+}
+
+/// The columns of a text's schema.
+fn told(rt: HostRuntime, text: &str) -> Result<String, Fail> {
+    let schema = Schema::parse(rt.alloc(), text)?;
+    columns(rt, &schema)
 }
 
 #[test]
 fn columns_are_told(rt: HostRuntime) -> Result<(), Fail> {
-    let schema = Schema::parse(rt.alloc(), "c text, d bigint, e bool")?;
-    let told = columns(rt, &schema)?;
-    assert!(rt; told.as_str() == "c Text Some(0) d Bigint Some(1) e Boolean Some(2) ");
-    let kinds = format!(in rt.alloc(); "{:?}", schema.kinds())?;
-    assert!(rt; kinds.as_str() == "[Text, Bigint, Boolean]");
-    assert!(rt; schema.place("C").is_none());
+    assert!(rt;
+        told(rt, "c text, d bigint, e bool")?.as_str()
+            == "c Text Some(0) d Bigint Some(1) e Boolean Some(2) [Text, Bigint, Boolean] None"
+    );
     Ok(())
 }
 

@@ -37,5 +37,5 @@ returns-in-Err-clause-other c = λ is.
     record {
       fed = record { origin = c.in_ok-batch.batch.origin; number = c.in_ok-batch.batch.number; rows = batch.rows.0 };
       is_batch = built_batch _ _ _ _ _ _ _ _ batch.rows.0 batch.origin batch.number batch.few batch.told reads batch.rows.2;
-      never = λ world fits there. c.in-Err.ensures.agrees (other_why c.in-Err.refused.why (sym c.delivery_refusal.ensures ∙ is)) world batch.rows.0 fits there batch.rows.2;
+      never = λ world fits there. c.in-Err.ensures.agrees (other_why c.in-Err.refused.why (sym c.from.ensures ∙ is)) world batch.rows.0 fits there batch.rows.2;
     }

@@ -35,7 +35,7 @@ pub invariant_of-self-2 : goal.invariant_of-self-2
 invariant_of-self-2 c =
     let x = c.self.inside in let l = x.lists.layout in let b = c.in_ok-block.block in let f = c.in_ok-block.ensures.was_free in let n = c.in_ok-block.ensures.name in let is = c.self.invariant.set in
     let p : Piece = record { place = record { block = b; offset = 8 }; room = c.args.room; is_live = true; bytes = [] } in
-    let same = made l c.take_block.new.self c.carve.new.self p (c.args.room + 8) is.lists.head c.in_ok-block.ensures.taken c.carve.ensures (own-fresh l x.lists.heads x.active x.first is b (c.args.room + 8) f.1 f.0 n c.args.room c.requires.large) in
+    let same = made l c.take_block.new.self c.carve.new.self p (c.args.room + 8) is.lists.links.head c.in_ok-block.ensures.taken c.carve.ensures (own-fresh l x.lists.heads x.active x.first is b (c.args.room + 8) f.1 f.0 n c.args.room c.requires.large) in
     record {
       set = subst (λ (z : Layout). IsSet z x.lists.heads x.active x.first) (sym same) (set-dedicated l x.lists.heads x.active x.first is b (c.args.room + 8) f.1 f.0 n c.args.room c.requires.large);
       next = c.self.invariant.next;
@@ -45,7 +45,7 @@ pub returns-clause-taken : goal.returns-clause-taken
 returns-clause-taken c =
     let x = c.self.inside in let l = x.lists.layout in let b = c.in_ok-block.block in let f = c.in_ok-block.ensures.was_free in let n = c.in_ok-block.ensures.name in let is = c.self.invariant.set in
     let p : Piece = record { place = record { block = b; offset = 8 }; room = c.args.room; is_live = true; bytes = [] } in
-    let same = made l c.take_block.new.self c.carve.new.self p (c.args.room + 8) is.lists.head c.in_ok-block.ensures.taken c.carve.ensures (own-fresh l x.lists.heads x.active x.first is b (c.args.room + 8) f.1 f.0 n c.args.room c.requires.large) in
+    let same = made l c.take_block.new.self c.carve.new.self p (c.args.room + 8) is.lists.links.head c.in_ok-block.ensures.taken c.carve.ensures (own-fresh l x.lists.heads x.active x.first is b (c.args.room + 8) f.1 f.0 n c.args.room c.requires.large) in
     ap (λ (z : Layout). let s : SetState = record { chunks = live z.pieces; blocks = z.blocks; free = free_rooms z.pieces; left = x.active.size - x.active.used; next = x.next; first = x.first } in s) same
     ∙ ap (λ (s : SetState). dedicated s p) c.self.view_is
 

@@ -31,7 +31,7 @@ invariant_of-self-lent c = λ w.
 
 pub returns : goal.returns
 returns c =
-    let x = c.self.inside in let l = x.lists.layout in let places = c.self.invariant.set.lists.places in let place = place_of c.args.name in (
+    let x = c.self.inside in let l = x.lists.layout in let places = c.self.invariant.set.lists.links.places in let place = place_of c.args.name in (
       (
         refl,
         λ w.

@@ -2,7 +2,8 @@ use Rattle.std.proofs.Common.{◌≡◌, ◌∷◌, [], true, false, refl, sym, 
 use Rattle.chunk_layout.specs.Pieces.{Layout, Piece, put_at, without}
 use Rattle.chunk_layout.proofs.Finding.{place-same}
 use Rattle.chunk_layout.proofs.PieceLaws.{piece_at-first, without-first, without-none, without-twice}
-use Rattle.chunk_contexts.specs.Free.{first_free, link_bytes, AreLists}
+use Rattle.chunk_contexts.specs.Free.{by_room, first_free, AreLists}
+use Rattle.chunk_layout.specs.Links.{link_bytes}
 use Rattle.chunk_contexts.proofs.ClassLaws.{in-some}
 use Rattle.chunk_contexts.proofs.ListLaws.{lists-new}
 use Rattle.chunk_contexts.proofs.free_lists.FreeLists.cut.Goals as goal
@@ -21,11 +22,11 @@ returns-clause-cut c =
     let first = piece_at-first p (without ps place) place (place-same place) in
     let rest = without-first p (without ps place) place (place-same place) ∙ without-twice ps place ∙ none in
     c.release.ensures.freed
-    ∙ ap (λ (l : Layout). put_at l place 0 (link_bytes (first_free c.args.room l.pieces)) false) c.carve.ensures
+    ∙ ap (λ (l : Layout). put_at l place 0 (link_bytes (first_free by_room c.args.room l.pieces)) false) c.carve.ensures
     ∙ (λ i. record {
-      head = c.requires.lists.head i;
+      head = c.requires.lists.links.head i;
       blocks = s.layout.blocks;
-      pieces = (record { place = place; room = (first i).room; is_live = false; bytes = link_bytes (first_free c.args.room (none i)) }) ∷ rest i;
+      pieces = (record { place = place; room = (first i).room; is_live = false; bytes = link_bytes (first_free by_room c.args.room (none i)) }) ∷ rest i;
     })
 
 pub carve-requires-clause-room : goal.carve-requires-clause-room

@@ -1,6 +1,7 @@
 use Rattle.std.proofs.Common.{add_assoc, ◌+◌, ◌∷◌, ◌≤◌, ℕ, false, refl, sym, subst, arith}
 use Rattle.chunk_layout.specs.Pieces.{Layout, Piece}
-use Rattle.chunk_contexts.specs.Free.{first_free, link_bytes, IsRest}
+use Rattle.chunk_contexts.specs.Free.{by_room, first_free, IsRest}
+use Rattle.chunk_layout.specs.Links.{link_bytes}
 use Rattle.chunk_contexts.proofs.ClassLaws.{in-some}
 use Rattle.chunk_contexts.proofs.CutLaws.{rest-inside, rest-clear, rest-none, rest-more}
 use Rattle.chunk_contexts.proofs.free_lists.FreeLists.cut_one.Goals as goal
@@ -24,7 +25,7 @@ pub returns-clause-rest : goal.returns-clause-rest
 returns-clause-rest c =
     let s = c.args.self.now in let b = c.args.block.now in let room = c.args.room in
     let some : 1 ≤ c.args.room = omega (arith, in-some c.args.room c.requires.known) in
-    let p : Piece = record { place = record { block = b.block; offset = b.used + 8 }; room = room; is_live = false; bytes = link_bytes (first_free room s.layout.pieces) } in
+    let p : Piece = record { place = record { block = b.block; offset = b.used + 8 }; room = room; is_live = false; bytes = link_bytes (first_free by_room room s.layout.pieces) } in
     let more = rest-more s.layout b c.requires.rest 8 room some (omega (arith, c.if-room-left.false, c.left.ensures)) p refl refl in
     subst (λ (l : Layout). IsRest l (record { block = b.block; used = b.used + (8 + room); size = b.size })) (sym c.cut.ensures.cut)
     (subst (λ (n : ℕ). IsRest (record { head = 8; blocks = s.layout.blocks; pieces = p ∷ s.layout.pieces }) (record { block = b.block; used = n; size = b.size })) (add_assoc b.used 8 room)

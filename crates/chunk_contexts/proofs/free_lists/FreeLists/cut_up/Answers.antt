@@ -31,4 +31,4 @@ returns-clause-cut c =
     let v = c.loop-index.invariant in let i = c.loop-index.index in let b = c.args.block in
     let done : drop i rooms_down ≡ [] = drop_all i rooms_down (omega (arith, length-down, c.loop-index-test.false)) in
     let pieces = ap (λ (rs : List ℕ). cut_pieces rs b.block c.loop-index.rest.used b.size c.loop-index.self.layout.pieces) (sym done) ∙ v.cut in
-    λ j. record { head = v.lists.head j; blocks = v.blocks j; pieces = pieces j }
+    λ j. record { head = v.lists.links.head j; blocks = v.blocks j; pieces = pieces j }

@@ -1,4 +1,4 @@
-use Rattle.std.proofs.Common.{◌≡◌, ◌≤◌, length, sym, ap, ◌∙◌, arith}
+use Rattle.std.proofs.Common.{length, sym, ap, ◌∙◌, arith}
 use Rattle.chunk_layout.specs.Pieces.{Layout, size_at}
 use Rattle.chunk_layout.specs.Spots.{Blocks, block_at}
 use Rattle.chunk_layout.proofs.Fields.{size-any, small-any}

@@ -1,0 +1,117 @@
+-- What the free lists of a layout are after a chunk is made, written, freed or taken again, whatever the lists go by.
+use Rattle.std.proofs.Common.{◌≡◌, ◌≢◌, ℕ, inl, inr, Bool, true, false, not, List, [], ◌∷◌, ◌++◌, Some, take, sym, ap, ◌∙◌, subst}
+use Rattle.std.specs.Prelude.{◌==◌, ◌&&◌}
+use Rattle.std.proofs.lemmas.Bool.{cond-true, cond-false, true≢false, eq-eqb, ne_eqb, cases_Bool}
+use Rattle.chunk_layout.specs.Every.{Every}
+use Rattle.chunk_layout.specs.Pieces.{Layout, Piece, is_at, has, piece_at, no_piece, without, put_at, with_piece}
+use Rattle.chunk_layout.specs.declared.place.Place.{Place}
+use Rattle.chunk_layout.proofs.Lists.{every_filter, pairwise_filter, first_has, first_passes}
+use Rattle.chunk_layout.proofs.Finding.{same-place}
+use Rattle.chunk_layout.proofs.PieceLaws.{without-none, has_not-without}
+use Rattle.chunk_contexts.specs.Chunks.{live}
+use Rattle.chunk_contexts.specs.Free.{is_free, first_free, Linked, Elsewhere, AreLinked}
+use Rattle.chunk_layout.specs.Links.{link_bytes, IsLinkable, IsLink}
+use Rattle.chunk_contexts.proofs.FreeLaws.{IsLiveAt, live-found, Popped, popped, without-elsewhere, first_free-kept, linked-kept, live-without, live-first, live-none}
+
+pub link-first : (key : Place → ℕ → ℕ) (k : ℕ) (ps : List Piece) → Every (λ (p : Piece). IsLinkable p.place) ps → IsLink (first_free key k ps)
+link-first key k [] every = tt
+link-first key k (p ∷ ps) every = elim (cases_Bool (is_free key k p)) [
+  | inl yes' ↦ subst IsLink (sym (cond-true (is_free key k p) (Some p.place) (first_free key k ps) yes')) every.0
+  | inr no' ↦ subst IsLink (sym (cond-false (is_free key k p) (Some p.place) (first_free key k ps) no')) (link-first key k ps every.1)
+]
+
+module _ (key : Place → ℕ → ℕ) (l : Layout) (are : AreLinked key l) where
+  abbrev ps : List Piece
+  ps = l.pieces
+
+  pub linkable : (place : Place) → has ps place ≡ true → IsLinkable place
+  linkable place there = subst IsLinkable (same-place (piece_at ps place).place place (first_passes (is_at place) no_piece ps there)) (first_has (λ (p : Piece). IsLinkable p.place) (is_at place) no_piece ps there are.ranges)
+
+  -- the bytes of a live chunk are written
+  module _ (place : Place) (there : has (live ps) place ≡ true) (kept : ℕ) (bytes : List ℕ) where
+    is : IsLiveAt ps place
+    is = live-found ps place are.places there
+
+    abbrev p : Piece
+    p = record { place = place; room = (piece_at ps place).room; is_live = true; bytes = take kept (piece_at ps place).bytes ++ bytes }
+
+    pub links-put : AreLinked key (put_at l place kept bytes true)
+    links-put = record {
+      head = are.head;
+      places = (without-elsewhere p ps, pairwise_filter Elsewhere _ ps are.places);
+      ranges = (linkable place is.there, every_filter _ _ ps are.ranges);
+      linked = (λ dead. absurd (true≢false dead), linked-kept key ps place is.only are.linked);
+    }
+
+    pub first-put : (k : ℕ) → first_free key k (put_at l place kept bytes true).pieces ≡ first_free key k ps
+    first-put k = first_free-kept key k ps place is.only
+
+  -- a live chunk is made where none was
+  module _ (p : Piece) (lives : p.is_live ≡ true) (none : has ps p.place ≡ false) (links : IsLinkable p.place) where
+    pub links-new : AreLinked key (with_piece l p)
+    links-new = record {
+      head = are.head;
+      places = (without-elsewhere p ps, pairwise_filter Elsewhere _ ps are.places);
+      ranges = (links, every_filter _ _ ps are.ranges);
+      linked = (λ dead. absurd (true≢false (sym lives ∙ dead)), subst (Linked key) (sym (without-none ps p.place none)) are.linked);
+    }
+
+    pub first-new : (k : ℕ) → first_free key k (with_piece l p).pieces ≡ first_free key k ps
+    first-new k =
+        cond-false (is_free key k p) (Some p.place) (first_free key k (without ps p.place)) (ap (λ (b : Bool). not b && (key p.place p.room == k)) lives)
+        ∙ ap (first_free key k) (without-none ps p.place none)
+
+    pub live-new : live (with_piece l p).pieces ≡ p ∷ live ps
+    live-new = live-first p (without ps p.place) lives ∙ ap (λ (t : List Piece). p ∷ live t) (without-none ps p.place none)
+
+  -- the first free chunk of a list is taken
+  module _ (k : ℕ) (place : Place) (first : first_free key k ps ≡ Some place) where
+    pub was : Popped key ps place k
+    was = popped key k ps place are.places are.linked first
+
+    pub link-next : IsLink (first_free key k (without ps place))
+    link-next = link-first key k (without ps place) (every_filter _ _ ps are.ranges)
+
+    pub links-reused : AreLinked key (put_at l place 0 [] true)
+    links-reused = record {
+      head = are.head;
+      places = (without-elsewhere (record { place = place; room = (piece_at ps place).room; is_live = true; bytes = [] }) ps, pairwise_filter Elsewhere _ ps are.places);
+      ranges = (linkable place was.there, every_filter _ _ ps are.ranges);
+      linked = (λ dead. absurd (true≢false dead), was.linked);
+    }
+
+    pub live-reused : live (put_at l place 0 [] true).pieces ≡ (record { place = place; room = (piece_at ps place).room; is_live = true; bytes = [] }) ∷ live ps
+    live-reused = λ i. (record { place = place; room = (piece_at ps place).room; is_live = true; bytes = [] }) ∷ was.lives i
+
+    pub fresh-reused : has (live ps) place ≡ false
+    fresh-reused = ap (λ (t : List Piece). has t place) (sym was.lives) ∙ live-none (without ps place) place (has_not-without ps place)
+
+  -- a live chunk is freed
+  module _ (place : Place) (there : has (live ps) place ≡ true) (k : ℕ) (listed : key place (piece_at ps place).room ≡ k) where
+    pub was_live : IsLiveAt ps place
+    was_live = live-found ps place are.places there
+
+    abbrev freed : Layout
+    freed = put_at l place 0 (link_bytes (first_free key k ps)) false
+
+    abbrev q : Piece
+    q = record { place = place; room = (piece_at ps place).room; is_live = false; bytes = link_bytes (first_free key k ps) }
+
+    pub first-freed : first_free key k freed.pieces ≡ Some place
+    first-freed = cond-true (key place q.room == k) (Some place) (first_free key k (without ps place)) (eq-eqb (key place q.room) k listed)
+
+    pub first-freed_other : (other : ℕ) → other ≢ k → first_free key other freed.pieces ≡ first_free key other ps
+    first-freed_other other ne =
+        cond-false (key place q.room == other) (Some place) (first_free key other (without ps place)) (ne_eqb (key place q.room) other (λ e. ne (sym e ∙ listed)))
+        ∙ first_free-kept key other ps place was_live.only
+
+    pub links-released : AreLinked key freed
+    links-released = record {
+      head = are.head;
+      places = (without-elsewhere q ps, pairwise_filter Elsewhere _ ps are.places);
+      ranges = (linkable place was_live.there, every_filter _ _ ps are.ranges);
+      linked = (λ dead. ap link_bytes (ap (λ (r : ℕ). first_free key r ps) (sym listed) ∙ sym (first_free-kept key (key place q.room) ps place was_live.only)), linked-kept key ps place was_live.only are.linked);
+    }
+
+    pub live-released : live freed.pieces ≡ without (live ps) place
+    live-released = live-without ps place

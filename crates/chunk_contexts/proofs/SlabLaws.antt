@@ -1,0 +1,219 @@
+-- Chunks of one size, after one is made, written, freed or taken again.
+use Rattle.std.proofs.Common.{◌≡◌, ◌≢◌, ℕ, ◌+◌, ◌*◌, ◌/◌, ◌<◌, ◌≤◌, inl, inr, Bool, true, false, not, List, [], ◌∷◌, ◌++◌, Option, Some, None, get_or, take, cond, refl, sym, ap, ◌∙◌, subst, arith}
+use Rattle.std.specs.Prelude.{IsTrue, is_some, ◌==◌, ◌&&◌}
+use Rattle.std.proofs.Math.Nat.{div-mul-le_self, mul-le-mul_right, div-le_of_le-mul, lt-div-mul-add}
+use Rattle.std.proofs.lemmas.Bool.{cases_Bool, cases_eq, cases_lt, cond-true, cond-false, eq-eqb, ne_eqb}
+use Rattle.chunk_layout.specs.Every.{Every, Pairwise}
+use Rattle.chunk_layout.specs.Pieces.{Layout, Piece, is_at, has, piece_at, no_piece, without, put_at, with_piece, size_at, IsClear}
+use Rattle.chunk_layout.specs.declared.place.Place.{Place}
+use Rattle.chunk_layout.proofs.Lists.{every_weaker, first_has, first_passes}
+use Rattle.chunk_layout.proofs.Finding.{same-place}
+use Rattle.chunk_layout.proofs.PieceLaws.{without-none}
+use Rattle.chunk_contexts.specs.Chunks.{live}
+use Rattle.chunk_contexts.specs.Rooms.{most, rounded}
+use Rattle.chunk_contexts.specs.Free.{by_block, is_free, first_free, Elsewhere, AreLinked}
+use Rattle.chunk_layout.specs.Links.{IsLinkable}
+use Rattle.chunk_contexts.specs.Generation.{in_block}
+use Rattle.chunk_contexts.specs.Slab.{slab_block, per_block, IsSlabLayout, IsEntry}
+use Rattle.chunk_contexts.specs.declared.slab_chunks.SlabBlock.{SlabBlock}
+use Rattle.chunk_contexts.proofs.FreeLaws.{Popped, live-first, live-later, live-without}
+use Rattle.chunk_contexts.proofs.CutLaws.{none-at}
+use Rattle.chunk_contexts.proofs.RunMoves.{every-put}
+use Rattle.chunk_contexts.proofs.GenLaws.{in-here, in-other}
+use Rattle.chunk_contexts.proofs.GenMoves.{in-put}
+use Rattle.chunk_contexts.proofs.LinkLaws as Link
+
+-- so many chunks have room in a block
+pub chunk-fits : (room n : ℕ) → n < per_block room → n * (8 + room) + (8 + room) ≤ slab_block room
+unfolding per_block
+chunk-fits room n few =
+    let per : ℕ = slab_block room / (8 + room) in
+    let all : per * (8 + room) ≤ slab_block room = div-mul-le_self (slab_block room) (8 + room) in
+    let more : (n + 1) * (8 + room) ≤ per * (8 + room) = mul-le-mul_right (8 + room) (omega (arith, few)) in
+    omega (arith, all, more)
+
+-- where no chunk of a block is free, all of them are live
+pub none-free : (ps : List Piece) (k : ℕ) → first_free by_block k ps ≡ None → in_block ps k ≡ in_block (live ps) k
+none-free [] k none = refl
+none-free (p ∷ ps) k none = elim (cases_Bool p.is_live) [
+  | inl lives ↦
+      let rest = none-free ps k (sym (cond-false (is_free by_block k p) (Some p.place) (first_free by_block k ps) (ap (λ (b : Bool). not b && (p.place.block == k)) lives)) ∙ none) in
+      ap (λ (n : ℕ). cond (p.place.block == k) (n + 1) n) rest ∙ ap (λ (t : List Piece). in_block t k) (sym (live-first p ps lives))
+  | inr dead ↦ elim (cases_eq p.place.block k) [
+    | inl same ↦ absurd (some-none p.place (first_free by_block k ps) (sym (cond-true (is_free by_block k p) (Some p.place) (first_free by_block k ps) (ap (λ (b : Bool). not b && (p.place.block == k)) dead ∙ eq-eqb p.place.block k same)) ∙ none))
+    | inr ne ↦
+        let other : is_free by_block k p ≡ false = ap (λ (b : Bool). not p.is_live && b) (ne_eqb p.place.block k ne) ∙ ap (λ (b : Bool). not b && false) dead in
+        let rest = none-free ps k (sym (cond-false (is_free by_block k p) (Some p.place) (first_free by_block k ps) other) ∙ none) in
+        in-other p ps k ne ∙ rest ∙ ap (λ (t : List Piece). in_block t k) (sym (live-later p ps dead))
+  ]
+]
+  where
+    some-none : (q : Place) (o : Option Place) → Some q ≡ None → ⊥
+    some-none q o e = absurd (cc)
+
+module _ (size : ℕ) (l : Layout) (is : IsSlabLayout size l) where
+  abbrev ps : List Piece
+  ps = l.pieces
+
+  abbrev room : ℕ
+  room = rounded size
+
+  abbrev places : Pairwise Elsewhere l.pieces
+  places = is.links.places
+
+  -- a chunk is written, freed or taken again
+  module _ (place : Place) (there : has ps place ≡ true) (kept : ℕ) (bytes : List ℕ) (lives : Bool) (links : AreLinked by_block (put_at l place kept bytes lives)) where
+    abbrev q : Piece
+    q = record { place = place; room = (piece_at ps place).room; is_live = lives; bytes = take kept (piece_at ps place).bytes ++ bytes }
+
+    ends : Every (λ (p : Piece). p.place.offset + p.room ≤ in_block ps p.place.block * (8 + room)) (q ∷ without ps place)
+    ends = every-put (λ (p : Piece). p.place.offset + p.room ≤ in_block ps p.place.block * (8 + room))
+        (λ p q at same h. subst (λ (x : Place). x.offset + q.room ≤ in_block ps x.block * (8 + room)) at (subst (λ (r : ℕ). p.place.offset + r ≤ in_block ps p.place.block * (8 + room)) same h)) ps place there q refl refl is.ends
+
+    pub slab-put : IsSlabLayout size (put_at l place kept bytes lives)
+    slab-put = record {
+      links = links;
+      rooms = every-put (λ (p : Piece). p.room ≡ room) (λ p q at same h. sym same ∙ h) ps place there q refl refl is.rooms;
+      there = every-put (λ (p : Piece). IsTrue (is_some (get_or l.blocks p.place.block None))) (λ p q at same h. subst (λ (x : Place). IsTrue (is_some (get_or l.blocks x.block None))) at h) ps place there q refl refl is.there;
+      sizes = is.sizes;
+      ends = every_weaker (λ (p : Piece). p.place.offset + p.room ≤ in_block ps p.place.block * (8 + room)) (λ (p : Piece). p.place.offset + p.room ≤ in_block (q ∷ without ps place) p.place.block * (8 + room))
+          (λ p h. subst (λ (n : ℕ). p.place.offset + p.room ≤ n * (8 + room)) (sym (in-put ps place q p.place.block there places refl)) h) (q ∷ without ps place) ends;
+    }
+
+  -- ---- the chunk that was given up last is taken again
+  module _ (k : ℕ) (place : Place) (first : first_free by_block k ps ≡ Some place) where
+    abbrev again : Layout
+    again = put_at l place 0 [] true
+
+    pub was : Popped by_block ps place k
+    was = Link.was by_block l is.links k place first
+
+    at : (piece_at ps place).place ≡ place
+    at = same-place (piece_at ps place).place place (first_passes (is_at place) no_piece ps was.there)
+
+    pub reused-block : place.block ≡ k
+    reused-block = ap (λ (x : Place). x.block) (sym at) ∙ was.listed
+
+    pub reused-layout : IsSlabLayout size again
+    reused-layout = slab-put place was.there 0 [] true (Link.links-reused by_block l is.links k place first)
+
+    reused-room : (piece_at ps place).room ≡ room
+    reused-room = first_has (λ (p : Piece). p.room ≡ room) (is_at place) no_piece ps was.there is.rooms
+
+    pub reused-live : live again.pieces ≡ (record { place = place; room = room; is_live = true; bytes = [] }) ∷ live ps
+    reused-live = λ i. (record { place = place; room = reused-room i; is_live = true; bytes = [] }) ∷ was.lives i
+
+    pub reused-fresh : has (live ps) place ≡ false
+    reused-fresh = Link.fresh-reused by_block l is.links k place first
+
+    abbrev p : Piece
+    p = record { place = place; room = (piece_at ps place).room; is_live = true; bytes = [] }
+
+    pub reused-entry : (e : SlabBlock) → IsEntry ps k e → (next : Option Place) → next ≡ first_free by_block k (without ps place) → IsEntry again.pieces k (record { free = next; cut = e.cut; live = e.live + 1 })
+    reused-entry e entry next is-next = record {
+      free = is-next;
+      cut = entry.cut ∙ sym (in-put ps place p k was.there places refl);
+      live = ap (λ (n : ℕ). n + 1) entry.live ∙ sym (ap (λ (t : List Piece). in_block t k) reused-live ∙ in-here (record { place = place; room = room; is_live = true; bytes = [] }) (live ps) k reused-block);
+    }
+
+    pub reused-other : (j : ℕ) → j ≢ k → (e : SlabBlock) → IsEntry ps j e → IsEntry again.pieces j e
+    reused-other j ne e entry = record {
+      free = entry.free ∙ sym (was.others j ne);
+      cut = entry.cut ∙ sym (in-put ps place p j was.there places refl);
+      live = entry.live ∙ sym (ap (λ (t : List Piece). in_block t j) reused-live ∙ in-other (record { place = place; room = room; is_live = true; bytes = [] }) (live ps) j (λ e. ne (sym e ∙ reused-block)));
+    }
+
+  -- ---- the next chunk is cut from a block
+  module _ (k : ℕ) (name : k < 4294967296) (some : IsTrue (is_some (get_or l.blocks k None))) (small : size ≤ most) (none : first_free by_block k ps ≡ None) (few : in_block (live ps) k < per_block room) where
+    abbrev cut : ℕ
+    cut = in_block ps k
+
+    pub cut-fits : cut * (8 + room) + (8 + room) ≤ slab_block room
+    cut-fits = chunk-fits room cut (omega (arith, none-free ps k none, few))
+
+    abbrev spot : Place
+    spot = record { block = k; offset = cut * (8 + room) + 8 }
+
+    abbrev piece : Piece
+    piece = record { place = spot; room = room; is_live = true; bytes = [] }
+
+    pub cut-inside : spot.offset + room ≤ size_at l.blocks spot.block
+    cut-inside = omega (arith, cut-fits, is.sizes k some)
+
+    before : Every (λ (p : Piece). p.place.block ≡ k → p.place.offset + p.room ≤ cut * (8 + room)) ps
+    before = every_weaker (λ (p : Piece). p.place.offset + p.room ≤ in_block ps p.place.block * (8 + room)) (λ (p : Piece). p.place.block ≡ k → p.place.offset + p.room ≤ cut * (8 + room))
+        (λ p h same. subst (λ (j : ℕ). p.place.offset + p.room ≤ in_block ps j * (8 + room)) same h) ps is.ends
+
+    pub cut-clear : Every (IsClear l.head spot room) ps
+    cut-clear = every_weaker (λ (p : Piece). p.place.block ≡ k → p.place.offset + p.room ≤ cut * (8 + room)) (IsClear l.head spot room)
+        (λ p h. elim (cases_eq p.place.block k) [
+          | inl same ↦ inr (inl (omega (arith, h same, is.links.head)))
+          | inr ne ↦ inl ne
+        ]) ps before
+
+    fresh : has ps spot ≡ false
+    fresh = none-at spot ps (every_weaker (λ (p : Piece). p.place.block ≡ k → p.place.offset + p.room ≤ cut * (8 + room)) (λ (p : Piece). p.place ≡ spot → ⊥)
+        (λ p h e. let o = ap (λ (x : Place). x.offset) e in omega (arith, h (ap (λ (x : Place). x.block) e), o)) ps before)
+
+    linkable : IsLinkable spot
+    linkable = record { block = name; some = omega arith; offset = omega (arith, cut-fits, small) }
+
+    abbrev cut' : Layout
+    cut' = with_piece l piece
+
+    pieces : cut'.pieces ≡ piece ∷ ps
+    pieces = ap (λ (t : List Piece). piece ∷ t) (without-none ps spot fresh)
+
+    more : (j : ℕ) → in_block ps j ≤ in_block (piece ∷ ps) j
+    more j = elim (cases_eq k j) [
+      | inl same ↦ omega (arith, in-here piece ps j same)
+      | inr ne ↦ omega (arith, in-other piece ps j ne)
+    ]
+
+    pub cut-layout : IsSlabLayout size cut'
+    cut-layout = record {
+      links = Link.links-new by_block l is.links piece refl fresh linkable;
+      rooms = subst (Every (λ (p : Piece). p.room ≡ room)) (sym pieces) (refl, is.rooms);
+      there = subst (Every (λ (p : Piece). IsTrue (is_some (get_or l.blocks p.place.block None)))) (sym pieces) (some, is.there);
+      sizes = is.sizes;
+      ends = subst (λ (t : List Piece). Every (λ (p : Piece). p.place.offset + p.room ≤ in_block t p.place.block * (8 + room)) t) (sym pieces) (
+        subst (λ (n : ℕ). spot.offset + room ≤ n * (8 + room)) (sym (in-here piece ps k refl)) (omega arith),
+        every_weaker (λ (p : Piece). p.place.offset + p.room ≤ in_block ps p.place.block * (8 + room)) (λ (p : Piece). p.place.offset + p.room ≤ in_block (piece ∷ ps) p.place.block * (8 + room))
+            (λ p h. omega (arith, h, mul-le-mul_right (8 + room) (more p.place.block))) ps is.ends,
+      );
+    }
+
+    pub cut-live : live cut'.pieces ≡ piece ∷ live ps
+    cut-live = Link.live-new by_block l is.links piece refl fresh linkable
+
+    pub cut-fresh : has (live ps) spot ≡ false
+    cut-fresh = Rattle.chunk_contexts.proofs.FreeLaws.live-none ps spot fresh
+
+    pub cut-entry : (e : SlabBlock) → IsEntry ps k e → IsEntry cut'.pieces k (record { free = e.free; cut = e.cut + 1; live = e.live + 1 })
+    cut-entry e entry = record {
+      free = entry.free ∙ sym (Link.first-new by_block l is.links piece refl fresh linkable k);
+      cut = ap (λ (n : ℕ). n + 1) entry.cut ∙ sym (ap (λ (t : List Piece). in_block t k) pieces ∙ in-here piece ps k refl);
+      live = ap (λ (n : ℕ). n + 1) entry.live ∙ sym (ap (λ (t : List Piece). in_block t k) cut-live ∙ in-here piece (live ps) k refl);
+    }
+
+    pub cut-other : (j : ℕ) → j ≢ k → (e : SlabBlock) → IsEntry ps j e → IsEntry cut'.pieces j e
+    cut-other j ne e entry = record {
+      free = entry.free ∙ sym (Link.first-new by_block l is.links piece refl fresh linkable j);
+      cut = entry.cut ∙ sym (ap (λ (t : List Piece). in_block t j) pieces ∙ in-other piece ps j (λ e. ne (sym e)));
+      live = entry.live ∙ sym (ap (λ (t : List Piece). in_block t j) cut-live ∙ in-other piece (live ps) j (λ e. ne (sym e)));
+    }
+
+-- how many chunks a block has
+pub per-small : (room : ℕ) → room ≤ 1073741832 → per_block room ≤ 1073741840
+unfolding per_block
+per-small room small = div-le_of_le-mul (8 + room) {m = slab_block room} {n = 1073741840} (omega (arith, small))
+
+pub per-some : (room : ℕ) → 1 ≤ per_block room
+unfolding per_block
+per-some room = elim (cases_lt 0 (slab_block room / (8 + room))) [
+  | inl some ↦ omega (arith, some)
+  | inr none ↦
+      let few : slab_block room / (8 + room) * (8 + room) ≤ 0 * (8 + room) = mul-le-mul_right (8 + room) none in
+      let less : slab_block room < slab_block room / (8 + room) * (8 + room) + (8 + room) = lt-div-mul-add {a = slab_block room} {b = 8 + room} (omega arith) in
+      absurd (omega (arith, few, less))
+]

@@ -1,0 +1,90 @@
+-- The state of a slab after a chunk is taken.
+use Rattle.std.proofs.Common.{◌≡◌, ℕ, ◌+◌, true, false, List, [], ◌∷◌, None, length, get_or, cond, sym, ap, ◌∙◌}
+use Rattle.std.proofs.lemmas.Bool.{cond-true, cond-false}
+use Rattle.chunk_layout.specs.Pieces.{Layout, Piece, has, piece_at, place_of, without, put_at, total, with_block}
+use Rattle.chunk_layout.specs.declared.place.Place.{Place}
+use Rattle.chunk_layout.specs.declared.place.ChunkName.{ChunkName}
+use Rattle.chunk_layout.proofs.Finding.{place-same}
+use Rattle.chunk_layout.proofs.Numbers.{total-with_block}
+use Rattle.chunk_layout.proofs.PieceLaws.{has-first, without-first, without-none}
+use Rattle.chunk_contexts.specs.Chunks.{live, chunk_of, Adds}
+use Rattle.chunk_contexts.specs.Rooms.{rounded}
+use Rattle.chunk_contexts.specs.Slab.{SlabState, slab_block, has_spare, slab_grows, slab_taken, slab_of, IsSlab}
+use Rattle.chunk_contexts.specs.declared.slab_chunks.SlabChunks.{SlabChunks}
+use Rattle.chunk_contexts.proofs.FreeLaws.{live-without}
+use Rattle.chunk_contexts.proofs.SlabMoves.{live-there, live-room}
+
+-- a chunk comes from a block that has a free one
+module _ (s : SlabState) (p : Piece) (spare : has_spare s ≡ true) where
+  pub taken-spare : (t : SlabState) → t ≡ record { size = s.size; chunks = p ∷ s.chunks; blocks = s.blocks } → t ≡ slab_taken s p
+  taken-spare t made = made ∙ (λ i. record { size = s.size; chunks = p ∷ s.chunks; blocks = sym (cond-true (has_spare s) s.blocks (with_block s.blocks p.place.block (slab_block (rounded s.size))) spare) i })
+
+  pub grows-none : slab_grows s ≡ 0
+  grows-none = cond-true (has_spare s) 0 (slab_block (rounded s.size)) spare
+
+-- a chunk comes from a new block
+module _ (s : SlabState) (spare : has_spare s ≡ false) where
+  pub grows-block : slab_grows s ≡ slab_block (rounded s.size)
+  grows-block = cond-false (has_spare s) 0 (slab_block (rounded s.size)) spare
+
+  module _ (g t : SlabState) (b : ℕ) (grown : g ≡ record { size = s.size; chunks = s.chunks; blocks = with_block s.blocks b (slab_block (rounded s.size)) }) (place : Place) (in-block : place.block ≡ b)
+      (made : t ≡ record { size = g.size; chunks = (record { place = place; room = rounded g.size; is_live = true; bytes = [] }) ∷ g.chunks; blocks = g.blocks }) where
+    abbrev new-piece : Piece
+    new-piece = record { place = place; room = rounded s.size; is_live = true; bytes = [] }
+
+    pub taken-new : t ≡ slab_taken s new-piece
+    taken-new =
+        made ∙ (λ i. record { size = (grown i).size; chunks = (record { place = place; room = rounded (grown i).size; is_live = true; bytes = [] }) ∷ (grown i).chunks; blocks = (grown i).blocks })
+        ∙ (λ i. record { size = s.size; chunks = new-piece ∷ s.chunks; blocks = with_block s.blocks (sym in-block i) (slab_block (rounded s.size)) })
+        ∙ (λ i. record { size = s.size; chunks = new-piece ∷ s.chunks; blocks = sym (cond-false (has_spare s) s.blocks (with_block s.blocks place.block (slab_block (rounded s.size))) spare) i })
+
+    pub grown-total : get_or s.blocks b None ≡ None → total t.blocks ≡ total s.blocks + slab_grows s
+    grown-total none =
+        ap (λ (z : SlabState). total z.blocks) made ∙ ap (λ (z : SlabState). total z.blocks) grown ∙ total-with_block s.blocks b (slab_block (rounded s.size)) none
+        ∙ ap (λ (n : ℕ). total s.blocks + n) (sym grows-block)
+
+    pub grown-fresh : has g.chunks place ≡ false → has s.chunks place ≡ false
+    grown-fresh none = ap (λ (z : SlabState). has z.chunks place) (sym grown) ∙ none
+
+-- the bytes of a chunk that was made are written
+module _ (s : SlabState) (t : SlabChunks) (is : IsSlab t.size t.per t.layout t.blocks.items t.spare) (place : Place) (fresh : has s.chunks place ≡ false)
+    (taken : slab_of t ≡ slab_taken s (record { place = place; room = rounded s.size; is_live = true; bytes = [] })) where
+  abbrev p : Piece
+  p = record { place = place; room = rounded s.size; is_live = true; bytes = [] }
+
+  chunks : live t.layout.pieces ≡ p ∷ s.chunks
+  chunks = ap (λ (z : SlabState). z.chunks) taken
+
+  pub made-here : has (live t.layout.pieces) place ≡ true
+  made-here = ap (λ (cs : List Piece). has cs place) chunks ∙ has-first p s.chunks place (place-same place)
+
+  pub made-there : has t.layout.pieces place ≡ true
+  made-there = live-there t.size t.per t.layout t.blocks.items t.spare is place made-here
+
+  pub made-size : t.size ≡ s.size
+  made-size = ap (λ (z : SlabState). z.size) taken
+
+  pub made-room : (piece_at t.layout.pieces place).room ≡ rounded s.size
+  made-room = live-room t.size t.per t.layout t.blocks.items t.spare is place made-here ∙ ap rounded made-size
+
+  module _ (bytes : List ℕ) (m : Layout) (put : m ≡ put_at t.layout place 0 bytes true) (name : ChunkName) (named : name ≡ record { block = place.block; offset = place.offset; len = length bytes }) where
+    abbrev q : Piece
+    q = chunk_of name (rounded s.size) bytes
+
+    pub written-chunks : live m.pieces ≡ q ∷ s.chunks
+    written-chunks =
+        ap (λ (z : Layout). live z.pieces) put
+        ∙ (λ i. (record { place = place; room = made-room i; is_live = true; bytes = bytes }) ∷ (live-without t.layout.pieces place ∙ ap (λ (cs : List Piece). without cs place) chunks ∙ without-first p s.chunks place (place-same place) ∙ without-none s.chunks place fresh) i)
+        ∙ (λ i. (record { place = place_of (sym named i); room = rounded s.size; is_live = true; bytes = bytes }) ∷ s.chunks)
+
+    pub written-state : (u : SlabState) → u ≡ record { size = t.size; chunks = live m.pieces; blocks = m.blocks } → u ≡ slab_taken s q
+    written-state u is-u =
+        is-u ∙ (λ i. record { size = made-size i; chunks = written-chunks i; blocks = (ap (λ (z : Layout). z.blocks) put ∙ ap (λ (z : SlabState). z.blocks) taken) i })
+        ∙ (λ i. record { size = s.size; chunks = q ∷ s.chunks; blocks = cond (has_spare s) s.blocks (with_block s.blocks (sym named i).block (slab_block (rounded s.size))) })
+
+    pub written-added : Adds s.chunks (live m.pieces) name (rounded s.size) bytes
+    written-added = record {
+      len = ap (λ (z : ChunkName). z.len) named;
+      fresh = ap (λ (z : ChunkName). has s.chunks (place_of z)) named ∙ fresh;
+      chunks = written-chunks;
+    }

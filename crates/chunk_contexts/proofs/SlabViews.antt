@@ -1,0 +1,84 @@
+-- What the state of a `Slab` says of its fields at a live chunk.
+use Rattle.std.proofs.Common.{◌≡◌, ℕ, ◌-◌, Bool, true, false, List, [], ◌∷◌, ◌++◌, Option, Some, None, append-nil, length, refl, sym, ap, ◌∙◌, arith}
+use Rattle.std.specs.Prelude.{IsTrue, ◌==◌}
+use Rattle.std.proofs.lemmas.Bool.{eqb-true, true≢false}
+use Rattle.std.specs.List.{length_refill}
+use Rattle.std.proofs.lemmas.List.{take_all}
+use Rattle.block_memory.specs.Cells.{zeros}
+use Rattle.chunk_layout.specs.Every.{Every}
+use Rattle.chunk_layout.specs.Pieces.{Piece, is_at, has, piece_at, no_piece, place_of, resized, rewritten, with_bytes_of}
+use Rattle.chunk_layout.specs.declared.place.Place.{Place}
+use Rattle.chunk_layout.specs.declared.place.ChunkName.{ChunkName}
+use Rattle.chunk_layout.proofs.Lists.{by_cond, first_has}
+use Rattle.chunk_layout.proofs.Finding.{place-same}
+use Rattle.chunk_contexts.specs.Chunks.{live, is_live, bytes_of, IsResized}
+use Rattle.chunk_contexts.specs.Rooms.{rounded}
+use Rattle.chunk_contexts.specs.Slab.{SlabState, slab_refusal_by}
+use Rattle.chunk_contexts.specs.SlabFields.{slab_state, AreFields}
+use Rattle.chunk_contexts.specs.declared.error.ContextError.{ContextError}
+use Rattle.chunk_contexts.specs.declared.slab_chunks.SlabChunks.{SlabChunks}
+use Rattle.chunk_contexts.specs.declared.slab.Slab.TheInside.{Inside}
+use Rattle.chunk_contexts.proofs.FreeLaws.{live-found}
+use Rattle.chunk_contexts.proofs.SlabMoves.{live-there, live-room}
+use Rattle.chunk_contexts.proofs.SetViews.{name-there, name-len}
+
+-- a request that is not refused has the size
+pub admitted-size : (o : Option ContextError) (n size : ℕ) → slab_refusal_by o (n == size) ≡ None → n ≡ size
+admitted-size o n size none = eqb-true n size (by-cases o (n == size) none)
+  where
+    by-cases : (o : Option ContextError) (b : Bool) → slab_refusal_by o b ≡ None → b ≡ true
+    by-cases (Some e) b none = absurd (cc)
+    by-cases None true none = refl
+    by-cases None false none = absurd (cc)
+
+-- as many bytes as there are
+pub resized-same : (bytes : List ℕ) (n : ℕ) → length bytes ≡ n → bytes ≡ resized bytes n
+unfolding zeros
+resized-same bytes n long =
+    let none : n - length bytes ≡ 0 = omega (arith, long) in
+    sym (append-nil bytes) ∙ (λ i. sym (take_all n bytes (omega (arith, long))) i ++ zeros (sym none i))
+
+-- as many bytes in each chunk, after one is written over
+pub sizes-rewritten : (size : ℕ) (ps : List Piece) (place : Place) (ws : List ℕ) → Every (λ (p : Piece). length p.bytes ≡ size) ps → Every (λ (p : Piece). length p.bytes ≡ size) (rewritten ps place ws)
+sizes-rewritten size [] place ws every = tt
+sizes-rewritten size (p ∷ ps) place ws every = by_cond (Every (λ (q : Piece). length q.bytes ≡ size)) (is_at place p) (with_bytes_of p ws ∷ ps) (p ∷ rewritten ps place ws)
+    (λ _. (sym (length_refill (length p.bytes) p.bytes ws refl) ∙ every.0, every.1)) (λ _. (every.0, sizes-rewritten size ps place ws every.1))
+
+module _ (x : Inside) (ok : AreFields x) (s : SlabState) (e : slab_state x ≡ s) (name : ChunkName) (lives : IsTrue (is_live s.chunks name)) where
+  abbrev t : SlabChunks
+  t = x.inner
+
+  abbrev ps : List Piece
+  ps = t.layout.pieces
+
+  abbrev place : Place
+  place = place_of name
+
+  pub view-here : has (live ps) place ≡ true
+  view-here = ap (λ (z : SlabState). has z.chunks place) e ∙ name-there s.chunks name lives
+
+  pub view-there : has ps place ≡ true
+  view-there = live-there t.size t.per t.layout t.blocks.items t.spare ok.chunks place view-here
+
+  pub view-same : piece_at ps place ≡ piece_at s.chunks place
+  view-same = (live-found ps place ok.chunks.layout.links.places view-here).same ∙ ap (λ (z : SlabState). piece_at z.chunks place) e
+
+  pub view-len : length (piece_at ps place).bytes ≡ name.len
+  view-len = ap (λ (p : Piece). length p.bytes) view-same ∙ name-len s.chunks name lives
+
+  pub view-size : name.len ≡ t.size
+  view-size = sym (name-len s.chunks name lives) ∙ ap (λ (z : SlabState). length (piece_at z.chunks place).bytes) (sym e)
+      ∙ first_has (λ (p : Piece). length p.bytes ≡ t.size) (is_at place) no_piece (live ps) view-here ok.sizes
+
+  pub view-room : (piece_at s.chunks place).room ≡ rounded t.size
+  view-room = ap (λ (p : Piece). p.room) (sym view-same) ∙ live-room t.size t.per t.layout t.blocks.items t.spare ok.chunks place view-here
+
+  -- the size that it has
+  pub view-resized : (n : ℕ) → n ≡ t.size → IsResized s.chunks s.chunks name name n
+  view-resized n same = record {
+    len = view-size ∙ sym same;
+    lives = lives;
+    bytes = resized-same (bytes_of s.chunks name) n (name-len s.chunks name lives ∙ view-size ∙ sym same);
+    others = λ q ne ne'. (refl, refl);
+    gone = λ ne. absurd (true≢false (sym (place-same place) ∙ ne));
+  }

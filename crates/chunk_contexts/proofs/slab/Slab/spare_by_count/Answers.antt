@@ -1,0 +1,19 @@
+use Rattle.std.proofs.Common.{◌≡◌, ◌*◌, ◌≤◌, ℕ, None, length, get_or, subst, arith}
+use Rattle.std.specs.Prelude.{IsTrue, is_some, nat_lt}
+use Rattle.chunk_layout.specs.Every.{Every}
+use Rattle.chunk_layout.specs.Pieces.{Piece}
+use Rattle.chunk_layout.proofs.Lists.{every_filter}
+use Rattle.chunk_contexts.specs.Chunks.{live}
+use Rattle.chunk_contexts.specs.Generation.{in_block}
+use Rattle.chunk_contexts.specs.Rooms.{rounded}
+use Rattle.chunk_contexts.specs.Slab.{SlabState, has_spare, per_block, block_count}
+use Rattle.chunk_contexts.proofs.SlabCounts.{spare-by-count, none-there}
+use Rattle.chunk_contexts.proofs.slab.Slab.spare_by_count.Goals as goal
+
+pub returns : goal.returns
+returns c =
+    let t = c.self.inside.inner in let is = c.self.invariant.chunks in let ps = live t.layout.pieces in let bs = t.layout.blocks in
+    let there : Every (λ (p : Piece). IsTrue (is_some (get_or bs p.place.block None))) ps = every_filter _ (λ (p : Piece). p.is_live) t.layout.pieces is.layout.there in
+    let few : (k : ℕ) → in_block ps k ≤ per_block (rounded t.size) = λ k. omega (arith, is.few k, (is.entries k).live, is.per) in
+    subst (λ (s : SlabState). has_spare s ≡ nat_lt (length s.chunks) (per_block (rounded s.size) * block_count s.blocks)) c.self.view_is
+    (spare-by-count (per_block (rounded t.size)) ps few bs there (none-there ps bs there))

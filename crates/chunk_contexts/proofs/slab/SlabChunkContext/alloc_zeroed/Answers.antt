@@ -1,0 +1,12 @@
+use Rattle.std.proofs.Common.{◌≡◌, length, sym, subst}
+use Rattle.block_memory.proofs.CellLemmas.{length-zeros}
+use Rattle.chunk_layout.specs.Every.{Every}
+use Rattle.chunk_layout.specs.Pieces.{Piece}
+use Rattle.chunk_contexts.specs.Slab.{SlabState}
+use Rattle.chunk_contexts.proofs.slab.SlabChunkContext.alloc_zeroed.Goals as goal
+
+pub invariant_of-self-2 : goal.invariant_of-self-2
+invariant_of-self-2 c = record {
+  chunks = c.in_ok-name.ensures.chunks;
+  sizes = subst (λ (s : SlabState). Every (λ (p : Piece). length p.bytes ≡ s.size) s.chunks) (sym c.in_ok-name.ensures.taken) (length-zeros c.self.inside.inner.size, c.self.invariant.sizes);
+}

@@ -1,0 +1,14 @@
+use Rattle.std.proofs.Common.{◌≡◌, length, sym, subst}
+use Rattle.chunk_layout.specs.Every.{Every}
+use Rattle.chunk_layout.specs.Pieces.{Piece}
+use Rattle.chunk_layout.proofs.Lists.{every_filter}
+use Rattle.chunk_contexts.specs.Chunks.{live}
+use Rattle.chunk_contexts.specs.Slab.{SlabState}
+use Rattle.chunk_contexts.proofs.slab.SlabChunkContext.free.Goals as goal
+
+pub invariant_of-self : goal.invariant_of-self
+invariant_of-self c = record {
+  chunks = c.release.ensures.chunks;
+  sizes = subst (λ (s : SlabState). Every (λ (p : Piece). length p.bytes ≡ s.size) s.chunks) (sym c.release.ensures.freed)
+      (every_filter (λ (p : Piece). length p.bytes ≡ c.self.inside.inner.size) _ (live c.self.inside.inner.layout.pieces) c.self.invariant.sizes);
+}

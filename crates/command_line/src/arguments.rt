@@ -1,0 +1,218 @@
+//! The words of the command line, and what help says of them.
+
+use clap::builder::ValueParser;
+use clap::{Arg, ArgMatches, Command, Error};
+use std::alloc::{AllocError, Global};
+use std::convert::AsStr;
+
+/// The arguments' names, as help shows them and as matches are asked for them.
+pub(crate) const OUT: &str = "OUT";
+
+pub(crate) const IN: &str = "IN";
+
+pub(crate) const BATCH: &str = "BATCH";
+
+pub(crate) const COLUMNS: &str = "columns";
+
+pub(crate) const QUERY: &str = "query";
+
+pub(crate) const FORMAT: &str = "format";
+
+static FORMATS: [&str; 2] = ["csv", "aligned"];
+
+const ABOUT: &str = "Groups numbered batches of rows, and merges what several sites know of them";
+
+const AFTER: &str = "\
+A summary file holds a query and what is known of the batches that it groups. Each
+origin numbers its batches from 1 on. An answer covers each origin's batches up to the
+first that is missing; those after it are kept until it comes. Files that know the same
+batches are equal byte for byte, and so are their answers, in whatever order the batches
+came, and however often.
+
+Example:
+  agg_tool new empty.sum --columns 'city text, sales bigint' \\
+      --query 'SELECT city, sum(sales) FROM batches GROUP BY city'
+  agg_tool feed oslo.sum empty.sum oslo-1.csv oslo-2.csv
+  agg_tool feed rome.sum empty.sum rome-1.csv
+  agg_tool merge all.sum oslo.sum rome.sum
+  agg_tool answer all.sum --format aligned
+
+Replies and tables go to standard output, and a sentence for each refusal to standard
+error.
+
+Status:
+  0  all was done
+  1  something was refused: a line 'refused NAME' stands in its place
+  2  the words are no command line
+  3  a file or a stream could not be read or written";
+
+const SCRIPT_ABOUT: &str = "Runs a script from standard input";
+
+const SCRIPT_AFTER: &str = "\
+The script is CSV, a command in each record, and is read whole before the first reply is
+written. Its commands are columns, query, replica, feed, merge, known, answer, save and
+load. What it saves it keeps in memory, and ends with it.
+
+Example:
+  agg_tool script < examples/sales.script
+
+Status: 0 all was done; 1 a command was refused, memory ran out or the script is longer
+than 67,108,864 bytes; 3 standard input could not be read or standard output not
+written.";
+
+const NEW_ABOUT: &str = "Makes a summary file that knows no batch yet";
+
+const NEW_AFTER: &str = "\
+Columns are told as 'NAME KIND, NAME KIND, ..', 1 to 32 of them, of the kinds bigint,
+boolean and text. The query is one SELECT over the table batches with WHERE, GROUP BY,
+HAVING and the aggregates count, sum, min, max, bit_and, bit_or, bit_xor, bool_and,
+bool_or and every. Prints 'saved BYTES'.
+
+Example:
+  agg_tool new empty.sum --columns 'city text, sales bigint' \\
+      --query 'SELECT city, sum(sales) FROM batches GROUP BY city'
+
+Status: 0 all was done; 1 something was refused; 2 the words are no command line; 3 a
+file or a stream could not be read or written.";
+
+const FEED_ABOUT: &str = "Adds the batches of batch files to a summary";
+
+const FEED_AFTER: &str = "\
+A batch file is CSV. Its first record is batch,ORIGIN,NUMBER,ROWS: who sent the batch (0
+to 1023), its number (1 to 2147483647), and how many records follow (0 to 65536), a
+field for each column; \\N stands for null. For each file, in the order given, a line
+tells what became of it:
+
+  folded upto N  the origin's batches 1 to N are in the answer now
+  early          it is kept until the batches before it have come
+  known          its number was known, nothing changed
+  refused NAME   it is passed over, nothing changed
+
+Then OUT is written and 'saved BYTES' printed. OUT may be IN. Where IN itself is
+refused, OUT isn't written.
+
+Example:
+  agg_tool feed oslo.sum oslo.sum oslo-3.csv
+
+Status: 0 all was done; 1 something was refused; 2 the words are no command line; 3 a
+file or a stream could not be read or written.";
+
+const MERGE_ABOUT: &str = "Merges summary files of one query";
+
+const MERGE_AFTER: &str = "\
+OUT knows what any IN knew. For each IN after the first, 'merged' is printed, or
+'refused NAME' where it is passed over: another query, no summary file, or another batch
+under a number that is known. Then OUT is written and 'saved BYTES' printed. OUT may be
+one of the INs. Where the first IN is refused, OUT isn't written.
+
+Example:
+  agg_tool merge all.sum oslo.sum rome.sum
+
+Status: 0 all was done; 1 something was refused; 2 the words are no command line; 3 a
+file or a stream could not be read or written.";
+
+const KNOWN_ABOUT: &str = "Lists the batches that a summary knows";
+
+const KNOWN_AFTER: &str = "\
+Prints a line for each origin of which a batch is known, as 'origin 7 upto 12 early 14
+15': batches 1 to 12 are in the answer, 14 and 15 wait for 13.
+
+Example:
+  agg_tool known all.sum
+
+Status: 0 all was done; 1 something was refused; 2 the words are no command line; 3 a
+file or a stream could not be read or written.";
+
+const ANSWER_ABOUT: &str = "Prints the query's answer over what a summary knows";
+
+const ANSWER_AFTER: &str = "\
+The rows stand in the order of the query's keys, null last.
+
+Example:
+  agg_tool answer all.sum --format aligned
+
+Status: 0 all was done; 1 something was refused; 2 the words are no command line; 3 a
+file or a stream could not be read or written.";
+
+/// A word of the command line that has its place.
+fn positional<'a>(alloc: Global, name: &'a str, help: &'a str) -> Arg<'a> {
+    Arg::new(alloc, name).required(true).help(help)
+}
+
+/// The option that a text follows.
+fn option<'a>(alloc: Global, name: &'a str, value: &'a str, help: &'a str) -> Arg<'a> {
+    Arg::new(alloc, name)
+        .long(name)
+        .value_name(value)
+        .help(help)
+}
+
+/// A command of the program.
+fn task<'a>(alloc: Global, name: &'a str, about: &'a str, after: &'a str) -> Command<'a> {
+    Command::new(alloc, name).about(about).after_help(after)
+}
+
+fn new_command<'a>(alloc: Global) -> Result<Command<'a>, AllocError> {
+    let columns = option(alloc, COLUMNS, "SCHEMA", "The columns' names and kinds");
+    let query = option(alloc, QUERY, "TEXT", "The query that the summary answers");
+    task(alloc, "new", NEW_ABOUT, NEW_AFTER)
+        .arg(positional(alloc, OUT, "The summary file to write"))?
+        .arg(columns.required(true))?
+        .arg(query.required(true))
+}
+
+fn feed_command<'a>(alloc: Global) -> Result<Command<'a>, AllocError> {
+    let batches = positional(alloc, BATCH, "The batch files to add");
+    task(alloc, "feed", FEED_ABOUT, FEED_AFTER)
+        .arg(positional(alloc, OUT, "The summary file to write"))?
+        .arg(positional(alloc, IN, "The summary file to add to"))?
+        .arg(batches.num_args(1..))
+}
+
+fn merge_command<'a>(alloc: Global) -> Result<Command<'a>, AllocError> {
+    let inputs = positional(alloc, IN, "The summary files to merge");
+    task(alloc, "merge", MERGE_ABOUT, MERGE_AFTER)
+        .arg(positional(alloc, OUT, "The summary file to write"))?
+        .arg(inputs.num_args(1..))
+}
+
+fn known_command<'a>(alloc: Global) -> Result<Command<'a>, AllocError> {
+    task(alloc, "known", KNOWN_ABOUT, KNOWN_AFTER).arg(positional(
+        alloc,
+        IN,
+        "The summary file to read",
+    ))
+}
+
+fn answer_command<'a>(alloc: Global) -> Result<Command<'a>, AllocError> {
+    let format = option(alloc, FORMAT, "FORMAT", "How the table is written")
+        .value_parser(ValueParser::Names(FORMATS.as_slice()))
+        .default_value("csv");
+    task(alloc, "answer", ANSWER_ABOUT, ANSWER_AFTER)
+        .arg(positional(alloc, IN, "The summary file to read"))?
+        .arg(format)
+}
+
+/// The program's commands.
+fn program<'a>(alloc: Global) -> Result<Command<'a>, AllocError> {
+    Command::new(alloc, "agg_tool")
+        .version("0.1.0")
+        .about(ABOUT)
+        .after_help(AFTER)
+        .subcommand_required(true)
+        .arg_required_else_help(true)
+        .subcommand(task(alloc, "script", SCRIPT_ABOUT, SCRIPT_AFTER))?
+        .subcommand(new_command(alloc)?)?
+        .subcommand(feed_command(alloc)?)?
+        .subcommand(merge_command(alloc)?)?
+        .subcommand(known_command(alloc)?)?
+        .subcommand(answer_command(alloc)?)
+}
+
+/// What the words ask for, of which the first is the program's name.
+pub(crate) fn parse_words<'a, S: AsStr>(
+    alloc: Global,
+    words: &'a [S],
+) -> Result<ArgMatches<'a>, Error> {
+    program(alloc)?.try_get_matches_from(words)
+}

@@ -1,0 +1,64 @@
+//! The commands of `agg_tool`: its command line, the files that it reads and writes, what it says on which stream, and its
+//! status. What the commands make of the files' bytes is proved below, in `file_commands` and `script_machine`.
+#![tactic(auto)]
+
+mod arguments;
+mod files;
+mod problem;
+mod script;
+mod tasks;
+
+use crate::arguments::parse_words;
+use crate::script::run_script;
+use crate::tasks::Session;
+use clap::Error;
+use clap::error::ErrorKind;
+use exit_status::{Ending, status};
+use std::convert::AsStr;
+use std::io::{Read, Write};
+use std::rt::Files;
+
+/// Says why the words are no command line, or shows help or the version.
+fn end_without_command<W: Write, E: Write>(
+    error: &Error,
+    writer: &mut W,
+    errors: &mut E,
+) -> Ending {
+    if error.kind() == ErrorKind::OutOfMemory {
+        let _ = writeln!(writer, "refused NoMemory");
+        let _ = write!(errors, "{error}");
+        return Ending::Refused;
+    }
+    if error.use_stderr() {
+        let _ = write!(errors, "{error}");
+        return Ending::BadUsage;
+    }
+    match write!(writer, "{error}") {
+        Ok(()) => Ending::Done,
+        Err(_) => Ending::Fault,
+    }
+}
+
+/// Runs the command that words ask for, of which the first is the program's name.
+///
+/// Replies and tables go to the writer, sentences for people to `errors`, and only `script` reads from the reader.
+/// The result is the status of the process: 0 where all was done, 1 where something was refused, 2 where the words are
+/// no command line, 3 where a file or a stream could not be read or written.
+pub fn command<R: Files + AllocGlobal, S: AsStr, I: Read, W: Write, E: Write>(
+    rt: &R,
+    words: &[S],
+    reader: &mut I,
+    writer: &mut W,
+    errors: &mut E,
+) -> u8 {
+    let ending = match parse_words(rt.alloc(), words) {
+        Ok(matches) => match matches.subcommand() {
+            Some(("script", _)) => run_script(rt.alloc(), reader, writer, errors),
+            Some((command, matches)) => Session::new(rt, writer, errors).run(command, matches),
+            // The parser wants a command.
+            None => Ending::BadUsage,
+        },
+        Err(error) => end_without_command(&error, writer, errors),
+    };
+    status(ending)
+}

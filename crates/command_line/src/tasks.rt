@@ -1,0 +1,254 @@
+//! What each command does.
+
+use crate::arguments::{BATCH, COLUMNS, FORMAT, IN, OUT, QUERY};
+use crate::files::{read_file, write_file};
+use crate::problem::Problem;
+use clap::ArgMatches;
+use exit_status::{Ending, refusal_ending};
+use file_commands::Format;
+use replica_merge::{Delivered, Replica};
+use script_io::put_all;
+use script_machine::{Refusal, Reply, RunError, put_reply};
+use std::alloc::Global;
+use std::io::Write;
+use std::rt::Files;
+
+/// How sentences name the stream of replies.
+const OUTPUT: &str = "standard output";
+
+/// The value of an argument. The parser has seen to it that there is one.
+fn value<'a>(matches: &ArgMatches<'a>, id: &str) -> &'a str {
+    matches.get_str(id).unwrap_or("")
+}
+
+/// The format of a table, by its name on the command line.
+fn format_named(text: &str) -> Format {
+    if text == "aligned" {
+        Format::Aligned
+    } else {
+        Format::Csv
+    }
+}
+
+/// The replica that a file is the summary of.
+fn open_replica<'p, R: Files + AllocGlobal>(rt: &R, path: &'p str) -> Result<Replica, Problem<'p>> {
+    let file = read_file(rt, path)?;
+    match file_commands::load(rt.alloc(), &file) {
+        Ok(replica) => Ok(replica),
+        Err(why) => Err(Problem::refused(path, why)),
+    }
+}
+
+/// The replica of the texts of a command line, which knows nothing.
+fn new_replica<'p>(alloc: Global, matches: &ArgMatches<'p>) -> Result<Replica, Problem<'p>> {
+    match file_commands::create(alloc, value(matches, COLUMNS), value(matches, QUERY)) {
+        Ok(replica) => Ok(replica),
+        Err(Refusal::BadSchema) => Err(Problem::refused("--columns", Refusal::BadSchema)),
+        Err(why) => Err(Problem::refused("--query", why)),
+    }
+}
+
+/// The replica that a command begins with.
+fn first_replica<'p, R: Files + AllocGlobal>(
+    rt: &R,
+    command: &str,
+    matches: &ArgMatches<'p>,
+) -> Result<Replica, Problem<'p>> {
+    if command == "new" {
+        new_replica(rt.alloc(), matches)
+    } else {
+        open_replica(rt, value(matches, IN))
+    }
+}
+
+/// Feeds the batch of a file to a replica.
+fn feed_file<'p, R: Files + AllocGlobal>(
+    rt: &R,
+    replica: &mut Replica,
+    path: &'p str,
+) -> Result<Delivered, Problem<'p>> {
+    let file = read_file(rt, path)?;
+    match file_commands::feed(rt.alloc(), replica, &file) {
+        Ok(delivered) => Ok(delivered),
+        Err(why) => Err(Problem::refused(path, why)),
+    }
+}
+
+/// Merges the replica of a summary file into another.
+fn merge_file<'p, R: Files + AllocGlobal>(
+    rt: &R,
+    replica: &mut Replica,
+    path: &'p str,
+) -> Result<(), Problem<'p>> {
+    let file = read_file(rt, path)?;
+    match file_commands::merge(rt.alloc(), replica, &file) {
+        Ok(()) => Ok(()),
+        Err(why) => Err(Problem::refused(path, why)),
+    }
+}
+
+/// A command that runs: the files that it reaches, its streams, and whether something was passed over.
+#[derive(Drop)]
+pub(crate) struct Session<'c, R, W, E> {
+    rt: &'c R,
+    writer: &'c mut W,
+    errors: &'c mut E,
+    refused: bool,
+}
+
+impl<'c, R: Files + AllocGlobal, W: Write, E: Write> Session<'c, R, W, E> {
+    /// Nothing was done yet.
+    pub(crate) fn new(rt: &'c R, writer: &'c mut W, errors: &'c mut E) -> Session<'c, R, W, E> {
+        Session {
+            rt,
+            writer,
+            errors,
+            refused: false,
+        }
+    }
+
+    /// Writes a reply.
+    fn reply(&mut self, reply: &Reply<'_>) -> Result<(), Problem<'static>> {
+        match put_reply(self.writer, reply) {
+            Ok(()) => Ok(()),
+            Err(_) => Err(Problem::refused(OUTPUT, Refusal::Run(RunError::WriteFault))),
+        }
+    }
+
+    /// Writes a text.
+    fn print(&mut self, text: &[u8]) -> Result<(), Problem<'static>> {
+        match put_all(self.writer, text) {
+            Ok(()) => Ok(()),
+            Err(_) => Err(Problem::refused(OUTPUT, Refusal::Run(RunError::WriteFault))),
+        }
+    }
+
+    /// Writes a sentence of what was refused.
+    fn complain(&mut self, problem: &Problem<'_>) {
+        // Nothing is left to do where the sentence can't be written.
+        let _ = writeln!(self.errors, "{problem}");
+    }
+
+    /// Goes on behind a file that was refused. One that could not be read ends the command.
+    fn pass_over<'p>(&mut self, problem: Problem<'p>) -> Result<(), Problem<'p>> {
+        if problem.is_fault() {
+            return Err(problem);
+        }
+        self.refused = true;
+        self.complain(&problem);
+        self.reply(&Reply::Refused(problem.why))
+    }
+
+    /// Writes the summary file of a replica.
+    fn save<'p>(&mut self, replica: &Replica, path: &'p str) -> Result<(), Problem<'p>> {
+        let file = match file_commands::save(replica) {
+            Ok(file) => file,
+            Err(why) => return Err(Problem::refused(path, why)),
+        };
+        write_file(self.rt, path, &file)?;
+        self.reply(&Reply::Saved(file.len()))
+    }
+
+    /// Feeds the batches of files to a replica, each with its reply.
+    fn feed_files<'p>(
+        &mut self,
+        replica: &mut Replica,
+        matches: &ArgMatches<'p>,
+    ) -> Result<(), Problem<'p>> {
+        let Some(paths) = matches.get_strs(BATCH) else {
+            return Ok(());
+        };
+        for path in paths {
+            match feed_file(self.rt, replica, *path) {
+                Ok(delivered) => self.reply(&Reply::Delivered(delivered))?,
+                Err(problem) => self.pass_over(problem)?,
+            }
+        }
+        Ok(())
+    }
+
+    /// Merges the summaries after the first into its replica, each with its reply.
+    fn merge_files<'p>(
+        &mut self,
+        replica: &mut Replica,
+        matches: &ArgMatches<'p>,
+    ) -> Result<(), Problem<'p>> {
+        let Some(paths) = matches.get_strs(IN) else {
+            return Ok(());
+        };
+        for path in paths.iter().skip(1) {
+            match merge_file(self.rt, replica, *path) {
+                Ok(()) => self.reply(&Reply::Merged)?,
+                Err(problem) => self.pass_over(problem)?,
+            }
+        }
+        Ok(())
+    }
+
+    /// Lists what a replica knows.
+    fn list<'p>(&mut self, replica: &Replica, path: &'p str) -> Result<(), Problem<'p>> {
+        match file_commands::origin_list(self.rt.alloc(), replica) {
+            Ok(lines) => self.print(&lines),
+            Err(_) => Err(Problem::refused(path, Refusal::NoMemory)),
+        }
+    }
+
+    /// Prints the answer of a replica.
+    fn answer<'p>(
+        &mut self,
+        replica: &Replica,
+        path: &'p str,
+        format: Format,
+    ) -> Result<(), Problem<'p>> {
+        match file_commands::table(self.rt.alloc(), replica, format) {
+            Ok(table) => self.print(&table),
+            Err(_) => Err(Problem::refused(path, Refusal::NoMemory)),
+        }
+    }
+
+    /// Does what a command asks of its replica.
+    fn perform<'p>(
+        &mut self,
+        replica: &mut Replica,
+        command: &str,
+        matches: &ArgMatches<'p>,
+    ) -> Result<(), Problem<'p>> {
+        let input = value(matches, IN);
+        match command {
+            "known" => return self.list(replica, input),
+            "answer" => return self.answer(replica, input, format_named(value(matches, FORMAT))),
+            "feed" => self.feed_files(replica, matches)?,
+            "merge" => self.merge_files(replica, matches)?,
+            _ => {}
+        }
+        self.save(replica, value(matches, OUT))
+    }
+
+    /// Runs a command on files: each begins with one replica.
+    fn run_command<'p>(
+        &mut self,
+        command: &str,
+        matches: &ArgMatches<'p>,
+    ) -> Result<(), Problem<'p>> {
+        let mut replica = first_replica(self.rt, command, matches)?;
+        self.perform(&mut replica, command, matches)
+    }
+
+    /// Ends a command that stopped.
+    fn stop(&mut self, problem: Problem<'_>) -> Ending {
+        self.complain(&problem);
+        match self.reply(&Reply::Refused(problem.why)) {
+            Ok(()) => refusal_ending(problem.why),
+            Err(_) => Ending::Fault,
+        }
+    }
+
+    /// Runs a command on files, and tells how it ended.
+    pub(crate) fn run(mut self, command: &str, matches: &ArgMatches<'_>) -> Ending {
+        match self.run_command(command, matches) {
+            Ok(()) if self.refused => Ending::Refused,
+            Ok(()) => Ending::Done,
+            Err(problem) => self.stop(problem),
+        }
+    }
+}

@@ -1,0 +1,124 @@
+-- Why a file is refused, by the refusal, and what the batch of a batch file is.
+use Rattle.std.specs.Prelude.{◌≡◌, ◌≢◌, ◌≤◌, ℕ, List, length, Option, Some, None, IsSomeAnd, [], refl, Result, Ok, Err, IfErr, OnOk}
+use Rattle.std.proofs.Common.{subst, sym}
+use Rattle.grouping_model.specs.Datum.{Kind, Row}
+use Rattle.grouping_model.specs.World.{World, IsWorld, learn}
+use Rattle.grouping_model.specs.Replies.{reply_of}
+use Rattle.grouping_model.specs.declared.delivered.Delivered.{Delivered}
+use Rattle.grouping_model.specs.declared.limits.TheConstants.{MOST_ROWS}
+use Rattle.packed_rows.specs.Columns.{Column, kinds, IsSchemaText}
+use Rattle.having_filter.specs.Meaning.{Checked}
+use Rattle.group_parser.specs.Parsing.{Accepts}
+use Rattle.batch_reader.specs.File.{BatchFile}
+use Rattle.batch_reader.specs.Head.{ReadsOrigin, ReadsBatchNumber}
+use Rattle.batch_reader.specs.Rows.{ReadsRows, ArePackedRows, packings}
+use Rattle.replica_merge.specs.Replicas.{Held, told, Fits, SameQuery, DisagreeSomewhere}
+use Rattle.replica_merge.specs.declared.error.MergeError.{MergeError}
+use Rattle.replica_merge.specs.declared.error.MergeError.TheVariants as merge
+use Rattle.summary_codec.specs.Reading.{HasFault}
+use Rattle.summary_codec.specs.declared.error.SummaryError.{SummaryError}
+use Rattle.summary_codec.specs.declared.error.SummaryError.TheVariants as summary
+use Rattle.script_machine.specs.FileRefusals.{summary_refusal, merge_refusal}
+use Rattle.script_machine.specs.Machine.{IsBatch}
+use Rattle.script_machine.specs.declared.refusal.Refusal.{Refusal}
+use Rattle.script_machine.specs.declared.refusal.Refusal.TheVariants as refuse
+use Rattle.script_machine.proofs.FeedLaws.{built, built_batch}
+use Rattle.script_machine.proofs.QueryLaws.{read_over}
+use Rattle.file_commands.specs.Commands.{IsNew, IsNoSummary, IsApart, TakesFile, IsOtherFile}
+
+-- bytes are no summary file, by the refusal of their first fault
+pub no_summary : (file : List ℕ) (e : SummaryError) → (e ≢ summary.NoMemory → HasFault file e) → IsNoSummary file (summary_refusal e)
+no_summary file summary.NoMemory fault = tt
+no_summary file summary.NotASummary fault = fault (λ is. cc is)
+no_summary file summary.Truncated fault = fault (λ is. cc is)
+no_summary file summary.Trailing fault = fault (λ is. cc is)
+no_summary file summary.NotCanonical fault = fault (λ is. cc is)
+no_summary file summary.OutOfRange fault = fault (λ is. cc is)
+no_summary file summary.BadSchema fault = fault (λ is. cc is)
+no_summary file summary.BadPacked fault = fault (λ is. cc is)
+no_summary file summary.BadState fault = fault (λ is. cc is)
+no_summary file (summary.Query error) fault = fault (λ is. cc is)
+
+-- a replica is not merged, by why it is not
+pub apart : (old other : Held) (e : MergeError) → (e ≡ merge.DifferentQuery → ¬ (SameQuery old.query other.query))
+    → (e ≡ merge.OriginDisagrees → DisagreeSomewhere old.parts other.parts) → IsApart old other (merge_refusal e)
+apart old other merge.NoMemory different disagrees = tt
+apart old other merge.DifferentQuery different disagrees = different refl
+apart old other merge.OriginDisagrees different disagrees = disagrees refl
+
+-- what follows from why a call failed
+pub if_err : {T : Type 0} (result : Result T Refusal) (P Q : Refusal → Type 0) → ((why : Refusal) → P why → Q why) → IfErr result P → IfErr result Q
+if_err (Ok x) P Q follows failed = failed
+if_err (Err why) P Q follows failed = follows why failed
+
+-- what follows from what a call did
+pub on_ok : {T : Type 0} (result : Result T Refusal) (P Q : Type 0) → (P → Q) → OnOk result P → OnOk result Q
+on_ok (Ok x) P Q follows done = follows done
+on_ok (Err why) P Q follows done = done
+
+-- disagreement is told where a merge tells it
+pub told_disagreement : (e : MergeError) → merge_refusal e ≡ refuse.OriginDisagrees → e ≡ merge.OriginDisagrees
+told_disagreement merge.NoMemory is = cc is
+told_disagreement merge.DifferentQuery is = cc is
+told_disagreement merge.OriginDisagrees is = refl
+
+-- the batch of a file, and the rows that its packed rows are of
+abbrev pub FileBatch : List Kind → Option BatchFile → (origin number : ℕ) → (packed : List (List ℕ)) → Type 0
+FileBatch ks file origin number packed =
+    IsSomeAnd file (λ read. (rows : List Row) × IsBatch ks read.head.origin read.head.number read.head.told read.records (record { origin = origin; number = number; rows = rows })
+    × ReadsRows ks read.records rows × (packed ≡ packings rows))
+
+-- what reading a batch file tells is its batch
+pub read_of_file : (ks : List Kind) (file : Option BatchFile) (origin number : ℕ) (packed : List (List ℕ))
+    → IsSomeAnd file (λ read. ReadsOrigin read.head.origin origin) → IsSomeAnd file (λ read. ReadsBatchNumber read.head.number number)
+    → length packed ≤ MOST_ROWS → IsSomeAnd file (λ read. length packed ≡ read.head.told)
+    → IsSomeAnd file (λ read. (rows : List Row) × ReadsRows ks read.records rows × (packed ≡ packings rows)) → FileBatch ks file origin number packed
+read_of_file ks None origin number packed reads_origin reads_number few counted rows = absurd reads_origin
+read_of_file ks (Some read) origin number packed reads_origin reads_number few counted rows = (
+  rows.0,
+  built_batch ks read.head.origin read.head.number read.head.told read.records origin number packed rows.0 reads_origin reads_number few counted rows.1 rows.2,
+  rows.1,
+  rows.2,
+)
+
+-- its rows are packed
+pub packed_of_file : (ks : List Kind) (file : Option BatchFile) (origin number : ℕ) (packed : List (List ℕ)) → FileBatch ks file origin number packed
+    → length packed ≤ MOST_ROWS → ArePackedRows ks packed
+packed_of_file ks None origin number packed found few = absurd found
+packed_of_file ks (Some read) origin number packed found few = built ks read.records found.0 packed found.2 found.3 few
+
+-- a replica that takes it takes the file
+pub takes_file : (file : Option BatchFile) (old new : Held) (delivered : Delivered) (origin number : ℕ) (packed : List (List ℕ))
+    → FileBatch (kinds old.query.columns) file origin number packed → delivered ≡ reply_of (told old.parts) (origin, number)
+    → told new.parts ≡ learn (told old.parts) (origin, number)
+    → ((world : World) (those : List Row) → IsWorld (kinds old.query.columns) world → Fits world old → world origin number ≡ Some those → packed ≡ packings those → Fits world new)
+    → new.query ≡ old.query → TakesFile file old new delivered
+takes_file None old new delivered origin number packed found replied learns fits asked = absurd found
+takes_file (Some read) old new delivered origin number packed found replied learns fits asked =
+    record {
+      fed = record { origin = origin; number = number; rows = found.0 };
+      is_batch = found.1;
+      reply = replied;
+      learns = learns;
+      fits = λ world is fit there. fits world found.0 is fit there found.3;
+      asked = asked;
+    }
+
+-- one that disagrees with it disagrees with the file
+pub other_file : (file : Option BatchFile) (held : Held) (origin number : ℕ) (packed : List (List ℕ))
+    → FileBatch (kinds held.query.columns) file origin number packed
+    → ((world : World) (those : List Row) → Fits world held → world origin number ≡ Some those → packed ≢ packings those) → IsOtherFile file held
+other_file None held origin number packed found never = absurd found
+other_file (Some read) held origin number packed found never =
+    record {
+      fed = record { origin = origin; number = number; rows = found.0 };
+      is_batch = found.1;
+      never = λ world fit there. never world found.0 fit there found.3;
+    }
+
+-- the replica of a query that a text says over the columns of another
+pub new_replica : (text query : List ℕ) (columns : List Column) (q : Checked) → IsSchemaText text columns → Accepts columns query q
+    → IsNew text query (record { query = q; parts = [] })
+new_replica text query columns q is_schema accepted =
+    let same : columns ≡ q.columns = sym (read_over columns query q accepted) in
+    record { columns_are = subst (IsSchemaText text) same is_schema; query_is = subst (λ c. Accepts c query q) same accepted; empty = refl }

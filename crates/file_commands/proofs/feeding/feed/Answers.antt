@@ -1,0 +1,31 @@
+use Rattle.std.specs.Prelude.{◌≡◌}
+use Rattle.std.proofs.Common.{◌∙◌, ap, sym, subst}
+use Rattle.packed_rows.specs.Columns.{kinds}
+use Rattle.batch_reader.specs.File.{read_file}
+use Rattle.having_filter.specs.Meaning.{Checked}
+use Rattle.script_machine.proofs.FeedLaws.{other_why}
+use Rattle.file_commands.proofs.FileLaws.{FileBatch, read_of_file, packed_of_file, takes_file, other_file}
+use Rattle.file_commands.proofs.feeding.feed.Goals as goal
+
+pub deliver-requires-clause-rows : goal.deliver-requires-clause-rows
+deliver-requires-clause-rows c =
+    let batch = c.in_ok-batch.ensures in
+    let same : c.schema-schema.result.now ≡ c.args.replica.now.query.columns = c.schema-schema.ensures.columns ∙ ap (λ (q : Checked). q.columns) c.query.ensures in
+    let found = read_of_file _ _ _ _ _ batch.origin batch.number batch.few batch.told batch.rows in
+    packed_of_file _ _ _ _ _ (subst (λ columns. FileBatch (kinds columns) (read_file c.args.file.now) c.in_ok-batch.batch.origin c.in_ok-batch.batch.number c.in_ok-batch.batch.rows) same found) batch.few
+
+pub returns-in-Ok-clause-took : goal.returns-in-Ok-clause-took
+returns-in-Ok-clause-took c =
+    let batch = c.in_ok-batch.ensures in
+    let same : c.schema-schema.result.now ≡ c.args.replica.now.query.columns = c.schema-schema.ensures.columns ∙ ap (λ (q : Checked). q.columns) c.query.ensures in
+    let found = read_of_file _ _ _ _ _ batch.origin batch.number batch.few batch.told batch.rows in
+    let done = c.in-Ok.ensures in
+    takes_file _ _ _ _ _ _ _ (subst (λ columns. FileBatch (kinds columns) (read_file c.args.file.now) c.in_ok-batch.batch.origin c.in_ok-batch.batch.number c.in_ok-batch.batch.rows) same found) done.reply done.told done.fits done.query
+
+pub returns-in-Err-clause-other : goal.returns-in-Err-clause-other
+returns-in-Err-clause-other c = λ is.
+    let batch = c.in_ok-batch.ensures in
+    let same : c.schema-schema.result.now ≡ c.args.replica.now.query.columns = c.schema-schema.ensures.columns ∙ ap (λ (q : Checked). q.columns) c.query.ensures in
+    let found = read_of_file _ _ _ _ _ batch.origin batch.number batch.few batch.told batch.rows in
+    other_file _ _ _ _ _ (subst (λ columns. FileBatch (kinds columns) (read_file c.args.file.now) c.in_ok-batch.batch.origin c.in_ok-batch.batch.number c.in_ok-batch.batch.rows) same found)
+    (c.in-Err.ensures.agrees (other_why c.in-Err.refused.why (sym c.from.ensures ∙ is)))

@@ -1,0 +1,88 @@
+-- What the program's commands make of files. A batch file means what a feed of its batch means in a script, and a summary file what
+-- the replica means that it is of. All of this is our own.
+use Rattle.std.specs.Prelude.{ℕ, ◌≡◌, ◌<◌, ◌⊎◌, List, [], length, Option, Some, None, IsSomeAnd}
+use Rattle.grouping_model.specs.Aggregates.{Outcome}
+use Rattle.grouping_model.specs.Datum.{Kind}
+use Rattle.grouping_model.specs.World.{World, IsWorld, union}
+use Rattle.grouping_model.specs.declared.delivered.Delivered.{Delivered}
+use Rattle.grouping_model.specs.declared.limits.TheConstants.{LONGEST_SCRIPT}
+use Rattle.packed_rows.specs.Columns.{Column, kinds, IsSchemaText}
+use Rattle.having_filter.specs.Kept.{headers}
+use Rattle.having_filter.specs.Meaning.{Checked}
+use Rattle.group_parser.specs.Parsing.{Accepts}
+use Rattle.batch_reader.specs.File.{BatchFile}
+use Rattle.batch_reader.specs.declared.error.BatchError.TheVariants as batch
+use Rattle.summary_codec.specs.Reading.{IsSummary, HasFault}
+use Rattle.replica_merge.specs.Replicas.{Held, told, Fits, SameQuery, DisagreeSomewhere}
+use Rattle.table_print.specs.Aligned.{aligned_text, sides}
+use Rattle.table_print.specs.Table.{table_text}
+use Rattle.script_machine.specs.Machine.{IsNoQuery, IsNoBatch}
+use Rattle.script_machine.specs.Views.{Takes, IsOtherBatch}
+use Rattle.script_machine.specs.declared.error.RunError.TheVariants.{InputTooLong}
+use Rattle.script_machine.specs.declared.refusal.Refusal.{Refusal}
+use Rattle.script_machine.specs.declared.refusal.Refusal.TheVariants.{NoMemory, BadSchema, Batch, Summary, DifferentQuery, OriginDisagrees, Run}
+use Rattle.file_commands.specs.declared.asking.Format.{Format}
+use Rattle.file_commands.specs.declared.asking.Format.TheVariants.{Csv, Aligned}
+
+-- a replica that knows nothing, of a query over columns, as two texts say them
+pub record IsNew (columns query : List ℕ) (held : Held) : Type 0 where
+  pub columns_are : IsSchemaText columns held.query.columns
+  pub query_is : Accepts held.query.columns query held.query
+  pub empty : held.parts ≡ []
+
+-- why two texts make no replica: the first tells no columns, or else the second is no query over them
+abbrev pub IsNotNew : (columns query : List ℕ) → Refusal → Type 0
+IsNotNew columns query BadSchema = (found : List Column) → ¬ (IsSchemaText columns found)
+IsNotNew columns query why = (found : List Column) × IsSchemaText columns found × IsNoQuery found query why
+
+-- a replica takes the batch of a batch file
+abbrev pub TakesFile : Option BatchFile → (old new : Held) → Delivered → Type 0
+TakesFile file old new delivered = IsSomeAnd file (λ read. Takes read.head.origin read.head.number read.head.told read.records old new delivered)
+
+-- why a file is no batch file of these columns: its head is bad, or else it is refused as a feed is
+abbrev pub IsNoBatchFile : List Kind → Option BatchFile → Refusal → Type 0
+IsNoBatchFile kinds None why = why ≡ Batch batch.BadBatchHead
+IsNoBatchFile kinds (Some read) why = IsNoBatch kinds read.head.origin read.head.number read.head.told read.records why
+
+-- the batch of a file disagrees with what a replica holds: no world that this fits has the batch
+abbrev pub IsOtherFile : Option BatchFile → Held → Type 0
+IsOtherFile file held = IsSomeAnd file (λ read. IsOtherBatch read.head.origin read.head.number read.head.told read.records held)
+
+-- why bytes are no summary file: their first fault, unless memory ran out
+abbrev pub IsNoSummary : List ℕ → Refusal → Type 0
+IsNoSummary file NoMemory = Unit {0}
+IsNoSummary file (Summary error) = HasFault file error
+IsNoSummary file why = ⊥
+
+-- a replica takes in another: afterwards it knows the union, and fits each world that both fitted
+pub record MergesHeld (old other new : Held) : Type 0 where
+  pub same : other.query ≡ old.query
+  pub asked : new.query ≡ old.query
+  pub knows : told new.parts ≡ union (told old.parts) (told other.parts)
+  pub fits : (world : World) → IsWorld (kinds old.query.columns) world → Fits world old → Fits world other → Fits world new
+
+-- the same for the replica that a summary file is of
+abbrev pub MergesFile : List ℕ → (old new : Held) → Type 0
+MergesFile file old new = (other : Held) × IsSummary file other.query other.parts × MergesHeld old other new
+
+-- why a replica is not merged into another, unless memory ran out: it has another query, or one number of an origin has two batches
+abbrev pub IsApart : (old other : Held) → Refusal → Type 0
+IsApart old other NoMemory = Unit {0}
+IsApart old other DifferentQuery = ¬ (SameQuery old.query other.query)
+IsApart old other OriginDisagrees = DisagreeSomewhere old.parts other.parts
+IsApart old other why = ⊥
+
+-- why a file is not merged into a replica: it is no summary file, or its replica is not merged
+abbrev pub IsNotMerged : List ℕ → Held → Refusal → Type 0
+IsNotMerged file old why = IsNoSummary file why ⊎ ((other : Held) × IsSummary file other.query other.parts × IsApart old other why)
+
+-- why a replica is not saved, unless memory ran out: its file would be longer than what is read
+abbrev pub IsTooLong : Held → Refusal → Type 0
+IsTooLong held NoMemory = Unit {0}
+IsTooLong held (Run InputTooLong) = (file : List ℕ) × IsSummary file held.query held.parts × (LONGEST_SCRIPT < length file)
+IsTooLong held why = ⊥
+
+-- the text of an answer in a format
+abbrev pub text_of : Format → Checked → List (List Outcome) → List ℕ
+text_of Csv query rows = table_text (headers query) rows
+text_of Aligned query rows = aligned_text (sides query) (headers query) rows

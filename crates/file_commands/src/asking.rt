@@ -1,0 +1,61 @@
+//! What a replica knows and answers, as text.
+
+ghost use Rattle.std.specs.Prelude.{◌≡◌, All, IfOk, length};
+ghost use Rattle.grouping_model.specs.Answer.{answer};
+ghost use Rattle.grouping_model.specs.Replies.{known_list};
+ghost use Rattle.grouping_model.specs.World.{World, IsWorld};
+ghost use Rattle.having_filter.specs.Meaning.{meaning};
+ghost use Rattle.packed_rows.specs.Columns.{kinds};
+ghost use Rattle.replica_merge.specs.Replicas.{told, Fits};
+ghost use Rattle.script_machine.specs.Text.{origins_text};
+ghost use Rattle.file_commands.specs.Commands.{text_of};
+
+use having_filter::{Answer, Query};
+use replica_merge::Replica;
+use script_machine::origin_lines;
+use std::alloc::{AllocError, Global};
+use table_print::{print_aligned, print_csv};
+
+/// How a table is written.
+#[derive(Clone, Copy, Debug, PartialEq, Eq)]
+pub enum Format {
+    /// Comma-separated values, as `print_csv` writes them.
+    Csv,
+    /// Columns below one another, as `print_aligned` writes them.
+    Aligned,
+}
+
+/// What a replica knows: a line `origin O upto P` for each origin of which it knows a batch, by rising origin, and the numbers
+/// that came early behind it. The only error is a failed allocation.
+pub fn origin_list(alloc: Global, replica: &Replica) -> Result<Vec<u8>, AllocError>
+    ensures { IfOk result (λ lines. lines.items ≡ origins_text (known_list (told replica.now.parts))) }
+{
+    let list = replica.known()?;
+    origin_lines(alloc, &list)
+}
+
+/// An answer's table in a format.
+fn print(
+    alloc: Global,
+    query: &Query,
+    answer: &Answer,
+    format: Format,
+) -> Result<Vec<u8>, AllocError>
+    requires { All (λ row. length row ≡ length (meaning query.now).items) answer.now }
+    ensures { IfOk result (λ text. text.items ≡ text_of format query.now answer.now) }
+{
+    match format {
+        Format::Csv => print_csv(alloc, query, answer),
+        Format::Aligned => print_aligned(alloc, query, answer),
+    }
+}
+
+/// The table of a replica's answer. The only error is a failed allocation.
+pub fn table(alloc: Global, replica: &Replica, format: Format) -> Result<Vec<u8>, AllocError>
+    ensures { IfOk result (λ text. (world : World) → IsWorld (kinds replica.now.query.columns) world →
+        Fits world replica.now → text.items ≡ text_of format replica.now.query
+        (answer (meaning replica.now.query) world (told replica.now.parts))) }
+{
+    let answer = replica.answer()?;
+    print(alloc, replica.query(), &answer, format)
+}

@@ -1,0 +1,77 @@
+//! New replicas, and replicas as summary files.
+
+ghost use Rattle.std.specs.Prelude.{◌≡◌, ◌≢◌, ◌≤◌, IfOk, IfErr, length, List};
+ghost use Rattle.grouping_model.specs.World.{World};
+ghost use Rattle.grouping_model.specs.declared.limits.TheConstants.{LONGEST_SCRIPT};
+ghost use Rattle.packed_rows.specs.Columns.{Column, IsSchemaText};
+ghost use Rattle.summary_codec.specs.Reading.{IsSummary};
+ghost use Rattle.summary_codec.specs.WorldFile.{world_file};
+ghost use Rattle.replica_merge.specs.Replicas.{Held, told, Fits};
+ghost use Rattle.script_machine.specs.declared.refusal.Refusal.TheVariants.{NoMemory, BadSchema};
+ghost use Rattle.file_commands.specs.Commands.{IsNew, IsNotNew, IsNoSummary, IsTooLong};
+
+use group_parser::parse;
+use grouping_model::limits::LONGEST_SCRIPT;
+use packed_rows::{RowError, Schema};
+use replica_merge::Replica;
+use script_machine::{Refusal, RunError};
+use std::alloc::Global;
+
+/// The columns that a text tells.
+fn read_schema(alloc: Global, text: &str) -> Result<Schema, Refusal>
+    ensures schema { IfOk result (λ schema. IsSchemaText text.now schema) }
+    ensures why { IfErr result (λ why. why ≢ NoMemory → (why ≡ BadSchema)
+        × ((columns : List Column) → ¬ (IsSchemaText text.now columns))) }
+{
+    match Schema::parse(alloc, text) {
+        Ok(schema) => Ok(schema),
+        Err(RowError::BadSchema) => Err(Refusal::BadSchema),
+        // The only other error is that memory ran out.
+        Err(_) => Err(Refusal::NoMemory),
+    }
+}
+
+/// A replica that knows nothing, of the query that one text says over the columns that another tells, as `columns` and
+/// `query` do in a script.
+///
+/// # Errors
+///
+/// `BadSchema`, and then the errors of [`parse`].
+pub fn create(alloc: Global, columns: &str, query: &str) -> Result<Replica, Refusal>
+    ensures made { IfOk result (IsNew columns.now query.now) }
+    ensures why { IfErr result (λ why. why ≢ NoMemory → IsNotNew columns.now query.now why) }
+{
+    let schema = read_schema(alloc, columns)?;
+    let query = parse(alloc, &schema, query)?;
+    Ok(Replica::new(alloc, query))
+}
+
+/// The replica that a summary file is of. Any bytes are read: those that are no summary file are refused by their first fault.
+pub fn load(alloc: Global, file: &[u8]) -> Result<Replica, Refusal>
+    ensures loaded { IfOk result (λ replica.
+        IsSummary file.now replica.query replica.parts) }
+    // What a replica saved is that replica.
+    ensures saved { IfOk result (λ replica. (held : Held) →
+        IsSummary file.now held.query held.parts → replica ≡ held) }
+    ensures why { IfErr result (IsNoSummary file.now) }
+{
+    Ok(Replica::load(alloc, file)?)
+}
+
+/// The summary file of a replica: the one spelling of its query and of what it knows. A file that would be longer than the
+/// 67,108,864 bytes that are read is `InputTooLong`.
+pub fn save(replica: &Replica) -> Result<Vec<u8>, Refusal>
+    ensures file { IfOk result (λ bytes.
+        IsSummary bytes.items replica.now.query replica.now.parts) }
+    ensures short { IfOk result (λ bytes. length bytes.items ≤ LONGEST_SCRIPT) }
+    // So replicas that tell the same batches of a world are saved as equal bytes.
+    ensures world { IfOk result (λ bytes. (world : World) → Fits world replica.now →
+        bytes.items ≡ world_file replica.now.query world (told replica.now.parts)) }
+    ensures why { IfErr result (IsTooLong replica.now) }
+{
+    let file = replica.save()?;
+    if file.len() > LONGEST_SCRIPT {
+        return Err(Refusal::Run(RunError::InputTooLong));
+    }
+    Ok(file)
+}

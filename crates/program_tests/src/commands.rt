@@ -1,0 +1,134 @@
+//! What the commands print, the files that they leave, and their statuses.
+
+use crate::folder::{File, play};
+use std::test::*;
+
+/// Batch files: one of a first batch of three rows, and others that are refused.
+const BATCHES: [File; 9] = [
+    ("b.csv", b"batch,0,1,3\noslo,5\nbergen,7\noslo,-2\n"),
+    ("empty.csv", b""),
+    ("head.csv", b"batch,1024,1,0\n"),
+    ("width.csv", b"batch,0,1\n"),
+    ("many.csv", b"batch,0,1,65537\n"),
+    ("count.csv", b"batch,0,1,2\noslo,5\n"),
+    ("more.csv", b"batch,0,1,1\noslo,5\noslo,6\n"),
+    ("wide.csv", b"batch,0,1,1\noslo,5,6\n"),
+    ("field.csv", b"batch,0,1,1\noslo,x\n"),
+];
+
+/// Commands, each with what it prints on standard output, where `/` stands for the end of a line, its status, and, behind that,
+/// what its sentences have. Behind `?` stands what is done, or asked, of the files beside: status 0 is yes.
+const PROGRAM: &str = "\
+new|@e.sum|--columns|c text, d bigint|--query|SELECT c, count(*), sum(d) FROM batches GROUP BY c => saved 80/ => 0
+feed|@f.sum|@e.sum|@b.csv => folded upto 1/saved 180/ => 0
+answer|@f.sum|--format|aligned => c      | count | sum/-------+-------+----/bergen |     1 |   7/oslo   |     2 |   3/ => 0
+answer|@f.sum => c,count,sum/bergen,1,7/oslo,2,3/ => 0
+answer|@f.sum|--format=csv => c,count,sum/bergen,1,7/oslo,2,3/ => 0
+known|@e.sum => - => 0
+known|@f.sum => origin 0 upto 1/ => 0
+merge|@g.sum|@f.sum|@none.sum => refused ReadFault/ => 3 => none.sum: refused ReadFault
+feed|@f.sum|@f.sum|@b.csv|@b.csv => known/known/saved 180/ => 0
+merge|@g.sum|@f.sum => saved 180/ => 0
+merge|@h.sum|@e.sum|@f.sum|@g.sum => merged/merged/saved 180/ => 0
+?same|@f.sum|@h.sum => - => 0
+?there|@f.sum.part0 => - => 1
+";
+
+#[test]
+fn files_are_made_fed_merged_and_asked(rt: HostRuntime) -> Result<(), Fail> {
+    assert_eq!(rt; play(&rt, "program", &BATCHES, PROGRAM)?.as_str(), "");
+    Ok(())
+}
+
+/// Files that are passed over: the others are taken.
+const PASSED_OVER: &str = "\
+new|@e.sum|--columns|c text, d bigint|--query|SELECT count(*) FROM batches => saved 58/ => 0
+new|@o.sum|--columns|c text, d bigint|--query|SELECT sum(d) FROM batches => saved 56/ => 0
+feed|@f.sum|@e.sum|@empty.csv|@b.csv => refused BadBatchHead/folded upto 1/saved 86/ => 1 => empty.csv: refused BadBatchHead
+feed|@g.sum|@e.sum|@head.csv|@width.csv|@many.csv => refused BadBatchHead/refused BadBatchHead/refused TooManyRows/saved 58/ => 1 => many.csv: refused TooManyRows
+feed|@g.sum|@e.sum|@count.csv|@more.csv|@wide.csv => refused RowCount/refused RowCount/refused WrongWidth/saved 58/ => 1 => wide.csv: refused WrongWidth
+feed|@g.sum|@e.sum|@field.csv => refused BadField/saved 58/ => 1 => field.csv: refused BadField: a field stands for no value of column 1, the first being column 0
+merge|@g.sum|@f.sum|@o.sum|@b.csv|@e.sum => refused DifferentQuery/refused NotASummary/merged/saved 86/ => 1 => b.csv: refused NotASummary
+feed|@g.sum|@e.sum|@b.csv|@none.csv|@b.csv => folded upto 1/refused ReadFault/ => 3 => none.csv: refused ReadFault
+";
+
+#[test]
+fn refused_files_are_passed_over(rt: HostRuntime) -> Result<(), Fail> {
+    assert_eq!(rt; play(&rt, "passed", &BATCHES, PASSED_OVER)?.as_str(), "");
+    Ok(())
+}
+
+/// Commands that write nothing: `x.sum` is never there.
+const REFUSED: &str = "\
+new|@e.sum|--columns|c text|--query|SELECT c FROM batches GROUP BY c => saved 52/ => 0
+new|@x.sum|--columns|c texts|--query|SELECT c FROM batches GROUP BY c => refused BadSchema/ => 1 => --columns: refused BadSchema
+new|@x.sum|--columns|c text|--query|SELECT d FROM batches GROUP BY d => refused NoSuchColumn/ => 1 => --query: refused NoSuchColumn
+new|@x.sum|--columns|c text|--query|SELECT c FROM => refused Syntax/ => 1 => --query: refused Syntax: syntax error at byte 13
+new|@none/x.sum|--columns|c text|--query|SELECT c FROM batches GROUP BY c => refused WriteFault/ => 3 => x.sum: refused WriteFault
+feed|@x.sum|@none.sum|@b.csv => refused ReadFault/ => 3 => none.sum: refused ReadFault
+feed|@x.sum|@b.csv|@b.csv => refused NotASummary/ => 1 => b.csv: refused NotASummary
+merge|@x.sum|@b.csv|@e.sum => refused NotASummary/ => 1 => b.csv: refused NotASummary
+known|@b.csv => refused NotASummary/ => 1 => b.csv: refused NotASummary
+answer|@none.sum => refused ReadFault/ => 3 => none.sum: refused ReadFault
+answer|@ => refused ReadFault/ => 3 => refused ReadFault
+feed|@x.sum|@e.sum => - => 2 => BATCH
+merge|@x.sum => - => 2 => IN
+answer|@e.sum|--format|xml => - => 2 => xml
+new|@x.sum|--columns|c text => - => 2 => --query
+group|@x.sum => - => 2 => group
+?there|@x.sum => - => 1
+";
+
+#[test]
+fn refused_commands_write_no_file(rt: HostRuntime) -> Result<(), Fail> {
+    assert_eq!(rt; play(&rt, "refused", &BATCHES, REFUSED)?.as_str(), "");
+    Ok(())
+}
+
+/// Two sites that take the batches of two origins in different orders, and exchange their files.
+const SITES: &str = "\
+?link|@link.sum|target.sum => - => 0
+new|@e.sum|--columns|c text, d bigint|--query|SELECT c, sum(d) FROM batches GROUP BY c => saved 70/ => 0
+feed|@a.sum|@e.sum|@1.csv|@3.csv => folded upto 1/early/saved 145/ => 0
+feed|@b.sum|@e.sum|@4.csv|@2.csv => folded upto 1/early/saved 163/ => 0
+known|@a.sum => origin 0 upto 1 early 3/ => 0
+merge|@ab.sum|@a.sum|@b.sum => merged/saved 170/ => 0
+merge|@ba.sum|@b.sum|@a.sum => merged/saved 170/ => 0
+known|@ab.sum => origin 0 upto 3/origin 1 upto 1/ => 0
+answer|@ba.sum => c,sum/oslo,10/ => 0
+feed|@a.sum|@a.sum|@other.csv => refused OriginDisagrees/saved 145/ => 1 => other.csv: refused OriginDisagrees
+feed|@link.sum|@a.sum|@4.csv|@2.csv => folded upto 1/folded upto 3/saved 170/ => 0
+?same|@ab.sum|@ba.sum => - => 0
+?same|@ab.sum|@target.sum => - => 0
+";
+
+/// The batches of the sites, each of a row.
+const STREAMS: [File; 6] = [
+    ("target.sum", b""),
+    ("1.csv", b"batch,0,1,1\noslo,1\n"),
+    ("2.csv", b"batch,0,2,1\noslo,2\n"),
+    ("3.csv", b"batch,0,3,1\noslo,3\n"),
+    ("4.csv", b"batch,1,1,1\noslo,4\n"),
+    ("other.csv", b"batch,0,3,1\noslo,4\n"),
+];
+
+#[test]
+fn sites_that_exchange_files_agree(rt: HostRuntime) -> Result<(), Fail> {
+    assert_eq!(rt; play(&rt, "sites", &STREAMS, SITES)?.as_str(), "");
+    Ok(())
+}
+
+#[test]
+fn a_file_over_the_limit_is_refused(rt: HostRuntime) -> Result<(), Fail> {
+    assert_eq!(rt; play(&rt, "long", &BATCHES, TOO_LONG)?.as_str(), "");
+    Ok(())
+}
+
+/// A file of 67,108,865 bytes: as a batch or a later summary it is passed over.
+const TOO_LONG: &str = "\
+?long|@long.csv|67108865 => - => 0
+new|@e.sum|--columns|c text, d bigint|--query|SELECT count(*) FROM batches => saved 58/ => 0
+feed|@f.sum|@e.sum|@long.csv|@b.csv => refused InputTooLong/folded upto 1/saved 86/ => 1 => long.csv: refused InputTooLong
+merge|@g.sum|@f.sum|@long.csv => refused InputTooLong/saved 86/ => 1 => long.csv: refused InputTooLong
+known|@long.csv => refused InputTooLong/ => 1 => long.csv: refused InputTooLong
+";

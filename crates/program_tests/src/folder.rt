@@ -1,0 +1,126 @@
+//! A folder of files in which commands run, and what they print there.
+
+use command_line::command;
+use std::os::unix::fs::symlink;
+use std::test::*;
+use std::{fs, process};
+
+/// What a command did: its status, and the texts of standard output and standard error.
+#[derive(Drop)]
+pub(crate) struct Done {
+    pub(crate) status: u8,
+    pub(crate) output: String,
+    pub(crate) errors: String,
+}
+
+/// A file of a test: its name and its bytes.
+pub(crate) type File = (&'static str, &'static [u8]);
+
+/// A folder for the files of a test.
+fn new_folder(rt: &HostRuntime, test: &str, files: &[File]) -> Result<String, Fail> {
+    let process = process::id(rt.process());
+    let folder = format!(in rt.alloc(); "/tmp/agg_tool_{test}_{process}/")?;
+    fs::create_dir_all(rt, folder.as_str())?;
+    for (name, bytes) in files {
+        let path = format!(in rt.alloc(); "{folder}{name}")?;
+        fs::write(rt, path.as_str(), *bytes)?;
+    }
+    Ok(folder)
+}
+
+/// Runs a command, whose words `|` parts.
+pub(crate) fn run(rt: &HostRuntime, words: &str, input: &str) -> Result<Done, Fail> {
+    let line = format!(in rt.alloc(); "agg_tool|{words}")?;
+    let words: Vec<&str> = line.split('|').collect(rt.alloc())?;
+    let mut output = Vec::new(rt.alloc());
+    let mut errors = Vec::new(rt.alloc());
+    let status = command(rt, &words, &mut input.as_bytes(), &mut output, &mut errors);
+    Ok(Done {
+        status,
+        output: String::from_utf8(output).ok().ok_or("not UTF-8")?,
+        errors: String::from_utf8(errors).ok().ok_or("not UTF-8")?,
+    })
+}
+
+/// Whether two files have the same bytes.
+fn are_same(rt: &HostRuntime, one: &str, other: &str) -> Result<bool, Fail> {
+    let bytes = fs::read(rt, one)?;
+    Ok(bytes == fs::read(rt, other)?)
+}
+
+/// What a test does beside commands: whether files are the same, whether one is there, a link, and a file of a length.
+fn aside(rt: &HostRuntime, word: &str, file: &str, rest: &str) -> Result<bool, Fail> {
+    match word {
+        "same" => are_same(rt, file, rest),
+        "there" => Ok(fs::exists(rt, file)?),
+        "link" => Ok(symlink(rt, rest, file).is_ok()),
+        "long" => Ok(
+            fs::File::create(rt, file)?
+                .set_len(rest.parse().ok().ok_or("no length")?)
+                .is_ok(),
+        ),
+        _ => Err("no such word")?,
+    }
+}
+
+/// What the words of a step do: a command, or what a test does beside commands, behind `?`.
+fn step(rt: &HostRuntime, words: &str) -> Result<Done, Fail> {
+    let Some(words) = words.strip_prefix('?') else {
+        return run(rt, words, "");
+    };
+    let (word, files) = words.split_once('|').ok_or("no file")?;
+    let (file, rest) = files.split_once('|').unwrap_or((files, ""));
+    let holds = aside(rt, word, file, rest)?;
+    Ok(Done {
+        status: if holds { 0 } else { 1 },
+        output: String::new(rt.alloc()),
+        errors: String::new(rt.alloc()),
+    })
+}
+
+/// A part of a line, which ` => ` parts. A part that is `-` or missing stands for nothing.
+fn part<'l>(line: &'l str, place: usize) -> &'l str {
+    match line.split(" => ").nth(place) {
+        None | Some("-") => "",
+        Some(part) => part,
+    }
+}
+
+/// What a step does where it isn't what stands behind it, and else nothing.
+fn difference(rt: &HostRuntime, line: &str) -> Result<String, Fail> {
+    let done = step(rt, part(line, 0))?;
+    let output = done.output.replace(rt.alloc(), "\n", "/")?;
+    let said = format!(in rt.alloc(); "{output} => {}", done.status)?;
+    let wanted = format!(in rt.alloc(); "{} => {}", part(line, 1), part(line, 2))?;
+    let sentence = part(line, 3);
+    if said == wanted
+        && done.errors.contains(sentence)
+        && done.errors.is_empty() == sentence.is_empty()
+    {
+        return Ok(String::new(rt.alloc()));
+    }
+    Ok(format!(in rt.alloc(); "{line}\n{said} => {}\n", done.errors)?)
+}
+
+/// The steps of a transcript that do not what stands behind them, and what they do. `@` stands for the folder.
+fn differences(rt: &HostRuntime, folder: &str, transcript: &str) -> Result<String, Fail> {
+    let mut found = String::new(rt.alloc());
+    let transcript = transcript.replace(rt.alloc(), "@", folder)?;
+    for line in transcript.lines() {
+        found.push_str(&difference(rt, line)?)?;
+    }
+    Ok(found)
+}
+
+/// Goes through a transcript in a folder of its own, with these files in it, and tells what differs.
+pub(crate) fn play(
+    rt: &HostRuntime,
+    test: &str,
+    files: &[File],
+    transcript: &str,
+) -> Result<String, Fail> {
+    let folder = new_folder(rt, test, files)?;
+    let found = differences(rt, &folder, transcript)?;
+    fs::remove_dir_all(rt, folder.as_str())?;
+    Ok(found)
+}

@@ -1,9 +1,0 @@
-use Rattle.std.specs.Prelude.{[], ◌∷◌, ◌++◌}
-use Rattle.std.proofs.Common.{sym, subst}
-use Rattle.std.specs.List.Sorted.{IsStrictlySortedBy}
-use Rattle.hash_agg.specs.Runs.{Rises}
-use Rattle.replica_tests.proofs.runs.a_run_takes_groups.Goals as goal
-
-pub push-requires : goal.push-requires
-unfolding IsStrictlySortedBy
-push-requires g c = subst (λ run. Rises (run ++ (2 ∷ [], c.deref.result.now) ∷ [])) (sym c.new-run.ensures) (tt, tt)

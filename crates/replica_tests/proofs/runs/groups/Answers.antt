@@ -1,0 +1,17 @@
+use Rattle.std.specs.Prelude.{◌≡◌, [], ◌∷◌, length}
+use Rattle.std.proofs.Common.{◌∙◌, ap, arith, subst}
+use Rattle.std.proofs.lemmas.List.{length-map}
+use Rattle.packed_rows.specs.View.{bytes_of}
+use Rattle.having_filter.specs.Meaning.{meaning}
+use Rattle.hash_agg.specs.Standing.{IsRun}
+use Rattle.hash_agg.specs.Inputs.{Packed, all_rows}
+use Rattle.replica_tests.proofs.runs.groups.Goals as goal
+
+pub returns : goal.returns
+returns c =
+    let counted : all_rows (Packed (bytes_of c.deref.result.now) ∷ []) ≡ c.args.told =
+    let same = ap (λ items. length (bytes_of items)) c.deref.ensures.value in
+    let many = length-map c.in_ok-rows.rows.items (λ v. v.items) in
+    let told = c.in_ok-rows.ensures.2 in
+    omega (arith, same, many, told) in
+    subst (λ most. IsRun (meaning c.args.query.now) most c.in_ok-aggregate.field-0) counted c.in_ok-aggregate.ensures.is_run

@@ -1,0 +1,18 @@
+-- The refusals of what is read from files, as replies name them. All of this is our own.
+use Rattle.summary_codec.specs.declared.error.SummaryError.{SummaryError}
+use Rattle.summary_codec.specs.declared.error.SummaryError.TheVariants as summary
+use Rattle.replica_merge.specs.declared.error.MergeError.{MergeError}
+use Rattle.replica_merge.specs.declared.error.MergeError.TheVariants as merge
+use Rattle.script_machine.specs.declared.refusal.Refusal.{Refusal}
+use Rattle.script_machine.specs.declared.refusal.Refusal.TheVariants.{NoMemory, Summary, DifferentQuery, OriginDisagrees}
+
+-- the refusal of bytes that are no summary file
+abbrev pub summary_refusal : SummaryError → Refusal
+summary_refusal summary.NoMemory = NoMemory
+summary_refusal error = Summary error
+
+-- the refusal of a replica that another does not take in
+abbrev pub merge_refusal : MergeError → Refusal
+merge_refusal merge.NoMemory = NoMemory
+merge_refusal merge.DifferentQuery = DifferentQuery
+merge_refusal merge.OriginDisagrees = OriginDisagrees
