@@ -1,0 +1,119 @@
+-- Lists by slots, some of which are cleared.
+use Rattle.std.proofs.Common.{◌≡◌, ℕ, zero, suc, ◌+◌, ◌<◌, ◌≤◌, inl, inr, Bool, true, false, List, [], ◌∷◌, Option, None, length, get_or, cond, set, refl, sym, ap, ◌∙◌, arith}
+use Rattle.std.specs.Prelude.{◌==◌, is_some}
+use Rattle.std.proofs.lemmas.Bool.{cases_eq, cases_lt, cond-true, cond-false, ne_eqb, false≢true}
+use Rattle.std.proofs.lemmas.List.{get_or-set_same, get_or-set_other, length-set, get_or_past, ext_get_or}
+use Rattle.context_tree.specs.Links.{is_below, is_under, is_left, cleared, IsForest, AreFree}
+use Rattle.context_tree.specs.declared.links.Link.{Link}
+use Rattle.context_tree.proofs.Forest.{not-under, left-is, below-self, not-below, under-other, under-closed, below-closed, forest-cleared}
+
+cond-same : {X : Type 0} (b : Bool) (x : X) → cond b x x ≡ x
+cond-same true x = refl
+cond-same false x = refl
+
+module _ {X : Type 0} (gone : ℕ → Bool) (x : X) where
+  pub length-cleared : (place : ℕ) (ys : List X) → length (cleared gone x place ys) ≡ length ys
+  length-cleared place [] = refl
+  length-cleared place (y ∷ ys) = ap suc (length-cleared (place + 1) ys)
+
+  get_or-cleared_from : (place : ℕ) (ys : List X) (i : ℕ) → get_or (cleared gone x place ys) i x ≡ cond (gone (place + i)) x (get_or ys i x)
+  get_or-cleared_from place [] i = sym (cond-same (gone (place + i)) x)
+  get_or-cleared_from place (y ∷ ys) zero =
+      let here : place ≡ place + 0 = omega arith in
+      ap (λ (k : ℕ). cond (gone k) x y) here
+  get_or-cleared_from place (y ∷ ys) (suc i) =
+      let next : place + 1 + i ≡ place + suc i = omega arith in
+      get_or-cleared_from (place + 1) ys i ∙ ap (λ (k : ℕ). cond (gone k) x (get_or ys i x)) next
+
+  pub get_or-cleared : (ys : List X) (i : ℕ) → get_or (cleared gone x 0 ys) i x ≡ cond (gone i) x (get_or ys i x)
+  get_or-cleared ys i = let same : 0 + i ≡ i = omega arith in get_or-cleared_from 0 ys i ∙ ap (λ (k : ℕ). cond (gone k) x (get_or ys i x)) same
+
+  -- a list is the cleared one if it is so place by place
+  pub is-cleared : (ys zs : List X) → length zs ≡ length ys → ((i : ℕ) → get_or zs i x ≡ cond (gone i) x (get_or ys i x)) → zs ≡ cleared gone x 0 ys
+  is-cleared ys zs long at = ext_get_or x zs (cleared gone x 0 ys) (long ∙ sym (length-cleared 0 ys)) (λ i _. at i ∙ sym (get_or-cleared ys i))
+
+-- a slot is emptied and marked
+pub free-emptied : (ls : List (Option Link)) (marks after : List Bool) (slot : ℕ) → AreFree ls marks → slot < length ls → length after ≡ length marks
+    → ((k : ℕ) → get_or after k false ≡ cond (k == slot) true (get_or marks k false)) → AreFree (set ls slot None) after
+free-emptied ls marks after slot are low long marked = record {
+  free = λ k is. elim (cases_eq k slot) [
+    | inl same ↦ (
+      omega (arith, same, low, length-set ls slot None),
+      ap (λ (j : ℕ). get_or (set ls slot None) j None) same ∙ get_or-set_same ls slot None None low,
+    )
+    | inr ne ↦
+        let was = are.free k (sym (marked k ∙ cond-false (k == slot) true (get_or marks k false) (ne_eqb k slot ne)) ∙ is) in (
+          omega (arith, was.0, length-set ls slot None),
+          get_or-set_other ls slot k None None ne ∙ was.1,
+        )
+  ];
+  long = λ k some less. omega (arith, long, are.long k some (omega (arith, less, length-set ls slot None)));
+}
+
+-- the slots below one are gone through
+module _ (old : List (Option Link)) (forest : IsForest old) (above : ℕ) where
+  abbrev pub Done : List (Option Link) → ℕ → Type 0
+  Done now slot = (k : ℕ) → k < slot → get_or now k None ≡ cond (is_under old above k) None (get_or old k None)
+
+  abbrev pub Rest : List (Option Link) → ℕ → Type 0
+  Rest now slot = (k : ℕ) → slot ≤ k → get_or now k None ≡ get_or old k None
+
+  pub done-first : Done old (above + 1)
+  done-first k low = sym (cond-false (is_under old above k) None (get_or old k None) (not-under old forest above k (omega (arith, low))))
+
+  module _ (now : List (Option Link)) (slot : ℕ) (less : above < slot) (long : length now ≡ length old) (low : slot < length old) (done : Done now slot) (rest : Rest now slot) where
+    pub left-now : is_left now above (get_or now slot None) ≡ is_under old above slot
+    left-now = ap (is_left now above) (rest slot (omega arith)) ∙ left-is old forest now above slot done less
+
+    pub done-kept : is_under old above slot ≡ false → Done now (slot + 1)
+    done-kept kept k before = elim (cases_eq k slot) [
+      | inl same ↦
+          rest k (omega (arith, same))
+          ∙ sym (cond-false (is_under old above k) None (get_or old k None) (ap (is_under old above) same ∙ kept))
+      | inr ne ↦ done k (omega (arith, before, ne))
+    ]
+
+    pub done-gone : is_under old above slot ≡ true → Done (set now slot None) (slot + 1)
+    done-gone goes k before = elim (cases_eq k slot) [
+      | inl same ↦
+          ap (λ (j : ℕ). get_or (set now slot None) j None) same ∙ get_or-set_same now slot None None (omega (arith, long, low))
+          ∙ sym (cond-true (is_under old above k) None (get_or old k None) (ap (is_under old above) same ∙ goes))
+      | inr ne ↦ get_or-set_other now slot k None None ne ∙ done k (omega (arith, before, ne))
+    ]
+
+    pub rest-gone : Rest (set now slot None) (slot + 1)
+    rest-gone k past = get_or-set_other now slot k None None (λ e. omega (arith, e, past)) ∙ rest k (omega (arith, past))
+
+  pub pruned : (now : List (Option Link)) → length now ≡ length old → (end : ℕ) → length old ≤ end → Done now end → now ≡ cleared (is_under old above) None 0 old
+  pruned now long end all done = is-cleared (is_under old above) None old now long (λ i. elim (cases_lt i end) [
+    | inl low ↦ done i low
+    | inr past ↦
+        get_or_past now i None (omega (arith, past, all, long))
+        ∙ sym (ap (λ (l : Option Link). cond (is_under old above i) None l) (get_or_past old i None (omega (arith, past, all))) ∙ cond-same (is_under old above i) None)
+  ])
+
+  -- and that one too
+  pub cut-too : (now : List (Option Link)) → now ≡ cleared (is_under old above) None 0 old → above < length old → set now above None ≡ cleared (is_below old above) None 0 old
+  cut-too now is low =
+      let long : length now ≡ length old = ap length is ∙ length-cleared (is_under old above) None 0 old in
+      is-cleared (is_below old above) None old (set now above None) (length-set now above None ∙ long) (λ i. elim (cases_eq i above) [
+        | inl same ↦
+            ap (λ (j : ℕ). get_or (set now above None) j None) same ∙ get_or-set_same now above None None (omega (arith, long, low))
+            ∙ sym (cond-true (is_below old above i) None (get_or old i None) (ap (λ (a : ℕ). is_below old a i) (sym same) ∙ below-self old forest i))
+        | inr ne ↦
+            get_or-set_other now above i None None ne ∙ ap (λ (ls : List (Option Link)). get_or ls i None) is ∙ get_or-cleared (is_under old above) None old i
+            ∙ ap (λ (b : Bool). cond b None (get_or old i None)) (under-other old forest above i ne)
+      ])
+
+  pub forest-pruned : IsForest (cleared (is_under old above) None 0 old)
+  forest-pruned = forest-cleared old forest (is_under old above) (not-under old forest above 0 (omega arith)) (under-closed old forest above) (cleared (is_under old above) None 0 old) (get_or-cleared (is_under old above) None old)
+
+  pub forest-cut : 0 < above → IsForest (cleared (is_below old above) None 0 old)
+  forest-cut some = forest-cleared old forest (is_below old above) (not-below old forest above 0 some) (below-closed old forest above) (cleared (is_below old above) None 0 old) (get_or-cleared (is_below old above) None old)
+
+-- a slot in which there is a context is one of the list
+pub low-there : (ls : List (Option Link)) (slot : ℕ) → is_some (get_or ls slot None) ≡ true → slot < length ls
+low-there ls slot there = elim (cases_lt slot (length ls)) [
+  | inl low ↦ low
+  | inr past ↦ absurd (false≢true (sym (ap is_some (get_or_past ls slot None past)) ∙ there))
+]

@@ -1,0 +1,4 @@
+pub mod Forest
+pub mod Clearing
+pub mod Slots
+pub mod TreeLaws

@@ -1,0 +1,76 @@
+-- Lists by slots, in which something is put.
+use Rattle.std.proofs.Common.{◌≡◌, ◌≢◌, ℕ, zero, suc, ◌<◌, ◌≤◌, inl, inr, Bool, false, List, [], ◌∷◌, ◌++◌, Option, None, length, get_or, cond, set, take, refl, sym, ap, ◌∙◌, arith}
+use Rattle.std.specs.Prelude.{◌==◌}
+use Rattle.std.specs.List.{refill}
+use Rattle.std.proofs.lemmas.Bool.{cases_eq, cond-false, ne_eqb, false≢true}
+use Rattle.std.proofs.lemmas.List.{take_all, drop_all, append-nil, length-append}
+use Rattle.context_tree.specs.Links.{placed, AreFree}
+use Rattle.context_tree.specs.declared.links.Link.{Link}
+
+module _ {X : Type 0} where
+  -- a list written over by one that is as long
+  pub refill-whole : (n : ℕ) (xs ws : List X) → n ≡ length xs → length ws ≡ n → refill n xs ws ≡ ws
+  refill-whole n xs ws long same =
+      ap (λ (t : List X). take n (ws ++ t)) (drop_all (length ws) xs (omega (arith, long, same)))
+      ∙ ap (take n) (append-nil ws) ∙ take_all n ws (omega (arith, same))
+
+  pub placed-end : (xs : List X) (x : X) → placed xs (length xs) x ≡ xs ++ x ∷ []
+  placed-end [] x = refl
+  placed-end (y ∷ xs) x = ap (λ (t : List X). y ∷ t) (placed-end xs x)
+
+  pub placed-set : (xs : List X) (n : ℕ) (x : X) → n < length xs → set xs n x ≡ placed xs n x
+  placed-set [] n x low = absurd (omega (arith, low))
+  placed-set (y ∷ xs) zero x low = refl
+  placed-set (y ∷ xs) (suc n) x low = ap (λ (t : List X). y ∷ t) (placed-set xs n x (omega (arith, low)))
+
+  pub placed-here : (xs : List X) (n : ℕ) (x d : X) → n ≤ length xs → get_or (placed xs n x) n d ≡ x
+  placed-here [] zero x d low = refl
+  placed-here [] (suc n) x d low = absurd (omega (arith, low))
+  placed-here (y ∷ xs) zero x d low = refl
+  placed-here (y ∷ xs) (suc n) x d low = placed-here xs n x d (omega (arith, low))
+
+  pub placed-other : (xs : List X) (n k : ℕ) (x d : X) → n ≤ length xs → k ≢ n → get_or (placed xs n x) k d ≡ get_or xs k d
+  placed-other [] zero zero x d low ne = absurd (ne refl)
+  placed-other [] zero (suc k) x d low ne = refl
+  placed-other [] (suc n) k x d low ne = absurd (omega (arith, low))
+  placed-other (y ∷ xs) zero zero x d low ne = absurd (ne refl)
+  placed-other (y ∷ xs) zero (suc k) x d low ne = refl
+  placed-other (y ∷ xs) (suc n) zero x d low ne = refl
+  placed-other (y ∷ xs) (suc n) (suc k) x d low ne = placed-other xs n k x d (omega (arith, low)) (λ e. ne (ap suc e))
+
+  -- two lists that are equally long stay so
+  pub length-placed : {Y : Type 0} (xs : List X) (ys : List Y) (n : ℕ) (x : X) (y : Y) → length xs ≡ length ys → length (placed xs n x) ≡ length (placed ys n y)
+  length-placed [] [] n x y same = refl
+  length-placed [] (b ∷ ys) n x y same = absurd (omega (arith, same))
+  length-placed (a ∷ xs) [] n x y same = absurd (omega (arith, same))
+  length-placed (a ∷ xs) (b ∷ ys) zero x y same = same
+  length-placed (a ∷ xs) (b ∷ ys) (suc n) x y same = ap suc (length-placed xs ys n x y (omega (arith, same)))
+
+-- a slot that was free is used
+pub free-used : (ls : List (Option Link)) (marks after : List Bool) (slot : ℕ) (link : Option Link) → AreFree ls marks → slot < length ls → length after ≡ length marks
+    → ((k : ℕ) → get_or after k false ≡ cond (k == slot) false (get_or marks k false)) → AreFree (placed ls slot link) after
+free-used ls marks after slot link are low long marked =
+    let size : length (placed ls slot link) ≡ length ls = ap length (sym (placed-set ls slot link low)) ∙ Rattle.std.proofs.lemmas.List.length-set ls slot link in
+    record {
+      free = λ k is. elim (cases_eq k slot) [
+        | inl same ↦ absurd (false≢true (sym (marked k ∙ Rattle.std.proofs.lemmas.Bool.cond-true (k == slot) false (get_or marks k false) (Rattle.std.proofs.lemmas.Bool.eq-eqb k slot same)) ∙ is))
+        | inr ne ↦
+            let was = are.free k (sym (marked k ∙ cond-false (k == slot) false (get_or marks k false) (ne_eqb k slot ne)) ∙ is) in (
+              omega (arith, was.0, size),
+              placed-other ls slot k link None (omega (arith, low)) ne ∙ was.1,
+            )
+      ];
+      long = λ k some less. omega (arith, long, are.long k some (omega (arith, less, size)));
+    }
+
+-- a slot is added
+pub free-pushed : (ls : List (Option Link)) (marks after : List Bool) (link : Option Link) → AreFree ls marks → length ls < length after → length marks ≤ length after
+    → ((k : ℕ) → get_or after k false ≡ get_or marks k false) → AreFree (ls ++ link ∷ []) after
+free-pushed ls marks after link are room long same = record {
+  free = λ k is.
+      let was = are.free k (sym (same k) ∙ is) in (
+        omega (arith, was.0, length-append ls (link ∷ [])),
+        Rattle.std.proofs.lemmas.List.get_or_append_left ls (link ∷ []) None k was.0 ∙ was.1,
+      );
+  long = λ k some less. omega (arith, room, less, length-append ls (link ∷ []));
+}

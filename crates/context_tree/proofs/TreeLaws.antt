@@ -1,0 +1,152 @@
+-- What is true of the fields of a tree stays true.
+use Rattle.std.proofs.Common.{◌≡◌, ℕ, zero, suc, ◌+◌, ◌<◌, ◌≤◌, inl, inr, Bool, true, false, List, [], ◌∷◌, Option, Some, None, length, get_or, cond, set, drop, refl, sym, ap, ◌∙◌, subst, arith}
+use Rattle.std.specs.Prelude.{is_some, unwrap_or}
+use Rattle.std.proofs.lemmas.Bool.{cases_Bool, cases_eq, cases_lt, cond-true, cond-false, false≢true}
+use Rattle.context_tree.specs.Contexts.{no_context, held_by}
+use Rattle.context_tree.specs.Links.{is_below, cleared, placed}
+use Rattle.std.specs.List.{refill}
+use Rattle.std.proofs.lemmas.List.{get_or-set_same, get_or-set_other, get_or_default, length-set}
+use Rattle.context_tree.specs.Tree.{TreeState, has_stamp, is_there, context_at, with_context, without_slots, held_from}
+use Rattle.context_tree.specs.TreeFields.{tree_of, AreFields}
+use Rattle.context_tree.specs.declared.links.ContextId.{ContextId}
+use Rattle.context_tree.specs.declared.tree.Tree.TheInside.{Inside}
+use Rattle.context_tree.proofs.Clearing.{length-cleared, get_or-cleared, is-cleared, low-there}
+use Rattle.context_tree.specs.declared.context.Context.{Context}
+use Rattle.context_tree.specs.declared.links.Link.{Link}
+use Rattle.context_tree.proofs.Slots.{refill-whole, placed-here, placed-other, length-placed}
+
+-- stamps and free slots, as `AreFields` has them
+abbrev pub Stamped : List (Option Link) → ℕ → Type 0
+Stamped ls last = (slot : ℕ) → (link : Link) → get_or ls slot None ≡ Some link → link.stamp ≤ last
+
+abbrev pub Emptied : List (Option Link) → List Context → Type 0
+Emptied ls cs = (slot : ℕ) → get_or ls slot None ≡ None → get_or cs slot no_context ≡ no_context
+
+-- a context is made
+module _ (ls : List (Option Link)) (cs : List Context) (last slot : ℕ) (low : slot ≤ length ls) (long : length cs ≡ length ls) (link : Link) (c : Context) where
+  pub stamps-made : link.stamp ≡ last + 1 → Stamped ls last → Stamped (placed ls slot (Some link)) (last + 1)
+  stamps-made next stamps k l e = elim (cases_eq k slot) [
+    | inl same ↦
+        let it : Some link ≡ Some l = sym (ap (λ (j : ℕ). get_or (placed ls slot (Some link)) j None) same ∙ placed-here ls slot (Some link) None low) ∙ e in
+        let stamp : link.stamp ≡ l.stamp = ap (λ (o : Option Link). (unwrap_or o link).stamp) it in
+        omega (arith, next, stamp)
+    | inr ne ↦ omega (arith, stamps k l (sym (placed-other ls slot k (Some link) None low ne) ∙ e))
+  ]
+
+  pub empty-made : Emptied ls cs → Emptied (placed ls slot (Some link)) (placed cs slot c)
+  empty-made empty k e = elim (cases_eq k slot) [
+    | inl same ↦ absurd (false≢true (sym (ap is_some e) ∙ ap is_some (ap (λ (j : ℕ). get_or (placed ls slot (Some link)) j None) same ∙ placed-here ls slot (Some link) None low)))
+    | inr ne ↦ placed-other cs slot k c no_context (omega (arith, low, long)) ne ∙ empty k (sym (placed-other ls slot k (Some link) None low ne) ∙ e)
+  ]
+
+  pub long-made : length (placed cs slot c) ≡ length (placed ls slot (Some link))
+  long-made = length-placed cs ls slot c (Some link) long
+
+-- the sum from one slot on
+pub held-step : (ls : List (Option Link)) (above : ℕ) (cs : List Context) (slot first : ℕ) → slot < length cs
+    → held_from ls above first (drop slot cs) ≡ cond (is_below ls above first) (held_by (get_or cs slot no_context)) 0 + held_from ls above (first + 1) (drop (slot + 1) cs)
+held-step ls above [] slot first low = absurd (omega (arith, low))
+held-step ls above (c ∷ cs) zero first low = refl
+held-step ls above (c ∷ cs) (suc slot) first low =
+    let next : suc (slot + 1) ≡ suc slot + 1 = omega arith in
+    held-step ls above cs slot first (omega (arith, low))
+    ∙ ap (λ (n : ℕ). cond (is_below ls above first) (held_by (get_or cs slot no_context)) 0 + held_from ls above (first + 1) (drop n (c ∷ cs))) next
+
+-- an id that is there is of a slot of the list
+pub there-some : (link : Option Link) (stamp : ℕ) → has_stamp link stamp ≡ true → is_some link ≡ true
+there-some None stamp there = there
+there-some (Some link) stamp there = refl
+
+-- a context is written over
+module _ (x : Inside) (are : AreFields x) (now : TreeState) (view : tree_of x ≡ now) (id : ContextId) (there : is_there now id ≡ true) where
+  abbrev cs : List Context
+  cs = x.contexts.items
+
+  pub slot-some : is_some (get_or x.links id.slot None) ≡ true
+  slot-some = ap (λ (t : TreeState). is_some (get_or t.links id.slot None)) view ∙ there-some (get_or now.links id.slot None) id.stamp there
+
+  pub slot-low : id.slot < length cs
+  slot-low = omega (arith, are.long, low-there x.links id.slot slot-some)
+
+  pub old-is : (d : List Context) (other : Context) → d ≡ cs → get_or d id.slot other ≡ context_at now id
+  old-is d other same =
+      ap (λ (l : List Context). get_or l id.slot other) same ∙ get_or_default cs id.slot other no_context slot-low
+      ∙ ap (λ (t : TreeState). context_at t id) view
+
+  module _ (d : List Context) (same : d ≡ cs) (c : Context) where
+    pub whole : refill (length cs) cs (set d id.slot c) ≡ set cs id.slot c
+    whole =
+        let items : set d id.slot c ≡ set cs id.slot c = ap (λ (l : List Context). set l id.slot c) same in
+        refill-whole (length cs) cs (set d id.slot c) refl (ap length items ∙ length-set cs id.slot c) ∙ items
+
+    pub new-tree : (record { links = x.links; contexts = refill (length cs) cs (set d id.slot c); last = x.last }) ≡ with_context now id c
+    new-tree = (λ i. record { links = x.links; contexts = whole i; last = x.last }) ∙ ap (λ (t : TreeState). with_context t id c) view
+
+    pub new-is : get_or (refill (length cs) cs (set d id.slot c)) id.slot no_context ≡ c
+    new-is = ap (λ (l : List Context). get_or l id.slot no_context) whole ∙ get_or-set_same cs id.slot c no_context slot-low
+
+  -- one that is there may be any context
+  pub empty-written : (c : Context) → Emptied x.links (set cs id.slot c)
+  empty-written c k free = elim (cases_eq k id.slot) [
+    | inl same ↦ absurd (false≢true (sym (ap (λ (j : ℕ). is_some (get_or x.links j None)) (sym same) ∙ ap is_some free) ∙ slot-some))
+    | inr ne ↦ get_or-set_other cs id.slot k c no_context ne ∙ are.empty k free
+  ]
+
+-- contexts are given up: those in the slots that are emptied
+module _ (x : Inside) (are : AreFields x) (gone : ℕ → Bool) (from : ℕ) (none : (k : ℕ) → k < from → gone k ≡ false) (ls : List (Option Link)) (links : ls ≡ cleared gone None 0 x.links)
+    (ds : List Context) (long : length ds ≡ length x.contexts.items) (before : (k : ℕ) → k < from → get_or ds k no_context ≡ get_or x.contexts.items k no_context)
+    (behind : (k : ℕ) → from ≤ k → get_or ds k no_context ≡ cond (is_some (get_or ls k None)) (get_or x.contexts.items k no_context) no_context) where
+  link-is : (k : ℕ) → get_or ls k None ≡ cond (gone k) None (get_or x.links k None)
+  link-is k = ap (λ (l : List (Option Link)). get_or l k None) links ∙ get_or-cleared gone None x.links k
+
+  -- where the link is kept, the context is, and where there was none, there is none
+  kept : (k : ℕ) (link : Option Link) → get_or x.links k None ≡ link → cond (is_some link) (get_or x.contexts.items k no_context) no_context ≡ get_or x.contexts.items k no_context
+  kept k None free = sym (are.empty k free)
+  kept k (Some link) free = refl
+
+  context-is : (k : ℕ) → get_or ds k no_context ≡ cond (gone k) no_context (get_or x.contexts.items k no_context)
+  context-is k = elim (cases_lt k from) [
+    | inl low ↦ before k low ∙ sym (cond-false (gone k) no_context (get_or x.contexts.items k no_context) (none k low))
+    | inr past ↦ behind k past ∙ elim (cases_Bool (gone k)) [
+      | inl goes ↦
+          ap (λ (l : Option Link). cond (is_some l) (get_or x.contexts.items k no_context) no_context) (link-is k ∙ cond-true (gone k) None (get_or x.links k None) goes)
+          ∙ sym (cond-true (gone k) no_context (get_or x.contexts.items k no_context) goes)
+      | inr stays ↦
+          ap (λ (l : Option Link). cond (is_some l) (get_or x.contexts.items k no_context) no_context) (link-is k ∙ cond-false (gone k) None (get_or x.links k None) stays)
+          ∙ kept k (get_or x.links k None) refl
+          ∙ sym (cond-false (gone k) no_context (get_or x.contexts.items k no_context) stays)
+    ]
+  ]
+
+  abbrev n : ℕ
+  n = length x.contexts.items
+
+  pub all-given : refill n x.contexts.items ds ≡ cleared gone no_context 0 x.contexts.items
+  all-given = refill-whole n x.contexts.items ds refl long ∙ is-cleared gone no_context x.contexts.items ds long context-is
+
+  pub given-up : (record { links = ls; contexts = refill n x.contexts.items ds; last = x.last }) ≡ without_slots (tree_of x) gone
+  given-up = λ i. record { links = links i; contexts = all-given i; last = x.last }
+
+  stamps-kept : Stamped ls x.last
+  stamps-kept k link e = elim (cases_Bool (gone k)) [
+    | inl goes ↦ absurd (false≢true (ap is_some (sym (link-is k ∙ cond-true (gone k) None (get_or x.links k None) goes) ∙ e)))
+    | inr stays ↦ are.stamps k link (sym (link-is k ∙ cond-false (gone k) None (get_or x.links k None) stays) ∙ e)
+  ]
+
+  empty-kept : Emptied ls (cleared gone no_context 0 x.contexts.items)
+  empty-kept k e = get_or-cleared gone no_context x.contexts.items k ∙ elim (cases_Bool (gone k)) [
+    | inl goes ↦ cond-true (gone k) no_context (get_or x.contexts.items k no_context) goes
+    | inr stays ↦
+        cond-false (gone k) no_context (get_or x.contexts.items k no_context) stays
+        ∙ are.empty k (sym (link-is k ∙ cond-false (gone k) None (get_or x.links k None) stays) ∙ e)
+  ]
+
+  pub long-given : length (cleared gone no_context 0 x.contexts.items) ≡ length ls
+  long-given = length-cleared gone no_context 0 x.contexts.items ∙ are.long ∙ sym (ap length links ∙ length-cleared gone None 0 x.links)
+
+  pub fields-given : AreFields (record { alloc = x.alloc; links = ls; contexts = record { items = refill n x.contexts.items ds; capacity = x.contexts.capacity }; last = x.last })
+  fields-given = record {
+    long = ap length all-given ∙ long-given;
+    stamps = stamps-kept;
+    empty = subst (Emptied ls) (sym all-given) empty-kept;
+  }

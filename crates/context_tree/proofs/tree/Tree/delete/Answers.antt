@@ -1,0 +1,32 @@
+use Rattle.std.proofs.Common.{List, None, length, get_or, cond, sym, ap, ◌∙◌}
+use Rattle.std.specs.Prelude.{is_some}
+use Rattle.context_tree.specs.Contexts.{no_context}
+use Rattle.context_tree.specs.Links.{is_below}
+use Rattle.context_tree.specs.Tree.{TreeState, deleted}
+use Rattle.context_tree.specs.declared.context.Context.{Context}
+use Rattle.context_tree.proofs.Clearing.{length-cleared}
+use Rattle.context_tree.proofs.Forest.{not-below}
+use Rattle.context_tree.proofs.TreeLaws.{given-up, fields-given}
+use Rattle.context_tree.proofs.tree.Tree.delete.Goals as goal
+
+pub give_up_free-requires : goal.give_up_free-requires
+give_up_free-requires c =
+    let ls = c.self.inside.links in
+    ap length c.deref_mut.ensures.value ∙ c.self.invariant.long ∙ sym (ap length c.cut.ensures ∙ length-cleared (is_below ls c.args.id.slot) None 0 ls)
+
+pub invariant_of-self : goal.invariant_of-self
+invariant_of-self c =
+    let x = c.self.inside in let slot = c.args.id.slot in
+    fields-given x c.self.invariant (is_below x.links slot) slot (λ k low. not-below x.links c.is_forest.ensures slot k low) c.cut.new.self c.cut.ensures
+    c.give_up_free.new.contexts (c.give_up_free.auto.contexts ∙ ap length c.deref_mut.ensures.value)
+    (λ k low. c.give_up_free.ensures.before k low ∙ ap (λ (cs : List Context). get_or cs k no_context) c.deref_mut.ensures.value)
+    (λ k from. c.give_up_free.ensures.behind k from ∙ ap (λ (cs : List Context). cond (is_some (get_or c.cut.new.self k None)) (get_or cs k no_context) no_context) c.deref_mut.ensures.value)
+
+pub returns-clause-space : goal.returns-clause-space
+returns-clause-space c =
+    let x = c.self.inside in let slot = c.args.id.slot in
+    given-up x c.self.invariant (is_below x.links slot) slot (λ k low. not-below x.links c.is_forest.ensures slot k low) c.cut.new.self c.cut.ensures
+    c.give_up_free.new.contexts (c.give_up_free.auto.contexts ∙ ap length c.deref_mut.ensures.value)
+    (λ k low. c.give_up_free.ensures.before k low ∙ ap (λ (cs : List Context). get_or cs k no_context) c.deref_mut.ensures.value)
+    (λ k from. c.give_up_free.ensures.behind k from ∙ ap (λ (cs : List Context). cond (is_some (get_or c.cut.new.self k None)) (get_or cs k no_context) no_context) c.deref_mut.ensures.value)
+    ∙ ap (λ (t : TreeState). deleted t c.args.id) c.self.view_is

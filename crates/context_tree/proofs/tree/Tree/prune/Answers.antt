@@ -1,0 +1,42 @@
+use Rattle.std.proofs.Common.{◌≡◌, ◌+◌, List, Option, None, length, get_or, cond, sym, ap, ◌∙◌, arith}
+use Rattle.std.proofs.lemmas.Bool.{cond-false}
+use Rattle.std.specs.Prelude.{is_some}
+use Rattle.context_tree.specs.Contexts.{no_context}
+use Rattle.context_tree.specs.Links.{is_under}
+use Rattle.context_tree.specs.Tree.{TreeState, has_stamp, is_there, without_slots}
+use Rattle.context_tree.specs.declared.context.Context.{Context}
+use Rattle.context_tree.specs.declared.links.Link.{Link}
+use Rattle.context_tree.proofs.Clearing.{length-cleared, get_or-cleared}
+use Rattle.context_tree.proofs.Forest.{not-under}
+use Rattle.context_tree.proofs.TreeLaws.{given-up, fields-given}
+use Rattle.context_tree.proofs.tree.Tree.prune.Goals as goal
+
+pub give_up_free-requires : goal.give_up_free-requires
+give_up_free-requires c =
+    let ls = c.self.inside.links in
+    ap length c.deref_mut.ensures.value ∙ c.self.invariant.long ∙ sym (ap length c.prune.ensures ∙ length-cleared (is_under ls c.args.id.slot) None 0 ls)
+
+pub invariant_of-self : goal.invariant_of-self
+invariant_of-self c =
+    let x = c.self.inside in let slot = c.args.id.slot in
+    fields-given x c.self.invariant (is_under x.links slot) (slot + 1) (λ k low. not-under x.links c.is_forest.ensures slot k (omega (arith, low))) c.prune.new.self c.prune.ensures
+    c.give_up_free.new.contexts (c.give_up_free.auto.contexts ∙ ap length c.deref_mut.ensures.value)
+    (λ k low. c.give_up_free.ensures.before k low ∙ ap (λ (cs : List Context). get_or cs k no_context) c.deref_mut.ensures.value)
+    (λ k from. c.give_up_free.ensures.behind k from ∙ ap (λ (cs : List Context). cond (is_some (get_or c.prune.new.self k None)) (get_or cs k no_context) no_context) c.deref_mut.ensures.value)
+
+pub returns-clause-gone : goal.returns-clause-gone
+returns-clause-gone c =
+    let x = c.self.inside in let slot = c.args.id.slot in
+    given-up x c.self.invariant (is_under x.links slot) (slot + 1) (λ k low. not-under x.links c.is_forest.ensures slot k (omega (arith, low))) c.prune.new.self c.prune.ensures
+    c.give_up_free.new.contexts (c.give_up_free.auto.contexts ∙ ap length c.deref_mut.ensures.value)
+    (λ k low. c.give_up_free.ensures.before k low ∙ ap (λ (cs : List Context). get_or cs k no_context) c.deref_mut.ensures.value)
+    (λ k from. c.give_up_free.ensures.behind k from ∙ ap (λ (cs : List Context). cond (is_some (get_or c.prune.new.self k None)) (get_or cs k no_context) no_context) c.deref_mut.ensures.value)
+    ∙ ap (λ (t : TreeState). without_slots t (is_under t.links slot)) c.self.view_is
+
+pub returns-clause-there : goal.returns-clause-there
+returns-clause-there c =
+    let x = c.self.inside in let slot = c.args.id.slot in
+    let link : get_or c.prune.new.self slot None ≡ get_or x.links slot None =
+    ap (λ (l : List (Option Link)). get_or l slot None) c.prune.ensures ∙ get_or-cleared (is_under x.links slot) None x.links slot
+    ∙ cond-false (is_under x.links slot slot) None (get_or x.links slot None) (not-under x.links c.is_forest.ensures slot slot (omega arith)) in
+    ap (λ (l : Option Link). has_stamp l c.args.id.stamp) link ∙ ap (λ (t : TreeState). is_there t c.args.id) c.self.view_is ∙ c.requires

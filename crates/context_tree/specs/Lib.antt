@@ -1,0 +1,6 @@
+pub mod Contexts
+pub mod Links
+pub mod LinkFields
+pub mod Tree
+pub mod TreeFields
+pub mod TreeLends

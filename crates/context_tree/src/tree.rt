@@ -1,0 +1,362 @@
+//! A tree of contexts.
+ghost use Rattle.std.specs.Prelude.{◌≡◌, ◌+◌, ◌*◌, ◌-◌, ◌<◌, ◌≤◌, ◌==◌, ◌^◌, ℕ, true, false, cond, None, IfOk, IfErr, OnOk, OnErr, IsTrue, MatchResult, length, get_or, is_some, slice_set};
+ghost use Rattle.smallvec.specs.SmallVec.{HasRoomFor};
+ghost use Rattle.block_memory.specs.Cells.{zeros};
+ghost use Rattle.chunk_layout.specs.Pieces.{place_of, without, piece_at, resized, total};
+ghost use Rattle.chunk_contexts.specs.Chunks.{chunk_of, Adds, IsRefused, IsResizeRefused, IsResized};
+ghost use Rattle.chunk_contexts.specs.declared.error.ContextError.TheVariants.{NotSupported};
+ghost use Rattle.context_tree.specs.Contexts.{chunks_of, blocks_of, room_in, refusal_of, growth_of, can_free, with_chunk, with_resized, without_chunk, kind_refusal, no_context, has_chunk, chunk_bytes, held_by};
+ghost use Rattle.context_tree.specs.Links.{is_under, placed};
+ghost use Rattle.context_tree.specs.Tree.{new_tree, is_there, context_at, parent_id, id_in, with_context, with_new, without_slots, deleted, reset, held_below, held_from, IsRefusedBy, IsKept, IsNotMade};
+ghost use Rattle.context_tree.specs.declared.error.TreeError.TheVariants.{NoSuchContext};
+
+use crate::context::Context;
+use crate::error::TreeError;
+use crate::kind::Kind;
+use crate::links::{ContextId, Links};
+use chunk_contexts::{ChunkContext, ChunkName};
+use smallvec::SmallVec;
+use std::alloc::Global;
+use std::default::MadeWith;
+use std::marker::Model;
+
+/// The slot of the root.
+const ROOT: u32 = 0;
+
+/// Memory contexts, each but the root made below another.
+///
+/// A call by the id of a context that is not there, or no longer, is refused as `NoSuchContext` before all else. An id of
+/// another tree means the context of this tree with that slot and stamp. Calls that answer no new chunk or context take no
+/// memory.
+#[derive(Drop)]
+pub struct Tree {
+    alloc: Global,
+    links: Links,
+    contexts: SmallVec<Context, 1>,
+    last: u64,
+}
+
+impl Model for Tree {
+    ghost use Rattle.context_tree.specs.Tree.{TreeState};
+
+    ghost Value = { TreeState };
+
+    ghost use Rattle.context_tree.specs.TreeFields.{tree_of, AreFields};
+
+    ghost view = { tree_of };
+
+    ghost invariant = { AreFields };
+}
+
+/// Puts a context into a slot, or into a new one behind the last.
+fn put_context(contexts: &mut SmallVec<Context, 1>, slot: usize, context: Context)
+    requires low { slot ≤ length contexts.old.items }
+    requires room { HasRoomFor contexts.old 1 }
+    ensures { contexts.new.items ≡ placed contexts.old.items slot context }
+{
+    if slot < contexts.len() {
+        contexts[slot] = context;
+        return;
+    }
+    contexts.push_reserved(context);
+}
+
+/// Gives up the contexts of the slots that are free, from one on.
+fn give_up_free(contexts: &mut [Context], links: &Links, from: usize, alloc: Global)
+    requires { length contexts.old ≡ length links.now }
+    ensures before { (slot : ℕ) → slot < from → get_or contexts.new slot no_context ≡ get_or contexts.old slot no_context }
+    ensures behind { (slot : ℕ) → from ≤ slot → get_or contexts.new slot no_context ≡ cond (is_some (get_or links.now slot None)) (get_or contexts.old slot no_context) no_context }
+{
+    for slot in from..links.len() {
+        if links.get(slot as u32).is_none() {
+            contexts[slot] = Context::made_with(alloc);
+        }
+    }
+}
+
+/// The bytes of the blocks of the context in a slot and of its descendants.
+fn sum_below(links: &Links, contexts: &[Context], above: u32) -> u128
+    requires { length contexts.now ≡ length links.now }
+    ensures { result ≡ held_from links.now above 0 contexts.now }
+{
+    let mut sum = 0;
+    for slot in 0..links.len() {
+        if links.is_below(slot as u32, above) {
+            sum += u128::from(contexts[slot].held());
+        }
+    }
+    sum
+}
+
+impl Tree {
+    /// Makes a tree of a root alone: an `AllocSet` with no block, and stamp 0.
+    pub fn new(alloc: Global) -> Tree
+        ensures { result ≡ new_tree 0 }
+    {
+        Tree::with_stamp(alloc, 0)
+    }
+
+    /// Makes a tree of a root alone, with this stamp. Later contexts have the stamps that follow.
+    pub fn with_stamp(alloc: Global, first: u64) -> Tree
+        ensures { result ≡ new_tree first }
+    {
+        let mut contexts = SmallVec::new(alloc);
+        contexts.push_reserved(Context::made_with(alloc));
+        Tree {
+            alloc,
+            links: Links::new(alloc, first),
+            contexts,
+            last: first,
+        }
+    }
+
+    /// Whether there is a context of this id.
+    pub fn is_live(&self, id: ContextId) -> bool
+        ensures { result ≡ is_there self.now id }
+    {
+        match self.links.get(id.slot) {
+            Some(link) => link.stamp == id.stamp,
+            None => false,
+        }
+    }
+
+    /// Refuses an id that no context has.
+    fn check(&self, id: ContextId) -> Result<(), TreeError>
+        ensures { MatchResult result (λ _. is_there self.now id ≡ true) (λ e. (is_there self.now id ≡ false) × (e ≡ NoSuchContext)) }
+    {
+        if !self.is_live(id) {
+            return Err(TreeError::NoSuchContext);
+        }
+        Ok(())
+    }
+
+    /// The id of the root.
+    pub fn root(&self) -> ContextId
+        ensures slot { result.slot ≡ 0 }
+        ensures there { is_there self.now result ≡ true }
+    {
+        self.links.is_forest();
+        match self.links.get(ROOT) {
+            Some(link) => ContextId {
+                slot: ROOT,
+                stamp: link.stamp,
+            },
+            None => unreachable!(),
+        }
+    }
+
+    /// The id of the context below which one was made. The root has none.
+    pub fn parent(&self, id: ContextId) -> Result<Option<ContextId>, TreeError>
+        ensures { MatchResult result (λ parent. (is_there self.now id ≡ true) × (parent ≡ parent_id self.now.links (get_or self.now.links id.slot None))) (λ e. (is_there self.now id ≡ false) × (e ≡ NoSuchContext)) }
+    {
+        self.check(id)?;
+        Ok(self.id_in(self.links.parent(id.slot)))
+    }
+
+    /// The id of the context in a slot, which is that of a live one.
+    fn id_in(&self, slot: Option<u32>) -> Option<ContextId>
+        ensures { result ≡ id_in self.now.links slot }
+    {
+        let slot = slot?;
+        let stamp = match self.links.get(slot) {
+            Some(link) => link.stamp,
+            None => 0,
+        };
+        Some(ContextId { slot, stamp })
+    }
+
+    /// Makes a context below another, with the next stamp.
+    ///
+    /// Refuses `StampsSpent` where the last stamp was given out, and then a slab of chunks that are too large. Nothing is
+    /// changed then, and no stamp is spent.
+    pub fn create(&mut self, parent: ContextId, kind: Kind) -> Result<ContextId, TreeError>
+        ensures there { OnOk result (is_there self.old parent ≡ true) }
+        ensures stamp { IfOk result (λ id. id.stamp ≡ self.old.last + 1) }
+        ensures fresh { IfOk result (λ id. get_or self.old.links id.slot None ≡ None) }
+        ensures made { IfOk result (λ id. self.new ≡ with_new self.old parent kind id) }
+        ensures allowed { OnOk result (kind_refusal kind ≡ None) }
+        ensures refused { IfErr result (IsNotMade (is_there self.old parent) (self.old.last == 18446744073709551615) (kind_refusal kind)) }
+        ensures unchanged { OnErr result (self.new ≡ self.old) }
+    {
+        self.check(parent)?;
+        if self.last == u64::MAX {
+            return Err(TreeError::StampsSpent);
+        }
+        let context = Context::new(self.alloc, kind)?;
+        self.contexts.reserve(1)?;
+        let stamp = self.last + 1;
+        let slot = self.links.add(parent.slot, stamp)?;
+        put_context(&mut self.contexts, slot as usize, context);
+        self.last = stamp;
+        Ok(ContextId { slot, stamp })
+    }
+
+    /// Gives up the chunks of a context, and all its descendants.
+    pub fn reset(&mut self, id: ContextId) -> Result<(), TreeError>
+        ensures there { OnOk result (is_there self.old id ≡ true) }
+        ensures space { OnOk result (self.new ≡ reset self.old id) }
+        ensures refused { IfErr result (λ e. (is_there self.old id ≡ false) × (e ≡ NoSuchContext)) }
+        ensures unchanged { OnErr result (self.new ≡ self.old) }
+    {
+        self.check(id)?;
+        self.prune(id);
+        self.contexts[id.slot as usize].reset();
+        Ok(())
+    }
+
+    /// Deletes the descendants of a context that is there.
+    fn prune(&mut self, id: ContextId)
+        requires { is_there self.old id ≡ true }
+        ensures there { is_there self.new id ≡ true }
+        ensures same { context_at self.new id ≡ context_at self.old id }
+        ensures gone { self.new ≡ without_slots self.old (is_under self.old.links id.slot) }
+    {
+        self.links.is_forest();
+        self.links.prune(id.slot);
+        give_up_free(
+            &mut self.contexts,
+            &self.links,
+            id.slot as usize + 1,
+            self.alloc,
+        );
+    }
+
+    /// Deletes a context and all its descendants. Refuses `RootKept`.
+    pub fn delete(&mut self, id: ContextId) -> Result<(), TreeError>
+        ensures there { OnOk result ((is_there self.old id ≡ true) × (0 < id.slot)) }
+        ensures space { OnOk result (self.new ≡ deleted self.old id) }
+        ensures refused { IfErr result (IsKept (is_there self.old id) id.slot) }
+        ensures unchanged { OnErr result (self.new ≡ self.old) }
+    {
+        self.check(id)?;
+        if id.slot == ROOT {
+            return Err(TreeError::RootKept);
+        }
+        self.links.is_forest();
+        self.links.cut(id.slot);
+        give_up_free(
+            &mut self.contexts,
+            &self.links,
+            id.slot as usize,
+            self.alloc,
+        );
+        Ok(())
+    }
+
+    /// The bytes of a context's blocks.
+    pub fn held(&self, id: ContextId) -> Result<u64, TreeError>
+        ensures { MatchResult result (λ held. (is_there self.now id ≡ true) × (held ≡ held_by (context_at self.now id))) (λ e. (is_there self.now id ≡ false) × (e ≡ NoSuchContext)) }
+    {
+        self.check(id)?;
+        Ok(self.contexts[id.slot as usize].held())
+    }
+
+    /// The bytes of the blocks of a context and of all its descendants.
+    pub fn held_below(&self, id: ContextId) -> Result<u128, TreeError>
+        ensures { MatchResult result (λ held. (is_there self.now id ≡ true) × (held ≡ held_below self.now id)) (λ e. (is_there self.now id ≡ false) × (e ≡ NoSuchContext)) }
+    {
+        self.check(id)?;
+        Ok(sum_below(&self.links, &self.contexts, id.slot))
+    }
+
+    /// How many bytes of blocks `alloc` of `n` bytes would take now: 0 where it would be refused for what it asks.
+    pub fn growth_for(&self, id: ContextId, n: u32) -> Result<u64, TreeError>
+        ensures { MatchResult result (λ growth. (is_there self.now id ≡ true) × (growth ≡ growth_of (context_at self.now id) n)) (λ e. (is_there self.now id ≡ false) × (e ≡ NoSuchContext)) }
+    {
+        self.check(id)?;
+        Ok(self.contexts[id.slot as usize].growth_for(n))
+    }
+
+    /// Takes a chunk of a context that holds `bytes`, as `ChunkContext::alloc`.
+    pub fn alloc(&mut self, id: ContextId, bytes: &[u8]) -> Result<ChunkName, TreeError>
+        ensures there { OnOk result ((is_there self.old id ≡ true) × (refusal_of (context_at self.old id) (length bytes.now) ≡ None)) }
+        ensures added { IfOk result (λ name. Adds (chunks_of (context_at self.old id)) (chunks_of (context_at self.new id)) name (room_in (context_at self.old id) (length bytes.now)) bytes.now) }
+        ensures space { IfOk result (λ name. self.new ≡ with_context self.old id (with_chunk (context_at self.old id) (length bytes.now) (chunk_of name (room_in (context_at self.old id) (length bytes.now)) bytes.now))) }
+        ensures grown { OnOk result (held_by (context_at self.new id) ≡ held_by (context_at self.old id) + growth_of (context_at self.old id) (length bytes.now)) }
+        ensures refused { IfErr result (IsRefusedBy (is_there self.old id) (IsRefused (refusal_of (context_at self.old id) (length bytes.now)) (growth_of (context_at self.old id) (length bytes.now)))) }
+        ensures unchanged { OnErr result (self.new ≡ self.old) }
+    {
+        self.check(id)?;
+        Ok(self.contexts[id.slot as usize].alloc(bytes)?)
+    }
+
+    /// Takes a chunk of `n` zeros, as `ChunkContext::alloc_zeroed`.
+    pub fn alloc_zeroed(&mut self, id: ContextId, n: u32) -> Result<ChunkName, TreeError>
+        ensures there { OnOk result ((is_there self.old id ≡ true) × (refusal_of (context_at self.old id) n ≡ None)) }
+        ensures added { IfOk result (λ name. Adds (chunks_of (context_at self.old id)) (chunks_of (context_at self.new id)) name (room_in (context_at self.old id) n) (zeros n)) }
+        ensures space { IfOk result (λ name. self.new ≡ with_context self.old id (with_chunk (context_at self.old id) n (chunk_of name (room_in (context_at self.old id) n) (zeros n)))) }
+        ensures grown { OnOk result (held_by (context_at self.new id) ≡ held_by (context_at self.old id) + growth_of (context_at self.old id) n) }
+        ensures refused { IfErr result (IsRefusedBy (is_there self.old id) (IsRefused (refusal_of (context_at self.old id) n) (growth_of (context_at self.old id) n))) }
+        ensures unchanged { OnErr result (self.new ≡ self.old) }
+    {
+        self.check(id)?;
+        Ok(self.contexts[id.slot as usize].alloc_zeroed(n)?)
+    }
+
+    /// The bytes of a live chunk of a context.
+    pub fn get(&self, id: ContextId, name: ChunkName) -> Result<&[u8], TreeError>
+        requires { is_there self.now id ≡ true → IsTrue (has_chunk (context_at self.now id) name) }
+        ensures there { OnOk result (is_there self.now id ≡ true) }
+        ensures bytes { IfOk result (λ bytes. bytes.now ≡ chunk_bytes (context_at self.now id) name) }
+        ensures refused { IfErr result (λ e. (is_there self.now id ≡ false) × (e ≡ NoSuchContext)) }
+    {
+        self.check(id)?;
+        Ok(self.contexts[id.slot as usize].get(name))
+    }
+
+    /// Gives up a live chunk of a context, as `ChunkContext::free`.
+    pub fn free(&mut self, id: ContextId, name: ChunkName) -> Result<(), TreeError>
+        requires { is_there self.old id ≡ true → IsTrue (has_chunk (context_at self.old id) name) }
+        ensures there { OnOk result ((is_there self.old id ≡ true) × (can_free (context_at self.old id) ≡ true)) }
+        ensures gone { OnOk result (chunks_of (context_at self.new id) ≡ without (chunks_of (context_at self.old id)) (place_of name)) }
+        ensures space { OnOk result (self.new ≡ with_context self.old id (without_chunk (context_at self.old id) (place_of name))) }
+        ensures refused { IfErr result (IsRefusedBy (is_there self.old id) (λ own. (own ≡ NotSupported) × (can_free (context_at self.old id) ≡ false))) }
+        ensures unchanged { OnErr result (self.new ≡ self.old) }
+    {
+        self.check(id)?;
+        Ok(self.contexts[id.slot as usize].free(name)?)
+    }
+
+    /// Makes a live chunk of a context `n` bytes long, as `ChunkContext::resize`.
+    pub fn resize(&mut self, id: ContextId, name: ChunkName, n: u32) -> Result<ChunkName, TreeError>
+        requires { is_there self.old id ≡ true → IsTrue (has_chunk (context_at self.old id) name) }
+        ensures there { OnOk result ((is_there self.old id ≡ true) × (can_free (context_at self.old id) ≡ true) × (refusal_of (context_at self.old id) n ≡ None)) }
+        ensures resized { IfOk result (λ new. IsResized (chunks_of (context_at self.old id)) (chunks_of (context_at self.new id)) name new n) }
+        ensures stays { IfOk result (λ new. n ≤ (piece_at (chunks_of (context_at self.old id)) (place_of name)).room → self.new ≡ with_context self.old id (with_resized (context_at self.old id) (place_of name) (resized (chunk_bytes (context_at self.old id) name) n))) }
+        ensures moved { IfOk result (λ new. (piece_at (chunks_of (context_at self.old id)) (place_of name)).room < n → self.new ≡ with_context self.old id (without_chunk (with_chunk (context_at self.old id) n (chunk_of new (room_in (context_at self.old id) n) (resized (chunk_bytes (context_at self.old id) name) n))) (place_of name))) }
+        ensures refused { IfErr result (IsRefusedBy (is_there self.old id) (IsResizeRefused (can_free (context_at self.old id)) (refusal_of (context_at self.old id) n) (growth_of (context_at self.old id) n) (piece_at (chunks_of (context_at self.old id)) (place_of name)).room n)) }
+        ensures unchanged { OnErr result (self.new ≡ self.old) }
+    {
+        self.check(id)?;
+        Ok(self.contexts[id.slot as usize].resize(name, n)?)
+    }
+}
+
+impl Tree {
+    ghost use Rattle.std.specs.Borrow.{sem};
+    ghost use Rattle.context_tree.specs.TreeLends.{lends_chunk};
+
+    /// Lends the bytes of a live chunk of a context, to be changed: `bytes_mut` of an id that is looked at first.
+    ///
+    /// Its contract tells the bytes that are lent; that of `bytes_mut` also what the tree is when they were written.
+    pub fn get_mut(&mut self, id: ContextId, name: ChunkName) -> Result<&mut [u8], TreeError>
+        requires { is_there self.old id ≡ true → IsTrue (has_chunk (context_at self.old id) name) }
+        ensures there { OnOk result (is_there self.old id ≡ true) }
+        ensures bytes { IfOk result (λ bytes. bytes.now ≡ chunk_bytes (context_at self.old id) name) }
+        ensures refused { IfErr result (λ e. (is_there self.old id ≡ false) × (e ≡ NoSuchContext)) }
+    {
+        self.check(id)?;
+        Ok(self.bytes_mut(id, name))
+    }
+
+    /// Lends the bytes of a live chunk of a context that is there, to be changed. All other chunks keep theirs.
+    pub fn bytes_mut(&mut self, id: ContextId, name: ChunkName) -> &mut [u8]
+        requires there { is_there self.old id ≡ true }
+        requires chunk { IsTrue (has_chunk (context_at self.old id) name) }
+        ensures* writes_back { sem 𝓛 (lends_chunk self.entry id name result) }
+        ensures bytes { result.now ≡ chunk_bytes (context_at self.old id) name }
+    {
+        let context = self.contexts.get_mut(id.slot as usize).unwrap();
+        context.get_mut(name)
+    }
+}
