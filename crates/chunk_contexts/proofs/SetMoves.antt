@@ -1,7 +1,6 @@
 -- States of an `AllocSet` after one change and another.
 use Rattle.std.proofs.Common.{◌≡◌, ℕ, ◌-◌, ◌<◌, ◌≤◌, min, inl, inr, Bool, true, false, List, [], ◌∷◌, ◌++◌, length, take, refl, sym, ap, ◌∙◌, subst, arith}
-use Rattle.std.specs.Prelude.{IsTrue, ◌==◌}
-use Rattle.std.proofs.lemmas.Bool.{cases_lt, and_from, eq-eqb, true≢false, false_from_ne_true}
+use Rattle.std.proofs.lemmas.Bool.{cases_lt, true≢false, false_from_ne_true}
 use Rattle.std.proofs.lemmas.List.{take_all, length-append, length-take-le}
 use Rattle.block_memory.specs.Cells.{zeros}
 use Rattle.block_memory.proofs.CellLemmas.{length-zeros}
@@ -10,7 +9,8 @@ use Rattle.chunk_layout.specs.declared.place.Place.{Place}
 use Rattle.chunk_layout.specs.declared.place.ChunkName.{ChunkName}
 use Rattle.chunk_layout.proofs.Finding.{same-place, place-same}
 use Rattle.chunk_layout.proofs.PieceLaws.{same_place-sym, has-first, piece_at-first, without-first, has-later, piece_at-later, without-later, without-none, without-twice, has-without, piece_at-without, has_not-without}
-use Rattle.chunk_contexts.specs.Chunks.{is_live, bytes_of, IsResized}
+use Rattle.chunk_contexts.specs.Chunks.{bytes_of, IsResized}
+use Rattle.chunk_contexts.proofs.Content.{lives-first, apart-places}
 use Rattle.chunk_contexts.specs.Set.{SetState, set_taken, taken_by, set_put}
 
 -- ---- a request is served
@@ -79,11 +79,6 @@ length-resized bytes n = elim (cases_lt n (length bytes)) [
   | inr more ↦ omega (arith, length-append (take n bytes) (zeros (n - length bytes)), ap length (take_all n bytes more), length-zeros (n - length bytes), more)
 ]
 
-lives-first : (p : Piece) (ps : List Piece) (name : ChunkName) → is_at (place_of name) p ≡ true → length p.bytes ≡ name.len → IsTrue (is_live (p ∷ ps) name)
-lives-first p ps name here long =
-    and_from (has (p ∷ ps) (place_of name)) (length (piece_at (p ∷ ps) (place_of name)).bytes == name.len) (has-first p ps (place_of name) here)
-    (eq-eqb (length (piece_at (p ∷ ps) (place_of name)).bytes) name.len (ap (λ (q : Piece). length q.bytes) (piece_at-first p ps (place_of name) here) ∙ long))
-
 -- a chunk stays where it is
 pub resized-stays : (before : List Piece) (name new : ChunkName) (n room : ℕ) → place_of new ≡ place_of name → new.len ≡ n
     → IsResized before ((record { place = place_of name; room = room; is_live = true; bytes = resized (bytes_of before name) n }) ∷ without before (place_of name)) name new n
@@ -118,9 +113,6 @@ resized-moved before name new n room there none len =
   where
     not-same : has before (place_of name) ≡ true → has before (place_of new) ≡ false → same_place (place_of new) (place_of name) ≡ false
     not-same yes' no' = false_from_ne_true (same_place (place_of new) (place_of name)) (λ e. true≢false (sym yes' ∙ ap (has before) (sym (same-place (place_of new) (place_of name) e)) ∙ no'))
-
-pub apart-places : (before : List Piece) (a b : Place) → has before a ≡ true → has before b ≡ false → same_place a b ≡ false
-apart-places before a b yes' no' = false_from_ne_true (same_place a b) (λ e. true≢false (sym yes' ∙ ap (has before) (same-place a b e) ∙ no'))
 
 -- ---- a chunk is made, and gets the bytes of another, and more behind these
 module _ (s t u v : SetState) (n : ℕ) (place from : Place) (room kept : ℕ) (ys : List ℕ) (there : has s.chunks from ≡ true) (none : has s.chunks place ≡ false) (few : kept ≤ length (piece_at s.chunks from).bytes)
