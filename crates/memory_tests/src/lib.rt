@@ -7,3 +7,5 @@ mod blocks;
 mod callers;
 #[cfg(test)]
 mod contexts;
+#[cfg(test)]
+mod footprint;
