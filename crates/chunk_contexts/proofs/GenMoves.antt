@@ -14,12 +14,20 @@ use Rattle.chunk_layout.proofs.Lists.{first_has, first_passes, every_filter, eve
 use Rattle.chunk_contexts.specs.declared.active.Active.{Active}
 use Rattle.chunk_contexts.specs.declared.runs.Runs.{Runs}
 use Rattle.chunk_contexts.specs.Free.{Elsewhere, IsRest}
-use Rattle.chunk_contexts.specs.Run.{run_of}
+use Rattle.chunk_contexts.specs.Run.{RunState, run_of}
 use Rattle.chunk_contexts.specs.Generation.{in_block, freed_by, gen_freed, IsCounted}
 use Rattle.chunk_contexts.proofs.FreeLaws.{without-elsewhere}
 use Rattle.chunk_contexts.proofs.OverLaws.{over, rewritten-map, pairwise_map}
 use Rattle.chunk_contexts.proofs.RunMoves.{run-put, run-lent}
 use Rattle.chunk_contexts.proofs.GenLaws.{in-here, in-other, in-without_other, in-without_here, outside-none}
+
+-- a chunk is given up
+pub freed-chunks : (x : RunState) (place : Place) → (gen_freed x place).chunks ≡ without x.chunks place
+freed-chunks x place = by-bool _
+  where
+    by-bool : (b : Bool) → (freed_by b x place).chunks ≡ without x.chunks place
+    by-bool true = refl
+    by-bool false = refl
 
 pub in-rewritten : (ps : List Piece) (place : Place) (ws : List ℕ) (c : ℕ) → in_block (rewritten ps place ws) c ≡ in_block ps c
 in-rewritten [] place ws c = refl

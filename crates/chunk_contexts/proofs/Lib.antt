@@ -2,6 +2,7 @@ pub mod ClassLaws
 pub mod FreeLaws
 pub mod LinkLaws
 pub mod ListLaws
+pub mod Content
 pub mod CutLaws
 pub mod SetLaws
 pub mod Growth

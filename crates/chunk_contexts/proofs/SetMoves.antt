@@ -1,7 +1,6 @@
 -- States of an `AllocSet` after one change and another.
-use Rattle.std.proofs.Common.{◌≡◌, ℕ, ◌-◌, ◌<◌, ◌≤◌, min, inl, inr, Bool, true, false, List, [], ◌∷◌, ◌++◌, length, take, refl, sym, ap, ◌∙◌, subst, arith}
-use Rattle.std.specs.Prelude.{IsTrue, ◌==◌}
-use Rattle.std.proofs.lemmas.Bool.{cases_lt, and_from, eq-eqb, true≢false, false_from_ne_true}
+use Rattle.std.proofs.Common.{◌≡◌, ℕ, ◌-◌, inl, inr, Bool, true, false, List, [], ◌∷◌, length, take, refl, sym, ap, ◌∙◌, subst, arith}
+use Rattle.std.proofs.lemmas.Bool.{cases_lt, true≢false, false_from_ne_true}
 use Rattle.std.proofs.lemmas.List.{take_all, length-append, length-take-le}
 use Rattle.block_memory.specs.Cells.{zeros}
 use Rattle.block_memory.proofs.CellLemmas.{length-zeros}
@@ -10,7 +9,8 @@ use Rattle.chunk_layout.specs.declared.place.Place.{Place}
 use Rattle.chunk_layout.specs.declared.place.ChunkName.{ChunkName}
 use Rattle.chunk_layout.proofs.Finding.{same-place, place-same}
 use Rattle.chunk_layout.proofs.PieceLaws.{same_place-sym, has-first, piece_at-first, without-first, has-later, piece_at-later, without-later, without-none, without-twice, has-without, piece_at-without, has_not-without}
-use Rattle.chunk_contexts.specs.Chunks.{is_live, bytes_of, IsResized}
+use Rattle.chunk_contexts.specs.Chunks.{bytes_of, IsResized}
+use Rattle.chunk_contexts.proofs.Content.{lives-first, apart-places}
 use Rattle.chunk_contexts.specs.Set.{SetState, set_taken, taken_by, set_put}
 
 -- ---- a request is served
@@ -56,33 +56,11 @@ put-put s place xs ys =
     λ i. record { chunks = (record { place = place; room = (first i).room; is_live = true; bytes = ys }) ∷ rest i; blocks = s.blocks; free = s.free; left = s.left; next = s.next; first = s.first }
 
 -- ---- bytes of another length
-pub resized-is : (bytes : List ℕ) (old n : ℕ) → length bytes ≡ old → take (min old n) bytes ++ zeros (n - min old n) ≡ resized bytes n
-resized-is bytes old n long = elim (cases_lt n old) [
-  | inl less ↦ (λ i. take (short less i) bytes ++ zeros (none less i))
-  | inr more ↦
-      let kept : take (min old n) bytes ≡ take n bytes = take_all (min old n) bytes (omega (arith, long, more)) ∙ sym (take_all n bytes (omega (arith, long, more))) in
-      (λ i. kept i ++ zeros (rest more i))
-]
-  where
-    short : n < old → min old n ≡ n
-    short less = omega (arith, less)
-
-    none : n < old → n - min old n ≡ n - length bytes
-    none less = omega (arith, less, long)
-
-    rest : old ≤ n → n - min old n ≡ n - length bytes
-    rest more = omega (arith, more, long)
-
 pub length-resized : (bytes : List ℕ) (n : ℕ) → length (resized bytes n) ≡ n
 length-resized bytes n = elim (cases_lt n (length bytes)) [
   | inl less ↦ omega (arith, length-append (take n bytes) (zeros (n - length bytes)), length-take-le n bytes (omega (arith, less)), length-zeros (n - length bytes), less)
   | inr more ↦ omega (arith, length-append (take n bytes) (zeros (n - length bytes)), ap length (take_all n bytes more), length-zeros (n - length bytes), more)
 ]
-
-lives-first : (p : Piece) (ps : List Piece) (name : ChunkName) → is_at (place_of name) p ≡ true → length p.bytes ≡ name.len → IsTrue (is_live (p ∷ ps) name)
-lives-first p ps name here long =
-    and_from (has (p ∷ ps) (place_of name)) (length (piece_at (p ∷ ps) (place_of name)).bytes == name.len) (has-first p ps (place_of name) here)
-    (eq-eqb (length (piece_at (p ∷ ps) (place_of name)).bytes) name.len (ap (λ (q : Piece). length q.bytes) (piece_at-first p ps (place_of name) here) ∙ long))
 
 -- a chunk stays where it is
 pub resized-stays : (before : List Piece) (name new : ChunkName) (n room : ℕ) → place_of new ≡ place_of name → new.len ≡ n
@@ -119,15 +97,8 @@ resized-moved before name new n room there none len =
     not-same : has before (place_of name) ≡ true → has before (place_of new) ≡ false → same_place (place_of new) (place_of name) ≡ false
     not-same yes' no' = false_from_ne_true (same_place (place_of new) (place_of name)) (λ e. true≢false (sym yes' ∙ ap (has before) (sym (same-place (place_of new) (place_of name) e)) ∙ no'))
 
-pub apart-places : (before : List Piece) (a b : Place) → has before a ≡ true → has before b ≡ false → same_place a b ≡ false
-apart-places before a b yes' no' = false_from_ne_true (same_place a b) (λ e. true≢false (sym yes' ∙ ap (has before) (same-place a b e) ∙ no'))
-
--- ---- a chunk is made, and gets the bytes of another, and more behind these
-module _ (s t u v : SetState) (n : ℕ) (place from : Place) (room kept : ℕ) (ys : List ℕ) (there : has s.chunks from ≡ true) (none : has s.chunks place ≡ false) (few : kept ≤ length (piece_at s.chunks from).bytes)
-    (made : t ≡ set_taken s n (record { place = place; room = room; is_live = true; bytes = [] })) where
-  abbrev src : List ℕ
-  src = (piece_at s.chunks from).bytes
-
+-- ---- a chunk is made, and gets the bytes of another
+module _ (s t u : SetState) (n : ℕ) (place from : Place) (room : ℕ) (there : has s.chunks from ≡ true) (none : has s.chunks place ≡ false) (made : t ≡ set_taken s n (record { place = place; room = room; is_live = true; bytes = [] })) where
   made-chunks : t.chunks ≡ (record { place = place; room = room; is_live = true; bytes = [] }) ∷ s.chunks
   made-chunks = ap (λ (z : SetState). z.chunks) made ∙ taken-chunks s n (record { place = place; room = room; is_live = true; bytes = [] })
 
@@ -149,33 +120,12 @@ module _ (s t u v : SetState) (n : ℕ) (place from : Place) (room kept : ℕ) (
   pub made-piece : piece_at t.chunks place ≡ record { place = place; room = room; is_live = true; bytes = [] }
   made-piece = ap (λ (cs : List Piece). piece_at cs place) made-chunks ∙ piece_at-first (record { place = place; room = room; is_live = true; bytes = [] }) s.chunks place (place-same place)
 
-  module _ (copied : u ≡ set_put t place (take kept (piece_at t.chunks from).bytes)) where
+  module _ (len : ℕ) (filled : u ≡ set_put t place (resized (piece_at t.chunks from).bytes len)) where
     abbrev p : Piece
-    p = record { place = place; room = room; is_live = true; bytes = take kept src }
+    p = record { place = place; room = room; is_live = true; bytes = resized (piece_at s.chunks from).bytes len }
 
-    pub copied-is : u ≡ set_taken s n p
-    copied-is = copied ∙ ap (λ (q : Piece). set_put t place (take kept q.bytes)) made-source ∙ ap (λ (z : SetState). set_put z place (take kept src)) made ∙ put-taken s n place room [] (take kept src) none
+    pub filled-is : u ≡ set_taken s n p
+    filled-is = filled ∙ ap (λ (q : Piece). set_put t place (resized q.bytes len)) made-source ∙ ap (λ (z : SetState). set_put z place p.bytes) made ∙ put-taken s n place room [] p.bytes none
 
-    copied-chunks : u.chunks ≡ p ∷ s.chunks
-    copied-chunks = ap (λ (z : SetState). z.chunks) copied-is ∙ taken-chunks s n p
-
-    pub copied-there : has u.chunks place ≡ true
-    copied-there = ap (λ (cs : List Piece). has cs place) copied-chunks ∙ has-first p s.chunks place (place-same place)
-
-    pub copied-piece : piece_at u.chunks place ≡ p
-    copied-piece = ap (λ (cs : List Piece). piece_at cs place) copied-chunks ∙ piece_at-first p s.chunks place (place-same place)
-
-    pub copied-long : length (piece_at u.chunks place).bytes ≡ kept
-    copied-long = ap (λ (q : Piece). length q.bytes) copied-piece ∙ length-take-le kept src few
-
-    module _ (written : v ≡ set_put u place (take kept (piece_at u.chunks place).bytes ++ ys)) where
-      abbrev q : Piece
-      q = record { place = place; room = room; is_live = true; bytes = take kept src ++ ys }
-
-      pub written-is : v ≡ set_taken s n q
-      written-is =
-          let bytes : take kept (piece_at u.chunks place).bytes ≡ take kept src = ap (λ (x : Piece). take kept x.bytes) copied-piece ∙ take_all kept (take kept src) (omega (arith, length-take-le kept src few)) in
-          written ∙ ap (λ (xs : List ℕ). set_put u place (xs ++ ys)) bytes ∙ ap (λ (z : SetState). set_put z place (take kept src ++ ys)) copied-is ∙ put-taken s n place room (take kept src) (take kept src ++ ys) none
-
-      pub written-from : has v.chunks from ≡ true
-      written-from = ap (λ (z : SetState). has z.chunks from) written-is ∙ ap (λ (cs : List Piece). has cs from) (taken-chunks s n q) ∙ has-later q s.chunks from away ∙ there
+    pub filled-from : has u.chunks from ≡ true
+    filled-from = ap (λ (z : SetState). has z.chunks from) filled-is ∙ ap (λ (cs : List Piece). has cs from) (taken-chunks s n p) ∙ has-later p s.chunks from away ∙ there

@@ -8,12 +8,8 @@ use Rattle.chunk_layout.specs.declared.place.Place.{Place}
 use Rattle.chunk_layout.proofs.Lists.{first_has, first_passes}
 use Rattle.chunk_layout.proofs.Finding.{same-place}
 use Rattle.chunk_layout.proofs.Numbers.{total-with_block}
-use Rattle.std.specs.Prelude.{◌==◌}
-use Rattle.std.proofs.lemmas.Bool.{and_parts, eqb-true}
 use Rattle.chunk_layout.specs.Every.{Every}
-use Rattle.chunk_layout.specs.Pieces.{place_of}
-use Rattle.chunk_layout.specs.declared.place.ChunkName.{ChunkName}
-use Rattle.chunk_contexts.specs.Chunks.{live, is_live}
+use Rattle.chunk_contexts.specs.Chunks.{live}
 use Rattle.chunk_contexts.specs.Rooms.{rooms, largest}
 use Rattle.chunk_contexts.specs.Free.{by_room, is_in, free_rooms, first_free, AreLists}
 use Rattle.chunk_layout.specs.Links.{link_bytes}
@@ -24,13 +20,6 @@ use Rattle.chunk_contexts.specs.declared.alloc_set.AllocSet.TheInside.{Inside}
 use Rattle.chunk_contexts.proofs.FreeLaws.{IsLiveAt, LiveAt, live-found, live-without, free_rooms-kept}
 use Rattle.chunk_contexts.proofs.ListLaws.{lists-put, live-put, rooms-put, live-released, rooms-released}
 use Rattle.chunk_contexts.proofs.SetLaws.{set-put, set-back, outside-is}
-
--- what a live name says
-pub name-there : (chunks : List Piece) (name : ChunkName) → IsTrue (is_live chunks name) → IsTrue (has chunks (place_of name))
-name-there chunks name lives = (and_parts (has chunks (place_of name)) (length (piece_at chunks (place_of name)).bytes == name.len) lives).0
-
-pub name-len : (chunks : List Piece) (name : ChunkName) → IsTrue (is_live chunks name) → length (piece_at chunks (place_of name)).bytes ≡ name.len
-name-len chunks name lives = eqb-true (length (piece_at chunks (place_of name)).bytes) name.len (and_parts (has chunks (place_of name)) (length (piece_at chunks (place_of name)).bytes == name.len) lives).1
 
 module _ (x : Inside) (ok : AreFields x) (s : SetState) (e : set_of x ≡ s) (place : Place) (there : IsTrue (has s.chunks place)) where
   abbrev l : Layout

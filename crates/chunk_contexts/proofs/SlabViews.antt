@@ -20,7 +20,7 @@ use Rattle.chunk_contexts.specs.declared.slab_chunks.SlabChunks.{SlabChunks}
 use Rattle.chunk_contexts.specs.declared.slab.Slab.TheInside.{Inside}
 use Rattle.chunk_contexts.proofs.FreeLaws.{live-found}
 use Rattle.chunk_contexts.proofs.SlabMoves.{live-there, live-room}
-use Rattle.chunk_contexts.proofs.SetViews.{name-there, name-len}
+use Rattle.chunk_contexts.proofs.Content.{name-there, name-len}
 
 -- a request that is not refused has the size
 pub admitted-size : (o : Option ContextError) (n size : ℕ) → slab_refusal_by o (n == size) ≡ None → n ≡ size

@@ -25,6 +25,14 @@ pub record Adds (before after : List Piece) (name : ChunkName) (room : ℕ) (byt
   pub fresh : has before (place_of name) ≡ false
   pub chunks : after ≡ (record { place = place_of name; room = room; is_live = true; bytes = bytes }) ∷ before
 
+-- each live chunk stays live and keeps its bytes, and a new name is that of none of them
+abbrev pub Keeps : List Piece → List Piece → ChunkName → Type 0
+Keeps before after new = (other : ChunkName) → IsTrue (is_live before other) → (same_place (place_of new) (place_of other) ≡ false) × (IsTrue (is_live after other)) × (bytes_of after other ≡ bytes_of before other)
+
+-- the same of each live chunk but one
+abbrev pub KeepsOthers : List Piece → List Piece → ChunkName → ChunkName → Type 0
+KeepsOthers before after name new = (other : ChunkName) → same_place (place_of name) (place_of other) ≡ false → IsTrue (is_live before other) → (same_place (place_of new) (place_of other) ≡ false) × (IsTrue (is_live after other)) × (bytes_of after other ≡ bytes_of before other)
+
 -- why a request is refused: as the kind says, and else for want of memory alone where blocks would have to grow
 abbrev pub IsRefused : Option ContextError → ℕ → ContextError → Type 0
 IsRefused None growth error = (error ≡ NoMemory) × (0 < growth)

@@ -202,17 +202,16 @@ impl AllocSet {
         }
     }
 
-    /// Copies the first `n` of the `len` bytes of a chunk to another, which has no other bytes then.
-    fn copy(&mut self, from: Place, len: usize, to: Place, n: usize)
+    /// Gives a chunk the bytes of another, of which there are `len`, as far as `n`, and zeros behind these.
+    fn fill(&mut self, from: Place, len: usize, to: Place, n: usize)
         requires apart { same_place from to ≡ false }
         requires from { IsTrue (has self.old.chunks from) }
         requires to { IsTrue (has self.old.chunks to) }
         requires len { length (piece_at self.old.chunks from).bytes ≡ len }
-        requires few { n ≤ len }
         requires room { n ≤ (piece_at self.old.chunks to).room }
-        ensures { self.new ≡ set_put self.old to (take n (piece_at self.old.chunks from).bytes) }
+        ensures { self.new ≡ set_put self.old to (resized (piece_at self.old.chunks from).bytes n) }
     {
-        self.lists.layout.copy(from, len, to, n);
+        self.lists.layout.copy_resized(from, len, to, n);
     }
 
     /// How many bytes a chunk has room for.
@@ -245,8 +244,8 @@ impl AllocSet {
         ensures name { result ≡ record { block = place.block; offset = place.offset; len = n } }
         ensures put { self.new ≡ set_put self.old place (resized (piece_at self.old.chunks place).bytes n) }
     {
-        let kept = len.min(n);
-        self.write_zeros(place, kept, n - kept)
+        self.lists.layout.resize(place, len, n);
+        place.named(n)
     }
 
     /// Makes a chunk of `len` bytes `n` bytes long, in a new chunk.
@@ -259,12 +258,10 @@ impl AllocSet {
         ensures moved { IfOk result (λ moved. self.new ≡ set_freed (set_taken self.old n (chunk_of moved (set_room n) (resized (piece_at self.old.chunks from).bytes n))) from) }
         ensures refused { OnErr result ((self.new ≡ self.old) × (0 < set_growth self.old n)) }
     {
-        let kept = len.min(n);
         let place = self.claim(n)?;
-        self.copy(from, len, place, kept);
-        let moved = self.write_zeros(place, kept, n - kept);
+        self.fill(from, len, place, n);
         self.release(from);
-        Ok(moved)
+        Ok(place.named(n))
     }
 }
 

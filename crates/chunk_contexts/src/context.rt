@@ -4,7 +4,7 @@ ghost use Rattle.std.specs.Borrow.{sem};
 ghost use Rattle.block_memory.specs.Cells.{zeros};
 ghost use Rattle.chunk_layout.specs.Pieces.{Piece, place_of, piece_at, without, rewritten, resized, total};
 ghost use Rattle.chunk_layout.specs.declared.place.Place.{Place};
-ghost use Rattle.chunk_contexts.specs.Chunks.{is_live, bytes_of, chunk_of, Adds, IsRefused, IsResizeRefused, IsResized};
+ghost use Rattle.chunk_contexts.specs.Chunks.{is_live, bytes_of, chunk_of, Adds, Keeps, KeepsOthers, IsRefused, IsResizeRefused, IsResized};
 ghost use Rattle.chunk_contexts.specs.ContextLends.{lends_chunk};
 ghost use Rattle.chunk_contexts.specs.declared.error.ContextError.{ContextError};
 ghost use Rattle.chunk_contexts.specs.declared.error.ContextError.TheVariants.{NotSupported};
@@ -54,6 +54,9 @@ pub trait ChunkContext {
     fn alloc(&mut self, bytes: &[u8]) -> Result<ChunkName, ContextError>
         ensures admitted { OnOk result (refusal self.old (length bytes.now) ≡ None) }
         ensures added { IfOk result (λ name. Adds (chunks self.old) (chunks self.new) name (room self.old (length bytes.now)) bytes.now) }
+        ensures lives { IfOk result (λ name. IsTrue (is_live (chunks self.new) name)) }
+        ensures holds { IfOk result (λ name. bytes_of (chunks self.new) name ≡ bytes.now) }
+        ensures keeps { IfOk result (Keeps (chunks self.old) (chunks self.new)) }
         ensures space { IfOk result (λ name. self.new ≡ taken self.old (length bytes.now) (chunk_of name (room self.old (length bytes.now)) bytes.now)) }
         ensures grown { OnOk result (total (blocks self.new) ≡ total (blocks self.old) + growth self.old (length bytes.now)) }
         ensures refused { IfErr result (IsRefused (refusal self.old (length bytes.now)) (growth self.old (length bytes.now))) }
@@ -63,6 +66,10 @@ pub trait ChunkContext {
     fn alloc_zeroed(&mut self, n: u32) -> Result<ChunkName, ContextError>
         ensures admitted { OnOk result (refusal self.old n ≡ None) }
         ensures added { IfOk result (λ name. Adds (chunks self.old) (chunks self.new) name (room self.old n) (zeros n)) }
+        ensures len { IfOk result (λ name. name.len ≡ n) }
+        ensures lives { IfOk result (λ name. IsTrue (is_live (chunks self.new) name)) }
+        ensures holds { IfOk result (λ name. bytes_of (chunks self.new) name ≡ zeros n) }
+        ensures keeps { IfOk result (Keeps (chunks self.old) (chunks self.new)) }
         ensures space { IfOk result (λ name. self.new ≡ taken self.old n (chunk_of name (room self.old n) (zeros n))) }
         ensures grown { OnOk result (total (blocks self.new) ≡ total (blocks self.old) + growth self.old n) }
         ensures refused { IfErr result (IsRefused (refusal self.old n) (growth self.old n)) }
@@ -81,6 +88,9 @@ pub trait ChunkContext {
         ensures bytes { result.now ≡ bytes_of (chunks self.old) name }
         ensures len { length result.now ≡ name.len }
         ensures chunks { (ws : List ℕ) → chunks (wrote self.old (place_of name) ws) ≡ rewritten (chunks self.old) (place_of name) ws }
+        ensures lives { (ws : List ℕ) → IsTrue (is_live (chunks (wrote self.old (place_of name) ws)) name) }
+        ensures holds { (ws : List ℕ) → length ws ≡ name.len → bytes_of (chunks (wrote self.old (place_of name) ws)) name ≡ ws }
+        ensures keeps { (ws : List ℕ) → KeepsOthers (chunks self.old) (chunks (wrote self.old (place_of name) ws)) name name }
         ensures blocks { (ws : List ℕ) → blocks (wrote self.old (place_of name) ws) ≡ blocks self.old };
 
     /// Gives up a live chunk. Refuses `NotSupported` where the kind has no such call, and nothing else.
@@ -88,6 +98,7 @@ pub trait ChunkContext {
         requires { IsTrue (is_live (chunks self.old) name) }
         ensures supported { OnOk result (frees self.old ≡ true) }
         ensures gone { OnOk result (chunks self.new ≡ without (chunks self.old) (place_of name)) }
+        ensures keeps { OnOk result (KeepsOthers (chunks self.old) (chunks self.new) name name) }
         ensures space { OnOk result (self.new ≡ freed self.old (place_of name)) }
         ensures refused { IfErr result (λ error. (error ≡ NotSupported) × (IsTrue (not (frees self.old)))) }
         ensures unchanged { OnErr result (self.new ≡ self.old) };
@@ -101,6 +112,7 @@ pub trait ChunkContext {
         requires { IsTrue (is_live (chunks self.old) name) }
         ensures admitted { OnOk result ((frees self.old ≡ true) × (refusal self.old n ≡ None)) }
         ensures resized { IfOk result (λ new. IsResized (chunks self.old) (chunks self.new) name new n) }
+        ensures keeps { IfOk result (KeepsOthers (chunks self.old) (chunks self.new) name) }
         ensures stays { IfOk result (λ new. n ≤ (piece_at (chunks self.old) (place_of name)).room → self.new ≡ put self.old (place_of name) (resized (bytes_of (chunks self.old) name) n)) }
         ensures moved { IfOk result (λ new. (piece_at (chunks self.old) (place_of name)).room < n → self.new ≡ freed (taken self.old n (chunk_of new (room self.old n) (resized (bytes_of (chunks self.old) name) n))) (place_of name)) }
         ensures refused { IfErr result (IsResizeRefused (frees self.old) (refusal self.old n) (growth self.old n) (piece_at (chunks self.old) (place_of name)).room n) }

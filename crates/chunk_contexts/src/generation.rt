@@ -102,13 +102,8 @@ impl Generation {
         ensures name { result ≡ record { block = place.block; offset = place.offset; len = n } }
         ensures put { self.new ≡ run_put self.old place (resized (piece_at self.old.chunks place).bytes n) }
     {
-        let kept = len.min(n);
-        self.runs.layout.put_zeros(place, kept, n - kept);
-        ChunkName {
-            block: place.block,
-            offset: place.offset,
-            len: n as u32,
-        }
+        self.runs.layout.resize(place, len, n);
+        place.named(n)
     }
 
     /// Gives a chunk the bytes of another, of which there are `len`, as far as `n`, and zeros behind these.
@@ -120,9 +115,7 @@ impl Generation {
         requires room { n ≤ (piece_at self.old.chunks to).room }
         ensures { self.new ≡ run_put self.old to (resized (piece_at self.old.chunks from).bytes n) }
     {
-        let kept = len.min(n);
-        self.runs.layout.copy(from, len, to, kept);
-        self.runs.layout.put_zeros(to, kept, n - kept);
+        self.runs.layout.copy_resized(from, len, to, n);
     }
 
     /// Gives a chunk up, and its block if that was the last one.

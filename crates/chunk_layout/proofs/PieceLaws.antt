@@ -1,9 +1,10 @@
 -- Laws of chunks by their places.
-use Rattle.std.proofs.Common.{◌≡◌, ℕ, ◌+◌, ◌<◌, ◌≤◌, Bool, true, false, not, List, [], ◌∷◌, ◌++◌, Option, Some, None, length, get_or, set, take, drop, replicate, cond, refl, sym, ap, ◌∙◌, inl, inr, arith}
+use Rattle.std.proofs.Common.{◌≡◌, ℕ, ◌+◌, ◌-◌, min, ◌<◌, ◌≤◌, Bool, true, false, not, List, [], ◌∷◌, ◌++◌, Option, Some, None, length, get_or, set, take, drop, replicate, cond, refl, sym, ap, ◌∙◌, inl, inr, arith}
 use Rattle.std.specs.Prelude.{◌||◌, ◌==◌}
-use Rattle.std.proofs.lemmas.Bool.{false≢true, cases_Bool, cond-true, cond-false, not_from_true, not_from_false, or_parts, cases_eq, eq-eqb, ne_eqb}
+use Rattle.std.proofs.lemmas.Bool.{false≢true, cases_Bool, cases_lt, cond-true, cond-false, not_from_true, not_from_false, or_parts, cases_eq, eq-eqb, ne_eqb}
 use Rattle.std.proofs.lemmas.List.{get_or-replicate, get_or-set_same, get_or-set_other, length-replicate, length-set, length-take-le, take_all, take-take, drop-take, take-append-drop}
-use Rattle.chunk_layout.specs.Pieces.{Layout, Piece, same_place, is_at, has, piece_at, without, put_at, only, is_kept}
+use Rattle.block_memory.specs.Cells.{zeros}
+use Rattle.chunk_layout.specs.Pieces.{Layout, Piece, same_place, is_at, has, piece_at, without, put_at, only, is_kept, resized}
 use Rattle.chunk_layout.specs.declared.place.Place.{Place}
 use Rattle.chunk_layout.proofs.Finding.{same-place, place-same}
 
@@ -102,6 +103,33 @@ module _ (l : Layout) (place : Place) where
       let both : take k src ++ part ≡ take (k + m) src =
       (λ i. sym (take-take k (k + m) src (omega arith)) i ++ (is ∙ sym (drop-take k m src)) i) ∙ take-append-drop k (take (k + m) src) in
       put-more (take k src) part k (length-take-le k src (omega arith)) ∙ ap (λ (t : List ℕ). put_at l place 0 t true) both
+
+-- ---- bytes of another length
+pub resized-is : (bytes : List ℕ) (old n : ℕ) → length bytes ≡ old → take (min old n) bytes ++ zeros (n - min old n) ≡ resized bytes n
+resized-is bytes old n long = elim (cases_lt n old) [
+  | inl less ↦ (λ i. take (short less i) bytes ++ zeros (none less i))
+  | inr more ↦
+      let kept : take (min old n) bytes ≡ take n bytes = take_all (min old n) bytes (omega (arith, long, more)) ∙ sym (take_all n bytes (omega (arith, long, more))) in
+      (λ i. kept i ++ zeros (rest more i))
+]
+  where
+    short : n < old → min old n ≡ n
+    short less = omega (arith, less)
+
+    none : n < old → n - min old n ≡ n - length bytes
+    none less = omega (arith, less, long)
+
+    rest : old ≤ n → n - min old n ≡ n - length bytes
+    rest more = omega (arith, more, long)
+
+-- and a copy with zeros behind it is one of another length
+pub put-resized : (l t m : Layout) (from to : Place) (len n kept : ℕ) → length (piece_at l.pieces from).bytes ≡ len → kept ≡ min len n → t ≡ put_at l to 0 (take kept (piece_at l.pieces from).bytes) true → m ≡ put_at t to kept (zeros (n - kept)) true
+    → m ≡ put_at l to 0 (resized (piece_at l.pieces from).bytes n) true
+put-resized l t m from to len n kept long is copied zeroed =
+    let src : List ℕ = (piece_at l.pieces from).bytes in
+    zeroed ∙ ap (λ (z : Layout). put_at z to kept (zeros (n - kept)) true) copied
+    ∙ put-more l to (take kept src) (zeros (n - kept)) kept (length-take-le kept src (omega (arith, is, long)))
+    ∙ ap (λ (xs : List ℕ). put_at l to 0 xs true) (ap (λ (k : ℕ). take k src ++ zeros (n - k)) is ∙ resized-is src len n long)
 
 -- ---- the blocks of which one is kept
 pub length-only : (xs : List (Option ℕ)) (keep : Option ℕ) → length (only xs keep) ≡ length xs

@@ -3,7 +3,7 @@ ghost use Rattle.std.specs.Prelude.{◌≡◌, ◌+◌, ◌*◌, ◌-◌, ◌^�
 ghost use Rattle.std.specs.Borrow.{sem};
 ghost use Rattle.block_memory.specs.Cells.{zeros};
 ghost use Rattle.chunk_layout.specs.Every.{Every};
-ghost use Rattle.chunk_layout.specs.Pieces.{has, same_place, is_kept, piece_at, put_at, with_piece, without, outside, with_block, size_at, total, only, IsClear};
+ghost use Rattle.chunk_layout.specs.Pieces.{has, same_place, is_kept, piece_at, put_at, with_piece, without, outside, with_block, size_at, total, only, IsClear, resized};
 
 use crate::blocks::{
     HEADER, block_len, drop_block, put_block, read_bytes, read_word, write_bytes, write_header,
@@ -245,6 +245,31 @@ impl ChunkLayout {
             self.put(to, done, &part[..step], true);
             done += step;
         }
+    }
+
+    /// Makes a live chunk of `len` bytes `n` bytes long: the front that both lengths have is kept, and what is new is zero.
+    pub fn resize(&mut self, place: Place, len: usize, n: usize)
+        requires there { IsTrue (has self.old.pieces place) }
+        requires len { length (piece_at self.old.pieces place).bytes ≡ len }
+        requires room { n ≤ (piece_at self.old.pieces place).room }
+        ensures { self.new ≡ put_at self.old place 0 (resized (piece_at self.old.pieces place).bytes n) true }
+    {
+        let kept = len.min(n);
+        self.put_zeros(place, kept, n - kept);
+    }
+
+    /// Gives a live chunk the bytes of another one, of which there are `len`, as far as `n`, and zeros behind these.
+    pub fn copy_resized(&mut self, from: Place, len: usize, to: Place, n: usize)
+        requires apart { same_place from to ≡ false }
+        requires from { IsTrue (has self.old.pieces from) }
+        requires to { IsTrue (has self.old.pieces to) }
+        requires len { length (piece_at self.old.pieces from).bytes ≡ len }
+        requires room { n ≤ (piece_at self.old.pieces to).room }
+        ensures { self.new ≡ put_at self.old to 0 (resized (piece_at self.old.pieces from).bytes n) true }
+    {
+        let kept = len.min(n);
+        self.copy(from, len, to, kept);
+        self.put_zeros(to, kept, n - kept);
     }
 }
 

@@ -4,4 +4,8 @@
 #[cfg(test)]
 mod blocks;
 #[cfg(test)]
+mod callers;
+#[cfg(test)]
 mod contexts;
+#[cfg(test)]
+mod footprint;

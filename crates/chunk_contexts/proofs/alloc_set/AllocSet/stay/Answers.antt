@@ -1,12 +1,23 @@
-use Rattle.std.proofs.Common.{◌≡◌, ◌++◌, ◌-◌, ℕ, List, take, min, ap, ◌∙◌}
-use Rattle.block_memory.specs.Cells.{zeros}
-use Rattle.chunk_layout.specs.Pieces.{piece_at}
-use Rattle.chunk_contexts.specs.Set.{set_put}
-use Rattle.chunk_contexts.proofs.SetMoves.{resized-is}
+use Rattle.std.proofs.Common.{true, length, ap, ◌∙◌, arith}
+use Rattle.chunk_layout.specs.Pieces.{Piece, put_at, resized}
+use Rattle.chunk_contexts.proofs.SetViews.{seen, seen-there, fields-put, state-put}
 use Rattle.chunk_contexts.proofs.alloc_set.AllocSet.stay.Goals as goal
+
+pub resize-requires-clause-there : goal.resize-requires-clause-there
+resize-requires-clause-there c = seen-there c.self.inside c.self.invariant c.args.self.now c.self.view_is c.args.place c.requires.there
+
+pub resize-requires-clause-len : goal.resize-requires-clause-len
+resize-requires-clause-len c = ap (λ (p : Piece). length p.bytes) (seen c.self.inside c.self.invariant c.args.self.now c.self.view_is c.args.place c.requires.there) ∙ c.requires.len
+
+pub resize-requires-clause-room : goal.resize-requires-clause-room
+resize-requires-clause-room c = omega (arith, ap (λ (p : Piece). p.room) (seen c.self.inside c.self.invariant c.args.self.now c.self.view_is c.args.place c.requires.there), c.requires.room)
+
+pub invariant_of-self : goal.invariant_of-self
+invariant_of-self c =
+    let bytes = ap (λ (p : Piece). put_at c.self.inside.lists.layout c.args.place 0 (resized p.bytes c.args.n) true) (seen c.self.inside c.self.invariant c.args.self.now c.self.view_is c.args.place c.requires.there) in
+    fields-put c.self.inside c.self.invariant c.args.self.now c.self.view_is c.args.place c.requires.there 0 (resized _ c.args.n) c.resize.new.self (c.resize.ensures ∙ bytes)
 
 pub returns-clause-put : goal.returns-clause-put
 returns-clause-put c =
-    let s = c.args.self.now in let bytes : List ℕ = (piece_at s.chunks c.args.place).bytes in
-    let kept : c.min-kept.result ≡ min c.args.len c.args.n = c.min-kept.ensures in
-    c.write_zeros.ensures.put ∙ ap (set_put s c.args.place) (ap (λ (k : ℕ). take k bytes ++ zeros (c.args.n - k)) kept ∙ resized-is bytes c.args.len c.args.n c.requires.len)
+    let bytes = ap (λ (p : Piece). put_at c.self.inside.lists.layout c.args.place 0 (resized p.bytes c.args.n) true) (seen c.self.inside c.self.invariant c.args.self.now c.self.view_is c.args.place c.requires.there) in
+    state-put c.self.inside c.self.invariant c.args.self.now c.self.view_is c.args.place c.requires.there 0 (resized _ c.args.n) c.resize.new.self (c.resize.ensures ∙ bytes)

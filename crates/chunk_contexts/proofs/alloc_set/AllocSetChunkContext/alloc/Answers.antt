@@ -6,6 +6,7 @@ use Rattle.chunk_layout.proofs.PieceLaws.{piece_at-first}
 use Rattle.chunk_contexts.specs.Chunks.{chunk_of}
 use Rattle.chunk_contexts.specs.Set.{SetState, set_room, set_taken, set_put}
 use Rattle.chunk_contexts.proofs.SetMoves.{taken-chunks, put-taken}
+use Rattle.chunk_contexts.proofs.Content.{added-keeps}
 use Rattle.chunk_contexts.proofs.alloc_set.AllocSetChunkContext.alloc.Goals as goal
 
 pub write-requires-clause-room : goal.write-requires-clause-room
@@ -32,3 +33,8 @@ returns-clause-added c =
       fresh = ap (λ (m : ChunkName). has s.chunks (place_of m)) c.write.ensures.name ∙ c.in_ok-place.ensures.fresh;
       chunks = ap (λ (t : SetState). t.chunks) space ∙ taken-chunks s n (chunk_of c.write.result (set_room n) (c.args.bytes.now));
     }
+
+pub returns-clause-keeps : goal.returns-clause-keeps
+returns-clause-keeps c =
+    let s = c.args.self.now in let n = length c.args.bytes.now in
+    added-keeps s.chunks c.write.new.self.chunks c.write.result (set_room n) c.args.bytes.now (returns-clause-added c)

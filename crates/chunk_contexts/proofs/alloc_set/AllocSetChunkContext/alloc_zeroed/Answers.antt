@@ -8,6 +8,7 @@ use Rattle.chunk_layout.proofs.PieceLaws.{piece_at-first}
 use Rattle.chunk_contexts.specs.Chunks.{chunk_of}
 use Rattle.chunk_contexts.specs.Set.{SetState, set_room, set_taken, set_put}
 use Rattle.chunk_contexts.proofs.SetMoves.{taken-chunks, put-taken}
+use Rattle.chunk_contexts.proofs.Content.{added-lives, added-keeps}
 use Rattle.chunk_contexts.proofs.alloc_set.AllocSetChunkContext.alloc_zeroed.Goals as goal
 
 pub write_zeros-requires-clause-room : goal.write_zeros-requires-clause-room
@@ -34,3 +35,9 @@ returns-clause-added c =
       fresh = ap (λ (m : ChunkName). has s.chunks (place_of m)) c.write_zeros.ensures.name ∙ c.in_ok-place.ensures.fresh;
       chunks = ap (λ (t : SetState). t.chunks) space ∙ taken-chunks s n (chunk_of c.write_zeros.result (set_room n) (zeros c.args.n));
     }
+
+pub returns-clause-lives : goal.returns-clause-lives
+returns-clause-lives c = added-lives c.args.self.now.chunks c.write_zeros.new.self.chunks c.write_zeros.result (set_room c.args.n) (zeros c.args.n) (returns-clause-added c)
+
+pub returns-clause-keeps : goal.returns-clause-keeps
+returns-clause-keeps c = added-keeps c.args.self.now.chunks c.write_zeros.new.self.chunks c.write_zeros.result (set_room c.args.n) (zeros c.args.n) (returns-clause-added c)

@@ -2,7 +2,8 @@ use Rattle.std.proofs.Common.{length, sym, ap, ◌∙◌, subst}
 use Rattle.std.specs.Prelude.{IsTrue}
 use Rattle.chunk_layout.specs.Pieces.{Piece, has, piece_at, place_of}
 use Rattle.chunk_layout.specs.declared.place.Place.{Place}
-use Rattle.chunk_contexts.proofs.SetViews.{seen, seen-there, name-there, name-len}
+use Rattle.chunk_contexts.proofs.SetViews.{seen, seen-there}
+use Rattle.chunk_contexts.proofs.Content.{name-there, name-len}
 use Rattle.chunk_contexts.proofs.alloc_set.AllocSetChunkContext.get.Goals as goal
 
 pub get-requires-clause-there : goal.get-requires-clause-there

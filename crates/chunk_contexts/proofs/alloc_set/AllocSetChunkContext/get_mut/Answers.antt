@@ -8,7 +8,8 @@ use Rattle.chunk_contexts.specs.Free.{free_rooms}
 use Rattle.chunk_contexts.specs.Set.{SetState, set_wrote}
 use Rattle.chunk_contexts.specs.SetFields.{IsSet}
 use Rattle.chunk_contexts.proofs.OverLaws.{set-lent, live-over, rooms-over}
-use Rattle.chunk_contexts.proofs.SetViews.{seen, seen-there, seen-only, name-there, name-len}
+use Rattle.chunk_contexts.proofs.SetViews.{seen, seen-there, seen-only}
+use Rattle.chunk_contexts.proofs.Content.{name-there, name-len, rewritten-lives, rewritten-holds, rewritten-keeps}
 use Rattle.chunk_contexts.proofs.alloc_set.AllocSetChunkContext.get_mut.Goals as goal
 
 pub get_mut-requires-clause-there : goal.get_mut-requires-clause-there
@@ -45,6 +46,9 @@ returns c =
             ∙ ap (λ (p : Piece). p.bytes) (seen c.self.inside c.self.invariant c.args.self.now c.self.view_is place (name-there c.args.self.now.chunks c.args.name c.requires));
         len = c.get_mut.ensures.len;
         chunks = λ ws. refl;
+        lives = rewritten-lives c.args.self.now.chunks c.args.name c.requires;
+        holds = rewritten-holds c.args.self.now.chunks c.args.name c.requires;
+        keeps = rewritten-keeps c.args.self.now.chunks c.args.name c.requires;
         blocks = λ ws. refl;
       },
     )

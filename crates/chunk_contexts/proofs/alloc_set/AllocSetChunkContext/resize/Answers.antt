@@ -5,7 +5,8 @@ use Rattle.chunk_layout.specs.declared.place.ChunkName.{ChunkName}
 use Rattle.chunk_contexts.specs.Chunks.{bytes_of, chunk_of, IsResized}
 use Rattle.chunk_contexts.specs.Set.{SetState, set_room, set_put, set_taken, set_freed}
 use Rattle.chunk_contexts.proofs.SetMoves.{resized-stays, resized-moved, taken-chunks}
-use Rattle.chunk_contexts.proofs.SetViews.{name-there}
+use Rattle.chunk_contexts.proofs.Content.{name-there}
+use Rattle.chunk_contexts.proofs.Content.{resized-keeps}
 use Rattle.chunk_contexts.proofs.alloc_set.AllocSetChunkContext.resize.Goals as goal
 
 pub returns-then-len-room-clause-resized : goal.returns-then-len-room-clause-resized
@@ -26,3 +27,9 @@ returns-clause-resized c =
     let chunks : c.relocate.new.self.chunks ≡ without (p ∷ s.chunks) (place_of name) = ap (λ (t : SetState). t.chunks) state ∙ ap (λ (cs : List Piece). without cs (place_of name)) (taken-chunks s n p) in
     subst (λ (cs : List Piece). IsResized s.chunks cs name new n) (sym chunks)
     (resized-moved s.chunks name new n (set_room n) (name-there s.chunks name c.requires) c.in_ok-relocate.ensures.fresh c.in_ok-relocate.ensures.len)
+
+pub returns-then-len-room-clause-keeps : goal.returns-then-len-room-clause-keeps
+returns-then-len-room-clause-keeps c = resized-keeps c.args.self.now.chunks c.stay.new.self.chunks c.args.name c.stay.result c.args.n (returns-then-len-room-clause-resized c)
+
+pub returns-clause-keeps : goal.returns-clause-keeps
+returns-clause-keeps c = resized-keeps c.args.self.now.chunks c.relocate.new.self.chunks c.args.name c.in_ok-relocate.field-0 c.args.n (returns-clause-resized c)

@@ -1,6 +1,5 @@
-use Rattle.std.proofs.Common.{◌≡◌, ◌∷◌, ℕ, List, true, false, refl, sym, ap, ◌∙◌, subst}
+use Rattle.std.proofs.Common.{◌≡◌, ◌∷◌, ℕ, List, true, false, sym, ap, ◌∙◌, subst}
 use Rattle.block_memory.specs.Cells.{zeros}
-use Rattle.std.proofs.Common.{Bool}
 use Rattle.block_memory.proofs.CellLemmas.{length-zeros}
 use Rattle.chunk_layout.specs.Pieces.{Piece, same_place, place_of, has, piece_at, without, resized}
 use Rattle.chunk_layout.specs.declared.place.Place.{Place}
@@ -9,10 +8,11 @@ use Rattle.chunk_layout.proofs.PieceLaws.{same_place-sym, has-later, piece_at-la
 use Rattle.chunk_contexts.specs.Chunks.{bytes_of, chunk_of, IsResized}
 use Rattle.chunk_contexts.specs.Rooms.{rounded}
 use Rattle.chunk_contexts.specs.Run.{RunState, run_put, run_taken}
-use Rattle.chunk_contexts.specs.Generation.{freed_by, gen_freed}
+use Rattle.chunk_contexts.specs.Generation.{gen_freed}
+use Rattle.chunk_contexts.proofs.GenMoves.{freed-chunks}
 use Rattle.chunk_contexts.proofs.RunMoves.{run-chunks, run-written}
-use Rattle.chunk_contexts.proofs.SetMoves.{resized-stays, resized-moved, apart-places}
-use Rattle.chunk_contexts.proofs.SetViews.{name-there}
+use Rattle.chunk_contexts.proofs.SetMoves.{resized-stays, resized-moved}
+use Rattle.chunk_contexts.proofs.Content.{name-there, apart-places, resized-keeps}
 use Rattle.chunk_contexts.proofs.generation.GenerationChunkContext.resize.Goals as goal
 
 pub returns-then-len-room-clause-resized : goal.returns-then-len-room-clause-resized
@@ -55,13 +55,6 @@ release-requires c =
 moved-is : (s u w : RunState) (name : ChunkName) (a : Place) (p : Piece) → u ≡ run_taken 8 s p → w ≡ gen_freed u a → a ≡ place_of name → w ≡ gen_freed (run_taken 8 s p) (place_of name)
 moved-is s u w name a p made freed at = freed ∙ (λ i. gen_freed (made i) (at i))
 
-freed-chunks : (x : RunState) (place : Place) → (gen_freed x place).chunks ≡ without x.chunks place
-freed-chunks x place = by-bool _
-  where
-    by-bool : (b : Bool) → (freed_by b x place).chunks ≡ without x.chunks place
-    by-bool true = refl
-    by-bool false = refl
-
 pub returns-clause-moved : goal.returns-clause-moved
 returns-clause-moved c = λ _.
     let s = c.args.self.now in let new = c.in_ok-moved.moved in let name = c.args.name in
@@ -82,3 +75,9 @@ returns-clause-resized c =
     ap (λ (t : RunState). t.chunks) state ∙ freed-chunks (run_taken 8 s p) (place_of name) ∙ ap (λ (cs : List Piece). without cs (place_of name)) (run-chunks 8 s p) in
     subst (λ (cs : List Piece). IsResized s.chunks cs name new n) (sym chunks)
     (resized-moved s.chunks name new n (rounded n) there c.in_ok-moved.ensures.added.fresh (c.in_ok-moved.ensures.added.len ∙ length-zeros n))
+
+pub returns-then-len-room-clause-keeps : goal.returns-then-len-room-clause-keeps
+returns-then-len-room-clause-keeps c = resized-keeps c.args.self.now.chunks c.stay.new.self.chunks c.args.name c.stay.result c.args.n (returns-then-len-room-clause-resized c)
+
+pub returns-clause-keeps : goal.returns-clause-keeps
+returns-clause-keeps c = resized-keeps c.args.self.now.chunks c.release.new.self.chunks c.args.name c.in_ok-moved.moved c.args.n (returns-clause-resized c)

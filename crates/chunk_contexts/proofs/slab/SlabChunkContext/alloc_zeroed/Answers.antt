@@ -3,6 +3,9 @@ use Rattle.block_memory.proofs.CellLemmas.{length-zeros}
 use Rattle.chunk_layout.specs.Every.{Every}
 use Rattle.chunk_layout.specs.Pieces.{Piece}
 use Rattle.chunk_contexts.specs.Slab.{SlabState}
+use Rattle.std.proofs.Common.{◌∙◌}
+use Rattle.chunk_contexts.specs.Rooms.{over_most}
+use Rattle.chunk_contexts.proofs.SlabViews.{admitted-size}
 use Rattle.chunk_contexts.proofs.slab.SlabChunkContext.alloc_zeroed.Goals as goal
 
 pub invariant_of-self-2 : goal.invariant_of-self-2
@@ -10,3 +13,7 @@ invariant_of-self-2 c = record {
   chunks = c.in_ok-name.ensures.chunks;
   sizes = subst (λ (s : SlabState). Every (λ (p : Piece). length p.bytes ≡ s.size) s.chunks) (sym c.in_ok-name.ensures.taken) (length-zeros c.self.inside.inner.size, c.self.invariant.sizes);
 }
+
+pub returns-clause-len : goal.returns-clause-len
+returns-clause-len c =
+    c.in_ok-name.ensures.added.len ∙ length-zeros c.self.inside.inner.size ∙ sym (admitted-size (over_most c.args.n) c.args.n c.self.inside.inner.size c.in_ok-check_size.ensures)

@@ -7,6 +7,7 @@ use Rattle.chunk_layout.specs.declared.place.Place.{Place}
 use Rattle.chunk_contexts.specs.Chunks.{live}
 use Rattle.chunk_contexts.specs.Slab.{SlabState, slab_wrote}
 use Rattle.chunk_contexts.specs.SlabFields.{AreFields}
+use Rattle.chunk_contexts.proofs.Content.{rewritten-lives, rewritten-holds, rewritten-keeps}
 use Rattle.chunk_contexts.proofs.OverLaws.{live-over}
 use Rattle.chunk_contexts.proofs.SlabMoves.{slab-lent}
 use Rattle.chunk_contexts.proofs.SlabViews.{view-here, view-there, view-same, view-len, sizes-rewritten}
@@ -42,6 +43,9 @@ returns c =
             ∙ ap (λ (p : Piece). p.bytes) (view-same c.self.inside c.self.invariant c.args.self.now c.self.view_is c.args.name c.requires);
         len = c.get_mut.ensures.len;
         chunks = λ ws. refl;
+        lives = rewritten-lives c.args.self.now.chunks c.args.name c.requires;
+        holds = rewritten-holds c.args.self.now.chunks c.args.name c.requires;
+        keeps = rewritten-keeps c.args.self.now.chunks c.args.name c.requires;
         blocks = λ ws. refl;
       },
     )

@@ -1,0 +1,123 @@
+-- What a change of the chunks says of their names.
+use Rattle.std.proofs.Common.{◌≡◌, ℕ, inl, inr, Bool, true, false, List, [], ◌∷◌, length, drop, cond, refl, sym, ap, ◌∙◌}
+use Rattle.std.specs.Prelude.{IsTrue, ◌==◌, ◌&&◌, ◌||◌}
+use Rattle.std.specs.List.{refill, length_refill}
+use Rattle.std.proofs.lemmas.Bool.{cases_Bool, cond-true, cond-false, and_parts, and_from, eqb-true, eq-eqb, true≢false, false_from_ne_true}
+use Rattle.std.proofs.Math.Seq.{take-append_seam}
+use Rattle.chunk_layout.specs.Pieces.{Piece, same_place, is_at, place_of, has, piece_at, without, rewritten, with_bytes_of}
+use Rattle.chunk_layout.specs.declared.place.Place.{Place}
+use Rattle.chunk_layout.specs.declared.place.ChunkName.{ChunkName}
+use Rattle.chunk_layout.proofs.Finding.{same-place, place-same}
+use Rattle.chunk_layout.proofs.PieceLaws.{other-place, has-first, piece_at-first, has-later, piece_at-later, has-without, piece_at-without}
+use Rattle.chunk_contexts.specs.Chunks.{is_live, bytes_of, chunk_of, Adds, Keeps, KeepsOthers, IsResized}
+
+-- ---- what a live name says
+pub name-there : (chunks : List Piece) (name : ChunkName) → IsTrue (is_live chunks name) → IsTrue (has chunks (place_of name))
+name-there chunks name lives = (and_parts (has chunks (place_of name)) (length (piece_at chunks (place_of name)).bytes == name.len) lives).0
+
+pub name-len : (chunks : List Piece) (name : ChunkName) → IsTrue (is_live chunks name) → length (piece_at chunks (place_of name)).bytes ≡ name.len
+name-len chunks name lives = eqb-true (length (piece_at chunks (place_of name)).bytes) name.len (and_parts (has chunks (place_of name)) (length (piece_at chunks (place_of name)).bytes == name.len) lives).1
+
+-- and what makes one live
+pub name-lives : (chunks : List Piece) (name : ChunkName) → has chunks (place_of name) ≡ true → length (piece_at chunks (place_of name)).bytes ≡ name.len → IsTrue (is_live chunks name)
+name-lives chunks name there long =
+    and_from (has chunks (place_of name)) (length (piece_at chunks (place_of name)).bytes == name.len) there (eq-eqb (length (piece_at chunks (place_of name)).bytes) name.len long)
+
+pub lives-first : (p : Piece) (ps : List Piece) (name : ChunkName) → is_at (place_of name) p ≡ true → length p.bytes ≡ name.len → IsTrue (is_live (p ∷ ps) name)
+lives-first p ps name here long =
+    name-lives (p ∷ ps) name (has-first p ps (place_of name) here) (ap (λ (q : Piece). length q.bytes) (piece_at-first p ps (place_of name) here) ∙ long)
+
+pub apart-places : (before : List Piece) (a b : Place) → has before a ≡ true → has before b ≡ false → same_place a b ≡ false
+apart-places before a b yes' no' = false_from_ne_true (same_place a b) (λ e. true≢false (sym yes' ∙ ap (has before) (same-place a b e) ∙ no'))
+
+-- the place of a live chunk is none that is free
+apart-free : (before : List Piece) (free : Place) (other : ChunkName) → has before free ≡ false → IsTrue (is_live before other) → same_place free (place_of other) ≡ false
+apart-free before free other none lives =
+    false_from_ne_true (same_place free (place_of other)) (λ e. true≢false (sym (name-there before other lives) ∙ ap (has before) (sym (same-place free (place_of other) e)) ∙ none))
+
+-- a chunk that is the same has the same name and the same bytes
+kept : (before after : List Piece) (new other : ChunkName) → same_place (place_of new) (place_of other) ≡ false → has after (place_of other) ≡ has before (place_of other) → piece_at after (place_of other) ≡ piece_at before (place_of other)
+    → IsTrue (is_live before other) → (same_place (place_of new) (place_of other) ≡ false) × (IsTrue (is_live after other)) × (bytes_of after other ≡ bytes_of before other)
+kept before after new other apart there same lives = (apart, (λ i. there i && (length (same i).bytes == other.len)) ∙ lives, ap (λ (p : Piece). p.bytes) same)
+
+-- ---- a chunk more
+module _ (before after : List Piece) (name : ChunkName) (room : ℕ) (bytes : List ℕ) (adds : Adds before after name room bytes) where
+  abbrev p : Piece
+  p = chunk_of name room bytes
+
+  pub added-lives : IsTrue (is_live after name)
+  added-lives = ap (λ (ps : List Piece). is_live ps name) adds.chunks ∙ lives-first p before name (place-same (place_of name)) (sym adds.len)
+
+  pub added-holds : bytes_of after name ≡ bytes
+  added-holds = ap (λ (ps : List Piece). bytes_of ps name) adds.chunks ∙ ap (λ (q : Piece). q.bytes) (piece_at-first p before (place_of name) (place-same (place_of name)))
+
+  pub added-keeps : Keeps before after name
+  added-keeps = λ other lives.
+      let apart = apart-free before (place_of name) other adds.fresh lives in
+      kept before after name other apart (ap (λ (ps : List Piece). has ps (place_of other)) adds.chunks ∙ has-later p before (place_of other) apart)
+      (ap (λ (ps : List Piece). piece_at ps (place_of other)) adds.chunks ∙ piece_at-later p before (place_of other) apart) lives
+
+-- ---- a chunk less
+pub without-keeps : (before after : List Piece) (name : ChunkName) → after ≡ without before (place_of name) → KeepsOthers before after name name
+without-keeps before after name gone = λ other apart lives.
+    kept before after name other apart (ap (λ (ps : List Piece). has ps (place_of other)) gone ∙ has-without before (place_of name) (place_of other) apart)
+    (ap (λ (ps : List Piece). piece_at ps (place_of other)) gone ∙ piece_at-without before (place_of name) (place_of other) apart) lives
+
+-- ---- a chunk of another length
+pub resized-keeps : (before after : List Piece) (name new : ChunkName) (n : ℕ) → IsResized before after name new n → KeepsOthers before after name new
+resized-keeps before after name new n resized = λ other apart lives.
+    let far : same_place (place_of new) (place_of other) ≡ false = elim (cases_Bool (same_place (place_of name) (place_of new))) [
+      | inl same ↦ ap (λ (q : Place). same_place q (place_of other)) (sym (same-place (place_of name) (place_of new) same)) ∙ apart
+      | inr moved ↦ apart-free before (place_of new) other (resized.gone moved).1 lives
+    ] in
+    let others = resized.others (place_of other) apart far in
+    kept before after new other far others.0 others.1 lives
+
+-- ---- other bytes in a chunk
+module _ (place : Place) (ws : List ℕ) where
+  has-rewritten : (ps : List Piece) (q : Place) → has (rewritten ps place ws) q ≡ has ps q
+  has-rewritten [] q = refl
+  has-rewritten (p ∷ ps) q = elim (cases_Bool (is_at place p)) [
+    | inl here ↦ ap (λ (t : List Piece). has t q) (cond-true (is_at place p) (with_bytes_of p ws ∷ ps) (p ∷ rewritten ps place ws) here)
+    | inr away ↦ ap (λ (t : List Piece). has t q) (cond-false (is_at place p) (with_bytes_of p ws ∷ ps) (p ∷ rewritten ps place ws) away) ∙ ap (λ (b : Bool). is_at q p || b) (has-rewritten ps q)
+  ]
+
+  piece_at-rewritten : (ps : List Piece) → piece_at (rewritten ps place ws) place ≡ with_bytes_of (piece_at ps place) ws
+  piece_at-rewritten [] = refl
+  piece_at-rewritten (p ∷ ps) = elim (cases_Bool (is_at place p)) [
+    | inl here ↦
+        ap (λ (t : List Piece). piece_at t place) (cond-true (is_at place p) (with_bytes_of p ws ∷ ps) (p ∷ rewritten ps place ws) here)
+        ∙ piece_at-first (with_bytes_of p ws) ps place here ∙ ap (λ (q : Piece). with_bytes_of q ws) (sym (piece_at-first p ps place here))
+    | inr away ↦
+        ap (λ (t : List Piece). piece_at t place) (cond-false (is_at place p) (with_bytes_of p ws ∷ ps) (p ∷ rewritten ps place ws) away)
+        ∙ piece_at-later p (rewritten ps place ws) place away ∙ piece_at-rewritten ps ∙ ap (λ (q : Piece). with_bytes_of q ws) (sym (piece_at-later p ps place away))
+  ]
+
+  piece_at-rewritten_other : (ps : List Piece) (other : Place) → same_place place other ≡ false → piece_at (rewritten ps place ws) other ≡ piece_at ps other
+  piece_at-rewritten_other [] other apart = refl
+  piece_at-rewritten_other (p ∷ ps) other apart = elim (cases_Bool (is_at place p)) [
+    | inl here ↦
+        ap (λ (t : List Piece). piece_at t other) (cond-true (is_at place p) (with_bytes_of p ws ∷ ps) (p ∷ rewritten ps place ws) here)
+        ∙ piece_at-later (with_bytes_of p ws) ps other (other-place p place other here apart) ∙ sym (piece_at-later p ps other (other-place p place other here apart))
+    | inr away ↦
+        ap (λ (t : List Piece). piece_at t other) (cond-false (is_at place p) (with_bytes_of p ws ∷ ps) (p ∷ rewritten ps place ws) away)
+        ∙ ap (λ (q : Piece). cond (is_at other p) p q) (piece_at-rewritten_other ps other apart)
+  ]
+
+module _ (ps : List Piece) (name : ChunkName) (lives : IsTrue (is_live ps name)) (ws : List ℕ) where
+  abbrev old : List ℕ
+  old = (piece_at ps (place_of name)).bytes
+
+  pub rewritten-lives : IsTrue (is_live (rewritten ps (place_of name) ws) name)
+  rewritten-lives =
+      name-lives (rewritten ps (place_of name) ws) name (has-rewritten (place_of name) ws ps (place_of name) ∙ name-there ps name lives)
+      (ap (λ (p : Piece). length p.bytes) (piece_at-rewritten (place_of name) ws ps) ∙ sym (length_refill (length old) old ws refl) ∙ name-len ps name lives)
+
+  pub rewritten-holds : length ws ≡ name.len → bytes_of (rewritten ps (place_of name) ws) name ≡ ws
+  rewritten-holds long =
+      ap (λ (p : Piece). p.bytes) (piece_at-rewritten (place_of name) ws ps) ∙ ap (λ (n : ℕ). refill n old ws) (name-len ps name lives ∙ sym long)
+      ∙ take-append_seam ws (drop (length ws) old)
+
+  pub rewritten-keeps : KeepsOthers ps (rewritten ps (place_of name) ws) name name
+  rewritten-keeps = λ other apart there.
+      kept ps (rewritten ps (place_of name) ws) name other apart (has-rewritten (place_of name) ws ps (place_of other)) (piece_at-rewritten_other (place_of name) ws ps (place_of other) apart) there
