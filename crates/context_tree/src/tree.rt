@@ -1,11 +1,11 @@
 //! A tree of contexts.
-ghost use Rattle.std.specs.Prelude.{◌≡◌, ◌+◌, ◌*◌, ◌-◌, ◌<◌, ◌≤◌, ◌==◌, ◌^◌, ℕ, true, false, cond, None, IfOk, IfErr, OnOk, OnErr, IsTrue, MatchResult, length, get_or, is_some, slice_set};
+ghost use Rattle.std.specs.Prelude.{◌≡◌, ◌+◌, ◌*◌, ◌-◌, ◌<◌, ◌≤◌, ◌==◌, ◌^◌, ℕ, List, true, false, cond, None, IfOk, IfErr, OnOk, OnErr, IsTrue, MatchResult, length, get_or, is_some, slice_set};
 ghost use Rattle.smallvec.specs.SmallVec.{HasRoomFor};
 ghost use Rattle.block_memory.specs.Cells.{zeros};
 ghost use Rattle.chunk_layout.specs.Pieces.{place_of, without, piece_at, resized, total};
-ghost use Rattle.chunk_contexts.specs.Chunks.{chunk_of, Adds, IsRefused, IsResizeRefused, IsResized};
+ghost use Rattle.chunk_contexts.specs.Chunks.{chunk_of, Adds, Keeps, KeepsOthers, IsRefused, IsResizeRefused, IsResized};
 ghost use Rattle.chunk_contexts.specs.declared.error.ContextError.TheVariants.{NotSupported};
-ghost use Rattle.context_tree.specs.Contexts.{chunks_of, blocks_of, room_in, refusal_of, growth_of, can_free, with_chunk, with_resized, without_chunk, kind_refusal, no_context, has_chunk, chunk_bytes, held_by};
+ghost use Rattle.context_tree.specs.Contexts.{chunks_of, blocks_of, room_in, refusal_of, growth_of, can_free, with_chunk, with_bytes, with_resized, without_chunk, kind_refusal, no_context, has_chunk, chunk_bytes, held_by};
 ghost use Rattle.context_tree.specs.Links.{is_under, placed};
 ghost use Rattle.context_tree.specs.Tree.{new_tree, is_there, context_at, parent_id, id_in, with_context, with_new, without_slots, deleted, reset, held_below, held_from, IsRefusedBy, IsKept, IsNotMade};
 ghost use Rattle.context_tree.specs.declared.error.TreeError.TheVariants.{NoSuchContext};
@@ -271,6 +271,9 @@ impl Tree {
     pub fn alloc(&mut self, id: ContextId, bytes: &[u8]) -> Result<ChunkName, TreeError>
         ensures there { OnOk result ((is_there self.old id ≡ true) × (refusal_of (context_at self.old id) (length bytes.now) ≡ None)) }
         ensures added { IfOk result (λ name. Adds (chunks_of (context_at self.old id)) (chunks_of (context_at self.new id)) name (room_in (context_at self.old id) (length bytes.now)) bytes.now) }
+        ensures lives { IfOk result (λ name. IsTrue (has_chunk (context_at self.new id) name)) }
+        ensures holds { IfOk result (λ name. chunk_bytes (context_at self.new id) name ≡ bytes.now) }
+        ensures keeps { IfOk result (Keeps (chunks_of (context_at self.old id)) (chunks_of (context_at self.new id))) }
         ensures space { IfOk result (λ name. self.new ≡ with_context self.old id (with_chunk (context_at self.old id) (length bytes.now) (chunk_of name (room_in (context_at self.old id) (length bytes.now)) bytes.now))) }
         ensures grown { OnOk result (held_by (context_at self.new id) ≡ held_by (context_at self.old id) + growth_of (context_at self.old id) (length bytes.now)) }
         ensures refused { IfErr result (IsRefusedBy (is_there self.old id) (IsRefused (refusal_of (context_at self.old id) (length bytes.now)) (growth_of (context_at self.old id) (length bytes.now)))) }
@@ -284,6 +287,10 @@ impl Tree {
     pub fn alloc_zeroed(&mut self, id: ContextId, n: u32) -> Result<ChunkName, TreeError>
         ensures there { OnOk result ((is_there self.old id ≡ true) × (refusal_of (context_at self.old id) n ≡ None)) }
         ensures added { IfOk result (λ name. Adds (chunks_of (context_at self.old id)) (chunks_of (context_at self.new id)) name (room_in (context_at self.old id) n) (zeros n)) }
+        ensures len { IfOk result (λ name. name.len ≡ n) }
+        ensures lives { IfOk result (λ name. IsTrue (has_chunk (context_at self.new id) name)) }
+        ensures holds { IfOk result (λ name. chunk_bytes (context_at self.new id) name ≡ zeros n) }
+        ensures keeps { IfOk result (Keeps (chunks_of (context_at self.old id)) (chunks_of (context_at self.new id))) }
         ensures space { IfOk result (λ name. self.new ≡ with_context self.old id (with_chunk (context_at self.old id) n (chunk_of name (room_in (context_at self.old id) n) (zeros n)))) }
         ensures grown { OnOk result (held_by (context_at self.new id) ≡ held_by (context_at self.old id) + growth_of (context_at self.old id) n) }
         ensures refused { IfErr result (IsRefusedBy (is_there self.old id) (IsRefused (refusal_of (context_at self.old id) n) (growth_of (context_at self.old id) n))) }
@@ -298,6 +305,7 @@ impl Tree {
         requires { is_there self.now id ≡ true → IsTrue (has_chunk (context_at self.now id) name) }
         ensures there { OnOk result (is_there self.now id ≡ true) }
         ensures bytes { IfOk result (λ bytes. bytes.now ≡ chunk_bytes (context_at self.now id) name) }
+        ensures len { IfOk result (λ bytes. length bytes.now ≡ name.len) }
         ensures refused { IfErr result (λ e. (is_there self.now id ≡ false) × (e ≡ NoSuchContext)) }
     {
         self.check(id)?;
@@ -309,6 +317,7 @@ impl Tree {
         requires { is_there self.old id ≡ true → IsTrue (has_chunk (context_at self.old id) name) }
         ensures there { OnOk result ((is_there self.old id ≡ true) × (can_free (context_at self.old id) ≡ true)) }
         ensures gone { OnOk result (chunks_of (context_at self.new id) ≡ without (chunks_of (context_at self.old id)) (place_of name)) }
+        ensures keeps { OnOk result (KeepsOthers (chunks_of (context_at self.old id)) (chunks_of (context_at self.new id)) name name) }
         ensures space { OnOk result (self.new ≡ with_context self.old id (without_chunk (context_at self.old id) (place_of name))) }
         ensures refused { IfErr result (IsRefusedBy (is_there self.old id) (λ own. (own ≡ NotSupported) × (can_free (context_at self.old id) ≡ false))) }
         ensures unchanged { OnErr result (self.new ≡ self.old) }
@@ -322,6 +331,7 @@ impl Tree {
         requires { is_there self.old id ≡ true → IsTrue (has_chunk (context_at self.old id) name) }
         ensures there { OnOk result ((is_there self.old id ≡ true) × (can_free (context_at self.old id) ≡ true) × (refusal_of (context_at self.old id) n ≡ None)) }
         ensures resized { IfOk result (λ new. IsResized (chunks_of (context_at self.old id)) (chunks_of (context_at self.new id)) name new n) }
+        ensures keeps { IfOk result (KeepsOthers (chunks_of (context_at self.old id)) (chunks_of (context_at self.new id)) name) }
         ensures stays { IfOk result (λ new. n ≤ (piece_at (chunks_of (context_at self.old id)) (place_of name)).room → self.new ≡ with_context self.old id (with_resized (context_at self.old id) (place_of name) (resized (chunk_bytes (context_at self.old id) name) n))) }
         ensures moved { IfOk result (λ new. (piece_at (chunks_of (context_at self.old id)) (place_of name)).room < n → self.new ≡ with_context self.old id (without_chunk (with_chunk (context_at self.old id) n (chunk_of new (room_in (context_at self.old id) n) (resized (chunk_bytes (context_at self.old id) name) n))) (place_of name))) }
         ensures refused { IfErr result (IsRefusedBy (is_there self.old id) (IsResizeRefused (can_free (context_at self.old id)) (refusal_of (context_at self.old id) n) (growth_of (context_at self.old id) n) (piece_at (chunks_of (context_at self.old id)) (place_of name)).room n)) }
@@ -355,6 +365,10 @@ impl Tree {
         requires chunk { IsTrue (has_chunk (context_at self.old id) name) }
         ensures* writes_back { sem 𝓛 (lends_chunk self.entry id name result) }
         ensures bytes { result.now ≡ chunk_bytes (context_at self.old id) name }
+        ensures len { length result.now ≡ name.len }
+        ensures lives { (ws : List ℕ) → IsTrue (has_chunk (with_bytes (context_at self.old id) (place_of name) ws) name) }
+        ensures holds { (ws : List ℕ) → length ws ≡ name.len → chunk_bytes (with_bytes (context_at self.old id) (place_of name) ws) name ≡ ws }
+        ensures keeps { (ws : List ℕ) → KeepsOthers (chunks_of (context_at self.old id)) (chunks_of (with_bytes (context_at self.old id) (place_of name) ws)) name name }
     {
         let context = self.contexts.get_mut(id.slot as usize).unwrap();
         context.get_mut(name)
