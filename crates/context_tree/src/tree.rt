@@ -48,6 +48,14 @@ impl Model for Tree {
     ghost invariant = { AreFields };
 }
 
+/// Puts a context in the place of another.
+fn replace(contexts: &mut [Context], slot: usize, context: Context)
+    requires { slot < length contexts.old }
+    ensures { contexts.new ≡ slice_set contexts.old slot context }
+{
+    contexts[slot] = context;
+}
+
 /// Puts a context into a slot, or into a new one behind the last.
 fn put_context(contexts: &mut SmallVec<Context, 1>, slot: usize, context: Context)
     requires low { slot ≤ length contexts.old.items }
@@ -55,7 +63,7 @@ fn put_context(contexts: &mut SmallVec<Context, 1>, slot: usize, context: Contex
     ensures { contexts.new.items ≡ placed contexts.old.items slot context }
 {
     if slot < contexts.len() {
-        contexts[slot] = context;
+        replace(contexts, slot, context);
         return;
     }
     contexts.push_reserved(context);
@@ -69,7 +77,7 @@ fn give_up_free(contexts: &mut [Context], links: &Links, from: usize, alloc: Glo
 {
     for slot in from..links.len() {
         if links.get(slot as u32).is_none() {
-            contexts[slot] = Context::made_with(alloc);
+            replace(contexts, slot, Context::made_with(alloc));
         }
     }
 }

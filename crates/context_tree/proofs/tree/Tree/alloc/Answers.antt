@@ -18,4 +18,4 @@ returns-clause-keeps c =
     let old = old-is x c.self.invariant c.args.self.now c.self.view_is id c.in_ok-check.ensures d c.index-deref_mut-id.result c.deref_mut.ensures.value in
     let new = new-is x c.self.invariant c.args.self.now c.self.view_is id c.in_ok-check.ensures d c.deref_mut.ensures.value c.alloc.new.self in
     subst (λ (a : Context). Keeps (chunks_of a) (chunks_of (get_or (refill (length x.contexts.items) x.contexts.items (set d id.slot c.alloc.new.self)) id.slot no_context)) c.in_ok-alloc.field-0) old
-      (subst (λ (b : Context). Keeps (chunks_of (get_or d id.slot c.index-deref_mut-id.result)) (chunks_of b) c.in_ok-alloc.field-0) (sym new) c.in_ok-alloc.ensures.keeps)
+    (subst (λ (b : Context). Keeps (chunks_of (get_or d id.slot c.index-deref_mut-id.result)) (chunks_of b) c.in_ok-alloc.field-0) (sym new) c.in_ok-alloc.ensures.keeps)

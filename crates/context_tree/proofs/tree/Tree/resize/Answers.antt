@@ -40,4 +40,4 @@ returns-clause-keeps c =
     let old = old-is x c.self.invariant c.args.self.now c.self.view_is id c.in_ok-check.ensures d c.index-deref_mut-id.result c.deref_mut.ensures.value in
     let new = new-is x c.self.invariant c.args.self.now c.self.view_is id c.in_ok-check.ensures d c.deref_mut.ensures.value c.resize.new.self in
     subst (λ (a : Context). KeepsOthers (chunks_of a) (chunks_of (get_or (refill (length x.contexts.items) x.contexts.items (set d id.slot c.resize.new.self)) id.slot no_context)) name to) old
-      (subst (λ (b : Context). KeepsOthers (chunks_of (get_or d id.slot c.index-deref_mut-id.result)) (chunks_of b) name to) (sym new) c.in_ok-resize.ensures.keeps)
+    (subst (λ (b : Context). KeepsOthers (chunks_of (get_or d id.slot c.index-deref_mut-id.result)) (chunks_of b) name to) (sym new) c.in_ok-resize.ensures.keeps)
