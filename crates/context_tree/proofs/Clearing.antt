@@ -1,10 +1,15 @@
 -- Lists by slots, some of which are cleared.
-use Rattle.std.proofs.Common.{◌≡◌, ℕ, zero, suc, ◌+◌, ◌<◌, ◌≤◌, inl, inr, Bool, true, false, List, [], ◌∷◌, Option, None, length, get_or, cond, set, refl, sym, ap, ◌∙◌, arith}
+use Rattle.std.proofs.Common.{◌≡◌, ℕ, zero, suc, ◌+◌, ◌<◌, ◌≤◌, inl, inr, Bool, true, false, List, [], ◌∷◌, Option, None, length, get_or, cond, set, refl, sym, ap, ◌∙◌, arith, subst}
 use Rattle.std.specs.Prelude.{◌==◌, is_some}
 use Rattle.std.proofs.lemmas.Bool.{cases_eq, cases_lt, cond-true, cond-false, ne_eqb, false≢true}
 use Rattle.std.proofs.lemmas.List.{get_or-set_same, get_or-set_other, length-set, get_or_past, ext_get_or}
 use Rattle.context_tree.specs.Links.{is_below, is_under, is_left, cleared, IsForest, AreFree}
+use Rattle.context_tree.specs.LinkFields.{AreFields}
 use Rattle.context_tree.specs.declared.links.Link.{Link}
+use Rattle.context_tree.specs.declared.links.Links.TheInside.{Inside}
+use Rattle.chunk_layout.specs.declared.marks.BlockMarks.{BlockMarks}
+use Rattle.std.specs.List.{refill}
+use Rattle.context_tree.proofs.Slots.{refill-whole}
 use Rattle.context_tree.proofs.Forest.{not-under, left-is, below-self, not-below, under-other, under-closed, below-closed, forest-cleared}
 
 cond-same : {X : Type 0} (b : Bool) (x : X) → cond b x x ≡ x
@@ -117,3 +122,25 @@ low-there ls slot there = elim (cases_lt slot (length ls)) [
   | inl low ↦ low
   | inr past ↦ absurd (false≢true (sym (ap is_some (get_or_past ls slot None past)) ∙ there))
 ]
+
+-- the fields of `Links` when slots are cleared
+module _ (x : Inside) (are : AreFields x) (gone : ℕ → Bool) (forest : IsForest (cleared gone None 0 x.links.items)) (d ws : List (Option Link)) (same : d ≡ x.links.items)
+    (is : ws ≡ cleared gone None 0 d) where
+  abbrev ls : List (Option Link)
+  ls = x.links.items
+
+  ws-is : ws ≡ cleared gone None 0 ls
+  ws-is = is ∙ ap (cleared gone None 0) same
+
+  all-written : refill (length ls) ls ws ≡ ws
+  all-written = refill-whole (length ls) ls ws refl (ap length ws-is ∙ length-cleared gone None 0 ls)
+
+  pub items-cleared : refill (length ls) ls ws ≡ cleared gone None 0 ls
+  items-cleared = all-written ∙ ws-is
+
+  pub fields-cleared : (marks : BlockMarks) → AreFree ws marks → AreFields (record { links = record { items = refill (length ls) ls ws; capacity = x.links.capacity }; free = marks })
+  fields-cleared marks free = record {
+    forest = subst IsForest (sym items-cleared) forest;
+    free = subst (λ (l : List (Option Link)). AreFree l marks) (sym all-written) free;
+    few = omega (arith, are.few, ap length items-cleared, length-cleared gone None 0 ls);
+  }

@@ -1,4 +1,4 @@
 pub mod Forest
-pub mod Clearing
 pub mod Slots
+pub mod Clearing
 pub mod TreeLaws

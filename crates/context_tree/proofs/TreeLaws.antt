@@ -94,8 +94,17 @@ module _ (x : Inside) (are : AreFields x) (now : TreeState) (view : tree_of x �
 
 -- contexts are given up: those in the slots that are emptied
 module _ (x : Inside) (are : AreFields x) (gone : ℕ → Bool) (from : ℕ) (none : (k : ℕ) → k < from → gone k ≡ false) (ls : List (Option Link)) (links : ls ≡ cleared gone None 0 x.links)
-    (ds : List Context) (long : length ds ≡ length x.contexts.items) (before : (k : ℕ) → k < from → get_or ds k no_context ≡ get_or x.contexts.items k no_context)
-    (behind : (k : ℕ) → from ≤ k → get_or ds k no_context ≡ cond (is_some (get_or ls k None)) (get_or x.contexts.items k no_context) no_context) where
+    (d ds : List Context) (same : d ≡ x.contexts.items) (as-long : length ds ≡ length d) (kept-before : (k : ℕ) → k < from → get_or ds k no_context ≡ get_or d k no_context)
+    (told-behind : (k : ℕ) → from ≤ k → get_or ds k no_context ≡ cond (is_some (get_or ls k None)) (get_or d k no_context) no_context) where
+  long : length ds ≡ length x.contexts.items
+  long = as-long ∙ ap length same
+
+  before : (k : ℕ) → k < from → get_or ds k no_context ≡ get_or x.contexts.items k no_context
+  before k low = kept-before k low ∙ ap (λ (cs : List Context). get_or cs k no_context) same
+
+  behind : (k : ℕ) → from ≤ k → get_or ds k no_context ≡ cond (is_some (get_or ls k None)) (get_or x.contexts.items k no_context) no_context
+  behind k past = told-behind k past ∙ ap (λ (cs : List Context). cond (is_some (get_or ls k None)) (get_or cs k no_context) no_context) same
+
   link-is : (k : ℕ) → get_or ls k None ≡ cond (gone k) None (get_or x.links k None)
   link-is k = ap (λ (l : List (Option Link)). get_or l k None) links ∙ get_or-cleared gone None x.links k
 

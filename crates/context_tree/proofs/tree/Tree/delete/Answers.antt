@@ -1,9 +1,6 @@
-use Rattle.std.proofs.Common.{List, None, length, get_or, cond, sym, ap, ◌∙◌}
-use Rattle.std.specs.Prelude.{is_some}
-use Rattle.context_tree.specs.Contexts.{no_context}
+use Rattle.std.proofs.Common.{None, length, sym, ap, ◌∙◌}
 use Rattle.context_tree.specs.Links.{is_below}
 use Rattle.context_tree.specs.Tree.{TreeState, deleted}
-use Rattle.context_tree.specs.declared.context.Context.{Context}
 use Rattle.context_tree.proofs.Clearing.{length-cleared}
 use Rattle.context_tree.proofs.Forest.{not-below}
 use Rattle.context_tree.proofs.TreeLaws.{given-up, fields-given}
@@ -18,15 +15,11 @@ pub invariant_of-self : goal.invariant_of-self
 invariant_of-self c =
     let x = c.self.inside in let slot = c.args.id.slot in
     fields-given x c.self.invariant (is_below x.links slot) slot (λ k low. not-below x.links c.is_forest.ensures slot k low) c.cut.new.self c.cut.ensures
-    c.give_up_free.new.contexts (c.give_up_free.auto.contexts ∙ ap length c.deref_mut.ensures.value)
-    (λ k low. c.give_up_free.ensures.before k low ∙ ap (λ (cs : List Context). get_or cs k no_context) c.deref_mut.ensures.value)
-    (λ k from. c.give_up_free.ensures.behind k from ∙ ap (λ (cs : List Context). cond (is_some (get_or c.cut.new.self k None)) (get_or cs k no_context) no_context) c.deref_mut.ensures.value)
+    c.deref_mut.result.now c.give_up_free.new.contexts c.deref_mut.ensures.value c.give_up_free.auto.contexts c.give_up_free.ensures.before c.give_up_free.ensures.behind
 
 pub returns-clause-space : goal.returns-clause-space
 returns-clause-space c =
     let x = c.self.inside in let slot = c.args.id.slot in
     given-up x c.self.invariant (is_below x.links slot) slot (λ k low. not-below x.links c.is_forest.ensures slot k low) c.cut.new.self c.cut.ensures
-    c.give_up_free.new.contexts (c.give_up_free.auto.contexts ∙ ap length c.deref_mut.ensures.value)
-    (λ k low. c.give_up_free.ensures.before k low ∙ ap (λ (cs : List Context). get_or cs k no_context) c.deref_mut.ensures.value)
-    (λ k from. c.give_up_free.ensures.behind k from ∙ ap (λ (cs : List Context). cond (is_some (get_or c.cut.new.self k None)) (get_or cs k no_context) no_context) c.deref_mut.ensures.value)
+    c.deref_mut.result.now c.give_up_free.new.contexts c.deref_mut.ensures.value c.give_up_free.auto.contexts c.give_up_free.ensures.before c.give_up_free.ensures.behind
     ∙ ap (λ (t : TreeState). deleted t c.args.id) c.self.view_is

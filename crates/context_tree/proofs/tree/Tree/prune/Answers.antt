@@ -1,10 +1,7 @@
-use Rattle.std.proofs.Common.{◌≡◌, ◌+◌, List, Option, None, length, get_or, cond, sym, ap, ◌∙◌, arith}
+use Rattle.std.proofs.Common.{◌≡◌, ◌+◌, List, Option, None, length, get_or, sym, ap, ◌∙◌, arith}
 use Rattle.std.proofs.lemmas.Bool.{cond-false}
-use Rattle.std.specs.Prelude.{is_some}
-use Rattle.context_tree.specs.Contexts.{no_context}
 use Rattle.context_tree.specs.Links.{is_under}
 use Rattle.context_tree.specs.Tree.{TreeState, has_stamp, is_there, without_slots}
-use Rattle.context_tree.specs.declared.context.Context.{Context}
 use Rattle.context_tree.specs.declared.links.Link.{Link}
 use Rattle.context_tree.proofs.Clearing.{length-cleared, get_or-cleared}
 use Rattle.context_tree.proofs.Forest.{not-under}
@@ -20,17 +17,13 @@ pub invariant_of-self : goal.invariant_of-self
 invariant_of-self c =
     let x = c.self.inside in let slot = c.args.id.slot in
     fields-given x c.self.invariant (is_under x.links slot) (slot + 1) (λ k low. not-under x.links c.is_forest.ensures slot k (omega (arith, low))) c.prune.new.self c.prune.ensures
-    c.give_up_free.new.contexts (c.give_up_free.auto.contexts ∙ ap length c.deref_mut.ensures.value)
-    (λ k low. c.give_up_free.ensures.before k low ∙ ap (λ (cs : List Context). get_or cs k no_context) c.deref_mut.ensures.value)
-    (λ k from. c.give_up_free.ensures.behind k from ∙ ap (λ (cs : List Context). cond (is_some (get_or c.prune.new.self k None)) (get_or cs k no_context) no_context) c.deref_mut.ensures.value)
+    c.deref_mut.result.now c.give_up_free.new.contexts c.deref_mut.ensures.value c.give_up_free.auto.contexts c.give_up_free.ensures.before c.give_up_free.ensures.behind
 
 pub returns-clause-gone : goal.returns-clause-gone
 returns-clause-gone c =
     let x = c.self.inside in let slot = c.args.id.slot in
     given-up x c.self.invariant (is_under x.links slot) (slot + 1) (λ k low. not-under x.links c.is_forest.ensures slot k (omega (arith, low))) c.prune.new.self c.prune.ensures
-    c.give_up_free.new.contexts (c.give_up_free.auto.contexts ∙ ap length c.deref_mut.ensures.value)
-    (λ k low. c.give_up_free.ensures.before k low ∙ ap (λ (cs : List Context). get_or cs k no_context) c.deref_mut.ensures.value)
-    (λ k from. c.give_up_free.ensures.behind k from ∙ ap (λ (cs : List Context). cond (is_some (get_or c.prune.new.self k None)) (get_or cs k no_context) no_context) c.deref_mut.ensures.value)
+    c.deref_mut.result.now c.give_up_free.new.contexts c.deref_mut.ensures.value c.give_up_free.auto.contexts c.give_up_free.ensures.before c.give_up_free.ensures.behind
     ∙ ap (λ (t : TreeState). without_slots t (is_under t.links slot)) c.self.view_is
 
 pub returns-clause-there : goal.returns-clause-there
