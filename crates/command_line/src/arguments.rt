@@ -153,27 +153,23 @@ fn task<'a>(alloc: Global, name: &'a str, about: &'a str, after: &'a str) -> Com
 }
 
 fn new_command<'a>(alloc: Global) -> Result<Command<'a>, AllocError> {
-    let columns = option(alloc, COLUMNS, "SCHEMA", "The columns' names and kinds");
-    let query = option(alloc, QUERY, "TEXT", "The query that the summary answers");
     task(alloc, "new", NEW_ABOUT, NEW_AFTER)
         .arg(positional(alloc, OUT, "The summary file to write"))?
-        .arg(columns.required(true))?
-        .arg(query.required(true))
+        .arg(option(alloc, COLUMNS, "SCHEMA", "The columns' names and kinds").required(true))?
+        .arg(option(alloc, QUERY, "TEXT", "The query that the summary answers").required(true))
 }
 
 fn feed_command<'a>(alloc: Global) -> Result<Command<'a>, AllocError> {
-    let batches = positional(alloc, BATCH, "The batch files to add");
     task(alloc, "feed", FEED_ABOUT, FEED_AFTER)
         .arg(positional(alloc, OUT, "The summary file to write"))?
         .arg(positional(alloc, IN, "The summary file to add to"))?
-        .arg(batches.num_args(1..))
+        .arg(positional(alloc, BATCH, "The batch files to add").num_args(1..))
 }
 
 fn merge_command<'a>(alloc: Global) -> Result<Command<'a>, AllocError> {
-    let inputs = positional(alloc, IN, "The summary files to merge");
     task(alloc, "merge", MERGE_ABOUT, MERGE_AFTER)
         .arg(positional(alloc, OUT, "The summary file to write"))?
-        .arg(inputs.num_args(1..))
+        .arg(positional(alloc, IN, "The summary files to merge").num_args(1..))
 }
 
 fn known_command<'a>(alloc: Global) -> Result<Command<'a>, AllocError> {
@@ -184,29 +180,52 @@ fn known_command<'a>(alloc: Global) -> Result<Command<'a>, AllocError> {
     ))
 }
 
-fn answer_command<'a>(alloc: Global) -> Result<Command<'a>, AllocError> {
-    let format = option(alloc, FORMAT, "FORMAT", "How the table is written")
+/// The option of a table's format.
+fn format_option<'a>(alloc: Global) -> Arg<'a> {
+    option(alloc, FORMAT, "FORMAT", "How the table is written")
         .value_parser(ValueParser::Names(FORMATS.as_slice()))
-        .default_value("csv");
-    task(alloc, "answer", ANSWER_ABOUT, ANSWER_AFTER)
-        .arg(positional(alloc, IN, "The summary file to read"))?
-        .arg(format)
+        .default_value("csv")
 }
 
-/// The program's commands.
-fn program<'a>(alloc: Global) -> Result<Command<'a>, AllocError> {
+fn answer_command<'a>(alloc: Global) -> Result<Command<'a>, AllocError> {
+    task(alloc, "answer", ANSWER_ABOUT, ANSWER_AFTER)
+        .arg(positional(alloc, IN, "The summary file to read"))?
+        .arg(format_option(alloc))
+}
+
+/// The program without its commands.
+fn bare_program<'a>(alloc: Global) -> Command<'a> {
     Command::new(alloc, "agg_tool")
         .version("0.1.0")
         .about(ABOUT)
         .after_help(AFTER)
         .subcommand_required(true)
         .arg_required_else_help(true)
-        .subcommand(task(alloc, "script", SCRIPT_ABOUT, SCRIPT_AFTER))?
-        .subcommand(new_command(alloc)?)?
-        .subcommand(feed_command(alloc)?)?
-        .subcommand(merge_command(alloc)?)?
-        .subcommand(known_command(alloc)?)?
-        .subcommand(answer_command(alloc)?)
+}
+
+/// The program with one more command, if there was memory for that.
+fn with_command<'a>(
+    program: Command<'a>,
+    command: Result<Command<'a>, AllocError>,
+) -> Result<Command<'a>, AllocError> {
+    match command {
+        Ok(command) => program.subcommand(command),
+        Err(error) => {
+            drop(program);
+            Err(error)
+        }
+    }
+}
+
+/// The program's commands.
+fn program<'a>(alloc: Global) -> Result<Command<'a>, AllocError> {
+    let script = task(alloc, "script", SCRIPT_ABOUT, SCRIPT_AFTER);
+    let program = with_command(bare_program(alloc), Ok(script))?;
+    let program = with_command(program, new_command(alloc))?;
+    let program = with_command(program, feed_command(alloc))?;
+    let program = with_command(program, merge_command(alloc))?;
+    let program = with_command(program, known_command(alloc))?;
+    with_command(program, answer_command(alloc))
 }
 
 /// What the words ask for, of which the first is the program's name.

@@ -231,7 +231,9 @@ impl<'c, R: Files + AllocGlobal, W: Write, E: Write> Session<'c, R, W, E> {
         matches: &ArgMatches<'p>,
     ) -> Result<(), Problem<'p>> {
         let mut replica = first_replica(self.rt, command, matches)?;
-        self.perform(&mut replica, command, matches)
+        let done = self.perform(&mut replica, command, matches);
+        drop(replica);
+        done
     }
 
     /// Ends a command that stopped.

@@ -12,6 +12,7 @@ use Rattle.group_parser.specs.Parsing.{Accepts}
 use Rattle.batch_reader.specs.File.{BatchFile}
 use Rattle.batch_reader.specs.Head.{ReadsOrigin, ReadsBatchNumber}
 use Rattle.batch_reader.specs.Rows.{ReadsRows, ArePackedRows, packings}
+use Rattle.batch_reader.proofs.RecordLaws.{built_rows}
 use Rattle.replica_merge.specs.Replicas.{Held, told, Fits, SameQuery, DisagreeSomewhere}
 use Rattle.replica_merge.specs.declared.error.MergeError.{MergeError}
 use Rattle.replica_merge.specs.declared.error.MergeError.TheVariants as merge
@@ -22,7 +23,7 @@ use Rattle.script_machine.specs.FileRefusals.{summary_refusal, merge_refusal}
 use Rattle.script_machine.specs.Machine.{IsBatch}
 use Rattle.script_machine.specs.declared.refusal.Refusal.{Refusal}
 use Rattle.script_machine.specs.declared.refusal.Refusal.TheVariants as refuse
-use Rattle.script_machine.proofs.FeedLaws.{built, built_batch}
+use Rattle.script_machine.proofs.FeedLaws.{built_batch}
 use Rattle.script_machine.proofs.QueryLaws.{read_over}
 use Rattle.file_commands.specs.Commands.{IsNew, IsNoSummary, IsApart, TakesFile, IsOtherFile}
 
@@ -85,7 +86,7 @@ read_of_file ks (Some read) origin number packed reads_origin reads_number few c
 pub packed_of_file : (ks : List Kind) (file : Option BatchFile) (origin number : ℕ) (packed : List (List ℕ)) → FileBatch ks file origin number packed
     → length packed ≤ MOST_ROWS → ArePackedRows ks packed
 packed_of_file ks None origin number packed found few = absurd found
-packed_of_file ks (Some read) origin number packed found few = built ks read.records found.0 packed found.2 found.3 few
+packed_of_file ks (Some read) origin number packed found few = built_rows ks read.records found.0 packed found.2 found.3 few
 
 -- a replica that takes it takes the file
 pub takes_file : (file : Option BatchFile) (old new : Held) (delivered : Delivered) (origin number : ℕ) (packed : List (List ℕ))

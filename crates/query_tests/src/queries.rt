@@ -4,12 +4,15 @@ use group_parser::{parse, print};
 use having_filter::Query;
 use packed_rows::Schema;
 use std::test::*;
+use test_tables::{differing, halves};
 
 /// A query over some columns.
 fn query(rt: HostRuntime, case: &str) -> Result<Query, Fail> {
-    let (columns, text) = case.split_once('|').ok_or("no text")?;
+    let (columns, text) = halves(case, "|")?;
     let schema = Schema::parse(rt.alloc(), columns)?;
-    Ok(parse(rt.alloc(), &schema, text)?)
+    let query = parse(rt.alloc(), &schema, text);
+    drop(schema);
+    Ok(query?)
 }
 
 /// The name of a column of the answer.
@@ -83,7 +86,11 @@ fn told_as_same(rt: HostRuntime, query: &Query, copy: &Query) -> Result<String, 
 /// A query's copy by its parts.
 fn copied(rt: HostRuntime, query: &Query) -> Result<String, Fail> {
     match query.try_clone() {
-        Ok(copy) => told_as_same(rt, query, &copy),
+        Ok(copy) => {
+            let told = told_as_same(rt, query, &copy);
+            drop(copy);
+            told
+        }
         Err(_) => Err(Fail::from("out of memory")),
     }
 }
@@ -91,7 +98,11 @@ fn copied(rt: HostRuntime, query: &Query) -> Result<String, Fail> {
 /// A query's copy by its parts, or why a text is refused.
 fn told(rt: HostRuntime, case: &str) -> Result<String, Fail> {
     match query(rt, case) {
-        Ok(query) => copied(rt, &query),
+        Ok(query) => {
+            let told = copied(rt, &query);
+            drop(query);
+            told
+        }
         Err(fail) => Err(fail),
     }
 }
@@ -108,10 +119,7 @@ c text, d bigint|SELECT sum(d) FROM batches / sum  / false false 1 / [] [] / [Su
 
 #[test]
 fn queries_have_their_parts(rt: HostRuntime) -> Result<(), Fail> {
-    for line in PARTS.lines() {
-        let (case, want) = line.split_once(" => ").ok_or("no case")?;
-        assert!(rt; told(rt, case)?.as_str() == want, "{line}");
-    }
+    assert_eq!(rt; differing(rt, PARTS, told)?, None);
     Ok(())
 }
 
@@ -121,7 +129,11 @@ fn is_first(rt: HostRuntime, other: &Query) -> Result<bool, Fail> {
         rt,
         "c text, d bigint|SELECT c, sum(d) FROM batches GROUP BY c",
     ) {
-        Ok(first) => Ok(first.same_query(other)),
+        Ok(first) => {
+            let is_same = first.same_query(other);
+            drop(first);
+            Ok(is_same)
+        }
         Err(fail) => Err(fail),
     }
 }
@@ -129,9 +141,19 @@ fn is_first(rt: HostRuntime, other: &Query) -> Result<bool, Fail> {
 /// Whether columns and a text make a query that is the same as the first.
 fn is_same(rt: HostRuntime, case: &str) -> Result<bool, Fail> {
     match query(rt, case) {
-        Ok(other) => is_first(rt, &other),
+        Ok(other) => {
+            let is_first = is_first(rt, &other);
+            drop(other);
+            is_first
+        }
         Err(fail) => Err(fail),
     }
+}
+
+/// The same in a word.
+fn told_if_same(rt: HostRuntime, case: &str) -> Result<String, Fail> {
+    let word = if is_same(rt, case)? { "true" } else { "false" };
+    Ok(String::from_str(rt.alloc(), word)?)
 }
 
 /// Columns and a text, and whether the query is the same as that of `c`'s sums.
@@ -147,9 +169,6 @@ c text, d bigint|SELECT c, sum(d) FROM batches GROUP BY c HAVING TRUE => false";
 
 #[test]
 fn same_queries_are_told(rt: HostRuntime) -> Result<(), Fail> {
-    for line in OTHERS.lines() {
-        let (case, want) = line.split_once(" => ").ok_or("no case")?;
-        assert!(rt; is_same(rt, case)? == (want == "true"), "{line}");
-    }
+    assert_eq!(rt; differing(rt, OTHERS, told_if_same)?, None);
     Ok(())
 }

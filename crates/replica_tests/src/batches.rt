@@ -1,7 +1,8 @@
-use crate::fixtures::{differing, records, shown_batch};
+use crate::fixtures::{records, shown_batch};
 use batch_reader::{Batch, BatchError, PackedRows, build_batch};
 use packed_rows::Schema;
 use std::test::*;
+use test_tables::{differing, halves};
 
 /// What becomes of a batch.
 fn build(
@@ -14,7 +15,10 @@ fn build(
     let records = records(rt, rows)?;
     let schema = Schema::parse(rt.alloc(), "c text, d bigint, b boolean")?;
     let (origin, number) = (origin.as_bytes(), number.as_bytes());
-    Ok(build_batch(rt.alloc(), &schema, origin, number, told, &records))
+    let built = build_batch(rt.alloc(), &schema, origin, number, told, &records);
+    drop(schema);
+    drop(records);
+    Ok(built)
 }
 
 /// A batch whose rows were a vector in between.
@@ -62,11 +66,16 @@ const BATCHES: &str = "\
 
 /// What becomes of a batch.
 fn told(rt: HostRuntime, case: &str) -> Result<String, Fail> {
-    let (origin, rest) = case.split_once(' ').ok_or("no origin")?;
-    let (number, rest) = rest.split_once(' ').ok_or("no number")?;
-    let (told, rows) = rest.split_once(' ').ok_or("no count")?;
+    let (origin, rest) = halves(case, " ")?;
+    let (number, rest) = halves(rest, " ")?;
+    let (told, rows) = halves(rest, " ")?;
     match build(rt, origin, number, told.parse()?, rows)? {
-        Ok(batch) => shown_batch(rt, &again(batch)),
+        Ok(batch) => {
+            let batch = again(batch);
+            let shown = shown_batch(rt, &batch);
+            drop(batch);
+            shown
+        }
         Err(error) => Ok(format!(in rt.alloc(); "{error:?}")?),
     }
 }

@@ -11,6 +11,7 @@ use hex::encode;
 use origin_prefix::RefusedBatch;
 use packed_rows::Schema;
 use std::test::*;
+use test_tables::halves;
 
 /// The columns of most batches.
 pub(crate) const COLUMNS: &str = "c text, d bigint";
@@ -21,14 +22,16 @@ pub(crate) const TOWNS: &str = "SELECT c, count(*), sum(d) FROM batches GROUP BY
 /// A query over some columns.
 pub(crate) fn query(rt: HostRuntime, columns: &str, text: &str) -> Result<Query, Fail> {
     let schema = Schema::parse(rt.alloc(), columns)?;
-    match parse(rt.alloc(), &schema, text) {
+    let parsed = parse(rt.alloc(), &schema, text);
+    drop(schema);
+    match parsed {
         Ok(query) => Ok(query),
         Err(error) => Err(Fail::from(error)),
     }
 }
 
-/// What is told of a case by the query of towns. Where tests can, they let go of a query here alone, and of a replica in
-/// `of_replica` alone, since the proof of that is long.
+/// What is told of a case by the query of towns. Tests let go of what is large by `drop`, and hold it at no `?`: at the end
+/// of its block it costs ten times as much proof.
 pub(crate) fn of_towns<F: FnOnce(HostRuntime, &Query, &str) -> Result<String, Fail>>(
     rt: HostRuntime,
     case: &str,
@@ -37,7 +40,11 @@ pub(crate) fn of_towns<F: FnOnce(HostRuntime, &Query, &str) -> Result<String, Fa
     requires { F.IsAlwaysCallable told }
 {
     match query(rt, COLUMNS, TOWNS) {
-        Ok(query) => told(rt, &query, case),
+        Ok(query) => {
+            let told = told(rt, &query, case);
+            drop(query);
+            told
+        }
         Err(fail) => Err(fail),
     }
 }
@@ -66,8 +73,8 @@ pub(crate) fn batch(rt: HostRuntime, query: &Query, told: &str) -> Result<Batch,
     ensures limits { IfOk result (λ batch. InLimits (batch.origin, batch.number)) }
     ensures rows { IfOk result (λ batch. ArePackedRows (kinds query.now.columns) batch.rows) }
 {
-    let (head, rows) = told.split_once(':').ok_or("no rows")?;
-    let (origin, number) = head.split_once('/').ok_or("no number")?;
+    let (head, rows) = halves(told, ":")?;
+    let (origin, number) = halves(head, "/")?;
     let (origin, number) = (origin.as_bytes(), number.as_bytes());
     let records = records(rt, rows)?;
     let told = u32::try_from(records.len())?;
@@ -88,21 +95,4 @@ pub(crate) fn shown_batch(rt: HostRuntime, batch: &Batch) -> Result<String, Fail
 pub(crate) fn shown_refusal(rt: HostRuntime, refused: &RefusedBatch) -> Result<String, Fail> {
     let back = shown_batch(rt, &refused.batch)?;
     Ok(format!(in rt.alloc(); "{:?} {back}; ", refused.why)?)
-}
-
-/// The first line of a table whose case, in front of ` => `, has another outcome than the line tells.
-pub(crate) fn differing<'t, F: Fn(HostRuntime, &'t str) -> Result<String, Fail>>(
-    rt: HostRuntime,
-    table: &'t str,
-    outcome: F,
-) -> Result<Option<&'t str>, Fail>
-    requires { F.IsAlwaysCallable outcome }
-{
-    for line in table.lines() {
-        let (case, want) = line.split_once(" => ").ok_or("no case")?;
-        if outcome(rt, case)?.as_str() != want {
-            return Ok(Some(line));
-        }
-    }
-    Ok(None)
 }

@@ -1,12 +1,13 @@
 ghost use Rattle.std.specs.Prelude.{IfOk};
 ghost use Rattle.origin_prefix.specs.Parts.{IsPartOf};
 
-use crate::fixtures::{batch, differing, of_towns, shown_refusal};
+use crate::fixtures::{batch, of_towns, shown_refusal};
 use hash_agg::Run;
 use having_filter::Query;
 use origin_prefix::OriginPart;
 use std::collections::BTreeMap;
 use std::test::*;
+use test_tables::{differing, halves};
 
 /// What is replied to a batch, and where it is refused, the batch that is handed back.
 fn reply(rt: HostRuntime, query: &Query, part: &mut OriginPart, told: &str) -> Result<String, Fail>
@@ -47,7 +48,10 @@ fn fed(rt: HostRuntime, query: &Query, batches: &str) -> Result<OriginPart, Fail
     let mut part = OriginPart::empty(rt.alloc());
     match replies(rt, query, &mut part, batches) {
         Ok(_) => Ok(part),
-        Err(fail) => Err(fail),
+        Err(fail) => {
+            drop(part);
+            Err(fail)
+        }
     }
 }
 
@@ -91,12 +95,26 @@ upto 3 knows 1 2 3 5 early 1 count Some(3) sum Some(6)
 0/3:oslo,100 0/3:oslo,3 0/1:oslo,1 0/2:oslo,2 => Early; OriginDisagrees 0/3 016f736c6f00018000000000000003; \
 Folded { upto: 1 }; Folded { upto: 3 }; upto 3 knows 1 2 3 early 0 count Some(3) sum Some(103)";
 
-/// What is replied to batches, and what is held then.
+/// What is replied to batches, and what a part holds then.
+fn taken_by(
+    rt: HostRuntime,
+    query: &Query,
+    part: &mut OriginPart,
+    batches: &str,
+) -> Result<String, Fail>
+    requires { IsPartOf query.now part.old }
+{
+    let replies = replies(rt, query, part, batches)?;
+    let held = shown(rt, part)?;
+    Ok(format!(in rt.alloc(); "{replies}{held}")?)
+}
+
+/// The same of a part that holds nothing before.
 fn taken(rt: HostRuntime, query: &Query, batches: &str) -> Result<String, Fail> {
     let mut part = OriginPart::empty(rt.alloc());
-    let replies = replies(rt, query, &mut part, batches)?;
-    let held = shown(rt, &part)?;
-    Ok(format!(in rt.alloc(); "{replies}{held}")?)
+    let taken = taken_by(rt, query, &mut part, batches);
+    drop(part);
+    taken
 }
 
 /// The same for the query of towns.
@@ -121,7 +139,11 @@ fn joined(
     requires other { IsPartOf query.now other.now }
 {
     match one.join(other, query) {
-        Ok(part) => shown(rt, &part),
+        Ok(part) => {
+            let shown = shown(rt, &part);
+            drop(part);
+            shown
+        }
         Err(why) => Ok(format!(in rt.alloc(); "{why:?}")?),
     }
 }
@@ -174,14 +196,18 @@ fn joined_to_fed(
     requires { IsPartOf query.now one.now }
 {
     let other = fed(rt, query, batches)?;
-    joined_both_ways(rt, query, one, &other)
+    let joined = joined_both_ways(rt, query, one, &other);
+    drop(other);
+    joined
 }
 
 /// The same of two lists of batches and a query.
 fn joined_of_query(rt: HostRuntime, query: &Query, case: &str) -> Result<String, Fail> {
-    let (one, other) = case.split_once('|').ok_or("no parts")?;
+    let (one, other) = halves(case, "|")?;
     let one = fed(rt, query, one)?;
-    joined_to_fed(rt, query, &one, other)
+    let joined = joined_to_fed(rt, query, &one, other);
+    drop(one);
+    joined
 }
 
 /// The same for the query of towns.
@@ -199,13 +225,17 @@ fn parts_join(rt: HostRuntime) -> Result<(), Fail> {
 fn rebuilt(rt: HostRuntime, part: &OriginPart) -> Result<String, Fail> {
     let run = part.run().try_clone(rt.alloc())?;
     let again = OriginPart::from_fields(rt.alloc(), part.prefix(), run, BTreeMap::new(rt.alloc()));
-    shown(rt, &again)
+    let shown = shown(rt, &again);
+    drop(again);
+    shown
 }
 
 /// The same of a part to which batches were delivered.
 fn rebuilt_of(rt: HostRuntime, query: &Query, batches: &str) -> Result<String, Fail> {
     let part = fed(rt, query, batches)?;
-    rebuilt(rt, &part)
+    let rebuilt = rebuilt(rt, &part);
+    drop(part);
+    rebuilt
 }
 
 #[test]

@@ -1,7 +1,8 @@
-use crate::fixtures::{COLUMNS, TOWNS, batch, differing, query, shown_refusal};
+use crate::fixtures::{COLUMNS, TOWNS, batch, query, shown_refusal};
 use having_filter::Answer;
 use replica_merge::Replica;
 use std::test::*;
+use test_tables::{differing, halves};
 
 /// What is told of a case by a replica that knows nothing, of a query over some columns.
 pub(crate) fn of_replica<F: FnOnce(HostRuntime, &mut Replica, &str) -> Result<String, Fail>>(
@@ -14,7 +15,12 @@ pub(crate) fn of_replica<F: FnOnce(HostRuntime, &mut Replica, &str) -> Result<St
     requires { F.IsAlwaysCallable told }
 {
     match query(rt, columns, text) {
-        Ok(query) => told(rt, &mut Replica::new(rt.alloc(), query), case),
+        Ok(query) => {
+            let mut replica = Replica::new(rt.alloc(), query);
+            let told = told(rt, &mut replica, case);
+            drop(replica);
+            told
+        }
         Err(fail) => Err(fail),
     }
 }
@@ -64,10 +70,18 @@ fn values(rt: HostRuntime, answer: &Answer) -> Result<String, Fail> {
     Ok(shown)
 }
 
+/// The values of a replica's answer.
+fn answered(rt: HostRuntime, replica: &Replica) -> Result<String, Fail> {
+    let answer = replica.answer()?;
+    let values = values(rt, &answer);
+    drop(answer);
+    values
+}
+
 /// What a replica knows and answers.
 pub(crate) fn shown(rt: HostRuntime, replica: &Replica) -> Result<String, Fail> {
     let known = known(rt, replica)?;
-    let values = values(rt, &replica.answer()?)?;
+    let values = answered(rt, replica)?;
     Ok(format!(in rt.alloc(); "{known}{}", values.trim_end())?)
 }
 
@@ -129,8 +143,8 @@ fn merged_with(
 
 /// The same where batches are told, and behind a `|` the other's query and batches.
 fn merged(rt: HostRuntime, own: &mut Replica, case: &str) -> Result<String, Fail> {
-    let (batches, other) = case.split_once('|').ok_or("no other")?;
-    let (text, others) = other.split_once('~').ok_or("no batches")?;
+    let (batches, other) = halves(case, "|")?;
+    let (text, others) = halves(other, "~")?;
     replies(rt, own, batches)?;
     of_replica(rt, COLUMNS, text, others, |rt, other, batches| {
         merged_with(rt, own, other, batches)
@@ -154,7 +168,7 @@ SELECT c, count(*), sum(d) FROM batches GROUP BY c~0/1:oslo,1 3/4:oslo,4|SELECT 
 
 /// The same where the first one's query is told in front.
 fn merged_as_told(rt: HostRuntime, case: &str) -> Result<String, Fail> {
-    let (text, case) = case.split_once('~').ok_or("no batches")?;
+    let (text, case) = halves(case, "~")?;
     of_replica(rt, COLUMNS, text, case, merged)
 }
 

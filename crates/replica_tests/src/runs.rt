@@ -11,6 +11,7 @@ use hash_agg::{Input, Run, aggregate, first_states, fold};
 use having_filter::Query;
 use hex::encode;
 use std::test::*;
+use test_tables::halves;
 
 /// So many rows of the query's table, packed.
 fn packed(rt: HostRuntime, query: &Query, told: u32, lines: &str) -> Result<Vec<Vec<u8>>, Fail>
@@ -44,7 +45,7 @@ fn shown(rt: HostRuntime, run: &Run) -> Result<String, Fail> {
 
 /// The groups of a row and of two more behind a `|`.
 fn groups_of_three(rt: HostRuntime, query: &Query, lines: &str) -> Result<String, Fail> {
-    let (first, more) = lines.split_once('|').ok_or("no more rows")?;
+    let (first, more) = halves(lines, "|")?;
     let early = groups(rt, query, 1, first)?;
     let late = packed(rt, query, 2, more)?;
     let inputs = [
@@ -105,7 +106,7 @@ fn give(
 
 /// The groups of three rows and of three more behind a `|`.
 fn groups_of_six(rt: HostRuntime, query: &Query, lines: &str) -> Result<String, Fail> {
-    let (early, late) = lines.split_once('|').ok_or("no more rows")?;
+    let (early, late) = halves(lines, "|")?;
     let mut run = groups(rt, query, 3, early)?;
     give(rt, query, &mut run, 3, 3, late)?;
     shown(rt, &run)
@@ -113,8 +114,8 @@ fn groups_of_six(rt: HostRuntime, query: &Query, lines: &str) -> Result<String, 
 
 /// The groups of three rows, of three more and of two more.
 fn groups_of_eight(rt: HostRuntime, query: &Query, lines: &str) -> Result<String, Fail> {
-    let (early, more) = lines.split_once('|').ok_or("no more rows")?;
-    let (late, last) = more.split_once('|').ok_or("no last rows")?;
+    let (early, more) = halves(lines, "|")?;
+    let (late, last) = halves(more, "|")?;
     let mut run = groups(rt, query, 3, early)?;
     give(rt, query, &mut run, 3, 3, late)?;
     give(rt, query, &mut run, 6, 2, last)?;

@@ -4,6 +4,7 @@ use crate::summaries::{FILE, bytes_of, digits_of};
 use hex::encode;
 use replica_merge::Replica;
 use std::test::*;
+use test_tables::halves;
 
 /// What a replica saves, in hexadecimal digits.
 fn file(rt: HostRuntime, replica: &Replica) -> Result<String, Fail> {
@@ -36,7 +37,7 @@ fn merged_file(
 
 /// The same where the batches of both are told.
 fn both_file(rt: HostRuntime, own: &mut Replica, case: &str) -> Result<String, Fail> {
-    let (batches, others) = case.split_once(" | ").ok_or("no other")?;
+    let (batches, others) = halves(case, " | ")?;
     replies(rt, own, batches)?;
     of_replica(rt, COLUMNS, TOWNS, others, |rt, other, batches| {
         merged_file(rt, own, other, batches)
@@ -46,7 +47,11 @@ fn both_file(rt: HostRuntime, own: &mut Replica, case: &str) -> Result<String, F
 /// What a replica knows and answers that was loaded.
 fn loaded(rt: HostRuntime, digits: &str) -> Result<String, Fail> {
     match Replica::load(rt.alloc(), &bytes_of(rt, digits)?) {
-        Ok(replica) => shown(rt, &replica),
+        Ok(replica) => {
+            let shown = shown(rt, &replica);
+            drop(replica);
+            shown
+        }
         Err(error) => Err(Fail::from(error)),
     }
 }

@@ -1,16 +1,21 @@
-use crate::fixtures::differing;
 use hex::decode as read_hex;
 use std::alloc::Global;
 use std::test::*;
 use summary_codec::{SummaryError, decode, encode};
+use test_tables::{differing, halves};
 
 /// The bytes of what was read from a file.
 fn read_and_written(alloc: Global, bytes: &[u8]) -> Result<Vec<u8>, SummaryError> {
     match decode(alloc, bytes) {
-        Ok((query, parts)) => match encode(alloc, &query, &parts) {
-            Ok(written) => Ok(written),
-            Err(error) => Err(SummaryError::from(error)),
-        },
+        Ok((query, parts)) => {
+            let written = encode(alloc, &query, &parts);
+            drop(parts);
+            drop(query);
+            match written {
+                Ok(written) => Ok(written),
+                Err(error) => Err(SummaryError::from(error)),
+            }
+        }
         Err(error) => Err(error),
     }
 }
@@ -287,7 +292,7 @@ fn file_of(rt: HostRuntime, schema: &str, query: &str) -> Result<Vec<u8>, Fail> 
 
 /// What becomes of a file of columns and a query.
 fn told_of_texts(rt: HostRuntime, texts: &str) -> Result<String, Fail> {
-    let (schema, query) = texts.split_once('|').ok_or("no query")?;
+    let (schema, query) = halves(texts, "|")?;
     let bytes = file_of(rt, schema, query)?;
     told(rt, &bytes)
 }

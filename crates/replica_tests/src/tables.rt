@@ -1,8 +1,8 @@
-use crate::fixtures::differing;
 use crate::replicas::{of_replica, replies};
 use replica_merge::Replica;
 use std::test::*;
 use table_print::{print_aligned, print_csv};
+use test_tables::{differing, halves};
 
 /// A replica's answer in columns.
 fn aligned(rt: HostRuntime, replica: &Replica) -> Result<String, Fail> {
@@ -40,7 +40,7 @@ SELECT max(d) AS most FROM batches HAVING count(*) > 9|0/1:oslo,5,t => most/----
 
 /// Both tables of a query's answer.
 fn printed(rt: HostRuntime, case: &str) -> Result<String, Fail> {
-    let (text, batch) = case.split_once('|').ok_or("no rows")?;
+    let (text, batch) = halves(case, "|")?;
     of_replica(rt, "c text, d bigint, b boolean", text, batch, tables)
 }
 

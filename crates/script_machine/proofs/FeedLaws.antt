@@ -2,15 +2,12 @@
 use Rattle.std.specs.Prelude.{◌≡◌, ◌≤◌, ℕ, suc, refl, List, [], ◌∷◌, length}
 use Rattle.std.proofs.Common.{◌∙◌, ap, sym, arith}
 use Rattle.std.proofs.lemmas.List.{length-map}
-use Rattle.std.specs.List.{AllByRecursion}
-use Rattle.std.proofs.lemmas.List.Elements.{All-from_recursion}
-use Rattle.packed_rows.proofs.FieldLaws.{read_kinds}
-use Rattle.grouping_model.specs.Datum.{Kind, Row, HasKinds}
+use Rattle.grouping_model.specs.Datum.{Kind, Row}
 use Rattle.grouping_model.specs.declared.limits.TheConstants.{MOST_ROWS}
 use Rattle.packed_rows.specs.Columns.{kinds}
 use Rattle.packed_rows.specs.Packing.{packing}
 use Rattle.batch_reader.specs.Head.{ReadsOrigin, ReadsBatchNumber}
-use Rattle.batch_reader.specs.Rows.{ReadsRows, packings, ArePackedRows}
+use Rattle.batch_reader.specs.Rows.{ReadsRows, packings}
 use Rattle.origin_prefix.specs.declared.error.JoinError.{JoinError}
 use Rattle.origin_prefix.specs.declared.error.JoinError.TheVariants as join
 use Rattle.script_machine.specs.Machine.{IsBatch, delivery_refusal}
@@ -36,17 +33,6 @@ built_batch ks origin number told records o n packed rows reads_o reads_n few co
       whole = reads_length ks records rows reads ∙ sym many ∙ counted;
       rows_are = reads;
     }
-
--- the rows that records stand for are packed
-pub built : (kinds : List Kind) (records : List (List (List ℕ))) (rows : List Row) (packed : List (List ℕ)) → ReadsRows kinds records rows → packed ≡ packings rows → length packed ≤ MOST_ROWS → ArePackedRows kinds packed
-built kinds records rows packed reads is few =
-    record { few = few; rows = rows; of_kinds = All-from_recursion (HasKinds kinds) rows (each records rows reads); packings_are = is }
-  where
-    each : (records : List (List (List ℕ))) (rows : List Row) → ReadsRows kinds records rows → AllByRecursion (HasKinds kinds) rows
-    each [] [] reads = tt
-    each [] (row ∷ rows) reads = absurd reads
-    each (fields ∷ records) [] reads = absurd reads
-    each (fields ∷ records) (row ∷ rows) (first, reads) = (read_kinds kinds fields row first, each records rows reads)
 
 -- why a batch was not taken, from the refusal
 pub other_why : (why : JoinError) → delivery_refusal why ≡ refuse.OriginDisagrees → why ≡ join.OriginDisagrees

@@ -1,5 +1,5 @@
 -- Queries that were read, and texts that were refused.
-use Rattle.std.specs.Prelude.{◌≡◌, ◌≢◌, ℕ, Bool, true, false, not, if◌then◌else◌, List, Result, Ok, Err, IfErr, IsErrAnd}
+use Rattle.std.specs.Prelude.{◌≡◌, ℕ, Bool, true, false, not, if◌then◌else◌, List, Result, Ok, Err}
 use Rattle.std.proofs.Common.{ap, sym}
 use Rattle.packed_rows.specs.Columns.{Column, kinds}
 use Rattle.having_filter.specs.declared.error.QueryError.{QueryError}
@@ -8,8 +8,6 @@ use Rattle.having_filter.specs.Forms.{Written}
 use Rattle.having_filter.specs.Meaning.{Checked}
 use Rattle.having_filter.specs.Checks.{checked, checked_places, placed, has_too_many, all_of, filters_pass, is_shallow, are_shallow, has_columns, are_plain, kinds_fit, is_grouped}
 use Rattle.group_parser.specs.Parsing.{Accepts}
-use Rattle.script_machine.specs.declared.refusal.Refusal.{Refusal}
-use Rattle.script_machine.specs.declared.refusal.Refusal.TheVariants.{NoMemory}
 
 -- what is accepted was not refused before
 behind : (fails : Bool) (error : QueryError) (rest : Result Checked QueryError) (q : Checked) → (if fails then Err error else rest) ≡ Ok q → rest ≡ Ok q
@@ -34,8 +32,3 @@ over_columns columns w q passed =
 
 pub read_over : (columns : List Column) (text : List ℕ) (q : Checked) → Accepts columns text q → q.columns ≡ columns
 read_over columns text q read = over_columns columns read.written q read.passed
-
--- want of memory is no fault of a text
-pub no_memory : {T : Type 0} (result : Result T Refusal) (P : Refusal → Type 0) → IsErrAnd result (λ why. why ≡ NoMemory) → IfErr result (λ why. why ≢ NoMemory → P why)
-no_memory (Ok x) P failed = absurd failed
-no_memory (Err why) P failed = λ apart. absurd (apart failed)

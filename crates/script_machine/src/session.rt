@@ -110,8 +110,13 @@ fn read_query(alloc: Global, schema: &Schema, text: &str) -> Result<(Query, Stri
     ensures why { IfErr result (λ why. why ≢ NoMemory → IsNoQuery schema.now text.now why) }
 {
     let query = parse(alloc, schema, text)?;
-    let canonical = print(alloc, &query)?;
-    Ok((query, canonical))
+    match print(alloc, &query) {
+        Ok(canonical) => Ok((query, canonical)),
+        Err(_) => {
+            drop(query);
+            Err(Refusal::NoMemory)
+        }
+    }
 }
 
 /// A replica that knows nothing, behind a copy of its name.
@@ -119,8 +124,8 @@ fn new_replica(alloc: Global, name: &[u8], query: &Query) -> Result<(Vec<u8>, Re
     ensures { IfOk result (λ made. (made.0.items ≡ name.now)
         × (made.1 ≡ record { query = query.now; parts = [] })) }
 {
-    let query = query.try_clone()?;
     let key = name.to_vec(alloc)?;
+    let query = query.try_clone()?;
     Ok((key, Replica::new(alloc, query)))
 }
 
@@ -140,8 +145,10 @@ fn answer_of_replica(alloc: Global, replica: &Replica) -> Result<(usize, Vec<u8>
         (meaning replica.now.query) world (told replica.now.parts)))) }
 {
     let answer = replica.answer()?;
-    let table = print_csv(alloc, replica.query(), &answer)?;
-    Ok((answer.len(), table))
+    let table = print_csv(alloc, replica.query(), &answer);
+    let rows = answer.len();
+    drop(answer);
+    Ok((rows, table?))
 }
 
 /// The summary file of a replica, behind a copy of the name that it is saved under.

@@ -1,5 +1,6 @@
-use crate::tables::{differing, last_replies};
+use crate::tables::last_replies;
 use std::test::*;
+use test_tables::{differing, halves};
 
 /// The commands in front of a query over `c text, d bigint, b boolean`.
 const COLUMNS: &str = "columns,\"c text, d bigint, b boolean\"\nquery,\"";
@@ -53,7 +54,7 @@ const KNOWN: &str = "\
 fn fed(rt: HostRuntime, batches: &str) -> Result<String, Fail> {
     let mut script = String::from_str(rt.alloc(), HEAD)?;
     for batch in batches.split_terminator(' ') {
-        let (origin, number) = batch.split_once('-').ok_or("no batch")?;
+        let (origin, number) = halves(batch, "-")?;
         script.push_str(&format!(in rt.alloc(); "feed,a,{origin},{number},1\noslo,{number}\n")?)?;
     }
     script.push_str("known,a\nanswer,a\n")?;

@@ -1,156 +1,186 @@
-use script_commands::{Request, next_command};
+use script_commands::{Command, Request, next_command};
 use script_io::Records;
 use std::test::*;
 
-/// Records, what each asks, and how many of those behind it belong to it. The longest name has 63 bytes.
-const REQUESTS: [(&str, Request<'static>, usize); 42] = [
-    ("columns,c", Request::Columns("c"), 0),
-    ("query,\u{e9}", Request::Query("\u{e9}"), 0),
-    ("columns,", Request::Columns(""), 0),
-    ("query,\"a,\"\"b\"\"\nc\"", Request::Query("a,\"b\"\nc"), 0),
-    ("replica,A_9", Request::Replica(b"A_9"), 0),
-    (
-        "known,a_name_that_has_as_many_letters_as_a_name_may_have_which_are_63",
-        Request::Known(b"a_name_that_has_as_many_letters_as_a_name_may_have_which_are_63"),
-        0,
-    ),
-    ("answer,a", Request::Answer(b"a"), 0),
-    (
-        "merge,A_9,b",
-        Request::Merge {
-            into: b"A_9",
-            from: b"b",
-        },
-        0,
-    ),
-    (
-        "merge,a,a",
-        Request::Merge {
-            into: b"a",
-            from: b"a",
-        },
-        0,
-    ),
-    (
-        "save,a,X_1",
-        Request::Save {
-            name: b"a",
-            saved: b"X_1",
-        },
-        0,
-    ),
-    (
-        "load,c,c",
-        Request::Load {
-            name: b"c",
-            saved: b"c",
-        },
-        0,
-    ),
-    (
-        "feed,a,7,8,002\nx\ny,z",
+/// What is asked by a word, and with one name, two or none.
+fn named(rt: HostRuntime, word: &str, one: &[u8], other: &[u8]) -> Result<String, Fail> {
+    let (one, other) = (str::from_utf8(one)?, str::from_utf8(other)?);
+    Ok(format!(in rt.alloc(); "{word}|{one}|{other}")?)
+}
+
+/// What is asked by a `feed`.
+fn fed(
+    rt: HostRuntime,
+    name: &[u8],
+    origin: &[u8],
+    number: &[u8],
+    told: u32,
+) -> Result<String, Fail> {
+    let batch = named(rt, "feed", name, origin)?;
+    let number = str::from_utf8(number)?;
+    Ok(format!(in rt.alloc(); "{batch}|{number}|{told}")?)
+}
+
+/// What is asked.
+fn asked(rt: HostRuntime, request: Request<'_>) -> Result<String, Fail> {
+    match request {
+        Request::Columns(schema) => named(rt, "columns", schema.as_bytes(), b""),
+        Request::Query(text) => named(rt, "query", text.as_bytes(), b""),
+        Request::Replica(name) => named(rt, "replica", name, b""),
+        Request::Known(name) => named(rt, "known", name, b""),
+        Request::Answer(name) => named(rt, "answer", name, b""),
+        Request::Merge { into, from } => named(rt, "merge", into, from),
+        Request::Save { name, saved } => named(rt, "save", name, saved),
+        Request::Load { name, saved } => named(rt, "load", name, saved),
         Request::Feed {
-            name: b"a",
-            origin: b"7",
-            number: b"8",
-            told: 2,
-        },
-        2,
-    ),
-    (
-        "feed,a,,-,0",
-        Request::Feed {
-            name: b"a",
-            origin: b"",
-            number: b"-",
-            told: 0,
-        },
-        0,
-    ),
-    ("hello", Request::Unknown, 0),
-    ("Columns,c", Request::Unknown, 0),
-    ("columns", Request::Unknown, 0),
-    ("columns,c,d", Request::Unknown, 0),
-    ("answer", Request::Unknown, 0),
-    ("answer,a,b", Request::Unknown, 0),
-    (
-        "answer,aa_name_that_has_as_many_letters_as_a_name_may_have_which_are_63",
-        Request::Unknown,
-        0,
-    ),
-    ("answer,a-b", Request::Unknown, 0),
-    ("merge,a", Request::Unknown, 0),
-    ("merge,a,b,c", Request::Unknown, 0),
-    ("merge,,b", Request::Unknown, 0),
-    ("merge,a,b!", Request::Unknown, 0),
-    ("merges,a,b", Request::Unknown, 0),
-    ("save,a", Request::Unknown, 0),
-    ("save,a,b,c", Request::Unknown, 0),
-    ("load,,b", Request::Unknown, 0),
-    ("load,a,b!", Request::Unknown, 0),
-    ("answer,a,a", Request::Unknown, 0),
-    ("replica,", Request::Unknown, 0),
-    ("known,\u{e9}", Request::Unknown, 0),
-    ("feed,a b,0,1,1\nx", Request::Unknown, 1),
-    ("feed,!,0,1,01\nanswer,a", Request::Unknown, 1),
-    ("feed,a,0,1,0000000001", Request::Unknown, 0),
-    ("feed,a,0,1,+1", Request::Unknown, 0),
-    ("feed,a,0,1,", Request::Unknown, 0),
-    ("feed,a,0,1,x", Request::Unknown, 0),
-    ("feed,a,0,1", Request::Unknown, 0),
-    ("feed,a,0,1,1,1", Request::Unknown, 0),
-    ("feeds,a,0,1,1", Request::Unknown, 0),
-];
+            name,
+            origin,
+            number,
+            told,
+        } => fed(rt, name, origin, number, told),
+        Request::Unknown => named(rt, "unknown", b"", b""),
+    }
+}
+
+/// What a command asks, and how many records belong to it.
+fn told(rt: HostRuntime, command: &Command) -> Result<String, Fail> {
+    let asked = asked(rt, command.request())?.replace(rt.alloc(), "\n", "/")?;
+    Ok(format!(in rt.alloc(); "{asked} {}", command.owned.len())?)
+}
+
+/// The same of the next command, if there is one.
+fn next_told(rt: HostRuntime, records: &mut Records<'_>) -> Result<String, Fail> {
+    match next_command(records)? {
+        Some(command) => told(rt, &command),
+        None => Ok(String::from_str(rt.alloc(), "none")?),
+    }
+}
+
+/// The same of so many commands, one behind the other.
+fn several_told(rt: HostRuntime, records: &mut Records<'_>, count: usize) -> Result<String, Fail> {
+    let mut several = String::new(rt.alloc());
+    for _ in 0..count {
+        several.push_str(&next_told(rt, records)?)?;
+        several.push(';')?;
+    }
+    Ok(several)
+}
+
+/// The same of the first commands of a script.
+fn first_told(rt: HostRuntime, script: &[u8], count: usize) -> Result<String, Fail> {
+    let mut records = Records::new(rt.alloc(), script);
+    several_told(rt, &mut records, count)
+}
+
+/// Commands of one script with the records behind them, and what each asks and how many records belong to it. `/` stands
+/// for the end of a line. The longest name has 63 bytes, and the last command has fewer records than it tells.
+const COMMANDS: &str = "\
+columns,c => columns|c| 0
+query,\u{e9} => query|\u{e9}| 0
+columns, => columns|| 0
+query,\"a,\"\"b\"\"/c\" => query|a,\"b\"/c| 0
+replica,A_9 => replica|A_9| 0
+known,a_name_that_has_as_many_letters_as_a_name_may_have_which_are_63 => \
+known|a_name_that_has_as_many_letters_as_a_name_may_have_which_are_63| 0
+answer,a => answer|a| 0
+merge,A_9,b => merge|A_9|b 0
+merge,a,a => merge|a|a 0
+save,a,X_1 => save|a|X_1 0
+load,c,c => load|c|c 0
+feed,a,7,8,002/x/y,z => feed|a|7|8|2 2
+feed,a,,-,0 => feed|a||-|0 0
+hello => unknown|| 0
+Columns,c => unknown|| 0
+columns => unknown|| 0
+columns,c,d => unknown|| 0
+answer => unknown|| 0
+answer,a,b => unknown|| 0
+answer,aa_name_that_has_as_many_letters_as_a_name_may_have_which_are_63 => unknown|| 0
+answer,a-b => unknown|| 0
+merge,a => unknown|| 0
+merge,a,b,c => unknown|| 0
+merge,,b => unknown|| 0
+merge,a,b! => unknown|| 0
+merges,a,b => unknown|| 0
+save,a => unknown|| 0
+save,a,b,c => unknown|| 0
+load,,b => unknown|| 0
+load,a,b! => unknown|| 0
+answer,a,a => unknown|| 0
+replica, => unknown|| 0
+known,\u{e9} => unknown|| 0
+feed,a b,0,1,1/x => unknown|| 1
+feed,!,0,1,01/answer,a => unknown|| 1
+feed,a,0,1,0000000001 => unknown|| 0
+feed,a,0,1,+1 => unknown|| 0
+feed,a,0,1, => unknown|| 0
+feed,a,0,1,x => unknown|| 0
+feed,a,0,1 => unknown|| 0
+feed,a,0,1,1,1 => unknown|| 0
+feeds,a,0,1,1 => unknown|| 0
+feed,a,0,1,999999999/last => feed|a|0|1|999999999 1";
+
+/// The script of a table of commands.
+fn script_of(rt: HostRuntime, table: &str) -> Result<String, Fail> {
+    let mut script = String::new(rt.alloc());
+    for line in table.lines() {
+        let (records, _) = line.split_once(" => ").ok_or("no command")?;
+        script.push_str(records)?;
+        script.push('/')?;
+    }
+    Ok(script.replace(rt.alloc(), "/", "\n")?)
+}
+
+/// The first line of a table whose command asks something else than the line tells.
+fn differing_command<'t>(
+    rt: HostRuntime,
+    records: &mut Records<'_>,
+    table: &'t str,
+) -> Result<Option<&'t str>, Fail> {
+    for line in table.lines() {
+        let (_, want) = line.split_once(" => ").ok_or("no command")?;
+        if next_told(rt, records)?.as_str() != want {
+            return Ok(Some(line));
+        }
+    }
+    Ok(None)
+}
 
 #[test]
 fn records_ask(rt: HostRuntime) -> Result<(), Fail> {
-    let mut script = String::new(rt.alloc());
-    for (records, ..) in REQUESTS {
-        script.push_str(records)?;
-        script.push('\n')?;
-    }
-    // The last command has fewer records than it tells.
-    script.push_str("feed,a,0,1,999999999\nlast\n")?;
+    let script = script_of(rt, COMMANDS)?;
     let mut records = Records::new(rt.alloc(), script.as_bytes());
-    for (text, request, owned) in REQUESTS {
-        let found = next_command(&mut records)?;
-        assert!(rt;
-            found.is_some_and(|command| command.request() == request
-                && command.owned.len() == owned),
-            "{text}"
-        );
-    }
-    let last = next_command(&mut records)?;
-    assert!(rt; last.is_some_and(|command| command.owned.len() == 1));
-    assert!(rt; next_command(&mut records)?.is_none() && next_command(&mut records)?.is_none());
+    assert_eq!(rt; differing_command(rt, &mut records, COMMANDS)?, None);
+    assert_eq!(rt; several_told(rt, &mut records, 2)?.as_str(), "none;none;");
     Ok(())
 }
 
 #[test]
 fn scripts_begin_and_end(rt: HostRuntime) -> Result<(), Fail> {
-    let mut empty = Records::new(rt.alloc(), b"\n\r\n");
-    assert!(rt; next_command(&mut empty)?.is_none());
+    assert_eq!(rt; first_told(rt, b"\n\r\n", 1)?.as_str(), "none;");
     // What is no text asks nothing.
-    let mut records = Records::new(rt.alloc(), b"\xef\xbb\xbfanswer,a\ncolumns,\xff");
-    let first = next_command(&mut records)?;
-    assert!(rt; first.is_some_and(|command| command.request() == Request::Answer(b"a")));
-    let second = next_command(&mut records)?;
-    assert!(rt; second.is_some_and(|command| command.request() == Request::Unknown));
-    assert!(rt; next_command(&mut records)?.is_none());
+    assert_eq!(rt;
+        first_told(rt, b"\xef\xbb\xbfanswer,a\ncolumns,\xff", 3)?.as_str(),
+        "answer|a| 0;unknown|| 0;none;"
+    );
     Ok(())
 }
 
-#[test]
-fn commands_hold_65536_records(rt: HostRuntime) -> Result<(), Fail> {
+/// A command that tells 65,540 records, with as many behind it, and a question.
+fn too_many(rt: HostRuntime) -> Result<String, Fail> {
     let mut script = String::from_str(rt.alloc(), "feed,a,0,1,65540\n")?;
     for _ in 0..65_540 {
         script.push_str("oslo,5\n")?;
     }
     script.push_str("known,a\n")?;
-    let mut records = Records::new(rt.alloc(), script.as_bytes());
-    let feed = next_command(&mut records)?;
-    assert!(rt; feed.is_some_and(|command| command.owned.len() == 65_536));
-    let next = next_command(&mut records)?;
-    assert!(rt; next.is_some_and(|command| command.request() == Request::Known(b"a")));
+    Ok(script)
+}
+
+#[test]
+fn commands_hold_65536_records(rt: HostRuntime) -> Result<(), Fail> {
+    assert_eq!(rt;
+        first_told(rt, too_many(rt)?.as_bytes(), 2)?.as_str(),
+        "feed|a|0|1|65540 65536;known|a| 0;"
+    );
     Ok(())
 }

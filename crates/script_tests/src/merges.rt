@@ -1,5 +1,6 @@
-use crate::tables::{differing, last_replies, on_one_line, written};
+use crate::tables::{last_replies, on_one_line, written};
 use std::test::*;
+use test_tables::{differing, halves};
 
 /// How many of the replies are refusals.
 fn refusals(replies: &str) -> u64 {
@@ -33,8 +34,8 @@ fn push_steps(rt: HostRuntime, script: &mut String, steps: &str) -> Result<(), F
         } else if let Some(name) = step.strip_suffix('?') {
             format!(in rt.alloc(); "known,{name}\nanswer,{name}\n")?
         } else {
-            let (name, batch) = step.split_once('=').ok_or("no step")?;
-            let (origin, batch) = batch.split_once('.').ok_or("no number")?;
+            let (name, batch) = halves(step, "=")?;
+            let (origin, batch) = halves(batch, ".")?;
             let (number, amount) = batch.split_once('.').unwrap_or((batch, batch));
             format!(in rt.alloc(); "feed,{name},{origin},{number},1\noslo,{amount}\n")?
         };

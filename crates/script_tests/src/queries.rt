@@ -1,6 +1,7 @@
-use crate::tables::{accepted, differing};
+use crate::tables::accepted;
 use script_machine::{Observer, Refusal, run_observed};
 use std::test::*;
+use test_tables::{differing, halves};
 
 /// Keeps why the last of the commands that were refused was.
 #[derive(Drop)]
@@ -125,11 +126,11 @@ const GREAT: &str = "\
 
 /// A text that repeats two parts.
 fn great(rt: HostRuntime, case: &str) -> Result<String, Fail> {
-    let (count, rest) = case.split_once('|').ok_or("no parts")?;
-    let (before, rest) = rest.split_once('|').ok_or("one part")?;
-    let (left, rest) = rest.split_once('|').ok_or("two parts")?;
-    let (between, rest) = rest.split_once('|').ok_or("three parts")?;
-    let (right, after) = rest.split_once('|').ok_or("four parts")?;
+    let (count, rest) = halves(case, "|")?;
+    let (before, rest) = halves(rest, "|")?;
+    let (left, rest) = halves(rest, "|")?;
+    let (between, rest) = halves(rest, "|")?;
+    let (right, after) = halves(rest, "|")?;
     let count = count.parse::<usize>()?;
     let mut text = String::from_str(rt.alloc(), before)?;
     push_repeated(&mut text, left, count)?;
@@ -185,8 +186,8 @@ fn push_listed(
 
 /// A query of so many sums and greatest numbers and so many keys, of which the first is repeated.
 fn of_many(rt: HostRuntime, case: &str) -> Result<String, Fail> {
-    let (sums, rest) = case.split_once(' ').ok_or("one number")?;
-    let (greatest, keys) = rest.split_once(' ').ok_or("two numbers")?;
+    let (sums, rest) = halves(case, " ")?;
+    let (greatest, keys) = halves(rest, " ")?;
     let mut text = String::from_str(rt.alloc(), "SELECT ")?;
     push_listed(rt, &mut text, sums.parse()?, "sum(k", ")")?;
     text.push_str(", ")?;

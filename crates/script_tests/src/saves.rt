@@ -1,6 +1,6 @@
 use crate::merges::replies_to_steps;
-use crate::tables::differing;
 use std::test::*;
+use test_tables::differing;
 
 /// Steps that save and load, and all replies to them. A file of this query has 80 bytes where nothing is known.
 const SAVES: &str = "\

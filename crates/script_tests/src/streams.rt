@@ -1,7 +1,9 @@
+use csv::ByteRecord;
 use script_io::{InputError, Records, put_all, read_input};
 use std::io;
 use std::io::{Error, ErrorKind, Read, Write};
-use std::test::Fail;
+use std::test::*;
+use test_tables::differing;
 
 // A reader that gives a byte a call, up to a number of bytes, and then answers an error of this kind, once.
 #[derive(Drop)]
@@ -68,33 +70,37 @@ impl Write for ShortWriter {
     }
 }
 
-#[test]
-fn reads_up_to_the_limit(rt: HostRuntime) {
-    // The bytes that a reader has, the limit, and whether they are within it.
-    let cases: [(usize, usize, bool); 9] = [
-        (0, 0, true),
-        (1, 0, false),
-        (5, 5, true),
-        (6, 5, false),
-        (8191, 8192, true),
-        (8192, 8192, true),
-        (8193, 8192, false),
-        (20000, 20000, true),
-        (20001, 20000, false),
-    ];
-    for (size, most, fits) in cases {
-        let script = [b'x'; 20001];
-        assert!(rt; size <= script.len());
-        let mut reader = &script[..size];
-        let result = read_input(rt.alloc(), &mut reader, most);
-        match &result {
-            Ok(text) => assert!(rt; fits && text.as_slice() == &script[..size], "at {size}"),
-            Err(e) => {
-                assert!(rt; !fits && matches!(e, InputError::TooLong), "at {size}");
-                assert_eq!(rt; size.saturating_sub(reader.len()), most + 1, "at {size}");
-            }
-        }
+/// How many bytes are taken of so many, up to a limit, where they are over it, or else none, if they came as they are.
+fn taken_of(rt: HostRuntime, size: u32, most: u32) -> Result<Option<usize>, Fail> {
+    let script = [b'x'; 20001];
+    let script = script.get(..size as usize).ok_or("too long a script")?;
+    let mut reader = script;
+    match read_input(rt.alloc(), &mut reader, most as usize) {
+        Ok(text) if text.as_slice() == script => Ok(None),
+        Ok(_) => Err("other bytes")?,
+        Err(InputError::TooLong) => Ok(Some(script.len().saturating_sub(reader.len()))),
+        Err(_) => Err("no such fault")?,
     }
+}
+
+#[test]
+fn reads_up_to_the_limit(rt: HostRuntime) -> Result<(), Fail> {
+    // The bytes that a reader has, the limit, and how many are taken where they are over it.
+    let cases = [
+        (0, 0, None),
+        (1, 0, Some(1)),
+        (5, 5, None),
+        (6, 5, Some(6)),
+        (8191, 8192, None),
+        (8192, 8192, None),
+        (8193, 8192, Some(8193)),
+        (20000, 20000, None),
+        (20001, 20000, Some(20001)),
+    ];
+    for (size, most, taken) in cases {
+        assert_eq!(rt; taken_of(rt, size, most)?, taken, "at {size}");
+    }
+    Ok(())
 }
 
 #[test]
@@ -125,60 +131,110 @@ fn stops_at_a_fault_of_the_reader(rt: HostRuntime) {
     }
 }
 
+/// The fields of a record, with `|` after each.
+fn shown(rt: HostRuntime, record: &ByteRecord) -> Result<String, Fail> {
+    let mut shown = String::new(rt.alloc());
+    for place in 0..record.len() {
+        let field = record.get(place).ok_or("no field")?;
+        shown.push_str(str::from_utf8(field)?)?;
+        shown.push('|')?;
+    }
+    Ok(shown)
+}
+
+/// The next record, if there is one.
+fn next_shown(rt: HostRuntime, records: &mut Records<'_>) -> Result<Option<String>, Fail> {
+    match records.next()? {
+        Some(record) => Ok(Some(shown(rt, &record)?)),
+        None => Ok(None),
+    }
+}
+
+/// The records that are left, up to nine, with `;` after each, if none comes behind the last.
+fn all_shown(rt: HostRuntime, records: &mut Records<'_>) -> Result<String, Fail> {
+    let mut all = String::new(rt.alloc());
+    for _ in 0..9 {
+        let Some(shown) = next_shown(rt, records)? else {
+            break;
+        };
+        all.push_str(&shown)?;
+        all.push(';')?;
+    }
+    if next_shown(rt, records)?.is_some() {
+        return Err("a record behind the last")?;
+    }
+    Ok(all)
+}
+
+/// The records of a script, in which `/` stands for the end of a line.
+fn records_of(rt: HostRuntime, script: &str) -> Result<String, Fail> {
+    let script = script.replace(rt.alloc(), "/", "\n")?;
+    let mut records = Records::new(rt.alloc(), script.as_bytes());
+    Ok(all_shown(rt, &mut records)?.replace(rt.alloc(), "\n", "/")?)
+}
+
+/// Scripts and their records.
+const RECORDS: &str = "\
+/\r// => 
+ => 
+a,b/c/ => a|b|;c|;
+a,b\r/c,d,e\r/\r/f => a|b|;c|d|e|;f|;
+a\rb => a|;b|;
+,/ => ||;
+\"\"/ => |;
+\"a,\"\"b\"\"/c\",d/ => a,\"b\"/c|d|;
+a\"b\",\" c \"/ => a\"b\"| c |;
+\"open,//to the end => open,//to the end|;
+\u{feff}a,b/ => a|b|;
+a/\u{feff}b/ => a|;\u{feff}b|;";
+
 #[test]
 fn reads_the_records(rt: HostRuntime) -> Result<(), Fail> {
-    // A script, and its fields, with `|` after each field and `/` after each record.
-    let cases: [(&[u8], &[u8]); 12] = [
-        (b"", b""),
-        (b"\n\r\n\n", b""),
-        (b"a,b\nc\n", b"a|b|/c|/"),
-        (b"a,b\r\nc,d,e\r\n\r\nf", b"a|b|/c|d|e|/f|/"),
-        (b"a\rb", b"a|/b|/"),
-        (b",\n", b"||/"),
-        (b"\"\"\n", b"|/"),
-        (b"\"a,\"\"b\"\"\nc\",d\n", b"a,\"b\"\nc|d|/"),
-        (b"a\"b\",\" c \"\n", b"a\"b\"| c |/"),
-        (b"\"open,\n\nto the end", b"open,\n\nto the end|/"),
-        (b"\xEF\xBB\xBFa,b\n", b"a|b|/"),
-        (b"a\n\xEF\xBB\xBFb\n", b"a|/\xEF\xBB\xBFb|/"),
-    ];
-    for (script, shown) in cases {
-        let mut records = Records::new(rt.alloc(), script);
-        let mut found = Vec::new(rt.alloc());
-        for _ in 0..9 {
-            let Some(record) = records.next()? else {
-                break;
-            };
-            for i in 0..record.len() {
-                if let Some(field) = record.get(i) {
-                    found.extend_from_slice(field)?;
-                }
-                found.push(b'|')?;
-            }
-            found.push(b'/')?;
-        }
-        assert_eq!(rt; found.as_slice(), shown);
-        assert!(rt; records.next()?.is_none());
-    }
+    assert_eq!(rt; differing(rt, RECORDS, records_of)?, None);
     Ok(())
+}
+
+/// How many records come where so many are taken.
+fn taken(records: &mut Records<'_>, count: usize) -> Result<usize, Fail> {
+    Ok(records.take(count)?.len())
+}
+
+/// How many records come where so many are taken from five, and then so many again.
+fn taken_in_turn(rt: HostRuntime, first: usize, second: usize) -> Result<(usize, usize), Fail> {
+    let mut records = Records::new(rt.alloc(), b"a\nb\n\nc\nd\ne");
+    let first = taken(&mut records, first)?;
+    Ok((first, taken(&mut records, second)?))
 }
 
 #[test]
 fn takes_records_past_the_end(rt: HostRuntime) -> Result<(), Fail> {
-    // How many records are taken in turn from five, and how many come.
-    let cases: [(usize, usize, usize, usize); 5] = [
-        (0, 0, 5, 5),
-        (2, 2, 3, 3),
-        (2, 2, 9, 3),
-        (5, 5, 1, 0),
-        (usize::MAX, 5, usize::MAX, 0),
+    // How many records are taken in turn, and how many come.
+    let cases: [(usize, usize, (usize, usize)); 5] = [
+        (0, 5, (0, 5)),
+        (2, 3, (2, 3)),
+        (2, 9, (2, 3)),
+        (5, 1, (5, 0)),
+        (usize::MAX, usize::MAX, (5, 0)),
     ];
-    for (first, first_come, second, second_come) in cases {
-        let mut records = Records::new(rt.alloc(), b"a\nb\n\nc\nd\ne");
-        assert_eq!(rt; records.take(first)?.len(), first_come, "at {first}");
-        assert_eq!(rt; records.take(second)?.len(), second_come, "at {first}");
+    for (first, second, come) in cases {
+        assert!(rt; taken_in_turn(rt, first, second)? == come, "at {first}");
     }
     Ok(())
+}
+
+/// Whether a text is written to a writer with so much room, or else its front.
+fn fills(rt: HostRuntime, text: &[u8], room: usize, a_call: usize, at_room: AtRoom) -> bool {
+    let mut writer = ShortWriter {
+        taken: Vec::new(rt.alloc()),
+        room,
+        a_call,
+        calls: 0,
+        at_room,
+    };
+    let is_whole = put_all(&mut writer, text).is_ok();
+    is_whole == (room >= text.len())
+        && writer.taken.len() == room.min(text.len())
+        && text.starts_with(writer.taken.as_slice())
 }
 
 #[test]
@@ -192,17 +248,7 @@ fn writes_all_or_the_front(rt: HostRuntime) {
     for at_room in ends {
         for a_call in [1usize, 3, 100] {
             for room in 0..16usize {
-                let mut writer = ShortWriter {
-                    taken: Vec::new(rt.alloc()),
-                    room,
-                    a_call,
-                    calls: 0,
-                    at_room,
-                };
-                let result = put_all(&mut writer, text);
-                assert_eq!(rt; result.is_ok(), room >= text.len(), "at {room}");
-                assert_eq!(rt; writer.taken.len(), room.min(text.len()), "at {room}");
-                assert!(rt; text.starts_with(writer.taken.as_slice()), "at {room}");
+                assert!(rt; fills(rt, text, room, a_call, at_room), "at {room}");
             }
         }
     }

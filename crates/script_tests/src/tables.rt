@@ -1,22 +1,6 @@
 use script_machine::{Outcome, run};
 use std::test::*;
-
-/// The first line of a table whose case, in front of ` => `, has another outcome than the line tells.
-pub(crate) fn differing<'t, F: Fn(HostRuntime, &'t str) -> Result<String, Fail>>(
-    rt: HostRuntime,
-    table: &'t str,
-    outcome: F,
-) -> Result<Option<&'t str>, Fail>
-    requires { F.IsAlwaysCallable outcome }
-{
-    for line in table.lines() {
-        let (case, want) = line.split_once(" => ").ok_or("no case")?;
-        if outcome(rt, case)?.as_str() != want {
-            return Ok(Some(line));
-        }
-    }
-    Ok(None)
-}
+use test_tables::halves;
 
 /// What a script's run writes, and how many of its commands are refused.
 pub(crate) fn written(rt: HostRuntime, script: &str) -> Result<(String, u64), Fail> {
@@ -42,7 +26,7 @@ pub(crate) fn on_one_line(rt: HostRuntime, replies: &str) -> Result<String, Fail
 /// The last replies of a script of which no command is refused, from the first on that begins with a word, on one line.
 pub(crate) fn last_replies(rt: HostRuntime, script: &str, word: &str) -> Result<String, Fail> {
     let replies = accepted(rt, script)?;
-    let (_, last) = replies.split_once(word).ok_or("no such reply")?;
+    let (_, last) = halves(&replies, word)?;
     let last = format!(in rt.alloc(); "{word}{last}")?;
     on_one_line(rt, &last)
 }

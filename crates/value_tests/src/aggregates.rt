@@ -5,12 +5,12 @@ ghost use Rattle.agg_protocol.specs.Arguments.{Takes};
 ghost use Rattle.agg_protocol.specs.States.{most_rows};
 ghost use Rattle.agg_library.specs.Kinds.{function_of};
 
-use crate::tables::differing;
 use agg_library::{AggKind, BoolOr, CountRows, CountValues, MOST_ROWS, Min, StateRow, Sum};
 use agg_protocol::{Aggregate, BadState, ResultValue, aggregate_in_parts, aggregate_values};
 use hex::{decode, encode};
 use packed_rows::{Value, ValueKind, read_value};
 use std::test::*;
+use test_tables::{differing, halves};
 
 /// The function of a name.
 fn kind_named(name: &str) -> Result<AggKind, Fail> {
@@ -108,9 +108,9 @@ fn value(field: &str) -> Result<Value<'_>, Fail> {
 
 /// What a function answers over three arguments.
 fn answered(rt: HostRuntime, case: &str) -> Result<String, Fail> {
-    let (name, values) = case.split_once(' ').ok_or("no arguments")?;
-    let (first, values) = values.split_once(' ').ok_or("one argument")?;
-    let (second, third) = values.split_once(' ').ok_or("two arguments")?;
+    let (name, values) = halves(case, " ")?;
+    let (first, values) = halves(values, " ")?;
+    let (second, third) = halves(values, " ")?;
     let (first, second, third) = (value(first)?, value(second)?, value(third)?);
     let answer = answer(kind_named(name)?, first, second, third)?;
     Ok(format!(in rt.alloc(); "{answer:?}")?)
@@ -176,8 +176,8 @@ fn rows_named(number: &str) -> Result<u64, Fail>
 
 /// Whether bytes are those of a row of states.
 fn checked(rt: HostRuntime, case: &str) -> Result<String, Fail> {
-    let (names, rest) = case.split_once(' ').ok_or("no rows")?;
-    let (most, bytes) = rest.split_once(' ').ok_or("no bytes")?;
+    let (names, rest) = halves(case, " ")?;
+    let (most, bytes) = halves(rest, " ")?;
     let most = rows_named(most)?;
     let kinds = kinds_named(rt, names)?;
     let bytes = decode(rt.alloc(), bytes)?;
@@ -272,9 +272,9 @@ fn shown(rt: HostRuntime, states: &[u8], done: bool) -> Result<String, Fail> {
 
 /// What becomes of the bytes of a state.
 fn moved(rt: HostRuntime, case: &str) -> Result<String, Fail> {
-    let (name, rest) = case.split_once(' ').ok_or("no rows")?;
-    let (most, rest) = rest.split_once(' ').ok_or("no bytes")?;
-    let (bytes, field) = rest.split_once(' ').ok_or("no argument")?;
+    let (name, rest) = halves(case, " ")?;
+    let (most, rest) = halves(rest, " ")?;
+    let (bytes, field) = halves(rest, " ")?;
     let (kind, most) = (kind_named(name)?, rows_named(most)?);
     let reach = argument(kind, field)?;
     let mut part = decode(rt.alloc(), bytes)?;
@@ -300,8 +300,8 @@ const COMBINED: &str = "\
 
 /// What becomes of a row of states into which another is combined.
 fn combined(rt: HostRuntime, case: &str) -> Result<String, Fail> {
-    let (most, rows) = case.split_once(' ').ok_or("no rows")?;
-    let (into, from) = rows.split_once(' ').ok_or("one row")?;
+    let (most, rows) = halves(case, " ")?;
+    let (into, from) = halves(rows, " ")?;
     let most = rows_named(most)?;
     let mut into = decode(rt.alloc(), into)?;
     let from = decode(rt.alloc(), from)?;

@@ -1,8 +1,8 @@
-use crate::tables::differing;
 use batch_reader::{Batch, BatchError, read_batch};
 use hex::encode;
 use packed_rows::Schema;
 use std::test::*;
+use test_tables::differing;
 
 /// What becomes of a file of these rows.
 fn read(rt: HostRuntime, file: &str) -> Result<Result<Batch, BatchError>, Fail> {

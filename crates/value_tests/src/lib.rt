@@ -11,6 +11,4 @@ mod rows;
 #[cfg(test)]
 mod schemas;
 #[cfg(test)]
-mod tables;
-#[cfg(test)]
 mod tokens;

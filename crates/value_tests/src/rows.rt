@@ -1,4 +1,3 @@
-use crate::tables::differing;
 use hex::{decode, encode};
 use packed_rows::{
     Schema, Value, ValueKind, compare, pack_key, pack_row, pack_value, read_value, same,
@@ -6,6 +5,7 @@ use packed_rows::{
 };
 use std::cmp::Ordering;
 use std::test::*;
+use test_tables::{differing, halves};
 
 /// Kinds and fields, and what they stand for.
 const FIELDS: &str = "\
@@ -36,7 +36,7 @@ varchar a => no kind";
 
 /// What a field stands for.
 fn field(rt: HostRuntime, case: &str) -> Result<String, Fail> {
-    let (word, field) = case.split_once(' ').ok_or("no field")?;
+    let (word, field) = halves(case, " ")?;
     match ValueKind::named(word) {
         Some(kind) => Ok(format!(in rt.alloc(); "{:?}", read_value(field.as_bytes(), kind))?),
         None => Ok(String::from_str(rt.alloc(), "no kind")?),
@@ -86,7 +86,7 @@ fn fields(rt: HostRuntime, row: &str) -> Result<Vec<&[u8]>, Fail> {
 
 /// The bytes of a row, or why there are none.
 fn packed(rt: HostRuntime, case: &str) -> Result<String, Fail> {
-    let (columns, row) = case.split_once('|').ok_or("no row")?;
+    let (columns, row) = halves(case, "|")?;
     let fields = fields(rt, row)?;
     let schema = Schema::parse(rt.alloc(), columns)?;
     match pack_row(rt.alloc(), &schema, &fields) {
@@ -131,7 +131,7 @@ fn values(rt: HostRuntime, schema: &Schema, bytes: &[u8]) -> Result<String, Fail
 
 /// The values of a row of some columns and bytes, or why there are none.
 fn unpacked(rt: HostRuntime, case: &str) -> Result<String, Fail> {
-    let (columns, text) = case.split_once('|').ok_or("no bytes")?;
+    let (columns, text) = halves(case, "|")?;
     let bytes = decode(rt.alloc(), text)?;
     let schema = Schema::parse(rt.alloc(), columns)?;
     values(rt, &schema, &bytes)

@@ -1,6 +1,6 @@
-use crate::tables::differing;
 use packed_rows::Schema;
 use std::test::*;
+use test_tables::differing;
 
 /// Texts, and how their schemas are printed, or that they have none.
 const SCHEMAS: &str = "\

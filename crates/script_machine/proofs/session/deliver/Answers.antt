@@ -3,15 +3,16 @@ use Rattle.std.proofs.Common.{◌∙◌, ap, sym, subst}
 use Rattle.csv.specs.Records.{fields_of}
 use Rattle.packed_rows.specs.Columns.{kinds}
 use Rattle.batch_reader.specs.Rows.{ReadsRows}
+use Rattle.batch_reader.proofs.RecordLaws.{built_rows}
 use Rattle.having_filter.specs.Meaning.{Checked}
-use Rattle.script_machine.proofs.FeedLaws.{built, built_batch, other_why}
+use Rattle.script_machine.proofs.FeedLaws.{built_batch, other_why}
 use Rattle.script_machine.proofs.session.deliver.Goals as goal
 
 pub deliver-requires-clause-rows : goal.deliver-requires-clause-rows
 deliver-requires-clause-rows c =
     let batch = c.in_ok-batch.ensures in
     let same : c.schema-schema.result.now ≡ c.args.replica.now.query.columns = c.schema-schema.ensures.columns ∙ ap (λ (q : Checked). q.columns) c.query.ensures in
-    built (kinds c.args.replica.now.query.columns) (map fields_of c.args.rows.now) batch.rows.0 _
+    built_rows (kinds c.args.replica.now.query.columns) (map fields_of c.args.rows.now) batch.rows.0 _
     (subst (λ columns. ReadsRows (kinds columns) (map fields_of c.args.rows.now) batch.rows.0) same batch.rows.1) batch.rows.2 batch.few
 
 pub returns-in-Ok-clause-took : goal.returns-in-Ok-clause-took
