@@ -3,7 +3,7 @@ use Rattle.std.proofs.Common.{◌≡◌, ℕ, zero, suc, ◌+◌, ◌<◌, ◌�
 use Rattle.std.specs.Prelude.{◌==◌, is_some}
 use Rattle.std.proofs.lemmas.Bool.{cases_eq, cases_lt, cond-true, cond-false, ne_eqb, false≢true}
 use Rattle.std.proofs.lemmas.List.{get_or-set_same, get_or-set_other, length-set, get_or_past, ext_get_or}
-use Rattle.context_tree.specs.Links.{is_below, is_under, is_left, cleared, IsForest, AreFree}
+use Rattle.context_tree.specs.Links.{is_below, is_under, is_orphan, cleared, IsForest, AreFree}
 use Rattle.context_tree.specs.LinkFields.{AreFields}
 use Rattle.context_tree.specs.declared.links.Link.{Link}
 use Rattle.context_tree.specs.declared.links.Links.TheInside.{Inside}
@@ -67,8 +67,8 @@ module _ (old : List (Option Link)) (forest : IsForest old) (above : ℕ) where
   done-first k low = sym (cond-false (is_under old above k) None (get_or old k None) (not-under old forest above k (omega (arith, low))))
 
   module _ (now : List (Option Link)) (slot : ℕ) (less : above < slot) (long : length now ≡ length old) (low : slot < length old) (done : Done now slot) (rest : Rest now slot) where
-    pub left-now : is_left now above (get_or now slot None) ≡ is_under old above slot
-    left-now = ap (is_left now above) (rest slot (omega arith)) ∙ left-is old forest now above slot done less
+    pub left-now : is_orphan now above (get_or now slot None) ≡ is_under old above slot
+    left-now = ap (is_orphan now above) (rest slot (omega arith)) ∙ left-is old forest now above slot done less
 
     pub done-kept : is_under old above slot ≡ false → Done now (slot + 1)
     done-kept kept k before = elim (cases_eq k slot) [

@@ -2,7 +2,7 @@
 use Rattle.std.proofs.Common.{◌≡◌, ◌≢◌, ℕ, zero, suc, ◌<◌, ◌≤◌, inl, inr, Bool, true, false, List, Option, Some, None, get_or, cond, refl, sym, ap, ◌∙◌, subst, arith}
 use Rattle.std.specs.Prelude.{◌==◌, ◌||◌, ◌&&◌, not, is_some, unwrap_or}
 use Rattle.std.proofs.lemmas.Bool.{cases_Bool, cases_eq, cases_lt, cond-true, cond-false, eq-eqb, ne_eqb, false≢true}
-use Rattle.context_tree.specs.Links.{parent_of, is_true_of, leads_to, is_below, is_under, is_left, IsMadeBelow, IsForest}
+use Rattle.context_tree.specs.Links.{parent_of, is_true_of, leads_to, is_below, is_under, is_orphan, IsMadeBelow, IsForest}
 use Rattle.context_tree.specs.declared.links.Link.{Link}
 
 module _ (ls : List (Option Link)) (forest : IsForest ls) where
@@ -112,7 +112,7 @@ module _ (ls : List (Option Link)) (forest : IsForest ls) where
           ]
     ]
 
-    pub left-is : above < slot → is_left now above (get_or ls slot None) ≡ is_under ls above slot
+    pub left-is : above < slot → is_orphan now above (get_or ls slot None) ≡ is_under ls above slot
     left-is less =
         steps-of (parent_of (get_or ls slot None)) (λ p. (p == above) || not (is_some (get_or now p None))) (is_below ls above)
         (λ p e. let up = parent-is slot (get_or ls slot None) refl p e in left-parent p up.0 up.1)

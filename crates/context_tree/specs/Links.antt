@@ -28,8 +28,8 @@ abbrev pub is_under : List (Option Link) → ℕ → ℕ → Bool
 is_under ls above slot = is_below ls above slot && not (slot == above)
 
 -- whether it was made below this context, or below one that is gone
-abbrev pub is_left : List (Option Link) → ℕ → Option Link → Bool
-is_left ls above link = is_true_of (parent_of link) (λ p. (p == above) || not (is_some (get_or ls p None)))
+abbrev pub is_orphan : List (Option Link) → ℕ → Option Link → Bool
+is_orphan ls above link = is_true_of (parent_of link) (λ p. (p == above) || not (is_some (get_or ls p None)))
 
 -- a list, the first of whose places has this number, with x at the places that are gone
 abbrev pub cleared : {X : Type 0} → (ℕ → Bool) → X → ℕ → List X → List X

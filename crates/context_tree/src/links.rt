@@ -1,6 +1,6 @@
 //! Which contexts of a tree there are, and below which other each was made.
 ghost use Rattle.std.specs.Prelude.{◌≡◌, ◌<◌, ◌≤◌, ◌+◌, ◌==◌, ◌-◌, ◌^◌, ℕ, true, false, Some, None, [], ◌∷◌, IfOk, OnErr, OnOk, IsTrue, length, get_or, is_some, slice_set, cond, ◌++◌};
-ghost use Rattle.context_tree.specs.Links.{parent_of, is_below, is_under, is_left, cleared, placed, IsForest, IsMadeBelow, AreFree};
+ghost use Rattle.context_tree.specs.Links.{parent_of, is_below, is_under, is_orphan, cleared, placed, IsForest, IsMadeBelow, AreFree};
 
 use chunk_layout::BlockMarks;
 use smallvec::SmallVec;
@@ -69,8 +69,8 @@ fn parent(links: &[Option<Link>], slot: usize) -> Option<u32>
 }
 
 /// Whether the context in a slot was made below this one, or below one that is gone.
-fn is_left(links: &[Option<Link>], slot: usize, above: u32) -> bool
-    ensures { result ≡ is_left links.now above (get_or links.now slot None) }
+fn is_orphan(links: &[Option<Link>], slot: usize, above: u32) -> bool
+    ensures { result ≡ is_orphan links.now above (get_or links.now slot None) }
 {
     match parent(links, slot) {
         Some(parent) => parent == above || !is_there(links, parent),
@@ -110,7 +110,7 @@ fn prune(links: &mut [Option<Link>], free: &mut BlockMarks, above: u32)
     ensures free { AreFree links.new free.new }
 {
     for slot in above as usize + 1..links.len() {
-        if is_left(links, slot, above) {
+        if is_orphan(links, slot, above) {
             empty(links, free, slot as u32);
         }
     }
