@@ -1,10 +1,8 @@
 //! Callers that know a context by its trait alone: what they promise of it is proved by the trait's clauses.
-ghost use Rattle.std.specs.Prelude.{◌≡◌, true, false, IsTrue, IfOk, length, ◌≤◌, slice_index};
-ghost use Rattle.chunk_layout.specs.Pieces.{place_of, same_place};
-ghost use Rattle.chunk_contexts.specs.Chunks.{is_live, bytes_of};
+ghost use Rattle.std.specs.Prelude.{◌≡◌, true, IfOk, length, ◌≤◌, slice_index};
 
 use crate::kinds::{with_alloc_set, with_bump, with_generation, with_slab};
-use chunk_contexts::{ChunkContext, ChunkName, ContextError};
+use chunk_contexts::{ChunkContext, ContextError};
 use std::test::Fail;
 
 /// Takes two chunks and gives them up, the newer one first. The older one keeps its bytes.
@@ -17,7 +15,7 @@ fn take_and_free<C: ChunkContext>(context: &mut C, bytes: &[u8]) -> Result<bool,
     context.free(second)?;
     let after = context.get(first) == bytes;
     context.free(first)?;
-    Ok(before && after)
+    Ok(before & after)
 }
 
 /// Takes two chunks, and writes over the first. The other one keeps its bytes.
@@ -48,25 +46,6 @@ fn write_byte<C: ChunkContext>(context: &mut C, byte: u8) -> Result<u8, ContextE
     Ok(context.get(name)[1])
 }
 
-/// Gives up two chunks in turn. The second one keeps its bytes until then.
-fn free_in_turn<C: ChunkContext>(
-    context: &mut C,
-    first: ChunkName,
-    second: ChunkName,
-    bytes: &[u8],
-) -> Result<bool, ContextError>
-    requires first { IsTrue (is_live (C.chunks context.old) first) }
-    requires second { IsTrue (is_live (C.chunks context.old) second) }
-    requires others { same_place (place_of first) (place_of second) ≡ false }
-    requires holds { bytes_of (C.chunks context.old) second ≡ bytes.now }
-    ensures kept { IfOk result (λ same. same ≡ true) }
-{
-    context.free(first)?;
-    let same = context.get(second) == bytes;
-    context.free(second)?;
-    Ok(same)
-}
-
 /// Makes one of two chunks longer, and gives both up. The other one keeps its bytes.
 fn lengthen<C: ChunkContext>(
     context: &mut C,
@@ -83,8 +62,10 @@ fn lengthen<C: ChunkContext>(
     let longer = context.resize(first, n)?;
     let byte = context.get(longer)[0];
     let before = context.get(second) == bytes;
-    let after = free_in_turn(context, longer, second, bytes)?;
-    Ok((byte, before && after))
+    context.free(longer)?;
+    let after = context.get(second) == bytes;
+    context.free(second)?;
+    Ok((byte, before & after))
 }
 
 type Answers = (bool, (bool, bool), u8, (u8, bool));

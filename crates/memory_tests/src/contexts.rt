@@ -20,7 +20,7 @@ pub(crate) fn take_all<C: ChunkContext>(
     count: u32,
 ) -> Result<(), ContextError> {
     for _ in 0..count {
-        context.alloc_zeroed(n)?;
+        take(context, n)?;
     }
     Ok(())
 }
@@ -33,12 +33,18 @@ fn take_and_free<C: ChunkContext>(context: &mut C, n: u32) -> Result<(u64, u64),
     Ok((taken, context.held()))
 }
 
-/// Takes chunks that hold `bytes`: how many bytes the context holds then.
-fn fill<C: ChunkContext>(context: &mut C, bytes: &[u8], count: u32) -> Result<u64, ContextError> {
-    for _ in 0..count {
-        context.alloc(bytes)?;
-    }
+/// Takes a chunk that holds `bytes`: how many bytes the context holds then.
+fn put<C: ChunkContext>(context: &mut C, bytes: &[u8]) -> Result<u64, ContextError> {
+    context.alloc(bytes)?;
     Ok(context.held())
+}
+
+/// Takes chunks that hold `bytes`.
+fn fill<C: ChunkContext>(context: &mut C, bytes: &[u8], count: u32) -> Result<(), ContextError> {
+    for _ in 0..count {
+        put(context, bytes)?;
+    }
+    Ok(())
 }
 
 /// Takes a chunk that holds `bytes`, reads it and gives it up, again and again: whether the bytes were those each time.
@@ -62,7 +68,7 @@ fn refusal<C: ChunkContext>(context: &mut C, n: u32) -> Option<ContextError> {
 }
 
 /// How many bytes the context holds once all is given up.
-fn reset<C: ChunkContext>(context: &mut C) -> u64 {
+pub(crate) fn reset<C: ChunkContext>(context: &mut C) -> u64 {
     context.reset();
     context.held()
 }
@@ -277,7 +283,7 @@ fn sizes_of_a_slab(rt: HostRuntime) -> Result<(), Fail> {
 }
 
 fn use_again<C: ChunkContext>(context: &mut C) -> Result<(bool, [u64; 2]), ContextError> {
-    context.alloc(b"abc")?;
+    put(context, b"abc")?;
     let same = read_again(context, b"xyz", 100_000)?;
     let held = context.held();
     Ok((same, [held, reset(context)]))
@@ -309,7 +315,7 @@ fn a_slab_of_large_chunks(rt: HostRuntime) -> Result<(), Fail> {
 
 /// Each kind by its trait alone.
 fn take_and_reset<C: ChunkContext>(context: &mut C) -> Result<u64, ContextError> {
-    context.alloc(b"0123456789")?;
+    put(context, b"0123456789")?;
     Ok(reset(context))
 }
 
@@ -338,7 +344,8 @@ fn keep<C: ChunkContext>(
 type Kept = ([u64; 4], (bool, [Option<ContextError>; 2]));
 
 fn fill_and_keep<C: ChunkContext>(context: &mut C) -> Result<Kept, ContextError> {
-    let full = fill(context, b"12345", 1024)?;
+    fill(context, b"12345", 1024)?;
+    let full = context.held();
     let growth = context.growth_for(5);
     let kept = keep(context)?;
     let more = context.held();

@@ -2,7 +2,7 @@
 //!
 //! `rt try` keeps memory that was given back, to see whether it is used again. There these tests say nothing.
 
-use crate::contexts::take_all;
+use crate::contexts::{reset, take_all};
 use crate::kinds::{with_alloc_set, with_bump, with_generation, with_slab};
 use chunk_contexts::{ChunkContext, ContextError};
 use std::fs;
@@ -59,7 +59,7 @@ fn take_and_reset<C: ChunkContext>(
 ) -> Result<(), ContextError> {
     for _ in 0..TURNS {
         take_all(context, n, count)?;
-        context.reset();
+        reset(context);
     }
     Ok(())
 }
