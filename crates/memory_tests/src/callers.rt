@@ -1,7 +1,8 @@
 //! Callers that know a context by its trait alone: what they promise of it is proved by the trait's clauses.
 ghost use Rattle.std.specs.Prelude.{◌≡◌, true, IfOk, length, ◌≤◌, slice_index};
 
-use chunk_contexts::{AllocSet, Bump, ChunkContext, ContextError, Generation, Slab};
+use crate::kinds::{with_alloc_set, with_bump, with_generation, with_slab};
+use chunk_contexts::{ChunkContext, ContextError};
 use std::test::Fail;
 
 /// Takes two chunks and gives them up, the newer one first. The older one keeps its bytes.
@@ -14,7 +15,7 @@ fn take_and_free<C: ChunkContext>(context: &mut C, bytes: &[u8]) -> Result<bool,
     context.free(second)?;
     let after = context.get(first) == bytes;
     context.free(first)?;
-    Ok(before && after)
+    Ok(before & after)
 }
 
 /// Takes two chunks, and writes over the first. The other one keeps its bytes.
@@ -64,35 +65,56 @@ fn lengthen<C: ChunkContext>(
     context.free(longer)?;
     let after = context.get(second) == bytes;
     context.free(second)?;
-    Ok((byte, before && after))
+    Ok((byte, before & after))
 }
+
+type Answers = (bool, (bool, bool), u8, (u8, bool));
+
+/// What the calls above answer, where the chunk that is made longer gets `n` bytes.
+fn answers<C: ChunkContext>(context: &mut C, n: u32) -> Result<Answers, ContextError>
+    requires { 3 ≤ n }
+{
+    let freed = take_and_free(context, b"abc")?;
+    let written = write_over(context, b"abc", b"xyz")?;
+    let byte = write_byte(context, 7)?;
+    Ok((freed, written, byte, lengthen(context, b"abc", n)?))
+}
+
+fn answers_of_any_size<C: ChunkContext>(context: &mut C) -> Result<Answers, ContextError> {
+    answers(context, 100)
+}
+
+const RIGHT: Answers = (true, (true, true), 7, (b'a', true));
 
 #[test]
 fn chunks_keep_their_bytes(rt: HostRuntime) -> Result<(), Fail> {
-    let mut set = AllocSet::new(rt.alloc());
-    assert!(rt; take_and_free(&mut set, b"abc") == Ok(true));
-    assert!(rt; write_over(&mut set, b"abc", b"xyz") == Ok((true, true)));
-    assert!(rt; write_byte(&mut set, 7) == Ok(7));
-    assert!(rt; lengthen(&mut set, b"abc", 100) == Ok((b'a', true)));
-    let mut generation = Generation::new(rt.alloc());
-    assert!(rt; take_and_free(&mut generation, b"abc") == Ok(true));
-    assert!(rt; write_over(&mut generation, b"abc", b"xyz") == Ok((true, true)));
-    assert!(rt; write_byte(&mut generation, 7) == Ok(7));
-    assert!(rt; lengthen(&mut generation, b"abc", 100) == Ok((b'a', true)));
+    assert_eq!(rt; with_alloc_set(rt, answers_of_any_size)?, RIGHT);
+    assert_eq!(rt; with_generation(rt, answers_of_any_size)?, RIGHT);
     Ok(())
+}
+
+/// What the calls above answer where a chunk is not made longer: all of them, and why the last is refused.
+fn answers_of_one_size<C: ChunkContext>(
+    context: &mut C,
+) -> Result<(Answers, Option<ContextError>), ContextError> {
+    let right = answers(context, 3)?;
+    Ok((right, lengthen(context, b"abc", 4).err()))
+}
+
+/// What the calls above answer where no chunk is given up.
+fn answers_of_kept_chunks<C: ChunkContext>(
+    context: &mut C,
+) -> Result<(Option<ContextError>, (bool, bool), u8), ContextError> {
+    let refused = take_and_free(context, b"abc").err();
+    let written = write_over(context, b"abc", b"xyz")?;
+    Ok((refused, written, write_byte(context, 7)?))
 }
 
 #[test]
 fn chunks_of_one_size_keep_their_bytes(rt: HostRuntime) -> Result<(), Fail> {
-    let mut slab = Slab::new(rt.alloc(), 3)?;
-    assert!(rt; take_and_free(&mut slab, b"abc") == Ok(true));
-    assert!(rt; write_over(&mut slab, b"abc", b"xyz") == Ok((true, true)));
-    assert!(rt; write_byte(&mut slab, 7) == Ok(7));
-    assert!(rt; lengthen(&mut slab, b"abc", 3) == Ok((b'a', true)));
-    assert!(rt; lengthen(&mut slab, b"abc", 4) == Err(ContextError::WrongSize));
-    let mut bump = Bump::new(rt.alloc());
-    assert!(rt; take_and_free(&mut bump, b"abc") == Err(ContextError::NotSupported));
-    assert!(rt; write_over(&mut bump, b"abc", b"xyz") == Ok((true, true)));
-    assert!(rt; write_byte(&mut bump, 7) == Ok(7));
+    let slab = with_slab(rt, 3, answers_of_one_size)?;
+    assert_eq!(rt; slab, (RIGHT, Some(ContextError::WrongSize)));
+    let bump = with_bump(rt, answers_of_kept_chunks)?;
+    assert_eq!(rt; bump, (Some(ContextError::NotSupported), (true, true), 7));
     Ok(())
 }

@@ -2,7 +2,9 @@
 //!
 //! `rt try` keeps memory that was given back, to see whether it is used again. There these tests say nothing.
 
-use chunk_contexts::{AllocSet, Bump, ChunkContext, ContextError, Generation, Slab};
+use crate::contexts::{reset, take_all};
+use crate::kinds::{with_alloc_set, with_bump, with_generation, with_slab};
+use chunk_contexts::{ChunkContext, ContextError};
 use std::fs;
 use std::test::Fail;
 
@@ -38,12 +40,15 @@ fn shrinks(rt: &HostRuntime) -> Result<bool, Fail> {
     is_even(rt, before)
 }
 
-/// Takes chunks of zeros.
-fn take<C: ChunkContext>(context: &mut C, n: u32, count: u32) -> Result<(), ContextError> {
-    for _ in 0..count {
-        context.alloc_zeroed(n)?;
-    }
-    Ok(())
+/// Takes a megabyte in small chunks.
+fn take_small<C: ChunkContext>(context: &mut C) -> Result<(), ContextError> {
+    take_all(context, SMALL, 128)
+}
+
+/// Takes two megabytes, one in small chunks and one in a chunk.
+fn take_both<C: ChunkContext>(context: &mut C) -> Result<(), ContextError> {
+    take_all(context, SMALL, 128)?;
+    take_all(context, LARGE, 1)
 }
 
 /// Takes a megabyte and more, and gives all up at once, again and again.
@@ -53,8 +58,8 @@ fn take_and_reset<C: ChunkContext>(
     count: u32,
 ) -> Result<(), ContextError> {
     for _ in 0..TURNS {
-        take(context, n, count)?;
-        context.reset();
+        take_all(context, n, count)?;
+        reset(context);
     }
     Ok(())
 }
@@ -74,82 +79,113 @@ fn take_and_free<C: ChunkContext>(
     Ok(())
 }
 
-#[test]
-fn an_alloc_set_goes_back(rt: HostRuntime) -> Result<(), Fail> {
+/// Whether the process has about as many pages as before once contexts took memory and were let go of, and then behind each
+/// use of one context.
+fn goes_back<
+    T: Fn(HostRuntime) -> Result<(), ContextError>,
+    U: Fn(HostRuntime, u64) -> Result<[bool; 2], Fail>,
+>(rt: HostRuntime, take_and_drop: T, use_again: U) -> Result<(bool, [bool; 2]), Fail>
+    requires once { T.IsAlwaysCallable take_and_drop }
+    requires again { U.IsAlwaysCallable use_again }
+{
     if !shrinks(&rt)? {
-        return Ok(());
+        return Ok(EVEN);
     }
     let before = pages(&rt)?;
     for _ in 0..TURNS {
-        let mut set = AllocSet::new(rt.alloc());
-        take(&mut set, SMALL, 128)?;
-        take(&mut set, LARGE, 1)?;
+        take_and_drop(rt)?;
     }
-    assert!(rt; is_even(&rt, before)?);
-    let mut set = AllocSet::new(rt.alloc());
-    take_and_reset(&mut set, SMALL, 128)?;
-    take_and_reset(&mut set, LARGE, 1)?;
-    assert!(rt; is_even(&rt, before)?);
-    take_and_free(&mut set, LARGE, 2 * LARGE, TURNS)?;
-    assert!(rt; is_even(&rt, before)?);
+    Ok((is_even(&rt, before)?, use_again(rt, before)?))
+}
+
+const EVEN: (bool, [bool; 2]) = (true, [true, true]);
+
+fn use_alloc_set<C: ChunkContext>(
+    rt: HostRuntime,
+    set: &mut C,
+    before: u64,
+) -> Result<[bool; 2], Fail> {
+    take_and_reset(set, SMALL, 128)?;
+    take_and_reset(set, LARGE, 1)?;
+    let reset = is_even(&rt, before)?;
+    take_and_free(set, LARGE, 2 * LARGE, TURNS)?;
+    Ok([reset, is_even(&rt, before)?])
+}
+
+#[test]
+fn an_alloc_set_goes_back(rt: HostRuntime) -> Result<(), Fail> {
+    let even = goes_back(
+        rt,
+        |rt| with_alloc_set(rt, take_both),
+        |rt, before| with_alloc_set(rt, |set| use_alloc_set(rt, set, before)),
+    )?;
+    assert_eq!(rt; even, EVEN);
     Ok(())
+}
+
+fn use_slab<C: ChunkContext>(
+    rt: HostRuntime,
+    slab: &mut C,
+    before: u64,
+) -> Result<[bool; 2], Fail> {
+    take_and_reset(slab, SMALL, 128)?;
+    let reset = is_even(&rt, before)?;
+    take_and_free(slab, SMALL, SMALL, 128 * TURNS)?;
+    Ok([reset, is_even(&rt, before)?])
 }
 
 #[test]
 fn a_slab_goes_back(rt: HostRuntime) -> Result<(), Fail> {
-    if !shrinks(&rt)? {
-        return Ok(());
-    }
-    let before = pages(&rt)?;
-    for _ in 0..TURNS {
-        let mut slab = Slab::new(rt.alloc(), SMALL)?;
-        take(&mut slab, SMALL, 128)?;
-    }
-    assert!(rt; is_even(&rt, before)?);
-    let mut slab = Slab::new(rt.alloc(), SMALL)?;
-    take_and_reset(&mut slab, SMALL, 128)?;
-    assert!(rt; is_even(&rt, before)?);
-    take_and_free(&mut slab, SMALL, SMALL, 128 * TURNS)?;
-    assert!(rt; is_even(&rt, before)?);
+    let even = goes_back(
+        rt,
+        |rt| with_slab(rt, SMALL, take_small),
+        |rt, before| with_slab(rt, SMALL, |slab| Ok(use_slab(rt, slab, before)))?,
+    )?;
+    assert_eq!(rt; even, EVEN);
     Ok(())
+}
+
+fn use_generation<C: ChunkContext>(
+    rt: HostRuntime,
+    generation: &mut C,
+    before: u64,
+) -> Result<[bool; 2], Fail> {
+    take_and_reset(generation, SMALL, 128)?;
+    let reset = is_even(&rt, before)?;
+    take_and_free(generation, SMALL, SMALL, 128 * TURNS)?;
+    take_and_free(generation, LARGE, 2 * LARGE, TURNS)?;
+    Ok([reset, is_even(&rt, before)?])
 }
 
 #[test]
 fn a_generation_goes_back(rt: HostRuntime) -> Result<(), Fail> {
-    if !shrinks(&rt)? {
-        return Ok(());
-    }
-    let before = pages(&rt)?;
-    for _ in 0..TURNS {
-        let mut generation = Generation::new(rt.alloc());
-        take(&mut generation, SMALL, 128)?;
-        take(&mut generation, LARGE, 1)?;
-    }
-    assert!(rt; is_even(&rt, before)?);
-    let mut generation = Generation::new(rt.alloc());
-    take_and_reset(&mut generation, SMALL, 128)?;
-    assert!(rt; is_even(&rt, before)?);
-    take_and_free(&mut generation, SMALL, SMALL, 128 * TURNS)?;
-    take_and_free(&mut generation, LARGE, 2 * LARGE, TURNS)?;
-    assert!(rt; is_even(&rt, before)?);
+    let even = goes_back(
+        rt,
+        |rt| with_generation(rt, take_both),
+        |rt, before| with_generation(rt, |generation| use_generation(rt, generation, before)),
+    )?;
+    assert_eq!(rt; even, EVEN);
     Ok(())
+}
+
+fn use_bump<C: ChunkContext>(
+    rt: HostRuntime,
+    bump: &mut C,
+    before: u64,
+) -> Result<[bool; 2], Fail> {
+    take_and_reset(bump, SMALL, 128)?;
+    let small = is_even(&rt, before)?;
+    take_and_reset(bump, LARGE, 1)?;
+    Ok([small, is_even(&rt, before)?])
 }
 
 #[test]
 fn a_bump_goes_back(rt: HostRuntime) -> Result<(), Fail> {
-    if !shrinks(&rt)? {
-        return Ok(());
-    }
-    let before = pages(&rt)?;
-    for _ in 0..TURNS {
-        let mut bump = Bump::new(rt.alloc());
-        take(&mut bump, SMALL, 128)?;
-        take(&mut bump, LARGE, 1)?;
-    }
-    assert!(rt; is_even(&rt, before)?);
-    let mut bump = Bump::new(rt.alloc());
-    take_and_reset(&mut bump, SMALL, 128)?;
-    take_and_reset(&mut bump, LARGE, 1)?;
-    assert!(rt; is_even(&rt, before)?);
+    let even = goes_back(
+        rt,
+        |rt| with_bump(rt, take_both),
+        |rt, before| with_bump(rt, |bump| use_bump(rt, bump, before)),
+    )?;
+    assert_eq!(rt; even, EVEN);
     Ok(())
 }

@@ -9,3 +9,5 @@ mod callers;
 mod contexts;
 #[cfg(test)]
 mod footprint;
+#[cfg(test)]
+mod kinds;
