@@ -57,5 +57,7 @@ pub fn table(alloc: Global, replica: &Replica, format: Format) -> Result<Vec<u8>
         (answer (meaning replica.now.query) world (told replica.now.parts))) }
 {
     let answer = replica.answer()?;
-    print(alloc, replica.query(), &answer, format)
+    let text = print(alloc, replica.query(), &answer, format);
+    drop(answer);
+    text
 }

@@ -8,7 +8,7 @@ use Rattle.having_filter.specs.declared.error.QueryError.TheVariants as error
 use Rattle.having_filter.specs.declared.error.QueryError.TheVariants.{NoMemory, TooMany, TooDeep, NoSuchColumn}
 use Rattle.having_filter.specs.Forms.{Form, Written}
 use Rattle.having_filter.specs.Reads.{filters_pass}
-use Rattle.having_filter.specs.Checks.{all_of, has_too_many, is_shallow, are_shallow, has_columns, are_plain, is_grouped, placed, checked, checked_places, kinds_fit}
+use Rattle.having_filter.specs.Checks.{all_of, has_too_many, is_shallow, are_shallow, has_columns, are_plain, is_grouped, placed, checked, checked_places, kinds_fit, PassesFirst}
 use Rattle.having_filter.specs.Parts.{IsKept, written_of_parts, checked_of}
 use Rattle.having_filter.specs.Spelling.{spelling, canonical_item}
 use Rattle.having_filter.specs.Writable.{IsWritable}
@@ -17,7 +17,7 @@ use Rattle.having_filter.specs.declared.plan.Plan.{Plan}
 use Rattle.having_filter.specs.declared.parts.Parts.{Parts}
 use Rattle.having_filter.specs.Plans.{PlansFor}
 use Rattle.having_filter.specs.Kept.{IsQuery, by_names, headers, label_of}
-use Rattle.having_filter.proofs.NormalLaws.{PassesFirst, columns_of_query, named_again, reaches_places, spelled_alike, label_twice}
+use Rattle.having_filter.proofs.NormalLaws.{columns_of_query, named_again, reaches_places, spelled_alike, label_twice}
 use Rattle.having_filter.proofs.WellLaws.{passed_query}
 
 pub gives_too_many : (columns : List Column) (q : Written (List ℕ)) → has_too_many q ≡ true → checked columns q ≡ Err TooMany

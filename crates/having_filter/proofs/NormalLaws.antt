@@ -10,7 +10,7 @@ use Rattle.std.proofs.lemmas.List.Folds.{list_all-map}
 use Rattle.grouping_model.specs.declared.limits.TheConstants.{MOST_ITEMS, MOST_KEYS, MOST_CALLS, LONGEST_QUERY}
 use Rattle.packed_rows.specs.Columns.{Column, IsColumnName}
 use Rattle.having_filter.specs.Forms.{Form, Written, map_form}
-use Rattle.having_filter.specs.Checks.{all_of, has_too_many, is_shallow, are_shallow, is_column, has_columns, place, placed, checked_places, checked}
+use Rattle.having_filter.specs.Checks.{all_of, has_too_many, is_shallow, are_shallow, is_column, has_columns, place, placed, checked_places, checked, PassesFirst}
 use Rattle.having_filter.specs.Sameness.{first_of_each}
 use Rattle.having_filter.specs.Spelling.{own_name, kept_alias, item_text, spelling, canonical_item, canonical}
 use Rattle.having_filter.specs.Reads.{calls_in, columns_pass, filters_pass}
@@ -123,12 +123,7 @@ columns_alike columns q e =
     and_from _ _ (all_alike (columns_pass (is_column columns)) (columns_pass (is_column columns)) q ∙ whole.0)
     (pass_all (is_column columns) (first_of_each bytes_eq q.keys) (all_distinct (λ name. is_column columns name ≡ true) bytes_eq q.keys (all_pass (is_column columns) q.keys whole.1)))
 
--- a query that passes the first checks, which the others follow
-pub record PassesFirst (columns : List Column) (q : Written (List ℕ)) : Type 0 where
-  pub few : has_too_many q ≡ false
-  pub shallow : all_of (filters_pass is_shallow) are_shallow q ≡ true
-  pub columns_there : has_columns columns q ≡ true
-
+-- a query that passes the first checks goes on to the others
 pub reaches_places : (columns : List Column) (q : Written (List ℕ)) → PassesFirst columns q → checked columns q ≡ checked_places columns (placed columns q)
 unfolding checked
 reaches_places columns q first = rw (first.few, first.shallow, first.columns_there) refl

@@ -4,9 +4,9 @@ use Rattle.packed_rows.specs.Columns.{Column, kinds}
 use Rattle.having_filter.specs.Forms.{Written}
 use Rattle.having_filter.specs.Reads.{filters_pass}
 use Rattle.having_filter.specs.Meaning.{Checked}
-use Rattle.having_filter.specs.Checks.{all_of, has_too_many, is_shallow, are_shallow, has_columns, placed, are_plain, kinds_fit, is_grouped, checked_places, checked}
+use Rattle.having_filter.specs.Checks.{all_of, has_too_many, is_shallow, are_shallow, has_columns, placed, are_plain, kinds_fit, is_grouped, checked_places, checked, PassesFirst}
 use Rattle.having_filter.specs.Kept.{by_names}
-use Rattle.having_filter.proofs.NormalLaws.{PassesFirst, reaches_places}
+use Rattle.having_filter.proofs.NormalLaws.{reaches_places}
 use Rattle.having_filter.proofs.CheckedLaws.{gives_too_many, gives_too_deep, gives_no_column}
 
 -- it passes the first checks

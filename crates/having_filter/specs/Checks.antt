@@ -1,5 +1,5 @@
 -- The checks of a query, in their order (PostgreSQL 17, SELECT; the limits and the order are our own).
-use Rattle.std.specs.Prelude.{ℕ, ◌+◌, max, ◌==◌, ◌&&◌, ◌||◌, not, nat_le, nat_lt, Bool, true, if◌then◌else◌, List, map, length, Option, Some, None, Result, Ok, Err, option_map, unwrap_or, is_some, slice_get}
+use Rattle.std.specs.Prelude.{◌≡◌, ℕ, ◌+◌, max, ◌==◌, ◌&&◌, ◌||◌, not, nat_le, nat_lt, Bool, true, false, if◌then◌else◌, List, map, length, Option, Some, None, Result, Ok, Err, option_map, unwrap_or, is_some, slice_get}
 use Rattle.std.specs.List.{list_all}
 use Rattle.std.specs.Option.{option_map_or}
 use Rattle.std.specs.Str.{bytes_eq}
@@ -151,3 +151,9 @@ checked columns q =
     if not (all_of (filters_pass is_shallow) are_shallow q) then Err TooDeep else
     if not (has_columns columns q) then Err NoSuchColumn else
     checked_places columns (placed columns q)
+
+-- a query that passes the first three, which the others follow
+pub record PassesFirst (columns : List packed.Column) (q : Written (List ℕ)) : Type 0 where
+  pub few : has_too_many q ≡ false
+  pub shallow : all_of (filters_pass is_shallow) are_shallow q ≡ true
+  pub columns_there : has_columns columns q ≡ true

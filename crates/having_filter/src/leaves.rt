@@ -1,8 +1,6 @@
 //! What conditions read: the columns of a row, or the keys and results of a group.
 
-ghost use Rattle.std.specs.Prelude.{◌≡◌, ℕ, List, map, slice_index_or, option_map};
-ghost use Rattle.grouping_model.specs.Datum.{Null};
-ghost use Rattle.grouping_model.specs.Aggregates.{Plain};
+ghost use Rattle.std.specs.Prelude.{◌≡◌, map, option_map};
 ghost use Rattle.grouping_model.specs.Condition.{At, value_of, is_met, is_true};
 ghost use Rattle.grouping_model.specs.Grouping.{column_of};
 ghost use Rattle.packed_rows.specs.View.{row_of};
@@ -61,25 +59,12 @@ impl<'a> Leaves<Source> for GroupLeaves<'a> {
         (map outcome_of leaves.results.now)) (source_leaf form) };
 
     fn column(&self, source: &Source) -> ResultValue<'_> {
-        match source {
-            Source::Key(place) => result_at(self.key, *place),
-            Source::Call(place) => result_at(self.results, *place),
-        }
+        source.value(self.key, self.results)
     }
 
     #[tactic(auto, using(crate::proofs::FormLaws::call_is_no_source))]
     fn call(&self, _call: &AggCall<Source>) -> ResultValue<'_> {
         ResultValue::Null
-    }
-}
-
-/// The value at a place, null beyond the last.
-fn result_at<'a>(values: &'a [ResultValue<'a>], place: usize) -> ResultValue<'a>
-    ensures { outcome_of result ≡ slice_index_or (map outcome_of values.now) place (Plain Null) }
-{
-    match values.get(place) {
-        Some(value) => *value,
-        None => ResultValue::Null,
     }
 }
 

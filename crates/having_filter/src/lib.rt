@@ -16,6 +16,7 @@ mod query;
 mod reads;
 mod same;
 mod spelling;
+mod texts;
 mod truth;
 mod value;
 mod whole;

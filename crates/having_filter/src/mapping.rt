@@ -33,6 +33,13 @@ fn both<D: Drop>(
     Ok((left?, right?))
 }
 
+/// A value in a box.
+fn in_box<T: Drop>(alloc: Global, value: T) -> Result<Box<T>, AllocError>
+    ensures { IfOk result (λ made. made.value ≡ value) }
+{
+    Ok(Box::new(alloc, value)?)
+}
+
 /// A call over other columns.
 #[cycle(mapped)]
 pub(crate) fn mapped_call<C, D: Drop, M: Mapping<C, D>>(
@@ -74,7 +81,7 @@ pub(crate) fn mapped<C, D: Drop, M: Mapping<C, D>>(
             Some(column) => Ok(Cond::Column(column)),
             None => {
                 let call = mapped_call(alloc, mapping, call)?;
-                Ok(Cond::Call(Box::new(alloc, call)?))
+                Ok(Cond::Call(in_box(alloc, call)?))
             }
         },
         Cond::Bigint(number) => Ok(Cond::Bigint(*number)),
@@ -117,7 +124,7 @@ fn boxed<C, D: Drop, M: Mapping<C, D>>(
         ≡ map_reads (M.column_as mapping.now) (M.call_as mapping.now) (form_of operand.now)) }
 {
     let operand = mapped(alloc, mapping, operand)?;
-    Ok(Box::new(alloc, operand)?)
+    in_box(alloc, operand)
 }
 
 /// An item over other columns.

@@ -6,7 +6,6 @@ ghost use Rattle.having_filter.specs.Forms.{form_of, names_of, item_form, items_
 ghost use Rattle.having_filter.specs.Checks.{place, placed};
 ghost use Rattle.having_filter.specs.Sameness.{with_one, first_of_each};
 ghost use Rattle.having_filter.specs.Spelling.{own_name, kept_alias};
-ghost use Rattle.having_filter.specs.Kept.{label_of};
 ghost use Rattle.having_filter.specs.Parts.{written_of_parts};
 
 use crate::condition::{AggCall, Cond, Item, RawQuery};
@@ -185,10 +184,10 @@ impl Parts {
     ) -> Result<Parts, AllocError>
         ensures { IfOk result (λ p. written_of_parts p ≡ placed schema.now (written_of raw.now)) }
     {
-        let items = placed_items(alloc, schema, &raw.items)?;
-        let condition = placed_clause(alloc, schema, &raw.condition)?;
         let keys = placed_keys(alloc, schema, &raw.keys)?;
+        let condition = placed_clause(alloc, schema, &raw.condition)?;
         let having = placed_clause(alloc, schema, &raw.having)?;
+        let items = placed_items(alloc, schema, &raw.items)?;
         Ok(Parts {
             items,
             condition,
@@ -201,10 +200,10 @@ impl Parts {
     pub(crate) fn try_clone(&self, alloc: Global) -> Result<Parts, AllocError>
         ensures { IfOk result (λ p. written_of_parts p ≡ written_of_parts self.now) }
     {
-        let items = copied_items(alloc, &self.items)?;
-        let condition = copied_clause(alloc, &self.condition)?;
         let keys = self.keys.to_vec(alloc)?;
+        let condition = copied_clause(alloc, &self.condition)?;
         let having = copied_clause(alloc, &self.having)?;
+        let items = copied_items(alloc, &self.items)?;
         Ok(Parts {
             items,
             condition,
@@ -212,40 +211,4 @@ impl Parts {
             having,
         })
     }
-}
-
-/// The name of an item's column in the answer.
-fn label_of(alloc: Global, item: &(Item<String>, Option<String>)) -> Result<String, AllocError>
-    ensures { IfOk result (λ label. string_bytes label ≡ label_of
-        (names_of (item_form item.now.0), option_map string_bytes item.now.1)) }
-{
-    let own = own_name(&item.0);
-    String::from_str(alloc, kept_alias(own, &item.1).unwrap_or(own))
-}
-
-/// The names of the answer's columns.
-pub(crate) fn labels_of(
-    alloc: Global,
-    items: &[(Item<String>, Option<String>)],
-) -> Result<Vec<String>, AllocError>
-    ensures { IfOk result (λ labels. map string_bytes labels.items
-        ≡ map label_of (items_of items.now)) }
-{
-    let mut labels = Vec::with_capacity(alloc, items.len())?;
-    for item in items {
-        labels.push(label_of(alloc, item)?)?;
-    }
-    Ok(labels)
-}
-
-/// Copies of texts.
-pub(crate) fn copied_texts(alloc: Global, texts: &[String]) -> Result<Vec<String>, AllocError>
-    ensures { IfOk result (λ copies.
-        map string_bytes copies.items ≡ map string_bytes texts.now) }
-{
-    let mut copies = Vec::with_capacity(alloc, texts.len())?;
-    for text in texts {
-        copies.push(String::from_str(alloc, text.as_str())?)?;
-    }
-    Ok(copies)
 }

@@ -1,12 +1,15 @@
 //! What is worked out of a query once, so that its evaluation looks nothing up.
 
 ghost use Rattle.std.specs.Prelude.{◌≡◌, ◌==◌, map, option_map, position, slice_index_or, IfOk};
-ghost use Rattle.grouping_model.specs.Datum.{Bigint_kind};
+ghost use Rattle.grouping_model.specs.Datum.{Null, Bigint_kind};
+ghost use Rattle.grouping_model.specs.Aggregates.{Plain};
 ghost use Rattle.packed_rows.specs.View.{kind_of, kinds_of};
+ghost use Rattle.agg_protocol.specs.Results.{outcome_of};
 ghost use Rattle.agg_library.specs.Kinds.{function_of};
 ghost use Rattle.having_filter.specs.Forms.{call_form, form_of, item_form};
 ghost use Rattle.having_filter.specs.Sameness.{form_eq};
 ghost use Rattle.having_filter.specs.Meaning.{place_in, source_of_form, group_condition};
+ghost use Rattle.having_filter.specs.Kept.{outcome_at};
 ghost use Rattle.having_filter.specs.Parts.{written_of_parts};
 ghost use Rattle.having_filter.specs.Plans.{PlansFor, source_of, by_sources};
 
@@ -16,6 +19,7 @@ use crate::mapping::{Mapping, mapped};
 use crate::parts::Parts;
 use crate::same::is_same_call;
 use agg_library::AggKind;
+use agg_protocol::ResultValue;
 use packed_rows::{Schema, ValueKind};
 use std::alloc::{AllocError, Global};
 
@@ -26,6 +30,30 @@ pub enum Source {
     Key(usize),
     /// An aggregate, by its place among the query's aggregates.
     Call(usize),
+}
+
+/// The value at a place, null beyond the last.
+fn value_at<'a>(values: &[ResultValue<'a>], place: usize) -> ResultValue<'a>
+    ensures { outcome_of result ≡ slice_index_or (map outcome_of values.now) place (Plain Null) }
+{
+    match values.get(place) {
+        Some(value) => *value,
+        None => ResultValue::Null,
+    }
+}
+
+impl Source {
+    /// The value that is found in a group, given the values of the columns of GROUP BY and the results of the aggregates; null
+    /// beyond the last of either.
+    pub fn value<'a>(self, key: &[ResultValue<'a>], results: &[ResultValue<'a>]) -> ResultValue<'a>
+        ensures { outcome_of result ≡
+            outcome_at (map outcome_of key.now) (map outcome_of results.now) (source_of self) }
+    {
+        match self {
+            Source::Key(place) => value_at(key, place),
+            Source::Call(place) => value_at(results, place),
+        }
+    }
 }
 
 /// What evaluation needs of a query.

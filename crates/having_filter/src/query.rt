@@ -1,6 +1,6 @@
 //! Queries that were checked.
 
-ghost use Rattle.std.specs.Prelude.{◌≡◌, ◌≢◌, ◌==◌, ◌<◌, ◌↔◌, true, false, OnOk, IsTrue, List, map, length, option_map, IfOk, IfErr, Ok, Err, Some, slice_get, string_bytes};
+ghost use Rattle.std.specs.Prelude.{◌≡◌, ◌≢◌, ◌==◌, ◌<◌, ◌↔◌, true, OnOk, IsTrue, List, map, length, option_map, IfOk, IfErr, Ok, Err, Some, slice_get, string_bytes};
 ghost use Rattle.grouping_model.specs.Query.{Aggregate};
 ghost use Rattle.grouping_model.specs.Condition.{is_met};
 ghost use Rattle.grouping_model.specs.Grouping.{column_of};
@@ -9,13 +9,12 @@ ghost use Rattle.packed_rows.specs.View.{row_of, kinds_of};
 ghost use Rattle.agg_protocol.specs.Results.{outcome_of};
 ghost use Rattle.agg_library.specs.Kinds.{function_of};
 ghost use Rattle.having_filter.specs.declared.error.QueryError.TheVariants.{NoMemory};
-ghost use Rattle.having_filter.specs.Forms.{form_of, call_form, places_of, written_of};
+ghost use Rattle.having_filter.specs.Forms.{form_of, call_form, items_of, places_of, written_of};
 ghost use Rattle.having_filter.specs.Meaning.{Checked, meaning, distinct_calls};
-ghost use Rattle.having_filter.specs.Reads.{filters_pass};
-ghost use Rattle.having_filter.specs.Checks.{all_of, has_too_many, is_shallow, are_shallow, has_columns, placed, checked, checked_places, kinds_fit};
+ghost use Rattle.having_filter.specs.Checks.{PassesFirst, placed, checked, checked_places, kinds_fit};
 ghost use Rattle.having_filter.specs.Spelling.{spelling};
 ghost use Rattle.having_filter.specs.Writable.{IsWritable};
-ghost use Rattle.having_filter.specs.Kept.{IsQuery, by_names, headers, key_kinds, outcome_at};
+ghost use Rattle.having_filter.specs.Kept.{IsQuery, by_names, headers, key_kinds, label_of, outcome_at};
 ghost use Rattle.having_filter.specs.Plans.{PlansFor, source_of};
 ghost use Rattle.having_filter.specs.Parts.{written_of_parts, checked_of};
 
@@ -23,8 +22,9 @@ use crate::condition::{AggCall, Cond, Item, RawQuery};
 use crate::error::QueryError;
 use crate::leaves::{GroupLeaves, RowLeaves, is_met};
 use crate::limits::text_within;
-use crate::parts::{Parts, copied_texts, labels_of};
+use crate::parts::Parts;
 use crate::plan::{Plan, Source};
+use crate::texts::{Texts, labels_of};
 use crate::whole::{are_plain, has_columns, is_grouped, is_shallow_query, kinds_fit_in};
 use agg_library::AggKind;
 use agg_protocol::ResultValue;
@@ -37,10 +37,8 @@ use std::marker::Model;
 pub struct Query {
     pub(crate) alloc: Global,
     pub(crate) schema: Schema,
-    pub(crate) schema_text: String,
+    pub(crate) texts: Texts,
     pub(crate) parts: Parts,
-    pub(crate) canonical: String,
-    pub(crate) labels: Vec<String>,
     pub(crate) plan: Plan,
 }
 
@@ -57,7 +55,7 @@ impl Model for Query {
     ghost view = { λ q. checked_of q.schema q.parts };
 
     ghost invariant = { λ q. IsKept (checked_of q.schema q.parts) q.plan
-        (string_bytes q.canonical) (map string_bytes q.labels.items) (string_bytes q.schema_text) };
+        (string_bytes q.texts.query) (map string_bytes q.texts.labels.items) (string_bytes q.texts.schema) };
 }
 
 /// Whether the parts of a query pass the checks over places: the first that they fail is told.
@@ -86,9 +84,7 @@ fn check_parts(schema: &Schema, parts: &Parts) -> Result<(), QueryError>
 #[tactic(auto, using(crate::proofs::CheckedLaws::gives_too_deep, crate::proofs::CheckedLaws::gives_no_column))]
 fn text_of_known(alloc: Global, schema: &Schema, raw: &RawQuery) -> Result<String, QueryError>
     ensures text { IfOk result (λ text. string_bytes text ≡ spelling (written_of raw.now)) }
-    ensures few { OnOk result (has_too_many (written_of raw.now) ≡ false) }
-    ensures shallow { OnOk result (all_of (filters_pass is_shallow) are_shallow (written_of raw.now) ≡ true) }
-    ensures columns { OnOk result (has_columns schema.now (written_of raw.now) ≡ true) }
+    ensures first { OnOk result (PassesFirst schema.now (written_of raw.now)) }
     ensures refused { IfErr result (λ e. e ≢ NoMemory →
         checked schema.now (written_of raw.now) ≡ Err e) }
 {
@@ -100,6 +96,40 @@ fn text_of_known(alloc: Global, schema: &Schema, raw: &RawQuery) -> Result<Strin
         return Err(QueryError::NoSuchColumn);
     }
     Ok(canonical)
+}
+
+/// The texts of a query that passes the first checks: the first of these that it fails is told.
+fn texts_of_known(alloc: Global, schema: &Schema, raw: &RawQuery) -> Result<Texts, QueryError>
+    ensures query { IfOk result (λ texts. string_bytes texts.query ≡ spelling (written_of raw.now)) }
+    ensures labels { IfOk result (λ texts. map string_bytes texts.labels.items
+        ≡ map label_of (items_of raw.now.items.items)) }
+    ensures schema { IfOk result (λ texts. string_bytes texts.schema ≡ printed schema.now) }
+    ensures first { OnOk result (PassesFirst schema.now (written_of raw.now)) }
+    ensures refused { IfErr result (λ e. e ≢ NoMemory →
+        checked schema.now (written_of raw.now) ≡ Err e) }
+{
+    let query = text_of_known(alloc, schema, raw)?;
+    let text = schema.print()?;
+    let labels = labels_of(alloc, &raw.items)?;
+    Ok(Texts {
+        query,
+        labels,
+        schema: text,
+    })
+}
+
+/// The plan of the parts of a query over places, if they pass the checks over places.
+fn checked_plan(alloc: Global, schema: &Schema, parts: &Parts) -> Result<Plan, QueryError>
+    ensures fit { OnOk result (kinds_fit (kinds schema.now) (written_of_parts parts.now) ≡ true) }
+    ensures passed { OnOk result (checked_places schema.now (written_of_parts parts.now)
+        ≡ Ok (checked_of schema.now parts.now)) }
+    ensures plans { IfOk result (PlansFor (checked_of schema.now parts.now)) }
+    ensures refused { IfErr result (λ e. e ≢ NoMemory →
+        checked_places schema.now (written_of_parts parts.now) ≡ Err e) }
+{
+    check_parts(schema, parts)?;
+    let plan = Plan::new(alloc, schema, parts)?;
+    Ok(plan)
 }
 
 /// The parts of a query over places, which all its columns have, with their plan, if they pass the checks over places.
@@ -119,9 +149,13 @@ fn placed_with_plan(
         checked_places schema.now (placed schema.now (written_of raw.now)) ≡ Err e) }
 {
     let parts = Parts::placed(alloc, schema, raw)?;
-    check_parts(schema, &parts)?;
-    let plan = Plan::new(alloc, schema, &parts)?;
-    Ok((parts, plan))
+    match checked_plan(alloc, schema, &parts) {
+        Ok(plan) => Ok((parts, plan)),
+        Err(error) => {
+            drop(parts);
+            Err(error)
+        }
+    }
 }
 
 /// A copy of the parts of a query over places, with their plan.
@@ -134,8 +168,13 @@ fn copied_with_plan(
     ensures plans { IfOk result (λ made. PlansFor (checked_of schema.now made.0) made.1) }
 {
     let parts = parts.try_clone(alloc)?;
-    let plan = Plan::new(alloc, schema, &parts)?;
-    Ok((parts, plan))
+    match Plan::new(alloc, schema, &parts) {
+        Ok(plan) => Ok((parts, plan)),
+        Err(error) => {
+            drop(parts);
+            Err(error)
+        }
+    }
 }
 
 impl Query {
@@ -155,18 +194,14 @@ impl Query {
         ensures refused { IfErr result (λ e. e ≢ NoMemory →
             checked schema.now (written_of raw.now) ≡ Err e) }
     {
-        let canonical = text_of_known(alloc, schema, raw)?;
-        let labels = labels_of(alloc, &raw.items)?;
-        let schema_text = schema.print()?;
+        let texts = texts_of_known(alloc, schema, raw)?;
         let columns = schema.try_clone()?;
         let (parts, plan) = placed_with_plan(alloc, schema, raw)?;
         Ok(Query {
             alloc,
             schema: columns,
-            schema_text,
+            texts,
             parts,
-            canonical,
-            labels,
             plan,
         })
     }
@@ -253,14 +288,14 @@ impl Query {
         requires { item < length self.now.written.items }
         ensures { slice_get (headers self.now) item ≡ Some result.now }
     {
-        self.labels[item].as_str()
+        self.texts.labels[item].as_str()
     }
 
     /// The query's canonical text, by the names of its schema. It is at most 16,384 bytes long.
     pub fn spelling(&self) -> &str
         ensures { result.now ≡ spelling (by_names self.now) }
     {
-        self.canonical.as_str()
+        self.texts.query.as_str()
     }
 
     /// Whether WHERE is true of a row, and not false or unknown. Where there is none, it is.
@@ -296,25 +331,21 @@ impl Query {
         ensures { IsTrue result ↔ ((printed self.now.columns ≡ printed other.now.columns)
             × (spelling (by_names self.now) ≡ spelling (by_names other.now))) }
     {
-        self.schema_text == other.schema_text && self.canonical == other.canonical
+        self.texts.schema == other.texts.schema && self.texts.query == other.texts.query
     }
 
     /// The same query again.
     pub fn try_clone(&self) -> Result<Query, AllocError>
         ensures { IfOk result (λ query. query ≡ self.now) }
     {
-        let canonical = String::from_str(self.alloc, self.canonical.as_str())?;
-        let labels = copied_texts(self.alloc, &self.labels)?;
+        let texts = self.texts.try_clone(self.alloc)?;
         let schema = self.schema.try_clone()?;
-        let schema_text = schema.print()?;
         let (parts, plan) = copied_with_plan(self.alloc, &schema, &self.parts)?;
         Ok(Query {
             alloc: self.alloc,
             schema,
-            schema_text,
+            texts,
             parts,
-            canonical,
-            labels,
             plan,
         })
     }

@@ -140,6 +140,22 @@ fn push_operand(text: &mut String, asked: u64, condition: &Cond<String>) -> Resu
     text.push_str(")")
 }
 
+/// Appends an operator and the operand behind it.
+#[cycle(push)]
+fn push_behind(
+    text: &mut String,
+    operator: &str,
+    asked: u64,
+    condition: &Cond<String>,
+) -> Result<(), AllocError>
+    ensures { OnOk result (string_bytes text.new ≡ string_bytes text.old ++ operator.now
+        ++ operand asked (names_of (form_of condition.now))
+        (spelled (names_of (form_of condition.now)))) }
+{
+    text.push_str(operator)?;
+    push_operand(text, asked, condition)
+}
+
 /// Appends a condition.
 #[cycle(push)]
 fn push_condition(text: &mut String, condition: &Cond<String>) -> Result<(), AllocError>
@@ -154,24 +170,18 @@ fn push_condition(text: &mut String, condition: &Cond<String>) -> Result<(), All
         Cond::Boolean(true) => text.push_str("TRUE"),
         Cond::Boolean(false) => text.push_str("FALSE"),
         Cond::Null => text.push_str("NULL"),
-        Cond::Not(c) => {
-            text.push_str("NOT ")?;
-            push_operand(text, 3, c)
-        }
+        Cond::Not(c) => push_behind(text, "NOT ", 3, c),
         Cond::Or(c, d) => {
             push_operand(text, 1, c)?;
-            text.push_str(" OR ")?;
-            push_operand(text, 2, d)
+            push_behind(text, " OR ", 2, d)
         }
         Cond::And(c, d) => {
             push_operand(text, 2, c)?;
-            text.push_str(" AND ")?;
-            push_operand(text, 3, d)
+            push_behind(text, " AND ", 3, d)
         }
         Cond::Compare(comparison, c, d) => {
             push_operand(text, 6, c)?;
-            text.push_str(comparison_text(*comparison))?;
-            push_operand(text, 6, d)
+            push_behind(text, comparison_text(*comparison), 6, d)
         }
         Cond::Is {
             test,

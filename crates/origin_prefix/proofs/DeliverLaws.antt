@@ -8,6 +8,7 @@ use Rattle.std.specs.List.Sorted.{IsStrictlySortedBy}
 use Rattle.std.specs.Ordering.{nat_cmp}
 use Rattle.std.specs.declared.cmp.Ordering.TheVariants.{Less}
 use Rattle.std.specs.BTreeMap.{insert_entry}
+use Rattle.std.proofs.lemmas.Result.{IfOk-weaker, IfErr-weaker}
 use Rattle.grouping_model.specs.Datum.{Kind}
 use Rattle.grouping_model.specs.Query.{Query}
 use Rattle.grouping_model.specs.declared.limits.TheConstants.{LAST_NUMBER}
@@ -95,25 +96,17 @@ next_open query part rows is within are =
 
 -- ---- results
 
-if_ok_to : {T E : Type 0} (r : Result T E) (P Q : T → Type 0) → ((x : T) → P x → Q x) → IfOk r P → IfOk r Q
-if_ok_to (Ok x) P Q f p = f x p
-if_ok_to (Err e) P Q f p = tt
-
-if_err_to : {T E : Type 0} (r : Result T E) (P Q : E → Type 0) → ((e : E) → P e → Q e) → IfErr r P → IfErr r Q
-if_err_to (Ok x) P Q f p = tt
-if_err_to (Err e) P Q f p = f e p
-
 -- the reply to a number that is kept early
 pub reply_early : {E : Type 0} (q : Query) (part : Part) (number : ℕ) (rows kept : List (List ℕ)) (r : Result Delivered E) → rows_at part.early number ≡ Some kept
     → IfOk r (λ reply. (reply ≡ Known) × (kept ≡ rows)) → IfOk r (Delivers q part number rows part)
 reply_early q part number rows kept r there known =
-    if_ok_to r (λ reply. (reply ≡ Known) × (kept ≡ rows)) (Delivers q part number rows part)
+    IfOk-weaker r (λ reply. (reply ≡ Known) × (kept ≡ rows)) (Delivers q part number rows part)
     (λ reply e. subst (Delivers q part number rows part) (sym e.0) (known_early q part number rows kept there e.1)) known
 
 pub refused_early : (part : Part) (number : ℕ) (batch : Batch) (kept : List (List ℕ)) (r : Result Delivered RefusedBatch) → rows_at part.early number ≡ Some kept
     → IfErr r (λ e. (e.batch ≡ batch) × (e.why ≡ OriginDisagrees) × (kept ≢ batch.rows)) → IfErr r (λ e. e.why ≡ OriginDisagrees → Disagrees part number batch.rows)
 refused_early part number batch kept r there other =
-    if_err_to r (λ e. (e.batch ≡ batch) × (e.why ≡ OriginDisagrees) × (kept ≢ batch.rows)) (λ e. e.why ≡ OriginDisagrees → Disagrees part number batch.rows)
+    IfErr-weaker r (λ e. (e.batch ≡ batch) × (e.why ≡ OriginDisagrees) × (kept ≢ batch.rows)) (λ e. e.why ≡ OriginDisagrees → Disagrees part number batch.rows)
     (λ e is why. record { kept = kept; there = there; other = is.2 }) other
 
 -- a number behind the prefix that isn't early is not known

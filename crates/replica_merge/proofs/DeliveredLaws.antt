@@ -10,6 +10,7 @@ use Rattle.std.specs.Map.{set_value, remove_entry}
 use Rattle.std.specs.BTreeMap.{BTreeMap, insert_entry, is_at, WritesThrough}
 use Rattle.std.specs.Ordering.{eq_by_cmp, nat_cmp, is_eq, match_ordering}
 use Rattle.std.specs.declared.cmp.Ordering.TheVariants.{Less, Equal, Greater}
+use Rattle.std.proofs.lemmas.Result.{IfOk-weaker, IfErr-weaker}
 use Rattle.grouping_model.specs.declared.limits.TheConstants.{LAST_ORIGIN}
 use Rattle.grouping_model.specs.Datum.{Row}
 use Rattle.grouping_model.specs.declared.delivered.Delivered.{Delivered}
@@ -277,18 +278,6 @@ never_disagrees query old o n rows d world those fits there same =
 
 -- ---- results
 
-if_ok_to : {T E : Type 0} (r : Result T E) (P Q : T → Type 0) → ((x : T) → P x → Q x) → IfOk r P → IfOk r Q
-if_ok_to (Ok x) P Q f p = f x p
-if_ok_to (Err e) P Q f p = tt
-
-if_err_to : {T E : Type 0} (r : Result T E) (P Q : E → Type 0) → ((e : E) → P e → Q e) → IfErr r P → IfErr r Q
-if_err_to (Ok x) P Q f p = tt
-if_err_to (Err e) P Q f p = f e p
-
-on_ok_to : {T E : Type 0} (r : Result T E) (P : T → Type 0) (Q : Type 0) → ((x : T) → P x → Q) → IfOk r P → OnOk r Q
-on_ok_to (Ok x) P Q f p = f x p
-on_ok_to (Err e) P Q f p = tt
-
 module _ (r : Result Delivered RefusedBatch) (query : Checked) (old new : Parts) (batch : Batch) (held : AreHeldParts query old) (limits : InLimits (batch.origin, batch.number))
     (done : DeliveredTo query old batch new r) where
   takes : IfOk r (DeliversAt query old batch.origin batch.number batch.rows new)
@@ -313,33 +302,33 @@ module _ (r : Result Delivered RefusedBatch) (query : Checked) (old new : Parts)
       go (Err e) d = subst (AreHeldParts query) (sym d.same) held
 
   pub reply_told : IfOk r (λ reply. reply ≡ reply_of (told old) (batch.origin, batch.number))
-  reply_told = if_ok_to r (DeliversAt query old batch.origin batch.number batch.rows new) _ (λ reply d. delivered_reply query old new batch.origin batch.number batch.rows reply held limits d) takes
+  reply_told = IfOk-weaker r (DeliversAt query old batch.origin batch.number batch.rows new) _ (λ reply d. delivered_reply query old new batch.origin batch.number batch.rows reply held limits d) takes
 
   pub more_told : OnOk r (told new ≡ learn (told old) (batch.origin, batch.number))
-  more_told = on_ok_to r (DeliversAt query old batch.origin batch.number batch.rows new) _ (λ reply d. delivered_told query old new batch.origin batch.number batch.rows reply held limits d) takes
+  more_told = IfOk-weaker r (DeliversAt query old batch.origin batch.number batch.rows new) _ (λ reply d. delivered_told query old new batch.origin batch.number batch.rows reply held limits d) takes
 
   pub still_fits : OnOk r ((world : World) (those : List Row) → IsWorld (kinds query.columns) world → Fits world (record { query = query; parts = old }) → world batch.origin batch.number ≡ Some those
       → batch.rows ≡ packings those → Fits world (record { query = query; parts = new }))
   still_fits =
-      on_ok_to r (DeliversAt query old batch.origin batch.number batch.rows new) _
+      IfOk-weaker r (DeliversAt query old batch.origin batch.number batch.rows new) _
       (λ reply d world those is fits there same. delivered_fits query old new batch.origin batch.number batch.rows reply held d world those is fits there same) takes
 
   pub handed_back : IfErr r (λ e. (e.batch ≡ batch) × ◌≡◌ {A = Held} (record { query = query; parts = new }) (record { query = query; parts = old }))
-  handed_back = if_err_to r (RefusesAt old batch new) _ (λ e d. (d.back, λ i. record { query = query; parts = d.same i })) refuses
+  handed_back = IfErr-weaker r (RefusesAt old batch new) _ (λ e d. (d.back, λ i. record { query = query; parts = d.same i })) refuses
 
   pub disagreed : IfErr r (λ e. e.why ≡ OriginDisagrees → Disagrees (part_of old batch.origin) batch.number batch.rows)
-  disagreed = if_err_to r (RefusesAt old batch new) _ (λ e d. d.other) refuses
+  disagreed = IfErr-weaker r (RefusesAt old batch new) _ (λ e d. d.other) refuses
 
   pub agreed_else : IfOk r (λ _. ¬ (Disagrees (part_of old batch.origin) batch.number batch.rows))
   agreed_else =
-      if_ok_to r (DeliversAt query old batch.origin batch.number batch.rows new) _
+      IfOk-weaker r (DeliversAt query old batch.origin batch.number batch.rows new) _
       (λ reply d. taken_agrees query (part_of old batch.origin) d.part batch.number batch.rows reply (part_is query old held batch.origin) d.delivers) takes
 
   pub memory_wanting : IfErr r (λ e. e.why ≡ NoMemory → knows (told old) (batch.origin, batch.number) ≡ false)
-  memory_wanting = if_err_to r (RefusesAt old batch new) _ (λ e d why. known_at old held.rising batch.origin batch.number limits.1 ∙ d.memory why) refuses
+  memory_wanting = IfErr-weaker r (RefusesAt old batch new) _ (λ e d why. known_at old held.rising batch.origin batch.number limits.1 ∙ d.memory why) refuses
 
   pub world_agrees : IfErr r (λ e. e.why ≡ OriginDisagrees → (world : World) (those : List Row) → Fits world (record { query = query; parts = old }) → world batch.origin batch.number ≡ Some those
       → batch.rows ≢ packings those)
   world_agrees =
-      if_err_to r (RefusesAt old batch new) _
+      IfErr-weaker r (RefusesAt old batch new) _
       (λ e d why world those fits there. never_disagrees query old batch.origin batch.number batch.rows (d.other why) world those fits there) refuses

@@ -1,7 +1,7 @@
 //! The rows of an answer, from the groups of a run.
 
-ghost use Rattle.std.specs.Prelude.{◌≡◌, ◌≤◌, ◌++◌, ℕ, List, [], map, flat_map, length, slice_index_or, IfOk, OnOk};
-ghost use Rattle.grouping_model.specs.Datum.{Null, Row, HasKinds};
+ghost use Rattle.std.specs.Prelude.{◌≡◌, ◌≤◌, ◌++◌, ℕ, List, [], map, flat_map, length, IfOk, OnOk};
+ghost use Rattle.grouping_model.specs.Datum.{Row, HasKinds};
 ghost use Rattle.grouping_model.specs.Aggregates.{Partial, Plain, outcome};
 ghost use Rattle.grouping_model.specs.Grouping.{Group};
 ghost use Rattle.packed_rows.specs.Packing.{packing};
@@ -68,31 +68,6 @@ fn finish_states(
     Ok(values)
 }
 
-/// The value at a place, and null beyond the last.
-fn value_in<'a>(values: &[ResultValue<'a>], place: usize) -> ResultValue<'a>
-    ensures { outcome_of result ≡ slice_index_or (map outcome_of values.now) place (Plain Null) }
-{
-    match values.get(place) {
-        Some(value) => *value,
-        None => ResultValue::Null,
-    }
-}
-
-/// The value of a key or of an aggregate in a group.
-fn value_of<'a>(
-    source: Source,
-    key: &[ResultValue<'a>],
-    results: &[ResultValue<'a>],
-) -> ResultValue<'a>
-    ensures { outcome_of result ≡
-        outcome_at (map outcome_of key.now) (map outcome_of results.now) (source_of source) }
-{
-    match source {
-        Source::Key(place) => value_in(key, place),
-        Source::Call(place) => value_in(results, place),
-    }
-}
-
 /// The items of a group.
 fn items_of<'a>(
     alloc: Global,
@@ -106,7 +81,7 @@ fn items_of<'a>(
 {
     let mut items = Vec::with_capacity(alloc, sources.len())?;
     for source in sources {
-        items.push(value_of(*source, key, results))?;
+        items.push(source.value(key, results))?;
     }
     Ok(items)
 }

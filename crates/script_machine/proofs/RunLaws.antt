@@ -17,7 +17,7 @@ use Rattle.script_commands.specs.Commands.{Command, request_of}
 use Rattle.script_machine.specs.Machine.{State, Reply, Refused, Run, StrictRun, MayReply, IsReply, Agrees, AgreesAt, start, after, is_refused}
 use Rattle.script_machine.specs.Text.{reply_text, replies_text}
 use Rattle.script_machine.specs.Output.{WritesAll, WritesFront, WritesBefore, WritesSome, StopsAt, commands_in, run_error}
-use Rattle.script_machine.specs.Views.{Store, Represents, FitsWorld, Steps, said_text, is_refusal}
+use Rattle.script_machine.specs.Views.{Store, empty, Represents, FitsWorld, Steps, said_text, is_refusal}
 use Rattle.script_machine.specs.declared.refusal.Refusal.TheVariants.{NoMemory}
 use Rattle.script_machine.specs.declared.error.RunError.{RunError}
 use Rattle.script_machine.specs.declared.error.RunError.TheVariants as stop
@@ -108,9 +108,6 @@ pub record Ran (commands : List Command) (old new : Option (List ℕ)) (refused 
   pub strict : (world : World) → Agrees world start before replies → StrictRun start before replies
   pub fits : (world : World) → Agrees world start before replies → FitsWorld world store
   pub writes : (world : World) → Agrees world start before replies → Appends old new (replies_text world replies)
-
-abbrev pub empty : Store
-empty = record { columns = None; query = None; replicas = []; saved = [] }
 
 pub ran_start : (commands : List Command) (known : Option (List ℕ)) (store : Store) → store ≡ empty → Ran commands known known 0 commands store
 ran_start commands known store is =

@@ -45,6 +45,10 @@ pub record Store : Type 0 where
   pub replicas : List (Vec ℕ Global × Held)
   pub saved : List (Vec ℕ Global × Vec ℕ Global)
 
+-- nothing is there
+abbrev pub empty : Store
+empty = record { columns = None; query = None; replicas = []; saved = [] }
+
 -- the replica of a name
 abbrev pub replica_at : Store → List ℕ → Option Held
 replica_at store name = lookup (λ (key : Vec ℕ Global). bytes_eq name key.items) store.replicas

@@ -2,6 +2,8 @@
 
 ghost use Rattle.std.specs.Prelude.{◌≡◌, ◌≤◌, ◌+◌, length, IfErr, IfOk, MatchResult};
 ghost use Rattle.script_io.specs.Input.{ConsumesAtMost};
+ghost use Rattle.script_commands.specs.Commands.{commands_of};
+ghost use Rattle.script_machine.specs.Views.{empty};
 ghost use Rattle.script_machine.specs.Output.{AnswersAll, AnswersSome, KeepsUnread, WritesAll, WritesSome, commands_in};
 
 use crate::error::RunError;
@@ -52,6 +54,33 @@ fn tell<O: Observer>(observer: &mut O, command: &Command, reply: &Reply<'_>) {
     }
 }
 
+/// Answers the commands that are left, one after the other, where nothing is there.
+fn answer_all<W: Write, O: Observer>(
+    records: &mut Records<'_>,
+    session: &mut Session,
+    writer: &mut W,
+    observer: &mut O,
+) -> Result<Outcome, RunError>
+    requires few { length records.old ≤ LONGEST_SCRIPT + 1 }
+    requires none { session.old ≡ empty }
+    ensures { MatchResult result
+        (λ outcome. WritesAll (commands_of records.old) (W.contents writer.old)
+        (W.contents writer.new) outcome.refused)
+        (λ e. WritesSome (commands_of records.old) (W.contents writer.old)
+        (W.contents writer.new) e) }
+{
+    let mut refused = 0;
+    while let Some(command) = next_command(records)? {
+        let reply = session.execute(&command);
+        if reply.is_refused() {
+            refused += 1;
+        }
+        tell(observer, &command, &reply);
+        put_reply(writer, &reply)?;
+    }
+    Ok(Outcome { refused })
+}
+
 /// Answers the commands of a script, one after the other.
 fn run_script<W: Write, O: Observer>(
     alloc: Global,
@@ -68,16 +97,9 @@ fn run_script<W: Write, O: Observer>(
 {
     let mut records = Records::new(alloc, script);
     let mut session = Session::new(alloc);
-    let mut refused = 0;
-    while let Some(command) = next_command(&mut records)? {
-        let reply = session.execute(&command);
-        if reply.is_refused() {
-            refused += 1;
-        }
-        tell(observer, &command, &reply);
-        put_reply(writer, &reply)?;
-    }
-    Ok(Outcome { refused })
+    let outcome = answer_all(&mut records, &mut session, writer, observer);
+    drop(session);
+    outcome
 }
 
 /// Runs the script that a reader has left, and writes the replies to its commands.

@@ -1,6 +1,8 @@
 //! What is there while a script runs, and how its commands are answered.
 
-ghost use Rattle.std.specs.Prelude.{◌≡◌, ◌≢◌, List, map, None, [], IfOk, IfErr, OnErr, length, string_bytes};
+ghost use Rattle.std.specs.Prelude.{◌≡◌, ◌≢◌, List, map, Some, None, [], IfOk, IfErr, OnOk, OnErr, length, string_bytes};
+ghost use Rattle.std.specs.HashMap.{UpdatesBy};
+ghost use Rattle.std.specs.Str.{bytes_eq};
 ghost use Rattle.csv.specs.Records.{fields_of};
 ghost use Rattle.grouping_model.specs.Answer.{answer};
 ghost use Rattle.grouping_model.specs.World.{World, IsWorld};
@@ -19,7 +21,7 @@ ghost use Rattle.packed_rows.specs.Columns.{kinds};
 ghost use Rattle.script_commands.specs.Commands as ask;
 ghost use Rattle.script_commands.specs.Commands.{request_of};
 ghost use Rattle.script_machine.specs.Machine.{IsNoBatch, IsNoQuery};
-ghost use Rattle.script_machine.specs.Views.{Store, IsStore, Steps, Takes, IsOtherBatch, JoinsNames};
+ghost use Rattle.script_machine.specs.Views.{Store, IsStore, empty, Steps, Takes, IsOtherBatch, JoinsNames};
 ghost use Rattle.script_machine.specs.declared.refusal.Refusal.TheVariants.{NoMemory, OriginDisagrees};
 
 use crate::refusal::Refusal;
@@ -186,10 +188,23 @@ fn replica_of_file(
     }
 }
 
+/// Keeps a value under its name, in place of any that had it. Where memory is wanting, nothing is changed.
+fn keep<V: Drop>(kept: &mut IndexMap<Vec<u8>, V>, named: (Vec<u8>, V)) -> Result<(), AllocError>
+    ensures put { OnOk result (UpdatesBy (λ x y. bytes_eq x.items y.items)
+        (λ name. bytes_eq named.0.items name.items) kept.old kept.new (Some named.1)) }
+    ensures refused { OnErr result (kept.new.entries ≡ kept.old.entries) }
+{
+    let (name, value) = named;
+    match kept.insert(name, value) {
+        Ok(_) => Ok(()),
+        Err(_) => Err(AllocError),
+    }
+}
+
 impl Session {
     /// Nothing is there.
     pub(crate) fn new(alloc: Global) -> Session
-        ensures { result ≡ record { columns = None; query = None; replicas = []; saved = [] } }
+        ensures { result ≡ empty }
     {
         Session {
             alloc,
@@ -251,11 +266,10 @@ impl Session {
         let Ok(made) = new_replica(self.alloc, name, query) else {
             return Reply::Refused(Refusal::NoMemory);
         };
-        let (key, replica) = made;
-        match self.replicas.insert(key, replica) {
-            Ok(_) => Reply::Created(name),
-            Err(_) => Reply::Refused(Refusal::NoMemory),
-        }
+        let Ok(()) = keep(&mut self.replicas, made) else {
+            return Reply::Refused(Refusal::NoMemory);
+        };
+        Reply::Created(name)
     }
 
     /// Answers `feed`.
@@ -353,12 +367,11 @@ impl Session {
         let Ok(made) = file_of_replica(self.alloc, replica, saved) else {
             return Reply::Refused(Refusal::NoMemory);
         };
-        let (key, file) = made;
-        let length = file.len();
-        match self.saved.insert(key, file) {
-            Ok(_) => Reply::Saved(length),
-            Err(_) => Reply::Refused(Refusal::NoMemory),
-        }
+        let length = made.1.len();
+        let Ok(()) = keep(&mut self.saved, made) else {
+            return Reply::Refused(Refusal::NoMemory);
+        };
+        Reply::Saved(length)
     }
 
     /// Answers `load`.
@@ -372,11 +385,10 @@ impl Session {
         let Ok(made) = replica_of_file(self.alloc, name, file) else {
             return Reply::Refused(Refusal::NoMemory);
         };
-        let (key, replica) = made;
-        match self.replicas.insert(key, replica) {
-            Ok(_) => Reply::Loaded,
-            Err(_) => Reply::Refused(Refusal::NoMemory),
-        }
+        let Ok(()) = keep(&mut self.replicas, made) else {
+            return Reply::Refused(Refusal::NoMemory);
+        };
+        Reply::Loaded
     }
 
     /// Answers a command.

@@ -7,7 +7,7 @@ use Rattle.having_filter.proofs.query.Query.header.Goals as goal
 
 pub returns : goal.returns
 returns c =
-    let labels = c.self.inside.labels.items in
+    let labels = c.self.inside.texts.labels.items in
     let item = c.args.item in
     let labelled : map string_bytes labels ≡ headers c.args.self.now = c.self.invariant.labelled ∙ ap headers c.self.view_is in
     let long : length c.args.self.now.written.items ≡ length labels = sym (sym (length-map labels string_bytes) ∙ ap length labelled ∙ length-map _ _ ∙ length-map _ _) in

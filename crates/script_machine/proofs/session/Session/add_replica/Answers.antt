@@ -26,34 +26,34 @@ returns-then-contains_key c = λ owned.
 pub returns-in_default-new_replica : goal.returns-in_default-new_replica
 returns-in_default-new_replica c = λ owned. out_of_memory (ask.Replica c.args.name.now) owned c.args.self.now
 
-pub invariant_of-self : goal.invariant_of-self
-invariant_of-self c =
+pub invariant_of-self-2 : goal.invariant_of-self-2
+invariant_of-self-2 c =
     let held : Held = record { query = c.in-Some.query; parts = [] } in
     let same_key : c.in-Ok.made.0.items ≡ c.args.name.now = c.in-Ok.ensures.0 in
     let cloned : c.in-Ok.made.1 ≡ held = c.in-Ok.ensures.1 in
-    let u : UpdatesBy (λ (x y : Vec ℕ Global). bytes_eq x.items y.items) (λ (k : Vec ℕ Global). bytes_eq c.args.name.now k.items) c.self.inside.replicas c.insert.new.self (Some held) =
-    subst (λ h. UpdatesBy (λ (x y : Vec ℕ Global). bytes_eq x.items y.items) (λ (k : Vec ℕ Global). bytes_eq c.args.name.now k.items) c.self.inside.replicas c.insert.new.self (Some h)) cloned
-    (subst (λ q. UpdatesBy (λ (x y : Vec ℕ Global). bytes_eq x.items y.items) (λ (k : Vec ℕ Global). bytes_eq q k.items) c.self.inside.replicas c.insert.new.self (Some c.in-Ok.made.1)) same_key c.in-Ok-insert.ensures.updates) in
+    let u : UpdatesBy (λ (x y : Vec ℕ Global). bytes_eq x.items y.items) (λ (k : Vec ℕ Global). bytes_eq c.args.name.now k.items) c.self.inside.replicas c.keep.new.kept (Some held) =
+    subst (λ h. UpdatesBy (λ (x y : Vec ℕ Global). bytes_eq x.items y.items) (λ (k : Vec ℕ Global). bytes_eq c.args.name.now k.items) c.self.inside.replicas c.keep.new.kept (Some h)) cloned
+    (subst (λ q. UpdatesBy (λ (x y : Vec ℕ Global). bytes_eq x.items y.items) (λ (k : Vec ℕ Global). bytes_eq q k.items) c.self.inside.replicas c.keep.new.kept (Some c.in-Ok.made.1)) same_key c.in-Ok-keep.ensures.put) in
     store_updated (record { columns = c.self.inside.columns; query = c.self.inside.query; replicas = c.self.inside.replicas.entries; saved = c.self.inside.saved.entries }) _ c.args.name.now held
-    (updated c.self.inside.columns c.self.inside.query c.self.inside.saved.entries c.args.name.now held c.self.inside.replicas c.insert.new.self u) c.in-Some.is c.self.invariant
-
-pub returns-in-Ok-insert : goal.returns-in-Ok-insert
-returns-in-Ok-insert c = λ owned.
-    let held : Held = record { query = c.in-Some.query; parts = [] } in
-    let old : Store = record { columns = c.self.inside.columns; query = c.self.inside.query; replicas = c.self.inside.replicas.entries; saved = c.self.inside.saved.entries } in
-    let new : Store = record { columns = c.self.inside.columns; query = c.self.inside.query; replicas = c.insert.new.self.entries; saved = c.self.inside.saved.entries } in
-    let same_key : c.in-Ok.made.0.items ≡ c.args.name.now = c.in-Ok.ensures.0 in
-    let cloned : c.in-Ok.made.1 ≡ held = c.in-Ok.ensures.1 in
-    let u : UpdatesBy (λ (x y : Vec ℕ Global). bytes_eq x.items y.items) (λ (k : Vec ℕ Global). bytes_eq c.args.name.now k.items) c.self.inside.replicas c.insert.new.self (Some held) =
-    subst (λ h. UpdatesBy (λ (x y : Vec ℕ Global). bytes_eq x.items y.items) (λ (k : Vec ℕ Global). bytes_eq c.args.name.now k.items) c.self.inside.replicas c.insert.new.self (Some h)) cloned
-    (subst (λ q. UpdatesBy (λ (x y : Vec ℕ Global). bytes_eq x.items y.items) (λ (k : Vec ℕ Global). bytes_eq q k.items) c.self.inside.replicas c.insert.new.self (Some c.in-Ok.made.1)) same_key c.in-Ok-insert.ensures.updates) in
-    subst (λ s. Steps (ask.Replica c.args.name.now) owned s (says.Created c.args.name) new) c.self.view_is
-    (replica_made old new c.args.name owned c.in-Some.query c.in-Some.is (sym c.contains_key.ensures ∙ c.if-contains_key.false)
-    (updated c.self.inside.columns c.self.inside.query c.self.inside.saved.entries c.args.name.now held c.self.inside.replicas c.insert.new.self u))
+    (updated c.self.inside.columns c.self.inside.query c.self.inside.saved.entries c.args.name.now held c.self.inside.replicas c.keep.new.kept u) c.in-Some.is c.self.invariant
 
 pub returns : goal.returns
 returns c = λ owned.
-    let new : Store = record { columns = c.self.inside.columns; query = c.self.inside.query; replicas = c.insert.new.self.entries; saved = c.self.inside.saved.entries } in
+    let held : Held = record { query = c.in-Some.query; parts = [] } in
+    let old : Store = record { columns = c.self.inside.columns; query = c.self.inside.query; replicas = c.self.inside.replicas.entries; saved = c.self.inside.saved.entries } in
+    let new : Store = record { columns = c.self.inside.columns; query = c.self.inside.query; replicas = c.keep.new.kept.entries; saved = c.self.inside.saved.entries } in
+    let same_key : c.in-Ok.made.0.items ≡ c.args.name.now = c.in-Ok.ensures.0 in
+    let cloned : c.in-Ok.made.1 ≡ held = c.in-Ok.ensures.1 in
+    let u : UpdatesBy (λ (x y : Vec ℕ Global). bytes_eq x.items y.items) (λ (k : Vec ℕ Global). bytes_eq c.args.name.now k.items) c.self.inside.replicas c.keep.new.kept (Some held) =
+    subst (λ h. UpdatesBy (λ (x y : Vec ℕ Global). bytes_eq x.items y.items) (λ (k : Vec ℕ Global). bytes_eq c.args.name.now k.items) c.self.inside.replicas c.keep.new.kept (Some h)) cloned
+    (subst (λ q. UpdatesBy (λ (x y : Vec ℕ Global). bytes_eq x.items y.items) (λ (k : Vec ℕ Global). bytes_eq q k.items) c.self.inside.replicas c.keep.new.kept (Some c.in-Ok.made.1)) same_key c.in-Ok-keep.ensures.put) in
+    subst (λ s. Steps (ask.Replica c.args.name.now) owned s (says.Created c.args.name) new) c.self.view_is
+    (replica_made old new c.args.name owned c.in-Some.query c.in-Some.is (sym c.contains_key.ensures ∙ c.if-contains_key.false)
+    (updated c.self.inside.columns c.self.inside.query c.self.inside.saved.entries c.args.name.now held c.self.inside.replicas c.keep.new.kept u))
+
+pub returns-in_default-keep : goal.returns-in_default-keep
+returns-in_default-keep c = λ owned.
+    let new : Store = record { columns = c.self.inside.columns; query = c.self.inside.query; replicas = c.keep.new.kept.entries; saved = c.self.inside.saved.entries } in
     subst (λ s. Steps (ask.Replica c.args.name.now) owned s (says.Refused why.NoMemory) new) c.self.view_is
     (no_memory_same (ask.Replica c.args.name.now) owned _ new
-    (same_entries c.self.inside.columns c.self.inside.query c.self.inside.saved.entries c.self.inside.replicas.entries c.insert.new.self.entries c.in-Err.ensures.err))
+    (same_entries c.self.inside.columns c.self.inside.query c.self.inside.saved.entries c.self.inside.replicas.entries c.keep.new.kept.entries c.in_default-keep.ensures.refused))

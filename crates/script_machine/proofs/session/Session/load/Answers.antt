@@ -21,30 +21,30 @@ returns-in_default c = λ owned.
 pub returns-in_default-replica_of_file : goal.returns-in_default-replica_of_file
 returns-in_default-replica_of_file c = λ owned. out_of_memory (ask.Load c.args.name.now c.args.saved.now) owned c.args.self.now
 
-pub invariant_of-self : goal.invariant_of-self
-invariant_of-self c =
+pub invariant_of-self-2 : goal.invariant_of-self-2
+invariant_of-self-2 c =
     let old : Store = record { columns = c.self.inside.columns; query = c.self.inside.query; replicas = c.self.inside.replicas.entries; saved = c.self.inside.saved.entries } in
     let held : Held = c.in-Ok.made.1 in
-    let u : UpdatesBy (λ (x y : Vec ℕ Global). bytes_eq x.items y.items) (λ (k : Vec ℕ Global). bytes_eq c.args.name.now k.items) c.self.inside.replicas c.insert.new.self (Some held) =
-    subst (λ q. UpdatesBy (λ (x y : Vec ℕ Global). bytes_eq x.items y.items) (λ (k : Vec ℕ Global). bytes_eq q k.items) c.self.inside.replicas c.insert.new.self (Some held)) c.in-Ok.ensures.name c.in-Ok-insert.ensures.updates in
+    let u : UpdatesBy (λ (x y : Vec ℕ Global). bytes_eq x.items y.items) (λ (k : Vec ℕ Global). bytes_eq c.args.name.now k.items) c.self.inside.replicas c.keep.new.kept (Some held) =
+    subst (λ q. UpdatesBy (λ (x y : Vec ℕ Global). bytes_eq x.items y.items) (λ (k : Vec ℕ Global). bytes_eq q k.items) c.self.inside.replicas c.keep.new.kept (Some held)) c.in-Ok.ensures.name c.in-Ok-keep.ensures.put in
     store_updated old _ c.args.name.now held
-    (updated c.self.inside.columns c.self.inside.query c.self.inside.saved.entries c.args.name.now held c.self.inside.replicas c.insert.new.self u)
+    (updated c.self.inside.columns c.self.inside.query c.self.inside.saved.entries c.args.name.now held c.self.inside.replicas c.keep.new.kept u)
     (loaded_asks old c.args.saved.now c.in-Some.file.now held c.self.invariant (sym c.in-Some.ensures.value) (λ h is. c.in-Ok.ensures.saved h (subst (λ b. IsSummary b h.query h.parts) (sym c.deref.ensures.value) is))) c.self.invariant
-
-pub returns-in-Ok-insert : goal.returns-in-Ok-insert
-returns-in-Ok-insert c = λ owned.
-    let old : Store = record { columns = c.self.inside.columns; query = c.self.inside.query; replicas = c.self.inside.replicas.entries; saved = c.self.inside.saved.entries } in
-    let new : Store = record { columns = c.self.inside.columns; query = c.self.inside.query; replicas = c.insert.new.self.entries; saved = c.self.inside.saved.entries } in
-    let held : Held = c.in-Ok.made.1 in
-    let u : UpdatesBy (λ (x y : Vec ℕ Global). bytes_eq x.items y.items) (λ (k : Vec ℕ Global). bytes_eq c.args.name.now k.items) c.self.inside.replicas c.insert.new.self (Some held) =
-    subst (λ q. UpdatesBy (λ (x y : Vec ℕ Global). bytes_eq x.items y.items) (λ (k : Vec ℕ Global). bytes_eq q k.items) c.self.inside.replicas c.insert.new.self (Some held)) c.in-Ok.ensures.name c.in-Ok-insert.ensures.updates in
-    subst (λ s. Steps (ask.Load c.args.name.now c.args.saved.now) owned s says.Loaded new) c.self.view_is
-    (loaded old new c.args.name.now c.args.saved.now owned c.in-Some.file.now held (sym c.in-Some.ensures.value) (λ h is. c.in-Ok.ensures.saved h (subst (λ b. IsSummary b h.query h.parts) (sym c.deref.ensures.value) is))
-    (updated c.self.inside.columns c.self.inside.query c.self.inside.saved.entries c.args.name.now held c.self.inside.replicas c.insert.new.self u))
 
 pub returns : goal.returns
 returns c = λ owned.
-    let new : Store = record { columns = c.self.inside.columns; query = c.self.inside.query; replicas = c.insert.new.self.entries; saved = c.self.inside.saved.entries } in
+    let old : Store = record { columns = c.self.inside.columns; query = c.self.inside.query; replicas = c.self.inside.replicas.entries; saved = c.self.inside.saved.entries } in
+    let new : Store = record { columns = c.self.inside.columns; query = c.self.inside.query; replicas = c.keep.new.kept.entries; saved = c.self.inside.saved.entries } in
+    let held : Held = c.in-Ok.made.1 in
+    let u : UpdatesBy (λ (x y : Vec ℕ Global). bytes_eq x.items y.items) (λ (k : Vec ℕ Global). bytes_eq c.args.name.now k.items) c.self.inside.replicas c.keep.new.kept (Some held) =
+    subst (λ q. UpdatesBy (λ (x y : Vec ℕ Global). bytes_eq x.items y.items) (λ (k : Vec ℕ Global). bytes_eq q k.items) c.self.inside.replicas c.keep.new.kept (Some held)) c.in-Ok.ensures.name c.in-Ok-keep.ensures.put in
+    subst (λ s. Steps (ask.Load c.args.name.now c.args.saved.now) owned s says.Loaded new) c.self.view_is
+    (loaded old new c.args.name.now c.args.saved.now owned c.in-Some.file.now held (sym c.in-Some.ensures.value) (λ h is. c.in-Ok.ensures.saved h (subst (λ b. IsSummary b h.query h.parts) (sym c.deref.ensures.value) is))
+    (updated c.self.inside.columns c.self.inside.query c.self.inside.saved.entries c.args.name.now held c.self.inside.replicas c.keep.new.kept u))
+
+pub returns-in_default-keep : goal.returns-in_default-keep
+returns-in_default-keep c = λ owned.
+    let new : Store = record { columns = c.self.inside.columns; query = c.self.inside.query; replicas = c.keep.new.kept.entries; saved = c.self.inside.saved.entries } in
     subst (λ s. Steps (ask.Load c.args.name.now c.args.saved.now) owned s (says.Refused why.NoMemory) new) c.self.view_is
     (no_memory_same (ask.Load c.args.name.now c.args.saved.now) owned _ new
-    (same_entries c.self.inside.columns c.self.inside.query c.self.inside.saved.entries c.self.inside.replicas.entries c.insert.new.self.entries c.in-Err.ensures.err))
+    (same_entries c.self.inside.columns c.self.inside.query c.self.inside.saved.entries c.self.inside.replicas.entries c.keep.new.kept.entries c.in_default-keep.ensures.refused))

@@ -1,0 +1,75 @@
+//! The texts that are kept of a query.
+
+ghost use Rattle.std.specs.Prelude.{◌≡◌, map, option_map, IfOk, string_bytes};
+ghost use Rattle.having_filter.specs.Forms.{names_of, item_form, items_of};
+ghost use Rattle.having_filter.specs.Kept.{label_of};
+
+use crate::condition::Item;
+use crate::spelling::{kept_alias, own_name};
+use std::alloc::{AllocError, Global};
+
+/// The texts that are kept of a query.
+#[derive(Drop)]
+pub(crate) struct Texts {
+    /// Its canonical text.
+    pub(crate) query: String,
+    /// The names of the answer's columns.
+    pub(crate) labels: Vec<String>,
+    /// The text of its schema.
+    pub(crate) schema: String,
+}
+
+impl Texts {
+    /// The same texts again.
+    pub(crate) fn try_clone(&self, alloc: Global) -> Result<Texts, AllocError>
+        ensures query { IfOk result (λ copy. string_bytes copy.query ≡ string_bytes self.now.query) }
+        ensures labels { IfOk result (λ copy.
+            map string_bytes copy.labels.items ≡ map string_bytes self.now.labels.items) }
+        ensures schema { IfOk result (λ copy. string_bytes copy.schema ≡ string_bytes self.now.schema) }
+    {
+        let query = String::from_str(alloc, self.query.as_str())?;
+        let schema = String::from_str(alloc, self.schema.as_str())?;
+        let labels = copied_texts(alloc, &self.labels)?;
+        Ok(Texts {
+            query,
+            labels,
+            schema,
+        })
+    }
+}
+
+/// The name of an item's column in the answer.
+fn label_of(alloc: Global, item: &(Item<String>, Option<String>)) -> Result<String, AllocError>
+    ensures { IfOk result (λ label. string_bytes label ≡ label_of
+        (names_of (item_form item.now.0), option_map string_bytes item.now.1)) }
+{
+    let own = own_name(&item.0);
+    String::from_str(alloc, kept_alias(own, &item.1).unwrap_or(own))
+}
+
+/// The names of the answer's columns.
+pub(crate) fn labels_of(
+    alloc: Global,
+    items: &[(Item<String>, Option<String>)],
+) -> Result<Vec<String>, AllocError>
+    ensures { IfOk result (λ labels. map string_bytes labels.items
+        ≡ map label_of (items_of items.now)) }
+{
+    let mut labels = Vec::with_capacity(alloc, items.len())?;
+    for item in items {
+        labels.push(label_of(alloc, item)?)?;
+    }
+    Ok(labels)
+}
+
+/// Copies of texts.
+fn copied_texts(alloc: Global, texts: &[String]) -> Result<Vec<String>, AllocError>
+    ensures { IfOk result (λ copies.
+        map string_bytes copies.items ≡ map string_bytes texts.now) }
+{
+    let mut copies = Vec::with_capacity(alloc, texts.len())?;
+    for text in texts {
+        copies.push(String::from_str(alloc, text.as_str())?)?;
+    }
+    Ok(copies)
+}

@@ -1,0 +1,11 @@
+use Rattle.std.proofs.Common.{◌+◌, ◌≤◌, length}
+use Rattle.script_commands.specs.Commands.{commands_of}
+use Rattle.script_machine.proofs.RunLaws.{Ran}
+use Rattle.script_machine.proofs.engine.answer_all.Given as goal
+
+abbrev pub invariant-loop-command : goal.invariant-loop-command
+invariant-loop-command g l = (l.refused + length l.records ≤ length l.fn.records)
+    × Ran (commands_of l.fn.records) (g.W.Write.contents l.fn.writer) (g.W.Write.contents l.writer) l.refused (commands_of l.records) l.session
+
+abbrev pub decreases-loop-command : goal.decreases-loop-command
+decreases-loop-command g l = length l.records
