@@ -1,0 +1,4 @@
+pub mod BucketLaws
+pub mod IndexLaws
+pub mod SearchLaws
+pub mod TableLaws

@@ -1,0 +1,111 @@
+-- What is true of a table and the tree in which its contexts are.
+use Rattle.std.specs.Prelude.{◌≡◌, ◌≢◌, ℕ, ◌+◌, ◌*◌, ◌/◌, ◌<◌, ◌≤◌, true, false, List, [], Option, Some, None, length, get_or, slice_get, IsTrue}
+use Rattle.chunk_layout.specs.Pieces.{same_place, place_of, size_at, total}
+use Rattle.chunk_layout.specs.declared.place.ChunkName.{ChunkName}
+use Rattle.chunk_contexts.specs.Chunks.{is_live, bytes_of}
+use Rattle.chunk_contexts.specs.Set.{SetState, set_growth}
+use Rattle.context_tree.specs.Contexts.{no_context, has_chunk}
+use Rattle.context_tree.specs.Links.{is_below, is_under}
+use Rattle.context_tree.specs.Tree.{TreeState, is_there, context_at}
+use Rattle.context_tree.specs.declared.context.Context.{Context}
+use Rattle.context_tree.specs.declared.context.Context.TheVariants.{AllocSet, Slab, Generation, Bump}
+use Rattle.context_tree.specs.declared.links.ContextId.{ContextId}
+use Rattle.context_tree.specs.declared.links.Link.{Link}
+use Rattle.group_table.specs.Index.{IsIndex, in_use, Holds}
+use Rattle.group_table.specs.Table.{TableState, key_in, IsSlot, most_buckets}
+use Rattle.group_table.specs.declared.bucket.Bucket.{Bucket}
+use Rattle.group_table.specs.declared.table.Slot.{Slot}
+
+-- a context is there, below another
+pub record IsChild (tree : TreeState) (parent id : ContextId) : Type 0 where
+  pub there : is_there tree id ≡ true
+  pub within : id.slot < length tree.contexts
+  pub below : is_below tree.links parent.slot id.slot ≡ true
+
+-- neither of two contexts is below the other
+pub record IsApart (links : List (Option Link)) (a b : ContextId) : Type 0 where
+  pub differ : a.slot ≢ b.slot
+  pub not_first : is_under links a.slot b.slot ≡ false
+  pub not_last : is_under links b.slot a.slot ≡ false
+
+-- a set with this property; a bump; and a slab of chunks of this size
+abbrev pub IsSetWith : (SetState → Type 0) → Context → Type 0
+IsSetWith P (AllocSet s) = P s
+IsSetWith P (Slab s) = ⊥
+IsSetWith P (Generation s) = ⊥
+IsSetWith P (Bump s) = ⊥
+
+abbrev pub IsBump : Context → Type 0
+IsBump (AllocSet s) = ⊥
+IsBump (Slab s) = ⊥
+IsBump (Generation s) = ⊥
+IsBump (Bump s) = Unit {0}
+
+abbrev pub IsSlabOf : ℕ → Context → Type 0
+IsSlabOf width (AllocSet s) = ⊥
+IsSlabOf width (Slab s) = s.size ≡ width
+IsSlabOf width (Generation s) = ⊥
+IsSlabOf width (Bump s) = ⊥
+
+-- the first block of the set of buckets is the one that the first array took
+abbrev pub IsFirst : SetState → Type 0
+IsFirst s = (block : ℕ) → s.first ≡ Some block → size_at s.blocks block ≡ 16384
+
+-- the bucket of a group, and the slot of a bucket's group
+abbrev pub bucket_of : {H : Type 0} → (H → List ℕ → ℕ) → TableState H → TreeState → Slot → Bucket
+bucket_of hash_of t tree slot = record { key = slot.key; state = slot.state; hash = hash_of t.hash (key_in t tree slot) }
+
+abbrev pub slot_of : Bucket → Slot
+slot_of b = record { key = b.key; state = b.state }
+
+-- the bytes of an array tell where the groups are, each once
+pub record IsArrayOf {H : Type 0} (hash_of : H → List ℕ → ℕ) (t : TableState H) (tree : TreeState) (bytes : List ℕ) (count : ℕ) : Type 0 where
+  pub index : IsIndex bytes count
+  pub number : in_use bytes count ≡ length t.slots
+  pub kept : (slot : Slot) → IsSlot t slot → Holds bytes count (bucket_of hash_of t tree slot)
+  pub only : (b : Bucket) → Holds bytes count b → IsSlot t (slot_of b) × (b.hash ≡ hash_of t.hash (key_in t tree (slot_of b)))
+
+-- the array is a chunk of the set
+pub record IsArrayIn {H : Type 0} (hash_of : H → List ℕ → ℕ) (t : TableState H) (tree : TreeState) (s : SetState) (name : ChunkName) : Type 0 where
+  pub lives : IsTrue (is_live s.chunks name)
+  pub whole : name.len ≡ 32 * (name.len / 32)
+  pub some : 256 ≤ name.len / 32
+  pub most : name.len / 32 ≤ most_buckets
+  pub full : 4 * length t.slots ≤ 3 * (name.len / 32)
+  pub own : 8192 < name.len → s.first ≢ Some name.block
+  pub array : IsArrayOf hash_of t tree (bytes_of s.chunks name) (name.len / 32)
+
+-- there is no array where there is no group, and then a first array fits into the first block
+abbrev pub HasArray : {H : Type 0} → (H → List ℕ → ℕ) → TableState H → TreeState → Option ChunkName → SetState → Type 0
+HasArray hash_of t tree None s = (t.slots ≡ []) × (total s.blocks + set_growth s 8192 ≤ 16384)
+HasArray hash_of t tree (Some name) s = IsArrayIn hash_of t tree s name
+
+-- each group has a key and a state of its own, and no two have the same key
+pub record AreGroups {H : Type 0} (t : TableState H) (tree : TreeState) : Type 0 where
+  pub keys : (slot : Slot) → IsSlot t slot → IsTrue (has_chunk (context_at tree t.keys) slot.key)
+  pub states : (slot : Slot) → IsSlot t slot → IsTrue (has_chunk (context_at tree t.states) slot.state)
+  pub widths : (slot : Slot) → IsSlot t slot → slot.state.len ≡ t.width
+  pub once : (i j : ℕ) → (x y : Slot) → slice_get t.slots i ≡ Some x → slice_get t.slots j ≡ Some y → key_in t tree x ≡ key_in t tree y → i ≡ j
+  pub own : (i j : ℕ) → (x y : Slot) → slice_get t.slots i ≡ Some x → slice_get t.slots j ≡ Some y → same_place (place_of x.state) (place_of y.state) ≡ true → i ≡ j
+
+-- a table has its three contexts in a tree, and its groups in these
+pub record IsTableIn {H : Type 0} (hash_of : H → List ℕ → ℕ) (t : TableState H) (tree : TreeState) : Type 0 where
+  pub parent : is_there tree t.parent ≡ true
+  pub buckets : IsChild tree t.parent t.buckets
+  pub keys : IsChild tree t.parent t.keys
+  pub states : IsChild tree t.parent t.states
+  pub keys_apart : IsApart tree.links t.buckets t.keys
+  pub states_apart : IsApart tree.links t.buckets t.states
+  pub both_apart : IsApart tree.links t.keys t.states
+  pub set : IsSetWith (λ s. IsFirst s × HasArray hash_of t tree t.array s) (context_at tree t.buckets)
+  pub run : IsBump (context_at tree t.keys)
+  pub slab : IsSlabOf t.width (context_at tree t.states)
+  pub width : t.width ≤ 65535
+  pub groups : AreGroups t tree
+
+-- the other contexts of a tree are as they were
+pub record KeepsOthers {H : Type 0} (t : TableState H) (before after : TreeState) : Type 0 where
+  pub links : after.links ≡ before.links
+  pub last : after.last ≡ before.last
+  pub number : length after.contexts ≡ length before.contexts
+  pub others : (slot : ℕ) → slot ≢ t.buckets.slot → slot ≢ t.keys.slot → slot ≢ t.states.slot → get_or after.contexts slot no_context ≡ get_or before.contexts slot no_context

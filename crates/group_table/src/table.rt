@@ -1,0 +1,99 @@
+//! A table of groups.
+ghost use Rattle.std.specs.Prelude.{◌≡◌, ◌≢◌, ◌*◌, ◌-◌, ◌^◌, ◌+◌, ◌<◌, ◌≤◌, ℕ, List, [], ◌∷◌, ◌++◌, Some, None, MatchOption, IfOk, IfErr, OnOk, OnErr, IsTrue, true, false, map, length, slice_get, slice_set, slice_index_or};
+ghost use Rattle.chunk_layout.specs.Pieces.{place_of};
+ghost use Rattle.context_tree.specs.Contexts.{has_chunk, chunk_bytes, with_bytes, held_by, growth_of};
+ghost use Rattle.context_tree.specs.Tree.{is_there, context_at, with_context, held_below, reset};
+ghost use Rattle.group_table.specs.Table.{key_in, state_in, group_in, groups, IsSlot, Names, HasNo, buckets_in, buckets_for, most_buckets, array_growth, group_growth, has_room, IsSameBut};
+ghost use Rattle.group_table.specs.Standing.{IsTableIn, KeepsOthers};
+
+use crate::bucket::{BUCKET, Bucket};
+use crate::hash::KeyHash;
+use crate::search::{chunk, search};
+use chunk_layout::ChunkName;
+use context_tree::{ContextId, Kind, Tree, TreeError};
+use std::alloc::{AllocError, Global};
+use std::marker::Model;
+
+/// How many buckets a table has at first, and how many at most.
+const FIRST_BUCKETS: usize = 256;
+const MOST_BUCKETS: usize = 16777216;
+
+/// Where a group of a table lies. A slot is that of its key until the table is cleared.
+#[derive(Clone, Copy, Debug, PartialEq, Eq)]
+pub struct Slot {
+    pub(crate) key: ChunkName,
+    pub(crate) state: ChunkName,
+}
+
+/// A hash table of groups: a finite map from the bytes of keys to the bytes of states, each as many as `width`.
+///
+/// Its buckets, keys and states lie in three contexts of a tree, below one that is named when it is made: the buckets in an
+/// `AllocSet`, the keys in a `Bump`, the states in a `Slab`. Each call is handed that tree, in which nothing else may change
+/// these three. A bucket has 32 bytes, and there are 256 at first; they double before more than three quarters are in use,
+/// up to 2^24. Where each group lies is kept outside the contexts, in 24 bytes a group.
+#[derive(Drop)]
+pub struct GroupTable<H: KeyHash + Drop> {
+    parent: ContextId,
+    buckets: ContextId,
+    keys: ContextId,
+    states: ContextId,
+    width: u32,
+    hash: H,
+    array: Option<ChunkName>,
+    slots: Vec<Slot>,
+}
+
+impl<H: KeyHash + Drop> Model for GroupTable<H> {
+    ghost use Rattle.group_table.specs.Table.{TableState};
+
+    ghost Value = { TableState H };
+
+    ghost view = { λ t. record { parent = t.parent; buckets = t.buckets; keys = t.keys; states = t.states; width = t.width; hash = t.hash; array = t.array; slots = t.slots.items } };
+}
+
+impl<H: KeyHash + Drop> GroupTable<H> {
+    /// How many groups there are.
+    pub fn len(&self) -> usize
+        ensures { result ≡ length self.now.slots }
+    {
+        self.slots.len()
+    }
+
+    /// The slot of the group of a key, if there is one.
+    pub fn find(&self, tree: &Tree, key: &[u8]) -> Option<Slot>
+        requires { IsTableIn H.hash_of self.now tree.now }
+        ensures { MatchOption result (HasNo self.now tree.now key.now) (λ slot. Names self.now tree.now slot key.now) }
+    {
+        let Some(name) = self.array else {
+            return None;
+        };
+        let array = chunk(tree, self.buckets, name);
+        let count = array.len() / BUCKET;
+        let hash = self.hash.key_hash(key);
+        match search(tree, self.keys, array, count, hash, key) {
+            None => None,
+            Some(Bucket { key, state, .. }) => Some(Slot { key, state }),
+        }
+    }
+
+    /// The state of a group.
+    pub fn state<'a>(&self, tree: &'a Tree, slot: Slot) -> &'a [u8]
+        requires table { IsTableIn H.hash_of self.now tree.now }
+        requires slot { IsSlot self.now slot }
+        ensures state { result.now ≡ state_in self.now tree.now slot }
+        ensures len { length result.now ≡ self.now.width }
+    {
+        chunk(tree, self.states, slot.state)
+    }
+
+    /// The key and the state of one of the groups, in the order in which they came.
+    pub fn entry<'a>(&self, tree: &'a Tree, place: usize) -> (&'a [u8], &'a [u8])
+        requires table { IsTableIn H.hash_of self.now tree.now }
+        requires place { place < length self.now.slots }
+        ensures entry { slice_get (groups self.now tree.now) place ≡ Some (result.0.now, result.1.now) }
+        ensures len { length result.1.now ≡ self.now.width }
+    {
+        let slot = self.slots[place];
+        (chunk(tree, self.keys, slot.key), self.state(tree, slot))
+    }
+}
