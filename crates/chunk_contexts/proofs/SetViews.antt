@@ -52,10 +52,13 @@ module _ (x : Inside) (ok : AreFields x) (s : SetState) (e : set_of x ≡ s) (pl
   at : (piece_at ps place).place ≡ place
   at = same-place (piece_at ps place).place place (first_passes (is_at place) no_piece ps was.there)
 
+  pub seen-housed : IsTrue (is_some (get_or l.blocks place.block None))
+  seen-housed = subst (λ (q : Place). IsTrue (is_some (get_or l.blocks q.block None))) at good.there
+
   pub seen-block : place.block < length l.blocks
   seen-block = elim (cases_lt place.block (length l.blocks)) [
     | inl low ↦ low
-    | inr past ↦ absurd (false≢true (ap is_some (sym (get_or_past l.blocks place.block None past)) ∙ subst (λ (q : Place). IsTrue (is_some (get_or l.blocks q.block None))) at good.there))
+    | inr past ↦ absurd (false≢true (ap is_some (sym (get_or_past l.blocks place.block None past)) ∙ seen-housed))
   ]
 
   pub seen-known : (room : ℕ) → room ≡ (piece_at ps place).room → room ≤ largest → IsTrue (is_in room rooms)

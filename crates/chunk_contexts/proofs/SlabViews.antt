@@ -1,6 +1,6 @@
 -- What the state of a `Slab` says of its fields at a live chunk.
-use Rattle.std.proofs.Common.{◌≡◌, ℕ, ◌-◌, Bool, true, false, List, [], ◌∷◌, ◌++◌, Option, Some, None, append-nil, length, refl, sym, ap, ◌∙◌, arith}
-use Rattle.std.specs.Prelude.{IsTrue, ◌==◌}
+use Rattle.std.proofs.Common.{◌≡◌, ℕ, ◌-◌, Bool, true, false, List, [], ◌∷◌, ◌++◌, Option, Some, None, append-nil, length, get_or, refl, sym, ap, ◌∙◌, subst, arith}
+use Rattle.std.specs.Prelude.{IsTrue, ◌==◌, is_some}
 use Rattle.std.proofs.lemmas.Bool.{eqb-true, true≢false}
 use Rattle.std.specs.List.{length_refill}
 use Rattle.std.proofs.lemmas.List.{take_all}
@@ -9,11 +9,11 @@ use Rattle.chunk_layout.specs.Every.{Every}
 use Rattle.chunk_layout.specs.Pieces.{Piece, is_at, has, piece_at, no_piece, place_of, resized, rewritten, with_bytes_of}
 use Rattle.chunk_layout.specs.declared.place.Place.{Place}
 use Rattle.chunk_layout.specs.declared.place.ChunkName.{ChunkName}
-use Rattle.chunk_layout.proofs.Lists.{by_cond, first_has}
+use Rattle.chunk_layout.proofs.Lists.{by_cond, first_has, every_filter}
 use Rattle.chunk_layout.proofs.Finding.{place-same}
-use Rattle.chunk_contexts.specs.Chunks.{live, is_live, bytes_of, IsResized}
+use Rattle.chunk_contexts.specs.Chunks.{live, is_live, bytes_of, Adds, IsResized}
 use Rattle.chunk_contexts.specs.Rooms.{rounded}
-use Rattle.chunk_contexts.specs.Slab.{SlabState, slab_refusal_by}
+use Rattle.chunk_contexts.specs.Slab.{SlabState, slab_refusal_by, slab_of, AreChunks}
 use Rattle.chunk_contexts.specs.SlabFields.{slab_state, AreFields}
 use Rattle.chunk_contexts.specs.declared.error.ContextError.{ContextError}
 use Rattle.chunk_contexts.specs.declared.slab_chunks.SlabChunks.{SlabChunks}
@@ -43,6 +43,12 @@ pub sizes-rewritten : (size : ℕ) (ps : List Piece) (place : Place) (ws : List 
 sizes-rewritten size [] place ws every = tt
 sizes-rewritten size (p ∷ ps) place ws every = by_cond (Every (λ (q : Piece). length q.bytes ≡ size)) (is_at place p) (with_bytes_of p ws ∷ ps) (p ∷ rewritten ps place ws)
     (λ _. (sym (length_refill (length p.bytes) p.bytes ws refl) ∙ every.0, every.1)) (λ _. (every.0, sizes-rewritten size ps place ws every.1))
+
+-- the block of a new chunk
+pub added-housed : (t : SlabChunks) (are : AreChunks t) (before : List Piece) (name : ChunkName) (room : ℕ) (bytes : List ℕ) → Adds before (slab_of t).chunks name room bytes → IsTrue (is_some (get_or t.layout.blocks name.block None))
+added-housed t are before name room bytes adds =
+    let there : Piece → Type 0 = λ p. IsTrue (is_some (get_or t.layout.blocks p.place.block None)) in
+    (subst (Every there) adds.chunks (every_filter there (λ p. p.is_live) t.layout.pieces are.layout.there)).0
 
 module _ (x : Inside) (ok : AreFields x) (s : SlabState) (e : slab_state x ≡ s) (name : ChunkName) (lives : IsTrue (is_live s.chunks name)) where
   abbrev t : SlabChunks

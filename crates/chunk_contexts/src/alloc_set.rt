@@ -1,5 +1,5 @@
 //! `AllocSet`: chunks by classes, with a free list for each.
-ghost use Rattle.std.specs.Prelude.{◌≡◌, ◌+◌, ◌*◌, ◌-◌, ◌<◌, ◌≤◌, ◌^◌, min, true, false, [], ◌∷◌, Some, None, IsTrue, IfSome, IfNone, IfOk, OnOk, OnErr, IfErr, length, get_or, nat_le, take, ◌++◌};
+ghost use Rattle.std.specs.Prelude.{◌≡◌, ◌+◌, ◌*◌, ◌-◌, ◌<◌, ◌≤◌, ◌^◌, min, true, false, [], ◌∷◌, Some, None, IsTrue, IfSome, IfNone, IfOk, OnOk, OnErr, IfErr, length, get_or, is_some, nat_le, take, ◌++◌};
 ghost use Rattle.block_memory.specs.Cells.{zeros};
 ghost use Rattle.chunk_layout.specs.Pieces.{has, same_place, place_of, piece_at, total, with_block, resized};
 ghost use Rattle.chunk_contexts.specs.Rooms.{most, rounded, rooms, room_of, largest};
@@ -176,6 +176,7 @@ impl AllocSet {
         requires small { kept + length bytes.now ≤ most }
         ensures name { result ≡ record { block = place.block; offset = place.offset; len = kept + length bytes.now } }
         ensures put { self.new ≡ set_put self.old place (take kept (piece_at self.old.chunks place).bytes ++ bytes.now) }
+        ensures block { IsTrue (is_some (get_or self.new.blocks place.block None)) }
     {
         self.lists.layout.put(place, kept, bytes, true);
         ChunkName {
@@ -193,6 +194,7 @@ impl AllocSet {
         requires small { kept + n ≤ most }
         ensures name { result ≡ record { block = place.block; offset = place.offset; len = kept + n } }
         ensures put { self.new ≡ set_put self.old place (take kept (piece_at self.old.chunks place).bytes ++ zeros n) }
+        ensures block { IsTrue (is_some (get_or self.new.blocks place.block None)) }
     {
         self.lists.layout.put_zeros(place, kept, n);
         ChunkName {

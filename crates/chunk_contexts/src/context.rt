@@ -1,5 +1,5 @@
 //! What all kinds of context do.
-ghost use Rattle.std.specs.Prelude.{◌≡◌, ◌+◌, ◌<◌, ◌≤◌, ℕ, Bool, not, true, List, [], Option, None, IsTrue, IfOk, OnOk, IfErr, OnErr, length};
+ghost use Rattle.std.specs.Prelude.{◌≡◌, ◌+◌, ◌<◌, ◌≤◌, ℕ, Bool, not, true, List, [], Option, None, IsTrue, IfOk, OnOk, IfErr, OnErr, length, get_or, is_some};
 ghost use Rattle.std.specs.Borrow.{sem};
 ghost use Rattle.block_memory.specs.Cells.{zeros};
 ghost use Rattle.chunk_layout.specs.Pieces.{Piece, place_of, piece_at, without, rewritten, resized, total};
@@ -56,6 +56,7 @@ pub trait ChunkContext {
         ensures added { IfOk result (λ name. Adds (chunks self.old) (chunks self.new) name (room self.old (length bytes.now)) bytes.now) }
         ensures lives { IfOk result (λ name. IsTrue (is_live (chunks self.new) name)) }
         ensures holds { IfOk result (λ name. bytes_of (chunks self.new) name ≡ bytes.now) }
+        ensures block { IfOk result (λ name. IsTrue (is_some (get_or (blocks self.new) name.block None))) }
         ensures keeps { IfOk result (Keeps (chunks self.old) (chunks self.new)) }
         ensures space { IfOk result (λ name. self.new ≡ taken self.old (length bytes.now) (chunk_of name (room self.old (length bytes.now)) bytes.now)) }
         ensures grown { OnOk result (total (blocks self.new) ≡ total (blocks self.old) + growth self.old (length bytes.now)) }
@@ -69,6 +70,7 @@ pub trait ChunkContext {
         ensures len { IfOk result (λ name. name.len ≡ n) }
         ensures lives { IfOk result (λ name. IsTrue (is_live (chunks self.new) name)) }
         ensures holds { IfOk result (λ name. bytes_of (chunks self.new) name ≡ zeros n) }
+        ensures block { IfOk result (λ name. IsTrue (is_some (get_or (blocks self.new) name.block None))) }
         ensures keeps { IfOk result (Keeps (chunks self.old) (chunks self.new)) }
         ensures space { IfOk result (λ name. self.new ≡ taken self.old n (chunk_of name (room self.old n) (zeros n))) }
         ensures grown { OnOk result (total (blocks self.new) ≡ total (blocks self.old) + growth self.old n) }

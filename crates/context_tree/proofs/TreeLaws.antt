@@ -6,7 +6,7 @@ use Rattle.context_tree.specs.Contexts.{no_context, held_by}
 use Rattle.context_tree.specs.Links.{is_below, cleared, placed}
 use Rattle.std.specs.List.{refill}
 use Rattle.std.proofs.lemmas.List.{get_or-set_same, get_or-set_other, get_or_default, length-set}
-use Rattle.context_tree.specs.Tree.{TreeState, has_stamp, is_there, context_at, with_context, without_slots, held_from}
+use Rattle.context_tree.specs.Tree.{TreeState, Stamped, Emptied, has_stamp, is_there, context_at, with_context, without_slots, held_from}
 use Rattle.context_tree.specs.TreeFields.{tree_of, AreFields}
 use Rattle.context_tree.specs.declared.links.ContextId.{ContextId}
 use Rattle.context_tree.specs.declared.tree.Tree.TheInside.{Inside}
@@ -14,13 +14,6 @@ use Rattle.context_tree.proofs.Clearing.{length-cleared, get_or-cleared, is-clea
 use Rattle.context_tree.specs.declared.context.Context.{Context}
 use Rattle.context_tree.specs.declared.links.Link.{Link}
 use Rattle.context_tree.proofs.Slots.{refill-whole, placed-here, placed-other, length-placed}
-
--- stamps and free slots, as `AreFields` has them
-abbrev pub Stamped : List (Option Link) → ℕ → Type 0
-Stamped ls last = (slot : ℕ) → (link : Link) → get_or ls slot None ≡ Some link → link.stamp ≤ last
-
-abbrev pub Emptied : List (Option Link) → List Context → Type 0
-Emptied ls cs = (slot : ℕ) → get_or ls slot None ≡ None → get_or cs slot no_context ≡ no_context
 
 -- a context is made
 module _ (ls : List (Option Link)) (cs : List Context) (last slot : ℕ) (low : slot ≤ length ls) (long : length cs ≡ length ls) (link : Link) (c : Context) where

@@ -1,9 +1,9 @@
 -- A tree of contexts as its users see it.
-use Rattle.std.specs.Prelude.{◌≡◌, ℕ, ◌+◌, ◌==◌, Bool, true, false, cond, List, [], ◌∷◌, Option, Some, None, get_or, slice_set}
+use Rattle.std.specs.Prelude.{◌≡◌, ℕ, ◌+◌, ◌≤◌, ◌==◌, Bool, true, false, cond, List, [], ◌∷◌, Option, Some, None, length, get_or, slice_set}
 use Rattle.chunk_contexts.specs.declared.error.ContextError.{ContextError}
 use Rattle.chunk_contexts.specs.declared.error.ContextError.TheVariants.{NoMemory}
 use Rattle.context_tree.specs.Contexts.{no_context, new_context, reset_context, held_by}
-use Rattle.context_tree.specs.Links.{is_below, is_under, cleared, placed}
+use Rattle.context_tree.specs.Links.{is_below, is_under, cleared, placed, IsForest}
 use Rattle.context_tree.specs.declared.context.Context.{Context}
 use Rattle.context_tree.specs.declared.error.TreeError.{TreeError}
 use Rattle.context_tree.specs.declared.error.TreeError.TheVariants as error
@@ -17,6 +17,20 @@ pub record TreeState : Type 0 where
   pub links : List (Option Link)
   pub contexts : List Context
   pub last : ℕ
+
+-- no stamp is above the last one; and a slot that is free has an empty context
+abbrev pub Stamped : List (Option Link) → ℕ → Type 0
+Stamped ls last = (slot : ℕ) → (link : Link) → get_or ls slot None ≡ Some link → link.stamp ≤ last
+
+abbrev pub Emptied : List (Option Link) → List Context → Type 0
+Emptied ls cs = (slot : ℕ) → get_or ls slot None ≡ None → get_or cs slot no_context ≡ no_context
+
+-- what holds of each tree: the links are those of one tree, and there is a context for each
+pub record IsWhole (t : TreeState) : Type 0 where
+  pub forest : IsForest t.links
+  pub long : length t.contexts ≡ length t.links
+  pub stamps : Stamped t.links t.last
+  pub empty : Emptied t.links t.contexts
 
 -- a tree of a root alone, in slot 0
 abbrev pub new_tree : ℕ → TreeState

@@ -7,7 +7,7 @@ ghost use Rattle.chunk_contexts.specs.Chunks.{chunk_of, Adds, Keeps, KeepsOthers
 ghost use Rattle.chunk_contexts.specs.declared.error.ContextError.TheVariants.{NotSupported};
 ghost use Rattle.context_tree.specs.Contexts.{chunks_of, blocks_of, room_in, refusal_of, growth_of, can_free, with_chunk, with_bytes, with_resized, without_chunk, kind_refusal, no_context, has_chunk, chunk_bytes, held_by};
 ghost use Rattle.context_tree.specs.Links.{is_under, placed};
-ghost use Rattle.context_tree.specs.Tree.{new_tree, is_there, context_at, parent_id, id_in, with_context, with_new, without_slots, deleted, reset, held_below, held_from, IsRefusedBy, IsKept, IsNotMade};
+ghost use Rattle.context_tree.specs.Tree.{new_tree, is_there, context_at, parent_id, id_in, with_context, with_new, without_slots, deleted, reset, held_below, held_from, IsWhole, IsRefusedBy, IsKept, IsNotMade};
 ghost use Rattle.context_tree.specs.declared.error.TreeError.TheVariants.{NoSuchContext};
 
 use crate::context::Context;
@@ -118,6 +118,13 @@ impl Tree {
         }
     }
 
+    /// A law: the links are a forest of one tree, no stamp is above the last, and each free slot has an empty context.
+    pub fn is_whole(&self)
+        ensures { IsWhole self.now }
+    {
+        self.links.is_forest();
+    }
+
     /// Whether there is a context of this id.
     pub fn is_live(&self, id: ContextId) -> bool
         ensures { result ≡ is_there self.now id }
@@ -181,6 +188,7 @@ impl Tree {
         ensures there { OnOk result (is_there self.old parent ≡ true) }
         ensures stamp { IfOk result (λ id. id.stamp ≡ self.old.last + 1) }
         ensures fresh { IfOk result (λ id. get_or self.old.links id.slot None ≡ None) }
+        ensures low { IfOk result (λ id. id.slot ≤ length self.old.links) }
         ensures made { IfOk result (λ id. self.new ≡ with_new self.old parent kind id) }
         ensures allowed { OnOk result (kind_refusal kind ≡ None) }
         ensures refused { IfErr result (IsNotMade (is_there self.old parent) (self.old.last == 18446744073709551615) (kind_refusal kind)) }
@@ -281,6 +289,7 @@ impl Tree {
         ensures added { IfOk result (λ name. Adds (chunks_of (context_at self.old id)) (chunks_of (context_at self.new id)) name (room_in (context_at self.old id) (length bytes.now)) bytes.now) }
         ensures lives { IfOk result (λ name. IsTrue (has_chunk (context_at self.new id) name)) }
         ensures holds { IfOk result (λ name. chunk_bytes (context_at self.new id) name ≡ bytes.now) }
+        ensures block { IfOk result (λ name. IsTrue (is_some (get_or (blocks_of (context_at self.new id)) name.block None))) }
         ensures keeps { IfOk result (Keeps (chunks_of (context_at self.old id)) (chunks_of (context_at self.new id))) }
         ensures space { IfOk result (λ name. self.new ≡ with_context self.old id (with_chunk (context_at self.old id) (length bytes.now) (chunk_of name (room_in (context_at self.old id) (length bytes.now)) bytes.now))) }
         ensures grown { OnOk result (held_by (context_at self.new id) ≡ held_by (context_at self.old id) + growth_of (context_at self.old id) (length bytes.now)) }
@@ -298,6 +307,7 @@ impl Tree {
         ensures len { IfOk result (λ name. name.len ≡ n) }
         ensures lives { IfOk result (λ name. IsTrue (has_chunk (context_at self.new id) name)) }
         ensures holds { IfOk result (λ name. chunk_bytes (context_at self.new id) name ≡ zeros n) }
+        ensures block { IfOk result (λ name. IsTrue (is_some (get_or (blocks_of (context_at self.new id)) name.block None))) }
         ensures keeps { IfOk result (Keeps (chunks_of (context_at self.old id)) (chunks_of (context_at self.new id))) }
         ensures space { IfOk result (λ name. self.new ≡ with_context self.old id (with_chunk (context_at self.old id) n (chunk_of name (room_in (context_at self.old id) n) (zeros n)))) }
         ensures grown { OnOk result (held_by (context_at self.new id) ≡ held_by (context_at self.old id) + growth_of (context_at self.old id) n) }

@@ -1,6 +1,7 @@
-use Rattle.std.proofs.Common.{◌≤◌, length, sym, ap, subst, arith}
-use Rattle.chunk_layout.specs.Pieces.{Piece}
-use Rattle.chunk_contexts.proofs.SetViews.{seen, seen-there, fields-put, state-put}
+use Rattle.std.proofs.Common.{◌≤◌, None, length, get_or, sym, ap, subst, arith}
+use Rattle.std.specs.Prelude.{IsTrue, is_some}
+use Rattle.chunk_layout.specs.Pieces.{Layout, Piece}
+use Rattle.chunk_contexts.proofs.SetViews.{seen, seen-there, seen-housed, fields-put, state-put}
 use Rattle.chunk_contexts.proofs.alloc_set.AllocSet.write.Goals as goal
 
 pub put-requires-clause-there : goal.put-requires-clause-there
@@ -17,3 +18,6 @@ invariant_of-self c = fields-put c.self.inside c.self.invariant c.args.self.now 
 
 pub returns-clause-put : goal.returns-clause-put
 returns-clause-put c = state-put c.self.inside c.self.invariant c.args.self.now c.self.view_is c.args.place c.requires.there c.args.kept c.args.bytes.now c.put.new.self c.put.ensures
+
+pub returns-clause-block : goal.returns-clause-block
+returns-clause-block c = subst (λ (l : Layout). IsTrue (is_some (get_or l.blocks c.args.place.block None))) (sym c.put.ensures) (seen-housed c.self.inside c.self.invariant c.args.self.now c.self.view_is c.args.place c.requires.there)

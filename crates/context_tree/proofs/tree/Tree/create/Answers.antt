@@ -1,8 +1,9 @@
 use Rattle.std.proofs.Common.{◌≡◌, ◌+◌, List, Option, Some, length, refl, sym, ap, ◌∙◌, subst}
 use Rattle.context_tree.specs.Links.{placed}
+use Rattle.context_tree.specs.Tree.{Stamped, Emptied}
 use Rattle.context_tree.specs.declared.context.Context.{Context}
 use Rattle.context_tree.specs.declared.links.Link.{Link}
-use Rattle.context_tree.proofs.TreeLaws.{Stamped, Emptied, stamps-made, empty-made, long-made}
+use Rattle.context_tree.proofs.TreeLaws.{stamps-made, empty-made, long-made}
 use Rattle.context_tree.proofs.tree.Tree.create.Goals as goal
 
 pub invariant_of-self-2 : goal.invariant_of-self-2
