@@ -1,4 +1,11 @@
 pub mod BucketLaws
 pub mod IndexLaws
 pub mod SearchLaws
+pub mod TreeFacts
+pub mod ArrayLaws
+pub mod SetFacts
+pub mod StandLaws
+pub mod TakeLaws
+pub mod GroupLaws
+pub mod MoveLaws
 pub mod TableLaws

@@ -4,3 +4,4 @@ pub mod Index
 pub mod Table
 pub mod Search
 pub mod Standing
+pub mod Arrays

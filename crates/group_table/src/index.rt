@@ -1,9 +1,9 @@
 //! Arrays of buckets, in which groups are found by the hashes of their keys.
 ghost use Rattle.std.specs.Prelude.{◌≡◌, ◌<◌, ◌≤◌, ◌+◌, ◌*◌, ℕ, true, None, IfSome, IfNone, length, is_some};
 ghost use Rattle.group_table.specs.Buckets.{bucket_at};
-ghost use Rattle.group_table.specs.Index.{start_of, IsPath, IsIndex, in_use, Puts, HasAll};
+ghost use Rattle.group_table.specs.Index.{start_of, IsPath, IsIndex, in_use, Puts};
 
-use crate::bucket::{Bucket, bucket_at, is_in_use, set_bucket};
+use crate::bucket::{Bucket, is_in_use, set_bucket};
 
 /// The place in an array of so many buckets where the search for a hash begins.
 pub(crate) fn start_of(hash: u32, count: usize) -> usize
@@ -58,19 +58,4 @@ pub(crate) fn put(array: &mut [u8], count: usize, bucket: Bucket)
     let start = start_of(bucket.hash, count);
     let place = free_place(array, count, start);
     set_bucket(array, place, bucket);
-}
-
-/// Puts all buckets of an array into another that has none and is as long or longer.
-pub(crate) fn fill(array: &mut [u8], count: usize, old: &[u8], old_count: usize)
-    requires long { length array.old ≡ 32 * count }
-    requires empty { (place : ℕ) → place < count → bucket_at array.old place ≡ None }
-    requires longer { old_count ≤ count }
-    requires old { length old.now ≡ 32 * old_count }
-    ensures { HasAll array.new count old.now old_count }
-{
-    for place in 0..old_count {
-        if let Some(bucket) = bucket_at(old, place) {
-            put(array, count, bucket);
-        }
-    }
 }

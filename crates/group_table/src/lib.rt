@@ -4,6 +4,7 @@
 //! one key. The table doubles before more than three quarters of its buckets are in use.
 #![tactic(auto)]
 
+mod array;
 mod bucket;
 mod hash;
 mod index;

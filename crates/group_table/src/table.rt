@@ -4,10 +4,12 @@ ghost use Rattle.chunk_layout.specs.Pieces.{place_of};
 ghost use Rattle.context_tree.specs.Contexts.{has_chunk, chunk_bytes, with_bytes, held_by, growth_of};
 ghost use Rattle.context_tree.specs.Tree.{is_there, context_at, with_context, held_below, reset};
 ghost use Rattle.group_table.specs.Table.{key_in, state_in, group_in, groups, IsSlot, Names, HasNo, buckets_in, buckets_for, most_buckets, array_growth, group_growth, has_room, IsSameBut};
-ghost use Rattle.group_table.specs.Standing.{IsTableIn, KeepsOthers};
+ghost use Rattle.group_table.specs.Standing.{IsStanding, IsTableIn, KeepsOthers};
+ghost use Rattle.group_table.specs.Arrays.{OnlyIn, HasNext, IsSpare, IsNext, with_array, with_slot};
 
 use crate::bucket::{BUCKET, Bucket};
 use crate::hash::KeyHash;
+use crate::array::{give_up, put_into, refill};
 use crate::search::{chunk, search};
 use chunk_layout::ChunkName;
 use context_tree::{ContextId, Kind, Tree, TreeError};
@@ -95,5 +97,84 @@ impl<H: KeyHash + Drop> GroupTable<H> {
     {
         let slot = self.slots[place];
         (chunk(tree, self.keys, slot.key), self.state(tree, slot))
+    }
+
+    /// Takes a chunk of zeros for the array of the table with one more group, if it is to have another array.
+    fn take_array(&self, tree: &mut Tree) -> Result<Option<ChunkName>, AllocError>
+        requires table { IsTableIn H.hash_of self.now tree.old }
+        requires few { buckets_for (buckets_in self.now.array) (length self.now.slots) ≤ most_buckets }
+        ensures only { OnlyIn self.now.buckets tree.old tree.new }
+        ensures standing { IsStanding H.hash_of self.now tree.new }
+        ensures next { IfOk result (HasNext self.now tree.new) }
+        ensures unchanged { OnErr result (tree.new ≡ tree.old) }
+        ensures held { held_by (context_at tree.new self.now.buckets) ≤ held_by (context_at tree.old self.now.buckets) + array_growth self.now tree.old }
+    {
+        let wanted = self.buckets_wanted();
+        if wanted == self.bucket_count() {
+            return Ok(None);
+        }
+        match tree.alloc_zeroed(self.buckets, (wanted * BUCKET) as u32) {
+            Ok(name) => Ok(Some(name)),
+            Err(_) => Err(AllocError), // It is want of memory: an array is short enough for a chunk.
+        }
+    }
+
+    /// How many buckets there are.
+    fn bucket_count(&self) -> usize
+        ensures value { result ≡ buckets_in self.now.array }
+        ensures few { result < 2 ^ 27 }
+    {
+        match self.array {
+            None => 0,
+            Some(name) => name.len as usize / BUCKET,
+        }
+    }
+
+    /// How many buckets there are to be for one more group.
+    fn buckets_wanted(&self) -> usize
+        ensures { result ≡ buckets_for (buckets_in self.now.array) (length self.now.slots) }
+    {
+        let count = self.bucket_count();
+        if self.slots.len() < 3 * count / 4 {
+            return count;
+        }
+        FIRST_BUCKETS.max(2 * count)
+    }
+
+    /// Takes chunks for the key and the state of one more group.
+    fn take_group(&self, tree: &mut Tree, key: &[u8], state: &[u8]) -> Result<Slot, AllocError>
+        requires standing { IsStanding H.hash_of self.now tree.old }
+        requires state { length state.now ≡ self.now.width }
+        requires key { length key.now ≤ 65535 }
+        ensures standing { IsStanding H.hash_of self.now tree.new }
+        ensures buckets { context_at tree.new self.now.buckets ≡ context_at tree.old self.now.buckets }
+        ensures others { KeepsOthers self.now tree.old tree.new }
+        ensures groups { groups self.now tree.new ≡ groups self.now tree.old }
+        ensures next { IfOk result (IsNext self.now tree.new key.now state.now) }
+        ensures held { held_below tree.new self.now.parent ≤ held_below tree.old self.now.parent + growth_of (context_at tree.old self.now.keys) (length key.now) + growth_of (context_at tree.old self.now.states) self.now.width }
+    {
+        let Ok(key) = tree.alloc(self.keys, key) else {
+            return Err(AllocError);
+        };
+        match tree.alloc(self.states, state) {
+            Ok(state) => Ok(Slot { key, state }),
+            Err(_) => Err(AllocError),
+        }
+    }
+
+    /// Makes a chunk of zeros the array of the table: all buckets in use are put there, and the old array is given up.
+    fn move_to(&mut self, tree: &mut Tree, name: ChunkName)
+        requires standing { IsStanding H.hash_of self.old tree.old }
+        requires spare { IsSpare self.old tree.old name }
+        ensures only { OnlyIn self.old.buckets tree.old tree.new }
+        ensures array { self.new ≡ with_array self.old name }
+        ensures standing { IsStanding H.hash_of self.new tree.new }
+        ensures held { held_by (context_at tree.new self.old.buckets) ≤ held_by (context_at tree.old self.old.buckets) }
+    {
+        if let Some(old) = self.array {
+            refill(tree, self.buckets, old, name);
+            give_up(tree, self.buckets, old);
+        }
+        self.array = Some(name);
     }
 }
