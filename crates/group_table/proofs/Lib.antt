@@ -8,4 +8,5 @@ pub mod StandLaws
 pub mod TakeLaws
 pub mod GroupLaws
 pub mod MoveLaws
+pub mod PutLaws
 pub mod TableLaws

@@ -81,3 +81,8 @@ with_array t name = record { parent = t.parent; buckets = t.buckets; keys = t.ke
 
 abbrev pub with_slot : {H : Type 0} → TableState H → Slot → TableState H
 with_slot t slot = record { parent = t.parent; buckets = t.buckets; keys = t.keys; states = t.states; width = t.width; hash = t.hash; array = t.array; slots = t.slots ++ slot ∷ [] }
+
+-- with the next array, if there is one
+abbrev pub with_next : {H : Type 0} → TableState H → Option ChunkName → TableState H
+with_next t None = t
+with_next t (Some name) = with_array t name

@@ -5,7 +5,7 @@ ghost use Rattle.context_tree.specs.Contexts.{has_chunk, chunk_bytes, with_bytes
 ghost use Rattle.context_tree.specs.Tree.{is_there, context_at, with_context, held_below, reset};
 ghost use Rattle.group_table.specs.Table.{key_in, state_in, group_in, groups, IsSlot, Names, HasNo, buckets_in, buckets_for, most_buckets, array_growth, group_growth, has_room, IsSameBut};
 ghost use Rattle.group_table.specs.Standing.{IsStanding, IsTableIn, KeepsOthers};
-ghost use Rattle.group_table.specs.Arrays.{OnlyIn, HasNext, IsSpare, IsNext, with_array, with_slot};
+ghost use Rattle.group_table.specs.Arrays.{OnlyIn, HasNext, IsSpare, IsNext, with_array, with_next, with_slot};
 
 use crate::bucket::{BUCKET, Bucket};
 use crate::hash::KeyHash;
@@ -176,5 +176,38 @@ impl<H: KeyHash + Drop> GroupTable<H> {
             give_up(tree, self.buckets, old);
         }
         self.array = Some(name);
+    }
+
+    /// Makes the next array that of the table, if there is one.
+    fn settle(&mut self, tree: &mut Tree, next: Option<ChunkName>)
+        requires standing { IsStanding H.hash_of self.old tree.old }
+        requires next { HasNext self.old tree.old next }
+        ensures only { OnlyIn self.old.buckets tree.old tree.new }
+        ensures array { self.new ≡ with_next self.old next }
+        ensures standing { IsStanding H.hash_of self.new tree.new }
+        ensures room { HasNext self.new tree.new None }
+        ensures held { held_by (context_at tree.new self.old.buckets) ≤ held_by (context_at tree.old self.old.buckets) }
+    {
+        if let Some(name) = next {
+            self.move_to(tree, name);
+        }
+    }
+
+    /// Puts the bucket of a group into the array.
+    fn put_slot(&self, tree: &mut Tree, key: &[u8], slot: Slot)
+        requires standing { IsStanding H.hash_of self.now tree.old }
+        requires room { HasNext self.now tree.old None }
+        requires next { (state : List ℕ) × IsNext self.now tree.old key.now state slot }
+        requires absent { HasNo self.now tree.old key.now }
+        ensures only { OnlyIn self.now.buckets tree.old tree.new }
+        ensures standing { IsStanding H.hash_of (with_slot self.now slot) tree.new }
+        ensures held { held_by (context_at tree.new self.now.buckets) ≡ held_by (context_at tree.old self.now.buckets) }
+    {
+        let Some(name) = self.array else {
+            unreachable!();
+        };
+        let hash = self.hash.key_hash(key);
+        let Slot { key, state } = slot;
+        put_into(tree, self.buckets, name, Bucket { key, state, hash });
     }
 }
