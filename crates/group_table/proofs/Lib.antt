@@ -9,4 +9,5 @@ pub mod TakeLaws
 pub mod GroupLaws
 pub mod MoveLaws
 pub mod PutLaws
+pub mod InsertLaws
 pub mod TableLaws

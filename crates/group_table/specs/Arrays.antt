@@ -1,5 +1,5 @@
 -- Arrays of buckets in a set of a tree.
-use Rattle.std.specs.Prelude.{◌≡◌, ℕ, ◌+◌, ◌*◌, ◌/◌, ◌<◌, ◌≤◌, List, [], ◌∷◌, ◌++◌, Option, Some, None, length, is_some, IsTrue, true, false}
+use Rattle.std.specs.Prelude.{◌≡◌, ℕ, ◌+◌, ◌-◌, ◌*◌, ◌/◌, ◌<◌, ◌≤◌, List, [], ◌∷◌, ◌++◌, Option, Some, None, length, is_some, IsTrue, true, false}
 use Rattle.chunk_layout.specs.Pieces.{same_place, place_of, piece_at}
 use Rattle.chunk_layout.specs.declared.place.Place.{Place}
 use Rattle.chunk_layout.specs.declared.place.ChunkName.{ChunkName}
@@ -77,12 +77,16 @@ pub record IsNext {H : Type 0} (t : TableState H) (tree : TreeState) (key state 
 
 -- a table with another array, and with one more group
 abbrev pub with_array : {H : Type 0} → TableState H → ChunkName → TableState H
-with_array t name = record { parent = t.parent; buckets = t.buckets; keys = t.keys; states = t.states; width = t.width; hash = t.hash; array = Some name; slots = t.slots }
+with_array t name = record { parent = t.parent; buckets = t.buckets; keys = t.keys; states = t.states; width = t.width; hash = t.hash; array = Some name; slots = t.slots; spare = t.spare }
 
 abbrev pub with_slot : {H : Type 0} → TableState H → Slot → TableState H
-with_slot t slot = record { parent = t.parent; buckets = t.buckets; keys = t.keys; states = t.states; width = t.width; hash = t.hash; array = t.array; slots = t.slots ++ slot ∷ [] }
+with_slot t slot = record { parent = t.parent; buckets = t.buckets; keys = t.keys; states = t.states; width = t.width; hash = t.hash; array = t.array; slots = t.slots ++ slot ∷ []; spare = t.spare - 1 }
 
 -- with the next array, if there is one
 abbrev pub with_next : {H : Type 0} → TableState H → Option ChunkName → TableState H
 with_next t None = t
 with_next t (Some name) = with_array t name
+
+-- with room to note so many groups without memory
+abbrev pub with_spare : {H : Type 0} → TableState H → ℕ → TableState H
+with_spare t n = record { parent = t.parent; buckets = t.buckets; keys = t.keys; states = t.states; width = t.width; hash = t.hash; array = t.array; slots = t.slots; spare = n }

@@ -5,7 +5,7 @@ ghost use Rattle.context_tree.specs.Contexts.{has_chunk, chunk_bytes, with_bytes
 ghost use Rattle.context_tree.specs.Tree.{is_there, context_at, with_context, held_below, reset};
 ghost use Rattle.group_table.specs.Table.{key_in, state_in, group_in, groups, IsSlot, Names, HasNo, buckets_in, buckets_for, most_buckets, array_growth, group_growth, has_room, IsSameBut};
 ghost use Rattle.group_table.specs.Standing.{IsStanding, IsTableIn, KeepsOthers};
-ghost use Rattle.group_table.specs.Arrays.{OnlyIn, HasNext, IsSpare, IsNext, with_array, with_next, with_slot};
+ghost use Rattle.group_table.specs.Arrays.{OnlyIn, HasNext, IsSpare, IsNext, with_array, with_next, with_slot, with_spare};
 
 use crate::bucket::{BUCKET, Bucket};
 use crate::hash::KeyHash;
@@ -46,11 +46,13 @@ pub struct GroupTable<H: KeyHash + Drop> {
 }
 
 impl<H: KeyHash + Drop> Model for GroupTable<H> {
+    ghost use Rattle.std.specs.Prelude.{◌-◌};
+    ghost use Rattle.std.specs.Vec.{vec_capacity, vec_len};
     ghost use Rattle.group_table.specs.Table.{TableState};
 
     ghost Value = { TableState H };
 
-    ghost view = { λ t. record { parent = t.parent; buckets = t.buckets; keys = t.keys; states = t.states; width = t.width; hash = t.hash; array = t.array; slots = t.slots.items } };
+    ghost view = { λ t. record { parent = t.parent; buckets = t.buckets; keys = t.keys; states = t.states; width = t.width; hash = t.hash; array = t.array; slots = t.slots.items; spare = vec_capacity t.slots - vec_len t.slots } };
 }
 
 impl<H: KeyHash + Drop> GroupTable<H> {
@@ -209,5 +211,67 @@ impl<H: KeyHash + Drop> GroupTable<H> {
         let hash = self.hash.key_hash(key);
         let Slot { key, state } = slot;
         put_into(tree, self.buckets, name, Bucket { key, state, hash });
+    }
+
+    /// Takes a group with a key that no other has, and a state of `width` bytes. The key has 65,535 bytes at most, and there are to
+    /// be 2^24 buckets at most, as where `room_for` is true for some limit.
+    ///
+    /// The only error is a failed allocation. The groups are then as they were, and blocks that were taken may stay held. On the
+    /// way no more is held below the parent than `room_for` counts: an array twice as long beside the old one, the key, and
+    /// the state.
+    pub fn insert(&mut self, tree: &mut Tree, key: &[u8], state: &[u8]) -> Result<Slot, AllocError>
+        requires table { IsTableIn H.hash_of self.old tree.old }
+        requires absent { HasNo self.old tree.old key.now }
+        requires key { length key.now ≤ 65535 }
+        requires state { length state.now ≡ self.old.width }
+        requires few { buckets_for (buckets_in self.old.array) (length self.old.slots) ≤ most_buckets }
+        ensures table { IsTableIn H.hash_of self.new tree.new }
+        ensures same { IsSameBut self.old self.new }
+        ensures slot { IfOk result (λ slot. self.new.slots ≡ self.old.slots ++ slot ∷ []) }
+        ensures groups { OnOk result (groups self.new tree.new ≡ groups self.old tree.old ++ (key.now, state.now) ∷ []) }
+        ensures refused { OnErr result ((self.new.slots ≡ self.old.slots) × (groups self.new tree.new ≡ groups self.old tree.old)) }
+        ensures others { KeepsOthers self.old tree.old tree.new }
+        ensures held { held_below tree.new self.old.parent ≤ held_below tree.old self.old.parent + group_growth self.old tree.old (length key.now) }
+    {
+        self.make_room()?;
+        self.insert_noted(tree, key, state)
+    }
+
+    /// Makes room to note one more group.
+    fn make_room(&mut self) -> Result<(), AllocError>
+        ensures room { OnOk result (0 < self.new.spare) }
+        ensures same { self.new ≡ with_spare self.old self.new.spare }
+    {
+        self.slots.reserve(1)
+    }
+
+    /// Takes a group for which there is room to note it.
+    fn insert_noted(
+        &mut self,
+        tree: &mut Tree,
+        key: &[u8],
+        state: &[u8],
+    ) -> Result<Slot, AllocError>
+        requires room { 0 < self.old.spare }
+        requires table { IsTableIn H.hash_of self.old tree.old }
+        requires absent { HasNo self.old tree.old key.now }
+        requires key { length key.now ≤ 65535 }
+        requires state { length state.now ≡ self.old.width }
+        requires few { buckets_for (buckets_in self.old.array) (length self.old.slots) ≤ most_buckets }
+        ensures table { IsTableIn H.hash_of self.new tree.new }
+        ensures same { IsSameBut self.old self.new }
+        ensures slot { IfOk result (λ slot. self.new.slots ≡ self.old.slots ++ slot ∷ []) }
+        ensures groups { OnOk result (groups self.new tree.new ≡ groups self.old tree.old ++ (key.now, state.now) ∷ []) }
+        ensures refused { OnErr result ((self.new.slots ≡ self.old.slots) × (groups self.new tree.new ≡ groups self.old tree.old)) }
+        ensures others { KeepsOthers self.old tree.old tree.new }
+        ensures held { held_below tree.new self.old.parent ≤ held_below tree.old self.old.parent + group_growth self.old tree.old (length key.now) }
+    {
+        let next = self.take_array(tree)?;
+        let taken = self.take_group(tree, key, state);
+        self.settle(tree, next);
+        let slot = taken?;
+        self.put_slot(tree, key, slot);
+        self.slots.push_reserved(slot);
+        Ok(slot)
     }
 }

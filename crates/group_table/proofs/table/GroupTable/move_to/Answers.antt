@@ -1,4 +1,5 @@
-use Rattle.std.proofs.Common.{◌≤◌, Some, sym, subst, arith}
+use Rattle.std.proofs.Common.{◌≤◌, ◌-◌, Some, sym, subst, arith}
+use Rattle.std.specs.Vec.{vec_capacity, vec_len}
 use Rattle.context_tree.specs.Contexts.{held_by}
 use Rattle.context_tree.specs.Tree.{TreeState, context_at}
 use Rattle.group_table.specs.Table.{TableState}
@@ -27,7 +28,7 @@ returns-clause-standing g c =
     let is = subst (λ (x : TableState g.row.H.Denot). IsStanding hash x tree) (sym c.self.view_is) c.requires.standing in
     let spare = subst (λ (x : TableState g.row.H.Denot). IsSpare x tree name) (sym c.self.view_is) c.requires.spare in
     let x = c.self.inside in
-    let moved : TableState g.row.H.Denot = record { parent = x.parent; buckets = x.buckets; keys = x.keys; states = x.states; width = x.width; hash = x.hash; array = Some name; slots = x.slots.items } in
+    let moved : TableState g.row.H.Denot = record { parent = x.parent; buckets = x.buckets; keys = x.keys; states = x.states; width = x.width; hash = x.hash; array = Some name; slots = x.slots.items; spare = vec_capacity x.slots - vec_len x.slots } in
     elim c.match-self.branch [
       in-Some w ↦ subst (λ (x : TreeState). IsStanding hash moved x) (sym w.tree-is)
         (larger_moved hash _ name tree is spare w.in-Some.old w.in-Some.is w.refill.new.tree w.give_up.new.tree w.refill.ensures.only w.refill.ensures.rewritten w.refill.ensures.all w.give_up.ensures.gone w.give_up.ensures.keeps)

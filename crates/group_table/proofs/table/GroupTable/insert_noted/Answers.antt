@@ -1,0 +1,90 @@
+use Rattle.std.proofs.Common.{◌≡◌, ◌+◌, ◌-◌, ◌≤◌, ◌++◌, ◌∷◌, [], length, sym, subst, ◌∙◌, ap, arith, refl}
+use Rattle.std.specs.Vec.{vec_capacity, vec_len}
+use Rattle.context_tree.specs.Tree.{TreeState, context_at, held_below}
+use Rattle.group_table.specs.Table.{TableState, groups, group_growth, HasNo, IsSameBut}
+use Rattle.group_table.specs.Standing.{IsStanding, IsTableIn, KeepsOthers}
+use Rattle.group_table.specs.Arrays.{IsNext, with_next, with_slot}
+use Rattle.group_table.proofs.InsertLaws.{always_err, next_slots, next_same, others_twice, others_left, groups_left, groups_pushed, held_left, next_left, settled_groups, settled_others, settled_next, settled_absent, settled_held}
+use Rattle.group_table.proofs.table.GroupTable.insert_noted.Goals as goal
+
+pub returns-in_err-slot-clause-refused : goal.returns-in_err-slot-clause-refused
+returns-in_err-slot-clause-refused g c =
+    let hash = g.H.KeyHash.hash_of in let t = c.args.self.now in let tree = c.args.tree.now in let a = c.take_array.new.tree in let b = c.take_group-taken.new.tree in let e = c.settle.new.tree in
+    let one = c.in_ok-next.ensures in let two = c.take_group-taken.ensures in let three = c.settle.ensures in
+    always_err c.from_residual-in_err-slot.result
+        (ap (λ (x : TableState g.row.H.Denot). x.slots) three.array ∙ next_slots t c.in_ok-next.next,
+         ap (λ (x : TableState g.row.H.Denot). groups x e) three.array
+         ∙ settled_groups t c.in_ok-next.next tree a b e c.requires.table.standing.placed one.only two.others two.buckets two.groups two.standing.placed three.only)
+
+pub returns-in_err-slot-clause-held : goal.returns-in_err-slot-clause-held
+returns-in_err-slot-clause-held g c =
+    let hash = g.H.KeyHash.hash_of in let t = c.args.self.now in let tree = c.args.tree.now in let a = c.take_array.new.tree in let b = c.take_group-taken.new.tree in let e = c.settle.new.tree in
+    let one = c.in_ok-next.ensures in let two = c.take_group-taken.ensures in let three = c.settle.ensures in
+    settled_held t c.in_ok-next.next tree a b e c.requires.table.standing.placed one.only two.others two.buckets two.groups two.standing.placed three.only (length c.args.key.now) one.held two.held three.held
+
+pub put_slot-requires-clause-next : goal.put_slot-requires-clause-next
+put_slot-requires-clause-next g c =
+    let hash = g.H.KeyHash.hash_of in let t = c.args.self.now in let tree = c.args.tree.now in let a = c.take_array.new.tree in let b = c.take_group-taken.new.tree in let e = c.settle.new.tree in
+    let one = c.in_ok-next.ensures in let two = c.take_group-taken.ensures in let three = c.settle.ensures in
+    (c.args.state.now,
+     subst (λ (x : TableState g.row.H.Denot). IsNext x e c.args.key.now c.args.state.now c.in_ok-slot.slot) (sym three.array)
+     (settled_next t c.in_ok-next.next tree a b e c.requires.table.standing.placed one.only two.others two.buckets two.groups two.standing.placed three.only c.args.key.now c.args.state.now c.in_ok-slot.slot c.in_ok-slot.ensures.next))
+
+pub put_slot-requires-clause-absent : goal.put_slot-requires-clause-absent
+put_slot-requires-clause-absent g c =
+    let hash = g.H.KeyHash.hash_of in let t = c.args.self.now in let tree = c.args.tree.now in let a = c.take_array.new.tree in let b = c.take_group-taken.new.tree in let e = c.settle.new.tree in
+    let one = c.in_ok-next.ensures in let two = c.take_group-taken.ensures in let three = c.settle.ensures in
+    subst (λ (x : TableState g.row.H.Denot). HasNo x e c.args.key.now) (sym three.array)
+    (settled_absent t c.in_ok-next.next tree a b e c.requires.table.standing.placed one.only two.others two.buckets two.groups two.standing.placed three.only c.args.key.now c.requires.absent)
+
+pub returns-clause-table : goal.returns-clause-table
+returns-clause-table g c =
+    let hash = g.H.KeyHash.hash_of in let t = c.args.self.now in let tree = c.args.tree.now in let a = c.take_array.new.tree in let b = c.take_group-taken.new.tree in let e = c.settle.new.tree in
+    let one = c.in_ok-next.ensures in let two = c.take_group-taken.ensures in let three = c.settle.ensures in
+    let x = c.self.inside in let v = c.push_reserved.new.self in let slot = c.in_ok-slot.slot in let d = c.put_slot.new.tree in
+    let spare : vec_capacity v - vec_len v ≡ vec_capacity x.slots - vec_len x.slots - 1 = omega (arith, c.push_reserved.ensures.capacity, c.push_reserved.ensures.len) in
+    let fin : TableState g.row.H.Denot = record { parent = x.parent; buckets = x.buckets; keys = x.keys; states = x.states; width = x.width; hash = x.hash; array = x.array; slots = v.items; spare = vec_capacity v - vec_len v } in
+    let is : fin ≡ with_slot c.settle.new.self slot =
+        ap (λ xs. record { parent = x.parent; buckets = x.buckets; keys = x.keys; states = x.states; width = x.width; hash = x.hash; array = x.array; slots = xs; spare = vec_capacity v - vec_len v }) c.push_reserved.ensures.items
+        ∙ ap (λ n. record { parent = x.parent; buckets = x.buckets; keys = x.keys; states = x.states; width = x.width; hash = x.hash; array = x.array; slots = x.slots.items ++ slot ∷ []; spare = n }) spare
+        ∙ ap (λ (y : TableState g.row.H.Denot). with_slot y slot) c.self.view_is in
+    ?
+
+pub returns-clause-same : goal.returns-clause-same
+returns-clause-same g c =
+    let hash = g.H.KeyHash.hash_of in let t = c.args.self.now in let tree = c.args.tree.now in let a = c.take_array.new.tree in let b = c.take_group-taken.new.tree in let e = c.settle.new.tree in
+    let one = c.in_ok-next.ensures in let two = c.take_group-taken.ensures in let three = c.settle.ensures in
+    let x = c.self.inside in let v = c.push_reserved.new.self in let slot = c.in_ok-slot.slot in let d = c.put_slot.new.tree in
+    let spare : vec_capacity v - vec_len v ≡ vec_capacity x.slots - vec_len x.slots - 1 = omega (arith, c.push_reserved.ensures.capacity, c.push_reserved.ensures.len) in
+    let fin : TableState g.row.H.Denot = record { parent = x.parent; buckets = x.buckets; keys = x.keys; states = x.states; width = x.width; hash = x.hash; array = x.array; slots = v.items; spare = vec_capacity v - vec_len v } in
+    let is : fin ≡ with_slot c.settle.new.self slot =
+        ap (λ xs. record { parent = x.parent; buckets = x.buckets; keys = x.keys; states = x.states; width = x.width; hash = x.hash; array = x.array; slots = xs; spare = vec_capacity v - vec_len v }) c.push_reserved.ensures.items
+        ∙ ap (λ n. record { parent = x.parent; buckets = x.buckets; keys = x.keys; states = x.states; width = x.width; hash = x.hash; array = x.array; slots = x.slots.items ++ slot ∷ []; spare = n }) spare
+        ∙ ap (λ (y : TableState g.row.H.Denot). with_slot y slot) c.self.view_is in
+    subst (λ (y : TableState g.row.H.Denot). IsSameBut t y) (sym (is ∙ ap (λ (y : TableState g.row.H.Denot). with_slot y slot) three.array)) (next_same t c.in_ok-next.next slot)
+
+pub returns-clause-groups : goal.returns-clause-groups
+returns-clause-groups g c =
+    let hash = g.H.KeyHash.hash_of in let t = c.args.self.now in let tree = c.args.tree.now in let a = c.take_array.new.tree in let b = c.take_group-taken.new.tree in let e = c.settle.new.tree in
+    let one = c.in_ok-next.ensures in let two = c.take_group-taken.ensures in let three = c.settle.ensures in
+    let x = c.self.inside in let v = c.push_reserved.new.self in let slot = c.in_ok-slot.slot in let d = c.put_slot.new.tree in
+    let spare : vec_capacity v - vec_len v ≡ vec_capacity x.slots - vec_len x.slots - 1 = omega (arith, c.push_reserved.ensures.capacity, c.push_reserved.ensures.len) in
+    let fin : TableState g.row.H.Denot = record { parent = x.parent; buckets = x.buckets; keys = x.keys; states = x.states; width = x.width; hash = x.hash; array = x.array; slots = v.items; spare = vec_capacity v - vec_len v } in
+    let is : fin ≡ with_slot c.settle.new.self slot =
+        ap (λ xs. record { parent = x.parent; buckets = x.buckets; keys = x.keys; states = x.states; width = x.width; hash = x.hash; array = x.array; slots = xs; spare = vec_capacity v - vec_len v }) c.push_reserved.ensures.items
+        ∙ ap (λ n. record { parent = x.parent; buckets = x.buckets; keys = x.keys; states = x.states; width = x.width; hash = x.hash; array = x.array; slots = x.slots.items ++ slot ∷ []; spare = n }) spare
+        ∙ ap (λ (y : TableState g.row.H.Denot). with_slot y slot) c.self.view_is in
+    let next = subst (λ (y : TableState g.row.H.Denot). IsNext y e c.args.key.now c.args.state.now slot) (sym three.array)
+        (settled_next t c.in_ok-next.next tree a b e c.requires.table.standing.placed one.only two.others two.buckets two.groups two.standing.placed three.only c.args.key.now c.args.state.now slot c.in_ok-slot.ensures.next) in
+    let s1 = c.settle.new.self in
+    ap (λ (y : TableState g.row.H.Denot). groups y d) is
+    ∙ groups_pushed s1 d c.args.key.now c.args.state.now slot (next_left s1 e d c.put_slot.ensures.only three.standing.placed c.args.key.now c.args.state.now slot next)
+    ∙ ap (λ gs. gs ++ (c.args.key.now, c.args.state.now) ∷ [])
+        (groups_left s1 e d c.put_slot.ensures.only three.standing.placed ∙ ap (λ (y : TableState g.row.H.Denot). groups y e) three.array
+        ∙ settled_groups t c.in_ok-next.next tree a b e c.requires.table.standing.placed one.only two.others two.buckets two.groups two.standing.placed three.only)
+
+pub returns-clause-others : goal.returns-clause-others
+returns-clause-others g c = ?
+
+pub returns-clause-held : goal.returns-clause-held
+returns-clause-held g c = ?
