@@ -158,3 +158,16 @@ module _ {H : Type 0} (t : TableState H) (next : Option ChunkName) (tree a b e :
         let state : growth_of (context_at a t.states) t.width ≡ growth_of (context_at tree t.states) t.width = ap (λ (c : Context). growth_of c t.width) (states_left t tree a first placed) in
         let by : held_by (context_at b t.buckets) ≡ held_by (context_at a t.buckets) = ap held_by buckets in
         omega (arith, one, two, three, key, state, by, held_left t tree a first placed, held_left t b e last placed_b)
+
+module _ {H : Type 0} (t : TableState H) where
+  pub next_others : (next : Option ChunkName) (a b : TreeState) → KeepsOthers (with_next t next) a b → KeepsOthers t a b
+  next_others None a b is = is
+  next_others (Some name) a b is = record { links = is.links; last = is.last; number = is.number; others = is.others }
+
+  pub next_parent : (next : Option ChunkName) → (with_next t next).parent ≡ t.parent
+  next_parent None = refl
+  next_parent (Some name) = refl
+
+-- with an array there is nothing to ask of the space
+pub any_space : (P : Rattle.chunk_contexts.specs.Set.SetState → Type 0) (c : Context) (a : Option ChunkName) (name : ChunkName) → a ≡ Some name → IsSetWith P c → IsSetWith (HasSpace a) c
+any_space P c a name is with = let set = set_of P c with in set_with (HasSpace a) c set.set set.is (subst (λ x. HasSpace x set.set) (sym is) tt)

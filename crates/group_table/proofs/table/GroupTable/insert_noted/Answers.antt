@@ -1,10 +1,11 @@
 use Rattle.std.proofs.Common.{◌≡◌, ◌+◌, ◌-◌, ◌≤◌, ◌++◌, ◌∷◌, [], length, sym, subst, ◌∙◌, ap, arith, refl}
 use Rattle.std.specs.Vec.{vec_capacity, vec_len}
 use Rattle.context_tree.specs.Tree.{TreeState, context_at, held_below}
+use Rattle.context_tree.specs.declared.links.ContextId.{ContextId}
 use Rattle.group_table.specs.Table.{TableState, groups, group_growth, HasNo, IsSameBut}
-use Rattle.group_table.specs.Standing.{IsStanding, IsTableIn, KeepsOthers}
+use Rattle.group_table.specs.Standing.{IsStanding, IsTableIn, IsFirst, HasArray, KeepsOthers}
 use Rattle.group_table.specs.Arrays.{IsNext, with_next, with_slot}
-use Rattle.group_table.proofs.InsertLaws.{always_err, next_slots, next_same, others_twice, others_left, groups_left, groups_pushed, held_left, next_left, settled_groups, settled_others, settled_next, settled_absent, settled_held}
+use Rattle.group_table.proofs.InsertLaws.{always_err, next_slots, next_same, others_twice, others_left, next_others, next_parent, any_space, groups_left, groups_pushed, held_left, next_left, settled_groups, settled_others, settled_next, settled_absent, settled_held}
 use Rattle.group_table.proofs.table.GroupTable.insert_noted.Goals as goal
 
 pub returns-in_err-slot-clause-refused : goal.returns-in_err-slot-clause-refused
@@ -48,7 +49,10 @@ returns-clause-table g c =
         ap (λ xs. record { parent = x.parent; buckets = x.buckets; keys = x.keys; states = x.states; width = x.width; hash = x.hash; array = x.array; slots = xs; spare = vec_capacity v - vec_len v }) c.push_reserved.ensures.items
         ∙ ap (λ n. record { parent = x.parent; buckets = x.buckets; keys = x.keys; states = x.states; width = x.width; hash = x.hash; array = x.array; slots = x.slots.items ++ slot ∷ []; spare = n }) spare
         ∙ ap (λ (y : TableState g.row.H.Denot). with_slot y slot) c.self.view_is in
-    ?
+    let s1 = c.settle.new.self in
+    let standing = c.put_slot.ensures.standing in
+    subst (λ (y : TableState g.row.H.Denot). IsTableIn hash y d) (sym is)
+    (record { standing = standing; space = any_space (λ s. IsFirst s × HasArray hash (with_slot s1 slot) (context_at d s1.keys) s1.array s) (context_at d s1.buckets) s1.array three.room.0 three.room.1 standing.stands.set })
 
 pub returns-clause-same : goal.returns-clause-same
 returns-clause-same g c =
@@ -84,7 +88,22 @@ returns-clause-groups g c =
         ∙ settled_groups t c.in_ok-next.next tree a b e c.requires.table.standing.placed one.only two.others two.buckets two.groups two.standing.placed three.only)
 
 pub returns-clause-others : goal.returns-clause-others
-returns-clause-others g c = ?
+returns-clause-others g c =
+    let hash = g.H.KeyHash.hash_of in let t = c.args.self.now in let tree = c.args.tree.now in let a = c.take_array.new.tree in let b = c.take_group-taken.new.tree in let e = c.settle.new.tree in
+    let one = c.in_ok-next.ensures in let two = c.take_group-taken.ensures in let three = c.settle.ensures in
+    let d = c.put_slot.new.tree in
+    others_twice t tree e d
+        (settled_others t c.in_ok-next.next tree a b e c.requires.table.standing.placed one.only two.others two.buckets two.groups two.standing.placed three.only)
+        (next_others t c.in_ok-next.next e d (subst (λ (y : TableState g.row.H.Denot). KeepsOthers y e d) three.array (others_left c.settle.new.self e d c.put_slot.ensures.only three.standing.placed)))
 
 pub returns-clause-held : goal.returns-clause-held
-returns-clause-held g c = ?
+returns-clause-held g c =
+    let hash = g.H.KeyHash.hash_of in let t = c.args.self.now in let tree = c.args.tree.now in let a = c.take_array.new.tree in let b = c.take_group-taken.new.tree in let e = c.settle.new.tree in
+    let one = c.in_ok-next.ensures in let two = c.take_group-taken.ensures in let three = c.settle.ensures in
+    let d = c.put_slot.new.tree in let s1 = c.settle.new.self in
+    let parent = ap (λ (y : TableState g.row.H.Denot). y.parent) three.array ∙ next_parent t c.in_ok-next.next in
+    let last = held_left s1 e d c.put_slot.ensures.only three.standing.placed in
+    let same = c.put_slot.ensures.held in
+    let after : held_below d s1.parent ≡ held_below e s1.parent = omega (arith, last, same) in
+    let kept : held_below d t.parent ≡ held_below e t.parent = subst (λ (p : ContextId). held_below d p ≡ held_below e p) parent after in
+    omega (arith, kept, settled_held t c.in_ok-next.next tree a b e c.requires.table.standing.placed one.only two.others two.buckets two.groups two.standing.placed three.only (length c.args.key.now) one.held two.held three.held)
