@@ -10,4 +10,5 @@ pub mod GroupLaws
 pub mod MoveLaws
 pub mod PutLaws
 pub mod InsertLaws
+pub mod RoomLaws
 pub mod TableLaws

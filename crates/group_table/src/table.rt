@@ -3,7 +3,7 @@ ghost use Rattle.std.specs.Prelude.{◌≡◌, ◌≢◌, ◌*◌, ◌-◌, ◌^
 ghost use Rattle.chunk_layout.specs.Pieces.{place_of};
 ghost use Rattle.context_tree.specs.Contexts.{has_chunk, chunk_bytes, with_bytes, held_by, growth_of};
 ghost use Rattle.context_tree.specs.Tree.{is_there, context_at, with_context, held_below, reset};
-ghost use Rattle.group_table.specs.Table.{key_in, state_in, group_in, groups, IsSlot, Names, HasNo, buckets_in, buckets_for, most_buckets, array_growth, group_growth, has_room, IsSameBut};
+ghost use Rattle.group_table.specs.Table.{key_in, state_in, group_in, groups, IsSlot, Names, HasNo, buckets_in, buckets_for, most_buckets, array_growth, group_growth, has_room, IsEmptied, IsSameBut};
 ghost use Rattle.group_table.specs.Standing.{IsStanding, IsTableIn, KeepsOthers};
 ghost use Rattle.group_table.specs.Arrays.{OnlyIn, HasNext, IsSpare, IsNext, with_array, with_next, with_slot, with_spare};
 
@@ -55,6 +55,29 @@ impl<H: KeyHash + Drop> Model for GroupTable<H> {
     ghost view = { λ t. record { parent = t.parent; buckets = t.buckets; keys = t.keys; states = t.states; width = t.width; hash = t.hash; array = t.array; slots = t.slots.items; spare = vec_capacity t.slots - vec_len t.slots } };
 }
 
+/// How many bytes of blocks a chunk of `n` bytes takes of a context that is there.
+fn growth(tree: &Tree, id: ContextId, n: usize) -> u64
+    requires there { is_there tree.now id ≡ true }
+    requires small { n < 2 ^ 32 }
+    ensures { result ≡ growth_of (context_at tree.now id) n }
+{
+    match tree.growth_for(id, n as u32) {
+        Ok(growth) => growth,
+        Err(_) => unreachable!(),
+    }
+}
+
+/// The bytes of the blocks of a context that is there and of all that are below it.
+fn held_below(tree: &Tree, id: ContextId) -> u128
+    requires { is_there tree.now id ≡ true }
+    ensures { result ≡ held_below tree.now id }
+{
+    match tree.held_below(id) {
+        Ok(held) => held,
+        Err(_) => unreachable!(),
+    }
+}
+
 impl<H: KeyHash + Drop> GroupTable<H> {
     /// How many groups there are.
     pub fn len(&self) -> usize
@@ -99,6 +122,44 @@ impl<H: KeyHash + Drop> GroupTable<H> {
     {
         let slot = self.slots[place];
         (chunk(tree, self.keys, slot.key), self.state(tree, slot))
+    }
+
+    /// Whether one more group with this key keeps within a limit, in bytes of blocks, on what is held below the table's
+    /// parent at each step of the way, and within 2^24 buckets.
+    ///
+    /// It is true of each key of up to 8,192 bytes at each limit from 32,768 up where there is no group and nothing is held
+    /// below the parent but by the buckets, as when the table was just made or cleared, if a state has up to 8,184 bytes.
+    pub fn room_for(&self, tree: &Tree, key: &[u8], limit: u64) -> bool
+        requires table { IsTableIn H.hash_of self.now tree.now }
+        requires key { length key.now ≤ 65535 }
+        ensures exact { result ≡ has_room self.now tree.now (length key.now) limit }
+        ensures emptied { IsEmptied self.now tree.now → length key.now ≤ 8192 → self.now.width ≤ 8184 → 32768 ≤ limit → result ≡ true }
+    {
+        if self.buckets_wanted() > MOST_BUCKETS {
+            return false;
+        }
+        let limit = u128::from(limit);
+        let growth = self.growth_for(tree, key.len());
+        growth <= limit && held_below(tree, self.parent) <= limit - growth
+    }
+
+    /// How many bytes of blocks one more group takes, with a key of so many bytes.
+    fn growth_for(&self, tree: &Tree, n: usize) -> u128
+        requires standing { IsStanding H.hash_of self.now tree.now }
+        requires few { buckets_for (buckets_in self.now.array) (length self.now.slots) ≤ most_buckets }
+        requires key { n ≤ 65535 }
+        ensures value { result ≡ group_growth self.now tree.now n }
+        ensures bound { result < 2 ^ 127 }
+    {
+        let wanted = self.buckets_wanted();
+        let array = if wanted == self.bucket_count() {
+            0
+        } else {
+            growth(tree, self.buckets, wanted * BUCKET)
+        };
+        let key = growth(tree, self.keys, n);
+        let state = growth(tree, self.states, self.width as usize);
+        u128::from(array) + u128::from(key) + u128::from(state)
     }
 
     /// Takes a chunk of zeros for the array of the table with one more group, if it is to have another array.
