@@ -31,7 +31,7 @@ module _ {H : Type 0} (hash_of : H → List ℕ → ℕ) (t : TableState H) wher
     own = is.own;
   }
 
-  other_states : (keys states others : Context) → ((slot : Slot) → IsSlot t slot → IsTrue (has_chunk others slot.state)) → AreGroups t keys states → AreGroups t keys others
+  pub other_states : (keys states others : Context) → ((slot : Slot) → IsSlot t slot → IsTrue (has_chunk others slot.state)) → AreGroups t keys states → AreGroups t keys others
   other_states keys states others live is = record { keys_live = is.keys_live; states_live = live; widths = is.widths; once = is.once; own = is.own }
 
   -- a chunk is taken from the context of the keys

@@ -11,4 +11,5 @@ pub mod MoveLaws
 pub mod PutLaws
 pub mod InsertLaws
 pub mod RoomLaws
+pub mod WriteLaws
 pub mod TableLaws

@@ -336,3 +336,24 @@ impl<H: KeyHash + Drop> GroupTable<H> {
         Ok(slot)
     }
 }
+
+impl<H: KeyHash + Drop> GroupTable<H> {
+    ghost use Rattle.std.specs.Borrow.{sem};
+    ghost use Rattle.context_tree.specs.TreeLends.{lends_chunk, with_bytes_in};
+
+    /// Lends the state of a group, to be changed. All other groups stay as they are.
+    ///
+    /// The tree comes first, since it is what the bytes are lent from.
+    pub fn state_mut<'a>(tree: &'a mut Tree, table: &GroupTable<H>, slot: Slot) -> &'a mut [u8]
+        requires table { IsTableIn H.hash_of table.now tree.old }
+        requires slot { IsSlot table.now slot }
+        ensures* writes_back { sem 𝓛 (lends_chunk tree.entry table.now.states slot.state result) }
+        ensures state { result.now ≡ state_in table.now tree.old slot }
+        ensures len { length result.now ≡ table.now.width }
+        ensures stands { (ws : List ℕ) → length ws ≡ table.now.width → IsTableIn H.hash_of table.now (with_bytes_in tree.old table.now.states slot.state ws) }
+        ensures written { (ws : List ℕ) → (place : ℕ) → length ws ≡ table.now.width → slice_get table.now.slots place ≡ Some slot → groups table.now (with_bytes_in tree.old table.now.states slot.state ws) ≡ slice_set (groups table.now tree.old) place (key_in table.now tree.old slot, ws) }
+        ensures others { (ws : List ℕ) → KeepsOthers table.now tree.old (with_bytes_in tree.old table.now.states slot.state ws) }
+    {
+        tree.bytes_mut(table.states, slot.state)
+    }
+}
