@@ -11,3 +11,4 @@ pub mod MoveLaws
 pub mod PutLaws
 pub mod InsertLaws
 pub mod TableLaws
+pub mod ChildLaws
