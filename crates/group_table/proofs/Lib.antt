@@ -13,3 +13,4 @@ pub mod InsertLaws
 pub mod RoomLaws
 pub mod WriteLaws
 pub mod TableLaws
+pub mod ChildLaws

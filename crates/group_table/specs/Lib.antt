@@ -5,3 +5,4 @@ pub mod Table
 pub mod Search
 pub mod Standing
 pub mod Arrays
+pub mod Children

@@ -6,6 +6,7 @@
 
 mod array;
 mod bucket;
+mod children;
 mod hash;
 mod index;
 mod search;
