@@ -2,17 +2,19 @@
 ghost use Rattle.std.specs.Prelude.{◌≡◌, ◌≢◌, ◌*◌, ◌-◌, ◌^◌, ◌+◌, ◌<◌, ◌≤◌, ℕ, List, [], ◌∷◌, ◌++◌, Some, None, MatchOption, IfOk, IfErr, OnOk, OnErr, IsTrue, true, false, map, length, slice_get, slice_set, slice_index_or};
 ghost use Rattle.chunk_layout.specs.Pieces.{place_of};
 ghost use Rattle.context_tree.specs.Contexts.{has_chunk, chunk_bytes, with_bytes, held_by, growth_of};
-ghost use Rattle.context_tree.specs.Tree.{is_there, context_at, with_context, held_below, reset};
+ghost use Rattle.context_tree.specs.Tree.{is_there, context_at, held_below, reset, IsWhole};
 ghost use Rattle.group_table.specs.Table.{key_in, state_in, group_in, groups, IsSlot, Names, HasNo, buckets_in, buckets_for, most_buckets, array_growth, group_growth, has_room, IsEmptied, IsSameBut};
 ghost use Rattle.group_table.specs.Standing.{IsStanding, IsTableIn, KeepsOthers};
+ghost use Rattle.group_table.specs.Children.{IsRefused, IsAsBefore, IsNewTable, IsCleared};
 ghost use Rattle.group_table.specs.Arrays.{OnlyIn, HasNext, IsSpare, IsNext, with_array, with_next, with_slot, with_spare};
 
 use crate::bucket::{BUCKET, Bucket};
+use crate::children::{Children, make_children};
 use crate::hash::KeyHash;
 use crate::array::{give_up, put_into, refill};
 use crate::search::{chunk, search};
 use chunk_layout::ChunkName;
-use context_tree::{ContextId, Kind, Tree, TreeError};
+use context_tree::{ContextId, Tree, TreeError};
 use std::alloc::{AllocError, Global};
 use std::marker::Model;
 
@@ -67,6 +69,19 @@ fn growth(tree: &Tree, id: ContextId, n: usize) -> u64
     }
 }
 
+/// Gives up the chunks of a context that is there.
+fn empty(tree: &mut Tree, id: ContextId)
+    requires { is_there tree.old id ≡ true }
+    ensures reset { tree.new ≡ reset tree.old id }
+    ensures whole { IsWhole tree.old }
+{
+    tree.is_whole();
+    match tree.reset(id) {
+        Ok(()) => {}
+        Err(_) => unreachable!(),
+    }
+}
+
 /// The bytes of the blocks of a context that is there and of all that are below it.
 fn held_below(tree: &Tree, id: ContextId) -> u128
     requires { is_there tree.now id ≡ true }
@@ -79,6 +94,42 @@ fn held_below(tree: &Tree, id: ContextId) -> u128
 }
 
 impl<H: KeyHash + Drop> GroupTable<H> {
+    /// Makes a table of no group, with states of `width` bytes, 65,535 at most. Its three contexts are made below `parent`,
+    /// and hold nothing yet.
+    ///
+    /// Refuses `StampsSpent` where fewer than three stamps are left, and gives `NoMemory`. None of the three is left then,
+    /// though stamps may be spent.
+    pub fn new(
+        alloc: Global,
+        tree: &mut Tree,
+        parent: ContextId,
+        width: u32,
+        hash: H,
+    ) -> Result<GroupTable<H>, TreeError>
+        requires there { is_there tree.old parent ≡ true }
+        requires width { width ≤ 65535 }
+        ensures table { IfOk result (λ table. IsTableIn H.hash_of table tree.new) }
+        ensures made { IfOk result (IsNewTable tree.old tree.new parent width hash) }
+        ensures refused { IfErr result (IsRefused tree.old) }
+        ensures as_before { OnErr result (IsAsBefore tree.old tree.new parent) }
+    {
+        let Children {
+            buckets,
+            keys,
+            states,
+        } = make_children(tree, parent, width)?;
+        Ok(GroupTable {
+            parent,
+            buckets,
+            keys,
+            states,
+            width,
+            hash,
+            array: None,
+            slots: Vec::new(alloc),
+        })
+    }
+
     /// How many groups there are.
     pub fn len(&self) -> usize
         ensures { result ≡ length self.now.slots }
@@ -239,6 +290,21 @@ impl<H: KeyHash + Drop> GroupTable<H> {
             give_up(tree, self.buckets, old);
         }
         self.array = Some(name);
+    }
+
+    /// Gives up all groups. Of the blocks the first one of the buckets stays, if there is one; no memory is taken.
+    pub fn clear(&mut self, tree: &mut Tree)
+        requires { IsTableIn H.hash_of self.old tree.old }
+        ensures table { IsTableIn H.hash_of self.new tree.new }
+        ensures same { IsSameBut self.old self.new }
+        ensures empty { (self.new.slots ≡ []) × (self.new.array ≡ None) }
+        ensures held { IsCleared self.old tree.old tree.new }
+    {
+        empty(tree, self.buckets);
+        empty(tree, self.keys);
+        empty(tree, self.states);
+        self.array = None;
+        self.slots.clear();
     }
 
     /// Makes the next array that of the table, if there is one.
