@@ -1,6 +1,6 @@
 -- Arrays in a set that change.
-use Rattle.std.specs.Prelude.{◌≡◌, ◌≢◌, refl, ℕ, zero, suc, ◌+◌, ◌*◌, ◌/◌, ◌<◌, ◌≤◌, ◌==◌, ◌&&◌, Bool, true, false, cond, if◌then◌else◌, List, [], ◌∷◌, Option, Some, None, length, get_or, slice_set, IsTrue}
-use Rattle.std.proofs.Common.{inl, inr, sym, ◌∙◌, ap, subst, arith}
+use Rattle.std.specs.Prelude.{◌≡◌, refl, ℕ, ◌==◌, ◌&&◌, Bool, true, false, cond, if◌then◌else◌, List, [], ◌∷◌, length, IsTrue}
+use Rattle.std.proofs.Common.{sym, ◌∙◌, ap}
 use Rattle.std.proofs.lemmas.Bool.{eqb-true, false≢true}
 use Rattle.chunk_layout.specs.Pieces.{Piece, place_of, same_place, is_at, has, piece_at, rewritten, with_bytes_of}
 use Rattle.chunk_layout.specs.declared.place.Place.{Place}
@@ -33,7 +33,7 @@ room_kept (p ∷ ps) place bytes q = by (is_at place p) (room_kept ps place byte
     by false e = next (is_at q p) e
 
 pub rewritten_once : (c : Context) (s : SetState) (name : ChunkName) (bytes : List ℕ) → c ≡ AllocSet s → IsTrue (has_chunk (with_bytes c (place_of name) bytes) name) → KeepsOthers (chunks_of c) (chunks_of (with_bytes c (place_of name) bytes)) name name
-  → IsRewritten c (with_bytes c (place_of name) bytes) name
+    → IsRewritten c (with_bytes c (place_of name) bytes) name
 rewritten_once c s name bytes is lives keeps = record {
   old = s;
   new = set_wrote s (place_of name) bytes;

@@ -1,8 +1,8 @@
 -- The bytes of buckets.
-use Rattle.std.specs.Prelude.{◌≡◌, ◌≢◌, refl, ℕ, ◌+◌, ◌*◌, ◌-◌, ◌^◌, ◌<◌, ◌≤◌, ◌==◌, cond, List, [], ◌∷◌, ◌++◌, Some, None, length, take, drop, get_or, slice_range}
+use Rattle.std.specs.Prelude.{◌≡◌, ◌≢◌, ℕ, ◌+◌, ◌*◌, ◌^◌, ◌<◌, ◌≤◌, ◌==◌, cond, List, [], ◌∷◌, ◌++◌, Some, None, length, take, drop, get_or}
 use Rattle.std.specs.Int.{w32, from_be_bytes, to_be_bytes}
 use Rattle.std.proofs.Common.{rules, sym, ◌∙◌, ap, subst, arith}
-use Rattle.std.proofs.lemmas.List.{places, same_lists, get_or-append-add}
+use Rattle.std.proofs.lemmas.List.{places, same_lists}
 use Rattle.std.proofs.lemmas.Nat.{from_be_bytes-to_be_bytes_4}
 use Rattle.chunk_layout.specs.declared.place.ChunkName.{ChunkName}
 use Rattle.group_table.specs.Buckets.{number_at, name_at, bucket_in, bucket_at}
@@ -10,7 +10,7 @@ use Rattle.group_table.specs.declared.bucket.Bucket.{Bucket}
 
 -- four bytes that are the same give the same number
 four : (xs ys : List ℕ) (a b : ℕ) → get_or xs a 0 ≡ get_or ys b 0 → get_or xs (a + 1) 0 ≡ get_or ys (b + 1) 0 → get_or xs (a + 2) 0 ≡ get_or ys (b + 2) 0 → get_or xs (a + 3) 0 ≡ get_or ys (b + 3) 0
-  → number_at xs a ≡ number_at ys b
+    → number_at xs a ≡ number_at ys b
 unfolding number_at
 four xs ys a b first second third last =
     ap (λ x. from_be_bytes w32 (x ∷ get_or xs (a + 1) 0 ∷ get_or xs (a + 2) 0 ∷ get_or xs (a + 3) 0 ∷ [])) first
@@ -35,7 +35,7 @@ number_set at n k xs ys bytes small in_xs =
     let len : length ys ≡ 4 = ap length bytes in
     let low : at ≤ length xs = omega (arith, in_xs) in
     let each : (i : ℕ) → i < 4 → get_or (take at xs ++ (ys ++ drop k (drop at xs))) (at + i) 0 ≡ get_or (to_be_bytes w32 n) i 0 =
-        λ i h. in_part xs at k ys i low (subst (λ m. i < m) (sym len) h) ∙ ap (λ bs. get_or bs i 0) bytes in
+    λ i h. in_part xs at k ys i low (subst (λ m. i < m) (sym len) h) ∙ ap (λ bs. get_or bs i 0) bytes in
     four (take at xs ++ (ys ++ drop k (drop at xs))) (to_be_bytes w32 n) at 0 (subst (λ i. get_or (take at xs ++ (ys ++ drop k (drop at xs))) i 0 ≡ get_or (to_be_bytes w32 n) 0 0) (omega arith) (each 0 (omega arith))) (each 1 (omega arith)) (each 2 (omega arith)) (each 3 (omega arith))
     ∙ from_be_bytes-to_be_bytes_4 n small
 

@@ -77,12 +77,12 @@ leads_alike (suc steps) ls now same above slot =
 
 -- in a forest a parent is in a lower slot, and is there
 module _ (ls : List (Option Link)) (forest : IsForest ls) where
-  parent_is : (slot : ℕ) (link : Option Link) → get_or ls slot None ≡ link → (p : ℕ) → parent_of link ≡ Some p → (p < slot) × (is_some (get_or ls p None) ≡ true)
+  pub parent_is : (slot : ℕ) (link : Option Link) → get_or ls slot None ≡ link → (p : ℕ) → parent_of link ≡ Some p → (p < slot) × (is_some (get_or ls p None) ≡ true)
   parent_is slot None is p e = absurd (false≢true (ap is_some e))
   parent_is slot (Some link) is p e = subst (IsMadeBelow ls slot) e (forest.below slot link is)
 
   -- one never comes to a higher slot
-  not_above : (steps above slot : ℕ) → slot < above → leads_to steps ls above slot ≡ false
+  pub not_above : (steps above slot : ℕ) → slot < above → leads_to steps ls above slot ≡ false
   unfolding leads_to
   not_above zero above slot less = ne_eqb slot above (λ e. omega (arith, e, less))
   not_above (suc steps) above slot less =
@@ -314,6 +314,7 @@ pub is_child : (t : TreeState) → IsWhole t → (parent id : ContextId) → is_
 is_child t whole parent id there up = record {
   there = there;
   within = omega (arith, whole.long, low_there t.links id.slot (some_there (get_or t.links id.slot None) id.stamp there));
+  up = up;
   below = child_below t.links whole.forest id.slot parent.slot up;
 }
 

@@ -1,15 +1,14 @@
 -- Chunks for a group are taken.
-use Rattle.std.specs.Prelude.{◌≡◌, ◌≢◌, refl, ℕ, zero, suc, ◌+◌, ◌<◌, ◌≤◌, true, false, List, [], ◌∷◌, Option, Some, None, map, length, slice_get, IsTrue}
+use Rattle.std.specs.Prelude.{◌≡◌, refl, ℕ, suc, ◌+◌, List, [], ◌∷◌, Some, map, slice_get, IsTrue}
 use Rattle.std.proofs.Common.{sym, ◌∙◌, ap, subst, arith}
-use Rattle.chunk_layout.specs.Pieces.{Piece, same_place, place_of}
+use Rattle.chunk_layout.specs.Pieces.{Piece}
 use Rattle.chunk_layout.specs.declared.place.ChunkName.{ChunkName}
 use Rattle.chunk_contexts.specs.Chunks.{Keeps}
-use Rattle.context_tree.specs.Contexts.{chunks_of, has_chunk, chunk_bytes, with_chunk, growth_of, held_by}
+use Rattle.context_tree.specs.Contexts.{chunks_of, has_chunk, chunk_bytes, with_chunk, held_by}
 use Rattle.context_tree.specs.Tree.{TreeState, context_at, with_context, held_below}
 use Rattle.context_tree.specs.declared.context.Context.{Context}
-use Rattle.context_tree.specs.declared.links.ContextId.{ContextId}
 use Rattle.group_table.specs.Table.{TableState, IsSlot, group_in, groups}
-use Rattle.group_table.specs.Standing.{IsSetWith, IsBump, IsSlabOf, IsFirst, HasArray, AreGroups, Stands, IsChild, IsPlaced, IsStanding}
+use Rattle.group_table.specs.Standing.{IsSetWith, IsBump, IsSlabOf, IsFirst, HasArray, AreGroups, IsStanding}
 use Rattle.group_table.specs.Arrays.{OnlyIn}
 use Rattle.group_table.specs.declared.table.Slot.{Slot}
 use Rattle.group_table.proofs.StandLaws.{bump_with, slab_with, set_by}

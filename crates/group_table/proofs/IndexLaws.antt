@@ -1,8 +1,7 @@
 -- Buckets that are in use, and where they are found.
-use Rattle.std.specs.Prelude.{◌≡◌, ◌≢◌, refl, ℕ, zero, suc, ◌+◌, ◌*◌, ◌-◌, ◌<◌, ◌≤◌, ◌⊎◌, ◌&&◌, ◌||◌, nat_le, nat_lt, Bool, true, false, cond, List, Option, Some, None, length, is_some, unwrap_or, IfSome}
+use Rattle.std.specs.Prelude.{◌≡◌, ◌≢◌, refl, ℕ, zero, suc, ◌+◌, ◌*◌, ◌<◌, ◌≤◌, ◌⊎◌, nat_le, Bool, true, false, cond, List, Option, Some, None, length, is_some, unwrap_or, IfSome}
 use Rattle.std.proofs.Common.{inl, inr, sym, ◌∙◌, ap, subst, arith, add-one}
 use Rattle.std.proofs.lemmas.Bool.{cases_eq, leb-true, leb-false}
-use Rattle.std.specs.Int.Bits.{bit_and}
 use Rattle.group_table.specs.Buckets.{bucket_at}
 use Rattle.group_table.specs.Index.{start_of, passes, IsPath, IsIndex, in_use, Holds, Puts, HasAll}
 use Rattle.group_table.specs.declared.bucket.Bucket.{Bucket}

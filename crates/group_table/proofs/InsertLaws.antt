@@ -6,12 +6,11 @@ use Rattle.chunk_layout.specs.declared.place.ChunkName.{ChunkName}
 use Rattle.context_tree.specs.Contexts.{no_context, chunk_bytes, growth_of, held_by}
 use Rattle.context_tree.specs.Tree.{TreeState, context_at, held_below}
 use Rattle.context_tree.specs.declared.context.Context.{Context}
-use Rattle.context_tree.specs.declared.links.ContextId.{ContextId}
-use Rattle.group_table.specs.Table.{TableState, key_in, group_in, groups, IsSlot, HasNo, IsSameBut, array_growth, group_growth}
-use Rattle.group_table.specs.Standing.{IsSetWith, HasSpace, AreGroups, Stands, IsArrayOf, IsArrayIn, HasArray, IsFirst, IsPlaced, IsStanding, IsTableIn, KeepsOthers}
-use Rattle.group_table.specs.Arrays.{OnlyIn, IsNext, HasNext, with_array, with_next, with_slot, with_spare}
+use Rattle.group_table.specs.Table.{TableState, group_in, groups, HasNo, IsSameBut, array_growth, group_growth}
+use Rattle.group_table.specs.Standing.{IsSetWith, HasSpace, IsArrayOf, HasArray, IsFirst, IsPlaced, IsTableIn, KeepsOthers}
+use Rattle.group_table.specs.Arrays.{OnlyIn, IsNext, with_next, with_slot, with_spare}
 use Rattle.group_table.specs.declared.table.Slot.{Slot}
-use Rattle.group_table.proofs.StandLaws.{SetOf, set_of, set_with}
+use Rattle.group_table.proofs.StandLaws.{set_of, set_with}
 use Rattle.group_table.proofs.TreeFacts.{at_other, same_links, same_last, same_number, same_others, held_changed}
 
 -- the group at a place

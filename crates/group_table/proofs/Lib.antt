@@ -12,5 +12,6 @@ pub mod PutLaws
 pub mod InsertLaws
 pub mod RoomLaws
 pub mod WriteLaws
+pub mod ClearLaws
 pub mod TableLaws
 pub mod ChildLaws

@@ -1,10 +1,9 @@
 -- The buckets move to the next array.
-use Rattle.std.specs.Prelude.{◌≡◌, ◌≢◌, refl, ℕ, zero, suc, ◌+◌, ◌*◌, ◌/◌, ◌<◌, ◌≤◌, ◌⊎◌, ◌==◌, ◌&&◌, not, nat_le, nat_lt, Bool, true, false, cond, if◌then◌else◌, List, [], ◌∷◌, Option, Some, None, length, get_or, slice_get, slice_set, is_some, unwrap_or, IsTrue}
-use Rattle.std.specs.List.{filter}
+use Rattle.std.specs.Prelude.{◌≡◌, ◌≢◌, refl, ℕ, zero, suc, ◌*◌, ◌<◌, ◌≤◌, ◌⊎◌, ◌==◌, ◌&&◌, not, nat_lt, Bool, true, false, cond, if◌then◌else◌, List, [], ◌∷◌, Option, Some, None, length, get_or, slice_get, slice_set, is_some, unwrap_or, IsTrue}
 use Rattle.std.proofs.Common.{inl, inr, sym, ◌∙◌, ap, subst, arith}
-use Rattle.std.proofs.lemmas.Bool.{cases_Bool, cases_eq, leb-true, leb-false, false≢true, cond-true, cond-false, eqb-true, eq-eqb, ne_eqb, le-leb}
+use Rattle.std.proofs.lemmas.Bool.{cases_eq, leb-true, false≢true, cond-false, eqb-true, eq-eqb, ne_eqb, le-leb}
 use Rattle.std.proofs.lemmas.List.{get_or-set_other}
-use Rattle.chunk_layout.specs.Pieces.{Piece, same_place, place_of, is_at, has, piece_at, without, size_at, total}
+use Rattle.chunk_layout.specs.Pieces.{Piece, same_place, place_of, is_at, piece_at, without, size_at, total}
 use Rattle.chunk_layout.specs.declared.place.Place.{Place}
 use Rattle.chunk_layout.specs.declared.place.ChunkName.{ChunkName}
 use Rattle.chunk_contexts.specs.Chunks.{KeepsOthers, is_live, bytes_of}
@@ -13,14 +12,12 @@ use Rattle.chunk_contexts.specs.Set.{SetState, set_room, set_freed}
 use Rattle.context_tree.specs.Contexts.{chunks_of, has_chunk, chunk_bytes, without_chunk, held_by}
 use Rattle.context_tree.specs.Tree.{TreeState, context_at, with_context}
 use Rattle.context_tree.specs.declared.context.Context.{Context}
-use Rattle.context_tree.specs.declared.context.Context.TheVariants.{AllocSet, Slab, Generation, Bump}
+use Rattle.context_tree.specs.declared.context.Context.TheVariants.{AllocSet}
 use Rattle.group_table.specs.Buckets.{bucket_at}
-use Rattle.group_table.specs.Index.{IsIndex, in_use, Holds, HasAll}
-use Rattle.group_table.specs.Table.{TableState, IsSlot, most_buckets}
-use Rattle.group_table.specs.Standing.{IsSetWith, IsBump, IsSlabOf, IsFirst, IsBesideFirst, HasArray, AreGroups, Stands, IsPlaced, IsStanding, IsArrayIn, IsArrayOf, bucket_of, slot_of}
-use Rattle.group_table.specs.Arrays.{IsRewritten, IsArrayAt, OnlyIn, IsSpare, bytes_at, count_of, with_array}
-use Rattle.group_table.specs.declared.bucket.Bucket.{Bucket}
-use Rattle.group_table.specs.declared.table.Slot.{Slot}
+use Rattle.group_table.specs.Index.{in_use, HasAll}
+use Rattle.group_table.specs.Table.{TableState}
+use Rattle.group_table.specs.Standing.{IsSetWith, IsBump, IsSlabOf, IsFirst, IsBesideFirst, HasArray, AreGroups, IsPlaced, IsStanding, IsArrayIn, IsArrayOf, bucket_of}
+use Rattle.group_table.specs.Arrays.{IsRewritten, OnlyIn, IsSpare, bytes_at, count_of, with_array}
 use Rattle.group_table.proofs.ArrayLaws.{as_named, one_set}
 use Rattle.group_table.proofs.IndexLaws.{none_yet}
 use Rattle.group_table.proofs.StandLaws.{SetOf, set_of, set_with}
@@ -145,17 +142,19 @@ module _ {H : Type 0} (hash_of : H → List ℕ → ℕ) (t : TableState H) (nam
       stands_moved = record {
         placed = placed_moved after (placed_kept t tree after (same_links t.buckets tree after only) (same_number t.buckets tree after only) is.placed);
         stands = record {
-          set = set_with (λ x. IsFirst x × HasArray hash_of moved (context_at after t.keys) (Some name) x) (context_at after t.buckets) s is_set
-              (first, record {
-                lives = lives;
-                whole = spare.array.whole;
-                some = spare.some;
-                most = spare.most;
-                full = omega (arith, spare.room);
-                first = some;
-                beside = beside;
-                array = subst (λ (k : Context). IsArrayOf hash_of moved k (bytes_of s.chunks name) (count_of name)) (sym same_keys) array;
-              });
+          set = set_with (λ x. IsFirst x × HasArray hash_of moved (context_at after t.keys) (Some name) x) (context_at after t.buckets) s is_set (
+            first,
+            record {
+              lives = lives;
+              whole = spare.array.whole;
+              some = spare.some;
+              most = spare.most;
+              full = omega (arith, spare.room);
+              first = some;
+              beside = beside;
+              array = subst (λ (k : Context). IsArrayOf hash_of moved k (bytes_of s.chunks name) (count_of name)) (sym same_keys) array;
+            },
+          );
           run = subst IsBump (sym same_keys) is.stands.run;
           slab = subst (IsSlabOf t.width) (sym same_states) is.stands.slab;
           width = is.stands.width;
@@ -182,8 +181,8 @@ module _ {H : Type 0} (hash_of : H → List ℕ → ℕ) (t : TableState H) (nam
         let beside = spare_at s set.is in
         let bytes : bytes_at tree t.buckets name ≡ bytes_of s.chunks name = ap (λ (c : Context). chunk_bytes c name) set.is in
         stands_moved tree only s set.is set.with.0 beside.0 beside.1 (live_at s set.is)
-            (subst (λ bs. IsArrayOf hash_of moved keys bs (count_of name)) bytes
-              (array_of_none keys (bytes_at tree t.buckets name) (count_of name) set.with.1 (as_named b name spare.array.lives ∙ spare.array.whole) spare.empty))
+        (subst (λ bs. IsArrayOf hash_of moved keys bs (count_of name)) bytes
+        (array_of_none keys (bytes_at tree t.buckets name) (count_of name) set.with.1 (as_named b name spare.array.lives ∙ spare.array.whole) spare.empty))
 
     -- a larger one
     module _ (old : ChunkName) (array : t.array ≡ Some old) (mid after : TreeState) (filled : OnlyIn t.buckets tree mid) (written : IsRewritten b (context_at mid t.buckets) name)
@@ -268,9 +267,9 @@ module _ {H : Type 0} (hash_of : H → List ℕ → ℕ) (t : TableState H) (nam
       pub larger_moved : IsStanding hash_of moved after
       larger_moved =
           stands_moved after only_moved freed is_freed first_left (ap is_some first_same ∙ was.first) beside_left kept.0
-              (subst (λ bs. IsArrayOf hash_of moved keys bs (count_of name)) (sym kept.1)
-                (array_of_all keys (bytes_at mid t.buckets name) (count_of name) (bytes_at tree t.buckets old) (count_of old)
-                  (subst (λ (c : Context). IsArrayOf hash_of t keys (chunk_bytes c old) (count_of old)) (sym set.is) was.array) all))
+          (subst (λ bs. IsArrayOf hash_of moved keys bs (count_of name)) (sym kept.1)
+          (array_of_all keys (bytes_at mid t.buckets name) (count_of name) (bytes_at tree t.buckets old) (count_of old)
+          (subst (λ (c : Context). IsArrayOf hash_of t keys (chunk_bytes c old) (count_of old)) (sym set.is) was.array) all))
 
       pub less_held : held_by (context_at after t.buckets) ≤ held_by b
       less_held =

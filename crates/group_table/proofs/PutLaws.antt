@@ -1,20 +1,18 @@
 -- A group comes into the table.
-use Rattle.std.specs.Prelude.{◌≡◌, ◌≢◌, refl, ℕ, zero, suc, ◌+◌, ◌*◌, ◌/◌, ◌<◌, ◌≤◌, ◌⊎◌, Bool, true, false, List, [], ◌∷◌, ◌++◌, Option, Some, None, option_map, map, length, slice_get, is_some, unwrap_or, IsTrue}
+use Rattle.std.specs.Prelude.{◌≡◌, refl, ℕ, zero, suc, ◌+◌, ◌*◌, ◌/◌, ◌≤◌, ◌⊎◌, true, false, List, [], ◌∷◌, ◌++◌, Some, None, length, slice_get, is_some, unwrap_or, IsTrue}
 use Rattle.std.proofs.Common.{inl, inr, sym, ◌∙◌, ap, subst, arith}
 use Rattle.std.proofs.lemmas.Bool.{cases_eq, false≢true}
-use Rattle.std.proofs.lemmas.List.{length_push, map-append}
+use Rattle.std.proofs.lemmas.List.{length_push}
 use Rattle.chunk_layout.specs.Pieces.{Piece, same_place, place_of, piece_at}
 use Rattle.chunk_layout.specs.declared.place.ChunkName.{ChunkName}
-use Rattle.chunk_contexts.specs.Chunks.{is_live, bytes_of, KeepsOthers}
 use Rattle.chunk_contexts.specs.Set.{SetState}
-use Rattle.context_tree.specs.Contexts.{chunks_of, has_chunk, chunk_bytes}
+use Rattle.context_tree.specs.Contexts.{has_chunk, chunk_bytes}
 use Rattle.context_tree.specs.Tree.{TreeState, context_at}
 use Rattle.context_tree.specs.declared.context.Context.{Context}
-use Rattle.context_tree.specs.declared.context.Context.TheVariants.{AllocSet}
 use Rattle.group_table.specs.Buckets.{bucket_at}
 use Rattle.group_table.specs.Index.{IsIndex, in_use, Holds, Puts}
-use Rattle.group_table.specs.Table.{TableState, key_in, state_in, group_in, groups, IsSlot, Names, HasNo}
-use Rattle.group_table.specs.Standing.{IsSetWith, IsBump, IsSlabOf, IsFirst, IsBesideFirst, HasArray, AreGroups, Stands, IsPlaced, IsStanding, IsArrayIn, IsArrayOf, bucket_of, slot_of}
+use Rattle.group_table.specs.Table.{TableState, IsSlot, HasNo}
+use Rattle.group_table.specs.Standing.{IsSetWith, IsBump, IsSlabOf, IsFirst, HasArray, AreGroups, IsStanding, IsArrayIn, IsArrayOf, bucket_of, slot_of}
 use Rattle.group_table.specs.Arrays.{IsRewritten, IsArrayAt, OnlyIn, HasNext, IsNext, bytes_at, count_of, with_slot}
 use Rattle.group_table.specs.declared.bucket.Bucket.{Bucket}
 use Rattle.group_table.specs.declared.table.Slot.{Slot}
@@ -183,8 +181,8 @@ module _ {H : Type 0} (hash_of : H → List ℕ → ℕ) (t : TableState H) (slo
           };
           array = subst (λ (c : Context). IsArrayOf hash_of more keys (chunk_bytes c name) (count_of name)) written.after_is
               (array_more keys (bytes_at tree t.buckets name) (bytes_at after t.buckets name) (count_of name)
-                (subst (λ (c : Context). IsArrayOf hash_of t keys (chunk_bytes c name) (count_of name)) (sym set.is) was.array) index number
-                (subst (λ h. Puts (bytes_at tree t.buckets name) (bytes_at after t.buckets name) (count_of name) (record { key = slot.key; state = slot.state; hash = h })) (hashed ∙ ap (hash_of t.hash) (sym next.key_is)) put));
+              (subst (λ (c : Context). IsArrayOf hash_of t keys (chunk_bytes c name) (count_of name)) (sym set.is) was.array) index number
+              (subst (λ h. Puts (bytes_at tree t.buckets name) (bytes_at after t.buckets name) (count_of name) (record { key = slot.key; state = slot.state; hash = h })) (hashed ∙ ap (hash_of t.hash) (sym next.key_is)) put));
         }
 
         same_keys : context_at after t.keys ≡ keys

@@ -1,21 +1,20 @@
 -- How much a table takes that holds nothing but its first block.
-use Rattle.std.specs.Prelude.{◌≡◌, ◌≢◌, refl, ℕ, ◌+◌, ◌*◌, ◌/◌, ◌<◌, ◌≤◌, ◌⊎◌, ◌==◌, max, nat_le, Bool, true, false, cond, if◌then◌else◌, List, [], Option, Some, None, length, is_some}
+use Rattle.std.specs.Prelude.{◌≡◌, ℕ, ◌+◌, ◌*◌, ◌≤◌, ◌⊎◌, ◌==◌, nat_le, Bool, true, false, cond, List, None, length, is_some}
 use Rattle.std.proofs.Common.{inl, inr, sym, ◌∙◌, ap, subst, arith}
 use Rattle.std.proofs.lemmas.Bool.{le-leb}
 use Rattle.chunk_layout.specs.Pieces.{total}
-use Rattle.chunk_layout.specs.declared.place.ChunkName.{ChunkName}
 use Rattle.chunk_contexts.specs.Rooms.{rounded, over_most, rooms, room_of, class_of}
 use Rattle.chunk_contexts.specs.Free.{is_in}
-use Rattle.chunk_contexts.specs.Run.{RunState, run_growth, run_growth_by}
-use Rattle.chunk_contexts.specs.Set.{SetState, new_set, set_room, set_growth, growth_by}
-use Rattle.chunk_contexts.specs.Slab.{SlabState, slab_growth, slab_grows, slab_refusal, slab_block, has_spare}
+use Rattle.chunk_contexts.specs.Run.{run_growth_by}
+use Rattle.chunk_contexts.specs.Set.{SetState, new_set, set_growth, growth_by}
+use Rattle.chunk_contexts.specs.Slab.{slab_refusal, slab_block, has_spare}
 use Rattle.context_tree.specs.Contexts.{growth_of, held_by}
 use Rattle.context_tree.specs.Tree.{TreeState, context_at, held_below}
 use Rattle.context_tree.specs.declared.context.Context.{Context}
 use Rattle.context_tree.specs.declared.context.Context.TheVariants.{AllocSet, Slab, Generation, Bump}
 use Rattle.group_table.specs.Table.{TableState, buckets_in, buckets_for, array_growth, group_growth, IsEmptied}
 use Rattle.group_table.specs.Standing.{IsSetWith, IsBump, IsSlabOf, IsFirst, HasArray, HasSpace, HasFirst, IsTableIn}
-use Rattle.group_table.proofs.StandLaws.{SetOf, set_of}
+use Rattle.group_table.proofs.StandLaws.{set_of}
 
 -- a first array
 first_growth : (s : SetState) → (s ≡ new_set) ⊎ HasFirst s → total s.blocks + set_growth s 8192 ≤ 16384
@@ -60,7 +59,7 @@ module _ {H : Type 0} (hash_of : H → List ℕ → ℕ) (t : TableState H) (tre
   no_slots : length t.slots ≡ 0
   no_slots =
       let set = set_of (λ s. IsFirst s × HasArray hash_of t (context_at tree t.keys) None s) b
-            (subst (λ a. IsSetWith (λ s. IsFirst s × HasArray hash_of t (context_at tree t.keys) a s) b) emptied.array is.standing.stands.set) in
+      (subst (λ a. IsSetWith (λ s. IsFirst s × HasArray hash_of t (context_at tree t.keys) a s) b) emptied.array is.standing.stands.set) in
       ap length set.with.1
 
   wanted : array_growth t tree ≡ growth_of b 8192

@@ -1,21 +1,21 @@
 -- A key that is in an array is found.
-use Rattle.std.specs.Prelude.{◌≡◌, ◌≢◌, refl, ℕ, suc, ◌+◌, ◌<◌, ◌≤◌, ◌⊎◌, ◌&&◌, ◌||◌, nat_le, nat_lt, Bool, true, false, List, Option, Some, None, is_some, unwrap_or, IfSome, if◌then◌else◌}
+use Rattle.std.specs.Prelude.{◌≡◌, ◌≢◌, refl, ℕ, suc, ◌+◌, ◌<◌, ◌≤◌, ◌⊎◌, ◌&&◌, ◌||◌, nat_le, nat_lt, Bool, true, false, List, Option, Some, None, is_some, unwrap_or, if◌then◌else◌}
 use Rattle.std.proofs.Common.{inl, inr, sym, ◌∙◌, ap, subst, arith}
-use Rattle.std.proofs.lemmas.Bool.{cases_eq, cases_lt, leb-true, leb-false, le-leb, false≢true, false_from_ne_true}
+use Rattle.std.proofs.lemmas.Bool.{cases_eq, cases_lt, leb-true, le-leb, false≢true, false_from_ne_true}
 use Rattle.context_tree.specs.Contexts.{chunk_bytes}
 use Rattle.context_tree.specs.declared.context.Context.{Context}
 use Rattle.group_table.specs.Buckets.{bucket_at}
-use Rattle.group_table.specs.Index.{start_of, passes, IsPath, IsIndex, Holds}
+use Rattle.group_table.specs.Index.{start_of, passes, IsIndex}
 use Rattle.group_table.specs.Search.{IsOther, Tells, Finds}
 use Rattle.group_table.specs.declared.bucket.Bucket.{Bucket}
 use Rattle.group_table.specs.declared.search.Probe.{Probe}
-use Rattle.group_table.specs.declared.search.Probe.TheVariants.{Found, Free, Passed}
+use Rattle.group_table.specs.declared.search.Probe.TheVariants.{Free, Passed}
 use Rattle.group_table.proofs.IndexLaws.{one_more}
 
 -- one more bucket that is another's
 pub next_other : (keys : Context) (array : List ℕ) (hash : ℕ) (key : List ℕ) (from n : ℕ) (b : Bucket)
-  → ((other : ℕ) → from ≤ other → other < n → IsOther keys array hash key other) → bucket_at array n ≡ Some b → (b.hash ≡ hash → chunk_bytes keys b.key ≢ key)
-  → (other : ℕ) → from ≤ other → other < n + 1 → IsOther keys array hash key other
+    → ((other : ℕ) → from ≤ other → other < n → IsOther keys array hash key other) → bucket_at array n ≡ Some b → (b.hash ≡ hash → chunk_bytes keys b.key ≢ key)
+    → (other : ℕ) → from ≤ other → other < n + 1 → IsOther keys array hash key other
 next_other keys array hash key from n b before is differs = one_more (IsOther keys array hash key) from n before (b, is, differs)
 
 -- a bucket of another key is not that of this key
@@ -53,7 +53,7 @@ module _ (keys : Context) (array : List ℕ) (count start hash : ℕ) (key : Lis
   free_on_path : (b : Bucket) (place free : ℕ) → place < count → bucket_at array place ≡ Some b → b.hash ≡ hash → free < count → bucket_at array free ≡ None → passes start place free ≡ true → ⊥
   free_on_path b place free within is same free_within none on =
       not_free (bucket_at array free) none (index.found place b within is free free_within
-          (subst (λ s. passes s place free ≡ true) (from ∙ ap (λ h. start_of h count) (sym same)) on))
+      (subst (λ s. passes s place free ≡ true) (from ∙ ap (λ h. start_of h count) (sym same)) on))
 
   there_and_free : (b : Bucket) (place : ℕ) → bucket_at array place ≡ Some b → bucket_at array place ≡ None → ⊥
   there_and_free b place is none = not_free (bucket_at array place) none (ap is_some is)

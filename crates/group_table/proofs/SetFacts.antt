@@ -1,15 +1,15 @@
 -- What a set of arrays keeps when chunks are taken and given up.
-use Rattle.std.specs.Prelude.{◌≡◌, ◌≢◌, refl, ℕ, zero, suc, ◌+◌, ◌*◌, ◌-◌, ◌/◌, ◌<◌, ◌≤◌, ◌==◌, ◌&&◌, ◌⊎◌, nat_le, nat_lt, Bool, true, false, cond, if◌then◌else◌, List, [], ◌∷◌, Option, Some, None, length, get_or, slice_set, unwrap_or, is_some, IsTrue}
+use Rattle.std.specs.Prelude.{◌≡◌, ◌≢◌, refl, ℕ, zero, suc, ◌+◌, ◌<◌, ◌==◌, ◌&&◌, ◌⊎◌, nat_le, Bool, true, false, List, [], ◌∷◌, Option, Some, None, get_or, unwrap_or, is_some}
 use Rattle.std.proofs.Common.{inl, inr, sym, ◌∙◌, ap, subst, arith}
-use Rattle.std.proofs.lemmas.Bool.{cases_eq, cases_lt, leb-true, leb-false, le-leb, false≢true, false_from_ne_true, cond-true, cond-false, eq-eqb}
-use Rattle.chunk_layout.specs.Pieces.{Piece, same_place, place_of, is_at, has, piece_at, size_at, total, with_block, without, only, is_kept}
+use Rattle.std.proofs.lemmas.Bool.{leb-true, le-leb, false≢true, false_from_ne_true, cond-true, eq-eqb}
+use Rattle.chunk_layout.specs.Pieces.{Piece, same_place, place_of, is_at, has, piece_at, size_at, total, with_block}
 use Rattle.chunk_layout.specs.declared.place.Place.{Place}
 use Rattle.chunk_layout.specs.declared.place.ChunkName.{ChunkName}
 use Rattle.chunk_contexts.specs.Chunks.{chunk_of}
-use Rattle.chunk_contexts.specs.Rooms.{largest, over_most, rounded, rooms, room_of, class_of}
+use Rattle.chunk_contexts.specs.Rooms.{largest, over_most, rooms, room_of, class_of}
 use Rattle.chunk_contexts.specs.Free.{is_in}
-use Rattle.chunk_contexts.specs.Set.{SetState, new_set, set_room, set_growth, set_taken, set_freed, set_reset, growth_by, taken_by, grown, carved, reused, dedicated, block_size}
-use Rattle.group_table.specs.Standing.{IsFirst, IsBesideFirst, HasFirst, HasSpace}
+use Rattle.chunk_contexts.specs.Set.{SetState, new_set, set_room, set_growth, set_taken, growth_by, taken_by, dedicated}
+use Rattle.group_table.specs.Standing.{IsFirst, IsBesideFirst, HasFirst}
 
 -- the size of a block, where another one came, and the sum of all
 size_kept : (bs : List (Option ℕ)) (block x first : ℕ) → size_at bs first ≡ 16384 → first ≢ block → size_at (with_block bs block x) first ≡ 16384

@@ -1,22 +1,18 @@
 -- A table stands, whatever else its contexts hold.
-use Rattle.std.specs.Prelude.{◌≡◌, ◌≢◌, refl, ℕ, zero, suc, ◌+◌, ◌*◌, ◌/◌, ◌<◌, ◌≤◌, ◌==◌, ◌&&◌, ◌⊎◌, max, nat_le, Bool, true, false, cond, if◌then◌else◌, List, [], ◌∷◌, ◌++◌, Option, Some, None, map, length, get_or, slice_get, is_some, IsTrue}
-use Rattle.std.proofs.Common.{inl, inr, sym, ◌∙◌, ap, subst, arith}
+use Rattle.std.specs.Prelude.{◌≡◌, refl, ℕ, ◌/◌, List, ◌∷◌, Option, Some, None, is_some}
+use Rattle.std.proofs.Common.{sym, ◌∙◌, ap, subst}
 use Rattle.std.proofs.lemmas.Bool.{cond-false}
-use Rattle.block_memory.specs.Cells.{zeros}
-use Rattle.chunk_layout.specs.Pieces.{Piece, same_place, place_of, is_at, piece_at, total}
+use Rattle.chunk_layout.specs.Pieces.{Piece, place_of, is_at, piece_at}
 use Rattle.chunk_layout.specs.declared.place.ChunkName.{ChunkName}
-use Rattle.chunk_contexts.specs.Chunks.{chunk_of, is_live, bytes_of, Keeps}
-use Rattle.chunk_contexts.specs.Rooms.{over_most}
-use Rattle.chunk_contexts.specs.Set.{SetState, new_set, set_room, set_growth, set_taken}
-use Rattle.context_tree.specs.Contexts.{chunks_of, has_chunk, chunk_bytes, with_chunk}
+use Rattle.chunk_contexts.specs.Chunks.{chunk_of, bytes_of, Keeps}
+use Rattle.chunk_contexts.specs.Set.{SetState}
+use Rattle.context_tree.specs.Contexts.{chunk_bytes, with_chunk}
 use Rattle.context_tree.specs.declared.context.Context.{Context}
 use Rattle.context_tree.specs.declared.context.Context.TheVariants.{AllocSet, Slab, Generation, Bump}
 use Rattle.group_table.specs.Index.{Holds}
 use Rattle.group_table.specs.Table.{TableState, IsSlot}
-use Rattle.group_table.specs.Standing.{IsSetWith, IsBump, IsSlabOf, IsFirst, IsBesideFirst, HasFirst, HasArray, HasSpace, IsArrayIn, IsArrayOf, AreGroups, Stands, bucket_of, slot_of}
-use Rattle.group_table.specs.declared.bucket.Bucket.{Bucket}
+use Rattle.group_table.specs.Standing.{IsSetWith, IsBump, IsSlabOf, IsFirst, HasArray, IsArrayIn, IsArrayOf, slot_of}
 use Rattle.group_table.specs.declared.table.Slot.{Slot}
-use Rattle.group_table.proofs.SetFacts.{large_first, large_some, large_chunks, large_same, large_beside, first_first, first_some, first_chunks, first_beside}
 
 -- the set of a context that is one
 pub record SetOf (P : SetState → Type 0) (c : Context) : Type 0 where
@@ -70,7 +66,7 @@ module _ {H : Type 0} (hash_of : H → List ℕ → ℕ) (t : TableState H) wher
   }
 
   pub set_by : (keys others c : Context) → ((slot : Slot) → IsSlot t slot → chunk_bytes others slot.key ≡ chunk_bytes keys slot.key)
-    → IsSetWith (λ s. IsFirst s × HasArray hash_of t keys t.array s) c → IsSetWith (λ s. IsFirst s × HasArray hash_of t others t.array s) c
+      → IsSetWith (λ s. IsFirst s × HasArray hash_of t keys t.array s) c → IsSetWith (λ s. IsFirst s × HasArray hash_of t others t.array s) c
   set_by keys others (AllocSet s) same (first, is) = (first, has_array_by keys others t.array s same is)
   set_by keys others (Slab s) same is = is
   set_by keys others (Generation s) same is = is
@@ -78,7 +74,7 @@ module _ {H : Type 0} (hash_of : H → List ℕ → ℕ) (t : TableState H) wher
 
   -- an array beside another chunk that is taken
   pub array_beside : (keys : Context) (s after : SetState) (name old : ChunkName) (room : ℕ) (bytes : List ℕ) → after.chunks ≡ chunk_of name room bytes ∷ s.chunks → after.first ≡ s.first
-    → Keeps s.chunks after.chunks name → IsArrayIn hash_of t keys s old → IsArrayIn hash_of t keys after old
+      → Keeps s.chunks after.chunks name → IsArrayIn hash_of t keys s old → IsArrayIn hash_of t keys after old
   array_beside keys s after name old room bytes chunks first keeps is =
       let kept = keeps old is.lives in
       record {

@@ -1,19 +1,17 @@
 -- What is known of a table in its tree.
-use Rattle.std.specs.Prelude.{◌≡◌, ◌≢◌, refl, ℕ, ◌+◌, ◌*◌, ◌/◌, ◌<◌, ◌≤◌, ◌==◌, ◌&&◌, Bool, true, false, List, [], ◌∷◌, Option, Some, None, map, length, slice_get, unwrap_or, option_map, is_some, IsTrue, MatchOption, IfSome}
-use Rattle.std.proofs.Common.{inl, inr, sym, ◌∙◌, ap, subst, arith}
+use Rattle.std.specs.Prelude.{◌≡◌, ℕ, ◌*◌, ◌/◌, ◌<◌, ◌≤◌, List, [], Some, None, length, slice_get, is_some, IsTrue}
+use Rattle.std.proofs.Common.{sym, ◌∙◌, ap, subst, arith}
 use Rattle.std.proofs.lemmas.Bool.{false≢true}
 use Rattle.chunk_layout.specs.declared.place.ChunkName.{ChunkName}
-use Rattle.chunk_contexts.specs.Set.{SetState}
 use Rattle.context_tree.specs.Contexts.{has_chunk, chunk_bytes}
 use Rattle.context_tree.specs.Tree.{TreeState, context_at}
 use Rattle.context_tree.specs.declared.context.Context.{Context}
 use Rattle.context_tree.specs.declared.context.Context.TheVariants.{AllocSet, Slab, Generation, Bump}
 use Rattle.group_table.specs.Index.{Holds}
 use Rattle.group_table.specs.Search.{Finds}
-use Rattle.group_table.specs.Table.{TableState, key_in, state_in, group_in, groups, IsSlot, Names, HasNo, most_buckets}
-use Rattle.group_table.specs.Standing.{IsSetWith, IsFirst, HasArray, IsArrayIn, IsArrayOf, IsStanding, bucket_of, slot_of}
+use Rattle.group_table.specs.Table.{TableState, Names, HasNo, most_buckets}
+use Rattle.group_table.specs.Standing.{IsSetWith, IsFirst, HasArray, IsArrayOf, IsStanding, bucket_of, slot_of}
 use Rattle.group_table.specs.declared.bucket.Bucket.{Bucket}
-use Rattle.group_table.specs.declared.table.Slot.{Slot}
 
 none_some : {X : Type 0} → (x : X) → None ≡ Some x → ⊥
 none_some x e = false≢true (ap is_some e)

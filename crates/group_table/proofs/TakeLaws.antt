@@ -1,11 +1,11 @@
 -- A chunk for the next array is taken.
-use Rattle.std.specs.Prelude.{◌≡◌, ◌≢◌, refl, ℕ, zero, suc, ◌+◌, ◌-◌, ◌*◌, ◌/◌, ◌<◌, ◌≤◌, ◌⊎◌, ◌==◌, max, nat_le, nat_lt, Bool, true, false, cond, if◌then◌else◌, List, [], ◌∷◌, Option, Some, None, length, get_or, drop, replicate, slice_range, is_some, unwrap_or, IsTrue}
+use Rattle.std.specs.Prelude.{◌≡◌, ◌≢◌, refl, ℕ, suc, ◌+◌, ◌-◌, ◌*◌, ◌/◌, ◌<◌, ◌≤◌, ◌⊎◌, ◌==◌, max, nat_le, nat_lt, Bool, true, false, cond, if◌then◌else◌, List, [], ◌∷◌, Option, Some, None, length, get_or, drop, slice_range, is_some, unwrap_or, IsTrue}
 use Rattle.std.specs.Int.{w32, from_be_bytes}
 use Rattle.std.proofs.Common.{inl, inr, sym, ◌∙◌, ap, subst, arith}
-use Rattle.std.proofs.lemmas.Bool.{cases_lt, leb-true, leb-false, false≢true, false_from_ne_true}
+use Rattle.std.proofs.lemmas.Bool.{cases_lt, leb-true, false≢true, false_from_ne_true}
 use Rattle.std.proofs.lemmas.List.{get_or-take, get_or-drop, get_or_past, length-take}
 use Rattle.block_memory.specs.Cells.{zeros}
-use Rattle.chunk_layout.specs.Pieces.{same_place, place_of, total}
+use Rattle.chunk_layout.specs.Pieces.{total}
 use Rattle.chunk_layout.specs.declared.place.ChunkName.{ChunkName}
 use Rattle.chunk_contexts.specs.Chunks.{chunk_of, is_live, Keeps}
 use Rattle.chunk_contexts.specs.declared.error.ContextError.TheVariants.{TooLarge}
@@ -14,14 +14,14 @@ use Rattle.chunk_contexts.specs.Set.{SetState, set_room, set_growth, set_taken}
 use Rattle.context_tree.specs.Contexts.{chunks_of, blocks_of, has_chunk, chunk_bytes, with_chunk, room_in, growth_of, held_by}
 use Rattle.context_tree.specs.Tree.{TreeState, context_at, with_context}
 use Rattle.context_tree.specs.declared.context.Context.{Context}
-use Rattle.context_tree.specs.declared.context.Context.TheVariants.{AllocSet, Slab, Generation, Bump}
+use Rattle.context_tree.specs.declared.context.Context.TheVariants.{AllocSet}
 use Rattle.group_table.specs.Buckets.{number_at, name_at, bucket_in, bucket_at}
-use Rattle.group_table.specs.Table.{TableState, IsSlot, buckets_in, buckets_for, most_buckets}
-use Rattle.group_table.specs.Standing.{IsSetWith, IsFirst, IsBesideFirst, HasArray, HasSpace, IsBump, IsSlabOf, AreGroups, Stands, IsPlaced, IsStanding, IsTableIn, IsArrayIn}
-use Rattle.group_table.specs.Arrays.{IsArrayAt, OnlyIn, IsSpare, HasNext, bytes_at, count_of}
-use Rattle.group_table.proofs.SetFacts.{large_first, large_some, large_chunks, large_same, large_beside, first_first, first_some, first_chunks, first_beside, taken_first}
-use Rattle.group_table.proofs.StandLaws.{SetOf, set_of, set_with, set_by, array_beside}
-use Rattle.group_table.proofs.TreeFacts.{at_same, at_other, placed_kept, same_links, same_number, only_once}
+use Rattle.group_table.specs.Table.{TableState, buckets_in, buckets_for, most_buckets}
+use Rattle.group_table.specs.Standing.{IsSetWith, IsFirst, IsBesideFirst, HasArray, HasSpace, IsBump, IsSlabOf, AreGroups, IsPlaced, IsStanding, IsTableIn, IsArrayIn}
+use Rattle.group_table.specs.Arrays.{OnlyIn, IsSpare, count_of}
+use Rattle.group_table.proofs.SetFacts.{large_first, large_some, large_chunks, large_same, large_beside, first_first, first_some, first_beside, taken_first}
+use Rattle.group_table.proofs.StandLaws.{SetOf, set_of, set_with, array_beside}
+use Rattle.group_table.proofs.TreeFacts.{at_same, at_other, placed_kept, same_links, same_number}
 
 -- how many buckets are wanted
 module _ (count number : ℕ) (full : 4 * number ≤ 3 * count) where
@@ -62,7 +62,7 @@ pub none_in_zeros : (n place : ℕ) → bucket_at (zeros n) place ≡ None
 unfolding bucket_at bucket_in
 none_in_zeros n place =
     ap (λ m. cond (m == 0) None (Some (record { key = name_at (slice_range (zeros n) (place * 32) (place * 32 + 32)) 0; state = name_at (slice_range (zeros n) (place * 32) (place * 32 + 32)) 12; hash = number_at (slice_range (zeros n) (place * 32) (place * 32 + 32)) 24 })))
-        (no_number (slice_range (zeros n) (place * 32) (place * 32 + 32)) 28 (zero_in (zeros n) (zero_at n) (place * 32) (place * 32 + 32)))
+    (no_number (slice_range (zeros n) (place * 32) (place * 32 + 32)) 28 (zero_in (zeros n) (zero_at n) (place * 32) (place * 32 + 32)))
 
 none_some : {X : Type 0} → (x : X) → None ≡ Some x → ⊥
 none_some x e = false≢true (ap is_some e)
@@ -195,7 +195,7 @@ module _ {H : Type 0} (hash_of : H → List ℕ → ℕ) (t : TableState H) (tre
         record {
           standing = stands (large_first s n name (zeros n) large allowed sum len first was.first)
               (subst (λ a. HasArray hash_of t keys a taken) (sym array)
-                (array_beside hash_of t keys s taken name old (set_room n) (zeros n) (large_chunks s n name (zeros n) large allowed sum len first was.first) (large_same s n name (zeros n) large allowed sum len first was.first) kept was));
+              (array_beside hash_of t keys s taken name old (set_room n) (zeros n) (large_chunks s n name (zeros n) large allowed sum len first was.first) (large_same s n name (zeros n) large allowed sum len first was.first) kept was));
           spare = spare (omega (arith, more_buckets)) (roomy (buckets_in t.array) (length t.slots) full (omega (arith, count, was.some)) grows)
               (λ other is_other. let one : old.len ≡ other.len = ap (λ o. (unwrap_or o old).len) (sym array ∙ is_other) in omega (arith, one, len, long, more_buckets, count, was.whole))
               (λ other is_other. subst (λ (c : Context). IsTrue (has_chunk c other)) (sym now.is) (subst (λ (x : ChunkName). IsTrue (is_live s.chunks x)) (ap (λ o. unwrap_or o old) (sym array ∙ is_other)) was.lives))

@@ -1,10 +1,10 @@
 -- Trees in which one context was written over.
-use Rattle.std.specs.Prelude.{◌≡◌, ◌≢◌, refl, ℕ, zero, suc, ◌+◌, ◌<◌, ◌≤◌, Bool, true, false, cond, List, [], ◌∷◌, Option, None, length, get_or, slice_set}
-use Rattle.std.proofs.Common.{inl, inr, sym, ◌∙◌, ap, subst, arith, set}
+use Rattle.std.specs.Prelude.{◌≡◌, ◌≢◌, ℕ, zero, suc, ◌+◌, ◌<◌, true, cond, List, [], ◌∷◌, Option, None, length, get_or, slice_set}
+use Rattle.std.proofs.Common.{sym, ◌∙◌, ap, subst, arith}
 use Rattle.std.proofs.lemmas.List.{get_or-set_same, get_or-set_other, length-set, set-set, set-get_or}
 use Rattle.context_tree.specs.Contexts.{no_context, held_by}
-use Rattle.context_tree.specs.Links.{is_below}
-use Rattle.context_tree.specs.Tree.{TreeState, has_stamp, is_there, context_at, with_context, held_below, held_from}
+use Rattle.context_tree.specs.Links.{parent_of, is_below}
+use Rattle.context_tree.specs.Tree.{TreeState, has_stamp, context_at, with_context, held_below, held_from}
 use Rattle.context_tree.specs.declared.context.Context.{Context}
 use Rattle.context_tree.specs.declared.links.ContextId.{ContextId}
 use Rattle.context_tree.specs.declared.links.Link.{Link}
@@ -51,6 +51,7 @@ module _ {H : Type 0} (t : TableState H) (a b : TreeState) (links : b.links ≡ 
   child_kept id is = record {
     there = ap (λ (ls : List (Option Link)). has_stamp (get_or ls id.slot None) id.stamp) links ∙ is.there;
     within = subst (λ n. id.slot < n) (sym number) is.within;
+    up = ap (λ (ls : List (Option Link)). parent_of (get_or ls id.slot None)) links ∙ is.up;
     below = ap (λ (ls : List (Option Link)). is_below ls t.parent.slot id.slot) links ∙ is.below;
   }
 
@@ -70,7 +71,7 @@ module _ {H : Type 0} (t : TableState H) (a b : TreeState) (links : b.links ≡ 
 
 -- what is held below a context of which one that is below it was changed
 held_other : (ls : List (Option Link)) (above place n : ℕ) (cs : List Context) (c : Context) → is_below ls above (place + n) ≡ true → n < length cs
-  → held_from ls above place (slice_set cs n c) + held_by (get_or cs n no_context) ≡ held_from ls above place cs + held_by c
+    → held_from ls above place (slice_set cs n c) + held_by (get_or cs n no_context) ≡ held_from ls above place cs + held_by c
 held_other ls above place n [] c below within = absurd (omega (arith, within))
 held_other ls above place zero (x ∷ cs) c below within =
     let here : is_below ls above place ≡ true = ap (λ (k : ℕ). is_below ls above k) (omega arith) ∙ below in
@@ -82,7 +83,7 @@ held_other ls above place (suc n) (x ∷ cs) c below within =
     omega (arith, rest)
 
 pub held_changed : (a b : TreeState) (above id : ContextId) → OnlyIn id a b → is_below a.links above.slot id.slot ≡ true → id.slot < length a.contexts
-  → held_below b above + held_by (context_at a id) ≡ held_below a above + held_by (context_at b id)
+    → held_below b above + held_by (context_at a id) ≡ held_below a above + held_by (context_at b id)
 held_changed a b above id only below within =
     ap (λ (t : TreeState). held_below t above + held_by (context_at a id)) only
     ∙ held_other a.links above.slot 0 id.slot a.contexts (context_at b id) (ap (λ (k : ℕ). is_below a.links above.slot k) (omega arith) ∙ below) within

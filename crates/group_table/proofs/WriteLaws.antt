@@ -1,7 +1,7 @@
 -- The state of a group is written over.
-use Rattle.std.specs.Prelude.{◌≡◌, ◌≢◌, refl, ℕ, zero, suc, ◌+◌, ◌<◌, ◌≤◌, ◌⊎◌, Bool, true, false, List, [], ◌∷◌, Option, Some, None, map, length, slice_get, slice_set, is_some, unwrap_or, IsTrue}
-use Rattle.std.proofs.Common.{inl, inr, sym, ◌∙◌, ap, subst, arith}
-use Rattle.std.proofs.lemmas.Bool.{cases_Bool, cases_eq, false≢true}
+use Rattle.std.specs.Prelude.{◌≡◌, ◌≢◌, refl, ℕ, zero, suc, ◌⊎◌, Bool, true, false, List, [], ◌∷◌, Some, map, slice_get, slice_set, unwrap_or, IsTrue}
+use Rattle.std.proofs.Common.{inl, inr, sym, ◌∙◌, ap, subst}
+use Rattle.std.proofs.lemmas.Bool.{cases_eq, false≢true}
 use Rattle.chunk_layout.specs.Pieces.{same_place, place_of}
 use Rattle.chunk_layout.specs.declared.place.Place.{Place}
 use Rattle.chunk_contexts.specs.Chunks.{KeepsOthers as KeepsChunks}
@@ -10,7 +10,7 @@ use Rattle.context_tree.specs.Tree.{TreeState, context_at, with_context}
 use Rattle.context_tree.specs.declared.context.Context.{Context}
 use Rattle.context_tree.specs.declared.context.Context.TheVariants.{AllocSet, Slab, Generation, Bump}
 use Rattle.group_table.specs.Table.{TableState, key_in, group_in, groups, IsSlot}
-use Rattle.group_table.specs.Standing.{IsSetWith, IsBump, IsSlabOf, IsFirst, HasArray, HasSpace, AreGroups, IsStanding, IsTableIn, KeepsOthers}
+use Rattle.group_table.specs.Standing.{IsSetWith, IsBump, IsSlabOf, IsFirst, HasArray, HasSpace, AreGroups, IsTableIn, KeepsOthers}
 use Rattle.group_table.specs.Arrays.{OnlyIn}
 use Rattle.group_table.specs.declared.table.Slot.{Slot}
 use Rattle.group_table.proofs.GroupLaws.{other_states}
@@ -121,9 +121,9 @@ module _ {H : Type 0} (hash_of : H → List ℕ → ℕ) (t : TableState H) (tre
     groups_written i at_i holds =
         map_set (group_in t after) (group_in t tree) t.slots i slot at_i other
         ∙ ap (λ v. slice_set (groups t tree) i v)
-            (ap (λ (c : Context). (chunk_bytes c slot.key, chunk_bytes (context_at after t.states) slot.state)) keys_same
-            ∙ ap (λ (c : Context). (key_in t tree slot, chunk_bytes c slot.state)) states_is
-            ∙ ap (λ bs. (key_in t tree slot, bs)) holds)
+        (ap (λ (c : Context). (chunk_bytes c slot.key, chunk_bytes (context_at after t.states) slot.state)) keys_same
+        ∙ ap (λ (c : Context). (key_in t tree slot, chunk_bytes c slot.state)) states_is
+        ∙ ap (λ bs. (key_in t tree slot, bs)) holds)
       where
         other : (j : ℕ) → (x : Slot) → slice_get t.slots j ≡ Some x → j ≢ i → group_in t after x ≡ group_in t tree x
         other j x at_j differ =

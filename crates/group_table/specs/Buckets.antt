@@ -1,7 +1,6 @@
 -- The bytes of the bucket array: 32 for each bucket.
-use Rattle.std.specs.Prelude.{ℕ, ◌+◌, ◌*◌, ◌==◌, cond, List, [], ◌∷◌, ◌++◌, Option, Some, None, get_or, slice_range}
-use Rattle.std.specs.Int.{w32, from_be_bytes, to_be_bytes}
-use Rattle.chunk_layout.specs.Pieces.{name_bytes}
+use Rattle.std.specs.Prelude.{ℕ, ◌+◌, ◌*◌, ◌==◌, cond, List, [], ◌∷◌, Option, Some, None, get_or, slice_range}
+use Rattle.std.specs.Int.{w32, from_be_bytes}
 use Rattle.chunk_layout.specs.declared.place.ChunkName.{ChunkName}
 use Rattle.group_table.specs.declared.bucket.Bucket.{Bucket}
 

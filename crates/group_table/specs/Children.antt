@@ -1,11 +1,10 @@
 -- The three contexts of a table in their tree: that they were made, and that they were not.
-use Rattle.std.specs.Prelude.{◌≡◌, ◌≢◌, ℕ, ◌+◌, ◌<◌, ◌≤◌, ◌⊎◌, true, false, List, [], None, length, get_or}
+use Rattle.std.specs.Prelude.{◌≡◌, ◌≢◌, ℕ, ◌+◌, ◌<◌, ◌≤◌, ◌⊎◌, true, [], None, length, get_or}
 use Rattle.chunk_contexts.specs.Set.{new_set}
 use Rattle.chunk_contexts.specs.Slab.{new_slab}
 use Rattle.chunk_contexts.specs.Run.{new_run}
 use Rattle.chunk_contexts.specs.declared.error.ContextError.TheVariants.{NoMemory}
 use Rattle.context_tree.specs.Contexts.{no_context, held_by}
-use Rattle.context_tree.specs.Links.{is_below}
 use Rattle.context_tree.specs.Tree.{TreeState, IsWhole, is_there, context_at, held_below, with_new}
 use Rattle.context_tree.specs.declared.context.Context.TheVariants.{AllocSet, Slab, Bump}
 use Rattle.context_tree.specs.declared.error.TreeError.{TreeError}
@@ -80,11 +79,8 @@ pub record IsNewTable {H : Type 0} (before after : TreeState) (parent : ContextI
   pub others : (id : ContextId) → is_there before id ≡ true
       → (is_there after id ≡ true) × (context_at after id ≡ context_at before id) × (id.slot ≢ t.buckets.slot) × (id.slot ≢ t.keys.slot) × (id.slot ≢ t.states.slot)
 
--- a table was cleared: its first block of buckets is left, or none was there; and contexts that are not below its three are as
--- before
-pub record IsCleared {H : Type 0} (t : TableState H) (before after : TreeState) : Type 0 where
+-- a table was cleared: its first block of buckets is left, or none was there
+pub record IsCleared {H : Type 0} (t : TableState H) (after : TreeState) : Type 0 where
   pub buckets : (held_by (context_at after t.buckets) ≡ 0) ⊎ (held_by (context_at after t.buckets) ≡ 16384)
   pub keys : held_by (context_at after t.keys) ≡ 0
   pub states : held_by (context_at after t.states) ≡ 0
-  pub others : (id : ContextId) → is_below before.links t.buckets.slot id.slot ≡ false → is_below before.links t.keys.slot id.slot ≡ false → is_below before.links t.states.slot id.slot ≡ false
-      → (is_there after id ≡ is_there before id) × (context_at after id ≡ context_at before id)

@@ -1,11 +1,11 @@
 -- What is true of a table and the tree in which its contexts are.
-use Rattle.std.specs.Prelude.{◌≡◌, ◌≢◌, ℕ, ◌+◌, ◌*◌, ◌/◌, ◌<◌, ◌≤◌, ◌⊎◌, true, false, List, [], Option, Some, None, length, get_or, slice_get, is_some, IsTrue}
+use Rattle.std.specs.Prelude.{◌≡◌, ◌≢◌, ℕ, ◌*◌, ◌/◌, ◌<◌, ◌≤◌, ◌⊎◌, true, false, List, [], Option, Some, None, length, get_or, slice_get, is_some, IsTrue}
 use Rattle.chunk_layout.specs.Pieces.{same_place, place_of, piece_at, size_at, total}
 use Rattle.chunk_layout.specs.declared.place.ChunkName.{ChunkName}
 use Rattle.chunk_contexts.specs.Chunks.{is_live, bytes_of}
 use Rattle.chunk_contexts.specs.Set.{SetState, new_set, set_room}
 use Rattle.context_tree.specs.Contexts.{no_context, has_chunk, chunk_bytes}
-use Rattle.context_tree.specs.Links.{is_below, is_under}
+use Rattle.context_tree.specs.Links.{parent_of, is_below, is_under}
 use Rattle.context_tree.specs.Tree.{TreeState, is_there, context_at}
 use Rattle.context_tree.specs.declared.context.Context.{Context}
 use Rattle.context_tree.specs.declared.context.Context.TheVariants.{AllocSet, Slab, Generation, Bump}
@@ -20,6 +20,7 @@ use Rattle.group_table.specs.declared.table.Slot.{Slot}
 pub record IsChild (tree : TreeState) (parent id : ContextId) : Type 0 where
   pub there : is_there tree id ≡ true
   pub within : id.slot < length tree.contexts
+  pub up : parent_of (get_or tree.links id.slot None) ≡ Some parent.slot
   pub below : is_below tree.links parent.slot id.slot ≡ true
 
 -- neither of two contexts is below the other

@@ -1,5 +1,5 @@
 -- A table of groups as its users see it: a finite map from the bytes of keys to the bytes of states.
-use Rattle.std.specs.Prelude.{◌≡◌, ◌≢◌, ℕ, ◌+◌, ◌*◌, ◌/◌, ◌≤◌, ◌==◌, ◌&&◌, max, nat_le, Bool, cond, if◌then◌else◌, List, Option, Some, None, map, length, slice_get}
+use Rattle.std.specs.Prelude.{◌≡◌, ◌≢◌, ℕ, ◌+◌, ◌*◌, ◌/◌, ◌==◌, ◌&&◌, max, nat_le, Bool, cond, if◌then◌else◌, List, Option, Some, None, map, length, slice_get}
 use Rattle.chunk_layout.specs.declared.place.ChunkName.{ChunkName}
 use Rattle.context_tree.specs.Contexts.{chunk_bytes, growth_of, held_by}
 use Rattle.context_tree.specs.Tree.{TreeState, context_at, held_below}

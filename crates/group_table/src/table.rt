@@ -8,10 +8,10 @@ ghost use Rattle.group_table.specs.Standing.{IsStanding, IsTableIn, KeepsOthers}
 ghost use Rattle.group_table.specs.Children.{IsRefused, IsAsBefore, IsNewTable, IsCleared};
 ghost use Rattle.group_table.specs.Arrays.{OnlyIn, HasNext, IsSpare, IsNext, with_array, with_next, with_slot, with_spare};
 
+use crate::array::{give_up, put_into, refill};
 use crate::bucket::{BUCKET, Bucket};
 use crate::children::{Children, make_children};
 use crate::hash::KeyHash;
-use crate::array::{give_up, put_into, refill};
 use crate::search::{chunk, search};
 use chunk_layout::ChunkName;
 use context_tree::{ContextId, Tree, TreeError};
@@ -20,6 +20,7 @@ use std::marker::Model;
 
 /// How many buckets a table has at first, and how many at most.
 const FIRST_BUCKETS: usize = 256;
+
 const MOST_BUCKETS: usize = 16777216;
 
 /// Where a group of a table lies. A slot is that of its key until the table is cleared.
@@ -73,13 +74,15 @@ fn growth(tree: &Tree, id: ContextId, n: usize) -> u64
 fn empty(tree: &mut Tree, id: ContextId)
     requires { is_there tree.old id ≡ true }
     ensures reset { tree.new ≡ reset tree.old id }
-    ensures whole { IsWhole tree.old }
+    ensures before { IsWhole tree.old }
+    ensures after { IsWhole tree.new }
 {
     tree.is_whole();
     match tree.reset(id) {
         Ok(()) => {}
         Err(_) => unreachable!(),
     }
+    tree.is_whole();
 }
 
 /// The bytes of the blocks of a context that is there and of all that are below it.
@@ -298,7 +301,7 @@ impl<H: KeyHash + Drop> GroupTable<H> {
         ensures table { IsTableIn H.hash_of self.new tree.new }
         ensures same { IsSameBut self.old self.new }
         ensures empty { (self.new.slots ≡ []) × (self.new.array ≡ None) }
-        ensures held { IsCleared self.old tree.old tree.new }
+        ensures held { IsCleared self.old tree.new }
     {
         empty(tree, self.buckets);
         empty(tree, self.keys);

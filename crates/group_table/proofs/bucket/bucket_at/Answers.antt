@@ -1,5 +1,5 @@
-use Rattle.std.proofs.Common.{rules, ◌≡◌}
-use Rattle.group_table.specs.Buckets.{bucket_in, bucket_at}
+use Rattle.std.proofs.Common.{rules}
+use Rattle.group_table.specs.Buckets.{bucket_at}
 use Rattle.group_table.proofs.bucket.bucket_at.Goals as goal
 
 pub returns : goal.returns

@@ -1,6 +1,6 @@
-use Rattle.std.proofs.Common.{rules, ◌≡◌, ◌∙◌, ap, sym, true, false, refl, Bool, cond, not, ◌==◌, nat_eq}
-use Rattle.std.specs.Prelude.{is_some, None, Some, Option, ℕ}
-use Rattle.group_table.specs.Buckets.{number_at, name_at, bucket_in, bucket_at}
+use Rattle.std.proofs.Common.{◌≡◌, ◌∙◌, ap, true, false, refl, Bool, cond, not, nat_eq}
+use Rattle.std.specs.Prelude.{is_some, None, Some}
+use Rattle.group_table.specs.Buckets.{bucket_in, bucket_at}
 use Rattle.group_table.specs.declared.bucket.Bucket.{Bucket}
 use Rattle.group_table.proofs.bucket.is_in_use.Goals as goal
 

@@ -1,4 +1,4 @@
-use Rattle.std.proofs.Common.{rules, ◌≡◌}
+use Rattle.std.proofs.Common.{rules}
 use Rattle.group_table.specs.Buckets.{number_at}
 use Rattle.group_table.proofs.bucket.number.Goals as goal
 

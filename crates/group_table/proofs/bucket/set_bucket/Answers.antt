@@ -1,4 +1,4 @@
-use Rattle.std.proofs.Common.{rules, ◌∙◌, arith}
+use Rattle.std.proofs.Common.{◌∙◌, arith}
 use Rattle.group_table.proofs.BucketLaws.{bucket_set, bucket_beside}
 use Rattle.group_table.proofs.bucket.set_bucket.Goals as goal
 

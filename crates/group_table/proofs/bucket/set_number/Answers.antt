@@ -1,4 +1,4 @@
-use Rattle.std.proofs.Common.{rules, ◌≡◌, ◌∙◌, arith, ap, length}
+use Rattle.std.proofs.Common.{◌∙◌, arith, ap, length}
 use Rattle.group_table.proofs.BucketLaws.{number_set, number_before, number_behind}
 use Rattle.group_table.proofs.bucket.set_number.Goals as goal
 

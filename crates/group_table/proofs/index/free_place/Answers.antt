@@ -1,4 +1,3 @@
-use Rattle.std.proofs.Common.{rules}
 use Rattle.group_table.proofs.IndexLaws.{not_all}
 use Rattle.group_table.proofs.index.free_place.Goals as goal
 

@@ -1,5 +1,5 @@
-use Rattle.std.proofs.Common.{rules, ◌≡◌, Some, None, ◌==◌, cond, sym, ◌∙◌, ap, true, false}
-use Rattle.group_table.specs.Buckets.{number_at, name_at, bucket_in, bucket_at}
+use Rattle.std.proofs.Common.{rules}
+use Rattle.group_table.specs.Buckets.{bucket_in}
 use Rattle.group_table.proofs.bucket.Bucket.read.Goals as goal
 
 pub returns-then-number-eq0 : goal.returns-then-number-eq0

@@ -16,7 +16,7 @@ insert_noted-requires-clause-table g c =
 pub returns-in_err-make_room-clause-refused : goal.returns-in_err-make_room-clause-refused
 returns-in_err-make_room-clause-refused g c =
     always_err c.from_residual.result
-        (ap (λ (x : TableState g.row.H.Denot). x.slots) c.make_room.ensures.same, ap (λ (x : TableState g.row.H.Denot). groups x c.args.tree.now) c.make_room.ensures.same)
+    (ap (λ (x : TableState g.row.H.Denot). x.slots) c.make_room.ensures.same, ap (λ (x : TableState g.row.H.Denot). groups x c.args.tree.now) c.make_room.ensures.same)
 
 pub returns-clause-groups : goal.returns-clause-groups
 returns-clause-groups g c =

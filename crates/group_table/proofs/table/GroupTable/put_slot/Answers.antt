@@ -1,4 +1,4 @@
-use Rattle.std.proofs.Common.{None, List, ℕ, sym, subst}
+use Rattle.std.proofs.Common.{None, sym, subst}
 use Rattle.group_table.specs.Table.{TableState, HasNo}
 use Rattle.group_table.specs.Standing.{IsStanding}
 use Rattle.group_table.specs.Arrays.{HasNext, IsNext, with_slot}
@@ -23,4 +23,4 @@ returns-clause-standing g c =
     let room = subst (λ (x : TableState g.row.H.Denot). HasNext x tree None) (sym c.self.view_is) c.requires.room in
     subst (λ (x : TableState g.row.H.Denot). IsStanding hash (with_slot x slot) c.put_into.new.tree) c.self.view_is
     (stands_more hash _ slot tree is key state next absent c.in-Some.name c.in-Some.is room c.put_into.new.tree c.put_into.ensures.only c.put_into.ensures.rewritten c.put_into.ensures.index c.put_into.ensures.more
-        c.key_hash-hash.result c.key_hash-hash.ensures c.put_into.ensures.put)
+    c.key_hash-hash.result c.key_hash-hash.ensures c.put_into.ensures.put)

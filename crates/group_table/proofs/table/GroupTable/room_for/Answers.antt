@@ -1,4 +1,4 @@
-use Rattle.std.proofs.Common.{◌≡◌, ◌-◌, length, sym, ◌∙◌, ap, arith}
+use Rattle.std.proofs.Common.{◌≡◌, ◌-◌, length, ◌∙◌, ap, arith}
 use Rattle.std.proofs.lemmas.Bool.{le-leb}
 use Rattle.context_tree.specs.Tree.{held_below}
 use Rattle.group_table.specs.Table.{TableState}

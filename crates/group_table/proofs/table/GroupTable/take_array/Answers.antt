@@ -1,7 +1,6 @@
-use Rattle.std.proofs.Common.{◌≡◌, ◌≢◌, ◌≤◌, ◌*◌, length, sym, subst, ◌∙◌, ap, refl}
+use Rattle.std.proofs.Common.{◌≡◌, ◌≤◌, ◌*◌, length, sym, subst, ◌∙◌, ap, refl}
 use Rattle.group_table.specs.Table.{TableState, buckets_in, buckets_for, most_buckets}
-use Rattle.group_table.specs.Standing.{IsStanding, IsTableIn}
-use Rattle.group_table.specs.Arrays.{IsSpare}
+use Rattle.group_table.specs.Standing.{IsTableIn}
 use Rattle.group_table.proofs.TakeLaws.{Taken, taken_by_array}
 use Rattle.group_table.proofs.table.GroupTable.take_array.Goals as goal
 use Rattle.group_table.proofs.table.GroupTable.take_array.Given as given
@@ -17,7 +16,7 @@ taken g c =
     let told = c.in-Ok.ensures in
     subst (λ (x : TableState g.row.H.Denot). Taken g.H.KeyHash.hash_of x c.args.tree.now c.alloc_zeroed.new.self c.in-Ok.name) c.self.view_is
     (taken_by_array g.H.KeyHash.hash_of _ c.args.tree.now c.alloc_zeroed.new.self is (wanted * 32) c.in-Ok.name few (λ same. c.if-wanted-bucket_count.false (value ∙ same ∙ sym count)) (ap (λ m. m * 32) value)
-        told.space told.len told.lives told.holds told.keeps told.grown told.block c.self.inside.array refl)
+    told.space told.len told.lives told.holds told.keeps told.grown told.block c.self.inside.array refl)
 
 pub returns-in-Ok-clause-standing : goal.returns-in-Ok-clause-standing
 returns-in-Ok-clause-standing g c = (taken g c).standing
