@@ -1,0 +1,112 @@
+-- Chunks for a group are taken.
+use Rattle.std.specs.Prelude.{◌≡◌, refl, ℕ, suc, ◌+◌, List, [], ◌∷◌, Some, map, slice_get, IsTrue}
+use Rattle.std.proofs.Common.{sym, ◌∙◌, ap, subst, arith}
+use Rattle.chunk_layout.specs.Pieces.{Piece}
+use Rattle.chunk_layout.specs.declared.place.ChunkName.{ChunkName}
+use Rattle.chunk_contexts.specs.Chunks.{Keeps}
+use Rattle.context_tree.specs.Contexts.{chunks_of, has_chunk, chunk_bytes, with_chunk, held_by}
+use Rattle.context_tree.specs.Tree.{TreeState, context_at, with_context, held_below}
+use Rattle.context_tree.specs.declared.context.Context.{Context}
+use Rattle.group_table.specs.Table.{TableState, IsSlot, group_in, groups}
+use Rattle.group_table.specs.Standing.{IsSetWith, IsBump, IsSlabOf, IsFirst, HasArray, AreGroups, IsStanding}
+use Rattle.group_table.specs.Arrays.{OnlyIn}
+use Rattle.group_table.specs.declared.table.Slot.{Slot}
+use Rattle.group_table.proofs.StandLaws.{bump_with, slab_with, set_by}
+use Rattle.group_table.proofs.TreeFacts.{at_same, at_other, placed_kept, same_links, same_number, held_changed}
+
+-- functions that are the same at each member
+map_same : {X Y : Type 0} → (f g : X → Y) → (xs : List X) → ((i : ℕ) → (x : X) → slice_get xs i ≡ Some x → f x ≡ g x) → map f xs ≡ map g xs
+map_same f g [] same = refl
+map_same f g (x ∷ xs) same = ap (λ y. y ∷ map f xs) (same 0 x refl) ∙ ap (λ ys. g x ∷ ys) (map_same f g xs (λ i y is. same (suc i) y is))
+
+module _ {H : Type 0} (hash_of : H → List ℕ → ℕ) (t : TableState H) where
+  -- groups whose keys are in another context, or whose states are
+  other_keys : (keys others states : Context) → ((slot : Slot) → IsSlot t slot → IsTrue (has_chunk others slot.key) × (chunk_bytes others slot.key ≡ chunk_bytes keys slot.key)) → AreGroups t keys states → AreGroups t others states
+  other_keys keys others states same is = record {
+    keys_live = λ slot there. (same slot there).0;
+    states_live = is.states_live;
+    widths = is.widths;
+    once = λ i j x y at_i at_j equal. is.once i j x y at_i at_j (sym (same x (i, at_i)).1 ∙ equal ∙ (same y (j, at_j)).1);
+    own = is.own;
+  }
+
+  pub other_states : (keys states others : Context) → ((slot : Slot) → IsSlot t slot → IsTrue (has_chunk others slot.state)) → AreGroups t keys states → AreGroups t keys others
+  other_states keys states others live is = record { keys_live = is.keys_live; states_live = live; widths = is.widths; once = is.once; own = is.own }
+
+  -- a chunk is taken from the context of the keys
+  module _ (tree after : TreeState) (is : IsStanding hash_of t tree) (n : ℕ) (p : Piece) (name : ChunkName)
+      (space : after ≡ with_context tree t.keys (with_chunk (context_at tree t.keys) n p)) (keeps : Keeps (chunks_of (context_at tree t.keys)) (chunks_of (context_at after t.keys)) name) where
+    keys_is : context_at after t.keys ≡ with_chunk (context_at tree t.keys) n p
+    keys_is = ap (λ (x : TreeState). context_at x t.keys) space ∙ at_same tree t.keys (with_chunk (context_at tree t.keys) n p) is.placed.keys.within
+
+    pub only_keys : OnlyIn t.keys tree after
+    only_keys = space ∙ ap (λ (c : Context). with_context tree t.keys c) (sym keys_is)
+
+    pub buckets_same : context_at after t.buckets ≡ context_at tree t.buckets
+    buckets_same = ap (λ (x : TreeState). context_at x t.buckets) space ∙ at_other tree t.keys (with_chunk (context_at tree t.keys) n p) t.buckets is.placed.keys_apart.differ
+
+    pub states_same : context_at after t.states ≡ context_at tree t.states
+    states_same = ap (λ (x : TreeState). context_at x t.states) space ∙ at_other tree t.keys (with_chunk (context_at tree t.keys) n p) t.states (λ same. is.placed.both_apart.differ (sym same))
+
+    kept : (slot : Slot) → IsSlot t slot → IsTrue (has_chunk (context_at after t.keys) slot.key) × (chunk_bytes (context_at after t.keys) slot.key ≡ chunk_bytes (context_at tree t.keys) slot.key)
+    kept slot there = let told = keeps slot.key (is.stands.groups.keys_live slot there) in (told.1, told.2)
+
+    pub key_taken : IsStanding hash_of t after
+    key_taken = record {
+      placed = placed_kept t tree after (same_links t.keys tree after only_keys) (same_number t.keys tree after only_keys) is.placed;
+      stands = record {
+        set = subst (IsSetWith (λ s. IsFirst s × HasArray hash_of t (context_at after t.keys) t.array s)) (sym buckets_same)
+            (set_by hash_of t (context_at tree t.keys) (context_at after t.keys) (context_at tree t.buckets) (λ slot there. (kept slot there).1) is.stands.set);
+        run = subst IsBump (sym keys_is) (bump_with (context_at tree t.keys) n p is.stands.run);
+        slab = subst (IsSlabOf t.width) (sym states_same) is.stands.slab;
+        width = is.stands.width;
+        groups = subst (AreGroups t (context_at after t.keys)) (sym states_same) (other_keys (context_at tree t.keys) (context_at after t.keys) (context_at tree t.states) kept is.stands.groups);
+      };
+    }
+
+    pub groups_by_key : groups t after ≡ groups t tree
+    groups_by_key = map_same (group_in t after) (group_in t tree) t.slots (λ i slot there.
+        ap (λ k. (k, chunk_bytes (context_at after t.states) slot.state)) (kept slot (i, there)).1
+        ∙ ap (λ (c : Context). (chunk_bytes (context_at tree t.keys) slot.key, chunk_bytes c slot.state)) states_same)
+
+    pub held_by_key : (growth : ℕ) → held_by (context_at after t.keys) ≡ held_by (context_at tree t.keys) + growth → held_below after t.parent ≡ held_below tree t.parent + growth
+    held_by_key growth more = omega (arith, more, held_changed tree after t.parent t.keys only_keys is.placed.keys.below is.placed.keys.within)
+
+  -- a chunk is taken from the context of the states
+  module _ (tree after : TreeState) (is : IsStanding hash_of t tree) (n : ℕ) (p : Piece) (name : ChunkName)
+      (space : after ≡ with_context tree t.states (with_chunk (context_at tree t.states) n p)) (keeps : Keeps (chunks_of (context_at tree t.states)) (chunks_of (context_at after t.states)) name) where
+    states_is : context_at after t.states ≡ with_chunk (context_at tree t.states) n p
+    states_is = ap (λ (x : TreeState). context_at x t.states) space ∙ at_same tree t.states (with_chunk (context_at tree t.states) n p) is.placed.states.within
+
+    pub only_states : OnlyIn t.states tree after
+    only_states = space ∙ ap (λ (c : Context). with_context tree t.states c) (sym states_is)
+
+    pub buckets_same_by_state : context_at after t.buckets ≡ context_at tree t.buckets
+    buckets_same_by_state = ap (λ (x : TreeState). context_at x t.buckets) space ∙ at_other tree t.states (with_chunk (context_at tree t.states) n p) t.buckets is.placed.states_apart.differ
+
+    pub keys_same : context_at after t.keys ≡ context_at tree t.keys
+    keys_same = ap (λ (x : TreeState). context_at x t.keys) space ∙ at_other tree t.states (with_chunk (context_at tree t.states) n p) t.keys is.placed.both_apart.differ
+
+    state_kept : (slot : Slot) → IsSlot t slot → IsTrue (has_chunk (context_at after t.states) slot.state) × (chunk_bytes (context_at after t.states) slot.state ≡ chunk_bytes (context_at tree t.states) slot.state)
+    state_kept slot there = let told = keeps slot.state (is.stands.groups.states_live slot there) in (told.1, told.2)
+
+    pub state_taken : IsStanding hash_of t after
+    state_taken = record {
+      placed = placed_kept t tree after (same_links t.states tree after only_states) (same_number t.states tree after only_states) is.placed;
+      stands = record {
+        set = subst (IsSetWith (λ s. IsFirst s × HasArray hash_of t (context_at after t.keys) t.array s)) (sym buckets_same_by_state)
+            (subst (λ (k : Context). IsSetWith (λ s. IsFirst s × HasArray hash_of t k t.array s) (context_at tree t.buckets)) (sym keys_same) is.stands.set);
+        run = subst IsBump (sym keys_same) is.stands.run;
+        slab = subst (IsSlabOf t.width) (sym states_is) (slab_with t.width (context_at tree t.states) n p is.stands.slab);
+        width = is.stands.width;
+        groups = subst (λ (k : Context). AreGroups t k (context_at after t.states)) (sym keys_same) (other_states (context_at tree t.keys) (context_at tree t.states) (context_at after t.states) (λ slot there. (state_kept slot there).0) is.stands.groups);
+      };
+    }
+
+    pub groups_by_state : groups t after ≡ groups t tree
+    groups_by_state = map_same (group_in t after) (group_in t tree) t.slots (λ i slot there.
+        ap (λ s. (chunk_bytes (context_at after t.keys) slot.key, s)) (state_kept slot (i, there)).1
+        ∙ ap (λ (c : Context). (chunk_bytes c slot.key, chunk_bytes (context_at tree t.states) slot.state)) keys_same)
+
+    pub held_by_state : (growth : ℕ) → held_by (context_at after t.states) ≡ held_by (context_at tree t.states) + growth → held_below after t.parent ≡ held_below tree t.parent + growth
+    held_by_state growth more = omega (arith, more, held_changed tree after t.parent t.states only_states is.placed.states.below is.placed.states.within)

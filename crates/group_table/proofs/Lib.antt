@@ -1,0 +1,17 @@
+pub mod BucketLaws
+pub mod IndexLaws
+pub mod SearchLaws
+pub mod TreeFacts
+pub mod ArrayLaws
+pub mod SetFacts
+pub mod StandLaws
+pub mod TakeLaws
+pub mod GroupLaws
+pub mod MoveLaws
+pub mod PutLaws
+pub mod InsertLaws
+pub mod RoomLaws
+pub mod WriteLaws
+pub mod ClearLaws
+pub mod TableLaws
+pub mod ChildLaws

@@ -1,0 +1,89 @@
+-- Trees in which one context was written over.
+use Rattle.std.specs.Prelude.{◌≡◌, ◌≢◌, ℕ, zero, suc, ◌+◌, ◌<◌, true, cond, List, [], ◌∷◌, Option, None, length, get_or, slice_set}
+use Rattle.std.proofs.Common.{sym, ◌∙◌, ap, subst, arith}
+use Rattle.std.proofs.lemmas.List.{get_or-set_same, get_or-set_other, length-set, set-set, set-get_or}
+use Rattle.context_tree.specs.Contexts.{no_context, held_by}
+use Rattle.context_tree.specs.Links.{parent_of, is_below}
+use Rattle.context_tree.specs.Tree.{TreeState, has_stamp, context_at, with_context, held_below, held_from}
+use Rattle.context_tree.specs.declared.context.Context.{Context}
+use Rattle.context_tree.specs.declared.links.ContextId.{ContextId}
+use Rattle.context_tree.specs.declared.links.Link.{Link}
+use Rattle.group_table.specs.Arrays.{OnlyIn}
+use Rattle.group_table.specs.Table.{TableState}
+use Rattle.group_table.specs.Standing.{IsChild, IsApart, IsPlaced}
+
+module _ (t : TreeState) (id : ContextId) (c : Context) where
+  pub at_same : id.slot < length t.contexts → context_at (with_context t id c) id ≡ c
+  at_same within = get_or-set_same t.contexts id.slot c no_context within
+
+  pub at_other : (other : ContextId) → other.slot ≢ id.slot → context_at (with_context t id c) other ≡ context_at t other
+  at_other other differ = get_or-set_other t.contexts id.slot other.slot c no_context differ
+
+  pub as_many : length (with_context t id c).contexts ≡ length t.contexts
+  as_many = length-set t.contexts id.slot c
+
+-- one context is changed, or not, or twice
+pub only_once : (id : ContextId) (t : TreeState) → id.slot < length t.contexts → OnlyIn id t t
+only_once id t within = ap (λ (cs : List Context). record { links = t.links; contexts = cs; last = t.last }) (sym (set-get_or t.contexts id.slot no_context))
+
+pub only_twice : (id : ContextId) (a b c : TreeState) → OnlyIn id a b → OnlyIn id b c → OnlyIn id a c
+only_twice id a b c first second =
+    second ∙ ap (λ (t : TreeState). with_context t id (context_at c id)) first
+    ∙ ap (λ (cs : List Context). record { links = a.links; contexts = cs; last = a.last }) (set-set a.contexts id.slot (context_at b id) (context_at c id))
+
+-- what a change of one context leaves as it was
+module _ (id : ContextId) (a b : TreeState) (only : OnlyIn id a b) where
+  pub same_links : b.links ≡ a.links
+  same_links = ap (λ (t : TreeState). t.links) only
+
+  pub same_last : b.last ≡ a.last
+  same_last = ap (λ (t : TreeState). t.last) only
+
+  pub same_number : length b.contexts ≡ length a.contexts
+  same_number = ap (λ (t : TreeState). length t.contexts) only ∙ as_many a id (context_at b id)
+
+  pub same_others : (slot : ℕ) → slot ≢ id.slot → get_or b.contexts slot no_context ≡ get_or a.contexts slot no_context
+  same_others slot differ = ap (λ (t : TreeState). get_or t.contexts slot no_context) only ∙ get_or-set_other a.contexts id.slot slot (context_at b id) no_context differ
+
+-- a table is placed alike in a tree with the same links
+module _ {H : Type 0} (t : TableState H) (a b : TreeState) (links : b.links ≡ a.links) (number : length b.contexts ≡ length a.contexts) where
+  child_kept : (id : ContextId) → IsChild a t.parent id → IsChild b t.parent id
+  child_kept id is = record {
+    there = ap (λ (ls : List (Option Link)). has_stamp (get_or ls id.slot None) id.stamp) links ∙ is.there;
+    within = subst (λ n. id.slot < n) (sym number) is.within;
+    up = ap (λ (ls : List (Option Link)). parent_of (get_or ls id.slot None)) links ∙ is.up;
+    below = ap (λ (ls : List (Option Link)). is_below ls t.parent.slot id.slot) links ∙ is.below;
+  }
+
+  apart_kept : (x y : ContextId) → IsApart a.links x y → IsApart b.links x y
+  apart_kept x y is = subst (λ (ls : List (Option Link)). IsApart ls x y) (sym links) is
+
+  pub placed_kept : IsPlaced t a → IsPlaced t b
+  placed_kept is = record {
+    parent = ap (λ (ls : List (Option Link)). has_stamp (get_or ls t.parent.slot None) t.parent.stamp) links ∙ is.parent;
+    buckets = child_kept t.buckets is.buckets;
+    keys = child_kept t.keys is.keys;
+    states = child_kept t.states is.states;
+    keys_apart = apart_kept t.buckets t.keys is.keys_apart;
+    states_apart = apart_kept t.buckets t.states is.states_apart;
+    both_apart = apart_kept t.keys t.states is.both_apart;
+  }
+
+-- what is held below a context of which one that is below it was changed
+held_other : (ls : List (Option Link)) (above place n : ℕ) (cs : List Context) (c : Context) → is_below ls above (place + n) ≡ true → n < length cs
+    → held_from ls above place (slice_set cs n c) + held_by (get_or cs n no_context) ≡ held_from ls above place cs + held_by c
+held_other ls above place n [] c below within = absurd (omega (arith, within))
+held_other ls above place zero (x ∷ cs) c below within =
+    let here : is_below ls above place ≡ true = ap (λ (k : ℕ). is_below ls above k) (omega arith) ∙ below in
+    ap (λ b. cond b (held_by c) 0 + held_from ls above (place + 1) cs + held_by x) here
+    ∙ omega arith
+    ∙ sym (ap (λ b. cond b (held_by x) 0 + held_from ls above (place + 1) cs + held_by c) here)
+held_other ls above place (suc n) (x ∷ cs) c below within =
+    let rest = held_other ls above (place + 1) n cs c (ap (λ (k : ℕ). is_below ls above k) (omega arith) ∙ below) (omega (arith, within)) in
+    omega (arith, rest)
+
+pub held_changed : (a b : TreeState) (above id : ContextId) → OnlyIn id a b → is_below a.links above.slot id.slot ≡ true → id.slot < length a.contexts
+    → held_below b above + held_by (context_at a id) ≡ held_below a above + held_by (context_at b id)
+held_changed a b above id only below within =
+    ap (λ (t : TreeState). held_below t above + held_by (context_at a id)) only
+    ∙ held_other a.links above.slot 0 id.slot a.contexts (context_at b id) (ap (λ (k : ℕ). is_below a.links above.slot k) (omega arith) ∙ below) within

@@ -1,0 +1,7 @@
+use Rattle.std.proofs.Common.{◌<◌, ◌≤◌, ℕ}
+use Rattle.context_tree.specs.Tree.{context_at}
+use Rattle.group_table.specs.Search.{IsOther}
+use Rattle.group_table.proofs.search.look.Given as goal
+
+abbrev pub invariant-loop-place : goal.invariant-loop-place
+invariant-loop-place l = (other : ℕ) → l.from ≤ other → other < l.place → IsOther (context_at l.fn.tree l.fn.keys) l.array l.hash l.key other

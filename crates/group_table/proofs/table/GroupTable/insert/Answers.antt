@@ -1,0 +1,29 @@
+use Rattle.std.proofs.Common.{◌≡◌, ◌++◌, ◌∷◌, [], sym, subst, ap}
+use Rattle.std.specs.Prelude.{OnOk, OnErr}
+use Rattle.group_table.specs.Table.{TableState, groups}
+use Rattle.group_table.specs.Standing.{IsTableIn}
+use Rattle.group_table.proofs.InsertLaws.{always_err, spare_table}
+use Rattle.group_table.proofs.table.GroupTable.insert.Goals as goal
+
+pub returns-in_err-make_room-clause-table : goal.returns-in_err-make_room-clause-table
+returns-in_err-make_room-clause-table g c =
+    subst (λ (x : TableState g.row.H.Denot). IsTableIn g.H.KeyHash.hash_of x c.args.tree.now) (sym c.make_room.ensures.same) (spare_table c.args.self.now g.H.KeyHash.hash_of c.make_room.new.self.spare c.args.tree.now c.requires.table)
+
+pub insert_noted-requires-clause-table : goal.insert_noted-requires-clause-table
+insert_noted-requires-clause-table g c =
+    subst (λ (x : TableState g.row.H.Denot). IsTableIn g.H.KeyHash.hash_of x c.args.tree.now) (sym c.make_room.ensures.same) (spare_table c.args.self.now g.H.KeyHash.hash_of c.make_room.new.self.spare c.args.tree.now c.requires.table)
+
+pub returns-in_err-make_room-clause-refused : goal.returns-in_err-make_room-clause-refused
+returns-in_err-make_room-clause-refused g c =
+    always_err c.from_residual.result
+    (ap (λ (x : TableState g.row.H.Denot). x.slots) c.make_room.ensures.same, ap (λ (x : TableState g.row.H.Denot). groups x c.args.tree.now) c.make_room.ensures.same)
+
+pub returns-clause-groups : goal.returns-clause-groups
+returns-clause-groups g c =
+    subst (λ (x : TableState g.row.H.Denot). OnOk c.insert_noted.result (groups c.insert_noted.new.self c.insert_noted.new.tree ≡ groups x c.args.tree.now ++ (c.args.key.now, c.args.state.now) ∷ [])) c.make_room.ensures.same
+    c.insert_noted.ensures.groups
+
+pub returns-clause-refused : goal.returns-clause-refused
+returns-clause-refused g c =
+    subst (λ (x : TableState g.row.H.Denot). OnErr c.insert_noted.result ((c.insert_noted.new.self.slots ≡ x.slots) × (groups c.insert_noted.new.self c.insert_noted.new.tree ≡ groups x c.args.tree.now))) c.make_room.ensures.same
+    c.insert_noted.ensures.refused

@@ -1,0 +1,25 @@
+use Rattle.std.proofs.Common.{◌≡◌, ◌≤◌, ◌*◌, length, sym, subst, ◌∙◌, ap, refl}
+use Rattle.group_table.specs.Table.{TableState, buckets_in, buckets_for, most_buckets}
+use Rattle.group_table.specs.Standing.{IsTableIn}
+use Rattle.group_table.proofs.TakeLaws.{Taken, taken_by_array}
+use Rattle.group_table.proofs.table.GroupTable.take_array.Goals as goal
+use Rattle.group_table.proofs.table.GroupTable.take_array.Given as given
+
+taken : (g : given.Over) → (c : goal.In-Ok g) → Taken g.H.KeyHash.hash_of c.args.self.now c.args.tree.now c.alloc_zeroed.new.self c.in-Ok.name
+taken g c =
+    let wanted = c.buckets_wanted-wanted.result in
+    let back = sym c.self.view_is in
+    let is = subst (λ (x : TableState g.row.H.Denot). IsTableIn g.H.KeyHash.hash_of x c.args.tree.now) back c.requires.table in
+    let few = subst (λ (x : TableState g.row.H.Denot). buckets_for (buckets_in x.array) (length x.slots) ≤ most_buckets) back c.requires.few in
+    let value = subst (λ (x : TableState g.row.H.Denot). wanted ≡ buckets_for (buckets_in x.array) (length x.slots)) back c.buckets_wanted-wanted.ensures in
+    let count = subst (λ (x : TableState g.row.H.Denot). c.bucket_count.result ≡ buckets_in x.array) back c.bucket_count.ensures.value in
+    let told = c.in-Ok.ensures in
+    subst (λ (x : TableState g.row.H.Denot). Taken g.H.KeyHash.hash_of x c.args.tree.now c.alloc_zeroed.new.self c.in-Ok.name) c.self.view_is
+    (taken_by_array g.H.KeyHash.hash_of _ c.args.tree.now c.alloc_zeroed.new.self is (wanted * 32) c.in-Ok.name few (λ same. c.if-wanted-bucket_count.false (value ∙ same ∙ sym count)) (ap (λ m. m * 32) value)
+    told.space told.len told.lives told.holds told.keeps told.grown told.block c.self.inside.array refl)
+
+pub returns-in-Ok-clause-standing : goal.returns-in-Ok-clause-standing
+returns-in-Ok-clause-standing g c = (taken g c).standing
+
+pub returns-in-Ok-clause-next : goal.returns-in-Ok-clause-next
+returns-in-Ok-clause-next g c = (taken g c).spare

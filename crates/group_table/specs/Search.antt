@@ -1,0 +1,24 @@
+-- What a search among buckets finds.
+use Rattle.std.specs.Prelude.{◌≡◌, ◌≢◌, ℕ, ◌<◌, ◌≤◌, List, Option, Some, None}
+use Rattle.context_tree.specs.Contexts.{chunk_bytes}
+use Rattle.context_tree.specs.declared.context.Context.{Context}
+use Rattle.group_table.specs.Buckets.{bucket_at}
+use Rattle.group_table.specs.Index.{Holds}
+use Rattle.group_table.specs.declared.bucket.Bucket.{Bucket}
+use Rattle.group_table.specs.declared.search.Probe.{Probe}
+use Rattle.group_table.specs.declared.search.Probe.TheVariants.{Found, Free, Passed}
+
+-- the bucket at a place is in use, and its key, one of these, is another one
+abbrev pub IsOther : Context → List ℕ → ℕ → List ℕ → ℕ → Type 0
+IsOther keys array hash key place = (b : Bucket) × (bucket_at array place ≡ Some b) × (b.hash ≡ hash → chunk_bytes keys b.key ≢ key)
+
+-- from one place on and before another there is the bucket of a key; or a free one, and others before it; or others alone
+abbrev pub Tells : Context → List ℕ → ℕ → ℕ → ℕ → List ℕ → Probe → Type 0
+Tells keys array from to hash key (Found b) = (place : ℕ) × (from ≤ place) × (place < to) × (bucket_at array place ≡ Some b) × (chunk_bytes keys b.key ≡ key)
+Tells keys array from to hash key Free = (place : ℕ) × (from ≤ place) × (place < to) × (bucket_at array place ≡ None) × ((other : ℕ) → from ≤ other → other < place → IsOther keys array hash key other)
+Tells keys array from to hash key Passed = (other : ℕ) → from ≤ other → other < to → IsOther keys array hash key other
+
+-- the bucket of a key among all of them; or none has the key, if keys have one hash each
+abbrev pub Finds : Context → List ℕ → ℕ → ℕ → List ℕ → Option Bucket → Type 0
+Finds keys array count hash key (Some b) = Holds array count b × (chunk_bytes keys b.key ≡ key)
+Finds keys array count hash key None = (b : Bucket) → Holds array count b → b.hash ≡ hash → chunk_bytes keys b.key ≢ key

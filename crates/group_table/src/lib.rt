@@ -1,0 +1,16 @@
+//! A hash table of groups, whose buckets, keys and states lie in memory contexts.
+//!
+//! As PostgreSQL's hash aggregation has it (`src/backend/executor/execGrouping.c`), a group is found by its key: equal bytes are
+//! one key. The table doubles before more than three quarters of its buckets are in use.
+#![tactic(auto)]
+
+mod array;
+mod bucket;
+mod children;
+mod hash;
+mod index;
+mod search;
+mod table;
+
+pub use hash::{Fnv1a, KeyHash};
+pub use table::{GroupTable, Slot};

@@ -1,0 +1,428 @@
+//! A table of groups.
+ghost use Rattle.std.specs.Prelude.{◌≡◌, ◌≢◌, ◌*◌, ◌-◌, ◌^◌, ◌+◌, ◌<◌, ◌≤◌, ℕ, List, [], ◌∷◌, ◌++◌, Some, None, MatchOption, IfOk, IfErr, OnOk, OnErr, IsTrue, true, false, map, length, slice_get, slice_set, slice_index_or};
+ghost use Rattle.chunk_layout.specs.Pieces.{place_of};
+ghost use Rattle.context_tree.specs.Contexts.{has_chunk, chunk_bytes, with_bytes, held_by, growth_of};
+ghost use Rattle.context_tree.specs.Tree.{is_there, context_at, held_below, reset, IsWhole};
+ghost use Rattle.group_table.specs.Table.{key_in, state_in, group_in, groups, IsSlot, Names, HasNo, buckets_in, buckets_for, most_buckets, array_growth, group_growth, has_room, IsEmptied, IsSameBut};
+ghost use Rattle.group_table.specs.Standing.{IsStanding, IsTableIn, KeepsOthers};
+ghost use Rattle.group_table.specs.Children.{IsRefused, IsAsBefore, IsNewTable, IsCleared};
+ghost use Rattle.group_table.specs.Arrays.{OnlyIn, HasNext, IsSpare, IsNext, with_array, with_next, with_slot, with_spare};
+
+use crate::array::{give_up, put_into, refill};
+use crate::bucket::{BUCKET, Bucket};
+use crate::children::{Children, make_children};
+use crate::hash::KeyHash;
+use crate::search::{chunk, search};
+use chunk_layout::ChunkName;
+use context_tree::{ContextId, Tree, TreeError};
+use std::alloc::{AllocError, Global};
+use std::marker::Model;
+
+/// How many buckets a table has at first, and how many at most.
+const FIRST_BUCKETS: usize = 256;
+
+const MOST_BUCKETS: usize = 16777216;
+
+/// Where a group of a table lies. A slot is that of its key until the table is cleared.
+#[derive(Clone, Copy, Debug, PartialEq, Eq)]
+pub struct Slot {
+    pub(crate) key: ChunkName,
+    pub(crate) state: ChunkName,
+}
+
+/// A hash table of groups: a finite map from the bytes of keys to the bytes of states, each as many as `width`.
+///
+/// Its buckets, keys and states lie in three contexts of a tree, below one that is named when it is made: the buckets in an
+/// `AllocSet`, the keys in a `Bump`, the states in a `Slab`. Each call is handed that tree, in which nothing else may change
+/// these three. A bucket has 32 bytes, and there are 256 at first; they double before more than three quarters are in use,
+/// up to 2^24. Where each group lies is kept outside the contexts, in 24 bytes a group.
+#[derive(Drop)]
+pub struct GroupTable<H: KeyHash + Drop> {
+    parent: ContextId,
+    buckets: ContextId,
+    keys: ContextId,
+    states: ContextId,
+    width: u32,
+    hash: H,
+    array: Option<ChunkName>,
+    slots: Vec<Slot>,
+}
+
+impl<H: KeyHash + Drop> Model for GroupTable<H> {
+    ghost use Rattle.std.specs.Prelude.{◌-◌};
+    ghost use Rattle.std.specs.Vec.{vec_capacity, vec_len};
+    ghost use Rattle.group_table.specs.Table.{TableState};
+
+    ghost Value = { TableState H };
+
+    ghost view = { λ t. record { parent = t.parent; buckets = t.buckets; keys = t.keys; states = t.states; width = t.width; hash = t.hash; array = t.array; slots = t.slots.items; spare = vec_capacity t.slots - vec_len t.slots } };
+}
+
+/// How many bytes of blocks a chunk of `n` bytes takes of a context that is there.
+fn growth(tree: &Tree, id: ContextId, n: usize) -> u64
+    requires there { is_there tree.now id ≡ true }
+    requires small { n < 2 ^ 32 }
+    ensures { result ≡ growth_of (context_at tree.now id) n }
+{
+    match tree.growth_for(id, n as u32) {
+        Ok(growth) => growth,
+        Err(_) => unreachable!(),
+    }
+}
+
+/// Gives up the chunks of a context that is there.
+fn empty(tree: &mut Tree, id: ContextId)
+    requires { is_there tree.old id ≡ true }
+    ensures reset { tree.new ≡ reset tree.old id }
+    ensures before { IsWhole tree.old }
+    ensures after { IsWhole tree.new }
+{
+    tree.is_whole();
+    match tree.reset(id) {
+        Ok(()) => {}
+        Err(_) => unreachable!(),
+    }
+    tree.is_whole();
+}
+
+/// The bytes of the blocks of a context that is there and of all that are below it.
+fn held_below(tree: &Tree, id: ContextId) -> u128
+    requires { is_there tree.now id ≡ true }
+    ensures { result ≡ held_below tree.now id }
+{
+    match tree.held_below(id) {
+        Ok(held) => held,
+        Err(_) => unreachable!(),
+    }
+}
+
+impl<H: KeyHash + Drop> GroupTable<H> {
+    /// Makes a table of no group, with states of `width` bytes, 65,535 at most. Its three contexts are made below `parent`,
+    /// and hold nothing yet.
+    ///
+    /// Refuses `StampsSpent` where fewer than three stamps are left, and gives `NoMemory`. None of the three is left then,
+    /// though stamps may be spent.
+    pub fn new(
+        alloc: Global,
+        tree: &mut Tree,
+        parent: ContextId,
+        width: u32,
+        hash: H,
+    ) -> Result<GroupTable<H>, TreeError>
+        requires there { is_there tree.old parent ≡ true }
+        requires width { width ≤ 65535 }
+        ensures table { IfOk result (λ table. IsTableIn H.hash_of table tree.new) }
+        ensures made { IfOk result (IsNewTable tree.old tree.new parent width hash) }
+        ensures refused { IfErr result (IsRefused tree.old) }
+        ensures as_before { OnErr result (IsAsBefore tree.old tree.new parent) }
+    {
+        let Children {
+            buckets,
+            keys,
+            states,
+        } = make_children(tree, parent, width)?;
+        Ok(GroupTable {
+            parent,
+            buckets,
+            keys,
+            states,
+            width,
+            hash,
+            array: None,
+            slots: Vec::new(alloc),
+        })
+    }
+
+    /// How many groups there are.
+    pub fn len(&self) -> usize
+        ensures { result ≡ length self.now.slots }
+    {
+        self.slots.len()
+    }
+
+    /// The slot of the group of a key, if there is one.
+    pub fn find(&self, tree: &Tree, key: &[u8]) -> Option<Slot>
+        requires { IsTableIn H.hash_of self.now tree.now }
+        ensures { MatchOption result (HasNo self.now tree.now key.now) (λ slot. Names self.now tree.now slot key.now) }
+    {
+        let Some(name) = self.array else {
+            return None;
+        };
+        let array = chunk(tree, self.buckets, name);
+        let count = array.len() / BUCKET;
+        let hash = self.hash.key_hash(key);
+        match search(tree, self.keys, array, count, hash, key) {
+            None => None,
+            Some(Bucket { key, state, .. }) => Some(Slot { key, state }),
+        }
+    }
+
+    /// The state of a group.
+    pub fn state<'a>(&self, tree: &'a Tree, slot: Slot) -> &'a [u8]
+        requires table { IsTableIn H.hash_of self.now tree.now }
+        requires slot { IsSlot self.now slot }
+        ensures state { result.now ≡ state_in self.now tree.now slot }
+        ensures len { length result.now ≡ self.now.width }
+    {
+        chunk(tree, self.states, slot.state)
+    }
+
+    /// The key and the state of one of the groups, in the order in which they came.
+    pub fn entry<'a>(&self, tree: &'a Tree, place: usize) -> (&'a [u8], &'a [u8])
+        requires table { IsTableIn H.hash_of self.now tree.now }
+        requires place { place < length self.now.slots }
+        ensures entry { slice_get (groups self.now tree.now) place ≡ Some (result.0.now, result.1.now) }
+        ensures len { length result.1.now ≡ self.now.width }
+    {
+        let slot = self.slots[place];
+        (chunk(tree, self.keys, slot.key), self.state(tree, slot))
+    }
+
+    /// Whether one more group with this key keeps within a limit, in bytes of blocks, on what is held below the table's
+    /// parent at each step of the way, and within 2^24 buckets.
+    ///
+    /// It is true of each key of up to 8,192 bytes at each limit from 32,768 up where there is no group and nothing is held
+    /// below the parent but by the buckets, as when the table was just made or cleared, if a state has up to 8,184 bytes.
+    pub fn room_for(&self, tree: &Tree, key: &[u8], limit: u64) -> bool
+        requires table { IsTableIn H.hash_of self.now tree.now }
+        requires key { length key.now ≤ 65535 }
+        ensures exact { result ≡ has_room self.now tree.now (length key.now) limit }
+        ensures emptied { IsEmptied self.now tree.now → length key.now ≤ 8192 → self.now.width ≤ 8184 → 32768 ≤ limit → result ≡ true }
+    {
+        if self.buckets_wanted() > MOST_BUCKETS {
+            return false;
+        }
+        let limit = u128::from(limit);
+        let growth = self.growth_for(tree, key.len());
+        growth <= limit && held_below(tree, self.parent) <= limit - growth
+    }
+
+    /// How many bytes of blocks one more group takes, with a key of so many bytes.
+    fn growth_for(&self, tree: &Tree, n: usize) -> u128
+        requires standing { IsStanding H.hash_of self.now tree.now }
+        requires few { buckets_for (buckets_in self.now.array) (length self.now.slots) ≤ most_buckets }
+        requires key { n ≤ 65535 }
+        ensures value { result ≡ group_growth self.now tree.now n }
+        ensures bound { result < 2 ^ 127 }
+    {
+        let wanted = self.buckets_wanted();
+        let array = if wanted == self.bucket_count() {
+            0
+        } else {
+            growth(tree, self.buckets, wanted * BUCKET)
+        };
+        let key = growth(tree, self.keys, n);
+        let state = growth(tree, self.states, self.width as usize);
+        u128::from(array) + u128::from(key) + u128::from(state)
+    }
+
+    /// Takes a chunk of zeros for the array of the table with one more group, if it is to have another array.
+    fn take_array(&self, tree: &mut Tree) -> Result<Option<ChunkName>, AllocError>
+        requires table { IsTableIn H.hash_of self.now tree.old }
+        requires few { buckets_for (buckets_in self.now.array) (length self.now.slots) ≤ most_buckets }
+        ensures only { OnlyIn self.now.buckets tree.old tree.new }
+        ensures standing { IsStanding H.hash_of self.now tree.new }
+        ensures next { IfOk result (HasNext self.now tree.new) }
+        ensures unchanged { OnErr result (tree.new ≡ tree.old) }
+        ensures held { held_by (context_at tree.new self.now.buckets) ≤ held_by (context_at tree.old self.now.buckets) + array_growth self.now tree.old }
+    {
+        let wanted = self.buckets_wanted();
+        if wanted == self.bucket_count() {
+            return Ok(None);
+        }
+        match tree.alloc_zeroed(self.buckets, (wanted * BUCKET) as u32) {
+            Ok(name) => Ok(Some(name)),
+            Err(_) => Err(AllocError), // It is want of memory: an array is short enough for a chunk.
+        }
+    }
+
+    /// How many buckets there are.
+    fn bucket_count(&self) -> usize
+        ensures value { result ≡ buckets_in self.now.array }
+        ensures few { result < 2 ^ 27 }
+    {
+        match self.array {
+            None => 0,
+            Some(name) => name.len as usize / BUCKET,
+        }
+    }
+
+    /// How many buckets there are to be for one more group.
+    fn buckets_wanted(&self) -> usize
+        ensures { result ≡ buckets_for (buckets_in self.now.array) (length self.now.slots) }
+    {
+        let count = self.bucket_count();
+        if self.slots.len() < 3 * count / 4 {
+            return count;
+        }
+        FIRST_BUCKETS.max(2 * count)
+    }
+
+    /// Takes chunks for the key and the state of one more group.
+    fn take_group(&self, tree: &mut Tree, key: &[u8], state: &[u8]) -> Result<Slot, AllocError>
+        requires standing { IsStanding H.hash_of self.now tree.old }
+        requires state { length state.now ≡ self.now.width }
+        requires key { length key.now ≤ 65535 }
+        ensures standing { IsStanding H.hash_of self.now tree.new }
+        ensures buckets { context_at tree.new self.now.buckets ≡ context_at tree.old self.now.buckets }
+        ensures others { KeepsOthers self.now tree.old tree.new }
+        ensures groups { groups self.now tree.new ≡ groups self.now tree.old }
+        ensures next { IfOk result (IsNext self.now tree.new key.now state.now) }
+        ensures held { held_below tree.new self.now.parent ≤ held_below tree.old self.now.parent + growth_of (context_at tree.old self.now.keys) (length key.now) + growth_of (context_at tree.old self.now.states) self.now.width }
+    {
+        let Ok(key) = tree.alloc(self.keys, key) else {
+            return Err(AllocError);
+        };
+        match tree.alloc(self.states, state) {
+            Ok(state) => Ok(Slot { key, state }),
+            Err(_) => Err(AllocError),
+        }
+    }
+
+    /// Makes a chunk of zeros the array of the table: all buckets in use are put there, and the old array is given up.
+    fn move_to(&mut self, tree: &mut Tree, name: ChunkName)
+        requires standing { IsStanding H.hash_of self.old tree.old }
+        requires spare { IsSpare self.old tree.old name }
+        ensures only { OnlyIn self.old.buckets tree.old tree.new }
+        ensures array { self.new ≡ with_array self.old name }
+        ensures standing { IsStanding H.hash_of self.new tree.new }
+        ensures held { held_by (context_at tree.new self.old.buckets) ≤ held_by (context_at tree.old self.old.buckets) }
+    {
+        if let Some(old) = self.array {
+            refill(tree, self.buckets, old, name);
+            give_up(tree, self.buckets, old);
+        }
+        self.array = Some(name);
+    }
+
+    /// Gives up all groups. Of the blocks the first one of the buckets stays, if there is one; no memory is taken.
+    pub fn clear(&mut self, tree: &mut Tree)
+        requires { IsTableIn H.hash_of self.old tree.old }
+        ensures table { IsTableIn H.hash_of self.new tree.new }
+        ensures same { IsSameBut self.old self.new }
+        ensures empty { (self.new.slots ≡ []) × (self.new.array ≡ None) }
+        ensures held { IsCleared self.old tree.new }
+    {
+        empty(tree, self.buckets);
+        empty(tree, self.keys);
+        empty(tree, self.states);
+        self.array = None;
+        self.slots.clear();
+    }
+
+    /// Makes the next array that of the table, if there is one.
+    fn settle(&mut self, tree: &mut Tree, next: Option<ChunkName>)
+        requires standing { IsStanding H.hash_of self.old tree.old }
+        requires next { HasNext self.old tree.old next }
+        ensures only { OnlyIn self.old.buckets tree.old tree.new }
+        ensures array { self.new ≡ with_next self.old next }
+        ensures standing { IsStanding H.hash_of self.new tree.new }
+        ensures room { HasNext self.new tree.new None }
+        ensures held { held_by (context_at tree.new self.old.buckets) ≤ held_by (context_at tree.old self.old.buckets) }
+    {
+        if let Some(name) = next {
+            self.move_to(tree, name);
+        }
+    }
+
+    /// Puts the bucket of a group into the array.
+    fn put_slot(&self, tree: &mut Tree, key: &[u8], slot: Slot)
+        requires standing { IsStanding H.hash_of self.now tree.old }
+        requires room { HasNext self.now tree.old None }
+        requires next { (state : List ℕ) × IsNext self.now tree.old key.now state slot }
+        requires absent { HasNo self.now tree.old key.now }
+        ensures only { OnlyIn self.now.buckets tree.old tree.new }
+        ensures standing { IsStanding H.hash_of (with_slot self.now slot) tree.new }
+        ensures held { held_by (context_at tree.new self.now.buckets) ≡ held_by (context_at tree.old self.now.buckets) }
+    {
+        let Some(name) = self.array else {
+            unreachable!();
+        };
+        let hash = self.hash.key_hash(key);
+        let Slot { key, state } = slot;
+        put_into(tree, self.buckets, name, Bucket { key, state, hash });
+    }
+
+    /// Takes a group with a key that no other has, and a state of `width` bytes. The key has 65,535 bytes at most, and there are to
+    /// be 2^24 buckets at most, as where `room_for` is true for some limit.
+    ///
+    /// The only error is a failed allocation. The groups are then as they were, and blocks that were taken may stay held. On the
+    /// way no more is held below the parent than `room_for` counts: an array twice as long beside the old one, the key, and
+    /// the state.
+    pub fn insert(&mut self, tree: &mut Tree, key: &[u8], state: &[u8]) -> Result<Slot, AllocError>
+        requires table { IsTableIn H.hash_of self.old tree.old }
+        requires absent { HasNo self.old tree.old key.now }
+        requires key { length key.now ≤ 65535 }
+        requires state { length state.now ≡ self.old.width }
+        requires few { buckets_for (buckets_in self.old.array) (length self.old.slots) ≤ most_buckets }
+        ensures table { IsTableIn H.hash_of self.new tree.new }
+        ensures same { IsSameBut self.old self.new }
+        ensures slot { IfOk result (λ slot. self.new.slots ≡ self.old.slots ++ slot ∷ []) }
+        ensures groups { OnOk result (groups self.new tree.new ≡ groups self.old tree.old ++ (key.now, state.now) ∷ []) }
+        ensures refused { OnErr result ((self.new.slots ≡ self.old.slots) × (groups self.new tree.new ≡ groups self.old tree.old)) }
+        ensures others { KeepsOthers self.old tree.old tree.new }
+        ensures held { held_below tree.new self.old.parent ≤ held_below tree.old self.old.parent + group_growth self.old tree.old (length key.now) }
+    {
+        self.make_room()?;
+        self.insert_noted(tree, key, state)
+    }
+
+    /// Makes room to note one more group.
+    fn make_room(&mut self) -> Result<(), AllocError>
+        ensures room { OnOk result (0 < self.new.spare) }
+        ensures same { self.new ≡ with_spare self.old self.new.spare }
+    {
+        self.slots.reserve(1)
+    }
+
+    /// Takes a group for which there is room to note it.
+    fn insert_noted(
+        &mut self,
+        tree: &mut Tree,
+        key: &[u8],
+        state: &[u8],
+    ) -> Result<Slot, AllocError>
+        requires room { 0 < self.old.spare }
+        requires table { IsTableIn H.hash_of self.old tree.old }
+        requires absent { HasNo self.old tree.old key.now }
+        requires key { length key.now ≤ 65535 }
+        requires state { length state.now ≡ self.old.width }
+        requires few { buckets_for (buckets_in self.old.array) (length self.old.slots) ≤ most_buckets }
+        ensures table { IsTableIn H.hash_of self.new tree.new }
+        ensures same { IsSameBut self.old self.new }
+        ensures slot { IfOk result (λ slot. self.new.slots ≡ self.old.slots ++ slot ∷ []) }
+        ensures groups { OnOk result (groups self.new tree.new ≡ groups self.old tree.old ++ (key.now, state.now) ∷ []) }
+        ensures refused { OnErr result ((self.new.slots ≡ self.old.slots) × (groups self.new tree.new ≡ groups self.old tree.old)) }
+        ensures others { KeepsOthers self.old tree.old tree.new }
+        ensures held { held_below tree.new self.old.parent ≤ held_below tree.old self.old.parent + group_growth self.old tree.old (length key.now) }
+    {
+        let next = self.take_array(tree)?;
+        let taken = self.take_group(tree, key, state);
+        self.settle(tree, next);
+        let slot = taken?;
+        self.put_slot(tree, key, slot);
+        self.slots.push_reserved(slot);
+        Ok(slot)
+    }
+}
+
+impl<H: KeyHash + Drop> GroupTable<H> {
+    ghost use Rattle.std.specs.Borrow.{sem};
+    ghost use Rattle.context_tree.specs.TreeLends.{lends_chunk, with_bytes_in};
+
+    /// Lends the state of a group, to be changed. All other groups stay as they are.
+    ///
+    /// The tree comes first, since it is what the bytes are lent from.
+    pub fn state_mut<'a>(tree: &'a mut Tree, table: &GroupTable<H>, slot: Slot) -> &'a mut [u8]
+        requires table { IsTableIn H.hash_of table.now tree.old }
+        requires slot { IsSlot table.now slot }
+        ensures* writes_back { sem 𝓛 (lends_chunk tree.entry table.now.states slot.state result) }
+        ensures state { result.now ≡ state_in table.now tree.old slot }
+        ensures len { length result.now ≡ table.now.width }
+        ensures stands { (ws : List ℕ) → length ws ≡ table.now.width → IsTableIn H.hash_of table.now (with_bytes_in tree.old table.now.states slot.state ws) }
+        ensures written { (ws : List ℕ) → (place : ℕ) → length ws ≡ table.now.width → slice_get table.now.slots place ≡ Some slot → groups table.now (with_bytes_in tree.old table.now.states slot.state ws) ≡ slice_set (groups table.now tree.old) place (key_in table.now tree.old slot, ws) }
+        ensures others { (ws : List ℕ) → KeepsOthers table.now tree.old (with_bytes_in tree.old table.now.states slot.state ws) }
+    {
+        tree.bytes_mut(table.states, slot.state)
+    }
+}
