@@ -10,7 +10,6 @@ use Rattle.std.specs.Ordering.{nat_cmp}
 use Rattle.std.specs.Cmp.Lexicographic.{slice_cmp}
 use Rattle.std.specs.List.{AllByRecursion}
 use Rattle.std.specs.List.Sorted.{IsStrictlySortedBy}
-use Rattle.std.specs.Map as of_map
 use Rattle.grouping_model.specs.Datum.{Row, Kind, HasKinds, row_cmp, same_row}
 use Rattle.grouping_model.specs.Query.{Query}
 use Rattle.grouping_model.specs.Grouping.{Group}
@@ -20,13 +19,12 @@ use Rattle.packed_rows.proofs.PackingOrder.{packed_order, row_apart}
 use Rattle.agg_protocol.specs.States.{most_rows}
 use Rattle.agg_library.specs.StateRows.{AllWithin}
 use Rattle.having_filter.specs.Kept.{key_kinds}
-use Rattle.hash_agg.specs.Runs.{Entry, entries_in, packed_keys, Rises}
+use Rattle.hash_agg.specs.Runs.{Entry, packed_keys, Rises}
 use Rattle.hash_agg.specs.Standing.{StandsFor, AreGroups}
 use Rattle.hash_agg.specs.Inputs.{Brought, Packed, Counted, ArePackings, rows_in}
 use Rattle.packed_rows.specs.View.{bytes_of}
 use Rattle.hash_agg.specs.Adding.{rows_added, groups_added, Given, Of_rows, Of_groups, Gives, given_added}
 use Rattle.hash_agg.proofs.StateLaws.{all_within}
-use Rattle.hash_agg.proofs.EntryLaws.{Item, key_cmp}
 use Rattle.hash_agg.proofs.MergeLaws.{AreApart, rising_apart, found_still, none_before}
 
 -- ---- places in lists
@@ -132,7 +130,7 @@ within_at q m n old run groups more i g are new rises at =
     subst (λ o. IfSome o (AllWithin m)) (sym (found_still q g.0 groups (take i more) (none_before more i g (run_apart q n run more new rises) at)))
     (found_within q m old groups g.0 are)
 
--- ---- the entries of a map
+-- ---- fronts
 
 -- the front of a rising list rises
 pub front_rises : {X : Type 0} (cmp : X → X → Ordering) (xs ys : List X) → IsStrictlySortedBy cmp (xs ++ ys) → IsStrictlySortedBy cmp xs
@@ -146,16 +144,6 @@ front_rises {X = X} cmp (x ∷ xs) ys (above, rising) = (front xs above, front_r
 
 pub run_front_rises : (run rest : List Entry) → Rises (run ++ rest) → Rises run
 run_front_rises run rest rises = front_rises (slice_cmp nat_cmp) (packed_keys run) (packed_keys rest) (subst (IsStrictlySortedBy (slice_cmp nat_cmp)) (map-append (λ (e : Entry). e.0) run rest) rises)
-
--- the entries of a map rise by their bytes
-pub map_rises : (items : List Item) → IsStrictlySortedBy key_cmp (of_map.keys_of items) → Rises (entries_in items)
-unfolding IsStrictlySortedBy
-map_rises [] rising = tt
-map_rises (e ∷ items) (above, rising) = (each items above, map_rises items rising)
-  where
-    each : (es : List Item) → AllByRecursion (λ z. key_cmp e.0 z ≡ Less) (of_map.keys_of es) → AllByRecursion (λ z. slice_cmp nat_cmp e.0.items z ≡ Less) (packed_keys (entries_in es))
-    each [] all = tt
-    each (f ∷ es) (first, all) = (first, each es all)
 
 -- ---- one input
 

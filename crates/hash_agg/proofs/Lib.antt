@@ -1,5 +1,11 @@
 pub mod StateLaws
 pub mod EntryLaws
+pub mod TableLaws
+pub mod PassLaws
+pub mod StepLaws
+pub mod SortLaws
+pub mod UnionLaws
+pub mod CountLaws
 pub mod KeyLaws
 pub mod MergeLaws
 pub mod InputLaws

@@ -70,7 +70,7 @@ among-puts key ks (l ∷ ls) =
     ∙ ap (λ b. b || is_among row_cmp key ls) (among-put row_cmp_total key l ks ∙ or_comm (eq_by_cmp row_cmp key l) (is_among row_cmp key ks))
     ∙ or_assoc (is_among row_cmp key ks) (eq_by_cmp row_cmp key l) (is_among row_cmp key ls)
 
-nothing_rises : IsStrictlySortedBy row_cmp []
+pub nothing_rises : IsStrictlySortedBy row_cmp []
 unfolding IsStrictlySortedBy
 nothing_rises = tt
 
@@ -140,7 +140,7 @@ rising_apart (k ∷ ks) (above, rising) = (none_among ks above, rising_apart ks 
     none_among (l ∷ ls) (below, all) = ap (λ r. is_eq r || is_among row_cmp k ls) below ∙ none_among ls all
 
 -- what is among the keys behind one is not that one
-apart_from : (k key : Row) (ks : List Row) → is_among row_cmp k ks ≡ false → is_among row_cmp key ks ≡ true → same_row key k ≡ false
+pub apart_from : (k key : Row) (ks : List Row) → is_among row_cmp k ks ≡ false → is_among row_cmp key ks ≡ true → same_row key k ≡ false
 apart_from k key ks none among =
     elim (same_row key k) as (λ b. same_row key k ≡ b → b ≡ false) [
       | true ↦ λ e. false_is_not_true (sym none ∙ ap (λ k. is_among row_cmp k ks) (sym ((same_row-is key k).0 e)) ∙ among)
@@ -174,7 +174,7 @@ found_still q k gs (g ∷ more) none =
     ] refl none
 
 -- a group's key is not that of one before it
-found_among : (gs : List Group) (i : ℕ) (g : Group) → slice_get gs i ≡ Some g → is_among row_cmp g.0 (keys_of gs) ≡ true
+pub found_among : (gs : List Group) (i : ℕ) (g : Group) → slice_get gs i ≡ Some g → is_among row_cmp g.0 (keys_of gs) ≡ true
 found_among [] i g e = absurd cc
 found_among (h ∷ gs) zero g e =
     let same : h ≡ g = cc in

@@ -225,7 +225,7 @@ kind_narrow BoolAnd = omega arith
 kind_narrow BoolOr = omega arith
 kind_narrow Every = omega arith
 
-narrow : (kinds : List AggKind) → row_width kinds ≤ length kinds * 24
+pub narrow : (kinds : List AggKind) → row_width kinds ≤ length kinds * 24
 narrow [] = omega arith
 narrow (k ∷ ks) =
     let one = kind_narrow k in

@@ -5,3 +5,5 @@ pub mod Adding
 pub mod Steps
 pub mod Bytes
 pub mod Places
+pub mod Passes
+pub mod Coding

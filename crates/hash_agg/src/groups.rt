@@ -1,201 +1,163 @@
-//! Groups in a map, by their packed keys.
+//! The groups of a pass, in a table whose bytes lie in memory contexts.
 
-ghost use Rattle.std.specs.Prelude.{◌≡◌, List, [], IfOk, OnOk};
-ghost use Rattle.std.specs.List.{AllByRecursion};
-ghost use Rattle.grouping_model.specs.Datum.{Row, HasKinds};
-ghost use Rattle.grouping_model.specs.Grouping.{key_of};
-ghost use Rattle.packed_rows.specs.Packing.{packing};
-ghost use Rattle.packed_rows.specs.View.{row_of, bytes_of};
+ghost use Rattle.std.specs.Prelude.{◌≡◌, ◌≢◌, ◌++◌, ◌∷◌, ◌≤◌, ◌<◌, true, List, [], Some, length, slice_get, IsTrue, MatchOption, IfOk, OnOk, OnErr};
+ghost use Rattle.std.specs.List.Sorted.{IsPermutation};
+ghost use Rattle.grouping_model.specs.Datum.{HasKinds};
+ghost use Rattle.grouping_model.specs.Parts.{functions};
+ghost use Rattle.packed_rows.specs.View.{row_of};
+ghost use Rattle.context_tree.specs.Tree.{is_there, new_tree};
+ghost use Rattle.group_table.specs.Standing.{IsTableIn};
+ghost use Rattle.group_table.specs.Table.{IsSlot, Names, HasNo, state_in};
 ghost use Rattle.having_filter.specs.Kept.{IsWellFormed};
 ghost use Rattle.having_filter.specs.Meaning.{meaning};
 ghost use Rattle.hash_agg.specs.Runs.{Rises};
-ghost use Rattle.hash_agg.specs.Inputs.{brought, ArePackings, IsInput};
-ghost use Rattle.hash_agg.specs.Steps.{HasRoomForRow, AddsSelected, AddsRow, HasRoomForRows, AddsRows, HasRoomForGroup, AddsGroup, HasRoomForRun, AddsRun, HasRoomForInput, AddsInput};
+ghost use Rattle.hash_agg.specs.Passes.{AreOnce, by_hash, entries_of, HasPlace, WritesAt};
+ghost use Rattle.hash_agg.specs.Steps.{HaveRoomForRow, AdvanceBy, HaveRoomForMore, CombineWith};
 
-use crate::input::Input;
 use crate::run::Run;
-use crate::states::{advance, combine, first_states};
+use crate::sorting::sorted;
+use crate::states::{advance_slice, combine_slice};
+use context_tree::{ContextId, Kind, Tree};
+use group_table::{Fnv1a, GroupTable, Slot};
 use having_filter::Query;
-use packed_rows::{RowError, Value, pack_value, unpack_into};
-use smallvec::SmallVec;
+use packed_rows::Value;
 use std::alloc::{AllocError, Global};
-use std::collections::BTreeMap;
-use std::collections::btree_map::Entry;
 use std::marker::Model;
 
-/// Groups: by packed key, the states of the query's aggregates. Packed keys have the order of keys; one of up to 16 bytes
-/// lies in the map itself.
+/// Groups: a hash table from their packed keys to their states. Its buckets, keys and states lie in contexts below that of
+/// the pass, which lies below the root of a tree.
 #[derive(Drop)]
 pub(crate) struct Groups {
-    alloc: Global,
-    states: BTreeMap<SmallVec<u8, 16>, Vec<u8>>,
+    tree: Tree,
+    table: GroupTable<Fnv1a>,
 }
 
 impl Model for Groups {
-    ghost use Rattle.std.specs.Prelude.{List};
-    ghost use Rattle.hash_agg.specs.Runs.{Entry, entries_in};
+    ghost use Rattle.group_table.specs.Standing.{IsTableIn};
+    ghost use Rattle.hash_agg.specs.Passes.{GroupsState, by_hash};
 
-    ghost Value = { List Entry };
+    ghost Value = { GroupsState };
 
-    ghost view = { λ g. entries_in g.states.entries };
+    ghost view = { λ g. record { table = g.table; tree = g.tree } };
+
+    ghost invariant = { λ g. IsTableIn by_hash g.table g.tree };
 }
 
-/// Reads the values of a row from its packing into `row`, where they take the place of what was there.
-fn unpack<'a>(query: &Query, packed: &'a [u8], row: &mut Vec<Value<'a>>) -> Result<(), AllocError>
-    requires { (list : Row) × HasKinds (meaning query.now).kinds list × (packed.now ≡ packing list) }
-    ensures { OnOk result (HasKinds (meaning query.now).kinds (row_of row.new.items)
-        × (packed.now ≡ packing (row_of row.new.items))) }
+/// The context of a pass, below the root of a new tree.
+fn pass_context(tree: &mut Tree) -> Result<ContextId, AllocError>
+    requires { tree.old ≡ new_tree 0 }
+    ensures { IfOk result (λ id. is_there tree.new id ≡ true) }
 {
-    match unpack_into(query.schema().kinds(), packed, row) {
-        Ok(()) => Ok(()),
-        Err(RowError::NoMemory) => Err(AllocError),
-        Err(_) => unreachable!(),
+    let root = tree.root();
+    match tree.create(root, Kind::AllocSet) {
+        Ok(id) => Ok(id),
+        Err(_) => Err(AllocError),
     }
-}
-
-/// Packs the key of a row into `key`, where it takes the place of what was there.
-fn pack_key_of(query: &Query, row: &[Value<'_>], key: &mut Vec<u8>) -> Result<(), AllocError>
-    requires formed { IsWellFormed (meaning query.now) }
-    requires row { HasKinds (meaning query.now).kinds (row_of row.now) }
-    ensures { OnOk result
-        (key.new.items ≡ packing (key_of (meaning query.now) (row_of row.now))) }
-{
-    key.clear();
-    for place in query.keys() {
-        pack_value(key, row[*place])?;
-    }
-    Ok(())
 }
 
 impl Groups {
-    /// No groups.
-    pub(crate) fn new(alloc: Global) -> Groups
-        ensures { result ≡ [] }
+    /// No groups, whose states will have `width` bytes each.
+    pub(crate) fn new(alloc: Global, width: u32) -> Result<Groups, AllocError>
+        requires { width ≤ 65535 }
+        ensures empty { IfOk result (λ made. entries_of made ≡ []) }
+        ensures width { IfOk result (λ made. made.table.width ≡ width) }
     {
-        Groups {
-            alloc,
-            states: BTreeMap::new(alloc),
+        let mut tree = Tree::new(alloc);
+        let pass = pass_context(&mut tree)?;
+        match GroupTable::new(alloc, &mut tree, pass, width, Fnv1a) {
+            Ok(table) => Ok(Groups { tree, table }),
+            Err(_) => Err(AllocError),
         }
     }
 
-    /// Adds a selected row to the group of its key, which `key` holds afterwards.
-    fn add_selected(
-        &mut self,
-        query: &Query,
-        row: &[Value<'_>],
-        key: &mut Vec<u8>,
-    ) -> Result<(), AllocError>
+    /// How many groups there are.
+    pub(crate) fn len(&self) -> usize
+        ensures length { result ≡ length (entries_of self.now) }
+        ensures once { AreOnce (entries_of self.now) }
+    {
+        self.table.len()
+    }
+
+    /// The slot of the group of a key, if there is one.
+    pub(crate) fn find(&self, key: &[u8]) -> Option<Slot>
+        ensures found { MatchOption result (HasNo self.now.table self.now.tree key.now)
+            (λ slot. Names self.now.table self.now.tree slot key.now) }
+        ensures once { AreOnce (entries_of self.now) }
+    {
+        self.table.find(&self.tree, key)
+    }
+
+    /// The key and the states of one of the groups, in the order in which they came.
+    pub(crate) fn entry(&self, place: usize) -> (&[u8], &[u8])
+        requires { place < length (entries_of self.now) }
+        ensures { slice_get (entries_of self.now) place ≡ Some (result.0.now, result.1.now) }
+    {
+        self.table.entry(&self.tree, place)
+    }
+
+    /// Whether one more group keeps within a limit, in bytes of blocks. The first one always does.
+    pub(crate) fn has_room(&self, key: &[u8], limit: u64) -> bool
+        requires { length key.now ≤ 65535 }
+        ensures few { IsTrue result → HasPlace self.now }
+        ensures first { entries_of self.now ≡ [] → result ≡ true }
+    {
+        self.table.len() == 0 || self.table.room_for(&self.tree, key, limit)
+    }
+
+    /// Adds a group whose key isn't there. The only error is a failed allocation, which changes no group.
+    pub(crate) fn enter(&mut self, key: &[u8], states: &[u8]) -> Result<(), AllocError>
+        requires absent { HasNo self.old.table self.old.tree key.now }
+        requires key { length key.now ≤ 65535 }
+        requires states { length states.now ≡ self.old.table.width }
+        requires few { HasPlace self.old }
+        ensures entered { OnOk result (entries_of self.new ≡ entries_of self.old ++ (key.now, states.now) ∷ []) }
+        ensures width { self.new.table.width ≡ self.old.table.width }
+    {
+        self.table.insert(&mut self.tree, key, states)?;
+        Ok(())
+    }
+
+    /// Moves the states of a group on by a row.
+    pub(crate) fn advance(&mut self, query: &Query, slot: Slot, row: &[Value<'_>])
+        requires slot { IsSlot self.old.table slot }
         requires formed { IsWellFormed (meaning query.now) }
         requires row { HasKinds (meaning query.now).kinds (row_of row.now) }
-        requires room { HasRoomForRow (meaning query.now) self.old }
-        ensures { OnOk result
-            (AddsSelected (meaning query.now) self.old (row_of row.now) self.new) }
+        requires room { HaveRoomForRow (functions (meaning query.now)) (state_in self.old.table self.old.tree slot) }
+        ensures table { self.new.table ≡ self.old.table }
+        ensures written { WritesAt self.old slot (AdvanceBy (meaning query.now) (state_in self.old.table self.old.tree slot) (row_of row.now)) self.new }
     {
-        pack_key_of(query, row, key)?;
-        let key = SmallVec::from_slice(self.alloc, key.as_slice())?;
-        match self.states.entry(key)? {
-            Entry::Occupied(entry) => {
-                advance(query, entry.into_mut(), row);
-                Ok(())
-            }
-            Entry::Vacant(entry) => {
-                let mut states = first_states(self.alloc, query)?;
-                advance(query, &mut states, row);
-                entry.insert(states);
-                Ok(())
-            }
-        }
+        let states = GroupTable::state_mut(&mut self.tree, &self.table, slot);
+        advance_slice(query, states, row);
     }
 
-    /// Adds a packed row, if WHERE is true of it. What `row` and `key` hold doesn't matter.
-    fn add_packed<'a>(
-        &mut self,
-        query: &Query,
-        packed: &'a [u8],
-        row: &mut Vec<Value<'a>>,
-        key: &mut Vec<u8>,
-    ) -> Result<(), AllocError>
-        requires formed { IsWellFormed (meaning query.now) }
-        requires row { (list : Row) × HasKinds (meaning query.now).kinds list
-            × (packed.now ≡ packing list) }
-        requires room { HasRoomForRow (meaning query.now) self.old }
-        ensures { OnOk result (AddsRow (meaning query.now) self.old packed.now self.new) }
+    /// Combines the states of a group with others of its key, which come behind.
+    pub(crate) fn combine(&mut self, query: &Query, slot: Slot, more: &[u8])
+        requires slot { IsSlot self.old.table slot }
+        requires room { HaveRoomForMore (functions (meaning query.now)) (state_in self.old.table self.old.tree slot) more.now }
+        ensures table { self.new.table ≡ self.old.table }
+        ensures written { WritesAt self.old slot (CombineWith (functions (meaning query.now)) (state_in self.old.table self.old.tree slot) more.now) self.new }
     {
-        unpack(query, packed, row)?;
-        if !query.where_true(row) {
-            return Ok(()); // It is passed over.
-        }
-        self.add_selected(query, row, key)
+        let states = GroupTable::state_mut(&mut self.tree, &self.table, slot);
+        combine_slice(query, states, more);
     }
 
-    /// Adds packed rows.
-    fn add_rows(&mut self, query: &Query, rows: &[Vec<u8>]) -> Result<(), AllocError>
-        requires formed { IsWellFormed (meaning query.now) }
-        requires rows { (list : List Row)
-            × ArePackings (meaning query.now).kinds (bytes_of rows.now) list }
-        requires room { HasRoomForRows (meaning query.now) self.old (bytes_of rows.now) }
-        ensures { OnOk result (AddsRows (meaning query.now) self.old (bytes_of rows.now) self.new) }
+    /// Gives up all groups.
+    pub(crate) fn clear(&mut self)
+        ensures empty { entries_of self.new ≡ [] }
+        ensures width { self.new.table.width ≡ self.old.table.width }
     {
-        // One row and one key serve for all.
-        let mut row = Vec::with_capacity(self.alloc, query.schema().width())?;
-        let mut key = Vec::new(self.alloc);
-        for packed in rows {
-            self.add_packed(query, packed, &mut row, &mut key)?;
-        }
-        Ok(())
+        self.table.clear(&mut self.tree);
     }
 
-    /// Adds a group, whose states come behind those of its key.
-    fn add_group(&mut self, query: &Query, key: &[u8], more: &[u8]) -> Result<(), AllocError>
-        requires { HasRoomForGroup (meaning query.now) self.old (key.now, more.now) }
-        ensures { OnOk result
-            (AddsGroup (meaning query.now) self.old (key.now, more.now) self.new) }
-    {
-        let key = SmallVec::from_slice(self.alloc, key)?;
-        if let Some(old) = self.states.get_mut(&key) {
-            combine(query, old, more);
-            return Ok(());
-        }
-        let states = more.to_vec(self.alloc)?;
-        self.states.insert(key, states)?;
-        Ok(())
-    }
-
-    /// Adds the groups of a run.
-    fn add_run(&mut self, query: &Query, run: &Run) -> Result<(), AllocError>
-        requires { HasRoomForRun (meaning query.now) self.old run.now }
-        ensures { OnOk result (AddsRun (meaning query.now) self.old run.now self.new) }
-    {
-        for place in 0..run.len() {
-            let (key, states) = run.group(place);
-            self.add_group(query, key, states)?;
-        }
-        Ok(())
-    }
-
-    /// Adds what an input gives.
-    pub(crate) fn add_input(&mut self, query: &Query, input: &Input<'_>) -> Result<(), AllocError>
-        requires formed { IsWellFormed (meaning query.now) }
-        requires input { IsInput (meaning query.now) (brought input.now) }
-        requires room { HasRoomForInput (meaning query.now) self.old (brought input.now) }
-        ensures { OnOk result (AddsInput (meaning query.now) self.old (brought input.now) self.new) }
-    {
-        match input {
-            Input::Rows(rows) => self.add_rows(query, rows),
-            Input::Groups { run, .. } => self.add_run(query, run),
-        }
-    }
-
-    /// The groups as a run, in the order of their keys.
-    pub(crate) fn into_run(self) -> Result<Run, AllocError>
-        ensures groups { IfOk result (λ run. run ≡ self) }
+    /// The groups in the order of their keys.
+    pub(crate) fn sorted(&self, alloc: Global) -> Result<Run, AllocError>
+        ensures sorted { IfOk result (IsPermutation (entries_of self.now)) }
         ensures rises { IfOk result Rises }
     {
-        let Groups { alloc, states } = self;
-        let mut run = Run::with_capacity(alloc, states.len(), 0, 0)?;
-        for (key, states) in states {
-            run.push(key.as_slice(), states.as_slice())?;
+        let mut entries = Vec::with_capacity(alloc, self.len())?;
+        for place in 0..self.len() {
+            entries.push(self.entry(place))?;
         }
-        Ok(run)
+        sorted(alloc, entries.as_mut_slice())
     }
 }

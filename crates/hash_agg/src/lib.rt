@@ -7,10 +7,13 @@ mod groups;
 mod input;
 mod laws;
 mod merging;
+mod pass;
+mod record;
 mod run;
+mod sorting;
 mod states;
 
-pub use aggregation::aggregate;
+pub use aggregation::{aggregate, aggregate_within};
 pub use folding::fold;
 pub use input::Input;
 pub use laws::{empty_run, more_rows, one_run, same_run};

@@ -89,13 +89,13 @@ fn advance_from(
 }
 
 /// Moves the states of a group on by a row.
-pub(crate) fn advance(query: &Query, states: &mut Vec<u8>, row: &[Value<'_>])
+pub(crate) fn advance_slice(query: &Query, states: &mut [u8], row: &[Value<'_>])
     requires formed { IsWellFormed (meaning query.now) }
     requires row { HasKinds (meaning query.now).kinds (row_of row.now) }
-    requires room { HaveRoomForRow (functions (meaning query.now)) states.old.items }
-    ensures { AdvanceBy (meaning query.now) states.old.items (row_of row.now) states.new.items }
+    requires room { HaveRoomForRow (functions (meaning query.now)) states.old }
+    ensures { AdvanceBy (meaning query.now) states.old (row_of row.now) states.new }
 {
-    advance_from(query, 0, query.agg_kinds(), states.as_mut_slice(), row);
+    advance_from(query, 0, query.agg_kinds(), states, row);
 }
 
 /// The bytes of a group's states before any row. The only error is a failed allocation.
@@ -118,13 +118,4 @@ pub(crate) fn combine_slice(query: &Query, states: &mut [u8], more: &[u8])
         Ok(()) => {}
         Err(BadState) => unreachable!(),
     }
-}
-
-/// The same of states in a vector.
-pub(crate) fn combine(query: &Query, states: &mut Vec<u8>, more: &[u8])
-    requires { HaveRoomForMore (functions (meaning query.now)) states.old.items more.now }
-    ensures { CombineWith (functions (meaning query.now)) states.old.items more.now
-        states.new.items }
-{
-    combine_slice(query, states.as_mut_slice(), more);
 }

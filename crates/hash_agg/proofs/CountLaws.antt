@@ -1,0 +1,194 @@
+-- The pieces of all inputs, and how many rows they count.
+use Rattle.std.specs.Prelude.{◌≡◌, refl, ℕ, zero, suc, ◌+◌, ◌^◌, ◌<◌, ◌≤◌, Bool, true, false, cond, ◌||◌, List, [], ◌∷◌, ◌++◌, length, map, take, slice_get, Some}
+use Rattle.std.proofs.Common.{sym, ◌∙◌, ap, subst, arith, add-one, append-nil, append_assoc}
+use Rattle.std.proofs.lemmas.List.{length-map}
+use Rattle.std.proofs.lemmas.List.Sums.{sum_by-cons}
+use Rattle.std.specs.List.{AllByRecursion}
+use Rattle.std.specs.List.Sorted.{IsStrictlySortedBy}
+use Rattle.grouping_model.specs.Datum.{Row, row_cmp, same_row}
+use Rattle.grouping_model.specs.Rising.{is_among}
+use Rattle.grouping_model.specs.Query.{Query}
+use Rattle.grouping_model.specs.Grouping.{Group, key_of, selected}
+use Rattle.grouping_model.specs.Parts.{keys_of}
+use Rattle.grouping_model.proofs.PartLaws.{same_row-swap}
+use Rattle.grouping_model.proofs.DatumOrder.{same_row-is}
+use Rattle.packed_rows.specs.Packing.{packing}
+use Rattle.agg_protocol.specs.States.{most_rows}
+use Rattle.having_filter.specs.Meaning.{Checked, meaning}
+use Rattle.hash_agg.specs.Inputs.{Brought, Packed, Counted, rows_in, all_rows, IsInput}
+use Rattle.hash_agg.specs.Adding.{row_added, rows_added, group_added, groups_added, Given, Of_rows, Of_groups, Gives, AllGive, given_added, all_added}
+use Rattle.hash_agg.specs.Passes.{Piece, Of_row, Of_group, pieces_added, made_of, piece_key, weight, rows_at, CountUpTo, AreOf, PassState, Stands, CanCount, CanReadAll, ReadsAll, entries_of}
+use Rattle.hash_agg.proofs.InputLaws.{run_apart}
+use Rattle.hash_agg.proofs.MergeLaws.{AreApart, puts_rise, nothing_rises, keys_of-rows_added, keys_of-groups_added}
+use Rattle.hash_agg.proofs.PassLaws.{rows_append, pieces_append}
+use Rattle.hash_agg.proofs.WholeLaws.{GivenAt}
+
+-- what an input gives, as pieces; and what all give
+abbrev pub given_pieces : Brought → Given → List Piece
+given_pieces input (Of_rows rows) = map Of_row rows
+given_pieces input (Of_groups groups) = map (λ group. Of_group group (rows_in input)) groups
+
+abbrev pub all_pieces : List Brought → List Given → List Piece
+all_pieces (input ∷ inputs) (given ∷ givens) = given_pieces input given ++ all_pieces inputs givens
+all_pieces inputs givens = []
+
+pub pieces_of : (q : Query) (input : Brought) (given : Given) → Gives q input given → AreOf q input (given_pieces input given)
+pieces_of q (Packed packed) (Of_rows rows) gives = (rows, gives, refl)
+pieces_of q (Packed packed) (Of_groups groups) gives = absurd gives
+pieces_of q (Counted run most) (Of_rows rows) gives = absurd gives
+pieces_of q (Counted run most) (Of_groups groups) gives = (groups, gives, refl)
+
+-- ---- the groups that they make up
+
+rows_made : (q : Query) (gs : List Group) (rows : List Row) → pieces_added q gs (map Of_row rows) ≡ rows_added q gs rows
+rows_made q gs [] = refl
+rows_made q gs (row ∷ rows) = rows_made q (row_added q gs row) rows
+
+groups_made : (q : Query) (most : ℕ) (gs more : List Group) → pieces_added q gs (map (λ group. Of_group group most) more) ≡ groups_added q gs more
+groups_made q most gs [] = refl
+groups_made q most gs (g ∷ more) = groups_made q most (group_added q gs g) more
+
+given_made : (q : Query) (gs : List Group) (input : Brought) (given : Given) → pieces_added q gs (given_pieces input given) ≡ given_added q gs given
+given_made q gs input (Of_rows rows) = rows_made q gs rows
+given_made q gs input (Of_groups groups) = groups_made q (rows_in input) gs groups
+
+pub all_made : (q : Query) (gs : List Group) (inputs : List Brought) (givens : List Given) → AllGive q inputs givens → pieces_added q gs (all_pieces inputs givens) ≡ all_added q gs givens
+all_made q gs [] [] give = refl
+all_made q gs [] (given ∷ givens) give = absurd give
+all_made q gs (input ∷ inputs) [] give = absurd give
+all_made q gs (input ∷ inputs) (given ∷ givens) (one, give) =
+    pieces_append q gs (given_pieces input given) (all_pieces inputs givens)
+    ∙ ap (λ gs. pieces_added q gs (all_pieces inputs givens)) (given_made q gs input given)
+    ∙ all_made q (given_added q gs given) inputs givens give
+
+given_rise : (q : Query) (gs : List Group) (given : Given) → IsStrictlySortedBy row_cmp (keys_of gs) → IsStrictlySortedBy row_cmp (keys_of (given_added q gs given))
+given_rise q gs (Of_rows rows) rising = subst (IsStrictlySortedBy row_cmp) (sym (keys_of-rows_added q gs rows)) (puts_rise (keys_of gs) (map (key_of q) (selected q rows)) rising)
+given_rise q gs (Of_groups groups) rising = subst (IsStrictlySortedBy row_cmp) (sym (keys_of-groups_added q gs groups)) (puts_rise (keys_of gs) (keys_of groups) rising)
+
+all_rise : (q : Query) (gs : List Group) (givens : List Given) → IsStrictlySortedBy row_cmp (keys_of gs) → IsStrictlySortedBy row_cmp (keys_of (all_added q gs givens))
+all_rise q gs [] rising = rising
+all_rise q gs (given ∷ givens) rising = all_rise q (given_added q gs given) givens (given_rise q gs given rising)
+
+pub made_rise : (q : Query) (inputs : List Brought) (givens : List Given) → AllGive q inputs givens → IsStrictlySortedBy row_cmp (keys_of (made_of q (all_pieces inputs givens)))
+made_rise q inputs givens give = subst (λ gs. IsStrictlySortedBy row_cmp (keys_of gs)) (sym (all_made q [] inputs givens give)) (all_rise q [] givens nothing_rises)
+
+-- ---- how many rows they count
+
+rows_few : (q : Query) (k : Row) (rows : List Row) → rows_at q k (map Of_row rows) ≤ length rows
+rows_few q k [] = omega arith
+rows_few q k (row ∷ rows) =
+    let rest = rows_few q k rows in
+    let both = sum_by-cons (λ x. cond (same_row (piece_key q x) k) (weight x) 0) (Of_row row) (map Of_row rows) in
+    let one = at_most (same_row (key_of q row) k) in
+    omega (arith, rest, both, one)
+  where
+    at_most : (b : Bool) → cond b 1 0 ≤ 1
+    at_most true = omega arith
+    at_most false = omega arith
+
+none_counted : (q : Query) (k : Row) (most : ℕ) (gs : List Group) → is_among row_cmp k (keys_of gs) ≡ false → rows_at q k (map (λ group. Of_group group most) gs) ≡ 0
+none_counted q k most [] none = refl
+none_counted q k most (g ∷ gs) none =
+    elim (same_row k g.0) as (λ b. same_row k g.0 ≡ b → (b || is_among row_cmp k (keys_of gs)) ≡ false → rows_at q k (map (λ group. Of_group group most) (g ∷ gs)) ≡ 0) [
+      | true ↦ λ e n. absurd cc
+      | false ↦ λ e n.
+          let both = sum_by-cons (λ x. cond (same_row (piece_key q x) k) (weight x) 0) (Of_group g most) (map (λ group. Of_group group most) gs) in
+          let head : cond (same_row g.0 k) most 0 ≡ 0 = ap (λ b. cond b most 0) (same_row-swap g.0 k ∙ e) in
+          let rest = none_counted q k most gs n in
+          omega (arith, both, head, rest)
+    ] refl none
+
+groups_few : (q : Query) (k : Row) (most : ℕ) (gs : List Group) → AreApart (keys_of gs) → rows_at q k (map (λ group. Of_group group most) gs) ≤ most
+groups_few q k most [] apart = omega arith
+groups_few q k most (g ∷ gs) (none, apart) =
+    let both = sum_by-cons (λ x. cond (same_row (piece_key q x) k) (weight x) 0) (Of_group g most) (map (λ group. Of_group group most) gs) in
+    let rest = groups_few q k most gs apart in
+    elim (same_row g.0 k) as (λ b. same_row g.0 k ≡ b → rows_at q k (map (λ group. Of_group group most) (g ∷ gs)) ≤ most) [
+      | true ↦ λ e.
+          let gone : rows_at q k (map (λ group. Of_group group most) gs) ≡ 0 = none_counted q k most gs (subst (λ k. is_among row_cmp k (keys_of gs) ≡ false) ((same_row-is g.0 k).0 e) none) in
+          let head : cond (same_row g.0 k) most 0 ≡ most = ap (λ b. cond b most 0) e in
+          omega (arith, both, gone, head)
+      | false ↦ λ e.
+          let head : cond (same_row g.0 k) most 0 ≡ 0 = ap (λ b. cond b most 0) e in
+          omega (arith, both, rest, head)
+    ] refl
+
+given_few : (q : Query) (k : Row) (input : Brought) (given : Given) → IsInput q input → Gives q input given → rows_at q k (given_pieces input given) ≤ rows_in input
+given_few q k (Packed packed) (Of_rows rows) is gives =
+    let few = rows_few q k rows in
+    let long : length packed ≡ length rows = ap length gives.packings_are ∙ length-map rows packing in
+    omega (arith, few, long)
+given_few q k (Packed packed) (Of_groups groups) is gives = absurd gives
+given_few q k (Counted run most) (Of_rows rows) is gives = absurd gives
+given_few q k (Counted run most) (Of_groups groups) is gives = groups_few q k most groups (run_apart q most run groups gives is.rises)
+
+pub all_few : (q : Query) (k : Row) (inputs : List Brought) (givens : List Given) → AllByRecursion (IsInput q) inputs → AllGive q inputs givens → rows_at q k (all_pieces inputs givens) ≤ all_rows inputs
+all_few q k [] [] all give = omega arith
+all_few q k [] (given ∷ givens) all give = absurd give
+all_few q k (input ∷ inputs) [] all give = absurd give
+all_few q k (input ∷ inputs) (given ∷ givens) (is, all) (one, give) =
+    let first = given_few q k input given is one in
+    let rest = all_few q k inputs givens all give in
+    let both = rows_append q k (given_pieces input given) (all_pieces inputs givens) in
+    let sum = sum_by-cons rows_in input inputs in
+    omega (arith, first, rest, both, sum)
+
+-- ---- one input after the other
+
+pub pieces_next : (inputs : List Brought) (givens : List Given) (i : ℕ) (input : Brought) (given : Given) → slice_get inputs i ≡ Some input → slice_get givens i ≡ Some given
+    → all_pieces (take (i + 1) inputs) (take (i + 1) givens) ≡ all_pieces (take i inputs) (take i givens) ++ given_pieces input given
+pieces_next [] givens i input given at bt = absurd cc
+pieces_next (x ∷ inputs) [] i input given at bt = absurd cc
+pieces_next (x ∷ inputs) (g ∷ givens) zero input given at bt =
+    let first : x ≡ input = cc in
+    let second : g ≡ given = cc in
+    append-nil (given_pieces x g) ∙ (λ i. given_pieces (first i) (second i))
+pieces_next (x ∷ inputs) (g ∷ givens) (suc i) input given at bt =
+    ap (λ n. all_pieces (take n (x ∷ inputs)) (take n (g ∷ givens))) (add-one (suc i))
+    ∙ ap (λ n. given_pieces x g ++ all_pieces (take n inputs) (take n givens)) (sym (add-one i))
+    ∙ ap (λ ps. given_pieces x g ++ ps) (pieces_next inputs givens i input given at bt)
+    ∙ sym (append_assoc (given_pieces x g) (all_pieces (take i inputs) (take i givens)) (given_pieces input given))
+
+pub front_few : (q : Query) (k : Row) (inputs : List Brought) (givens : List Given) (n : ℕ) → rows_at q k (all_pieces (take n inputs) (take n givens)) ≤ rows_at q k (all_pieces inputs givens)
+front_few q k [] givens zero = omega arith
+front_few q k [] givens (suc n) = omega arith
+front_few q k (x ∷ inputs) [] zero = omega arith
+front_few q k (x ∷ inputs) [] (suc n) = omega arith
+front_few q k (x ∷ inputs) (g ∷ givens) zero = omega arith
+front_few q k (x ∷ inputs) (g ∷ givens) (suc n) =
+    let rest = front_few q k inputs givens n in
+    let a = rows_append q k (given_pieces x g) (all_pieces inputs givens) in
+    let b = rows_append q k (given_pieces x g) (all_pieces (take n inputs) (take n givens)) in
+    omega (arith, rest, a, b)
+
+module _ (q : Checked) (inputs : List Brought) (givens : List Given) (all : AllByRecursion (IsInput (meaning q)) inputs) (give : AllGive (meaning q) inputs givens) (low : all_rows inputs < 2 ^ 57) (i : ℕ) where
+  pub front_counts : CountUpTo (meaning q) most_rows (all_pieces (take i inputs) (take i givens))
+  front_counts k =
+      let a = front_few (meaning q) k inputs givens i in
+      let b = all_few (meaning q) k inputs givens all give in
+      omega (arith, a, b, low)
+
+  module _ (input : Brought) (at : slice_get inputs i ≡ Some input) (found : GivenAt (meaning q) givens i input) (pass : PassState) (same : pass.query ≡ q) (s : Stands (meaning q) (all_pieces (take i inputs) (take i givens)) (entries_of pass.groups) pass.left) where
+    here : Stands (meaning pass.query) (all_pieces (take i inputs) (take i givens)) (entries_of pass.groups) pass.left
+    here = subst (λ (q : Checked). Stands (meaning q) (all_pieces (take i inputs) (take i givens)) (entries_of pass.groups) pass.left) (sym same) s
+
+    are : AreOf (meaning pass.query) input (given_pieces input found.given)
+    are = subst (λ (q : Checked). AreOf (meaning q) input (given_pieces input found.given)) (sym same) (pieces_of (meaning q) input found.given found.gives)
+
+    here_counts : CountUpTo (meaning q) most_rows (all_pieces (take i inputs) (take i givens) ++ given_pieces input found.given)
+    here_counts k =
+        let a = front_few (meaning q) k inputs givens (i + 1) in
+        let b = all_few (meaning q) k inputs givens all give in
+        let c : rows_at (meaning q) k (all_pieces (take (i + 1) inputs) (take (i + 1) givens)) ≡ rows_at (meaning q) k (all_pieces (take i inputs) (take i givens) ++ given_pieces input found.given) = ap (rows_at (meaning q) k) (pieces_next inputs givens i input found.given at found.at) in
+        omega (arith, a, b, c, low)
+
+    counts : CanCount pass (all_pieces (take i inputs) (take i givens)) (given_pieces input found.given)
+    counts = subst (λ (q : Checked). CountUpTo (meaning q) most_rows (all_pieces (take i inputs) (take i givens) ++ given_pieces input found.given)) (sym same) here_counts
+
+    pub can_read_input : CanReadAll (AreOf (meaning pass.query) input) pass
+    can_read_input = (all_pieces (take i inputs) (take i givens), given_pieces input found.given, here, are, counts)
+
+    pub input_read : (next : PassState) → ReadsAll (AreOf (meaning pass.query) input) pass next → Stands (meaning q) (all_pieces (take (i + 1) inputs) (take (i + 1) givens)) (entries_of next.groups) next.left
+    input_read next reads =
+        subst (λ ps. Stands (meaning q) ps (entries_of next.groups) next.left) (sym (pieces_next inputs givens i input found.given at found.at))
+        (subst (λ (q : Checked). Stands (meaning q) (all_pieces (take i inputs) (take i givens) ++ given_pieces input found.given) (entries_of next.groups) next.left) same (reads (all_pieces (take i inputs) (take i givens)) (given_pieces input found.given) here are counts))

@@ -1,0 +1,135 @@
+-- Entries in the order of their keys.
+use Rattle.std.specs.Borrow.{Bor}
+use Rattle.std.specs.Prelude.{◌≡◌, ◌≢◌, refl, ℕ, zero, suc, ◌+◌, ◌<◌, ◌≤◌, true, false, List, [], ◌∷◌, ◌++◌, length, take, drop, slice_get, slice_index_or, Some}
+use Rattle.std.proofs.Common.{sym, ◌∙◌, ap, subst, arith}
+use Rattle.std.proofs.lemmas.List.{map-append, length-map, take_all, take-append-drop}
+use Rattle.std.proofs.lemmas.List.Sorted.{IsPermutation-map}
+use Rattle.std.proofs.lemmas.Map.Keys.{IsDistinct-IsPermutation, IsDistinct-from_sorted}
+use Rattle.std.specs.declared.cmp.Ordering.{Ordering}
+use Rattle.std.specs.declared.cmp.Ordering.TheVariants.{Less, Equal, Greater}
+use Rattle.std.specs.Ordering.{is_lt, is_eq, eq_by_cmp, nat_cmp, ordering_then, ordering_reverse}
+use Rattle.std.specs.Cmp.{Equal-is, tied_itself}
+use Rattle.std.specs.Cmp.Lexicographic.{slice_cmp}
+use Rattle.std.specs.FinMap.{slice_cmp-IsAntisymmetric, nat_cmp-IsAntisymmetric}
+use Rattle.std.specs.List.{AllByRecursion, IsDistinct}
+use Rattle.std.specs.List.Sorted.{IsPermutation, IsSorted, IsStrictlySortedBy}
+use Rattle.grouping_model.proofs.Members.{false_is_not_true}
+use Rattle.hash_agg.specs.Runs.{Entry, packed_keys, Rises}
+use Rattle.hash_agg.specs.Passes.{AreOnce, HasNoKey, pairs}
+use Rattle.hash_agg.proofs.InputLaws.{take_found, run_front_rises}
+use Rattle.hash_agg.proofs.PlaceLaws.{key_total}
+
+-- ---- keys that differ
+
+abbrev bytes_cmp : List ℕ → List ℕ → Ordering
+bytes_cmp = slice_cmp nat_cmp
+
+same_key : (x y : List ℕ) → eq_by_cmp bytes_cmp x y ≡ true → x ≡ y
+same_key x y e = slice_cmp-IsAntisymmetric nat_cmp-IsAntisymmetric x y ((Equal-is (bytes_cmp x y)).0 e)
+
+key_itself : (x : List ℕ) → eq_by_cmp bytes_cmp x x ≡ true
+key_itself x = ap is_eq (tied_itself key_total x)
+
+distinct_by : (x : Entry) (es : List Entry) → HasNoKey es x.0 → AllByRecursion (λ y. eq_by_cmp bytes_cmp x.0 y ≡ false) (packed_keys es)
+distinct_by x [] absent = tt
+distinct_by x (e ∷ es) absent = (
+  (elim (eq_by_cmp bytes_cmp x.0 e.0) as (λ b. eq_by_cmp bytes_cmp x.0 e.0 ≡ b → b ≡ false) [
+    | true ↦ λ t. absurd (absent zero e refl (sym (same_key x.0 e.0 t)))
+    | false ↦ λ t. refl
+  ] refl),
+  distinct_by x es (λ i y at. absent (suc i) y at),
+)
+
+once_distinct : (es : List Entry) → AreOnce es → IsDistinct (eq_by_cmp bytes_cmp) (packed_keys es)
+unfolding IsDistinct
+once_distinct [] once = tt
+once_distinct (e ∷ es) once = (
+  distinct_by e es (λ i y at same. let zero_is : zero ≡ suc i = once zero (suc i) e y refl at (sym same) in absurd (omega (arith, zero_is))),
+  once_distinct es (λ i j x y at bt same. let both : suc i ≡ suc j = once (suc i) (suc j) x y at bt same in omega (arith, both)),
+)
+
+not_at : (x : List ℕ) (es : List Entry) (i : ℕ) (y : Entry) → AllByRecursion (λ y. eq_by_cmp bytes_cmp x y ≡ false) (packed_keys es) → slice_get es i ≡ Some y → x ≢ y.0
+not_at x [] i y all at = absurd cc
+not_at x (e ∷ es) zero y (first, all) at = λ same.
+    let is : e ≡ y = cc in
+    false_is_not_true (sym first ∙ ap (eq_by_cmp bytes_cmp x) (ap (λ (e : Entry). e.0) is ∙ sym same) ∙ key_itself x)
+not_at x (e ∷ es) (suc i) y (first, all) at = not_at x es i y all at
+
+distinct_once : (es : List Entry) → IsDistinct (eq_by_cmp bytes_cmp) (packed_keys es) → AreOnce es
+unfolding IsDistinct
+distinct_once [] all i j x y at bt same = absurd cc
+distinct_once (e ∷ es) (first, rest) zero zero x y at bt same = refl
+distinct_once (e ∷ es) (first, rest) zero (suc j) x y at bt same = let is : e ≡ x = cc in absurd (not_at e.0 es j y first bt (ap (λ (e : Entry). e.0) is ∙ same))
+distinct_once (e ∷ es) (first, rest) (suc i) zero x y at bt same = let is : e ≡ y = cc in absurd (not_at e.0 es i x first at (ap (λ (e : Entry). e.0) is ∙ sym same))
+distinct_once (e ∷ es) (first, rest) (suc i) (suc j) x y at bt same = ap suc (distinct_once es rest i j x y at bt same)
+
+reversed : (r s : Ordering) → r ≡ ordering_reverse s → is_eq r ≡ is_eq s
+reversed r Less e = ap is_eq e
+reversed r Equal e = ap is_eq e
+reversed r Greater e = ap is_eq e
+
+pub once_permuted : (es fs : List Entry) → IsPermutation es fs → AreOnce es → AreOnce fs
+once_permuted es fs moved once =
+    distinct_once fs
+    (IsDistinct-IsPermutation (eq_by_cmp bytes_cmp) (λ x y. reversed (bytes_cmp x y) (bytes_cmp y x) (key_total.antisymm x y)) (packed_keys es) (packed_keys fs) (IsPermutation-map (λ (e : Entry). e.0) es fs moved) (once_distinct es once))
+
+pub rises_once : (es : List Entry) → Rises es → AreOnce es
+rises_once es rises = distinct_once es (IsDistinct-from_sorted bytes_cmp (packed_keys es) rises)
+
+-- ---- a sort by keys
+
+-- references to a key and to states
+abbrev Pair : Type 0
+Pair = Bor (List ℕ) × Bor (List ℕ)
+
+abbrev pair_cmp : Pair → Pair → Ordering
+pair_cmp x y = ordering_then (bytes_cmp x.0.now y.0.now) (bytes_cmp x.1.now y.1.now)
+
+-- one whose key differs, and that does not come before another, comes behind it
+next_above : (x y : Pair) → is_lt (pair_cmp y x) ≡ false → x.0.now ≢ y.0.now → bytes_cmp x.0.now y.0.now ≡ Less
+next_above x y low other =
+    elim (bytes_cmp y.0.now x.0.now) as (λ r. bytes_cmp y.0.now x.0.now ≡ r → is_lt (ordering_then r (bytes_cmp y.1.now x.1.now)) ≡ false → bytes_cmp x.0.now y.0.now ≡ Less) [
+      | Less ↦ λ e low. false_is_not_true (sym low)
+      | Equal ↦ λ e low. absurd (other (sym (slice_cmp-IsAntisymmetric nat_cmp-IsAntisymmetric y.0.now x.0.now e)))
+      | Greater ↦ λ e low. key_total.antisymm x.0.now y.0.now ∙ ap ordering_reverse e
+    ] refl low
+
+above_all : (x y : List ℕ) (ks : List (List ℕ)) → bytes_cmp x y ≡ Less → AllByRecursion (λ z. bytes_cmp y z ≡ Less) ks → AllByRecursion (λ z. bytes_cmp x z ≡ Less) ks
+above_all x y [] low all = tt
+above_all x y (k ∷ ks) low (first, all) = (key_total.trans x y k low first, above_all x y ks low all)
+
+pub sorted_rises : (ps : List Pair) → IsSorted pair_cmp ps → AreOnce (pairs ps) → Rises (pairs ps)
+unfolding IsStrictlySortedBy
+sorted_rises [] sorted once = tt
+sorted_rises (x ∷ []) sorted once = (tt, tt)
+sorted_rises (x ∷ y ∷ ps) sorted once =
+    let rest : Rises (pairs (y ∷ ps)) = sorted_rises (y ∷ ps) (λ k d low high. let one_on : suc k + 1 ≡ suc (k + 1) = omega arith in subst (λ n. is_lt (pair_cmp (slice_index_or (x ∷ y ∷ ps) n d) (slice_index_or (y ∷ ps) k d)) ≡ false) one_on (sorted (suc k) d (omega arith) (omega (arith, high)))) (λ i j a b at bt same. let both : suc i ≡ suc j = once (suc i) (suc j) a b at bt same in omega (arith, both)) in
+    let low : bytes_cmp x.0.now y.0.now ≡ Less =
+    next_above x y (sorted zero x (omega arith) (omega arith)) (λ same. let one : zero ≡ suc zero = once zero (suc zero) (x.0.now, x.1.now) (y.0.now, y.1.now) refl refl same in absurd (omega (arith, one))) in
+    ((low, above_all x.0.now y.0.now (packed_keys (pairs ps)) low rest.0), rest)
+
+-- ---- places
+
+pub more_pairs : (ps : List Pair) (p : Pair) → pairs (ps ++ p ∷ []) ≡ pairs ps ++ (p.0.now, p.1.now) ∷ []
+more_pairs ps p = map-append (λ (e : Pair). (e.0.now, e.1.now)) ps (p ∷ [])
+
+pub take_next : (es : List Entry) (i : ℕ) (key states : List ℕ) → slice_get es i ≡ Some (key, states) → take (i + 1) es ≡ take i es ++ (key, states) ∷ []
+take_next es i key states at = take_found es i (key, states) at
+
+pub pair_at : (ps : List Pair) (i : ℕ) (d : Pair) → i < length ps → slice_get (pairs ps) i ≡ Some ((slice_index_or ps i d).0.now, (slice_index_or ps i d).1.now)
+pair_at [] i d low = absurd (omega (arith, low))
+pair_at (p ∷ ps) zero d low = refl
+pair_at (p ∷ ps) (suc i) d low = pair_at ps i d (omega (arith, low))
+
+pub next_rises : (es run : List Entry) (i : ℕ) (key states : List ℕ) → Rises es → slice_get es i ≡ Some (key, states) → run ≡ take i es → Rises (run ++ (key, states) ∷ [])
+next_rises es run i key states rises at is =
+    subst (λ front. Rises (front ++ (key, states) ∷ [])) (sym is)
+    (subst Rises (take_next es i key states at) (run_front_rises (take (i + 1) es) (drop (i + 1) es) (subst Rises (sym (take-append-drop (i + 1) es)) rises)))
+
+pub pairs_moved : (ps qs : List Pair) → IsPermutation ps qs → IsPermutation (pairs ps) (pairs qs)
+pairs_moved ps qs moved = IsPermutation-map (λ (e : Pair). (e.0.now, e.1.now)) ps qs moved
+
+pub all_taken : (ps : List Pair) (run : List Entry) (i : ℕ) → run ≡ take i (pairs ps) → length ps ≤ i → run ≡ pairs ps
+all_taken ps run i is past =
+    let same : length (pairs ps) ≡ length ps = length-map ps (λ (e : Pair). (e.0.now, e.1.now)) in
+    is ∙ take_all i (pairs ps) (omega (arith, same, past))

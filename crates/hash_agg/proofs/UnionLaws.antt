@@ -1,0 +1,285 @@
+-- The groups of some passes together.
+use Rattle.std.specs.Prelude.{◌≡◌, ◌≢◌, refl, ℕ, zero, suc, ◌⊎◌, true, false, cond, ◌||◌, List, [], ◌∷◌, ◌++◌, length, slice_get, slice_set, slice_index_or, Some, None, is_some}
+use Rattle.std.proofs.Common.{sym, ◌∙◌, ap, subst, inl, inr, arith, append-nil}
+use Rattle.std.proofs.lemmas.List.Sorted.{Contains-permutation, IsPermutation-sym}
+use Rattle.std.proofs.lemmas.Grind.{flat_map-append}
+use Rattle.std.specs.List.{swap}
+use Rattle.std.specs.List.Sorted.{IsPermutation, IsStrictlySortedBy, SwapsInRange, apply_swaps}
+use Rattle.grouping_model.specs.Datum.{Row, row_cmp, same_row}
+use Rattle.grouping_model.specs.Rising.{is_among}
+use Rattle.grouping_model.specs.Rising.Facts.{same_members}
+use Rattle.grouping_model.specs.Aggregates.{Partial}
+use Rattle.grouping_model.specs.Query.{Query}
+use Rattle.grouping_model.specs.Grouping.{Group}
+use Rattle.grouping_model.specs.Parts.{keys_of, partials_at}
+use Rattle.grouping_model.proofs.DatumOrder.{row_cmp_total, row_cmp_ties, same_row-is}
+use Rattle.grouping_model.proofs.Members.{Member, from_contains, to_contains}
+use Rattle.grouping_model.proofs.PartLaws.{same_row-swap}
+use Rattle.hash_agg.specs.declared.record.Record.{Record}
+use Rattle.hash_agg.specs.Runs.{Entry, Rises}
+use Rattle.hash_agg.specs.Standing.{StandsFor, AreGroups}
+use Rattle.hash_agg.specs.Passes.{Piece, ArePieces, made_of, rows_at, CountUpTo, AreOnce, IsParted, AreGroupsBy, Stands, PassState, CanReadAll, ReadsAll, entries_of, all_in}
+use Rattle.hash_agg.proofs.FoldLaws.{run_keys_rise}
+use Rattle.agg_protocol.specs.States.{most_rows}
+use Rattle.having_filter.specs.Kept.{key_kinds}
+use Rattle.having_filter.specs.Meaning.{Checked, meaning}
+use Rattle.hash_agg.proofs.InputLaws.{packed_once}
+use Rattle.hash_agg.proofs.MergeLaws.{AreApart, apart_from, rising_apart}
+use Rattle.hash_agg.proofs.PassLaws.{set_with, at_cons, at_append, or_else, or_none, missing, by_raised, by_uniform, by_append, by_set, by_at, once_apart, no_pieces, same_itself}
+use Rattle.hash_agg.proofs.SortLaws.{once_permuted, rises_once}
+
+-- ---- groups in another order
+
+by_index : (q : Query) (m : Row → ℕ) (es : List Entry) (gs : List Group) (i : ℕ) (x : Entry) (h : Group) → AreGroupsBy q m es gs → StandsFor q (m h.0) x h → StandsFor q (m (slice_index_or gs i h).0) (slice_index_or es i x) (slice_index_or gs i h)
+by_index q m [] [] i x h are one = one
+by_index q m [] (g ∷ gs) i x h are one = absurd are
+by_index q m (e ∷ es) [] i x h are one = absurd are
+by_index q m (e ∷ es) (g ∷ gs) zero x h (first, are) one = first
+by_index q m (e ∷ es) (g ∷ gs) (suc i) x h (first, are) one = by_index q m es gs i x h are one
+
+by_swap : (q : Query) (m : Row → ℕ) (es : List Entry) (gs : List Group) (i j : ℕ) → AreGroupsBy q m es gs → AreGroupsBy q m (swap es i j) (swap gs i j)
+by_swap q m [] [] i j are = tt
+by_swap q m [] (g ∷ gs) i j are = absurd are
+by_swap q m (e ∷ es) [] i j are = absurd are
+by_swap q m (e ∷ es) (g ∷ gs) i j (first, are) =
+    by_set q m (slice_set (e ∷ es) i (slice_index_or (e ∷ es) j e)) (slice_set (g ∷ gs) i (slice_index_or (g ∷ gs) j g)) j (slice_index_or (e ∷ es) i e) (slice_index_or (g ∷ gs) i g)
+    (by_set q m (e ∷ es) (g ∷ gs) i (slice_index_or (e ∷ es) j e) (slice_index_or (g ∷ gs) j g) (first, are) (by_index q m (e ∷ es) (g ∷ gs) j e g (first, are) first))
+    (by_index q m (e ∷ es) (g ∷ gs) i e g (first, are) first)
+
+by_swaps : (q : Query) (m : Row → ℕ) (es : List Entry) (gs : List Group) (moves : List (ℕ × ℕ)) → AreGroupsBy q m es gs → AreGroupsBy q m (apply_swaps es moves) (apply_swaps gs moves)
+by_swaps q m es gs [] are = are
+by_swaps q m es gs (p ∷ moves) are = by_swap q m (apply_swaps es moves) (apply_swaps gs moves) p.0 p.1 (by_swaps q m es gs moves are)
+
+by_long : (q : Query) (m : Row → ℕ) (es : List Entry) (gs : List Group) → AreGroupsBy q m es gs → length es ≡ length gs
+by_long q m [] [] are = refl
+by_long q m [] (g ∷ gs) are = absurd are
+by_long q m (e ∷ es) [] are = absurd are
+by_long q m (e ∷ es) (g ∷ gs) (first, are) = let rest : length es ≡ length gs = by_long q m es gs are in omega (arith, rest)
+
+-- what is found at a key is a member
+found_member : (k : Row) (gs : List Group) (ps : List Partial) → partials_at k gs ≡ Some ps → Member gs (k, ps)
+found_member k [] ps e = absurd cc
+found_member k (g ∷ gs) ps e =
+    elim (same_row g.0 k) as (λ b. same_row g.0 k ≡ b → cond b (Some g.1) (partials_at k gs) ≡ Some ps → Member (g ∷ gs) (k, ps)) [
+      | true ↦ λ s e. let same : g.1 ≡ ps = cc in inl (λ i. ((same_row-is g.0 k).0 s i, same i))
+      | false ↦ λ s e. inr (found_member k gs ps e)
+    ] refl (sym (at_cons k g gs) ∙ e)
+
+among_member : (gs : List Group) (g : Group) → Member gs g → is_among row_cmp g.0 (keys_of gs) ≡ true
+among_member [] g m = absurd m
+among_member (h ∷ gs) g (inl e) = ap (λ (x : Group). same_row g.0 x.0 || is_among row_cmp g.0 (keys_of gs)) e ∙ ap (λ b. b || is_among row_cmp g.0 (keys_of gs)) (same_itself g.0)
+among_member (h ∷ gs) g (inr m) =
+    elim (same_row g.0 h.0) as (λ b. (b || is_among row_cmp g.0 (keys_of gs)) ≡ true) [
+      | true ↦ refl
+      | false ↦ among_member gs g m
+    ]
+
+member_found : (gs : List Group) (k : Row) (ps : List Partial) → AreApart (keys_of gs) → Member gs (k, ps) → partials_at k gs ≡ Some ps
+member_found [] k ps apart m = absurd m
+member_found (g ∷ gs) k ps (none, apart) (inl e) = at_cons k g gs ∙ ap (λ b. cond b (Some g.1) (partials_at k gs)) (ap (λ (g : Group). same_row g.0 k) e ∙ same_itself k) ∙ ap (λ (g : Group). Some g.1) e
+member_found (g ∷ gs) k ps (none, apart) (inr m) =
+    at_cons k g gs
+    ∙ ap (λ b. cond b (Some g.1) (partials_at k gs)) (same_row-swap g.0 k ∙ apart_from g.0 k (keys_of gs) none (among_member gs (k, ps) m))
+    ∙ member_found gs k ps apart m
+
+found_moved : (gs hs : List Group) (k : Row) (ps : List Partial) → IsPermutation gs hs → AreApart (keys_of hs) → partials_at k gs ≡ Some ps → partials_at k hs ≡ Some ps
+found_moved gs hs k ps moved apart found = member_found hs k ps apart (from_contains hs (k, ps) (Contains-permutation gs hs (k, ps) moved (to_contains gs (k, ps) (found_member k gs ps found))))
+
+same_found : (gs hs : List Group) → IsPermutation gs hs → AreApart (keys_of gs) → AreApart (keys_of hs) → (k : Row) → partials_at k hs ≡ partials_at k gs
+same_found gs hs moved here there k =
+    elim (partials_at k gs) as (λ o. partials_at k gs ≡ o → partials_at k hs ≡ o) [
+      | Some ps ↦ λ e. found_moved gs hs k ps moved there e
+      | None ↦ λ e.
+          elim (partials_at k hs) as (λ o. partials_at k hs ≡ o → o ≡ None) [
+            | Some ps ↦ λ f. let back : partials_at k gs ≡ Some ps = found_moved hs gs k ps (IsPermutation-sym gs hs moved) here f in absurd cc
+            | None ↦ λ f. refl
+          ] refl
+    ] refl
+
+-- entries in another order stand for the same
+pub moved_stands : (q : Query) (ps : List Piece) (es fs : List Entry) (left : List Record) → IsPermutation es fs → AreOnce es → Stands q ps es left → Stands q ps fs left
+moved_stands q ps es fs left moved once s =
+    let m : Row → ℕ = λ k. rows_at q k ps in
+    let gs : List Group = apply_swaps s.entered moved.moves in
+    let are : AreGroupsBy q m fs gs = subst (λ fs. AreGroupsBy q m fs gs) (sym moved.is) (by_swaps q m es s.entered moved.moves s.are) in
+    let same : IsPermutation s.entered gs = record { moves = moved.moves; below = subst (λ n. SwapsInRange n moved.moves) (by_long q m es s.entered s.are) moved.below; is = refl } in
+    let found = same_found s.entered gs same (once_apart q m es s.entered s.are once) (once_apart q m fs gs are (once_permuted es fs moved once)) in
+    record {
+      entered = gs;
+      rest = s.rest;
+      are = are;
+      read = s.read;
+      parted = λ k. subst (λ o. ((partials_at k (made_of q ps) ≡ o) × (partials_at k (made_of q s.rest) ≡ None)) ⊎ ((partials_at k (made_of q ps) ≡ partials_at k (made_of q s.rest)) × (o ≡ None))) (sym (found k)) (s.parted k);
+      fewer = s.fewer;
+    }
+
+-- ---- a pass over what another left
+
+module _ (q : Query) (ps rest : List Piece) (gs hs others : List Group) (first : IsParted (made_of q ps) gs (made_of q rest)) (second : IsParted (made_of q rest) hs others) where
+  pub parted_on : IsParted (made_of q ps) (gs ++ hs) others
+  parted_on k = subst (λ o. ((partials_at k (made_of q ps) ≡ o) × (partials_at k others ≡ None)) ⊎ ((partials_at k (made_of q ps) ≡ partials_at k others) × (o ≡ None))) (sym (at_append k gs hs)) (cases (first k) (second k))
+    where
+      cases : ((partials_at k (made_of q ps) ≡ partials_at k gs) × (partials_at k (made_of q rest) ≡ None)) ⊎ ((partials_at k (made_of q ps) ≡ partials_at k (made_of q rest)) × (partials_at k gs ≡ None))
+          → ((partials_at k (made_of q rest) ≡ partials_at k hs) × (partials_at k others ≡ None)) ⊎ ((partials_at k (made_of q rest) ≡ partials_at k others) × (partials_at k hs ≡ None))
+          → ((partials_at k (made_of q ps) ≡ or_else (partials_at k gs) (partials_at k hs)) × (partials_at k others ≡ None)) ⊎ ((partials_at k (made_of q ps) ≡ partials_at k others) × (or_else (partials_at k gs) (partials_at k hs) ≡ None))
+      cases (inl (is, gone)) (inl (that, none)) = inl (is ∙ sym (ap (or_else (partials_at k gs)) (sym that ∙ gone) ∙ or_none (partials_at k gs)), none)
+      cases (inl (is, gone)) (inr (that, none)) = inl (is ∙ sym (ap (or_else (partials_at k gs)) none ∙ or_none (partials_at k gs)), sym that ∙ gone)
+      cases (inr (is, gone)) (inl (that, none)) = inl (is ∙ that ∙ ap (λ o. or_else o (partials_at k hs)) (sym gone), none)
+      cases (inr (is, gone)) (inr (that, none)) = inr (is ∙ that, (λ i. or_else (gone i) (none i)))
+
+  -- no key is in both
+  pub none_shared : (k : Row) (here there : List Partial) → partials_at k gs ≡ Some here → partials_at k hs ≡ Some there → ⊥
+  none_shared k here there a b = cases (first k) (second k)
+    where
+      cases : ((partials_at k (made_of q ps) ≡ partials_at k gs) × (partials_at k (made_of q rest) ≡ None)) ⊎ ((partials_at k (made_of q ps) ≡ partials_at k (made_of q rest)) × (partials_at k gs ≡ None))
+          → ((partials_at k (made_of q rest) ≡ partials_at k hs) × (partials_at k others ≡ None)) ⊎ ((partials_at k (made_of q rest) ≡ partials_at k others) × (partials_at k hs ≡ None)) → ⊥
+      cases (inl (is, gone)) (inl (that, none)) = cc
+      cases (inl (is, gone)) (inr (that, none)) = cc
+      cases (inr (is, gone)) other = cc
+
+-- ---- two runs on end
+
+get_append : {X : Type 0} (xs ys : List X) (i : ℕ) (x : X) → slice_get (xs ++ ys) i ≡ Some x → ((j : ℕ) × (slice_get xs j ≡ Some x)) ⊎ ((j : ℕ) × (slice_get ys j ≡ Some x))
+get_append [] ys i x at = inr (i, at)
+get_append (y ∷ xs) ys zero x at = inl (zero, at)
+get_append {X} (y ∷ xs) ys (suc i) x at = further (get_append xs ys i x at)
+  where
+    further : ((j : ℕ) × (slice_get xs j ≡ Some x)) ⊎ ((j : ℕ) × (slice_get ys j ≡ Some x)) → ((j : ℕ) × (slice_get (y ∷ xs) j ≡ Some x)) ⊎ ((j : ℕ) × (slice_get ys j ≡ Some x))
+    further (inl (j, e)) = inl (suc j, e)
+    further (inr e) = inr e
+
+once_append : (es fs : List Entry) → AreOnce es → AreOnce fs → ((i j : ℕ) (x y : Entry) → slice_get es i ≡ Some x → slice_get fs j ≡ Some y → x.0 ≢ y.0) → AreOnce (es ++ fs)
+once_append [] fs a b c i j x y at bt same = b i j x y at bt same
+once_append (e ∷ es) fs a b c zero zero x y at bt same = refl
+once_append (e ∷ es) fs a b c zero (suc j) x y at bt same = gone (get_append es fs j y bt)
+  where
+    gone : ((k : ℕ) × (slice_get es k ≡ Some y)) ⊎ ((k : ℕ) × (slice_get fs k ≡ Some y)) → zero ≡ suc j
+    gone (inl (k, et)) = let is : zero ≡ suc k = a zero (suc k) x y at et same in absurd (omega (arith, is))
+    gone (inr (k, ft)) = absurd (c zero k x y at ft same)
+once_append (e ∷ es) fs a b c (suc i) zero x y at bt same = gone (get_append es fs i x at)
+  where
+    gone : ((k : ℕ) × (slice_get es k ≡ Some x)) ⊎ ((k : ℕ) × (slice_get fs k ≡ Some x)) → suc i ≡ zero
+    gone (inl (k, et)) = let is : zero ≡ suc k = a zero (suc k) y x bt et (sym same) in absurd (omega (arith, is))
+    gone (inr (k, ft)) = absurd (c zero k y x bt ft (sym same))
+once_append (e ∷ es) fs a b c (suc i) (suc j) x y at bt same =
+    ap suc (once_append es fs (λ i j x y at bt same. let both : suc i ≡ suc j = a (suc i) (suc j) x y at bt same in omega (arith, both)) b (λ i j. c (suc i) j) i j x y at bt same)
+
+module _ (q : Query) (ps : List Piece) (es fs : List Entry) (left more : List Record) (s : Stands q ps es left) (t : Stands q s.rest fs more) where
+  pub next_stands : Stands q ps (es ++ fs) more
+  next_stands = record {
+    entered = s.entered ++ t.entered;
+    rest = t.rest;
+    are = by_append q (λ k. rows_at q k ps) es fs s.entered t.entered s.are (by_raised q (λ k. rows_at q k s.rest) (λ k. rows_at q k ps) fs t.entered s.fewer t.are);
+    read = t.read;
+    parted = parted_on q ps s.rest s.entered t.entered (made_of q t.rest) s.parted t.parted;
+    fewer = λ k. let a = s.fewer k in let b = t.fewer k in omega (arith, a, b);
+  }
+
+  pub next_once : AreOnce es → AreOnce fs → AreOnce (es ++ fs)
+  next_once a b = once_append es fs a b shared
+    where
+      shared : (i j : ℕ) (x y : Entry) → slice_get es i ≡ Some x → slice_get fs j ≡ Some y → x.0 ≢ y.0
+      shared i j x y at bt same =
+          let g = by_at q (λ k. rows_at q k ps) es s.entered i x s.are at in
+          let h = by_at q (λ k. rows_at q k s.rest) fs t.entered j y t.are bt in
+          let key : h.group.0 ≡ g.group.0 = packed_once (key_kinds q) y.0 h.group.0 g.group.0 h.stands.of_kinds g.stands.of_kinds h.stands.key (sym same ∙ g.stands.key) in
+          let here = (set_with g.group.0 [] g.group.1 s.entered i (once_apart q (λ k. rows_at q k ps) es s.entered s.are a) g.at).1 in
+          let there = (set_with h.group.0 [] h.group.1 t.entered j (once_apart q (λ k. rows_at q k s.rest) fs t.entered t.are b) h.at).1 in
+          none_shared q ps s.rest s.entered t.entered (made_of q t.rest) s.parted t.parted g.group.0 g.group.1 h.group.1 here (subst (λ k. partials_at k t.entered ≡ Some h.group.1) key there)
+
+-- ---- all groups
+
+among_found : (k : Row) (gs : List Group) → is_among row_cmp k (keys_of gs) ≡ is_some (partials_at k gs)
+among_found k [] = refl
+among_found k (g ∷ gs) =
+    (elim (same_row k g.0) as (λ b. (b || is_among row_cmp k (keys_of gs)) ≡ is_some (cond b (Some g.1) (partials_at k gs))) [
+      | true ↦ refl
+      | false ↦ among_found k gs
+    ])
+    ∙ ap (λ b. is_some (cond b (Some g.1) (partials_at k gs))) (same_row-swap k g.0)
+    ∙ ap is_some (sym (at_cons k g gs))
+
+by_keys : (gs hs : List Group) → keys_of gs ≡ keys_of hs → AreApart (keys_of gs) → ((k : Row) → partials_at k gs ≡ partials_at k hs) → gs ≡ hs
+by_keys [] [] keys apart found = refl
+by_keys [] (h ∷ hs) keys apart found = absurd cc
+by_keys (g ∷ gs) [] keys apart found = absurd cc
+by_keys (g ∷ gs) (h ∷ hs) keys (none, apart) found =
+    let first : g.0 ≡ h.0 = cc in
+    let others : keys_of gs ≡ keys_of hs = cc in
+    let both : Some g.1 ≡ Some h.1 =
+    sym (at_cons g.0 g gs ∙ ap (λ b. cond b (Some g.1) (partials_at g.0 gs)) (same_itself g.0))
+    ∙ found g.0
+    ∙ at_cons g.0 h hs
+    ∙ ap (λ b. cond b (Some h.1) (partials_at g.0 hs)) (ap (λ x. same_row x g.0) (sym first) ∙ same_itself g.0) in
+    let values : g.1 ≡ h.1 = cc in
+    (λ i. (first i, values i) ∷ by_keys gs hs others apart rest i)
+  where
+    rest : (k : Row) → partials_at k gs ≡ partials_at k hs
+    rest k =
+        let first : g.0 ≡ h.0 = cc in
+        let others : keys_of gs ≡ keys_of hs = cc in
+        elim (same_row g.0 k) as (λ b. same_row g.0 k ≡ b → partials_at k gs ≡ partials_at k hs) [
+          | true ↦ λ e.
+              let gone : is_among row_cmp k (keys_of gs) ≡ false = subst (λ k. is_among row_cmp k (keys_of gs) ≡ false) ((same_row-is g.0 k).0 e) none in
+              missing k gs gone ∙ sym (missing k hs (ap (is_among row_cmp k) (sym others) ∙ gone))
+          | false ↦ λ e.
+              sym (at_cons k g gs ∙ ap (λ b. cond b (Some g.1) (partials_at k gs)) e)
+              ∙ found k
+              ∙ at_cons k h hs
+              ∙ ap (λ b. cond b (Some h.1) (partials_at k hs)) (ap (λ x. same_row x k) (sym first) ∙ e)
+        ] refl
+
+-- entries in the order of their keys, with nothing left, stand for all groups
+pub all_stand : (q : Query) (most : ℕ) (ps : List Piece) (run : List Entry) → Stands q ps run [] → CountUpTo q most ps → Rises run → IsStrictlySortedBy row_cmp (keys_of (made_of q ps)) → AreGroups q most run (made_of q ps)
+all_stand q most ps run s count rises rising =
+    let are : AreGroups q most run s.entered = by_uniform q (λ k. rows_at q k ps) most run s.entered count s.are in
+    let below : IsStrictlySortedBy row_cmp (keys_of s.entered) = run_keys_rise q most run s.entered are rises in
+    let keys : keys_of s.entered ≡ keys_of (made_of q ps) =
+    same_members row_cmp_total row_cmp_ties (keys_of s.entered) (keys_of (made_of q ps)) below rising (λ k. among_found k s.entered ∙ ap is_some (sym (found k)) ∙ sym (among_found k (made_of q ps))) in
+    subst (AreGroups q most run) (by_keys s.entered (made_of q ps) keys (rising_apart (keys_of s.entered) below) (λ k. sym (found k))) are
+  where
+    found : (k : Row) → partials_at k (made_of q ps) ≡ partials_at k s.entered
+    found k = chosen (s.parted k)
+      where
+        none : partials_at k (made_of q s.rest) ≡ None
+        none = ap (λ rest. partials_at k (made_of q rest)) (no_pieces q [] s.rest s.read refl)
+
+        chosen : ((partials_at k (made_of q ps) ≡ partials_at k s.entered) × (partials_at k (made_of q s.rest) ≡ None)) ⊎ ((partials_at k (made_of q ps) ≡ partials_at k (made_of q s.rest)) × (partials_at k s.entered ≡ None)) → partials_at k (made_of q ps) ≡ partials_at k s.entered
+        chosen (inl (is, gone)) = is
+        chosen (inr (is, gone)) = is ∙ none ∙ sym gone
+
+-- ---- one pass after the other
+
+-- a pass that ends
+pub ends : (q : Query) (pieces : List Piece) (es run : List Entry) (left after : List Record) → IsPermutation es run → Rises run → after ≡ left → Stands q pieces es left → Stands q pieces run after
+ends q pieces es run left after moved rises is s =
+    subst (λ l. Stands q pieces run l) (sym is) (moved_stands q pieces es run left moved (once_permuted run es (IsPermutation-sym es run moved) (rises_once run rises)) s)
+
+pub nothing_stands : (q : Query) (es : List Entry) (left : List Record) → es ≡ [] → left ≡ [] → Stands q [] es left
+nothing_stands q es left none empty =
+    subst (λ es. Stands q [] es left) (sym none)
+    (subst (λ left. Stands q [] [] left) (sym empty) (record { entered = []; rest = []; are = tt; read = tt; parted = λ k. inl (refl, refl); fewer = λ k. omega arith }))
+
+module _ (q : Checked) (pieces : List Piece) (runs : List Entry) (left : List Record) (pass : PassState) (same : pass.query ≡ q) (none : entries_of pass.groups ≡ []) (empty : pass.left ≡ []) (s : Stands (meaning q) pieces runs left) (count : CountUpTo (meaning q) most_rows pieces) where
+  start : Stands (meaning pass.query) [] (entries_of pass.groups) pass.left
+  start = nothing_stands (meaning pass.query) (entries_of pass.groups) pass.left none empty
+
+  few : CountUpTo (meaning pass.query) most_rows ([] ++ s.rest)
+  few = subst (λ (q : Checked). CountUpTo (meaning q) most_rows s.rest) (sym same) (λ k. let a = s.fewer k in let b = count k in omega (arith, a, b))
+
+  are_left : ArePieces (meaning pass.query) left s.rest
+  are_left = subst (λ (q : Checked). ArePieces (meaning q) left s.rest) (sym same) s.read
+
+  pub can_go_on : CanReadAll (ArePieces (meaning pass.query) left) pass
+  can_go_on = ([], s.rest, start, are_left, few)
+
+  pub goes_on : (next : PassState) (run : List Entry) (after : List Record) → ReadsAll (ArePieces (meaning pass.query) left) pass next → IsPermutation (entries_of next.groups) run → Rises run → after ≡ next.left → Stands (meaning q) s.rest run after
+  goes_on next run after reads moved rises is =
+      ends (meaning q) s.rest (entries_of next.groups) run next.left after moved rises is (subst (λ (q : Checked). Stands (meaning q) s.rest (entries_of next.groups) next.left) same (reads [] s.rest start are_left few))
+
+pub one_run_more : (runs : List (List Entry)) (run : List Entry) → all_in (runs ++ run ∷ []) ≡ all_in runs ++ run
+one_run_more runs run = flat_map-append (λ (run : List Entry). run) runs (run ∷ []) ∙ ap (λ es. all_in runs ++ es) (append-nil run)
+
+pub nothing_in : {X : Type 0} (xs : List X) → length xs ≡ 0 → xs ≡ []
+nothing_in [] e = refl
+nothing_in (x ∷ xs) e = absurd (omega (arith, e))

@@ -1,0 +1,14 @@
+use Rattle.std.specs.Prelude.{◌≡◌, ◌≤◌, true, None, get_or, length}
+use Rattle.std.proofs.Common.{sym, ◌∙◌, ap, subst}
+use Rattle.context_tree.specs.Tree.{TreeState, is_there, with_new}
+use Rattle.context_tree.specs.declared.kind.Kind.TheVariants as kind
+use Rattle.hash_agg.proofs.TableLaws.{pass_there}
+use Rattle.hash_agg.proofs.groups.pass_context.Goals as goal
+
+pub returns-in-Ok : goal.returns-in-Ok
+returns-in-Ok c =
+    let made = c.in-Ok.ensures in
+    subst (λ (t : TreeState). is_there t c.in-Ok.id ≡ true) (sym (made.made ∙ ap (λ (t : TreeState). with_new t c.root-root.result kind.AllocSet c.in-Ok.id) c.requires))
+    (pass_there c.root-root.result c.in-Ok.id kind.AllocSet
+    (subst (λ (t : TreeState). get_or t.links c.in-Ok.id.slot None ≡ None) c.requires made.fresh)
+    (subst (λ (t : TreeState). c.in-Ok.id.slot ≤ length t.links) c.requires made.low))

@@ -1,0 +1,6 @@
+use Rattle.std.specs.Prelude.{◌≡◌, ◌++◌, take}
+use Rattle.hash_agg.specs.Passes.{pairs}
+use Rattle.hash_agg.proofs.sorting.push_all.Given as goal
+
+abbrev pub invariant-loop-place : goal.invariant-loop-place
+invariant-loop-place l = pairs l.entries.items ≡ pairs l.initial.entries.items ++ take l.place l.run
