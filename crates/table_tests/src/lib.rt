@@ -4,4 +4,6 @@
 #[cfg(test)]
 mod groups;
 #[cfg(test)]
+mod neighbours;
+#[cfg(test)]
 mod tables;
