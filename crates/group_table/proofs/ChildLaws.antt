@@ -374,4 +374,8 @@ all_made before one after parent width made whole first one_whole there rest =
         apart2 id (there1 id is),
         apart3 id (there2 id (there1 id is)),
       );
+      links = λ id is.
+          links_other two rest.between_whole after parent states (kind.Slab width) rest.states_new id.slot (apart3 id (there2 id (there1 id is)))
+          ∙ links_other one one_whole two parent keys kind.Bump rest.keys_new id.slot (apart2 id (there1 id is))
+          ∙ links_other before whole one parent buckets kind.AllocSet first id.slot (apart1 id is);
     }

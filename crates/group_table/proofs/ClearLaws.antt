@@ -24,7 +24,7 @@ module _ (tree : TreeState) (id : ContextId) where
   abbrev gone : ℕ → Bool
   gone = is_under tree.links id.slot
 
-  length_cleared : {X : Type 0} → (f : ℕ → Bool) (x : X) (place : ℕ) (ys : List X) → length (cleared f x place ys) ≡ length ys
+  pub length_cleared : {X : Type 0} → (f : ℕ → Bool) (x : X) (place : ℕ) (ys : List X) → length (cleared f x place ys) ≡ length ys
   length_cleared f x place [] = refl
   length_cleared f x place (y ∷ ys) = ap suc (length_cleared f x (place + 1) ys)
 
@@ -152,7 +152,7 @@ module _ {H : Type 0} (hash_of : H → List ℕ → ℕ) (t : TableState H) (t0 
     p2 = subst (IsPlaced t) (sym e2) (placed_reset t t1 t.keys p1 (subst IsWhole e2 w2) (not_parent t1 t.keys w1 t.parent.slot p1.keys.up) p1.keys_apart.not_last (not_self t1 t.keys) p1.both_apart.not_first)
 
     module _ (e3 : t3 ≡ reset t2 t.states) (w3 : IsWhole t3) where
-      p3 : IsPlaced t t3
+      pub p3 : IsPlaced t t3
       p3 = subst (IsPlaced t) (sym e3) (placed_reset t t2 t.states p2 (subst IsWhole e3 w3) (not_parent t2 t.states w2 t.parent.slot p2.states.up) p2.states_apart.not_last p2.both_apart.not_last (not_self t2 t.states))
 
       b3 : context_at t3 t.buckets ≡ reset_context (context_at t0 t.buckets)

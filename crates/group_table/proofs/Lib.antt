@@ -15,3 +15,6 @@ pub mod WriteLaws
 pub mod ClearLaws
 pub mod TableLaws
 pub mod ChildLaws
+pub mod HeldLaws
+pub mod EmptyLaws
+pub mod StayLaws

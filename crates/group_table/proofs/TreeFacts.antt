@@ -82,8 +82,12 @@ held_other ls above place (suc n) (x ∷ cs) c below within =
     let rest = held_other ls above (place + 1) n cs c (ap (λ (k : ℕ). is_below ls above k) (omega arith) ∙ below) (omega (arith, within)) in
     omega (arith, rest)
 
+pub held_with : (a : TreeState) (above id : ContextId) (c : Context) → is_below a.links above.slot id.slot ≡ true → id.slot < length a.contexts
+    → held_below (with_context a id c) above + held_by (context_at a id) ≡ held_below a above + held_by c
+held_with a above id c below within = held_other a.links above.slot 0 id.slot a.contexts c (ap (λ (k : ℕ). is_below a.links above.slot k) (omega arith) ∙ below) within
+
 pub held_changed : (a b : TreeState) (above id : ContextId) → OnlyIn id a b → is_below a.links above.slot id.slot ≡ true → id.slot < length a.contexts
     → held_below b above + held_by (context_at a id) ≡ held_below a above + held_by (context_at b id)
 held_changed a b above id only below within =
     ap (λ (t : TreeState). held_below t above + held_by (context_at a id)) only
-    ∙ held_other a.links above.slot 0 id.slot a.contexts (context_at b id) (ap (λ (k : ℕ). is_below a.links above.slot k) (omega arith) ∙ below) within
+    ∙ held_with a above id (context_at b id) below within

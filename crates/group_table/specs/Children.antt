@@ -32,6 +32,7 @@ pub record AreMade (before after : TreeState) (parent : ContextId) (width : ℕ)
   pub held : held_below after parent ≡ held_below before parent
   pub fresh : (id : ContextId) → is_there before id ≡ true
       → (is_there after id ≡ true) × (context_at after id ≡ context_at before id) × (id.slot ≢ made.buckets.slot) × (id.slot ≢ made.keys.slot) × (id.slot ≢ made.states.slot)
+  pub links : (id : ContextId) → is_there before id ≡ true → get_or after.links id.slot None ≡ get_or before.links id.slot None
 
 -- why so many contexts are not made: there are fewer stamps left, or there is no memory
 abbrev pub IsRefusedOf : ℕ → TreeState → TreeError → Type 0
@@ -78,6 +79,7 @@ pub record IsNewTable {H : Type 0} (before after : TreeState) (parent : ContextI
   pub held : held_below after parent ≡ held_below before parent
   pub others : (id : ContextId) → is_there before id ≡ true
       → (is_there after id ≡ true) × (context_at after id ≡ context_at before id) × (id.slot ≢ t.buckets.slot) × (id.slot ≢ t.keys.slot) × (id.slot ≢ t.states.slot)
+  pub links : (id : ContextId) → is_there before id ≡ true → get_or after.links id.slot None ≡ get_or before.links id.slot None
 
 -- a table was cleared: its first block of buckets is left, or none was there
 pub record IsCleared {H : Type 0} (t : TableState H) (after : TreeState) : Type 0 where

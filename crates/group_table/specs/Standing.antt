@@ -140,3 +140,26 @@ pub record KeepsOthers {H : Type 0} (t : TableState H) (before after : TreeState
   pub last : after.last ≡ before.last
   pub number : length after.contexts ≡ length before.contexts
   pub others : (slot : ℕ) → slot ≢ t.buckets.slot → slot ≢ t.keys.slot → slot ≢ t.states.slot → get_or after.contexts slot no_context ≡ get_or before.contexts slot no_context
+
+-- a slot is that of none of the three contexts of a table, and of none below them
+pub record IsBeside {H : Type 0} (t : TableState H) (links : List (Option Link)) (slot : ℕ) : Type 0 where
+  pub buckets : is_below links t.buckets.slot slot ≡ false
+  pub keys : is_below links t.keys.slot slot ≡ false
+  pub states : is_below links t.states.slot slot ≡ false
+
+-- the contexts of a tree that are beside those of a table are as they were
+pub record KeepsBeside {H : Type 0} (t : TableState H) (before after : TreeState) : Type 0 where
+  pub last : after.last ≡ before.last
+  pub number : length after.contexts ≡ length before.contexts
+  pub links : (slot : ℕ) → IsBeside t before.links slot → get_or after.links slot None ≡ get_or before.links slot None
+  pub contexts : (slot : ℕ) → IsBeside t before.links slot → get_or after.contexts slot no_context ≡ get_or before.contexts slot no_context
+
+-- the parent and the three contexts of a table are where they were, and these hold what they held
+pub record IsSameFor {H : Type 0} (t : TableState H) (before after : TreeState) : Type 0 where
+  pub parent : get_or after.links t.parent.slot None ≡ get_or before.links t.parent.slot None
+  pub buckets : get_or after.links t.buckets.slot None ≡ get_or before.links t.buckets.slot None
+  pub keys : get_or after.links t.keys.slot None ≡ get_or before.links t.keys.slot None
+  pub states : get_or after.links t.states.slot None ≡ get_or before.links t.states.slot None
+  pub in_buckets : context_at after t.buckets ≡ context_at before t.buckets
+  pub in_keys : context_at after t.keys ≡ context_at before t.keys
+  pub in_states : context_at after t.states ≡ context_at before t.states

@@ -2,7 +2,7 @@
 use Rattle.std.specs.Prelude.{◌≡◌, ◌≢◌, ℕ, ◌+◌, ◌*◌, ◌/◌, ◌==◌, ◌&&◌, max, nat_le, Bool, cond, if◌then◌else◌, List, Option, Some, None, map, length, slice_get}
 use Rattle.chunk_layout.specs.declared.place.ChunkName.{ChunkName}
 use Rattle.context_tree.specs.Contexts.{chunk_bytes, growth_of, held_by}
-use Rattle.context_tree.specs.Tree.{TreeState, context_at, held_below}
+use Rattle.context_tree.specs.Tree.{TreeState, context_at, held_below, reset}
 use Rattle.context_tree.specs.declared.links.ContextId.{ContextId}
 use Rattle.group_table.specs.declared.table.Slot.{Slot}
 
@@ -71,6 +71,13 @@ group_growth t tree n = array_growth t tree + growth_of (context_at tree t.keys)
 -- the way, and within the most buckets
 abbrev pub has_room : {H : Type 0} → TableState H → TreeState → ℕ → ℕ → Bool
 has_room t tree n limit = nat_le (held_below tree t.parent + group_growth t tree n) limit && nat_le (buckets_for (buckets_in t.array) (length t.slots)) most_buckets
+
+-- what the three contexts of a table hold; and a tree in which the three are reset
+abbrev pub held_in : {H : Type 0} → TableState H → TreeState → ℕ
+held_in t tree = held_by (context_at tree t.buckets) + held_by (context_at tree t.keys) + held_by (context_at tree t.states)
+
+abbrev pub without_groups : {H : Type 0} → TableState H → TreeState → TreeState
+without_groups t tree = reset (reset (reset tree t.buckets) t.keys) t.states
 
 -- nothing is held below the parent but by the buckets
 pub record IsEmptied {H : Type 0} (t : TableState H) (tree : TreeState) : Type 0 where

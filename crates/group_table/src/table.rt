@@ -2,9 +2,9 @@
 ghost use Rattle.std.specs.Prelude.{◌≡◌, ◌≢◌, ◌*◌, ◌-◌, ◌^◌, ◌+◌, ◌<◌, ◌≤◌, ℕ, List, [], ◌∷◌, ◌++◌, Some, None, MatchOption, IfOk, IfErr, OnOk, OnErr, IsTrue, true, false, map, length, slice_get, slice_set, slice_index_or};
 ghost use Rattle.chunk_layout.specs.Pieces.{place_of};
 ghost use Rattle.context_tree.specs.Contexts.{has_chunk, chunk_bytes, with_bytes, held_by, growth_of};
-ghost use Rattle.context_tree.specs.Tree.{is_there, context_at, held_below, reset, IsWhole};
-ghost use Rattle.group_table.specs.Table.{key_in, state_in, group_in, groups, IsSlot, Names, HasNo, buckets_in, buckets_for, most_buckets, array_growth, group_growth, has_room, IsEmptied, IsSameBut};
-ghost use Rattle.group_table.specs.Standing.{IsStanding, IsTableIn, KeepsOthers};
+ghost use Rattle.context_tree.specs.Tree.{TreeState, is_there, context_at, held_below, reset, IsWhole};
+ghost use Rattle.group_table.specs.Table.{key_in, state_in, group_in, groups, IsSlot, Names, HasNo, buckets_in, buckets_for, most_buckets, array_growth, group_growth, has_room, held_in, without_groups, IsEmptied, IsSameBut};
+ghost use Rattle.group_table.specs.Standing.{IsStanding, IsTableIn, KeepsOthers, KeepsBeside, IsSameFor};
 ghost use Rattle.group_table.specs.Children.{IsRefused, IsAsBefore, IsNewTable, IsCleared};
 ghost use Rattle.group_table.specs.Arrays.{OnlyIn, HasNext, IsSpare, IsNext, with_array, with_next, with_slot, with_spare};
 
@@ -131,6 +131,15 @@ impl<H: KeyHash + Drop> GroupTable<H> {
             array: None,
             slots: Vec::new(alloc),
         })
+    }
+
+    /// A law: a table is one in each tree in which its parent and its contexts are as they are here, with the same groups.
+    pub fn stays(&self, tree: &Tree)
+        requires { IsTableIn H.hash_of self.now tree.now }
+        ensures table { (after : TreeState) → IsWhole after → IsSameFor self.now tree.now after → IsTableIn H.hash_of self.now after }
+        ensures groups { (after : TreeState) → IsSameFor self.now tree.now after → groups self.now after ≡ groups self.now tree.now }
+    {
+        let _slots = &self.slots;
     }
 
     /// How many groups there are.
@@ -295,13 +304,18 @@ impl<H: KeyHash + Drop> GroupTable<H> {
         self.array = Some(name);
     }
 
-    /// Gives up all groups. Of the blocks the first one of the buckets stays, if there is one; no memory is taken.
+    /// Gives up all groups. Of the blocks the first one of the buckets stays, if there is one; no memory is taken. Contexts that
+    /// were made below the table's own go too, and all others stay as they are.
     pub fn clear(&mut self, tree: &mut Tree)
         requires { IsTableIn H.hash_of self.old tree.old }
         ensures table { IsTableIn H.hash_of self.new tree.new }
         ensures same { IsSameBut self.old self.new }
         ensures empty { (self.new.slots ≡ []) × (self.new.array ≡ None) }
         ensures held { IsCleared self.old tree.new }
+        ensures tree { tree.new ≡ without_groups self.old tree.old }
+        ensures beside { KeepsBeside self.old tree.old tree.new }
+        ensures rest { held_below tree.new self.old.parent + held_in self.old tree.old ≤ held_below tree.old self.old.parent + held_in self.old tree.new }
+        ensures emptied { held_below tree.old self.old.parent ≡ held_in self.old tree.old → IsEmptied self.new tree.new }
     {
         empty(tree, self.buckets);
         empty(tree, self.keys);
@@ -362,6 +376,7 @@ impl<H: KeyHash + Drop> GroupTable<H> {
         ensures refused { OnErr result ((self.new.slots ≡ self.old.slots) × (groups self.new tree.new ≡ groups self.old tree.old)) }
         ensures others { KeepsOthers self.old tree.old tree.new }
         ensures held { held_below tree.new self.old.parent ≤ held_below tree.old self.old.parent + group_growth self.old tree.old (length key.now) }
+        ensures rest { held_below tree.new self.old.parent + held_in self.old tree.old ≡ held_below tree.old self.old.parent + held_in self.old tree.new }
     {
         self.make_room()?;
         self.insert_noted(tree, key, state)

@@ -1,7 +1,8 @@
 use Rattle.std.proofs.Common.{◌≡◌, ◌++◌, ◌∷◌, [], sym, subst, ap}
 use Rattle.std.specs.Prelude.{OnOk, OnErr}
 use Rattle.group_table.specs.Table.{TableState, groups}
-use Rattle.group_table.specs.Standing.{IsTableIn}
+use Rattle.group_table.specs.Standing.{IsTableIn, KeepsOthers}
+use Rattle.group_table.proofs.HeldLaws.{others_held}
 use Rattle.group_table.proofs.InsertLaws.{always_err, spare_table}
 use Rattle.group_table.proofs.table.GroupTable.insert.Goals as goal
 
@@ -27,3 +28,9 @@ pub returns-clause-refused : goal.returns-clause-refused
 returns-clause-refused g c =
     subst (λ (x : TableState g.row.H.Denot). OnErr c.insert_noted.result ((c.insert_noted.new.self.slots ≡ x.slots) × (groups c.insert_noted.new.self c.insert_noted.new.tree ≡ groups x c.args.tree.now))) c.make_room.ensures.same
     c.insert_noted.ensures.refused
+
+pub returns-clause-rest : goal.returns-clause-rest
+returns-clause-rest g c =
+    let kept = subst (λ (x : TableState g.row.H.Denot). KeepsOthers x c.args.tree.now c.insert_noted.new.tree) c.make_room.ensures.same c.insert_noted.ensures.others in
+    others_held c.args.self.now c.args.tree.now c.insert_noted.new.tree c.requires.table.standing.placed
+    (record { links = kept.links; last = kept.last; number = kept.number; others = kept.others })
