@@ -1,0 +1,4 @@
+pub mod PageLaws
+pub mod PoolLaws
+pub mod Results
+pub mod TapeLaws

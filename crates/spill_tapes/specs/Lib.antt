@@ -1,0 +1,5 @@
+pub mod Disk
+pub mod Errors
+pub mod Records
+pub mod Pages
+pub mod Tape
