@@ -2,3 +2,4 @@ pub mod PageLaws
 pub mod PoolLaws
 pub mod Results
 pub mod TapeLaws
+pub mod HeaderLaws

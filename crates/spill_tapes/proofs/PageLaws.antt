@@ -147,3 +147,10 @@ filled_on first second third t t1 t2 t3 a n bytes bytes1 bytes3 tape put fits le
     let had2 : HasAhead first t1 (drop a front ++ rest) = subst (λ (x : TapeState). HasAhead first x (drop a front ++ rest)) (sym tape) parts.1 in
     let told : (bytes3 ≡ bytes1 ++ drop a front) × HasAhead third t3 rest = fill (drop a front) rest (omega (arith, length-drop a front, len)) (load (drop a front ++ rest) had2) in
     (told.0 ∙ ap (λ bs. bs ++ drop a front) (put ∙ ap (λ bs. bytes ++ bs) parts.0) ∙ append_assoc bytes (take a front) (drop a front) ∙ ap (λ bs. bytes ++ bs) split, told.1)
+
+pub same_ahead : (last : ℕ → ℕ → Type 0) (t t' : TapeState) → t'.pages ≡ t.pages → t'.buffer ≡ t.buffer → t'.read ≡ t.read → (bytes : List ℕ) → HasAhead last t bytes → HasAhead last t' bytes
+same_ahead last t t' pages buffer read bytes had = record {
+  contents = had.contents;
+  on = subst (λ ps. AreOn last ps had.contents) (sym pages) had.on;
+  whole = had.whole ∙ ap (λ bs. drop t.read bs ++ join had.contents) (sym buffer) ∙ ap (λ n. drop n t'.buffer ++ join had.contents) (sym read);
+}

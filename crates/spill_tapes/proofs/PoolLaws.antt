@@ -135,3 +135,17 @@ apart_first a pages pages' page pool apart first =
     let e : times page pages ≡ once page page + times page pages' = ap (times page) first in
     let given : page < a.count = (apart_page a pages page apart (omega (arith, e, same_one page))).0 in
     omega (arith, given, pool.few)
+
+-- all pages of a tape are given back
+pub balanced_all : (a b : PoolState) (pages pages' : List ℕ) → b.free ≡ a.free ++ pages → b.count ≡ a.count → pages' ≡ [] → IsBalanced a pages b pages'
+balanced_all a b pages pages' free count none =
+    let gives : (p : ℕ) → times p b.free ≡ times p a.free + times p pages = λ p. ap (times p) free ∙ times-append p a.free pages in
+    let left : (p : ℕ) → times p pages' ≡ 0 = λ p. ap (times p) none in
+    let same : (p : ℕ) → below p b.count ≡ below p a.count = λ p. ap (below p) count in
+    let long : length b.free ≡ length a.free + length pages = ap length free ∙ length-append a.free pages in
+    let short : length pages' ≡ 0 = ap length none in
+    record {
+      each = λ p. omega (arith, gives p, left p, same p);
+      all = omega arith;
+      grows = omega arith;
+    }

@@ -1,10 +1,18 @@
 -- One tape.
-use Rattle.std.specs.Prelude.{◌≡◌, ℕ, ◌+◌, ◌-◌, ◌*◌, ◌<◌, ◌≤◌, List, [], ◌∷◌, ◌++◌, length, drop, Option, Some, None}
+use Rattle.std.specs.Prelude.{Bool, true, false, ◌≡◌, ℕ, ◌+◌, ◌-◌, ◌*◌, ◌<◌, ◌≤◌, List, [], ◌∷◌, ◌++◌, length, drop, Option, Some, None}
 use Rattle.std.specs.List.{flat_map}
-use Rattle.spill_tapes.specs.Records.{Record, AreRecords, tape_bytes}
+use Rattle.spill_tapes.specs.Records.{Record, IsRecord, AreRecords, tape_bytes}
 use Rattle.spill_tapes.specs.Pages.{AreOn}
+use Rattle.spill_tapes.specs.declared.header.Header.{Header}
 use Rattle.spill_tapes.specs.declared.tape.Phase.{Phase}
 use Rattle.spill_tapes.specs.declared.tape.Phase.TheVariants.{Closed, Written, Read}
+
+-- whether a tape is in a phase
+abbrev pub is_in : Phase → Phase → Bool
+is_in Closed Closed = true
+is_in Written Written = true
+is_in Read Read = true
+is_in _ _ = false
 
 -- its phase; its pages that are to be read; its buffer, and how many bytes of that were read; and how many bytes and records
 -- are to be read
@@ -85,6 +93,25 @@ HasIn Read last t rs = AreAhead last t rs
 
 abbrev pub Has : (ℕ → ℕ → Type 0) → TapeState → List Record → Type 0
 Has last t rs = HasIn t.phase last t rs
+
+-- the front of the first of these records was read
+pub record IsAfterHeader (last : ℕ → ℕ → Type 0) (t : TapeState) (h : Header) (rs : List Record) : Type 0 where
+  pub first : Record
+  pub others : List Record
+  pub is : rs ≡ first ∷ others
+  pub good : IsRecord first
+  pub goods : AreRecords others
+  pub hash : h.hash ≡ first.hash
+  pub tag : h.tag ≡ first.tag
+  pub len : h.len ≡ length first.bytes
+  pub number : t.records ≡ length others + 1
+  pub left : t.left ≡ length first.bytes + length (tape_bytes others)
+  pub rest : List ℕ
+  pub bytes : HasAhead last t (first.bytes ++ (tape_bytes others ++ rest))
+
+-- a tape without its buffer, of which nothing is to be read
+abbrev pub emptied : TapeState → TapeState
+emptied t = record { phase = t.phase; pages = t.pages; buffer = []; read = 0; left = 0; records = t.records }
 
 -- what is told of the next of these records
 abbrev pub Gives : (List Record → Type 0) → List Record → List ℕ → Option (ℕ × ℕ) → Type 0

@@ -1,14 +1,16 @@
 //! One tape: pages on a disk, and a buffer of one page.
-ghost use Rattle.std.specs.Prelude.{◌≡◌, ◌+◌, ◌-◌, ◌*◌, ◌/◌, ◌<◌, ◌≤◌, ◌^◌, ◌∷◌, ◌++◌, [], ℕ, List, Some, None, IsTrue, IfOk, IfErr, IfSome, IfNone, OnOk, OnErr, length, take, drop};
+ghost use Rattle.std.specs.Prelude.{◌≡◌, ◌≢◌, ◌&&◌, nat_lt, nat_le, ◌+◌, ◌-◌, ◌*◌, ◌/◌, ◌<◌, ◌≤◌, ◌^◌, ◌∷◌, ◌++◌, [], ℕ, List, Some, None, IsTrue, IfOk, IfErr, IfSome, IfNone, OnOk, OnErr, length, take, drop};
 ghost use Rattle.spill_tapes.specs.Disk.{Keeps};
 ghost use Rattle.spill_tapes.specs.Records.{Record, IsRecord, header_of};
 ghost use Rattle.spill_tapes.specs.Pages.{IsPool, IsApart, IsBalanced, FreesNone, KeepsPages};
-ghost use Rattle.spill_tapes.specs.Tape.{TapeState, new_tape, no_tape, tape_len, ahead, HasWritten, HasAhead, IsSameTape, IsGood, spent, AreWritten, AreAhead};
+ghost use Rattle.spill_tapes.specs.Tape.{TapeState, new_tape, no_tape, tape_len, ahead, HasWritten, HasAhead, IsSameTape, IsGood, IsAfterHeader, Gives, spent, emptied, is_in, AreWritten, AreAhead};
 ghost use Rattle.spill_tapes.specs.declared.disk.DiskError.TheVariants as disk_error;
+ghost use Rattle.spill_tapes.specs.declared.error.TapeError.TheVariants as tape_error;
 ghost use Rattle.spill_tapes.specs.declared.tape.Phase.TheVariants as phase;
 
 use crate::disk::{DiskError, TapeDisk};
-use crate::header::Header;
+use crate::error::TapeError;
+use crate::header::{HEADER, Header};
 use crate::pool::PagePool;
 use std::alloc::{AllocError, Global};
 use std::collections::VecDeque;
@@ -358,5 +360,169 @@ impl Tape {
         self.spend(ahead, bytes)?;
         self.load(disk, pool)?;
         self.fill(disk, pool, n - ahead, bytes)
+    }
+
+    /// Reads the front of the next record.
+    fn next_header<D: TapeDisk>(
+        &mut self,
+        disk: &mut D,
+        pool: &mut PagePool,
+        bytes: &mut Vec<u8>,
+    ) -> Result<Header, DiskError>
+        requires pool { IsPool pool.old }
+        requires apart { IsApart pool.old self.old.pages }
+        requires fits { length pool.old.free + length self.old.pages ≤ pool.old.count }
+        requires read { self.old.read ≤ length self.old.buffer }
+        requires ahead { self.old.left ≤ ahead self.old }
+        requires left { 9 ≤ self.old.left }
+        requires some { 0 < self.old.records }
+        requires empty { bytes.old.items ≡ [] }
+        ensures pool { IsPool pool.new }
+        ensures balanced { IsBalanced pool.old self.old.pages pool.new self.new.pages }
+        ensures keeps { Keeps (D.last disk.old) (D.last disk.new) }
+        ensures phase { self.new.phase ≡ self.old.phase }
+        ensures read { OnOk result (self.new.read ≤ length self.new.buffer) }
+        ensures ahead { OnOk result (self.new.left ≤ ahead self.new) }
+        ensures records { self.new.records ≡ self.old.records }
+        ensures header { IfOk result (λ header. IsTrue (D.honest disk.old) → (rs : List Record) → AreAhead (D.last disk.old) self.old rs → IsAfterHeader (D.last disk.new) self.new header rs) }
+        ensures writes { D.writes disk.new ≡ D.writes disk.old }
+        ensures failures { D.failures disk.old ≤ D.failures disk.new }
+        ensures fault { IfErr result (λ error. error ≡ disk_error.TapeFault → D.failures disk.old < D.failures disk.new) }
+        ensures honesty { D.honest disk.new ≡ D.honest disk.old }
+    {
+        self.fill(disk, pool, HEADER, bytes)?;
+        self.left -= HEADER as u64;
+        Ok(Header::read(bytes))
+    }
+
+    /// Reads the bytes of a record of which the front was read.
+    fn next_bytes<D: TapeDisk>(
+        &mut self,
+        disk: &mut D,
+        pool: &mut PagePool,
+        header: Header,
+        bytes: &mut Vec<u8>,
+    ) -> Result<(), DiskError>
+        requires pool { IsPool pool.old }
+        requires apart { IsApart pool.old self.old.pages }
+        requires fits { length pool.old.free + length self.old.pages ≤ pool.old.count }
+        requires read { self.old.read ≤ length self.old.buffer }
+        requires ahead { self.old.left ≤ ahead self.old }
+        requires left { header.len ≤ self.old.left }
+        requires some { 0 < self.old.records }
+        ensures pool { IsPool pool.new }
+        ensures balanced { IsBalanced pool.old self.old.pages pool.new self.new.pages }
+        ensures keeps { Keeps (D.last disk.old) (D.last disk.new) }
+        ensures phase { self.new.phase ≡ self.old.phase }
+        ensures read { OnOk result (self.new.read ≤ length self.new.buffer) }
+        ensures ahead { OnOk result (self.new.left ≤ ahead self.new) }
+        ensures len { OnOk result (length bytes.new.items ≡ header.len) }
+        ensures gives { OnOk result (IsTrue (D.honest disk.old) → (rs : List Record) → IsAfterHeader (D.last disk.old) self.old header rs → Gives (AreAhead (D.last disk.new) self.new) rs bytes.new.items (Some (header.hash, header.tag))) }
+        ensures writes { D.writes disk.new ≡ D.writes disk.old }
+        ensures failures { D.failures disk.old ≤ D.failures disk.new }
+        ensures fault { IfErr result (λ error. error ≡ disk_error.TapeFault → D.failures disk.old < D.failures disk.new) }
+        ensures honesty { D.honest disk.new ≡ D.honest disk.old }
+    {
+        bytes.clear();
+        bytes.reserve(header.len as usize)?;
+        self.fill(disk, pool, header.len as usize, bytes)?;
+        self.left -= u64::from(header.len);
+        self.records -= 1;
+        Ok(())
+    }
+
+    /// Reads the next record: its hash and its tag are answered, and its bytes are put into `bytes`.
+    pub(crate) fn next<D: TapeDisk>(
+        &mut self,
+        disk: &mut D,
+        pool: &mut PagePool,
+        bytes: &mut Vec<u8>,
+    ) -> Result<Option<(u32, u8)>, TapeError>
+        requires pool { IsPool pool.old }
+        requires apart { IsApart pool.old self.old.pages }
+        requires fits { length pool.old.free + length self.old.pages ≤ pool.old.count }
+        requires phase { self.old.phase ≡ phase.Read }
+        requires good { IsGood self.old }
+        requires empty { bytes.old.items ≡ [] }
+        ensures pool { IsPool pool.new }
+        ensures balanced { IsBalanced pool.old self.old.pages pool.new self.new.pages }
+        ensures keeps { Keeps (D.last disk.old) (D.last disk.new) }
+        ensures phase { self.new.phase ≡ phase.Read }
+        ensures good { OnOk result (IsGood self.new) }
+        ensures gives { IfOk result (λ found. IsTrue (D.honest disk.old) → (rs : List Record) → AreAhead (D.last disk.old) self.old rs → Gives (AreAhead (D.last disk.new) self.new) rs bytes.new.items found) }
+        ensures undamaged { IfErr result (λ error. IsTrue (D.honest disk.old) → (rs : List Record) → AreAhead (D.last disk.old) self.old rs → error ≢ tape_error.TapeDamaged) }
+        ensures alive { IfErr result (λ error. error ≢ tape_error.TapesDead) }
+        ensures none { IfOk result (λ found. IfNone found (bytes.new.items ≡ [])) }
+        ensures framed { IfOk result (λ found. IfSome found (λ told. (told.1 < 2) × (length bytes.new.items ≤ 65535))) }
+        ensures writes { D.writes disk.new ≡ D.writes disk.old }
+        ensures failures { D.failures disk.old ≤ D.failures disk.new }
+        ensures fault { IfErr result (λ error. error ≡ tape_error.TapeFault → D.failures disk.old < D.failures disk.new) }
+        ensures honesty { D.honest disk.new ≡ D.honest disk.old }
+    {
+        if self.records == 0 {
+            return Ok(None);
+        }
+        if self.left < HEADER as u64 {
+            return Err(TapeError::TapeDamaged);
+        }
+        let header = self.next_header(disk, pool, bytes)?;
+        if !self.can_have(header) {
+            return Err(TapeError::TapeDamaged);
+        }
+        self.next_bytes(disk, pool, header, bytes)?;
+        Ok(Some((header.hash, header.tag)))
+    }
+
+    /// Whether a record with this front can stand at the front of what is left.
+    fn can_have(&self, header: Header) -> bool
+        ensures { result ≡ (nat_lt header.tag 2 && nat_le header.len 65535 && nat_le header.len self.now.left) }
+    {
+        header.tag < 2 && header.len <= 65535 && u64::from(header.len) <= self.left
+    }
+
+    /// How many records are to be read.
+    pub(crate) fn records(&self) -> u64
+        ensures { result ≡ self.now.records }
+    {
+        self.records
+    }
+
+    /// Gives up the buffer. Nothing more is read.
+    pub(crate) fn empty(&mut self, alloc: Global)
+        ensures { self.new ≡ emptied self.old }
+    {
+        self.buffer = Vec::new(alloc);
+        self.read = 0;
+        self.left = 0;
+    }
+
+    /// Gives back its pages.
+    pub(crate) fn give_back(&mut self, pool: &mut PagePool)
+        requires pool { IsPool pool.old }
+        requires fits { length pool.old.free + length self.old.pages ≤ pool.old.count }
+        ensures pool { IsPool pool.new }
+        ensures balanced { IsBalanced pool.old self.old.pages pool.new self.new.pages }
+        ensures none { self.new.pages ≡ [] }
+    {
+        pool.give_back_all(&mut self.pages);
+    }
+
+    /// Whether it is not open.
+    pub(crate) fn is_closed(&self) -> bool
+        ensures { result ≡ is_in phase.Closed self.now.phase }
+    {
+        self.phase == Phase::Closed
+    }
+
+    /// Is no tape any more.
+    pub(crate) fn close(&mut self, alloc: Global)
+        requires none { self.old.pages ≡ [] }
+        ensures { self.new ≡ no_tape }
+    {
+        self.phase = Phase::Closed;
+        self.buffer = Vec::new(alloc);
+        self.read = 0;
+        self.left = 0;
+        self.records = 0;
     }
 }
