@@ -3,3 +3,4 @@ pub mod PoolLaws
 pub mod Results
 pub mod TapeLaws
 pub mod HeaderLaws
+pub mod TapesLaws

@@ -79,12 +79,14 @@ front_of xs ys front rest n same len fits =
 pub spent_from : (last : ℕ → ℕ → Type 0) (t t' : TapeState) (n : ℕ) → t'.pages ≡ t.pages → t'.buffer ≡ t.buffer → t'.read ≡ t.read + n → n ≤ length t.buffer - t.read → (front rest : List ℕ) → length front ≡ n → HasAhead last t (front ++ rest) → (take n (drop t.read t.buffer) ≡ front) × HasAhead last t' rest
 spent_from last t t' n pages buffer read fits front rest len had =
     let room : n ≤ length (drop t.read t.buffer) = omega (arith, length-drop t.read t.buffer, fits) in
-    let parts : (take n (drop t.read t.buffer) ≡ front) × (drop n (drop t.read t.buffer) ++ join had.contents ≡ rest) = front_of (drop t.read t.buffer) (join had.contents) front rest n (sym had.whole) len room in
-    (parts.0, record {
-      contents = had.contents;
-      on = subst (λ ps. AreOn last ps had.contents) (sym pages) had.on;
-      whole = sym parts.1 ∙ ap (λ bs. bs ++ join had.contents) (drop-drop n t.read t.buffer ∙ ap (λ m. drop m t.buffer) (sym read) ∙ ap (drop t'.read) (sym buffer));
-    })
+    let parts : (take n (drop t.read t.buffer) ≡ front) × (drop n (drop t.read t.buffer) ++ join had.contents ≡ rest) = front_of (drop t.read t.buffer) (join had.contents) front rest n (sym had.whole) len room in (
+      parts.0,
+      record {
+        contents = had.contents;
+        on = subst (λ ps. AreOn last ps had.contents) (sym pages) had.on;
+        whole = sym parts.1 ∙ ap (λ bs. bs ++ join had.contents) (drop-drop n t.read t.buffer ∙ ap (λ m. drop m t.buffer) (sym read) ∙ ap (drop t'.read) (sym buffer));
+      },
+    )
 
 -- a page that was read is what was on it
 same_page : (last : ℕ → ℕ → Type 0) (page : ℕ) (bytes content : List ℕ) → length bytes ≡ 8192 → IsOn last page content → AreReadAt last (page * 8192) bytes → bytes ≡ content

@@ -3,3 +3,5 @@ pub mod Errors
 pub mod Records
 pub mod Pages
 pub mod Tape
+pub mod Tapes
+pub mod TapesFields

@@ -1,5 +1,5 @@
 -- One tape.
-use Rattle.std.specs.Prelude.{Bool, true, false, ◌≡◌, ℕ, ◌+◌, ◌-◌, ◌*◌, ◌<◌, ◌≤◌, List, [], ◌∷◌, ◌++◌, length, drop, Option, Some, None}
+use Rattle.std.specs.Prelude.{Bool, true, false, ◌≡◌, ℕ, ◌+◌, ◌-◌, ◌*◌, ◌<◌, ◌≤◌, ◌==◌, List, [], ◌∷◌, ◌++◌, length, drop, Option, Some, None}
 use Rattle.std.specs.List.{flat_map}
 use Rattle.spill_tapes.specs.Records.{Record, IsRecord, AreRecords, tape_bytes}
 use Rattle.spill_tapes.specs.Pages.{AreOn}
@@ -109,9 +109,13 @@ pub record IsAfterHeader (last : ℕ → ℕ → Type 0) (t : TapeState) (h : He
   pub rest : List ℕ
   pub bytes : HasAhead last t (first.bytes ++ (tape_bytes others ++ rest))
 
--- a tape without its buffer, of which nothing is to be read
-abbrev pub emptied : TapeState → TapeState
-emptied t = record { phase = t.phase; pages = t.pages; buffer = []; read = 0; left = 0; records = t.records }
+-- a tape without its buffer, if there are no more records to be read
+abbrev pub ended_by : Bool → TapeState → TapeState
+ended_by true t = record { phase = t.phase; pages = t.pages; buffer = []; read = 0; left = 0; records = t.records }
+ended_by false t = t
+
+abbrev pub ended : TapeState → TapeState
+ended t = ended_by (t.records == 0) t
 
 -- what is told of the next of these records
 abbrev pub Gives : (List Record → Type 0) → List Record → List ℕ → Option (ℕ × ℕ) → Type 0

@@ -9,8 +9,10 @@ mod error;
 mod header;
 mod pool;
 mod tape;
-
+mod tape_id;
+mod tapes;
 
 pub use disk::{DiskError, TapeDisk};
 pub use error::TapeError;
-
+pub use tape_id::TapeId;
+pub use tapes::Tapes;

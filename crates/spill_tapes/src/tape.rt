@@ -3,7 +3,7 @@ ghost use Rattle.std.specs.Prelude.{◌≡◌, ◌≢◌, ◌&&◌, nat_lt, nat_
 ghost use Rattle.spill_tapes.specs.Disk.{Keeps};
 ghost use Rattle.spill_tapes.specs.Records.{Record, IsRecord, header_of};
 ghost use Rattle.spill_tapes.specs.Pages.{IsPool, IsApart, IsBalanced, FreesNone, KeepsPages};
-ghost use Rattle.spill_tapes.specs.Tape.{TapeState, new_tape, no_tape, tape_len, ahead, HasWritten, HasAhead, IsSameTape, IsGood, IsAfterHeader, Gives, spent, emptied, is_in, AreWritten, AreAhead};
+ghost use Rattle.spill_tapes.specs.Tape.{TapeState, new_tape, no_tape, tape_len, ahead, HasWritten, HasAhead, IsSameTape, IsGood, IsAfterHeader, Gives, spent, ended, is_in, AreWritten, AreAhead};
 ghost use Rattle.spill_tapes.specs.declared.disk.DiskError.TheVariants as disk_error;
 ghost use Rattle.spill_tapes.specs.declared.error.TapeError.TheVariants as tape_error;
 ghost use Rattle.spill_tapes.specs.declared.tape.Phase.TheVariants as phase;
@@ -65,11 +65,7 @@ impl Tape {
     }
 
     /// Writes the buffer, which is full, to a page more.
-    fn flush<D: TapeDisk>(
-        &mut self,
-        disk: &mut D,
-        pool: &mut PagePool,
-    ) -> Result<(), DiskError>
+    fn flush<D: TapeDisk>(&mut self, disk: &mut D, pool: &mut PagePool) -> Result<(), DiskError>
         requires pool { IsPool pool.old }
         requires apart { IsApart pool.old self.old.pages }
         requires full { length self.old.buffer ≡ 8192 }
@@ -220,11 +216,7 @@ impl Tape {
     }
 
     /// Fills up the page that has begun with zeros and writes it, if one has begun.
-    fn finish<D: TapeDisk>(
-        &mut self,
-        disk: &mut D,
-        pool: &mut PagePool,
-    ) -> Result<(), DiskError>
+    fn finish<D: TapeDisk>(&mut self, disk: &mut D, pool: &mut PagePool) -> Result<(), DiskError>
         requires pool { IsPool pool.old }
         requires apart { IsApart pool.old self.old.pages }
         requires small { length self.old.buffer < 8192 }
@@ -281,11 +273,7 @@ impl Tape {
     }
 
     /// Reads the next page into the buffer, of which all was read. The page is free then.
-    fn load<D: TapeDisk>(
-        &mut self,
-        disk: &mut D,
-        pool: &mut PagePool,
-    ) -> Result<(), DiskError>
+    fn load<D: TapeDisk>(&mut self, disk: &mut D, pool: &mut PagePool) -> Result<(), DiskError>
         requires pool { IsPool pool.old }
         requires apart { IsApart pool.old self.old.pages }
         requires fits { length pool.old.free + length self.old.pages ≤ pool.old.count }
@@ -434,6 +422,44 @@ impl Tape {
     /// Reads the next record: its hash and its tag are answered, and its bytes are put into `bytes`.
     pub(crate) fn next<D: TapeDisk>(
         &mut self,
+        alloc: Global,
+        disk: &mut D,
+        pool: &mut PagePool,
+        bytes: &mut Vec<u8>,
+    ) -> Result<Option<(u32, u8)>, TapeError>
+        requires pool { IsPool pool.old }
+        requires apart { IsApart pool.old self.old.pages }
+        requires fits { length pool.old.free + length self.old.pages ≤ pool.old.count }
+        requires phase { self.old.phase ≡ phase.Read }
+        requires good { IsGood self.old }
+        requires empty { bytes.old.items ≡ [] }
+        ensures pool { IsPool pool.new }
+        ensures balanced { IsBalanced pool.old self.old.pages pool.new self.new.pages }
+        ensures keeps { Keeps (D.last disk.old) (D.last disk.new) }
+        ensures phase { self.new.phase ≡ phase.Read }
+        ensures good { OnOk result (IsGood self.new) }
+        ensures gives { IfOk result (λ found. IsTrue (D.honest disk.old) → (rs : List Record) → AreAhead (D.last disk.old) self.old rs → Gives (AreAhead (D.last disk.new) self.new) rs bytes.new.items found) }
+        ensures undamaged { IfErr result (λ error. IsTrue (D.honest disk.old) → (rs : List Record) → AreAhead (D.last disk.old) self.old rs → error ≢ tape_error.TapeDamaged) }
+        ensures alive { IfErr result (λ error. error ≢ tape_error.TapesDead) }
+        ensures none { IfOk result (λ found. IfNone found (bytes.new.items ≡ [])) }
+        ensures framed { IfOk result (λ found. IfSome found (λ told. (told.1 < 2) × (length bytes.new.items ≤ 65535))) }
+        ensures writes { D.writes disk.new ≡ D.writes disk.old }
+        ensures failures { D.failures disk.old ≤ D.failures disk.new }
+        ensures fault { IfErr result (λ error. error ≡ tape_error.TapeFault → D.failures disk.old < D.failures disk.new) }
+        ensures honesty { D.honest disk.new ≡ D.honest disk.old }
+    {
+        match self.next_record(disk, pool, bytes) {
+            Ok(found) => {
+                self.end_reading(alloc);
+                Ok(found)
+            }
+            Err(error) => Err(error),
+        }
+    }
+
+    /// Reads the next record.
+    fn next_record<D: TapeDisk>(
+        &mut self,
         disk: &mut D,
         pool: &mut PagePool,
         bytes: &mut Vec<u8>,
@@ -480,17 +506,13 @@ impl Tape {
         header.tag < 2 && header.len <= 65535 && u64::from(header.len) <= self.left
     }
 
-    /// How many records are to be read.
-    pub(crate) fn records(&self) -> u64
-        ensures { result ≡ self.now.records }
+    /// Gives up the buffer if there are no more records to be read.
+    fn end_reading(&mut self, alloc: Global)
+        ensures { self.new ≡ ended self.old }
     {
-        self.records
-    }
-
-    /// Gives up the buffer. Nothing more is read.
-    pub(crate) fn empty(&mut self, alloc: Global)
-        ensures { self.new ≡ emptied self.old }
-    {
+        if self.records > 0 {
+            return;
+        }
         self.buffer = Vec::new(alloc);
         self.read = 0;
         self.left = 0;

@@ -9,5 +9,5 @@ returns-clause-written g t c =
     let room : ℕ = 8192 - c.len-room.result in
     let parts : take room c.args.bytes.now ++ take (length c.args.bytes.now - room) (drop room c.args.bytes.now) ≡ c.args.bytes.now = ap (λ bs. take room c.args.bytes.now ++ bs) (take_rest c.args.bytes.now room) ∙ take-append-drop room c.args.bytes.now in
     ok_with c.put.result
-        (λ f before had. written_parts (g.D.TapeDisk.last c.put.new.disk) c.put.new.self before (take room c.args.bytes.now) (take (length c.args.bytes.now - room) (drop room c.args.bytes.now)) c.args.bytes.now parts (f (before ++ take room c.args.bytes.now) (c.in_ok-put_page.ensures.written before had)))
-        c.put.ensures.written
+    (λ f before had. written_parts (g.D.TapeDisk.last c.put.new.disk) c.put.new.self before (take room c.args.bytes.now) (take (length c.args.bytes.now - room) (drop room c.args.bytes.now)) c.args.bytes.now parts (f (before ++ take room c.args.bytes.now) (c.in_ok-put_page.ensures.written before had)))
+    c.put.ensures.written

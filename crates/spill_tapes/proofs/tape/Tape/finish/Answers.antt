@@ -11,5 +11,5 @@ returns-clause-written g c =
     let zeros : List ℕ = replicate {A = ℕ} (8192 - vec_len c.self.inside.buffer) 0 in
     let filled : c.resize.new.self.items ≡ c.args.self.now.buffer ++ zeros = c.in_ok-resize.ensures.items ∙ ap (λ bs. bs ++ zeros) (take_all 8192 c.self.inside.buffer.items small ∙ ap (λ (t : TapeState). t.buffer) c.self.view_is) in
     ok_with c.flush.result
-        (λ f bytes had. (zeros, f (bytes ++ zeros) (buffered (g.D.TapeDisk.last c.args.disk.now) c.args.self.now _ zeros (ap (λ (t : TapeState). t.pages) c.self.view_is) filled bytes had)))
-        c.flush.ensures.written
+    (λ f bytes had. (zeros, f (bytes ++ zeros) (buffered (g.D.TapeDisk.last c.args.disk.now) c.args.self.now _ zeros (ap (λ (t : TapeState). t.pages) c.self.view_is) filled bytes had)))
+    c.flush.ensures.written

@@ -34,6 +34,6 @@ returns-clause-loaded g c =
     let same : (with_items c.resize.new.self c.read_at.new.bytes).items ≡ c.read_at.new.bytes = with_items_is c.resize.new.self c.read_at.new.bytes len in
     let full : length c.read_at.new.bytes ≡ 8192 = c.read_at.ensures.len ∙ c.deref_mut.ensures.len ∙ c.in_ok-resize.ensures.len in
     ok_with c.read_at.result
-        (λ read honest bytes had. loaded (g.D.TapeDisk.last c.args.disk.now) (g.D.TapeDisk.last c.read_at.new.self) c.args.self.now _ c.in-Some.page first c.requires.spent refl (ap length same ∙ full)
-            (subst (λ bs. AreReadAt (g.D.TapeDisk.last c.args.disk.now) (c.in-Some.page * 8192) bs) (sym same) (read honest)) c.read_at.ensures.keeps bytes had)
-        c.read_at.ensures.read
+    (λ read honest bytes had. loaded (g.D.TapeDisk.last c.args.disk.now) (g.D.TapeDisk.last c.read_at.new.self) c.args.self.now _ c.in-Some.page first c.requires.spent refl (ap length same ∙ full)
+    (subst (λ bs. AreReadAt (g.D.TapeDisk.last c.args.disk.now) (c.in-Some.page * 8192) bs) (sym same) (read honest)) c.read_at.ensures.keeps bytes had)
+    c.read_at.ensures.read

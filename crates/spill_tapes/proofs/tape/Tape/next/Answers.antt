@@ -1,16 +1,6 @@
-use Rattle.std.proofs.Common.{◌≡◌, ◌<◌, ◌≤◌, ◌&&◌, nat_lt, nat_le, true, ℕ, List, arith, ap, ◌∙◌, sym}
-use Rattle.std.proofs.lemmas.Grind.{common_steps}
-use Rattle.spill_tapes.specs.Tape.{TapeState}
-use Rattle.spill_tapes.proofs.HeaderLaws.{left_front, can_stand}
+use Rattle.spill_tapes.proofs.HeaderLaws.{ended_gives}
 use Rattle.spill_tapes.proofs.tape.Tape.next.Goals as goal
 
-pub returns-then-self-clause-undamaged : goal.returns-then-self-clause-undamaged
-returns-then-self-clause-undamaged g c honest rs had same =
-    let some : 0 < c.args.self.now.records = grind (arith, common_steps) in
-    let left : 9 ≤ c.args.self.now.left = left_front (g.D.TapeDisk.last c.args.disk.now) c.args.self.now rs had some in
-    absurd (omega (arith, left, ap (λ (t : TapeState). t.left) c.self.view_is))
-
-pub returns-then-not-can_have-clause-undamaged : goal.returns-then-not-can_have-clause-undamaged
-returns-then-not-can_have-clause-undamaged g c honest rs had same =
-    let stands : (nat_lt c.in_ok-header.header.tag 2 && nat_le c.in_ok-header.header.len 65535 && nat_le c.in_ok-header.header.len c.next_header.new.self.left) ≡ true = can_stand (g.D.TapeDisk.last c.next_header.new.disk) c.next_header.new.self c.in_ok-header.header rs (c.in_ok-header.ensures.header honest rs had) in
-    cc
+pub returns-in-Ok-clause-gives : goal.returns-in-Ok-clause-gives
+returns-in-Ok-clause-gives g c honest rs had =
+    ended_gives (g.D.TapeDisk.last c.next_record.new.disk) c.next_record.new.self c.end_reading.new.self rs c.next_record.new.bytes.items c.in-Ok.found c.end_reading.ensures (c.in-Ok.ensures.gives honest rs had)
