@@ -4,3 +4,4 @@ pub mod Results
 pub mod TapeLaws
 pub mod HeaderLaws
 pub mod TapesLaws
+pub mod MemoryLaws

@@ -5,3 +5,5 @@ pub mod Pages
 pub mod Tape
 pub mod Tapes
 pub mod TapesFields
+pub mod Memory
+pub mod MemoryFields

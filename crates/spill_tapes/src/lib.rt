@@ -7,6 +7,7 @@
 mod disk;
 mod error;
 mod header;
+mod mem_disk;
 mod pool;
 mod tape;
 mod tape_id;
@@ -14,5 +15,6 @@ mod tapes;
 
 pub use disk::{DiskError, TapeDisk};
 pub use error::TapeError;
+pub use mem_disk::MemDisk;
 pub use tape_id::TapeId;
 pub use tapes::Tapes;
