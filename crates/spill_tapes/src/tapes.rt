@@ -1,5 +1,5 @@
 //! Tapes over a disk.
-ghost use Rattle.std.specs.Prelude.{◌≡◌, ◌≢◌, ◌+◌, ◌/◌, ◌<◌, ◌≤◌, ◌∷◌, ◌++◌, [], ℕ, List, Some, Err, true, false, IsTrue, IfOk, IfErr, IfSome, IfNone, OnOk, OnErr, length, get_or};
+ghost use Rattle.std.specs.Prelude.{◌≡◌, ◌≢◌, ◌+◌, ◌/◌, ◌<◌, ◌≤◌, ◌∷◌, ◌++◌, [], ℕ, List, Some, Err, true, false, not, IsTrue, IfOk, IfErr, IfSome, IfNone, OnOk, OnErr, length, get_or};
 ghost use Rattle.spill_tapes.specs.Records.{Record};
 ghost use Rattle.spill_tapes.specs.Tape.{Gives, new_tape, no_tape};
 ghost use Rattle.spill_tapes.specs.Tapes.{tape_at, phase_of, is_open, is_written, is_read, written_len, IsTape, KeepsOthers, IsRefusal, IsReadRefusal};
@@ -47,7 +47,7 @@ impl Tapes {
     /// Tapes of which none is open.
     pub fn new(alloc: Global) -> Tapes
         ensures alive { result.is_dead ≡ false }
-        ensures none { (id : TapeId) → tape_at result id ≡ no_tape }
+        ensures none { (id : TapeId) → is_open result id ≡ false }
     {
         Tapes {
             alloc,
@@ -55,6 +55,13 @@ impl Tapes {
             pool: PagePool::new(alloc),
             is_dead: false,
         }
+    }
+
+    /// Whether no call failed yet.
+    fn is_alive(&self) -> bool
+        ensures { result ≡ not self.now.is_dead }
+    {
+        !self.is_dead
     }
 
     /// The first tape that is not open, if there is one.
@@ -96,12 +103,14 @@ impl Tapes {
         ensures refused { IfErr result (λ error. error ≢ TapesDead → (self.old.is_dead ≡ false) × (error ≡ NoMemory)) }
         ensures unchanged { OnErr result (self.new ≡ self.old) }
         ensures alive { self.new.is_dead ≡ self.old.is_dead }
-        ensures fresh { IfOk result (λ tape. phase_of self.old tape ≡ Closed) }
-        ensures opened { IfOk result (λ tape. (phase_of self.new tape ≡ Written) × (written_len self.new tape ≡ 0)) }
+        ensures fresh { IfOk result (λ tape. is_open self.old tape ≡ false) }
+        ensures open { IfOk result (λ tape. is_open self.new tape ≡ true) }
+        ensures written { IfOk result (λ tape. is_written self.new tape ≡ true) }
+        ensures none { IfOk result (λ tape. written_len self.new tape ≡ 0) }
         ensures empty { IfOk result (λ tape. IsTape (D.last _disk.now) self.new tape []) }
         ensures others { IfOk result (λ tape. KeepsOthers (D.last _disk.now) (D.last _disk.now) self.old self.new tape) }
     {
-        if self.is_dead {
+        if !self.is_alive() {
             return Err(TapeError::TapesDead);
         }
         self.place(Tape::new(self.alloc))
@@ -139,10 +148,12 @@ impl Tapes {
         requires tag { tag < 2 }
         requires len { length bytes.now ≤ 65535 }
         ensures dead { self.old.is_dead ≡ true → result ≡ Err TapesDead }
+        ensures unchanged { self.old.is_dead ≡ true → (self.new ≡ self.old) × (disk.new ≡ disk.old) }
         ensures refused { IfErr result (IsRefusal self.old.is_dead (D.failures disk.old) (D.failures disk.new)) }
         ensures alive { OnOk result (self.new.is_dead ≡ false) }
         ensures dies { OnErr result (self.new.is_dead ≡ true) }
-        ensures phase { phase_of self.new tape ≡ Written }
+        ensures open { is_open self.new tape ≡ true }
+        ensures written { is_written self.new tape ≡ true }
         ensures appended { OnOk result ((rs : List Record) → IsTape (D.last disk.old) self.old tape rs → IsTape (D.last disk.new) self.new tape (rs ++ record { hash = hash; tag = tag; bytes = bytes.now } ∷ [])) }
         ensures longer { OnOk result (written_len self.new tape ≡ written_len self.old tape + (9 + length bytes.now)) }
         ensures counted { OnOk result (D.writes disk.new + written_len self.old tape / 8192 ≡ D.writes disk.old + written_len self.new tape / 8192) }
@@ -151,7 +162,7 @@ impl Tapes {
         ensures failures { D.failures disk.old ≤ D.failures disk.new }
         ensures honesty { D.honest disk.new ≡ D.honest disk.old }
     {
-        if self.is_dead {
+        if !self.is_alive() {
             return Err(TapeError::TapesDead);
         }
         let header = Header {
@@ -173,11 +184,12 @@ impl Tapes {
     pub fn rewind<D: TapeDisk>(&mut self, disk: &mut D, tape: TapeId) -> Result<(), TapeError>
         requires written { is_written self.old tape ≡ true }
         ensures dead { self.old.is_dead ≡ true → result ≡ Err TapesDead }
+        ensures unchanged { self.old.is_dead ≡ true → (self.new ≡ self.old) × (disk.new ≡ disk.old) }
         ensures refused { IfErr result (IsRefusal self.old.is_dead (D.failures disk.old) (D.failures disk.new)) }
         ensures alive { OnOk result (self.new.is_dead ≡ false) }
         ensures dies { OnErr result (self.new.is_dead ≡ true) }
-        ensures phase { OnOk result (phase_of self.new tape ≡ Read) }
         ensures open { is_open self.new tape ≡ true }
+        ensures read { OnOk result (is_read self.new tape ≡ true) }
         ensures rewound { OnOk result ((rs : List Record) → IsTape (D.last disk.old) self.old tape rs → IsTape (D.last disk.new) self.new tape rs) }
         ensures counted { OnOk result (D.writes disk.new + written_len self.old tape / 8192 ≡ D.writes disk.old + (written_len self.old tape + 8191) / 8192) }
         ensures others { KeepsOthers (D.last disk.old) (D.last disk.new) self.old self.new tape }
@@ -185,7 +197,7 @@ impl Tapes {
         ensures failures { D.failures disk.old ≤ D.failures disk.new }
         ensures honesty { D.honest disk.new ≡ D.honest disk.old }
     {
-        if self.is_dead {
+        if !self.is_alive() {
             return Err(TapeError::TapesDead);
         }
         let slot = &mut self.tapes[tape.index];
@@ -208,11 +220,13 @@ impl Tapes {
     ) -> Result<Option<(u32, u8)>, TapeError>
         requires read { is_read self.old tape ≡ true }
         ensures dead { self.old.is_dead ≡ true → result ≡ Err TapesDead }
+        ensures unchanged { self.old.is_dead ≡ true → (self.new ≡ self.old) × (disk.new ≡ disk.old) }
         ensures refused { IfErr result (IsReadRefusal self.old.is_dead (D.failures disk.old) (D.failures disk.new)) }
         ensures undamaged { IfErr result (λ error. IsTrue (D.honest disk.old) → (rs : List Record) → IsTape (D.last disk.old) self.old tape rs → error ≢ TapeDamaged) }
         ensures alive { OnOk result (self.new.is_dead ≡ false) }
         ensures dies { OnErr result (self.new.is_dead ≡ true) }
-        ensures phase { phase_of self.new tape ≡ Read }
+        ensures open { is_open self.new tape ≡ true }
+        ensures read { is_read self.new tape ≡ true }
         ensures gives { IfOk result (λ found. IsTrue (D.honest disk.old) → (rs : List Record) → IsTape (D.last disk.old) self.old tape rs → Gives (IsTape (D.last disk.new) self.new tape) rs bytes.new.items found) }
         ensures framed { IfOk result (λ found. IfSome found (λ told. (told.1 < 2) × (length bytes.new.items ≤ 65535))) }
         ensures none { IfOk result (λ found. IfNone found (bytes.new.items ≡ [])) }
@@ -223,7 +237,7 @@ impl Tapes {
         ensures honesty { D.honest disk.new ≡ D.honest disk.old }
     {
         bytes.clear();
-        if self.is_dead {
+        if !self.is_alive() {
             return Err(TapeError::TapesDead);
         }
         let slot = &mut self.tapes[tape.index];
@@ -241,7 +255,7 @@ impl Tapes {
     pub fn close<D: TapeDisk>(&mut self, _disk: &D, tape: TapeId)
         requires open { is_open self.old tape ≡ true }
         ensures alive { self.new.is_dead ≡ self.old.is_dead }
-        ensures closed { phase_of self.new tape ≡ Closed }
+        ensures closed { is_open self.new tape ≡ false }
         ensures others { KeepsOthers (D.last _disk.now) (D.last _disk.now) self.old self.new tape }
     {
         let slot = &mut self.tapes[tape.index];
