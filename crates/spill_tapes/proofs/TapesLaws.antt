@@ -9,7 +9,7 @@ use Rattle.spill_tapes.specs.Disk.{Keeps}
 use Rattle.spill_tapes.specs.Records.{Record}
 use Rattle.spill_tapes.specs.Pages.{PoolState, times, below, IsApart, AreOn, KeepsPages}
 use Rattle.spill_tapes.specs.Tape.{TapeState, no_tape, new_tape, tape_len, is_in, AreAhead, HasIn, Has, Gives}
-use Rattle.spill_tapes.specs.Tapes.{TapesState, tape_at, is_read, IsTape, KeepsOthers, AreTapes}
+use Rattle.spill_tapes.specs.Tapes.{TapesState, tape_at, phase_of, is_read, IsTape, KeepsOthers, AreTapes}
 use Rattle.spill_tapes.specs.declared.tape.Phase.{Phase}
 use Rattle.spill_tapes.specs.declared.tape.Phase.TheVariants.{Closed, Written, Read}
 use Rattle.spill_tapes.specs.declared.tape_id.TapeId.{TapeId}
@@ -127,3 +127,23 @@ pub read_gives : (last : ℕ → ℕ → Type 0) (t s t' : TapesState) (tape : T
 read_gives last t s t' tape x rs bytes found same read put phase told =
     let at : tape_at t' tape ≡ x = ap (λ ts. get_or ts tape.index no_tape) put ∙ get_or-set_same t.tapes tape.index x no_tape (within t s tape same read) in
     gives_with (AreAhead last x) (IsTape last t' tape) rs bytes found (λ xs had. subst (λ (y : TapeState). Has last y xs) (sym at) (has_read last x xs phase had)) told
+
+-- a tape that is being written
+pub is_writing : (phase : Phase) → is_in Written phase ≡ true → phase ≡ Written
+is_writing Closed h = cc
+is_writing Written h = refl
+is_writing Read h = cc
+
+-- a tape of the same phase in the place of another
+same_phases : (ts : List TapeState) (i j : ℕ) (x : TapeState) → x.phase ≡ (get_or ts i no_tape).phase → (get_or (set ts i x) j no_tape).phase ≡ (get_or ts j no_tape).phase
+same_phases [] i j x same = refl
+same_phases (t ∷ ts) zero zero x same = same
+same_phases (t ∷ ts) zero (suc j) x same = refl
+same_phases (t ∷ ts) (suc i) zero x same = refl
+same_phases (t ∷ ts) (suc i) (suc j) x same = same_phases ts i j x same
+
+pub phases_same : (t s t' : TapesState) (tape : TapeId) (x : TapeState) → t ≡ s → t'.tapes ≡ set t.tapes tape.index x → x.phase ≡ phase_of s tape → (id : TapeId) → phase_of t' id ≡ phase_of s id
+phases_same t s t' tape x same put phase id =
+    ap (λ ts. (get_or ts id.index no_tape).phase) put
+    ∙ same_phases t.tapes tape.index id.index x (phase ∙ ap (λ (y : TapesState). phase_of y tape) (sym same))
+    ∙ ap (λ (y : TapesState). phase_of y id) same

@@ -3,7 +3,7 @@ ghost use Rattle.std.specs.Prelude.{◌≡◌, ◌≢◌, ◌&&◌, nat_lt, nat_
 ghost use Rattle.spill_tapes.specs.Disk.{Keeps};
 ghost use Rattle.spill_tapes.specs.Records.{Record, IsRecord, header_of};
 ghost use Rattle.spill_tapes.specs.Pages.{IsPool, IsApart, IsBalanced, FreesNone, KeepsPages};
-ghost use Rattle.spill_tapes.specs.Tape.{TapeState, new_tape, no_tape, tape_len, ahead, HasWritten, HasAhead, IsSameTape, IsGood, IsAfterHeader, Gives, spent, ended, is_in, AreWritten, AreAhead};
+ghost use Rattle.spill_tapes.specs.Tape.{TapeState, new_tape, no_tape, tape_len, ahead, HasWritten, HasAhead, IsSameTape, IsGood, IsAfterHeader, Gives, spent, ended, AreWritten, AreAhead};
 ghost use Rattle.spill_tapes.specs.declared.disk.DiskError.TheVariants as disk_error;
 ghost use Rattle.spill_tapes.specs.declared.error.TapeError.TheVariants as tape_error;
 ghost use Rattle.spill_tapes.specs.declared.tape.Phase.TheVariants as phase;
@@ -529,11 +529,11 @@ impl Tape {
         pool.give_back_all(&mut self.pages);
     }
 
-    /// Whether it is not open.
-    pub(crate) fn is_closed(&self) -> bool
-        ensures { result ≡ is_in phase.Closed self.now.phase }
+    /// What is done with it.
+    pub(crate) fn phase(&self) -> Phase
+        ensures { result ≡ self.now.phase }
     {
-        self.phase == Phase::Closed
+        self.phase
     }
 
     /// Is no tape any more.

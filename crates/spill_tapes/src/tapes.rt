@@ -1,5 +1,5 @@
 //! Tapes over a disk.
-ghost use Rattle.std.specs.Prelude.{◌≡◌, ◌≢◌, ◌+◌, ◌/◌, ◌<◌, ◌≤◌, ◌∷◌, ◌++◌, [], ℕ, List, Some, Err, true, false, not, IsTrue, IfOk, IfErr, IfSome, IfNone, OnOk, OnErr, length, get_or};
+ghost use Rattle.std.specs.Prelude.{◌≡◌, ◌≢◌, ◌+◌, ◌/◌, ◌<◌, ◌≤◌, ◌∷◌, ◌++◌, [], ℕ, List, Some, Err, true, false, IsTrue, IfOk, IfErr, IfSome, IfNone, OnOk, OnErr, length, get_or};
 ghost use Rattle.spill_tapes.specs.Records.{Record};
 ghost use Rattle.spill_tapes.specs.Tape.{Gives, new_tape, no_tape};
 ghost use Rattle.spill_tapes.specs.Tapes.{tape_at, phase_of, is_open, is_written, is_read, written_len, IsTape, KeepsOthers, IsRefusal, IsReadRefusal};
@@ -11,7 +11,7 @@ use crate::disk::TapeDisk;
 use crate::error::TapeError;
 use crate::header::Header;
 use crate::pool::PagePool;
-use crate::tape::Tape;
+use crate::tape::{Phase, Tape};
 use crate::tape_id::TapeId;
 use std::alloc::Global;
 use std::marker::Model;
@@ -57,11 +57,52 @@ impl Tapes {
         }
     }
 
-    /// Whether no call failed yet.
-    fn is_alive(&self) -> bool
-        ensures { result ≡ not self.now.is_dead }
+    /// What is done with a tape.
+    fn phase(&self, tape: TapeId) -> Phase
+        ensures { result ≡ phase_of self.now tape }
     {
-        !self.is_dead
+        match self.tapes.get(tape.index) {
+            Some(tape) => tape.phase(),
+            None => Phase::Closed,
+        }
+    }
+
+    /// Whether a tape is open.
+    pub fn is_open(&self, tape: TapeId) -> bool
+        ensures { result ≡ is_open self.now tape }
+    {
+        match self.phase(tape) {
+            Phase::Closed => false,
+            Phase::Written | Phase::Read => true,
+        }
+    }
+
+    /// Whether a tape is being written.
+    pub fn is_written(&self, tape: TapeId) -> bool
+        ensures { result ≡ is_written self.now tape }
+    {
+        match self.phase(tape) {
+            Phase::Written => true,
+            Phase::Closed | Phase::Read => false,
+        }
+    }
+
+    /// Whether a tape is being read.
+    pub fn is_read(&self, tape: TapeId) -> bool
+        ensures { result ≡ is_read self.now tape }
+    {
+        match self.phase(tape) {
+            Phase::Read => true,
+            Phase::Closed | Phase::Written => false,
+        }
+    }
+
+    /// Whether a call failed, so that every call but `close` is refused.
+    pub fn is_dead(&self) -> bool
+        ensures { result ≡ self.now.is_dead }
+    {
+        let Tapes { is_dead, .. } = self;
+        *is_dead
     }
 
     /// The first tape that is not open, if there is one.
@@ -69,7 +110,7 @@ impl Tapes {
         ensures closed { IfSome result (λ place. (place < length self.now.tapes) × ((get_or self.now.tapes place no_tape).phase ≡ Closed)) }
     {
         for (place, tape) in self.tapes.iter().enumerate() {
-            if tape.is_closed() {
+            if tape.phase() == Phase::Closed {
                 return Some(place);
             }
         }
@@ -110,7 +151,7 @@ impl Tapes {
         ensures empty { IfOk result (λ tape. IsTape (D.last _disk.now) self.new tape []) }
         ensures others { IfOk result (λ tape. KeepsOthers (D.last _disk.now) (D.last _disk.now) self.old self.new tape) }
     {
-        if !self.is_alive() {
+        if self.is_dead() {
             return Err(TapeError::TapesDead);
         }
         self.place(Tape::new(self.alloc))
@@ -144,7 +185,7 @@ impl Tapes {
         tag: u8,
         bytes: &[u8],
     ) -> Result<(), TapeError>
-        requires written { is_written self.old tape ≡ true }
+        requires written { self.old.is_dead ≡ false → is_written self.old tape ≡ true }
         requires tag { tag < 2 }
         requires len { length bytes.now ≤ 65535 }
         ensures dead { self.old.is_dead ≡ true → result ≡ Err TapesDead }
@@ -152,8 +193,7 @@ impl Tapes {
         ensures refused { IfErr result (IsRefusal self.old.is_dead (D.failures disk.old) (D.failures disk.new)) }
         ensures alive { OnOk result (self.new.is_dead ≡ false) }
         ensures dies { OnErr result (self.new.is_dead ≡ true) }
-        ensures open { is_open self.new tape ≡ true }
-        ensures written { is_written self.new tape ≡ true }
+        ensures phases { (id : TapeId) → phase_of self.new id ≡ phase_of self.old id }
         ensures appended { OnOk result ((rs : List Record) → IsTape (D.last disk.old) self.old tape rs → IsTape (D.last disk.new) self.new tape (rs ++ record { hash = hash; tag = tag; bytes = bytes.now } ∷ [])) }
         ensures longer { OnOk result (written_len self.new tape ≡ written_len self.old tape + (9 + length bytes.now)) }
         ensures counted { OnOk result (D.writes disk.new + written_len self.old tape / 8192 ≡ D.writes disk.old + written_len self.new tape / 8192) }
@@ -162,7 +202,7 @@ impl Tapes {
         ensures failures { D.failures disk.old ≤ D.failures disk.new }
         ensures honesty { D.honest disk.new ≡ D.honest disk.old }
     {
-        if !self.is_alive() {
+        if self.is_dead() {
             return Err(TapeError::TapesDead);
         }
         let header = Header {
@@ -182,13 +222,13 @@ impl Tapes {
 
     /// Ends the writing of a tape, which is then to be read.
     pub fn rewind<D: TapeDisk>(&mut self, disk: &mut D, tape: TapeId) -> Result<(), TapeError>
-        requires written { is_written self.old tape ≡ true }
+        requires written { self.old.is_dead ≡ false → is_written self.old tape ≡ true }
         ensures dead { self.old.is_dead ≡ true → result ≡ Err TapesDead }
         ensures unchanged { self.old.is_dead ≡ true → (self.new ≡ self.old) × (disk.new ≡ disk.old) }
         ensures refused { IfErr result (IsRefusal self.old.is_dead (D.failures disk.old) (D.failures disk.new)) }
         ensures alive { OnOk result (self.new.is_dead ≡ false) }
         ensures dies { OnErr result (self.new.is_dead ≡ true) }
-        ensures open { is_open self.new tape ≡ true }
+        ensures open { is_open self.new tape ≡ is_open self.old tape }
         ensures read { OnOk result (is_read self.new tape ≡ true) }
         ensures rewound { OnOk result ((rs : List Record) → IsTape (D.last disk.old) self.old tape rs → IsTape (D.last disk.new) self.new tape rs) }
         ensures counted { OnOk result (D.writes disk.new + written_len self.old tape / 8192 ≡ D.writes disk.old + (written_len self.old tape + 8191) / 8192) }
@@ -197,7 +237,7 @@ impl Tapes {
         ensures failures { D.failures disk.old ≤ D.failures disk.new }
         ensures honesty { D.honest disk.new ≡ D.honest disk.old }
     {
-        if !self.is_alive() {
+        if self.is_dead() {
             return Err(TapeError::TapesDead);
         }
         let slot = &mut self.tapes[tape.index];
@@ -218,15 +258,14 @@ impl Tapes {
         tape: TapeId,
         bytes: &mut Vec<u8>,
     ) -> Result<Option<(u32, u8)>, TapeError>
-        requires read { is_read self.old tape ≡ true }
+        requires read { self.old.is_dead ≡ false → is_read self.old tape ≡ true }
         ensures dead { self.old.is_dead ≡ true → result ≡ Err TapesDead }
         ensures unchanged { self.old.is_dead ≡ true → (self.new ≡ self.old) × (disk.new ≡ disk.old) }
         ensures refused { IfErr result (IsReadRefusal self.old.is_dead (D.failures disk.old) (D.failures disk.new)) }
         ensures undamaged { IfErr result (λ error. IsTrue (D.honest disk.old) → (rs : List Record) → IsTape (D.last disk.old) self.old tape rs → error ≢ TapeDamaged) }
         ensures alive { OnOk result (self.new.is_dead ≡ false) }
         ensures dies { OnErr result (self.new.is_dead ≡ true) }
-        ensures open { is_open self.new tape ≡ true }
-        ensures read { is_read self.new tape ≡ true }
+        ensures phases { (id : TapeId) → phase_of self.new id ≡ phase_of self.old id }
         ensures gives { IfOk result (λ found. IsTrue (D.honest disk.old) → (rs : List Record) → IsTape (D.last disk.old) self.old tape rs → Gives (IsTape (D.last disk.new) self.new tape) rs bytes.new.items found) }
         ensures framed { IfOk result (λ found. IfSome found (λ told. (told.1 < 2) × (length bytes.new.items ≤ 65535))) }
         ensures none { IfOk result (λ found. IfNone found (bytes.new.items ≡ [])) }
@@ -237,7 +276,7 @@ impl Tapes {
         ensures honesty { D.honest disk.new ≡ D.honest disk.old }
     {
         bytes.clear();
-        if !self.is_alive() {
+        if self.is_dead() {
             return Err(TapeError::TapesDead);
         }
         let slot = &mut self.tapes[tape.index];
