@@ -82,7 +82,10 @@ fn an_empty_tape_has_no_page(rt: HostRuntime) -> Result<(), Fail> {
     let mut tapes = Tapes::new(rt.alloc());
     let tape = tapes.open(&disk)?;
     rewind(&mut tapes, &mut disk, tape)?;
-    assert_eq!(rt; told(&rt, &mut tapes, &mut disk, tape)?.as_str(), "Ok(None) ");
+    assert_eq!(rt;
+        told(&rt, &mut tapes, &mut disk, tape)?.as_str(),
+        "Ok(None) "
+    );
     close(&mut tapes, &disk, tape);
     assert_eq!(rt; disk.writes(), 0);
     Ok(())
