@@ -6,15 +6,15 @@ use Rattle.std.proofs.Common.{refl, sym, ◌∙◌, ap, subst, arith}
 use Rattle.std.proofs.lemmas.List.{get_or-set_same, get_or-set_other, get_or_past, get_or_default}
 use Rattle.std.proofs.lemmas.List.Sums.{sum_by-cons}
 use Rattle.spill_tapes.specs.Disk.{Keeps}
-use Rattle.spill_tapes.specs.Records.{Record}
+use Rattle.spill_tapes.specs.Records.{Record, tape_bytes}
 use Rattle.spill_tapes.specs.Pages.{PoolState, times, below, IsApart, AreOn, KeepsPages}
-use Rattle.spill_tapes.specs.Tape.{TapeState, no_tape, new_tape, tape_len, is_in, AreAhead, HasIn, Has, Gives}
-use Rattle.spill_tapes.specs.Tapes.{TapesState, tape_at, phase_of, is_read, IsTape, KeepsOthers, AreTapes}
+use Rattle.spill_tapes.specs.Tape.{TapeState, no_tape, new_tape, tape_len, is_in, AreWritten, AreAhead, HasIn, Has, Gives}
+use Rattle.spill_tapes.specs.Tapes.{TapesState, tape_at, phase_of, is_written, is_read, IsTape, KeepsOthers, AreTapes}
 use Rattle.spill_tapes.specs.declared.tape.Phase.{Phase}
 use Rattle.spill_tapes.specs.declared.tape.Phase.TheVariants.{Closed, Written, Read}
 use Rattle.spill_tapes.specs.declared.tape_id.TapeId.{TapeId}
 use Rattle.spill_tapes.proofs.PoolLaws.{apart_page}
-use Rattle.spill_tapes.proofs.PageLaws.{kept_on, kept_all}
+use Rattle.spill_tapes.proofs.PageLaws.{kept_on, kept_all, written_len}
 use Rattle.spill_tapes.proofs.HeaderLaws.{gives_with}
 
 -- a member's part of a sum
@@ -147,3 +147,9 @@ phases_same t s t' tape x same put phase id =
     ap (λ ts. (get_or ts id.index no_tape).phase) put
     ∙ same_phases t.tapes tape.index id.index x (phase ∙ ap (λ (y : TapesState). phase_of y tape) (sym same))
     ∙ ap (λ (y : TapesState). phase_of y id) same
+
+-- how many bytes were written
+pub bytes_written : (last : ℕ → ℕ → Type 0) (t : TapesState) (tape : TapeId) (rs : List Record) → is_written t tape ≡ true → IsTape last t tape rs → tape_len (tape_at t tape) ≡ length (tape_bytes rs)
+bytes_written last t tape rs written had =
+    let here : AreWritten last (tape_at t tape) rs = subst (λ (ph : Phase). HasIn ph last (tape_at t tape) rs) (is_writing (tape_at t tape).phase written) had in
+    sym (written_len last (tape_at t tape) (tape_bytes rs) here.bytes)

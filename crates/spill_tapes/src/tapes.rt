@@ -1,6 +1,6 @@
 //! Tapes over a disk.
 ghost use Rattle.std.specs.Prelude.{◌≡◌, ◌≢◌, ◌+◌, ◌/◌, ◌<◌, ◌≤◌, ◌∷◌, ◌++◌, [], ℕ, List, Some, Err, true, false, IsTrue, IfOk, IfErr, IfSome, IfNone, OnOk, OnErr, length, get_or};
-ghost use Rattle.spill_tapes.specs.Records.{Record};
+ghost use Rattle.spill_tapes.specs.Records.{Record, tape_bytes};
 ghost use Rattle.spill_tapes.specs.Tape.{Gives, new_tape, no_tape};
 ghost use Rattle.spill_tapes.specs.Tapes.{tape_at, phase_of, is_open, is_written, is_read, written_len, IsTape, KeepsOthers, IsRefusal, IsReadRefusal};
 ghost use Rattle.spill_tapes.specs.declared.error.TapeError.TheVariants.{NoMemory, TapeDamaged, TapesDead};
@@ -221,6 +221,7 @@ impl Tapes {
     }
 
     /// Ends the writing of a tape, which is then to be read.
+    #[tactic(auto, using(crate::proofs::TapesLaws::bytes_written))]
     pub fn rewind<D: TapeDisk>(&mut self, disk: &mut D, tape: TapeId) -> Result<(), TapeError>
         requires written { self.old.is_dead ≡ false → is_written self.old tape ≡ true }
         ensures dead { self.old.is_dead ≡ true → result ≡ Err TapesDead }
@@ -231,6 +232,7 @@ impl Tapes {
         ensures open { is_open self.new tape ≡ is_open self.old tape }
         ensures read { OnOk result (is_read self.new tape ≡ true) }
         ensures rewound { OnOk result ((rs : List Record) → IsTape (D.last disk.old) self.old tape rs → IsTape (D.last disk.new) self.new tape rs) }
+        ensures bytes { self.old.is_dead ≡ false → (rs : List Record) → IsTape (D.last disk.old) self.old tape rs → written_len self.old tape ≡ length (tape_bytes rs) }
         ensures counted { OnOk result (D.writes disk.new + written_len self.old tape / 8192 ≡ D.writes disk.old + (written_len self.old tape + 8191) / 8192) }
         ensures others { KeepsOthers (D.last disk.old) (D.last disk.new) self.old self.new tape }
         ensures writes { D.writes disk.old ≤ D.writes disk.new }
