@@ -1,11 +1,10 @@
 -- The front of a record, as it is read.
-use Rattle.std.specs.Prelude.{◌≡◌, ◌≢◌, ℕ, ◌+◌, ◌-◌, ◌*◌, ◌^◌, ◌<◌, ◌≤◌, List, [], ◌∷◌, ◌++◌, length, get_or, nat_lt, nat_le, ◌&&◌, Bool, true, false, ◌==◌, Option, Some, None}
-use Rattle.std.specs.Int.{w32, from_be_bytes, to_be_bytes}
+use Rattle.std.specs.Prelude.{◌≡◌, ℕ, ◌+◌, ◌^◌, ◌<◌, ◌≤◌, List, [], ◌∷◌, ◌++◌, length, get_or, nat_lt, nat_le, ◌&&◌, Bool, true, false, ◌==◌, Option, Some, None}
 use Rattle.std.proofs.Common.{refl, sym, ◌∙◌, ap, subst, arith, length-append}
-use Rattle.std.proofs.lemmas.List.{append_assoc, append-nil}
+use Rattle.std.proofs.lemmas.List.{append_assoc}
 use Rattle.std.proofs.lemmas.Bool.Decides.{nat_tests}
 use Rattle.std.proofs.lemmas.Nat.{from_be_bytes-to_be_bytes_4}
-use Rattle.spill_tapes.specs.Records.{Record, IsRecord, AreRecords, header_of, record_bytes, tape_bytes, number_at}
+use Rattle.spill_tapes.specs.Records.{Record, header_of, tape_bytes, number_at}
 use Rattle.spill_tapes.specs.Tape.{TapeState, HasAhead, AreAhead, IsAfterHeader, Gives, ended, ended_by, join}
 use Rattle.spill_tapes.specs.declared.header.Header.{Header}
 

@@ -1,17 +1,17 @@
 -- The bytes of a disk in memory.
-use Rattle.std.specs.Prelude.{◌≡◌, ◌≢◌, ℕ, ◌+◌, ◌-◌, ◌*◌, ◌/◌, ◌%◌, ◌<◌, ◌≤◌, ◌⊎◌, ◌==◌, ◌&&◌, Bool, true, false, cond, List, [], ◌∷◌, ◌++◌, Option, Some, None, length, get_or, take, drop, IsTrue}
+use Rattle.std.specs.Prelude.{◌≡◌, ◌≢◌, ℕ, ◌+◌, ◌-◌, ◌/◌, ◌%◌, ◌<◌, ◌≤◌, ◌⊎◌, false, List, ◌++◌, Option, Some, None, length, get_or, take, drop, IsTrue}
 use Rattle.std.specs.BTreeMap.{is_at}
 use Rattle.std.specs.Ordering.{nat_cmp}
-use Rattle.std.proofs.Common.{refl, sym, ◌∙◌, ap, subst, arith, inl, inr, rules, length-append, length-drop}
+use Rattle.std.proofs.Common.{refl, sym, ◌∙◌, ap, subst, arith, inl, inr}
 use Rattle.std.proofs.lemmas.Bool.{cases_eq}
 use Rattle.std.proofs.lemmas.Bool.Decides.{nat_tests}
 use Rattle.std.proofs.lemmas.Grind.{common_steps}
-use Rattle.std.proofs.lemmas.List.{places, get_or-replicate, get_or_past, length-replicate}
+use Rattle.std.proofs.lemmas.List.{places, get_or-replicate, get_or_past}
 use Rattle.block_memory.specs.Cells.{zeros}
-use Rattle.chunk_layout.specs.Pieces.{Piece, place_of, same_place}
+use Rattle.chunk_layout.specs.Pieces.{Piece}
 use Rattle.chunk_layout.specs.declared.place.ChunkName.{ChunkName}
 use Rattle.chunk_contexts.specs.Chunks.{is_live, bytes_of, Keeps, KeepsOthers}
-use Rattle.spill_tapes.specs.Memory.{MemoryState, name_of, byte_in, byte_at, IsSameBeside, AreAt, ArePages}
+use Rattle.spill_tapes.specs.Memory.{MemoryState, name_of, byte_in, byte_at, IsSameBeside, ArePages}
 
 -- a list of zeros
 pub zero_at : (n k : ℕ) → get_or (zeros n) k 0 ≡ 0

@@ -1,5 +1,5 @@
 -- What is true of a result, from what else is.
-use Rattle.std.specs.Prelude.{◌≡◌, Result, Ok, Err, OnOk, OnErr, IfOk, IfErr}
+use Rattle.std.specs.Prelude.{Result, Ok, Err, OnOk}
 
 pub ok_with : {X E P Q : Type 0} → (r : Result X E) → (P → Q) → OnOk r P → OnOk r Q
 ok_with (Ok x) f p = f p

@@ -1,10 +1,9 @@
 -- A tape as a list of records.
-use Rattle.std.specs.Prelude.{◌≡◌, ℕ, ◌+◌, ◌-◌, ◌*◌, ◌^◌, ◌<◌, ◌≤◌, List, [], ◌∷◌, ◌++◌, length, take, drop}
-use Rattle.std.specs.List.{flat_map}
-use Rattle.std.proofs.Common.{refl, sym, ◌∙◌, ap, subst, arith, length-append}
-use Rattle.std.proofs.lemmas.List.{append-nil, append_assoc, flat_map_more}
+use Rattle.std.specs.Prelude.{◌≡◌, ℕ, ◌+◌, List, [], ◌∷◌, ◌++◌}
+use Rattle.std.proofs.Common.{refl, sym, ◌∙◌, ap, subst, length-append}
+use Rattle.std.proofs.lemmas.List.{flat_map_more}
 use Rattle.spill_tapes.specs.Records.{Record, IsRecord, AreRecords, record_bytes, tape_bytes}
-use Rattle.spill_tapes.specs.Tape.{TapeState, tape_len, HasWritten, HasAhead, AreWritten, AreAhead}
+use Rattle.spill_tapes.specs.Tape.{TapeState, tape_len, HasWritten, AreWritten, AreAhead}
 use Rattle.spill_tapes.proofs.PageLaws.{same_written, written_len, rewound}
 
 pub records_push : (rs : List Record) (r : Record) → AreRecords rs → IsRecord r → AreRecords (rs ++ r ∷ [])

@@ -1,5 +1,5 @@
 -- All tapes.
-use Rattle.std.specs.Prelude.{◌≡◌, ◌≢◌, ℕ, ◌+◌, ◌<◌, ◌≤◌, suc, zero, Bool, true, false, Option, List, [], ◌∷◌, ◌++◌, length, get_or}
+use Rattle.std.specs.Prelude.{◌≡◌, ◌≢◌, ℕ, ◌<◌, ◌≤◌, suc, zero, true, Option, List, [], ◌∷◌, ◌++◌, length, get_or}
 use Rattle.std.specs.List.{sum_by}
 use Rattle.std.proofs.Math.ListN.{set}
 use Rattle.std.proofs.Common.{refl, sym, ◌∙◌, ap, subst, arith}
@@ -7,7 +7,7 @@ use Rattle.std.proofs.lemmas.List.{get_or-set_same, get_or-set_other, get_or_pas
 use Rattle.std.proofs.lemmas.List.Sums.{sum_by-cons}
 use Rattle.spill_tapes.specs.Disk.{Keeps}
 use Rattle.spill_tapes.specs.Records.{Record, tape_bytes}
-use Rattle.spill_tapes.specs.Pages.{PoolState, times, below, IsApart, AreOn, KeepsPages}
+use Rattle.spill_tapes.specs.Pages.{times, IsApart, AreOn, KeepsPages}
 use Rattle.spill_tapes.specs.Tape.{TapeState, no_tape, new_tape, tape_len, is_in, AreWritten, AreAhead, HasIn, Has, Gives}
 use Rattle.spill_tapes.specs.Tapes.{TapesState, tape_at, phase_of, is_written, is_read, IsTape, KeepsOthers, AreTapes}
 use Rattle.spill_tapes.specs.declared.tape.Phase.{Phase}

@@ -1,4 +1,4 @@
-use Rattle.std.proofs.Common.{◌≡◌, ◌/◌, refl, ap, ◌∙◌, length}
+use Rattle.std.proofs.Common.{◌≡◌, ◌/◌, ap, ◌∙◌, length}
 use Rattle.std.specs.Prelude.{Some}
 use Rattle.chunk_contexts.specs.Chunks.{bytes_of}
 use Rattle.spill_tapes.specs.Memory.{MemoryState, byte_at, name_of}

@@ -1,4 +1,4 @@
-use Rattle.std.proofs.Common.{◌≡◌, ◌≢◌, ℕ, refl, ap, ◌∙◌}
+use Rattle.std.proofs.Common.{◌≡◌, ap, ◌∙◌}
 use Rattle.std.specs.Prelude.{None}
 use Rattle.spill_tapes.specs.Memory.{MemoryState, byte_at, name_of}
 use Rattle.spill_tapes.specs.MemoryFields.{memory_of}

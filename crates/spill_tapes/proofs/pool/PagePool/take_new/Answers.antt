@@ -1,5 +1,4 @@
-use Rattle.std.proofs.Common.{◌≡◌, ◌∷◌, ◌++◌, ◌+◌, [], refl, arith, ap, ◌∙◌, sym}
-use Rattle.std.proofs.lemmas.Grind.{common_steps}
+use Rattle.std.proofs.Common.{◌≡◌, ◌∷◌, ◌++◌, ◌+◌, [], ap, ◌∙◌}
 use Rattle.spill_tapes.specs.Pages.{PoolState}
 use Rattle.spill_tapes.proofs.PoolLaws.{balanced_new}
 use Rattle.spill_tapes.proofs.pool.PagePool.take_new.Goals as goal

@@ -1,4 +1,4 @@
-use Rattle.std.proofs.Common.{◌≡◌, ◌-◌, ◌≤◌, ◌++◌, ℕ, List, IsTrue, refl, arith, ap, ◌∙◌, sym, subst, length, take, drop}
+use Rattle.std.proofs.Common.{◌≡◌, ◌-◌, ◌≤◌, ◌++◌, ℕ, IsTrue, refl, arith, ap, ◌∙◌, sym, subst, length, take, drop}
 use Rattle.std.proofs.lemmas.Grind.{common_steps}
 use Rattle.spill_tapes.specs.Tape.{TapeState, HasAhead, spent}
 use Rattle.spill_tapes.proofs.PageLaws.{spent_from, filled_on}

@@ -1,4 +1,4 @@
-use Rattle.std.proofs.Common.{◌≡◌, ◌∙◌, ap, ◌-◌, ◌++◌, ◌∷◌, [], ℕ, List, refl, length, take, drop}
+use Rattle.std.proofs.Common.{◌≡◌, ◌∙◌, ap, ◌-◌, ◌++◌, ℕ, length, take, drop}
 use Rattle.std.proofs.lemmas.List.{take-append-drop, take_rest}
 use Rattle.spill_tapes.proofs.PageLaws.{written_parts}
 use Rattle.spill_tapes.proofs.Results.{ok_with}

@@ -1,5 +1,5 @@
-use Rattle.std.proofs.Common.{◌≡◌, ◌+◌, ◌++◌, ◌∷◌, ℕ, List, refl, arith, ap, ◌∙◌, sym, subst, length}
-use Rattle.spill_tapes.specs.Records.{Record, header_of}
+use Rattle.std.proofs.Common.{◌+◌, ◌++◌, ap, ◌∙◌, subst}
+use Rattle.spill_tapes.specs.Records.{header_of}
 use Rattle.spill_tapes.specs.Tape.{TapeState, HasWritten}
 use Rattle.spill_tapes.proofs.TapeLaws.{appended}
 use Rattle.spill_tapes.proofs.PageLaws.{same_written}

@@ -1,6 +1,6 @@
-use Rattle.std.proofs.Common.{◌≡◌, ◌<◌, ◌≤◌, ◌-◌, ◌++◌, ℕ, List, refl, arith, ap, ◌∙◌, sym, length, take, replicate, vec_len}
+use Rattle.std.proofs.Common.{◌≡◌, ◌≤◌, ◌-◌, ◌++◌, ℕ, List, arith, ap, ◌∙◌, length, replicate, vec_len}
 use Rattle.std.proofs.lemmas.List.{take_all}
-use Rattle.spill_tapes.specs.Tape.{TapeState, HasWritten}
+use Rattle.spill_tapes.specs.Tape.{TapeState}
 use Rattle.spill_tapes.proofs.PageLaws.{buffered}
 use Rattle.spill_tapes.proofs.Results.{ok_with}
 use Rattle.spill_tapes.proofs.tape.Tape.finish.Goals as goal

@@ -1,4 +1,4 @@
-use Rattle.std.proofs.Common.{◌≡◌, ◌<◌, ◌*◌, ◌++◌, ◌∷◌, [], ℕ, List, refl, length, ap, ◌∙◌, sym, subst}
+use Rattle.std.proofs.Common.{◌≡◌, ◌*◌, ◌++◌, ◌∷◌, [], length, ap, ◌∙◌, subst}
 use Rattle.spill_tapes.specs.Disk.{AreLast}
 use Rattle.spill_tapes.specs.Tape.{TapeState}
 use Rattle.spill_tapes.proofs.PageLaws.{flushed, keeps_pages}

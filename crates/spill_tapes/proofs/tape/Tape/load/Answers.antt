@@ -1,10 +1,9 @@
-use Rattle.std.proofs.Common.{rules, ◌≡◌, ◌<◌, ◌*◌, ◌^◌, ◌∷◌, ℕ, List, refl, arith, ap, ◌∙◌, sym, subst, length}
+use Rattle.std.proofs.Common.{rules, ◌≡◌, ◌<◌, ◌*◌, ◌^◌, ◌∷◌, refl, arith, ap, ◌∙◌, sym, subst, length}
 use Rattle.std.proofs.lemmas.Grind.{common_steps}
 use Rattle.std.proofs.lemmas.List.{with_items_is}
 use Rattle.std.specs.Vec.{with_items}
 use Rattle.spill_tapes.specs.Disk.{AreReadAt}
 use Rattle.spill_tapes.specs.Pages.{PoolState, IsBalanced}
-use Rattle.spill_tapes.specs.Tape.{TapeState}
 use Rattle.spill_tapes.proofs.PoolLaws.{balanced_back, apart_first}
 use Rattle.spill_tapes.proofs.PageLaws.{loaded}
 use Rattle.spill_tapes.proofs.Results.{ok_with}

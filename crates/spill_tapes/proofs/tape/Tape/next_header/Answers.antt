@@ -1,5 +1,4 @@
-use Rattle.std.proofs.Common.{◌≡◌, ◌+◌, ◌-◌, ◌++◌, ℕ, List, arith, ap, ◌∙◌, sym, length, get_or}
-use Rattle.std.proofs.lemmas.Grind.{common_steps}
+use Rattle.std.proofs.Common.{◌≡◌, ◌+◌, ◌-◌, ◌++◌, arith, ap, ◌∙◌, get_or}
 use Rattle.spill_tapes.specs.Records.{number_at}
 use Rattle.spill_tapes.specs.Tape.{TapeState, HasAhead}
 use Rattle.spill_tapes.proofs.PageLaws.{same_ahead}

@@ -1,4 +1,4 @@
-use Rattle.std.proofs.Common.{◌≡◌, ◌+◌, ◌*◌, ◌++◌, ℕ, List, refl, arith, ap, ◌∙◌, sym, length}
+use Rattle.std.proofs.Common.{◌≡◌, arith, ap, ◌∙◌}
 use Rattle.std.proofs.lemmas.Grind.{common_steps}
 use Rattle.spill_tapes.specs.Tape.{TapeState, tape_len}
 use Rattle.spill_tapes.proofs.TapeLaws.{rewound_records}
