@@ -47,6 +47,13 @@ pub record KeepsOthers (last last' : ℕ → ℕ → Type 0) (before after : Tap
   pub lens : (id : TapeId) → id ≢ tape → written_len after id ≡ written_len before id
   pub records : (id : TapeId) → id ≢ tape → (rs : List Record) → IsTape last before id rs → IsTape last' after id rs
 
+-- why no tape is opened, by whether the tapes were dead
+abbrev pub IsOpenRefusal : Bool → TapeError → Type 0
+IsOpenRefusal dead NoMemory = dead ≡ false
+IsOpenRefusal dead TapeFault = ⊥
+IsOpenRefusal dead TapeDamaged = ⊥
+IsOpenRefusal dead TapesDead = dead ≡ true
+
 -- why a call is refused that only writes, by whether the tapes were dead and how often the disk had failed before and after
 -- it; and one that reads
 abbrev pub IsRefusal : Bool → ℕ → ℕ → TapeError → Type 0

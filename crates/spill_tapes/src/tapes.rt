@@ -2,8 +2,8 @@
 ghost use Rattle.std.specs.Prelude.{◌≡◌, ◌≢◌, ◌+◌, ◌/◌, ◌<◌, ◌≤◌, ◌∷◌, ◌++◌, [], ℕ, List, Some, Err, true, false, IsTrue, IfOk, IfErr, IfSome, IfNone, OnOk, OnErr, length, get_or};
 ghost use Rattle.spill_tapes.specs.Records.{Record, tape_bytes};
 ghost use Rattle.spill_tapes.specs.Tape.{Gives, new_tape, no_tape};
-ghost use Rattle.spill_tapes.specs.Tapes.{tape_at, phase_of, is_open, is_written, is_read, written_len, IsTape, KeepsOthers, IsRefusal, IsReadRefusal};
-ghost use Rattle.spill_tapes.specs.declared.error.TapeError.TheVariants.{NoMemory, TapeDamaged, TapesDead};
+ghost use Rattle.spill_tapes.specs.Tapes.{tape_at, phase_of, is_open, is_written, is_read, written_len, IsTape, KeepsOthers, IsOpenRefusal, IsRefusal, IsReadRefusal};
+ghost use Rattle.spill_tapes.specs.declared.error.TapeError.TheVariants.{TapeDamaged, TapesDead};
 ghost use Rattle.spill_tapes.specs.declared.tape.Phase.TheVariants.{Closed, Written, Read};
 ghost use Rattle.spill_tapes.specs.declared.tape_id.TapeId.{TapeId};
 
@@ -122,7 +122,7 @@ impl Tapes {
     fn push(&mut self, tape: Tape) -> Result<TapeId, TapeError>
         requires alive { self.old.is_dead ≡ false }
         requires new { tape ≡ new_tape }
-        ensures refused { IfErr result (λ error. error ≡ NoMemory) }
+        ensures refused { IfErr result (IsOpenRefusal self.old.is_dead) }
         ensures unchanged { OnErr result (self.new ≡ self.old) }
         ensures alive { self.new.is_dead ≡ false }
         ensures opened { IfOk result (λ tape. tape.index ≡ length self.old.tapes) }
@@ -141,7 +141,7 @@ impl Tapes {
     /// It refuses `TapesDead` and `NoMemory`, and then nothing is changed.
     pub fn open<D: TapeDisk>(&mut self, _disk: &D) -> Result<TapeId, TapeError>
         ensures dead { self.old.is_dead ≡ true → result ≡ Err TapesDead }
-        ensures refused { IfErr result (λ error. error ≢ TapesDead → (self.old.is_dead ≡ false) × (error ≡ NoMemory)) }
+        ensures refused { IfErr result (IsOpenRefusal self.old.is_dead) }
         ensures unchanged { OnErr result (self.new ≡ self.old) }
         ensures alive { self.new.is_dead ≡ self.old.is_dead }
         ensures fresh { IfOk result (λ tape. is_open self.old tape ≡ false) }
@@ -162,7 +162,7 @@ impl Tapes {
     fn place(&mut self, tape: Tape) -> Result<TapeId, TapeError>
         requires alive { self.old.is_dead ≡ false }
         requires new { tape ≡ new_tape }
-        ensures refused { IfErr result (λ error. error ≡ NoMemory) }
+        ensures refused { IfErr result (IsOpenRefusal self.old.is_dead) }
         ensures unchanged { OnErr result (self.new ≡ self.old) }
         ensures alive { self.new.is_dead ≡ false }
         ensures fresh { IfOk result (λ tape. phase_of self.old tape ≡ Closed) }
