@@ -1,0 +1,7 @@
+pub mod PageLaws
+pub mod PoolLaws
+pub mod Results
+pub mod TapeLaws
+pub mod HeaderLaws
+pub mod TapesLaws
+pub mod MemoryLaws

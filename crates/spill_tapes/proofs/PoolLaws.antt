@@ -1,0 +1,151 @@
+-- Pages that move between tapes and the free ones.
+use Rattle.std.specs.Prelude.{◌≡◌, ℕ, ◌+◌, ◌^◌, ◌<◌, ◌≤◌, List, [], ◌∷◌, ◌++◌, length}
+use Rattle.std.proofs.Common.{◌∙◌, ap, arith, length-append}
+use Rattle.std.proofs.lemmas.Bool.Decides.{nat_tests}
+use Rattle.spill_tapes.specs.Pages.{PoolState, IsPool, given_back, once, times, below, IsApart, IsBalanced, FreesNone, IsFresh}
+
+pub times-append : (page : ℕ) (xs ys : List ℕ) → times page (xs ++ ys) ≡ times page xs + times page ys
+times-append page [] ys = omega arith
+times-append page (x ∷ xs) ys = omega (arith, times-append page xs ys)
+
+pub times_push : (page x : ℕ) (xs : List ℕ) → times page (xs ++ x ∷ []) ≡ times page xs + once page x
+times_push page x xs = let e : times page (xs ++ x ∷ []) ≡ times page xs + times page (x ∷ []) = times-append page xs (x ∷ []) in omega (arith, e)
+
+-- a page is given out or not
+pub below_one : (page count : ℕ) → below page count ≤ 1
+below_one page count = grind (arith, nat_tests)
+
+pub below_less : (page count : ℕ) → 0 < below page count → page < count
+below_less page count h = grind (arith, nat_tests)
+
+pub less_below : (page count : ℕ) → page < count → below page count ≡ 1
+less_below page count h = grind (arith, nat_tests)
+
+pub same_one : (page : ℕ) → once page page ≡ 1
+same_one page = grind (arith, nat_tests)
+
+-- below one number more
+pub below_next : (page count : ℕ) → below page (count + 1) ≡ below page count + once page count
+below_next page count = grind (arith, nat_tests)
+
+-- the first of the free pages is given to a tape
+pub balanced_free : (before after : PoolState) (pages pages' : List ℕ) (page : ℕ) → before.free ≡ page ∷ after.free → pages' ≡ pages ++ page ∷ [] → after.count ≡ before.count → IsBalanced before pages after pages'
+balanced_free before after pages pages' page free taken count =
+    let frees : (p : ℕ) → times p before.free ≡ once p page + times p after.free = λ p. ap (times p) free in
+    let takes : (p : ℕ) → times p pages' ≡ times p pages + once p page = λ p. ap (times p) taken ∙ times_push p page pages in
+    let same : (p : ℕ) → below p after.count ≡ below p before.count = λ p. ap (below p) count in
+    let long : length before.free ≡ length after.free + 1 = omega (arith, ap length free) in
+    let longer : length pages' ≡ length pages + 1 = omega (arith, ap length taken, length-append pages (page ∷ [])) in
+    record {
+      each = λ p. omega (arith, frees p, takes p, same p);
+      all = omega arith;
+      grows = omega arith;
+    }
+
+-- a new page is
+pub balanced_new : (before after : PoolState) (pages pages' : List ℕ) → before.free ≡ [] → after.free ≡ [] → pages' ≡ pages ++ before.count ∷ [] → after.count ≡ before.count + 1 → IsBalanced before pages after pages'
+balanced_new before after pages pages' none none' taken count =
+    let frees : (p : ℕ) → times p before.free ≡ 0 = λ p. ap (times p) none in
+    let frees' : (p : ℕ) → times p after.free ≡ 0 = λ p. ap (times p) none' in
+    let takes : (p : ℕ) → times p pages' ≡ times p pages + once p before.count = λ p. ap (times p) taken ∙ times_push p before.count pages in
+    let next : (p : ℕ) → below p after.count ≡ below p before.count + once p before.count = λ p. ap (below p) count ∙ below_next p before.count in
+    let short : length before.free ≡ 0 = ap length none in
+    let short' : length after.free ≡ 0 = ap length none' in
+    let longer : length pages' ≡ length pages + 1 = omega (arith, ap length taken, length-append pages (before.count ∷ [])) in
+    record {
+      each = λ p. omega (arith, frees p, frees' p, takes p, next p);
+      all = omega arith;
+      grows = omega arith;
+    }
+
+-- nothing moved
+pub balanced_none : (before after : PoolState) (pages pages' : List ℕ) → after.free ≡ before.free → after.count ≡ before.count → pages' ≡ pages → IsBalanced before pages after pages'
+balanced_none before after pages pages' free count same =
+    let frees : (p : ℕ) → times p after.free ≡ times p before.free = λ p. ap (times p) free in
+    let takes : (p : ℕ) → times p pages' ≡ times p pages = λ p. ap (times p) same in
+    let few : (p : ℕ) → below p after.count ≡ below p before.count = λ p. ap (below p) count in
+    let long : length after.free ≡ length before.free = ap length free in
+    let longer : length pages' ≡ length pages = ap length same in
+    record {
+      each = λ p. omega (arith, frees p, takes p, few p);
+      all = omega arith;
+      grows = omega arith;
+    }
+
+-- one move after the other
+pub balanced_twice : (a b c : PoolState) (xs ys zs : List ℕ) → IsBalanced a xs b ys → IsBalanced b ys c zs → IsBalanced a xs c zs
+balanced_twice a b c xs ys zs first second = record {
+  each = λ p. omega (arith, first.each p, second.each p);
+  all = omega (arith, first.all, second.all);
+  grows = omega (arith, first.grows, second.grows);
+}
+
+pub frees_twice : (a b c : PoolState) → FreesNone a b → FreesNone b c → FreesNone a c
+frees_twice a b c first second p = omega (arith, first p, second p)
+
+pub frees_same : (a b : PoolState) → b.free ≡ a.free → FreesNone a b
+frees_same a b same p = omega (arith, ap (times p) same)
+
+pub frees_first : (a b : PoolState) (page : ℕ) → a.free ≡ page ∷ b.free → FreesNone a b
+frees_first a b page free p = omega (arith, (let e : times p a.free ≡ once p page + times p b.free = ap (times p) free in e))
+
+-- the pages of a tape are apart afterwards, too
+pub apart_after : (a b : PoolState) (xs ys : List ℕ) → IsApart a xs → IsBalanced a xs b ys → IsApart b ys
+apart_after a b xs ys apart moved p = omega (arith, apart p, moved.each p)
+
+-- a page of the tape is given out, and not free
+pub apart_page : (pool : PoolState) (pages : List ℕ) (page : ℕ) → IsApart pool pages → 0 < times page pages → (page < pool.count) × (times page pool.free ≡ 0)
+apart_page pool pages page apart there =
+    let one : below page pool.count ≤ 1 = below_one page pool.count in
+    let at : times page pool.free + times page pages ≤ below page pool.count = apart page in
+    let some : 0 < below page pool.count = omega arith in
+    (below_less page pool.count some, omega arith)
+
+-- what was taken was fresh
+pub fresh_first : (a : PoolState) (page : ℕ) (rest : List ℕ) → a.free ≡ page ∷ rest → IsFresh a page
+fresh_first a page rest free none =
+    let e : times page a.free ≡ once page page + times page rest = ap (times page) free in
+    absurd (omega (arith, e, same_one page, none))
+
+pub fresh_new : (a : PoolState) (page : ℕ) → page ≡ a.count → IsFresh a page
+fresh_new a page is none = omega (arith, is)
+
+pub small_first : (a : PoolState) (pages : List ℕ) (page : ℕ) (rest : List ℕ) → IsPool a → IsApart a pages → a.free ≡ page ∷ rest → page < 2 ^ 49
+small_first a pages page rest pool apart free =
+    let e : times page a.free ≡ once page page + times page rest = ap (times page) free in
+    let at : times page a.free + times page pages ≤ below page a.count = apart page in
+    let given : page < a.count = below_less page a.count (omega (arith, e, same_one page, at)) in
+    omega (arith, given, pool.few)
+
+-- a page that was read is given back
+pub balanced_back : (a : PoolState) (pages pages' : List ℕ) (page : ℕ) → pages ≡ page ∷ pages' → IsBalanced a pages (given_back a page) pages'
+balanced_back a pages pages' page first =
+    let gives : (p : ℕ) → times p (a.free ++ page ∷ []) ≡ times p a.free + once p page = λ p. times_push p page a.free in
+    let less : (p : ℕ) → times p pages ≡ once p page + times p pages' = λ p. ap (times p) first in
+    let long : length (a.free ++ page ∷ []) ≡ length a.free + 1 = length-append a.free (page ∷ []) in
+    let short : length pages ≡ length pages' + 1 = omega (arith, ap length first) in
+    record {
+      each = λ p. omega (arith, gives p, less p);
+      all = omega arith;
+      grows = omega arith;
+    }
+
+pub apart_first : (a : PoolState) (pages pages' : List ℕ) (page : ℕ) → IsPool a → IsApart a pages → pages ≡ page ∷ pages' → page < 2 ^ 49
+apart_first a pages pages' page pool apart first =
+    let e : times page pages ≡ once page page + times page pages' = ap (times page) first in
+    let given : page < a.count = (apart_page a pages page apart (omega (arith, e, same_one page))).0 in
+    omega (arith, given, pool.few)
+
+-- all pages of a tape are given back
+pub balanced_all : (a b : PoolState) (pages pages' : List ℕ) → b.free ≡ a.free ++ pages → b.count ≡ a.count → pages' ≡ [] → IsBalanced a pages b pages'
+balanced_all a b pages pages' free count none =
+    let gives : (p : ℕ) → times p b.free ≡ times p a.free + times p pages = λ p. ap (times p) free ∙ times-append p a.free pages in
+    let left : (p : ℕ) → times p pages' ≡ 0 = λ p. ap (times p) none in
+    let same : (p : ℕ) → below p b.count ≡ below p a.count = λ p. ap (below p) count in
+    let long : length b.free ≡ length a.free + length pages = ap length free ∙ length-append a.free pages in
+    let short : length pages' ≡ 0 = ap length none in
+    record {
+      each = λ p. omega (arith, gives p, left p, same p);
+      all = omega arith;
+      grows = omega arith;
+    }

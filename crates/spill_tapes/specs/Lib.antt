@@ -1,0 +1,9 @@
+pub mod Disk
+pub mod Errors
+pub mod Records
+pub mod Pages
+pub mod Tape
+pub mod Tapes
+pub mod TapesFields
+pub mod Memory
+pub mod MemoryFields

@@ -1,0 +1,62 @@
+-- The pages of tapes, by their numbers. Page n of a disk are the 8,192 bytes from the place 8,192 n on.
+use Rattle.std.specs.Prelude.{◌≡◌, ℕ, ◌+◌, ◌*◌, ◌^◌, ◌<◌, ◌≤◌, ◌==◌, nat_lt, cond, List, [], ◌∷◌, ◌++◌, length, get_or}
+
+-- the numbers of the pages that are free, how many page numbers were ever given out, and how many there is room for in the
+-- list of the free ones
+pub record PoolState : Type 0 where
+  pub free : List ℕ
+  pub count : ℕ
+  pub room : ℕ
+
+-- there is room for all numbers, and fewer than 2^49 are given out
+pub record IsPool (pool : PoolState) : Type 0 where
+  pub few : pool.count < 2 ^ 49
+  pub room : pool.count ≤ pool.room
+
+-- one page more is free
+abbrev pub given_back : PoolState → ℕ → PoolState
+given_back pool page = record { free = pool.free ++ page ∷ []; count = pool.count; room = pool.room }
+
+-- how often a number is in a list; and whether it was given out, as a number
+abbrev pub once : ℕ → ℕ → ℕ
+once page x = cond (x == page) 1 0
+
+abbrev pub times : ℕ → List ℕ → ℕ
+times page [] = 0
+times page (x ∷ xs) = once page x + times page xs
+
+abbrev pub below : ℕ → ℕ → ℕ
+below page count = cond (nat_lt page count) 1 0
+
+-- the pages of a tape are given out, each once, and none of them is free
+abbrev pub IsApart : PoolState → List ℕ → Type 0
+IsApart pool pages = (page : ℕ) → times page pool.free + times page pages ≤ below page pool.count
+
+-- pages moved between a tape and the free ones, and no page was lost or is there twice
+pub record IsBalanced (before : PoolState) (pages : List ℕ) (after : PoolState) (pages' : List ℕ) : Type 0 where
+  pub each : (page : ℕ) → times page after.free + times page pages' + below page before.count ≡ times page before.free + times page pages + below page after.count
+  pub all : length after.free + length pages' + before.count ≡ length before.free + length pages + after.count
+  pub grows : before.count ≤ after.count
+
+-- a page that no tape has: it is free, or has a new number
+abbrev pub IsFresh : PoolState → ℕ → Type 0
+IsFresh pool page = times page pool.free ≡ 0 → pool.count ≤ page
+
+-- no page became free
+abbrev pub FreesNone : PoolState → PoolState → Type 0
+FreesNone before after = (page : ℕ) → times page after.free ≤ times page before.free
+
+-- a page has these bytes, and pages have
+pub record IsOn (last : ℕ → ℕ → Type 0) (page : ℕ) (bytes : List ℕ) : Type 0 where
+  pub len : length bytes ≡ 8192
+  pub each : (k : ℕ) → k < 8192 → last (page * 8192 + k) (get_or bytes k 0)
+
+abbrev pub AreOn : (ℕ → ℕ → Type 0) → List ℕ → List (List ℕ) → Type 0
+AreOn last [] [] = Unit {0}
+AreOn last [] (bytes ∷ contents) = ⊥
+AreOn last (page ∷ pages) [] = ⊥
+AreOn last (page ∷ pages) (bytes ∷ contents) = IsOn last page bytes × AreOn last pages contents
+
+-- each page that is given out and not free has the bytes that it had
+abbrev pub KeepsPages : PoolState → (ℕ → ℕ → Type 0) → (ℕ → ℕ → Type 0) → Type 0
+KeepsPages pool before after = (page : ℕ) → page < pool.count → times page pool.free ≡ 0 → (k byte : ℕ) → k < 8192 → before (page * 8192 + k) byte → after (page * 8192 + k) byte

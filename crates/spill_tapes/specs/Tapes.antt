@@ -1,0 +1,78 @@
+-- Tapes as their users see them: some are open, each is written first and then read, and each is a list of records.
+use Rattle.std.specs.Prelude.{◌≡◌, ◌≢◌, ℕ, ◌+◌, ◌<◌, Bool, true, false, not, List, [], length, get_or}
+use Rattle.std.specs.List.{sum_by}
+use Rattle.spill_tapes.specs.Records.{Record}
+use Rattle.spill_tapes.specs.Pages.{PoolState, IsPool, times, below}
+use Rattle.spill_tapes.specs.Tape.{TapeState, no_tape, tape_len, is_in, IsGood, Has}
+use Rattle.spill_tapes.specs.declared.error.TapeError.{TapeError}
+use Rattle.spill_tapes.specs.declared.error.TapeError.TheVariants.{NoMemory, TapeFault, TapeDamaged, TapesDead}
+use Rattle.spill_tapes.specs.declared.tape.Phase.{Phase}
+use Rattle.spill_tapes.specs.declared.tape.Phase.TheVariants.{Closed, Written, Read}
+use Rattle.spill_tapes.specs.declared.tape_id.TapeId.{TapeId}
+
+-- whether a call failed; the tapes; and their pages
+pub record TapesState : Type 0 where
+  pub is_dead : Bool
+  pub tapes : List TapeState
+  pub pool : PoolState
+
+abbrev pub tape_at : TapesState → TapeId → TapeState
+tape_at t id = get_or t.tapes id.index no_tape
+
+-- what is done with a tape; and whether it is open, being written, or read
+abbrev pub phase_of : TapesState → TapeId → Phase
+phase_of t id = (tape_at t id).phase
+
+abbrev pub is_open : TapesState → TapeId → Bool
+is_open t id = not (is_in Closed (phase_of t id))
+
+abbrev pub is_written : TapesState → TapeId → Bool
+is_written t id = is_in Written (phase_of t id)
+
+abbrev pub is_read : TapesState → TapeId → Bool
+is_read t id = is_in Read (phase_of t id)
+
+-- how many bytes were written to a tape that is being written
+abbrev pub written_len : TapesState → TapeId → ℕ
+written_len t id = tape_len (tape_at t id)
+
+-- over a disk whose last bytes are these, an open tape is this list of records: all that were written to it, or all that are
+-- still to be read
+abbrev pub IsTape : (ℕ → ℕ → Type 0) → TapesState → TapeId → List Record → Type 0
+IsTape last t id rs = Has last (tape_at t id) rs
+
+-- the other tapes are as they were, and have the same records
+pub record KeepsOthers (last last' : ℕ → ℕ → Type 0) (before after : TapesState) (tape : TapeId) : Type 0 where
+  pub phases : (id : TapeId) → id ≢ tape → phase_of after id ≡ phase_of before id
+  pub lens : (id : TapeId) → id ≢ tape → written_len after id ≡ written_len before id
+  pub records : (id : TapeId) → id ≢ tape → (rs : List Record) → IsTape last before id rs → IsTape last' after id rs
+
+-- why no tape is opened, by whether the tapes were dead
+abbrev pub IsOpenRefusal : Bool → TapeError → Type 0
+IsOpenRefusal dead NoMemory = dead ≡ false
+IsOpenRefusal dead TapeFault = ⊥
+IsOpenRefusal dead TapeDamaged = ⊥
+IsOpenRefusal dead TapesDead = dead ≡ true
+
+-- why a call is refused that only writes, by whether the tapes were dead and how often the disk had failed before and after
+-- it; and one that reads
+abbrev pub IsRefusal : Bool → ℕ → ℕ → TapeError → Type 0
+IsRefusal dead before after NoMemory = dead ≡ false
+IsRefusal dead before after TapeFault = (dead ≡ false) × (before < after)
+IsRefusal dead before after TapeDamaged = ⊥
+IsRefusal dead before after TapesDead = dead ≡ true
+
+abbrev pub IsReadRefusal : Bool → ℕ → ℕ → TapeError → Type 0
+IsReadRefusal dead before after NoMemory = dead ≡ false
+IsReadRefusal dead before after TapeFault = (dead ≡ false) × (before < after)
+IsReadRefusal dead before after TapeDamaged = dead ≡ false
+IsReadRefusal dead before after TapesDead = dead ≡ true
+
+-- what is true of all tapes: each page that was given out is free or one tape's, and there is no tape that is not open with
+-- pages; and what is true of each by its phase, as long as no call failed
+pub record AreTapes (t : TapesState) : Type 0 where
+  pub pool : IsPool t.pool
+  pub each : (page : ℕ) → times page t.pool.free + sum_by (λ x. times page x.pages) t.tapes ≡ below page t.pool.count
+  pub all : length t.pool.free + sum_by (λ x. length x.pages) t.tapes ≡ t.pool.count
+  pub closed : (i : ℕ) → (get_or t.tapes i no_tape).phase ≡ Closed → (get_or t.tapes i no_tape).pages ≡ []
+  pub good : t.is_dead ≡ false → (i : ℕ) → IsGood (get_or t.tapes i no_tape)

@@ -1,0 +1,550 @@
+//! One tape: pages on a disk, and a buffer of one page.
+ghost use Rattle.std.specs.Prelude.{◌≡◌, ◌≢◌, ◌&&◌, nat_lt, nat_le, ◌+◌, ◌-◌, ◌*◌, ◌/◌, ◌<◌, ◌≤◌, ◌^◌, ◌∷◌, ◌++◌, [], ℕ, List, Some, None, IsTrue, IfOk, IfErr, IfSome, IfNone, OnOk, OnErr, length, take, drop};
+ghost use Rattle.spill_tapes.specs.Disk.{Keeps};
+ghost use Rattle.spill_tapes.specs.Records.{Record, IsRecord, header_of};
+ghost use Rattle.spill_tapes.specs.Pages.{IsPool, IsApart, IsBalanced, FreesNone, KeepsPages};
+ghost use Rattle.spill_tapes.specs.Tape.{TapeState, new_tape, no_tape, tape_len, ahead, HasWritten, HasAhead, IsSameTape, IsGood, IsAfterHeader, Gives, spent, ended, AreWritten, AreAhead};
+ghost use Rattle.spill_tapes.specs.declared.disk.DiskError.TheVariants as disk_error;
+ghost use Rattle.spill_tapes.specs.declared.error.TapeError.TheVariants as tape_error;
+ghost use Rattle.spill_tapes.specs.declared.tape.Phase.TheVariants as phase;
+
+use crate::disk::{DiskError, TapeDisk};
+use crate::error::TapeError;
+use crate::header::{HEADER, Header};
+use crate::pool::PagePool;
+use std::alloc::{AllocError, Global};
+use std::collections::VecDeque;
+use std::marker::Model;
+
+/// How many bytes a page has.
+const PAGE: usize = 8192;
+
+/// What is done with a tape.
+#[derive(Clone, Copy, Debug, PartialEq, Eq)]
+pub(crate) enum Phase {
+    /// Nothing: it is not open.
+    Closed,
+    /// It is written.
+    Written,
+    /// It is read.
+    Read,
+}
+
+/// A tape: the pages that are to be read, and a buffer for one of them.
+#[derive(Drop)]
+pub(crate) struct Tape {
+    phase: Phase,
+    pages: VecDeque<u64>,
+    buffer: Vec<u8>,
+    read: usize,
+    left: u64,
+    records: u64,
+}
+
+impl Model for Tape {
+    ghost use Rattle.spill_tapes.specs.Tape.{TapeState};
+
+    ghost Value = { TapeState };
+
+    ghost view = { λ t. record { phase = t.phase; pages = t.pages.items; buffer = t.buffer.items; read = t.read; left = t.left; records = t.records } };
+}
+
+impl Tape {
+    /// A tape with nothing in it, to be written.
+    pub(crate) fn new(alloc: Global) -> Tape
+        ensures { result ≡ new_tape }
+    {
+        Tape {
+            phase: Phase::Written,
+            pages: VecDeque::new(alloc),
+            buffer: Vec::new(alloc),
+            read: 0,
+            left: 0,
+            records: 0,
+        }
+    }
+
+    /// Writes the buffer, which is full, to a page more.
+    fn flush<D: TapeDisk>(&mut self, disk: &mut D, pool: &mut PagePool) -> Result<(), DiskError>
+        requires pool { IsPool pool.old }
+        requires apart { IsApart pool.old self.old.pages }
+        requires full { length self.old.buffer ≡ 8192 }
+        ensures pool { IsPool pool.new }
+        ensures balanced { IsBalanced pool.old self.old.pages pool.new self.new.pages }
+        ensures frees { FreesNone pool.old pool.new }
+        ensures same { IsSameTape self.old self.new }
+        ensures read { self.new.read ≡ self.old.read }
+        ensures keeps { KeepsPages pool.old (D.last disk.old) (D.last disk.new) }
+        ensures empty { OnOk result (self.new.buffer ≡ []) }
+        ensures longer { OnOk result (length self.new.pages ≡ length self.old.pages + 1) }
+        ensures written { OnOk result ((bytes : List ℕ) → HasWritten (D.last disk.old) self.old bytes → HasWritten (D.last disk.new) self.new bytes) }
+        ensures counted { OnOk result (D.writes disk.new ≡ D.writes disk.old + 1) }
+        ensures writes { D.writes disk.old ≤ D.writes disk.new }
+        ensures failures { D.failures disk.old ≤ D.failures disk.new }
+        ensures fault { IfErr result (λ error. error ≡ disk_error.TapeFault → D.failures disk.old < D.failures disk.new) }
+        ensures honesty { D.honest disk.new ≡ D.honest disk.old }
+    {
+        let page = pool.take(&mut self.pages)?;
+        disk.write_at(page * PAGE as u64, &self.buffer)?;
+        self.buffer.clear();
+        Ok(())
+    }
+
+    /// Puts bytes behind those that are in the buffer, which they make full, and writes it.
+    fn put_page<D: TapeDisk>(
+        &mut self,
+        disk: &mut D,
+        pool: &mut PagePool,
+        bytes: &[u8],
+    ) -> Result<(), DiskError>
+        requires pool { IsPool pool.old }
+        requires apart { IsApart pool.old self.old.pages }
+        requires full { length self.old.buffer + length bytes.now ≡ 8192 }
+        ensures pool { IsPool pool.new }
+        ensures balanced { IsBalanced pool.old self.old.pages pool.new self.new.pages }
+        ensures frees { FreesNone pool.old pool.new }
+        ensures same { IsSameTape self.old self.new }
+        ensures keeps { KeepsPages pool.old (D.last disk.old) (D.last disk.new) }
+        ensures empty { OnOk result (self.new.buffer ≡ []) }
+        ensures longer { OnOk result (length self.new.pages ≡ length self.old.pages + 1) }
+        ensures written { OnOk result ((before : List ℕ) → HasWritten (D.last disk.old) self.old before → HasWritten (D.last disk.new) self.new (before ++ bytes.now)) }
+        ensures counted { OnOk result (D.writes disk.new ≡ D.writes disk.old + 1) }
+        ensures writes { D.writes disk.old ≤ D.writes disk.new }
+        ensures failures { D.failures disk.old ≤ D.failures disk.new }
+        ensures fault { IfErr result (λ error. error ≡ disk_error.TapeFault → D.failures disk.old < D.failures disk.new) }
+        ensures honesty { D.honest disk.new ≡ D.honest disk.old }
+    {
+        self.buffer.extend_from_slice(bytes)?;
+        self.flush(disk, pool)
+    }
+
+    /// Puts bytes behind those that were written.
+    fn put<D: TapeDisk>(
+        &mut self,
+        disk: &mut D,
+        pool: &mut PagePool,
+        bytes: &[u8],
+    ) -> Result<(), DiskError>
+        requires pool { IsPool pool.old }
+        requires apart { IsApart pool.old self.old.pages }
+        requires small { length self.old.buffer < 8192 }
+        ensures pool { IsPool pool.new }
+        ensures balanced { IsBalanced pool.old self.old.pages pool.new self.new.pages }
+        ensures frees { FreesNone pool.old pool.new }
+        ensures same { IsSameTape self.old self.new }
+        ensures keeps { KeepsPages pool.old (D.last disk.old) (D.last disk.new) }
+        ensures small { OnOk result (length self.new.buffer < 8192) }
+        ensures longer { OnOk result (tape_len self.new ≡ tape_len self.old + length bytes.now) }
+        ensures written { OnOk result ((before : List ℕ) → HasWritten (D.last disk.old) self.old before → HasWritten (D.last disk.new) self.new (before ++ bytes.now)) }
+        ensures counted { OnOk result (D.writes disk.new + length self.old.pages ≡ D.writes disk.old + length self.new.pages) }
+        ensures writes { D.writes disk.old ≤ D.writes disk.new }
+        ensures failures { D.failures disk.old ≤ D.failures disk.new }
+        ensures fault { IfErr result (λ error. error ≡ disk_error.TapeFault → D.failures disk.old < D.failures disk.new) }
+        ensures honesty { D.honest disk.new ≡ D.honest disk.old }
+    {
+        let room = PAGE - self.buffer.len();
+        if bytes.len() < room {
+            self.buffer.extend_from_slice(bytes)?;
+            return Ok(());
+        }
+        self.put_page(disk, pool, &bytes[..room])?;
+        self.put(disk, pool, &bytes[room..])
+    }
+
+    /// Puts the front of a record and its bytes behind those that were written.
+    fn put_record<D: TapeDisk>(
+        &mut self,
+        disk: &mut D,
+        pool: &mut PagePool,
+        header: Header,
+        bytes: &[u8],
+    ) -> Result<(), DiskError>
+        requires pool { IsPool pool.old }
+        requires apart { IsApart pool.old self.old.pages }
+        requires small { length self.old.buffer < 8192 }
+        ensures pool { IsPool pool.new }
+        ensures balanced { IsBalanced pool.old self.old.pages pool.new self.new.pages }
+        ensures frees { FreesNone pool.old pool.new }
+        ensures keeps { KeepsPages pool.old (D.last disk.old) (D.last disk.new) }
+        ensures same { IsSameTape self.old self.new }
+        ensures small { OnOk result (length self.new.buffer < 8192) }
+        ensures longer { OnOk result (tape_len self.new ≡ tape_len self.old + (9 + length bytes.now)) }
+        ensures written { OnOk result ((before : List ℕ) → HasWritten (D.last disk.old) self.old before → HasWritten (D.last disk.new) self.new (before ++ (header_of header.hash header.tag header.len ++ bytes.now))) }
+        ensures counted { OnOk result (D.writes disk.new + length self.old.pages ≡ D.writes disk.old + length self.new.pages) }
+        ensures writes { D.writes disk.old ≤ D.writes disk.new }
+        ensures failures { D.failures disk.old ≤ D.failures disk.new }
+        ensures fault { IfErr result (λ error. error ≡ disk_error.TapeFault → D.failures disk.old < D.failures disk.new) }
+        ensures honesty { D.honest disk.new ≡ D.honest disk.old }
+    {
+        self.put(disk, pool, &header.to_bytes())?;
+        self.put(disk, pool, bytes)
+    }
+
+    /// Puts a record behind those that were written.
+    pub(crate) fn append<D: TapeDisk>(
+        &mut self,
+        disk: &mut D,
+        pool: &mut PagePool,
+        header: Header,
+        bytes: &[u8],
+    ) -> Result<(), DiskError>
+        requires pool { IsPool pool.old }
+        requires apart { IsApart pool.old self.old.pages }
+        requires fits { length pool.old.free + length self.old.pages ≤ pool.old.count }
+        requires phase { self.old.phase ≡ phase.Written }
+        requires good { IsGood self.old }
+        requires record { IsRecord (record { hash = header.hash; tag = header.tag; bytes = bytes.now }) }
+        requires len { header.len ≡ length bytes.now }
+        ensures pool { IsPool pool.new }
+        ensures balanced { IsBalanced pool.old self.old.pages pool.new self.new.pages }
+        ensures frees { FreesNone pool.old pool.new }
+        ensures keeps { KeepsPages pool.old (D.last disk.old) (D.last disk.new) }
+        ensures phase { self.new.phase ≡ phase.Written }
+        ensures good { OnOk result (IsGood self.new) }
+        ensures longer { OnOk result (tape_len self.new ≡ tape_len self.old + (9 + length bytes.now)) }
+        ensures appended { OnOk result ((rs : List Record) → AreWritten (D.last disk.old) self.old rs → AreWritten (D.last disk.new) self.new (rs ++ record { hash = header.hash; tag = header.tag; bytes = bytes.now } ∷ [])) }
+        ensures counted { OnOk result (D.writes disk.new + tape_len self.old / 8192 ≡ D.writes disk.old + tape_len self.new / 8192) }
+        ensures writes { D.writes disk.old ≤ D.writes disk.new }
+        ensures failures { D.failures disk.old ≤ D.failures disk.new }
+        ensures fault { IfErr result (λ error. error ≡ disk_error.TapeFault → D.failures disk.old < D.failures disk.new) }
+        ensures honesty { D.honest disk.new ≡ D.honest disk.old }
+    {
+        self.buffer.reserve_exact(PAGE - self.buffer.len())?;
+        self.put_record(disk, pool, header, bytes)?;
+        self.records += 1;
+        Ok(())
+    }
+
+    /// Fills up the page that has begun with zeros and writes it, if one has begun.
+    fn finish<D: TapeDisk>(&mut self, disk: &mut D, pool: &mut PagePool) -> Result<(), DiskError>
+        requires pool { IsPool pool.old }
+        requires apart { IsApart pool.old self.old.pages }
+        requires small { length self.old.buffer < 8192 }
+        ensures pool { IsPool pool.new }
+        ensures balanced { IsBalanced pool.old self.old.pages pool.new self.new.pages }
+        ensures frees { FreesNone pool.old pool.new }
+        ensures keeps { KeepsPages pool.old (D.last disk.old) (D.last disk.new) }
+        ensures same { IsSameTape self.old self.new }
+        ensures read { self.new.read ≡ self.old.read }
+        ensures empty { OnOk result (self.new.buffer ≡ []) }
+        ensures longer { OnOk result (tape_len self.old ≤ tape_len self.new) }
+        ensures written { OnOk result ((bytes : List ℕ) → HasWritten (D.last disk.old) self.old bytes → ((rest : List ℕ) × HasWritten (D.last disk.new) self.new (bytes ++ rest))) }
+        ensures counted { OnOk result (D.writes disk.new + tape_len self.old / 8192 ≡ D.writes disk.old + (tape_len self.old + 8191) / 8192) }
+        ensures writes { D.writes disk.old ≤ D.writes disk.new }
+        ensures failures { D.failures disk.old ≤ D.failures disk.new }
+        ensures fault { IfErr result (λ error. error ≡ disk_error.TapeFault → D.failures disk.old < D.failures disk.new) }
+        ensures honesty { D.honest disk.new ≡ D.honest disk.old }
+    {
+        if self.buffer.is_empty() {
+            return Ok(());
+        }
+        self.buffer.resize(PAGE, 0)?;
+        self.flush(disk, pool)
+    }
+
+    /// Ends the writing of the tape, and begins to read it.
+    pub(crate) fn rewind<D: TapeDisk>(
+        &mut self,
+        disk: &mut D,
+        pool: &mut PagePool,
+    ) -> Result<(), DiskError>
+        requires pool { IsPool pool.old }
+        requires apart { IsApart pool.old self.old.pages }
+        requires fits { length pool.old.free + length self.old.pages ≤ pool.old.count }
+        requires phase { self.old.phase ≡ phase.Written }
+        requires good { IsGood self.old }
+        ensures pool { IsPool pool.new }
+        ensures balanced { IsBalanced pool.old self.old.pages pool.new self.new.pages }
+        ensures frees { FreesNone pool.old pool.new }
+        ensures keeps { KeepsPages pool.old (D.last disk.old) (D.last disk.new) }
+        ensures phase { self.new.phase ≡ phase.Read }
+        ensures good { OnOk result (IsGood self.new) }
+        ensures rewound { OnOk result ((rs : List Record) → AreWritten (D.last disk.old) self.old rs → AreAhead (D.last disk.new) self.new rs) }
+        ensures counted { OnOk result (D.writes disk.new + tape_len self.old / 8192 ≡ D.writes disk.old + (tape_len self.old + 8191) / 8192) }
+        ensures writes { D.writes disk.old ≤ D.writes disk.new }
+        ensures failures { D.failures disk.old ≤ D.failures disk.new }
+        ensures fault { IfErr result (λ error. error ≡ disk_error.TapeFault → D.failures disk.old < D.failures disk.new) }
+        ensures honesty { D.honest disk.new ≡ D.honest disk.old }
+    {
+        self.phase = Phase::Read;
+        self.read = 0;
+        self.left = self.pages.len() as u64 * PAGE as u64 + self.buffer.len() as u64;
+        self.finish(disk, pool)
+    }
+
+    /// Reads the next page into the buffer, of which all was read. The page is free then.
+    fn load<D: TapeDisk>(&mut self, disk: &mut D, pool: &mut PagePool) -> Result<(), DiskError>
+        requires pool { IsPool pool.old }
+        requires apart { IsApart pool.old self.old.pages }
+        requires fits { length pool.old.free + length self.old.pages ≤ pool.old.count }
+        requires some { 0 < length self.old.pages }
+        requires spent { self.old.read ≡ length self.old.buffer }
+        ensures pool { IsPool pool.new }
+        ensures balanced { IsBalanced pool.old self.old.pages pool.new self.new.pages }
+        ensures keeps { Keeps (D.last disk.old) (D.last disk.new) }
+        ensures same { IsSameTape self.old self.new }
+        ensures start { OnOk result (self.new.read ≡ 0) }
+        ensures full { OnOk result (length self.new.buffer ≡ 8192) }
+        ensures shorter { OnOk result (length self.new.pages + 1 ≡ length self.old.pages) }
+        ensures loaded { OnOk result (IsTrue (D.honest disk.old) → (bytes : List ℕ) → HasAhead (D.last disk.old) self.old bytes → HasAhead (D.last disk.new) self.new bytes) }
+        ensures writes { D.writes disk.new ≡ D.writes disk.old }
+        ensures failures { D.failures disk.old ≤ D.failures disk.new }
+        ensures fault { IfErr result (λ error. error ≡ disk_error.TapeFault → D.failures disk.old < D.failures disk.new) }
+        ensures honesty { D.honest disk.new ≡ D.honest disk.old }
+    {
+        self.buffer.resize(PAGE, 0)?;
+        let Some(page) = self.pages.pop_front() else {
+            unreachable!()
+        };
+        pool.give_back(page);
+        self.read = 0;
+        disk.read_at(page * PAGE as u64, &mut self.buffer)
+    }
+
+    /// Puts the next `n` bytes of the buffer behind `bytes`.
+    fn spend(&mut self, n: usize, bytes: &mut Vec<u8>) -> Result<(), AllocError>
+        requires read { self.old.read ≤ length self.old.buffer }
+        requires fits { n ≤ length self.old.buffer - self.old.read }
+        ensures spent { OnOk result (self.new ≡ spent self.old n) }
+        ensures refused { OnErr result (self.new ≡ self.old) }
+        ensures bytes { OnOk result (bytes.new.items ≡ bytes.old.items ++ take n (drop self.old.read self.old.buffer)) }
+    {
+        bytes.extend_from_slice(&self.buffer[self.read..self.read + n])?;
+        self.read += n;
+        Ok(())
+    }
+
+    /// Puts the next `n` bytes of the tape behind `bytes`.
+    fn fill<D: TapeDisk>(
+        &mut self,
+        disk: &mut D,
+        pool: &mut PagePool,
+        n: usize,
+        bytes: &mut Vec<u8>,
+    ) -> Result<(), DiskError>
+        requires pool { IsPool pool.old }
+        requires apart { IsApart pool.old self.old.pages }
+        requires fits { length pool.old.free + length self.old.pages ≤ pool.old.count }
+        requires read { self.old.read ≤ length self.old.buffer }
+        requires ahead { n ≤ ahead self.old }
+        ensures pool { IsPool pool.new }
+        ensures balanced { IsBalanced pool.old self.old.pages pool.new self.new.pages }
+        ensures keeps { Keeps (D.last disk.old) (D.last disk.new) }
+        ensures same { IsSameTape self.old self.new }
+        ensures read { OnOk result (self.new.read ≤ length self.new.buffer) }
+        ensures ahead { OnOk result (ahead self.new + n ≡ ahead self.old) }
+        ensures len { OnOk result (length bytes.new.items ≡ length bytes.old.items + n) }
+        ensures filled { OnOk result (IsTrue (D.honest disk.old) → (front rest : List ℕ) → length front ≡ n → HasAhead (D.last disk.old) self.old (front ++ rest) → (bytes.new.items ≡ bytes.old.items ++ front) × HasAhead (D.last disk.new) self.new rest) }
+        ensures writes { D.writes disk.new ≡ D.writes disk.old }
+        ensures failures { D.failures disk.old ≤ D.failures disk.new }
+        ensures fault { IfErr result (λ error. error ≡ disk_error.TapeFault → D.failures disk.old < D.failures disk.new) }
+        ensures honesty { D.honest disk.new ≡ D.honest disk.old }
+    {
+        let ahead = self.buffer.len() - self.read;
+        if n <= ahead {
+            self.spend(n, bytes)?;
+            return Ok(());
+        }
+        self.spend(ahead, bytes)?;
+        self.load(disk, pool)?;
+        self.fill(disk, pool, n - ahead, bytes)
+    }
+
+    /// Reads the front of the next record.
+    fn next_header<D: TapeDisk>(
+        &mut self,
+        disk: &mut D,
+        pool: &mut PagePool,
+        bytes: &mut Vec<u8>,
+    ) -> Result<Header, DiskError>
+        requires pool { IsPool pool.old }
+        requires apart { IsApart pool.old self.old.pages }
+        requires fits { length pool.old.free + length self.old.pages ≤ pool.old.count }
+        requires read { self.old.read ≤ length self.old.buffer }
+        requires ahead { self.old.left ≤ ahead self.old }
+        requires left { 9 ≤ self.old.left }
+        requires some { 0 < self.old.records }
+        requires empty { bytes.old.items ≡ [] }
+        ensures pool { IsPool pool.new }
+        ensures balanced { IsBalanced pool.old self.old.pages pool.new self.new.pages }
+        ensures keeps { Keeps (D.last disk.old) (D.last disk.new) }
+        ensures phase { self.new.phase ≡ self.old.phase }
+        ensures read { OnOk result (self.new.read ≤ length self.new.buffer) }
+        ensures ahead { OnOk result (self.new.left ≤ ahead self.new) }
+        ensures records { self.new.records ≡ self.old.records }
+        ensures header { IfOk result (λ header. IsTrue (D.honest disk.old) → (rs : List Record) → AreAhead (D.last disk.old) self.old rs → IsAfterHeader (D.last disk.new) self.new header rs) }
+        ensures writes { D.writes disk.new ≡ D.writes disk.old }
+        ensures failures { D.failures disk.old ≤ D.failures disk.new }
+        ensures fault { IfErr result (λ error. error ≡ disk_error.TapeFault → D.failures disk.old < D.failures disk.new) }
+        ensures honesty { D.honest disk.new ≡ D.honest disk.old }
+    {
+        self.fill(disk, pool, HEADER, bytes)?;
+        self.left -= HEADER as u64;
+        Ok(Header::read(bytes))
+    }
+
+    /// Reads the bytes of a record of which the front was read.
+    fn next_bytes<D: TapeDisk>(
+        &mut self,
+        disk: &mut D,
+        pool: &mut PagePool,
+        header: Header,
+        bytes: &mut Vec<u8>,
+    ) -> Result<(), DiskError>
+        requires pool { IsPool pool.old }
+        requires apart { IsApart pool.old self.old.pages }
+        requires fits { length pool.old.free + length self.old.pages ≤ pool.old.count }
+        requires read { self.old.read ≤ length self.old.buffer }
+        requires ahead { self.old.left ≤ ahead self.old }
+        requires left { header.len ≤ self.old.left }
+        requires some { 0 < self.old.records }
+        ensures pool { IsPool pool.new }
+        ensures balanced { IsBalanced pool.old self.old.pages pool.new self.new.pages }
+        ensures keeps { Keeps (D.last disk.old) (D.last disk.new) }
+        ensures phase { self.new.phase ≡ self.old.phase }
+        ensures read { OnOk result (self.new.read ≤ length self.new.buffer) }
+        ensures ahead { OnOk result (self.new.left ≤ ahead self.new) }
+        ensures len { OnOk result (length bytes.new.items ≡ header.len) }
+        ensures gives { OnOk result (IsTrue (D.honest disk.old) → (rs : List Record) → IsAfterHeader (D.last disk.old) self.old header rs → Gives (AreAhead (D.last disk.new) self.new) rs bytes.new.items (Some (header.hash, header.tag))) }
+        ensures writes { D.writes disk.new ≡ D.writes disk.old }
+        ensures failures { D.failures disk.old ≤ D.failures disk.new }
+        ensures fault { IfErr result (λ error. error ≡ disk_error.TapeFault → D.failures disk.old < D.failures disk.new) }
+        ensures honesty { D.honest disk.new ≡ D.honest disk.old }
+    {
+        bytes.clear();
+        bytes.reserve(header.len as usize)?;
+        self.fill(disk, pool, header.len as usize, bytes)?;
+        self.left -= u64::from(header.len);
+        self.records -= 1;
+        Ok(())
+    }
+
+    /// Reads the next record: its hash and its tag are answered, and its bytes are put into `bytes`.
+    pub(crate) fn next<D: TapeDisk>(
+        &mut self,
+        alloc: Global,
+        disk: &mut D,
+        pool: &mut PagePool,
+        bytes: &mut Vec<u8>,
+    ) -> Result<Option<(u32, u8)>, TapeError>
+        requires pool { IsPool pool.old }
+        requires apart { IsApart pool.old self.old.pages }
+        requires fits { length pool.old.free + length self.old.pages ≤ pool.old.count }
+        requires phase { self.old.phase ≡ phase.Read }
+        requires good { IsGood self.old }
+        requires empty { bytes.old.items ≡ [] }
+        ensures pool { IsPool pool.new }
+        ensures balanced { IsBalanced pool.old self.old.pages pool.new self.new.pages }
+        ensures keeps { Keeps (D.last disk.old) (D.last disk.new) }
+        ensures phase { self.new.phase ≡ phase.Read }
+        ensures good { OnOk result (IsGood self.new) }
+        ensures gives { IfOk result (λ found. IsTrue (D.honest disk.old) → (rs : List Record) → AreAhead (D.last disk.old) self.old rs → Gives (AreAhead (D.last disk.new) self.new) rs bytes.new.items found) }
+        ensures undamaged { IfErr result (λ error. IsTrue (D.honest disk.old) → (rs : List Record) → AreAhead (D.last disk.old) self.old rs → error ≢ tape_error.TapeDamaged) }
+        ensures alive { IfErr result (λ error. error ≢ tape_error.TapesDead) }
+        ensures none { IfOk result (λ found. IfNone found (bytes.new.items ≡ [])) }
+        ensures framed { IfOk result (λ found. IfSome found (λ told. (told.1 < 2) × (length bytes.new.items ≤ 65535))) }
+        ensures writes { D.writes disk.new ≡ D.writes disk.old }
+        ensures failures { D.failures disk.old ≤ D.failures disk.new }
+        ensures fault { IfErr result (λ error. error ≡ tape_error.TapeFault → D.failures disk.old < D.failures disk.new) }
+        ensures honesty { D.honest disk.new ≡ D.honest disk.old }
+    {
+        match self.next_record(disk, pool, bytes) {
+            Ok(found) => {
+                self.end_reading(alloc);
+                Ok(found)
+            }
+            Err(error) => Err(error),
+        }
+    }
+
+    /// Reads the next record.
+    fn next_record<D: TapeDisk>(
+        &mut self,
+        disk: &mut D,
+        pool: &mut PagePool,
+        bytes: &mut Vec<u8>,
+    ) -> Result<Option<(u32, u8)>, TapeError>
+        requires pool { IsPool pool.old }
+        requires apart { IsApart pool.old self.old.pages }
+        requires fits { length pool.old.free + length self.old.pages ≤ pool.old.count }
+        requires phase { self.old.phase ≡ phase.Read }
+        requires good { IsGood self.old }
+        requires empty { bytes.old.items ≡ [] }
+        ensures pool { IsPool pool.new }
+        ensures balanced { IsBalanced pool.old self.old.pages pool.new self.new.pages }
+        ensures keeps { Keeps (D.last disk.old) (D.last disk.new) }
+        ensures phase { self.new.phase ≡ phase.Read }
+        ensures good { OnOk result (IsGood self.new) }
+        ensures gives { IfOk result (λ found. IsTrue (D.honest disk.old) → (rs : List Record) → AreAhead (D.last disk.old) self.old rs → Gives (AreAhead (D.last disk.new) self.new) rs bytes.new.items found) }
+        ensures undamaged { IfErr result (λ error. IsTrue (D.honest disk.old) → (rs : List Record) → AreAhead (D.last disk.old) self.old rs → error ≢ tape_error.TapeDamaged) }
+        ensures alive { IfErr result (λ error. error ≢ tape_error.TapesDead) }
+        ensures none { IfOk result (λ found. IfNone found (bytes.new.items ≡ [])) }
+        ensures framed { IfOk result (λ found. IfSome found (λ told. (told.1 < 2) × (length bytes.new.items ≤ 65535))) }
+        ensures writes { D.writes disk.new ≡ D.writes disk.old }
+        ensures failures { D.failures disk.old ≤ D.failures disk.new }
+        ensures fault { IfErr result (λ error. error ≡ tape_error.TapeFault → D.failures disk.old < D.failures disk.new) }
+        ensures honesty { D.honest disk.new ≡ D.honest disk.old }
+    {
+        if self.records == 0 {
+            return Ok(None);
+        }
+        if self.left < HEADER as u64 {
+            return Err(TapeError::TapeDamaged);
+        }
+        let header = self.next_header(disk, pool, bytes)?;
+        if !self.can_have(header) {
+            return Err(TapeError::TapeDamaged);
+        }
+        self.next_bytes(disk, pool, header, bytes)?;
+        Ok(Some((header.hash, header.tag)))
+    }
+
+    /// Whether a record with this front can stand at the front of what is left.
+    fn can_have(&self, header: Header) -> bool
+        ensures { result ≡ (nat_lt header.tag 2 && nat_le header.len 65535 && nat_le header.len self.now.left) }
+    {
+        header.tag < 2 && header.len <= 65535 && u64::from(header.len) <= self.left
+    }
+
+    /// Gives up the buffer if there are no more records to be read.
+    fn end_reading(&mut self, alloc: Global)
+        ensures { self.new ≡ ended self.old }
+    {
+        if self.records > 0 {
+            return;
+        }
+        self.buffer = Vec::new(alloc);
+        self.read = 0;
+        self.left = 0;
+    }
+
+    /// Gives back its pages.
+    pub(crate) fn give_back(&mut self, pool: &mut PagePool)
+        requires pool { IsPool pool.old }
+        requires fits { length pool.old.free + length self.old.pages ≤ pool.old.count }
+        ensures pool { IsPool pool.new }
+        ensures balanced { IsBalanced pool.old self.old.pages pool.new self.new.pages }
+        ensures none { self.new.pages ≡ [] }
+    {
+        pool.give_back_all(&mut self.pages);
+    }
+
+    /// What is done with it.
+    pub(crate) fn phase(&self) -> Phase
+        ensures { result ≡ self.now.phase }
+    {
+        self.phase
+    }
+
+    /// Is no tape any more.
+    pub(crate) fn close(&mut self, alloc: Global)
+        requires none { self.old.pages ≡ [] }
+        ensures { self.new ≡ no_tape }
+    {
+        self.phase = Phase::Closed;
+        self.buffer = Vec::new(alloc);
+        self.read = 0;
+        self.left = 0;
+        self.records = 0;
+    }
+}

@@ -1,0 +1,306 @@
+//! Tapes over a disk.
+ghost use Rattle.std.specs.Prelude.{◌≡◌, ◌≢◌, ◌+◌, ◌/◌, ◌<◌, ◌≤◌, ◌∷◌, ◌++◌, [], ℕ, List, Some, Err, true, false, IsTrue, IfOk, IfErr, IfSome, IfNone, OnOk, OnErr, length, get_or};
+ghost use Rattle.spill_tapes.specs.Records.{Record, tape_bytes};
+ghost use Rattle.spill_tapes.specs.Tape.{Gives, new_tape, no_tape};
+ghost use Rattle.spill_tapes.specs.Tapes.{tape_at, phase_of, is_open, is_written, is_read, written_len, IsTape, KeepsOthers, IsOpenRefusal, IsRefusal, IsReadRefusal};
+ghost use Rattle.spill_tapes.specs.declared.error.TapeError.TheVariants.{TapeDamaged, TapesDead};
+ghost use Rattle.spill_tapes.specs.declared.tape.Phase.TheVariants.{Closed, Written, Read};
+ghost use Rattle.spill_tapes.specs.declared.tape_id.TapeId.{TapeId};
+
+use crate::disk::TapeDisk;
+use crate::error::TapeError;
+use crate::header::Header;
+use crate::pool::PagePool;
+use crate::tape::{Phase, Tape};
+use crate::tape_id::TapeId;
+use std::alloc::Global;
+use std::marker::Model;
+
+/// Tapes over a disk: lists of records, each of which is written and then read once, in order.
+///
+/// A record is a hash, a tag, which is 0 or 1, and up to 65,535 bytes. Each call that reads or writes is handed the disk,
+/// which nothing else may write to as long as the tapes are in use.
+///
+/// Where a call that was handed the disk fails, for memory, by the disk, or by bytes that are not those of a record, the
+/// tapes are dead: every further call but `close` is refused.
+#[derive(Drop)]
+pub struct Tapes {
+    alloc: Global,
+    tapes: Vec<Tape>,
+    pool: PagePool,
+    is_dead: bool,
+}
+
+impl Model for Tapes {
+    ghost use Rattle.spill_tapes.specs.Tapes.{TapesState};
+
+    ghost Value = { TapesState };
+
+    ghost use Rattle.spill_tapes.specs.TapesFields.{tapes_of, AreFields};
+
+    ghost view = { tapes_of };
+
+    ghost invariant = { AreFields };
+}
+
+impl Tapes {
+    /// Tapes of which none is open.
+    pub fn new(alloc: Global) -> Tapes
+        ensures alive { result.is_dead ≡ false }
+        ensures none { (id : TapeId) → is_open result id ≡ false }
+    {
+        Tapes {
+            alloc,
+            tapes: Vec::new(alloc),
+            pool: PagePool::new(alloc),
+            is_dead: false,
+        }
+    }
+
+    /// What is done with a tape.
+    fn phase(&self, tape: TapeId) -> Phase
+        ensures { result ≡ phase_of self.now tape }
+    {
+        match self.tapes.get(tape.index) {
+            Some(tape) => tape.phase(),
+            None => Phase::Closed,
+        }
+    }
+
+    /// Whether a tape is open.
+    pub fn is_open(&self, tape: TapeId) -> bool
+        ensures { result ≡ is_open self.now tape }
+    {
+        match self.phase(tape) {
+            Phase::Closed => false,
+            Phase::Written | Phase::Read => true,
+        }
+    }
+
+    /// Whether a tape is being written.
+    pub fn is_written(&self, tape: TapeId) -> bool
+        ensures { result ≡ is_written self.now tape }
+    {
+        match self.phase(tape) {
+            Phase::Written => true,
+            Phase::Closed | Phase::Read => false,
+        }
+    }
+
+    /// Whether a tape is being read.
+    pub fn is_read(&self, tape: TapeId) -> bool
+        ensures { result ≡ is_read self.now tape }
+    {
+        match self.phase(tape) {
+            Phase::Read => true,
+            Phase::Closed | Phase::Written => false,
+        }
+    }
+
+    /// Whether a call failed, so that every call but `close` is refused.
+    pub fn is_dead(&self) -> bool
+        ensures { result ≡ self.now.is_dead }
+    {
+        let Tapes { is_dead, .. } = self;
+        *is_dead
+    }
+
+    /// The first tape that is not open, if there is one.
+    fn closed_place(&self) -> Option<usize>
+        ensures closed { IfSome result (λ place. (place < length self.now.tapes) × ((get_or self.now.tapes place no_tape).phase ≡ Closed)) }
+    {
+        for (place, tape) in self.tapes.iter().enumerate() {
+            if tape.phase() == Phase::Closed {
+                return Some(place);
+            }
+        }
+        None
+    }
+
+    /// Puts one tape more behind the others.
+    #[tactic(auto, using(crate::proofs::TapesLaws::same_at_push))]
+    fn push(&mut self, tape: Tape) -> Result<TapeId, TapeError>
+        requires alive { self.old.is_dead ≡ false }
+        requires new { tape ≡ new_tape }
+        ensures refused { IfErr result (IsOpenRefusal self.old.is_dead) }
+        ensures unchanged { OnErr result (self.new ≡ self.old) }
+        ensures alive { self.new.is_dead ≡ false }
+        ensures opened { IfOk result (λ tape. tape.index ≡ length self.old.tapes) }
+        ensures longer { OnOk result (self.new.tapes ≡ self.old.tapes ++ new_tape ∷ []) }
+        ensures others { IfOk result (λ tape. (id : TapeId) → id ≢ tape → tape_at self.new id ≡ tape_at self.old id) }
+    {
+        let index = self.tapes.len();
+        if self.tapes.push(tape).is_err() {
+            return Err(TapeError::NoMemory);
+        }
+        Ok(TapeId { index })
+    }
+
+    /// Opens a tape with no record, to be written.
+    ///
+    /// It refuses `TapesDead` and `NoMemory`, and then nothing is changed.
+    pub fn open<D: TapeDisk>(&mut self, _disk: &D) -> Result<TapeId, TapeError>
+        ensures dead { self.old.is_dead ≡ true → result ≡ Err TapesDead }
+        ensures refused { IfErr result (IsOpenRefusal self.old.is_dead) }
+        ensures unchanged { OnErr result (self.new ≡ self.old) }
+        ensures alive { self.new.is_dead ≡ self.old.is_dead }
+        ensures fresh { IfOk result (λ tape. is_open self.old tape ≡ false) }
+        ensures open { IfOk result (λ tape. is_open self.new tape ≡ true) }
+        ensures written { IfOk result (λ tape. is_written self.new tape ≡ true) }
+        ensures none { IfOk result (λ tape. written_len self.new tape ≡ 0) }
+        ensures empty { IfOk result (λ tape. IsTape (D.last _disk.now) self.new tape []) }
+        ensures others { IfOk result (λ tape. KeepsOthers (D.last _disk.now) (D.last _disk.now) self.old self.new tape) }
+    {
+        if self.is_dead() {
+            return Err(TapeError::TapesDead);
+        }
+        self.place(Tape::new(self.alloc))
+    }
+
+    /// Puts a new tape where none is open.
+    #[tactic(auto, using(crate::proofs::TapesLaws::none_past))]
+    fn place(&mut self, tape: Tape) -> Result<TapeId, TapeError>
+        requires alive { self.old.is_dead ≡ false }
+        requires new { tape ≡ new_tape }
+        ensures refused { IfErr result (IsOpenRefusal self.old.is_dead) }
+        ensures unchanged { OnErr result (self.new ≡ self.old) }
+        ensures alive { self.new.is_dead ≡ false }
+        ensures fresh { IfOk result (λ tape. phase_of self.old tape ≡ Closed) }
+        ensures opened { IfOk result (λ tape. tape_at self.new tape ≡ new_tape) }
+        ensures others { IfOk result (λ tape. (id : TapeId) → id ≢ tape → tape_at self.new id ≡ tape_at self.old id) }
+    {
+        if let Some(index) = self.closed_place() {
+            self.tapes[index] = tape;
+            return Ok(TapeId { index });
+        }
+        self.push(tape)
+    }
+
+    /// Puts a record behind those of a tape.
+    pub fn append<D: TapeDisk>(
+        &mut self,
+        disk: &mut D,
+        tape: TapeId,
+        hash: u32,
+        tag: u8,
+        bytes: &[u8],
+    ) -> Result<(), TapeError>
+        requires written { self.old.is_dead ≡ false → is_written self.old tape ≡ true }
+        requires tag { tag < 2 }
+        requires len { length bytes.now ≤ 65535 }
+        ensures dead { self.old.is_dead ≡ true → result ≡ Err TapesDead }
+        ensures unchanged { self.old.is_dead ≡ true → (self.new ≡ self.old) × (disk.new ≡ disk.old) }
+        ensures refused { IfErr result (IsRefusal self.old.is_dead (D.failures disk.old) (D.failures disk.new)) }
+        ensures alive { OnOk result (self.new.is_dead ≡ false) }
+        ensures dies { OnErr result (self.new.is_dead ≡ true) }
+        ensures phases { (id : TapeId) → phase_of self.new id ≡ phase_of self.old id }
+        ensures appended { OnOk result ((rs : List Record) → IsTape (D.last disk.old) self.old tape rs → IsTape (D.last disk.new) self.new tape (rs ++ record { hash = hash; tag = tag; bytes = bytes.now } ∷ [])) }
+        ensures longer { OnOk result (written_len self.new tape ≡ written_len self.old tape + (9 + length bytes.now)) }
+        ensures counted { OnOk result (D.writes disk.new + written_len self.old tape / 8192 ≡ D.writes disk.old + written_len self.new tape / 8192) }
+        ensures others { KeepsOthers (D.last disk.old) (D.last disk.new) self.old self.new tape }
+        ensures writes { D.writes disk.old ≤ D.writes disk.new }
+        ensures failures { D.failures disk.old ≤ D.failures disk.new }
+        ensures honesty { D.honest disk.new ≡ D.honest disk.old }
+    {
+        if self.is_dead() {
+            return Err(TapeError::TapesDead);
+        }
+        let header = Header {
+            hash,
+            tag,
+            len: bytes.len() as u32,
+        };
+        let slot = &mut self.tapes[tape.index];
+        match slot.append(disk, &mut self.pool, header, bytes) {
+            Ok(()) => Ok(()),
+            Err(error) => {
+                self.is_dead = true;
+                Err(TapeError::from(error))
+            }
+        }
+    }
+
+    /// Ends the writing of a tape, which is then to be read.
+    #[tactic(auto, using(crate::proofs::TapesLaws::bytes_written))]
+    pub fn rewind<D: TapeDisk>(&mut self, disk: &mut D, tape: TapeId) -> Result<(), TapeError>
+        requires written { self.old.is_dead ≡ false → is_written self.old tape ≡ true }
+        ensures dead { self.old.is_dead ≡ true → result ≡ Err TapesDead }
+        ensures unchanged { self.old.is_dead ≡ true → (self.new ≡ self.old) × (disk.new ≡ disk.old) }
+        ensures refused { IfErr result (IsRefusal self.old.is_dead (D.failures disk.old) (D.failures disk.new)) }
+        ensures alive { OnOk result (self.new.is_dead ≡ false) }
+        ensures dies { OnErr result (self.new.is_dead ≡ true) }
+        ensures open { is_open self.new tape ≡ is_open self.old tape }
+        ensures read { OnOk result (is_read self.new tape ≡ true) }
+        ensures rewound { OnOk result ((rs : List Record) → IsTape (D.last disk.old) self.old tape rs → IsTape (D.last disk.new) self.new tape rs) }
+        ensures bytes { self.old.is_dead ≡ false → (rs : List Record) → IsTape (D.last disk.old) self.old tape rs → written_len self.old tape ≡ length (tape_bytes rs) }
+        ensures counted { OnOk result (D.writes disk.new + written_len self.old tape / 8192 ≡ D.writes disk.old + (written_len self.old tape + 8191) / 8192) }
+        ensures others { KeepsOthers (D.last disk.old) (D.last disk.new) self.old self.new tape }
+        ensures writes { D.writes disk.old ≤ D.writes disk.new }
+        ensures failures { D.failures disk.old ≤ D.failures disk.new }
+        ensures honesty { D.honest disk.new ≡ D.honest disk.old }
+    {
+        if self.is_dead() {
+            return Err(TapeError::TapesDead);
+        }
+        let slot = &mut self.tapes[tape.index];
+        match slot.rewind(disk, &mut self.pool) {
+            Ok(()) => Ok(()),
+            Err(error) => {
+                self.is_dead = true;
+                Err(TapeError::from(error))
+            }
+        }
+    }
+
+    /// Reads the next record of a tape, if there is one: its hash and its tag are answered, and its bytes are put in the
+    /// place of those in `bytes`. Without a record there are none.
+    pub fn next<D: TapeDisk>(
+        &mut self,
+        disk: &mut D,
+        tape: TapeId,
+        bytes: &mut Vec<u8>,
+    ) -> Result<Option<(u32, u8)>, TapeError>
+        requires read { self.old.is_dead ≡ false → is_read self.old tape ≡ true }
+        ensures dead { self.old.is_dead ≡ true → result ≡ Err TapesDead }
+        ensures unchanged { self.old.is_dead ≡ true → (self.new ≡ self.old) × (disk.new ≡ disk.old) }
+        ensures refused { IfErr result (IsReadRefusal self.old.is_dead (D.failures disk.old) (D.failures disk.new)) }
+        ensures undamaged { IfErr result (λ error. IsTrue (D.honest disk.old) → (rs : List Record) → IsTape (D.last disk.old) self.old tape rs → error ≢ TapeDamaged) }
+        ensures alive { OnOk result (self.new.is_dead ≡ false) }
+        ensures dies { OnErr result (self.new.is_dead ≡ true) }
+        ensures phases { (id : TapeId) → phase_of self.new id ≡ phase_of self.old id }
+        ensures gives { IfOk result (λ found. IsTrue (D.honest disk.old) → (rs : List Record) → IsTape (D.last disk.old) self.old tape rs → Gives (IsTape (D.last disk.new) self.new tape) rs bytes.new.items found) }
+        ensures framed { IfOk result (λ found. IfSome found (λ told. (told.1 < 2) × (length bytes.new.items ≤ 65535))) }
+        ensures none { IfOk result (λ found. IfNone found (bytes.new.items ≡ [])) }
+        ensures nothing { OnErr result (bytes.new.items ≡ []) }
+        ensures others { KeepsOthers (D.last disk.old) (D.last disk.new) self.old self.new tape }
+        ensures writes { D.writes disk.new ≡ D.writes disk.old }
+        ensures failures { D.failures disk.old ≤ D.failures disk.new }
+        ensures honesty { D.honest disk.new ≡ D.honest disk.old }
+    {
+        bytes.clear();
+        if self.is_dead() {
+            return Err(TapeError::TapesDead);
+        }
+        let slot = &mut self.tapes[tape.index];
+        match slot.next(self.alloc, disk, &mut self.pool, bytes) {
+            Ok(found) => Ok(found),
+            Err(error) => {
+                self.is_dead = true;
+                bytes.clear();
+                Err(error)
+            }
+        }
+    }
+
+    /// Gives up a tape. Its pages are used again.
+    pub fn close<D: TapeDisk>(&mut self, _disk: &D, tape: TapeId)
+        requires open { is_open self.old tape ≡ true }
+        ensures alive { self.new.is_dead ≡ self.old.is_dead }
+        ensures closed { is_open self.new tape ≡ false }
+        ensures others { KeepsOthers (D.last _disk.now) (D.last _disk.now) self.old self.new tape }
+    {
+        let slot = &mut self.tapes[tape.index];
+        slot.give_back(&mut self.pool);
+        slot.close(self.alloc);
+    }
+}

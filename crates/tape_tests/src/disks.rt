@@ -1,0 +1,88 @@
+//! Disks of the tests' own, over one in memory.
+ghost use Rattle.std.specs.Prelude.{◌≡◌, cond, true, false};
+ghost use Rattle.spill_tapes.specs.Memory.{byte_at};
+
+use spill_tapes::{DiskError, MemDisk, TapeDisk};
+
+/// A disk whose first write fails.
+#[derive(Drop)]
+pub(crate) struct FailsFirst {
+    pub(crate) inner: MemDisk,
+    pub(crate) has_failed: bool,
+}
+
+impl TapeDisk for FailsFirst {
+    ghost failures = { λ d. cond d.has_failed 1 0 };
+
+    ghost writes = { λ d. d.inner.count };
+
+    ghost honest = { λ _. true };
+
+    ghost last = { λ d place byte. byte_at d.inner place ≡ byte };
+
+    fn read_at(&mut self, at: u64, bytes: &mut [u8]) -> Result<(), DiskError> {
+        self.inner.read_at(at, bytes)
+    }
+
+    fn write_at(&mut self, at: u64, bytes: &[u8]) -> Result<(), DiskError> {
+        if !self.has_failed {
+            self.has_failed = true;
+            return Err(DiskError::TapeFault);
+        }
+        self.inner.write_at(at, bytes)
+    }
+}
+
+/// A disk that keeps how far it was written.
+#[derive(Drop)]
+pub(crate) struct Marks {
+    pub(crate) inner: MemDisk,
+    pub(crate) end: u64,
+}
+
+impl TapeDisk for Marks {
+    ghost failures = { λ _. 0 };
+
+    ghost writes = { λ d. d.inner.count };
+
+    ghost honest = { λ _. true };
+
+    ghost last = { λ d place byte. byte_at d.inner place ≡ byte };
+
+    fn read_at(&mut self, at: u64, bytes: &mut [u8]) -> Result<(), DiskError> {
+        self.inner.read_at(at, bytes)
+    }
+
+    fn write_at(&mut self, at: u64, bytes: &[u8]) -> Result<(), DiskError> {
+        self.end = self.end.max(at + bytes.len() as u64);
+        self.inner.write_at(at, bytes)
+    }
+}
+
+/// A disk that flips one bit of the fifth byte of all that is read.
+#[derive(Drop)]
+pub(crate) struct Flips {
+    pub(crate) inner: MemDisk,
+}
+
+impl TapeDisk for Flips {
+    ghost failures = { λ _. 0 };
+
+    ghost writes = { λ d. d.inner.count };
+
+    ghost honest = { λ _. false };
+
+    ghost last = { λ d place byte. byte_at d.inner place ≡ byte };
+
+    fn read_at(&mut self, at: u64, bytes: &mut [u8]) -> Result<(), DiskError> {
+        self.inner.read_at(at, bytes)?;
+        if bytes.len() > 4 {
+            bytes[4] ^= 4;
+        }
+        Ok(())
+    }
+
+    fn write_at(&mut self, at: u64, bytes: &[u8]) -> Result<(), DiskError> {
+        self.inner.write_at(at, bytes)
+    }
+}
