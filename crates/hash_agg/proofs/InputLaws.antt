@@ -1,5 +1,5 @@
 -- What inputs give.
-use Rattle.std.specs.Prelude.{◌≡◌, refl, ℕ, zero, suc, ◌+◌, ◌<◌, ◌≤◌, true, false, cond, List, [], ◌∷◌, ◌++◌, length, map, find, take, Some, option_map, IfSome, slice_get, slice_index_or}
+use Rattle.std.specs.Prelude.{◌≡◌, refl, ℕ, zero, suc, ◌+◌, ◌<◌, true, false, cond, List, [], ◌∷◌, ◌++◌, length, map, find, take, Some, option_map, IfSome, slice_get, slice_index_or}
 use Rattle.std.proofs.Common.{sym, ◌∙◌, ap, subst, arith, add-one, append-nil}
 use Rattle.std.proofs.lemmas.List.{length-map, get_or-map, map-append}
 use Rattle.std.specs.declared.alloc.Global.{Global}
@@ -16,14 +16,13 @@ use Rattle.grouping_model.specs.Grouping.{Group}
 use Rattle.grouping_model.specs.Parts.{keys_of, partials_at}
 use Rattle.packed_rows.specs.Packing.{packing}
 use Rattle.packed_rows.proofs.PackingOrder.{packed_order, row_apart}
-use Rattle.agg_protocol.specs.States.{most_rows}
 use Rattle.agg_library.specs.StateRows.{AllWithin}
 use Rattle.having_filter.specs.Kept.{key_kinds}
 use Rattle.hash_agg.specs.Runs.{Entry, packed_keys, Rises}
 use Rattle.hash_agg.specs.Standing.{StandsFor, AreGroups}
-use Rattle.hash_agg.specs.Inputs.{Brought, Packed, Counted, ArePackings, rows_in}
+use Rattle.hash_agg.specs.Inputs.{ArePackings}
 use Rattle.packed_rows.specs.View.{bytes_of}
-use Rattle.hash_agg.specs.Adding.{rows_added, groups_added, Given, Of_rows, Of_groups, Gives, given_added}
+use Rattle.hash_agg.specs.Adding.{groups_added}
 use Rattle.hash_agg.proofs.StateLaws.{all_within}
 use Rattle.hash_agg.proofs.MergeLaws.{AreApart, rising_apart, found_still, none_before}
 
@@ -144,27 +143,3 @@ front_rises {X = X} cmp (x ∷ xs) ys (above, rising) = (front xs above, front_r
 
 pub run_front_rises : (run rest : List Entry) → Rises (run ++ rest) → Rises run
 run_front_rises run rest rises = front_rises (slice_cmp nat_cmp) (packed_keys run) (packed_keys rest) (subst (IsStrictlySortedBy (slice_cmp nat_cmp)) (map-append (λ (e : Entry). e.0) run rest) rises)
-
--- ---- one input
-
-pub given_rows : (q : Query) (most : ℕ) (groups : List Group) (given : Given) (input : Brought) (packed : List (List ℕ)) (new : List Entry) → input ≡ Packed packed → most + rows_in input ≤ most_rows → Gives q input given
-    → ((list : List Row) → most + length packed ≤ most_rows → ArePackings q.kinds packed list → AreGroups q (most + length packed) new (rows_added q groups list))
-    → AreGroups q (most + rows_in input) new (given_added q groups given)
-given_rows q most groups given input packed new is low gives added =
-    subst (λ i. AreGroups q (most + rows_in i) new (given_added q groups given)) (sym is)
-    (cases given (subst (λ i. most + rows_in i ≤ most_rows) is low) (subst (λ i. Gives q i given) is gives))
-  where
-    cases : (given : Given) → most + length packed ≤ most_rows → Gives q (Packed packed) given → AreGroups q (most + length packed) new (given_added q groups given)
-    cases (Of_rows list) low gives = added list low gives
-    cases (Of_groups more) low gives = absurd gives
-
-pub given_groups : (q : Query) (most : ℕ) (groups : List Group) (given : Given) (input : Brought) (run : List Entry) (rows : ℕ) (new : List Entry) → input ≡ Counted run rows → most + rows_in input ≤ most_rows → Gives q input given
-    → ((more : List Group) → most + rows ≤ most_rows → AreGroups q rows run more → AreGroups q (most + rows) new (groups_added q groups more))
-    → AreGroups q (most + rows_in input) new (given_added q groups given)
-given_groups q most groups given input run rows new is low gives added =
-    subst (λ i. AreGroups q (most + rows_in i) new (given_added q groups given)) (sym is)
-    (cases given (subst (λ i. most + rows_in i ≤ most_rows) is low) (subst (λ i. Gives q i given) is gives))
-  where
-    cases : (given : Given) → most + rows ≤ most_rows → Gives q (Counted run rows) given → AreGroups q (most + rows) new (given_added q groups given)
-    cases (Of_rows list) low gives = absurd gives
-    cases (Of_groups more) low gives = added more low gives

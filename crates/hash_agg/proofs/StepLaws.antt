@@ -38,10 +38,6 @@ pub on_ok : {T E : Type 0} (r : Result T E) {P Q : Type 0} → (P → Q) → OnO
 on_ok (Ok x) gives holds = gives holds
 on_ok (Err e) gives holds = tt
 
-pub on_ok_both : {T E : Type 0} (r : Result T E) {P Q R : Type 0} → (P → Q → R) → OnOk r P → OnOk r Q → OnOk r R
-on_ok_both (Ok x) gives p q = gives p q
-on_ok_both (Err e) gives p q = tt
-
 -- ---- how long keys and states are
 
 one_short : (kind : Kind) (value : Datum) → HasKinds (kind ∷ []) (value ∷ []) → length (value_packing value) ≤ 257

@@ -1,7 +1,7 @@
 -- What all inputs together give.
-use Rattle.std.specs.Prelude.{◌≡◌, refl, ℕ, zero, suc, ◌<◌, ◌≤◌, List, [], ◌∷◌, ◌++◌, length, map, Some, slice_get, slice_index_or, sum_by, take}
+use Rattle.std.specs.Prelude.{◌≡◌, refl, ℕ, zero, suc, ◌<◌, ◌≤◌, List, [], ◌∷◌, ◌++◌, length, map, Some, slice_get, slice_index_or}
 use Rattle.std.proofs.Common.{sym, ◌∙◌, ap, subst, arith, append-nil, append_assoc}
-use Rattle.std.proofs.lemmas.List.{length-map, get_or-map, take_all}
+use Rattle.std.proofs.lemmas.List.{length-map, get_or-map}
 use Rattle.std.specs.List.{AllByRecursion}
 use Rattle.grouping_model.specs.Datum.{Row, Kind, HasKinds, row_cmp}
 use Rattle.grouping_model.specs.Rising.{distinct}
@@ -13,8 +13,8 @@ use Rattle.having_filter.specs.Kept.{key_kinds}
 use Rattle.hash_agg.specs.declared.input.Input.{Input}
 use Rattle.hash_agg.specs.Runs.{Entry, packed_keys}
 use Rattle.hash_agg.specs.Standing.{AreGroups}
-use Rattle.hash_agg.specs.Inputs.{Brought, Packed, Counted, brought, rows_in, all_rows, on_end, IsInput, AreInputsOf, AllBring}
-use Rattle.hash_agg.specs.Adding.{rows_added, groups_added, Given, Of_rows, Of_groups, Gives, AllGive, given_added, all_added}
+use Rattle.hash_agg.specs.Inputs.{Brought, Packed, Counted, brought, on_end, IsInput, AreInputsOf, AllBring}
+use Rattle.hash_agg.specs.Adding.{rows_added, groups_added, Given, Of_rows, Of_groups, Gives, AllGive, all_added}
 use Rattle.hash_agg.proofs.MergeLaws.{rows_added_part, groups_added_part, puts, puts-append, puts_all, keys_of-rows_added, keys_of-groups_added, distinct_few}
 use Rattle.hash_agg.proofs.InputLaws.{packed_once, keys_packed, keys_of_kinds}
 
@@ -55,10 +55,6 @@ given_long q [] [] all = refl
 given_long q [] (g ∷ givens) all = absurd all
 given_long q (x ∷ inputs) [] all = absurd all
 given_long q (x ∷ inputs) (g ∷ givens) (first, all) = let long : length inputs ≡ length givens = given_long q inputs givens all in omega (arith, long)
-
-pub all_added_more : (q : Query) (gs : List Group) (givens : List Given) (given : Given) → all_added q gs (givens ++ given ∷ []) ≡ given_added q (all_added q gs givens) given
-all_added_more q gs [] given = refl
-all_added_more q gs (g ∷ givens) given = all_added_more q (given_added q gs g) givens given
 
 -- ---- lists of rows
 
@@ -149,10 +145,3 @@ keys_few run keys is =
     let same : length run ≡ length (distinct row_cmp keys) = sym (length-map run (λ (e : Entry). e.0)) ∙ ap length is ∙ length-map (distinct row_cmp keys) packing in
     let few : length (distinct row_cmp keys) ≤ length keys = distinct_few keys in
     omega (arith, same, few)
-
--- the groups after the last input
-pub whole_run : (q : Query) (inputs : List Brought) (givens : List Given) (i : ℕ) (run : List Entry) → length inputs ≤ i → AllGive q inputs givens → AreGroups q (sum_by rows_in (take i inputs)) run (all_added q [] (take i givens)) → AreGroups q (all_rows inputs) run (all_added q [] givens)
-whole_run q inputs givens i run past all are =
-    let long : length inputs ≡ length givens = given_long q inputs givens all in
-    subst (λ xs. AreGroups q (sum_by rows_in xs) run (all_added q [] givens)) (take_all i inputs past)
-    (subst (λ gs. AreGroups q (sum_by rows_in (take i inputs)) run (all_added q [] gs)) (take_all i givens (omega (arith, past, long))) are)

@@ -1,54 +1,18 @@
 -- What the steps of an aggregation ask of the groups that stand in bytes, and what they make of them. A step asks that there
 -- are such groups, and speaks of all that the bytes stand for. All of this is our own.
-use Rattle.std.specs.Prelude.{◌≡◌, ℕ, ◌+◌, ◌<◌, ◌≤◌, List, length, IfSome}
+use Rattle.std.specs.Prelude.{ℕ, ◌+◌, ◌<◌, ◌≤◌, List, IfSome}
 use Rattle.grouping_model.specs.Aggregates.{Function, Partial}
 use Rattle.grouping_model.specs.Combining.{combine_all}
-use Rattle.grouping_model.specs.Datum.{Row, HasKinds}
+use Rattle.grouping_model.specs.Datum.{Row}
 use Rattle.grouping_model.specs.Grouping.{Group}
-use Rattle.grouping_model.specs.Parts.{functions, advanced, partials_at, with_row}
+use Rattle.grouping_model.specs.Parts.{functions, advanced, partials_at}
 use Rattle.grouping_model.specs.Query.{Query, Aggregate}
-use Rattle.packed_rows.specs.Packing.{packing}
 use Rattle.agg_protocol.specs.States.{most_rows}
 use Rattle.agg_library.specs.StateRows.{Denotes, AllWithin}
 use Rattle.agg_library.specs.declared.kind.AggKind.{AggKind}
 use Rattle.hash_agg.specs.Runs.{Entry, Rises}
 use Rattle.hash_agg.specs.Standing.{AreStates, StandsFor, AreGroups}
-use Rattle.hash_agg.specs.Inputs.{Brought, ArePackings, rows_in}
-use Rattle.hash_agg.specs.Adding.{row_added, rows_added, group_added, groups_added, Given, Gives, given_added}
-
--- the states can count one more row
-abbrev pub HasRoomForRow : Query → List Entry → Type 0
-HasRoomForRow query old = (most : ℕ) × (groups : List Group) × AreGroups query most old groups × (most < most_rows)
-
--- a selected row is added to the group of its key
-abbrev pub AddsSelected : Query → List Entry → Row → List Entry → Type 0
-AddsSelected query old row new =
-    (most : ℕ) (groups : List Group)
-    → most < most_rows
-    → AreGroups query most old groups
-    → AreGroups query (most + 1) new (with_row query groups row)
-
--- a packed row is added, or passed over where WHERE isn't true of it
-abbrev pub AddsRow : Query → List Entry → List ℕ → List Entry → Type 0
-AddsRow query old packed new =
-    (most : ℕ) (groups : List Group) (row : Row)
-    → most < most_rows
-    → AreGroups query most old groups
-    → HasKinds query.kinds row
-    → packed ≡ packing row
-    → AreGroups query (most + 1) new (row_added query groups row)
-
--- the same of packed rows
-abbrev pub HasRoomForRows : Query → List Entry → List (List ℕ) → Type 0
-HasRoomForRows query old packed = (most : ℕ) × (groups : List Group) × AreGroups query most old groups × (most + length packed ≤ most_rows)
-
-abbrev pub AddsRows : Query → List Entry → List (List ℕ) → List Entry → Type 0
-AddsRows query old packed new =
-    (most : ℕ) (groups : List Group) (rows : List Row)
-    → most + length packed ≤ most_rows
-    → AreGroups query most old groups
-    → ArePackings query.kinds packed rows
-    → AreGroups query (most + length packed) new (rows_added query groups rows)
+use Rattle.hash_agg.specs.Adding.{group_added, groups_added}
 
 -- a group comes to those of its key, which count few enough rows
 abbrev pub HasRoomForGroup : Query → List Entry → Entry → Type 0
@@ -80,18 +44,6 @@ AddsRun query old run new =
     → AreGroups query m old groups
     → AreGroups query n run more
     → AreGroups query (m + n) new (groups_added query groups more)
-
--- the same of an input
-abbrev pub HasRoomForInput : Query → List Entry → Brought → Type 0
-HasRoomForInput query old input = (most : ℕ) × (groups : List Group) × AreGroups query most old groups × (most + rows_in input ≤ most_rows)
-
-abbrev pub AddsInput : Query → List Entry → Brought → List Entry → Type 0
-AddsInput query old input new =
-    (most : ℕ) (groups : List Group) (given : Given)
-    → most + rows_in input ≤ most_rows
-    → AreGroups query most old groups
-    → Gives query input given
-    → AreGroups query (most + rows_in input) new (given_added query groups given)
 
 -- the states of one group can count one more row
 abbrev pub HaveRoomForRow : List Function → List ℕ → Type 0
