@@ -7,7 +7,7 @@ ghost use Rattle.packed_rows.specs.View.{bytes_of};
 
 use crate::fixtures::{of_towns, records};
 use batch_reader::build_batch;
-use hash_agg::{Input, Run, aggregate, aggregate_within, first_states, fold};
+use hash_agg::{Input, Run, aggregate, first_states, fold};
 use having_filter::Query;
 use hex::encode;
 use std::test::*;
@@ -152,39 +152,5 @@ fn a_run_takes_more_rows(rt: HostRuntime) -> Result<(), Fail> {
             01766f737300 0000000000000002000000000000000200000000000000000000000000000005; \
             017974726500 0000000000000001000000000000000100000000000000000000000000000008; "
     );
-    Ok(())
-}
-
-/// A row of each of so many towns, `k00000` and on.
-fn lines_of(rt: HostRuntime, towns: u32) -> Result<String, Fail> {
-    let mut lines = String::new(rt.alloc());
-    for town in 0..towns {
-        lines.push_str(&format!(in rt.alloc(); "k{town:05},{town};")?)?;
-    }
-    Ok(lines)
-}
-
-/// How many groups there are of a row of each of so many towns, and whether a limit that a table of all of them exceeds changes
-/// nothing: neither of the rows nor of their groups with the rows behind them.
-fn limited(rt: HostRuntime, query: &Query, towns: u32) -> Result<String, Fail> {
-    let rows = packed(rt, query, towns, lines_of(rt, towns)?.as_str())?;
-    let inputs = [Input::Rows(&rows)];
-    let whole = aggregate(rt.alloc(), query, &inputs)?;
-    let parts = aggregate_within(rt.alloc(), query, &inputs, 65_536)?;
-    let (same, many) = (whole.same_groups(&parts), whole.len());
-    Ok(format!(in rt.alloc(); "{many} {same}")?)
-}
-
-/// The same, with as many towns as a text says.
-fn limited_by(rt: HostRuntime, query: &Query, towns: &str) -> Result<String, Fail> {
-    let Ok(towns) = towns.parse::<u32>() else {
-        return Ok(String::new(rt.alloc()));
-    };
-    limited(rt, query, towns)
-}
-
-#[test]
-fn a_limit_changes_nothing(rt: HostRuntime) -> Result<(), Fail> {
-    assert_eq!(rt; of_towns(rt, "1500", limited_by)?.as_str(), "1500 true");
     Ok(())
 }
