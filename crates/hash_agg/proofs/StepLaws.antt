@@ -29,7 +29,7 @@ use Rattle.hash_agg.specs.declared.record.Record.TheVariants as kept
 use Rattle.hash_agg.specs.Runs.{Entry}
 use Rattle.hash_agg.specs.Standing.{AreStates, StandsFor}
 use Rattle.hash_agg.specs.Passes.{Piece, Of_row, Of_group, IsPiece, ArePieces, piece_key, piece_added, weight, rows_at, CountUpTo, AreOnce, GroupsState, entries_of, WritesAt, Stands, PassState, CanRead, Reads, CanReadAll, ReadsAll, Proceeds, FewerLeft, HasRead, IsAt, AreRows, AreOfRun}
-use Rattle.hash_agg.proofs.InputLaws.{packed_once, take_found, row_at, rows_long, group_at, groups_long}
+use Rattle.hash_agg.proofs.InputLaws.{packed_once, take_found, row_at, flat_row_at, rows_long, group_at, groups_long}
 use Rattle.hash_agg.proofs.StateLaws.{states_by, narrow}
 use Rattle.hash_agg.proofs.TableLaws.{no_key, named_at, get_mapped}
 use Rattle.hash_agg.proofs.PassLaws.{IsKept, after, by_at, rows_append, rows_one, reads_there, reads_new, reads_left}
@@ -209,6 +209,14 @@ row_is_at q packed i bytes one low is same more (rows, are, made) =
 
 pub rows_short : (q : Query) (packed : List (Vec ℕ Global)) (more : List Piece) → AreRows q (bytes_of packed) more → length more ≡ length packed
 rows_short q packed more (rows, are, made) = ap length made ∙ length-map rows Of_row ∙ sym (rows_long q.kinds packed rows are)
+
+pub flat_is_at : (q : Query) (packed : List (List ℕ)) (i : ℕ) (one : Bor (List ℕ)) → slice_get packed i ≡ Some one.now → IsAt q (AreRows q packed) i (kept.Row one)
+flat_is_at q packed i one at more (rows, are, made) =
+    let found = flat_row_at q.kinds packed rows i one.now are at in
+    (Of_row found.row, ap (λ more. slice_get more i) made ∙ get_mapped Of_row rows i found.row found.at, (found.has, found.is))
+
+pub flat_short : (q : Query) (packed : List (List ℕ)) (more : List Piece) → AreRows q packed more → length more ≡ length packed
+flat_short q packed more (rows, are, made) = ap length made ∙ length-map rows Of_row ∙ sym (ap length are.packings_are ∙ length-map rows packing)
 
 pub group_is_at : (q : Query) (most : ℕ) (run : List Entry) (i : ℕ) (key states : Bor (List ℕ)) → slice_get run i ≡ Some (key.now, states.now) → IsAt q (AreOfRun q most run) i (kept.Group key states)
 group_is_at q most run i key states at more (groups, are, made) =

@@ -9,7 +9,7 @@ use Rattle.packed_rows.specs.Packing.{packing}
 use Rattle.packed_rows.specs.View.{bytes_of}
 use Rattle.having_filter.specs.Kept.{key_kinds}
 use Rattle.hash_agg.specs.declared.input.Input.{Input}
-use Rattle.hash_agg.specs.declared.input.Input.TheVariants.{Rows, Groups}
+use Rattle.hash_agg.specs.declared.input.Input.TheVariants.{Rows, Flat, Groups}
 use Rattle.hash_agg.specs.Runs.{Entry, packed_keys}
 use Rattle.hash_agg.specs.Standing.{AreGroups, IsRun}
 
@@ -21,6 +21,7 @@ pub data Brought : Type 0 where
 -- what an input of the code brings
 abbrev pub brought : Input → Brought
 brought (Rows packed) = Packed (bytes_of packed.now)
+brought (Flat packed) = Packed packed.now
 brought (Groups run rows) = Counted run.now rows
 
 -- the members of some lists of rows, one list after the other

@@ -23,6 +23,7 @@ use crate::input::Input;
 use crate::record::Record;
 use crate::run::Run;
 use crate::states::{advance_slice, first_states};
+use flat_rows::PackedRows;
 use having_filter::Query;
 use packed_rows::{RowError, Value, pack_value, unpack_into};
 use std::alloc::{AllocError, Global};
@@ -265,6 +266,23 @@ impl<'a> Pass<'a> {
         Ok(())
     }
 
+    /// Reads packed rows that lie on end. What `row` and `buffers` hold doesn't matter.
+    fn add_flat(
+        &mut self,
+        rows: &'a PackedRows,
+        row: &mut Vec<Value<'a>>,
+        buffers: &mut Buffers,
+    ) -> Result<(), AllocError>
+        requires { CanReadAll (AreRows (meaning self.old.query) rows.now) self.old }
+        ensures read { OnOk result (ReadsAll (AreRows (meaning self.old.query) rows.now) self.old self.new) }
+        ensures query { self.new.query ≡ self.old.query }
+    {
+        for place in 0..rows.len() {
+            self.add_row(rows.row(place), row, buffers)?;
+        }
+        Ok(())
+    }
+
     /// Reads the groups of a run.
     fn add_run(&mut self, run: &'a Run) -> Result<(), AllocError>
         requires { (most : ℕ) × CanReadAll (AreOfRun (meaning self.old.query) most run.now) self.old }
@@ -291,6 +309,7 @@ impl<'a> Pass<'a> {
     {
         match input {
             Input::Rows(rows) => self.add_rows(rows, row, buffers),
+            Input::Flat(rows) => self.add_flat(rows, row, buffers),
             Input::Groups { run, .. } => self.add_run(run),
         }
     }
