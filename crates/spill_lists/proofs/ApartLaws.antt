@@ -1,0 +1,118 @@
+-- Tapes that are apart.
+use Rattle.std.specs.Prelude.{◌≡◌, ◌≢◌, ℕ, ◌+◌, ◌<◌, ◌≤◌, suc, zero, true, false, not, List, [], ◌∷◌, ◌++◌, length, get_or}
+use Rattle.std.proofs.Math.ListN.{set}
+use Rattle.std.proofs.Common.{refl, sym, ◌∙◌, ap, arith}
+use Rattle.std.proofs.lemmas.Bool.Decides.{nat_tests}
+use Rattle.spill_tapes.specs.Records.{Record}
+use Rattle.spill_tapes.specs.Tape.{is_in}
+use Rattle.spill_tapes.specs.Tapes.{TapesState, phase_of, is_open, is_written, KeepsOthers}
+use Rattle.spill_tapes.specs.declared.tape.Phase.{Phase}
+use Rattle.spill_tapes.specs.declared.tape.Phase.TheVariants.{Closed, Written, Read}
+use Rattle.spill_tapes.specs.declared.tape_id.TapeId.{TapeId}
+use Rattle.spill_lists.specs.declared.lists.OnTape.{OnTape}
+use Rattle.spill_lists.specs.Lists.{LeftList}
+use Rattle.spill_lists.specs.Standing.{once, times, AreOn, AreAhead, AreWritten, AreRead}
+
+pub times-append : (index : ℕ) (xs ys : List OnTape) → times index (xs ++ ys) ≡ times index xs + times index ys
+times-append index [] ys = omega arith
+times-append index (x ∷ xs) ys = omega (arith, times-append index xs ys)
+
+pub once_here : (index : ℕ) → (id : TapeId) → index ≡ id.index → once id index ≡ 1
+once_here index id same = grind (arith, nat_tests)
+
+pub differs : (id other : TapeId) → once other id.index ≡ 0 → other ≢ id
+differs id other none same = absurd (omega (arith, none, once_here id.index other (ap (λ (x : TapeId). x.index) (sym same))))
+
+pub once_beside : (index : ℕ) → (id : TapeId) → index ≢ id.index → once id index ≡ 0
+once_beside index id differ = grind (arith, nat_tests)
+
+-- the others are kept
+pub kept_on : (last last' : ℕ → ℕ → Type 0) (t t' : TapesState) (id : TapeId) (tapes : List OnTape) (lists : List LeftList) → KeepsOthers last last' t t' id → times id.index tapes ≡ 0 → AreOn last t tapes lists → AreOn last' t' tapes lists
+kept_on last last' t t' id [] [] keeps none had = had
+kept_on last last' t t' id [] (list ∷ lists) keeps none had = had
+kept_on last last' t t' id (tape ∷ tapes) [] keeps none had = had
+kept_on last last' t t' id (tape ∷ tapes) (list ∷ lists) keeps none had =
+    (keeps.records tape.tape (differs id tape.tape (omega (arith, none))) list.records had.0, had.1, had.2, kept_on last last' t t' id tapes lists keeps (omega (arith, none)) had.3)
+
+pub kept_ahead : (last last' : ℕ → ℕ → Type 0) (t t' : TapesState) (id : TapeId) (tapes : List OnTape) (ahead : List Record) → KeepsOthers last last' t t' id → times id.index tapes ≡ 0 → AreAhead last t tapes ahead → AreAhead last' t' tapes ahead
+kept_ahead last last' t t' id [] ahead keeps none had = had
+kept_ahead last last' t t' id (tape ∷ tapes) ahead keeps none had = (keeps.records tape.tape (differs id tape.tape (omega (arith, none))) ahead had.0, had.1)
+
+pub kept_written : (last last' : ℕ → ℕ → Type 0) (t t' : TapesState) (id : TapeId) (tapes : List OnTape) → KeepsOthers last last' t t' id → times id.index tapes ≡ 0 → AreWritten t tapes → AreWritten t' tapes
+kept_written last last' t t' id [] keeps none had = had
+kept_written last last' t t' id (tape ∷ tapes) keeps none had =
+    (ap (is_in Written) (keeps.phases tape.tape (differs id tape.tape (omega (arith, none)))) ∙ had.0, kept_written last last' t t' id tapes keeps (omega (arith, none)) had.1)
+
+pub kept_read : (last last' : ℕ → ℕ → Type 0) (t t' : TapesState) (id : TapeId) (tapes : List OnTape) → KeepsOthers last last' t t' id → times id.index tapes ≡ 0 → AreRead t tapes → AreRead t' tapes
+kept_read last last' t t' id [] keeps none had = had
+kept_read last last' t t' id (tape ∷ tapes) keeps none had =
+    (ap (is_in Read) (keeps.phases tape.tape (differs id tape.tape (omega (arith, none)))) ∙ had.0, kept_read last last' t t' id tapes keeps (omega (arith, none)) had.1)
+
+-- what is true by the phases alone
+pub same_written : (t t' : TapesState) (tapes : List OnTape) → ((id : TapeId) → phase_of t' id ≡ phase_of t id) → AreWritten t tapes → AreWritten t' tapes
+same_written t t' [] same had = had
+same_written t t' (tape ∷ tapes) same had = (ap (is_in Written) (same tape.tape) ∙ had.0, same_written t t' tapes same had.1)
+
+pub same_read : (t t' : TapesState) (tapes : List OnTape) → ((id : TapeId) → phase_of t' id ≡ phase_of t id) → AreRead t tapes → AreRead t' tapes
+same_read t t' [] same had = had
+same_read t t' (tape ∷ tapes) same had = (ap (is_in Read) (same tape.tape) ∙ had.0, same_read t t' tapes same had.1)
+
+-- all of two lists
+pub written-append : (t : TapesState) (xs ys : List OnTape) → AreWritten t xs → AreWritten t ys → AreWritten t (xs ++ ys)
+written-append t [] ys first second = second
+written-append t (x ∷ xs) ys first second = (first.0, written-append t xs ys first.1 second)
+
+pub read-append : (t : TapesState) (xs ys : List OnTape) → AreRead t xs → AreRead t ys → AreRead t (xs ++ ys)
+read-append t [] ys first second = second
+read-append t (x ∷ xs) ys first second = (first.0, read-append t xs ys first.1 second)
+
+pub read_front : (t : TapesState) (xs ys : List OnTape) → AreRead t (xs ++ ys) → AreRead t xs
+read_front t [] ys had = tt
+read_front t (x ∷ xs) ys had = (had.0, read_front t xs ys had.1)
+
+pub read_end : (t : TapesState) (xs ys : List OnTape) → AreRead t (xs ++ ys) → AreRead t ys
+read_end t [] ys had = had
+read_end t (x ∷ xs) ys had = read_end t xs ys had.1
+
+-- a tape that was not open is none of those that are written or read
+written_open : (phase : Phase) → is_in Written phase ≡ true → not (is_in Closed phase) ≡ true
+written_open Closed h = cc
+written_open Written h = refl
+written_open Read h = cc
+
+read_open : (phase : Phase) → is_in Read phase ≡ true → not (is_in Closed phase) ≡ true
+read_open Closed h = cc
+read_open Written h = cc
+read_open Read h = refl
+
+pub fresh_written : (t : TapesState) (id : TapeId) (tapes : List OnTape) → is_open t id ≡ false → AreWritten t tapes → times id.index tapes ≡ 0
+fresh_written t id [] closed had = refl
+fresh_written t id (tape ∷ tapes) closed had =
+    omega (arith, fresh_written t id tapes closed had.1, once_beside id.index tape.tape (λ same. cc (closed, written_open (phase_of t tape.tape) had.0)))
+
+pub fresh_read : (t : TapesState) (id : TapeId) (tapes : List OnTape) → is_open t id ≡ false → AreRead t tapes → times id.index tapes ≡ 0
+fresh_read t id [] closed had = refl
+fresh_read t id (tape ∷ tapes) closed had =
+    omega (arith, fresh_read t id tapes closed had.1, once_beside id.index tape.tape (λ same. cc (closed, read_open (phase_of t tape.tape) had.0)))
+
+-- the one at a place
+pub times_here : (tapes : List OnTape) (i : ℕ) (x : OnTape) → i < length tapes → x ≡ get_or tapes i x → 1 ≤ times x.tape.index tapes
+times_here [] i x less is = omega (arith, less)
+times_here (tape ∷ tapes) zero x less is = omega (arith, once_here x.tape.index tape.tape (ap (λ (y : OnTape). y.tape.index) is))
+times_here (tape ∷ tapes) (suc i) x less is = omega (arith, times_here tapes i x (omega (arith, less)) is)
+
+pub written_here : (t : TapesState) (tapes : List OnTape) (i : ℕ) (x : OnTape) → i < length tapes → x ≡ get_or tapes i x → AreWritten t tapes → is_written t x.tape ≡ true
+written_here t [] i x less is had = absurd (omega (arith, less))
+written_here t (tape ∷ tapes) zero x less is had = ap (λ (y : OnTape). is_written t y.tape) is ∙ had.0
+written_here t (tape ∷ tapes) (suc i) x less is had = written_here t tapes i x (omega (arith, less)) is had.1
+
+-- one with the same tape in its place
+pub times-set : (index : ℕ) (tapes : List OnTape) (i : ℕ) (x y : OnTape) → x ≡ get_or tapes i x → y.tape ≡ x.tape → times index (set tapes i y) ≡ times index tapes
+times-set index [] i x y is same = refl
+times-set index (tape ∷ tapes) zero x y is same = ap (λ id. once id index + times index tapes) (same ∙ ap (λ (z : OnTape). z.tape) is)
+times-set index (tape ∷ tapes) (suc i) x y is same = ap (λ n. once tape.tape index + n) (times-set index tapes i x y is same)
+
+pub written-set : (t : TapesState) (tapes : List OnTape) (i : ℕ) (x y : OnTape) → x ≡ get_or tapes i x → y.tape ≡ x.tape → AreWritten t tapes → AreWritten t (set tapes i y)
+written-set t [] i x y is same had = had
+written-set t (tape ∷ tapes) zero x y is same had = (ap (is_written t) (same ∙ ap (λ (z : OnTape). z.tape) is) ∙ had.0, had.1)
+written-set t (tape ∷ tapes) (suc i) x y is same had = (had.0, written-set t tapes i x y is same had.1)

@@ -1,0 +1,21 @@
+use Rattle.std.proofs.Common.{[], refl, arith, ap, sym, subst, ◌∙◌}
+use Rattle.spill_lists.specs.Fields.{one_or_none}
+use Rattle.spill_lists.specs.Standing.{ListsState, HasLists}
+use Rattle.spill_lists.proofs.StandingLaws.{lists_begun, has_begun}
+use Rattle.spill_lists.proofs.EndLaws.{filled_front}
+use Rattle.spill_lists.specs.Standing.{HaveRecords}
+use Rattle.spill_lists.proofs.lists.SpillLists.begin_pass.Goals as goal
+
+pub invariant_of-self : goal.invariant_of-self
+invariant_of-self g c =
+    lists_begun c.self.inside.tapes c.self.inside.level c.in-Some.list.level c.self.inside.parts.items (one_or_none c.self.inside.source) c.pop.new.self.items c.self.inside.todo.items c.in-Some.list
+    (ap (λ (s : ListsState). s.source) c.self.view_is ∙ c.requires.source) c.in-Some.ensures.items c.self.invariant
+
+pub returns-in-Some-clause-begins : goal.returns-in-Some-clause-begins
+returns-in-Some-clause-begins g c begins todo had =
+    has_begun (g.D.TapeDisk.last c.args._disk.now) c.self.inside.tapes c.self.inside.level c.in-Some.list.level c.self.inside.parts.items (one_or_none c.self.inside.source) c.pop.new.self.items c.self.inside.todo.items todo c.in-Some.list
+    (ap (λ (s : ListsState). s.parts) c.self.view_is ∙ c.requires.parts) refl c.in-Some.ensures.items (subst (λ (s : ListsState). HasLists (g.D.TapeDisk.last c.args._disk.now) s [] [] todo) (sym c.self.view_is) had)
+
+pub returns-in-Some-clause-some : goal.returns-in-Some-clause-some
+returns-in-Some-clause-some g c begins =
+    omega (arith, (filled_front c.pop.new.self.items c.in-Some.list (subst HaveRecords c.in-Some.ensures.items c.self.invariant.filled)).1)

@@ -1,0 +1,52 @@
+use Rattle.std.proofs.Common.{◌≡◌, ◌+◌, ◌<◌, ◌∷◌, [], ℕ, List, false, length, get_or, drop, ap, sym, subst, ◌∙◌, add-one}
+use Rattle.spill_lists.specs.declared.lists.OnTape.{OnTape}
+use Rattle.spill_lists.specs.Fields.{one_or_none}
+use Rattle.spill_lists.specs.Standing.{ListsState}
+use Rattle.std.proofs.Math.Seq.{drop-cons}
+use Rattle.std.proofs.lemmas.List.{drop_all}
+use Rattle.spill_lists.proofs.PassLaws.{IsEnding, ending_start, lists_without, ending_written, ending_beside, ending_step, ending_end, moves_none, moves_twice}
+use Rattle.spill_lists.proofs.StandingLaws.{state}
+use Rattle.spill_lists.proofs.lists.SpillLists.end_pass.Goals as goal
+
+pub invariant_of-self : goal.invariant_of-self
+invariant_of-self g c =
+    let empty : c.replace-parts.new.dest.items ≡ [] = cc in
+    lists_without c.self.inside.tapes c.self.inside.level c.self.inside.parts.items c.replace-parts.new.dest.items (one_or_none c.self.inside.source) c.self.inside.todo.items empty c.self.invariant
+
+pub loop-list-init : goal.loop-list-init
+loop-list-init g c =
+    let alive : c.self.inside.tapes.is_dead ≡ false = ap (λ (s : ListsState). s.tapes.is_dead) c.self.view_is ∙ c.requires.alive in
+    let empty : c.replace-parts.new.dest.items ≡ [] = cc in
+    let is : c.deref-list-items.result.now ≡ c.self.inside.parts.items = cc in
+    record {
+      lists = subst (λ (s : ListsState). IsEnding (g.D.TapeDisk.last c.args.disk.now) (g.D.TapeDisk.last c.args.disk.now) s (state c.self.inside.tapes c.self.inside.level c.replace-parts.new.dest.items (one_or_none c.self.inside.source) c.self.inside.todo.items) c.deref-list-items.result.now) c.self.view_is
+          (ending_start (g.D.TapeDisk.last c.args.disk.now) c.self.inside.tapes c.self.inside.level c.self.inside.parts.items c.replace-parts.new.dest.items (one_or_none c.self.inside.source) c.self.inside.todo.items c.deref-list-items.result.now alive empty is c.self.invariant);
+      disk = moves_none (g.D.TapeDisk.failures c.args.disk.now) (g.D.TapeDisk.writes c.args.disk.now) (g.D.TapeDisk.honest c.args.disk.now);
+    }
+
+next_of : (tapes : List OnTape) (i : ℕ) (d : OnTape) → i < length tapes → drop i tapes ≡ get_or tapes i d ∷ drop (i + 1) tapes
+next_of tapes i d less = drop-cons tapes i d less ∙ ap (λ n. get_or tapes i d ∷ drop n tapes) (sym (add-one i))
+
+pub leave-requires-clause-written : goal.leave-requires-clause-written
+leave-requires-clause-written g c =
+    let x : OnTape = get_or c.deref-list-items.result.now c.loop-list.list-index (record { tape = record { index = 0 }; records = 0; level = 0 }) in
+    let here : drop c.loop-list.list-index c.deref-list-items.result.now ≡ x ∷ drop (c.loop-list.list-index + 1) c.deref-list-items.result.now = next_of c.deref-list-items.result.now c.loop-list.list-index (record { tape = record { index = 0 }; records = 0; level = 0 }) c.loop-list-test.true in
+    ending_written (g.D.TapeDisk.last c.args.disk.now) (g.D.TapeDisk.last c.loop-list.disk) c.args.self.now c.loop-list.self (drop c.loop-list.list-index c.deref-list-items.result.now) (drop (c.loop-list.list-index + 1) c.deref-list-items.result.now) x here c.loop-list.invariant.lists
+
+pub leave-requires-clause-apart : goal.leave-requires-clause-apart
+leave-requires-clause-apart g c =
+    let x : OnTape = get_or c.deref-list-items.result.now c.loop-list.list-index (record { tape = record { index = 0 }; records = 0; level = 0 }) in
+    let here : drop c.loop-list.list-index c.deref-list-items.result.now ≡ x ∷ drop (c.loop-list.list-index + 1) c.deref-list-items.result.now = next_of c.deref-list-items.result.now c.loop-list.list-index (record { tape = record { index = 0 }; records = 0; level = 0 }) c.loop-list-test.true in
+    ending_beside (g.D.TapeDisk.last c.args.disk.now) (g.D.TapeDisk.last c.loop-list.disk) c.args.self.now c.loop-list.self (drop c.loop-list.list-index c.deref-list-items.result.now) (drop (c.loop-list.list-index + 1) c.deref-list-items.result.now) x here c.loop-list.invariant.lists
+
+pub loop-list-preserved : goal.loop-list-preserved
+loop-list-preserved g c =
+    let x : OnTape = get_or c.deref-list-items.result.now c.loop-list.list-index (record { tape = record { index = 0 }; records = 0; level = 0 }) in
+    let here : drop c.loop-list.list-index c.deref-list-items.result.now ≡ x ∷ drop (c.loop-list.list-index + 1) c.deref-list-items.result.now = next_of c.deref-list-items.result.now c.loop-list.list-index (record { tape = record { index = 0 }; records = 0; level = 0 }) c.loop-list-test.true in
+    record {
+      lists = ending_step (g.D.TapeDisk.last c.args.disk.now) (g.D.TapeDisk.last c.loop-list.disk) (g.D.TapeDisk.last c.leave.new.disk) c.args.self.now c.loop-list.self c.leave.new.self (drop c.loop-list.list-index c.deref-list-items.result.now) (drop (c.loop-list.list-index + 1) c.deref-list-items.result.now) x here c.leave.ensures.others c.in_ok-leave.ensures.kept c.in_ok-leave.ensures.left c.in_ok-leave.ensures.alive c.leave.ensures.parts c.leave.ensures.source c.leave.ensures.level c.loop-list.invariant.lists;
+      disk = moves_twice (g.D.TapeDisk.failures c.args.disk.now) (g.D.TapeDisk.failures c.loop-list.disk) (g.D.TapeDisk.failures c.leave.new.disk) (g.D.TapeDisk.writes c.args.disk.now) (g.D.TapeDisk.writes c.loop-list.disk) (g.D.TapeDisk.writes c.leave.new.disk) (g.D.TapeDisk.honest c.args.disk.now) (g.D.TapeDisk.honest c.loop-list.disk) (g.D.TapeDisk.honest c.leave.new.disk) c.loop-list.invariant.disk c.leave.ensures.disk;
+    }
+
+pub returns-clause-left : goal.returns-clause-left
+returns-clause-left g c = ending_end (g.D.TapeDisk.last c.args.disk.now) (g.D.TapeDisk.last c.loop-list.disk) c.args.self.now c.loop-list.self (drop c.loop-list.list-index c.deref-list-items.result.now) (drop_all c.loop-list.list-index c.deref-list-items.result.now c.loop-list-test.false) c.loop-list.invariant.lists

@@ -1,0 +1,34 @@
+use Rattle.std.proofs.Common.{◌≡◌, false, refl, arith, ap, sym, subst, ◌∙◌}
+use Rattle.spill_lists.specs.declared.lists.OnTape.{OnTape}
+use Rattle.spill_lists.specs.Fields.{lists_of, one_or_none}
+use Rattle.spill_lists.specs.Standing.{ListsState, HasLists}
+use Rattle.spill_lists.proofs.StandingLaws.{lists_ended, has_ended, lists_read, has_read, lists_same, tape_ahead}
+use Rattle.spill_lists.proofs.lists.SpillLists.next.Goals as goal
+
+pub invariant_of-self : goal.invariant_of-self
+invariant_of-self g c =
+    let alive : c.self.inside.tapes.is_dead ≡ false = ap (λ (s : ListsState). s.tapes.is_dead) c.self.view_is ∙ c.requires.alive in
+    lists_ended (g.D.TapeDisk.last c.args.disk.now) (g.D.TapeDisk.last c.args.disk.now) c.self.inside.tapes c.close.new.self c.self.inside.level c.self.inside.parts.items (one_or_none c.self.inside.source) c.self.inside.todo.items c.in-Some.list (ap one_or_none c.in-Some.is) c.close.ensures.others (λ _. alive) c.self.invariant
+
+pub returns-in_default-checked_sub-clause-gives : goal.returns-in_default-checked_sub-clause-gives
+returns-in_default-checked_sub-clause-gives g c honest spilled ahead todo had =
+    has_ended (g.D.TapeDisk.last c.args.disk.now) (g.D.TapeDisk.last c.args.disk.now) c.self.inside.tapes c.close.new.self c.self.inside.level c.self.inside.parts.items (one_or_none c.self.inside.source) c.self.inside.todo.items spilled ahead todo c.in-Some.list (ap one_or_none c.in-Some.is) (omega (arith, c.in_default-checked_sub.ensures)) c.close.ensures.others c.self.invariant.apart (subst (λ (s : ListsState). HasLists (g.D.TapeDisk.last c.args.disk.now) s spilled ahead todo) (sym c.self.view_is) had)
+
+pub invariant_of-self-in-Ok-Some : goal.invariant_of-self-in-Ok-Some
+invariant_of-self-in-Ok-Some g c =
+    let alive : c.self.inside.tapes.is_dead ≡ false = ap (λ (s : ListsState). s.tapes.is_dead) c.self.view_is ∙ c.requires.alive in
+    let y : OnTape = record { tape = c.in-Some.list.tape; records = c.in-Some-checked_sub.records; level = c.in-Some.list.level } in
+    lists_read c.self.inside.tapes c.next.new.self c.self.inside.level c.self.inside.parts.items (one_or_none c.self.inside.source) c.self.inside.todo.items c.in-Some.list y (ap one_or_none c.in-Some.is) refl c.next.ensures.phases (λ _. alive) c.self.invariant
+
+pub invariant_of-self-in-Ok-None : goal.invariant_of-self-in-Ok-None
+invariant_of-self-in-Ok-None g c =
+    let alive : c.self.inside.tapes.is_dead ≡ false = ap (λ (s : ListsState). s.tapes.is_dead) c.self.view_is ∙ c.requires.alive in
+    lists_same c.self.inside.tapes c.next.new.self c.self.inside.level c.self.inside.parts.items (one_or_none c.self.inside.source) c.self.inside.todo.items c.next.ensures.phases (λ _. alive) c.self.invariant
+
+pub returns-in-Ok-Some-clause-gives : goal.returns-in-Ok-Some-clause-gives
+returns-in-Ok-Some-clause-gives g c honest spilled ahead todo had =
+    let y : OnTape = record { tape = c.in-Some.list.tape; records = c.in-Some-checked_sub.records; level = c.in-Some.list.level } in
+    let here : HasLists (g.D.TapeDisk.last c.args.disk.now) (lists_of c.self.inside) spilled ahead todo = subst (λ (s : ListsState). HasLists (g.D.TapeDisk.last c.args.disk.now) s spilled ahead todo) (sym c.self.view_is) had in
+    let ensured = rw c.in-Ok-Some.field-0-is at c.in-Ok-Some.ensures in
+    has_read (g.D.TapeDisk.last c.args.disk.now) (g.D.TapeDisk.last c.next.new.disk) c.self.inside.tapes c.next.new.self c.self.inside.level c.self.inside.parts.items (one_or_none c.self.inside.source) c.self.inside.todo.items spilled ahead todo c.in-Some.list y c.next.new.bytes.items c.in-Ok-Some.found (ap one_or_none c.in-Some.is) refl (omega (arith, c.in-Some-checked_sub.ensures)) c.next.ensures.others c.self.invariant.apart here
+    (ensured.gives honest ahead (tape_ahead (g.D.TapeDisk.last c.args.disk.now) c.self.inside.tapes c.self.inside.level c.self.inside.parts.items (one_or_none c.self.inside.source) c.self.inside.todo.items spilled ahead todo c.in-Some.list (ap one_or_none c.in-Some.is) here).0)

@@ -1,0 +1,39 @@
+use Rattle.std.proofs.Common.{◌≡◌, ◌++◌, arith, ap, sym, subst, ◌∙◌}
+use Rattle.spill_lists.specs.Lists.{deeper}
+use Rattle.spill_lists.specs.Fields.{lists_of, one_or_none}
+use Rattle.spill_lists.specs.Standing.{ListsState, HasLists, AreLists, AreApart, AreWritten}
+use Rattle.spill_lists.proofs.OpenLaws.{opening_start, opening_step, opening_has}
+use Rattle.spill_lists.proofs.StandingLaws.{lists_opened}
+use Rattle.spill_lists.proofs.ListLaws.{AreNew, new_written, new_count}
+use Rattle.spill_lists.proofs.lists.SpillLists.open_lists.Goals as goal
+
+pub loop-place-init : goal.loop-place-init
+loop-place-init g c =
+    opening_start (g.D.TapeDisk.last c.args.disk.now) c.args.self.now c.deeper-level.result c.in_ok-parts.parts.items c.requires.alive c.requires.none c.in_ok-parts.ensures.items (subst AreLists c.self.view_is c.self.invariant)
+
+pub loop-place-preserved : goal.loop-place-preserved
+loop-place-preserved g c =
+    opening_step (g.D.TapeDisk.last c.args.disk.now) c.args.self.now c.loop-place.self c.open_list.new.self c.deeper-level.result c.loop-place.parts.items c.push.new.self.items c.loop-place._place c.in_ok-list.list c.loop-place.invariant
+    c.in_ok-push.ensures.items c.in_ok-list.ensures.opened c.in_ok-list.ensures.fresh c.in_ok-list.ensures.others c.open_list.ensures.alive c.open_list.ensures.parts c.open_list.ensures.source c.open_list.ensures.todo c.open_list.ensures.level
+
+pub invariant_of-self : goal.invariant_of-self
+invariant_of-self g c =
+    lists_opened c.self-2.inside.tapes c.self-2.inside.level c.loop-place.parts.items c.self-2.inside.parts.items (one_or_none c.self-2.inside.source) c.self-2.inside.todo.items
+    (subst (λ (s : ListsState). AreApart (c.loop-place.parts.items ++ (s.source ++ s.todo))) (sym c.self-2.view_is) c.loop-place.invariant.apart)
+    (omega (arith, c.loop-place.invariant.long))
+    (subst (λ (s : ListsState). AreWritten s.tapes c.loop-place.parts.items) (sym c.self-2.view_is) (new_written (g.D.TapeDisk.last c.args.disk.now) c.loop-place.self.tapes c.deeper-level.result c.loop-place.parts.items c.loop-place.invariant.new))
+    c.self-2.invariant
+
+pub returns-clause-opened : goal.returns-clause-opened
+returns-clause-opened g c spilled ahead todo had =
+    let level : c.deeper-level.result ≡ deeper c.self-2.inside.level =
+    c.deeper-level.ensures
+    ∙ ap (λ (s : ListsState). deeper s.level) c.self.view_is
+    ∙ ap deeper (sym c.loop-place.invariant.level)
+    ∙ ap (λ (s : ListsState). deeper s.level) (sym c.self-2.view_is) in
+    opening_has (g.D.TapeDisk.last c.args.disk.now) (lists_of c.self-2.inside) c.loop-place.parts.items spilled ahead todo (omega (arith, c.loop-place.invariant.long)) (ap (λ (s : ListsState). s.parts) c.self-2.view_is ∙ c.loop-place.invariant.parts)
+    (subst (λ n. AreNew (g.D.TapeDisk.last c.args.disk.now) c.self-2.inside.tapes n c.loop-place.parts.items) level (subst (λ (s : ListsState). AreNew (g.D.TapeDisk.last c.args.disk.now) s.tapes c.deeper-level.result c.loop-place.parts.items) (sym c.self-2.view_is) c.loop-place.invariant.new))
+    (subst (λ (s : ListsState). HasLists (g.D.TapeDisk.last c.args.disk.now) s spilled ahead todo) (sym c.self-2.view_is) (c.loop-place.invariant.has spilled ahead todo had))
+
+pub returns-clause-counted : goal.returns-clause-counted
+returns-clause-counted g c = new_count (g.D.TapeDisk.last c.args.disk.now) c.loop-place.self.tapes c.deeper-level.result c.loop-place.parts.items c.loop-place.invariant.new

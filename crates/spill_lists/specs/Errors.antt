@@ -1,0 +1,12 @@
+-- What a refusal of tapes is to lists.
+use Rattle.spill_tapes.specs.declared.error.TapeError.{TapeError}
+use Rattle.spill_tapes.specs.declared.error.TapeError.TheVariants as tape
+use Rattle.spill_lists.specs.declared.error.SpillError.{SpillError}
+use Rattle.spill_lists.specs.declared.error.SpillError.TheVariants as spill
+
+-- tapes that live never answer that they are dead
+abbrev pub spill_error : TapeError → SpillError
+spill_error tape.NoMemory = spill.NoMemory
+spill_error tape.TapeFault = spill.TapeFault
+spill_error tape.TapeDamaged = spill.TapeDamaged
+spill_error tape.TapesDead = spill.NoMemory

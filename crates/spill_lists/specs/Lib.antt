@@ -1,0 +1,4 @@
+pub mod Lists
+pub mod Standing
+pub mod Fields
+pub mod Errors

@@ -1,0 +1,117 @@
+-- Lists on tapes.
+use Rattle.std.specs.Prelude.{◌≡◌, ℕ, ◌+◌, ◌<◌, ◌≤◌, ◌⊎◌, ◌==◌, cond, Bool, true, false, not, List, [], ◌∷◌, ◌++◌, length, sum_by, filter}
+use Rattle.spill_tapes.specs.Records.{Record}
+use Rattle.spill_tapes.specs.Tapes.{TapesState, IsTape, is_written, is_read}
+use Rattle.spill_tapes.specs.declared.tape_id.TapeId.{TapeId}
+use Rattle.spill_lists.specs.declared.lists.OnTape.{OnTape}
+use Rattle.spill_lists.specs.declared.error.SpillError.{SpillError}
+use Rattle.spill_lists.specs.declared.error.SpillError.TheVariants.{NoMemory, TapeFault, TapeDamaged}
+use Rattle.spill_lists.specs.Lists.{LeftList, lists}
+
+-- the tapes; the level of the pass; its 16 lists, or none as long as it spilled nothing; the list that it reads, or none; and
+-- those that later passes are to read
+pub record ListsState : Type 0 where
+  pub tapes : TapesState
+  pub level : ℕ
+  pub parts : List OnTape
+  pub source : List OnTape
+  pub todo : List OnTape
+
+-- how many records the pass spilled, has still to read, and leaves to later passes
+abbrev pub count_of : List OnTape → ℕ
+count_of tapes = sum_by (λ (list : OnTape). list.records) tapes
+
+abbrev pub spilled_number : ListsState → ℕ
+spilled_number s = count_of s.parts
+
+abbrev pub ahead_number : ListsState → ℕ
+ahead_number s = count_of s.source
+
+abbrev pub waiting_number : ListsState → ℕ
+waiting_number s = count_of s.todo
+
+-- over a disk whose last bytes are these, tape by tape these are lists of records
+abbrev pub AreOn : (ℕ → ℕ → Type 0) → TapesState → List OnTape → List LeftList → Type 0
+AreOn last t [] [] = Unit {0}
+AreOn last t [] (list ∷ lists) = ⊥
+AreOn last t (tape ∷ tapes) [] = ⊥
+AreOn last t (tape ∷ tapes) (list ∷ lists) = IsTape last t tape.tape list.records × (tape.records ≡ length list.records) × (tape.level ≡ list.level) × AreOn last t tapes lists
+
+-- what the pass spilled, and what it has still to read
+abbrev pub AreSpilled : (ℕ → ℕ → Type 0) → TapesState → ℕ → List OnTape → List Record → Type 0
+AreSpilled last t level [] spilled = spilled ≡ []
+AreSpilled last t level (tape ∷ tapes) spilled = AreOn last t (tape ∷ tapes) (lists level spilled)
+
+abbrev pub AreAhead : (ℕ → ℕ → Type 0) → TapesState → List OnTape → List Record → Type 0
+AreAhead last t [] ahead = ahead ≡ []
+AreAhead last t (tape ∷ tapes) ahead = IsTape last t tape.tape ahead × (tape.records ≡ length ahead)
+
+-- over a disk whose last bytes are these: what the pass spilled, what it has still to read, and the lists that later passes
+-- are to read
+pub record HasLists (last : ℕ → ℕ → Type 0) (s : ListsState) (spilled ahead : List Record) (todo : List LeftList) : Type 0 where
+  pub spilled_are : AreSpilled last s.tapes s.level s.parts spilled
+  pub ahead_are : AreAhead last s.tapes s.source ahead
+  pub todo_are : AreOn last s.tapes s.todo todo
+
+-- the pass that begins reads the last of the lists that were to be read
+abbrev pub BeginsLast : (ℕ → ℕ → Type 0) → ListsState → List LeftList → Type 0
+BeginsLast last s todo = (others : List LeftList) × (list : LeftList) × (todo ≡ others ++ list ∷ []) × (s.level ≡ list.level) × HasLists last s [] list.records others
+
+-- why a call is refused that only writes, by how often the disk had failed before and after it; and one that reads
+abbrev pub IsSpillRefusal : ℕ → ℕ → SpillError → Type 0
+IsSpillRefusal before after NoMemory = Unit {0}
+IsSpillRefusal before after TapeFault = before < after
+IsSpillRefusal before after TapeDamaged = ⊥
+
+abbrev pub IsReadRefusal : ℕ → ℕ → SpillError → Type 0
+IsReadRefusal before after NoMemory = Unit {0}
+IsReadRefusal before after TapeFault = before < after
+IsReadRefusal before after TapeDamaged = Unit {0}
+
+-- what a call leaves of a disk: its counts of failures and of writes do not fall, and it is as honest as it was
+pub record Moves (failed failed_now written written_now : ℕ) (honest honest_now : Bool) : Type 0 where
+  pub failures : failed ≤ failed_now
+  pub writes : written ≤ written_now
+  pub honesty : honest_now ≡ honest
+
+-- how often a tape is there; and no tape is there twice
+abbrev pub once : TapeId → ℕ → ℕ
+once id index = cond (index == id.index) 1 0
+
+abbrev pub times : ℕ → List OnTape → ℕ
+times index [] = 0
+times index (tape ∷ tapes) = once tape.tape index + times index tapes
+
+abbrev pub AreApart : List OnTape → Type 0
+AreApart tapes = (index : ℕ) → times index tapes ≤ 1
+
+-- all of them are written; all are read; and all have records
+abbrev pub AreWritten : TapesState → List OnTape → Type 0
+AreWritten t [] = Unit {0}
+AreWritten t (tape ∷ tapes) = (is_written t tape.tape ≡ true) × AreWritten t tapes
+
+abbrev pub AreRead : TapesState → List OnTape → Type 0
+AreRead t [] = Unit {0}
+AreRead t (tape ∷ tapes) = (is_read t tape.tape ≡ true) × AreRead t tapes
+
+abbrev pub HaveRecords : List OnTape → Type 0
+HaveRecords [] = Unit {0}
+HaveRecords (tape ∷ tapes) = (0 < tape.records) × HaveRecords tapes
+
+-- those with records; and that a list is a new one, which has none, of a level
+abbrev pub those_with_records : List OnTape → List OnTape
+those_with_records tapes = filter (λ (tape : OnTape). not (tape.records == 0)) tapes
+
+pub record IsNewList (last : ℕ → ℕ → Type 0) (t : TapesState) (level : ℕ) (list : OnTape) : Type 0 where
+  pub none : IsTape last t list.tape []
+  pub number : list.records ≡ 0
+  pub deep : list.level ≡ level
+  pub written : is_written t list.tape ≡ true
+
+-- what is true of all lists
+pub record AreLists (s : ListsState) : Type 0 where
+  pub apart : AreApart (s.parts ++ (s.source ++ s.todo))
+  pub sixteen : (s.parts ≡ []) ⊎ (length s.parts ≡ 16)
+  pub written : s.tapes.is_dead ≡ false → AreWritten s.tapes s.parts
+  pub read : s.tapes.is_dead ≡ false → AreRead s.tapes (s.source ++ s.todo)
+  pub filled : HaveRecords s.todo

@@ -1,0 +1,336 @@
+//! Lists of records on tapes.
+
+ghost use Rattle.std.specs.Prelude.{◌≡◌, ◌≢◌, ◌↔◌, ◌+◌, ◌<◌, ◌≤◌, ℕ, ◌++◌, ◌∷◌, List, [], true, false, length, IsTrue, IfOk, IfErr, OnOk, IfSome, IfNone};
+ghost use Rattle.spill_tapes.specs.Records.{Record};
+ghost use Rattle.spill_tapes.specs.Tape.{Gives};
+ghost use Rattle.spill_tapes.specs.Tapes.{IsTape, KeepsOthers, is_open, is_written};
+ghost use Rattle.spill_lists.specs.Lists.{LeftList, left_by, list_of, deeper};
+ghost use Rattle.spill_lists.specs.Standing.{HasLists, BeginsLast, IsNewList, times, those_with_records, Moves, IsSpillRefusal, IsReadRefusal, spilled_number, ahead_number, waiting_number};
+ghost use Rattle.spill_lists.specs.Errors.{spill_error};
+ghost use Rattle.spill_lists.specs.declared.error.SpillError.TheVariants.{NoMemory, TapeDamaged};
+ghost use Rattle.spill_tapes.specs.declared.error.TapeError.TheVariants.{TapesDead};
+
+use crate::error::SpillError;
+use spill_tapes::{TapeDisk, TapeError, TapeId, Tapes};
+use std::alloc::Global;
+use std::marker::Model;
+use std::mem::replace;
+
+/// How many lists a pass spills to: as many as four bits tell apart.
+const LISTS: usize = 16;
+
+/// The level from which on all records fall on one list: a hash has eight digits to base 16.
+const LAST_LEVEL: u32 = 8;
+
+/// A list: its tape, how many records there are on it, and how deep the pass is that is to read them.
+#[derive(Clone, Copy, Debug, PartialEq, Eq)]
+struct OnTape {
+    tape: TapeId,
+    records: u64,
+    level: u32,
+}
+
+/// The lists of an aggregation: those to which the pass that runs spills records, the one that it reads, and those that
+/// later passes are to read.
+#[derive(Drop)]
+pub struct SpillLists {
+    alloc: Global,
+    tapes: Tapes,
+    level: u32,
+    /// The lists of the pass: none as long as nothing is spilled, and then 16.
+    parts: Vec<OnTape>,
+    source: Option<OnTape>,
+    todo: Vec<OnTape>,
+}
+
+impl Model for SpillLists {
+    ghost use Rattle.spill_lists.specs.Standing.{ListsState};
+    ghost use Rattle.spill_lists.specs.Fields.{lists_of, AreFields};
+
+    ghost Value = { ListsState };
+
+    ghost view = { lists_of };
+
+    ghost invariant = { AreFields };
+}
+
+/// The list on which a hash falls at a level.
+fn list_of(level: u32, hash: u32) -> usize
+    ensures is { result ≡ list_of level hash }
+    ensures within { result < 16 }
+{
+    if level < LAST_LEVEL {
+        (hash / 16u32.pow(7 - level)) as usize % LISTS
+    } else {
+        0
+    }
+}
+
+/// How deep the passes are that follow one.
+fn deeper(level: u32) -> u32
+    ensures { result ≡ deeper level }
+{
+    if level < LAST_LEVEL {
+        level + 1
+    } else {
+        LAST_LEVEL
+    }
+}
+
+/// Why a call of tapes that live was refused.
+fn refusal(error: TapeError) -> SpillError
+    requires { error ≢ TapesDead }
+    ensures { spill_error error ≡ result }
+{
+    match error {
+        TapeError::NoMemory => SpillError::NoMemory,
+        TapeError::TapeFault => SpillError::TapeFault,
+        TapeError::TapeDamaged => SpillError::TapeDamaged,
+        TapeError::TapesDead => unreachable!(),
+    }
+}
+
+impl SpillLists {
+    /// No list, at the first level.
+    pub fn new<D: TapeDisk>(alloc: Global, _disk: &D) -> SpillLists
+        ensures alive { result.tapes.is_dead ≡ false }
+        ensures none { HasLists (D.last _disk.now) result [] [] [] }
+        ensures parts { result.parts ≡ [] }
+        ensures source { result.source ≡ [] }
+        ensures todo { result.todo ≡ [] }
+        ensures level { result.level ≡ 0 }
+    {
+        SpillLists {
+            alloc,
+            tapes: Tapes::new(alloc),
+            level: 0,
+            parts: Vec::new(alloc),
+            source: None,
+            todo: Vec::new(alloc),
+        }
+    }
+
+    /// Whether the pass has spilled no record.
+    pub fn is_empty(&self) -> bool
+        ensures { IsTrue result ↔ (self.now.parts ≡ []) }
+    {
+        self.parts.is_empty()
+    }
+
+    /// Adds a record to those that the pass spills: a hash, a tag, which is 0 or 1, and up to 65,535 bytes.
+    pub fn spill<D: TapeDisk>(
+        &mut self,
+        disk: &mut D,
+        hash: u32,
+        tag: u8,
+        bytes: &[u8],
+    ) -> Result<(), SpillError>
+        requires alive { self.old.tapes.is_dead ≡ false }
+        requires tag { tag < 2 }
+        requires len { length bytes.now ≤ 65535 }
+        ensures spilled { OnOk result ((spilled ahead : List Record) (todo : List LeftList) → HasLists (D.last disk.old) self.old spilled ahead todo → HasLists (D.last disk.new) self.new (spilled ++ record { hash = hash; tag = tag; bytes = bytes.now } ∷ []) ahead todo) }
+        ensures counted { OnOk result (spilled_number self.new ≡ spilled_number self.old + 1) }
+        ensures alive { OnOk result (self.new.tapes.is_dead ≡ false) }
+        ensures source { self.new.source ≡ self.old.source }
+        ensures todo { self.new.todo ≡ self.old.todo }
+        ensures level { self.new.level ≡ self.old.level }
+        ensures refused { IfErr result (IsSpillRefusal (D.failures disk.old) (D.failures disk.new)) }
+        ensures disk { Moves (D.failures disk.old) (D.failures disk.new) (D.writes disk.old) (D.writes disk.new) (D.honest disk.old) (D.honest disk.new) }
+    {
+        if self.parts.is_empty() {
+            self.open_lists(disk)?;
+        }
+        let place = list_of(self.level, hash);
+        self.append(disk, place, hash, tag, bytes)
+    }
+
+    /// Opens the lists of the pass.
+    fn open_lists<D: TapeDisk>(&mut self, disk: &D) -> Result<(), SpillError>
+        requires alive { self.old.tapes.is_dead ≡ false }
+        requires none { self.old.parts ≡ [] }
+        ensures opened { OnOk result ((spilled ahead : List Record) (todo : List LeftList) → HasLists (D.last disk.now) self.old spilled ahead todo → HasLists (D.last disk.now) self.new spilled ahead todo) }
+        ensures sixteen { OnOk result (length self.new.parts ≡ 16) }
+        ensures counted { OnOk result (spilled_number self.new ≡ 0) }
+        ensures alive { self.new.tapes.is_dead ≡ false }
+        ensures source { self.new.source ≡ self.old.source }
+        ensures todo { self.new.todo ≡ self.old.todo }
+        ensures level { self.new.level ≡ self.old.level }
+        ensures refused { IfErr result (λ error. error ≡ NoMemory) }
+    {
+        let level = deeper(self.level);
+        let mut parts = Vec::with_capacity(self.alloc, LISTS)?;
+        for _place in 0..LISTS {
+            let list = self.open_list(disk, level)?;
+            parts.push(list)?;
+        }
+        self.parts = parts;
+        Ok(())
+    }
+
+    /// Opens a list, which has no record yet.
+    fn open_list<D: TapeDisk>(&mut self, disk: &D, level: u32) -> Result<OnTape, SpillError>
+        requires alive { self.old.tapes.is_dead ≡ false }
+        ensures opened { IfOk result (λ list. IsNewList (D.last disk.now) self.new.tapes level list) }
+        ensures fresh { IfOk result (λ list. is_open self.old.tapes list.tape ≡ false) }
+        ensures others { IfOk result (λ list. KeepsOthers (D.last disk.now) (D.last disk.now) self.old.tapes self.new.tapes list.tape) }
+        ensures alive { self.new.tapes.is_dead ≡ false }
+        ensures parts { self.new.parts ≡ self.old.parts }
+        ensures source { self.new.source ≡ self.old.source }
+        ensures todo { self.new.todo ≡ self.old.todo }
+        ensures level { self.new.level ≡ self.old.level }
+        ensures refused { IfErr result (λ error. error ≡ NoMemory) }
+    {
+        match self.tapes.open(disk) {
+            Ok(tape) => Ok(OnTape {
+                tape,
+                records: 0,
+                level,
+            }),
+            Err(error) => Err(refusal(error)),
+        }
+    }
+
+    /// Adds a record to one of the lists of the pass.
+    fn append<D: TapeDisk>(
+        &mut self,
+        disk: &mut D,
+        place: usize,
+        hash: u32,
+        tag: u8,
+        bytes: &[u8],
+    ) -> Result<(), SpillError>
+        requires alive { self.old.tapes.is_dead ≡ false }
+        requires parts { place < length self.old.parts }
+        requires place { place ≡ list_of self.old.level hash }
+        requires tag { tag < 2 }
+        requires len { length bytes.now ≤ 65535 }
+        ensures spilled { OnOk result ((spilled ahead : List Record) (todo : List LeftList) → HasLists (D.last disk.old) self.old spilled ahead todo → HasLists (D.last disk.new) self.new (spilled ++ record { hash = hash; tag = tag; bytes = bytes.now } ∷ []) ahead todo) }
+        ensures counted { OnOk result (spilled_number self.new ≡ spilled_number self.old + 1) }
+        ensures alive { OnOk result (self.new.tapes.is_dead ≡ false) }
+        ensures source { self.new.source ≡ self.old.source }
+        ensures todo { self.new.todo ≡ self.old.todo }
+        ensures level { self.new.level ≡ self.old.level }
+        ensures refused { IfErr result (IsSpillRefusal (D.failures disk.old) (D.failures disk.new)) }
+        ensures disk { Moves (D.failures disk.old) (D.failures disk.new) (D.writes disk.old) (D.writes disk.new) (D.honest disk.old) (D.honest disk.new) }
+    {
+        let list = self.parts[place];
+        let Some(records) = list.records.checked_add(1) else {
+            return Err(SpillError::NoMemory);
+        };
+        match self.tapes.append(disk, list.tape, hash, tag, bytes) {
+            Ok(()) => {
+                self.parts[place] = OnTape { records, ..list };
+                Ok(())
+            }
+            Err(error) => Err(refusal(error)),
+        }
+    }
+
+    /// Ends the pass: later passes are to read what it spilled, list by list.
+    pub fn end_pass<D: TapeDisk>(&mut self, disk: &mut D) -> Result<(), SpillError>
+        requires alive { self.old.tapes.is_dead ≡ false }
+        ensures left { OnOk result ((spilled ahead : List Record) (todo : List LeftList) → HasLists (D.last disk.old) self.old spilled ahead todo → HasLists (D.last disk.new) self.new [] ahead (todo ++ left_by self.old.level spilled)) }
+        ensures parts { OnOk result (self.new.parts ≡ []) }
+        ensures waiting { OnOk result (waiting_number self.new ≡ waiting_number self.old + spilled_number self.old) }
+        ensures alive { OnOk result (self.new.tapes.is_dead ≡ false) }
+        ensures source { self.new.source ≡ self.old.source }
+        ensures level { self.new.level ≡ self.old.level }
+        ensures refused { IfErr result (IsSpillRefusal (D.failures disk.old) (D.failures disk.new)) }
+        ensures disk { Moves (D.failures disk.old) (D.failures disk.new) (D.writes disk.old) (D.writes disk.new) (D.honest disk.old) (D.honest disk.new) }
+    {
+        let parts = replace(&mut self.parts, Vec::new(self.alloc));
+        for list in &parts {
+            self.leave(disk, *list)?;
+        }
+        Ok(())
+    }
+
+    /// Leaves a list of the pass to a later one, if it has records.
+    fn leave<D: TapeDisk>(&mut self, disk: &mut D, list: OnTape) -> Result<(), SpillError>
+        requires alive { self.old.tapes.is_dead ≡ false }
+        requires written { is_written self.old.tapes list.tape ≡ true }
+        requires parts { self.old.parts ≡ [] }
+        requires apart { times list.tape.index (self.old.source ++ self.old.todo) ≡ 0 }
+        ensures left { OnOk result (self.new.todo ≡ self.old.todo ++ those_with_records (list ∷ [])) }
+        ensures kept { OnOk result (0 < list.records → (records : List Record) → IsTape (D.last disk.old) self.old.tapes list.tape records → IsTape (D.last disk.new) self.new.tapes list.tape records) }
+        ensures others { KeepsOthers (D.last disk.old) (D.last disk.new) self.old.tapes self.new.tapes list.tape }
+        ensures alive { OnOk result (self.new.tapes.is_dead ≡ false) }
+        ensures parts { self.new.parts ≡ [] }
+        ensures source { self.new.source ≡ self.old.source }
+        ensures level { self.new.level ≡ self.old.level }
+        ensures refused { IfErr result (IsSpillRefusal (D.failures disk.old) (D.failures disk.new)) }
+        ensures disk { Moves (D.failures disk.old) (D.failures disk.new) (D.writes disk.old) (D.writes disk.new) (D.honest disk.old) (D.honest disk.new) }
+    {
+        if list.records == 0 {
+            self.tapes.close(disk, list.tape);
+            return Ok(());
+        }
+        match self.tapes.rewind(disk, list.tape) {
+            Ok(()) => {
+                self.todo.push(list)?;
+                Ok(())
+            }
+            Err(error) => Err(refusal(error)),
+        }
+    }
+
+    /// Begins the pass over the last list that is to be read, if there is one.
+    pub fn begin_pass<D: TapeDisk>(&mut self, _disk: &D) -> bool
+        requires parts { self.old.parts ≡ [] }
+        requires source { self.old.source ≡ [] }
+        ensures begins { result ≡ true → (todo : List LeftList) → HasLists (D.last _disk.now) self.old [] [] todo → BeginsLast (D.last _disk.now) self.new todo }
+        ensures some { result ≡ true → 0 < ahead_number self.new }
+        ensures counted { waiting_number self.old ≡ waiting_number self.new + ahead_number self.new }
+        ensures none { result ≡ false → self.old.todo ≡ [] }
+        ensures parts { self.new.parts ≡ [] }
+        ensures alive { self.new.tapes.is_dead ≡ self.old.tapes.is_dead }
+    {
+        match self.todo.pop() {
+            Some(list) => {
+                self.level = list.level;
+                self.source = Some(list);
+                true
+            }
+            None => false,
+        }
+    }
+
+    /// Reads the next record of the list that the pass reads, if there is one: its hash and its tag are answered, and its
+    /// bytes are put in the place of those in `bytes`.
+    pub fn next<D: TapeDisk>(
+        &mut self,
+        disk: &mut D,
+        bytes: &mut Vec<u8>,
+    ) -> Result<Option<(u32, u8)>, SpillError>
+        requires alive { self.old.tapes.is_dead ≡ false }
+        ensures gives { IfOk result (λ found. IsTrue (D.honest disk.old) → (spilled ahead : List Record) (todo : List LeftList) → HasLists (D.last disk.old) self.old spilled ahead todo → Gives (λ rest. HasLists (D.last disk.new) self.new spilled rest todo) ahead bytes.new.items found) }
+        ensures undamaged { IfErr result (λ error. IsTrue (D.honest disk.old) → (spilled ahead : List Record) (todo : List LeftList) → HasLists (D.last disk.old) self.old spilled ahead todo → error ≢ TapeDamaged) }
+        ensures counted { IfOk result (λ found. IfSome found (λ _. ahead_number self.old ≡ ahead_number self.new + 1)) }
+        ensures ended { IfOk result (λ found. IfNone found ((ahead_number self.old ≡ 0) × (self.new.source ≡ []))) }
+        ensures framed { IfOk result (λ found. IfSome found (λ told. (told.1 < 2) × (length bytes.new.items ≤ 65535))) }
+        ensures alive { OnOk result (self.new.tapes.is_dead ≡ false) }
+        ensures parts { self.new.parts ≡ self.old.parts }
+        ensures todo { self.new.todo ≡ self.old.todo }
+        ensures level { self.new.level ≡ self.old.level }
+        ensures refused { IfErr result (IsReadRefusal (D.failures disk.old) (D.failures disk.new)) }
+        ensures disk { Moves (D.failures disk.old) (D.failures disk.new) (D.writes disk.old) (D.writes disk.new) (D.honest disk.old) (D.honest disk.new) }
+    {
+        bytes.clear();
+        let Some(list) = self.source else {
+            return Ok(None);
+        };
+        let Some(records) = list.records.checked_sub(1) else {
+            self.tapes.close(disk, list.tape);
+            self.source = None;
+            return Ok(None);
+        };
+        match self.tapes.next(disk, list.tape, bytes) {
+            Ok(Some(found)) => {
+                self.source = Some(OnTape { records, ..list });
+                Ok(Some(found))
+            }
+            Ok(None) => Err(SpillError::TapeDamaged),
+            Err(error) => Err(refusal(error)),
+        }
+    }
+}
