@@ -1,6 +1,6 @@
 -- The head of a batch file, and the records after it.
-use Rattle.std.proofs.Common.{◌≡◌, ◌≢◌, ◌<◌, ◌≤◌, ℕ, List, [], ◌∷◌, length, get_or, map, take, drop, Option, Some, None, IsSomeAnd, is_some, false, option_map, refl, sym, ap, arith, ◌∙◌}
-use Rattle.std.proofs.lemmas.List.{length-map, length-take, length-drop, take_all}
+use Rattle.std.proofs.Common.{◌≡◌, ◌≢◌, ◌≤◌, ℕ, List, [], ◌∷◌, length, get_or, take, drop, Option, Some, None, IsSomeAnd, is_some, false, true, MatchOption, option_map, refl, sym, ap, arith, ◌∙◌}
+use Rattle.std.proofs.lemmas.List.{length-drop, take_all}
 use Rattle.std.proofs.lemmas.Bool.{false≢true}
 use Rattle.csv.specs.Records.{fields_of}
 use Rattle.csv.specs.declared.record.ByteRecord.{ByteRecord}
@@ -10,8 +10,8 @@ use Rattle.grouping_model.specs.declared.limits.TheConstants.{MOST_ROWS}
 use Rattle.batch_reader.specs.Head.{ReadsBatchNumber, ReadsOrigin}
 use Rattle.script_io.specs.Records.{Record}
 use Rattle.batch_reader.specs.File.{BatchFile, FileHead, batch_file, file_head, told_by}
-use Rattle.batch_reader.specs.Rows.{ArePackedRows, ReadsRows, packings, records_of}
-use Rattle.batch_reader.proofs.RecordLaws.{packed_long, built_rows}
+use Rattle.batch_reader.specs.Rows.{ArePackedRows, ReadsRows, packings}
+use Rattle.batch_reader.proofs.RecordLaws.{built_rows}
 
 pub head_of_four : (fields : Record) → length fields ≡ 4
     → file_head fields ≡ told_by (get_or fields 0 []) (get_or fields 1 []) (get_or fields 2 []) (get_or fields 3 [])
@@ -32,22 +32,20 @@ head_of_other (a ∷ b ∷ c ∷ []) h = refl
 head_of_other (a ∷ b ∷ c ∷ d ∷ []) h = absurd (h refl)
 head_of_other (a ∷ b ∷ c ∷ d ∷ e ∷ rest) h = refl
 
--- fewer records are there than were taken for
-pub too_few : (records : List Record) (told : ℕ) → length (take told records) < told → length records ≢ told
-too_few records told h e = let all = take_all told records (omega (arith, e)) in omega (arith, ap length all)
-
 -- a record is there after as many as were taken
-pub too_many : (records rest : List Record) (told : ℕ) (next : Record) → drop told records ≡ next ∷ rest → length records ≢ told
+too_many : (records rest : List Record) (told : ℕ) (next : Record) → drop told records ≡ next ∷ rest → length records ≢ told
 too_many records rest told next h e = let left = length-drop told records in omega (arith, ap length h)
 
+pub one_more : (records left rest : List Record) (told : ℕ) (found : Option ByteRecord) → is_some found ≡ true → left ≡ drop told records
+    → MatchOption found ((left ≡ []) × (rest ≡ [])) (λ row. left ≡ fields_of row ∷ rest) → length records ≢ told
+one_more records left rest told None some is next = absurd (false≢true some)
+one_more records left rest told (Some row) some is next = too_many records rest told (fields_of row) (sym is ∙ next)
+
 -- no record is there after as many as were taken
-pub as_many : (records : List Record) (told : ℕ) → told ≤ length (take told records) → drop told records ≡ []
-    → (take told records ≡ records) × (length records ≡ told)
-as_many records told h e =
+pub all_taken : (records : List Record) (told : ℕ) → drop told records ≡ [] → take told records ≡ records
+all_taken records told h =
     let left = length-drop told records in
-    let taken = length-take told records in
-    let same : length records ≡ told = grind (arith, ap length e) in
-    (take_all told records (omega arith), same)
+    take_all told records (omega (arith, left, ap length h))
 
 pub no_value : {X : Type 0} (o : Option X) → is_some o ≡ false → o ≡ None
 no_value None h = refl
@@ -57,11 +55,6 @@ no_value (Some x) h = absurd (false≢true (sym h))
 pub file_of : (records rest : List Record) (first : Record) (head : FileHead) → records ≡ first ∷ rest → Some head ≡ file_head first
     → batch_file records ≡ Some (record { head = head; records = rest })
 file_of records rest first head is tells = ap batch_file is ∙ ap (option_map (λ h. record { head = h; records = rest })) (sym tells)
-
--- as many rows are packed as were told
-pub packed_as_told : (kinds : List Kind) (rs : List ByteRecord) (bytes : List (List ℕ)) (records : List Record) (told : ℕ)
-    → (rows : List Row) × ReadsRows kinds (records_of rs) rows × (bytes ≡ packings rows) → (map fields_of rs ≡ records) × (length records ≡ told) → length bytes ≡ told
-packed_as_told kinds rs bytes records told packed found = packed_long kinds rs bytes packed ∙ sym (length-map rs fields_of) ∙ ap length found.0 ∙ found.1
 
 -- the rows of a batch file are packed rows of the columns
 pub file_rows : (kinds : List Kind) (file : Option BatchFile) (packed : List (List ℕ)) → length packed ≤ MOST_ROWS

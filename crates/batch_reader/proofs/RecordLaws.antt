@@ -1,44 +1,53 @@
 -- Fields of a record one by one, and records one by one.
-use Rattle.std.specs.Prelude.{◌≡◌, ℕ, zero, suc, ◌+◌, ◌<◌, ◌≤◌, List, [], ◌∷◌, ◌++◌, take, length, slice_index_or, Option, Some, None}
-use Rattle.std.proofs.Common.{refl, sym, ◌∙◌, ap, subst, arith}
-use Rattle.std.proofs.lemmas.List.{map-append, take_more, take_all, length-map, get_or-map}
+use Rattle.std.specs.Prelude.{◌≡◌, ◌≢◌, ℕ, suc, ◌+◌, ◌<◌, ◌≤◌, List, [], ◌∷◌, ◌++◌, drop, take, length, slice_index_or, Option, Some, None, is_some, false, true, MatchOption, Result, Ok, Err, IfErr, OnOk}
+use Rattle.std.proofs.Common.{refl, sym, ◌∙◌, ap, subst, add-zero, arith}
+use Rattle.std.proofs.lemmas.List.{map-append, take_more, take_all, drop_all, drop-drop, length-drop, length-map, length-take, get_or-drop, get_or-map, get_or-take}
 use Rattle.std.specs.List.{AllByRecursion}
+use Rattle.std.specs.Result.{result_err}
+use Rattle.std.proofs.lemmas.Bool.{false≢true}
 use Rattle.std.proofs.lemmas.List.Elements.{All-from_recursion}
-use Rattle.csv.specs.Records.{fields_of, field_at}
+use Rattle.csv.specs.Records.{fields_of}
 use Rattle.csv.specs.declared.record.ByteRecord.{ByteRecord}
-use Rattle.grouping_model.specs.Datum.{Kind, Row, HasKinds}
+use Rattle.grouping_model.specs.Datum.{Datum, Kind, Row, HasKinds, Bigint_kind}
 use Rattle.grouping_model.specs.declared.limits.TheConstants.{MOST_ROWS}
 use Rattle.packed_rows.proofs.FieldLaws.{read_kinds}
-use Rattle.packed_rows.specs.Field.{ReadsRow}
-use Rattle.packed_rows.specs.Packing.{packing}
+use Rattle.packed_rows.proofs.RowLaws.{PackedSoFar, packed_all, packed_more}
+use Rattle.packed_rows.specs.Field.{IsBadField, Reads, ReadsRow}
+use Rattle.packed_rows.specs.Packing.{packing, value_packing}
+use Rattle.packed_rows.specs.View.{kind_of, kinds_of}
+use Rattle.packed_rows.specs.declared.value.ValueKind.{ValueKind}
+use Rattle.packed_rows.specs.declared.value.ValueKind.TheVariants as kind
 use Rattle.batch_reader.specs.Rows.{ArePackedRows, ReadsRows, packings, records_of}
 use Rattle.batch_reader.specs.Refusal.{RecordFault, RowsFault}
 use Rattle.batch_reader.specs.declared.error.BatchError.{BatchError}
 use Rattle.batch_reader.specs.declared.error.BatchError.TheVariants.{NoMemory, WrongWidth, BadField}
 
-pub field_more : (fs : List (List ℕ)) (i : ℕ) (f : List ℕ) → field_at fs i ≡ Some f → take (suc i) fs ≡ take i fs ++ f ∷ []
-unfolding field_at
-field_more [] zero f e = absurd cc
-field_more [] (suc i) f e = absurd cc
-field_more (g ∷ fs) zero f e = ap (λ h. h ∷ []) (same g f e)
-  where
-    same : (g f : List ℕ) → (◌≡◌ {A = Option (List ℕ)} (Some g) (Some f)) → g ≡ f
-    same g f e = cc
-field_more (g ∷ fs) (suc i) f e = ap (λ w. g ∷ w) (field_more fs i f e)
+kind_at : (ks : List ValueKind) (kinds : List Kind) (i : ℕ) → kinds_of ks ≡ kinds → i < length ks → slice_index_or kinds i Bigint_kind ≡ kind_of (slice_index_or ks i kind.Bigint)
+kind_at ks kinds i e within = ap (λ (w : List Kind). slice_index_or w i Bigint_kind) (sym e) ∙ get_or-map kind_of ks i kind.Bigint Bigint_kind within
 
-pub field_within : (fs : List (List ℕ)) (i : ℕ) (f : List ℕ) → field_at fs i ≡ Some f → i < length fs
-unfolding field_at
-field_within [] zero f e = absurd cc
-field_within [] (suc i) f e = absurd cc
-field_within (g ∷ fs) zero f e = omega arith
-field_within (g ∷ fs) (suc i) f e = let rest = field_within fs i f e in omega (arith, rest)
+same_width : (ks : List ValueKind) (kinds : List Kind) → kinds_of ks ≡ kinds → length ks ≡ length kinds
+same_width ks kinds e = sym (length-map ks kind_of) ∙ ap length e
 
-pub field_none : (fs : List (List ℕ)) (i : ℕ) → field_at fs i ≡ None → take i fs ≡ fs
-unfolding field_at
-field_none [] zero e = refl
-field_none [] (suc i) e = refl
-field_none (g ∷ fs) zero e = absurd cc
-field_none (g ∷ fs) (suc i) e = ap (λ w. g ∷ w) (field_none fs i e)
+-- the leftmost bad field of a record
+pub bad_field : (ks : List ValueKind) (kinds : List Kind) (fields : List (List ℕ)) (i : ℕ) (bytes : List ℕ) → kinds_of ks ≡ kinds → length fields ≡ length ks → i < length ks
+    → PackedSoFar kinds fields i bytes → IsBadField (kind_of (slice_index_or ks i kind.Bigint)) (slice_index_or fields i []) → RecordFault kinds fields (BadField i)
+bad_field ks kinds fields i bytes e width within so_far bad =
+    let w = same_width ks kinds e in
+    (width ∙ w, (omega (arith, w), rw (kind_at ks kinds i e within) bad, so_far.0, so_far.1))
+
+-- a field more
+pub next_field : (ks : List ValueKind) (kinds : List Kind) (fields : List (List ℕ)) (i : ℕ) (bytes : List ℕ) (value : Datum) → kinds_of ks ≡ kinds → length fields ≡ length ks → i < length ks
+    → PackedSoFar kinds fields i bytes → Reads (kind_of (slice_index_or ks i kind.Bigint)) (slice_index_or fields i []) value → PackedSoFar kinds fields (i + 1) (bytes ++ value_packing value)
+next_field ks kinds fields i bytes value e width within so_far reads =
+    let w = same_width ks kinds e in
+    packed_more kinds fields i bytes Bigint_kind [] value (omega (arith, w)) (omega (arith, width)) (rw (kind_at ks kinds i e within) reads) so_far
+
+-- all fields
+pub all_fields : (ks : List ValueKind) (kinds : List Kind) (fields : List (List ℕ)) (i : ℕ) (bytes : List ℕ) → kinds_of ks ≡ kinds → length fields ≡ length ks → length ks ≡ i
+    → PackedSoFar kinds fields i bytes → (row : Row) × ReadsRow kinds fields row × (bytes ≡ packing row)
+all_fields ks kinds fields i bytes e width all so_far =
+    let w = same_width ks kinds e in
+    packed_all kinds fields bytes (width ∙ w) (subst (λ n. PackedSoFar kinds fields n bytes) (sym all ∙ w) so_far)
 
 -- the first records stand for rows, and these are the rows' packings
 abbrev pub RowsSoFar : List Kind → List (List (List ℕ)) → ℕ → List (List ℕ) → Type 0
@@ -67,6 +76,28 @@ first_fault kinds records i bytes fields WrongWidth within at s fault = record {
 first_fault kinds records i bytes fields (BadField column) within at s fault = record { place = i; within = within; before = (s.0, s.1); fault = subst (λ f. RecordFault kinds f (BadField column)) (sym at) fault }
 first_fault kinds records i bytes fields error within at s fault = absurd fault
 
+-- what is kept of records that are packed one by one: the rows of the first ones, or the first fault
+abbrev pub KeptSoFar : List Kind → List (List (List ℕ)) → ℕ → Option BatchError → List (List ℕ) → Type 0
+KeptSoFar kinds records i fault bytes = MatchOption fault (RowsSoFar kinds records i bytes) (RowsFault kinds records)
+
+pub kept_rows : (kinds : List Kind) (records : List (List (List ℕ))) (i : ℕ) (fault : Option BatchError) (bytes : List (List ℕ)) → is_some fault ≡ false
+    → KeptSoFar kinds records i fault bytes → RowsSoFar kinds records i bytes
+kept_rows kinds records i None bytes none kept = kept
+kept_rows kinds records i (Some error) bytes none kept = absurd (false≢true (sym none))
+
+pub kept_fault : (kinds : List Kind) (records : List (List (List ℕ))) (i j : ℕ) (fault : Option BatchError) (bytes : List (List ℕ)) → is_some fault ≡ true
+    → KeptSoFar kinds records i fault bytes → KeptSoFar kinds records j fault bytes
+kept_fault kinds records i j None bytes some kept = absurd (false≢true some)
+kept_fault kinds records i j (Some error) bytes some kept = kept
+
+pub kept_more : {X : Type 0} (kinds : List Kind) (records : List (List (List ℕ))) (i : ℕ) (result : Result X BatchError) (bytes more : List (List ℕ)) (fields : List (List ℕ))
+    → i < length records → slice_index_or records i [] ≡ fields → RowsSoFar kinds records i bytes
+    → OnOk result ((row : Row) × ReadsRow kinds fields row × (more ≡ bytes ++ packing row ∷ [])) → IfErr result (RecordFault kinds fields)
+    → KeptSoFar kinds records (i + 1) (result_err result) more
+kept_more kinds records i (Ok x) bytes more fields within at s pushed refused =
+    subst (RowsSoFar kinds records (i + 1)) (sym pushed.2) (rows_more kinds records i bytes fields pushed.0 (packing pushed.0) within at pushed.1 refl s)
+kept_more kinds records i (Err error) bytes more fields within at s pushed refused = first_fault kinds records i bytes fields error within at s refused
+
 -- the fields of a record in its place
 pub record_at : (rs : List ByteRecord) (i : ℕ) (r : ByteRecord) → i < length rs → r ≡ slice_index_or rs i r → slice_index_or (records_of rs) i [] ≡ fields_of r
 record_at rs i r within is = get_or-map fields_of rs i r [] within ∙ ap fields_of (sym is)
@@ -74,8 +105,25 @@ record_at rs i r within is = get_or-map fields_of rs i r [] within ∙ ap fields
 pub records_long : (rs : List ByteRecord) → length (records_of rs) ≡ length rs
 records_long rs = length-map rs fields_of
 
+-- the record at a place, of those that are told
+pub told_item : (told i : ℕ) (all rest : List (List (List ℕ))) (fields : List (List ℕ)) → i < told → drop i all ≡ fields ∷ rest
+    → (i < length (take told all)) × (slice_index_or (take told all) i [] ≡ fields) × (drop (i + 1) all ≡ rest)
+told_item told i all rest fields short is =
+    let left = length-drop i all in
+    let some : i < length all = grind (arith, ap length is, left) in
+    let within : i < length (take told all) = omega (arith, length-take told all, some) in
+    let at : slice_index_or all i [] ≡ fields = ap (λ n. slice_index_or all n []) (sym (add-zero i)) ∙ sym (get_or-drop i all 0 []) ∙ ap (λ l. slice_index_or l 0 []) is in
+    (within, get_or-take told all i [] short ∙ at, sym (drop-drop 1 i all) ∙ ap (drop 1) is)
+
+-- fewer records are there than are told
+pub fewer_told : (told i : ℕ) (all : List (List (List ℕ))) → i < told → drop i all ≡ [] → (length (take told all) ≢ told) × (drop told all ≡ [])
+fewer_told told i all short is =
+    let left = length-drop i all in
+    let none : length all ≤ i = grind (arith, ap length is, left) in
+    ((λ e. omega (arith, length-take told all, e, none)), drop_all told all (omega (arith, none)))
+
 -- as many rows as records
-rows_long : (kinds : List Kind) (records : List (List (List ℕ))) (rows : List Row) → ReadsRows kinds records rows → length (packings rows) ≡ length records
+pub rows_long : (kinds : List Kind) (records : List (List (List ℕ))) (rows : List Row) → ReadsRows kinds records rows → length (packings rows) ≡ length records
 rows_long kinds [] [] r = refl
 rows_long kinds (f ∷ records) (row ∷ rows) r = ap (λ n. suc n) (rows_long kinds records rows r.1)
 rows_long kinds [] (row ∷ rows) r = absurd r

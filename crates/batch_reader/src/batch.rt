@@ -1,6 +1,6 @@
 //! Batches.
 
-ghost use Rattle.std.specs.Prelude.{◌≡◌, ◌≤◌, List, length, IfOk, IfErr};
+ghost use Rattle.std.specs.Prelude.{◌≡◌, ◌≤◌, List, [], drop, length, take, IfOk, IfErr, MatchResult};
 ghost use Rattle.grouping_model.specs.Datum.{Row};
 ghost use Rattle.packed_rows.specs.Columns.{kinds};
 ghost use Rattle.grouping_model.specs.declared.limits.TheConstants.{MOST_ROWS};
@@ -10,10 +10,12 @@ ghost use Rattle.batch_reader.specs.Refusal.{BuildFault};
 
 use crate::error::BatchError;
 use crate::head::checked_head;
-use crate::rows::{PackedRows, pack_records};
+use crate::rows::{pack_next, pack_records};
 use csv::ByteRecord;
+use flat_rows::PackedRows;
 use packed_rows::Schema;
-use std::alloc::Global;
+use script_io::Records;
+use std::alloc::{AllocError, Global};
 
 /// A batch: the rows that an origin gave a number to.
 #[derive(Drop)]
@@ -56,4 +58,50 @@ pub fn build_batch(
         number,
         rows,
     })
+}
+
+/// The batch of the next records, as many as told or all where fewer are left, by the rules of `build_batch`. These
+/// records are taken in any case, whatever becomes of the batch. They are packed as they are read, so that no more is kept
+/// of them than their rows, and where the head is refused they are passed over in one buffer; memory is taken for the
+/// records that come, and not for the number told.
+///
+/// The inner error is why they are no batch. The only outer error is that memory ran out for a record, and after it no
+/// more records come.
+pub fn read_rows(
+    alloc: Global,
+    schema: &Schema,
+    origin: &[u8],
+    number: &[u8],
+    told: u32,
+    records: &mut Records<'_>,
+) -> Result<Result<Batch, BatchError>, AllocError>
+    ensures origin { IfOk result (λ built. IfOk built (λ batch.
+        ReadsOrigin origin.now batch.origin)) }
+    ensures number { IfOk result (λ built. IfOk built (λ batch.
+        ReadsBatchNumber number.now batch.number)) }
+    ensures few { IfOk result (λ built. IfOk built (λ batch. length batch.rows ≤ MOST_ROWS)) }
+    ensures told { IfOk result (λ built. IfOk built (λ batch. length batch.rows ≡ told)) }
+    ensures rows { IfOk result (λ built. IfOk built (λ batch. (rows : List Row)
+        × ReadsRows (kinds schema.now) (take told records.old) rows
+        × (batch.rows ≡ packings rows))) }
+    ensures refused { IfOk result (λ built. IfErr built (BuildFault (kinds schema.now) origin.now
+        number.now told (take told records.old))) }
+    ensures left { MatchResult result (λ _. records.new ≡ drop told records.old)
+        (λ _. records.new ≡ []) }
+{
+    let (origin, number) = match checked_head(origin, number, told) {
+        Ok(head) => head,
+        Err(why) => {
+            records.skip(told as usize)?;
+            return Ok(Err(why));
+        }
+    };
+    match pack_next(alloc, schema, told, records)? {
+        Ok(rows) => Ok(Ok(Batch {
+            origin,
+            number,
+            rows,
+        })),
+        Err(why) => Ok(Err(why)),
+    }
 }

@@ -1,6 +1,6 @@
 //! Batch files.
 
-ghost use Rattle.std.specs.Prelude.{◌≡◌, ◌≢◌, ◌≤◌, List, [], map, length, option_map, IfOk, IfErr, IsSomeAnd, MatchOption};
+ghost use Rattle.std.specs.Prelude.{◌≡◌, ◌≤◌, ℕ, List, length, option_map, IfOk, IfErr, IsSomeAnd};
 ghost use Rattle.csv.specs.Records.{fields_of};
 ghost use Rattle.grouping_model.specs.Datum.{Row};
 ghost use Rattle.grouping_model.specs.declared.limits.TheConstants.{MOST_ROWS};
@@ -8,16 +8,18 @@ ghost use Rattle.packed_rows.specs.Columns.{kinds};
 ghost use Rattle.batch_reader.specs.Head.{ReadsOrigin, ReadsBatchNumber};
 ghost use Rattle.batch_reader.specs.Rows.{ReadsRows, packings};
 ghost use Rattle.batch_reader.specs.File.{FileFault, file_head, read_file, told_by};
+ghost use Rattle.batch_reader.specs.Refusal.{BuildFault, HeadReads};
 ghost use Rattle.batch_reader.specs.Views.{head_view};
 
 use crate::batch::Batch;
 use crate::error::BatchError;
 use crate::head::checked_head;
-use crate::rows::pack_records;
+use crate::rows::pack_next;
 use csv::ByteRecord;
+use flat_rows::PackedRows;
 use packed_rows::Schema;
 use script_io::{Records, field, read_row_count};
-use std::alloc::{AllocError, Global};
+use std::alloc::Global;
 
 /// What the first record of a batch file tells.
 #[derive(Clone, Copy)]
@@ -60,22 +62,33 @@ fn file_head(first: &ByteRecord) -> Option<FileHead<'_>>
     )
 }
 
-/// The records that are left, where they are as many as told. No more than that are held.
-fn told_records(records: &mut Records<'_>, told: u32) -> Result<Option<Vec<ByteRecord>>, AllocError>
-    ensures { IfOk result (λ found. MatchOption found (length records.old ≢ told)
-        (λ rows. (map fields_of rows.items ≡ records.old) × (length records.old ≡ told))) }
+/// The packings of the rows that the records that are left stand for, where they are as many as told; one more is read at
+/// most.
+fn pack_left(
+    alloc: Global,
+    schema: &Schema,
+    told: u32,
+    records: &mut Records<'_>,
+) -> Result<PackedRows, BatchError>
+    requires { told ≤ MOST_ROWS }
+    ensures packed { IfOk result (λ packed. (rows : List Row)
+        × ReadsRows (kinds schema.now) records.old rows × (packed ≡ packings rows)) }
+    ensures told { IfOk result (λ packed. length packed ≡ told) }
+    ensures refused { IfErr result (λ why. (origin number : List ℕ) → HeadReads origin number
+        → BuildFault (kinds schema.now) origin number told records.old why) }
 {
-    let rows = records.take(told as usize)?;
-    if rows.len() < told as usize || records.next()?.is_some() {
-        return Ok(None);
+    let rows = pack_next(alloc, schema, told, records)?;
+    if records.next()?.is_some() {
+        return Err(BatchError::RowCount);
     }
-    Ok(Some(rows))
+    rows
 }
 
 /// The batch of a batch file: records in CSV, as `csv` reads them by default, of which the first is
 /// `batch,ORIGIN,NUMBER,ROWS` and the others stand for rows of a schema. Origin and number are 1 to 10 digits each, and
 /// ROWS, which tells how many rows there are, 1 to 9; leading zeros are allowed. The first refusal is told, in the order of
-/// `BatchError`. A batch that is refused by its head has no record read after it, and no more records are held than told.
+/// `BatchError`. A batch that is refused by its head has no record read after it, and no more is kept of the records than
+/// their rows.
 pub fn read_batch(alloc: Global, schema: &Schema, file: &[u8]) -> Result<Batch, BatchError>
     ensures origin { IfOk result (λ batch. IsSomeAnd (read_file file.now) (λ read.
         ReadsOrigin read.head.origin batch.origin)) }
@@ -96,10 +109,7 @@ pub fn read_batch(alloc: Global, schema: &Schema, file: &[u8]) -> Result<Batch, 
         return Err(BatchError::BadBatchHead);
     };
     let (origin, number) = checked_head(head.origin, head.number, head.told)?;
-    let Some(told) = told_records(&mut records, head.told)? else {
-        return Err(BatchError::RowCount);
-    };
-    let rows = pack_records(alloc, schema, &told)?;
+    let rows = pack_left(alloc, schema, head.told, &mut records)?;
     Ok(Batch {
         origin,
         number,

@@ -7,7 +7,7 @@ mod file;
 mod head;
 mod rows;
 
-pub use batch::{Batch, build_batch};
+pub use batch::{Batch, build_batch, read_rows};
 pub use error::BatchError;
 pub use file::read_batch;
-pub use rows::PackedRows;
+pub use flat_rows::PackedRows;

@@ -1,110 +1,62 @@
 //! Packed rows.
 
-ghost use Rattle.std.specs.Prelude.{◌≡◌, ◌↔◌, ℕ, List, length, IsTrue, IfOk, IfErr};
+ghost use Rattle.std.specs.Prelude.{◌≡◌, ◌≤◌, ℕ, List, [], ◌∷◌, ◌++◌, drop, length, take, IfErr, IfOk, MatchResult, OnErr, OnOk};
 ghost use Rattle.csv.specs.Records.{fields_of};
 ghost use Rattle.grouping_model.specs.Datum.{Row};
+ghost use Rattle.grouping_model.specs.declared.limits.TheConstants.{MOST_ROWS};
 ghost use Rattle.packed_rows.specs.Columns.{kinds};
-ghost use Rattle.packed_rows.specs.View.{texts_of, bytes_of};
 ghost use Rattle.packed_rows.specs.Field.{ReadsRow};
 ghost use Rattle.packed_rows.specs.Packing.{packing};
 ghost use Rattle.batch_reader.specs.Rows.{ReadsRows, packings, records_of};
-ghost use Rattle.batch_reader.specs.Refusal.{RecordFault, RowsFault};
+ghost use Rattle.batch_reader.specs.Refusal.{BuildFault, HeadReads, RecordFault, RowsFault};
 
 use crate::error::BatchError;
 use csv::ByteRecord;
-use packed_rows::{RowError, Schema, pack_row};
+use flat_rows::PackedRows;
+use packed_rows::{Schema, pack_value, read_value};
+use script_io::{Records, field};
 use std::alloc::{AllocError, Global};
-use std::marker::Model;
 
-/// Packed rows, in order.
-#[derive(Drop)]
-pub struct PackedRows {
-    rows: Vec<Vec<u8>>,
-}
-
-impl Model for PackedRows {
-    ghost Value = { List (List ℕ) };
-
-    ghost view = { λ r. bytes_of r.rows.items };
-}
-
-impl PackedRows {
-    /// The rows of a list of packings, which becomes theirs.
-    pub fn from_vec(rows: Vec<Vec<u8>>) -> PackedRows
-        ensures { result ≡ bytes_of rows.items }
-    {
-        PackedRows { rows }
-    }
-
-    /// The list of packings.
-    pub fn into_vec(self) -> Vec<Vec<u8>>
-        ensures { bytes_of result.items ≡ self }
-    {
-        let PackedRows { rows } = self;
-        rows
-    }
-
-    /// The packings, in order.
-    pub fn as_slice(&self) -> &[Vec<u8>]
-        ensures { bytes_of result.now ≡ self.now }
-    {
-        &self.rows
-    }
-
-    /// Whether these are the same rows in the same order.
-    pub fn same_rows(&self, other: &PackedRows) -> bool
-        ensures { IsTrue result ↔ (self.now ≡ other.now) }
-    {
-        self.rows == other.rows
-    }
-
-    /// A copy of the rows. The only error is a failed allocation.
-    pub fn try_clone(&self, alloc: Global) -> Result<PackedRows, AllocError>
-        ensures { IfOk result (λ copy. copy ≡ self.now) }
-    {
-        let mut rows = Vec::with_capacity(alloc, self.rows.len())?;
-        for packed in &self.rows {
-            rows.push(packed.to_vec(alloc)?)?;
-        }
-        Ok(PackedRows { rows })
-    }
-
-    /// How many rows there are.
-    pub fn len(&self) -> usize
-        ensures { result ≡ length self.now }
-    {
-        self.rows.len()
-    }
-}
-
-/// The fields of a record.
-fn fields(alloc: Global, csv_record: &ByteRecord) -> Result<Vec<&[u8]>, AllocError>
-    ensures { IfOk result (λ fields. texts_of fields.items ≡ fields_of csv_record.now) }
-{
-    let mut fields = Vec::new(alloc);
-    while let Some(field) = csv_record.get(fields.len()) {
-        fields.push(field)?;
-    }
-    Ok(fields)
-}
-
-/// The packing of the row that a record's fields stand for.
+/// Puts the packing of the row that a record's fields stand for into a buffer, in place of what it held.
 fn pack_record(
-    alloc: Global,
     schema: &Schema,
     csv_record: &ByteRecord,
-) -> Result<Vec<u8>, BatchError>
-    ensures packed { IfOk result (λ bytes. (row : Row)
-        × ReadsRow (kinds schema.now) (fields_of csv_record.now) row × (bytes.items ≡ packing row)) }
+    packed: &mut Vec<u8>,
+) -> Result<(), BatchError>
+    ensures packed { OnOk result ((row : Row) × ReadsRow (kinds schema.now) (fields_of csv_record.now) row
+        × (packed.new.items ≡ packing row)) }
     ensures refused { IfErr result (RecordFault (kinds schema.now) (fields_of csv_record.now)) }
 {
-    match pack_row(alloc, schema, &fields(alloc, csv_record)?) {
-        Ok(bytes) => Ok(bytes),
-        Err(RowError::NoMemory) => Err(BatchError::NoMemory),
-        Err(RowError::WrongWidth) => Err(BatchError::WrongWidth),
-        Err(RowError::BadField { column }) => Err(BatchError::BadField { column }),
-        Err(RowError::BadSchema | RowError::BadPacked) => unreachable!(),
+    packed.clear();
+    let kinds = schema.kinds();
+    if csv_record.len() != kinds.len() {
+        return Err(BatchError::WrongWidth);
     }
+    for (column, kind) in kinds.iter().enumerate() {
+        let Some(value) = read_value(field(csv_record, column), *kind) else {
+            return Err(BatchError::BadField { column });
+        };
+        pack_value(packed, value)?;
+    }
+    Ok(())
+}
+
+/// Adds the packing of the row that a record's fields stand for behind other rows. The buffer serves for one row after the
+/// other. After an error the rows are as they were.
+fn push_record(
+    schema: &Schema,
+    csv_record: &ByteRecord,
+    packed: &mut Vec<u8>,
+    rows: &mut PackedRows,
+) -> Result<(), BatchError>
+    ensures pushed { OnOk result ((row : Row) × ReadsRow (kinds schema.now) (fields_of csv_record.now) row
+        × (rows.new ≡ rows.old ++ packing row ∷ [])) }
+    ensures same { OnErr result (rows.new ≡ rows.old) }
+    ensures refused { IfErr result (RecordFault (kinds schema.now) (fields_of csv_record.now)) }
+{
+    pack_record(schema, csv_record, packed)?;
+    rows.push(packed)?;
+    Ok(())
 }
 
 /// The packings of the rows that records stand for, record by record.
@@ -117,9 +69,49 @@ pub(crate) fn pack_records(
         × ReadsRows (kinds schema.now) (records_of records.now) rows × (packed ≡ packings rows)) }
     ensures refused { IfErr result (RowsFault (kinds schema.now) (records_of records.now)) }
 {
-    let mut rows = Vec::new(alloc);
+    let mut rows = PackedRows::new(alloc);
+    let mut packed = Vec::new(alloc);
     for record in records {
-        rows.push(pack_record(alloc, schema, record)?)?;
+        push_record(schema, record, &mut packed, &mut rows)?;
     }
-    Ok(PackedRows { rows })
+    Ok(rows)
+}
+
+/// The packings of the rows that the next records stand for, as many as told, which are read one after the other. Where
+/// there are fewer that is the fault, and else the first record that stands for no row; all of them are read in any case.
+/// No more is kept of a record than its row.
+///
+/// The only outer error is that memory ran out for a record, and after it no more records come.
+pub(crate) fn pack_next(
+    alloc: Global,
+    schema: &Schema,
+    told: u32,
+    records: &mut Records<'_>,
+) -> Result<Result<PackedRows, BatchError>, AllocError>
+    requires { told ≤ MOST_ROWS }
+    ensures packed { IfOk result (λ built. IfOk built (λ packed. (rows : List Row)
+        × ReadsRows (kinds schema.now) (take told records.old) rows × (packed ≡ packings rows))) }
+    ensures told { IfOk result (λ built. IfOk built (λ packed. length packed ≡ told)) }
+    ensures refused { IfOk result (λ built. IfErr built (λ why. (origin number : List ℕ)
+        → HeadReads origin number
+        → BuildFault (kinds schema.now) origin number told (take told records.old) why)) }
+    ensures left { MatchResult result (λ _. records.new ≡ drop told records.old)
+        (λ _. records.new ≡ []) }
+{
+    let mut rows = PackedRows::new(alloc);
+    let mut packed = Vec::new(alloc);
+    let mut record = ByteRecord::new(alloc);
+    let mut fault = None;
+    for _ in 0..told {
+        if !records.read(&mut record)? {
+            return Ok(Err(BatchError::RowCount));
+        }
+        if fault.is_none() {
+            fault = push_record(schema, &record, &mut packed, &mut rows).err();
+        }
+    }
+    match fault {
+        None => Ok(Ok(rows)),
+        Some(why) => Ok(Err(why)),
+    }
 }

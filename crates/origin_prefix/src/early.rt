@@ -35,7 +35,7 @@ pub(crate) fn add_following<'a>(
         if *next != upto + 1 {
             return Ok(upto);
         }
-        inputs.push(Input::Rows(rows.as_slice()))?;
+        inputs.push(Input::Flat(rows))?;
         upto += 1;
     }
     Ok(upto)

@@ -92,7 +92,7 @@ fn following_inputs<'a>(
     let mut inputs = Vec::new(alloc);
     let mut number = prefix;
     if let Some(rows) = next {
-        inputs.push(Input::Rows(rows.as_slice()))?;
+        inputs.push(Input::Flat(rows))?;
         number += 1;
     }
     let upto = add_following(early, number, &mut inputs)?;

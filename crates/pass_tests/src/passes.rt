@@ -2,9 +2,8 @@ ghost use Rattle.std.specs.Prelude.{◌≡◌, ◌+◌, List, length, IfOk};
 ghost use Rattle.grouping_model.specs.Datum.{Row};
 ghost use Rattle.having_filter.specs.Meaning.{meaning};
 ghost use Rattle.hash_agg.specs.Inputs.{ArePackings};
-ghost use Rattle.packed_rows.specs.View.{bytes_of};
 
-use batch_reader::build_batch;
+use batch_reader::{PackedRows, build_batch};
 use csv::ByteRecord;
 use group_parser::parse;
 use hash_agg::{Input, aggregate, aggregate_within};
@@ -40,21 +39,21 @@ fn records(rt: HostRuntime, towns: u32) -> Result<Vec<ByteRecord>, Fail> {
 }
 
 /// A row of each of so many towns.
-fn packed(rt: HostRuntime, query: &Query, towns: u32) -> Result<Vec<Vec<u8>>, Fail>
+fn packed(rt: HostRuntime, query: &Query, towns: u32) -> Result<PackedRows, Fail>
     ensures { IfOk result (λ packed. (rows : List Row)
-        × ArePackings (meaning query.now).kinds (bytes_of packed.items) rows
-        × (length packed.items ≡ towns)) }
+        × ArePackings (meaning query.now).kinds packed rows
+        × (length packed ≡ towns)) }
 {
     let records = records(rt, towns)?;
     let batch = build_batch(rt.alloc(), query.schema(), b"0", b"1", towns, &records)?;
-    Ok(batch.rows.into_vec())
+    Ok(batch.rows)
 }
 
 /// How many groups there are of a row of each of so many towns, and whether they are the same within 65,536 bytes, where a table
 /// holds some 380 of them.
 fn limited(rt: HostRuntime, query: &Query, towns: u32) -> Result<String, Fail> {
     let rows = packed(rt, query, towns)?;
-    let inputs = [Input::Rows(&rows)];
+    let inputs = [Input::Flat(&rows)];
     let whole = aggregate(rt.alloc(), query, &inputs)?;
     let parts = aggregate_within(rt.alloc(), query, &inputs, 65_536)?;
     let (many, same) = (whole.len(), whole.same_groups(&parts));

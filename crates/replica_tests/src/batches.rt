@@ -1,5 +1,5 @@
 use crate::fixtures::{records, shown_batch};
-use batch_reader::{Batch, BatchError, PackedRows, build_batch};
+use batch_reader::{Batch, BatchError, build_batch};
 use packed_rows::Schema;
 use std::test::*;
 use test_tables::{differing, halves};
@@ -19,21 +19,6 @@ fn build(
     drop(schema);
     drop(records);
     Ok(built)
-}
-
-/// A batch whose rows were a vector in between.
-fn again(batch: Batch) -> Batch {
-    let Batch {
-        origin,
-        number,
-        rows,
-    } = batch;
-    let rows = PackedRows::from_vec(rows.into_vec());
-    Batch {
-        origin,
-        number,
-        rows,
-    }
 }
 
 /// Origins, numbers, how many rows are told and the rows, and the bytes of the batch's rows or why it is refused.
@@ -71,7 +56,6 @@ fn told(rt: HostRuntime, case: &str) -> Result<String, Fail> {
     let (told, rows) = halves(rest, " ")?;
     match build(rt, origin, number, told.parse()?, rows)? {
         Ok(batch) => {
-            let batch = again(batch);
             let shown = shown_batch(rt, &batch);
             drop(batch);
             shown

@@ -84,9 +84,9 @@ pub(crate) fn batch(rt: HostRuntime, query: &Query, told: &str) -> Result<Batch,
 /// A batch's origin and number, and the bytes of its rows.
 pub(crate) fn shown_batch(rt: HostRuntime, batch: &Batch) -> Result<String, Fail> {
     let mut shown = format!(in rt.alloc(); "{}/{}", batch.origin, batch.number)?;
-    for row in batch.rows.as_slice() {
+    for place in 0..batch.rows.len() {
         shown.push(' ')?;
-        shown.push_str(&encode(rt.alloc(), row.as_slice())?)?;
+        shown.push_str(&encode(rt.alloc(), batch.rows.row(place))?)?;
     }
     Ok(shown)
 }

@@ -6,7 +6,7 @@ ghost use Rattle.hash_agg.specs.Standing.{IsRun};
 ghost use Rattle.packed_rows.specs.View.{bytes_of};
 
 use crate::fixtures::{of_towns, records};
-use batch_reader::build_batch;
+use batch_reader::{PackedRows, build_batch};
 use hash_agg::{Input, Run, aggregate, first_states, fold};
 use having_filter::Query;
 use hex::encode;
@@ -14,14 +14,25 @@ use std::test::*;
 use test_tables::halves;
 
 /// So many rows of the query's table, packed.
-fn packed(rt: HostRuntime, query: &Query, told: u32, lines: &str) -> Result<Vec<Vec<u8>>, Fail>
+fn packed(rt: HostRuntime, query: &Query, told: u32, lines: &str) -> Result<PackedRows, Fail>
     ensures { IfOk result (λ packed. (rows : List Row)
-        × ArePackings (meaning query.now).kinds (bytes_of packed.items) rows
-        × (length packed.items ≡ told)) }
+        × ArePackings (meaning query.now).kinds packed rows
+        × (length packed ≡ told)) }
 {
     let records = records(rt, lines)?;
     let batch = build_batch(rt.alloc(), query.schema(), b"0", b"1", told, &records)?;
-    Ok(batch.rows.into_vec())
+    Ok(batch.rows)
+}
+
+/// The same rows, each in a vector of its own.
+fn apart(rt: HostRuntime, rows: &PackedRows) -> Result<Vec<Vec<u8>>, Fail>
+    ensures { IfOk result (λ apart. bytes_of apart.items ≡ rows.now) }
+{
+    let mut apart = Vec::new(rt.alloc());
+    for place in 0..rows.len() {
+        apart.push(rows.row(place).to_vec(rt.alloc())?)?;
+    }
+    Ok(apart)
 }
 
 /// The groups of so many rows.
@@ -29,7 +40,7 @@ fn groups(rt: HostRuntime, query: &Query, told: u32, lines: &str) -> Result<Run,
     ensures { IfOk result (λ run. IsRun (meaning query.now) told run) }
 {
     let rows = packed(rt, query, told, lines)?;
-    Ok(aggregate(rt.alloc(), query, &[Input::Rows(&rows)])?)
+    Ok(aggregate(rt.alloc(), query, &[Input::Flat(&rows)])?)
 }
 
 /// The bytes of the keys and of the states of a run's groups.
@@ -47,7 +58,7 @@ fn shown(rt: HostRuntime, run: &Run) -> Result<String, Fail> {
 fn groups_of_three(rt: HostRuntime, query: &Query, lines: &str) -> Result<String, Fail> {
     let (first, more) = halves(lines, "|")?;
     let early = groups(rt, query, 1, first)?;
-    let late = packed(rt, query, 2, more)?;
+    let late = apart(rt, &packed(rt, query, 2, more)?)?;
     let inputs = [
         Input::Groups {
             run: &early,
@@ -100,7 +111,7 @@ fn give(
     ensures { OnOk result (IsRun (meaning query.now) (most + told) run.new) }
 {
     let rows = packed(rt, query, told, lines)?;
-    let more = [Input::Rows(&rows)];
+    let more = [Input::Flat(&rows)];
     Ok(fold(rt.alloc(), query, run, u64::from(most), &more)?)
 }
 

@@ -1,16 +1,13 @@
 -- The fields of a record, and the commands of a list of records.
-use Rattle.std.proofs.Common.{◌≡◌, ◌≢◌, ◌<◌, ℕ, zero, suc, List, [], ◌∷◌, length, drop, take, get_or, refl, ap, arith, ◌∙◌, sym}
-use Rattle.std.proofs.Common.{◌≤◌, ◌&&◌, Bool, true, false, if◌then◌else◌, IsTrue, IsUtf8, Option, Some, None, codes, unwrap_or}
+use Rattle.std.proofs.Common.{◌≡◌, ◌≢◌, ℕ, zero, suc, List, [], ◌∷◌, length, drop, get_or, refl, ap, arith}
+use Rattle.std.proofs.Common.{◌&&◌, Bool, true, false, if◌then◌else◌, IsTrue, IsUtf8, Option, Some, None, codes, unwrap_or}
 use Rattle.std.proofs.lemmas.Bool.{false_from_ne_true}
-use Rattle.std.proofs.lemmas.List.{length-drop, length-take, take_all}
 use Rattle.std.proofs.lemmas.Str.{is_utf8-from_IsUtf8, IsUtf8-from_is_utf8}
 use Rattle.std.specs.Option.{option_map_or}
 use Rattle.std.specs.Str.{bytes_eq, is_utf8}
-use Rattle.grouping_model.specs.declared.limits.TheConstants.{MOST_ROWS}
 use Rattle.script_io.specs.Records.{Record}
 use Rattle.script_io.specs.RowCount.{row_count}
-use Rattle.script_commands.specs.Commands.{Request, Columns, Query, Replica, Feed, Known, Answer, Merge, Save, Load, Unknown, commands_after, commands_of, feed_request, is_name, name_request, names_request, one_field, owned_by, owned_rows, request_of, two_fields}
-use Rattle.script_commands.specs.Views.{HasItsRows}
+use Rattle.script_commands.specs.Commands.{Request, Feed, Unknown, command_at, commands_after, commands_of, feed_request, is_name, name_request, names_request, one_field, owned_by, owned_rows, request_of, two_fields}
 
 pub request_two : (fields : Record) → length fields ≡ 2 → request_of fields ≡ one_field (get_or fields 0 []) (get_or fields 1 [])
 unfolding request_of
@@ -76,30 +73,14 @@ commands_skip zero records = refl
 commands_skip (suc n) [] = refl
 commands_skip (suc n) (head ∷ rest) = commands_skip n rest
 
-pub commands_next : (head : Record) (rest : List Record)
-    → commands_of (head ∷ rest) ≡ record { head = head; owned = take (owned_by head) rest } ∷ commands_of (drop (owned_by head) rest)
+pub commands_next : (head : Record) (rest : List Record) → commands_of (head ∷ rest) ≡ command_at head rest ∷ commands_of (drop (owned_by head) rest)
 unfolding commands_after
-commands_next head rest = ap (λ l. record { head = head; owned = take (owned_by head) rest } ∷ l) (commands_skip (owned_by head) rest)
+commands_next head rest = ap (λ l. command_at head rest ∷ l) (commands_skip (owned_by head) rest)
 
 -- no records are no commands
 pub commands_none : commands_of [] ≡ []
 unfolding commands_after
 commands_none = refl
-
--- the first of the commands, and those after it
-pub command_is : (all rest left : List Record) (head : Record) (told : ℕ) (owned : List Record) → all ≡ head ∷ rest → told ≡ owned_by head
-    → owned ≡ take told rest → left ≡ drop told rest
-    → commands_of all ≡ record { head = head; owned = owned } ∷ commands_of left
-command_is all rest left head told owned first tells takes leaves =
-    let owns : owned ≡ take (owned_by head) rest = takes ∙ ap (λ n. take n rest) tells in
-    let goes : left ≡ drop (owned_by head) rest = leaves ∙ ap (λ n. drop n rest) tells in
-    ap commands_of first ∙ commands_next head rest
-    ∙ ap (λ l. record { head = head; owned = l } ∷ commands_of (drop (owned_by head) rest)) (sym owns)
-    ∙ ap (λ l. record { head = head; owned = owned } ∷ commands_of l) (sym goes)
-
--- and fewer records are left
-pub fewer_left : (all rest left : List Record) (head : Record) (told : ℕ) → all ≡ head ∷ rest → left ≡ drop told rest → length left < length all
-fewer_left all rest left head told first leaves = grind (arith, ap length first, ap length leaves, length-drop told rest)
 
 -- a text is UTF-8 by the test, and what is none fails it
 pub text_is : (bytes : List ℕ) → IsUtf8 bytes → IsTrue (is_utf8 bytes)
@@ -159,24 +140,3 @@ owned_told (a ∷ b ∷ c ∷ d ∷ []) name origin number told e = absurd cc
 owned_told (a ∷ b ∷ c ∷ d ∷ f ∷ []) name origin number told e =
     feed_owns (bytes_eq a (codes "feed")) (is_name b) (row_count f) b c d name origin number told e
 owned_told (a ∷ b ∷ c ∷ d ∷ f ∷ g ∷ rest) name origin number told e = absurd cc
-
--- the records of a feed are all kept, if it tells few enough
-pub has_its_rows : (request : Request) (kept owned : List Record)
-    → ((name origin number : List ℕ) (told : ℕ) → request ≡ Feed name origin number told → told ≤ MOST_ROWS → kept ≡ owned) → HasItsRows request kept owned
-has_its_rows (Columns text) kept owned all = tt
-has_its_rows (Query text) kept owned all = tt
-has_its_rows (Replica name) kept owned all = tt
-has_its_rows (Feed name origin number told) kept owned all = all name origin number told refl
-has_its_rows (Known name) kept owned all = tt
-has_its_rows (Answer name) kept owned all = tt
-has_its_rows (Merge into from) kept owned all = tt
-has_its_rows (Save name saved) kept owned all = tt
-has_its_rows (Load name saved) kept owned all = tt
-has_its_rows Unknown kept owned all = tt
-
-pub keeps_rows : (most : ℕ) (head : Record) (rest kept : List Record) (name origin number : List ℕ) (told : ℕ) → kept ≡ take most (take (owned_by head) rest)
-    → request_of head ≡ Feed name origin number told → told ≤ most → kept ≡ take (owned_by head) rest
-keeps_rows most head rest kept name origin number told first asks few =
-    let owned = take (owned_by head) rest in
-    let short : length owned ≤ most = omega (arith, length-take (owned_by head) rest, owned_told head name origin number told asks) in
-    first ∙ take_all most owned short

@@ -80,12 +80,16 @@ unfoldable pub owned_by : Record → ℕ
 owned_by (word ∷ name ∷ origin ∷ number ∷ rows ∷ []) = owned_rows word rows
 owned_by _ = 0
 
+-- the command of a record that asks, and of the records after it: it owns as many of these as it tells, or as are there
+abbrev pub command_at : Record → List Record → Command
+command_at head after = record { head = head; owned = take (owned_by head) after }
+
 -- the commands of these records, of which the first ones belong to a command before
 unfoldable pub commands_after : ℕ → List Record → List Command
 commands_after skipped [] = []
-commands_after zero (head ∷ rest) = record { head = head; owned = take (owned_by head) rest } ∷ commands_after (owned_by head) rest
+commands_after zero (head ∷ rest) = command_at head rest ∷ commands_after (owned_by head) rest
 commands_after (suc skipped) (head ∷ rest) = commands_after skipped rest
 
--- the commands of these records: a command owns as many of the records after it as it tells, or as are left
+-- the commands of these records
 abbrev pub commands_of : List Record → List Command
 commands_of records = commands_after 0 records

@@ -1,7 +1,6 @@
 -- The first items of a list, and those after them.
-use Rattle.std.proofs.Common.{◌≡◌, ◌<◌, ◌++◌, ◌≤◌, ◌+◌, ◌-◌, ℕ, List, [], ◌∷◌, length, drop, take, min, get_or, inl, inr, sym, ap, arith, add-zero, ◌∙◌}
-use Rattle.std.proofs.lemmas.List.{take_more, drop_all, take_all, take-take, drop-drop, get_or-drop, length-drop, length-take}
-use Rattle.std.proofs.lemmas.Bool.{cases_lt}
+use Rattle.std.proofs.Common.{◌≡◌, ◌<◌, ◌++◌, ◌≤◌, ◌+◌, ℕ, List, [], ◌∷◌, length, drop, take, get_or, sym, ap, arith, add-zero, ◌∙◌}
+use Rattle.std.proofs.lemmas.List.{take_more, drop_all, take_all, drop-drop, get_or-drop, length-drop}
 
 -- what follows the first n items
 pub next-item : {X : Type 0} (n : ℕ) (xs rest : List X) (x : X) → drop n xs ≡ x ∷ rest
@@ -16,20 +15,3 @@ pub no-item : {X : Type 0} (n m : ℕ) (xs : List X) → drop n xs ≡ [] → n 
 no-item n m xs h le =
     let long : length xs ≤ n = grind (arith, length-drop, ap length h) in
     (take_all n xs long ∙ sym (take_all m xs (omega arith)), drop_all m xs (omega arith))
-
--- the first items that are kept of those that are told
-pub kept-items : {X : Type 0} (told most : ℕ) (xs : List X) → take (min told most) xs ≡ take most (take told xs)
-kept-items told most xs = elim (cases_lt most told) [
-  | inl many ↦
-      let less : min told most ≡ most = omega arith in
-      ap (λ n. take n xs) less ∙ sym (take-take most told xs (omega arith))
-  | inr few ↦
-      let all : min told most ≡ told = omega arith in
-      ap (λ n. take n xs) all ∙ sym (take_all most (take told xs) (omega (arith, length-take told xs)))
-]
-
--- what follows those that are told, behind those that are kept
-pub told-items : {X : Type 0} (told most : ℕ) (xs : List X) → drop (told - most) (drop (min told most) xs) ≡ drop told xs
-told-items told most xs =
-    let all : min told most + (told - most) ≡ told = omega arith in
-    drop-drop (told - most) (min told most) xs ∙ ap (λ n. drop n xs) all

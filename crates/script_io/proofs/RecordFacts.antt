@@ -1,5 +1,5 @@
 -- Each record takes a byte at least, so as many turns as a text has bytes read all of its records.
-use Rattle.std.proofs.Common.{◌≡◌, ◌≤◌, ◌<◌, ◌+◌, ℕ, zero, suc, List, [], ◌∷◌, length, get_or, Option, Some, None, true, false, refl, sym, ap, subst, arith, ◌∙◌}
+use Rattle.std.proofs.Common.{◌≡◌, ◌≤◌, ◌<◌, ◌+◌, ℕ, zero, suc, List, [], ◌∷◌, length, get_or, Option, Some, None, Bool, true, false, not, MatchBool, if◌then◌else◌, refl, sym, ap, subst, arith, ◌∙◌}
 use Rattle.csv.specs.Machine.{Read, ends_at_end, field_after, fields_after, is_end, next_record, step}
 use Rattle.csv.specs.Reading.{default_config, records_from, records_next}
 use Rattle.csv.specs.Records.{field_at}
@@ -104,6 +104,14 @@ reader-next a b f there config between read =
 pub reader-end : (a b : Reader (Bor (List ℕ))) (f : Record) → IsSome (source_of known a) → a.config ≡ default_config
     → ReadRecord known a b false f → records_on a.state (unwrap_or (source_of known a) []) ≡ []
 reader-end a b f there config read = records-none a.state _ (rows-end known a b f default_config _ config (some-is _ there) read)
+
+-- what a read leaves of the records that there were
+pub reader-read : (a b : Reader (Bor (List ℕ))) (found : Bool) (f : Record) (all : List Record) → IsSome (source_of known a) → a.config ≡ default_config
+    → ends_at_end a.state ≡ false → ReadRecord known a b found f → all ≡ records_on a.state (unwrap_or (source_of known a) [])
+    → MatchBool found (all ≡ f ∷ (if not found then [] else records_on b.state (unwrap_or (source_of known b) [])))
+    ((all ≡ []) × ((if not found then [] else records_on b.state (unwrap_or (source_of known b) [])) ≡ []))
+reader-read a b true f all there config between read is = is ∙ (reader-next a b f there config between read).2
+reader-read a b false f all there config between read is = (is ∙ reader-end a b f there config read, refl)
 
 few_next : (n : ℕ) (o : Option Read) → ((r : Read) → length (records_from default_config n r.1 r.2) ≤ n)
     → length (records_next (records_from default_config n) o) ≤ suc n

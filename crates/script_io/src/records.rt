@@ -1,6 +1,6 @@
 //! The records of a script, one after the other.
 
-ghost use Rattle.std.specs.Prelude.{◌≡◌, ◌<◌, [], ◌∷◌, get_or, length, map, take, drop, MatchOption, MatchResult};
+ghost use Rattle.std.specs.Prelude.{◌≡◌, ◌<◌, [], ◌∷◌, get_or, length, drop, MatchBool, MatchOption, MatchResult};
 ghost use Rattle.csv.specs.Records.{fields_of};
 ghost use Rattle.script_io.specs.Records.{records_of};
 
@@ -50,6 +50,25 @@ impl<'a> Records<'a> {
         }
     }
 
+    /// Reads the next record, in place of what `into` held, and tells whether there was one. The only error is that
+    /// memory ran out, and after it no more records come. Where there was none, what `into` holds then is not told.
+    pub fn read(&mut self, into: &mut ByteRecord) -> Result<bool, AllocError>
+        ensures { MatchResult result (λ found. MatchBool found
+            (self.old ≡ fields_of into.new ∷ self.new)
+            ((self.old ≡ []) × (self.new ≡ [])))
+            (λ _. self.new ≡ []) }
+    {
+        if self.has_ended {
+            return Ok(false);
+        }
+        let Ok(found) = self.reader.read_byte_record(into) else {
+            self.has_ended = true;
+            return Err(AllocError);
+        };
+        self.has_ended = !found;
+        Ok(found)
+    }
+
     /// The next record, or `None` where there are no more. The only error is that memory ran out, and
     /// after it no more records come.
     pub fn next(&mut self) -> Result<Option<ByteRecord>, AllocError>
@@ -58,68 +77,26 @@ impl<'a> Records<'a> {
             (λ row. self.old ≡ fields_of row ∷ self.new))
             (λ _. self.new ≡ []) }
     {
-        if self.has_ended {
-            return Ok(None);
-        }
         let mut record = ByteRecord::new(self.alloc);
-        match self.reader.read_byte_record(&mut record) {
-            Ok(true) => Ok(Some(record)),
-            Ok(false) => {
-                self.has_ended = true;
-                Ok(None)
-            }
-            Err(_) => {
-                self.has_ended = true;
-                Err(AllocError)
-            }
+        if self.read(&mut record)? {
+            Ok(Some(record))
+        } else {
+            Ok(None)
         }
     }
 
-    /// The next records, in turn: as many as told, or all where fewer are left. It takes memory for the
-    /// records that come, and not for the number told. The only error is that memory ran out, and after
-    /// it no more records come.
-    pub fn take(&mut self, told: usize) -> Result<Vec<ByteRecord>, AllocError>
-        ensures { MatchResult result (λ taken. (map fields_of taken.items ≡ take told self.old)
-            × (self.new ≡ drop told self.old))
-            (λ _. self.new ≡ []) }
-    {
-        let mut taken = Vec::new(self.alloc);
-        for _ in 0..told {
-            let Some(record) = self.next()? else {
-                break;
-            };
-            if taken.push(record).is_err() {
-                self.has_ended = true;
-                return Err(AllocError);
-            }
-        }
-        Ok(taken)
-    }
-
-    /// Passes over the next records: as many as this, or all where fewer are left. The only error is that memory ran
-    /// out, and after it no more records come.
-    fn skip(&mut self, count: usize) -> Result<(), AllocError>
+    /// Passes over the next records: as many as this, or all where fewer are left. One buffer serves for all of them.
+    /// The only error is that memory ran out, and after it no more records come.
+    pub fn skip(&mut self, count: usize) -> Result<(), AllocError>
         ensures { MatchResult result (λ _. self.new ≡ drop count self.old) (λ _. self.new ≡ []) }
     {
+        let mut passed = ByteRecord::new(self.alloc);
         for _ in 0..count {
-            let Some(_) = self.next()? else {
+            if !self.read(&mut passed)? {
                 break;
-            };
+            }
         }
         Ok(())
-    }
-
-    /// The first of the next records, in turn, and `most` of them at most: as many as told are read, or all where
-    /// fewer are left, and the others are not kept. The only error is that memory ran out, and after it no more
-    /// records come.
-    pub fn take_first(&mut self, told: usize, most: usize) -> Result<Vec<ByteRecord>, AllocError>
-        ensures { MatchResult result (λ taken. (map fields_of taken.items ≡ take most (take told self.old))
-            × (self.new ≡ drop told self.old))
-            (λ _. self.new ≡ []) }
-    {
-        let taken = self.take(told.min(most))?;
-        self.skip(told.saturating_sub(most))?;
-        Ok(taken)
     }
 }
 

@@ -7,4 +7,3 @@ pub mod ReplyLaws
 pub mod QueryLaws
 pub mod SameLaws
 pub mod AgreementLaws
-pub mod KeepLaws

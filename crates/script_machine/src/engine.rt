@@ -71,7 +71,7 @@ fn answer_all<W: Write, O: Observer>(
 {
     let mut refused = 0;
     while let Some(command) = next_command(records)? {
-        let reply = session.execute(&command);
+        let reply = session.execute(&command, records)?;
         if reply.is_refused() {
             refused += 1;
         }

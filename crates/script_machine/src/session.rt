@@ -1,6 +1,6 @@
 //! What is there while a script runs, and how its commands are answered.
 
-ghost use Rattle.std.specs.Prelude.{◌≡◌, ◌≢◌, List, map, Some, None, [], IfOk, IfErr, OnOk, OnErr, length, string_bytes};
+ghost use Rattle.std.specs.Prelude.{◌≡◌, ◌≢◌, List, Some, None, [], IfOk, IfErr, OnOk, OnErr, drop, length, string_bytes, take};
 ghost use Rattle.std.specs.HashMap.{UpdatesBy};
 ghost use Rattle.std.specs.Str.{bytes_eq};
 ghost use Rattle.csv.specs.Records.{fields_of};
@@ -19,7 +19,7 @@ ghost use Rattle.table_print.specs.Table.{table_text};
 ghost use Rattle.script_machine.specs.Text.{known_text};
 ghost use Rattle.packed_rows.specs.Columns.{kinds};
 ghost use Rattle.script_commands.specs.Commands as ask;
-ghost use Rattle.script_commands.specs.Commands.{request_of};
+ghost use Rattle.script_commands.specs.Commands.{owned_by, request_of};
 ghost use Rattle.script_machine.specs.Machine.{IsNoBatch, IsNoQuery};
 ghost use Rattle.script_machine.specs.Views.{Store, IsStore, empty, Steps, Takes, IsOtherBatch, JoinsNames};
 ghost use Rattle.script_machine.specs.declared.refusal.Refusal.TheVariants.{NoMemory, OriginDisagrees};
@@ -27,14 +27,14 @@ ghost use Rattle.script_machine.specs.declared.refusal.Refusal.TheVariants.{NoMe
 use crate::refusal::Refusal;
 use crate::reply::Reply;
 use crate::texts::known_lines;
-use batch_reader::build_batch;
-use csv::ByteRecord;
+use batch_reader::read_rows;
 use group_parser::{parse, print};
 use having_filter::Query;
 use indexmap::IndexMap;
 use packed_rows::{RowError, Schema};
 use replica_merge::{Delivered, Joined, MergeError, Replica};
 use script_commands::{Command, Request};
+use script_io::Records;
 use std::alloc::{AllocError, Global};
 use std::marker::Model;
 use table_print::print_csv;
@@ -76,30 +76,35 @@ impl Model for Session {
         }) };
 }
 
-/// The batch of a feed, delivered to a replica.
+/// The batch of the next records, as many as told, delivered to a replica. These records are taken in any case. The only
+/// outer error is that memory ran out for a record.
 fn deliver(
     alloc: Global,
     replica: &mut Replica,
     origin: &[u8],
     number: &[u8],
     told: u32,
-    rows: &[ByteRecord],
-) -> Result<Delivered, Refusal>
-    ensures took { IfOk result (Takes origin.now number.now told (map fields_of rows.now)
-        replica.old replica.new) }
+    records: &mut Records<'_>,
+) -> Result<Result<Delivered, Refusal>, AllocError>
+    ensures took { IfOk result (λ done. IfOk done (Takes origin.now number.now told (take told
+        records.old) replica.old replica.new)) }
     ensures query { replica.new.query ≡ replica.old.query }
-    ensures same { OnErr result (replica.new ≡ replica.old) }
-    ensures why { IfErr result (λ why. why ≢ NoMemory → why ≢ OriginDisagrees → IsNoBatch
-        (kinds replica.old.query.columns) origin.now number.now told (map fields_of rows.now)
-        why) }
-    ensures other { IfErr result (λ why. why ≡ OriginDisagrees → IsOtherBatch origin.now number.now
-        told (map fields_of rows.now) replica.old) }
+    ensures same { IfOk result (λ done. OnErr done (replica.new ≡ replica.old)) }
+    ensures why { IfOk result (λ done. IfErr done (λ why. why ≢ NoMemory → why ≢ OriginDisagrees
+        → IsNoBatch (kinds replica.old.query.columns) origin.now number.now told (take told
+        records.old) why)) }
+    ensures other { IfOk result (λ done. IfErr done (λ why. why ≡ OriginDisagrees → IsOtherBatch
+        origin.now number.now told (take told records.old) replica.old)) }
+    ensures left { OnOk result (records.new ≡ drop told records.old) }
 {
     let schema = replica.query().schema();
-    let batch = build_batch(alloc, schema, origin, number, told, rows)?;
+    let batch = match read_rows(alloc, schema, origin, number, told, records)? {
+        Ok(batch) => batch,
+        Err(why) => return Ok(Err(Refusal::from(why))),
+    };
     match replica.deliver(batch) {
-        Ok(delivered) => Ok(delivered),
-        Err(refused) => Err(Refusal::from(refused.why)),
+        Ok(delivered) => Ok(Ok(delivered)),
+        Err(refused) => Ok(Err(Refusal::from(refused.why))),
     }
 }
 
@@ -272,24 +277,26 @@ impl Session {
         Reply::Created(name)
     }
 
-    /// Answers `feed`.
+    /// Answers `feed`, and takes the records that belong to it. The only error is that memory ran out for a record.
     fn feed(
         &mut self,
         name: &[u8],
         origin: &[u8],
         number: &[u8],
         told: u32,
-        rows: &[ByteRecord],
-    ) -> Reply<'static>
-        ensures { Steps (ask.Feed name.now origin.now number.now told) (map fields_of rows.now) self.old
-            result self.new }
+        records: &mut Records<'_>,
+    ) -> Result<Reply<'static>, AllocError>
+        ensures answers { IfOk result (λ reply. Steps (ask.Feed name.now origin.now number.now told)
+            (take told records.old) self.old reply self.new) }
+        ensures left { OnOk result (records.new ≡ drop told records.old) }
     {
         let Some(replica) = self.replicas.get_mut(name) else {
-            return Reply::Refused(Refusal::NoSuchName);
+            records.skip(told as usize)?;
+            return Ok(Reply::Refused(Refusal::NoSuchName));
         };
-        match deliver(self.alloc, replica, origin, number, told, rows) {
-            Ok(delivered) => Reply::Delivered(delivered),
-            Err(why) => Reply::Refused(why),
+        match deliver(self.alloc, replica, origin, number, told, records)? {
+            Ok(delivered) => Ok(Reply::Delivered(delivered)),
+            Err(why) => Ok(Reply::Refused(why)),
         }
     }
 
@@ -391,27 +398,36 @@ impl Session {
         Reply::Loaded
     }
 
-    /// Answers a command.
-    pub(crate) fn execute<'c>(&mut self, command: &'c Command) -> Reply<'c>
-        ensures { Steps (request_of (fields_of command.now.head))
-            (map fields_of command.now.owned.items) self.old result self.new }
+    /// Answers a command, and takes the records that belong to it, which come next. The only error is that memory ran out
+    /// for a record.
+    pub(crate) fn execute<'c>(
+        &mut self,
+        command: &'c Command,
+        records: &mut Records<'_>,
+    ) -> Result<Reply<'c>, AllocError>
+        ensures answers { IfOk result (λ reply. Steps (request_of (fields_of command.now.head))
+            (take (owned_by (fields_of command.now.head)) records.old) self.old reply self.new) }
+        ensures left { OnOk result (records.new
+            ≡ drop (owned_by (fields_of command.now.head)) records.old) }
     {
-        match command.request() {
-            Request::Columns(text) => self.tell_columns(text),
-            Request::Query(text) => self.tell_query(text),
-            Request::Replica(name) => self.add_replica(name),
+        let reply = match command.request() {
             Request::Feed {
                 name,
                 origin,
                 number,
                 told,
-            } => self.feed(name, origin, number, told, &command.owned),
+            } => return self.feed(name, origin, number, told, records),
+            Request::Columns(text) => self.tell_columns(text),
+            Request::Query(text) => self.tell_query(text),
+            Request::Replica(name) => self.add_replica(name),
             Request::Known(name) => self.known(name),
             Request::Answer(name) => self.answer(name),
             Request::Merge { into, from } => self.merge(into, from),
             Request::Save { name, saved } => self.save(name, saved),
             Request::Load { name, saved } => self.load(name, saved),
             Request::Unknown => Reply::Refused(Refusal::BadCommand),
-        }
+        };
+        records.skip(command.owned())?;
+        Ok(reply)
     }
 }

@@ -1,3 +1,5 @@
+use crate::tables::written;
+use csv::ByteRecord;
 use script_commands::{Command, Request, next_command};
 use script_io::Records;
 use std::test::*;
@@ -42,18 +44,27 @@ fn asked(rt: HostRuntime, request: Request<'_>) -> Result<String, Fail> {
     }
 }
 
-/// What a command asks, and how many records belong to it.
-fn told(rt: HostRuntime, command: &Command) -> Result<String, Fail> {
-    let asked = asked(rt, command.request())?.replace(rt.alloc(), "\n", "/")?;
-    Ok(format!(in rt.alloc(); "{asked} {}", command.owned.len())?)
+/// How many records come of those that belong to a command.
+fn owned(rt: HostRuntime, records: &mut Records<'_>, command: &Command) -> Result<usize, Fail> {
+    let mut row = ByteRecord::new(rt.alloc());
+    let mut count: usize = 0;
+    for _ in 0..command.owned() {
+        if !records.read(&mut row)? {
+            break;
+        }
+        count = count.wrapping_add(1);
+    }
+    Ok(count)
 }
 
-/// The same of the next command, if there is one.
+/// What the next command asks, if there is one, and how many records belong to it.
 fn next_told(rt: HostRuntime, records: &mut Records<'_>) -> Result<String, Fail> {
-    match next_command(records)? {
-        Some(command) => told(rt, &command),
-        None => Ok(String::from_str(rt.alloc(), "none")?),
-    }
+    let Some(command) = next_command(records)? else {
+        return Ok(String::from_str(rt.alloc(), "none")?);
+    };
+    let owned = owned(rt, records, &command)?;
+    let asked = asked(rt, command.request())?.replace(rt.alloc(), "\n", "/")?;
+    Ok(format!(in rt.alloc(); "{asked} {owned}")?)
 }
 
 /// The same of so many commands, one behind the other.
@@ -170,17 +181,27 @@ fn scripts_begin_and_end(rt: HostRuntime) -> Result<(), Fail> {
 fn too_many(rt: HostRuntime) -> Result<String, Fail> {
     let mut script = String::from_str(rt.alloc(), "feed,a,0,1,65540\n")?;
     for _ in 0..65_540 {
-        script.push_str("oslo,5\n")?;
+        script.push_str("known,a\n")?;
     }
-    script.push_str("known,a\n")?;
+    script.push_str("known,b\n")?;
     Ok(script)
 }
 
 #[test]
-fn commands_hold_65536_records(rt: HostRuntime) -> Result<(), Fail> {
+fn commands_own_more_records_than_a_batch_has(rt: HostRuntime) -> Result<(), Fail> {
     assert_eq!(rt;
         first_told(rt, too_many(rt)?.as_bytes(), 2)?.as_str(),
-        "feed|a|0|1|65540 65536;known|a| 0;"
+        "feed|a|0|1|65540 65540;known|b| 0;"
     );
+    Ok(())
+}
+
+#[test]
+fn more_records_than_a_batch_has_are_passed_over(rt: HostRuntime) -> Result<(), Fail> {
+    let begin = "columns,d bigint\nquery,SELECT count(*) FROM batches\nreplica,a\n";
+    let script = format!(in rt.alloc(); "{begin}{}", too_many(rt)?)?;
+    let (replies, refused) = written(rt, &script)?;
+    assert!(rt; replies.ends_with("replica a\nrefused TooManyRows\nrefused NoSuchName\n"));
+    assert_eq!(rt; refused, 2);
     Ok(())
 }

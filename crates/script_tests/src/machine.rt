@@ -20,7 +20,7 @@ struct Example {
     refused: u64,
 }
 
-const EXAMPLES: [Example; 6] = [
+const EXAMPLES: [Example; 8] = [
     // A first run.
     Example {
         commands: "feed,a,0,1,3\noslo,5\nbergen,7\noslo,-2\nknown,a\nanswer,a\n",
@@ -62,6 +62,21 @@ const EXAMPLES: [Example; 6] = [
         replies: "refused BadField\nrefused WrongWidth\nrefused BadBatchHead\nrefused NoSuchName\n\
             refused NameTaken\nrefused BadCommand\nanswer 0\nc,count,sum\nrefused RowCount\n",
         refused: 7,
+    },
+    // The rows of a feed that is refused are passed over, and fewer rows than told come before a bad row.
+    Example {
+        commands: "feed,a,1024,1,2\nanswer,a\nknown,a\nfeed,z,0,1,1\nknown,a\nfeed,a b,0,1,1\nknown,a\n\
+            feed,a,0,1,3\noslo,x\noslo,1\nbergen,2\nfeed,a,0,1,1\noslo,5\nknown,a\n\
+            feed,a,0,2,3\noslo\noslo,1\n",
+        replies: "refused BadBatchHead\nrefused NoSuchName\nrefused BadCommand\nrefused BadField\n\
+            folded upto 1\nknown 1\norigin 0 upto 1\nrefused RowCount\n",
+        refused: 5,
+    },
+    // More rows are told than a batch may have, and all commands behind are passed over.
+    Example {
+        commands: "feed,a,0,1,999999999\nknown,a\nanswer,a\n",
+        replies: "refused TooManyRows\n",
+        refused: 1,
     },
 ];
 

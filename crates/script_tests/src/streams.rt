@@ -142,25 +142,18 @@ fn shown(rt: HostRuntime, record: &ByteRecord) -> Result<String, Fail> {
     Ok(shown)
 }
 
-/// The next record, if there is one.
-fn next_shown(rt: HostRuntime, records: &mut Records<'_>) -> Result<Option<String>, Fail> {
-    match records.next()? {
-        Some(record) => Ok(Some(shown(rt, &record)?)),
-        None => Ok(None),
-    }
-}
-
-/// The records that are left, up to nine, with `;` after each, if none comes behind the last.
+/// The records that are left, up to nine, with `;` after each, if none comes behind the last. They are read into one place.
 fn all_shown(rt: HostRuntime, records: &mut Records<'_>) -> Result<String, Fail> {
     let mut all = String::new(rt.alloc());
+    let mut record = ByteRecord::new(rt.alloc());
     for _ in 0..9 {
-        let Some(shown) = next_shown(rt, records)? else {
+        if !records.read(&mut record)? {
             break;
-        };
-        all.push_str(&shown)?;
+        }
+        all.push_str(&shown(rt, &record)?)?;
         all.push(';')?;
     }
-    if next_shown(rt, records)?.is_some() {
+    if records.next()?.is_some() {
         return Err("a record behind the last")?;
     }
     Ok(all)
@@ -194,30 +187,27 @@ fn reads_the_records(rt: HostRuntime) -> Result<(), Fail> {
     Ok(())
 }
 
-/// How many records come where so many are taken.
-fn taken(records: &mut Records<'_>, count: usize) -> Result<usize, Fail> {
-    Ok(records.take(count)?.len())
-}
-
-/// How many records come where so many are taken from five, and then so many again.
-fn taken_in_turn(rt: HostRuntime, first: usize, second: usize) -> Result<(usize, usize), Fail> {
+/// The records that are left of five where so many are passed over, and then so many again.
+fn left(rt: HostRuntime, first: usize, second: usize) -> Result<String, Fail> {
     let mut records = Records::new(rt.alloc(), b"a\nb\n\nc\nd\ne");
-    let first = taken(&mut records, first)?;
-    Ok((first, taken(&mut records, second)?))
+    records.skip(first)?;
+    records.skip(second)?;
+    all_shown(rt, &mut records)
 }
 
 #[test]
-fn takes_records_past_the_end(rt: HostRuntime) -> Result<(), Fail> {
-    // How many records are taken in turn, and how many come.
-    let cases: [(usize, usize, (usize, usize)); 5] = [
-        (0, 5, (0, 5)),
-        (2, 3, (2, 3)),
-        (2, 9, (2, 3)),
-        (5, 1, (5, 0)),
-        (usize::MAX, usize::MAX, (5, 0)),
+fn passes_over_records_past_the_end(rt: HostRuntime) -> Result<(), Fail> {
+    // How many records are passed over in turn, and which are left.
+    let cases: [(usize, usize, &str); 6] = [
+        (0, 0, "a|;b|;c|;d|;e|;"),
+        (2, 0, "c|;d|;e|;"),
+        (2, 2, "e|;"),
+        (2, 9, ""),
+        (5, 1, ""),
+        (usize::MAX, usize::MAX, ""),
     ];
-    for (first, second, come) in cases {
-        assert!(rt; taken_in_turn(rt, first, second)? == come, "at {first}");
+    for (first, second, behind) in cases {
+        assert!(rt; left(rt, first, second)?.as_str() == behind, "at {first}");
     }
     Ok(())
 }

@@ -6,7 +6,7 @@ ghost use Rattle.packed_rows.specs.Columns.{Column, kinds, IsSchemaText};
 ghost use Rattle.group_parser.specs.Parsing.{Accepts, Refuses};
 ghost use Rattle.group_parser.specs.declared.error.ParseError.{ParseError};
 ghost use Rattle.summary_codec.specs.declared.error.SummaryError.TheVariants as fault;
-ghost use Rattle.packed_rows.specs.View.{kinds_of, bytes_of};
+ghost use Rattle.packed_rows.specs.View.{kinds_of};
 ghost use Rattle.having_filter.specs.Meaning.{meaning};
 ghost use Rattle.having_filter.specs.Kept.{IsQuery};
 ghost use Rattle.std.specs.Cmp.Lexicographic.{slice_cmp};
@@ -140,21 +140,20 @@ fn read_run(
 /// Reads a packed row behind others, and puts it there.
 #[tactic(auto, unfolding(crate::specs::Reading::row))]
 fn read_row<'a>(
-    alloc: Global,
     kinds: &[ValueKind],
     fields: &mut Fields<'a>,
     values: &mut Vec<Value<'a>>,
-    rows: &mut Vec<Vec<u8>>,
+    rows: &mut PackedRows,
 ) -> Result<(), SummaryError>
     ensures read { OnOk result ((packed : List ℕ)
-        × row (kinds_of kinds.now) (bytes_of rows.old.items) fields.old (Ok (packed, fields.new))
-        × (bytes_of rows.new.items ≡ bytes_of rows.old.items ++ packed ∷ [])) }
+        × row (kinds_of kinds.now) rows.old fields.old (Ok (packed, fields.new))
+        × (rows.new ≡ rows.old ++ packed ∷ [])) }
     ensures fault { IfErr result (λ e. e ≢ NoMemory →
-        row (kinds_of kinds.now) (bytes_of rows.old.items) fields.old (Err e)) }
+        row (kinds_of kinds.now) rows.old fields.old (Err e)) }
 {
     let packed = fields.sized()?;
     check_packing(kinds, packed, values)?;
-    rows.push(packed.to_vec(alloc)?)?;
+    rows.push(packed)?;
     Ok(())
 }
 
@@ -170,12 +169,12 @@ fn read_rows(
     ensures fault { IfErr result (λ e. e ≢ NoMemory →
         each (row (kinds_of kinds.now)) count [] fields.old (Err e)) }
 {
-    let mut rows = Vec::new(alloc);
+    let mut rows = PackedRows::new(alloc);
     let mut values = Vec::new(alloc);
     for _ in 0..count {
-        read_row(alloc, kinds, fields, &mut values, &mut rows)?;
+        read_row(kinds, fields, &mut values, &mut rows)?;
     }
-    Ok(PackedRows::from_vec(rows))
+    Ok(rows)
 }
 
 /// Whether a number may be that of an early batch behind a prefix and behind other early batches.

@@ -68,8 +68,8 @@ fn push_rows(out: &mut Vec<u8>, rows: &PackedRows) -> Result<(), AllocError>
     requires { AllByRecursion IsShort rows.now }
     ensures { OnOk result (out.new.items ≡ out.old.items ++ flat_map sized_bytes rows.now) }
 {
-    for packed in rows.as_slice() {
-        push_sized(out, packed)?;
+    for place in 0..rows.len() {
+        push_sized(out, rows.row(place))?;
     }
     Ok(())
 }

@@ -40,9 +40,9 @@ batch,1023,2147483647,000000002/oslo,5/\"a,\"\"b\",\\N/ => 1023 2147483647 016f7
 /// A batch's origin and number, and the bytes of its rows.
 fn shown(rt: HostRuntime, batch: &Batch) -> Result<String, Fail> {
     let mut shown = format!(in rt.alloc(); "{} {}", batch.origin, batch.number)?;
-    for row in batch.rows.as_slice() {
+    for place in 0..batch.rows.len() {
         shown.push(' ')?;
-        shown.push_str(&encode(rt.alloc(), row.as_slice())?)?;
+        shown.push_str(&encode(rt.alloc(), batch.rows.row(place))?)?;
     }
     Ok(shown)
 }

@@ -9,9 +9,7 @@ use Rattle.replica_tests.proofs.runs.give.Goals as goal
 
 pub returns : goal.returns
 returns c =
-    let counted : all_rows (Counted c.args.run.now c.from.result ∷ Packed (bytes_of c.deref.result.now) ∷ []) ≡ c.args.most + c.args.told =
-    let same = ap (λ items. length (bytes_of items)) c.deref.ensures.value in
-    let many = length-map c.in_ok-rows.rows.items (λ v. v.items) in
+    let counted : all_rows (Counted c.args.run.now c.from.result ∷ Packed c.in_ok-rows.rows ∷ []) ≡ c.args.most + c.args.told =
     let told = c.in_ok-rows.ensures.2 in
-    omega (arith, same, many, told) in
+    omega (arith, told) in
     subst (λ most. IsRun (meaning c.args.query.now) most c.fold.new.run) counted c.in_ok-fold.ensures.folded.is_run

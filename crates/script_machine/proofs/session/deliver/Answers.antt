@@ -1,6 +1,5 @@
-use Rattle.std.specs.Prelude.{◌≡◌, map}
+use Rattle.std.specs.Prelude.{◌≡◌, take}
 use Rattle.std.proofs.Common.{◌∙◌, ap, sym, subst}
-use Rattle.csv.specs.Records.{fields_of}
 use Rattle.packed_rows.specs.Columns.{kinds}
 use Rattle.batch_reader.specs.Rows.{ReadsRows}
 use Rattle.batch_reader.proofs.RecordLaws.{built_rows}
@@ -10,33 +9,42 @@ use Rattle.script_machine.proofs.session.deliver.Goals as goal
 
 pub deliver-requires-clause-rows : goal.deliver-requires-clause-rows
 deliver-requires-clause-rows c =
-    let batch = c.in_ok-batch.ensures in
+    let rows = rw c.in-Ok.is at c.in_ok-batch.ensures.rows in
+    let few = rw c.in-Ok.is at c.in_ok-batch.ensures.few in
     let same : c.schema-schema.result.now ≡ c.args.replica.now.query.columns = c.schema-schema.ensures.columns ∙ ap (λ (q : Checked). q.columns) c.query.ensures in
-    built_rows (kinds c.args.replica.now.query.columns) (map fields_of c.args.rows.now) batch.rows.0 _
-    (subst (λ columns. ReadsRows (kinds columns) (map fields_of c.args.rows.now) batch.rows.0) same batch.rows.1) batch.rows.2 batch.few
+    let reads = subst (λ columns. ReadsRows (kinds columns) (take c.args.told c.args.records.now) rows.0) same rows.1 in
+    built_rows (kinds c.args.replica.now.query.columns) (take c.args.told c.args.records.now) rows.0 _ reads rows.2 few
 
-pub returns-in-Ok-clause-took : goal.returns-in-Ok-clause-took
-returns-in-Ok-clause-took c =
-    let batch = c.in_ok-batch.ensures in
+pub returns-in-Ok-deliver-clause-took : goal.returns-in-Ok-deliver-clause-took
+returns-in-Ok-deliver-clause-took c =
+    let origin = rw c.in-Ok.is at c.in_ok-batch.ensures.origin in
+    let number = rw c.in-Ok.is at c.in_ok-batch.ensures.number in
+    let few = rw c.in-Ok.is at c.in_ok-batch.ensures.few in
+    let told = rw c.in-Ok.is at c.in_ok-batch.ensures.told in
+    let rows = rw c.in-Ok.is at c.in_ok-batch.ensures.rows in
     let same : c.schema-schema.result.now ≡ c.args.replica.now.query.columns = c.schema-schema.ensures.columns ∙ ap (λ (q : Checked). q.columns) c.query.ensures in
-    let reads = subst (λ columns. ReadsRows (kinds columns) (map fields_of c.args.rows.now) batch.rows.0) same batch.rows.1 in
-    let done = c.in-Ok.ensures in
+    let reads = subst (λ columns. ReadsRows (kinds columns) (take c.args.told c.args.records.now) rows.0) same rows.1 in
+    let done = c.in-Ok-deliver.ensures in
     record {
-      fed = record { origin = c.in_ok-batch.batch.origin; number = c.in_ok-batch.batch.number; rows = batch.rows.0 };
-      is_batch = built_batch _ _ _ _ _ _ _ _ batch.rows.0 batch.origin batch.number batch.few batch.told reads batch.rows.2;
+      fed = record { origin = c.in-Ok.batch.origin; number = c.in-Ok.batch.number; rows = rows.0 };
+      is_batch = built_batch _ _ _ _ _ _ _ _ rows.0 origin number few told reads rows.2;
       reply = done.reply;
       learns = done.told;
-      fits = λ world is fits there. done.fits world batch.rows.0 is fits there batch.rows.2;
+      fits = λ world is fits there. done.fits world rows.0 is fits there rows.2;
       asked = done.query;
     }
 
-pub returns-in-Err-clause-other : goal.returns-in-Err-clause-other
-returns-in-Err-clause-other c = λ is.
-    let batch = c.in_ok-batch.ensures in
+pub returns-in-Err-deliver-clause-other : goal.returns-in-Err-deliver-clause-other
+returns-in-Err-deliver-clause-other c = λ is.
+    let origin = rw c.in-Ok.is at c.in_ok-batch.ensures.origin in
+    let number = rw c.in-Ok.is at c.in_ok-batch.ensures.number in
+    let few = rw c.in-Ok.is at c.in_ok-batch.ensures.few in
+    let told = rw c.in-Ok.is at c.in_ok-batch.ensures.told in
+    let rows = rw c.in-Ok.is at c.in_ok-batch.ensures.rows in
     let same : c.schema-schema.result.now ≡ c.args.replica.now.query.columns = c.schema-schema.ensures.columns ∙ ap (λ (q : Checked). q.columns) c.query.ensures in
-    let reads = subst (λ columns. ReadsRows (kinds columns) (map fields_of c.args.rows.now) batch.rows.0) same batch.rows.1 in
+    let reads = subst (λ columns. ReadsRows (kinds columns) (take c.args.told c.args.records.now) rows.0) same rows.1 in
     record {
-      fed = record { origin = c.in_ok-batch.batch.origin; number = c.in_ok-batch.batch.number; rows = batch.rows.0 };
-      is_batch = built_batch _ _ _ _ _ _ _ _ batch.rows.0 batch.origin batch.number batch.few batch.told reads batch.rows.2;
-      never = λ world fits there. c.in-Err.ensures.agrees (other_why c.in-Err.refused.why (sym c.from.ensures ∙ is)) world batch.rows.0 fits there batch.rows.2;
+      fed = record { origin = c.in-Ok.batch.origin; number = c.in-Ok.batch.number; rows = rows.0 };
+      is_batch = built_batch _ _ _ _ _ _ _ _ rows.0 origin number few told reads rows.2;
+      never = λ world fits there. c.in-Err-deliver.ensures.agrees (other_why c.in-Err-deliver.refused.why (sym c.from-in-Err-deliver.ensures ∙ is)) world rows.0 fits there rows.2;
     }

@@ -1,16 +1,58 @@
-use Rattle.std.specs.Prelude.{refl, map}
+use Rattle.std.specs.Prelude.{◌≡◌, ℕ, refl, drop, take}
 use Rattle.std.proofs.Common.{◌∙◌, ap, sym, subst}
 use Rattle.csv.specs.Records.{fields_of}
 use Rattle.script_commands.specs.Commands as ask
+use Rattle.script_commands.specs.Commands.{owned_by, request_of}
 use Rattle.script_commands.specs.Views.{request_view}
+use Rattle.script_commands.specs.declared.request.Request.{Request}
+use Rattle.script_commands.proofs.CommandLaws.{owned_told}
 use Rattle.script_machine.specs.Views.{Steps}
 use Rattle.script_machine.specs.declared.refusal.Refusal.TheVariants as why
 use Rattle.script_machine.specs.declared.reply.Reply.TheVariants as says
 use Rattle.script_machine.proofs.StoreLaws.{refused}
 use Rattle.script_machine.proofs.session.Session.execute.Goals as goal
+use Rattle.script_machine.proofs.session.Session.execute.Goals.{in-Columns, in-Query, in-Replica, in-Known, in-Answer, in-Merge, in-Save, in-Load, in-Unknown}
 
-pub returns-in-Unknown : goal.returns-in-Unknown
-returns-in-Unknown c =
-    let owned = map fields_of c.args.command.now.owned.items in
-    subst (λ r. Steps r owned c.args.self.now (says.Refused why.BadCommand) c.args.self.now) (sym (ap request_view c.in-Unknown.is) ∙ c.request.ensures)
-    (refused ask.Unknown owned c.args.self.now why.BadCommand (λ state r. refl))
+pub returns-in-Feed-clause-answers : goal.returns-in-Feed-clause-answers
+returns-in-Feed-clause-answers c =
+    let head = fields_of c.args.command.now.head in
+    let asks = sym c.request.ensures ∙ ap request_view c.in-Feed.is in
+    let told = owned_told head _ _ _ _ asks in
+    rw (asks, told) c.feed.ensures.answers
+
+pub returns-in-Feed-clause-left : goal.returns-in-Feed-clause-left
+returns-in-Feed-clause-left c =
+    let head = fields_of c.args.command.now.head in
+    let asks = sym c.request.ensures ∙ ap request_view c.in-Feed.is in
+    let told = owned_told head _ _ _ _ asks in
+    rw told c.feed.ensures.left
+
+pub returns-clause-answers : goal.returns-clause-answers
+returns-clause-answers c =
+    let head = fields_of c.args.command.now.head in
+    let owned = take (owned_by head) c.args.records.now in
+    let asks : (r : Request) → c.request.result ≡ r → request_view r ≡ request_of head = λ r is. sym (ap request_view is) ∙ c.request.ensures in
+    elim c.match-request.branch [
+      | in-Columns w ↦ rw (w.reply-is, w.self-is)
+          (subst (λ r. Steps r owned c.args.self.now w.tell_columns-reply.result w.tell_columns-reply.new.self) (asks _ w.in-Columns.is) (w.tell_columns-reply.ensures owned))
+      | in-Query w ↦ rw (w.reply-is, w.self-is)
+          (subst (λ r. Steps r owned c.args.self.now w.tell_query-reply.result w.tell_query-reply.new.self) (asks _ w.in-Query.is) (w.tell_query-reply.ensures owned))
+      | in-Replica w ↦ rw (w.reply-is, w.self-is)
+          (subst (λ r. Steps r owned c.args.self.now w.add_replica-reply.result w.add_replica-reply.new.self) (asks _ w.in-Replica.is) (w.add_replica-reply.ensures owned))
+      | in-Known w ↦ rw (w.reply-is, w.self-is)
+          (subst (λ r. Steps r owned c.args.self.now w.known-reply.result c.args.self.now) (asks _ w.in-Known.is) (w.known-reply.ensures owned))
+      | in-Answer w ↦ rw (w.reply-is, w.self-is)
+          (subst (λ r. Steps r owned c.args.self.now w.answer-reply.result c.args.self.now) (asks _ w.in-Answer.is) (w.answer-reply.ensures owned))
+      | in-Merge w ↦ rw (w.reply-is, w.self-is)
+          (subst (λ r. Steps r owned c.args.self.now w.merge-reply.result w.merge-reply.new.self) (asks _ w.in-Merge.is) (w.merge-reply.ensures owned))
+      | in-Save w ↦ rw (w.reply-is, w.self-is)
+          (subst (λ r. Steps r owned c.args.self.now w.save-reply.result w.save-reply.new.self) (asks _ w.in-Save.is) (w.save-reply.ensures owned))
+      | in-Load w ↦ rw (w.reply-is, w.self-is)
+          (subst (λ r. Steps r owned c.args.self.now w.load-reply.result w.load-reply.new.self) (asks _ w.in-Load.is) (w.load-reply.ensures owned))
+      | in-Unknown w ↦ rw (w.reply-is, w.self-is)
+          (subst (λ r. Steps r owned c.args.self.now (says.Refused why.BadCommand) c.args.self.now) (asks _ w.in-Unknown.is)
+          (refused ask.Unknown owned c.args.self.now why.BadCommand (λ state r. refl)))
+    ]
+
+pub returns-clause-left : goal.returns-clause-left
+returns-clause-left c = c.in_ok-skip.ensures ∙ ap (λ (n : ℕ). drop n c.args.records.now) c.owned.ensures
