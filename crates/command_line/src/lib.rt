@@ -9,13 +9,14 @@ mod script;
 mod tasks;
 
 use crate::arguments::parse_words;
+use crate::problem::output_fault;
 use crate::script::run_script;
 use crate::tasks::Session;
 use clap::Error;
 use clap::error::ErrorKind;
 use exit_status::{Ending, status};
 use std::convert::AsStr;
-use std::io::{Read, Write};
+use std::io::{BufWriter, Read, Write};
 use std::rt::Files;
 
 /// Says why the words are no command line, or shows help or the version.
@@ -39,19 +40,15 @@ fn end_without_command<W: Write, E: Write>(
     }
 }
 
-/// Runs the command that words ask for, of which the first is the program's name.
-///
-/// Replies and tables go to the writer, sentences for people to `errors`, and only `script` reads from the reader.
-/// The result is the status of the process: 0 where all was done, 1 where something was refused, 2 where the words are
-/// no command line, 3 where a file or a stream could not be read or written.
-pub fn command<R: Files + AllocGlobal, S: AsStr, I: Read, W: Write, E: Write>(
+/// Runs the command that words ask for.
+fn run_words<R: Files + AllocGlobal, S: AsStr, I: Read, W: Write, E: Write>(
     rt: &R,
     words: &[S],
     reader: &mut I,
     writer: &mut W,
     errors: &mut E,
-) -> u8 {
-    let ending = match parse_words(rt.alloc(), words) {
+) -> Ending {
+    match parse_words(rt.alloc(), words) {
         Ok(matches) => match matches.subcommand() {
             Some(("script", _)) => run_script(rt.alloc(), reader, writer, errors),
             Some((command, matches)) => Session::new(rt, writer, errors).run(command, matches),
@@ -59,6 +56,38 @@ pub fn command<R: Files + AllocGlobal, S: AsStr, I: Read, W: Write, E: Write>(
             None => Ending::BadUsage,
         },
         Err(error) => end_without_command(&error, writer, errors),
-    };
-    status(ending)
+    }
+}
+
+/// Sends out what was gathered. A fault is told, unless one was told before.
+fn send_out<W: Write, E: Write>(gathered: &mut W, ending: Ending, errors: &mut E) -> Ending {
+    match gathered.flush() {
+        Ok(()) => ending,
+        Err(_) => {
+            if ending != Ending::Fault {
+                let _ = writeln!(errors, "{}", output_fault());
+            }
+            Ending::Fault
+        }
+    }
+}
+
+/// Runs the command that words ask for, of which the first is the program's name.
+///
+/// Replies and tables go to the writer, gathered in pieces of some 8 KiB, sentences for people to `errors`, and only
+/// `script` reads from the reader. The result is the status of the process: 0 where all was done, 1 where something was
+/// refused, 2 where the words are no command line, 3 where a file or a stream could not be read or written.
+pub fn command<R: Files + AllocGlobal, S: AsStr, I: Read, W: Write, E: Write>(
+    rt: &R,
+    words: &[S],
+    reader: &mut I,
+    writer: &mut W,
+    errors: &mut E,
+) -> u8 {
+    if let Ok(mut gathered) = BufWriter::new(rt.alloc(), &mut *writer) {
+        let ending = run_words(rt, words, reader, &mut gathered, errors);
+        return status(send_out(&mut gathered, ending, errors));
+    }
+    // With no memory to gather in, each piece of a reply goes out by itself.
+    status(run_words(rt, words, reader, writer, errors))
 }

@@ -41,6 +41,11 @@ impl<'p> Problem<'p> {
     }
 }
 
+/// Standard output could not be written.
+pub(crate) fn output_fault() -> Problem<'static> {
+    Problem::refused("standard output", Refusal::Run(RunError::WriteFault))
+}
+
 impl fmt::Display for Problem<'_> {
     fn fmt<W: fmt::Write>(&self, f: &mut fmt::Formatter<W>) -> fmt::Result {
         write!(

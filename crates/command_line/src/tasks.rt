@@ -2,19 +2,16 @@
 
 use crate::arguments::{BATCH, COLUMNS, FORMAT, IN, OUT, QUERY};
 use crate::files::{read_file, write_file};
-use crate::problem::Problem;
+use crate::problem::{Problem, output_fault};
 use clap::ArgMatches;
 use exit_status::{Ending, refusal_ending};
 use file_commands::Format;
 use replica_merge::{Delivered, Replica};
 use script_io::put_all;
-use script_machine::{Refusal, Reply, RunError, put_reply};
+use script_machine::{Refusal, Reply, put_reply};
 use std::alloc::Global;
 use std::io::Write;
 use std::rt::Files;
-
-/// How sentences name the stream of replies.
-const OUTPUT: &str = "standard output";
 
 /// The value of an argument. The parser has seen to it that there is one.
 fn value<'a>(matches: &ArgMatches<'a>, id: &str) -> &'a str {
@@ -111,7 +108,7 @@ impl<'c, R: Files + AllocGlobal, W: Write, E: Write> Session<'c, R, W, E> {
     fn reply(&mut self, reply: &Reply<'_>) -> Result<(), Problem<'static>> {
         match put_reply(self.writer, reply) {
             Ok(()) => Ok(()),
-            Err(_) => Err(Problem::refused(OUTPUT, Refusal::Run(RunError::WriteFault))),
+            Err(_) => Err(output_fault()),
         }
     }
 
@@ -119,7 +116,7 @@ impl<'c, R: Files + AllocGlobal, W: Write, E: Write> Session<'c, R, W, E> {
     fn print(&mut self, text: &[u8]) -> Result<(), Problem<'static>> {
         match put_all(self.writer, text) {
             Ok(()) => Ok(()),
-            Err(_) => Err(Problem::refused(OUTPUT, Refusal::Run(RunError::WriteFault))),
+            Err(_) => Err(output_fault()),
         }
     }
 

@@ -1,9 +1,11 @@
 -- Entries in the order of their keys.
-use Rattle.std.specs.Borrow.{Bor}
-use Rattle.std.specs.Prelude.{◌≡◌, ◌≢◌, refl, ℕ, zero, suc, ◌+◌, ◌<◌, ◌≤◌, true, false, List, [], ◌∷◌, ◌++◌, length, take, drop, slice_get, slice_index_or, Some}
-use Rattle.std.proofs.Common.{sym, ◌∙◌, ap, subst, arith}
+use Rattle.std.specs.Prelude.{◌≡◌, ◌≢◌, refl, ℕ, zero, suc, ◌+◌, ◌*◌, ◌^◌, ◌<◌, ◌≤◌, true, false, List, [], ◌∷◌, ◌++◌, length, take, drop, slice_get, slice_index, slice_index_or, Some}
+use Rattle.std.proofs.Common.{sym, ◌∙◌, ap, subst, arith, inl, inr}
+use Rattle.std.proofs.Math.Nat.{mul-le-mul_right}
+use Rattle.std.proofs.lemmas.Bool.{cases_lt}
 use Rattle.std.proofs.lemmas.List.{map-append, length-map, take_all, take-append-drop}
-use Rattle.std.proofs.lemmas.List.Sorted.{IsPermutation-map}
+use Rattle.std.proofs.lemmas.List.Elements.{recursion_from_All}
+use Rattle.std.proofs.lemmas.List.Sorted.{IsPermutation-map, All-permutation}
 use Rattle.std.proofs.lemmas.Map.Keys.{IsDistinct-IsPermutation, IsDistinct-from_sorted}
 use Rattle.std.specs.declared.cmp.Ordering.{Ordering}
 use Rattle.std.specs.declared.cmp.Ordering.TheVariants.{Less, Equal, Greater}
@@ -11,11 +13,14 @@ use Rattle.std.specs.Ordering.{is_lt, is_eq, eq_by_cmp, nat_cmp, ordering_then, 
 use Rattle.std.specs.Cmp.{Equal-is, tied_itself}
 use Rattle.std.specs.Cmp.Lexicographic.{slice_cmp}
 use Rattle.std.specs.FinMap.{slice_cmp-IsAntisymmetric, nat_cmp-IsAntisymmetric}
-use Rattle.std.specs.List.{AllByRecursion, IsDistinct}
+use Rattle.std.specs.List.{All, AllByRecursion, IsDistinct}
 use Rattle.std.specs.List.Sorted.{IsPermutation, IsSorted, IsStrictlySortedBy}
+use Rattle.byteorder.specs.Endian.{big_from}
+use Rattle.byteorder.specs.Numbers.{big_from-cons, big_from-lt}
 use Rattle.grouping_model.proofs.Members.{false_is_not_true}
+use Rattle.packed_rows.proofs.PackingOrder.{less, tied}
 use Rattle.hash_agg.specs.Runs.{Entry, packed_keys, Rises}
-use Rattle.hash_agg.specs.Passes.{AreOnce, HasNoKey, pairs}
+use Rattle.hash_agg.specs.Passes.{AreOnce, HasNoKey, Led, IsLed, pairs}
 use Rattle.hash_agg.proofs.InputLaws.{take_found, run_front_rises}
 use Rattle.hash_agg.proofs.PlaceLaws.{key_total}
 
@@ -78,45 +83,80 @@ rises_once es rises = distinct_once es (IsDistinct-from_sorted bytes_cmp (packed
 
 -- ---- a sort by keys
 
--- references to a key and to states
-abbrev Pair : Type 0
-Pair = Bor (List ℕ) × Bor (List ℕ)
+-- a number of no bytes
+no_bytes : (i n : ℕ) → big_from i n [] ≡ 0
+no_bytes i zero = refl
+no_bytes i (suc n) = no_bytes (suc i) n
 
-abbrev pair_cmp : Pair → Pair → Ordering
-pair_cmp x y = ordering_then (bytes_cmp x.0.now y.0.now) (bytes_cmp x.1.now y.1.now)
+-- a key whose first bytes are a smaller number comes first
+smaller_first : (n : ℕ) (xs ys : List ℕ) → ((i : ℕ) → slice_index xs i < 256) → ((i : ℕ) → slice_index ys i < 256) → big_from 0 n xs < big_from 0 n ys → bytes_cmp xs ys ≡ Less
+smaller_first zero xs ys fits_x fits_y low = absurd (omega (arith, low))
+smaller_first (suc n) [] [] fits_x fits_y low = absurd (omega (arith, low))
+smaller_first (suc n) [] (y ∷ ys) fits_x fits_y low = refl
+smaller_first (suc n) (x ∷ xs) [] fits_x fits_y low = let none : big_from 0 (suc n) [] ≡ 0 = no_bytes 0 (suc n) in absurd (omega (arith, none, low))
+smaller_first (suc n) (x ∷ xs) (y ∷ ys) fits_x fits_y low =
+    let below_x : big_from 0 n xs < 256 ^ n = big_from-lt 0 n xs (λ i. fits_x (suc i)) in
+    let below_y : big_from 0 n ys < 256 ^ n = big_from-lt 0 n ys (λ i. fits_y (suc i)) in
+    let sums : x * 256 ^ n + big_from 0 n xs < y * 256 ^ n + big_from 0 n ys =
+    subst (λ r. x * 256 ^ n + r < y * 256 ^ n + big_from 0 n ys) (big_from-cons 0 n x xs) (subst (λ r. x * 256 ^ n + big_from 1 n (x ∷ xs) < y * 256 ^ n + r) (big_from-cons 0 n y ys) low) in
+    elim (cases_lt x y) [
+      | inl lt ↦ ap (λ o. ordering_then o (bytes_cmp xs ys)) (less x y lt)
+      | inr le ↦ elim (cases_lt y x) [
+        | inl gt ↦ let far : suc y * 256 ^ n ≤ x * 256 ^ n = mul-le-mul_right (256 ^ n) gt in absurd (omega (arith, far, sums, below_x, below_y))
+        | inr ge ↦
+            let same : x ≡ y = omega (arith, le, ge) in
+            let rest : big_from 0 n xs < big_from 0 n ys = let moved : x * 256 ^ n ≡ y * 256 ^ n = ap (λ z. z * 256 ^ n) same in omega (arith, moved, sums) in
+            ap (λ z. ordering_then (nat_cmp x z) (bytes_cmp xs ys)) (sym same) ∙ ap (λ o. ordering_then o (bytes_cmp xs ys)) (tied x) ∙ smaller_first n xs ys (λ i. fits_x (suc i)) (λ i. fits_y (suc i)) rest
+      ]
+    ]
+
+abbrev entry_cmp : Led → Led → Ordering
+entry_cmp x y = ordering_then (nat_cmp x.0 y.0) (ordering_then (bytes_cmp x.1.0.now y.1.0.now) (bytes_cmp x.1.1.now y.1.1.now))
 
 -- one whose key differs, and that does not come before another, comes behind it
-next_above : (x y : Pair) → is_lt (pair_cmp y x) ≡ false → x.0.now ≢ y.0.now → bytes_cmp x.0.now y.0.now ≡ Less
-next_above x y low other =
-    elim (bytes_cmp y.0.now x.0.now) as (λ r. bytes_cmp y.0.now x.0.now ≡ r → is_lt (ordering_then r (bytes_cmp y.1.now x.1.now)) ≡ false → bytes_cmp x.0.now y.0.now ≡ Less) [
+key_above : (x y : Led) → is_lt (ordering_then (bytes_cmp y.1.0.now x.1.0.now) (bytes_cmp y.1.1.now x.1.1.now)) ≡ false → x.1.0.now ≢ y.1.0.now → bytes_cmp x.1.0.now y.1.0.now ≡ Less
+key_above x y low other =
+    elim (bytes_cmp y.1.0.now x.1.0.now) as (λ r. bytes_cmp y.1.0.now x.1.0.now ≡ r → is_lt (ordering_then r (bytes_cmp y.1.1.now x.1.1.now)) ≡ false → bytes_cmp x.1.0.now y.1.0.now ≡ Less) [
       | Less ↦ λ e low. false_is_not_true (sym low)
-      | Equal ↦ λ e low. absurd (other (sym (slice_cmp-IsAntisymmetric nat_cmp-IsAntisymmetric y.0.now x.0.now e)))
-      | Greater ↦ λ e low. key_total.antisymm x.0.now y.0.now ∙ ap ordering_reverse e
+      | Equal ↦ λ e low. absurd (other (sym (slice_cmp-IsAntisymmetric nat_cmp-IsAntisymmetric y.1.0.now x.1.0.now e)))
+      | Greater ↦ λ e low. key_total.antisymm x.1.0.now y.1.0.now ∙ ap ordering_reverse e
     ] refl low
+
+next_above : (x y : Led) → is_lt (entry_cmp y x) ≡ false → x.1.0.now ≢ y.1.0.now → IsLed x → IsLed y → bytes_cmp x.1.0.now y.1.0.now ≡ Less
+next_above x y low other led_x led_y =
+    elim (cases_lt x.0 y.0) [
+      | inl lt ↦ smaller_first 8 x.1.0.now y.1.0.now led_x.bytes led_y.bytes (let p = led_x.number in let q = led_y.number in omega (arith, p, q, lt))
+      | inr le ↦ elim (cases_lt y.0 x.0) [
+        | inl gt ↦ false_is_not_true (sym low ∙ ap (λ o. is_lt (ordering_then o (ordering_then (bytes_cmp y.1.0.now x.1.0.now) (bytes_cmp y.1.1.now x.1.1.now)))) (less y.0 x.0 gt))
+        | inr ge ↦
+            let same : y.0 ≡ x.0 = omega (arith, le, ge) in
+            key_above x y (sym (ap (λ o. is_lt (ordering_then o (ordering_then (bytes_cmp y.1.0.now x.1.0.now) (bytes_cmp y.1.1.now x.1.1.now)))) (ap (λ z. nat_cmp z x.0) same ∙ tied x.0)) ∙ low) other
+      ]
+    ]
 
 above_all : (x y : List ℕ) (ks : List (List ℕ)) → bytes_cmp x y ≡ Less → AllByRecursion (λ z. bytes_cmp y z ≡ Less) ks → AllByRecursion (λ z. bytes_cmp x z ≡ Less) ks
 above_all x y [] low all = tt
 above_all x y (k ∷ ks) low (first, all) = (key_total.trans x y k low first, above_all x y ks low all)
 
-pub sorted_rises : (ps : List Pair) → IsSorted pair_cmp ps → AreOnce (pairs ps) → Rises (pairs ps)
+pub sorted_rises : (ps : List Led) → IsSorted entry_cmp ps → AreOnce (pairs ps) → AllByRecursion IsLed ps → Rises (pairs ps)
 unfolding IsStrictlySortedBy
-sorted_rises [] sorted once = tt
-sorted_rises (x ∷ []) sorted once = (tt, tt)
-sorted_rises (x ∷ y ∷ ps) sorted once =
-    let rest : Rises (pairs (y ∷ ps)) = sorted_rises (y ∷ ps) (λ k d low high. let one_on : suc k + 1 ≡ suc (k + 1) = omega arith in subst (λ n. is_lt (pair_cmp (slice_index_or (x ∷ y ∷ ps) n d) (slice_index_or (y ∷ ps) k d)) ≡ false) one_on (sorted (suc k) d (omega arith) (omega (arith, high)))) (λ i j a b at bt same. let both : suc i ≡ suc j = once (suc i) (suc j) a b at bt same in omega (arith, both)) in
-    let low : bytes_cmp x.0.now y.0.now ≡ Less =
-    next_above x y (sorted zero x (omega arith) (omega arith)) (λ same. let one : zero ≡ suc zero = once zero (suc zero) (x.0.now, x.1.now) (y.0.now, y.1.now) refl refl same in absurd (omega (arith, one))) in
-    ((low, above_all x.0.now y.0.now (packed_keys (pairs ps)) low rest.0), rest)
+sorted_rises [] sorted once led = tt
+sorted_rises (x ∷ []) sorted once led = (tt, tt)
+sorted_rises (x ∷ y ∷ ps) sorted once led =
+    let rest : Rises (pairs (y ∷ ps)) = sorted_rises (y ∷ ps) (λ k d low high. let one_on : suc k + 1 ≡ suc (k + 1) = omega arith in subst (λ n. is_lt (entry_cmp (slice_index_or (x ∷ y ∷ ps) n d) (slice_index_or (y ∷ ps) k d)) ≡ false) one_on (sorted (suc k) d (omega arith) (omega (arith, high)))) (λ i j a b at bt same. let both : suc i ≡ suc j = once (suc i) (suc j) a b at bt same in omega (arith, both)) led.1 in
+    let low : bytes_cmp x.1.0.now y.1.0.now ≡ Less =
+    next_above x y (sorted zero x (omega arith) (omega arith)) (λ same. let one : zero ≡ suc zero = once zero (suc zero) (x.1.0.now, x.1.1.now) (y.1.0.now, y.1.1.now) refl refl same in absurd (omega (arith, one))) led.0 led.1.0 in
+    ((low, above_all x.1.0.now y.1.0.now (packed_keys (pairs ps)) low rest.0), rest)
 
 -- ---- places
 
-pub more_pairs : (ps : List Pair) (p : Pair) → pairs (ps ++ p ∷ []) ≡ pairs ps ++ (p.0.now, p.1.now) ∷ []
-more_pairs ps p = map-append (λ (e : Pair). (e.0.now, e.1.now)) ps (p ∷ [])
+pub more_pairs : (ps : List Led) (p : Led) → pairs (ps ++ p ∷ []) ≡ pairs ps ++ (p.1.0.now, p.1.1.now) ∷ []
+more_pairs ps p = map-append (λ (e : Led). (e.1.0.now, e.1.1.now)) ps (p ∷ [])
 
 pub take_next : (es : List Entry) (i : ℕ) (key states : List ℕ) → slice_get es i ≡ Some (key, states) → take (i + 1) es ≡ take i es ++ (key, states) ∷ []
 take_next es i key states at = take_found es i (key, states) at
 
-pub pair_at : (ps : List Pair) (i : ℕ) (d : Pair) → i < length ps → slice_get (pairs ps) i ≡ Some ((slice_index_or ps i d).0.now, (slice_index_or ps i d).1.now)
+pub pair_at : (ps : List Led) (i : ℕ) (d : Led) → i < length ps → slice_get (pairs ps) i ≡ Some ((slice_index_or ps i d).1.0.now, (slice_index_or ps i d).1.1.now)
 pair_at [] i d low = absurd (omega (arith, low))
 pair_at (p ∷ ps) zero d low = refl
 pair_at (p ∷ ps) (suc i) d low = pair_at ps i d (omega (arith, low))
@@ -126,10 +166,14 @@ next_rises es run i key states rises at is =
     subst (λ front. Rises (front ++ (key, states) ∷ [])) (sym is)
     (subst Rises (take_next es i key states at) (run_front_rises (take (i + 1) es) (drop (i + 1) es) (subst Rises (sym (take-append-drop (i + 1) es)) rises)))
 
-pub pairs_moved : (ps qs : List Pair) → IsPermutation ps qs → IsPermutation (pairs ps) (pairs qs)
-pairs_moved ps qs moved = IsPermutation-map (λ (e : Pair). (e.0.now, e.1.now)) ps qs moved
+pub pairs_moved : (ps qs : List Led) → IsPermutation ps qs → IsPermutation (pairs ps) (pairs qs)
+pairs_moved ps qs moved = IsPermutation-map (λ (e : Led). (e.1.0.now, e.1.1.now)) ps qs moved
 
-pub all_taken : (ps : List Pair) (run : List Entry) (i : ℕ) → run ≡ take i (pairs ps) → length ps ≤ i → run ≡ pairs ps
+-- a sort keeps what stands before each
+pub led_moved : (ps qs : List Led) → IsPermutation ps qs → All IsLed ps → AllByRecursion IsLed qs
+led_moved ps qs moved led = recursion_from_All IsLed qs (All-permutation IsLed ps qs moved led)
+
+pub all_taken : (ps : List Led) (run : List Entry) (i : ℕ) → run ≡ take i (pairs ps) → length ps ≤ i → run ≡ pairs ps
 all_taken ps run i is past =
-    let same : length (pairs ps) ≡ length ps = length-map ps (λ (e : Pair). (e.0.now, e.1.now)) in
+    let same : length (pairs ps) ≡ length ps = length-map ps (λ (e : Led). (e.1.0.now, e.1.1.now)) in
     is ∙ take_all i (pairs ps) (omega (arith, same, past))

@@ -1,6 +1,7 @@
 -- A pass of an aggregation: groups in a table, and records that are left for the next pass. All of this is our own.
 use Rattle.std.specs.Borrow.{Bor}
-use Rattle.std.specs.Prelude.{◌≡◌, ◌≢◌, ℕ, zero, suc, ◌+◌, ◌≤◌, ◌<◌, ◌⊎◌, if◌then◌else◌, List, [], ◌∷◌, ◌++◌, length, map, flat_map, sum_by, take, slice_get, slice_set, Some, None}
+use Rattle.std.specs.Prelude.{◌≡◌, ◌≢◌, ℕ, zero, suc, ◌+◌, ◌≤◌, ◌<◌, ◌⊎◌, if◌then◌else◌, List, [], ◌∷◌, ◌++◌, length, map, flat_map, sum_by, take, slice_get, slice_index, slice_set, Some, None}
+use Rattle.byteorder.specs.Endian.{big_from}
 use Rattle.context_tree.specs.Tree.{TreeState}
 use Rattle.group_table.specs.Hashes.{fnv_1a}
 use Rattle.group_table.specs.Table.{TableState, groups, key_in, buckets_for, buckets_in, most_buckets}
@@ -210,9 +211,18 @@ LeavesFewer old records new = entries_of old.groups ≡ [] → old.left ≡ [] �
 
 -- ---- runs
 
--- the entries of references to keys and states
-abbrev pub pairs : List (Bor (List ℕ) × Bor (List ℕ)) → List Entry
-pairs entries = map (λ (e : Bor (List ℕ) × Bor (List ℕ)). (e.0.now, e.1.now)) entries
+-- references to a key and to states, behind a number
+abbrev pub Led : Type 0
+Led = ℕ × (Bor (List ℕ) × Bor (List ℕ))
+
+-- the entries of some of them
+abbrev pub pairs : List Led → List Entry
+pairs entries = map (λ (e : Led). (e.1.0.now, e.1.1.now)) entries
+
+-- the number is that of the first eight bytes of the key, the highest first, as if zeros followed a shorter key
+pub record IsLed (e : Led) : Type 0 where
+  pub number : e.0 ≡ big_from 0 8 e.1.0.now
+  pub bytes : (i : ℕ) → slice_index e.1.0.now i < 256
 
 -- the entries of some runs, one after the other
 abbrev pub all_in : List (List Entry) → List Entry

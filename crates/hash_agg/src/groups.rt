@@ -15,7 +15,7 @@ ghost use Rattle.hash_agg.specs.Passes.{AreOnce, by_hash, entries_of, HasPlace, 
 ghost use Rattle.hash_agg.specs.Steps.{HaveRoomForRow, AdvanceBy, HaveRoomForMore, CombineWith};
 
 use crate::run::Run;
-use crate::sorting::sorted;
+use crate::sorting::{led, sorted};
 use crate::states::{advance_slice, combine_slice};
 use context_tree::{ContextId, Kind, Tree};
 use group_table::{Fnv1a, GroupTable, Slot};
@@ -156,7 +156,7 @@ impl Groups {
     {
         let mut entries = Vec::with_capacity(alloc, self.len())?;
         for place in 0..self.len() {
-            entries.push(self.entry(place))?;
+            entries.push(led(self.entry(place)))?;
         }
         sorted(alloc, entries.as_mut_slice())
     }

@@ -1,34 +1,67 @@
 //! Groups in the order of their keys.
 
-ghost use Rattle.std.specs.Prelude.{◌≡◌, ◌++◌, IfOk, OnOk};
+ghost use Rattle.std.specs.Prelude.{◌≡◌, ◌++◌, IfOk, OnOk, slice_index};
+ghost use Rattle.std.specs.List.{All};
 ghost use Rattle.std.specs.List.Sorted.{IsPermutation};
 ghost use Rattle.hash_agg.specs.Runs.{Rises};
-ghost use Rattle.hash_agg.specs.Passes.{AreOnce, pairs, all_in};
+ghost use Rattle.hash_agg.specs.Passes.{AreOnce, IsLed, pairs, all_in};
 
 use crate::run::Run;
 use std::alloc::{AllocError, Global};
 
+/// The key and the states of a group, behind the first eight bytes of the key as a number: most keys are told apart by
+/// these, without a look at the bytes themselves.
+pub(crate) type Led<'a> = (u64, (&'a [u8], &'a [u8]));
+
+/// The byte at a place of a key, and 0 behind its last one.
+fn byte_at(key: &[u8], place: usize) -> u8
+    ensures { result ≡ slice_index key.now place }
+{
+    if place < key.len() { key[place] } else { 0 }
+}
+
+/// A group behind the number that its key begins with.
+pub(crate) fn led<'a>(group: (&'a [u8], &'a [u8])) -> Led<'a>
+    ensures group { result.1 ≡ group }
+    ensures led { IsLed result }
+{
+    let (key, _) = group;
+    let first = u64::from_be_bytes([
+        byte_at(key, 0),
+        byte_at(key, 1),
+        byte_at(key, 2),
+        byte_at(key, 3),
+        byte_at(key, 4),
+        byte_at(key, 5),
+        byte_at(key, 6),
+        byte_at(key, 7),
+    ]);
+    (first, group)
+}
+
 /// Puts groups, no two of which have the same key, in the order of their keys.
-pub(crate) fn sorted(alloc: Global, entries: &mut [(&[u8], &[u8])]) -> Result<Run, AllocError>
-    requires { AreOnce (pairs entries.old) }
+pub(crate) fn sorted(alloc: Global, entries: &mut [Led<'_>]) -> Result<Run, AllocError>
+    requires once { AreOnce (pairs entries.old) }
+    requires led { All IsLed entries.old }
     ensures sorted { IfOk result (IsPermutation (pairs entries.old)) }
     ensures rises { IfOk result Rises }
 {
     entries.sort_unstable();
     let mut run = Run::with_capacity(alloc, entries.len(), 0, 0)?;
     for place in 0..entries.len() {
-        let (key, states) = entries[place];
+        let (_, (key, states)) = entries[place];
         run.push(key, states)?;
     }
     Ok(run)
 }
 
 /// Adds references to the groups of a run behind others.
-fn push_all<'a>(entries: &mut Vec<(&'a [u8], &'a [u8])>, run: &'a Run) -> Result<(), AllocError>
-    ensures { OnOk result (pairs entries.new.items ≡ pairs entries.old.items ++ run.now) }
+fn push_all<'a>(entries: &mut Vec<Led<'a>>, run: &'a Run) -> Result<(), AllocError>
+    ensures pushed { OnOk result (pairs entries.new.items ≡ pairs entries.old.items ++ run.now) }
+    ensures led { OnOk result (All IsLed entries.old.items → All IsLed entries.new.items) }
 {
     for place in 0..run.len() {
-        entries.push(run.group(place))?;
+        entries.push(led(run.group(place)))?;
     }
     Ok(())
 }

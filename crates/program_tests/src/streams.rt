@@ -91,10 +91,10 @@ fn an_output_that_fails_is_told(rt: HostRuntime) -> Result<(), Fail> {
     let script = with_short_output(&rt, &["agg_tool", "script"])?;
     assert_eq!(rt;
         script.as_str(),
-        "3|refused WriteFault: the output could not be written\n"
+        "3|standard output: refused WriteFault: the output could not be written\n"
     );
     let help = with_short_output(&rt, &["agg_tool", "--help"])?;
-    assert_eq!(rt; help.as_str(), "3|");
+    assert_eq!(rt; help.as_str(), script.as_str());
     Ok(())
 }
 
