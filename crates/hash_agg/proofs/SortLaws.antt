@@ -1,7 +1,7 @@
 -- Entries in the order of their keys.
 use Rattle.std.specs.Prelude.{◌≡◌, ◌≢◌, refl, ℕ, zero, suc, ◌+◌, ◌*◌, ◌^◌, ◌<◌, ◌≤◌, true, false, List, [], ◌∷◌, ◌++◌, length, take, drop, slice_get, slice_index, slice_index_or, Some}
 use Rattle.std.proofs.Common.{sym, ◌∙◌, ap, subst, arith, inl, inr}
-use Rattle.std.proofs.Math.Nat.{mul-le-mul_right}
+use Rattle.std.proofs.Math.Nat.{mul-le-mul_right, zero-mul}
 use Rattle.std.proofs.lemmas.Bool.{cases_lt}
 use Rattle.std.proofs.lemmas.List.{map-append, length-map, take_all, take-append-drop}
 use Rattle.std.proofs.lemmas.List.Elements.{recursion_from_All}
@@ -86,7 +86,7 @@ rises_once es rises = distinct_once es (IsDistinct-from_sorted bytes_cmp (packed
 -- a number of no bytes
 no_bytes : (i n : ℕ) → big_from i n [] ≡ 0
 no_bytes i zero = refl
-no_bytes i (suc n) = no_bytes (suc i) n
+no_bytes i (suc n) = let rest = no_bytes (suc i) n in let none = zero-mul (256 ^ n) in omega (arith, rest, none)
 
 -- a key whose first bytes are a smaller number comes first
 smaller_first : (n : ℕ) (xs ys : List ℕ) → ((i : ℕ) → slice_index xs i < 256) → ((i : ℕ) → slice_index ys i < 256) → big_from 0 n xs < big_from 0 n ys → bytes_cmp xs ys ≡ Less

@@ -156,7 +156,8 @@ impl Groups {
     {
         let mut entries = Vec::with_capacity(alloc, self.len())?;
         for place in 0..self.len() {
-            entries.push(led(self.entry(place)))?;
+            let (key, states) = self.entry(place);
+            entries.push(led(key, states))?;
         }
         sorted(alloc, entries.as_mut_slice())
     }

@@ -21,11 +21,10 @@ fn byte_at(key: &[u8], place: usize) -> u8
 }
 
 /// A group behind the number that its key begins with.
-pub(crate) fn led<'a>(group: (&'a [u8], &'a [u8])) -> Led<'a>
-    ensures group { result.1 ≡ group }
+pub(crate) fn led<'a>(key: &'a [u8], states: &'a [u8]) -> Led<'a>
+    ensures group { result.1 ≡ (key.entry, states.entry) }
     ensures led { IsLed result }
 {
-    let (key, _) = group;
     let first = u64::from_be_bytes([
         byte_at(key, 0),
         byte_at(key, 1),
@@ -36,7 +35,7 @@ pub(crate) fn led<'a>(group: (&'a [u8], &'a [u8])) -> Led<'a>
         byte_at(key, 6),
         byte_at(key, 7),
     ]);
-    (first, group)
+    (first, (key, states))
 }
 
 /// Puts groups, no two of which have the same key, in the order of their keys.
@@ -61,7 +60,8 @@ fn push_all<'a>(entries: &mut Vec<Led<'a>>, run: &'a Run) -> Result<(), AllocErr
     ensures led { OnOk result (All IsLed entries.old.items → All IsLed entries.new.items) }
 {
     for place in 0..run.len() {
-        entries.push(led(run.group(place)))?;
+        let (key, states) = run.group(place);
+        entries.push(led(key, states))?;
     }
     Ok(())
 }

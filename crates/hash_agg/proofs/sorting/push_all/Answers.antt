@@ -9,10 +9,10 @@ use Rattle.hash_agg.proofs.sorting.push_all.Goals as goal
 pub loop-place-preserved : goal.loop-place-preserved
 loop-place-preserved c = (
   ap pairs c.in_ok-push.ensures.items
-  ∙ more_pairs c.loop-place.entries.items c.led.result
-  ∙ ap (λ group. pairs c.loop-place.entries.items ++ (group.0.now, group.1.now) ∷ []) c.led.ensures.group
-  ∙ ap (λ es. es ++ (c.group.result.0.now, c.group.result.1.now) ∷ []) c.loop-place.invariant.0
-  ∙ append_assoc (pairs c.args.entries.now.items) (take c.loop-place.place c.args.run.now) ((c.group.result.0.now, c.group.result.1.now) ∷ [])
-  ∙ ap (λ es. pairs c.args.entries.now.items ++ es) (sym (take_next c.args.run.now c.loop-place.place c.group.result.0.now c.group.result.1.now c.group.ensures)),
+      ∙ more_pairs c.loop-place.entries.items c.led.result
+      ∙ ap (λ group. pairs c.loop-place.entries.items ++ (group.0.now, group.1.now) ∷ []) c.led.ensures.group
+      ∙ ap (λ es. es ++ (c.group.result.0.now, c.group.result.1.now) ∷ []) c.loop-place.invariant.0
+      ∙ append_assoc (pairs c.args.entries.now.items) (take c.loop-place.place c.args.run.now) ((c.group.result.0.now, c.group.result.1.now) ∷ [])
+      ∙ ap (λ es. pairs c.args.entries.now.items ++ es) (sym (take_next c.args.run.now c.loop-place.place c.group.result.0.now c.group.result.1.now c.group.ensures)),
   λ before. subst (All IsLed) (sym c.in_ok-push.ensures.items) (All-push IsLed c.loop-place.entries.items c.led.result (c.loop-place.invariant.1 before) c.led.ensures.led),
 )
