@@ -1,7 +1,9 @@
 -- Rows that lie on end.
-use Rattle.std.specs.Prelude.{◌≡◌, refl, ℕ, zero, suc, ◌+◌, ◌-◌, ◌<◌, ◌≤◌, List, [], ◌∷◌, ◌++◌, length, take, drop, Some, slice_get, slice_index_or, slice_range}
+use Rattle.std.specs.Prelude.{◌≡◌, refl, ℕ, zero, suc, ◌+◌, ◌-◌, ◌<◌, ◌≤◌, List, [], ◌∷◌, ◌++◌, length, take, Some, slice_get, slice_index_or, slice_range}
 use Rattle.std.proofs.Common.{sym, ◌∙◌, ap, subst, arith, append_assoc, append-nil}
 use Rattle.std.proofs.lemmas.List.{length-append}
+use Rattle.std.proofs.lemmas.List.Edits.{length-between, get_or-between}
+use Rattle.std.proofs.lemmas.Option.{slice_get-get_or, get_or_from_slice_get}
 use Rattle.std.proofs.lemmas.Grind.{flat_map-append}
 use Rattle.std.proofs.Math.Seq.{take-append_seam, drop-append_seam}
 use Rattle.flat_rows.specs.Rows.{cut, on_end, ends_of, LieAs, AreRows}
@@ -86,6 +88,19 @@ row_at elements ends rows p from to d lie low first last =
     (subst (λ from. RowAt (on_end rows) from to rows p) (sym (first ∙ ap (λ ends. slice_index_or (0 ∷ ends) p 0) lie.ends_are))
     (subst (λ to. RowAt (on_end rows) (slice_index_or (0 ∷ ends_of 0 rows) p 0) to rows p) (sym (last ∙ ap (λ ends. slice_index_or ends p d) lie.ends_are))
     (row_behind [] rows p d low)))
+
+-- how long a row is, and an element of it
+pub row_long : {X : Type 0} (elements : List X) (rows : List (List X)) (p from to : ℕ) → RowAt elements from to rows p → length (slice_index_or rows p []) ≡ to - from
+row_long elements rows p from to at =
+    ap length (get_or_from_slice_get rows p (slice_range elements from to) [] at.there) ∙ length-between elements from to at.high
+
+pub element_is : {X : Type 0} (elements : List X) (rows : List (List X)) (p from to k : ℕ) (x : X) → RowAt elements from to rows p → k < length (slice_index_or rows p []) → slice_get elements (from + k) ≡ Some x
+    → slice_get (slice_index_or rows p []) k ≡ Some x
+element_is elements rows p from to k x at low is =
+    let long = row_long elements rows p from to at in
+    ap (λ row. slice_get row k) (get_or_from_slice_get rows p (slice_range elements from to) [] at.there)
+    ∙ slice_get-get_or (slice_range elements from to) k x (subst (λ n. k < n) (sym (length-between elements from to at.high)) (omega (arith, low, long)))
+    ∙ ap Some (get_or-between elements from to k x (omega (arith, low, long)) ∙ get_or_from_slice_get elements (from + k) x x is)
 
 -- equal rows lie equally
 pub same_lie : {X : Type 0} (elements : List X) (ends : List ℕ) (elements' : List X) (ends' : List ℕ) (rows rows' : List (List X)) → LieAs elements ends rows → LieAs elements' ends' rows' → rows ≡ rows' → (elements ≡ elements') × (ends ≡ ends')
