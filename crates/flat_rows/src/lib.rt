@@ -1,6 +1,6 @@
-//! Packed rows, one behind the other in one run of bytes.
+//! Rows that lie on end: packed rows in one run of bytes, and laws for rows of any elements.
 #![tactic(auto)]
 
 mod rows;
 
-pub use rows::PackedRows;
+pub use rows::{PackedRows, bound};

@@ -26,8 +26,8 @@ impl Model for PackedRows {
     ghost invariant = { λ r. AreRows r.bytes.items r.ends.items };
 }
 
-/// Where the first rows, so many of them, end.
-fn bound(ends: &[usize], rows: usize) -> usize
+/// Where the first rows, so many of them, end, by where each row ends.
+pub fn bound(ends: &[usize], rows: usize) -> usize
     requires { rows ≤ length ends.now }
     ensures { result ≡ slice_index_or (0 ∷ ends.now) rows 0 }
 {

@@ -11,6 +11,6 @@ pub mod WellLaws
 pub mod CountLaws
 pub mod WholeLaws
 pub mod CheckedLaws
-pub mod ItemLaws
+pub mod AnswerLaws
 pub mod PassedLaws
 pub mod FittingLaws

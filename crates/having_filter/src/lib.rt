@@ -3,6 +3,7 @@
 
 mod answer;
 mod calls;
+mod cells;
 mod checks;
 mod condition;
 mod error;

@@ -28,11 +28,16 @@ fn answers_are_kept(rt: HostRuntime) -> Result<(), Fail> {
         ResultValue::Bigint(i64::MIN),
         ResultValue::Numeric(i128::MAX),
     ])?;
+    answer.push(&[
+        ResultValue::Text(""),
+        ResultValue::Text("é€"),
+        ResultValue::Text("b"),
+    ])?;
     assert_eq!(rt;
         shown(rt, &answer)?.as_str(),
         "Boolean(true) Text(\"a\") Null //Bigint(-9223372036854775808) \
-         Numeric(170141183460469231731687303715884105727) /"
+         Numeric(170141183460469231731687303715884105727) /Text(\"\") Text(\"é€\") Text(\"b\") /"
     );
-    assert!(rt; answer.len() == 3 && !answer.is_empty());
+    assert!(rt; answer.len() == 4 && !answer.is_empty());
     Ok(())
 }

@@ -1,4 +1,4 @@
-use Rattle.std.specs.Prelude.{◌≡◌, ◌+◌, ◌∷◌, ℕ, length, slice_get, slice_index_or, slice_range, Some}
+use Rattle.std.specs.Prelude.{◌≡◌, ◌∷◌, length, slice_index_or, slice_range, Some}
 use Rattle.std.proofs.Common.{sym, ◌∙◌, ap, subst, arith}
 use Rattle.flat_rows.specs.Rows.{LieAs}
 use Rattle.flat_rows.proofs.RowLaws.{RowAt, cut_long, row_at}

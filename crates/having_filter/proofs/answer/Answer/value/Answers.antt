@@ -1,30 +1,38 @@
-use Rattle.std.specs.Prelude.{◌≡◌, ◌<◌, length, Some, [], slice_get, slice_index_or}
+use Rattle.std.specs.Prelude.{◌≡◌, ◌∷◌, length, slice_index_or, refl}
 use Rattle.std.proofs.Common.{sym, ◌∙◌, ap, subst, arith}
-use Rattle.having_filter.proofs.ItemLaws.{row_within, row_length, item_is}
+use Rattle.agg_protocol.specs.Results.{outcome_of}
+use Rattle.flat_rows.specs.Rows.{LieAs}
+use Rattle.flat_rows.proofs.RowLaws.{cut_long, row_at, row_long, element_is}
 use Rattle.having_filter.proofs.answer.Answer.value.Goals as goal
 
-pub index-requires : goal.index-requires
-index-requires c =
-    let rows = c.self.inside.rows in
-    let low : c.args.row < length rows.items = row_within rows.items c.args.row (subst (λ shown. c.args.row < length shown) (sym c.self.view_is) c.requires.row) in
-    omega (arith, low, rows.ok.0)
+pub bound-requires : goal.bound-requires
+bound-requires c =
+    let low = c.requires.row in
+    let long : length c.args.self.now ≡ length c.self.inside.ends.items = ap length (sym c.self.view_is) ∙ cut_long c.self.inside.values 0 c.self.inside.ends.items in
+    let same = ap length c.deref.ensures.value in
+    omega (arith, low, long, same)
 
-pub index-requires-2 : goal.index-requires-2
-index-requires-2 c =
-    let cells = c.index.result.now in
-    let low = subst (λ shown. c.args.row < length shown) (sym c.self.view_is) c.requires.row in
-    let long : length (slice_index_or c.args.self.now c.args.row []) ≡ length cells.items =
-    ap (λ shown. length (slice_index_or shown c.args.row [])) (sym c.self.view_is) ∙ row_length c.self.inside.rows.items c.args.row cells low c.index.ensures in
+pub value-requires : goal.value-requires
+value-requires c =
+    let old = c.self.inside in
+    let to = slice_index_or old.ends.items c.args.row 0 in
+    let at = row_at old.values old.ends.items c.args.self.now c.args.row c.bound.result to 0
+    (subst (LieAs old.values old.ends.items) c.self.view_is c.self.invariant)
+    c.requires.row
+    (c.bound.ensures ∙ ap (λ ends. slice_index_or (0 ∷ ends) c.args.row 0) c.deref.ensures.value)
+    refl in
     let within = c.requires.item in
-    omega (arith, within, long, cells.ok.0)
+    let long = row_long old.values c.args.self.now c.args.row c.bound.result to at in
+    let high = at.high in
+    omega (arith, within, long, high)
 
 pub returns : goal.returns
 returns c =
-    let cells = c.index.result.now in
-    let low = subst (λ shown. c.args.row < length shown) (sym c.self.view_is) c.requires.row in
-    let long : length (slice_index_or c.args.self.now c.args.row []) ≡ length cells.items =
-    ap (λ shown. length (slice_index_or shown c.args.row [])) (sym c.self.view_is) ∙ row_length c.self.inside.rows.items c.args.row cells low c.index.ensures in
-    let within = c.requires.item in
-    ap (λ shown. slice_get (slice_index_or shown c.args.row []) c.args.item) (sym c.self.view_is)
-    ∙ item_is c.self.inside.rows.items c.args.row c.args.item cells c.index-2.result.now low c.index.ensures (omega (arith, within, long)) c.index-2.ensures
-    ∙ ap Some (sym c.shown.ensures)
+    let old = c.self.inside in
+    let to = slice_index_or old.ends.items c.args.row 0 in
+    let at = row_at old.values old.ends.items c.args.self.now c.args.row c.bound.result to 0
+    (subst (LieAs old.values old.ends.items) c.self.view_is c.self.invariant)
+    c.requires.row
+    (c.bound.ensures ∙ ap (λ ends. slice_index_or (0 ∷ ends) c.args.row 0) c.deref.ensures.value)
+    refl in
+    element_is old.values c.args.self.now c.args.row c.bound.result to c.args.item (outcome_of c.value.result) at c.requires.item c.value.ensures
