@@ -1,6 +1,6 @@
 //! Lists of records on tapes.
 
-ghost use Rattle.std.specs.Prelude.{◌≡◌, ◌≢◌, ◌↔◌, ◌+◌, ◌<◌, ◌≤◌, ℕ, ◌++◌, ◌∷◌, List, [], true, false, length, IsTrue, IfOk, IfErr, OnOk, IfSome, IfNone};
+ghost use Rattle.std.specs.Prelude.{◌≡◌, ◌≢◌, ◌↔◌, ◌+◌, ◌<◌, ◌≤◌, ℕ, ◌++◌, ◌∷◌, List, [], true, false, length, IsTrue, IfOk, IfErr, OnOk, OnErr, IfSome, IfNone};
 ghost use Rattle.spill_tapes.specs.Records.{Record};
 ghost use Rattle.spill_tapes.specs.Tape.{Gives};
 ghost use Rattle.spill_tapes.specs.Tapes.{IsTape, KeepsOthers, is_open, is_written};
@@ -274,7 +274,7 @@ impl SpillLists {
         }
     }
 
-    /// Begins the pass over the last list that is to be read, if there is one.
+    /// Begins the pass over the last list that is to be read, if there is one; else nothing is changed.
     pub fn begin_pass<D: TapeDisk>(&mut self, _disk: &D) -> bool
         requires parts { self.old.parts ≡ [] }
         requires source { self.old.source ≡ [] }
@@ -282,6 +282,7 @@ impl SpillLists {
         ensures some { result ≡ true → 0 < ahead_number self.new }
         ensures counted { waiting_number self.old ≡ waiting_number self.new + ahead_number self.new }
         ensures none { result ≡ false → self.old.todo ≡ [] }
+        ensures unchanged { result ≡ false → self.new ≡ self.old }
         ensures parts { self.new.parts ≡ [] }
         ensures alive { self.new.tapes.is_dead ≡ self.old.tapes.is_dead }
     {
@@ -296,7 +297,7 @@ impl SpillLists {
     }
 
     /// Reads the next record of the list that the pass reads, if there is one: its hash and its tag are answered, and its
-    /// bytes are put in the place of those in `bytes`.
+    /// bytes are put in the place of those in `bytes`. Without a record, or where it fails, there are none.
     pub fn next<D: TapeDisk>(
         &mut self,
         disk: &mut D,
@@ -308,6 +309,8 @@ impl SpillLists {
         ensures counted { IfOk result (λ found. IfSome found (λ _. ahead_number self.old ≡ ahead_number self.new + 1)) }
         ensures ended { IfOk result (λ found. IfNone found ((ahead_number self.old ≡ 0) × (self.new.source ≡ []))) }
         ensures framed { IfOk result (λ found. IfSome found (λ told. (told.1 < 2) × (length bytes.new.items ≤ 65535))) }
+        ensures none { IfOk result (λ found. IfNone found (bytes.new.items ≡ [])) }
+        ensures nothing { OnErr result (bytes.new.items ≡ []) }
         ensures alive { OnOk result (self.new.tapes.is_dead ≡ false) }
         ensures parts { self.new.parts ≡ self.old.parts }
         ensures todo { self.new.todo ≡ self.old.todo }

@@ -1,9 +1,11 @@
-//! Tests of tapes over disks, by public calls alone.
+//! Tests of tapes over disks, and of the lists that passes spill to tapes, by public calls alone.
 #![tactic(auto)]
 
 #[cfg(test)]
 mod calls;
 #[cfg(test)]
 mod disks;
+#[cfg(test)]
+mod lists;
 #[cfg(test)]
 mod tapes;

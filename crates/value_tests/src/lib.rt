@@ -1,4 +1,5 @@
-//! Tests of tokens, of values and packed rows, of batch files, and of the aggregate functions, by their crates' public calls alone.
+//! Tests of tokens, of values and packed rows, of rows that lie on end, of batch files, and of the aggregate functions, by their
+//! crates' public calls alone.
 //! A test goes through the lines of a table: a case, and what is wanted of it behind ` => `.
 #![tactic(auto)]
 
@@ -6,6 +7,8 @@
 mod aggregates;
 #[cfg(test)]
 mod files;
+#[cfg(test)]
+mod on_end;
 #[cfg(test)]
 mod rows;
 #[cfg(test)]

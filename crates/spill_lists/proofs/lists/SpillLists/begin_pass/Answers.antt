@@ -8,7 +8,7 @@ use Rattle.spill_lists.proofs.lists.SpillLists.begin_pass.Goals as goal
 
 pub invariant_of-self : goal.invariant_of-self
 invariant_of-self g c =
-    lists_begun c.self.inside.tapes c.self.inside.level c.in-Some.list.level c.self.inside.parts.items (one_or_none c.self.inside.source) c.pop.new.self.items c.self.inside.todo.items c.in-Some.list
+    lists_begun c.self.inside.tapes c.self.inside.level _ c.self.inside.parts.items (one_or_none c.self.inside.source) c.pop.new.self.items c.self.inside.todo.items c.in-Some.list
     (ap (λ (s : ListsState). s.source) c.self.view_is ∙ c.requires.source) c.in-Some.ensures.items c.self.invariant
 
 pub returns-in-Some-clause-begins : goal.returns-in-Some-clause-begins
