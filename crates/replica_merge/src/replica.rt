@@ -1,7 +1,8 @@
 //! What a replica holds, and what it tells of it.
 
-ghost use Rattle.std.specs.Prelude.{◌≡◌, ◌≢◌, ◌≤◌, ℕ, List, None, All, [], map, length, Some, IsSome, IfSome, IsTrue, false, IfOk, IfErr, OnOk, OnErr};
+ghost use Rattle.std.specs.Prelude.{◌≡◌, ◌≢◌, ◌+◌, ◌^◌, ◌<◌, ◌≤◌, ◌∷◌, ℕ, List, None, All, [], map, length, Some, IsSome, IfSome, IsTrue, false, IfOk, IfErr, OnOk, OnErr};
 ghost use Rattle.std.specs.BTreeMap.{insert_entry};
+ghost use Rattle.std.specs.List.{AllByRecursion};
 ghost use Rattle.std.specs.Option.{option_copied};
 ghost use Rattle.grouping_model.specs.declared.limits.TheConstants.{LAST_NUMBER};
 ghost use Rattle.grouping_model.specs.Answer.{answer};
@@ -11,7 +12,8 @@ ghost use Rattle.grouping_model.specs.World.{World, IsWorld, knows, learn, prefi
 ghost use Rattle.packed_rows.specs.Columns.{kinds};
 ghost use Rattle.batch_reader.specs.Rows.{ArePackedRows, packings};
 ghost use Rattle.having_filter.specs.Meaning.{meaning};
-ghost use Rattle.hash_agg.specs.Inputs.{brought, IsAggregate};
+ghost use Rattle.hash_agg.specs.Inputs.{Counted, brought, all_rows, IsInput, IsAggregate};
+ghost use Rattle.hash_agg.specs.Standing.{IsRun};
 ghost use Rattle.origin_prefix.specs.Parts.{IsPartOf, Disagrees};
 ghost use Rattle.origin_prefix.specs.declared.error.JoinError.TheVariants.{NoMemory, OriginDisagrees};
 ghost use Rattle.replica_merge.specs.Replicas.{part_at, part_of, told, Fits, AreHeldParts, DeliveredTo, known_of, known_part, counted_part};
@@ -19,7 +21,7 @@ ghost use Rattle.replica_merge.specs.Replicas.{part_at, part_of, told, Fits, Are
 use crate::known::Known;
 use crate::showing::show;
 use batch_reader::{Batch, PackedRows};
-use hash_agg::{Input, Run, aggregate};
+use hash_agg::{Input, Run, aggregate, fold};
 use having_filter::{Answer, Query};
 use origin_prefix::{Delivered, JoinError, OriginPart, RefusedBatch, most_rows};
 use std::alloc::{AllocError, Global};
@@ -89,6 +91,25 @@ fn part_inputs(
         inputs.push(Input::Groups { run, rows })?;
     }
     Ok(inputs)
+}
+
+/// The groups of a run, which stand already, with those of others.
+fn with_others(
+    alloc: Global,
+    query: &Query,
+    run: &Run,
+    rows: u64,
+    others: &[Input<'_>],
+) -> Result<Run, AllocError>
+    requires run { IsRun (meaning query.now) rows run.now }
+    requires inputs { AllByRecursion (IsInput (meaning query.now)) (map brought others.now) }
+    requires few { rows + all_rows (map brought others.now) < 2 ^ 57 }
+    ensures { IfOk result (IsAggregate (meaning query.now)
+        (Counted run.now rows ∷ map brought others.now)) }
+{
+    let mut all = run.try_clone(alloc)?;
+    fold(alloc, query, &mut all, rows, others)?;
+    Ok(all)
 }
 
 /// Takes a batch of an origin of which there is a part. A refused batch is handed back and changes nothing.
@@ -242,7 +263,12 @@ impl Replica {
             (map counted_part self.now.parts)) }
     {
         let inputs = part_inputs(self.alloc, &self.parts)?;
-        aggregate(self.alloc, &self.query, &inputs)
+        match inputs.as_slice().split_first() {
+            Some((Input::Groups { run, rows }, others)) => {
+                with_others(self.alloc, &self.query, run, *rows, others)
+            }
+            _ => aggregate(self.alloc, &self.query, &inputs),
+        }
     }
 
     /// The answer of the query over the rows of the unbroken prefixes, in the order of its keys: a row of the query's
