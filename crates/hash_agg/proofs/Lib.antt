@@ -2,10 +2,8 @@ pub mod StateLaws
 pub mod EntryLaws
 pub mod TableLaws
 pub mod PassLaws
-pub mod StepLaws
 pub mod SortLaws
 pub mod UnionLaws
-pub mod CountLaws
 pub mod KeyLaws
 pub mod MergeLaws
 pub mod InputLaws
@@ -15,3 +13,5 @@ pub mod FoldLaws
 pub mod FlatLaws
 pub mod PlaceLaws
 pub mod SpliceLaws
+pub mod StepLaws
+pub mod CountLaws

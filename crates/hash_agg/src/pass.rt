@@ -132,14 +132,14 @@ impl<H: KeyHash + Drop> Pass<H> {
         self.lists.spill(disk, hash, ROW, packed)
     }
 
-    /// Reads a group. What `record` holds doesn't matter.
+    /// Reads a group. What `tape_record` holds doesn't matter.
     fn add_group<D: TapeDisk>(
         &mut self,
         disk: &mut D,
         plan: &Plan<'_>,
         key: &[u8],
         states: &[u8],
-        record: &mut Vec<u8>,
+        tape_record: &mut Vec<u8>,
     ) -> Result<(), SpillError>
         requires plan { IsPlan plan.now }
         requires width { self.old.groups.table.width ≡ length plan.now.first.items }
@@ -166,8 +166,8 @@ impl<H: KeyHash + Drop> Pass<H> {
             return Ok(());
         }
         let hash = self.groups.hash(key);
-        write_group(record, key, states)?;
-        self.lists.spill(disk, hash, GROUP, record)
+        write_group(tape_record, key, states)?;
+        self.lists.spill(disk, hash, GROUP, tape_record)
     }
 
     /// Reads a packed row, if WHERE is true of it. What `row` and `buffers` hold doesn't matter.
@@ -354,13 +354,13 @@ impl<H: KeyHash + Drop> Pass<H> {
         Ok(())
     }
 
-    /// Reads the groups of a run, whose states count at most as many rows as are allowed. What `record` holds doesn't matter.
+    /// Reads the groups of a run, whose states count at most as many rows as are allowed. What `tape_record` holds doesn't matter.
     fn add_run<D: TapeDisk>(
         &mut self,
         disk: &mut D,
         plan: &Plan<'_>,
         run: &Run,
-        record: &mut Vec<u8>,
+        tape_record: &mut Vec<u8>,
     ) -> Result<(), SpillError>
         requires plan { IsPlan plan.now }
         requires width { self.old.groups.table.width ≡ length plan.now.first.items }
@@ -378,7 +378,7 @@ impl<H: KeyHash + Drop> Pass<H> {
     {
         for place in 0..run.len() {
             let (key, states) = run.group(place);
-            self.add_group(disk, plan, key, states, record)?;
+            self.add_group(disk, plan, key, states, tape_record)?;
         }
         Ok(())
     }

@@ -7,31 +7,32 @@ use std::alloc::AllocError;
 
 /// The tag of a record of a packed row, and that of a record of a group.
 pub(crate) const ROW: u8 = 0;
+
 pub(crate) const GROUP: u8 = 1;
 
-/// Writes the record of a group to `record`, where it takes the place of what was there. The only error is a failed allocation.
-pub(crate) fn write_group(record: &mut Vec<u8>, key: &[u8], states: &[u8]) -> Result<(), AllocError>
+/// Writes the record of a group to `out`, where it takes the place of what was there. The only error is a failed allocation.
+pub(crate) fn write_group(out: &mut Vec<u8>, key: &[u8], states: &[u8]) -> Result<(), AllocError>
     requires { length key.now ≤ 65535 }
-    ensures { OnOk result (record.new.items ≡ group_record key.now states.now) }
+    ensures { OnOk result (out.new.items ≡ group_record key.now states.now) }
 {
-    record.clear();
-    record.extend_from_slice(&(key.len() as u16).to_be_bytes())?;
-    record.extend_from_slice(key)?;
-    record.extend_from_slice(states)?;
+    out.clear();
+    out.extend_from_slice(&(key.len() as u16).to_be_bytes())?;
+    out.extend_from_slice(key)?;
+    out.extend_from_slice(states)?;
     Ok(())
 }
 
 /// The key and the states in the record of a group, if it is one.
-pub(crate) fn split_group(record: &[u8]) -> Option<(&[u8], &[u8])>
+pub(crate) fn split_group(bytes: &[u8]) -> Option<(&[u8], &[u8])>
     ensures { MatchOption result
-        ((key states : List ℕ) → length key ≤ 65535 → record.now ≢ group_record key states)
-        (λ found. record.now ≡ group_record found.0.now found.1.now) }
+        ((key states : List ℕ) → length key ≤ 65535 → bytes.now ≢ group_record key states)
+        (λ found. bytes.now ≡ group_record found.0.now found.1.now) }
 {
-    if record.len() < 2 {
+    if bytes.len() < 2 {
         return None;
     }
-    let len = usize::from(u16::from_be_bytes([record[0], record[1]]));
-    let rest = &record[2..];
+    let len = usize::from(u16::from_be_bytes([bytes[0], bytes[1]]));
+    let rest = &bytes[2..];
     if rest.len() < len {
         return None;
     }

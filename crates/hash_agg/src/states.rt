@@ -91,7 +91,11 @@ fn advance_from(
     ensures refused { OnErr result (¬ SomeHaveRoomForRow kinds.now most states.old) }
 {
     let Some((kind, kinds)) = kinds.split_first() else {
-        return if states.is_empty() { Ok(()) } else { Err(BadState) };
+        return if states.is_empty() {
+            Ok(())
+        } else {
+            Err(BadState)
+        };
     };
     if states.len() < kind.width() {
         return Err(BadState);

@@ -2,7 +2,7 @@ use Rattle.std.specs.Prelude.{◌≡◌, ◌≤◌, length}
 use Rattle.std.proofs.Common.{arith, rules}
 use Rattle.having_filter.specs.Meaning.{meaning}
 use Rattle.hash_agg.proofs.StepLaws.{states_short}
-use Rattle.hash_agg.proofs.pass.Pass.new.Goals as goal
+use Rattle.hash_agg.proofs.plan.Plan.new.Goals as goal
 
 pub overflow_cast-len : goal.overflow_cast-len
 overflow_cast-len c =

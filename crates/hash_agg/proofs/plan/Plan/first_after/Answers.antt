@@ -8,7 +8,7 @@ use Rattle.having_filter.specs.Meaning.{meaning}
 use Rattle.hash_agg.specs.Standing.{AreStates}
 use Rattle.hash_agg.specs.Passes.{PassState}
 use Rattle.hash_agg.proofs.StateLaws.{states_raised, written_over}
-use Rattle.hash_agg.proofs.pass.Pass.first_after.Goals as goal
+use Rattle.hash_agg.proofs.plan.Plan.first_after.Goals as goal
 
 pub returns-clause-advanced : goal.returns-clause-advanced
 returns-clause-advanced c =
