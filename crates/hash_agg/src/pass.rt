@@ -35,7 +35,7 @@ use std::alloc::{AllocError, Global};
 pub(crate) struct Buffers {
     key: Vec<u8>,
     states: Vec<u8>,
-    record: Vec<u8>,
+    tape_record: Vec<u8>,
 }
 
 impl Buffers {
@@ -44,7 +44,7 @@ impl Buffers {
         Buffers {
             key: Vec::new(alloc),
             states: Vec::new(alloc),
-            record: Vec::new(alloc),
+            tape_record: Vec::new(alloc),
         }
     }
 }
@@ -263,7 +263,7 @@ impl<H: KeyHash + Drop> Pass<H> {
         if self.groups.hash(key) != hash {
             return Err(SpillError::TapeDamaged);
         }
-        self.add_group(disk, plan, key, states, &mut buffers.record)
+        self.add_group(disk, plan, key, states, &mut buffers.tape_record)
     }
 
     /// Reads a record from a tape. `TapeDamaged` if it is none of the query. What `buffers` holds doesn't matter.
@@ -410,7 +410,7 @@ impl<H: KeyHash + Drop> Pass<H> {
         match input {
             Input::Rows(rows) => self.add_rows(disk, plan, rows, row, buffers),
             Input::Flat(rows) => self.add_flat(disk, plan, rows, row, buffers),
-            Input::Groups { run, .. } => self.add_run(disk, plan, run, &mut buffers.record),
+            Input::Groups { run, .. } => self.add_run(disk, plan, run, &mut buffers.tape_record),
         }
     }
 

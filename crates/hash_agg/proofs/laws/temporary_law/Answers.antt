@@ -1,0 +1,6 @@
+use Rattle.std.specs.Prelude.{refl}
+use Rattle.hash_agg.proofs.StepLaws.{get_in}
+use Rattle.hash_agg.proofs.laws.temporary_law.Goals as goal
+
+pub returns : goal.returns
+returns c = λ n. refl
