@@ -4,6 +4,7 @@ pub mod TableLaws
 pub mod PassLaws
 pub mod SortLaws
 pub mod UnionLaws
+pub mod WaitLaws
 pub mod KeyLaws
 pub mod MergeLaws
 pub mod InputLaws

@@ -17,8 +17,8 @@ use Rattle.grouping_model.proofs.Members.{Member, from_contains, to_contains}
 use Rattle.grouping_model.proofs.PartLaws.{same_row-swap}
 use Rattle.spill_tapes.specs.Records.{Record}
 use Rattle.hash_agg.specs.Runs.{Entry, Rises}
-use Rattle.hash_agg.specs.Standing.{StandsFor, AreGroups}
-use Rattle.hash_agg.specs.Passes.{Piece, ArePieces, made_of, rows_at, CountUpTo, AreOnce, IsParted, AreGroupsBy, Stands, all_in}
+use Rattle.hash_agg.specs.Standing.{StandsFor, AreGroups, IsRun}
+use Rattle.hash_agg.specs.Passes.{Piece, made_of, rows_at, CountUpTo, AreOnce, IsParted, AreGroupsBy, AreSafe, Stands, all_in}
 use Rattle.hash_agg.proofs.FoldLaws.{run_keys_rise}
 use Rattle.having_filter.specs.Kept.{key_kinds}
 use Rattle.hash_agg.proofs.InputLaws.{packed_once}
@@ -146,7 +146,7 @@ get_append {X} (y ∷ xs) ys (suc i) x at = further (get_append xs ys i x at)
     further (inl (j, e)) = inl (suc j, e)
     further (inr e) = inr e
 
-once_append : (es fs : List Entry) → AreOnce es → AreOnce fs → ((i j : ℕ) (x y : Entry) → slice_get es i ≡ Some x → slice_get fs j ≡ Some y → x.0 ≢ y.0) → AreOnce (es ++ fs)
+pub once_append : (es fs : List Entry) → AreOnce es → AreOnce fs → ((i j : ℕ) (x y : Entry) → slice_get es i ≡ Some x → slice_get fs j ≡ Some y → x.0 ≢ y.0) → AreOnce (es ++ fs)
 once_append [] fs a b c i j x y at bt same = b i j x y at bt same
 once_append (e ∷ es) fs a b c zero zero x y at bt same = refl
 once_append (e ∷ es) fs a b c zero (suc j) x y at bt same = gone (get_append es fs j y bt)
@@ -264,3 +264,18 @@ one_run_more runs run = flat_map-append (λ (run : List Entry). run) runs (run �
 pub nothing_in : {X : Type 0} (xs : List X) → length xs ≡ 0 → xs ≡ []
 nothing_in [] e = refl
 nothing_in (x ∷ xs) e = absurd (omega (arith, e))
+
+-- ---- over any disk
+
+pub none_safe : (q : Query) (most : ℕ) → AreSafe q most []
+none_safe q most = ([], tt)
+
+pub safe_append : (q : Query) (most : ℕ) (es more : List Entry) → AreSafe q most es → AreSafe q most more → AreSafe q most (es ++ more)
+safe_append q most es more (gs, are) (hs, these) = (gs ++ hs, by_append q (λ k. most) es more gs hs are these)
+
+pub safe_moved : (q : Query) (most : ℕ) (es run : List Entry) → AreSafe q most es → IsPermutation es run → AreSafe q most run
+safe_moved q most es run (gs, are) moved =
+    (apply_swaps gs moved.moves, subst (λ fs. AreGroupsBy q (λ k. most) fs (apply_swaps gs moved.moves)) (sym moved.is) (by_swaps q (λ k. most) es gs moved.moves are))
+
+pub safe_run : (q : Query) (most : ℕ) (run : List Entry) → AreSafe q most run → Rises run → IsRun q most run
+safe_run q most run (gs, are) rises = record { groups = gs; are = by_uniform q (λ k. most) most run gs (λ k. omega arith) are; rises = rises }
