@@ -12,6 +12,7 @@ use Rattle.grouping_model.specs.Condition.{is_met}
 use Rattle.grouping_model.specs.Query.{Query}
 use Rattle.grouping_model.specs.Grouping.{Group, column_of, key_of}
 use Rattle.grouping_model.specs.Parts.{functions, with_row}
+use Rattle.packed_rows.specs.Columns.{Column, kinds, AreColumns}
 use Rattle.packed_rows.specs.Packing.{packing, value_packing}
 use Rattle.packed_rows.specs.View.{bytes_of}
 use Rattle.std.specs.declared.alloc.Global.{Global}
@@ -84,12 +85,13 @@ key_short q bytes k formed is has =
     let same = ap length is in
     omega (arith, long, few, short, same)
 
-pub packed_short : (q : Query) (bytes : List ℕ) (row : Row) → IsWellFormed q → bytes ≡ packing row → HasKinds q.kinds row → length bytes ≤ 65535
-packed_short q bytes row formed is has =
-    let few : length q.kinds ≤ 32 = formed.few_columns in
-    let short = row_short q.kinds row has in
+pub packed_short : (columns : List Column) (bytes : List ℕ) (row : Row) → AreColumns columns → bytes ≡ packing row → HasKinds (kinds columns) row → length bytes ≤ 65535
+packed_short columns bytes row are is has =
+    let few : length columns ≤ 32 = are.most in
+    let long : length (kinds columns) ≡ length columns = length-map columns _ in
+    let short = row_short (kinds columns) row has in
     let same = ap length is in
-    omega (arith, few, short, same)
+    omega (arith, few, long, short, same)
 
 all_wide : (m : ℕ) (kinds : List AggKind) (bytes : List ℕ) (ps : List Partial) → Denotes m kinds bytes ps → length bytes ≡ row_width kinds
 all_wide m [] bytes [] d = ap length d
@@ -149,7 +151,7 @@ pub record IsSelected (q : Query) (packed key : List ℕ) (row : Row) : Type 0 w
   pub met : is_met (column_of row) q.condition ≡ true
   pub named : key ≡ packing (key_of q row)
 
-pub row_told : (q : Query) (bound : ℕ) (packed key : List ℕ) (row : Row) → IsWellFormed q → IsSelected q packed key row → (more : List Piece) → AreRows q (packed ∷ []) more → Told q bound key (λ old new. AreAdvanced q bound old row new) more
+abbrev pub row_told : (q : Query) (bound : ℕ) (packed key : List ℕ) (row : Row) → IsWellFormed q → IsSelected q packed key row → (more : List Piece) → AreRows q (packed ∷ []) more → Told q bound key (λ old new. AreAdvanced q bound old row new) more
 row_told q bound packed key row formed selected more are =
     record {
       piece = Of_row row;
@@ -160,7 +162,7 @@ row_told q bound packed key row formed selected more are =
       moves = λ m old new found moved low states. moved.moved m found (omega (arith, low)) states;
     }
 
-pub group_told : (q : Query) (bound m : ℕ) (key states : List ℕ) (more : List Piece) → AreOfRun q m ((key, states) ∷ []) more → Told q bound key (λ old new. AreCombined (functions q) bound old states new) more
+abbrev pub group_told : (q : Query) (bound m : ℕ) (key states : List ℕ) (more : List Piece) → AreOfRun q m ((key, states) ∷ []) more → Told q bound key (λ old new. AreCombined (functions q) bound old states new) more
 group_told q bound m key states more are =
     let one = one_group q m key states more are in
     record {

@@ -11,6 +11,7 @@ use Rattle.grouping_model.specs.Condition.{is_met}
 use Rattle.grouping_model.specs.Query.{Query}
 use Rattle.grouping_model.specs.Grouping.{Group, column_of, key_of, partials}
 use Rattle.grouping_model.specs.Parts.{functions, partials_at}
+use Rattle.packed_rows.specs.Columns.{AreColumns}
 use Rattle.packed_rows.specs.Packing.{packing}
 use Rattle.spill_tapes.specs.Records.{Record}
 use Rattle.spill_lists.specs.Lists.{LeftList}
@@ -156,6 +157,7 @@ pub record IsSameTable {H : Type 0} (old new : GroupsState H) : Type 0 where
 
 -- what all passes of an aggregation have in common: a checked query, the states before any row, and the most rows that a group counts
 pub record IsPlan (plan : Plan) : Type 0 where
+  pub columns : AreColumns plan.query.now.columns
   pub formed : IsWellFormed (meaning plan.query.now)
   pub states : AreStates (functions (meaning plan.query.now)) 0 plan.first.items (partials (meaning plan.query.now) [])
   pub few : plan.most ≤ most_rows

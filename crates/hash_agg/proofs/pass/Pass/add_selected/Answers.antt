@@ -1,4 +1,4 @@
-use Rattle.std.specs.Prelude.{◌≡◌, refl, ◌∷◌, [], List, ℕ}
+use Rattle.std.specs.Prelude.{◌≡◌, refl, ◌∷◌, ◌++◌, [], List, ℕ}
 use Rattle.std.proofs.Common.{sym, ◌∙◌, ap, arith}
 use Rattle.spill_lists.specs.declared.error.SpillError.TheVariants.{TapeDamaged}
 use Rattle.grouping_model.specs.Datum.{Row}
@@ -9,7 +9,7 @@ use Rattle.group_table.specs.Table.{state_in}
 use Rattle.packed_rows.specs.View.{row_of}
 use Rattle.having_filter.specs.Meaning.{meaning}
 use Rattle.hash_agg.specs.Steps.{AreAdvanced}
-use Rattle.hash_agg.specs.Passes.{Piece, AreRows}
+use Rattle.hash_agg.specs.Passes.{Piece, AreRows, entries_of}
 use Rattle.hash_agg.proofs.KeyLaws.{key_has}
 use Rattle.hash_agg.proofs.StateLaws.{states_raised}
 use Rattle.hash_agg.proofs.StepLaws.{on_ok, err_out, key_short, packed_short, IsSelected, row_told, one_there, there_room, one_new, new_room, one_left, safe_there, safe_new}
@@ -71,7 +71,8 @@ returns-then-takes-clause-reads g c =
     let selected : IsSelected q c.args.packed.now c.args.key.now row = record { has = c.requires.row.0; is = c.requires.row.1; met = c.requires.met; named = c.requires.key } in
     one_new c.args.plan.now (g.H.KeyHash.hash_of c.args.self.now.groups.table.hash) c.args.self.now.groups c.args.self.now.lists (g.D.TapeDisk.last c.args.disk.now) c.args.key.now
     (AreRows q (c.args.packed.now ∷ [])) (λ old new. AreAdvanced q c.args.plan.now.most old row new) (row_told q c.args.plan.now.most c.args.packed.now c.args.key.now row c.requires.plan.formed selected)
-    c.enter.new.self c.deref.result.now c.in_default.ensures.found (c.if-takes.ensures.none c.if-takes.true) c.in_ok-enter.ensures.entered
+    c.enter.new.self c.first_after.new.states.items c.in_default.ensures.found (c.if-takes.ensures.none refl)
+    (c.in_ok-enter.ensures.entered ∙ ap (λ states. entries_of c.args.self.now.groups ++ (c.args.key.now, states) ∷ []) c.deref.ensures.value)
     (λ more are low. c.in_ok-first_after.ensures.advanced.moved 0 (partials q []) (omega (arith, low)) c.requires.plan.states)
 
 pub returns-then-takes-clause-safe : goal.returns-then-takes-clause-safe
@@ -79,12 +80,12 @@ returns-then-takes-clause-safe g c =
     let q : Query = meaning c.args.plan.now.query.now in
     let row : Row = row_of c.args.row.now in
     let within = c.in_ok-first_after.ensures.advanced.within in
-    safe_new q c.args.plan.now.most c.args.self.now.groups c.enter.new.self c.args.key.now c.deref.result.now (key_of q row, within.0)
+    safe_new q c.args.plan.now.most c.args.self.now.groups c.enter.new.self c.args.key.now c.first_after.new.states.items (key_of q row, within.0)
     (record { key = c.requires.key; of_kinds = key_has q row c.requires.plan.formed.keys c.requires.row.0; states = within.1 })
-    c.in_ok-enter.ensures.entered
+    (c.in_ok-enter.ensures.entered ∙ ap (λ states. entries_of c.args.self.now.groups ++ (c.args.key.now, states) ∷ []) c.deref.ensures.value)
 
 pub spill-requires-clause-len : goal.spill-requires-clause-len
-spill-requires-clause-len g c = packed_short (meaning c.args.plan.now.query.now) c.args.packed.now (row_of c.args.row.now) c.requires.plan.formed c.requires.row.1 c.requires.row.0
+spill-requires-clause-len g c = packed_short c.args.plan.now.query.now.columns c.args.packed.now (row_of c.args.row.now) c.requires.plan.columns c.requires.row.1 c.requires.row.0
 
 pub returns-clause-reads : goal.returns-clause-reads
 returns-clause-reads g c =
