@@ -15,4 +15,5 @@ pub mod FlatLaws
 pub mod PlaceLaws
 pub mod SpliceLaws
 pub mod StepLaws
+pub mod RecordLaws
 pub mod CountLaws

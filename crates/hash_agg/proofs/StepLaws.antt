@@ -46,6 +46,10 @@ pub on_ok : {T E : Type 0} (r : Result T E) {P Q : Type 0} → (P → Q) → OnO
 on_ok (Ok x) gives holds = gives holds
 on_ok (Err e) gives holds = tt
 
+pub on_error : {T E : Type 0} (r : Result T E) {P Q : E → Type 0} → ((e : E) → P e → Q e) → IfErr r P → IfErr r Q
+on_error (Ok x) gives holds = tt
+on_error (Err e) gives holds = gives e holds
+
 -- what holds of the error that a `?` hands on
 pub err_out : {T E : Type 0} (r : Result T E) (e : E) (P : E → Type 0) → IsErrAnd r (λ x. x ≡ e) → P e → IfErr r P
 err_out r e P given holds =
