@@ -1,6 +1,6 @@
 //! The groups of a pass, in a table whose bytes lie in memory contexts.
 
-ghost use Rattle.std.specs.Prelude.{◌≡◌, ◌≢◌, ◌++◌, ◌∷◌, ◌≤◌, ◌<◌, true, List, [], Some, length, slice_get, IsTrue, MatchOption, IfOk, OnOk, OnErr, ¬◌};
+ghost use Rattle.std.specs.Prelude.{◌≡◌, ◌≢◌, ◌++◌, ◌∷◌, ◌≤◌, ◌<◌, true, List, [], Some, length, slice_get, IsTrue, MatchOption, IfOk, OnOk, OnErr};
 ghost use Rattle.std.specs.List.Sorted.{IsPermutation};
 ghost use Rattle.grouping_model.specs.Datum.{HasKinds};
 ghost use Rattle.grouping_model.specs.Parts.{functions};

@@ -1,6 +1,6 @@
 //! The states of one group.
 
-ghost use Rattle.std.specs.Prelude.{◌≡◌, ◌+◌, ◌<◌, ◌≤◌, ℕ, List, [], map, length, drop, option_map, Some, None, slice_get, if◌then◌else◌, IfOk, OnOk, OnErr, ¬◌};
+ghost use Rattle.std.specs.Prelude.{◌≡◌, ◌+◌, ◌<◌, ◌≤◌, ℕ, List, [], map, length, drop, option_map, Some, None, slice_get, if◌then◌else◌, IfOk, OnOk, OnErr};
 ghost use Rattle.grouping_model.specs.Datum.{HasKinds};
 ghost use Rattle.grouping_model.specs.Aggregates.{Partial};
 ghost use Rattle.grouping_model.specs.Combining.{combine_all};
