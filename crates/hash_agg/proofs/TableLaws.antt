@@ -33,7 +33,7 @@ get_mapped f (y ∷ xs) zero x at = let same : y ≡ x = cc in ap (λ x. Some (f
 get_mapped f (y ∷ xs) (suc i) x at = get_mapped f xs i x at
 
 pub once_groups : {Hash : Type 0} (hash_of : Hash → List ℕ → ℕ) (t : TableState Hash) (tree : TreeState) → IsTableIn hash_of t tree → AreOnce (groups t tree)
-once_groups t tree is i j x y at bt same =
+once_groups hash_of t tree is i j x y at bt same =
     let a = mapped_get (group_in t tree) t.slots i x at in
     let b = mapped_get (group_in t tree) t.slots j y bt in
     is.standing.stands.groups.once i j a.0 b.0 a.1 b.1 (ap (λ (e : Entry). e.0) a.2 ∙ same ∙ ap (λ (e : Entry). e.0) (sym b.2))
