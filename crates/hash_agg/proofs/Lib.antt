@@ -15,4 +15,6 @@ pub mod FlatLaws
 pub mod PlaceLaws
 pub mod SpliceLaws
 pub mod StepLaws
+pub mod DiskLaws
+pub mod LoopLaws
 pub mod CountLaws
