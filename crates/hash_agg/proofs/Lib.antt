@@ -17,4 +17,5 @@ pub mod SpliceLaws
 pub mod StepLaws
 pub mod DiskLaws
 pub mod LoopLaws
+pub mod RecordLaws
 pub mod CountLaws

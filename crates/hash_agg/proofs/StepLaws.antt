@@ -1,9 +1,11 @@
 -- One step of a pass.
 use Rattle.std.specs.Prelude.{◌≡◌, refl, ℕ, zero, suc, ◌+◌, ◌*◌, ◌<◌, ◌≤◌, true, false, cond, List, [], ◌∷◌, ◌++◌, length, take, drop, slice_get, slice_index_or, slice_set, Some, None, OnOk, IfErr, IsErrAnd, Ok, Err}
-use Rattle.std.specs.Borrow.{Bor}
+use Rattle.std.specs.Int.{w16, to_be_bytes, from_be_bytes}
 use Rattle.std.specs.declared.result.Result.{Result}
 use Rattle.std.proofs.lemmas.Result.{err_from_is_err_and}
 use Rattle.std.proofs.Common.{sym, ◌∙◌, ap, subst, arith, add-one, append-nil, append_assoc}
+use Rattle.std.proofs.lemmas.Nat.{from_be_bytes-to_be_bytes_2}
+use Rattle.std.proofs.Math.Seq.{take-append_seam, drop-append_seam}
 use Rattle.std.proofs.lemmas.List.{length-map, length-append, take-append-drop, take_all}
 use Rattle.std.proofs.lemmas.List.Sums.{sum_by-cons, sum_by-append}
 use Rattle.grouping_model.specs.Datum.{Row, Kind, HasKinds, Datum, Null, Bigint, Boolean, Text, Bigint_kind, Boolean_kind, Text_kind}
@@ -33,7 +35,7 @@ use Rattle.hash_agg.specs.declared.plan.Plan.{Plan}
 use Rattle.hash_agg.specs.Runs.{Entry}
 use Rattle.hash_agg.specs.Standing.{AreStates, StandsFor}
 use Rattle.hash_agg.specs.Steps.{AreWithin, AreAdvanced, AreCombined}
-use Rattle.hash_agg.specs.Passes.{Piece, Of_row, Of_group, IsPiece, piece_key, piece_added, weight, rows_at, CountUpTo, AreOnce, AreGroupsBy, GroupsState, entries_of, WritesAt, Stands, AreSafe, PassState, standing, Holds, CanRead, Reads, ReadsSome, IsAt, AreRows, AreOfRun, total, brings, brought_by, Brings}
+use Rattle.hash_agg.specs.Passes.{Piece, Of_row, Of_group, group_record, IsGroupRecord, IsPiece, piece_key, piece_added, weight, rows_at, CountUpTo, AreOnce, AreGroupsBy, GroupsState, entries_of, WritesAt, Stands, AreSafe, PassState, standing, Holds, CanRead, Reads, ReadsSome, IsAt, AreRows, AreOfRun, total, brings, brought_by, Brings}
 use Rattle.hash_agg.proofs.KeyLaws.{key_has}
 use Rattle.hash_agg.proofs.InputLaws.{packed_once, take_found, row_at, flat_row_at, rows_long, group_at, groups_long}
 use Rattle.hash_agg.proofs.StateLaws.{states_by, narrow}
@@ -43,6 +45,10 @@ use Rattle.hash_agg.proofs.PassLaws.{IsKept, after, by_at, by_set, by_append, ro
 pub on_ok : {T E : Type 0} (r : Result T E) {P Q : Type 0} → (P → Q) → OnOk r P → OnOk r Q
 on_ok (Ok x) gives holds = gives holds
 on_ok (Err e) gives holds = tt
+
+pub on_error : {T E : Type 0} (r : Result T E) {P Q : E → Type 0} → ((e : E) → P e → Q e) → IfErr r P → IfErr r Q
+on_error (Ok x) gives holds = tt
+on_error (Err e) gives holds = gives e holds
 
 -- what holds of the error that a `?` hands on
 pub err_out : {T E : Type 0} (r : Result T E) (e : E) (P : E → Type 0) → IsErrAnd r (λ x. x ≡ e) → P e → IfErr r P
@@ -118,6 +124,32 @@ states_short q m bytes ps formed are =
     let most : length q.aggregates ≤ 32 = formed.few_aggregates in
     omega (arith, wide, few, many, most)
 
+-- the bytes of a group on a tape
+pub group_short : (q : Query) (m : ℕ) (key states : List ℕ) (group : Group) → IsWellFormed q → StandsFor q m (key, states) group → length (group_record key states) ≤ 65535
+group_short q m key states group formed stands =
+    let long : length (key_kinds q) ≡ length q.keys = length-map q.keys _ in
+    let few : length q.keys ≤ 16 = formed.few_keys in
+    let short = row_short (key_kinds q) group.0 stands.of_kinds in
+    let same : length key ≡ length (packing group.0) = ap length stands.key in
+    let wide = all_wide m stands.states.kinds states group.1 stands.states.denote in
+    let thin = narrow stands.states.kinds in
+    let many : length stands.states.kinds ≡ length q.aggregates = sym (length-map stands.states.kinds _) ∙ ap length stands.states.named ∙ length-map q.aggregates _ in
+    let most : length q.aggregates ≤ 32 = formed.few_aggregates in
+    let front : length (to_be_bytes w16 (length key)) ≡ 2 = refl in
+    let whole = length-append (to_be_bytes w16 (length key)) (key ++ states) in
+    let both = length-append key states in
+    omega (arith, long, few, short, same, wide, thin, many, most, front, whole, both)
+
+-- two groups with the same bytes are the same
+pub group_apart : (key other states others : List ℕ) → length key ≤ 65535 → length other ≤ 65535 → group_record key states ≡ group_record other others → (key ≡ other) × (states ≡ others)
+group_apart key other states others short low same =
+    let front : to_be_bytes w16 (length key) ≡ to_be_bytes w16 (length other) = ap (take 2) same in
+    let back : key ++ states ≡ other ++ others = ap (drop 2) same in
+    let long : length key ≡ length other = sym (from_be_bytes-to_be_bytes_2 (length key) (omega (arith, short))) ∙ ap (from_be_bytes w16) front ∙ from_be_bytes-to_be_bytes_2 (length other) (omega (arith, low)) in
+    let one : key ≡ other = sym (take-append_seam key states) ∙ ap (λ n. take n (key ++ states)) long ∙ ap (take (length other)) back ∙ take-append_seam other others in
+    let two : states ≡ others = sym (drop-append_seam key states) ∙ ap (λ n. drop n (key ++ states)) long ∙ ap (drop (length other)) back ∙ drop-append_seam other others in
+    (one, two)
+
 -- ---- what is read
 
 -- one row; and one group
@@ -133,6 +165,25 @@ pub one_group : (q : Query) (m : ℕ) (key states : List ℕ) (more : List Piece
 one_group q m key states more ([], are, made) = absurd are
 one_group q m key states more (g ∷ [], are, made) = (g, made, are.0)
 one_group q m key states more (g ∷ (h ∷ gs), are, made) = absurd are.1
+
+pub is_group_record : (q : Query) (hf : List ℕ → ℕ) (m : ℕ) (one : Record) (key states : List ℕ) (group : Group) → one.tag ≡ 1 → one.bytes ≡ group_record key states → one.hash ≡ hf key → StandsFor q m (key, states) group → IsGroupRecord q hf one group m
+is_group_record q hf m one key states group tag bytes hashed stands =
+    record {
+      tag = tag;
+      states = states;
+      bytes = bytes ∙ ap (λ key. group_record key states) stands.key;
+      stands = record { key = refl; of_kinds = stands.of_kinds; states = stands.states };
+      hashed = hashed ∙ ap hf stands.key;
+    }
+
+-- a record of a group has just this key and these states
+pub of_group_record : (q : Query) (hf : List ℕ → ℕ) (m : ℕ) (one : Record) (key states : List ℕ) (group : Group) → IsWellFormed q → length key ≤ 65535 → one.bytes ≡ group_record key states → IsGroupRecord q hf one group m → StandsFor q m (key, states) group × (one.hash ≡ hf key)
+of_group_record q hf m one key states group formed short bytes is =
+    let mine = key_short q (packing group.0) group.0 formed refl is.stands.of_kinds in
+    let same = group_apart key (packing group.0) states is.states short mine (sym bytes ∙ is.bytes) in (
+      subst (λ states. StandsFor q m (key, states) group) (sym same.1) (record { key = same.0; of_kinds = is.stands.of_kinds; states = is.stands.states }),
+      is.hashed ∙ ap hf (sym same.0),
+    )
 
 -- one piece, by the packed key of its group, and what the states of that group become by it
 pub record Told (q : Query) (bound : ℕ) (key : List ℕ) (Moved : List ℕ → List ℕ → Type 0) (more : List Piece) : Type 0 where

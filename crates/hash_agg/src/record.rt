@@ -26,7 +26,7 @@ pub(crate) fn write_group(out: &mut Vec<u8>, key: &[u8], states: &[u8]) -> Resul
 pub(crate) fn split_group(bytes: &[u8]) -> Option<(&[u8], &[u8])>
     ensures { MatchOption result
         ((key states : List ℕ) → length key ≤ 65535 → bytes.now ≢ group_record key states)
-        (λ found. bytes.now ≡ group_record found.0.now found.1.now) }
+        (λ found. (length found.0.now ≤ 65535) × (bytes.now ≡ group_record found.0.now found.1.now)) }
 {
     if bytes.len() < 2 {
         return None;
