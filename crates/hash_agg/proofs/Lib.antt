@@ -15,5 +15,7 @@ pub mod FlatLaws
 pub mod PlaceLaws
 pub mod SpliceLaws
 pub mod StepLaws
+pub mod DiskLaws
+pub mod LoopLaws
 pub mod RecordLaws
 pub mod CountLaws
