@@ -1,7 +1,7 @@
 -- The states of one group.
 use Rattle.std.specs.Prelude.{◌≡◌, refl, ℕ, zero, suc, ◌+◌, ◌*◌, ◌^◌, ◌<◌, ◌≤◌, true, false, if◌then◌else◌, List, [], ◌∷◌, ◌++◌, length, map, take, drop, Option, Some, None, option_map, slice_get}
 use Rattle.std.proofs.Common.{sym, ◌∙◌, ap, subst, arith, add-one}
-use Rattle.std.proofs.lemmas.List.{append-nil, length-map}
+use Rattle.std.proofs.lemmas.List.{append-nil, length-append, length-map, take-append-drop}
 use Rattle.std.proofs.Math.Seq.{take-append_seam, drop-append_seam, take-length, drop-length}
 use Rattle.std.proofs.lemmas.List.Sums.{sum_by-cons}
 use Rattle.std.specs.List.{AllByRecursion}
@@ -9,7 +9,8 @@ use Rattle.grouping_model.specs.Datum.{Row, Datum, Kind, HasKinds}
 use Rattle.grouping_model.specs.Aggregates.{Function, Partial, Counted, Summed, Number, Truth_value, partial}
 use Rattle.grouping_model.specs.Combining.{combine, combine_all, transition}
 use Rattle.grouping_model.specs.Condition.{is_met}
-use Rattle.grouping_model.specs.Query.{Aggregate}
+use Rattle.grouping_model.specs.Query.{Query, Aggregate}
+use Rattle.grouping_model.specs.Parts.{functions}
 use Rattle.grouping_model.specs.Grouping.{argument, arguments, column_of}
 use Rattle.packed_rows.specs.View.{datum_of}
 use Rattle.packed_rows.specs.declared.value.Value.{Value}
@@ -22,7 +23,7 @@ use Rattle.agg_library.specs.declared.kind.AggKind.{AggKind}
 use Rattle.agg_library.specs.declared.kind.AggKind.TheVariants.{CountRows, Count, Sum, Min, Max, BitAnd, BitOr, BitXor, BoolAnd, BoolOr, Every}
 use Rattle.agg_library.specs.Kinds.{function_of, functions_of, kind_shape, kind_width, row_width}
 use Rattle.agg_library.specs.StateRows.{Denotes, AllWithin, initial_partials, partial_after}
-use Rattle.having_filter.specs.Kept.{TakesRows}
+use Rattle.having_filter.specs.Kept.{TakesRows, IsWellFormed}
 use Rattle.hash_agg.specs.Standing.{AreStates}
 use Rattle.hash_agg.specs.Adding.{partial_after_row}
 
@@ -245,6 +246,27 @@ fits kinds aggregates named few =
     let many : length kinds ≡ length aggregates = sym (length-map kinds function_of) ∙ ap length named ∙ length-map aggregates (λ (a : Aggregate). a.function) in
     let wide = narrow kinds in
     omega (arith, many, wide, few)
+
+states_wide : (m : ℕ) (kinds : List AggKind) (bytes : List ℕ) (ps : List Partial) → Denotes m kinds bytes ps → length bytes ≡ row_width kinds
+states_wide m [] bytes [] d = ap length d
+states_wide m [] bytes (p ∷ ps) d = absurd d
+states_wide m (k ∷ ks) bytes [] d = absurd d
+states_wide m (k ∷ ks) bytes (p ∷ ps) (first, rest) =
+    let one : length (take (kind_width k) bytes) ≡ kind_width k = width_known m (kind_shape k) (take (kind_width k) bytes) p first in
+    let others : length (drop (kind_width k) bytes) ≡ row_width ks = states_wide m ks (drop (kind_width k) bytes) ps rest in
+    let both : length (take (kind_width k) bytes ++ drop (kind_width k) bytes) ≡ length bytes = ap length (take-append-drop (kind_width k) bytes) in
+    let sum = length-append (take (kind_width k) bytes) (drop (kind_width k) bytes) in
+    let wide = sum_by-cons kind_width k ks in
+    omega (arith, one, others, both, sum, wide)
+
+-- states are not too long for a table
+pub states_short : (q : Query) (m : ℕ) (bytes : List ℕ) (ps : List Partial) → IsWellFormed q → AreStates (functions q) m bytes ps → length bytes ≤ 65535
+states_short q m bytes ps formed are =
+    let wide = states_wide m are.kinds bytes ps are.denote in
+    let few = narrow are.kinds in
+    let many : length are.kinds ≡ length q.aggregates = sym (length-map are.kinds _) ∙ ap length are.named ∙ length-map q.aggregates _ in
+    let most : length q.aggregates ≤ 32 = formed.few_aggregates in
+    omega (arith, wide, few, many, most)
 
 -- what is known before any row
 pub initial_are : (kinds : List AggKind) (aggregates : List Aggregate) → functions_of kinds ≡ map (λ (a : Aggregate). a.function) aggregates → initial_partials kinds ≡ map (λ (a : Aggregate). partial a.function (arguments a [])) aggregates
