@@ -1,10 +1,12 @@
 -- What a pass keeps while it reads one thing after the other.
-use Rattle.std.specs.Prelude.{◌≡◌, refl, ℕ, false, List}
-use Rattle.std.proofs.Common.{sym, ◌∙◌, subst}
+use Rattle.std.specs.Prelude.{◌≡◌, refl, ℕ, ◌+◌, ◌≤◌, false, List, [], ◌∷◌}
+use Rattle.std.proofs.Common.{sym, ◌∙◌, ap, subst, arith}
 use Rattle.grouping_model.specs.Query.{Query}
 use Rattle.spill_lists.specs.Standing.{ListsState}
 use Rattle.hash_agg.specs.declared.plan.Plan.{Plan}
-use Rattle.hash_agg.specs.Passes.{Piece, GroupsState, entries_of, IsSameTable, AreSafe, PassState, Reads, CanRead, KeepsLists}
+use Rattle.hash_agg.specs.Runs.{Entry}
+use Rattle.hash_agg.specs.Passes.{Piece, GroupsState, entries_of, IsSameTable, AreSafe, PassState, Reads, CanRead, AreOfRun, brought_by, Proceeds, Brings, KeepsLists}
+use Rattle.hash_agg.proofs.StepLaws.{one_group}
 
 pub same_table_twice : {Hash : Type 0} (a b c : GroupsState Hash) → IsSameTable a b → IsSameTable b c → IsSameTable a c
 same_table_twice a b c first second = record { width = second.width ∙ first.width; hash = second.hash ∙ first.hash }
@@ -43,3 +45,10 @@ module _ (plan : Plan) (hf here : List ℕ → ℕ) (Are : List Piece → Type 0
 
   pub reads_by : (now next : PassState) → Reads plan here Are now next → Reads plan hf Are now next
   reads_by now next reads = subst (λ hf. Reads plan hf Are now next) same reads
+
+-- a group brings one
+pub group_brings : (q : Query) (m : ℕ) (key states : List ℕ) (old new : List Entry) (before after : ListsState) → Proceeds old before new after → Brings q (AreOfRun q m ((key, states) ∷ [])) old before new after
+group_brings q m key states old new before after proceeds more are =
+    let one = one_group q m key states more are in
+    let brought : brought_by q more ≡ 1 = ap (brought_by q) one.1 in
+    omega (arith, proceeds.few, brought)
