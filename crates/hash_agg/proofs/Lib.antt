@@ -19,4 +19,5 @@ pub mod DiskLaws
 pub mod LoopLaws
 pub mod RecordLaws
 pub mod ReadLaws
+pub mod LaterLaws
 pub mod CountLaws
