@@ -18,4 +18,5 @@ pub mod StepLaws
 pub mod DiskLaws
 pub mod LoopLaws
 pub mod RecordLaws
+pub mod ReadLaws
 pub mod CountLaws

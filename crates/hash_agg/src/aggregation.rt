@@ -1,6 +1,6 @@
 //! The aggregation of inputs.
 
-ghost use Rattle.std.specs.Prelude.{◌≡◌, ◌≢◌, ◌+◌, ◌<◌, ◌≤◌, ◌^◌, [], List, map, length, IsTrue, IfOk, IfErr, OnOk};
+ghost use Rattle.std.specs.Prelude.{◌≡◌, ◌≢◌, ◌+◌, ◌<◌, ◌≤◌, ◌^◌, [], false, List, map, length, IsTrue, IfOk, IfErr, OnOk};
 ghost use Rattle.std.specs.List.{AllByRecursion};
 ghost use Rattle.spill_lists.specs.Lists.{LeftList};
 ghost use Rattle.spill_lists.specs.Standing.{HasLists, Moves, IsReadRefusal, waiting_number};
@@ -163,13 +163,13 @@ fn later_passes<H: KeyHash + Drop, D: TapeDisk>(
     requires rises { Rises run }
     requires safe { AreSafe (meaning plan.now.query.now) plan.now.most run }
     ensures stands { IfOk result (λ all. IsTrue (D.honest disk.old) → (pieces : List Piece) (todo : List LeftList) → HasLists (D.last disk.old) pass.old.lists [] [] todo →
-        Waits (meaning plan.now.query.now) (H.hash_of pass.old.groups.table.hash) pieces run.entry todo → CountUpTo (meaning plan.now.query.now) plan.now.most pieces →
+        Waits (meaning plan.now.query.now) (H.hash_of pass.old.groups.table.hash) pieces run todo → CountUpTo (meaning plan.now.query.now) plan.now.most pieces →
         Stands (meaning plan.now.query.now) (H.hash_of pass.old.groups.table.hash) pieces all []) }
     ensures safe { IfOk result (AreSafe (meaning plan.now.query.now) plan.now.most) }
     ensures rises { IfOk result Rises }
-    ensures few { IfOk result (λ all. length all ≤ length run.entry + waiting_number pass.old.lists) }
+    ensures few { IfOk result (λ all. length all ≤ length run + waiting_number pass.old.lists) }
     ensures undamaged { IfErr result (λ error. IsTrue (D.honest disk.old) → (pieces : List Piece) (todo : List LeftList) → HasLists (D.last disk.old) pass.old.lists [] [] todo →
-        Waits (meaning plan.now.query.now) (H.hash_of pass.old.groups.table.hash) pieces run.entry todo → CountUpTo (meaning plan.now.query.now) plan.now.most pieces → error ≢ TapeDamaged) }
+        Waits (meaning plan.now.query.now) (H.hash_of pass.old.groups.table.hash) pieces run todo → CountUpTo (meaning plan.now.query.now) plan.now.most pieces → error ≢ TapeDamaged) }
     ensures refused { IfErr result (IsReadRefusal (D.failures disk.old) (D.failures disk.new)) }
     ensures disk { Moves (D.failures disk.old) (D.failures disk.new) (D.writes disk.old) (D.writes disk.new) (D.honest disk.old) (D.honest disk.new) }
 {

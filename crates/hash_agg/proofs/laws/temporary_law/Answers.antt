@@ -1,5 +1,5 @@
+use Rattle.hash_agg.proofs.ReadLaws.{spent_end}
 use Rattle.std.specs.Prelude.{refl}
-use Rattle.hash_agg.proofs.StepLaws.{get_in}
 use Rattle.hash_agg.proofs.laws.temporary_law.Goals as goal
 
 pub returns : goal.returns
