@@ -20,3 +20,4 @@ pub mod LoopLaws
 pub mod RecordLaws
 pub mod ReadLaws
 pub mod CountLaws
+pub mod FirstLaws

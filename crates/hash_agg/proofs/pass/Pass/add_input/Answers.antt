@@ -1,4 +1,4 @@
-use Rattle.std.specs.Prelude.{◌≡◌, ◌≢◌, ◌≤◌, ℕ, List, OnOk, IfErr}
+use Rattle.std.specs.Prelude.{◌≢◌, ◌≤◌, ℕ, List, OnOk, IfErr}
 use Rattle.std.proofs.Common.{sym, subst}
 use Rattle.spill_lists.specs.declared.error.SpillError.TheVariants.{TapeDamaged}
 use Rattle.grouping_model.specs.Query.{Query}
