@@ -1,8 +1,8 @@
 -- The pieces of all inputs, and how many rows they count.
-use Rattle.std.specs.Prelude.{◌≡◌, refl, ℕ, zero, suc, ◌+◌, ◌^◌, ◌<◌, ◌≤◌, Bool, true, false, cond, ◌||◌, List, [], ◌∷◌, ◌++◌, length, map, take, slice_get, Some}
+use Rattle.std.specs.Prelude.{◌≡◌, refl, ℕ, zero, suc, ◌+◌, ◌≤◌, Bool, true, false, cond, ◌||◌, List, [], ◌∷◌, ◌++◌, length, map, take, slice_get, Some}
 use Rattle.std.proofs.Common.{sym, ◌∙◌, ap, subst, arith, add-one, append-nil, append_assoc}
 use Rattle.std.proofs.lemmas.List.{length-map}
-use Rattle.std.proofs.lemmas.List.Sums.{sum_by-cons}
+use Rattle.std.proofs.lemmas.List.Sums.{sum_by-cons, sum_by-append}
 use Rattle.std.specs.List.{AllByRecursion}
 use Rattle.std.specs.List.Sorted.{IsStrictlySortedBy}
 use Rattle.grouping_model.specs.Datum.{Row, row_cmp, same_row}
@@ -13,24 +13,19 @@ use Rattle.grouping_model.specs.Parts.{keys_of}
 use Rattle.grouping_model.proofs.PartLaws.{same_row-swap}
 use Rattle.grouping_model.proofs.DatumOrder.{same_row-is}
 use Rattle.packed_rows.specs.Packing.{packing}
-use Rattle.agg_protocol.specs.States.{most_rows}
-use Rattle.having_filter.specs.Meaning.{Checked, meaning}
+use Rattle.spill_tapes.specs.Records.{Record}
+use Rattle.spill_lists.specs.Lists.{LeftList}
+use Rattle.spill_lists.specs.Standing.{ListsState}
+use Rattle.having_filter.specs.Meaning.{meaning}
+use Rattle.hash_agg.specs.declared.plan.Plan.{Plan}
+use Rattle.hash_agg.specs.Runs.{Entry}
 use Rattle.hash_agg.specs.Inputs.{Brought, Packed, Counted, rows_in, all_rows, IsInput}
 use Rattle.hash_agg.specs.Adding.{row_added, rows_added, group_added, groups_added, Given, Of_rows, Of_groups, Gives, AllGive, given_added, all_added}
-use Rattle.hash_agg.specs.Passes.{Piece, Of_row, Of_group, pieces_added, made_of, piece_key, weight, rows_at, CountUpTo, AreOf, PassState, Stands, CanCount, CanReadAll, ReadsAll, entries_of}
+use Rattle.hash_agg.specs.Passes.{Of_row, Of_group, pieces_added, made_of, piece_key, weight, rows_at, CountUpTo, AreOf, given_pieces, all_pieces, PassState, Holds, CanRead, Reads, total, brings, brought_by, Brings}
 use Rattle.hash_agg.proofs.InputLaws.{run_apart}
 use Rattle.hash_agg.proofs.MergeLaws.{AreApart, puts_rise, nothing_rises, keys_of-rows_added, keys_of-groups_added}
 use Rattle.hash_agg.proofs.PassLaws.{rows_append, pieces_append}
 use Rattle.hash_agg.proofs.WholeLaws.{GivenAt}
-
--- what an input gives, as pieces; and what all give
-abbrev pub given_pieces : Brought → Given → List Piece
-given_pieces input (Of_rows rows) = map Of_row rows
-given_pieces input (Of_groups groups) = map (λ group. Of_group group (rows_in input)) groups
-
-abbrev pub all_pieces : List Brought → List Given → List Piece
-all_pieces (input ∷ inputs) (given ∷ givens) = given_pieces input given ++ all_pieces inputs givens
-all_pieces inputs givens = []
 
 pub pieces_of : (q : Query) (input : Brought) (given : Given) → Gives q input given → AreOf q input (given_pieces input given)
 pieces_of q (Packed packed) (Of_rows rows) gives = (rows, gives, refl)
@@ -161,34 +156,33 @@ front_few q k (x ∷ inputs) (g ∷ givens) (suc n) =
     let b = rows_append q k (given_pieces x g) (all_pieces (take n inputs) (take n givens)) in
     omega (arith, rest, a, b)
 
-module _ (q : Checked) (inputs : List Brought) (givens : List Given) (all : AllByRecursion (IsInput (meaning q)) inputs) (give : AllGive (meaning q) inputs givens) (low : all_rows inputs < 2 ^ 57) (i : ℕ) where
-  pub front_counts : CountUpTo (meaning q) most_rows (all_pieces (take i inputs) (take i givens))
-  front_counts k =
-      let a = front_few (meaning q) k inputs givens i in
-      let b = all_few (meaning q) k inputs givens all give in
-      omega (arith, a, b, low)
+-- all of them count few enough rows
+pub all_count : (q : Query) (most : ℕ) (inputs : List Brought) (givens : List Given) → AllByRecursion (IsInput q) inputs → AllGive q inputs givens → all_rows inputs ≤ most → CountUpTo q most (all_pieces inputs givens)
+all_count q most inputs givens all give low k = let few = all_few q k inputs givens all give in omega (arith, few, low)
 
-  module _ (input : Brought) (at : slice_get inputs i ≡ Some input) (found : GivenAt (meaning q) givens i input) (pass : PassState) (same : pass.query ≡ q) (s : Stands (meaning q) (all_pieces (take i inputs) (take i givens)) (entries_of pass.groups) pass.left) where
-    here : Stands (meaning pass.query) (all_pieces (take i inputs) (take i givens)) (entries_of pass.groups) pass.left
-    here = subst (λ (q : Checked). Stands (meaning q) (all_pieces (take i inputs) (take i givens)) (entries_of pass.groups) pass.left) (sym same) s
+module _ (plan : Plan) (hf : List ℕ → ℕ) (inputs : List Brought) (givens : List Given) (i : ℕ) (input : Brought) (at : slice_get inputs i ≡ Some input) (found : GivenAt (meaning plan.query.now) givens i input) (all : AllByRecursion (IsInput (meaning plan.query.now)) inputs) (give : AllGive (meaning plan.query.now) inputs givens) (low : all_rows inputs ≤ plan.most) where
+  front_count : CountUpTo (meaning plan.query.now) plan.most (all_pieces (take i inputs) (take i givens) ++ given_pieces input found.given)
+  front_count k =
+      let a = front_few (meaning plan.query.now) k inputs givens (i + 1) in
+      let b = all_few (meaning plan.query.now) k inputs givens all give in
+      let c : rows_at (meaning plan.query.now) k (all_pieces (take (i + 1) inputs) (take (i + 1) givens)) ≡ rows_at (meaning plan.query.now) k (all_pieces (take i inputs) (take i givens) ++ given_pieces input found.given) =
+      ap (rows_at (meaning plan.query.now) k) (pieces_next inputs givens i input found.given at found.at) in
+      omega (arith, a, b, c, low)
 
-    are : AreOf (meaning pass.query) input (given_pieces input found.given)
-    are = subst (λ (q : Checked). AreOf (meaning q) input (given_pieces input found.given)) (sym same) (pieces_of (meaning q) input found.given found.gives)
+  module _ (pass : PassState) (ahead : List Record) (todo : List LeftList) (holds : Holds (meaning plan.query.now) hf pass (all_pieces (take i inputs) (take i givens)) ahead todo) where
+    pub can_read_input : CanRead plan hf (AreOf (meaning plan.query.now) input) pass
+    can_read_input = (all_pieces (take i inputs) (take i givens), given_pieces input found.given, ahead, todo, holds, pieces_of (meaning plan.query.now) input found.given found.gives, front_count)
 
-    here_counts : CountUpTo (meaning q) most_rows (all_pieces (take i inputs) (take i givens) ++ given_pieces input found.given)
-    here_counts k =
-        let a = front_few (meaning q) k inputs givens (i + 1) in
-        let b = all_few (meaning q) k inputs givens all give in
-        let c : rows_at (meaning q) k (all_pieces (take (i + 1) inputs) (take (i + 1) givens)) ≡ rows_at (meaning q) k (all_pieces (take i inputs) (take i givens) ++ given_pieces input found.given) = ap (rows_at (meaning q) k) (pieces_next inputs givens i input found.given at found.at) in
-        omega (arith, a, b, c, low)
-
-    counts : CanCount pass (all_pieces (take i inputs) (take i givens)) (given_pieces input found.given)
-    counts = subst (λ (q : Checked). CountUpTo (meaning q) most_rows (all_pieces (take i inputs) (take i givens) ++ given_pieces input found.given)) (sym same) here_counts
-
-    pub can_read_input : CanReadAll (AreOf (meaning pass.query) input) pass
-    can_read_input = (all_pieces (take i inputs) (take i givens), given_pieces input found.given, here, are, counts)
-
-    pub input_read : (next : PassState) → ReadsAll (AreOf (meaning pass.query) input) pass next → Stands (meaning q) (all_pieces (take (i + 1) inputs) (take (i + 1) givens)) (entries_of next.groups) next.left
+    pub input_read : (next : PassState) → Reads plan hf (AreOf (meaning plan.query.now) input) pass next → Holds (meaning plan.query.now) hf next (all_pieces (take (i + 1) inputs) (take (i + 1) givens)) ahead todo
     input_read next reads =
-        subst (λ ps. Stands (meaning q) ps (entries_of next.groups) next.left) (sym (pieces_next inputs givens i input found.given at found.at))
-        (subst (λ (q : Checked). Stands (meaning q) (all_pieces (take i inputs) (take i givens) ++ given_pieces input found.given) (entries_of next.groups) next.left) same (reads (all_pieces (take i inputs) (take i givens)) (given_pieces input found.given) here are counts))
+        subst (λ ps. Holds (meaning plan.query.now) hf next ps ahead todo) (sym (pieces_next inputs givens i input found.given at found.at))
+        (reads (all_pieces (take i inputs) (take i givens)) (given_pieces input found.given) ahead todo holds (pieces_of (meaning plan.query.now) input found.given found.gives) front_count)
+
+-- what an input brings, on top of what those before it brought
+pub input_brings : (q : Query) (inputs : List Brought) (givens : List Given) (i : ℕ) (input : Brought) (old new : List Entry) (before after : ListsState) → slice_get inputs i ≡ Some input → GivenAt q givens i input
+    → Brings q (AreOf q input) old before new after → total old before ≤ brought_by q (all_pieces (take i inputs) (take i givens)) → total new after ≤ brought_by q (all_pieces (take (i + 1) inputs) (take (i + 1) givens))
+input_brings q inputs givens i input old new before after at found brought few =
+    let more = brought (given_pieces input found.given) (pieces_of q input found.given found.gives) in
+    let both : brought_by q (all_pieces (take (i + 1) inputs) (take (i + 1) givens)) ≡ brought_by q (all_pieces (take i inputs) (take i givens)) + brought_by q (given_pieces input found.given) =
+    ap (brought_by q) (pieces_next inputs givens i input found.given at found.at) ∙ sum_by-append (brings q) (all_pieces (take i inputs) (take i givens)) (given_pieces input found.given) in
+    omega (arith, few, more, both)

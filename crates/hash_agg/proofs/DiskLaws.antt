@@ -1,5 +1,5 @@
 -- What calls leave of a disk, one after the other.
-use Rattle.std.specs.Prelude.{◌≡◌, refl, ℕ, ◌≤◌, Bool}
+use Rattle.std.specs.Prelude.{refl, ℕ, ◌≤◌, Bool}
 use Rattle.std.proofs.Common.{◌∙◌, arith}
 use Rattle.spill_lists.specs.declared.error.SpillError.{SpillError}
 use Rattle.spill_lists.specs.declared.error.SpillError.TheVariants.{NoMemory, TapeFault, TapeDamaged}

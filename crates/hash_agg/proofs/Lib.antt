@@ -21,3 +21,4 @@ pub mod RecordLaws
 pub mod ReadLaws
 pub mod LaterLaws
 pub mod CountLaws
+pub mod FirstLaws

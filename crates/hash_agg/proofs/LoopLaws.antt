@@ -1,12 +1,18 @@
 -- What a pass keeps while it reads one thing after the other.
-use Rattle.std.specs.Prelude.{◌≡◌, refl, ℕ, ◌+◌, ◌≤◌, false, List, [], ◌∷◌}
+use Rattle.std.specs.Prelude.{◌≡◌, refl, ℕ, ◌≤◌, false, List, [], ◌∷◌}
 use Rattle.std.proofs.Common.{sym, ◌∙◌, ap, subst, arith}
 use Rattle.grouping_model.specs.Query.{Query}
 use Rattle.spill_lists.specs.Standing.{ListsState}
 use Rattle.hash_agg.specs.declared.plan.Plan.{Plan}
 use Rattle.hash_agg.specs.Runs.{Entry}
+use Rattle.hash_agg.specs.Standing.{IsRun}
 use Rattle.hash_agg.specs.Passes.{Piece, GroupsState, entries_of, IsSameTable, AreSafe, PassState, Reads, CanRead, AreOfRun, brought_by, Proceeds, Brings, KeepsLists}
+use Rattle.hash_agg.proofs.EntryLaws.{groups_raised}
 use Rattle.hash_agg.proofs.StepLaws.{one_group}
+
+-- a run whose states count at most as many rows as are allowed
+pub run_within : (q : Query) (m most : ℕ) (run : List Entry) → m ≤ most → IsRun q m run → IsRun q most run
+run_within q m most run low is = record { groups = is.groups; are = groups_raised q m most run is.groups low is.are; rises = is.rises }
 
 pub same_table_twice : {Hash : Type 0} (a b c : GroupsState Hash) → IsSameTable a b → IsSameTable b c → IsSameTable a c
 same_table_twice a b c first second = record { width = second.width ∙ first.width; hash = second.hash ∙ first.hash }

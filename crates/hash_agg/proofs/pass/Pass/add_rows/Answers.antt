@@ -1,4 +1,4 @@
-use Rattle.std.specs.Prelude.{◌≡◌, ℕ, List, [], ◌∷◌}
+use Rattle.std.specs.Prelude.{ℕ, List, [], ◌∷◌}
 use Rattle.std.proofs.Common.{ap, arith}
 use Rattle.packed_rows.specs.View.{bytes_of}
 use Rattle.grouping_model.specs.Query.{Query}
