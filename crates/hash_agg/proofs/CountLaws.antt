@@ -1,14 +1,15 @@
 -- The pieces of all inputs, and how many rows they count.
 use Rattle.std.specs.Prelude.{◌≡◌, refl, ℕ, zero, suc, ◌+◌, ◌≤◌, Bool, true, false, cond, ◌||◌, List, [], ◌∷◌, ◌++◌, length, map, take, slice_get, Some}
 use Rattle.std.proofs.Common.{sym, ◌∙◌, ap, subst, arith, add-one, append-nil, append_assoc}
-use Rattle.std.proofs.lemmas.List.{length-map}
+use Rattle.std.proofs.lemmas.List.{length-map, length-append}
 use Rattle.std.proofs.lemmas.List.Sums.{sum_by-cons, sum_by-append}
 use Rattle.std.specs.List.{AllByRecursion}
 use Rattle.std.specs.List.Sorted.{IsStrictlySortedBy}
 use Rattle.grouping_model.specs.Datum.{Row, row_cmp, same_row}
 use Rattle.grouping_model.specs.Rising.{is_among}
 use Rattle.grouping_model.specs.Query.{Query}
-use Rattle.grouping_model.specs.Grouping.{Group, key_of, selected}
+use Rattle.grouping_model.specs.Condition.{is_met}
+use Rattle.grouping_model.specs.Grouping.{Group, column_of, key_of, selected}
 use Rattle.grouping_model.specs.Parts.{keys_of}
 use Rattle.grouping_model.proofs.PartLaws.{same_row-swap}
 use Rattle.grouping_model.proofs.DatumOrder.{same_row-is}
@@ -19,10 +20,10 @@ use Rattle.spill_lists.specs.Standing.{ListsState}
 use Rattle.having_filter.specs.Meaning.{meaning}
 use Rattle.hash_agg.specs.declared.plan.Plan.{Plan}
 use Rattle.hash_agg.specs.Runs.{Entry}
-use Rattle.hash_agg.specs.Inputs.{Brought, Packed, Counted, rows_in, all_rows, IsInput}
+use Rattle.hash_agg.specs.Inputs.{Brought, Packed, Counted, on_end, rows_in, all_rows, IsInput, AllBring}
 use Rattle.hash_agg.specs.Adding.{row_added, rows_added, group_added, groups_added, Given, Of_rows, Of_groups, Gives, AllGive, given_added, all_added}
 use Rattle.hash_agg.specs.Passes.{Of_row, Of_group, pieces_added, made_of, piece_key, weight, rows_at, CountUpTo, AreOf, given_pieces, all_pieces, PassState, Holds, CanRead, Reads, total, brings, brought_by, Brings}
-use Rattle.hash_agg.proofs.InputLaws.{run_apart}
+use Rattle.hash_agg.proofs.InputLaws.{run_apart, groups_long}
 use Rattle.hash_agg.proofs.MergeLaws.{AreApart, puts_rise, nothing_rises, keys_of-rows_added, keys_of-groups_added}
 use Rattle.hash_agg.proofs.PassLaws.{rows_append, pieces_append}
 use Rattle.hash_agg.proofs.WholeLaws.{GivenAt}
@@ -186,3 +187,64 @@ input_brings q inputs givens i input old new before after at found brought few =
     let both : brought_by q (all_pieces (take (i + 1) inputs) (take (i + 1) givens)) ≡ brought_by q (all_pieces (take i inputs) (take i givens)) + brought_by q (given_pieces input found.given) =
     ap (brought_by q) (pieces_next inputs givens i input found.given at found.at) ∙ sum_by-append (brings q) (all_pieces (take i inputs) (take i givens)) (given_pieces input found.given) in
     omega (arith, few, more, both)
+
+-- ---- as many as keys are brought
+
+rows_bring : (q : Query) (rows : List Row) → brought_by q (map Of_row rows) ≡ length (selected q rows)
+rows_bring q [] = refl
+rows_bring q (row ∷ rows) =
+    let both = sum_by-cons (brings q) (Of_row row) (map Of_row rows) in
+    let rest = rows_bring q rows in
+    elim (is_met (column_of row) q.condition) as (λ b. is_met (column_of row) q.condition ≡ b → brought_by q (map Of_row (row ∷ rows)) ≡ length (cond b (row ∷ selected q rows) (selected q rows))) [
+      | true ↦ λ e. let one : brings q (Of_row row) ≡ 1 = ap (λ b. cond b 1 0) e in omega (arith, both, rest, one)
+      | false ↦ λ e. let none : brings q (Of_row row) ≡ 0 = ap (λ b. cond b 1 0) e in omega (arith, both, rest, none)
+    ] refl
+
+groups_bring : (q : Query) (most : ℕ) (groups : List Group) → brought_by q (map (λ group. Of_group group most) groups) ≡ length groups
+groups_bring q most [] = refl
+groups_bring q most (g ∷ groups) =
+    let both = sum_by-cons (brings q) (Of_group g most) (map (λ group. Of_group group most) groups) in
+    let rest = groups_bring q most groups in
+    omega (arith, both, rest)
+
+-- inputs that bring keys give pieces that bring as many
+pub record GiveAsMany (q : Query) (inputs : List Brought) (keys : List Row) : Type 0 where
+  pub givens : List Given
+  pub give : AllGive q inputs givens
+  pub bring : brought_by q (all_pieces inputs givens) ≡ length keys
+
+next_bring : (q : Query) (input : Brought) (given : Given) (inputs : List Brought) (keys : List Row) (lists : List (List Row)) (rest : GiveAsMany q inputs (on_end lists)) → brought_by q (given_pieces input given) ≡ length keys
+    → brought_by q (given_pieces input given ++ all_pieces inputs rest.givens) ≡ length (keys ++ on_end lists)
+next_bring q input given inputs keys lists rest one =
+    let both = sum_by-append (brings q) (given_pieces input given) (all_pieces inputs rest.givens) in
+    let others = rest.bring in
+    let long = length-append keys (on_end lists) in
+    omega (arith, both, others, long, one)
+
+pub give_as_many : (q : Query) (inputs : List Brought) (lists : List (List Row)) → AllByRecursion (IsInput q) inputs → AllBring q inputs lists → GiveAsMany q inputs (on_end lists)
+give_as_many q [] [] all bring = record { givens = []; give = tt; bring = refl }
+give_as_many q [] (keys ∷ lists) all bring = absurd bring
+give_as_many q (input ∷ inputs) [] all bring = absurd bring
+give_as_many q (Packed packed ∷ inputs) (keys ∷ lists) (first, all) (one, bring) =
+    let rest = give_as_many q inputs lists all bring in
+    record {
+      givens = Of_rows one.0 ∷ rest.givens;
+      give = (one.1, rest.give);
+      bring = next_bring q (Packed packed) (Of_rows one.0) inputs keys lists rest (rows_bring q one.0 ∙ sym (ap length one.2 ∙ length-map (selected q one.0) (key_of q)));
+    }
+give_as_many q (Counted run most ∷ inputs) (keys ∷ lists) (first, all) (one, bring) =
+    let rest = give_as_many q inputs lists all bring in
+    record {
+      givens = Of_groups first.groups ∷ rest.givens;
+      give = (first.are, rest.give);
+      bring = next_bring q (Counted run most) (Of_groups first.groups) inputs keys lists rest
+          (groups_bring q most first.groups ∙ sym (groups_long q most run first.groups first.are) ∙ sym (length-map run (λ (e : Entry). e.0)) ∙ ap length one.packings_are ∙ length-map keys packing);
+    }
+
+-- what is not more than the pieces bring is not more than the keys
+pub few_keys : (q : Query) (inputs : List Brought) (lists : List (List Row)) (n : ℕ) → AllByRecursion (IsInput q) inputs → ((givens : List Given) → AllGive q inputs givens → n ≤ brought_by q (all_pieces inputs givens)) → AllBring q inputs lists → n ≤ length (on_end lists)
+few_keys q inputs lists n all few bring =
+    let many = give_as_many q inputs lists all bring in
+    let low = few many.givens many.give in
+    let is = many.bring in
+    omega (arith, low, is)
