@@ -1,6 +1,6 @@
 -- One later pass after the other.
 use Rattle.std.specs.Prelude.{◌≡◌, refl, ℕ, List, [], ◌∷◌, ◌++◌}
-use Rattle.std.proofs.Common.{sym, ap, subst}
+use Rattle.std.proofs.Common.{subst}
 use Rattle.std.specs.List.Sorted.{IsPermutation}
 use Rattle.grouping_model.specs.Query.{Query}
 use Rattle.spill_tapes.specs.Records.{Record}
@@ -9,7 +9,7 @@ use Rattle.spill_lists.specs.Standing.{ListsState, HasLists, BeginsLast, AreOn}
 use Rattle.having_filter.specs.Meaning.{meaning}
 use Rattle.hash_agg.specs.declared.plan.Plan.{Plan}
 use Rattle.hash_agg.specs.Runs.{Entry, Rises}
-use Rattle.hash_agg.specs.Passes.{Piece, ArePieces, AreOnce, CountUpTo, Stands, PassState, ReadsList, CanReadList}
+use Rattle.hash_agg.specs.Passes.{Piece, AreOnce, CountUpTo, Stands, ReadsList, CanReadList}
 use Rattle.hash_agg.specs.Waiting.{Waits}
 use Rattle.hash_agg.proofs.SortLaws.{rises_once}
 use Rattle.hash_agg.proofs.UnionLaws.{ends}

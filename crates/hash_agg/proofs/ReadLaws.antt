@@ -1,7 +1,6 @@
 -- A list that a pass reads, record by record.
-use Rattle.std.specs.Prelude.{◌≡◌, refl, ℕ, ◌+◌, ◌≤◌, ◌<◌, ◌⊎◌, List, [], ◌∷◌, ◌++◌, length, Some, None}
+use Rattle.std.specs.Prelude.{◌≡◌, refl, ℕ, ◌+◌, ◌<◌, ◌⊎◌, List, [], ◌∷◌, ◌++◌, Some, None}
 use Rattle.std.proofs.Common.{sym, ◌∙◌, ap, subst, arith, append-nil, append_assoc, inl, inr}
-use Rattle.grouping_model.specs.Datum.{Row}
 use Rattle.grouping_model.specs.Query.{Query}
 use Rattle.spill_tapes.specs.Records.{Record}
 use Rattle.spill_tapes.specs.Tape.{Gives}
@@ -10,7 +9,7 @@ use Rattle.spill_lists.specs.Standing.{ListsState, HasLists, spilled_number, ahe
 use Rattle.having_filter.specs.Meaning.{meaning}
 use Rattle.hash_agg.specs.declared.plan.Plan.{Plan}
 use Rattle.hash_agg.specs.Runs.{Entry}
-use Rattle.hash_agg.specs.Passes.{Piece, ArePieces, CountUpTo, Stands, PassState, Holds, CanRead, Reads, total, Proceeds}
+use Rattle.hash_agg.specs.Passes.{Piece, ArePieces, CountUpTo, Stands, PassState, Holds, CanRead, Reads, Proceeds}
 use Rattle.hash_agg.proofs.PassLaws.{rows_append}
 use Rattle.hash_agg.proofs.UnionLaws.{nothing_stands}
 

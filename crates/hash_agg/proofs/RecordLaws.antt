@@ -1,5 +1,5 @@
 -- Records on tapes, and rows that are passed over.
-use Rattle.std.specs.Prelude.{◌≡◌, refl, ℕ, ◌+◌, ◌≤◌, true, false, cond, List, [], ◌∷◌, ◌++◌, length}
+use Rattle.std.specs.Prelude.{◌≡◌, refl, ℕ, ◌≤◌, true, false, cond, List, [], ◌∷◌, ◌++◌, length}
 use Rattle.std.proofs.Common.{sym, ◌∙◌, ap, subst, arith}
 use Rattle.std.proofs.lemmas.List.Sums.{sum_by-cons}
 use Rattle.grouping_model.specs.Datum.{Row, HasKinds}
@@ -7,14 +7,13 @@ use Rattle.grouping_model.specs.Condition.{is_met}
 use Rattle.grouping_model.specs.Query.{Query}
 use Rattle.grouping_model.specs.Grouping.{Group, column_of, key_of}
 use Rattle.packed_rows.specs.Packing.{packing}
-use Rattle.spill_tapes.specs.Records.{Record}
 use Rattle.spill_lists.specs.Standing.{ListsState}
 use Rattle.having_filter.specs.Kept.{IsWellFormed}
 use Rattle.having_filter.specs.Meaning.{meaning}
 use Rattle.hash_agg.specs.declared.plan.Plan.{Plan}
 use Rattle.hash_agg.specs.Runs.{Entry}
 use Rattle.hash_agg.specs.Standing.{StandsFor}
-use Rattle.hash_agg.specs.Passes.{Piece, Of_row, Of_group, group_record, IsRowRecord, IsGroupRecord, ArePieces, made_of, CountUpTo, Stands, PassState, CanRead, Reads, AreRows, AreOfRun, total, brings, brought_by, Proceeds, Brings}
+use Rattle.hash_agg.specs.Passes.{Piece, Of_row, Of_group, group_record, IsRowRecord, IsGroupRecord, ArePieces, made_of, CountUpTo, Stands, PassState, CanRead, Reads, AreRows, AreOfRun, brings, brought_by, Proceeds, Brings}
 use Rattle.hash_agg.proofs.InputLaws.{packed_once}
 use Rattle.hash_agg.proofs.PassLaws.{reads_over}
 use Rattle.hash_agg.proofs.StepLaws.{one_row, passed_over, can_count, of_group_record}

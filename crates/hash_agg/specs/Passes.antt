@@ -1,7 +1,7 @@
 -- A pass of an aggregation: groups in a table, and records that are left for the next pass. All of this is our own.
 use Rattle.std.specs.Borrow.{Bor}
 use Rattle.std.specs.Int.{w16, to_be_bytes}
-use Rattle.std.specs.Prelude.{◌≡◌, ◌≢◌, ℕ, zero, suc, ◌+◌, ◌≤◌, ◌<◌, ◌⊎◌, if◌then◌else◌, List, [], ◌∷◌, ◌++◌, length, map, flat_map, sum_by, take, slice_get, slice_index, slice_set, Some, None}
+use Rattle.std.specs.Prelude.{◌≡◌, ◌≢◌, ℕ, ◌+◌, ◌≤◌, ◌<◌, ◌⊎◌, if◌then◌else◌, List, [], ◌∷◌, ◌++◌, length, map, flat_map, sum_by, take, slice_get, slice_index, slice_set, Some, None}
 use Rattle.byteorder.specs.Endian.{big_from}
 use Rattle.context_tree.specs.Tree.{TreeState}
 use Rattle.group_table.specs.Table.{TableState, groups, key_in, buckets_for, buckets_in, most_buckets}
@@ -18,7 +18,7 @@ use Rattle.spill_lists.specs.Lists.{LeftList}
 use Rattle.spill_lists.specs.Standing.{ListsState, HasLists, spilled_number}
 use Rattle.agg_protocol.specs.States.{most_rows}
 use Rattle.having_filter.specs.Kept.{IsWellFormed}
-use Rattle.having_filter.specs.Meaning.{Checked, meaning}
+use Rattle.having_filter.specs.Meaning.{meaning}
 use Rattle.hash_agg.specs.declared.plan.Plan.{Plan}
 use Rattle.hash_agg.specs.Runs.{Entry}
 use Rattle.hash_agg.specs.Standing.{AreStates, StandsFor, AreGroups}

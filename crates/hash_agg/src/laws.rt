@@ -35,8 +35,3 @@ pub fn empty_run()
     ensures run { (query : Query) (most : ℕ) → IsRun query most [] }
     ensures groups { (query : Query) (most : ℕ) → AreGroups query most [] (part query []) }
 {}
-
-/// temporary
-pub fn temporary_law()
-    ensures { (n : ℕ) → n ≡ n }
-{}

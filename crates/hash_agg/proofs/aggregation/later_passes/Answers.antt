@@ -1,15 +1,13 @@
-use Rattle.std.specs.Prelude.{◌≡◌, refl, ◌+◌, ◌≤◌, ◌++◌, ◌∷◌, ℕ, List, [], length, IsTrue}
+use Rattle.std.specs.Prelude.{◌≡◌, refl, ◌++◌, ◌∷◌, ℕ, List, [], length, IsTrue}
 use Rattle.std.proofs.Common.{sym, ◌∙◌, ap, subst, arith, append-nil}
 use Rattle.std.proofs.lemmas.List.{length-append}
 use Rattle.std.proofs.lemmas.List.Sorted.{length_permutation}
 use Rattle.std.specs.List.Sorted.{IsPermutation}
 use Rattle.grouping_model.specs.Query.{Query}
-use Rattle.spill_tapes.specs.Records.{Record}
-use Rattle.spill_lists.specs.Lists.{LeftList}
-use Rattle.spill_lists.specs.Standing.{HasLists, BeginsLast, count_of, waiting_number}
+use Rattle.spill_lists.specs.Standing.{count_of, waiting_number}
 use Rattle.having_filter.specs.Meaning.{meaning}
 use Rattle.hash_agg.specs.Runs.{Entry}
-use Rattle.hash_agg.specs.Passes.{AreOnce, AreSafe, ReadsList, CanReadList, Stands, entries_of, standing, all_in}
+use Rattle.hash_agg.specs.Passes.{AreOnce, AreSafe, ReadsList, CanReadList, entries_of, standing, all_in}
 use Rattle.hash_agg.proofs.DiskLaws.{moves_none, moves_twice}
 use Rattle.hash_agg.proofs.SortLaws.{rises_once}
 use Rattle.hash_agg.proofs.UnionLaws.{one_run_more, safe_append, safe_moved, moved_stands}

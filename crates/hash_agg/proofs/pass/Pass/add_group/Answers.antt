@@ -1,15 +1,14 @@
-use Rattle.std.specs.Prelude.{◌≡◌, refl, ◌∷◌, ◌++◌, ◌≤◌, [], List, ℕ, length}
-use Rattle.std.proofs.Common.{sym, ◌∙◌, ap, subst, arith}
-use Rattle.spill_lists.specs.declared.error.SpillError.TheVariants.{TapeDamaged}
+use Rattle.std.specs.Prelude.{◌≡◌, refl, ◌∷◌, ◌≤◌, [], List, ℕ, length}
+use Rattle.std.proofs.Common.{sym, ◌∙◌, subst}
 use Rattle.spill_tapes.specs.Records.{Record}
 use Rattle.grouping_model.specs.Query.{Query}
-use Rattle.grouping_model.specs.Grouping.{Group, partials}
+use Rattle.grouping_model.specs.Grouping.{partials}
 use Rattle.grouping_model.specs.Parts.{functions}
 use Rattle.group_table.specs.Table.{state_in}
 use Rattle.having_filter.specs.Meaning.{meaning}
 use Rattle.hash_agg.specs.Steps.{AreCombined}
-use Rattle.hash_agg.specs.Passes.{Piece, AreOfRun, entries_of, group_record}
-use Rattle.hash_agg.proofs.StepLaws.{on_ok, err_out, key_short, group_short, same_wide, group_told, one_there, there_room, one_new, new_room, one_left, safe_there, safe_new, one_group, is_group_record}
+use Rattle.hash_agg.specs.Passes.{AreOfRun, group_record}
+use Rattle.hash_agg.proofs.StepLaws.{on_ok, key_short, group_short, same_wide, group_told, one_there, there_room, one_new, one_left, safe_there, safe_new, one_group, is_group_record}
 use Rattle.hash_agg.proofs.pass.Pass.add_group.Goals as goal
 
 pub returns-in-Ok-clause-reads : goal.returns-in-Ok-clause-reads

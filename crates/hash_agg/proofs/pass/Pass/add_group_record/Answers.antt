@@ -1,5 +1,5 @@
-use Rattle.std.specs.Prelude.{◌≡◌, refl, ◌∷◌, ◌≤◌, [], List, ℕ, length}
-use Rattle.std.proofs.Common.{sym, ◌∙◌, ap}
+use Rattle.std.specs.Prelude.{refl, List, ℕ}
+use Rattle.std.proofs.Common.{sym, ◌∙◌}
 use Rattle.packed_rows.specs.Packing.{packing}
 use Rattle.having_filter.specs.Meaning.{meaning}
 use Rattle.hash_agg.specs.Passes.{standing}

@@ -1,8 +1,6 @@
-use Rattle.std.specs.Prelude.{◌≡◌, refl, ◌+◌, ◌∷◌, ◌++◌, ℕ, List, [], length, Option, Some, None, IfSome, IsTrue}
+use Rattle.std.specs.Prelude.{◌≡◌, refl, ◌+◌, ◌∷◌, ℕ, List, [], length, IfSome, IsTrue}
 use Rattle.std.proofs.Common.{sym, ◌∙◌, ap, subst, arith, inl}
-use Rattle.spill_tapes.specs.Records.{Record}
 use Rattle.spill_tapes.specs.Tape.{Gives}
-use Rattle.spill_lists.specs.Lists.{LeftList}
 use Rattle.spill_lists.specs.Standing.{HasLists, count_of, spilled_number, ahead_number}
 use Rattle.grouping_model.specs.Query.{Query}
 use Rattle.having_filter.specs.Meaning.{meaning}

@@ -1,4 +1,4 @@
-use Rattle.std.specs.Prelude.{◌≡◌, ◌+◌, ◌≤◌, ℕ, List, [], false, length, IsTrue}
+use Rattle.std.specs.Prelude.{◌≡◌, ◌+◌, ◌≤◌, List, [], false, IsTrue}
 use Rattle.spill_tapes.specs.Records.{Record}
 use Rattle.spill_lists.specs.Lists.{LeftList}
 use Rattle.spill_lists.specs.Standing.{HasLists, Moves, ahead_number}

@@ -1,8 +1,7 @@
-use Rattle.std.specs.Prelude.{◌∷◌, []}
 use Rattle.std.proofs.Common.{sym, ◌∙◌}
 use Rattle.packed_rows.specs.View.{row_of}
 use Rattle.having_filter.specs.Meaning.{meaning}
-use Rattle.hash_agg.specs.Passes.{AreRows, entries_of, standing}
+use Rattle.hash_agg.specs.Passes.{entries_of, standing}
 use Rattle.hash_agg.proofs.StepLaws.{on_ok, err_out}
 use Rattle.hash_agg.proofs.RecordLaws.{can_row, row_over, row_brings}
 use Rattle.hash_agg.proofs.pass.Pass.add_row.Goals as goal

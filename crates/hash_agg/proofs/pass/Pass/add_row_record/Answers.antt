@@ -1,4 +1,4 @@
-use Rattle.std.specs.Prelude.{◌≡◌, ◌∷◌, [], List, ℕ}
+use Rattle.std.specs.Prelude.{◌∷◌, [], List, ℕ}
 use Rattle.std.proofs.Common.{sym, ◌∙◌, ap}
 use Rattle.packed_rows.specs.View.{row_of}
 use Rattle.grouping_model.specs.Query.{Query}

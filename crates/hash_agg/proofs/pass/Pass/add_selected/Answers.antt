@@ -1,17 +1,14 @@
-use Rattle.std.specs.Prelude.{◌≡◌, refl, ◌∷◌, ◌++◌, [], List, ℕ}
-use Rattle.std.proofs.Common.{sym, ◌∙◌, ap, arith}
-use Rattle.spill_lists.specs.declared.error.SpillError.TheVariants.{TapeDamaged}
+use Rattle.std.specs.Prelude.{refl, ◌∷◌, ◌++◌, []}
+use Rattle.std.proofs.Common.{◌∙◌, ap, arith}
 use Rattle.grouping_model.specs.Datum.{Row}
 use Rattle.grouping_model.specs.Query.{Query}
-use Rattle.grouping_model.specs.Grouping.{Group, key_of, partials}
-use Rattle.grouping_model.specs.Parts.{functions, advanced}
+use Rattle.grouping_model.specs.Grouping.{key_of, partials}
 use Rattle.group_table.specs.Table.{state_in}
 use Rattle.packed_rows.specs.View.{row_of}
 use Rattle.having_filter.specs.Meaning.{meaning}
 use Rattle.hash_agg.specs.Steps.{AreAdvanced}
-use Rattle.hash_agg.specs.Passes.{Piece, AreRows, entries_of}
+use Rattle.hash_agg.specs.Passes.{AreRows, entries_of}
 use Rattle.hash_agg.proofs.KeyLaws.{key_has}
-use Rattle.hash_agg.proofs.StateLaws.{states_raised}
 use Rattle.hash_agg.proofs.StepLaws.{on_ok, err_out, key_short, packed_short, IsSelected, row_told, one_there, there_room, one_new, new_room, one_left, safe_there, safe_new}
 use Rattle.hash_agg.proofs.pass.Pass.add_selected.Goals as goal
 
