@@ -149,6 +149,13 @@ impl<H: KeyHash + Drop> GroupTable<H> {
         self.slots.len()
     }
 
+    /// The hash of a key, by which its group is looked for.
+    pub fn key_hash(&self, key: &[u8]) -> u32
+        ensures { result ≡ H.hash_of self.now.hash key.now }
+    {
+        self.hash.key_hash(key)
+    }
+
     /// The slot of the group of a key, if there is one.
     pub fn find(&self, tree: &Tree, key: &[u8]) -> Option<Slot>
         requires { IsTableIn H.hash_of self.now tree.now }

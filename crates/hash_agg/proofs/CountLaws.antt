@@ -1,36 +1,32 @@
 -- The pieces of all inputs, and how many rows they count.
-use Rattle.std.specs.Prelude.{◌≡◌, refl, ℕ, zero, suc, ◌+◌, ◌^◌, ◌<◌, ◌≤◌, Bool, true, false, cond, ◌||◌, List, [], ◌∷◌, ◌++◌, length, map, take, slice_get, Some}
+use Rattle.std.specs.Prelude.{◌≡◌, refl, ℕ, zero, suc, ◌+◌, ◌≤◌, Bool, true, false, cond, ◌||◌, List, [], ◌∷◌, ◌++◌, length, map, take, slice_get, Some}
 use Rattle.std.proofs.Common.{sym, ◌∙◌, ap, subst, arith, add-one, append-nil, append_assoc}
-use Rattle.std.proofs.lemmas.List.{length-map}
-use Rattle.std.proofs.lemmas.List.Sums.{sum_by-cons}
+use Rattle.std.proofs.lemmas.List.{length-map, length-append}
+use Rattle.std.proofs.lemmas.List.Sums.{sum_by-cons, sum_by-append}
 use Rattle.std.specs.List.{AllByRecursion}
 use Rattle.std.specs.List.Sorted.{IsStrictlySortedBy}
 use Rattle.grouping_model.specs.Datum.{Row, row_cmp, same_row}
 use Rattle.grouping_model.specs.Rising.{is_among}
 use Rattle.grouping_model.specs.Query.{Query}
-use Rattle.grouping_model.specs.Grouping.{Group, key_of, selected}
+use Rattle.grouping_model.specs.Condition.{is_met}
+use Rattle.grouping_model.specs.Grouping.{Group, column_of, key_of, selected}
 use Rattle.grouping_model.specs.Parts.{keys_of}
 use Rattle.grouping_model.proofs.PartLaws.{same_row-swap}
 use Rattle.grouping_model.proofs.DatumOrder.{same_row-is}
 use Rattle.packed_rows.specs.Packing.{packing}
-use Rattle.agg_protocol.specs.States.{most_rows}
-use Rattle.having_filter.specs.Meaning.{Checked, meaning}
-use Rattle.hash_agg.specs.Inputs.{Brought, Packed, Counted, rows_in, all_rows, IsInput}
+use Rattle.spill_tapes.specs.Records.{Record}
+use Rattle.spill_lists.specs.Lists.{LeftList}
+use Rattle.spill_lists.specs.Standing.{ListsState}
+use Rattle.having_filter.specs.Meaning.{meaning}
+use Rattle.hash_agg.specs.declared.plan.Plan.{Plan}
+use Rattle.hash_agg.specs.Runs.{Entry}
+use Rattle.hash_agg.specs.Inputs.{Brought, Packed, Counted, on_end, rows_in, all_rows, IsInput, AllBring}
 use Rattle.hash_agg.specs.Adding.{row_added, rows_added, group_added, groups_added, Given, Of_rows, Of_groups, Gives, AllGive, given_added, all_added}
-use Rattle.hash_agg.specs.Passes.{Piece, Of_row, Of_group, pieces_added, made_of, piece_key, weight, rows_at, CountUpTo, AreOf, PassState, Stands, CanCount, CanReadAll, ReadsAll, entries_of}
-use Rattle.hash_agg.proofs.InputLaws.{run_apart}
+use Rattle.hash_agg.specs.Passes.{Of_row, Of_group, pieces_added, made_of, piece_key, weight, rows_at, CountUpTo, AreOf, given_pieces, all_pieces, PassState, Holds, CanRead, Reads, total, brings, brought_by, Brings}
+use Rattle.hash_agg.proofs.InputLaws.{run_apart, groups_long}
 use Rattle.hash_agg.proofs.MergeLaws.{AreApart, puts_rise, nothing_rises, keys_of-rows_added, keys_of-groups_added}
 use Rattle.hash_agg.proofs.PassLaws.{rows_append, pieces_append}
 use Rattle.hash_agg.proofs.WholeLaws.{GivenAt}
-
--- what an input gives, as pieces; and what all give
-abbrev pub given_pieces : Brought → Given → List Piece
-given_pieces input (Of_rows rows) = map Of_row rows
-given_pieces input (Of_groups groups) = map (λ group. Of_group group (rows_in input)) groups
-
-abbrev pub all_pieces : List Brought → List Given → List Piece
-all_pieces (input ∷ inputs) (given ∷ givens) = given_pieces input given ++ all_pieces inputs givens
-all_pieces inputs givens = []
 
 pub pieces_of : (q : Query) (input : Brought) (given : Given) → Gives q input given → AreOf q input (given_pieces input given)
 pieces_of q (Packed packed) (Of_rows rows) gives = (rows, gives, refl)
@@ -161,34 +157,94 @@ front_few q k (x ∷ inputs) (g ∷ givens) (suc n) =
     let b = rows_append q k (given_pieces x g) (all_pieces (take n inputs) (take n givens)) in
     omega (arith, rest, a, b)
 
-module _ (q : Checked) (inputs : List Brought) (givens : List Given) (all : AllByRecursion (IsInput (meaning q)) inputs) (give : AllGive (meaning q) inputs givens) (low : all_rows inputs < 2 ^ 57) (i : ℕ) where
-  pub front_counts : CountUpTo (meaning q) most_rows (all_pieces (take i inputs) (take i givens))
-  front_counts k =
-      let a = front_few (meaning q) k inputs givens i in
-      let b = all_few (meaning q) k inputs givens all give in
-      omega (arith, a, b, low)
+-- all of them count few enough rows
+pub all_count : (q : Query) (most : ℕ) (inputs : List Brought) (givens : List Given) → AllByRecursion (IsInput q) inputs → AllGive q inputs givens → all_rows inputs ≤ most → CountUpTo q most (all_pieces inputs givens)
+all_count q most inputs givens all give low k = let few = all_few q k inputs givens all give in omega (arith, few, low)
 
-  module _ (input : Brought) (at : slice_get inputs i ≡ Some input) (found : GivenAt (meaning q) givens i input) (pass : PassState) (same : pass.query ≡ q) (s : Stands (meaning q) (all_pieces (take i inputs) (take i givens)) (entries_of pass.groups) pass.left) where
-    here : Stands (meaning pass.query) (all_pieces (take i inputs) (take i givens)) (entries_of pass.groups) pass.left
-    here = subst (λ (q : Checked). Stands (meaning q) (all_pieces (take i inputs) (take i givens)) (entries_of pass.groups) pass.left) (sym same) s
+module _ (plan : Plan) (hf : List ℕ → ℕ) (inputs : List Brought) (givens : List Given) (i : ℕ) (input : Brought) (at : slice_get inputs i ≡ Some input) (found : GivenAt (meaning plan.query.now) givens i input) (all : AllByRecursion (IsInput (meaning plan.query.now)) inputs) (give : AllGive (meaning plan.query.now) inputs givens) (low : all_rows inputs ≤ plan.most) where
+  front_count : CountUpTo (meaning plan.query.now) plan.most (all_pieces (take i inputs) (take i givens) ++ given_pieces input found.given)
+  front_count k =
+      let a = front_few (meaning plan.query.now) k inputs givens (i + 1) in
+      let b = all_few (meaning plan.query.now) k inputs givens all give in
+      let c : rows_at (meaning plan.query.now) k (all_pieces (take (i + 1) inputs) (take (i + 1) givens)) ≡ rows_at (meaning plan.query.now) k (all_pieces (take i inputs) (take i givens) ++ given_pieces input found.given) =
+      ap (rows_at (meaning plan.query.now) k) (pieces_next inputs givens i input found.given at found.at) in
+      omega (arith, a, b, c, low)
 
-    are : AreOf (meaning pass.query) input (given_pieces input found.given)
-    are = subst (λ (q : Checked). AreOf (meaning q) input (given_pieces input found.given)) (sym same) (pieces_of (meaning q) input found.given found.gives)
+  module _ (pass : PassState) (ahead : List Record) (todo : List LeftList) (holds : Holds (meaning plan.query.now) hf pass (all_pieces (take i inputs) (take i givens)) ahead todo) where
+    pub can_read_input : CanRead plan hf (AreOf (meaning plan.query.now) input) pass
+    can_read_input = (all_pieces (take i inputs) (take i givens), given_pieces input found.given, ahead, todo, holds, pieces_of (meaning plan.query.now) input found.given found.gives, front_count)
 
-    here_counts : CountUpTo (meaning q) most_rows (all_pieces (take i inputs) (take i givens) ++ given_pieces input found.given)
-    here_counts k =
-        let a = front_few (meaning q) k inputs givens (i + 1) in
-        let b = all_few (meaning q) k inputs givens all give in
-        let c : rows_at (meaning q) k (all_pieces (take (i + 1) inputs) (take (i + 1) givens)) ≡ rows_at (meaning q) k (all_pieces (take i inputs) (take i givens) ++ given_pieces input found.given) = ap (rows_at (meaning q) k) (pieces_next inputs givens i input found.given at found.at) in
-        omega (arith, a, b, c, low)
-
-    counts : CanCount pass (all_pieces (take i inputs) (take i givens)) (given_pieces input found.given)
-    counts = subst (λ (q : Checked). CountUpTo (meaning q) most_rows (all_pieces (take i inputs) (take i givens) ++ given_pieces input found.given)) (sym same) here_counts
-
-    pub can_read_input : CanReadAll (AreOf (meaning pass.query) input) pass
-    can_read_input = (all_pieces (take i inputs) (take i givens), given_pieces input found.given, here, are, counts)
-
-    pub input_read : (next : PassState) → ReadsAll (AreOf (meaning pass.query) input) pass next → Stands (meaning q) (all_pieces (take (i + 1) inputs) (take (i + 1) givens)) (entries_of next.groups) next.left
+    pub input_read : (next : PassState) → Reads plan hf (AreOf (meaning plan.query.now) input) pass next → Holds (meaning plan.query.now) hf next (all_pieces (take (i + 1) inputs) (take (i + 1) givens)) ahead todo
     input_read next reads =
-        subst (λ ps. Stands (meaning q) ps (entries_of next.groups) next.left) (sym (pieces_next inputs givens i input found.given at found.at))
-        (subst (λ (q : Checked). Stands (meaning q) (all_pieces (take i inputs) (take i givens) ++ given_pieces input found.given) (entries_of next.groups) next.left) same (reads (all_pieces (take i inputs) (take i givens)) (given_pieces input found.given) here are counts))
+        subst (λ ps. Holds (meaning plan.query.now) hf next ps ahead todo) (sym (pieces_next inputs givens i input found.given at found.at))
+        (reads (all_pieces (take i inputs) (take i givens)) (given_pieces input found.given) ahead todo holds (pieces_of (meaning plan.query.now) input found.given found.gives) front_count)
+
+-- what an input brings, on top of what those before it brought
+pub input_brings : (q : Query) (inputs : List Brought) (givens : List Given) (i : ℕ) (input : Brought) (old new : List Entry) (before after : ListsState) → slice_get inputs i ≡ Some input → GivenAt q givens i input
+    → Brings q (AreOf q input) old before new after → total old before ≤ brought_by q (all_pieces (take i inputs) (take i givens)) → total new after ≤ brought_by q (all_pieces (take (i + 1) inputs) (take (i + 1) givens))
+input_brings q inputs givens i input old new before after at found brought few =
+    let more = brought (given_pieces input found.given) (pieces_of q input found.given found.gives) in
+    let both : brought_by q (all_pieces (take (i + 1) inputs) (take (i + 1) givens)) ≡ brought_by q (all_pieces (take i inputs) (take i givens)) + brought_by q (given_pieces input found.given) =
+    ap (brought_by q) (pieces_next inputs givens i input found.given at found.at) ∙ sum_by-append (brings q) (all_pieces (take i inputs) (take i givens)) (given_pieces input found.given) in
+    omega (arith, few, more, both)
+
+-- ---- as many as keys are brought
+
+rows_bring : (q : Query) (rows : List Row) → brought_by q (map Of_row rows) ≡ length (selected q rows)
+rows_bring q [] = refl
+rows_bring q (row ∷ rows) =
+    let both = sum_by-cons (brings q) (Of_row row) (map Of_row rows) in
+    let rest = rows_bring q rows in
+    elim (is_met (column_of row) q.condition) as (λ b. is_met (column_of row) q.condition ≡ b → brought_by q (map Of_row (row ∷ rows)) ≡ length (cond b (row ∷ selected q rows) (selected q rows))) [
+      | true ↦ λ e. let one : brings q (Of_row row) ≡ 1 = ap (λ b. cond b 1 0) e in omega (arith, both, rest, one)
+      | false ↦ λ e. let none : brings q (Of_row row) ≡ 0 = ap (λ b. cond b 1 0) e in omega (arith, both, rest, none)
+    ] refl
+
+groups_bring : (q : Query) (most : ℕ) (groups : List Group) → brought_by q (map (λ group. Of_group group most) groups) ≡ length groups
+groups_bring q most [] = refl
+groups_bring q most (g ∷ groups) =
+    let both = sum_by-cons (brings q) (Of_group g most) (map (λ group. Of_group group most) groups) in
+    let rest = groups_bring q most groups in
+    omega (arith, both, rest)
+
+-- inputs that bring keys give pieces that bring as many
+pub record GiveAsMany (q : Query) (inputs : List Brought) (keys : List Row) : Type 0 where
+  pub givens : List Given
+  pub give : AllGive q inputs givens
+  pub bring : brought_by q (all_pieces inputs givens) ≡ length keys
+
+next_bring : (q : Query) (input : Brought) (given : Given) (inputs : List Brought) (keys : List Row) (lists : List (List Row)) (rest : GiveAsMany q inputs (on_end lists)) → brought_by q (given_pieces input given) ≡ length keys
+    → brought_by q (given_pieces input given ++ all_pieces inputs rest.givens) ≡ length (keys ++ on_end lists)
+next_bring q input given inputs keys lists rest one =
+    let both = sum_by-append (brings q) (given_pieces input given) (all_pieces inputs rest.givens) in
+    let others = rest.bring in
+    let long = length-append keys (on_end lists) in
+    omega (arith, both, others, long, one)
+
+pub give_as_many : (q : Query) (inputs : List Brought) (lists : List (List Row)) → AllByRecursion (IsInput q) inputs → AllBring q inputs lists → GiveAsMany q inputs (on_end lists)
+give_as_many q [] [] all bring = record { givens = []; give = tt; bring = refl }
+give_as_many q [] (keys ∷ lists) all bring = absurd bring
+give_as_many q (input ∷ inputs) [] all bring = absurd bring
+give_as_many q (Packed packed ∷ inputs) (keys ∷ lists) (first, all) (one, bring) =
+    let rest = give_as_many q inputs lists all bring in
+    record {
+      givens = Of_rows one.0 ∷ rest.givens;
+      give = (one.1, rest.give);
+      bring = next_bring q (Packed packed) (Of_rows one.0) inputs keys lists rest (rows_bring q one.0 ∙ sym (ap length one.2 ∙ length-map (selected q one.0) (key_of q)));
+    }
+give_as_many q (Counted run most ∷ inputs) (keys ∷ lists) (first, all) (one, bring) =
+    let rest = give_as_many q inputs lists all bring in
+    record {
+      givens = Of_groups first.groups ∷ rest.givens;
+      give = (first.are, rest.give);
+      bring = next_bring q (Counted run most) (Of_groups first.groups) inputs keys lists rest
+          (groups_bring q most first.groups ∙ sym (groups_long q most run first.groups first.are) ∙ sym (length-map run (λ (e : Entry). e.0)) ∙ ap length one.packings_are ∙ length-map keys packing);
+    }
+
+-- what is not more than the pieces bring is not more than the keys
+pub few_keys : (q : Query) (inputs : List Brought) (lists : List (List Row)) (n : ℕ) → AllByRecursion (IsInput q) inputs → ((givens : List Given) → AllGive q inputs givens → n ≤ brought_by q (all_pieces inputs givens)) → AllBring q inputs lists → n ≤ length (on_end lists)
+few_keys q inputs lists n all few bring =
+    let many = give_as_many q inputs lists all bring in
+    let low = few many.givens many.give in
+    let is = many.bring in
+    omega (arith, low, is)

@@ -2,10 +2,9 @@ pub mod StateLaws
 pub mod EntryLaws
 pub mod TableLaws
 pub mod PassLaws
-pub mod StepLaws
 pub mod SortLaws
 pub mod UnionLaws
-pub mod CountLaws
+pub mod WaitLaws
 pub mod KeyLaws
 pub mod MergeLaws
 pub mod InputLaws
@@ -15,3 +14,11 @@ pub mod FoldLaws
 pub mod FlatLaws
 pub mod PlaceLaws
 pub mod SpliceLaws
+pub mod StepLaws
+pub mod DiskLaws
+pub mod LoopLaws
+pub mod RecordLaws
+pub mod ReadLaws
+pub mod LaterLaws
+pub mod CountLaws
+pub mod FirstLaws

@@ -18,7 +18,7 @@ use Rattle.grouping_model.proofs.PartLaws.{same_row-swap}
 use Rattle.grouping_model.proofs.Members.{false_is_not_true}
 use Rattle.packed_rows.specs.Packing.{packing}
 use Rattle.having_filter.specs.Kept.{key_kinds}
-use Rattle.hash_agg.specs.declared.record.Record.{Record}
+use Rattle.spill_tapes.specs.Records.{Record}
 use Rattle.hash_agg.specs.Runs.{Entry}
 use Rattle.hash_agg.specs.Standing.{AreStates, StandsFor, AreGroups}
 use Rattle.hash_agg.specs.Adding.{merged}
@@ -183,16 +183,16 @@ pub pieces_append : (q : Query) (gs : List Group) (ps more : List Piece) → pie
 pieces_append q gs [] more = refl
 pieces_append q gs (p ∷ ps) more = pieces_append q (piece_added q gs p) ps more
 
-pub are_append : (q : Query) (left : List Record) (rest : List Piece) (r : Record) (p : Piece) → ArePieces q left rest → IsPiece q r p → ArePieces q (left ++ r ∷ []) (rest ++ p ∷ [])
-are_append q [] [] r p all is = (is, tt)
-are_append q [] (x ∷ rest) r p all is = absurd all
-are_append q (x ∷ left) [] r p all is = absurd all
-are_append q (x ∷ left) (y ∷ rest) r p (first, all) is = (first, are_append q left rest r p all is)
+pub are_append : (q : Query) (hf : List ℕ → ℕ) (left : List Record) (rest : List Piece) (r : Record) (p : Piece) → ArePieces q hf left rest → IsPiece q hf r p → ArePieces q hf (left ++ r ∷ []) (rest ++ p ∷ [])
+are_append q hf [] [] r p all is = (is, tt)
+are_append q hf [] (x ∷ rest) r p all is = absurd all
+are_append q hf (x ∷ left) [] r p all is = absurd all
+are_append q hf (x ∷ left) (y ∷ rest) r p (first, all) is = (first, are_append q hf left rest r p all is)
 
-pub no_pieces : (q : Query) (left : List Record) (rest : List Piece) → ArePieces q left rest → left ≡ [] → rest ≡ []
-no_pieces q [] [] all e = refl
-no_pieces q [] (x ∷ rest) all e = absurd all
-no_pieces q (x ∷ left) rest all e = absurd cc
+pub no_pieces : (q : Query) (hf : List ℕ → ℕ) (left : List Record) (rest : List Piece) → ArePieces q hf left rest → left ≡ [] → rest ≡ []
+no_pieces q hf [] [] all e = refl
+no_pieces q hf [] (x ∷ rest) all e = absurd all
+no_pieces q hf (x ∷ left) rest all e = absurd cc
 
 -- how many rows the pieces of a key count, with more of them
 pub rows_append : (q : Query) (k : Row) (ps more : List Piece) → rows_at q k (ps ++ more) ≡ rows_at q k ps + rows_at q k more
@@ -267,7 +267,7 @@ once_apart q m (e ∷ es) (g ∷ gs) (first, rest) once = (
 
 -- ---- one more record
 
-module _ (q : Query) (es : List Entry) (left : List Record) (ps : List Piece) (p : Piece) (bytes : List ℕ) (is : bytes ≡ packing (piece_key q p)) (has : HasKinds (key_kinds q) (piece_key q p)) (kept : IsKept q p) (s : Stands q ps es left) where
+module _ (q : Query) (hf : List ℕ → ℕ) (es : List Entry) (left : List Record) (ps : List Piece) (p : Piece) (bytes : List ℕ) (is : bytes ≡ packing (piece_key q p)) (has : HasKinds (key_kinds q) (piece_key q p)) (kept : IsKept q p) (s : Stands q hf ps es left) where
   rows_more : (k : Row) → rows_at q k ps ≤ rows_at q k (ps ++ p ∷ [])
   rows_more k = let both = rows_append q k ps (p ∷ []) in omega (arith, both)
 
@@ -280,7 +280,7 @@ module _ (q : Query) (es : List Entry) (left : List Record) (ps : List Piece) (p
   -- it goes to the group of its key
   pub reads_there : (place : ℕ) (old new : List ℕ) → AreOnce es → slice_get es place ≡ Some (bytes, old)
       → ((found : List Partial) → AreStates (functions q) (rows_at q (piece_key q p) ps) old found → AreStates (functions q) (rows_at q (piece_key q p) ps + weight p) new (after q (Some found) p))
-      → Stands q (ps ++ p ∷ []) (slice_set es place (bytes, new)) left
+      → Stands q hf (ps ++ p ∷ []) (slice_set es place (bytes, new)) left
   reads_there place old new once at moves =
       let all : List Group = made_of q ps in
       let found = by_at q (λ k. rows_at q k ps) es s.entered place (bytes, old) s.are at in
@@ -308,12 +308,12 @@ module _ (q : Query) (es : List Entry) (left : List Record) (ps : List Piece) (p
       }
 
   -- it makes a group of its own
-  pub reads_new : (new : List ℕ) → left ≡ [] → HasNoKey es bytes → AreStates (functions q) (weight p) new (after q None p) → Stands q (ps ++ p ∷ []) (es ++ (bytes, new) ∷ []) left
+  pub reads_new : (new : List ℕ) → left ≡ [] → HasNoKey es bytes → AreStates (functions q) (weight p) new (after q None p) → Stands q hf (ps ++ p ∷ []) (es ++ (bytes, new) ∷ []) left
   reads_new new none without makes =
       let all : List Group = made_of q ps in
       let now : Group = (piece_key q p, after q None p) in
       let apart : partials_at (piece_key q p) s.entered ≡ None = missing (piece_key q p) s.entered (none_among q (λ k. rows_at q k ps) es s.entered bytes (piece_key q p) s.are without is) in
-      let gone : partials_at (piece_key q p) (made_of q s.rest) ≡ None = ap (λ rest. partials_at (piece_key q p) (made_of q rest)) (no_pieces q left s.rest s.read none) in
+      let gone : partials_at (piece_key q p) (made_of q s.rest) ≡ None = ap (λ rest. partials_at (piece_key q p) (made_of q rest)) (no_pieces q hf left s.rest s.read none) in
       let absent : partials_at (piece_key q p) all ≡ None = found_out all s.entered (made_of q s.rest) (piece_key q p) s.parted apart ∙ gone in
       let new_all : IsWith (piece_key q p) (after q None p) all (piece_added q all p) = subst (λ o. IsWith (piece_key q p) (after q o p) all (piece_added q all p)) absent (added_with q p all kept) in
       let here = rows_here in
@@ -332,7 +332,7 @@ module _ (q : Query) (es : List Entry) (left : List Record) (ps : List Piece) (p
       }
 
   -- it is left for the next pass
-  pub reads_left : (r : Record) → IsPiece q r p → HasNoKey es bytes → Stands q (ps ++ p ∷ []) es (left ++ r ∷ [])
+  pub reads_left : (r : Record) → IsPiece q hf r p → HasNoKey es bytes → Stands q hf (ps ++ p ∷ []) es (left ++ r ∷ [])
   reads_left r piece without =
       let all : List Group = made_of q ps in
       let others : List Group = made_of q s.rest in
@@ -346,7 +346,7 @@ module _ (q : Query) (es : List Entry) (left : List Record) (ps : List Piece) (p
         entered = s.entered;
         rest = s.rest ++ p ∷ [];
         are = by_raised q (λ k. rows_at q k ps) (λ k. rows_at q k (ps ++ p ∷ [])) es s.entered rows_more s.are;
-        read = are_append q left s.rest r p s.read piece;
+        read = are_append q hf left s.rest r p s.read piece;
         parted = subst (λ (gs : List Group). IsParted gs s.entered (made_of q (s.rest ++ p ∷ []))) (sym added) (subst (IsParted (piece_added q all p) s.entered) (sym (pieces_append q [] s.rest (p ∷ []))) back);
         fewer = λ k.
             let a = s.fewer k in
@@ -356,8 +356,8 @@ module _ (q : Query) (es : List Entry) (left : List Record) (ps : List Piece) (p
       }
 
 -- a piece that changes no group
-pub reads_over : (q : Query) (es : List Entry) (left : List Record) (ps : List Piece) (p : Piece) → piece_added q (made_of q ps) p ≡ made_of q ps → Stands q ps es left → Stands q (ps ++ p ∷ []) es left
-reads_over q es left ps p same s =
+pub reads_over : (q : Query) (hf : List ℕ → ℕ) (es : List Entry) (left : List Record) (ps : List Piece) (p : Piece) → piece_added q (made_of q ps) p ≡ made_of q ps → Stands q hf ps es left → Stands q hf (ps ++ p ∷ []) es left
+reads_over q hf es left ps p same s =
     let more : (k : Row) → rows_at q k ps ≤ rows_at q k (ps ++ p ∷ []) = λ k. let both = rows_append q k ps (p ∷ []) in omega (arith, both) in
     record {
       entered = s.entered;

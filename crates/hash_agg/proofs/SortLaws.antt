@@ -1,9 +1,9 @@
 -- Entries in the order of their keys.
-use Rattle.std.specs.Prelude.{◌≡◌, ◌≢◌, refl, ℕ, zero, suc, ◌+◌, ◌*◌, ◌^◌, ◌<◌, ◌≤◌, true, false, List, [], ◌∷◌, ◌++◌, length, take, drop, slice_get, slice_index, slice_index_or, Some}
-use Rattle.std.proofs.Common.{sym, ◌∙◌, ap, subst, arith, inl, inr}
+use Rattle.std.specs.Prelude.{◌≡◌, ◌≢◌, refl, ℕ, zero, suc, ◌+◌, ◌-◌, ◌*◌, ◌^◌, ◌<◌, ◌≤◌, true, false, List, [], ◌∷◌, ◌++◌, length, take, drop, slice_get, slice_index, slice_index_or, Some}
+use Rattle.std.proofs.Common.{sym, ◌∙◌, ap, subst, arith, add-one, inl, inr}
 use Rattle.std.proofs.Math.Nat.{mul-le-mul_right, zero-mul}
 use Rattle.std.proofs.lemmas.Bool.{cases_lt}
-use Rattle.std.proofs.lemmas.List.{map-append, length-map, take_all, take-append-drop}
+use Rattle.std.proofs.lemmas.List.{map-append, append-nil, length-map, length-take, take_all, take-append-drop}
 use Rattle.std.proofs.lemmas.List.Elements.{recursion_from_All}
 use Rattle.std.proofs.lemmas.List.Sorted.{IsPermutation-map, All-permutation}
 use Rattle.std.proofs.lemmas.Map.Keys.{IsDistinct-IsPermutation, IsDistinct-from_sorted}
@@ -20,9 +20,10 @@ use Rattle.byteorder.specs.Numbers.{big_from-cons, big_from-lt}
 use Rattle.grouping_model.proofs.Members.{false_is_not_true}
 use Rattle.packed_rows.proofs.PackingOrder.{less, tied}
 use Rattle.hash_agg.specs.Runs.{Entry, packed_keys, Rises}
+use Rattle.hash_agg.specs.Places.{AllBelow}
 use Rattle.hash_agg.specs.Passes.{AreOnce, HasNoKey, Led, IsLed, pairs}
 use Rattle.hash_agg.proofs.InputLaws.{take_found, run_front_rises}
-use Rattle.hash_agg.proofs.PlaceLaws.{key_total}
+use Rattle.hash_agg.proofs.PlaceLaws.{key_total, below_to, rises_between}
 
 -- ---- keys that differ
 
@@ -177,3 +178,38 @@ pub all_taken : (ps : List Led) (run : List Entry) (i : ℕ) → run ≡ take i 
 all_taken ps run i is past =
     let same : length (pairs ps) ≡ length ps = length-map ps (λ (e : Led). (e.1.0.now, e.1.1.now)) in
     is ∙ take_all i (pairs ps) (omega (arith, same, past))
+
+-- ---- keys that are told apart
+
+taken_get : (es : List Entry) (n i : ℕ) (e : Entry) → i < n → slice_get es i ≡ Some e → slice_get (take n es) i ≡ Some e
+taken_get [] n i e low at = absurd cc
+taken_get (x ∷ es) zero i e low at = absurd (omega (arith, low))
+taken_get (x ∷ es) (suc n) zero e low at = at
+taken_get (x ∷ es) (suc n) (suc i) e low at = taken_get es n i e (omega (arith, low)) at
+
+-- the keys before one are below it, if the one before it differs
+told_below : (ps : List Led) (run : List Entry) (i : ℕ) (d : Led) → IsSorted entry_cmp ps → All IsLed ps → Rises run → run ≡ take i (pairs ps) → i < length ps → (0 < i → (slice_index_or ps (i - 1) d).1.0.now ≢ (slice_index_or ps i d).1.0.now) → AllBelow (slice_index_or ps i d).1.0.now run
+told_below ps run zero d sorted led rises is low other = subst (AllBelow (slice_index_or ps zero d).1.0.now) (sym is) tt
+told_below ps run (suc i) d sorted led rises is low other =
+    let x : Led = slice_index_or ps i d in
+    let y : Led = slice_index_or ps (suc i) d in
+    let next : is_lt (entry_cmp y x) ≡ false = subst (λ n. is_lt (entry_cmp (slice_index_or ps n d) x) ≡ false) (add-one i) (sorted i d (omega arith) (omega (arith, low))) in
+    let before : suc i - 1 ≡ i = omega arith in
+    let above : bytes_cmp x.1.0.now y.1.0.now ≡ Less = next_above x y next (subst (λ n. (slice_index_or ps n d).1.0.now ≢ y.1.0.now) before (other (omega arith))) (led i d (omega (arith, low))) (led (suc i) d low) in
+    let at : slice_get run i ≡ Some (x.1.0.now, x.1.1.now) = ap (λ es. slice_get es i) is ∙ taken_get (pairs ps) (suc i) i (x.1.0.now, x.1.1.now) (omega arith) (pair_at ps i d (omega (arith, low))) in
+    let short : length run ≤ i + 1 = omega (arith, ap length is, length-take (suc i) (pairs ps)) in
+    subst (AllBelow y.1.0.now) (take_all (i + 1 - 0) run (omega (arith, short))) (below_to run 0 i (x.1.0.now, x.1.1.now) y.1.0.now rises (omega arith) at above)
+
+-- the next one goes on with the run of those before it, if the one before it has another key
+pub told_rises : (ps : List Led) (run : List Entry) (i : ℕ) (d : Led) → IsSorted entry_cmp ps → All IsLed ps → Rises run → run ≡ take i (pairs ps) → i < length ps → (0 < i → (slice_index_or ps (i - 1) d).1.0.now ≢ (slice_index_or ps i d).1.0.now)
+    → Rises (run ++ ((slice_index_or ps i d).1.0.now, (slice_index_or ps i d).1.1.now) ∷ [])
+told_rises ps run i d sorted led rises is low other =
+    rises_between run [] (slice_index_or ps i d).1.0.now (slice_index_or ps i d).1.1.now (subst Rises (sym (append-nil run)) rises) (told_below ps run i d sorted led rises is low other) tt
+
+-- where neighbours have the same key, a key is there twice
+pub told_twice : (ps : List Led) (i : ℕ) (d : Led) → AreOnce (pairs ps) → 0 < i → i < length ps → (slice_index_or ps (i - 1) d).1.0.now ≢ (slice_index_or ps i d).1.0.now
+told_twice ps zero d once some low = absurd (omega (arith, some))
+told_twice ps (suc i) d once some low = λ same.
+    let before : suc i - 1 ≡ i = omega arith in
+    let both : i ≡ suc i = once i (suc i) _ _ (pair_at ps i d (omega (arith, low))) (pair_at ps (suc i) d low) (subst (λ n. (slice_index_or ps n d).1.0.now ≡ (slice_index_or ps (suc i) d).1.0.now) before same) in
+    absurd (omega (arith, both))

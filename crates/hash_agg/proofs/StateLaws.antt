@@ -1,7 +1,7 @@
 -- The states of one group.
 use Rattle.std.specs.Prelude.{◌≡◌, refl, ℕ, zero, suc, ◌+◌, ◌*◌, ◌^◌, ◌<◌, ◌≤◌, true, false, if◌then◌else◌, List, [], ◌∷◌, ◌++◌, length, map, take, drop, Option, Some, None, option_map, slice_get}
 use Rattle.std.proofs.Common.{sym, ◌∙◌, ap, subst, arith, add-one}
-use Rattle.std.proofs.lemmas.List.{append-nil, length-map}
+use Rattle.std.proofs.lemmas.List.{append-nil, length-append, length-map, take-append-drop}
 use Rattle.std.proofs.Math.Seq.{take-append_seam, drop-append_seam, take-length, drop-length}
 use Rattle.std.proofs.lemmas.List.Sums.{sum_by-cons}
 use Rattle.std.specs.List.{AllByRecursion}
@@ -9,7 +9,8 @@ use Rattle.grouping_model.specs.Datum.{Row, Datum, Kind, HasKinds}
 use Rattle.grouping_model.specs.Aggregates.{Function, Partial, Counted, Summed, Number, Truth_value, partial}
 use Rattle.grouping_model.specs.Combining.{combine, combine_all, transition}
 use Rattle.grouping_model.specs.Condition.{is_met}
-use Rattle.grouping_model.specs.Query.{Aggregate}
+use Rattle.grouping_model.specs.Query.{Query, Aggregate}
+use Rattle.grouping_model.specs.Parts.{functions}
 use Rattle.grouping_model.specs.Grouping.{argument, arguments, column_of}
 use Rattle.packed_rows.specs.View.{datum_of}
 use Rattle.packed_rows.specs.declared.value.Value.{Value}
@@ -22,7 +23,7 @@ use Rattle.agg_library.specs.declared.kind.AggKind.{AggKind}
 use Rattle.agg_library.specs.declared.kind.AggKind.TheVariants.{CountRows, Count, Sum, Min, Max, BitAnd, BitOr, BitXor, BoolAnd, BoolOr, Every}
 use Rattle.agg_library.specs.Kinds.{function_of, functions_of, kind_shape, kind_width, row_width}
 use Rattle.agg_library.specs.StateRows.{Denotes, AllWithin, initial_partials, partial_after}
-use Rattle.having_filter.specs.Kept.{TakesRows}
+use Rattle.having_filter.specs.Kept.{TakesRows, IsWellFormed}
 use Rattle.hash_agg.specs.Standing.{AreStates}
 use Rattle.hash_agg.specs.Adding.{partial_after_row}
 
@@ -98,39 +99,46 @@ all_at P [] i x all e = absurd cc
 all_at P (y ∷ xs) zero x (p, all) e = let same : y ≡ x = cc in subst P same p
 all_at P (y ∷ xs) (suc i) x (p, all) e = all_at P xs i x all e
 
--- a state that was moved on by a row
-pub moved_on : (kinds : List Kind) (kind : AggKind) (a : Aggregate) (row : Row) (reach : Option Value) (most : ℕ) (p q : Partial) (old new : List ℕ)
+-- a state that was moved on by a row, within a bound
+pub moved_on : (kinds : List Kind) (kind : AggKind) (a : Aggregate) (row : Row) (reach : Option Value) (m bound : ℕ) (p q : Partial) (old new : List ℕ)
     → TakesRows kinds a → HasKinds kinds row → a.function ≡ function_of kind → option_map datum_of reach ≡ (if is_met (column_of row) a.filter then Some (argument a.column row) else None)
-    → most < most_rows → states.Denotes most (kind_shape kind) old p → states.Denotes most_rows (kind_shape kind) old q → states.Denotes most_rows (kind_shape kind) new (partial_after (function_of kind) q reach)
-    → states.Denotes (most + 1) (kind_shape kind) new (partial_after_row a p row)
-moved_on kinds kind a row reach most p q old new takes has is reached low denoted found moved =
+    → m < bound → bound ≤ most_rows → states.Denotes m (kind_shape kind) old p → states.Denotes bound (kind_shape kind) old q → states.Denotes bound (kind_shape kind) new (partial_after (function_of kind) q reach)
+    → states.Denotes (m + 1) (kind_shape kind) new (partial_after_row a p row)
+moved_on kinds kind a row reach m bound p q old new takes has is reached low top denoted found moved =
     let s : Shape = kind_shape kind in
-    let same : q ≡ p = once most_rows s old q p (omega arith) found (raised most most_rows s old p (omega (arith, low)) denoted) in
+    let same : q ≡ p = once bound s old q p top found (raised m bound s old p (omega (arith, low)) denoted) in
     let after : partial_after (function_of kind) q reach ≡ partial_after_row a p row = ap (λ q. partial_after (function_of kind) q reach) same ∙ after_reach (function_of kind) a row p reach is reached in
-    let now : states.Denotes most_rows s new (partial_after_row a p row) = subst (states.Denotes most_rows s new) after moved in
-    let few : rows_of p ≤ most = state_rows most s p denoted.0 in
-    let more : rows_of (partial_after_row a p row) ≤ rows_of p + 1 = rows_after_row kinds a row most p takes has (subst (λ f. IsState most (shape_of f) p) (sym is) denoted.0) in
-    (within most_rows (most + 1) s (partial_after_row a p row) now.0 (omega (arith, few, more)), now.1)
+    let now : states.Denotes bound s new (partial_after_row a p row) = subst (states.Denotes bound s new) after moved in
+    let few : rows_of p ≤ m = state_rows m s p denoted.0 in
+    let more : rows_of (partial_after_row a p row) ≤ rows_of p + 1 = rows_after_row kinds a row m p takes has (subst (λ f. IsState m (shape_of f) p) (sym is) denoted.0) in
+    (within bound (m + 1) s (partial_after_row a p row) now.0 (omega (arith, few, more)), now.1)
 
 -- such a state has room
-pub has_room : (kinds : List Kind) (kind : AggKind) (a : Aggregate) (row : Row) (reach : Option Value) (most : ℕ) (p : Partial) (old : List ℕ)
+pub has_room : (kinds : List Kind) (kind : AggKind) (a : Aggregate) (row : Row) (reach : Option Value) (m bound : ℕ) (p : Partial) (old : List ℕ)
     → TakesRows kinds a → HasKinds kinds row → a.function ≡ function_of kind → option_map datum_of reach ≡ (if is_met (column_of row) a.filter then Some (argument a.column row) else None)
-    → most < most_rows → states.Denotes most (kind_shape kind) old p → ((q : Partial) → states.Denotes most_rows (kind_shape kind) old q → most_rows < rows_of (partial_after (function_of kind) q reach)) → ⊥
-has_room kinds kind a row reach most p old takes has is reached low denoted many =
+    → m < bound → states.Denotes m (kind_shape kind) old p → ((q : Partial) → states.Denotes bound (kind_shape kind) old q → bound < rows_of (partial_after (function_of kind) q reach)) → ⊥
+has_room kinds kind a row reach m bound p old takes has is reached low denoted many =
     let s : Shape = kind_shape kind in
     let after : partial_after (function_of kind) p reach ≡ partial_after_row a p row = after_reach (function_of kind) a row p reach is reached in
-    let few : rows_of p ≤ most = state_rows most s p denoted.0 in
-    let more : rows_of (partial_after_row a p row) ≤ rows_of p + 1 = rows_after_row kinds a row most p takes has (subst (λ f. IsState most (shape_of f) p) (sym is) denoted.0) in
-    let above : most_rows < rows_of (partial_after_row a p row) = subst (λ q. most_rows < rows_of q) after (many p (raised most most_rows s old p (omega (arith, low)) denoted)) in
+    let few : rows_of p ≤ m = state_rows m s p denoted.0 in
+    let more : rows_of (partial_after_row a p row) ≤ rows_of p + 1 = rows_after_row kinds a row m p takes has (subst (λ f. IsState m (shape_of f) p) (sym is) denoted.0) in
+    let above : bound < rows_of (partial_after_row a p row) = subst (λ q. bound < rows_of q) after (many p (raised m bound s old p (omega (arith, low)) denoted)) in
     omega (arith, few, more, above, low)
 
 -- ---- the states of some aggregates
 
 -- the first state and the others
-pub first_and_rest : (m : ℕ) (kind : AggKind) (kinds : List AggKind) (bytes : List ℕ) (ps : List Partial) → Denotes m (kind ∷ kinds) bytes ps
+first_and_rest : (m : ℕ) (kind : AggKind) (kinds : List AggKind) (bytes : List ℕ) (ps : List Partial) → Denotes m (kind ∷ kinds) bytes ps
     → (p : Partial) × (qs : List Partial) × (ps ≡ p ∷ qs) × states.Denotes m (kind_shape kind) (take (kind_width kind) bytes) p × Denotes m kinds (drop (kind_width kind) bytes) qs
 first_and_rest m kind kinds bytes [] d = absurd d
 first_and_rest m kind kinds bytes (p ∷ qs) (first, rest) = (p, qs, refl, first, rest)
+
+-- the same of states that were split
+pub parted : (m : ℕ) (kind : AggKind) (kinds all : List AggKind) (bytes front back : List ℕ) (ps : List Partial) → all ≡ kind ∷ kinds → front ≡ take (kind_width kind) bytes → back ≡ drop (kind_width kind) bytes → Denotes m all bytes ps
+    → (p : Partial) × (qs : List Partial) × (ps ≡ p ∷ qs) × states.Denotes m (kind_shape kind) front p × Denotes m kinds back qs
+parted m kind kinds all bytes front back ps is before behind d =
+    let parts = first_and_rest m kind kinds bytes ps (subst (λ ks. Denotes m ks bytes ps) is d) in
+    (parts.0, parts.1, parts.2, subst (λ b. states.Denotes m (kind_shape kind) b parts.0) (sym before) parts.3, subst (λ b. Denotes m kinds b parts.1) (sym behind) parts.4)
 
 pub joined : (m : ℕ) (kind : AggKind) (all kinds : List AggKind) (front back : List ℕ) (p : Partial) (ps : List Partial) → all ≡ kind ∷ kinds → states.Denotes m (kind_shape kind) front p → Denotes m kinds back ps → Denotes m all (front ++ back) (p ∷ ps)
 joined m kind all kinds front back p ps is d ds =
@@ -239,6 +247,27 @@ fits kinds aggregates named few =
     let wide = narrow kinds in
     omega (arith, many, wide, few)
 
+states_wide : (m : ℕ) (kinds : List AggKind) (bytes : List ℕ) (ps : List Partial) → Denotes m kinds bytes ps → length bytes ≡ row_width kinds
+states_wide m [] bytes [] d = ap length d
+states_wide m [] bytes (p ∷ ps) d = absurd d
+states_wide m (k ∷ ks) bytes [] d = absurd d
+states_wide m (k ∷ ks) bytes (p ∷ ps) (first, rest) =
+    let one : length (take (kind_width k) bytes) ≡ kind_width k = width_known m (kind_shape k) (take (kind_width k) bytes) p first in
+    let others : length (drop (kind_width k) bytes) ≡ row_width ks = states_wide m ks (drop (kind_width k) bytes) ps rest in
+    let both : length (take (kind_width k) bytes ++ drop (kind_width k) bytes) ≡ length bytes = ap length (take-append-drop (kind_width k) bytes) in
+    let sum = length-append (take (kind_width k) bytes) (drop (kind_width k) bytes) in
+    let wide = sum_by-cons kind_width k ks in
+    omega (arith, one, others, both, sum, wide)
+
+-- states are not too long for a table
+pub states_short : (q : Query) (m : ℕ) (bytes : List ℕ) (ps : List Partial) → IsWellFormed q → AreStates (functions q) m bytes ps → length bytes ≤ 65535
+states_short q m bytes ps formed are =
+    let wide = states_wide m are.kinds bytes ps are.denote in
+    let few = narrow are.kinds in
+    let many : length are.kinds ≡ length q.aggregates = sym (length-map are.kinds _) ∙ ap length are.named ∙ length-map q.aggregates _ in
+    let most : length q.aggregates ≤ 32 = formed.few_aggregates in
+    omega (arith, wide, few, many, most)
+
 -- what is known before any row
 pub initial_are : (kinds : List AggKind) (aggregates : List Aggregate) → functions_of kinds ≡ map (λ (a : Aggregate). a.function) aggregates → initial_partials kinds ≡ map (λ (a : Aggregate). partial a.function (arguments a [])) aggregates
 initial_are [] [] named = refl
@@ -269,20 +298,22 @@ pub within_raised : (m n : ℕ) (ps : List Partial) → m ≤ n → AllWithin m 
 within_raised m n [] low few = tt
 within_raised m n (p ∷ ps) low (one, few) = (omega (arith, low, one), within_raised m n ps low few)
 
-pub combined : (m n : ℕ) (kinds : List AggKind) (a b new : List ℕ) (ps qs xs ys : List Partial) → m + n ≤ most_rows → Denotes m kinds a ps → Denotes n kinds b qs
-    → Denotes most_rows kinds a xs → Denotes most_rows kinds b ys → Denotes most_rows kinds new (combine_all (functions_of kinds) xs ys)
+-- states that were combined with others, within a bound
+pub combined : (m n bound : ℕ) (kinds : List AggKind) (a b new : List ℕ) (ps qs xs ys : List Partial) → m + n ≤ bound → bound ≤ most_rows → Denotes m kinds a ps → Denotes n kinds b qs
+    → Denotes bound kinds a xs → Denotes bound kinds b ys → Denotes bound kinds new (combine_all (functions_of kinds) xs ys)
     → Denotes (m + n) kinds new (combine_all (functions_of kinds) ps qs)
-combined m n kinds a b new ps qs xs ys low d e x y z =
-    let first : xs ≡ ps = denoted_once most_rows kinds a xs ps (omega arith) x (all_raised m most_rows kinds a ps (omega (arith, low)) d) in
-    let second : ys ≡ qs = denoted_once most_rows kinds b ys qs (omega arith) y (all_raised n most_rows kinds b qs (omega (arith, low)) e) in
-    all_lowered (m + n) most_rows kinds new (combine_all (functions_of kinds) ps qs) (rows_combined m n kinds a b ps qs d e)
-    (subst (λ ps. Denotes most_rows kinds new (combine_all (functions_of kinds) ps qs)) first (subst (λ qs. Denotes most_rows kinds new (combine_all (functions_of kinds) xs qs)) second z))
+combined m n bound kinds a b new ps qs xs ys low top d e x y z =
+    let first : xs ≡ ps = denoted_once bound kinds a xs ps top x (all_raised m bound kinds a ps (omega (arith, low)) d) in
+    let second : ys ≡ qs = denoted_once bound kinds b ys qs top y (all_raised n bound kinds b qs (omega (arith, low)) e) in
+    all_lowered (m + n) bound kinds new (combine_all (functions_of kinds) ps qs) (rows_combined m n kinds a b ps qs d e)
+    (subst (λ ps. Denotes bound kinds new (combine_all (functions_of kinds) ps qs)) first (subst (λ qs. Denotes bound kinds new (combine_all (functions_of kinds) xs qs)) second z))
 
-pub can_combine : (m n : ℕ) (kinds : List AggKind) (a b : List ℕ) (ps qs : List Partial) → m + n ≤ most_rows → Denotes m kinds a ps → Denotes n kinds b qs
-    → ((xs ys : List Partial) → Denotes most_rows kinds a xs → Denotes most_rows kinds b ys → ¬ (AllWithin most_rows (combine_all (functions_of kinds) xs ys))) → ⊥
-can_combine m n kinds a b ps qs low d e refused =
-    refused ps qs (all_raised m most_rows kinds a ps (omega (arith, low)) d) (all_raised n most_rows kinds b qs (omega (arith, low)) e)
-    (within_raised (m + n) most_rows (combine_all (functions_of kinds) ps qs) low (rows_combined m n kinds a b ps qs d e))
+-- such states can be combined
+pub can_combine : (m n bound : ℕ) (kinds : List AggKind) (a b : List ℕ) (ps qs : List Partial) → m + n ≤ bound → Denotes m kinds a ps → Denotes n kinds b qs
+    → ((xs ys : List Partial) → Denotes bound kinds a xs → Denotes bound kinds b ys → ¬ (AllWithin bound (combine_all (functions_of kinds) xs ys))) → ⊥
+can_combine m n bound kinds a b ps qs low d e refused =
+    refused ps qs (all_raised m bound kinds a ps (omega (arith, low)) d) (all_raised n bound kinds b qs (omega (arith, low)) e)
+    (within_raised (m + n) bound (combine_all (functions_of kinds) ps qs) low (rows_combined m n kinds a b ps qs d e))
 
 -- bytes that were written over all of a list
 pub written_over : (items new : List ℕ) (n : ℕ) → n ≡ length items → length new ≡ length items → take n (new ++ drop (length new) items) ≡ new

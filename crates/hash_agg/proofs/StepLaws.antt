@@ -1,42 +1,59 @@
 -- One step of a pass.
-use Rattle.std.specs.Prelude.{◌≡◌, refl, ℕ, zero, suc, ◌+◌, ◌*◌, ◌<◌, ◌≤◌, false, cond, List, [], ◌∷◌, ◌++◌, length, take, drop, slice_get, slice_index_or, slice_set, Some, None, OnOk, Ok, Err}
-use Rattle.std.specs.Borrow.{Bor}
+use Rattle.std.specs.Prelude.{◌≡◌, refl, ℕ, zero, suc, ◌+◌, ◌*◌, ◌<◌, ◌≤◌, true, false, cond, List, [], ◌∷◌, ◌++◌, length, take, drop, slice_get, slice_index_or, slice_set, Some, None, OnOk, IfErr, IsErrAnd, Ok, Err}
+use Rattle.std.specs.Int.{w16, to_be_bytes, from_be_bytes}
 use Rattle.std.specs.declared.result.Result.{Result}
-use Rattle.std.proofs.Common.{sym, ◌∙◌, ap, subst, arith, add-one, append-nil, append_assoc}
+use Rattle.std.proofs.lemmas.Result.{err_from_is_err_and}
+use Rattle.std.proofs.Common.{sym, ◌∙◌, ap, subst, arith, append-nil, append_assoc}
+use Rattle.std.proofs.lemmas.Nat.{from_be_bytes-to_be_bytes_2}
+use Rattle.std.proofs.Math.Seq.{take-append_seam, drop-append_seam}
 use Rattle.std.proofs.lemmas.List.{length-map, length-append, take-append-drop, take_all}
-use Rattle.std.proofs.lemmas.List.Sums.{sum_by-cons}
+use Rattle.std.proofs.lemmas.List.Sums.{sum_by-cons, sum_by-append}
 use Rattle.grouping_model.specs.Datum.{Row, Kind, HasKinds, Datum, Null, Bigint, Boolean, Text, Bigint_kind, Boolean_kind, Text_kind}
 use Rattle.grouping_model.specs.Aggregates.{Function, Partial}
 use Rattle.grouping_model.specs.Condition.{is_met}
 use Rattle.grouping_model.specs.Query.{Query}
-use Rattle.grouping_model.specs.Grouping.{Group, column_of}
+use Rattle.grouping_model.specs.Grouping.{Group, column_of, key_of}
 use Rattle.grouping_model.specs.Parts.{functions, with_row}
+use Rattle.packed_rows.specs.Columns.{Column, kinds, AreColumns}
 use Rattle.packed_rows.specs.Packing.{packing, value_packing}
 use Rattle.packed_rows.specs.View.{bytes_of}
 use Rattle.std.specs.declared.alloc.Global.{Global}
 use Rattle.std.specs.declared.vec.Vec.{Vec}
-use Rattle.agg_protocol.specs.States.{most_rows}
 use Rattle.agg_protocol.proofs.Denoting.{width_known}
 use Rattle.agg_library.specs.declared.kind.AggKind.{AggKind}
 use Rattle.agg_library.specs.Kinds.{kind_shape, kind_width, row_width}
 use Rattle.agg_library.specs.StateRows.{Denotes}
-use Rattle.group_table.specs.Table.{Names, HasNo, state_in}
+use Rattle.spill_tapes.specs.Records.{Record}
+use Rattle.spill_lists.specs.Lists.{LeftList}
+use Rattle.spill_lists.specs.Standing.{ListsState, HasLists, AreSpilled}
+use Rattle.group_table.specs.Table.{TableState, Names, HasNo, state_in, group_in}
 use Rattle.group_table.specs.declared.table.Slot.{Slot}
 use Rattle.having_filter.specs.Kept.{key_kinds, IsWellFormed}
-use Rattle.having_filter.specs.Meaning.{Checked, meaning}
-use Rattle.hash_agg.specs.declared.record.Record.{Record}
-use Rattle.hash_agg.specs.declared.record.Record.TheVariants as kept
+use Rattle.having_filter.specs.Meaning.{meaning}
+use Rattle.hash_agg.specs.declared.plan.Plan.{Plan}
 use Rattle.hash_agg.specs.Runs.{Entry}
 use Rattle.hash_agg.specs.Standing.{AreStates, StandsFor}
-use Rattle.hash_agg.specs.Passes.{Piece, Of_row, Of_group, IsPiece, ArePieces, piece_key, piece_added, weight, rows_at, CountUpTo, AreOnce, GroupsState, entries_of, WritesAt, Stands, PassState, CanRead, Reads, CanReadAll, ReadsAll, Proceeds, FewerLeft, HasRead, IsAt, AreRows, AreOfRun}
+use Rattle.hash_agg.specs.Steps.{AreWithin, AreAdvanced, AreCombined}
+use Rattle.hash_agg.specs.Passes.{Piece, Of_row, Of_group, group_record, IsGroupRecord, IsPiece, piece_key, piece_added, weight, rows_at, CountUpTo, AreOnce, AreGroupsBy, GroupsState, entries_of, WritesAt, Stands, AreSafe, PassState, standing, Holds, CanRead, Reads, ReadsSome, IsAt, AreRows, AreOfRun, total, brings, brought_by, Brings}
+use Rattle.hash_agg.proofs.KeyLaws.{key_has}
 use Rattle.hash_agg.proofs.InputLaws.{packed_once, take_found, row_at, flat_row_at, rows_long, group_at, groups_long}
 use Rattle.hash_agg.proofs.StateLaws.{states_by, narrow}
 use Rattle.hash_agg.proofs.TableLaws.{no_key, named_at, get_mapped}
-use Rattle.hash_agg.proofs.PassLaws.{IsKept, after, by_at, rows_append, rows_one, reads_there, reads_new, reads_left}
+use Rattle.hash_agg.proofs.PassLaws.{IsKept, after, by_at, by_set, by_append, rows_append, rows_one, reads_there, reads_new, reads_left}
 
 pub on_ok : {T E : Type 0} (r : Result T E) {P Q : Type 0} → (P → Q) → OnOk r P → OnOk r Q
 on_ok (Ok x) gives holds = gives holds
 on_ok (Err e) gives holds = tt
+
+pub on_error : {T E : Type 0} (r : Result T E) {P Q : E → Type 0} → ((e : E) → P e → Q e) → IfErr r P → IfErr r Q
+on_error (Ok x) gives holds = tt
+on_error (Err e) gives holds = gives e holds
+
+-- what holds of the error that a `?` hands on
+pub err_out : {T E : Type 0} (r : Result T E) (e : E) (P : E → Type 0) → IsErrAnd r (λ x. x ≡ e) → P e → IfErr r P
+err_out r e P given holds =
+    let p = err_from_is_err_and r given in
+    subst (λ r. IfErr r P) (sym p.1) (subst P (sym p.2) holds)
 
 -- ---- how long keys and states are
 
@@ -73,6 +90,14 @@ key_short q bytes k formed is has =
     let same = ap length is in
     omega (arith, long, few, short, same)
 
+pub packed_short : (columns : List Column) (bytes : List ℕ) (row : Row) → AreColumns columns → bytes ≡ packing row → HasKinds (kinds columns) row → length bytes ≤ 65535
+packed_short columns bytes row are is has =
+    let few : length columns ≤ 32 = are.most in
+    let long : length (kinds columns) ≡ length columns = length-map columns _ in
+    let short = row_short (kinds columns) row has in
+    let same = ap length is in
+    omega (arith, few, long, short, same)
+
 all_wide : (m : ℕ) (kinds : List AggKind) (bytes : List ℕ) (ps : List Partial) → Denotes m kinds bytes ps → length bytes ≡ row_width kinds
 all_wide m [] bytes [] d = ap length d
 all_wide m [] bytes (p ∷ ps) d = absurd d
@@ -98,15 +123,106 @@ states_short q m bytes ps formed are =
     let most : length q.aggregates ≤ 32 = formed.few_aggregates in
     omega (arith, wide, few, many, most)
 
--- ---- what a record is
+-- the bytes of a group on a tape
+pub group_short : (q : Query) (m : ℕ) (key states : List ℕ) (group : Group) → IsWellFormed q → StandsFor q m (key, states) group → length (group_record key states) ≤ 65535
+group_short q m key states group formed stands =
+    let long : length (key_kinds q) ≡ length q.keys = length-map q.keys _ in
+    let few : length q.keys ≤ 16 = formed.few_keys in
+    let short = row_short (key_kinds q) group.0 stands.of_kinds in
+    let same : length key ≡ length (packing group.0) = ap length stands.key in
+    let wide = all_wide m stands.states.kinds states group.1 stands.states.denote in
+    let thin = narrow stands.states.kinds in
+    let many : length stands.states.kinds ≡ length q.aggregates = sym (length-map stands.states.kinds _) ∙ ap length stands.states.named ∙ length-map q.aggregates _ in
+    let most : length q.aggregates ≤ 32 = formed.few_aggregates in
+    let front : length (to_be_bytes w16 (length key)) ≡ 2 = refl in
+    let whole = length-append (to_be_bytes w16 (length key)) (key ++ states) in
+    let both = length-append key states in
+    omega (arith, long, few, short, same, wide, thin, many, most, front, whole, both)
 
-pub row_piece : (q : Query) (packed : _) (piece : Piece) (row : Row) → IsPiece q (kept.Row packed) piece → HasKinds q.kinds row → packed.now ≡ packing row → piece ≡ Of_row row
-row_piece q packed (Of_row list) row (has, is) mine same = ap Of_row (packed_once q.kinds packed.now list row has mine is same)
-row_piece q packed (Of_group group most) row is mine same = absurd is
+-- two groups with the same bytes are the same
+pub group_apart : (key other states others : List ℕ) → length key ≤ 65535 → length other ≤ 65535 → group_record key states ≡ group_record other others → (key ≡ other) × (states ≡ others)
+group_apart key other states others short low same =
+    let front : to_be_bytes w16 (length key) ≡ to_be_bytes w16 (length other) = ap (take 2) same in
+    let back : key ++ states ≡ other ++ others = ap (drop 2) same in
+    let long : length key ≡ length other = sym (from_be_bytes-to_be_bytes_2 (length key) (omega (arith, short))) ∙ ap (from_be_bytes w16) front ∙ from_be_bytes-to_be_bytes_2 (length other) (omega (arith, low)) in
+    let one : key ≡ other = sym (take-append_seam key states) ∙ ap (λ n. take n (key ++ states)) long ∙ ap (take (length other)) back ∙ take-append_seam other others in
+    let two : states ≡ others = sym (drop-append_seam key states) ∙ ap (λ n. drop n (key ++ states)) long ∙ ap (drop (length other)) back ∙ drop-append_seam other others in
+    (one, two)
 
-pub a_group : (q : Query) (key states : _) (piece : Piece) → IsPiece q (kept.Group key states) piece → (group : Group) × (most : ℕ) × (piece ≡ Of_group group most) × StandsFor q most (key.now, states.now) group
-a_group q key states (Of_row list) is = absurd is
-a_group q key states (Of_group group most) is = (group, most, refl, is)
+-- ---- what is read
+
+-- one row; and one group
+pub one_row : (q : Query) (packed : List ℕ) (row : Row) (more : List Piece) → HasKinds q.kinds row → packed ≡ packing row → AreRows q (packed ∷ []) more → more ≡ Of_row row ∷ []
+one_row q packed row more mine same ([], are, made) = let long = ap length are.packings_are in absurd (omega (arith, long))
+one_row q packed row more mine same (list ∷ [], are, made) =
+    let both : packed ∷ [] ≡ packing list ∷ [] = are.packings_are in
+    let is : packed ≡ packing list = cc in
+    made ∙ ap (λ row. Of_row row ∷ []) (packed_once q.kinds packed list row are.of_kinds.0 mine is same)
+one_row q packed row more mine same (list ∷ (other ∷ rows), are, made) = let long = ap length are.packings_are in absurd (omega (arith, long))
+
+pub one_group : (q : Query) (m : ℕ) (key states : List ℕ) (more : List Piece) → AreOfRun q m ((key, states) ∷ []) more → (group : Group) × (more ≡ Of_group group m ∷ []) × StandsFor q m (key, states) group
+one_group q m key states more ([], are, made) = absurd are
+one_group q m key states more (g ∷ [], are, made) = (g, made, are.0)
+one_group q m key states more (g ∷ (h ∷ gs), are, made) = absurd are.1
+
+pub is_group_record : (q : Query) (hf : List ℕ → ℕ) (m : ℕ) (one : Record) (key states : List ℕ) (group : Group) → one.tag ≡ 1 → one.bytes ≡ group_record key states → one.hash ≡ hf key → StandsFor q m (key, states) group → IsGroupRecord q hf one group m
+is_group_record q hf m one key states group tag bytes hashed stands =
+    record {
+      tag = tag;
+      states = states;
+      bytes = bytes ∙ ap (λ key. group_record key states) stands.key;
+      stands = record { key = refl; of_kinds = stands.of_kinds; states = stands.states };
+      hashed = hashed ∙ ap hf stands.key;
+    }
+
+-- a record of a group has just this key and these states
+pub of_group_record : (q : Query) (hf : List ℕ → ℕ) (m : ℕ) (one : Record) (key states : List ℕ) (group : Group) → IsWellFormed q → length key ≤ 65535 → one.bytes ≡ group_record key states → IsGroupRecord q hf one group m → StandsFor q m (key, states) group × (one.hash ≡ hf key)
+of_group_record q hf m one key states group formed short bytes is =
+    let mine = key_short q (packing group.0) group.0 formed refl is.stands.of_kinds in
+    let same = group_apart key (packing group.0) states is.states short mine (sym bytes ∙ is.bytes) in (
+      subst (λ states. StandsFor q m (key, states) group) (sym same.1) (record { key = same.0; of_kinds = is.stands.of_kinds; states = is.stands.states }),
+      is.hashed ∙ ap hf (sym same.0),
+    )
+
+-- one piece, by the packed key of its group, and what the states of that group become by it
+pub record Told (q : Query) (bound : ℕ) (key : List ℕ) (Moved : List ℕ → List ℕ → Type 0) (more : List Piece) : Type 0 where
+  pub piece : Piece
+  pub is : more ≡ piece ∷ []
+  pub named : key ≡ packing (piece_key q piece)
+  pub has : HasKinds (key_kinds q) (piece_key q piece)
+  pub kept : IsKept q piece
+  pub moves :
+      (m : ℕ) (old new : List ℕ) (found : List Partial) → Moved old new → m + weight piece ≤ bound → AreStates (functions q) m old found → AreStates (functions q) (m + weight piece) new (after q (Some found) piece)
+
+-- a row that WHERE keeps, and its packed key
+pub record IsSelected (q : Query) (packed key : List ℕ) (row : Row) : Type 0 where
+  pub has : HasKinds q.kinds row
+  pub is : packed ≡ packing row
+  pub met : is_met (column_of row) q.condition ≡ true
+  pub named : key ≡ packing (key_of q row)
+
+abbrev pub row_told : (q : Query) (bound : ℕ) (packed key : List ℕ) (row : Row) → IsWellFormed q → IsSelected q packed key row → (more : List Piece) → AreRows q (packed ∷ []) more → Told q bound key (λ old new. AreAdvanced q bound old row new) more
+row_told q bound packed key row formed selected more are =
+    record {
+      piece = Of_row row;
+      is = one_row q packed row more selected.has selected.is are;
+      named = selected.named;
+      has = key_has q row formed.keys selected.has;
+      kept = selected.met;
+      moves = λ m old new found moved low states. moved.moved m found (omega (arith, low)) states;
+    }
+
+abbrev pub group_told : (q : Query) (bound m : ℕ) (key states : List ℕ) (more : List Piece) → AreOfRun q m ((key, states) ∷ []) more → Told q bound key (λ old new. AreCombined (functions q) bound old states new) more
+group_told q bound m key states more are =
+    let one = one_group q m key states more are in
+    record {
+      piece = Of_group one.0 m;
+      is = one.1;
+      named = one.2.key;
+      has = one.2.of_kinds;
+      kept = tt;
+      moves = λ k old new found moved low mine. moved.moved k m found one.0.1 low mine one.2.states;
+    }
 
 -- what was read, and one piece more, count few enough rows
 pub can_count : (q : Query) (m : ℕ) (ps : List Piece) (p : Piece) → CountUpTo q m (ps ++ p ∷ []) → rows_at q (piece_key q p) ps + weight p ≤ m
@@ -119,41 +235,118 @@ can_count q m ps p count =
 -- ---- steps
 
 -- the states of the group of a slot
-pub states_at : (q : Query) (g : GroupsState) (left : List Record) (ps : List Piece) (p : Piece) (slot : Slot) (bytes : List ℕ) → bytes ≡ packing (piece_key q p) → HasKinds (key_kinds q) (piece_key q p) → Stands q ps (entries_of g) left → Names g.table g.tree slot bytes
+pub states_at : {Hash : Type 0} (q : Query) (hf : List ℕ → ℕ) (g : GroupsState Hash) (left : List Record) (ps : List Piece) (p : Piece) (slot : Slot) (bytes : List ℕ) → bytes ≡ packing (piece_key q p) → HasKinds (key_kinds q) (piece_key q p) → Stands q hf ps (entries_of g) left → Names g.table g.tree slot bytes
     → (found : List Partial) × AreStates (functions q) (rows_at q (piece_key q p) ps) (state_in g.table g.tree slot) found
-states_at q g left ps p slot bytes is has s (at, named) =
+states_at q hf g left ps p slot bytes is has s (at, named) =
     let found = by_at q (λ k. rows_at q k ps) (entries_of g) s.entered at.0 (bytes, state_in g.table g.tree slot) s.are (named_at g slot bytes at.0 at.1 named) in
     let same : found.group.0 ≡ piece_key q p = packed_once (key_kinds q) bytes found.group.0 (piece_key q p) found.stands.of_kinds has found.stands.key is in
     (found.group.1, subst (λ k. AreStates (functions q) (rows_at q k ps) (state_in g.table g.tree slot) found.group.1) same found.stands.states)
 
-pub there_reads : (q : Query) (g h : GroupsState) (left : List Record) (ps : List Piece) (p : Piece) (bytes : List ℕ) (slot : Slot) (P : List ℕ → Type 0)
+pub there_reads : {Hash : Type 0} (q : Query) (hf : List ℕ → ℕ) (g h : GroupsState Hash) (left : List Record) (ps : List Piece) (p : Piece) (bytes : List ℕ) (slot : Slot) (P : List ℕ → Type 0)
     → bytes ≡ packing (piece_key q p) → HasKinds (key_kinds q) (piece_key q p) → IsKept q p → AreOnce (entries_of g) → Names g.table g.tree slot bytes → WritesAt g slot P h
     → ((new : List ℕ) → P new → (found : List Partial) → AreStates (functions q) (rows_at q (piece_key q p) ps) (state_in g.table g.tree slot) found → AreStates (functions q) (rows_at q (piece_key q p) ps + weight p) new (after q (Some found) p))
-    → Stands q ps (entries_of g) left → Stands q (ps ++ p ∷ []) (entries_of h) left
-there_reads q g h left ps p bytes slot P is has kept once (at, named) writes moves s =
+    → Stands q hf ps (entries_of g) left → Stands q hf (ps ++ p ∷ []) (entries_of h) left
+there_reads q hf g h left ps p bytes slot P is has kept once (at, named) writes moves s =
     let w = writes at.0 at.1 in
-    subst (λ es. Stands q (ps ++ p ∷ []) es left) (sym (w.2 ∙ ap (λ (key : List ℕ). slice_set (entries_of g) at.0 (key, w.0)) named))
-    (reads_there q (entries_of g) left ps p bytes is has kept s at.0 (state_in g.table g.tree slot) w.0 once (named_at g slot bytes at.0 at.1 named) (moves w.0 w.1))
+    subst (λ es. Stands q hf (ps ++ p ∷ []) es left) (sym (w.2 ∙ ap (λ (key : List ℕ). slice_set (entries_of g) at.0 (key, w.0)) named))
+    (reads_there q hf (entries_of g) left ps p bytes is has kept s at.0 (state_in g.table g.tree slot) w.0 once (named_at g slot bytes at.0 at.1 named) (moves w.0 w.1))
 
-pub new_reads : (q : Query) (g h : GroupsState) (left after_left : List Record) (ps : List Piece) (p : Piece) (bytes states : List ℕ)
+pub new_reads : {Hash : Type 0} (q : Query) (hf : List ℕ → ℕ) (g h : GroupsState Hash) (left after_left : List Record) (ps : List Piece) (p : Piece) (bytes states : List ℕ)
     → bytes ≡ packing (piece_key q p) → HasKinds (key_kinds q) (piece_key q p) → IsKept q p → HasNo g.table g.tree bytes → left ≡ [] → after_left ≡ left → entries_of h ≡ entries_of g ++ (bytes, states) ∷ []
     → AreStates (functions q) (weight p) states (after q None p)
-    → Stands q ps (entries_of g) left → Stands q (ps ++ p ∷ []) (entries_of h) after_left
-new_reads q g h left after_left ps p bytes states is has kept absent none same entered makes s =
-    subst (λ es. Stands q (ps ++ p ∷ []) es after_left) (sym entered)
-    (subst (λ l. Stands q (ps ++ p ∷ []) (entries_of g ++ (bytes, states) ∷ []) l) (sym same)
-    (reads_new q (entries_of g) left ps p bytes is has kept s states none (no_key g bytes absent) makes))
+    → Stands q hf ps (entries_of g) left → Stands q hf (ps ++ p ∷ []) (entries_of h) after_left
+new_reads q hf g h left after_left ps p bytes states is has kept absent none same entered makes s =
+    subst (λ es. Stands q hf (ps ++ p ∷ []) es after_left) (sym entered)
+    (subst (λ l. Stands q hf (ps ++ p ∷ []) (entries_of g ++ (bytes, states) ∷ []) l) (sym same)
+    (reads_new q hf (entries_of g) left ps p bytes is has kept s states none (no_key g bytes absent) makes))
 
-pub left_reads : (q : Query) (g h : GroupsState) (left after_left : List Record) (ps : List Piece) (p : Piece) (r : Record) (bytes : List ℕ)
-    → bytes ≡ packing (piece_key q p) → HasKinds (key_kinds q) (piece_key q p) → IsKept q p → HasNo g.table g.tree bytes → h ≡ g → after_left ≡ left ++ r ∷ [] → IsPiece q r p
-    → Stands q ps (entries_of g) left → Stands q (ps ++ p ∷ []) (entries_of h) after_left
-left_reads q g h left after_left ps p r bytes is has kept absent unchanged same piece s =
-    subst (λ (h : GroupsState). Stands q (ps ++ p ∷ []) (entries_of h) after_left) (sym unchanged)
-    (subst (λ l. Stands q (ps ++ p ∷ []) (entries_of g) l) (sym same) (reads_left q (entries_of g) left ps p bytes is has kept s r piece (no_key g bytes absent)))
+pub left_reads : {Hash : Type 0} (q : Query) (hf : List ℕ → ℕ) (g h : GroupsState Hash) (left after_left : List Record) (ps : List Piece) (p : Piece) (r : Record) (bytes : List ℕ)
+    → bytes ≡ packing (piece_key q p) → HasKinds (key_kinds q) (piece_key q p) → IsKept q p → HasNo g.table g.tree bytes → h ≡ g → after_left ≡ left ++ r ∷ [] → IsPiece q hf r p
+    → Stands q hf ps (entries_of g) left → Stands q hf (ps ++ p ∷ []) (entries_of h) after_left
+left_reads {Hash} q hf g h left after_left ps p r bytes is has kept absent unchanged same piece s =
+    subst (λ (h : GroupsState Hash). Stands q hf (ps ++ p ∷ []) (entries_of h) after_left) (sym unchanged)
+    (subst (λ l. Stands q hf (ps ++ p ∷ []) (entries_of g) l) (sym same) (reads_left q hf (entries_of g) left ps p bytes is has kept s r piece (no_key g bytes absent)))
 
 -- a row that WHERE passes over
 pub passed_over : (q : Query) (all : List Group) (row : Row) → is_met (column_of row) q.condition ≡ false → piece_added q all (Of_row row) ≡ all
 passed_over q all row unmet = ap (λ b. cond b (with_row q all row) all) unmet
+
+module _ {Hash : Type 0} (plan : Plan) (hf : List ℕ → ℕ) (g : GroupsState Hash) (lists : ListsState) (last : ℕ → ℕ → Type 0) (key : List ℕ) (Are : List Piece → Type 0) (Moved : List ℕ → List ℕ → Type 0) (told : (more : List Piece) → Are more → Told (meaning plan.query.now) plan.most key Moved more) where
+  counted : (pieces more : List Piece) (are : Are more) → CountUpTo (meaning plan.query.now) plan.most (pieces ++ more) → rows_at (meaning plan.query.now) (piece_key (meaning plan.query.now) (told more are).piece) pieces + weight (told more are).piece ≤ plan.most
+  counted pieces more are count = can_count (meaning plan.query.now) plan.most pieces (told more are).piece (subst (λ more. CountUpTo (meaning plan.query.now) plan.most (pieces ++ more)) (told more are).is count)
+
+  -- it goes to the group of its key
+  pub one_there : (h : GroupsState Hash) (slot : Slot) → AreOnce (entries_of g) → Names g.table g.tree slot key → WritesAt g slot (Moved (state_in g.table g.tree slot)) h → Reads plan hf Are (standing g lists last) (standing h lists last)
+  one_there h slot once named writes pieces more ahead todo (spilled, has, stands) are count =
+      let t = told more are in
+      let low = counted pieces more are count in (
+        spilled,
+        has,
+        subst (λ more. Stands (meaning plan.query.now) hf (pieces ++ more) (entries_of h) spilled) (sym t.is)
+            (there_reads (meaning plan.query.now) hf g h spilled pieces t.piece key slot (Moved (state_in g.table g.tree slot)) t.named t.has t.kept once named writes
+            (λ new moved found mine. t.moves (rows_at (meaning plan.query.now) (piece_key (meaning plan.query.now) t.piece) pieces) (state_in g.table g.tree slot) new found moved low mine)
+            stands),
+      )
+
+  -- whose states have room for it
+  pub there_room : (slot : Slot) → Names g.table g.tree slot key → CanRead plan hf Are (standing g lists last) → (more : List Piece) × (are : Are more) × (m : ℕ) × (found : List Partial) × AreStates (functions (meaning plan.query.now)) m (state_in g.table g.tree slot) found × (m + weight (told more are).piece ≤ plan.most)
+  there_room slot named (pieces, more, ahead, todo, (spilled, has, stands), are, count) =
+      let t = told more are in
+      let found = states_at (meaning plan.query.now) hf g spilled pieces t.piece slot key t.named t.has stands named in
+      (more, are, rows_at (meaning plan.query.now) (piece_key (meaning plan.query.now) t.piece) pieces, found.0, found.1, counted pieces more are count)
+
+  -- it makes a group of its own
+  pub one_new : (h : GroupsState Hash) (states : List ℕ) → HasNo g.table g.tree key → lists.parts ≡ [] → entries_of h ≡ entries_of g ++ (key, states) ∷ []
+      → ((more : List Piece) (are : Are more) → weight (told more are).piece ≤ plan.most → AreStates (functions (meaning plan.query.now)) (weight (told more are).piece) states (after (meaning plan.query.now) None (told more are).piece)) → Reads plan hf Are (standing g lists last) (standing h lists last)
+  one_new h states absent none entered makes pieces more ahead todo (spilled, has, stands) are count =
+      let t = told more are in
+      let low = counted pieces more are count in
+      let empty : spilled ≡ [] = subst (λ parts. AreSpilled last lists.tapes lists.level parts spilled) none has.spilled_are in (
+        spilled,
+        has,
+        subst (λ more. Stands (meaning plan.query.now) hf (pieces ++ more) (entries_of h) spilled) (sym t.is)
+            (new_reads (meaning plan.query.now) hf g h spilled spilled pieces t.piece key states t.named t.has t.kept absent empty refl entered (makes more are (omega (arith, low))) stands),
+      )
+
+  -- there is room for a new group of it
+  pub new_room : CanRead plan hf Are (standing g lists last) → (more : List Piece) × (are : Are more) × (weight (told more are).piece ≤ plan.most)
+  new_room (pieces, more, ahead, todo, holds, are, count) = let low = counted pieces more are count in (more, are, omega (arith, low))
+
+  -- it is spilled
+  pub one_left : (h : GroupsState Hash) (after : ListsState) (now : ℕ → ℕ → Type 0) (one : Record) → HasNo g.table g.tree key → h ≡ g → ((more : List Piece) (are : Are more) → IsPiece (meaning plan.query.now) hf one (told more are).piece)
+      → ((spilled ahead : List Record) (todo : List LeftList) → HasLists last lists spilled ahead todo → HasLists now after (spilled ++ one ∷ []) ahead todo) → Reads plan hf Are (standing g lists last) (standing h after now)
+  one_left h after now one absent unchanged is spills pieces more ahead todo (spilled, has, stands) are count =
+      let t = told more are in (
+        spilled ++ one ∷ [],
+        spills spilled ahead todo has,
+        subst (λ more. Stands (meaning plan.query.now) hf (pieces ++ more) (entries_of h) (spilled ++ one ∷ [])) (sym t.is)
+            (left_reads (meaning plan.query.now) hf g h spilled (spilled ++ one ∷ []) pieces t.piece one key t.named t.has t.kept absent unchanged refl (is more are) stands),
+      )
+
+-- ---- over any disk
+
+pub entries_long : {Hash : Type 0} (g : GroupsState Hash) → length (entries_of g) ≡ length g.table.slots
+entries_long g = length-map g.table.slots (group_in g.table g.tree)
+
+pub as_many : {Hash : Type 0} (g h : GroupsState Hash) → h.table ≡ g.table → length (entries_of h) ≡ length (entries_of g)
+as_many {Hash} g h same = entries_long h ∙ ap (λ (t : TableState Hash). length t.slots) same ∙ sym (entries_long g)
+
+pub safe_there : {Hash : Type 0} (q : Query) (bound : ℕ) (g h : GroupsState Hash) (slot : Slot) (key : List ℕ) (P : List ℕ → Type 0) → ((new : List ℕ) → P new → AreWithin (functions q) bound new) → Names g.table g.tree slot key → WritesAt g slot P h → AreSafe q bound (entries_of g) → AreSafe q bound (entries_of h)
+safe_there q bound g h slot key P within (at, named) writes (groups, are) =
+    let w = writes at.0 at.1 in
+    let new = within w.0 w.1 in
+    let found = by_at q (λ key. bound) (entries_of g) groups at.0 (key, state_in g.table g.tree slot) are (named_at g slot key at.0 at.1 named) in
+    let one : Group = (found.group.0, new.0) in (
+      slice_set groups at.0 one,
+      subst (λ es. AreGroupsBy q (λ key. bound) es (slice_set groups at.0 one)) (sym (w.2 ∙ ap (λ (key : List ℕ). slice_set (entries_of g) at.0 (key, w.0)) named))
+          (by_set q (λ key. bound) (entries_of g) groups at.0 (key, w.0) one are (record { key = found.stands.key; of_kinds = found.stands.of_kinds; states = new.1 })),
+    )
+
+pub safe_new : {Hash : Type 0} (q : Query) (bound : ℕ) (g h : GroupsState Hash) (key states : List ℕ) (group : Group) → StandsFor q bound (key, states) group → entries_of h ≡ entries_of g ++ (key, states) ∷ [] → AreSafe q bound (entries_of g) → AreSafe q bound (entries_of h)
+safe_new q bound g h key states group stands entered (groups, are) = (
+  groups ++ group ∷ [],
+  subst (λ es. AreGroupsBy q (λ key. bound) es (groups ++ group ∷ [])) (sym entered) (by_append q (λ key. bound) (entries_of g) ((key, states) ∷ []) groups (group ∷ []) are (stands, tt)),
+)
 
 -- ---- one record after the other
 
@@ -169,85 +362,70 @@ count_front q m ps more i p count at k =
     let goal = rows_append q k (ps ++ take i more) (p ∷ []) in
     omega (arith, whole, all, split, parts, next, one, front, goal)
 
-module _ (Are : List Piece → Type 0) (old : PassState) (i : ℕ) (now : PassState) (one : Record) (h : HasRead Are old i now) (at : IsAt (meaning old.query) Are i one) where
-  pub next_room : CanReadAll Are old → CanRead now one
-  next_room (ps, more, holds, are, count) =
-      let piece = at more are in (
-        ps ++ take i more,
-        piece.0,
-        subst (λ (q : Checked). Stands (meaning q) (ps ++ take i more) (entries_of now.groups) now.left) (sym h.query) (h.read ps more holds are count),
-        subst (λ (q : Checked). IsPiece (meaning q) one piece.0) (sym h.query) piece.2,
-        subst (λ (q : Checked). CountUpTo (meaning q) most_rows ((ps ++ take i more) ++ piece.0 ∷ [])) (sym h.query) (count_front (meaning old.query) most_rows ps more i piece.0 count piece.1),
-      )
+module _ (plan : Plan) (hf : List ℕ → ℕ) (Are One : List Piece → Type 0) (old : PassState) (i : ℕ) (now : PassState) (h : ReadsSome plan hf Are i old now) (at : IsAt Are i One) where
+  pub next_room : CanRead plan hf Are old → CanRead plan hf One now
+  next_room (pieces, more, ahead, todo, holds, are, count) =
+      let found = at more are in
+      (pieces ++ take i more, found.0 ∷ [], ahead, todo, h pieces more ahead todo holds are count, found.2, count_front (meaning plan.query.now) plan.most pieces more i found.0 count found.1)
 
-  pub next_read : (next : PassState) → next.query ≡ now.query → Reads now one next → HasRead Are old (i + 1) next
-  next_read next same reads =
-      record {
-        query = same ∙ h.query;
-        read = λ ps more holds are count.
-            let piece = at more are in
-            subst (λ (ps : List Piece). Stands (meaning old.query) ps (entries_of next.groups) next.left) (append_assoc ps (take i more) (piece.0 ∷ []) ∙ ap (λ more. ps ++ more) (sym (take_found more i piece.0 piece.1)))
-            (subst (λ (q : Checked). Stands (meaning q) ((ps ++ take i more) ++ piece.0 ∷ []) (entries_of next.groups) next.left) h.query
-            (reads (ps ++ take i more) piece.0 (subst (λ (q : Checked). Stands (meaning q) (ps ++ take i more) (entries_of now.groups) now.left) (sym h.query) (h.read ps more holds are count))
-            (subst (λ (q : Checked). IsPiece (meaning q) one piece.0) (sym h.query) piece.2)
-            (subst (λ (q : Checked). CountUpTo (meaning q) most_rows ((ps ++ take i more) ++ piece.0 ∷ [])) (sym h.query) (count_front (meaning old.query) most_rows ps more i piece.0 count piece.1))));
-      }
+  pub next_read : (next : PassState) → Reads plan hf One now next → ReadsSome plan hf Are (i + 1) old next
+  next_read next reads pieces more ahead todo holds are count =
+      let found = at more are in
+      subst (λ pieces. Holds (meaning plan.query.now) hf next pieces ahead todo) (append_assoc pieces (take i more) (found.0 ∷ []) ∙ ap (λ more. pieces ++ more) (sym (take_found more i found.0 found.1)))
+      (reads (pieces ++ take i more) (found.0 ∷ []) ahead todo (h pieces more ahead todo holds are count) found.2 (count_front (meaning plan.query.now) plan.most pieces more i found.0 count found.1))
 
-pub none_read : (Are : List Piece → Type 0) (old : PassState) → HasRead Are old 0 old
-none_read Are old = record { query = refl; read = λ ps more holds are count. subst (λ ps. Stands (meaning old.query) ps (entries_of old.groups) old.left) (sym (append-nil ps)) holds }
+pub none_read : (plan : Plan) (hf : List ℕ → ℕ) (Are : List Piece → Type 0) (old : PassState) → ReadsSome plan hf Are 0 old old
+none_read plan hf Are old pieces more ahead todo holds are count = subst (λ pieces. Holds (meaning plan.query.now) hf old pieces ahead todo) (sym (append-nil pieces)) holds
 
-pub all_read : (Are : List Piece → Type 0) (old : PassState) (i : ℕ) (now : PassState) → HasRead Are old i now → ((more : List Piece) → Are more → length more ≤ i) → ReadsAll Are old now
-all_read Are old i now h short = λ ps more holds are count.
-    subst (λ more. Stands (meaning old.query) (ps ++ more) (entries_of now.groups) now.left) (take_all i more (short more are)) (h.read ps more holds are count)
+pub all_read : (plan : Plan) (hf : List ℕ → ℕ) (Are : List Piece → Type 0) (old : PassState) (i : ℕ) (now : PassState) → ReadsSome plan hf Are i old now → ((more : List Piece) → Are more → length more ≤ i) → Reads plan hf Are old now
+all_read plan hf Are old i now h short pieces more ahead todo holds are count =
+    subst (λ more. Holds (meaning plan.query.now) hf now (pieces ++ more) ahead todo) (take_all i more (short more are)) (h pieces more ahead todo holds are count)
 
--- ---- the pieces of rows, of a run, and of what was left
+-- ---- the pieces of rows, and of a run
 
-pub row_is_at : (q : Query) (packed : List (Vec ℕ Global)) (i : ℕ) (bytes : Vec ℕ Global) (one : Bor (List ℕ)) → i < length packed → bytes ≡ slice_index_or packed i bytes → one.now ≡ bytes.items → IsAt q (AreRows q (bytes_of packed)) i (kept.Row one)
+pub row_is_at : (q : Query) (packed : List (Vec ℕ Global)) (i : ℕ) (bytes : Vec ℕ Global) (one : List ℕ) → i < length packed → bytes ≡ slice_index_or packed i bytes → one ≡ bytes.items → IsAt (AreRows q (bytes_of packed)) i (AreRows q (one ∷ []))
 row_is_at q packed i bytes one low is same more (rows, are, made) =
     let found = row_at q.kinds packed rows i bytes are low is in
-    (Of_row found.row, ap (λ more. slice_get more i) made ∙ get_mapped Of_row rows i found.row found.at, (found.has, same ∙ found.is))
+    (Of_row found.row, ap (λ more. slice_get more i) made ∙ get_mapped Of_row rows i found.row found.at, (found.row ∷ [], record { of_kinds = (found.has, tt); packings_are = ap (λ one. one ∷ []) (same ∙ found.is) }, refl))
 
 pub rows_short : (q : Query) (packed : List (Vec ℕ Global)) (more : List Piece) → AreRows q (bytes_of packed) more → length more ≡ length packed
 rows_short q packed more (rows, are, made) = ap length made ∙ length-map rows Of_row ∙ sym (rows_long q.kinds packed rows are)
 
-pub flat_is_at : (q : Query) (packed : List (List ℕ)) (i : ℕ) (one : Bor (List ℕ)) → slice_get packed i ≡ Some one.now → IsAt q (AreRows q packed) i (kept.Row one)
+pub flat_is_at : (q : Query) (packed : List (List ℕ)) (i : ℕ) (one : List ℕ) → slice_get packed i ≡ Some one → IsAt (AreRows q packed) i (AreRows q (one ∷ []))
 flat_is_at q packed i one at more (rows, are, made) =
-    let found = flat_row_at q.kinds packed rows i one.now are at in
-    (Of_row found.row, ap (λ more. slice_get more i) made ∙ get_mapped Of_row rows i found.row found.at, (found.has, found.is))
+    let found = flat_row_at q.kinds packed rows i one are at in
+    (Of_row found.row, ap (λ more. slice_get more i) made ∙ get_mapped Of_row rows i found.row found.at, (found.row ∷ [], record { of_kinds = (found.has, tt); packings_are = ap (λ one. one ∷ []) found.is }, refl))
 
 pub flat_short : (q : Query) (packed : List (List ℕ)) (more : List Piece) → AreRows q packed more → length more ≡ length packed
 flat_short q packed more (rows, are, made) = ap length made ∙ length-map rows Of_row ∙ sym (ap length are.packings_are ∙ length-map rows packing)
 
-pub group_is_at : (q : Query) (most : ℕ) (run : List Entry) (i : ℕ) (key states : Bor (List ℕ)) → slice_get run i ≡ Some (key.now, states.now) → IsAt q (AreOfRun q most run) i (kept.Group key states)
+pub group_is_at : (q : Query) (most : ℕ) (run : List Entry) (i : ℕ) (key states : List ℕ) → slice_get run i ≡ Some (key, states) → IsAt (AreOfRun q most run) i (AreOfRun q most ((key, states) ∷ []))
 group_is_at q most run i key states at more (groups, are, made) =
-    let found = group_at q most run groups i (key.now, states.now) are at in
-    (Of_group found.group most, ap (λ more. slice_get more i) made ∙ get_mapped (λ group. Of_group group most) groups i found.group found.at, found.stands)
+    let found = group_at q most run groups i (key, states) are at in
+    (Of_group found.group most, ap (λ more. slice_get more i) made ∙ get_mapped (λ group. Of_group group most) groups i found.group found.at, (found.group ∷ [], (found.stands, tt), refl))
 
 pub run_short : (q : Query) (most : ℕ) (run : List Entry) (more : List Piece) → AreOfRun q most run more → length more ≡ length run
 run_short q most run more (groups, are, made) = ap length made ∙ length-map groups (λ group. Of_group group most) ∙ sym (groups_long q most run groups are)
 
-pub left_is_at : (q : Query) (records : List Record) (i : ℕ) (one : Record) → slice_get records i ≡ Some one → IsAt q (ArePieces q records) i one
-left_is_at q [] i one at more are = absurd cc
-left_is_at q (r ∷ records) i one at [] are = absurd are
-left_is_at q (r ∷ records) zero one at (p ∷ more) (first, are) = let same : r ≡ one = cc in (p, refl, subst (λ r. IsPiece q r p) same first)
-left_is_at q (r ∷ records) (suc i) one at (p ∷ more) (first, are) = left_is_at q records i one at more are
+-- ---- how many groups there can be
 
-pub left_short : (q : Query) (records : List Record) (more : List Piece) → ArePieces q records more → length more ≡ length records
-left_short q [] [] are = refl
-left_short q [] (p ∷ more) are = absurd are
-left_short q (r ∷ records) [] are = absurd are
-left_short q (r ∷ records) (p ∷ more) (first, are) = let rest : length more ≡ length records = left_short q records more are in omega (arith, rest)
+brought_front : (q : Query) (more : List Piece) (i : ℕ) (p : Piece) → slice_get more i ≡ Some p → brought_by q (take (i + 1) more) ≡ brought_by q (take i more) + brought_by q (p ∷ [])
+brought_front q more i p at = ap (brought_by q) (take_found more i p at) ∙ sum_by-append (brings q) (take i more) (p ∷ [])
 
--- fewer are left than were read
-pub fewer_next : (i : ℕ) (now next : PassState) → FewerLeft i now → Proceeds now next → FewerLeft (i + 1) next
-fewer_next zero now next (none, empty) goes = let few : length next.left ≡ 0 = ap length (goes.first none empty) in omega (arith, few)
-fewer_next (suc i) now next few goes =
-    let more = goes.few in
-    subst (λ n. FewerLeft n next) (sym (add-one (suc i))) (omega (arith, few, more))
+-- the first pieces, so many, make as many groups and records as they bring at most
+abbrev pub BringsSome : Query → (List Piece → Type 0) → ℕ → List Entry → ListsState → List Entry → ListsState → Type 0
+BringsSome q Are i old before new after = (more : List Piece) → Are more → total new after ≤ total old before + brought_by q (take i more)
 
-pub fewer_end : (i n : ℕ) (now : PassState) → FewerLeft i now → i ≡ n → 0 < n → length now.left < n
-fewer_end zero n now few is some = absurd (omega (arith, is, some))
-fewer_end (suc i) n now few is some = omega (arith, few, is)
+pub next_brings : (q : Query) (Are One : List Piece → Type 0) (i : ℕ) (old now next : List Entry) (before at after : ListsState) → IsAt Are i One → BringsSome q Are i old before now at → Brings q One now at next after → BringsSome q Are (i + 1) old before next after
+next_brings q Are One i old now next before at after place some one more are =
+    let found = place more are in
+    let a = some more are in
+    let b = one (found.0 ∷ []) found.2 in
+    let c = brought_front q more i found.0 found.1 in
+    omega (arith, a, b, c)
+
+pub all_brings : (q : Query) (Are : List Piece → Type 0) (i : ℕ) (old new : List Entry) (before after : ListsState) → BringsSome q Are i old before new after → ((more : List Piece) → Are more → length more ≤ i) → Brings q Are old before new after
+all_brings q Are i old new before after some short more are = subst (λ some. total new after ≤ total old before + brought_by q some) (take_all i more (short more are)) (some more are)
 
 pub get_in : {X : Type 0} (xs : List X) (i : ℕ) (d : X) → i < length xs → slice_get xs i ≡ Some (slice_index_or xs i d)
 get_in [] i d low = absurd (omega (arith, low))

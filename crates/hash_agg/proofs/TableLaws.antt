@@ -8,10 +8,9 @@ use Rattle.context_tree.specs.declared.kind.Kind.{Kind}
 use Rattle.context_tree.specs.declared.links.ContextId.{ContextId}
 use Rattle.group_table.specs.Standing.{IsTableIn}
 use Rattle.group_table.specs.Table.{TableState, HasNo, key_in, state_in, group_in, groups}
-use Rattle.group_table.specs.declared.hash.Fnv1a.{Fnv1a}
 use Rattle.group_table.specs.declared.table.Slot.{Slot}
 use Rattle.hash_agg.specs.Runs.{Entry}
-use Rattle.hash_agg.specs.Passes.{GroupsState, by_hash, entries_of, AreOnce, HasNoKey}
+use Rattle.hash_agg.specs.Passes.{GroupsState, entries_of, AreOnce, HasNoKey}
 
 -- the context of a pass is there once it was made
 pub pass_there : (parent id : ContextId) (kind : Kind) → get_or (new_tree 0).links id.slot None ≡ None → id.slot ≤ 1 → is_there (with_new (new_tree 0) parent kind id) id ≡ true
@@ -33,20 +32,20 @@ get_mapped f [] i x at = absurd cc
 get_mapped f (y ∷ xs) zero x at = let same : y ≡ x = cc in ap (λ x. Some (f x)) same
 get_mapped f (y ∷ xs) (suc i) x at = get_mapped f xs i x at
 
-pub once_groups : (t : TableState Fnv1a) (tree : TreeState) → IsTableIn by_hash t tree → AreOnce (groups t tree)
-once_groups t tree is i j x y at bt same =
+pub once_groups : {Hash : Type 0} (hash_of : Hash → List ℕ → ℕ) (t : TableState Hash) (tree : TreeState) → IsTableIn hash_of t tree → AreOnce (groups t tree)
+once_groups hash_of t tree is i j x y at bt same =
     let a = mapped_get (group_in t tree) t.slots i x at in
     let b = mapped_get (group_in t tree) t.slots j y bt in
     is.standing.stands.groups.once i j a.0 b.0 a.1 b.1 (ap (λ (e : Entry). e.0) a.2 ∙ same ∙ ap (λ (e : Entry). e.0) (sym b.2))
 
 -- a key that no group of the table has, and one that a group has
-pub no_key : (g : GroupsState) (key : List ℕ) → HasNo g.table g.tree key → HasNoKey (entries_of g) key
+pub no_key : {Hash : Type 0} (g : GroupsState Hash) (key : List ℕ) → HasNo g.table g.tree key → HasNoKey (entries_of g) key
 no_key g key none i x at same =
     let a = mapped_get (group_in g.table g.tree) g.table.slots i x at in
     none a.0 (i, a.1) (ap (λ (e : Entry). e.0) a.2 ∙ same)
 
-pub named_at : (g : GroupsState) (slot : Slot) (key : List ℕ) (place : ℕ) → slice_get g.table.slots place ≡ Some slot → key_in g.table g.tree slot ≡ key → slice_get (entries_of g) place ≡ Some (key, state_in g.table g.tree slot)
+pub named_at : {Hash : Type 0} (g : GroupsState Hash) (slot : Slot) (key : List ℕ) (place : ℕ) → slice_get g.table.slots place ≡ Some slot → key_in g.table g.tree slot ≡ key → slice_get (entries_of g) place ≡ Some (key, state_in g.table g.tree slot)
 named_at g slot key place at named = get_mapped (group_in g.table g.tree) g.table.slots place slot at ∙ (λ i. Some (named i, state_in g.table g.tree slot))
 
-pub none_entered : (g : GroupsState) → entries_of g ≡ [] → length g.table.slots ≡ 0
+pub none_entered : {Hash : Type 0} (g : GroupsState Hash) → entries_of g ≡ [] → length g.table.slots ≡ 0
 none_entered g none = sym (length-map g.table.slots (group_in g.table g.tree)) ∙ ap length none

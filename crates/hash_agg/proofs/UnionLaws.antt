@@ -15,14 +15,12 @@ use Rattle.grouping_model.specs.Parts.{keys_of, partials_at}
 use Rattle.grouping_model.proofs.DatumOrder.{row_cmp_total, row_cmp_ties, same_row-is}
 use Rattle.grouping_model.proofs.Members.{Member, from_contains, to_contains}
 use Rattle.grouping_model.proofs.PartLaws.{same_row-swap}
-use Rattle.hash_agg.specs.declared.record.Record.{Record}
+use Rattle.spill_tapes.specs.Records.{Record}
 use Rattle.hash_agg.specs.Runs.{Entry, Rises}
-use Rattle.hash_agg.specs.Standing.{StandsFor, AreGroups}
-use Rattle.hash_agg.specs.Passes.{Piece, ArePieces, made_of, rows_at, CountUpTo, AreOnce, IsParted, AreGroupsBy, Stands, PassState, CanReadAll, ReadsAll, entries_of, all_in}
+use Rattle.hash_agg.specs.Standing.{StandsFor, AreGroups, IsRun}
+use Rattle.hash_agg.specs.Passes.{Piece, made_of, rows_at, CountUpTo, AreOnce, IsParted, AreGroupsBy, AreSafe, Stands, all_in}
 use Rattle.hash_agg.proofs.FoldLaws.{run_keys_rise}
-use Rattle.agg_protocol.specs.States.{most_rows}
 use Rattle.having_filter.specs.Kept.{key_kinds}
-use Rattle.having_filter.specs.Meaning.{Checked, meaning}
 use Rattle.hash_agg.proofs.InputLaws.{packed_once}
 use Rattle.hash_agg.proofs.MergeLaws.{AreApart, apart_from, rising_apart}
 use Rattle.hash_agg.proofs.PassLaws.{set_with, at_cons, at_append, or_else, or_none, missing, by_raised, by_uniform, by_append, by_set, by_at, once_apart, no_pieces, same_itself}
@@ -97,8 +95,8 @@ same_found gs hs moved here there k =
     ] refl
 
 -- entries in another order stand for the same
-pub moved_stands : (q : Query) (ps : List Piece) (es fs : List Entry) (left : List Record) → IsPermutation es fs → AreOnce es → Stands q ps es left → Stands q ps fs left
-moved_stands q ps es fs left moved once s =
+pub moved_stands : (q : Query) (hf : List ℕ → ℕ) (ps : List Piece) (es fs : List Entry) (left : List Record) → IsPermutation es fs → AreOnce es → Stands q hf ps es left → Stands q hf ps fs left
+moved_stands q hf ps es fs left moved once s =
     let m : Row → ℕ = λ k. rows_at q k ps in
     let gs : List Group = apply_swaps s.entered moved.moves in
     let are : AreGroupsBy q m fs gs = subst (λ fs. AreGroupsBy q m fs gs) (sym moved.is) (by_swaps q m es s.entered moved.moves s.are) in
@@ -148,7 +146,7 @@ get_append {X} (y ∷ xs) ys (suc i) x at = further (get_append xs ys i x at)
     further (inl (j, e)) = inl (suc j, e)
     further (inr e) = inr e
 
-once_append : (es fs : List Entry) → AreOnce es → AreOnce fs → ((i j : ℕ) (x y : Entry) → slice_get es i ≡ Some x → slice_get fs j ≡ Some y → x.0 ≢ y.0) → AreOnce (es ++ fs)
+pub once_append : (es fs : List Entry) → AreOnce es → AreOnce fs → ((i j : ℕ) (x y : Entry) → slice_get es i ≡ Some x → slice_get fs j ≡ Some y → x.0 ≢ y.0) → AreOnce (es ++ fs)
 once_append [] fs a b c i j x y at bt same = b i j x y at bt same
 once_append (e ∷ es) fs a b c zero zero x y at bt same = refl
 once_append (e ∷ es) fs a b c zero (suc j) x y at bt same = gone (get_append es fs j y bt)
@@ -164,8 +162,8 @@ once_append (e ∷ es) fs a b c (suc i) zero x y at bt same = gone (get_append e
 once_append (e ∷ es) fs a b c (suc i) (suc j) x y at bt same =
     ap suc (once_append es fs (λ i j x y at bt same. let both : suc i ≡ suc j = a (suc i) (suc j) x y at bt same in omega (arith, both)) b (λ i j. c (suc i) j) i j x y at bt same)
 
-module _ (q : Query) (ps : List Piece) (es fs : List Entry) (left more : List Record) (s : Stands q ps es left) (t : Stands q s.rest fs more) where
-  pub next_stands : Stands q ps (es ++ fs) more
+module _ (q : Query) (hf : List ℕ → ℕ) (ps : List Piece) (es fs : List Entry) (left more : List Record) (s : Stands q hf ps es left) (t : Stands q hf s.rest fs more) where
+  pub next_stands : Stands q hf ps (es ++ fs) more
   next_stands = record {
     entered = s.entered ++ t.entered;
     rest = t.rest;
@@ -230,8 +228,8 @@ by_keys (g ∷ gs) (h ∷ hs) keys (none, apart) found =
         ] refl
 
 -- entries in the order of their keys, with nothing left, stand for all groups
-pub all_stand : (q : Query) (most : ℕ) (ps : List Piece) (run : List Entry) → Stands q ps run [] → CountUpTo q most ps → Rises run → IsStrictlySortedBy row_cmp (keys_of (made_of q ps)) → AreGroups q most run (made_of q ps)
-all_stand q most ps run s count rises rising =
+pub all_stand : (q : Query) (hf : List ℕ → ℕ) (most : ℕ) (ps : List Piece) (run : List Entry) → Stands q hf ps run [] → CountUpTo q most ps → Rises run → IsStrictlySortedBy row_cmp (keys_of (made_of q ps)) → AreGroups q most run (made_of q ps)
+all_stand q hf most ps run s count rises rising =
     let are : AreGroups q most run s.entered = by_uniform q (λ k. rows_at q k ps) most run s.entered count s.are in
     let below : IsStrictlySortedBy row_cmp (keys_of s.entered) = run_keys_rise q most run s.entered are rises in
     let keys : keys_of s.entered ≡ keys_of (made_of q ps) =
@@ -242,7 +240,7 @@ all_stand q most ps run s count rises rising =
     found k = chosen (s.parted k)
       where
         none : partials_at k (made_of q s.rest) ≡ None
-        none = ap (λ rest. partials_at k (made_of q rest)) (no_pieces q [] s.rest s.read refl)
+        none = ap (λ rest. partials_at k (made_of q rest)) (no_pieces q hf [] s.rest s.read refl)
 
         chosen : ((partials_at k (made_of q ps) ≡ partials_at k s.entered) × (partials_at k (made_of q s.rest) ≡ None)) ⊎ ((partials_at k (made_of q ps) ≡ partials_at k (made_of q s.rest)) × (partials_at k s.entered ≡ None)) → partials_at k (made_of q ps) ≡ partials_at k s.entered
         chosen (inl (is, gone)) = is
@@ -251,31 +249,14 @@ all_stand q most ps run s count rises rising =
 -- ---- one pass after the other
 
 -- a pass that ends
-pub ends : (q : Query) (pieces : List Piece) (es run : List Entry) (left after : List Record) → IsPermutation es run → Rises run → after ≡ left → Stands q pieces es left → Stands q pieces run after
-ends q pieces es run left after moved rises is s =
-    subst (λ l. Stands q pieces run l) (sym is) (moved_stands q pieces es run left moved (once_permuted run es (IsPermutation-sym es run moved) (rises_once run rises)) s)
+pub ends : (q : Query) (hf : List ℕ → ℕ) (pieces : List Piece) (es run : List Entry) (left after : List Record) → IsPermutation es run → Rises run → after ≡ left → Stands q hf pieces es left → Stands q hf pieces run after
+ends q hf pieces es run left after moved rises is s =
+    subst (λ l. Stands q hf pieces run l) (sym is) (moved_stands q hf pieces es run left moved (once_permuted run es (IsPermutation-sym es run moved) (rises_once run rises)) s)
 
-pub nothing_stands : (q : Query) (es : List Entry) (left : List Record) → es ≡ [] → left ≡ [] → Stands q [] es left
-nothing_stands q es left none empty =
-    subst (λ es. Stands q [] es left) (sym none)
-    (subst (λ left. Stands q [] [] left) (sym empty) (record { entered = []; rest = []; are = tt; read = tt; parted = λ k. inl (refl, refl); fewer = λ k. omega arith }))
-
-module _ (q : Checked) (pieces : List Piece) (runs : List Entry) (left : List Record) (pass : PassState) (same : pass.query ≡ q) (none : entries_of pass.groups ≡ []) (empty : pass.left ≡ []) (s : Stands (meaning q) pieces runs left) (count : CountUpTo (meaning q) most_rows pieces) where
-  start : Stands (meaning pass.query) [] (entries_of pass.groups) pass.left
-  start = nothing_stands (meaning pass.query) (entries_of pass.groups) pass.left none empty
-
-  few : CountUpTo (meaning pass.query) most_rows ([] ++ s.rest)
-  few = subst (λ (q : Checked). CountUpTo (meaning q) most_rows s.rest) (sym same) (λ k. let a = s.fewer k in let b = count k in omega (arith, a, b))
-
-  are_left : ArePieces (meaning pass.query) left s.rest
-  are_left = subst (λ (q : Checked). ArePieces (meaning q) left s.rest) (sym same) s.read
-
-  pub can_go_on : CanReadAll (ArePieces (meaning pass.query) left) pass
-  can_go_on = ([], s.rest, start, are_left, few)
-
-  pub goes_on : (next : PassState) (run : List Entry) (after : List Record) → ReadsAll (ArePieces (meaning pass.query) left) pass next → IsPermutation (entries_of next.groups) run → Rises run → after ≡ next.left → Stands (meaning q) s.rest run after
-  goes_on next run after reads moved rises is =
-      ends (meaning q) s.rest (entries_of next.groups) run next.left after moved rises is (subst (λ (q : Checked). Stands (meaning q) s.rest (entries_of next.groups) next.left) same (reads [] s.rest start are_left few))
+pub nothing_stands : (q : Query) (hf : List ℕ → ℕ) (es : List Entry) (left : List Record) → es ≡ [] → left ≡ [] → Stands q hf [] es left
+nothing_stands q hf es left none empty =
+    subst (λ es. Stands q hf [] es left) (sym none)
+    (subst (λ left. Stands q hf [] [] left) (sym empty) (record { entered = []; rest = []; are = tt; read = tt; parted = λ k. inl (refl, refl); fewer = λ k. omega arith }))
 
 pub one_run_more : (runs : List (List Entry)) (run : List Entry) → all_in (runs ++ run ∷ []) ≡ all_in runs ++ run
 one_run_more runs run = flat_map-append (λ (run : List Entry). run) runs (run ∷ []) ∙ ap (λ es. all_in runs ++ es) (append-nil run)
@@ -283,3 +264,18 @@ one_run_more runs run = flat_map-append (λ (run : List Entry). run) runs (run �
 pub nothing_in : {X : Type 0} (xs : List X) → length xs ≡ 0 → xs ≡ []
 nothing_in [] e = refl
 nothing_in (x ∷ xs) e = absurd (omega (arith, e))
+
+-- ---- over any disk
+
+pub none_safe : (q : Query) (most : ℕ) → AreSafe q most []
+none_safe q most = ([], tt)
+
+pub safe_append : (q : Query) (most : ℕ) (es more : List Entry) → AreSafe q most es → AreSafe q most more → AreSafe q most (es ++ more)
+safe_append q most es more (gs, are) (hs, these) = (gs ++ hs, by_append q (λ k. most) es more gs hs are these)
+
+pub safe_moved : (q : Query) (most : ℕ) (es run : List Entry) → AreSafe q most es → IsPermutation es run → AreSafe q most run
+safe_moved q most es run (gs, are) moved =
+    (apply_swaps gs moved.moves, subst (λ fs. AreGroupsBy q (λ k. most) fs (apply_swaps gs moved.moves)) (sym moved.is) (by_swaps q (λ k. most) es gs moved.moves are))
+
+pub safe_run : (q : Query) (most : ℕ) (run : List Entry) → AreSafe q most run → Rises run → IsRun q most run
+safe_run q most run (gs, are) rises = record { groups = gs; are = by_uniform q (λ k. most) most run gs (λ k. omega arith) are; rises = rises }

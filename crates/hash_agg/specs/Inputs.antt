@@ -76,3 +76,8 @@ pub record IsAggregate (query : Query) (inputs : List Brought) (run : List Entry
   pub keys : (lists : List (List Row)) → AllBring query inputs lists → packed_keys run ≡ map packing (distinct row_cmp (on_end lists))
   pub few : (lists : List (List Row)) → AllBring query inputs lists → length run ≤ length (on_end lists)
   pub is_run : IsRun query (all_rows inputs) run
+
+-- what it gives over a disk that may not be honest: a run of the query, of at most as many groups as keys are brought
+pub record IsRunOver (query : Query) (inputs : List Brought) (run : List Entry) : Type 0 where
+  pub is_run : IsRun query (all_rows inputs) run
+  pub few : (lists : List (List Row)) → AllBring query inputs lists → length run ≤ length (on_end lists)

@@ -6,4 +6,4 @@ pub mod Steps
 pub mod Bytes
 pub mod Places
 pub mod Passes
-pub mod Coding
+pub mod Waiting

@@ -1,26 +1,29 @@
 -- A pass of an aggregation: groups in a table, and records that are left for the next pass. All of this is our own.
 use Rattle.std.specs.Borrow.{Bor}
-use Rattle.std.specs.Prelude.{◌≡◌, ◌≢◌, ℕ, zero, suc, ◌+◌, ◌≤◌, ◌<◌, ◌⊎◌, if◌then◌else◌, List, [], ◌∷◌, ◌++◌, length, map, flat_map, sum_by, take, slice_get, slice_index, slice_set, Some, None}
+use Rattle.std.specs.Int.{w16, to_be_bytes}
+use Rattle.std.specs.Prelude.{◌≡◌, ◌≢◌, ℕ, ◌+◌, ◌≤◌, ◌<◌, ◌⊎◌, if◌then◌else◌, List, [], ◌∷◌, ◌++◌, length, map, flat_map, sum_by, take, slice_get, slice_index, slice_set, Some, None}
 use Rattle.byteorder.specs.Endian.{big_from}
 use Rattle.context_tree.specs.Tree.{TreeState}
-use Rattle.group_table.specs.Hashes.{fnv_1a}
 use Rattle.group_table.specs.Table.{TableState, groups, key_in, buckets_for, buckets_in, most_buckets}
-use Rattle.group_table.specs.declared.hash.Fnv1a.{Fnv1a}
 use Rattle.group_table.specs.declared.table.Slot.{Slot}
 use Rattle.grouping_model.specs.Datum.{Row, HasKinds, same_row}
+use Rattle.grouping_model.specs.Condition.{is_met}
 use Rattle.grouping_model.specs.Query.{Query}
-use Rattle.grouping_model.specs.Grouping.{Group, key_of, partials}
+use Rattle.grouping_model.specs.Grouping.{Group, column_of, key_of, partials}
 use Rattle.grouping_model.specs.Parts.{functions, partials_at}
+use Rattle.packed_rows.specs.Columns.{AreColumns}
 use Rattle.packed_rows.specs.Packing.{packing}
+use Rattle.spill_tapes.specs.Records.{Record}
+use Rattle.spill_lists.specs.Lists.{LeftList}
+use Rattle.spill_lists.specs.Standing.{ListsState, HasLists, spilled_number}
 use Rattle.agg_protocol.specs.States.{most_rows}
 use Rattle.having_filter.specs.Kept.{IsWellFormed}
-use Rattle.having_filter.specs.Meaning.{Checked, meaning}
-use Rattle.hash_agg.specs.declared.record.Record.{Record}
-use Rattle.hash_agg.specs.declared.record.Record.TheVariants as kept
+use Rattle.having_filter.specs.Meaning.{meaning}
+use Rattle.hash_agg.specs.declared.plan.Plan.{Plan}
 use Rattle.hash_agg.specs.Runs.{Entry}
 use Rattle.hash_agg.specs.Standing.{AreStates, StandsFor, AreGroups}
-use Rattle.hash_agg.specs.Inputs.{Brought, Packed, Counted, ArePackings}
-use Rattle.hash_agg.specs.Adding.{row_added, group_added}
+use Rattle.hash_agg.specs.Inputs.{Brought, Packed, Counted, ArePackings, rows_in}
+use Rattle.hash_agg.specs.Adding.{row_added, group_added, Given, Of_rows, Of_groups}
 
 -- ---- what is read
 
@@ -29,15 +32,32 @@ pub data Piece : Type 0 where
   Of_row : Row → Piece
   Of_group : Group → ℕ → Piece
 
-abbrev pub IsPiece : Query → Record → Piece → Type 0
-IsPiece query (kept.Row packed) (Of_row row) = HasKinds query.kinds row × (packed.now ≡ packing row)
-IsPiece query (kept.Group key states) (Of_group group most) = StandsFor query most (key.now, states.now) group
-IsPiece query other piece = ⊥
+-- the bytes of a group on a tape: the length of its key in two bytes, the highest first, its key, and its states
+abbrev pub group_record : List ℕ → List ℕ → List ℕ
+group_record key states = to_be_bytes w16 (length key) ++ (key ++ states)
 
-abbrev pub ArePieces : Query → List Record → List Piece → Type 0
-ArePieces query [] [] = Unit {0}
-ArePieces query (one ∷ records) (piece ∷ pieces) = IsPiece query one piece × ArePieces query records pieces
-ArePieces query records pieces = ⊥
+-- a record on a tape is that of a row; or of a group. Its hash is that of its key
+pub record IsRowRecord (query : Query) (hash : List ℕ → ℕ) (one : Record) (row : Row) : Type 0 where
+  pub tag : one.tag ≡ 0
+  pub of_kinds : HasKinds query.kinds row
+  pub bytes : one.bytes ≡ packing row
+  pub hashed : one.hash ≡ hash (packing (key_of query row))
+
+pub record IsGroupRecord (query : Query) (hash : List ℕ → ℕ) (one : Record) (group : Group) (most : ℕ) : Type 0 where
+  pub tag : one.tag ≡ 1
+  pub states : List ℕ
+  pub bytes : one.bytes ≡ group_record (packing group.0) states
+  pub stands : StandsFor query most (packing group.0, states) group
+  pub hashed : one.hash ≡ hash (packing group.0)
+
+abbrev pub IsPiece : Query → (List ℕ → ℕ) → Record → Piece → Type 0
+IsPiece query hash one (Of_row row) = IsRowRecord query hash one row
+IsPiece query hash one (Of_group group most) = IsGroupRecord query hash one group most
+
+abbrev pub ArePieces : Query → (List ℕ → ℕ) → List Record → List Piece → Type 0
+ArePieces query hash [] [] = Unit {0}
+ArePieces query hash (one ∷ records) (piece ∷ pieces) = IsPiece query hash one piece × ArePieces query hash records pieces
+ArePieces query hash records pieces = ⊥
 
 -- the key of the group to which it goes
 abbrev pub piece_key : Query → Piece → Row
@@ -81,24 +101,24 @@ HasNoKey entries key = (i : ℕ) (x : Entry) → slice_get entries i ≡ Some x 
 -- ---- the table of a pass
 
 -- a table of groups, and the tree in which it lies
-pub record GroupsState : Type 0 where
-  pub table : TableState Fnv1a
+pub record GroupsState (H : Type 0) : Type 0 where
+  pub table : TableState H
   pub tree : TreeState
 
--- its hash function
-abbrev pub by_hash : Fnv1a → List ℕ → ℕ
-by_hash hash key = fnv_1a key
-
 -- its groups in the order in which they came
-abbrev pub entries_of : GroupsState → List Entry
+abbrev pub entries_of : {H : Type 0} → GroupsState H → List Entry
 entries_of g = groups g.table g.tree
 
 -- the states of the group of a slot are moved on by a row, or combined with others, and all else stays
-abbrev pub WritesAt : GroupsState → Slot → (List ℕ → Type 0) → GroupsState → Type 0
+abbrev pub WritesAt : {H : Type 0} → GroupsState H → Slot → (List ℕ → Type 0) → GroupsState H → Type 0
 WritesAt old slot P new =
     (place : ℕ)
     → slice_get old.table.slots place ≡ Some slot
     → (states : List ℕ) × P states × (entries_of new ≡ slice_set (entries_of old) place (key_in old.table old.tree slot, states))
+
+-- one more group can have a bucket
+abbrev pub HasPlace : {H : Type 0} → GroupsState H → Type 0
+HasPlace g = buckets_for (buckets_in g.table.array) (length g.table.slots) ≤ most_buckets
 
 -- ---- a pass
 
@@ -116,78 +136,92 @@ AreGroupsBy query most entries groups = ⊥
 
 -- what was read is in entries and in records that are left: each group that the pieces make up is an entry, or is what the records
 -- of its key make up
-pub record Stands (query : Query) (pieces : List Piece) (entries : List Entry) (left : List Record) : Type 0 where
+pub record Stands (query : Query) (hash : List ℕ → ℕ) (pieces : List Piece) (entries : List Entry) (left : List Record) : Type 0 where
   pub entered : List Group
   pub rest : List Piece
   pub are : AreGroupsBy query (λ key. rows_at query key pieces) entries entered
-  pub read : ArePieces query left rest
+  pub read : ArePieces query hash left rest
   pub parted : IsParted (made_of query pieces) entered (made_of query rest)
   pub fewer : (key : Row) → rows_at query key rest ≤ rows_at query key pieces
 
--- one more group can have a bucket
-abbrev pub HasPlace : GroupsState → Type 0
-HasPlace g = buckets_for (buckets_in g.table.array) (length g.table.slots) ≤ most_buckets
+-- over any disk: entries stand for groups of the query that count at most so many rows each
+abbrev pub AreSafe : Query → ℕ → List Entry → Type 0
+AreSafe query most entries = (entered : List Group) × AreGroupsBy query (λ key. most) entries entered
 
--- a pass: its query, its table, the states before any row, and the records that are left
-pub record PassState : Type 0 where
-  pub query : Checked
-  pub groups : GroupsState
-  pub first : List ℕ
-  pub left : List Record
+-- ---- a pass
 
--- the query is checked, and its states before any row are as long as each state of the table
-pub record IsPassOf (query : Checked) (groups : GroupsState) (first : List ℕ) : Type 0 where
-  pub formed : IsWellFormed (meaning query)
-  pub width : groups.table.width ≡ length first
-  pub states : AreStates (functions (meaning query)) 0 first (partials (meaning query) [])
+-- a table of the same hash function, whose states are as long
+pub record IsSameTable {H : Type 0} (old new : GroupsState H) : Type 0 where
+  pub width : new.table.width ≡ old.table.width
+  pub hash : new.table.hash ≡ old.table.hash
 
--- what the pass has read
-abbrev pub Holds : PassState → List Piece → Type 0
-Holds pass pieces = Stands (meaning pass.query) pieces (entries_of pass.groups) pass.left
+-- what all passes of an aggregation have in common: a checked query, the states before any row, and the most rows that a group counts
+pub record IsPlan (plan : Plan) : Type 0 where
+  pub columns : AreColumns plan.query.now.columns
+  pub formed : IsWellFormed (meaning plan.query.now)
+  pub states : AreStates (functions (meaning plan.query.now)) 0 plan.first.items (partials (meaning plan.query.now) [])
+  pub few : plan.most ≤ most_rows
 
--- ---- the steps of a pass
+-- where a pass stands: its entries, its lists, and what the disk of these has
+pub record PassState : Type 1 where
+  pub entries : List Entry
+  pub lists : ListsState
+  pub last : ℕ → ℕ → Type 0
 
--- behind what was read, these count few enough rows
-abbrev pub CanCount : PassState → List Piece → List Piece → Type 0
-CanCount pass pieces more = CountUpTo (meaning pass.query) most_rows (pieces ++ more)
+abbrev pub standing : {H : Type 0} → GroupsState H → ListsState → (ℕ → ℕ → Type 0) → PassState
+standing groups lists last = record { entries = entries_of groups; lists = lists; last = last }
 
--- a record can be read
-abbrev pub CanRead : PassState → Record → Type 0
-CanRead pass one = (pieces : List Piece) × (piece : Piece) × Holds pass pieces × IsPiece (meaning pass.query) one piece × CanCount pass pieces (piece ∷ [])
+-- what a pass has read is in its entries, and on the lists to which it spills. It has these records still to read, and these
+-- lists are left to later passes
+abbrev pub Holds : Query → (List ℕ → ℕ) → PassState → List Piece → List Record → List LeftList → Type 0
+Holds query hash pass pieces ahead todo =
+    (spilled : List Record) × HasLists pass.last pass.lists spilled ahead todo × Stands query hash pieces pass.entries spilled
 
--- it is read, and these entries and records are what the pass holds then
-abbrev pub ReadsTo : PassState → Record → List Entry → List Record → Type 0
-ReadsTo old one entries left =
-    (pieces : List Piece) (piece : Piece)
-    → Holds old pieces
-    → IsPiece (meaning old.query) one piece
-    → CanCount old pieces (piece ∷ [])
-    → Stands (meaning old.query) (pieces ++ piece ∷ []) entries left
+-- these pieces are read, if they and those before them count few enough rows
+abbrev pub Reads : Plan → (List ℕ → ℕ) → (List Piece → Type 0) → PassState → PassState → Type 0
+Reads plan hash Are old new =
+    (pieces more : List Piece) (ahead : List Record) (todo : List LeftList)
+    → Holds (meaning plan.query.now) hash old pieces ahead todo
+    → Are more
+    → CountUpTo (meaning plan.query.now) plan.most (pieces ++ more)
+    → Holds (meaning plan.query.now) hash new (pieces ++ more) ahead todo
 
-abbrev pub Reads : PassState → Record → PassState → Type 0
-Reads old one new = ReadsTo old one (entries_of new.groups) new.left
+-- they can be read: a disk that tells what was written is no reason for a refusal
+abbrev pub CanRead : Plan → (List ℕ → ℕ) → (List Piece → Type 0) → PassState → Type 0
+CanRead plan hash Are old =
+    (pieces more : List Piece) × (ahead : List Record) × (todo : List LeftList)
+    × Holds (meaning plan.query.now) hash old pieces ahead todo
+    × Are more
+    × CountUpTo (meaning plan.query.now) plan.most (pieces ++ more)
 
--- the first record of a pass is not left for the next, and at most one more is than before
-pub record Proceeds (old new : PassState) : Type 0 where
-  pub first : entries_of old.groups ≡ [] → old.left ≡ [] → new.left ≡ []
-  pub few : length new.left ≤ length old.left + 1
+-- the records of the list that a pass reads are read
+abbrev pub ReadsList : Plan → (List ℕ → ℕ) → PassState → PassState → Type 0
+ReadsList plan hash old new =
+    (records : List Record) (pieces : List Piece) (todo : List LeftList)
+    → HasLists old.last old.lists [] records todo
+    → ArePieces (meaning plan.query.now) hash records pieces
+    → CountUpTo (meaning plan.query.now) plan.most pieces
+    → Holds (meaning plan.query.now) hash new pieces [] todo
 
--- the same of some records: they are these pieces
-abbrev pub CanReadAll : (List Piece → Type 0) → PassState → Type 0
-CanReadAll Are pass = (pieces more : List Piece) × Holds pass pieces × Are more × CanCount pass pieces more
-
-abbrev pub ReadsAll : (List Piece → Type 0) → PassState → PassState → Type 0
-ReadsAll Are old new = (pieces more : List Piece) → Holds old pieces → Are more → CanCount old pieces more → Stands (meaning old.query) (pieces ++ more) (entries_of new.groups) new.left
+abbrev pub CanReadList : Plan → (List ℕ → ℕ) → PassState → Type 0
+CanReadList plan hash old =
+    (records : List Record) × (pieces : List Piece) × (todo : List LeftList)
+    × HasLists old.last old.lists [] records todo
+    × ArePieces (meaning plan.query.now) hash records pieces
+    × CountUpTo (meaning plan.query.now) plan.most pieces
 
 -- the first of them, so many, were read
-pub record HasRead (Are : List Piece → Type 0) (old : PassState) (number : ℕ) (now : PassState) : Type 0 where
-  pub query : now.query ≡ old.query
-  pub read :
-      (pieces more : List Piece) → Holds old pieces → Are more → CanCount old pieces more → Stands (meaning old.query) (pieces ++ take number more) (entries_of now.groups) now.left
+abbrev pub ReadsSome : Plan → (List ℕ → ℕ) → (List Piece → Type 0) → ℕ → PassState → PassState → Type 0
+ReadsSome plan hash Are number old new =
+    (pieces more : List Piece) (ahead : List Record) (todo : List LeftList)
+    → Holds (meaning plan.query.now) hash old pieces ahead todo
+    → Are more
+    → CountUpTo (meaning plan.query.now) plan.most (pieces ++ more)
+    → Holds (meaning plan.query.now) hash new (pieces ++ take number more) ahead todo
 
--- the piece of a record at a place
-abbrev pub IsAt : Query → (List Piece → Type 0) → ℕ → Record → Type 0
-IsAt query Are place one = (more : List Piece) → Are more → (piece : Piece) × (slice_get more place ≡ Some piece) × IsPiece query one piece
+-- the piece at a place, alone
+abbrev pub IsAt : (List Piece → Type 0) → ℕ → (List Piece → Type 0) → Type 0
+IsAt Are place One = (more : List Piece) → Are more → (piece : Piece) × (slice_get more place ≡ Some piece) × One (piece ∷ [])
 
 -- the pieces of packed rows; of the groups of a run; and of what an input gives
 abbrev pub AreRows : Query → List (List ℕ) → List Piece → Type 0
@@ -200,14 +234,44 @@ abbrev pub AreOf : Query → Brought → List Piece → Type 0
 AreOf query (Packed packed) more = AreRows query packed more
 AreOf query (Counted run most) more = AreOfRun query most run more
 
--- after the first, fewer are left than were read; before it there is neither group nor record
-abbrev pub FewerLeft : ℕ → PassState → Type 0
-FewerLeft zero now = (entries_of now.groups ≡ []) × (now.left ≡ [])
-FewerLeft (suc number) now = length now.left ≤ number
+-- what an input gives, as pieces; and what all give
+abbrev pub given_pieces : Brought → Given → List Piece
+given_pieces input (Of_rows rows) = map Of_row rows
+given_pieces input (Of_groups groups) = map (λ group. Of_group group (rows_in input)) groups
 
--- where there was neither group nor record, fewer records are left than were read
-abbrev pub LeavesFewer : PassState → List Record → PassState → Type 0
-LeavesFewer old records new = entries_of old.groups ≡ [] → old.left ≡ [] → 0 < length records → length new.left < length records
+abbrev pub all_pieces : List Brought → List Given → List Piece
+all_pieces (input ∷ inputs) (given ∷ givens) = given_pieces input given ++ all_pieces inputs givens
+all_pieces inputs givens = []
+
+-- ---- how many groups there can be
+
+-- the groups of a pass and the records that it spilled
+abbrev pub total : List Entry → ListsState → ℕ
+total entries lists = length entries + spilled_number lists
+
+-- a record makes one group at most, and none if WHERE passes over it
+abbrev pub brings : Query → Piece → ℕ
+brings query (Of_row row) = if is_met (column_of row) query.condition then 1 else 0
+brings query (Of_group group most) = 1
+
+abbrev pub brought_by : Query → List Piece → ℕ
+brought_by query pieces = sum_by (brings query) pieces
+
+-- the first record of a pass is not spilled, and each is spilled, or makes a group, once at most
+pub record Proceeds (old : List Entry) (before : ListsState) (new : List Entry) (after : ListsState) : Type 0 where
+  pub first : old ≡ [] → before.parts ≡ [] → after.parts ≡ []
+  pub slow : spilled_number after ≤ spilled_number before + 1
+  pub few : total new after ≤ total old before + 1
+
+-- these pieces make as many groups and records as they bring, at most
+abbrev pub Brings : Query → (List Piece → Type 0) → List Entry → ListsState → List Entry → ListsState → Type 0
+Brings query Are old before new after = (more : List Piece) → Are more → total new after ≤ total old before + brought_by query more
+
+-- what is read stays as it is, and so is what is left to later passes
+pub record KeepsLists (before after : ListsState) : Type 0 where
+  pub source : after.source ≡ before.source
+  pub todo : after.todo ≡ before.todo
+  pub level : after.level ≡ before.level
 
 -- ---- runs
 

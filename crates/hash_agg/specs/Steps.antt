@@ -45,38 +45,59 @@ AddsRun query old run new =
     → AreGroups query n run more
     → AreGroups query (m + n) new (groups_added query groups more)
 
--- the states of one group can count one more row
-abbrev pub HaveRoomForRow : List Function → List ℕ → Type 0
-HaveRoomForRow these old = (most : ℕ) × (partials : List Partial) × AreStates these most old partials × (most < most_rows)
+-- states of these functions that count at most so many rows
+abbrev pub AreWithin : List Function → ℕ → List ℕ → Type 0
+AreWithin these bound bytes = (partials : List Partial) × AreStates these bound bytes partials
+
+-- the states of one group can count one more row, within a bound
+abbrev pub HaveRoomForRow : List Function → ℕ → List ℕ → Type 0
+HaveRoomForRow these bound old = (most : ℕ) × (partials : List Partial) × AreStates these most old partials × (most < bound)
 
 -- they are moved on by a row
-abbrev pub AdvanceBy : Query → List ℕ → Row → List ℕ → Type 0
-AdvanceBy query old row new =
+abbrev pub AdvanceBy : Query → ℕ → List ℕ → Row → List ℕ → Type 0
+AdvanceBy query bound old row new =
     (most : ℕ) (partials : List Partial)
-    → most < most_rows
+    → most < bound
     → AreStates (functions query) most old partials
     → AreStates (functions query) (most + 1) new (advanced query.aggregates partials row)
 
--- the same of the states of some of the aggregates
-abbrev pub SomeHaveRoomForRow : List AggKind → List ℕ → Type 0
-SomeHaveRoomForRow kinds old = (most : ℕ) × (partials : List Partial) × Denotes most kinds old partials × (most < most_rows)
+pub record AreAdvanced (query : Query) (bound : ℕ) (old : List ℕ) (row : Row) (new : List ℕ) : Type 0 where
+  pub moved : AdvanceBy query bound old row new
+  pub within : AreWithin (functions query) bound new
 
-abbrev pub SomeAdvanceBy : List Aggregate → List AggKind → List ℕ → Row → List ℕ → Type 0
-SomeAdvanceBy aggregates kinds old row new =
+-- the same of the states of some of the aggregates
+abbrev pub SomeAreWithin : List AggKind → ℕ → List ℕ → Type 0
+SomeAreWithin kinds bound bytes = (partials : List Partial) × Denotes bound kinds bytes partials
+
+abbrev pub SomeHaveRoomForRow : List AggKind → ℕ → List ℕ → Type 0
+SomeHaveRoomForRow kinds bound old = (most : ℕ) × (partials : List Partial) × Denotes most kinds old partials × (most < bound)
+
+abbrev pub SomeAdvanceBy : List Aggregate → List AggKind → ℕ → List ℕ → Row → List ℕ → Type 0
+SomeAdvanceBy aggregates kinds bound old row new =
     (most : ℕ) (partials : List Partial)
-    → most < most_rows
+    → most < bound
     → Denotes most kinds old partials
     → Denotes (most + 1) kinds new (advanced aggregates partials row)
 
--- the states of one group and others of its key can count the rows of both, and are combined
-abbrev pub HaveRoomForMore : List Function → List ℕ → List ℕ → Type 0
-HaveRoomForMore these old more =
-    (m n : ℕ) × (partials others : List Partial) × AreStates these m old partials × AreStates these n more others × (m + n ≤ most_rows)
+-- the states of one group and others of its key can count the rows of both, within a bound, and are combined
+abbrev pub HaveRoomWithin : List Function → ℕ → List ℕ → List ℕ → Type 0
+HaveRoomWithin these bound old more =
+    (m n : ℕ) × (partials others : List Partial) × AreStates these m old partials × AreStates these n more others × (m + n ≤ bound)
 
-abbrev pub CombineWith : List Function → List ℕ → List ℕ → List ℕ → Type 0
-CombineWith these old more new =
+abbrev pub CombineWithin : List Function → ℕ → List ℕ → List ℕ → List ℕ → Type 0
+CombineWithin these bound old more new =
     (m n : ℕ) (partials others : List Partial)
-    → m + n ≤ most_rows
+    → m + n ≤ bound
     → AreStates these m old partials
     → AreStates these n more others
     → AreStates these (m + n) new (combine_all these partials others)
+
+pub record AreCombined (these : List Function) (bound : ℕ) (old more new : List ℕ) : Type 0 where
+  pub moved : CombineWithin these bound old more new
+  pub within : AreWithin these bound new
+
+abbrev pub HaveRoomForMore : List Function → List ℕ → List ℕ → Type 0
+HaveRoomForMore these old more = HaveRoomWithin these most_rows old more
+
+abbrev pub CombineWith : List Function → List ℕ → List ℕ → List ℕ → Type 0
+CombineWith these old more new = CombineWithin these most_rows old more new

@@ -1,20 +1,26 @@
 //! The aggregation of inputs.
 
-ghost use Rattle.std.specs.Prelude.{◌≡◌, ◌<◌, ◌^◌, [], List, map, IfOk};
+ghost use Rattle.std.specs.Prelude.{◌≡◌, ◌≢◌, ◌+◌, ◌<◌, ◌≤◌, ◌^◌, [], false, List, map, length, IsTrue, IfOk, IfErr, OnOk};
 ghost use Rattle.std.specs.List.{AllByRecursion};
-ghost use Rattle.agg_protocol.specs.States.{most_rows};
+ghost use Rattle.spill_lists.specs.Lists.{LeftList};
+ghost use Rattle.spill_lists.specs.Standing.{HasLists, Moves, IsReadRefusal, waiting_number};
+ghost use Rattle.spill_lists.specs.declared.error.SpillError.TheVariants.{TapeDamaged};
 ghost use Rattle.having_filter.specs.Meaning.{meaning};
-ghost use Rattle.hash_agg.specs.Inputs.{brought, all_rows, IsInput, IsAggregate};
+ghost use Rattle.hash_agg.specs.Adding.{Given, AllGive};
+ghost use Rattle.hash_agg.specs.Inputs.{brought, rows_in, all_rows, IsInput, IsAggregate, IsRunOver};
 ghost use Rattle.hash_agg.specs.Runs.{Rises};
-ghost use Rattle.hash_agg.specs.Passes.{Piece, Stands, CountUpTo, entries_of};
+ghost use Rattle.hash_agg.specs.Passes.{Piece, IsPlan, IsSameTable, AreSafe, CountUpTo, Stands, entries_of, all_pieces, brought_by};
+ghost use Rattle.hash_agg.specs.Waiting.{Waits};
 
 use crate::input::Input;
 use crate::pass::{Buffers, Pass};
-use crate::record::Record;
+use crate::plan::Plan;
 use crate::run::Run;
 use crate::sorting::united;
+use group_table::{Fnv1a, KeyHash};
 use having_filter::Query;
-use packed_rows::Value;
+use spill_lists::SpillError;
+use spill_tapes::{MemDisk, TapeDisk};
 use std::alloc::{AllocError, Global};
 
 /// The limit of an aggregation that is told none, in bytes of blocks: 1 TiB.
@@ -34,9 +40,8 @@ pub fn aggregate(alloc: Global, query: &Query, inputs: &[Input<'_>]) -> Result<R
     aggregate_within(alloc, query, inputs, LARGEST_LIMIT)
 }
 
-/// The same with a limit on the blocks of the table of groups, in bytes. A pass over the inputs takes the groups that keep
-/// within it, and at least one; what is left is read by the next pass. So a limit changes nothing but the time and the
-/// memory that an aggregation takes (PostgreSQL 17, `src/backend/executor/nodeAgg.c`: hash aggregation in phases).
+/// The same with a limit on the blocks of the table of groups, in bytes. What doesn't keep within it is spilled to a disk in memory,
+/// and read by later passes.
 pub fn aggregate_within(
     alloc: Global,
     query: &Query,
@@ -47,45 +52,134 @@ pub fn aggregate_within(
     requires few { all_rows (map brought inputs.now) < 2 ^ 57 }
     ensures { IfOk result (IsAggregate (meaning query.now) (map brought inputs.now)) }
 {
-    let mut row = Vec::with_capacity(alloc, query.schema().width())?;
-    let mut buffers = Buffers::new(alloc);
-    let mut pass = Pass::new(alloc, query, limit)?;
-    for input in inputs {
-        pass.add_input(*input, &mut row, &mut buffers)?;
+    let mut disk = MemDisk::new(alloc);
+    match aggregate_over(alloc, query, inputs, limit, Fnv1a, &mut disk) {
+        Ok(run) => Ok(run),
+        Err(_) => Err(AllocError), // Such a disk neither fails nor errs.
     }
-    let (run, left) = pass.finish(alloc)?;
-    later_passes(alloc, &mut pass, run, left, &mut row, &mut buffers)
 }
 
-/// Makes the passes that follow the first one, and unites their groups with those of the first.
-fn later_passes<'a>(
+/// The same by any hash function, and over any disk. A pass over the inputs takes the groups that keep within the limit, and at
+/// least one; what is left goes to lists on tapes, by fresh bits of its hash, and each list is a later pass. So a limit changes
+/// nothing but the time and the memory that an aggregation takes (PostgreSQL 17, `src/backend/executor/nodeAgg.c`: hash aggregation
+/// in phases).
+///
+/// # Errors
+///
+/// `NoMemory`; `TapeFault` where the disk failed; and `TapeDamaged` where it gave back what was not written to it, so never over
+/// an honest one. Over any other, what is answered is a run of the query, of as many groups as there are selected rows and groups
+/// at most.
+pub fn aggregate_over<H: KeyHash + Drop, D: TapeDisk>(
     alloc: Global,
-    pass: &mut Pass<'a>,
-    run: Run,
-    left: Vec<Record<'a>>,
-    row: &mut Vec<Value<'a>>,
-    buffers: &mut Buffers,
-) -> Result<Run, AllocError>
-    requires empty { entries_of pass.old.groups ≡ [] }
-    requires none { pass.old.left ≡ [] }
-    requires rises { Rises run }
-    requires stands { (pieces : List Piece) × Stands (meaning pass.old.query) pieces run left.items
-        × CountUpTo (meaning pass.old.query) most_rows pieces }
-    ensures stands { IfOk result (λ all. (pieces : List Piece) → Stands (meaning pass.old.query) pieces run left.entry.items →
-        CountUpTo (meaning pass.old.query) most_rows pieces → Stands (meaning pass.old.query) pieces all []) }
-    ensures rises { IfOk result Rises }
+    query: &Query,
+    inputs: &[Input<'_>],
+    limit: u64,
+    hash: H,
+    disk: &mut D,
+) -> Result<Run, SpillError>
+    requires inputs { AllByRecursion (IsInput (meaning query.now)) (map brought inputs.now) }
+    requires few { all_rows (map brought inputs.now) < 2 ^ 57 }
+    ensures aggregate { IfOk result (λ run. IsTrue (D.honest disk.old) → IsAggregate (meaning query.now) (map brought inputs.now) run) }
+    ensures run { IfOk result (IsRunOver (meaning query.now) (map brought inputs.now)) }
+    ensures undamaged { IfErr result (λ error. IsTrue (D.honest disk.old) → error ≢ TapeDamaged) }
+    ensures refused { IfErr result (IsReadRefusal (D.failures disk.old) (D.failures disk.new)) }
+    ensures disk { Moves (D.failures disk.old) (D.failures disk.new) (D.writes disk.old) (D.writes disk.new) (D.honest disk.old) (D.honest disk.new) }
 {
-    if left.is_empty() {
-        return Ok(run);
+    let plan = Plan::new(alloc, query, rows_of_all(inputs), limit)?;
+    let mut buffers = Buffers::new(alloc);
+    let mut pass = Pass::new(alloc, &plan, hash, disk)?;
+    let run = first_pass(alloc, disk, &plan, &mut pass, inputs, &mut buffers)?;
+    later_passes(alloc, disk, &plan, &mut pass, run, &mut buffers)
+}
+
+/// How many rows all inputs have, or their states count at most.
+fn rows_of_all(inputs: &[Input<'_>]) -> u64
+    requires { all_rows (map brought inputs.now) < 2 ^ 57 }
+    ensures { result ≡ all_rows (map brought inputs.now) }
+{
+    let mut rows = 0;
+    for input in inputs {
+        rows += input.rows();
     }
-    let mut left = left;
+    rows
+}
+
+/// Makes the first pass, over all inputs.
+fn first_pass<H: KeyHash + Drop, D: TapeDisk>(
+    alloc: Global,
+    disk: &mut D,
+    plan: &Plan<'_>,
+    pass: &mut Pass<H>,
+    inputs: &[Input<'_>],
+    buffers: &mut Buffers,
+) -> Result<Run, SpillError>
+    requires plan { IsPlan plan.now }
+    requires inputs { AllByRecursion (IsInput (meaning plan.now.query.now)) (map brought inputs.now) }
+    requires few { all_rows (map brought inputs.now) ≤ plan.now.most }
+    requires width { pass.old.groups.table.width ≡ length plan.now.first.items }
+    requires alive { pass.old.lists.tapes.is_dead ≡ false }
+    requires empty { entries_of pass.old.groups ≡ [] }
+    requires none { HasLists (D.last disk.old) pass.old.lists [] [] [] }
+    requires parts { pass.old.lists.parts ≡ [] }
+    requires source { pass.old.lists.source ≡ [] }
+    requires todo { pass.old.lists.todo ≡ [] }
+    ensures waits { IfOk result (λ run. (givens : List Given) → AllGive (meaning plan.now.query.now) (map brought inputs.now) givens →
+        (todo : List LeftList) × HasLists (D.last disk.new) pass.new.lists [] [] todo × Waits (meaning plan.now.query.now) (H.hash_of pass.old.groups.table.hash) (all_pieces (map brought inputs.now) givens) run todo) }
+    ensures safe { IfOk result (AreSafe (meaning plan.now.query.now) plan.now.most) }
+    ensures rises { IfOk result Rises }
+    ensures few { IfOk result (λ run. (givens : List Given) → AllGive (meaning plan.now.query.now) (map brought inputs.now) givens →
+        length run + waiting_number pass.new.lists ≤ brought_by (meaning plan.now.query.now) (all_pieces (map brought inputs.now) givens)) }
+    ensures empty { OnOk result (entries_of pass.new.groups ≡ []) }
+    ensures parts { OnOk result (pass.new.lists.parts ≡ []) }
+    ensures source { OnOk result (pass.new.lists.source ≡ []) }
+    ensures table { IsSameTable pass.old.groups pass.new.groups }
+    ensures alive { OnOk result (pass.new.lists.tapes.is_dead ≡ false) }
+    ensures undamaged { IfErr result (λ error. error ≢ TapeDamaged) }
+    ensures refused { IfErr result (IsReadRefusal (D.failures disk.old) (D.failures disk.new)) }
+    ensures disk { Moves (D.failures disk.old) (D.failures disk.new) (D.writes disk.old) (D.writes disk.new) (D.honest disk.old) (D.honest disk.new) }
+{
+    let mut row = Vec::with_capacity(alloc, plan.query.schema().width())?;
+    for input in inputs {
+        pass.add_input(disk, plan, *input, &mut row, buffers)?;
+    }
+    pass.finish(alloc, disk)
+}
+
+/// Makes the passes over the lists that are left, and unites their groups with those of the first.
+fn later_passes<H: KeyHash + Drop, D: TapeDisk>(
+    alloc: Global,
+    disk: &mut D,
+    plan: &Plan<'_>,
+    pass: &mut Pass<H>,
+    run: Run,
+    buffers: &mut Buffers,
+) -> Result<Run, SpillError>
+    requires plan { IsPlan plan.now }
+    requires width { pass.old.groups.table.width ≡ length plan.now.first.items }
+    requires alive { pass.old.lists.tapes.is_dead ≡ false }
+    requires empty { entries_of pass.old.groups ≡ [] }
+    requires parts { pass.old.lists.parts ≡ [] }
+    requires source { pass.old.lists.source ≡ [] }
+    requires rises { Rises run }
+    requires safe { AreSafe (meaning plan.now.query.now) plan.now.most run }
+    ensures stands { IfOk result (λ all. IsTrue (D.honest disk.old) → (pieces : List Piece) (todo : List LeftList) → HasLists (D.last disk.old) pass.old.lists [] [] todo →
+        Waits (meaning plan.now.query.now) (H.hash_of pass.old.groups.table.hash) pieces run todo → CountUpTo (meaning plan.now.query.now) plan.now.most pieces →
+        Stands (meaning plan.now.query.now) (H.hash_of pass.old.groups.table.hash) pieces all []) }
+    ensures safe { IfOk result (AreSafe (meaning plan.now.query.now) plan.now.most) }
+    ensures rises { IfOk result Rises }
+    ensures few { IfOk result (λ all. length all ≤ length run + waiting_number pass.old.lists) }
+    ensures undamaged { IfErr result (λ error. IsTrue (D.honest disk.old) → (pieces : List Piece) (todo : List LeftList) → HasLists (D.last disk.old) pass.old.lists [] [] todo →
+        Waits (meaning plan.now.query.now) (H.hash_of pass.old.groups.table.hash) pieces run todo → CountUpTo (meaning plan.now.query.now) plan.now.most pieces → error ≢ TapeDamaged) }
+    ensures refused { IfErr result (IsReadRefusal (D.failures disk.old) (D.failures disk.new)) }
+    ensures disk { Moves (D.failures disk.old) (D.failures disk.new) (D.writes disk.old) (D.writes disk.new) (D.honest disk.old) (D.honest disk.new) }
+{
     let mut runs = Vec::new(alloc);
     runs.push(run)?;
-    while !left.is_empty() {
-        pass.add_left(&left, row, buffers)?;
-        let (run, rest) = pass.finish(alloc)?;
+    let mut bytes = Vec::new(alloc);
+    while pass.lists.begin_pass(disk) {
+        pass.add_list(alloc, disk, plan, &mut bytes, buffers)?;
+        let run = pass.finish(alloc, disk)?;
         runs.push(run)?;
-        left = rest;
     }
     united(alloc, &runs)
 }

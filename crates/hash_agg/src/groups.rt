@@ -5,20 +5,22 @@ ghost use Rattle.std.specs.List.Sorted.{IsPermutation};
 ghost use Rattle.grouping_model.specs.Datum.{HasKinds};
 ghost use Rattle.grouping_model.specs.Parts.{functions};
 ghost use Rattle.packed_rows.specs.View.{row_of};
+ghost use Rattle.agg_protocol.specs.States.{most_rows};
 ghost use Rattle.context_tree.specs.Tree.{is_there, new_tree};
 ghost use Rattle.group_table.specs.Standing.{IsTableIn};
 ghost use Rattle.group_table.specs.Table.{IsSlot, Names, HasNo, state_in};
 ghost use Rattle.having_filter.specs.Kept.{IsWellFormed};
 ghost use Rattle.having_filter.specs.Meaning.{meaning};
 ghost use Rattle.hash_agg.specs.Runs.{Rises};
-ghost use Rattle.hash_agg.specs.Passes.{AreOnce, by_hash, entries_of, HasPlace, WritesAt};
-ghost use Rattle.hash_agg.specs.Steps.{HaveRoomForRow, AdvanceBy, HaveRoomForMore, CombineWith};
+ghost use Rattle.hash_agg.specs.Passes.{AreOnce, entries_of, HasPlace, WritesAt};
+ghost use Rattle.hash_agg.specs.Steps.{HaveRoomForRow, AreAdvanced, HaveRoomWithin, AreCombined};
 
 use crate::run::Run;
 use crate::sorting::{led, sorted};
-use crate::states::{advance_slice, combine_slice};
+use crate::states::{advance_slice, combine_within};
+use agg_protocol::BadState;
 use context_tree::{ContextId, Kind, Tree};
-use group_table::{Fnv1a, GroupTable, Slot};
+use group_table::{GroupTable, KeyHash, Slot};
 use having_filter::Query;
 use packed_rows::Value;
 use std::alloc::{AllocError, Global};
@@ -27,20 +29,20 @@ use std::marker::Model;
 /// Groups: a hash table from their packed keys to their states. Its buckets, keys and states lie in contexts below that of
 /// the pass, which lies below the root of a tree.
 #[derive(Drop)]
-pub(crate) struct Groups {
+pub(crate) struct Groups<H: KeyHash + Drop> {
     tree: Tree,
-    table: GroupTable<Fnv1a>,
+    table: GroupTable<H>,
 }
 
-impl Model for Groups {
+impl<H: KeyHash + Drop> Model for Groups<H> {
     ghost use Rattle.group_table.specs.Standing.{IsTableIn};
-    ghost use Rattle.hash_agg.specs.Passes.{GroupsState, by_hash};
+    ghost use Rattle.hash_agg.specs.Passes.{GroupsState};
 
-    ghost Value = { GroupsState };
+    ghost Value = { GroupsState H };
 
     ghost view = { λ g. record { table = g.table; tree = g.tree } };
 
-    ghost invariant = { λ g. IsTableIn by_hash g.table g.tree };
+    ghost invariant = { λ g. IsTableIn H.hash_of g.table g.tree };
 }
 
 /// The context of a pass, below the root of a new tree.
@@ -55,16 +57,17 @@ fn pass_context(tree: &mut Tree) -> Result<ContextId, AllocError>
     }
 }
 
-impl Groups {
+impl<H: KeyHash + Drop> Groups<H> {
     /// No groups, whose states will have `width` bytes each.
-    pub(crate) fn new(alloc: Global, width: u32) -> Result<Groups, AllocError>
+    pub(crate) fn new(alloc: Global, width: u32, hash: H) -> Result<Groups<H>, AllocError>
         requires { width ≤ 65535 }
         ensures empty { IfOk result (λ made. entries_of made ≡ []) }
         ensures width { IfOk result (λ made. made.table.width ≡ width) }
+        ensures hash { IfOk result (λ made. made.table.hash ≡ hash) }
     {
         let mut tree = Tree::new(alloc);
         let pass = pass_context(&mut tree)?;
-        match GroupTable::new(alloc, &mut tree, pass, width, Fnv1a) {
+        match GroupTable::new(alloc, &mut tree, pass, width, hash) {
             Ok(table) => Ok(Groups { tree, table }),
             Err(_) => Err(AllocError),
         }
@@ -76,6 +79,13 @@ impl Groups {
         ensures once { AreOnce (entries_of self.now) }
     {
         self.table.len()
+    }
+
+    /// The hash of a key.
+    pub(crate) fn hash(&self, key: &[u8]) -> u32
+        ensures { result ≡ H.hash_of self.now.table.hash key.now }
+    {
+        self.table.key_hash(key)
     }
 
     /// The slot of the group of a key, if there is one.
@@ -112,39 +122,56 @@ impl Groups {
         requires few { HasPlace self.old }
         ensures entered { OnOk result (entries_of self.new ≡ entries_of self.old ++ (key.now, states.now) ∷ []) }
         ensures width { self.new.table.width ≡ self.old.table.width }
+        ensures hash { self.new.table.hash ≡ self.old.table.hash }
     {
         self.table.insert(&mut self.tree, key, states)?;
         Ok(())
     }
 
-    /// Moves the states of a group on by a row.
-    pub(crate) fn advance(&mut self, query: &Query, slot: Slot, row: &[Value<'_>])
+    /// Moves the states of a group on by a row. They are refused if they would count more than `most` rows then.
+    pub(crate) fn advance(
+        &mut self,
+        query: &Query,
+        slot: Slot,
+        row: &[Value<'_>],
+        most: u64,
+    ) -> Result<(), BadState>
         requires slot { IsSlot self.old.table slot }
         requires formed { IsWellFormed (meaning query.now) }
         requires row { HasKinds (meaning query.now).kinds (row_of row.now) }
-        requires room { HaveRoomForRow (functions (meaning query.now)) (state_in self.old.table self.old.tree slot) }
+        requires most { most ≤ most_rows }
         ensures table { self.new.table ≡ self.old.table }
-        ensures written { WritesAt self.old slot (AdvanceBy (meaning query.now) (state_in self.old.table self.old.tree slot) (row_of row.now)) self.new }
+        ensures written { OnOk result (WritesAt self.old slot (AreAdvanced (meaning query.now) most (state_in self.old.table self.old.tree slot) (row_of row.now)) self.new) }
+        ensures refused { OnErr result (¬ HaveRoomForRow (functions (meaning query.now)) most (state_in self.old.table self.old.tree slot)) }
     {
         let states = GroupTable::state_mut(&mut self.tree, &self.table, slot);
-        advance_slice(query, states, row);
+        advance_slice(query, states, row, most)
     }
 
-    /// Combines the states of a group with others of its key, which come behind.
-    pub(crate) fn combine(&mut self, query: &Query, slot: Slot, more: &[u8])
+    /// Combines the states of a group with others of its key, which come behind. They are refused if they would count more than
+    /// `most` rows then.
+    pub(crate) fn combine(
+        &mut self,
+        query: &Query,
+        slot: Slot,
+        more: &[u8],
+        most: u64,
+    ) -> Result<(), BadState>
         requires slot { IsSlot self.old.table slot }
-        requires room { HaveRoomForMore (functions (meaning query.now)) (state_in self.old.table self.old.tree slot) more.now }
+        requires most { most ≤ most_rows }
         ensures table { self.new.table ≡ self.old.table }
-        ensures written { WritesAt self.old slot (CombineWith (functions (meaning query.now)) (state_in self.old.table self.old.tree slot) more.now) self.new }
+        ensures written { OnOk result (WritesAt self.old slot (AreCombined (functions (meaning query.now)) most (state_in self.old.table self.old.tree slot) more.now) self.new) }
+        ensures refused { OnErr result (¬ HaveRoomWithin (functions (meaning query.now)) most (state_in self.old.table self.old.tree slot) more.now) }
     {
         let states = GroupTable::state_mut(&mut self.tree, &self.table, slot);
-        combine_slice(query, states, more);
+        combine_within(query, states, more, most)
     }
 
     /// Gives up all groups.
     pub(crate) fn clear(&mut self)
         ensures empty { entries_of self.new ≡ [] }
         ensures width { self.new.table.width ≡ self.old.table.width }
+        ensures hash { self.new.table.hash ≡ self.old.table.hash }
     {
         self.table.clear(&mut self.tree);
     }

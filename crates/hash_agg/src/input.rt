@@ -1,5 +1,8 @@
 //! What is aggregated.
 
+ghost use Rattle.std.specs.Prelude.{◌≡◌};
+ghost use Rattle.hash_agg.specs.Inputs.{brought, rows_in};
+
 use crate::run::Run;
 use flat_rows::PackedRows;
 
@@ -12,4 +15,17 @@ pub enum Input<'a> {
     Flat(&'a PackedRows),
     /// Groups, of which no state counts more than so many rows.
     Groups { run: &'a Run, rows: u64 },
+}
+
+impl<'a> Input<'a> {
+    /// How many rows it has, or its states count at most.
+    pub(crate) fn rows(&self) -> u64
+        ensures { result ≡ rows_in (brought self.now) }
+    {
+        match self {
+            Input::Rows(rows) => rows.len() as u64,
+            Input::Flat(rows) => rows.len() as u64,
+            Input::Groups { rows, .. } => *rows,
+        }
+    }
 }

@@ -1,40 +1,41 @@
-//! A pass: the groups that its table takes, and the records that are left for the next pass.
+//! A pass: the groups that its table takes, and the records that it spills to lists for later passes.
 
-ghost use Rattle.std.specs.Prelude.{◌≡◌, ◌+◌, ◌<◌, ◌≤◌, ◌++◌, ◌∷◌, ℕ, List, [], true, length, IsTrue, IfOk, OnOk};
+ghost use Rattle.std.specs.Prelude.{◌≡◌, ◌≢◌, ◌+◌, ◌<◌, ◌≤◌, ◌++◌, ◌∷◌, ℕ, List, [], true, false, length, IsTrue, IfOk, IfErr, OnOk};
 ghost use Rattle.std.specs.List.Sorted.{IsPermutation};
+ghost use Rattle.spill_tapes.specs.Records.{Record};
+ghost use Rattle.spill_lists.specs.Lists.{LeftList, left_by};
+ghost use Rattle.spill_lists.specs.Standing.{HasLists, BeginsLast, Moves, IsReadRefusal, IsSpillRefusal, spilled_number, ahead_number, waiting_number};
+ghost use Rattle.spill_lists.specs.declared.error.SpillError.TheVariants.{TapeDamaged};
 ghost use Rattle.grouping_model.specs.Condition.{is_met};
 ghost use Rattle.grouping_model.specs.Datum.{Row, HasKinds};
-ghost use Rattle.grouping_model.specs.Grouping.{column_of, key_of, partials};
-ghost use Rattle.grouping_model.specs.Parts.{functions, advanced};
+ghost use Rattle.grouping_model.specs.Grouping.{Group, column_of, key_of};
 ghost use Rattle.packed_rows.specs.Packing.{packing};
 ghost use Rattle.packed_rows.specs.View.{bytes_of, row_of};
-ghost use Rattle.agg_protocol.specs.States.{most_rows};
-ghost use Rattle.group_table.specs.Table.{HasNo};
-ghost use Rattle.having_filter.specs.Kept.{IsWellFormed};
 ghost use Rattle.having_filter.specs.Meaning.{meaning};
-ghost use Rattle.hash_agg.specs.declared.record.Record.TheVariants as kept;
-ghost use Rattle.hash_agg.specs.Inputs.{brought};
+ghost use Rattle.hash_agg.specs.Inputs.{brought, IsInput, rows_in};
 ghost use Rattle.hash_agg.specs.Runs.{Rises};
-ghost use Rattle.hash_agg.specs.Standing.{AreStates};
-ghost use Rattle.hash_agg.specs.Passes.{entries_of, HasPlace, CanRead, Reads, Proceeds, ArePieces, AreRows, AreOfRun, AreOf, CanReadAll, ReadsAll, LeavesFewer};
+ghost use Rattle.hash_agg.specs.Standing.{StandsFor, IsRun};
+ghost use Rattle.hash_agg.specs.Passes.{Piece, entries_of, HasPlace, IsPlan, IsSameTable, standing, Holds, Reads, CanRead, AreSafe, Proceeds, Brings, KeepsLists, CountUpTo, Stands, ArePieces, AreRows, AreOfRun, AreOf, total, ReadsList, CanReadList};
 
 use crate::groups::Groups;
 use crate::input::Input;
-use crate::record::Record;
+use crate::plan::Plan;
+use crate::record::{GROUP, ROW, split_group, write_group};
 use crate::run::Run;
-use crate::states::{advance_slice, first_states};
+use agg_protocol::BadState;
 use flat_rows::PackedRows;
-use having_filter::Query;
-use packed_rows::{RowError, Value, pack_value, unpack_into};
+use group_table::KeyHash;
+use packed_rows::Value;
+use spill_lists::{SpillError, SpillLists};
+use spill_tapes::TapeDisk;
 use std::alloc::{AllocError, Global};
-use std::marker::Model;
-use std::mem::replace;
 
-/// Bytes that serve for one row after the other: its packed key, and the states of a group of its own.
+/// Bytes that serve for one record after the other: a packed key, the states of a group of its own, and a record on a tape.
 #[derive(Drop)]
 pub(crate) struct Buffers {
     key: Vec<u8>,
     states: Vec<u8>,
+    tape_record: Vec<u8>,
 }
 
 impl Buffers {
@@ -43,305 +44,431 @@ impl Buffers {
         Buffers {
             key: Vec::new(alloc),
             states: Vec::new(alloc),
+            tape_record: Vec::new(alloc),
         }
     }
 }
 
-/// A pass. Its table takes no new group that would exceed the limit in bytes of blocks, but for the first; and none once a
-/// record was left for the next pass.
+/// A pass. Its table takes no new group that would exceed the limit, but for the first; and none once a record was spilled.
 #[derive(Drop)]
-pub(crate) struct Pass<'a> {
-    query: &'a Query,
-    limit: u64,
-    groups: Groups,
-    /// The states of a group before any row.
-    first: Vec<u8>,
-    left: Vec<Record<'a>>,
+pub(crate) struct Pass<H: KeyHash + Drop> {
+    pub(crate) groups: Groups<H>,
+    pub(crate) lists: SpillLists,
 }
 
-impl<'a> Model for Pass<'a> {
-    ghost use Rattle.std.specs.Coded.{codes};
-    ghost use Rattle.hash_agg.specs.Coding.{coded_pass};
-    ghost use Rattle.hash_agg.specs.Passes.{PassState, IsPassOf};
-
-    ghost Value = { PassState };
-
-    ghost coded = { coded_pass (Prim.hlevel codes) };
-
-    ghost view = { λ p. record { query = p.query.now; groups = p.groups; first = p.first.items; left = p.left.items } };
-
-    ghost invariant = { λ p. IsPassOf p.query.now p.groups p.first.items };
-}
-
-/// Reads the values of a row from its packing into `row`, where they take the place of what was there.
-fn unpack<'a>(query: &Query, packed: &'a [u8], row: &mut Vec<Value<'a>>) -> Result<(), AllocError>
-    requires { (list : Row) × HasKinds (meaning query.now).kinds list × (packed.now ≡ packing list) }
-    ensures { OnOk result (HasKinds (meaning query.now).kinds (row_of row.new.items)
-        × (packed.now ≡ packing (row_of row.new.items))) }
-{
-    match unpack_into(query.schema().kinds(), packed, row) {
-        Ok(()) => Ok(()),
-        Err(RowError::NoMemory) => Err(AllocError),
-        Err(_) => unreachable!(),
-    }
-}
-
-/// Packs the key of a row into `key`, where it takes the place of what was there.
-fn pack_key_of(query: &Query, row: &[Value<'_>], key: &mut Vec<u8>) -> Result<(), AllocError>
-    requires formed { IsWellFormed (meaning query.now) }
-    requires row { HasKinds (meaning query.now).kinds (row_of row.now) }
-    ensures { OnOk result
-        (key.new.items ≡ packing (key_of (meaning query.now) (row_of row.now))) }
-{
-    key.clear();
-    for place in query.keys() {
-        pack_value(key, row[*place])?;
-    }
-    Ok(())
-}
-
-impl<'a> Pass<'a> {
-    /// A pass that has read nothing.
-    pub(crate) fn new(alloc: Global, query: &'a Query, limit: u64) -> Result<Pass<'a>, AllocError>
-        ensures query { IfOk result (λ pass. pass.query ≡ query.now) }
+impl<H: KeyHash + Drop> Pass<H> {
+    /// The first pass, which has read nothing. The only error is a failed allocation.
+    pub(crate) fn new<D: TapeDisk>(
+        alloc: Global,
+        plan: &Plan<'_>,
+        hash: H,
+        disk: &D,
+    ) -> Result<Pass<H>, AllocError>
+        requires short { length plan.now.first.items ≤ 65535 }
         ensures empty { IfOk result (λ pass. entries_of pass.groups ≡ []) }
-        ensures none { IfOk result (λ pass. pass.left ≡ []) }
+        ensures width { IfOk result (λ pass. pass.groups.table.width ≡ length plan.now.first.items) }
+        ensures hash { IfOk result (λ pass. pass.groups.table.hash ≡ hash) }
+        ensures alive { IfOk result (λ pass. pass.lists.tapes.is_dead ≡ false) }
+        ensures none { IfOk result (λ pass. HasLists (D.last disk.now) pass.lists [] [] []) }
+        ensures parts { IfOk result (λ pass. pass.lists.parts ≡ []) }
+        ensures source { IfOk result (λ pass. pass.lists.source ≡ []) }
+        ensures todo { IfOk result (λ pass. pass.lists.todo ≡ []) }
     {
-        let _schema = query.schema();
-        let first = first_states(alloc, query)?;
-        let groups = Groups::new(alloc, first.len() as u32)?;
+        let groups = Groups::new(alloc, plan.first.len() as u32, hash)?;
         Ok(Pass {
-            query,
-            limit,
             groups,
-            first,
-            left: Vec::new(alloc),
+            lists: SpillLists::new(alloc, disk),
         })
     }
 
     /// Whether a group that isn't there enters the table.
-    fn takes(&self, key: &[u8]) -> bool
+    fn takes(&self, plan: &Plan<'_>, key: &[u8]) -> bool
         requires { length key.now ≤ 65535 }
-        ensures none { IsTrue result → self.now.left ≡ [] }
+        ensures none { IsTrue result → self.now.lists.parts ≡ [] }
         ensures few { IsTrue result → HasPlace self.now.groups }
-        ensures first { entries_of self.now.groups ≡ [] → self.now.left ≡ [] → result ≡ true }
+        ensures first { entries_of self.now.groups ≡ [] → self.now.lists.parts ≡ [] → result ≡ true }
     {
-        self.left.is_empty() && self.groups.has_room(key, self.limit)
-    }
-
-    /// Adds a group to the table. The only error is a failed allocation.
-    fn enter(&mut self, key: &[u8], states: &[u8]) -> Result<(), AllocError>
-        requires absent { HasNo self.old.groups.table self.old.groups.tree key.now }
-        requires key { length key.now ≤ 65535 }
-        requires states { length states.now ≡ length self.old.first }
-        requires few { HasPlace self.old.groups }
-        ensures entered { OnOk result (entries_of self.new.groups ≡ entries_of self.old.groups ++ (key.now, states.now) ∷ []) }
-        ensures left { self.new.left ≡ self.old.left }
-        ensures query { self.new.query ≡ self.old.query }
-    {
-        self.groups.enter(key, states)
-    }
-
-    /// Leaves a record for the next pass. The only error is a failed allocation.
-    fn leave(&mut self, next: Record<'a>) -> Result<(), AllocError>
-        ensures left { OnOk result (self.new.left ≡ self.old.left ++ next.entry ∷ []) }
-        ensures groups { self.new.groups ≡ self.old.groups }
-        ensures query { self.new.query ≡ self.old.query }
-    {
-        self.left.push(next)?;
-        Ok(())
-    }
-
-    /// Makes `states` those of a group of one row.
-    fn first_after(&self, row: &[Value<'_>], states: &mut Vec<u8>) -> Result<(), AllocError>
-        requires { HasKinds (meaning self.now.query).kinds (row_of row.now) }
-        ensures advanced { OnOk result ((most : ℕ) → most < most_rows →
-            AreStates (functions (meaning self.now.query)) (most + 1) states.new.items
-            (advanced (meaning self.now.query).aggregates (partials (meaning self.now.query) []) (row_of row.now))) }
-        ensures len { OnOk result (length states.new.items ≡ length self.now.first) }
-    {
-        states.clear();
-        states.extend_from_slice(&self.first)?;
-        advance_slice(self.query, states.as_mut_slice(), row);
-        Ok(())
+        self.lists.is_empty() && self.groups.has_room(key, plan.limit)
     }
 
     /// Reads a row that WHERE keeps, whose packed key this is. What `states` holds doesn't matter.
-    fn add_selected(
+    fn add_selected<D: TapeDisk>(
         &mut self,
-        packed: &'a [u8],
+        disk: &mut D,
+        plan: &Plan<'_>,
+        packed: &[u8],
         row: &[Value<'_>],
         key: &[u8],
         states: &mut Vec<u8>,
-    ) -> Result<(), AllocError>
-        requires row { HasKinds (meaning self.old.query).kinds (row_of row.now) × (packed.now ≡ packing (row_of row.now)) }
-        requires met { is_met (column_of (row_of row.now)) (meaning self.old.query).condition ≡ true }
-        requires key { key.now ≡ packing (key_of (meaning self.old.query) (row_of row.now)) }
-        requires can { CanRead self.old (kept.Row packed) }
-        ensures read { OnOk result (Reads self.old (kept.Row packed.entry) self.new) }
-        ensures proceeds { OnOk result (Proceeds self.old self.new) }
-        ensures query { self.new.query ≡ self.old.query }
+    ) -> Result<(), SpillError>
+        requires plan { IsPlan plan.now }
+        requires width { self.old.groups.table.width ≡ length plan.now.first.items }
+        requires alive { self.old.lists.tapes.is_dead ≡ false }
+        requires row { HasKinds (meaning plan.now.query.now).kinds (row_of row.now) × (packed.now ≡ packing (row_of row.now)) }
+        requires met { is_met (column_of (row_of row.now)) (meaning plan.now.query.now).condition ≡ true }
+        requires key { key.now ≡ packing (key_of (meaning plan.now.query.now) (row_of row.now)) }
+        ensures reads { OnOk result (Reads plan.now (H.hash_of self.old.groups.table.hash) (AreRows (meaning plan.now.query.now) (packed.now ∷ [])) (standing self.old.groups self.old.lists (D.last disk.old)) (standing self.new.groups self.new.lists (D.last disk.new))) }
+        ensures undamaged { IfErr result (λ error. CanRead plan.now (H.hash_of self.old.groups.table.hash) (AreRows (meaning plan.now.query.now) (packed.now ∷ [])) (standing self.old.groups self.old.lists (D.last disk.old)) → error ≢ TapeDamaged) }
+        ensures safe { OnOk result (AreSafe (meaning plan.now.query.now) plan.now.most (entries_of self.old.groups) → AreSafe (meaning plan.now.query.now) plan.now.most (entries_of self.new.groups)) }
+        ensures proceeds { OnOk result (Proceeds (entries_of self.old.groups) self.old.lists (entries_of self.new.groups) self.new.lists) }
+        ensures table { IsSameTable self.old.groups self.new.groups }
+        ensures lists { KeepsLists self.old.lists self.new.lists }
+        ensures alive { OnOk result (self.new.lists.tapes.is_dead ≡ false) }
+        ensures refused { IfErr result (IsReadRefusal (D.failures disk.old) (D.failures disk.new)) }
+        ensures disk { Moves (D.failures disk.old) (D.failures disk.new) (D.writes disk.old) (D.writes disk.new) (D.honest disk.old) (D.honest disk.new) }
     {
         if let Some(slot) = self.groups.find(key) {
-            self.groups.advance(self.query, slot, row);
+            return match self.groups.advance(plan.query, slot, row, plan.most) {
+                Ok(()) => Ok(()),
+                Err(BadState) => Err(SpillError::TapeDamaged),
+            };
+        }
+        if self.takes(plan, key) {
+            plan.first_after(row, states)?;
+            self.groups.enter(key, states)?;
             return Ok(());
         }
-        if self.takes(key) {
-            self.first_after(row, states)?;
-            return self.enter(key, states);
+        let hash = self.groups.hash(key);
+        self.lists.spill(disk, hash, ROW, packed)
+    }
+
+    /// Reads a group. What `tape_record` holds doesn't matter.
+    fn add_group<D: TapeDisk>(
+        &mut self,
+        disk: &mut D,
+        plan: &Plan<'_>,
+        key: &[u8],
+        states: &[u8],
+        tape_record: &mut Vec<u8>,
+    ) -> Result<(), SpillError>
+        requires plan { IsPlan plan.now }
+        requires width { self.old.groups.table.width ≡ length plan.now.first.items }
+        requires alive { self.old.lists.tapes.is_dead ≡ false }
+        requires group { (group : Group) × StandsFor (meaning plan.now.query.now) plan.now.most (key.now, states.now) group }
+        ensures reads { OnOk result ((m : ℕ) → Reads plan.now (H.hash_of self.old.groups.table.hash) (AreOfRun (meaning plan.now.query.now) m ((key.now, states.now) ∷ [])) (standing self.old.groups self.old.lists (D.last disk.old)) (standing self.new.groups self.new.lists (D.last disk.new))) }
+        ensures undamaged { IfErr result (λ error. (m : ℕ) → CanRead plan.now (H.hash_of self.old.groups.table.hash) (AreOfRun (meaning plan.now.query.now) m ((key.now, states.now) ∷ [])) (standing self.old.groups self.old.lists (D.last disk.old)) → error ≢ TapeDamaged) }
+        ensures safe { OnOk result (AreSafe (meaning plan.now.query.now) plan.now.most (entries_of self.old.groups) → AreSafe (meaning plan.now.query.now) plan.now.most (entries_of self.new.groups)) }
+        ensures proceeds { OnOk result (Proceeds (entries_of self.old.groups) self.old.lists (entries_of self.new.groups) self.new.lists) }
+        ensures table { IsSameTable self.old.groups self.new.groups }
+        ensures lists { KeepsLists self.old.lists self.new.lists }
+        ensures alive { OnOk result (self.new.lists.tapes.is_dead ≡ false) }
+        ensures refused { IfErr result (IsReadRefusal (D.failures disk.old) (D.failures disk.new)) }
+        ensures disk { Moves (D.failures disk.old) (D.failures disk.new) (D.writes disk.old) (D.writes disk.new) (D.honest disk.old) (D.honest disk.new) }
+    {
+        if let Some(slot) = self.groups.find(key) {
+            return match self.groups.combine(plan.query, slot, states, plan.most) {
+                Ok(()) => Ok(()),
+                Err(BadState) => Err(SpillError::TapeDamaged),
+            };
         }
-        self.leave(Record::Row(packed))
+        if self.takes(plan, key) {
+            self.groups.enter(key, states)?;
+            return Ok(());
+        }
+        let hash = self.groups.hash(key);
+        write_group(tape_record, key, states)?;
+        self.lists.spill(disk, hash, GROUP, tape_record)
     }
 
     /// Reads a packed row, if WHERE is true of it. What `row` and `buffers` hold doesn't matter.
-    fn add_row(
+    fn add_row<'r, D: TapeDisk>(
         &mut self,
-        packed: &'a [u8],
-        row: &mut Vec<Value<'a>>,
+        disk: &mut D,
+        plan: &Plan<'_>,
+        packed: &'r [u8],
+        row: &mut Vec<Value<'r>>,
         buffers: &mut Buffers,
-    ) -> Result<(), AllocError>
-        requires { CanRead self.old (kept.Row packed) }
-        ensures read { OnOk result (Reads self.old (kept.Row packed.entry) self.new) }
-        ensures proceeds { OnOk result (Proceeds self.old self.new) }
-        ensures query { self.new.query ≡ self.old.query }
+    ) -> Result<(), SpillError>
+        requires plan { IsPlan plan.now }
+        requires width { self.old.groups.table.width ≡ length plan.now.first.items }
+        requires alive { self.old.lists.tapes.is_dead ≡ false }
+        ensures reads { OnOk result (Reads plan.now (H.hash_of self.old.groups.table.hash) (AreRows (meaning plan.now.query.now) (packed.now ∷ [])) (standing self.old.groups self.old.lists (D.last disk.old)) (standing self.new.groups self.new.lists (D.last disk.new))) }
+        ensures undamaged { IfErr result (λ error. CanRead plan.now (H.hash_of self.old.groups.table.hash) (AreRows (meaning plan.now.query.now) (packed.now ∷ [])) (standing self.old.groups self.old.lists (D.last disk.old)) → error ≢ TapeDamaged) }
+        ensures safe { OnOk result (AreSafe (meaning plan.now.query.now) plan.now.most (entries_of self.old.groups) → AreSafe (meaning plan.now.query.now) plan.now.most (entries_of self.new.groups)) }
+        ensures brings { OnOk result (Brings (meaning plan.now.query.now) (AreRows (meaning plan.now.query.now) (packed.now ∷ [])) (entries_of self.old.groups) self.old.lists (entries_of self.new.groups) self.new.lists) }
+        ensures table { IsSameTable self.old.groups self.new.groups }
+        ensures lists { KeepsLists self.old.lists self.new.lists }
+        ensures alive { OnOk result (self.new.lists.tapes.is_dead ≡ false) }
+        ensures refused { IfErr result (IsReadRefusal (D.failures disk.old) (D.failures disk.new)) }
+        ensures disk { Moves (D.failures disk.old) (D.failures disk.new) (D.writes disk.old) (D.writes disk.new) (D.honest disk.old) (D.honest disk.new) }
     {
-        unpack(self.query, packed, row)?;
-        if !self.query.where_true(row) {
+        let Buffers { key, states, .. } = buffers;
+        if !plan.select(packed, row, key)? {
             return Ok(()); // It is passed over.
         }
-        let Buffers { key, states } = buffers;
-        pack_key_of(self.query, row, key)?;
-        self.add_selected(packed, row, key, states)
+        self.add_selected(disk, plan, packed, row, key, states)
     }
 
-    /// Reads a group.
-    fn add_group(&mut self, key: &'a [u8], states: &'a [u8]) -> Result<(), AllocError>
-        requires { CanRead self.old (kept.Group key states) }
-        ensures read { OnOk result (Reads self.old (kept.Group key.entry states.entry) self.new) }
-        ensures proceeds { OnOk result (Proceeds self.old self.new) }
-        ensures query { self.new.query ≡ self.old.query }
-    {
-        if let Some(slot) = self.groups.find(key) {
-            self.groups.combine(self.query, slot, states);
-            return Ok(());
-        }
-        if self.takes(key) {
-            return self.enter(key, states);
-        }
-        self.leave(Record::Group(key, states))
-    }
-
-    /// Reads a record. What `row` and `buffers` hold doesn't matter.
-    fn add_record(
+    /// Reads a record of a packed row, whose hash is that of its key, from a tape. What `buffers` holds doesn't matter.
+    fn add_row_record<D: TapeDisk>(
         &mut self,
-        next: Record<'a>,
-        row: &mut Vec<Value<'a>>,
+        alloc: Global,
+        disk: &mut D,
+        plan: &Plan<'_>,
+        hash: u32,
+        packed: &[u8],
         buffers: &mut Buffers,
-    ) -> Result<(), AllocError>
-        requires { CanRead self.old next }
-        ensures read { OnOk result (Reads self.old next.entry self.new) }
-        ensures proceeds { OnOk result (Proceeds self.old self.new) }
-        ensures query { self.new.query ≡ self.old.query }
+    ) -> Result<(), SpillError>
+        requires plan { IsPlan plan.now }
+        requires width { self.old.groups.table.width ≡ length plan.now.first.items }
+        requires alive { self.old.lists.tapes.is_dead ≡ false }
+        ensures reads { OnOk result (Reads plan.now (H.hash_of self.old.groups.table.hash) (ArePieces (meaning plan.now.query.now) (H.hash_of self.old.groups.table.hash) (record { hash = hash; tag = 0; bytes = packed.now } ∷ [])) (standing self.old.groups self.old.lists (D.last disk.old)) (standing self.new.groups self.new.lists (D.last disk.new))) }
+        ensures undamaged { IfErr result (λ error. CanRead plan.now (H.hash_of self.old.groups.table.hash) (ArePieces (meaning plan.now.query.now) (H.hash_of self.old.groups.table.hash) (record { hash = hash; tag = 0; bytes = packed.now } ∷ [])) (standing self.old.groups self.old.lists (D.last disk.old)) → error ≢ TapeDamaged) }
+        ensures safe { OnOk result (AreSafe (meaning plan.now.query.now) plan.now.most (entries_of self.old.groups) → AreSafe (meaning plan.now.query.now) plan.now.most (entries_of self.new.groups)) }
+        ensures proceeds { OnOk result (Proceeds (entries_of self.old.groups) self.old.lists (entries_of self.new.groups) self.new.lists) }
+        ensures table { IsSameTable self.old.groups self.new.groups }
+        ensures lists { KeepsLists self.old.lists self.new.lists }
+        ensures alive { OnOk result (self.new.lists.tapes.is_dead ≡ false) }
+        ensures refused { IfErr result (IsReadRefusal (D.failures disk.old) (D.failures disk.new)) }
+        ensures disk { Moves (D.failures disk.old) (D.failures disk.new) (D.writes disk.old) (D.writes disk.new) (D.honest disk.old) (D.honest disk.new) }
     {
-        match next {
-            Record::Row(packed) => self.add_row(packed, row, buffers),
-            Record::Group(key, states) => self.add_group(key, states),
+        let Buffers { key, states, .. } = buffers;
+        let mut row = Vec::with_capacity(alloc, plan.query.schema().width())?;
+        if !plan.select(packed, &mut row, key)? {
+            return Ok(()); // It is passed over.
+        }
+        if self.groups.hash(key) != hash {
+            return Err(SpillError::TapeDamaged);
+        }
+        self.add_selected(disk, plan, packed, &row, key, states)
+    }
+
+    /// Reads a record of a group, whose hash is that of its key, from a tape. What `buffers` holds doesn't matter.
+    fn add_group_record<D: TapeDisk>(
+        &mut self,
+        alloc: Global,
+        disk: &mut D,
+        plan: &Plan<'_>,
+        hash: u32,
+        bytes: &[u8],
+        buffers: &mut Buffers,
+    ) -> Result<(), SpillError>
+        requires plan { IsPlan plan.now }
+        requires width { self.old.groups.table.width ≡ length plan.now.first.items }
+        requires alive { self.old.lists.tapes.is_dead ≡ false }
+        ensures reads { OnOk result (Reads plan.now (H.hash_of self.old.groups.table.hash) (ArePieces (meaning plan.now.query.now) (H.hash_of self.old.groups.table.hash) (record { hash = hash; tag = 1; bytes = bytes.now } ∷ [])) (standing self.old.groups self.old.lists (D.last disk.old)) (standing self.new.groups self.new.lists (D.last disk.new))) }
+        ensures undamaged { IfErr result (λ error. CanRead plan.now (H.hash_of self.old.groups.table.hash) (ArePieces (meaning plan.now.query.now) (H.hash_of self.old.groups.table.hash) (record { hash = hash; tag = 1; bytes = bytes.now } ∷ [])) (standing self.old.groups self.old.lists (D.last disk.old)) → error ≢ TapeDamaged) }
+        ensures safe { OnOk result (AreSafe (meaning plan.now.query.now) plan.now.most (entries_of self.old.groups) → AreSafe (meaning plan.now.query.now) plan.now.most (entries_of self.new.groups)) }
+        ensures proceeds { OnOk result (Proceeds (entries_of self.old.groups) self.old.lists (entries_of self.new.groups) self.new.lists) }
+        ensures table { IsSameTable self.old.groups self.new.groups }
+        ensures lists { KeepsLists self.old.lists self.new.lists }
+        ensures alive { OnOk result (self.new.lists.tapes.is_dead ≡ false) }
+        ensures refused { IfErr result (IsReadRefusal (D.failures disk.old) (D.failures disk.new)) }
+        ensures disk { Moves (D.failures disk.old) (D.failures disk.new) (D.writes disk.old) (D.writes disk.new) (D.honest disk.old) (D.honest disk.new) }
+    {
+        let Some((key, states)) = split_group(bytes) else {
+            return Err(SpillError::TapeDamaged);
+        };
+        plan.check_group(alloc, key, states)?;
+        if self.groups.hash(key) != hash {
+            return Err(SpillError::TapeDamaged);
+        }
+        self.add_group(disk, plan, key, states, &mut buffers.tape_record)
+    }
+
+    /// Reads a record from a tape. `TapeDamaged` if it is none of the query. What `buffers` holds doesn't matter.
+    fn add_record<D: TapeDisk>(
+        &mut self,
+        alloc: Global,
+        disk: &mut D,
+        plan: &Plan<'_>,
+        hash: u32,
+        tag: u8,
+        bytes: &[u8],
+        buffers: &mut Buffers,
+    ) -> Result<(), SpillError>
+        requires plan { IsPlan plan.now }
+        requires width { self.old.groups.table.width ≡ length plan.now.first.items }
+        requires alive { self.old.lists.tapes.is_dead ≡ false }
+        requires tag { tag < 2 }
+        ensures reads { OnOk result (Reads plan.now (H.hash_of self.old.groups.table.hash) (ArePieces (meaning plan.now.query.now) (H.hash_of self.old.groups.table.hash) (record { hash = hash; tag = tag; bytes = bytes.now } ∷ [])) (standing self.old.groups self.old.lists (D.last disk.old)) (standing self.new.groups self.new.lists (D.last disk.new))) }
+        ensures undamaged { IfErr result (λ error. CanRead plan.now (H.hash_of self.old.groups.table.hash) (ArePieces (meaning plan.now.query.now) (H.hash_of self.old.groups.table.hash) (record { hash = hash; tag = tag; bytes = bytes.now } ∷ [])) (standing self.old.groups self.old.lists (D.last disk.old)) → error ≢ TapeDamaged) }
+        ensures safe { OnOk result (AreSafe (meaning plan.now.query.now) plan.now.most (entries_of self.old.groups) → AreSafe (meaning plan.now.query.now) plan.now.most (entries_of self.new.groups)) }
+        ensures proceeds { OnOk result (Proceeds (entries_of self.old.groups) self.old.lists (entries_of self.new.groups) self.new.lists) }
+        ensures table { IsSameTable self.old.groups self.new.groups }
+        ensures lists { KeepsLists self.old.lists self.new.lists }
+        ensures alive { OnOk result (self.new.lists.tapes.is_dead ≡ false) }
+        ensures refused { IfErr result (IsReadRefusal (D.failures disk.old) (D.failures disk.new)) }
+        ensures disk { Moves (D.failures disk.old) (D.failures disk.new) (D.writes disk.old) (D.writes disk.new) (D.honest disk.old) (D.honest disk.new) }
+    {
+        if tag == ROW {
+            self.add_row_record(alloc, disk, plan, hash, bytes, buffers)
+        } else {
+            self.add_group_record(alloc, disk, plan, hash, bytes, buffers)
         }
     }
 
     /// Reads packed rows. What `row` and `buffers` hold doesn't matter.
-    fn add_rows(
+    fn add_rows<'r, D: TapeDisk>(
         &mut self,
-        rows: &'a [Vec<u8>],
-        row: &mut Vec<Value<'a>>,
+        disk: &mut D,
+        plan: &Plan<'_>,
+        rows: &'r [Vec<u8>],
+        row: &mut Vec<Value<'r>>,
         buffers: &mut Buffers,
-    ) -> Result<(), AllocError>
-        requires { CanReadAll (AreRows (meaning self.old.query) (bytes_of rows.now)) self.old }
-        ensures read { OnOk result (ReadsAll (AreRows (meaning self.old.query) (bytes_of rows.now)) self.old self.new) }
-        ensures query { self.new.query ≡ self.old.query }
+    ) -> Result<(), SpillError>
+        requires plan { IsPlan plan.now }
+        requires width { self.old.groups.table.width ≡ length plan.now.first.items }
+        requires alive { self.old.lists.tapes.is_dead ≡ false }
+        ensures reads { OnOk result (Reads plan.now (H.hash_of self.old.groups.table.hash) (AreRows (meaning plan.now.query.now) (bytes_of rows.now)) (standing self.old.groups self.old.lists (D.last disk.old)) (standing self.new.groups self.new.lists (D.last disk.new))) }
+        ensures undamaged { IfErr result (λ error. CanRead plan.now (H.hash_of self.old.groups.table.hash) (AreRows (meaning plan.now.query.now) (bytes_of rows.now)) (standing self.old.groups self.old.lists (D.last disk.old)) → error ≢ TapeDamaged) }
+        ensures safe { OnOk result (AreSafe (meaning plan.now.query.now) plan.now.most (entries_of self.old.groups) → AreSafe (meaning plan.now.query.now) plan.now.most (entries_of self.new.groups)) }
+        ensures brings { OnOk result (Brings (meaning plan.now.query.now) (AreRows (meaning plan.now.query.now) (bytes_of rows.now)) (entries_of self.old.groups) self.old.lists (entries_of self.new.groups) self.new.lists) }
+        ensures table { IsSameTable self.old.groups self.new.groups }
+        ensures lists { KeepsLists self.old.lists self.new.lists }
+        ensures alive { OnOk result (self.new.lists.tapes.is_dead ≡ false) }
+        ensures refused { IfErr result (IsReadRefusal (D.failures disk.old) (D.failures disk.new)) }
+        ensures disk { Moves (D.failures disk.old) (D.failures disk.new) (D.writes disk.old) (D.writes disk.new) (D.honest disk.old) (D.honest disk.new) }
     {
         for packed in rows {
-            self.add_row(packed, row, buffers)?;
+            self.add_row(disk, plan, packed, row, buffers)?;
         }
         Ok(())
     }
 
     /// Reads packed rows that lie on end. What `row` and `buffers` hold doesn't matter.
-    fn add_flat(
+    fn add_flat<'r, D: TapeDisk>(
         &mut self,
-        rows: &'a PackedRows,
-        row: &mut Vec<Value<'a>>,
+        disk: &mut D,
+        plan: &Plan<'_>,
+        rows: &'r PackedRows,
+        row: &mut Vec<Value<'r>>,
         buffers: &mut Buffers,
-    ) -> Result<(), AllocError>
-        requires { CanReadAll (AreRows (meaning self.old.query) rows.now) self.old }
-        ensures read { OnOk result (ReadsAll (AreRows (meaning self.old.query) rows.now) self.old self.new) }
-        ensures query { self.new.query ≡ self.old.query }
+    ) -> Result<(), SpillError>
+        requires plan { IsPlan plan.now }
+        requires width { self.old.groups.table.width ≡ length plan.now.first.items }
+        requires alive { self.old.lists.tapes.is_dead ≡ false }
+        ensures reads { OnOk result (Reads plan.now (H.hash_of self.old.groups.table.hash) (AreRows (meaning plan.now.query.now) rows.now) (standing self.old.groups self.old.lists (D.last disk.old)) (standing self.new.groups self.new.lists (D.last disk.new))) }
+        ensures undamaged { IfErr result (λ error. CanRead plan.now (H.hash_of self.old.groups.table.hash) (AreRows (meaning plan.now.query.now) rows.now) (standing self.old.groups self.old.lists (D.last disk.old)) → error ≢ TapeDamaged) }
+        ensures safe { OnOk result (AreSafe (meaning plan.now.query.now) plan.now.most (entries_of self.old.groups) → AreSafe (meaning plan.now.query.now) plan.now.most (entries_of self.new.groups)) }
+        ensures brings { OnOk result (Brings (meaning plan.now.query.now) (AreRows (meaning plan.now.query.now) rows.now) (entries_of self.old.groups) self.old.lists (entries_of self.new.groups) self.new.lists) }
+        ensures table { IsSameTable self.old.groups self.new.groups }
+        ensures lists { KeepsLists self.old.lists self.new.lists }
+        ensures alive { OnOk result (self.new.lists.tapes.is_dead ≡ false) }
+        ensures refused { IfErr result (IsReadRefusal (D.failures disk.old) (D.failures disk.new)) }
+        ensures disk { Moves (D.failures disk.old) (D.failures disk.new) (D.writes disk.old) (D.writes disk.new) (D.honest disk.old) (D.honest disk.new) }
     {
         for place in 0..rows.len() {
-            self.add_row(rows.row(place), row, buffers)?;
+            self.add_row(disk, plan, rows.row(place), row, buffers)?;
         }
         Ok(())
     }
 
-    /// Reads the groups of a run.
-    fn add_run(&mut self, run: &'a Run) -> Result<(), AllocError>
-        requires { (most : ℕ) × CanReadAll (AreOfRun (meaning self.old.query) most run.now) self.old }
-        ensures read { OnOk result ((most : ℕ) → ReadsAll (AreOfRun (meaning self.old.query) most run.now) self.old self.new) }
-        ensures query { self.new.query ≡ self.old.query }
+    /// Reads the groups of a run, whose states count at most as many rows as are allowed. What `tape_record` holds doesn't matter.
+    fn add_run<D: TapeDisk>(
+        &mut self,
+        disk: &mut D,
+        plan: &Plan<'_>,
+        run: &Run,
+        tape_record: &mut Vec<u8>,
+    ) -> Result<(), SpillError>
+        requires plan { IsPlan plan.now }
+        requires width { self.old.groups.table.width ≡ length plan.now.first.items }
+        requires alive { self.old.lists.tapes.is_dead ≡ false }
+        requires run { IsRun (meaning plan.now.query.now) plan.now.most run.now }
+        ensures reads { OnOk result ((m : ℕ) → Reads plan.now (H.hash_of self.old.groups.table.hash) (AreOfRun (meaning plan.now.query.now) m run.now) (standing self.old.groups self.old.lists (D.last disk.old)) (standing self.new.groups self.new.lists (D.last disk.new))) }
+        ensures undamaged { IfErr result (λ error. (m : ℕ) → CanRead plan.now (H.hash_of self.old.groups.table.hash) (AreOfRun (meaning plan.now.query.now) m run.now) (standing self.old.groups self.old.lists (D.last disk.old)) → error ≢ TapeDamaged) }
+        ensures safe { OnOk result (AreSafe (meaning plan.now.query.now) plan.now.most (entries_of self.old.groups) → AreSafe (meaning plan.now.query.now) plan.now.most (entries_of self.new.groups)) }
+        ensures brings { OnOk result ((m : ℕ) → Brings (meaning plan.now.query.now) (AreOfRun (meaning plan.now.query.now) m run.now) (entries_of self.old.groups) self.old.lists (entries_of self.new.groups) self.new.lists) }
+        ensures table { IsSameTable self.old.groups self.new.groups }
+        ensures lists { KeepsLists self.old.lists self.new.lists }
+        ensures alive { OnOk result (self.new.lists.tapes.is_dead ≡ false) }
+        ensures refused { IfErr result (IsReadRefusal (D.failures disk.old) (D.failures disk.new)) }
+        ensures disk { Moves (D.failures disk.old) (D.failures disk.new) (D.writes disk.old) (D.writes disk.new) (D.honest disk.old) (D.honest disk.new) }
     {
         for place in 0..run.len() {
             let (key, states) = run.group(place);
-            self.add_group(key, states)?;
+            self.add_group(disk, plan, key, states, tape_record)?;
         }
         Ok(())
     }
 
     /// Reads what an input gives. What `row` and `buffers` hold doesn't matter.
-    pub(crate) fn add_input(
+    pub(crate) fn add_input<'r, D: TapeDisk>(
         &mut self,
-        input: Input<'a>,
-        row: &mut Vec<Value<'a>>,
+        disk: &mut D,
+        plan: &Plan<'_>,
+        input: Input<'r>,
+        row: &mut Vec<Value<'r>>,
         buffers: &mut Buffers,
-    ) -> Result<(), AllocError>
-        requires { CanReadAll (AreOf (meaning self.old.query) (brought input)) self.old }
-        ensures read { OnOk result (ReadsAll (AreOf (meaning self.old.query) (brought input.entry)) self.old self.new) }
-        ensures query { self.new.query ≡ self.old.query }
+    ) -> Result<(), SpillError>
+        requires plan { IsPlan plan.now }
+        requires width { self.old.groups.table.width ≡ length plan.now.first.items }
+        requires alive { self.old.lists.tapes.is_dead ≡ false }
+        requires input { IsInput (meaning plan.now.query.now) (brought input) }
+        requires few { rows_in (brought input) ≤ plan.now.most }
+        ensures reads { OnOk result (Reads plan.now (H.hash_of self.old.groups.table.hash) (AreOf (meaning plan.now.query.now) (brought input.entry)) (standing self.old.groups self.old.lists (D.last disk.old)) (standing self.new.groups self.new.lists (D.last disk.new))) }
+        ensures undamaged { IfErr result (λ error. CanRead plan.now (H.hash_of self.old.groups.table.hash) (AreOf (meaning plan.now.query.now) (brought input.entry)) (standing self.old.groups self.old.lists (D.last disk.old)) → error ≢ TapeDamaged) }
+        ensures safe { OnOk result (AreSafe (meaning plan.now.query.now) plan.now.most (entries_of self.old.groups) → AreSafe (meaning plan.now.query.now) plan.now.most (entries_of self.new.groups)) }
+        ensures brings { OnOk result (Brings (meaning plan.now.query.now) (AreOf (meaning plan.now.query.now) (brought input.entry)) (entries_of self.old.groups) self.old.lists (entries_of self.new.groups) self.new.lists) }
+        ensures table { IsSameTable self.old.groups self.new.groups }
+        ensures lists { KeepsLists self.old.lists self.new.lists }
+        ensures alive { OnOk result (self.new.lists.tapes.is_dead ≡ false) }
+        ensures refused { IfErr result (IsReadRefusal (D.failures disk.old) (D.failures disk.new)) }
+        ensures disk { Moves (D.failures disk.old) (D.failures disk.new) (D.writes disk.old) (D.writes disk.new) (D.honest disk.old) (D.honest disk.new) }
     {
         match input {
-            Input::Rows(rows) => self.add_rows(rows, row, buffers),
-            Input::Flat(rows) => self.add_flat(rows, row, buffers),
-            Input::Groups { run, .. } => self.add_run(run),
+            Input::Rows(rows) => self.add_rows(disk, plan, rows, row, buffers),
+            Input::Flat(rows) => self.add_flat(disk, plan, rows, row, buffers),
+            Input::Groups { run, .. } => self.add_run(disk, plan, run, &mut buffers.tape_record),
         }
     }
 
-    /// Reads records that were left. What `row` and `buffers` hold doesn't matter.
-    pub(crate) fn add_left(
+    /// Reads the records of the list that the pass reads. What `bytes` and `buffers` hold doesn't matter.
+    pub(crate) fn add_list<D: TapeDisk>(
         &mut self,
-        records: &[Record<'a>],
-        row: &mut Vec<Value<'a>>,
+        alloc: Global,
+        disk: &mut D,
+        plan: &Plan<'_>,
+        bytes: &mut Vec<u8>,
         buffers: &mut Buffers,
-    ) -> Result<(), AllocError>
-        requires { CanReadAll (ArePieces (meaning self.old.query) records.now) self.old }
-        ensures read { OnOk result (ReadsAll (ArePieces (meaning self.old.query) records.now) self.old self.new) }
-        ensures fewer { OnOk result (LeavesFewer self.old records.now self.new) }
-        ensures query { self.new.query ≡ self.old.query }
+    ) -> Result<(), SpillError>
+        requires plan { IsPlan plan.now }
+        requires width { self.old.groups.table.width ≡ length plan.now.first.items }
+        requires alive { self.old.lists.tapes.is_dead ≡ false }
+        requires empty { entries_of self.old.groups ≡ [] }
+        requires none { self.old.lists.parts ≡ [] }
+        ensures reads { OnOk result (IsTrue (D.honest disk.old) → ReadsList plan.now (H.hash_of self.old.groups.table.hash) (standing self.old.groups self.old.lists (D.last disk.old)) (standing self.new.groups self.new.lists (D.last disk.new))) }
+        ensures undamaged { IfErr result (λ error. IsTrue (D.honest disk.old) → CanReadList plan.now (H.hash_of self.old.groups.table.hash) (standing self.old.groups self.old.lists (D.last disk.old)) → error ≢ TapeDamaged) }
+        ensures safe { OnOk result (AreSafe (meaning plan.now.query.now) plan.now.most (entries_of self.new.groups)) }
+        ensures few { OnOk result (total (entries_of self.new.groups) self.new.lists ≤ ahead_number self.old.lists) }
+        ensures fewer { OnOk result (0 < ahead_number self.old.lists → spilled_number self.new.lists < ahead_number self.old.lists) }
+        ensures table { IsSameTable self.old.groups self.new.groups }
+        ensures source { OnOk result (self.new.lists.source ≡ []) }
+        ensures todo { self.new.lists.todo ≡ self.old.lists.todo }
+        ensures level { self.new.lists.level ≡ self.old.lists.level }
+        ensures alive { OnOk result (self.new.lists.tapes.is_dead ≡ false) }
+        ensures refused { IfErr result (IsReadRefusal (D.failures disk.old) (D.failures disk.new)) }
+        ensures disk { Moves (D.failures disk.old) (D.failures disk.new) (D.writes disk.old) (D.writes disk.new) (D.honest disk.old) (D.honest disk.new) }
     {
-        for next in records {
-            self.add_record(*next, row, buffers)?;
+        while let Some((hash, tag)) = self.lists.next(disk, bytes)? {
+            self.add_record(alloc, disk, plan, hash, tag, bytes, buffers)?;
         }
         Ok(())
     }
 
-    /// Ends the pass: its groups become a run, and the next pass begins with none. The result has what was left for it.
-    pub(crate) fn finish(&mut self, alloc: Global) -> Result<(Run, Vec<Record<'a>>), AllocError>
-        ensures run { IfOk result (λ made. IsPermutation (entries_of self.old.groups) made.0) }
-        ensures rises { IfOk result (λ made. Rises made.0) }
-        ensures left { IfOk result (λ made. made.1.items ≡ self.old.left) }
-        ensures emptied { OnOk result ((entries_of self.new.groups ≡ []) × (self.new.left ≡ [])) }
-        ensures query { self.new.query ≡ self.old.query }
+    /// Ends the pass: its groups become a run, the next pass begins with none, and what was spilled is left to later passes.
+    pub(crate) fn finish<D: TapeDisk>(
+        &mut self,
+        alloc: Global,
+        disk: &mut D,
+    ) -> Result<Run, SpillError>
+        requires alive { self.old.lists.tapes.is_dead ≡ false }
+        ensures run { IfOk result (λ run. IsPermutation (entries_of self.old.groups) run) }
+        ensures rises { IfOk result Rises }
+        ensures emptied { OnOk result (entries_of self.new.groups ≡ []) }
+        ensures left { OnOk result ((spilled ahead : List Record) (todo : List LeftList) → HasLists (D.last disk.old) self.old.lists spilled ahead todo → HasLists (D.last disk.new) self.new.lists [] ahead (todo ++ left_by self.old.lists.level spilled)) }
+        ensures parts { OnOk result (self.new.lists.parts ≡ []) }
+        ensures waiting { OnOk result (waiting_number self.new.lists ≡ waiting_number self.old.lists + spilled_number self.old.lists) }
+        ensures source { self.new.lists.source ≡ self.old.lists.source }
+        ensures table { IsSameTable self.old.groups self.new.groups }
+        ensures alive { OnOk result (self.new.lists.tapes.is_dead ≡ false) }
+        ensures refused { IfErr result (IsSpillRefusal (D.failures disk.old) (D.failures disk.new)) }
+        ensures disk { Moves (D.failures disk.old) (D.failures disk.new) (D.writes disk.old) (D.writes disk.new) (D.honest disk.old) (D.honest disk.new) }
     {
         let run = self.groups.sorted(alloc)?;
         self.groups.clear();
-        Ok((run, replace(&mut self.left, Vec::new(alloc))))
+        self.lists.end_pass(disk)?;
+        Ok(run)
     }
 }

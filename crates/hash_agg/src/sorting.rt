@@ -1,12 +1,15 @@
 //! Groups in the order of their keys.
 
-ghost use Rattle.std.specs.Prelude.{◌≡◌, ◌++◌, IfOk, OnOk, slice_index};
+ghost use Rattle.std.specs.Prelude.{◌≡◌, ◌≢◌, ◌++◌, IfOk, IfErr, OnOk, slice_index};
 ghost use Rattle.std.specs.List.{All};
 ghost use Rattle.std.specs.List.Sorted.{IsPermutation};
+ghost use Rattle.spill_lists.specs.Standing.{IsReadRefusal};
+ghost use Rattle.spill_lists.specs.declared.error.SpillError.TheVariants.{TapeDamaged};
 ghost use Rattle.hash_agg.specs.Runs.{Rises};
 ghost use Rattle.hash_agg.specs.Passes.{AreOnce, IsLed, pairs, all_in};
 
 use crate::run::Run;
+use spill_lists::SpillError;
 use std::alloc::{AllocError, Global};
 
 /// The key and the states of a group, behind the first eight bytes of the key as a number: most keys are told apart by
@@ -66,15 +69,36 @@ fn push_all<'a>(entries: &mut Vec<Led<'a>>, run: &'a Run) -> Result<(), AllocErr
     Ok(())
 }
 
-/// The groups of all these runs, no two of which have the same key, as one run.
-pub(crate) fn united(alloc: Global, runs: &[Run]) -> Result<Run, AllocError>
-    requires { AreOnce (all_in runs.now) }
+/// The groups of all these runs as one run. `TapeDamaged` if two of them have the same key.
+pub(crate) fn united(alloc: Global, runs: &[Run]) -> Result<Run, SpillError>
     ensures sorted { IfOk result (IsPermutation (all_in runs.now)) }
     ensures rises { IfOk result Rises }
+    ensures undamaged { IfErr result (λ error. AreOnce (all_in runs.now) → error ≢ TapeDamaged) }
+    ensures refused { IfErr result (IsReadRefusal 0 0) }
 {
     let mut entries = Vec::new(alloc);
     for run in runs {
         push_all(&mut entries, run)?;
     }
-    sorted(alloc, entries.as_mut_slice())
+    told_apart(alloc, entries.as_mut_slice())
+}
+
+/// Puts groups in the order of their keys. `TapeDamaged` if two of them have the same key.
+fn told_apart(alloc: Global, entries: &mut [Led<'_>]) -> Result<Run, SpillError>
+    requires led { All IsLed entries.old }
+    ensures sorted { IfOk result (IsPermutation (pairs entries.old)) }
+    ensures rises { IfOk result Rises }
+    ensures undamaged { IfErr result (λ error. AreOnce (pairs entries.old) → error ≢ TapeDamaged) }
+    ensures refused { IfErr result (IsReadRefusal 0 0) }
+{
+    entries.sort_unstable();
+    let mut run = Run::with_capacity(alloc, entries.len(), 0, 0)?;
+    for place in 0..entries.len() {
+        let (_, (key, states)) = entries[place];
+        if place > 0 && entries[place - 1].1.0 == key {
+            return Err(SpillError::TapeDamaged);
+        }
+        run.push(key, states)?;
+    }
+    Ok(run)
 }

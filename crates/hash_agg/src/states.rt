@@ -1,6 +1,6 @@
 //! The states of one group.
 
-ghost use Rattle.std.specs.Prelude.{◌≡◌, ◌+◌, ◌<◌, ◌≤◌, ℕ, List, [], map, length, drop, option_map, Some, None, slice_get, if◌then◌else◌, IfOk};
+ghost use Rattle.std.specs.Prelude.{◌≡◌, ◌+◌, ◌<◌, ◌≤◌, ℕ, List, [], map, length, drop, option_map, Some, None, slice_get, if◌then◌else◌, IfOk, OnOk, OnErr};
 ghost use Rattle.grouping_model.specs.Datum.{HasKinds};
 ghost use Rattle.grouping_model.specs.Aggregates.{Partial};
 ghost use Rattle.grouping_model.specs.Combining.{combine_all};
@@ -17,7 +17,7 @@ ghost use Rattle.having_filter.specs.Kept.{IsWellFormed};
 ghost use Rattle.having_filter.specs.Meaning.{meaning};
 ghost use Rattle.hash_agg.specs.Standing.{AreStates};
 ghost use Rattle.hash_agg.specs.Adding.{partial_after_row};
-ghost use Rattle.hash_agg.specs.Steps.{SomeHaveRoomForRow, SomeAdvanceBy, HaveRoomForRow, AdvanceBy, HaveRoomForMore, CombineWith};
+ghost use Rattle.hash_agg.specs.Steps.{SomeAreWithin, SomeHaveRoomForRow, SomeAdvanceBy, HaveRoomForRow, AreAdvanced, HaveRoomWithin, AreCombined, HaveRoomForMore, CombineWith};
 
 use agg_library::{AggKind, MOST_ROWS, StateRow};
 use agg_protocol::BadState;
@@ -44,58 +44,82 @@ fn reach<'a>(query: &Query, place: usize, row: &[Value<'a>]) -> Option<Value<'a>
     }
 }
 
-/// Moves the state of one aggregate on by a row.
-fn advance_one(query: &Query, place: usize, kind: AggKind, part: &mut [u8], row: &[Value<'_>])
+/// Moves the state of one aggregate on by a row, if it counts at most so many rows then.
+fn advance_one(
+    query: &Query,
+    place: usize,
+    kind: AggKind,
+    part: &mut [u8],
+    row: &[Value<'_>],
+    most: u64,
+) -> Result<(), BadState>
     requires formed { IsWellFormed (meaning query.now) }
     requires row { HasKinds (meaning query.now).kinds (row_of row.now) }
     requires kind { option_map (λ a. a.function) (slice_get (meaning query.now).aggregates place)
         ≡ Some (function_of kind) }
-    requires room { (most : ℕ) × (p : Partial) × states.Denotes most (kind_shape kind) part.old p
-        × (most < most_rows) }
-    ensures { (most : ℕ) (p : Partial) (a : Aggregate) →
-        slice_get (meaning query.now).aggregates place ≡ Some a → most < most_rows →
-        states.Denotes most (kind_shape kind) part.old p →
-        states.Denotes (most + 1) (kind_shape kind) part.new
-        (partial_after_row a p (row_of row.now)) }
+    requires most { most ≤ most_rows }
+    ensures moved { OnOk result ((m : ℕ) (p : Partial) (a : Aggregate) →
+        slice_get (meaning query.now).aggregates place ≡ Some a → m < most →
+        states.Denotes m (kind_shape kind) part.old p →
+        states.Denotes (m + 1) (kind_shape kind) part.new
+        (partial_after_row a p (row_of row.now))) }
+    ensures within { OnOk result ((p : Partial) × states.Denotes most (kind_shape kind) part.new p) }
+    ensures refused { OnErr result ((m : ℕ) (p : Partial) → m < most →
+        ¬ states.Denotes m (kind_shape kind) part.old p) }
 {
     let reach = reach(query, place, row);
-    match StateRow::advance(kind, part, reach, MOST_ROWS) {
-        Ok(()) => {}
-        Err(BadState) => unreachable!(),
-    }
+    StateRow::advance(kind, part, reach, most)
 }
 
-/// Moves the states of the aggregates from a place on by a row.
+/// Moves the states of the aggregates from a place on by a row, if they count at most so many rows then.
 fn advance_from(
     query: &Query,
     place: usize,
     kinds: &[AggKind],
     states: &mut [u8],
     row: &[Value<'_>],
-)
+    most: u64,
+) -> Result<(), BadState>
     requires formed { IsWellFormed (meaning query.now) }
     requires row { HasKinds (meaning query.now).kinds (row_of row.now) }
     requires kinds { functions_of kinds.now
         ≡ map (λ a. a.function) (drop place (meaning query.now).aggregates) }
-    requires room { SomeHaveRoomForRow kinds.now states.old }
-    ensures { SomeAdvanceBy (drop place (meaning query.now).aggregates) kinds.now states.old
-        (row_of row.now) states.new }
+    requires most { most ≤ most_rows }
+    ensures moved { OnOk result (SomeAdvanceBy (drop place (meaning query.now).aggregates) kinds.now most
+        states.old (row_of row.now) states.new) }
+    ensures within { OnOk result (SomeAreWithin kinds.now most states.new) }
+    ensures refused { OnErr result (¬ SomeHaveRoomForRow kinds.now most states.old) }
 {
-    if let Some((kind, kinds)) = kinds.split_first() {
-        let (part, rest) = states.split_at_mut(kind.width());
-        advance_one(query, place, *kind, part, row);
-        advance_from(query, place + 1, kinds, rest, row);
+    let Some((kind, kinds)) = kinds.split_first() else {
+        return if states.is_empty() {
+            Ok(())
+        } else {
+            Err(BadState)
+        };
+    };
+    if states.len() < kind.width() {
+        return Err(BadState);
     }
+    let (part, rest) = states.split_at_mut(kind.width());
+    advance_one(query, place, *kind, part, row, most)?;
+    advance_from(query, place + 1, kinds, rest, row, most)
 }
 
-/// Moves the states of a group on by a row.
-pub(crate) fn advance_slice(query: &Query, states: &mut [u8], row: &[Value<'_>])
+/// Moves the states of a group on by a row. They are refused if they are none of the query, or would count more than `most` rows
+/// then; what is left of them doesn't matter.
+pub(crate) fn advance_slice(
+    query: &Query,
+    states: &mut [u8],
+    row: &[Value<'_>],
+    most: u64,
+) -> Result<(), BadState>
     requires formed { IsWellFormed (meaning query.now) }
     requires row { HasKinds (meaning query.now).kinds (row_of row.now) }
-    requires room { HaveRoomForRow (functions (meaning query.now)) states.old }
-    ensures { AdvanceBy (meaning query.now) states.old (row_of row.now) states.new }
+    requires most { most ≤ most_rows }
+    ensures advanced { OnOk result (AreAdvanced (meaning query.now) most states.old (row_of row.now) states.new) }
+    ensures refused { OnErr result (¬ HaveRoomForRow (functions (meaning query.now)) most states.old) }
 {
-    advance_from(query, 0, query.agg_kinds(), states, row);
+    advance_from(query, 0, query.agg_kinds(), states, row, most)
 }
 
 /// The bytes of a group's states before any row. The only error is a failed allocation.
@@ -109,12 +133,26 @@ pub fn first_states(alloc: Global, query: &Query) -> Result<Vec<u8>, AllocError>
     Ok(states)
 }
 
+/// Combines the states of a group with others of its key, which come behind, if they count at most so many rows then.
+pub(crate) fn combine_within(
+    query: &Query,
+    states: &mut [u8],
+    more: &[u8],
+    most: u64,
+) -> Result<(), BadState>
+    requires most { most ≤ most_rows }
+    ensures combined { OnOk result (AreCombined (functions (meaning query.now)) most states.old more.now states.new) }
+    ensures refused { OnErr result (¬ HaveRoomWithin (functions (meaning query.now)) most states.old more.now) }
+{
+    StateRow::combine_into(query.agg_kinds(), states, more, most)
+}
+
 /// Combines the states of a group with others of its key, which come behind.
 pub(crate) fn combine_slice(query: &Query, states: &mut [u8], more: &[u8])
     requires { HaveRoomForMore (functions (meaning query.now)) states.old more.now }
     ensures { CombineWith (functions (meaning query.now)) states.old more.now states.new }
 {
-    match StateRow::combine_into(query.agg_kinds(), states, more, MOST_ROWS) {
+    match combine_within(query, states, more, MOST_ROWS) {
         Ok(()) => {}
         Err(BadState) => unreachable!(),
     }

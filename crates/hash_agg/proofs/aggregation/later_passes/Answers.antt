@@ -1,62 +1,123 @@
-use Rattle.std.specs.Prelude.{◌≡◌, refl, ◌++◌, ◌∷◌, List, [], length}
-use Rattle.std.proofs.Common.{sym, ◌∙◌, ap, subst, rules, append-nil}
+use Rattle.std.specs.Prelude.{◌≡◌, refl, ◌++◌, ◌∷◌, ℕ, List, [], length, IsTrue}
+use Rattle.std.proofs.Common.{sym, ◌∙◌, ap, subst, arith, append-nil}
+use Rattle.std.proofs.lemmas.List.{length-append}
+use Rattle.std.proofs.lemmas.List.Sorted.{length_permutation}
 use Rattle.std.specs.List.Sorted.{IsPermutation}
-use Rattle.having_filter.specs.Meaning.{Checked, meaning}
-use Rattle.hash_agg.specs.declared.record.Record.{Record}
+use Rattle.grouping_model.specs.Query.{Query}
+use Rattle.spill_lists.specs.Standing.{count_of, waiting_number}
+use Rattle.having_filter.specs.Meaning.{meaning}
 use Rattle.hash_agg.specs.Runs.{Entry}
-use Rattle.hash_agg.specs.Passes.{AreOnce, Stands, ArePieces, CanReadAll, ReadsAll, all_in}
-use Rattle.hash_agg.proofs.KeyLaws.{if_ok}
+use Rattle.hash_agg.specs.Passes.{AreOnce, AreSafe, ReadsList, CanReadList, entries_of, standing, all_in}
+use Rattle.hash_agg.proofs.DiskLaws.{moves_none, moves_twice}
 use Rattle.hash_agg.proofs.SortLaws.{rises_once}
-use Rattle.hash_agg.proofs.UnionLaws.{can_go_on, goes_on, next_stands, next_once, moved_stands, one_run_more, nothing_in}
+use Rattle.hash_agg.proofs.UnionLaws.{one_run_more, safe_append, safe_moved, moved_stands}
+use Rattle.hash_agg.proofs.KeyLaws.{if_ok}
+use Rattle.hash_agg.proofs.StepLaws.{err_out, on_error}
+use Rattle.hash_agg.proofs.LaterLaws.{IsWaiting, pass_can, pass_made, waiting_ends}
 use Rattle.hash_agg.proofs.aggregation.later_passes.Goals as goal
 
 pub loop-pass-init : goal.loop-pass-init
-loop-pass-init c =
+loop-pass-init g c =
+    let q : Query = meaning c.args.plan.now.query.now in
+    let hf : List ℕ → ℕ = g.H.KeyHash.hash_of c.args.pass.now.groups.table.hash in
     let one : all_in c.push.new.self.items ≡ c.args.run = ap all_in (c.in_ok-push.ensures.items ∙ ap (λ rs. rs ++ c.args.run ∷ []) c.new-runs.ensures.items) ∙ append-nil c.args.run in
-    record { query = refl; empty = c.requires.empty; none = c.requires.none; once = subst AreOnce (sym one) (rises_once c.args.run c.requires.rises); stands = λ pieces holds count. holds }
+    let long = ap length one in
+    record {
+      width = c.requires.width;
+      hash = refl;
+      alive = c.requires.alive;
+      empty = c.requires.empty;
+      parts = c.requires.parts;
+      source = c.requires.source;
+      moves = moves_none (g.D.TapeDisk.failures c.args.disk.now) (g.D.TapeDisk.writes c.args.disk.now) (g.D.TapeDisk.honest c.args.disk.now);
+      safe = subst (AreSafe q c.args.plan.now.most) (sym one) c.requires.safe;
+      few = omega (arith, long);
+      waits = λ honest pieces todo has waits count.
+          subst (λ es. IsWaiting q hf pieces es c.args.pass.now.lists (g.D.TapeDisk.last c.args.disk.now)) (sym one)
+          (record { todo = todo; has = has; waits = waits; once = rises_once c.args.run c.requires.rises });
+    }
 
-pub add_left-requires : goal.add_left-requires
-add_left-requires c =
-    let q : Checked = c.args.pass.now.query in
+pub returns-in_err-add_list-clause-undamaged : goal.returns-in_err-add_list-clause-undamaged
+returns-in_err-add_list-clause-undamaged g c =
+    let hf : List ℕ → ℕ = g.H.KeyHash.hash_of c.args.pass.now.groups.table.hash in
     let i = c.loop-pass.invariant in
-    let one : all_in c.push.new.self.items ≡ c.args.run = ap all_in (c.in_ok-push.ensures.items ∙ ap (λ rs. rs ++ c.args.run ∷ []) c.new-runs.ensures.items) ∙ append-nil c.args.run in
-    let has = c.requires.stands in
-    let s = i.stands has.0 (subst (λ es. Stands (meaning q) has.0 es c.args.left.items) (sym one) has.1) has.2 in
-    subst (λ (l : List Record). CanReadAll (ArePieces (meaning c.loop-pass.pass.query) l) c.loop-pass.pass) (sym c.deref.ensures.value)
-    (can_go_on q has.0 (all_in c.loop-pass.runs.items) c.loop-pass.left.items c.loop-pass.pass i.query i.empty i.none s has.2)
+    err_out c.from_residual-in_err-add_list.result c.in_err-add_list.field-0.0 _ c.from_residual-in_err-add_list.ensures.1
+    (λ honest pieces todo has waits count.
+    c.in_err-add_list.ensures.undamaged (subst IsTrue (sym i.moves.honesty) honest)
+    (subst (λ hash. CanReadList c.args.plan.now (g.H.KeyHash.hash_of hash) (standing c.loop-pass.pass.groups c.begin_pass.new.self (g.D.TapeDisk.last c.loop-pass.disk))) (sym i.hash)
+    (pass_can c.args.plan.now hf pieces (all_in c.loop-pass.runs.items) (entries_of c.loop-pass.pass.groups) c.loop-pass.pass.lists c.begin_pass.new.self (g.D.TapeDisk.last c.loop-pass.disk) (i.waits honest pieces todo has waits count) count
+    (c.begin_pass.ensures.begins c.loop-pass-test.true))))
 
 pub loop-pass-preserved : goal.loop-pass-preserved
-loop-pass-preserved c =
-    let q : Checked = c.args.pass.now.query in
+loop-pass-preserved g c =
+    let q : Query = meaning c.args.plan.now.query.now in
+    let hf : List ℕ → ℕ = g.H.KeyHash.hash_of c.args.pass.now.groups.table.hash in
     let i = c.loop-pass.invariant in
-    let one : all_in c.push.new.self.items ≡ c.args.run = ap all_in (c.in_ok-push.ensures.items ∙ ap (λ rs. rs ++ c.args.run ∷ []) c.new-runs.ensures.items) ∙ append-nil c.args.run in
-    let has = c.requires.stands in
     let f = c.in_ok-run.ensures in
+    let a = c.in_ok-add_list.ensures in
     let run : List Entry = c.in_ok-run.run' in
     let more : all_in c.push-in-loop-pass.new.self.items ≡ all_in c.loop-pass.runs.items ++ run = ap all_in (c.in_ok-push-2.ensures.items) ∙ one_run_more c.loop-pass.runs.items run in
-    let s = i.stands has.0 (subst (λ es. Stands (meaning q) has.0 es c.args.left.items) (sym one) has.1) has.2 in
-    let reads = subst (λ (l : List Record). ReadsAll (ArePieces (meaning c.loop-pass.pass.query) l) c.loop-pass.pass c.add_left.new.self) c.deref.ensures.value c.in_ok-add_left.ensures.read in
-    let t = goes_on q has.0 (all_in c.loop-pass.runs.items) c.loop-pass.left.items c.loop-pass.pass i.query i.empty i.none s has.2 c.add_left.new.self run c.in_ok-run.rest.items reads f.run f.rises f.left in
+    let both = ap length more ∙ length-append (all_in c.loop-pass.runs.items) run in
+    let many = length_permutation (entries_of c.add_list.new.self.groups) run f.run in
+    let made = a.few in
+    let left = f.waiting in
+    let same : waiting_number c.add_list.new.self.lists ≡ waiting_number c.begin_pass.new.self = ap count_of a.todo in
+    let counted = c.begin_pass.ensures.counted in
+    let before = i.few in
     record {
-      query = f.query ∙ c.in_ok-add_left.ensures.query ∙ i.query;
-      empty = f.emptied.0;
-      none = f.emptied.1;
-      once = subst AreOnce (sym more) (next_once (meaning q) has.0 (all_in c.loop-pass.runs.items) run c.loop-pass.left.items c.in_ok-run.rest.items s t i.once (rises_once run f.rises));
-      stands = λ pieces holds count.
-          let s = i.stands pieces holds count in
-          let t = goes_on q pieces (all_in c.loop-pass.runs.items) c.loop-pass.left.items c.loop-pass.pass i.query i.empty i.none s count c.add_left.new.self run c.in_ok-run.rest.items reads f.run f.rises f.left in
-          subst (λ es. Stands (meaning q) pieces es c.in_ok-run.rest.items) (sym more) (next_stands (meaning q) pieces (all_in c.loop-pass.runs.items) run c.loop-pass.left.items c.in_ok-run.rest.items s t);
+      width = f.table.width ∙ a.table.width ∙ i.width;
+      hash = f.table.hash ∙ a.table.hash ∙ i.hash;
+      alive = f.alive;
+      empty = f.emptied;
+      parts = f.parts;
+      source = f.source ∙ a.source;
+      moves = moves_twice (g.D.TapeDisk.failures c.args.disk.now) (g.D.TapeDisk.failures c.add_list.new.disk) (g.D.TapeDisk.failures c.finish.new.disk) (g.D.TapeDisk.writes c.args.disk.now) (g.D.TapeDisk.writes c.add_list.new.disk) (g.D.TapeDisk.writes c.finish.new.disk) (g.D.TapeDisk.honest c.args.disk.now) (g.D.TapeDisk.honest c.add_list.new.disk) (g.D.TapeDisk.honest c.finish.new.disk)
+          (moves_twice (g.D.TapeDisk.failures c.args.disk.now) (g.D.TapeDisk.failures c.loop-pass.disk) (g.D.TapeDisk.failures c.add_list.new.disk) (g.D.TapeDisk.writes c.args.disk.now) (g.D.TapeDisk.writes c.loop-pass.disk) (g.D.TapeDisk.writes c.add_list.new.disk) (g.D.TapeDisk.honest c.args.disk.now) (g.D.TapeDisk.honest c.loop-pass.disk) (g.D.TapeDisk.honest c.add_list.new.disk) i.moves c.add_list.ensures.disk)
+          c.finish.ensures.disk;
+      safe = subst (AreSafe q c.args.plan.now.most) (sym more) (safe_append q c.args.plan.now.most (all_in c.loop-pass.runs.items) run i.safe (safe_moved q c.args.plan.now.most (entries_of c.add_list.new.self.groups) run a.safe f.run));
+      few = omega (arith, both, many, made, left, same, counted, before);
+      waits = λ honest pieces todo has waits count.
+          subst (λ es. IsWaiting q hf pieces es c.finish.new.self.lists (g.D.TapeDisk.last c.finish.new.disk)) (sym more)
+          (pass_made c.args.plan.now hf pieces (all_in c.loop-pass.runs.items) (entries_of c.loop-pass.pass.groups) c.loop-pass.pass.lists c.begin_pass.new.self (g.D.TapeDisk.last c.loop-pass.disk) (i.waits honest pieces todo has waits count) count
+          (c.begin_pass.ensures.begins c.loop-pass-test.true)
+          c.add_list.new.self.lists c.finish.new.self.lists (g.D.TapeDisk.last c.add_list.new.disk) (g.D.TapeDisk.last c.finish.new.disk) (entries_of c.add_list.new.self.groups) run
+          (subst (λ hash. ReadsList c.args.plan.now (g.H.KeyHash.hash_of hash) (standing c.loop-pass.pass.groups c.begin_pass.new.self (g.D.TapeDisk.last c.loop-pass.disk)) (standing c.add_list.new.self.groups c.add_list.new.self.lists (g.D.TapeDisk.last c.add_list.new.disk))) i.hash
+          (a.reads (subst IsTrue (sym i.moves.honesty) honest)))
+          f.run f.rises f.left);
     }
 
 pub returns-clause-stands : goal.returns-clause-stands
-returns-clause-stands c =
-    let q : Checked = c.args.pass.now.query in
+returns-clause-stands g c =
+    let q : Query = meaning c.args.plan.now.query.now in
+    let hf : List ℕ → ℕ = g.H.KeyHash.hash_of c.args.pass.now.groups.table.hash in
     let i = c.loop-pass.invariant in
-    let one : all_in c.push.new.self.items ≡ c.args.run = ap all_in (c.in_ok-push.ensures.items ∙ ap (λ rs. rs ++ c.args.run ∷ []) c.new-runs.ensures.items) ∙ append-nil c.args.run in
-    let long : length c.loop-pass.left.items ≡ 0 = search rules in
-    let empty : c.loop-pass.left.items ≡ [] = nothing_in c.loop-pass.left.items long in
-    if_ok c.united.result (IsPermutation (all_in c.deref-2.result.now)) _
-    (λ all moved pieces holds count.
-    moved_stands (meaning q) pieces (all_in c.loop-pass.runs.items) all [] (subst (λ (rs : List (List Entry)). IsPermutation (all_in rs) all) c.deref-2.ensures.value moved) i.once
-    (subst (λ l. Stands (meaning q) pieces (all_in c.loop-pass.runs.items) l) empty (i.stands pieces (subst (λ es. Stands (meaning q) pieces es c.args.left.items) (sym one) holds) count)))
+    if_ok c.united.result (IsPermutation (all_in c.deref.result.now)) _
+    (λ all moved honest pieces todo has waits count.
+    let w = i.waits honest pieces todo has waits count in
+    moved_stands q hf pieces (all_in c.loop-pass.runs.items) all [] (subst (λ (rs : List (List Entry)). IsPermutation (all_in rs) all) c.deref.ensures.value moved) w.once
+    (waiting_ends q hf pieces (all_in c.loop-pass.runs.items) c.loop-pass.pass.lists (g.D.TapeDisk.last c.loop-pass.disk) (c.begin_pass.ensures.none c.loop-pass-test.false) w))
     c.united.ensures.sorted
+
+pub returns-clause-safe : goal.returns-clause-safe
+returns-clause-safe g c =
+    let q : Query = meaning c.args.plan.now.query.now in
+    if_ok c.united.result (IsPermutation (all_in c.deref.result.now)) _
+    (λ all moved. safe_moved q c.args.plan.now.most (all_in c.loop-pass.runs.items) all c.loop-pass.invariant.safe (subst (λ (rs : List (List Entry)). IsPermutation (all_in rs) all) c.deref.ensures.value moved))
+    c.united.ensures.sorted
+
+pub returns-clause-few : goal.returns-clause-few
+returns-clause-few g c =
+    if_ok c.united.result (IsPermutation (all_in c.deref.result.now)) _
+    (λ all moved.
+    let many = length_permutation (all_in c.loop-pass.runs.items) all (subst (λ (rs : List (List Entry)). IsPermutation (all_in rs) all) c.deref.ensures.value moved) in
+    let few = c.loop-pass.invariant.few in
+    omega (arith, many, few))
+    c.united.ensures.sorted
+
+pub returns-clause-undamaged : goal.returns-clause-undamaged
+returns-clause-undamaged g c =
+    let i = c.loop-pass.invariant in
+    on_error c.united.result
+    (λ error right honest pieces todo has waits count.
+    right (subst (λ (rs : List (List Entry)). AreOnce (all_in rs)) (sym c.deref.ensures.value) (i.waits honest pieces todo has waits count).once))
+    c.united.ensures.undamaged

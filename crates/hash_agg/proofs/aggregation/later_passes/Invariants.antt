@@ -1,18 +1,31 @@
-use Rattle.std.specs.Prelude.{◌≡◌, List, [], length}
-use Rattle.agg_protocol.specs.States.{most_rows}
+use Rattle.std.specs.Prelude.{◌≡◌, ◌+◌, ◌≤◌, List, [], false, length, IsTrue}
+use Rattle.spill_lists.specs.Lists.{LeftList}
+use Rattle.spill_lists.specs.Standing.{HasLists, Moves, waiting_number}
 use Rattle.having_filter.specs.Meaning.{meaning}
-use Rattle.hash_agg.specs.Passes.{Piece, AreOnce, Stands, CountUpTo, entries_of, all_in}
+use Rattle.hash_agg.specs.Passes.{Piece, AreSafe, CountUpTo, entries_of, all_in}
+use Rattle.hash_agg.specs.Waiting.{Waits}
+use Rattle.hash_agg.proofs.LaterLaws.{IsWaiting}
 use Rattle.hash_agg.proofs.aggregation.later_passes.Given as goal
 
 abbrev pub invariant-loop-pass : goal.invariant-loop-pass
-invariant-loop-pass l =
+invariant-loop-pass g l =
     record {
-      query : l.pass.query ≡ l.initial.pass.query;
+      width : l.pass.groups.table.width ≡ length l.plan.first.items;
+      hash : l.pass.groups.table.hash ≡ l.fn.pass.groups.table.hash;
+      alive : l.pass.lists.tapes.is_dead ≡ false;
       empty : entries_of l.pass.groups ≡ [];
-      none : l.pass.left ≡ [];
-      once : AreOnce (all_in l.runs.items);
-      stands : (pieces : List Piece) → Stands (meaning l.initial.pass.query) pieces (all_in l.initial.runs.items) l.initial.left.items → CountUpTo (meaning l.initial.pass.query) most_rows pieces → Stands (meaning l.initial.pass.query) pieces (all_in l.runs.items) l.left.items;
+      parts : l.pass.lists.parts ≡ [];
+      source : l.pass.lists.source ≡ [];
+      moves : Moves (g.D.TapeDisk.failures l.fn.disk) (g.D.TapeDisk.failures l.disk) (g.D.TapeDisk.writes l.fn.disk) (g.D.TapeDisk.writes l.disk) (g.D.TapeDisk.honest l.fn.disk) (g.D.TapeDisk.honest l.disk);
+      safe : AreSafe (meaning l.plan.query.now) l.plan.most (all_in l.runs.items);
+      few : length (all_in l.runs.items) + waiting_number l.pass.lists ≤ length l.fn.run + waiting_number l.fn.pass.lists;
+      waits :
+          IsTrue (g.D.TapeDisk.honest l.fn.disk) → (pieces : List Piece) (todo : List LeftList)
+          → HasLists (g.D.TapeDisk.last l.fn.disk) l.fn.pass.lists [] [] todo
+          → Waits (meaning l.plan.query.now) (g.H.KeyHash.hash_of l.fn.pass.groups.table.hash) pieces l.fn.run todo
+          → CountUpTo (meaning l.plan.query.now) l.plan.most pieces
+          → IsWaiting (meaning l.plan.query.now) (g.H.KeyHash.hash_of l.fn.pass.groups.table.hash) pieces (all_in l.runs.items) l.pass.lists (g.D.TapeDisk.last l.disk);
     }
 
 abbrev pub decreases-loop-pass : goal.decreases-loop-pass
-decreases-loop-pass l = length l.left.items
+decreases-loop-pass g l = waiting_number l.pass.lists

@@ -7,7 +7,7 @@ use Rattle.hash_agg.proofs.SortLaws.{more_pairs, take_next}
 use Rattle.hash_agg.proofs.groups.Groups.sorted.Goals as goal
 
 pub loop-place-preserved : goal.loop-place-preserved
-loop-place-preserved c = (
+loop-place-preserved g c = (
   ap pairs c.in_ok-push.ensures.items
       ∙ more_pairs c.loop-place.entries.items c.led.result
       ∙ ap (λ group. pairs c.loop-place.entries.items ++ (group.0.now, group.1.now) ∷ []) c.led.ensures.group

@@ -4,4 +4,4 @@ use Rattle.hash_agg.specs.Passes.{IsLed, pairs, entries_of}
 use Rattle.hash_agg.proofs.groups.Groups.sorted.Given as goal
 
 abbrev pub invariant-loop-place : goal.invariant-loop-place
-invariant-loop-place l = (pairs l.entries.items ≡ take l.place (entries_of l.self)) × All IsLed l.entries.items
+invariant-loop-place g l = (pairs l.entries.items ≡ take l.place (entries_of l.self)) × All IsLed l.entries.items

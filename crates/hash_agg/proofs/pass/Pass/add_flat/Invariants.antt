@@ -1,6 +1,16 @@
 use Rattle.having_filter.specs.Meaning.{meaning}
-use Rattle.hash_agg.specs.Passes.{HasRead, AreRows}
+use Rattle.spill_lists.specs.Standing.{Moves}
+use Rattle.hash_agg.specs.Passes.{standing, entries_of, ReadsSome, AreRows}
+use Rattle.hash_agg.proofs.StepLaws.{BringsSome}
+use Rattle.hash_agg.proofs.LoopLaws.{Keeps}
 use Rattle.hash_agg.proofs.pass.Pass.add_flat.Given as goal
 
 abbrev pub invariant-loop-place : goal.invariant-loop-place
-invariant-loop-place l = HasRead (AreRows (meaning l.initial.self.query) l.rows) l.initial.self l.place l.self
+invariant-loop-place g l =
+    record {
+      reads : ReadsSome l.plan (g.H.KeyHash.hash_of l.fn.self.groups.table.hash) (AreRows (meaning l.plan.query.now) l.rows) l.place
+          (standing l.fn.self.groups l.fn.self.lists (g.D.TapeDisk.last l.fn.disk)) (standing l.self.groups l.self.lists (g.D.TapeDisk.last l.disk));
+      brings : BringsSome (meaning l.plan.query.now) (AreRows (meaning l.plan.query.now) l.rows) l.place (entries_of l.fn.self.groups) l.fn.self.lists (entries_of l.self.groups) l.self.lists;
+      keeps : Keeps (meaning l.plan.query.now) l.plan.most l.fn.self.groups l.self.groups l.fn.self.lists l.self.lists;
+      disk : Moves (g.D.TapeDisk.failures l.fn.disk) (g.D.TapeDisk.failures l.disk) (g.D.TapeDisk.writes l.fn.disk) (g.D.TapeDisk.writes l.disk) (g.D.TapeDisk.honest l.fn.disk) (g.D.TapeDisk.honest l.disk);
+    }

@@ -1,85 +1,91 @@
-use Rattle.std.specs.Prelude.{◌≡◌, refl, ◌++◌, ◌∷◌, [], length}
-use Rattle.std.proofs.Common.{sym, ◌∙◌, ap, subst}
+use Rattle.std.specs.Prelude.{◌≡◌, refl, ◌∷◌, ◌≤◌, [], List, ℕ, length}
+use Rattle.std.proofs.Common.{sym, ◌∙◌, subst}
+use Rattle.spill_tapes.specs.Records.{Record}
 use Rattle.grouping_model.specs.Query.{Query}
+use Rattle.grouping_model.specs.Grouping.{partials}
 use Rattle.grouping_model.specs.Parts.{functions}
-use Rattle.agg_protocol.specs.States.{most_rows}
+use Rattle.group_table.specs.Table.{state_in}
 use Rattle.having_filter.specs.Meaning.{meaning}
-use Rattle.hash_agg.specs.declared.record.Record.TheVariants as kept
-use Rattle.hash_agg.specs.Passes.{PassState, Piece, Of_group, Stands, CountUpTo, entries_of, rows_at, CanRead, ReadsTo}
-use Rattle.hash_agg.proofs.StepLaws.{on_ok, a_group, can_count, states_at, there_reads, new_reads, left_reads, key_short, same_wide}
+use Rattle.hash_agg.specs.Steps.{AreCombined}
+use Rattle.hash_agg.specs.Passes.{AreOfRun, group_record}
+use Rattle.hash_agg.proofs.StepLaws.{on_ok, key_short, group_short, same_wide, group_told, one_there, there_room, one_new, one_left, safe_there, safe_new, one_group, is_group_record}
 use Rattle.hash_agg.proofs.pass.Pass.add_group.Goals as goal
 
-pub combine-requires-clause-room : goal.combine-requires-clause-room
-combine-requires-clause-room c =
-    let q : Query = meaning c.self.inside.query.now in
-    let can = subst (λ (p : PassState). CanRead p (kept.Group c.args.key c.args.states)) (sym c.self.view_is) c.requires in
-    let group = a_group q c.args.key c.args.states can.1 can.3 in
-    let count = can_count q most_rows can.0 (Of_group group.0 group.1) (subst (λ p. CountUpTo q most_rows (can.0 ++ p ∷ [])) group.2 can.4) in
-    let states = states_at q c.self.inside.groups c.self.inside.left.items can.0 (Of_group group.0 group.1) c.in-Some.slot c.args.key.now group.3.key group.3.of_kinds can.2 c.in-Some.ensures.found in
-    (rows_at q group.0.0 can.0, group.1, states.0, group.0.1, states.1, group.3.states, count)
+pub returns-in-Ok-clause-reads : goal.returns-in-Ok-clause-reads
+returns-in-Ok-clause-reads g c = λ m.
+    let q : Query = meaning c.args.plan.now.query.now in
+    one_there c.args.plan.now (g.H.KeyHash.hash_of c.args.self.now.groups.table.hash) c.args.self.now.groups c.args.self.now.lists (g.D.TapeDisk.last c.args.disk.now) c.args.key.now
+    (AreOfRun q m ((c.args.key.now, c.args.states.now) ∷ [])) (λ old new. AreCombined (functions q) c.args.plan.now.most old c.args.states.now new) (group_told q c.args.plan.now.most m c.args.key.now c.args.states.now)
+    c.combine.new.self c.in-Some.slot c.find.ensures.once c.in-Some.ensures.found c.in-Ok.ensures.written
 
-pub returns-in-Some-clause-read : goal.returns-in-Some-clause-read
-returns-in-Some-clause-read c =
-    let q : Query = meaning c.self.inside.query.now in
-    subst (λ (p : PassState). ReadsTo p (kept.Group c.args.key c.args.states) (entries_of c.combine.new.self) c.self.inside.left.items) c.self.view_is
-    (λ ps piece holds is counts.
-    let group = a_group q c.args.key c.args.states piece is in
-    let p : Piece = Of_group group.0 group.1 in
-    let count = can_count q most_rows ps p (subst (λ p. CountUpTo q most_rows (ps ++ p ∷ [])) group.2 counts) in
-    subst (λ x. Stands q (ps ++ x ∷ []) (entries_of c.combine.new.self) c.self.inside.left.items) (sym group.2)
-    (there_reads q c.self.inside.groups c.combine.new.self c.self.inside.left.items ps p c.args.key.now c.in-Some.slot _ group.3.key group.3.of_kinds tt c.find.ensures.once c.in-Some.ensures.found c.combine.ensures.written
-    (λ new combines found are. combines (rows_at q group.0.0 ps) group.1 found group.0.1 count are group.3.states)
-    holds))
+pub returns-in-Ok-clause-safe : goal.returns-in-Ok-clause-safe
+returns-in-Ok-clause-safe g c =
+    let q : Query = meaning c.args.plan.now.query.now in
+    safe_there q c.args.plan.now.most c.args.self.now.groups c.combine.new.self c.in-Some.slot c.args.key.now
+    (AreCombined (functions q) c.args.plan.now.most (state_in c.args.self.now.groups.table c.args.self.now.groups.tree c.in-Some.slot) c.args.states.now)
+    (λ new moved. moved.within) c.in-Some.ensures.found c.in-Ok.ensures.written
+
+pub returns-in-Err-clause-undamaged : goal.returns-in-Err-clause-undamaged
+returns-in-Err-clause-undamaged g c = λ m can same.
+    let q : Query = meaning c.args.plan.now.query.now in
+    let room = there_room c.args.plan.now (g.H.KeyHash.hash_of c.args.self.now.groups.table.hash) c.args.self.now.groups c.args.self.now.lists (g.D.TapeDisk.last c.args.disk.now) c.args.key.now
+    (AreOfRun q m ((c.args.key.now, c.args.states.now) ∷ [])) (λ old new. AreCombined (functions q) c.args.plan.now.most old c.args.states.now new) (group_told q c.args.plan.now.most m c.args.key.now c.args.states.now)
+    c.in-Some.slot c.in-Some.ensures.found can in
+    let one = one_group q m c.args.key.now c.args.states.now room.0 room.1 in
+    c.in-Err.ensures.refused (room.2, m, room.3, one.0.1, room.4, one.2.states, room.5)
 
 pub takes-requires : goal.takes-requires
-takes-requires c =
-    let q : Query = meaning c.self.inside.query.now in
-    let can = subst (λ (p : PassState). CanRead p (kept.Group c.args.key c.args.states)) (sym c.self.view_is) c.requires in
-    let group = a_group q c.args.key c.args.states can.1 can.3 in
-    key_short q c.args.key.now group.0.0 c.self.invariant.formed group.3.key group.3.of_kinds
+takes-requires g c =
+    let group = c.requires.group in
+    key_short (meaning c.args.plan.now.query.now) c.args.key.now group.0.0 c.requires.plan.formed group.1.key group.1.of_kinds
 
 pub enter-requires-clause-key : goal.enter-requires-clause-key
-enter-requires-clause-key c =
-    let q : Query = meaning c.self.inside.query.now in
-    let can = subst (λ (p : PassState). CanRead p (kept.Group c.args.key c.args.states)) (sym c.self.view_is) c.requires in
-    let group = a_group q c.args.key c.args.states can.1 can.3 in
-    key_short q c.args.key.now group.0.0 c.self.invariant.formed group.3.key group.3.of_kinds
+enter-requires-clause-key g c =
+    let group = c.requires.group in
+    key_short (meaning c.args.plan.now.query.now) c.args.key.now group.0.0 c.requires.plan.formed group.1.key group.1.of_kinds
 
 pub enter-requires-clause-states : goal.enter-requires-clause-states
-enter-requires-clause-states c =
-    let q : Query = meaning c.self.inside.query.now in
-    let can = subst (λ (p : PassState). CanRead p (kept.Group c.args.key c.args.states)) (sym c.self.view_is) c.requires in
-    let group = a_group q c.args.key c.args.states can.1 can.3 in
-    same_wide (functions q) group.1 0 c.args.states.now c.self.inside.first.items group.0.1 _ group.3.states c.self.invariant.states ∙ ap (λ (p : PassState). length p.first) c.self.view_is
+enter-requires-clause-states g c =
+    let q : Query = meaning c.args.plan.now.query.now in
+    let group = c.requires.group in
+    same_wide (functions q) c.args.plan.now.most 0 c.args.states.now c.args.plan.now.first.items group.0.1 (partials q []) group.1.states c.requires.plan.states ∙ sym c.requires.width
 
-pub returns-then-takes-clause-read : goal.returns-then-takes-clause-read
-returns-then-takes-clause-read c =
-    let q : Query = meaning c.self.inside.query.now in
-    on_ok c.enter.result
-    (λ entered.
-    subst (λ (p : PassState). ReadsTo p (kept.Group c.args.key c.args.states) (entries_of c.enter.new.self.groups) c.enter.new.self.left) c.self.view_is
-    (λ ps piece holds is counts.
-    let group = a_group q c.args.key c.args.states piece is in
-    subst (λ x. Stands q (ps ++ x ∷ []) (entries_of c.enter.new.self.groups) c.enter.new.self.left) (sym group.2)
-    (new_reads q c.self.inside.groups c.enter.new.self.groups c.self.inside.left.items c.enter.new.self.left ps (Of_group group.0 group.1) c.args.key.now c.args.states.now group.3.key group.3.of_kinds tt c.in_default.ensures.found
-    (ap (λ (p : PassState). p.left) c.self.view_is ∙ c.if-takes.ensures.none refl)
-    (c.enter.ensures.left ∙ sym (ap (λ (p : PassState). p.left) c.self.view_is))
-    (subst (λ (p : PassState). entries_of c.enter.new.self.groups ≡ entries_of p.groups ++ (c.args.key.now, c.args.states.now) ∷ []) (sym c.self.view_is) entered)
-    group.3.states
-    holds)))
-    c.enter.ensures.entered
+pub returns-then-takes-clause-reads : goal.returns-then-takes-clause-reads
+returns-then-takes-clause-reads g c = λ m.
+    let q : Query = meaning c.args.plan.now.query.now in
+    one_new c.args.plan.now (g.H.KeyHash.hash_of c.args.self.now.groups.table.hash) c.args.self.now.groups c.args.self.now.lists (g.D.TapeDisk.last c.args.disk.now) c.args.key.now
+    (AreOfRun q m ((c.args.key.now, c.args.states.now) ∷ [])) (λ old new. AreCombined (functions q) c.args.plan.now.most old c.args.states.now new) (group_told q c.args.plan.now.most m c.args.key.now c.args.states.now)
+    c.enter.new.self c.args.states.now c.in_default.ensures.found (c.if-takes.ensures.none refl) c.in_ok-enter.ensures.entered
+    (λ more are low. (one_group q m c.args.key.now c.args.states.now more are).2.states)
 
-pub returns-clause-read : goal.returns-clause-read
-returns-clause-read c =
-    let q : Query = meaning c.self.inside.query.now in
-    on_ok c.leave.result
-    (λ left.
-    subst (λ (p : PassState). ReadsTo p (kept.Group c.args.key c.args.states) (entries_of c.leave.new.self.groups) c.leave.new.self.left) c.self.view_is
-    (λ ps piece holds is counts.
-    let group = a_group q c.args.key c.args.states piece is in
-    subst (λ x. Stands q (ps ++ x ∷ []) (entries_of c.leave.new.self.groups) c.leave.new.self.left) (sym group.2)
-    (left_reads q c.self.inside.groups c.leave.new.self.groups c.self.inside.left.items c.leave.new.self.left ps (Of_group group.0 group.1) (kept.Group c.args.key c.args.states) c.args.key.now group.3.key group.3.of_kinds tt c.in_default.ensures.found
-    (c.leave.ensures.groups ∙ sym (ap (λ (p : PassState). p.groups) c.self.view_is))
-    (subst (λ (p : PassState). c.leave.new.self.left ≡ p.left ++ kept.Group c.args.key c.args.states ∷ []) (sym c.self.view_is) left)
-    group.3 holds)))
-    c.leave.ensures.left
+pub returns-then-takes-clause-safe : goal.returns-then-takes-clause-safe
+returns-then-takes-clause-safe g c =
+    let q : Query = meaning c.args.plan.now.query.now in
+    let group = c.requires.group in
+    safe_new q c.args.plan.now.most c.args.self.now.groups c.enter.new.self c.args.key.now c.args.states.now group.0 group.1 c.in_ok-enter.ensures.entered
+
+pub write_group-requires : goal.write_group-requires
+write_group-requires g c =
+    let group = c.requires.group in
+    key_short (meaning c.args.plan.now.query.now) c.args.key.now group.0.0 c.requires.plan.formed group.1.key group.1.of_kinds
+
+pub spill-requires-clause-len : goal.spill-requires-clause-len
+spill-requires-clause-len g c =
+    let group = c.requires.group in
+    let written : c.deref.result.now ≡ group_record c.args.key.now c.args.states.now = c.deref.ensures.value ∙ c.in_ok-write_group.ensures in
+    subst (λ bytes. length bytes ≤ 65535) (sym written) (group_short (meaning c.args.plan.now.query.now) c.args.plan.now.most c.args.key.now c.args.states.now group.0 c.requires.plan.formed group.1)
+
+pub returns-clause-reads : goal.returns-clause-reads
+returns-clause-reads g c =
+    let q : Query = meaning c.args.plan.now.query.now in
+    let hf : List ℕ → ℕ = g.H.KeyHash.hash_of c.args.self.now.groups.table.hash in
+    let one : Record = record { hash = c.hash-hash.result; tag = 1; bytes = c.deref.result.now } in
+    let written : c.deref.result.now ≡ group_record c.args.key.now c.args.states.now = c.deref.ensures.value ∙ c.in_ok-write_group.ensures in
+    on_ok c.spill.result
+    (λ spills m.
+    one_left c.args.plan.now hf c.args.self.now.groups c.args.self.now.lists (g.D.TapeDisk.last c.args.disk.now) c.args.key.now
+    (AreOfRun q m ((c.args.key.now, c.args.states.now) ∷ [])) (λ old new. AreCombined (functions q) c.args.plan.now.most old c.args.states.now new) (group_told q c.args.plan.now.most m c.args.key.now c.args.states.now)
+    c.args.self.now.groups c.spill.new.self (g.D.TapeDisk.last c.spill.new.disk) one c.in_default.ensures.found refl
+    (λ more are. is_group_record q hf m one c.args.key.now c.args.states.now (one_group q m c.args.key.now c.args.states.now more are).0 refl written c.hash-hash.ensures (one_group q m c.args.key.now c.args.states.now more are).2)
+    spills)
+    c.spill.ensures.spilled

@@ -1,10 +1,47 @@
-use Rattle.std.specs.Prelude.{OnOk}
-use Rattle.std.proofs.Common.{sym, subst}
-use Rattle.hash_agg.specs.Passes.{Reads}
+use Rattle.std.specs.Prelude.{◌≡◌, ◌≢◌, ◌<◌, ℕ, ◌∷◌, [], List}
+use Rattle.std.proofs.Common.{sym, subst, arith}
+use Rattle.grouping_model.specs.Query.{Query}
+use Rattle.having_filter.specs.Meaning.{meaning}
+use Rattle.hash_agg.specs.Passes.{ArePieces, Reads, CanRead, standing}
+use Rattle.hash_agg.proofs.StepLaws.{on_ok, on_error}
 use Rattle.hash_agg.proofs.pass.Pass.add_record.Goals as goal
 
-pub returns-in-Row-clause-read : goal.returns-in-Row-clause-read
-returns-in-Row-clause-read c = subst (λ r. OnOk c.add_row.result (Reads c.args.self.now r c.add_row.new.self)) (sym c.in-Row.is) c.add_row.ensures.read
+-- a tag that is not 0 is 1
+other_tag : (tag : ℕ) → tag ≢ 0 → tag < 2 → tag ≡ 1
+other_tag tag some low = omega (arith, some, low)
 
-pub returns-in-Group-clause-read : goal.returns-in-Group-clause-read
-returns-in-Group-clause-read c = subst (λ r. OnOk c.add_group.result (Reads c.args.self.now r c.add_group.new.self)) (sym c.in-Group.is) c.add_group.ensures.read
+pub returns-then-tag-eq-ROW-clause-reads : goal.returns-then-tag-eq-ROW-clause-reads
+returns-then-tag-eq-ROW-clause-reads g c =
+    let q : Query = meaning c.args.plan.now.query.now in
+    let hf : List ℕ → ℕ = g.H.KeyHash.hash_of c.args.self.now.groups.table.hash in
+    let is : c.args.tag ≡ 0 = c.if-tag-eq-ROW.true in
+    on_ok c.add_row_record.result
+    (subst (λ tag. Reads c.args.plan.now hf (ArePieces q hf (record { hash = c.args.hash; tag = tag; bytes = c.args.bytes.now } ∷ [])) (standing c.args.self.now.groups c.args.self.now.lists (g.D.TapeDisk.last c.args.disk.now)) (standing c.add_row_record.new.self.groups c.add_row_record.new.self.lists (g.D.TapeDisk.last c.add_row_record.new.disk))) (sym is))
+    c.add_row_record.ensures.reads
+
+pub returns-then-tag-eq-ROW-clause-undamaged : goal.returns-then-tag-eq-ROW-clause-undamaged
+returns-then-tag-eq-ROW-clause-undamaged g c =
+    let q : Query = meaning c.args.plan.now.query.now in
+    let hf : List ℕ → ℕ = g.H.KeyHash.hash_of c.args.self.now.groups.table.hash in
+    let is : c.args.tag ≡ 0 = c.if-tag-eq-ROW.true in
+    on_error c.add_row_record.result
+    (λ error right can. right (subst (λ tag. CanRead c.args.plan.now hf (ArePieces q hf (record { hash = c.args.hash; tag = tag; bytes = c.args.bytes.now } ∷ [])) (standing c.args.self.now.groups c.args.self.now.lists (g.D.TapeDisk.last c.args.disk.now))) is can))
+    c.add_row_record.ensures.undamaged
+
+pub returns-else-tag-eq-ROW-clause-reads : goal.returns-else-tag-eq-ROW-clause-reads
+returns-else-tag-eq-ROW-clause-reads g c =
+    let q : Query = meaning c.args.plan.now.query.now in
+    let hf : List ℕ → ℕ = g.H.KeyHash.hash_of c.args.self.now.groups.table.hash in
+    let is : c.args.tag ≡ 1 = other_tag c.args.tag c.if-tag-eq-ROW.false c.requires.tag in
+    on_ok c.add_group_record.result
+    (subst (λ tag. Reads c.args.plan.now hf (ArePieces q hf (record { hash = c.args.hash; tag = tag; bytes = c.args.bytes.now } ∷ [])) (standing c.args.self.now.groups c.args.self.now.lists (g.D.TapeDisk.last c.args.disk.now)) (standing c.add_group_record.new.self.groups c.add_group_record.new.self.lists (g.D.TapeDisk.last c.add_group_record.new.disk))) (sym is))
+    c.add_group_record.ensures.reads
+
+pub returns-else-tag-eq-ROW-clause-undamaged : goal.returns-else-tag-eq-ROW-clause-undamaged
+returns-else-tag-eq-ROW-clause-undamaged g c =
+    let q : Query = meaning c.args.plan.now.query.now in
+    let hf : List ℕ → ℕ = g.H.KeyHash.hash_of c.args.self.now.groups.table.hash in
+    let is : c.args.tag ≡ 1 = other_tag c.args.tag c.if-tag-eq-ROW.false c.requires.tag in
+    on_error c.add_group_record.result
+    (λ error right can. right (subst (λ tag. CanRead c.args.plan.now hf (ArePieces q hf (record { hash = c.args.hash; tag = tag; bytes = c.args.bytes.now } ∷ [])) (standing c.args.self.now.groups c.args.self.now.lists (g.D.TapeDisk.last c.args.disk.now))) is can))
+    c.add_group_record.ensures.undamaged

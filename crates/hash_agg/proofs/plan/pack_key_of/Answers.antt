@@ -8,7 +8,7 @@ use Rattle.packed_rows.specs.View.{row_of}
 use Rattle.packed_rows.specs.Packing.{packing}
 use Rattle.having_filter.specs.Meaning.{meaning}
 use Rattle.hash_agg.proofs.KeyLaws.{place_within, key_more}
-use Rattle.hash_agg.proofs.pass.pack_key_of.Goals as goal
+use Rattle.hash_agg.proofs.plan.pack_key_of.Goals as goal
 
 pub bounds-row-place : goal.bounds-row-place
 bounds-row-place c =

@@ -1,0 +1,61 @@
+-- The first pass, over all inputs.
+use Rattle.std.specs.Prelude.{◌≡◌, refl, ℕ, zero, suc, ◌+◌, ◌≤◌, List, [], ◌∷◌, ◌++◌, length, slice_get, Some, IfOk, OnOk, Ok, Err}
+use Rattle.std.specs.declared.result.Result.{Result}
+use Rattle.std.specs.List.Sorted.{IsPermutation}
+use Rattle.std.proofs.Common.{ap, arith}
+use Rattle.std.proofs.lemmas.List.Sorted.{length_permutation}
+use Rattle.std.proofs.lemmas.List.Sums.{sum_by-cons}
+use Rattle.grouping_model.specs.Query.{Query}
+use Rattle.spill_tapes.specs.Records.{Record}
+use Rattle.spill_lists.specs.Lists.{LeftList, left_by}
+use Rattle.spill_lists.specs.Standing.{ListsState, HasLists, count_of, spilled_number, waiting_number}
+use Rattle.hash_agg.specs.Runs.{Entry, Rises}
+use Rattle.hash_agg.specs.Inputs.{Brought, rows_in, all_rows}
+use Rattle.hash_agg.specs.Passes.{Piece, PassState, Holds, total}
+use Rattle.hash_agg.specs.Waiting.{Waits}
+use Rattle.hash_agg.proofs.UnionLaws.{nothing_stands, ends}
+use Rattle.hash_agg.proofs.WaitLaws.{waits_first}
+
+-- what holds of a result, and what of all that a success leaves
+pub if_ok_on : {T E : Type 0} (r : Result T E) (P : T → Type 0) {A : Type 0} (R : T → Type 0) → ((x : T) → P x → A → R x) → IfOk r P → OnOk r A → IfOk r R
+if_ok_on (Ok x) P R gives p a = gives x p a
+if_ok_on (Err e) P R gives p a = p
+
+-- how many rows the input at a place counts
+pub input_few : (inputs : List Brought) (i : ℕ) (input : Brought) → slice_get inputs i ≡ Some input → rows_in input ≤ all_rows inputs
+input_few [] i input at = absurd cc
+input_few (x ∷ inputs) zero input at =
+    let same : x ≡ input = cc in
+    let counted = ap rows_in same in
+    let sum = sum_by-cons rows_in x inputs in
+    omega (arith, counted, sum)
+input_few (x ∷ inputs) (suc i) input at =
+    let rest = input_few inputs i input at in
+    let sum = sum_by-cons rows_in x inputs in
+    omega (arith, rest, sum)
+
+-- before any input
+pub first_holds : (q : Query) (hf : List ℕ → ℕ) (pass : PassState) → pass.entries ≡ [] → HasLists pass.last pass.lists [] [] [] → Holds q hf pass [] [] []
+first_holds q hf pass empty none = ([], none, nothing_stands q hf pass.entries [] empty refl)
+
+pub first_total : (entries : List Entry) (lists : ListsState) → entries ≡ [] → lists.parts ≡ [] → total entries lists ≤ 0
+first_total entries lists empty none =
+    let a : length entries ≡ 0 = ap length empty in
+    let b : spilled_number lists ≡ 0 = ap count_of none in
+    omega (arith, a, b)
+
+-- after all of them
+pub first_waits : (q : Query) (hf : List ℕ → ℕ) (pieces : List Piece) (pass : PassState) (run : List Entry) (after : ListsState) (now : ℕ → ℕ → Type 0) → IsPermutation pass.entries run → Rises run
+    → ((spilled ahead : List Record) (todo : List LeftList) → HasLists pass.last pass.lists spilled ahead todo → HasLists now after [] ahead (todo ++ left_by pass.lists.level spilled))
+    → Holds q hf pass pieces [] [] → (todo : List LeftList) × HasLists now after [] [] todo × Waits q hf pieces run todo
+first_waits q hf pieces pass run after now moved rises left (spilled, has, stands) = (
+  left_by pass.lists.level spilled,
+  left spilled [] [] has,
+  waits_first q hf pieces run spilled pass.lists.level (ends q hf pieces pass.entries run spilled spilled moved rises refl stands),
+)
+
+pub first_few : (entries run : List Entry) (lists after : ListsState) (most : ℕ) → IsPermutation entries run → waiting_number after ≡ waiting_number lists + spilled_number lists → lists.todo ≡ [] → total entries lists ≤ most → length run + waiting_number after ≤ most
+first_few entries run lists after most moved waiting none few =
+    let long : length run ≡ length entries = length_permutation entries run moved in
+    let empty : waiting_number lists ≡ 0 = ap count_of none in
+    omega (arith, long, waiting, empty, few)

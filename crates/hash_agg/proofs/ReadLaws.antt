@@ -1,0 +1,111 @@
+-- A list that a pass reads, record by record.
+use Rattle.std.specs.Prelude.{◌≡◌, refl, ℕ, ◌+◌, ◌<◌, ◌⊎◌, List, [], ◌∷◌, ◌++◌, Some, None}
+use Rattle.std.proofs.Common.{sym, ◌∙◌, ap, subst, arith, append-nil, append_assoc, inl, inr}
+use Rattle.grouping_model.specs.Query.{Query}
+use Rattle.spill_tapes.specs.Records.{Record}
+use Rattle.spill_tapes.specs.Tape.{Gives}
+use Rattle.spill_lists.specs.Lists.{LeftList}
+use Rattle.spill_lists.specs.Standing.{ListsState, HasLists, spilled_number, ahead_number}
+use Rattle.having_filter.specs.Meaning.{meaning}
+use Rattle.hash_agg.specs.declared.plan.Plan.{Plan}
+use Rattle.hash_agg.specs.Runs.{Entry}
+use Rattle.hash_agg.specs.Passes.{Piece, ArePieces, CountUpTo, Stands, PassState, Holds, CanRead, Reads, Proceeds}
+use Rattle.hash_agg.proofs.PassLaws.{rows_append}
+use Rattle.hash_agg.proofs.UnionLaws.{nothing_stands}
+
+-- of these pieces some were read, and the records of the others are still to be read
+pub record IsReading (plan : Plan) (hf : List ℕ → ℕ) (now : PassState) (pieces : List Piece) (todo : List LeftList) : Type 0 where
+  pub done : List Piece
+  pub rest : List Piece
+  pub ahead : List Record
+  pub is : pieces ≡ done ++ rest
+  pub are : ArePieces (meaning plan.query.now) hf ahead rest
+  pub holds : Holds (meaning plan.query.now) hf now done ahead todo
+
+pub reading_begins : (plan : Plan) (hf : List ℕ → ℕ) (now : PassState) (records : List Record) (pieces : List Piece) (todo : List LeftList) → now.entries ≡ [] → HasLists now.last now.lists [] records todo → ArePieces (meaning plan.query.now) hf records pieces → IsReading plan hf now pieces todo
+reading_begins plan hf now records pieces todo empty has are =
+    record { done = []; rest = pieces; ahead = records; is = refl; are = are; holds = ([], has, nothing_stands (meaning plan.query.now) hf now.entries [] empty refl) }
+
+count_next : (q : Query) (m : ℕ) (done ps : List Piece) (p : Piece) → CountUpTo q m (done ++ p ∷ ps) → CountUpTo q m (done ++ p ∷ [])
+count_next q m done ps p count k =
+    let all = count k in
+    let whole = rows_append q k done (p ∷ ps) in
+    let split = rows_append q k (p ∷ []) ps in
+    let front = rows_append q k done (p ∷ []) in
+    omega (arith, all, whole, split, front)
+
+module _ (plan : Plan) (hf : List ℕ → ℕ) (pieces : List Piece) (todo : List LeftList) (entries : List Entry) (before after : ListsState) (last now : ℕ → ℕ → Type 0) (hash tag : ℕ) (bytes : List ℕ) (count : CountUpTo (meaning plan.query.now) plan.most pieces)
+    (gives : (spilled ahead : List Record) (todo : List LeftList) → HasLists last before spilled ahead todo → Gives (λ rest. HasLists now after spilled rest todo) ahead bytes (Some (hash, tag))) where
+  -- the record that was given is the next one
+  next_given : IsReading plan hf (record { entries = entries; lists = before; last = last }) pieces todo
+      → (done rest : List Piece) × (p : Piece) × (ahead spilled : List Record) × (pieces ≡ done ++ p ∷ rest) × (ArePieces (meaning plan.query.now) hf (record { hash = hash; tag = tag; bytes = bytes } ∷ []) (p ∷ [])) × ArePieces (meaning plan.query.now) hf ahead rest
+      × HasLists now after spilled ahead todo × Stands (meaning plan.query.now) hf done entries spilled
+  next_given r =
+      let spilled = r.holds.0 in
+      let g = gives spilled r.ahead todo r.holds.1 in
+      found g.0 r.rest r.is (subst (λ ahead. ArePieces (meaning plan.query.now) hf ahead r.rest) g.1 r.are) g.2
+    where
+      found : (ahead : List Record) (rest : List Piece) → pieces ≡ r.done ++ rest → ArePieces (meaning plan.query.now) hf (record { hash = hash; tag = tag; bytes = bytes } ∷ ahead) rest → HasLists now after r.holds.0 ahead todo
+          → (done rest : List Piece) × (p : Piece) × (ahead spilled : List Record) × (pieces ≡ done ++ p ∷ rest) × (ArePieces (meaning plan.query.now) hf (record { hash = hash; tag = tag; bytes = bytes } ∷ []) (p ∷ [])) × ArePieces (meaning plan.query.now) hf ahead rest
+          × HasLists now after spilled ahead todo × Stands (meaning plan.query.now) hf done entries spilled
+      found ahead [] is are has = absurd are
+      found ahead (p ∷ ps) is (first, others) has = (r.done, ps, p, ahead, r.holds.0, is, (first, tt), others, has, r.holds.2)
+
+  pub can_read_next : IsReading plan hf (record { entries = entries; lists = before; last = last }) pieces todo
+      → CanRead plan hf (ArePieces (meaning plan.query.now) hf (record { hash = hash; tag = tag; bytes = bytes } ∷ [])) (record { entries = entries; lists = after; last = now })
+  can_read_next r =
+      let n = next_given r in
+      (n.0, n.2 ∷ [], n.3, todo, (n.4, n.8, n.9), n.6, count_next (meaning plan.query.now) plan.most n.0 n.1 n.2 (subst (CountUpTo (meaning plan.query.now) plan.most) n.5 count))
+
+  pub reads_next : (new : PassState) → Reads plan hf (ArePieces (meaning plan.query.now) hf (record { hash = hash; tag = tag; bytes = bytes } ∷ [])) (record { entries = entries; lists = after; last = now }) new
+      → IsReading plan hf (record { entries = entries; lists = before; last = last }) pieces todo → IsReading plan hf new pieces todo
+  reads_next new reads r =
+      let n = next_given r in
+      record {
+        done = n.0 ++ n.2 ∷ [];
+        rest = n.1;
+        ahead = n.3;
+        is = n.5 ∙ sym (append_assoc n.0 (n.2 ∷ []) n.1);
+        are = n.7;
+        holds = reads n.0 (n.2 ∷ []) n.3 todo (n.4, n.8, n.9) n.6 (count_next (meaning plan.query.now) plan.most n.0 n.1 n.2 (subst (CountUpTo (meaning plan.query.now) plan.most) n.5 count));
+      }
+
+-- no record is left
+pub reading_ends : (plan : Plan) (hf : List ℕ → ℕ) (pieces : List Piece) (todo : List LeftList) (entries : List Entry) (before after : ListsState) (last now : ℕ → ℕ → Type 0) (bytes : List ℕ)
+    → ((spilled ahead : List Record) (todo : List LeftList) → HasLists last before spilled ahead todo → Gives (λ rest. HasLists now after spilled rest todo) ahead bytes None)
+    → IsReading plan hf (record { entries = entries; lists = before; last = last }) pieces todo → Holds (meaning plan.query.now) hf (record { entries = entries; lists = after; last = now }) pieces [] todo
+reading_ends plan hf pieces todo entries before after last now bytes gives r =
+    let g = gives r.holds.0 r.ahead todo r.holds.1 in
+    let all : pieces ≡ r.done = ended r.rest r.is (subst (λ ahead. ArePieces (meaning plan.query.now) hf ahead r.rest) g.0 r.are) in
+    (r.holds.0, g.1, subst (λ pieces. Stands (meaning plan.query.now) hf pieces entries r.holds.0) (sym all) r.holds.2)
+  where
+    ended : (rest : List Piece) → pieces ≡ r.done ++ rest → ArePieces (meaning plan.query.now) hf [] rest → pieces ≡ r.done
+    ended [] is are = is ∙ append-nil r.done
+    ended (p ∷ rest) is are = absurd are
+
+-- ---- how many records are spilled of those that are read
+
+-- nothing was read of so many records yet; or fewer are spilled and to be read than there were
+abbrev pub IsSpent : ℕ → List Entry → ListsState → Type 0
+IsSpent number entries lists =
+    ((entries ≡ []) × (lists.parts ≡ []) × (ahead_number lists ≡ number)) ⊎ (spilled_number lists + ahead_number lists < number)
+
+pub spent_next : (number : ℕ) (old new : List Entry) (before between after : ListsState) → IsSpent number old before → between.parts ≡ before.parts → ahead_number before ≡ ahead_number between + 1 → after.source ≡ between.source → Proceeds old between new after → IsSpent number new after
+spent_next number old new before between after spent parts counted source goes = cases spent
+  where
+    same : ahead_number after ≡ ahead_number between
+    same = ap (λ tapes. ahead_number (record { tapes = after.tapes; level = after.level; parts = after.parts; source = tapes; todo = after.todo })) source
+
+    spilled : spilled_number between ≡ spilled_number before
+    spilled = ap (λ tapes. spilled_number (record { tapes = before.tapes; level = before.level; parts = tapes; source = before.source; todo = before.todo })) parts
+
+    none : after.parts ≡ [] → spilled_number after ≡ 0
+    none is = ap (λ tapes. spilled_number (record { tapes = after.tapes; level = after.level; parts = tapes; source = after.source; todo = after.todo })) is
+
+    cases : IsSpent number old before → IsSpent number new after
+    cases (inl (empty, clear, all)) = let zero = none (goes.first empty (parts ∙ clear)) in let e = same in inr (omega (arith, zero, e, counted, all))
+    cases (inr low) = let slow = goes.slow in let e = same in let s = spilled in inr (omega (arith, low, slow, e, s, counted))
+
+pub spent_end : (number : ℕ) (entries : List Entry) (lists : ListsState) → IsSpent number entries lists → ahead_number lists ≡ 0 → 0 < number → spilled_number lists < number
+spent_end number entries lists (inl (empty, clear, all)) zero some = absurd (omega (arith, all, zero, some))
+spent_end number entries lists (inr low) zero some = omega (arith, low)

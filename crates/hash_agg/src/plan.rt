@@ -1,0 +1,167 @@
+//! What all passes of an aggregation have in common.
+
+ghost use Rattle.std.specs.Prelude.{◌≡◌, ◌≢◌, ◌≤◌, ℕ, true, length, IfOk, IfErr, OnOk};
+ghost use Rattle.grouping_model.specs.Condition.{is_met};
+ghost use Rattle.grouping_model.specs.Datum.{Row, HasKinds};
+ghost use Rattle.grouping_model.specs.Grouping.{Group, column_of, key_of};
+ghost use Rattle.grouping_model.specs.Parts.{functions};
+ghost use Rattle.packed_rows.specs.Packing.{packing};
+ghost use Rattle.packed_rows.specs.View.{row_of};
+ghost use Rattle.agg_protocol.specs.States.{most_rows};
+ghost use Rattle.spill_lists.specs.Standing.{IsReadRefusal};
+ghost use Rattle.spill_lists.specs.declared.error.SpillError.TheVariants.{TapeDamaged};
+ghost use Rattle.having_filter.specs.Kept.{IsWellFormed};
+ghost use Rattle.having_filter.specs.Meaning.{meaning};
+ghost use Rattle.hash_agg.specs.Standing.{StandsFor};
+ghost use Rattle.hash_agg.specs.Steps.{HaveRoomForRow, AreAdvanced};
+ghost use Rattle.hash_agg.specs.Passes.{IsPlan};
+
+use crate::states::{advance_slice, first_states};
+use agg_library::StateRow;
+use agg_protocol::BadState;
+use having_filter::Query;
+use packed_rows::{RowError, Value, pack_value, unpack_into};
+use spill_lists::SpillError;
+use std::alloc::{AllocError, Global};
+
+/// A query, what its groups begin with, and the limits of an aggregation: the most rows that a group counts, and how many bytes of
+/// blocks the table of groups may take.
+#[derive(Drop)]
+pub(crate) struct Plan<'a> {
+    pub(crate) query: &'a Query,
+    pub(crate) most: u64,
+    pub(crate) limit: u64,
+    /// The states of a group before any row.
+    pub(crate) first: Vec<u8>,
+}
+
+/// Reads the values of a row from its packing into `row`, where they take the place of what was there.
+fn unpack<'r>(query: &Query, packed: &'r [u8], row: &mut Vec<Value<'r>>) -> Result<(), SpillError>
+    ensures row { OnOk result (HasKinds (meaning query.now).kinds (row_of row.new.items)
+        × (packed.now ≡ packing (row_of row.new.items))) }
+    ensures undamaged { IfErr result (λ error. (list : Row) → HasKinds (meaning query.now).kinds list →
+        packed.now ≡ packing list → error ≢ TapeDamaged) }
+    ensures refused { IfErr result (IsReadRefusal 0 0) }
+{
+    match unpack_into(query.schema().kinds(), packed, row) {
+        Ok(()) => Ok(()),
+        Err(RowError::NoMemory) => Err(SpillError::NoMemory),
+        Err(_) => Err(SpillError::TapeDamaged),
+    }
+}
+
+/// Packs the key of a row into `key`, where it takes the place of what was there.
+fn pack_key_of(query: &Query, row: &[Value<'_>], key: &mut Vec<u8>) -> Result<(), AllocError>
+    requires formed { IsWellFormed (meaning query.now) }
+    requires row { HasKinds (meaning query.now).kinds (row_of row.now) }
+    ensures { OnOk result
+        (key.new.items ≡ packing (key_of (meaning query.now) (row_of row.now))) }
+{
+    key.clear();
+    for place in query.keys() {
+        pack_value(key, row[*place])?;
+    }
+    Ok(())
+}
+
+impl<'a> Plan<'a> {
+    /// The plan of a query. The only error is a failed allocation.
+    pub(crate) fn new(
+        alloc: Global,
+        query: &'a Query,
+        most: u64,
+        limit: u64,
+    ) -> Result<Plan<'a>, AllocError>
+        requires most { most ≤ most_rows }
+        ensures plan { IfOk result IsPlan }
+        ensures query { IfOk result (λ plan. plan.query.now ≡ query.now) }
+        ensures most { IfOk result (λ plan. plan.most ≡ most) }
+        ensures short { IfOk result (λ plan. length plan.first.items ≤ 65535) }
+    {
+        let _schema = query.schema();
+        let first = first_states(alloc, query)?;
+        Ok(Plan {
+            query,
+            most,
+            limit,
+            first,
+        })
+    }
+
+    /// Reads a packed row into `row`, and its key into `key` if WHERE is true of it, which is the answer. What both hold
+    /// before doesn't matter. `TapeDamaged` if it is no row of the query's table.
+    pub(crate) fn select<'r>(
+        &self,
+        packed: &'r [u8],
+        row: &mut Vec<Value<'r>>,
+        key: &mut Vec<u8>,
+    ) -> Result<bool, SpillError>
+        requires { IsPlan self.now }
+        ensures row { OnOk result (HasKinds (meaning self.now.query.now).kinds (row_of row.new.items)
+            × (packed.now ≡ packing (row_of row.new.items))) }
+        ensures met { IfOk result (λ kept. kept ≡ is_met (column_of (row_of row.new.items))
+            (meaning self.now.query.now).condition) }
+        ensures key { IfOk result (λ kept. kept ≡ true →
+            key.new.items ≡ packing (key_of (meaning self.now.query.now) (row_of row.new.items))) }
+        ensures undamaged { IfErr result (λ error. (list : Row) →
+            HasKinds (meaning self.now.query.now).kinds list → packed.now ≡ packing list → error ≢ TapeDamaged) }
+        ensures refused { IfErr result (IsReadRefusal 0 0) }
+    {
+        unpack(self.query, packed, row)?;
+        if !self.query.where_true(row) {
+            return Ok(false);
+        }
+        pack_key_of(self.query, row, key)?;
+        Ok(true)
+    }
+
+    /// Makes `states` those of a group of one row. `TapeDamaged` if no group may count a row.
+    pub(crate) fn first_after(
+        &self,
+        row: &[Value<'_>],
+        states: &mut Vec<u8>,
+    ) -> Result<(), SpillError>
+        requires plan { IsPlan self.now }
+        requires row { HasKinds (meaning self.now.query.now).kinds (row_of row.now) }
+        ensures advanced { OnOk result (AreAdvanced (meaning self.now.query.now) self.now.most
+            self.now.first.items (row_of row.now) states.new.items) }
+        ensures len { OnOk result (length states.new.items ≡ length self.now.first.items) }
+        ensures undamaged { IfErr result (λ error.
+            HaveRoomForRow (functions (meaning self.now.query.now)) self.now.most self.now.first.items →
+            error ≢ TapeDamaged) }
+        ensures refused { IfErr result (IsReadRefusal 0 0) }
+    {
+        states.clear();
+        states.extend_from_slice(&self.first)?;
+        match advance_slice(self.query, states.as_mut_slice(), row, self.most) {
+            Ok(()) => Ok(()),
+            Err(BadState) => Err(SpillError::TapeDamaged),
+        }
+    }
+
+    /// Checks a group that was read from a tape. `TapeDamaged` if it is none of the query, or counts too many rows.
+    pub(crate) fn check_group(
+        &self,
+        alloc: Global,
+        key: &[u8],
+        states: &[u8],
+    ) -> Result<(), SpillError>
+        requires { IsPlan self.now }
+        ensures stands { OnOk result ((group : Group) ×
+            StandsFor (meaning self.now.query.now) self.now.most (key.now, states.now) group) }
+        ensures undamaged { IfErr result (λ error. (most : ℕ) (group : Group) → most ≤ self.now.most →
+            StandsFor (meaning self.now.query.now) most (key.now, states.now) group → error ≢ TapeDamaged) }
+        ensures refused { IfErr result (IsReadRefusal 0 0) }
+    {
+        let mut values = Vec::with_capacity(alloc, self.query.key_kinds().len())?;
+        match unpack_into(self.query.key_kinds(), key, &mut values) {
+            Ok(()) => {}
+            Err(RowError::NoMemory) => return Err(SpillError::NoMemory),
+            Err(_) => return Err(SpillError::TapeDamaged),
+        }
+        match StateRow::check(self.query.agg_kinds(), states, self.most) {
+            Ok(()) => Ok(()),
+            Err(BadState) => Err(SpillError::TapeDamaged),
+        }
+    }
+}
