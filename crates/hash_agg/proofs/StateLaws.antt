@@ -128,7 +128,7 @@ has_room kinds kind a row reach m bound p old takes has is reached low denoted m
 -- ---- the states of some aggregates
 
 -- the first state and the others
-first_and_rest : (m : ℕ) (kind : AggKind) (kinds : List AggKind) (bytes : List ℕ) (ps : List Partial) → Denotes m (kind ∷ kinds) bytes ps
+pub first_and_rest : (m : ℕ) (kind : AggKind) (kinds : List AggKind) (bytes : List ℕ) (ps : List Partial) → Denotes m (kind ∷ kinds) bytes ps
     → (p : Partial) × (qs : List Partial) × (ps ≡ p ∷ qs) × states.Denotes m (kind_shape kind) (take (kind_width kind) bytes) p × Denotes m kinds (drop (kind_width kind) bytes) qs
 first_and_rest m kind kinds bytes [] d = absurd d
 first_and_rest m kind kinds bytes (p ∷ qs) (first, rest) = (p, qs, refl, first, rest)
