@@ -3,7 +3,7 @@ use Rattle.std.specs.Prelude.{refl, ℕ, ◌≤◌, Bool}
 use Rattle.std.proofs.Common.{◌∙◌, arith}
 use Rattle.spill_lists.specs.declared.error.SpillError.{SpillError}
 use Rattle.spill_lists.specs.declared.error.SpillError.TheVariants.{NoMemory, TapeFault, TapeDamaged}
-use Rattle.spill_lists.specs.Standing.{Moves, IsReadRefusal, IsSpillRefusal}
+use Rattle.spill_lists.specs.Standing.{Moves, IsReadRefusal}
 
 -- no call; and two
 pub moves_none : (failed written : ℕ) (honest : Bool) → Moves failed failed written written honest honest
@@ -21,9 +21,3 @@ pub refused_longer : (before later after last : ℕ) (e : SpillError) → before
 refused_longer before later after last NoMemory low high refused = tt
 refused_longer before later after last TapeFault low high refused = omega (arith, low, high, refused)
 refused_longer before later after last TapeDamaged low high refused = tt
-
--- a call is refused that only writes: so may one be that reads too
-pub refused_reading : (before after : ℕ) (e : SpillError) → IsSpillRefusal before after e → IsReadRefusal before after e
-refused_reading before after NoMemory refused = tt
-refused_reading before after TapeFault refused = refused
-refused_reading before after TapeDamaged refused = tt

@@ -247,7 +247,7 @@ fits kinds aggregates named few =
     let wide = narrow kinds in
     omega (arith, many, wide, few)
 
-states_wide : (m : ℕ) (kinds : List AggKind) (bytes : List ℕ) (ps : List Partial) → Denotes m kinds bytes ps → length bytes ≡ row_width kinds
+pub states_wide : (m : ℕ) (kinds : List AggKind) (bytes : List ℕ) (ps : List Partial) → Denotes m kinds bytes ps → length bytes ≡ row_width kinds
 states_wide m [] bytes [] d = ap length d
 states_wide m [] bytes (p ∷ ps) d = absurd d
 states_wide m (k ∷ ks) bytes [] d = absurd d

@@ -7,7 +7,7 @@ use Rattle.std.proofs.Common.{sym, ◌∙◌, ap, subst, arith, append-nil, appe
 use Rattle.std.proofs.lemmas.Nat.{from_be_bytes-to_be_bytes_2}
 use Rattle.std.proofs.Math.Seq.{take-append_seam, drop-append_seam}
 use Rattle.std.proofs.lemmas.List.{length-map, length-append, take-append-drop, take_all}
-use Rattle.std.proofs.lemmas.List.Sums.{sum_by-cons, sum_by-append}
+use Rattle.std.proofs.lemmas.List.Sums.{sum_by-append}
 use Rattle.grouping_model.specs.Datum.{Row, Kind, HasKinds, Datum, Null, Bigint, Boolean, Text, Bigint_kind, Boolean_kind, Text_kind}
 use Rattle.grouping_model.specs.Aggregates.{Function, Partial}
 use Rattle.grouping_model.specs.Condition.{is_met}
@@ -19,10 +19,6 @@ use Rattle.packed_rows.specs.Packing.{packing, value_packing}
 use Rattle.packed_rows.specs.View.{bytes_of}
 use Rattle.std.specs.declared.alloc.Global.{Global}
 use Rattle.std.specs.declared.vec.Vec.{Vec}
-use Rattle.agg_protocol.proofs.Denoting.{width_known}
-use Rattle.agg_library.specs.declared.kind.AggKind.{AggKind}
-use Rattle.agg_library.specs.Kinds.{kind_shape, kind_width, row_width}
-use Rattle.agg_library.specs.StateRows.{Denotes}
 use Rattle.spill_tapes.specs.Records.{Record}
 use Rattle.spill_lists.specs.Lists.{LeftList}
 use Rattle.spill_lists.specs.Standing.{ListsState, HasLists, AreSpilled}
@@ -37,7 +33,7 @@ use Rattle.hash_agg.specs.Steps.{AreWithin, AreAdvanced, AreCombined}
 use Rattle.hash_agg.specs.Passes.{Piece, Of_row, Of_group, group_record, IsGroupRecord, IsPiece, piece_key, piece_added, weight, rows_at, CountUpTo, AreOnce, AreGroupsBy, GroupsState, entries_of, WritesAt, Stands, AreSafe, PassState, standing, Holds, CanRead, Reads, ReadsSome, IsAt, AreRows, AreOfRun, total, brings, brought_by, Brings}
 use Rattle.hash_agg.proofs.KeyLaws.{key_has}
 use Rattle.hash_agg.proofs.InputLaws.{packed_once, take_found, row_at, flat_row_at, rows_long, group_at, groups_long}
-use Rattle.hash_agg.proofs.StateLaws.{states_by, narrow}
+use Rattle.hash_agg.proofs.StateLaws.{states_by, states_wide, narrow}
 use Rattle.hash_agg.proofs.TableLaws.{no_key, named_at, get_mapped}
 use Rattle.hash_agg.proofs.PassLaws.{IsKept, after, by_at, by_set, by_append, rows_append, rows_one, reads_there, reads_new, reads_left}
 
@@ -98,30 +94,10 @@ packed_short columns bytes row are is has =
     let same = ap length is in
     omega (arith, few, long, short, same)
 
-all_wide : (m : ℕ) (kinds : List AggKind) (bytes : List ℕ) (ps : List Partial) → Denotes m kinds bytes ps → length bytes ≡ row_width kinds
-all_wide m [] bytes [] d = ap length d
-all_wide m [] bytes (p ∷ ps) d = absurd d
-all_wide m (k ∷ ks) bytes [] d = absurd d
-all_wide m (k ∷ ks) bytes (p ∷ ps) (first, rest) =
-    let one : length (take (kind_width k) bytes) ≡ kind_width k = width_known m (kind_shape k) (take (kind_width k) bytes) p first in
-    let others : length (drop (kind_width k) bytes) ≡ row_width ks = all_wide m ks (drop (kind_width k) bytes) ps rest in
-    let both : length (take (kind_width k) bytes ++ drop (kind_width k) bytes) ≡ length bytes = ap length (take-append-drop (kind_width k) bytes) in
-    let sum = length-append (take (kind_width k) bytes) (drop (kind_width k) bytes) in
-    let wide = sum_by-cons kind_width k ks in
-    omega (arith, one, others, both, sum, wide)
-
--- states of the same functions are equally long, and not too long for a table
+-- states of the same functions are equally long
 pub same_wide : (these : List Function) (m n : ℕ) (a b : List ℕ) (ps qs : List Partial) → AreStates these m a ps → AreStates these n b qs → length a ≡ length b
 same_wide these m n a b ps qs x y =
-    all_wide m x.kinds a ps x.denote ∙ sym (all_wide n x.kinds b qs (states_by these n x.kinds b qs x.named y))
-
-pub states_short : (q : Query) (m : ℕ) (bytes : List ℕ) (ps : List Partial) → IsWellFormed q → AreStates (functions q) m bytes ps → length bytes ≤ 65535
-states_short q m bytes ps formed are =
-    let wide = all_wide m are.kinds bytes ps are.denote in
-    let few = narrow are.kinds in
-    let many : length are.kinds ≡ length q.aggregates = sym (length-map are.kinds _) ∙ ap length are.named ∙ length-map q.aggregates _ in
-    let most : length q.aggregates ≤ 32 = formed.few_aggregates in
-    omega (arith, wide, few, many, most)
+    states_wide m x.kinds a ps x.denote ∙ sym (states_wide n x.kinds b qs (states_by these n x.kinds b qs x.named y))
 
 -- the bytes of a group on a tape
 pub group_short : (q : Query) (m : ℕ) (key states : List ℕ) (group : Group) → IsWellFormed q → StandsFor q m (key, states) group → length (group_record key states) ≤ 65535
@@ -130,7 +106,7 @@ group_short q m key states group formed stands =
     let few : length q.keys ≤ 16 = formed.few_keys in
     let short = row_short (key_kinds q) group.0 stands.of_kinds in
     let same : length key ≡ length (packing group.0) = ap length stands.key in
-    let wide = all_wide m stands.states.kinds states group.1 stands.states.denote in
+    let wide = states_wide m stands.states.kinds states group.1 stands.states.denote in
     let thin = narrow stands.states.kinds in
     let many : length stands.states.kinds ≡ length q.aggregates = sym (length-map stands.states.kinds _) ∙ ap length stands.states.named ∙ length-map q.aggregates _ in
     let most : length q.aggregates ≤ 32 = formed.few_aggregates in

@@ -261,10 +261,6 @@ nothing_stands q hf es left none empty =
 pub one_run_more : (runs : List (List Entry)) (run : List Entry) → all_in (runs ++ run ∷ []) ≡ all_in runs ++ run
 one_run_more runs run = flat_map-append (λ (run : List Entry). run) runs (run ∷ []) ∙ ap (λ es. all_in runs ++ es) (append-nil run)
 
-pub nothing_in : {X : Type 0} (xs : List X) → length xs ≡ 0 → xs ≡ []
-nothing_in [] e = refl
-nothing_in (x ∷ xs) e = absurd (omega (arith, e))
-
 -- ---- over any disk
 
 pub none_safe : (q : Query) (most : ℕ) → AreSafe q most []
