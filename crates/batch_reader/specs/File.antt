@@ -4,7 +4,7 @@ use Rattle.std.specs.Str.{bytes_eq}
 use Rattle.grouping_model.specs.Datum.{Kind}
 use Rattle.script_io.specs.Records as csv
 use Rattle.script_io.specs.Records.{Record}
-use Rattle.script_io.specs.RowCount.{row_count}
+use Rattle.script_io.specs.Digits.{row_count}
 use Rattle.batch_reader.specs.Refusal.{BuildFault}
 use Rattle.batch_reader.specs.declared.error.BatchError.{BatchError}
 use Rattle.batch_reader.specs.declared.error.BatchError.TheVariants.{NoMemory, BadBatchHead}

@@ -18,6 +18,8 @@ pub(crate) const QUERY: &str = "query";
 
 pub(crate) const FORMAT: &str = "format";
 
+pub(crate) const LIMIT: &str = "limit";
+
 static FORMATS: [&str; 2] = ["csv", "aligned"];
 
 const ABOUT: &str = "Groups numbered batches of rows, and merges what several sites know of them";
@@ -50,8 +52,8 @@ const SCRIPT_ABOUT: &str = "Runs a script from standard input";
 
 const SCRIPT_AFTER: &str = "\
 The script is CSV, a command in each record, and is read whole before the first reply is
-written. Its commands are columns, query, replica, feed, merge, known, answer, save and
-load. What it saves it keeps in memory, and ends with it.
+written. Its commands are columns, query, limit, replica, feed, merge, known, answer, save
+and load. What it saves it keeps in memory, and ends with it.
 
 Example:
   agg_tool script < examples/sales.script
@@ -91,6 +93,9 @@ tells what became of it:
 Then OUT is written and 'saved BYTES' printed. OUT may be IN. Where IN itself is
 refused, OUT isn't written.
 
+The groups of a batch take at most --limit bytes of blocks while they are counted; what
+doesn't keep within is spilled, and counted in later passes. The reply is the same.
+
 Example:
   agg_tool feed oslo.sum oslo.sum oslo-3.csv
 
@@ -104,6 +109,9 @@ OUT knows what any IN knew. For each IN after the first, 'merged' is printed, or
 'refused NAME' where it is passed over: another query, no summary file, or another batch
 under a number that is known. Then OUT is written and 'saved BYTES' printed. OUT may be
 one of the INs. Where the first IN is refused, OUT isn't written.
+
+Groups of early batches that follow now take at most --limit bytes of blocks while they
+are counted; what doesn't keep within is spilled, and counted in later passes.
 
 Example:
   agg_tool merge all.sum oslo.sum rome.sum
@@ -126,7 +134,9 @@ file or a stream could not be read or written.";
 const ANSWER_ABOUT: &str = "Prints the query's answer over what a summary knows";
 
 const ANSWER_AFTER: &str = "\
-The rows stand in the order of the query's keys, null last.
+The rows stand in the order of the query's keys, null last. The groups of several origins
+take at most --limit bytes of blocks while they are combined; what doesn't keep within is
+spilled, and combined in later passes. The answer is the same.
 
 Example:
   agg_tool answer all.sum --format aligned
@@ -159,17 +169,29 @@ fn new_command<'a>(alloc: Global) -> Result<Command<'a>, AllocError> {
         .arg(option(alloc, QUERY, "TEXT", "The query that the summary answers").required(true))
 }
 
+/// The option of a limit.
+fn limit_option<'a>(alloc: Global) -> Arg<'a> {
+    option(
+        alloc,
+        LIMIT,
+        "BYTES",
+        "What a table of groups may take, 65536 to 1099511627776 [default: 4194304]",
+    )
+}
+
 fn feed_command<'a>(alloc: Global) -> Result<Command<'a>, AllocError> {
     task(alloc, "feed", FEED_ABOUT, FEED_AFTER)
         .arg(positional(alloc, OUT, "The summary file to write"))?
         .arg(positional(alloc, IN, "The summary file to add to"))?
-        .arg(positional(alloc, BATCH, "The batch files to add").num_args(1..))
+        .arg(positional(alloc, BATCH, "The batch files to add").num_args(1..))?
+        .arg(limit_option(alloc))
 }
 
 fn merge_command<'a>(alloc: Global) -> Result<Command<'a>, AllocError> {
     task(alloc, "merge", MERGE_ABOUT, MERGE_AFTER)
         .arg(positional(alloc, OUT, "The summary file to write"))?
-        .arg(positional(alloc, IN, "The summary files to merge").num_args(1..))
+        .arg(positional(alloc, IN, "The summary files to merge").num_args(1..))?
+        .arg(limit_option(alloc))
 }
 
 fn known_command<'a>(alloc: Global) -> Result<Command<'a>, AllocError> {
@@ -190,7 +212,8 @@ fn format_option<'a>(alloc: Global) -> Arg<'a> {
 fn answer_command<'a>(alloc: Global) -> Result<Command<'a>, AllocError> {
     task(alloc, "answer", ANSWER_ABOUT, ANSWER_AFTER)
         .arg(positional(alloc, IN, "The summary file to read"))?
-        .arg(format_option(alloc))
+        .arg(format_option(alloc))?
+        .arg(limit_option(alloc))
 }
 
 /// The program without its commands.

@@ -1,6 +1,7 @@
 //! Scripts, with a sentence for each refused command.
 
 use exit_status::{Ending, run_ending};
+use hash_agg::MemDisk;
 use script_machine::{Observer, Refusal, name, run_observed};
 use std::alloc::Global;
 use std::io::{Read, Write};
@@ -26,7 +27,8 @@ pub(crate) fn run_script<I: Read, W: Write, E: Write>(
     errors: &mut E,
 ) -> Ending {
     let mut complaints = Complaints { errors };
-    let run = run_observed(alloc, reader, writer, &mut complaints);
+    let mut disk = MemDisk::new(alloc);
+    let run = run_observed(alloc, reader, writer, &mut complaints, &mut disk);
     if let Err(error) = run {
         let _ = writeln!(complaints.errors, "refused {}: {error}", name(error.into()));
     }

@@ -1,13 +1,14 @@
 //! What each command does.
 
-use crate::arguments::{BATCH, COLUMNS, FORMAT, IN, OUT, QUERY};
+use crate::arguments::{BATCH, COLUMNS, FORMAT, IN, LIMIT, OUT, QUERY};
 use crate::files::{read_file, write_file};
 use crate::problem::{Problem, output_fault};
 use clap::ArgMatches;
 use exit_status::{Ending, refusal_ending};
 use file_commands::Format;
+use hash_agg::{Fnv1a, Means, MemDisk};
 use replica_merge::{Delivered, Replica};
-use script_io::put_all;
+use script_io::{put_all, read_limit};
 use script_machine::{Refusal, Reply, put_reply};
 use std::alloc::Global;
 use std::io::Write;
@@ -58,14 +59,35 @@ fn first_replica<'p, R: Files + AllocGlobal>(
     }
 }
 
+/// The means of a limit that a text tells.
+fn means_told(text: &str) -> Result<Means<Fnv1a>, Refusal> {
+    match read_limit(text.as_bytes()) {
+        Some(limit) => Ok(Means::new(limit, Fnv1a)?),
+        None => Err(Refusal::BadCommand),
+    }
+}
+
+/// The means that a command tells, or the usual ones.
+fn means_of(command: &str, matches: &ArgMatches<'_>) -> Result<Means<Fnv1a>, Refusal> {
+    if !matches!(command, "feed" | "merge" | "answer") {
+        return Ok(Means::usual(Fnv1a));
+    }
+    match matches.get_str(LIMIT) {
+        Some(text) => means_told(text),
+        None => Ok(Means::usual(Fnv1a)),
+    }
+}
+
 /// Feeds the batch of a file to a replica.
 fn feed_file<'p, R: Files + AllocGlobal>(
     rt: &R,
     replica: &mut Replica,
     path: &'p str,
+    means: &Means<Fnv1a>,
+    disk: &mut MemDisk,
 ) -> Result<Delivered, Problem<'p>> {
     let file = read_file(rt, path)?;
-    match file_commands::feed(rt.alloc(), replica, &file) {
+    match file_commands::feed(rt.alloc(), replica, &file, means, disk) {
         Ok(delivered) => Ok(delivered),
         Err(why) => Err(Problem::refused(path, why)),
     }
@@ -76,20 +98,23 @@ fn merge_file<'p, R: Files + AllocGlobal>(
     rt: &R,
     replica: &mut Replica,
     path: &'p str,
+    means: &Means<Fnv1a>,
+    disk: &mut MemDisk,
 ) -> Result<(), Problem<'p>> {
     let file = read_file(rt, path)?;
-    match file_commands::merge(rt.alloc(), replica, &file) {
+    match file_commands::merge(rt.alloc(), replica, &file, means, disk) {
         Ok(()) => Ok(()),
         Err(why) => Err(Problem::refused(path, why)),
     }
 }
 
-/// A command that runs: the files that it reaches, its streams, and whether something was passed over.
+/// A command that runs: the files that it reaches, its streams, its disk of tapes, and whether something was passed over.
 #[derive(Drop)]
 pub(crate) struct Session<'c, R, W, E> {
     rt: &'c R,
     writer: &'c mut W,
     errors: &'c mut E,
+    disk: MemDisk,
     refused: bool,
 }
 
@@ -100,6 +125,7 @@ impl<'c, R: Files + AllocGlobal, W: Write, E: Write> Session<'c, R, W, E> {
             rt,
             writer,
             errors,
+            disk: MemDisk::new(rt.alloc()),
             refused: false,
         }
     }
@@ -151,12 +177,13 @@ impl<'c, R: Files + AllocGlobal, W: Write, E: Write> Session<'c, R, W, E> {
         &mut self,
         replica: &mut Replica,
         matches: &ArgMatches<'p>,
+        means: &Means<Fnv1a>,
     ) -> Result<(), Problem<'p>> {
         let Some(paths) = matches.get_strs(BATCH) else {
             return Ok(());
         };
         for path in paths {
-            match feed_file(self.rt, replica, *path) {
+            match feed_file(self.rt, replica, *path, means, &mut self.disk) {
                 Ok(delivered) => self.reply(&Reply::Delivered(delivered))?,
                 Err(problem) => self.pass_over(problem)?,
             }
@@ -169,12 +196,13 @@ impl<'c, R: Files + AllocGlobal, W: Write, E: Write> Session<'c, R, W, E> {
         &mut self,
         replica: &mut Replica,
         matches: &ArgMatches<'p>,
+        means: &Means<Fnv1a>,
     ) -> Result<(), Problem<'p>> {
         let Some(paths) = matches.get_strs(IN) else {
             return Ok(());
         };
         for path in paths.iter().skip(1) {
-            match merge_file(self.rt, replica, *path) {
+            match merge_file(self.rt, replica, *path, means, &mut self.disk) {
                 Ok(()) => self.reply(&Reply::Merged)?,
                 Err(problem) => self.pass_over(problem)?,
             }
@@ -194,12 +222,13 @@ impl<'c, R: Files + AllocGlobal, W: Write, E: Write> Session<'c, R, W, E> {
     fn answer<'p>(
         &mut self,
         replica: &Replica,
-        path: &'p str,
-        format: Format,
+        matches: &ArgMatches<'p>,
+        means: &Means<Fnv1a>,
     ) -> Result<(), Problem<'p>> {
-        match file_commands::table(self.rt.alloc(), replica, format) {
+        let format = format_named(value(matches, FORMAT));
+        match file_commands::table(self.rt.alloc(), replica, format, means, &mut self.disk) {
             Ok(table) => self.print(&table),
-            Err(_) => Err(Problem::refused(path, Refusal::NoMemory)),
+            Err(error) => Err(Problem::refused(value(matches, IN), Refusal::from(error))),
         }
     }
 
@@ -209,13 +238,13 @@ impl<'c, R: Files + AllocGlobal, W: Write, E: Write> Session<'c, R, W, E> {
         replica: &mut Replica,
         command: &str,
         matches: &ArgMatches<'p>,
+        means: &Means<Fnv1a>,
     ) -> Result<(), Problem<'p>> {
-        let input = value(matches, IN);
         match command {
-            "known" => return self.list(replica, input),
-            "answer" => return self.answer(replica, input, format_named(value(matches, FORMAT))),
-            "feed" => self.feed_files(replica, matches)?,
-            "merge" => self.merge_files(replica, matches)?,
+            "known" => return self.list(replica, value(matches, IN)),
+            "answer" => return self.answer(replica, matches, means),
+            "feed" => self.feed_files(replica, matches, means)?,
+            "merge" => self.merge_files(replica, matches, means)?,
             _ => {}
         }
         self.save(replica, value(matches, OUT))
@@ -226,9 +255,10 @@ impl<'c, R: Files + AllocGlobal, W: Write, E: Write> Session<'c, R, W, E> {
         &mut self,
         command: &str,
         matches: &ArgMatches<'p>,
+        means: &Means<Fnv1a>,
     ) -> Result<(), Problem<'p>> {
         let mut replica = first_replica(self.rt, command, matches)?;
-        let done = self.perform(&mut replica, command, matches);
+        let done = self.perform(&mut replica, command, matches, means);
         drop(replica);
         done
     }
@@ -242,9 +272,23 @@ impl<'c, R: Files + AllocGlobal, W: Write, E: Write> Session<'c, R, W, E> {
         }
     }
 
+    /// Ends a command whose limit was refused. A text that is no number of bytes is no command line.
+    fn refuse_limit(&mut self, why: Refusal) -> Ending {
+        let problem = Problem::refused("--limit", why);
+        if matches!(why, Refusal::BadCommand) {
+            self.complain(&problem);
+            return Ending::BadUsage;
+        }
+        self.stop(problem)
+    }
+
     /// Runs a command on files, and tells how it ended.
     pub(crate) fn run(mut self, command: &str, matches: &ArgMatches<'_>) -> Ending {
-        match self.run_command(command, matches) {
+        let means = match means_of(command, matches) {
+            Ok(means) => means,
+            Err(why) => return self.refuse_limit(why),
+        };
+        match self.run_command(command, matches, &means) {
             Ok(()) if self.refused => Ending::Refused,
             Ok(()) => Ending::Done,
             Err(problem) => self.stop(problem),

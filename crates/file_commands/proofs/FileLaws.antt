@@ -1,5 +1,5 @@
 -- Why a file is refused, by the refusal, and what the batch of a batch file is.
-use Rattle.std.specs.Prelude.{◌≡◌, ◌≢◌, ◌≤◌, ℕ, List, length, Option, Some, None, IsSomeAnd, [], refl, Result, Ok, Err, IfErr, OnOk}
+use Rattle.std.specs.Prelude.{◌≡◌, ◌≢◌, ◌≤◌, Bool, IsTrue, ℕ, List, length, Option, Some, None, IsSomeAnd, [], refl, Result, Ok, Err, IfErr, OnOk}
 use Rattle.std.proofs.Common.{subst, sym}
 use Rattle.grouping_model.specs.Datum.{Kind, Row}
 use Rattle.grouping_model.specs.World.{World, IsWorld, learn}
@@ -46,6 +46,8 @@ pub apart : (old other : Held) (e : MergeError) → (e ≡ merge.DifferentQuery 
 apart old other merge.NoMemory different disagrees = tt
 apart old other merge.DifferentQuery different disagrees = different refl
 apart old other merge.OriginDisagrees different disagrees = disagrees refl
+apart old other merge.TapeFault different disagrees = tt
+apart old other merge.TapeDamaged different disagrees = tt
 
 -- what follows from why a call failed
 pub if_err : {T : Type 0} (result : Result T Refusal) (P Q : Refusal → Type 0) → ((why : Refusal) → P why → Q why) → IfErr result P → IfErr result Q
@@ -62,6 +64,8 @@ pub told_disagreement : (e : MergeError) → merge_refusal e ≡ refuse.OriginDi
 told_disagreement merge.NoMemory is = cc is
 told_disagreement merge.DifferentQuery is = cc is
 told_disagreement merge.OriginDisagrees is = refl
+told_disagreement merge.TapeFault is = cc is
+told_disagreement merge.TapeDamaged is = cc is
 
 -- the batch of a file, and the rows that its packed rows are of
 abbrev pub FileBatch : List Kind → Option BatchFile → (origin number : ℕ) → (packed : List (List ℕ)) → Type 0
@@ -89,19 +93,19 @@ packed_of_file ks None origin number packed found few = absurd found
 packed_of_file ks (Some read) origin number packed found few = built_rows ks read.records found.0 packed found.2 found.3 few
 
 -- a replica that takes it takes the file
-pub takes_file : (file : Option BatchFile) (old new : Held) (delivered : Delivered) (origin number : ℕ) (packed : List (List ℕ))
+pub takes_file : (honest : Bool) (file : Option BatchFile) (old new : Held) (delivered : Delivered) (origin number : ℕ) (packed : List (List ℕ))
     → FileBatch (kinds old.query.columns) file origin number packed → delivered ≡ reply_of (told old.parts) (origin, number)
     → told new.parts ≡ learn (told old.parts) (origin, number)
-    → ((world : World) (those : List Row) → IsWorld (kinds old.query.columns) world → Fits world old → world origin number ≡ Some those → packed ≡ packings those → Fits world new)
-    → new.query ≡ old.query → TakesFile file old new delivered
-takes_file None old new delivered origin number packed found replied learns fits asked = absurd found
-takes_file (Some read) old new delivered origin number packed found replied learns fits asked =
+    → (IsTrue honest → (world : World) (those : List Row) → IsWorld (kinds old.query.columns) world → Fits world old → world origin number ≡ Some those → packed ≡ packings those → Fits world new)
+    → new.query ≡ old.query → TakesFile honest file old new delivered
+takes_file honest None old new delivered origin number packed found replied learns fits asked = absurd found
+takes_file honest (Some read) old new delivered origin number packed found replied learns fits asked =
     record {
       fed = record { origin = origin; number = number; rows = found.0 };
       is_batch = found.1;
       reply = replied;
       learns = learns;
-      fits = λ world is fit there. fits world found.0 is fit there found.3;
+      fits = λ so world is fit there. fits so world found.0 is fit there found.3;
       asked = asked;
     }
 

@@ -1,6 +1,6 @@
 -- What the program's commands make of files. A batch file means what a feed of its batch means in a script, and a summary file what
 -- the replica means that it is of. All of this is our own.
-use Rattle.std.specs.Prelude.{ℕ, ◌≡◌, ◌<◌, ◌⊎◌, List, [], length, Option, Some, None, IsSomeAnd}
+use Rattle.std.specs.Prelude.{Bool, IsTrue, ℕ, ◌≡◌, ◌<◌, ◌⊎◌, List, [], length, Option, Some, None, IsSomeAnd}
 use Rattle.grouping_model.specs.Aggregates.{Outcome}
 use Rattle.grouping_model.specs.Datum.{Kind}
 use Rattle.grouping_model.specs.World.{World, IsWorld, union}
@@ -20,7 +20,7 @@ use Rattle.script_machine.specs.Machine.{IsNoQuery, IsNoBatch}
 use Rattle.script_machine.specs.Views.{Takes, IsOtherBatch}
 use Rattle.script_machine.specs.declared.error.RunError.TheVariants.{InputTooLong}
 use Rattle.script_machine.specs.declared.refusal.Refusal.{Refusal}
-use Rattle.script_machine.specs.declared.refusal.Refusal.TheVariants.{NoMemory, BadSchema, Batch, Summary, DifferentQuery, OriginDisagrees, Run}
+use Rattle.script_machine.specs.declared.refusal.Refusal.TheVariants.{NoMemory, BadSchema, Batch, Summary, DifferentQuery, OriginDisagrees, TapeFault, TapeDamaged, Run}
 use Rattle.file_commands.specs.declared.asking.Format.{Format}
 use Rattle.file_commands.specs.declared.asking.Format.TheVariants.{Csv, Aligned}
 
@@ -35,9 +35,9 @@ abbrev pub IsNotNew : (columns query : List ℕ) → Refusal → Type 0
 IsNotNew columns query BadSchema = (found : List Column) → ¬ (IsSchemaText columns found)
 IsNotNew columns query why = (found : List Column) × IsSchemaText columns found × IsNoQuery found query why
 
--- a replica takes the batch of a batch file
-abbrev pub TakesFile : Option BatchFile → (old new : Held) → Delivered → Type 0
-TakesFile file old new delivered = IsSomeAnd file (λ read. Takes read.head.origin read.head.number read.head.told read.records old new delivered)
+-- a replica takes the batch of a batch file, over a disk of tapes that may be honest
+abbrev pub TakesFile : (honest : Bool) → Option BatchFile → (old new : Held) → Delivered → Type 0
+TakesFile honest file old new delivered = IsSomeAnd file (λ read. Takes honest read.head.origin read.head.number read.head.told read.records old new delivered)
 
 -- why a file is no batch file of these columns: its head is bad, or else it is refused as a feed is
 abbrev pub IsNoBatchFile : List Kind → Option BatchFile → Refusal → Type 0
@@ -54,20 +54,23 @@ IsNoSummary file NoMemory = Unit {0}
 IsNoSummary file (Summary error) = HasFault file error
 IsNoSummary file why = ⊥
 
--- a replica takes in another: afterwards it knows the union, and fits each world that both fitted
-pub record MergesHeld (old other new : Held) : Type 0 where
+-- a replica takes in another: afterwards it knows the union, and over an honest disk of tapes it fits each world that both fitted
+pub record MergesHeld (honest : Bool) (old other new : Held) : Type 0 where
   pub same : other.query ≡ old.query
   pub asked : new.query ≡ old.query
   pub knows : told new.parts ≡ union (told old.parts) (told other.parts)
-  pub fits : (world : World) → IsWorld (kinds old.query.columns) world → Fits world old → Fits world other → Fits world new
+  pub fits : IsTrue honest → (world : World) → IsWorld (kinds old.query.columns) world → Fits world old → Fits world other → Fits world new
 
 -- the same for the replica that a summary file is of
-abbrev pub MergesFile : List ℕ → (old new : Held) → Type 0
-MergesFile file old new = (other : Held) × IsSummary file other.query other.parts × MergesHeld old other new
+abbrev pub MergesFile : (honest : Bool) → List ℕ → (old new : Held) → Type 0
+MergesFile honest file old new = (other : Held) × IsSummary file other.query other.parts × MergesHeld honest old other new
 
--- why a replica is not merged into another, unless memory ran out: it has another query, or one number of an origin has two batches
+-- why a replica is not merged into another, unless memory ran out or the disk of tapes failed or is damaged: it has another query, or one
+-- number of an origin has two batches
 abbrev pub IsApart : (old other : Held) → Refusal → Type 0
 IsApart old other NoMemory = Unit {0}
+IsApart old other TapeFault = Unit {0}
+IsApart old other TapeDamaged = Unit {0}
 IsApart old other DifferentQuery = ¬ (SameQuery old.query other.query)
 IsApart old other OriginDisagrees = DisagreeSomewhere old.parts other.parts
 IsApart old other why = ⊥

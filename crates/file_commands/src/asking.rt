@@ -1,6 +1,6 @@
 //! What a replica knows and answers, as text.
 
-ghost use Rattle.std.specs.Prelude.{◌≡◌, All, IfOk, length};
+ghost use Rattle.std.specs.Prelude.{◌≡◌, ◌≢◌, All, IfErr, IfOk, IsTrue, length};
 ghost use Rattle.grouping_model.specs.Answer.{answer};
 ghost use Rattle.grouping_model.specs.Replies.{known_list};
 ghost use Rattle.grouping_model.specs.World.{World, IsWorld};
@@ -8,8 +8,11 @@ ghost use Rattle.having_filter.specs.Meaning.{meaning};
 ghost use Rattle.packed_rows.specs.Columns.{kinds};
 ghost use Rattle.replica_merge.specs.Replicas.{told, Fits};
 ghost use Rattle.script_machine.specs.Text.{origins_text};
+ghost use Rattle.spill_lists.specs.Standing.{Moves, IsReadRefusal};
+ghost use Rattle.spill_lists.specs.declared.error.SpillError.TheVariants.{TapeDamaged};
 ghost use Rattle.file_commands.specs.Commands.{text_of};
 
+use hash_agg::{KeyHash, Means, SpillError, TapeDisk};
 use having_filter::{Answer, Query};
 use replica_merge::Replica;
 use script_machine::origin_lines;
@@ -50,14 +53,27 @@ fn print(
     }
 }
 
-/// The table of a replica's answer. The only error is a failed allocation.
-pub fn table(alloc: Global, replica: &Replica, format: Format) -> Result<Vec<u8>, AllocError>
-    ensures { IfOk result (λ text. (world : World) → IsWorld (kinds replica.now.query.columns) world →
+/// The table of a replica's answer, by `means` and over a disk of tapes.
+///
+/// # Errors
+///
+/// Those of [`Replica::answer`].
+pub fn table<H: KeyHash + Copy, D: TapeDisk>(
+    alloc: Global,
+    replica: &Replica,
+    format: Format,
+    means: &Means<H>,
+    disk: &mut D,
+) -> Result<Vec<u8>, SpillError>
+    ensures table { IfOk result (λ text. IsTrue (D.honest disk.old) → (world : World) → IsWorld (kinds replica.now.query.columns) world →
         Fits world replica.now → text.items ≡ text_of format replica.now.query
         (answer (meaning replica.now.query) world (told replica.now.parts))) }
+    ensures undamaged { IfErr result (λ error. IsTrue (D.honest disk.old) → error ≢ TapeDamaged) }
+    ensures refused { IfErr result (IsReadRefusal (D.failures disk.old) (D.failures disk.new)) }
+    ensures disk { Moves (D.failures disk.old) (D.failures disk.new) (D.writes disk.old) (D.writes disk.new) (D.honest disk.old) (D.honest disk.new) }
 {
-    let answer = replica.answer()?;
+    let answer = replica.answer(means, disk)?;
     let text = print(alloc, replica.query(), &answer, format);
     drop(answer);
-    text
+    Ok(text?)
 }

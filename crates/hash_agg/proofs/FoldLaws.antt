@@ -1,6 +1,7 @@
 -- A run that takes the groups of another.
 use Rattle.std.specs.Prelude.{◌≡◌, ℕ, ◌+◌, ◌<◌, ◌≤◌, cond, true, false, ◌||◌, List, [], ◌∷◌, ◌++◌, length, map}
-use Rattle.std.proofs.Common.{sym, ◌∙◌, ap, subst}
+use Rattle.std.proofs.Common.{sym, ◌∙◌, ap, subst, arith}
+use Rattle.std.proofs.lemmas.List.{length-map, length-append}
 use Rattle.std.proofs.lemmas.List.Sums.{sum_by-cons}
 use Rattle.std.specs.declared.cmp.Ordering.TheVariants.{Less, Equal, Greater}
 use Rattle.std.specs.Ordering.{match_ordering}
@@ -19,11 +20,11 @@ use Rattle.agg_protocol.specs.States.{most_rows}
 use Rattle.having_filter.specs.Kept.{key_kinds}
 use Rattle.hash_agg.specs.Runs.{Entry, packed_keys, Rises}
 use Rattle.hash_agg.specs.Standing.{AreGroups, IsRun}
-use Rattle.hash_agg.specs.Inputs.{Brought, Packed, Counted, rows_in, all_rows, on_end, AreInputsOf, AllBring, IsAggregate}
+use Rattle.hash_agg.specs.Inputs.{Brought, Packed, Counted, rows_in, all_rows, on_end, AreInputsOf, AllBring, IsAggregate, IsRunOver}
 use Rattle.hash_agg.specs.Adding.{groups_added}
 use Rattle.hash_agg.specs.Steps.{AddsRun}
 use Rattle.hash_agg.proofs.KeyLaws.{key_has}
-use Rattle.hash_agg.proofs.MergeLaws.{puts, puts_rise, among-puts, keys_of-groups_added, groups_added_part}
+use Rattle.hash_agg.proofs.MergeLaws.{puts, puts_rise, puts_long, among-puts, keys_of-groups_added, groups_added_part}
 use Rattle.hash_agg.proofs.InputLaws.{keys_packed, keys_of_kinds, rises_keys}
 use Rattle.hash_agg.proofs.WholeLaws.{packings_once, keys_few}
 use Rattle.hash_agg.proofs.SpliceLaws.{packed_rise}
@@ -70,6 +71,11 @@ brought_kinds q (Counted run most ∷ inputs) (ks ∷ lists) within (one, bring)
 
 -- ---- a run and what inputs gave
 
+-- a run has as many entries as groups
+as_many : (q : Query) (most : ℕ) (run : List Entry) (groups : List Group) → AreGroups q most run groups → length run ≡ length (keys_of groups)
+as_many q most run groups are =
+    sym (length-map run (λ (e : Entry). e.0)) ∙ ap length (keys_packed q most run groups are) ∙ length-map (keys_of groups) packing
+
 -- keys that are put to rising ones
 puts_distinct : (ks ls : List Row) → IsStrictlySortedBy row_cmp ks → puts ks (distinct row_cmp ls) ≡ distinct row_cmp (ks ++ ls)
 puts_distinct ks ls rising =
@@ -80,17 +86,58 @@ puts_distinct ks ls rising =
     ∙ sym (among-append row_cmp key ks ls)
     ∙ sym (among-distinct row_cmp_total key (ks ++ ls)))
 
-module _ (q : Query) (rows : ℕ) (old more new : List Entry) (inputs : List Brought) (low : rows + all_rows inputs ≤ most_rows) (is : IsRun q rows old) (given : IsAggregate q inputs more) (added : AddsRun q old more new) where
+module _ (q : Query) (rows : ℕ) (old more new : List Entry) (inputs : List Brought) (low : rows + all_rows inputs ≤ most_rows) (is : IsRun q rows old) (more_is : IsRun q (all_rows inputs) more) (added : AddsRun q old more new) where
   total : rows + all_rows inputs ≡ all_rows (Counted old rows ∷ inputs)
   total = sym (sum_by-cons rows_in (Counted old rows) inputs)
 
-  folded_groups : AreGroups q (rows + all_rows inputs) new (groups_added q is.groups given.is_run.groups)
-  folded_groups = added rows (all_rows inputs) is.groups given.is_run.groups low is.are given.is_run.are
+  folded_groups : AreGroups q (rows + all_rows inputs) new (groups_added q is.groups more_is.groups)
+  folded_groups = added rows (all_rows inputs) is.groups more_is.groups low is.are more_is.are
 
+  folded_rises : Rises new
+  folded_rises =
+      packed_rise q (rows + all_rows inputs) new (groups_added q is.groups more_is.groups) folded_groups
+      (subst (IsStrictlySortedBy row_cmp) (sym (keys_of-groups_added q is.groups more_is.groups)) (puts_rise (keys_of is.groups) (keys_of more_is.groups) (run_keys_rise q rows old is.groups is.are is.rises)))
+
+  folded_is_run : IsRun q (all_rows (Counted old rows ∷ inputs)) new
+  folded_is_run =
+      record {
+        groups = groups_added q is.groups more_is.groups;
+        are = subst (λ n. AreGroups q n new (groups_added q is.groups more_is.groups)) total folded_groups;
+        rises = folded_rises;
+      }
+
+  folded_few : length new ≤ length old + length more
+  folded_few =
+      let now : length new ≡ length (keys_of (groups_added q is.groups more_is.groups)) = as_many q (rows + all_rows inputs) new (groups_added q is.groups more_is.groups) folded_groups in
+      let had : length old ≡ length (keys_of is.groups) = as_many q rows old is.groups is.are in
+      let came : length more ≡ length (keys_of more_is.groups) = as_many q (all_rows inputs) more more_is.groups more_is.are in
+      let put : length (keys_of (groups_added q is.groups more_is.groups)) ≡ length (puts (keys_of is.groups) (keys_of more_is.groups)) = ap length (keys_of-groups_added q is.groups more_is.groups) in
+      let long : length (puts (keys_of is.groups) (keys_of more_is.groups)) ≤ length (keys_of is.groups) + length (keys_of more_is.groups) = puts_long (keys_of is.groups) (keys_of more_is.groups) in
+      omega (arith, now, had, came, put, long)
+
+-- what is folded over any disk
+pub folded_over : (q : Query) (rows : ℕ) (old more new : List Entry) (inputs : List Brought) → rows + all_rows inputs ≤ most_rows → IsRun q rows old → IsRunOver q inputs more → AddsRun q old more new
+    → IsRunOver q (Counted old rows ∷ inputs) new
+folded_over q rows old more new inputs low is given added =
+    record {
+      is_run = folded_is_run q rows old more new inputs low is given.is_run added;
+      few = λ lists bring. few lists bring;
+    }
+  where
+    few : (lists : List (List Row)) → AllBring q (Counted old rows ∷ inputs) lists → length new ≤ length (on_end lists)
+    few [] bring = absurd bring
+    few (ks ∷ lists) (one, bring) =
+        let all : length new ≤ length old + length more = folded_few q rows old more new inputs low is given.is_run added in
+        let came : length more ≤ length (on_end lists) = given.few lists bring in
+        let had : length old ≡ length ks = sym (length-map old (λ (e : Entry). e.0)) ∙ ap length one.packings_are ∙ length-map ks packing in
+        let both : length (ks ++ on_end lists) ≡ length ks + length (on_end lists) = length-append ks (on_end lists) in
+        omega (arith, all, came, had, both)
+
+module _ (q : Query) (rows : ℕ) (old more new : List Entry) (inputs : List Brought) (low : rows + all_rows inputs ≤ most_rows) (is : IsRun q rows old) (given : IsAggregate q inputs more) (added : AddsRun q old more new) where
   folded_part : (lists : List (List Row)) → AreInputsOf q (Counted old rows ∷ inputs) lists → AreGroups q (all_rows (Counted old rows ∷ inputs)) new (part q (on_end lists))
   folded_part [] are = absurd are
   folded_part (xs ∷ lists) (first, are) =
-      subst (λ n. AreGroups q n new (part q (xs ++ on_end lists))) total
+      subst (λ n. AreGroups q n new (part q (xs ++ on_end lists))) (sym (sum_by-cons rows_in (Counted old rows) inputs))
       (subst (AreGroups q (rows + all_rows inputs) new) (groups_added_part q xs (on_end lists))
       (added rows (all_rows inputs) (part q xs) (part q (on_end lists)) low first (given.part lists are)))
 
@@ -103,16 +150,11 @@ module _ (q : Query) (rows : ℕ) (old more new : List Entry) (inputs : List Bro
       packings_once (key_kinds q) (keys_of given.is_run.groups) (distinct row_cmp (on_end lists)) (keys_of_kinds q (all_rows inputs) more given.is_run.groups given.is_run.are)
       (all_distinct (HasKinds (key_kinds q)) (on_end lists) (brought_kinds q inputs lists within bring))
       (sym (keys_packed q (all_rows inputs) more given.is_run.groups given.is_run.are) ∙ given.keys lists bring) in
-      keys_packed q (rows + all_rows inputs) new (groups_added q is.groups given.is_run.groups) folded_groups
+      keys_packed q (rows + all_rows inputs) new (groups_added q is.groups given.is_run.groups) (folded_groups q rows old more new inputs low is given.is_run added)
       ∙ ap (map packing)
       (keys_of-groups_added q is.groups given.is_run.groups
       ∙ (λ i. puts (had i) (came i))
       ∙ puts_distinct ks (on_end lists) (subst (IsStrictlySortedBy row_cmp) had (run_keys_rise q rows old is.groups is.are is.rises)))
-
-  folded_rises : Rises new
-  folded_rises =
-      packed_rise q (rows + all_rows inputs) new (groups_added q is.groups given.is_run.groups) folded_groups
-      (subst (IsStrictlySortedBy row_cmp) (sym (keys_of-groups_added q is.groups given.is_run.groups)) (puts_rise (keys_of is.groups) (keys_of given.is_run.groups) (run_keys_rise q rows old is.groups is.are is.rises)))
 
   pub folded : AllByRecursion (λ place. place < length q.kinds) q.keys → IsAggregate q (Counted old rows ∷ inputs) new
   folded within =
@@ -120,9 +162,5 @@ module _ (q : Query) (rows : ℕ) (old more new : List Entry) (inputs : List Bro
         part = folded_part;
         keys = folded_keys within;
         few = λ lists bring. keys_few new (on_end lists) (folded_keys within lists bring);
-        is_run = record {
-          groups = groups_added q is.groups given.is_run.groups;
-          are = subst (λ n. AreGroups q n new (groups_added q is.groups given.is_run.groups)) total folded_groups;
-          rises = folded_rises;
-        };
+        is_run = folded_is_run q rows old more new inputs low is given.is_run added;
       }

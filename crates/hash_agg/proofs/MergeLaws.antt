@@ -112,6 +112,13 @@ put_long k (l ∷ ks) =
       | Greater ↦ omega (arith, behind)
     ]
 
+pub puts_long : (ks ls : List Row) → length (puts ks ls) ≤ length ks + length ls
+puts_long ks [] = omega arith
+puts_long ks (l ∷ ls) =
+    let one : length (put row_cmp l ks) ≤ length ks + 1 = put_long l ks in
+    let rest : length (puts (put row_cmp l ks) ls) ≤ length (put row_cmp l ks) + length ls = puts_long (put row_cmp l ks) ls in
+    omega (arith, one, rest)
+
 pub distinct_few : (ks : List Row) → length (distinct row_cmp ks) ≤ length ks
 distinct_few [] = omega arith
 distinct_few (k ∷ ks) =

@@ -7,3 +7,4 @@ pub mod Bytes
 pub mod Places
 pub mod Passes
 pub mod Waiting
+pub mod Means

@@ -13,68 +13,37 @@ ghost use Rattle.hash_agg.specs.Passes.{Piece, IsPlan, IsSameTable, AreSafe, Cou
 ghost use Rattle.hash_agg.specs.Waiting.{Waits};
 
 use crate::input::Input;
+use crate::means::Means;
 use crate::pass::{Buffers, Pass};
 use crate::plan::Plan;
 use crate::run::Run;
 use crate::sorting::united;
-use group_table::{Fnv1a, KeyHash};
+use group_table::KeyHash;
 use having_filter::Query;
 use spill_lists::SpillError;
-use spill_tapes::{MemDisk, TapeDisk};
-use std::alloc::{AllocError, Global};
-
-/// The limit of an aggregation that is told none, in bytes of blocks: 1 TiB.
-const LARGEST_LIMIT: u64 = 1_099_511_627_776;
+use spill_tapes::TapeDisk;
+use std::alloc::Global;
 
 /// The groups of all inputs together, in the order of their keys: one for each distinct key of the selected rows and of
 /// the groups that are given, which are none over no selected row and no group, also without GROUP BY.
 ///
 /// The rows are packed rows of the query's table. A run has rising packed keys of the columns of GROUP BY, and states of
-/// the query's aggregates that count at most `rows` rows each. All inputs together have fewer than 2^57 rows. The only
-/// error is a failed allocation.
-pub fn aggregate(alloc: Global, query: &Query, inputs: &[Input<'_>]) -> Result<Run, AllocError>
-    requires inputs { AllByRecursion (IsInput (meaning query.now)) (map brought inputs.now) }
-    requires few { all_rows (map brought inputs.now) < 2 ^ 57 }
-    ensures { IfOk result (IsAggregate (meaning query.now) (map brought inputs.now)) }
-{
-    aggregate_within(alloc, query, inputs, LARGEST_LIMIT)
-}
-
-/// The same with a limit on the blocks of the table of groups, in bytes. What doesn't keep within it is spilled to a disk in memory,
-/// and read by later passes.
-pub fn aggregate_within(
-    alloc: Global,
-    query: &Query,
-    inputs: &[Input<'_>],
-    limit: u64,
-) -> Result<Run, AllocError>
-    requires inputs { AllByRecursion (IsInput (meaning query.now)) (map brought inputs.now) }
-    requires few { all_rows (map brought inputs.now) < 2 ^ 57 }
-    ensures { IfOk result (IsAggregate (meaning query.now) (map brought inputs.now)) }
-{
-    let mut disk = MemDisk::new(alloc);
-    match aggregate_over(alloc, query, inputs, limit, Fnv1a, &mut disk) {
-        Ok(run) => Ok(run),
-        Err(_) => Err(AllocError), // Such a disk neither fails nor errs.
-    }
-}
-
-/// The same by any hash function, and over any disk. A pass over the inputs takes the groups that keep within the limit, and at
-/// least one; what is left goes to lists on tapes, by fresh bits of its hash, and each list is a later pass. So a limit changes
-/// nothing but the time and the memory that an aggregation takes (PostgreSQL 17, `src/backend/executor/nodeAgg.c`: hash aggregation
-/// in phases).
+/// the query's aggregates that count at most `rows` rows each. All inputs together have fewer than 2^57 rows.
+///
+/// A pass over the inputs takes the groups that keep within the limit of its means, and at least one; what is left goes to lists
+/// on tapes, by fresh bits of its hash, and each list is a later pass. So a limit and a hash function change nothing but the time and
+/// the memory that an aggregation takes (PostgreSQL 17, `src/backend/executor/nodeAgg.c`: hash aggregation in phases).
 ///
 /// # Errors
 ///
 /// `NoMemory`; `TapeFault` where the disk failed; and `TapeDamaged` where it gave back what was not written to it, so never over
 /// an honest one. Over any other, what is answered is a run of the query, of as many groups as there are selected rows and groups
 /// at most.
-pub fn aggregate_over<H: KeyHash + Drop, D: TapeDisk>(
+pub fn aggregate<H: KeyHash + Copy, D: TapeDisk>(
     alloc: Global,
     query: &Query,
     inputs: &[Input<'_>],
-    limit: u64,
-    hash: H,
+    means: &Means<H>,
     disk: &mut D,
 ) -> Result<Run, SpillError>
     requires inputs { AllByRecursion (IsInput (meaning query.now)) (map brought inputs.now) }
@@ -85,9 +54,9 @@ pub fn aggregate_over<H: KeyHash + Drop, D: TapeDisk>(
     ensures refused { IfErr result (IsReadRefusal (D.failures disk.old) (D.failures disk.new)) }
     ensures disk { Moves (D.failures disk.old) (D.failures disk.new) (D.writes disk.old) (D.writes disk.new) (D.honest disk.old) (D.honest disk.new) }
 {
-    let plan = Plan::new(alloc, query, rows_of_all(inputs), limit)?;
+    let plan = Plan::new(alloc, query, rows_of_all(inputs), means.limit())?;
     let mut buffers = Buffers::new(alloc);
-    let mut pass = Pass::new(alloc, &plan, hash, disk)?;
+    let mut pass = Pass::new(alloc, &plan, means.hash(), disk)?;
     let run = first_pass(alloc, disk, &plan, &mut pass, inputs, &mut buffers)?;
     later_passes(alloc, disk, &plan, &mut pass, run, &mut buffers)
 }

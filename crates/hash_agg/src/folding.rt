@@ -1,36 +1,54 @@
 //! More inputs for a run.
 
-ghost use Rattle.std.specs.Prelude.{◌≡◌, ◌+◌, ◌<◌, ◌^◌, ◌∷◌, map, OnOk, OnErr};
+ghost use Rattle.std.specs.Prelude.{◌≡◌, ◌≢◌, ◌+◌, ◌<◌, ◌^◌, ◌∷◌, map, IsTrue, IfErr, OnOk, OnErr};
 ghost use Rattle.std.specs.List.{AllByRecursion};
+ghost use Rattle.spill_lists.specs.Standing.{Moves, IsReadRefusal};
+ghost use Rattle.spill_lists.specs.declared.error.SpillError.TheVariants.{TapeDamaged};
 ghost use Rattle.having_filter.specs.Meaning.{meaning};
 ghost use Rattle.hash_agg.specs.Standing.{IsRun};
-ghost use Rattle.hash_agg.specs.Inputs.{Counted, brought, all_rows, IsInput, IsAggregate};
+ghost use Rattle.hash_agg.specs.Inputs.{Counted, brought, all_rows, IsInput, IsAggregate, IsRunOver};
 
 use crate::aggregation::aggregate;
 use crate::input::Input;
+use crate::means::Means;
 use crate::run::Run;
+use group_table::KeyHash;
 use having_filter::Query;
-use std::alloc::{AllocError, Global};
+use spill_lists::SpillError;
+use spill_tapes::TapeDisk;
+use std::alloc::Global;
 
 /// Adds what inputs give to a run, which becomes the run that `aggregate` gives of it and of them.
 ///
-/// No state of the run counts more than `rows` rows, and with those of the inputs they are fewer than 2^57. The only error is
-/// a failed allocation, which leaves the run as it was.
-pub fn fold(
+/// No state of the run counts more than `rows` rows, and with those of the inputs they are fewer than 2^57. The limit is that
+/// of the inputs' groups, which are then merged with the run.
+///
+/// # Errors
+///
+/// Those of [`aggregate`]. An error leaves the run as it was.
+pub fn fold<H: KeyHash + Copy, D: TapeDisk>(
     alloc: Global,
     query: &Query,
     run: &mut Run,
     rows: u64,
     more: &[Input<'_>],
-) -> Result<(), AllocError>
+    means: &Means<H>,
+    disk: &mut D,
+) -> Result<(), SpillError>
     requires run { IsRun (meaning query.now) rows run.old }
     requires inputs { AllByRecursion (IsInput (meaning query.now)) (map brought more.now) }
     requires few { rows + all_rows (map brought more.now) < 2 ^ 57 }
-    ensures folded { OnOk result (IsAggregate (meaning query.now)
+    ensures folded { OnOk result (IsTrue (D.honest disk.old) → IsAggregate (meaning query.now)
         (Counted run.old rows ∷ map brought more.now) run.new) }
-    ensures refused { OnErr result (run.new ≡ run.old) }
+    ensures run { OnOk result (IsRunOver (meaning query.now)
+        (Counted run.old rows ∷ map brought more.now) run.new) }
+    ensures same { OnErr result (run.new ≡ run.old) }
+    ensures undamaged { IfErr result (λ error. IsTrue (D.honest disk.old) → error ≢ TapeDamaged) }
+    ensures refused { IfErr result (IsReadRefusal (D.failures disk.old) (D.failures disk.new)) }
+    ensures disk { Moves (D.failures disk.old) (D.failures disk.new) (D.writes disk.old) (D.writes disk.new) (D.honest disk.old) (D.honest disk.new) }
 {
     let _schema = query.schema();
-    let more = aggregate(alloc, query, more)?;
-    run.absorb(alloc, query, &more)
+    let more = aggregate(alloc, query, more, means, disk)?;
+    run.absorb(alloc, query, &more)?;
+    Ok(())
 }

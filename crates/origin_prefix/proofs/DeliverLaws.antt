@@ -1,5 +1,5 @@
 -- What becomes of a part to which a batch is delivered.
-use Rattle.std.specs.Prelude.{◌≡◌, ◌≢◌, refl, ℕ, ◌+◌, ◌-◌, ◌<◌, ◌≤◌, ◌||◌, nat_le, Bool, true, false, List, [], ◌∷◌, Some, None, Result, Ok, Err, IfOk, IfErr, OnOk, OnErr}
+use Rattle.std.specs.Prelude.{◌≡◌, ◌≢◌, refl, ℕ, ◌+◌, ◌-◌, ◌<◌, ◌≤◌, ◌||◌, ◌⊎◌, nat_le, Bool, true, false, List, [], ◌∷◌, Some, None, Result, Ok, Err, IfOk, IfErr, OnOk, OnErr, IsTrue}
 use Rattle.std.proofs.Common.{◌∙◌, sym, ap, subst, inl, inr, arith}
 use Rattle.std.proofs.lemmas.Bool.{cases_lt}
 use Rattle.std.specs.Option.{is_some}
@@ -21,7 +21,12 @@ use Rattle.having_filter.specs.Meaning.{Checked, meaning}
 use Rattle.origin_prefix.specs.Parts.{Batches, Part, rows_at, knows_number, IsEarly, IsBehind, IsOpen, IsPartOf, Delivers, Disagrees, Settles, behind}
 use Rattle.batch_reader.specs.declared.batch.Batch.{Batch}
 use Rattle.origin_prefix.specs.declared.error.RefusedBatch.{RefusedBatch}
+use Rattle.spill_lists.specs.Standing.{IsReadRefusal}
+use Rattle.spill_lists.specs.declared.error.SpillError.{SpillError}
+use Rattle.spill_lists.specs.declared.error.SpillError.TheVariants as spill
+use Rattle.origin_prefix.specs.declared.error.JoinError.{JoinError}
 use Rattle.origin_prefix.specs.declared.error.JoinError.TheVariants.{NoMemory, OriginDisagrees}
+use Rattle.origin_prefix.specs.Errors.{join_error, IsErrorOver}
 use Rattle.origin_prefix.proofs.ByNumber.{numbers, some_is, found_holds, all_put}
 use Rattle.origin_prefix.proofs.PartLaws.{all_weaker, settled_part}
 
@@ -35,15 +40,15 @@ either_true : (a b : Bool) → b ≡ true → (a || b) ≡ true
 either_true true b e = refl
 either_true false b e = e
 
-pub known_within : (query : Checked) (q : Query) (part : Part) (number : ℕ) (rows : List (List ℕ)) → IsPartOf query part → number ≤ part.prefix → Delivers q part number rows part Known
-known_within query q part number rows is low = (
+pub known_within : (honest : Bool) (query : Checked) (q : Query) (part : Part) (number : ℕ) (rows : List (List ℕ)) → IsPartOf query part → number ≤ part.prefix → Delivers honest q part number rows part Known
+known_within honest query q part number rows is low = (
   ap (λ b. b || is_some (rows_at part.early number)) (let e : nat_le number part.prefix ≡ true = grind arith in e),
   λ kept there. within_prefix query part number rows kept is low there,
   refl,
 )
 
-pub known_early : (q : Query) (part : Part) (number : ℕ) (rows kept : List (List ℕ)) → rows_at part.early number ≡ Some kept → kept ≡ rows → Delivers q part number rows part Known
-known_early q part number rows kept there same = (
+pub known_early : (honest : Bool) (q : Query) (part : Part) (number : ℕ) (rows kept : List (List ℕ)) → rows_at part.early number ≡ Some kept → kept ≡ rows → Delivers honest q part number rows part Known
+known_early honest q part number rows kept there same = (
   either_true (nat_le number part.prefix) (is_some (rows_at part.early number)) (ap is_some there),
   λ other found. some_is other kept (sym found ∙ there) ∙ same,
   refl,
@@ -97,11 +102,11 @@ next_open query part rows is within are =
 -- ---- results
 
 -- the reply to a number that is kept early
-pub reply_early : {E : Type 0} (q : Query) (part : Part) (number : ℕ) (rows kept : List (List ℕ)) (r : Result Delivered E) → rows_at part.early number ≡ Some kept
-    → IfOk r (λ reply. (reply ≡ Known) × (kept ≡ rows)) → IfOk r (Delivers q part number rows part)
-reply_early q part number rows kept r there known =
-    IfOk-weaker r (λ reply. (reply ≡ Known) × (kept ≡ rows)) (Delivers q part number rows part)
-    (λ reply e. subst (Delivers q part number rows part) (sym e.0) (known_early q part number rows kept there e.1)) known
+pub reply_early : {E : Type 0} (honest : Bool) (q : Query) (part : Part) (number : ℕ) (rows kept : List (List ℕ)) (r : Result Delivered E) → rows_at part.early number ≡ Some kept
+    → IfOk r (λ reply. (reply ≡ Known) × (kept ≡ rows)) → IfOk r (Delivers honest q part number rows part)
+reply_early honest q part number rows kept r there known =
+    IfOk-weaker r (λ reply. (reply ≡ Known) × (kept ≡ rows)) (Delivers honest q part number rows part)
+    (λ reply e. subst (Delivers honest q part number rows part) (sym e.0) (known_early honest q part number rows kept there e.1)) known
 
 pub refused_early : (part : Part) (number : ℕ) (batch : Batch) (kept : List (List ℕ)) (r : Result Delivered RefusedBatch) → rows_at part.early number ≡ Some kept
     → IfErr r (λ e. (e.batch ≡ batch) × (e.why ≡ OriginDisagrees) × (kept ≢ batch.rows)) → IfErr r (λ e. e.why ≡ OriginDisagrees → Disagrees part number batch.rows)
@@ -115,7 +120,7 @@ unknown part number above none = grind (arith, above, ap is_some none)
 
 -- and so whatever is refused
 pub unknown_refused : {T : Type 0} (r : Result T RefusedBatch) (part : Part) (number : ℕ) → part.prefix < number → rows_at part.early number ≡ None
-    → IfErr r (λ e. e.why ≡ NoMemory → knows_number part number ≡ false)
+    → IfErr r (λ e. e.why ≢ OriginDisagrees → knows_number part number ≡ false)
 unknown_refused (Ok x) part number above none = tt
 unknown_refused (Err e) part number above none = λ _. unknown part number above none
 
@@ -127,10 +132,39 @@ part_kept (Ok x) query old new batch is behind within are kept same rising = ear
 part_kept (Err e) query old new batch is behind within are kept same rising = subst (IsPartOf query) (sym same.2) is
 
 -- a part settled, or stayed as it was
-pub part_settled : {T E : Type 0} (r : Result T E) (query : Checked) (old new : Part) (batches : Batches) → IsPartOf query old → IsOpen query old.prefix old.run batches
-    → OnOk r (Settles (meaning query) old.prefix old.run batches new) → OnErr r (new ≡ old) → IsPartOf query new
-part_settled (Ok x) query old new batches is may settles same = settled_part query old.prefix old.run batches new may settles
-part_settled (Err e) query old new batches is may settles same = subst (IsPartOf query) (sym same) is
+pub part_settled : {T E : Type 0} (r : Result T E) (honest : Bool) (query : Checked) (old new : Part) (batches : Batches) → IsPartOf query old → IsOpen query old.prefix old.run batches
+    → OnOk r (Settles honest (meaning query) old.prefix old.run batches new) → OnErr r (new ≡ old) → IsPartOf query new
+part_settled (Ok x) honest query old new batches is may settles same = settled_part honest query old.prefix old.run batches new may settles
+part_settled (Err e) honest query old new batches is may settles same = subst (IsPartOf query) (sym same) is
 
 pub behind_gap : (prefix number : ℕ) → prefix < number → (number - 1 ≡ prefix → ⊥) → prefix + 1 < number
 behind_gap prefix number low apart = elim (cases_lt (prefix + 1) number) [ inl l ↦ l | inr h ↦ absurd (apart (omega (arith, low, h))) ]
+
+-- a batch that was kept early
+pub kept_delivers : {E : Type 0} (honest : Bool) (q : Query) (old new : Part) (number : ℕ) (rows : List (List ℕ)) (r : Result Delivered E) → knows_number old number ≡ false → number ≢ old.prefix + 1
+    → IfOk r (λ reply. (reply ≡ Early) × (new ≡ record old { early = insert_entry nat_cmp old.early number rows })) → IfOk r (Delivers honest q old number rows new)
+kept_delivers honest q old new number rows r unknown apart kept =
+    IfOk-weaker r (λ reply. (reply ≡ Early) × (new ≡ record old { early = insert_entry nat_cmp old.early number rows })) (Delivers honest q old number rows new)
+    (λ reply e. subst (Delivers honest q old number rows new) (sym e.0) (unknown, apart, e.1)) kept
+
+-- ---- refusals
+
+pub never_disagrees : (error : SpillError) → join_error error ≡ OriginDisagrees → ⊥
+never_disagrees spill.NoMemory e = cc
+never_disagrees spill.TapeFault e = cc
+never_disagrees spill.TapeDamaged e = cc
+
+-- the error of an aggregation, to a part
+pub told_over : (honest : Bool) (before after : ℕ) (error : SpillError) (why : JoinError) → why ≡ join_error error → (IsTrue honest → error ≢ spill.TapeDamaged) → IsReadRefusal before after error → IsErrorOver honest before after why
+told_over honest before after error why is undamaged refused = subst (IsErrorOver honest before after) (sym is) (go error undamaged refused)
+  where
+    go : (error : SpillError) → (IsTrue honest → error ≢ spill.TapeDamaged) → IsReadRefusal before after error → IsErrorOver honest before after (join_error error)
+    go spill.NoMemory undamaged refused = tt
+    go spill.TapeFault undamaged refused = refused
+    go spill.TapeDamaged undamaged refused = λ is. undamaged is refl
+
+-- a batch that was handed back without the disk
+pub told_alone : {T : Type 0} (r : Result T RefusedBatch) (honest : Bool) (before after : ℕ) (why : JoinError) → (why ≡ NoMemory) ⊎ (why ≡ OriginDisagrees) → IfErr r (λ e. e.why ≡ why) → IfErr r (λ e. IsErrorOver honest before after e.why)
+told_alone (Ok x) honest before after why one is = tt
+told_alone (Err e) honest before after why (inl same) is = subst (IsErrorOver honest before after) (sym (is ∙ same)) tt
+told_alone (Err e) honest before after why (inr same) is = subst (IsErrorOver honest before after) (sym (is ∙ same)) tt

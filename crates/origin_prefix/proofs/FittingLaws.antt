@@ -1,5 +1,5 @@
 -- Parts that fit a world.
-use Rattle.std.specs.Prelude.{◌≡◌, ◌≢◌, refl, ℕ, zero, suc, ◌+◌, ◌*◌, ◌<◌, ◌≤◌, ◌⊎◌, ◌==◌, nat_lt, true, false, List, [], ◌∷◌, ◌++◌, map, flat_map, take, length, Option, Some, None, IsSome, unwrap_or, if◌then◌else◌}
+use Rattle.std.specs.Prelude.{◌≡◌, ◌≢◌, refl, ℕ, zero, suc, ◌+◌, ◌*◌, ◌<◌, ◌≤◌, ◌⊎◌, ◌==◌, nat_lt, Bool, true, false, List, [], ◌∷◌, ◌++◌, map, flat_map, take, length, Option, Some, None, IsSome, IsTrue, unwrap_or, if◌then◌else◌}
 use Rattle.std.proofs.Common.{◌∙◌, sym, ap, subst, inl, inr, arith}
 use Rattle.std.proofs.lemmas.Bool.{cases_lt}
 use Rattle.std.proofs.lemmas.Grind.{flat_map-append}
@@ -125,14 +125,14 @@ upto_more world origin p k =
     ∙ flat_map-append (batch_rows world origin) (count_up 1 p) (count_up (p + 1) k)
 
 -- a run that takes the batches that follow has the groups of their rows too
-folds_fit : (query : Checked) (world : World) → IsWorld (kinds query.columns) world → (origin p k : ℕ) (run new : List Entry) → AreGroups (meaning query) (p * MOST_ROWS) run (part (meaning query) (rows_upto world origin p))
-    → Folds (meaning query) run (p * MOST_ROWS) (map (packed_batch world origin) (count_up (p + 1) k)) new
+folds_fit : (honest : Bool) → IsTrue honest → (query : Checked) (world : World) → IsWorld (kinds query.columns) world → (origin p k : ℕ) (run new : List Entry) → AreGroups (meaning query) (p * MOST_ROWS) run (part (meaning query) (rows_upto world origin p))
+    → Folds honest (meaning query) run (p * MOST_ROWS) (map (packed_batch world origin) (count_up (p + 1) k)) new
     → AreGroups (meaning query) ((p + k) * MOST_ROWS) new (part (meaning query) (rows_upto world origin (p + k)))
-folds_fit query world is origin p zero run new are folds =
+folds_fit honest so query world is origin p zero run new are folds =
     let same : p ≡ p + 0 = omega arith in
     subst (λ n. AreGroups (meaning query) (n * MOST_ROWS) new (part (meaning query) (rows_upto world origin n))) same
     (subst (λ r. AreGroups (meaning query) (p * MOST_ROWS) r (part (meaning query) (rows_upto world origin p))) (sym folds) are)
-folds_fit query world is origin p (suc k) run new are folds =
+folds_fit honest so query world is origin p (suc k) run new are folds =
     let q : Query = meaning query in
     let ns : List ℕ = count_up (p + 1) (suc k) in
     let lists : List (List Row) = rows_upto world origin p ∷ map (batch_rows world origin) ns in
@@ -146,13 +146,13 @@ folds_fit query world is origin p (suc k) run new are folds =
     subst (λ r. AreGroups q ((p + suc k) * MOST_ROWS) new (part q r)) rows
     (groups_raised q (all_rows (Counted run (p * MOST_ROWS) ∷ map Packed (map (packed_batch world origin) ns))) ((p + suc k) * MOST_ROWS) new (part q (on_end lists))
     (omega (arith, sum, few, product, product_too))
-    (folds.part lists (are, are_inputs (kinds query.columns) world is origin q refl ns)))
+    ((folds.1 so).part lists (are, are_inputs (kinds query.columns) world is origin q refl ns)))
 
 -- a prefix that fits, with batches of the world behind it, fits once it has settled
-settled_fits : (query : Checked) (world : World) → IsWorld (kinds query.columns) world → (origin p : ℕ) (run : List Entry) (batches : Batches) (new : Part)
+settled_fits : (honest : Bool) → IsTrue honest → (query : Checked) (world : World) → IsWorld (kinds query.columns) world → (origin p : ℕ) (run : List Entry) (batches : Batches) (new : Part)
     → ((n : ℕ) → 1 ≤ n → n ≤ p → IsSome (world origin n)) → AreGroups (meaning query) (p * MOST_ROWS) run (part (meaning query) (rows_upto world origin p))
-    → AllByRecursion (IsOfWorld world origin) batches → Settles (meaning query) p run batches new → FitsOrigin (meaning query) world origin new
-settled_fits query world is origin p run batches new there are all settles =
+    → AllByRecursion (IsOfWorld world origin) batches → Settles honest (meaning query) p run batches new → FitsOrigin (meaning query) world origin new
+settled_fits honest so query world is origin p run batches new there are all settles =
     let q : Query = meaning query in
     let k : ℕ = following p batches in
     record {
@@ -163,17 +163,17 @@ settled_fits query world is origin p run batches new there are all settles =
             | inr within ↦ there n low within
           ];
       run = subst (λ n. AreGroups q (n * MOST_ROWS) new.run (part q (rows_upto world origin n))) (sym settles.upto)
-          (folds_fit query world is origin p k run new.run are (subst (λ rows. Folds q run (p * MOST_ROWS) rows new.run) (followed world origin p batches all) settles.folded));
+          (folds_fit honest so query world is origin p k run new.run are (subst (λ rows. Folds honest q run (p * MOST_ROWS) rows new.run) (followed world origin p batches all) settles.folded));
       early = λ n rows found.
           found_holds (IsOfWorld world origin) new.early n rows (subst (AllByRecursion (IsOfWorld world origin)) (sym settles.early) (all_drop (IsOfWorld world origin) k batches all)) found;
     }
 
 -- ---- delivering
 
-pub fits_delivered : (query : Checked) (world : World) → IsWorld (kinds query.columns) world → (origin : ℕ) (old new : Part) (number : ℕ) (those : List Row) (reply : Delivered) → IsPartOf query old
-    → FitsOrigin (meaning query) world origin old → world origin number ≡ Some those → Delivers (meaning query) old number (packings those) new reply → FitsOrigin (meaning query) world origin new
-fits_delivered query world is origin old new number those Known part fits there d = subst (FitsOrigin (meaning query) world origin) (sym d.2) fits
-fits_delivered query world is origin old new number those Early part fits there d =
+pub fits_delivered : (honest : Bool) → IsTrue honest → (query : Checked) (world : World) → IsWorld (kinds query.columns) world → (origin : ℕ) (old new : Part) (number : ℕ) (those : List Row) (reply : Delivered) → IsPartOf query old
+    → FitsOrigin (meaning query) world origin old → world origin number ≡ Some those → Delivers honest (meaning query) old number (packings those) new reply → FitsOrigin (meaning query) world origin new
+fits_delivered honest so query world is origin old new number those Known part fits there d = subst (FitsOrigin (meaning query) world origin) (sym d.2) fits
+fits_delivered honest so query world is origin old new number those Early part fits there d =
     subst (FitsOrigin (meaning query) world origin) (sym d.2)
     (record { there = fits.there; run = fits.run; early = λ n rows found. go n rows found (same_or_other n number) })
   where
@@ -186,8 +186,8 @@ fits_delivered query world is origin old new number those Early part fits there 
         let here : rows_at (insert_entry nat_cmp old.early number (packings those)) number ≡ Some rows = subst (λ m. rows_at (insert_entry nat_cmp old.early number (packings those)) m ≡ Some rows) same found in
         (those, ap (world origin) same ∙ there, some_is rows (packings those) (sym here ∙ put_same old.early number (packings those)))
     go n rows found (inr other) = fits.early n rows (sym (put_else old.early number (packings those) n other) ∙ found)
-fits_delivered query world is origin old new number those (Folded upto) part fits there d =
-    settled_fits query world is origin old.prefix old.run ((old.prefix + 1, packings those) ∷ old.early) new fits.there fits.run (
+fits_delivered honest so query world is origin old new number those (Folded upto) part fits there d =
+    settled_fits honest so query world is origin old.prefix old.run ((old.prefix + 1, packings those) ∷ old.early) new fits.there fits.run (
       (those, ap (world origin) (sym d.0) ∙ there, refl),
       all_found (IsOfWorld world origin) old.early part.rising (λ n rows found. fits.early n rows found),
     ) d.2
@@ -205,14 +205,14 @@ longer_fits : (q : Query) (world : World) (origin : ℕ) (a b : Part) → FitsOr
 longer_fits q world origin a b fits_a fits_b =
     elim (nat_lt a.prefix b.prefix) as (λ t. FitsOrigin q world origin (if t then b else a) × FitsOrigin q world origin (if t then a else b)) [ true ↦ (fits_b, fits_a) | false ↦ (fits_a, fits_b) ]
 
-pub fits_joined : (query : Checked) (world : World) → IsWorld (kinds query.columns) world → (origin : ℕ) (a b new : Part)
-    → FitsOrigin (meaning query) world origin a → FitsOrigin (meaning query) world origin b → Joins (meaning query) a b new → FitsOrigin (meaning query) world origin new
-fits_joined query world is origin a b new fits_a fits_b joins =
+pub fits_joined : (honest : Bool) → IsTrue honest → (query : Checked) (world : World) → IsWorld (kinds query.columns) world → (origin : ℕ) (a b new : Part)
+    → FitsOrigin (meaning query) world origin a → FitsOrigin (meaning query) world origin b → Joins honest (meaning query) a b new → FitsOrigin (meaning query) world origin new
+fits_joined honest so query world is origin a b new fits_a fits_b joins =
     let q : Query = meaning query in
     let both = longer_fits q world origin a b fits_a fits_b in
     let l : Part = longer a b in
     let s : Part = shorter a b in
-    settled_fits query world is origin l.prefix l.run joins.behind new both.0.there both.0.run
+    settled_fits honest so query world is origin l.prefix l.run joins.behind new both.0.there both.0.run
     (all_found (IsOfWorld world origin) joins.behind joins.united.rising (λ n rows found.
     let above : l.prefix < n = found_holds (λ (e : ℕ × List (List ℕ)). l.prefix < e.0) joins.behind n rows joins.united.above found in
     of_either l s both.0 both.1 n rows (sym (joins.united.rows n above) ∙ found))) joins.settled

@@ -149,45 +149,45 @@ brings_packed q (batch ∷ rows) all =
         elim (p x) as (λ b. length (cond b (x ∷ filter p xs) (filter p xs)) ≤ length (x ∷ xs)) [ true ↦ omega (arith, rest) | false ↦ omega (arith, rest) ]
 
 -- a run that took rows has few groups, and counts few rows
-few_groups : (q : Query) (rows : ℕ) (old new : List Entry) (batches : List (List (List ℕ))) → IsRun q rows old → AllByRecursion (IsInput q) (map Packed batches)
-    → Folds q old rows batches new → length new ≤ length old + all_rows (map Packed batches)
-few_groups q rows old new [] is all folds = let same : length new ≡ length old = ap length folds in omega (arith, same)
-few_groups q rows old new (batch ∷ batches) is all folds =
+few_groups : (honest : Bool) (q : Query) (rows : ℕ) (old new : List Entry) (batches : List (List (List ℕ))) → IsRun q rows old → AllByRecursion (IsInput q) (map Packed batches)
+    → Folds honest q old rows batches new → length new ≤ length old + all_rows (map Packed batches)
+few_groups honest q rows old new [] is all folds = let same : length new ≡ length old = ap length folds in omega (arith, same)
+few_groups honest q rows old new (batch ∷ batches) is all folds =
     let these : List Row = keys_of is.groups in
     let packed : packed_keys old ≡ map packing these = keys_packed q rows old is.groups is.are in
     let rest = brings_packed q (batch ∷ batches) all in
     let few : length new ≤ length (on_end (these ∷ rest.0)) =
-    folds.few (these ∷ rest.0) (record { of_kinds = keys_of_kinds q rows old is.groups is.are; packings_are = packed }, rest.1) in
+    folds.0.few (these ∷ rest.0) (record { of_kinds = keys_of_kinds q rows old is.groups is.are; packings_are = packed }, rest.1) in
     let count : length (on_end (these ∷ rest.0)) ≡ length these + length (on_end rest.0) = length-append these (on_end rest.0) in
     let as_many : length old ≡ length these = sym (length-map old (λ (e : Entry). e.0)) ∙ ap length packed ∙ length-map these packing in
     let low : length (on_end rest.0) ≤ all_rows (map Packed (batch ∷ batches)) = rest.2 in
     omega (arith, few, count, as_many, low)
 
-still_run : (q : Query) (rows : ℕ) (old new : List Entry) (batches : List (List (List ℕ))) → IsRun q rows old → Folds q old rows batches new
+still_run : (honest : Bool) (q : Query) (rows : ℕ) (old new : List Entry) (batches : List (List (List ℕ))) → IsRun q rows old → Folds honest q old rows batches new
     → IsRun q (rows + all_rows (map Packed batches)) new
-still_run q rows old new [] is folds =
+still_run honest q rows old new [] is folds =
     let same : rows + all_rows (map Packed []) ≡ rows = omega arith in
     subst (λ n. IsRun q n new) (sym same) (subst (IsRun q rows) (sym folds) is)
-still_run q rows old new (batch ∷ batches) is folds = subst (λ n. IsRun q n new) (sum_by-cons rows_in (Counted old rows) (map Packed (batch ∷ batches))) folds.is_run
+still_run honest q rows old new (batch ∷ batches) is folds = subst (λ n. IsRun q n new) (sum_by-cons rows_in (Counted old rows) (map Packed (batch ∷ batches))) folds.0.is_run
 
 run_raised : (q : Query) (m n : ℕ) (run : List Entry) → m ≤ n → IsRun q m run → IsRun q n run
 run_raised q m n run low is = record { groups = is.groups; are = groups_raised q m n run is.groups low is.are; rises = is.rises }
 
-pub settled_part : (query : Checked) (prefix : ℕ) (run : List Entry) (batches : Batches) (new : Part) → IsOpen query prefix run batches → Settles (meaning query) prefix run batches new → IsPartOf query new
-settled_part query prefix run batches new may settles =
+pub settled_part : (honest : Bool) (query : Checked) (prefix : ℕ) (run : List Entry) (batches : Batches) (new : Part) → IsOpen query prefix run batches → Settles honest (meaning query) prefix run batches new → IsPartOf query new
+settled_part honest query prefix run batches new may settles =
     let q : Query = meaning query in
     let k : ℕ = following prefix batches in
     let upto : new.prefix ≡ prefix + k = settles.upto in
     let rows : List (List (List ℕ)) = rows_following prefix batches in
     let inputs = following_inputs query prefix batches may.above in
     let few : all_rows (map Packed rows) ≤ k * MOST_ROWS = few_following query prefix batches may.above in
-    let groups : length new.run ≤ length run + all_rows (map Packed rows) = few_groups q (prefix * MOST_ROWS) run new.run rows may.is_run inputs settles.folded in
+    let groups : length new.run ≤ length run + all_rows (map Packed rows) = few_groups honest q (prefix * MOST_ROWS) run new.run rows may.is_run inputs settles.folded in
     let had : length run ≤ prefix * MOST_ROWS = may.few in
     let most : new.prefix * MOST_ROWS ≡ prefix * MOST_ROWS + k * MOST_ROWS = ap (λ n. n * MOST_ROWS) upto ∙ omega arith in
     let limit : prefix + k ≤ LAST_NUMBER = reach_within prefix batches may.within (all_of batches may.above) in
     record {
       within = omega (arith, upto, limit);
-      run = run_raised q (prefix * MOST_ROWS + all_rows (map Packed rows)) (new.prefix * MOST_ROWS) new.run (omega (arith, few, most)) (still_run q (prefix * MOST_ROWS) run new.run rows may.is_run settles.folded);
+      run = run_raised q (prefix * MOST_ROWS + all_rows (map Packed rows)) (new.prefix * MOST_ROWS) new.run (omega (arith, few, most)) (still_run honest q (prefix * MOST_ROWS) run new.run rows may.is_run settles.folded);
       few = omega (arith, groups, had, few, most);
       rising = subst (λ bs. IsStrictlySortedBy nat_cmp (numbers bs)) (sym settles.early) (rising_drop k batches may.rising);
       early = subst (AllByRecursion (IsEarly (kinds query.columns) new.prefix)) (sym settles.early)

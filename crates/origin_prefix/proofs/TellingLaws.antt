@@ -65,8 +65,8 @@ settled_tells p (b ∷ batches) rising m =
       | false ↦ λ e. let none : p + 0 ≡ p = omega arith in ap (λ n. tells_of n (b ∷ batches) m) none
     ] refl
 
-pub settles_tells : (q : Query) (p : ℕ) (run : List _) (batches : Batches) (new : Part) → IsStrictlySortedBy nat_cmp (numbers batches) → Settles q p run batches new → (m : ℕ) → tells new m ≡ tells_of p batches m
-settles_tells q p run batches new rising settles m =
+pub settles_tells : (honest : Bool) (q : Query) (p : ℕ) (run : List _) (batches : Batches) (new : Part) → IsStrictlySortedBy nat_cmp (numbers batches) → Settles honest q p run batches new → (m : ℕ) → tells new m ≡ tells_of p batches m
+settles_tells honest q p run batches new rising settles m =
     (λ i. tells_of (settles.upto i) (settles.early i) m) ∙ settled_tells p batches rising m
 
 -- ---- a batch that is delivered
@@ -82,20 +82,20 @@ told_more new old number own others m = go (same_or_other m number)
     go (inl same) = ap new same ∙ own ∙ sym (ap (λ b. b || old m) (ap (eq_by_cmp nat_cmp m) (sym same) ∙ is_itself m))
     go (inr other) = others m other ∙ sym (ap (λ b. b || old m) (is_other m number other))
 
-pub delivered_tells : (query : Checked) (q : Query) (old new : Part) (number : ℕ) (rows : List (List ℕ)) (reply : Delivered) → IsPartOf query old → 1 ≤ number → Delivers q old number rows new reply
+pub delivered_tells : (honest : Bool) (query : Checked) (q : Query) (old new : Part) (number : ℕ) (rows : List (List ℕ)) (reply : Delivered) → IsPartOf query old → 1 ≤ number → Delivers honest q old number rows new reply
     → (m : ℕ) → tells new m ≡ (eq_by_cmp nat_cmp m number || tells old m)
-delivered_tells query q old new number rows Known is low d =
+delivered_tells honest query q old new number rows Known is low d =
     told_more (tells new) (tells old) number
     (ap (λ (p : Part). tells p number) d.2 ∙ ap (λ b. (b && nat_le number old.prefix) || is_some (rows_at old.early number)) (let one : nat_le 1 number ≡ true = grind arith in one) ∙ d.0)
     (λ m other. ap (λ (p : Part). tells p m) d.2)
-delivered_tells query q old new number rows Early is low d =
+delivered_tells honest query q old new number rows Early is low d =
     told_more (tells new) (tells old) number
     (ap (λ (p : Part). tells p number) d.2 ∙ or_true (nat_le 1 number && nat_le number old.prefix) _ (ap is_some (put_same old.early number rows)))
     (λ m other. ap (λ (p : Part). tells p m) d.2 ∙ ap (λ o. (nat_le 1 m && nat_le m old.prefix) || is_some o) (put_else old.early number rows m other))
-delivered_tells query q old new number rows (Folded upto) is low d =
+delivered_tells honest query q old new number rows (Folded upto) is low d =
     let next : number ≡ old.prefix + 1 = d.0 in
     let after : (m : ℕ) → tells new m ≡ tells_of old.prefix ((old.prefix + 1, rows) ∷ old.early) m =
-    settles_tells q old.prefix old.run ((old.prefix + 1, rows) ∷ old.early) new (next_rising query old rows is) d.2
+    settles_tells honest q old.prefix old.run ((old.prefix + 1, rows) ∷ old.early) new (next_rising query old rows is) d.2
     in
     told_more (tells new) (tells old) number
     (ap (tells new) next ∙ after (old.prefix + 1) ∙ or_true (nat_le 1 (old.prefix + 1) && nat_le (old.prefix + 1) old.prefix) _ (ap is_some (at_head (old.prefix + 1) rows old.early)))
@@ -144,9 +144,9 @@ united_tells query l s batches is other low united m =
     parts true x y = refl
     parts false x y = refl
 
-pub joined_tells : (query : Checked) (q : Query) (a b new : Part) → IsPartOf query a → IsPartOf query b → Joins q a b new → (m : ℕ) → tells new m ≡ (tells a m || tells b m)
-joined_tells query q a b new is_a is_b joins m =
-    settles_tells q (longer a b).prefix (longer a b).run joins.behind new joins.united.rising joins.settled m
+pub joined_tells : (honest : Bool) (query : Checked) (q : Query) (a b new : Part) → IsPartOf query a → IsPartOf query b → Joins honest q a b new → (m : ℕ) → tells new m ≡ (tells a m || tells b m)
+joined_tells honest query q a b new is_a is_b joins m =
+    settles_tells honest q (longer a b).prefix (longer a b).run joins.behind new joins.united.rising joins.settled m
     ∙ elim (nat_lt a.prefix b.prefix) as (λ t. nat_lt a.prefix b.prefix ≡ t → Unites (if t then b else a).prefix (if t then b else a) (if t then a else b) joins.behind
     → tells_of (if t then b else a).prefix joins.behind m ≡ (tells a m || tells b m)) [
       | true ↦ λ e united. let low : a.prefix ≤ b.prefix = grind arith in united_tells query b a joins.behind is_b is_a low united m ∙ or_swap (tells b m) (tells a m)

@@ -1,5 +1,5 @@
 -- What becomes of two parts of one origin that are joined. All of this is our own.
-use Rattle.std.specs.Prelude.{◌≡◌, ◌≢◌, ℕ, ◌<◌, ◌⊎◌, max, nat_lt, List, map, Option, Some, None, if◌then◌else◌}
+use Rattle.std.specs.Prelude.{◌≡◌, ◌≢◌, ℕ, ◌<◌, ◌⊎◌, max, nat_lt, Bool, List, map, Option, Some, None, if◌then◌else◌}
 use Rattle.std.specs.List.{AllByRecursion}
 use Rattle.std.specs.List.Sorted.{IsStrictlySortedBy}
 use Rattle.std.specs.Ordering.{nat_cmp}
@@ -39,7 +39,7 @@ pub record Unites (prefix : ℕ) (a b : Part) (behind : Batches) : Type 0 where
   pub rows : (number : ℕ) → prefix < number → rows_at behind number ≡ either (rows_at a.early number) (rows_at b.early number)
 
 -- what two parts give that are joined: the longer prefix's groups, and the early batches of both, as far as they follow, folded
-pub record Joins (query : Query) (a b new : Part) : Type 0 where
+pub record Joins (honest : Bool) (query : Query) (a b new : Part) : Type 0 where
   pub behind : Batches
   pub united : Unites (longer a b).prefix (longer a b) (shorter a b) behind
-  pub settled : Settles query (longer a b).prefix (longer a b).run behind new
+  pub settled : Settles honest query (longer a b).prefix (longer a b).run behind new

@@ -1,5 +1,6 @@
 pub mod Coding
 pub mod Parts
+pub mod Errors
 pub mod Joins
 pub mod Fitting
 pub mod Held

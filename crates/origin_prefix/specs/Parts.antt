@@ -16,7 +16,7 @@ use Rattle.batch_reader.specs.Rows.{ArePackedRows}
 use Rattle.having_filter.specs.Meaning.{Checked, meaning}
 use Rattle.hash_agg.specs.Runs.{Entry}
 use Rattle.hash_agg.specs.Standing.{IsRun}
-use Rattle.hash_agg.specs.Inputs.{Packed, Counted, IsAggregate}
+use Rattle.hash_agg.specs.Inputs.{Packed, Counted, IsAggregate, IsRunOver}
 
 -- batches by their numbers, each with its packed rows
 abbrev pub Batches : Type 0
@@ -85,21 +85,23 @@ following number (batch ∷ batches) = if batch.0 == number + 1 then suc (follow
 abbrev pub rows_following : ℕ → Batches → List (List (List ℕ))
 rows_following number batches = map (λ (batch : ℕ × List (List ℕ)). batch.1) (take (following number batches) batches)
 
--- batches are folded into a run that counts at most so many rows: it becomes what the aggregation of it and of them gives, and
--- stays what it is where there are none
-abbrev pub Folds : Query → List Entry → ℕ → List (List (List ℕ)) → List Entry → Type 0
-Folds query old rows [] new = new ≡ old
-Folds query old rows (batch ∷ batches) new = IsAggregate query (Counted old rows ∷ map Packed (batch ∷ batches)) new
+-- batches are folded into a run that counts at most so many rows: over an honest disk it becomes what the aggregation of it and of
+-- them gives, over another some run of the query, and it stays what it is where there are none
+abbrev pub Folds : (honest : Bool) → Query → List Entry → ℕ → List (List (List ℕ)) → List Entry → Type 0
+Folds honest query old rows [] new = new ≡ old
+Folds honest query old rows (batch ∷ batches) new =
+    IsRunOver query (Counted old rows ∷ map Packed (batch ∷ batches)) new × (IsTrue honest → IsAggregate query (Counted old rows ∷ map Packed (batch ∷ batches)) new)
 
 -- the batches behind a prefix: the early ones, and the one next to it where its rows are given
 abbrev pub behind : ℕ → Batches → Option (List (List ℕ)) → Batches
 behind prefix early None = early
 behind prefix early (Some rows) = (prefix + 1, rows) ∷ early
 
--- a prefix with its run takes those of the batches behind it that follow without a gap; the others stay early
-pub record Settles (query : Query) (prefix : ℕ) (run : List Entry) (batches : Batches) (new : Part) : Type 0 where
+-- a prefix with its run takes those of the batches behind it that follow without a gap, over a disk that may be honest; the others
+-- stay early
+pub record Settles (honest : Bool) (query : Query) (prefix : ℕ) (run : List Entry) (batches : Batches) (new : Part) : Type 0 where
   pub upto : new.prefix ≡ prefix + following prefix batches
-  pub folded : Folds query run (prefix * MOST_ROWS) (rows_following prefix batches) new.run
+  pub folded : Folds honest query run (prefix * MOST_ROWS) (rows_following prefix batches) new.run
   pub early : new.early ≡ drop (following prefix batches) batches
 
 -- a batch is there already, with other rows
@@ -109,10 +111,10 @@ pub record Disagrees (part : Part) (number : ℕ) (rows : List (List ℕ)) : Typ
   pub other : kept ≢ rows
 
 -- what becomes of a part to which a batch is delivered, and what is replied
-abbrev pub Delivers : Query → Part → ℕ → List (List ℕ) → Part → Delivered → Type 0
-Delivers query old number rows new reply.Known =
+abbrev pub Delivers : (honest : Bool) → Query → Part → ℕ → List (List ℕ) → Part → Delivered → Type 0
+Delivers honest query old number rows new reply.Known =
     IsTrue (knows_number old number) × ((kept : List (List ℕ)) → rows_at old.early number ≡ Some kept → kept ≡ rows) × (new ≡ old)
-Delivers query old number rows new reply.Early =
+Delivers honest query old number rows new reply.Early =
     (knows_number old number ≡ false) × (number ≢ old.prefix + 1) × (new ≡ record old { early = insert_entry nat_cmp old.early number rows })
-Delivers query old number rows new (reply.Folded upto) =
-    (number ≡ old.prefix + 1) × (upto ≡ new.prefix) × Settles query old.prefix old.run (behind old.prefix old.early (Some rows)) new
+Delivers honest query old number rows new (reply.Folded upto) =
+    (number ≡ old.prefix + 1) × (upto ≡ new.prefix) × Settles honest query old.prefix old.run (behind old.prefix old.early (Some rows)) new

@@ -1,40 +1,71 @@
 //! Joining two parts of one origin.
 
-ghost use Rattle.std.specs.Prelude.{◌≡◌, ◌≤◌, ◌↔◌, IsTrue, IfOk, IfErr};
+ghost use Rattle.std.specs.Prelude.{◌≡◌, ◌≢◌, ◌≤◌, ◌↔◌, IsTrue, IfOk, IfErr};
 ghost use Rattle.having_filter.specs.Meaning.{meaning};
 ghost use Rattle.origin_prefix.specs.Parts.{Batches, IsPartOf, Settles};
 ghost use Rattle.origin_prefix.specs.Joins.{PartsDisagree, Joins, Unites};
-ghost use Rattle.origin_prefix.specs.declared.error.JoinError.TheVariants.{NoMemory, OriginDisagrees};
+ghost use Rattle.origin_prefix.specs.Errors.{IsErrorOver};
+ghost use Rattle.spill_lists.specs.Standing.{Moves, IsReadRefusal};
+ghost use Rattle.spill_lists.specs.declared.error.SpillError.TheVariants.{TapeDamaged};
+ghost use Rattle.origin_prefix.specs.declared.error.JoinError.TheVariants.{OriginDisagrees};
 
 use crate::early::{copy_above, differ_behind};
 use crate::error::JoinError;
 use crate::part::OriginPart;
+use hash_agg::{KeyHash, Means, SpillError, TapeDisk};
 use having_filter::Query;
-use std::alloc::AllocError;
 use std::collections::BTreeMap;
 
 impl OriginPart {
     /// The longer prefix of two parts of one origin with its groups, and the early batches of both, of which those are folded that
     /// follow it without a gap. Parts disagree whose prefixes are equal with different groups, or that have different rows of one
     /// number behind both prefixes.
-    pub fn join(&self, other: &OriginPart, query: &Query) -> Result<OriginPart, JoinError>
+    pub fn join<H: KeyHash + Copy, D: TapeDisk>(
+        &self,
+        other: &OriginPart,
+        query: &Query,
+        means: &Means<H>,
+        disk: &mut D,
+    ) -> Result<OriginPart, JoinError>
         requires part { IsPartOf query.now self.now }
         requires other { IsPartOf query.now other.now }
-        ensures joins { IfOk result (Joins (meaning query.now) self.now other.now) }
+        ensures joins { IfOk result (Joins (D.honest disk.old) (meaning query.now) self.now other.now) }
         ensures part { IfOk result (IsPartOf query.now) }
         ensures agree { IfOk result (λ _. ¬ (PartsDisagree self.now other.now)) }
         ensures disagree { IfErr result (λ e. e ≡ OriginDisagrees →
             PartsDisagree self.now other.now) }
-        ensures memory { IfErr result (λ e. e ≡ NoMemory →
+        ensures agree_else { IfErr result (λ e. e ≢ OriginDisagrees →
             ¬ (PartsDisagree self.now other.now)) }
+        ensures over { IfErr result
+            (IsErrorOver (D.honest disk.old) (D.failures disk.old) (D.failures disk.new)) }
+        ensures disk { Moves (D.failures disk.old) (D.failures disk.new) (D.writes disk.old) (D.writes disk.new) (D.honest disk.old) (D.honest disk.new) }
     {
         if self.disagrees(other) {
             return Err(JoinError::OriginDisagrees);
         }
+        Ok(self.joined(other, query, means, disk)?)
+    }
+
+    /// What two parts give that do not disagree.
+    fn joined<H: KeyHash + Copy, D: TapeDisk>(
+        &self,
+        other: &OriginPart,
+        query: &Query,
+        means: &Means<H>,
+        disk: &mut D,
+    ) -> Result<OriginPart, SpillError>
+        requires part { IsPartOf query.now self.now }
+        requires other { IsPartOf query.now other.now }
+        ensures joins { IfOk result (Joins (D.honest disk.old) (meaning query.now) self.now other.now) }
+        ensures part { IfOk result (IsPartOf query.now) }
+        ensures undamaged { IfErr result (λ error. IsTrue (D.honest disk.old) → error ≢ TapeDamaged) }
+        ensures refused { IfErr result (IsReadRefusal (D.failures disk.old) (D.failures disk.new)) }
+        ensures disk { Moves (D.failures disk.old) (D.failures disk.new) (D.writes disk.old) (D.writes disk.new) (D.honest disk.old) (D.honest disk.new) }
+    {
         if self.prefix < other.prefix {
-            return Ok(other.united(self, query)?);
+            return other.united(self, query, means, disk);
         }
-        Ok(self.united(other, query)?)
+        self.united(other, query, means, disk)
     }
 
     /// Whether the parts disagree.
@@ -48,14 +79,23 @@ impl OriginPart {
     }
 
     /// What this part and one whose prefix is not longer give.
-    fn united(&self, shorter: &OriginPart, query: &Query) -> Result<OriginPart, AllocError>
+    fn united<H: KeyHash + Copy, D: TapeDisk>(
+        &self,
+        shorter: &OriginPart,
+        query: &Query,
+        means: &Means<H>,
+        disk: &mut D,
+    ) -> Result<OriginPart, SpillError>
         requires part { IsPartOf query.now self.now }
         requires other { IsPartOf query.now shorter.now }
         requires shorter { shorter.now.prefix ≤ self.now.prefix }
         ensures joins { IfOk result (λ part. (behind : Batches)
             × Unites self.now.prefix self.now shorter.now behind
-            × Settles (meaning query.now) self.now.prefix self.now.run behind part) }
+            × Settles (D.honest disk.old) (meaning query.now) self.now.prefix self.now.run behind part) }
         ensures part { IfOk result (IsPartOf query.now) }
+        ensures undamaged { IfErr result (λ error. IsTrue (D.honest disk.old) → error ≢ TapeDamaged) }
+        ensures refused { IfErr result (IsReadRefusal (D.failures disk.old) (D.failures disk.new)) }
+        ensures disk { Moves (D.failures disk.old) (D.failures disk.new) (D.writes disk.old) (D.writes disk.new) (D.honest disk.old) (D.honest disk.new) }
     {
         let mut early = BTreeMap::new(self.alloc);
         copy_above(self.alloc, &self.early, self.prefix, &mut early)?;
@@ -66,7 +106,7 @@ impl OriginPart {
             run: self.run.try_clone(self.alloc)?,
             early,
         };
-        part.settle(query, None)?;
+        part.settle(query, None, means, disk)?;
         Ok(part)
     }
 }

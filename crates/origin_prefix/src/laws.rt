@@ -1,6 +1,6 @@
 //! Laws of parts.
 
-ghost use Rattle.std.specs.Prelude.{◌≡◌, ◌≤◌, ◌||◌, ℕ, List, Some};
+ghost use Rattle.std.specs.Prelude.{◌≡◌, ◌≤◌, ◌||◌, ℕ, Bool, List, Some, IsTrue};
 ghost use Rattle.grouping_model.specs.Datum.{Row};
 ghost use Rattle.grouping_model.specs.World.{World, IsWorld};
 ghost use Rattle.packed_rows.specs.Columns.{kinds};
@@ -15,28 +15,28 @@ ghost use Rattle.origin_prefix.specs.Joins.{Joins, PartsDisagree};
 
 /// What a part tells after a batch was delivered is that number more, and what joined parts tell is what either tells.
 pub fn told_numbers()
-    ensures delivered { (query : Checked) (q : Query) (old new : Part) (number : ℕ) (rows : List (List ℕ))
-        (reply : Delivered) → IsPartOf query old → 1 ≤ number → Delivers q old number rows new reply →
+    ensures delivered { (honest : Bool) (query : Checked) (q : Query) (old new : Part) (number : ℕ) (rows : List (List ℕ))
+        (reply : Delivered) → IsPartOf query old → 1 ≤ number → Delivers honest q old number rows new reply →
         (m : ℕ) → tells new m ≡ (eq_by_cmp nat_cmp m number || tells old m) }
-    ensures joined { (query : Checked) (q : Query) (a b new : Part) → IsPartOf query a →
-        IsPartOf query b → Joins q a b new → (m : ℕ) → tells new m ≡ (tells a m || tells b m) }
+    ensures joined { (honest : Bool) (query : Checked) (q : Query) (a b new : Part) → IsPartOf query a →
+        IsPartOf query b → Joins honest q a b new → (m : ℕ) → tells new m ≡ (tells a m || tells b m) }
 {}
 
 /// Parts that fit a world fit it still when they take a batch of the world and when they are joined, and none of this is refused for
 /// disagreement.
 pub fn fitting_parts()
-    ensures delivered { (query : Checked) (world : World) (origin number : ℕ) (old new : Part)
+    ensures delivered { (honest : Bool) → IsTrue honest → (query : Checked) (world : World) (origin number : ℕ) (old new : Part)
         (those : List Row) (reply : Delivered) → IsWorld (kinds query.columns) world →
         IsPartOf query old → FitsOrigin (meaning query) world origin old →
         world origin number ≡ Some those →
-        Delivers (meaning query) old number (packings those) new reply →
+        Delivers honest (meaning query) old number (packings those) new reply →
         FitsOrigin (meaning query) world origin new }
     ensures no_other_rows { (query : Checked) (world : World) (origin number : ℕ) (old : Part)
         (those : List Row) → FitsOrigin (meaning query) world origin old →
         world origin number ≡ Some those → ¬ (Disagrees old number (packings those)) }
-    ensures joined { (query : Checked) (world : World) (origin : ℕ) (a b new : Part) →
+    ensures joined { (honest : Bool) → IsTrue honest → (query : Checked) (world : World) (origin : ℕ) (a b new : Part) →
         IsWorld (kinds query.columns) world → FitsOrigin (meaning query) world origin a →
-        FitsOrigin (meaning query) world origin b → Joins (meaning query) a b new →
+        FitsOrigin (meaning query) world origin b → Joins honest (meaning query) a b new →
         FitsOrigin (meaning query) world origin new }
     ensures agree { (query : Checked) (world : World) (origin : ℕ) (a b : Part) →
         FitsOrigin (meaning query) world origin a → FitsOrigin (meaning query) world origin b →

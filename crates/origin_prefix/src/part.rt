@@ -9,6 +9,9 @@ ghost use Rattle.having_filter.specs.Meaning.{meaning};
 ghost use Rattle.packed_rows.specs.Columns.{kinds};
 ghost use Rattle.batch_reader.specs.Rows.{ArePackedRows};
 ghost use Rattle.origin_prefix.specs.Parts.{Part, empty, is_nothing, knows_number, IsOpen, IsPartOf, behind, following, rows_following, Folds, Settles, Delivers, Disagrees};
+ghost use Rattle.spill_lists.specs.Standing.{Moves, IsReadRefusal};
+ghost use Rattle.spill_lists.specs.declared.error.SpillError.TheVariants.{TapeDamaged};
+ghost use Rattle.origin_prefix.specs.Errors.{IsErrorOver};
 ghost use Rattle.origin_prefix.specs.declared.error.JoinError.TheVariants.{NoMemory, OriginDisagrees};
 ghost use Rattle.grouping_model.specs.declared.delivered.Delivered.TheVariants.{Early, Known};
 ghost use Rattle.std.specs.BTreeMap.{insert_entry};
@@ -20,7 +23,7 @@ use crate::error::{JoinError, RefusedBatch};
 use batch_reader::{Batch, PackedRows};
 use grouping_model::Delivered;
 use grouping_model::limits::MOST_ROWS;
-use hash_agg::{Input, Run, fold};
+use hash_agg::{Input, KeyHash, Means, Run, SpillError, TapeDisk, fold};
 use having_filter::Query;
 use std::alloc::{AllocError, Global};
 use std::collections::BTreeMap;
@@ -100,27 +103,32 @@ fn following_inputs<'a>(
 }
 
 /// Folds into the run of a prefix the rows of the batch next to it, where they are given, and of the early batches that follow
-/// without a gap. Answers the last number that is folded. Where memory is wanting, nothing is changed.
-fn fold_following(
+/// without a gap. Answers the last number that is folded. A refusal changes nothing.
+fn fold_following<H: KeyHash + Copy, D: TapeDisk>(
     alloc: Global,
     query: &Query,
     prefix: u32,
     run: &mut Run,
     next: Option<&PackedRows>,
     early: &BTreeMap<u32, PackedRows>,
-) -> Result<u32, AllocError>
+    means: &Means<H>,
+    disk: &mut D,
+) -> Result<u32, SpillError>
     requires may { IsOpen query.now prefix run.old
         (behind prefix early.now.entries (option_copied next)) }
     ensures upto { IfOk result (λ upto. upto ≡ prefix
         + following prefix (behind prefix early.now.entries (option_copied next.entry))) }
     ensures limit { IfOk result (λ upto. upto ≤ LAST_NUMBER) }
-    ensures folded { OnOk result (Folds (meaning query.now) run.old (prefix * MOST_ROWS)
+    ensures folded { OnOk result (Folds (D.honest disk.old) (meaning query.now) run.old (prefix * MOST_ROWS)
         (rows_following prefix (behind prefix early.now.entries (option_copied next.entry))) run.new) }
-    ensures refused { OnErr result (run.new ≡ run.old) }
+    ensures same { OnErr result (run.new ≡ run.old) }
+    ensures undamaged { IfErr result (λ error. IsTrue (D.honest disk.old) → error ≢ TapeDamaged) }
+    ensures refused { IfErr result (IsReadRefusal (D.failures disk.old) (D.failures disk.new)) }
+    ensures disk { Moves (D.failures disk.old) (D.failures disk.new) (D.writes disk.old) (D.writes disk.new) (D.honest disk.old) (D.honest disk.new) }
 {
     let (inputs, upto) = following_inputs(alloc, prefix, next, early)?;
     if upto > prefix {
-        fold(alloc, query, run, most_rows(prefix), &inputs)?;
+        fold(alloc, query, run, most_rows(prefix), &inputs, means, disk)?;
     }
     Ok(upto)
 }
@@ -191,17 +199,22 @@ impl OriginPart {
     }
 
     /// Folds the early batches that follow the prefix without a gap, behind the rows of the batch next to it where these
-    /// are given. Where memory is wanting, nothing is changed.
-    pub(crate) fn settle(
+    /// are given. A refusal changes nothing.
+    pub(crate) fn settle<H: KeyHash + Copy, D: TapeDisk>(
         &mut self,
         query: &Query,
         next: Option<&PackedRows>,
-    ) -> Result<(), AllocError>
+        means: &Means<H>,
+        disk: &mut D,
+    ) -> Result<(), SpillError>
         requires may { IsOpen query.now self.old.prefix self.old.run
             (behind self.old.prefix self.old.early (option_copied next)) }
-        ensures settled { OnOk result (Settles (meaning query.now) self.old.prefix self.old.run
+        ensures settled { OnOk result (Settles (D.honest disk.old) (meaning query.now) self.old.prefix self.old.run
             (behind self.old.prefix self.old.early (option_copied next.entry)) self.new) }
-        ensures refused { OnErr result (self.new ≡ self.old) }
+        ensures same { OnErr result (self.new ≡ self.old) }
+        ensures undamaged { IfErr result (λ error. IsTrue (D.honest disk.old) → error ≢ TapeDamaged) }
+        ensures refused { IfErr result (IsReadRefusal (D.failures disk.old) (D.failures disk.new)) }
+        ensures disk { Moves (D.failures disk.old) (D.failures disk.new) (D.writes disk.old) (D.writes disk.new) (D.honest disk.old) (D.honest disk.new) }
     {
         let next_is_given = next.is_some();
         let upto = fold_following(
@@ -211,6 +224,8 @@ impl OriginPart {
             &mut self.run,
             next,
             &self.early,
+            means,
+            disk,
         )?;
         let mut count = upto - self.prefix;
         if next_is_given {
@@ -252,21 +267,30 @@ impl OriginPart {
     }
 
     /// Takes a batch of the origin for a query, whose table it is a batch of. A number that is known already changes nothing; one
-    /// next to the unbroken prefix is folded with the early ones that follow without a gap; any other is kept until then. A refused
-    /// batch is handed back and changes nothing: one whose number is kept early with other rows disagrees. A number within the prefix
-    /// is known, whatever its rows.
-    pub fn deliver(&mut self, query: &Query, batch: Batch) -> Result<Delivered, RefusedBatch>
+    /// next to the unbroken prefix is folded with the early ones that follow without a gap, by `means` and over a disk; any other is
+    /// kept until then. A refused batch is handed back and changes nothing: one whose number is kept early with other rows disagrees. A
+    /// number within the prefix is known, whatever its rows.
+    pub fn deliver<H: KeyHash + Copy, D: TapeDisk>(
+        &mut self,
+        query: &Query,
+        batch: Batch,
+        means: &Means<H>,
+        disk: &mut D,
+    ) -> Result<Delivered, RefusedBatch>
         requires part { IsPartOf query.now self.old }
         requires number { (1 ≤ batch.number) × (batch.number ≤ LAST_NUMBER) }
         requires rows { ArePackedRows (kinds query.now.columns) batch.rows }
-        ensures delivers { IfOk result (Delivers (meaning query.now) self.old batch.number batch.rows
-            self.new) }
+        ensures delivers { IfOk result (Delivers (D.honest disk.old) (meaning query.now) self.old
+            batch.number batch.rows self.new) }
         ensures part { IsPartOf query.now self.new }
         ensures refused { IfErr result (λ e. (e.batch ≡ batch) × (self.new ≡ self.old)) }
         ensures why { IfErr result (λ e. e.why ≡ OriginDisagrees →
             Disagrees self.old batch.number batch.rows) }
-        ensures memory { IfErr result (λ e. e.why ≡ NoMemory →
+        ensures unknown { IfErr result (λ e. e.why ≢ OriginDisagrees →
             knows_number self.old batch.number ≡ false) }
+        ensures over { IfErr result (λ e. IsErrorOver (D.honest disk.old) (D.failures disk.old)
+            (D.failures disk.new) e.why) }
+        ensures disk { Moves (D.failures disk.old) (D.failures disk.new) (D.writes disk.old) (D.writes disk.new) (D.honest disk.old) (D.honest disk.new) }
     {
         if batch.number <= self.prefix {
             return Ok(Delivered::Known);
@@ -277,9 +301,9 @@ impl OriginPart {
         if batch.number - 1 != self.prefix {
             return self.keep_early(batch);
         }
-        match self.settle(query, Some(&batch.rows)) {
+        match self.settle(query, Some(&batch.rows), means, disk) {
             Ok(()) => Ok(Delivered::Folded { upto: self.prefix }),
-            Err(_) => Err(refused(batch, JoinError::NoMemory)),
+            Err(error) => Err(refused(batch, JoinError::from(error))),
         }
     }
 }

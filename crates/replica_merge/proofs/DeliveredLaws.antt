@@ -1,5 +1,5 @@
 -- What a replica holds and tells after a batch.
-use Rattle.std.specs.Prelude.{◌≡◌, ◌≢◌, refl, ℕ, ◌+◌, ◌<◌, ◌≤◌, ◌⊎◌, ◌==◌, ◌||◌, ◌&&◌, nat_le, Bool, true, false, cond, List, [], ◌∷◌, Option, Some, None, unwrap_or, if◌then◌else◌, Result, Ok, Err, IfOk, IfErr, OnOk}
+use Rattle.std.specs.Prelude.{◌≡◌, ◌≢◌, refl, ℕ, ◌+◌, ◌<◌, ◌≤◌, ◌⊎◌, ◌==◌, ◌||◌, ◌&&◌, nat_le, Bool, true, false, cond, List, [], ◌∷◌, Option, Some, None, unwrap_or, if◌then◌else◌, Result, Ok, Err, IfOk, IfErr, OnOk, IsTrue}
 use Rattle.std.proofs.Common.{◌∙◌, sym, ap, subst, inl, inr, arith}
 use Rattle.std.proofs.lemmas.Bool.{true≢false}
 use Rattle.std.proofs.lemmas.Map.Steps.{set_value_same}
@@ -23,7 +23,7 @@ use Rattle.batch_reader.specs.Rows.{packings}
 use Rattle.batch_reader.specs.declared.batch.Batch.{Batch}
 use Rattle.having_filter.specs.Meaning.{Checked, meaning}
 use Rattle.origin_prefix.specs.Parts.{Part, empty, rows_at, knows_number, IsEarly, IsPartOf, Delivers, Disagrees}
-use Rattle.origin_prefix.specs.declared.error.JoinError.TheVariants.{NoMemory, OriginDisagrees}
+use Rattle.origin_prefix.specs.declared.error.JoinError.TheVariants.{OriginDisagrees}
 use Rattle.origin_prefix.specs.declared.error.RefusedBatch.{RefusedBatch}
 use Rattle.origin_prefix.specs.Fitting.{tells, FitsOrigin}
 use Rattle.origin_prefix.proofs.Lists.{is_itself, is_other, same_or_other}
@@ -57,40 +57,40 @@ when_fine (Err x) P p e = absurd (true≢false e)
 
 -- ---- one part takes the batch
 
-pub taken_at : (r : Result Delivered RefusedBatch) (query : Checked) (old new : BTreeMap ℕ Part) (batch : Batch) (before after : Part)
+pub taken_at : (r : Result Delivered RefusedBatch) (honest : Bool) (query : Checked) (old new : BTreeMap ℕ Part) (batch : Batch) (before after : Part)
     → part_at old.entries batch.origin ≡ Some before → WritesThrough nat_cmp (nat_cmp batch.origin) old after new → IsPartOf query after
-    → IfOk r (Delivers (meaning query) before batch.number batch.rows after) → IfErr r (λ e. (e.batch ≡ batch) × (after ≡ before))
-    → IfErr r (λ e. e.why ≡ OriginDisagrees → Disagrees before batch.number batch.rows) → IfErr r (λ e. e.why ≡ NoMemory → knows_number before batch.number ≡ false)
-    → DeliveredTo query old.entries batch new.entries r
-taken_at (Ok reply) query old new batch before after there written is d refused other memory =
+    → IfOk r (Delivers honest (meaning query) before batch.number batch.rows after) → IfErr r (λ e. (e.batch ≡ batch) × (after ≡ before))
+    → IfErr r (λ e. e.why ≡ OriginDisagrees → Disagrees before batch.number batch.rows) → IfErr r (λ e. e.why ≢ OriginDisagrees → knows_number before batch.number ≡ false)
+    → DeliveredTo honest query old.entries batch new.entries r
+taken_at (Ok reply) honest query old new batch before after there written is d refused other unknown =
     let updates = written.3 (ap is_some there) in
     record {
       part = after;
       own = updates.1;
-      delivers = subst (λ (p : Part). Delivers (meaning query) p batch.number batch.rows after reply) (sym (part_here old.entries batch.origin before there)) d;
+      delivers = subst (λ (p : Part). Delivers honest (meaning query) p batch.number batch.rows after reply) (sym (part_here old.entries batch.origin before there)) d;
       is_part = is;
       others = λ other apart. updates.2 other (is_other batch.origin other (λ e. apart (sym e)));
       rising = written.4;
     }
-taken_at (Err e) query old new batch before after there written is d refused other memory =
+taken_at (Err e) honest query old new batch before after there written is d refused other unknown =
     let here : before ≡ part_of old.entries batch.origin = sym (part_here old.entries batch.origin before there) in
     record {
       back = refused.0;
       same = written.0 ∙ ap (set_value (is_at (nat_cmp batch.origin)) old.entries) refused.1 ∙ set_value_same (is_at (nat_cmp batch.origin)) old.entries before there;
       other = λ why. subst (λ (p : Part). Disagrees p batch.number batch.rows) here (other why);
-      memory = λ why. subst (λ (p : Part). knows_number p batch.number ≡ false) here (memory why);
+      unknown = λ why. subst (λ (p : Part). knows_number p batch.number ≡ false) here (unknown why);
     }
 
 -- the first batch of an origin: its part was nothing before
-pub first_delivers : (query : Checked) (old between new : Parts) (o n : ℕ) (rows : List (List ℕ)) (reply : Delivered) → part_at old o ≡ None → between ≡ insert_entry nat_cmp old o empty
-    → DeliversAt query between o n rows new reply → DeliversAt query old o n rows new reply
-first_delivers query old between new o n rows reply none put d =
+pub first_delivers : (honest : Bool) (query : Checked) (old between new : Parts) (o n : ℕ) (rows : List (List ℕ)) (reply : Delivered) → part_at old o ≡ None → between ≡ insert_entry nat_cmp old o empty
+    → DeliversAt honest query between o n rows new reply → DeliversAt honest query old o n rows new reply
+first_delivers honest query old between new o n rows reply none put d =
     let nothing : part_of between o ≡ part_of old o =
     ap (λ ps. part_of ps o) put ∙ ap (λ found. unwrap_or found empty) (put_same old o empty) ∙ sym (ap (λ found. unwrap_or found empty) none) in
     record {
       part = d.part;
       own = d.own;
-      delivers = subst (λ (p : Part). Delivers (meaning query) p n rows d.part reply) nothing d.delivers;
+      delivers = subst (λ (p : Part). Delivers honest (meaning query) p n rows d.part reply) nothing d.delivers;
       is_part = d.is_part;
       others = λ other apart. d.others other apart ∙ ap (λ ps. part_at ps other) put ∙ put_else old o empty other apart;
       rising = d.rising;
@@ -116,7 +116,7 @@ first_refused old between failed new batch e none low put r removed =
       back = r.back;
       same = place_given_up old between failed new batch.origin none put r.same removed;
       other = λ why. subst (λ (p : Part). Disagrees p batch.number batch.rows) nothing (r.other why);
-      memory = λ why. nothing_known old batch.origin batch.number none low;
+      unknown = λ why. nothing_known old batch.origin batch.number none low;
     }
 
 -- ---- the whole replica
@@ -169,21 +169,21 @@ known_at parts rising o n low =
     told_is parts rising o n ∙ ap (λ b. (b && nat_le n (part_of parts o).prefix) || is_some (rows_at (part_of parts o).early n)) one
 
 -- a batch that is taken isn't there already with other rows
-taken_agrees : (query : Checked) (old new : Part) (n : ℕ) (rows : List (List ℕ)) (reply : Delivered) → IsPartOf query old → Delivers (meaning query) old n rows new reply → ¬ (Disagrees old n rows)
-taken_agrees query old new n rows Known is d there = there.other (d.1 there.kept there.there)
-taken_agrees query old new n rows Early is d there = absurd (true≢false (sym (ap is_some there.there) ∙ not_early (nat_le n old.prefix) (is_some (rows_at old.early n)) d.0))
+taken_agrees : (honest : Bool) (query : Checked) (old new : Part) (n : ℕ) (rows : List (List ℕ)) (reply : Delivered) → IsPartOf query old → Delivers honest (meaning query) old n rows new reply → ¬ (Disagrees old n rows)
+taken_agrees honest query old new n rows Known is d there = there.other (d.1 there.kept there.there)
+taken_agrees honest query old new n rows Early is d there = absurd (true≢false (sym (ap is_some there.there) ∙ not_early (nat_le n old.prefix) (is_some (rows_at old.early n)) d.0))
   where
     not_early : (a b : Bool) → (a || b) ≡ false → b ≡ false
     not_early true b e = absurd (true≢false e)
     not_early false b e = e
-taken_agrees query old new n rows (Folded upto) is d there =
+taken_agrees honest query old new n rows (Folded upto) is d there =
     let behind : old.prefix + 1 < n = (found_holds (IsEarly (kinds query.columns) old.prefix) old.early n there.kept is.early there.there).behind in
     let next : n ≡ old.prefix + 1 = d.0 in
     absurd (omega (arith, behind, next))
 
-module _ (query : Checked) (old new : Parts) (o n : ℕ) (rows : List (List ℕ)) (reply : Delivered) (held : AreHeldParts query old) (limits : InLimits (o, n)) (d : DeliversAt query old o n rows new reply) where
+module _ (honest : Bool) (query : Checked) (old new : Parts) (o n : ℕ) (rows : List (List ℕ)) (reply : Delivered) (held : AreHeldParts query old) (limits : InLimits (o, n)) (d : DeliversAt honest query old o n rows new reply) where
   tells_more : (m : ℕ) → tells d.part m ≡ (eq_by_cmp nat_cmp m n || tells (part_of old o) m)
-  tells_more m = delivered_tells query (meaning query) (part_of old o) d.part n rows reply (part_is query old held o) limits.1 d.delivers m
+  tells_more m = delivered_tells honest query (meaning query) (part_of old o) d.part n rows reply (part_is query old held o) limits.1 d.delivers m
 
   pub delivered_held : AreHeldParts query new
   delivered_held =
@@ -235,7 +235,7 @@ module _ (query : Checked) (old new : Parts) (o n : ℕ) (rows : List (List ℕ)
       unknown : (answer : Delivered) → knows (told old) (o, n) ≡ false → (if n == prefix (told old) o + 1 then Folded (prefix (learn (told old) (o, n)) o) else Early) ≡ answer → answer ≡ reply_of (told old) (o, n)
       unknown answer not_known is = sym is ∙ ap (λ b. if b then Known else (if n == prefix (told old) o + 1 then Folded (prefix (learn (told old) (o, n)) o) else Early)) (sym not_known)
 
-      go : (answer : Delivered) → reply ≡ answer → Delivers (meaning query) (part_of old o) n rows d.part answer → answer ≡ reply_of (told old) (o, n)
+      go : (answer : Delivered) → reply ≡ answer → Delivers honest (meaning query) (part_of old o) n rows d.part answer → answer ≡ reply_of (told old) (o, n)
       go Known is delivers =
           ap (λ b. if b then Known else (if n == prefix (told old) o + 1 then Folded (prefix (learn (told old) (o, n)) o) else Early)) (sym (known_at old held.rising o n limits.1 ∙ delivers.0))
       go Early is delivers =
@@ -259,17 +259,17 @@ module _ (query : Checked) (old new : Parts) (o n : ℕ) (rows : List (List ℕ)
           own : part_of new o ≡ d.part
           own = ap (λ found. unwrap_or found empty) d.own
 
-pub delivered_fits : (query : Checked) (old new : Parts) (o n : ℕ) (rows : List (List ℕ)) (reply : Delivered) → AreHeldParts query old → DeliversAt query old o n rows new reply
+pub delivered_fits : (honest : Bool) → IsTrue honest → (query : Checked) (old new : Parts) (o n : ℕ) (rows : List (List ℕ)) (reply : Delivered) → AreHeldParts query old → DeliversAt honest query old o n rows new reply
     → (world : World) (those : List Row) → IsWorld (kinds query.columns) world → Fits world (record { query = query; parts = old }) → world o n ≡ Some those → rows ≡ packings those
     → Fits world (record { query = query; parts = new })
-delivered_fits query old new o n rows reply held d world those is fits there same k = go (same_or_other k o)
+delivered_fits honest so query old new o n rows reply held d world those is fits there same k = go (same_or_other k o)
   where
     go : (k ≡ o) ⊎ (k ≢ o) → FitsOrigin (meaning query) world k (part_of new k)
     go (inr other) = subst (FitsOrigin (meaning query) world k) (sym (ap (λ found. unwrap_or found empty) (d.others k other))) (fits k)
     go (inl here) =
         subst (λ j. FitsOrigin (meaning query) world j (part_of new j)) (sym here)
         (subst (FitsOrigin (meaning query) world o) (sym (ap (λ found. unwrap_or found empty) d.own))
-        (fits_delivered query world is o (part_of old o) d.part n those reply (part_is query old held o) (fits o) there (subst (λ r. Delivers (meaning query) (part_of old o) n r d.part reply) same d.delivers)))
+        (fits_delivered honest so query world is o (part_of old o) d.part n those reply (part_is query old held o) (fits o) there (subst (λ r. Delivers honest (meaning query) (part_of old o) n r d.part reply) same d.delivers)))
 
 pub never_disagrees : (query : Checked) (old : Parts) (o n : ℕ) (rows : List (List ℕ)) → Disagrees (part_of old o) n rows → (world : World) (those : List Row) → Fits world (record { query = query; parts = old })
     → world o n ≡ Some those → rows ≢ packings those
@@ -278,40 +278,40 @@ never_disagrees query old o n rows d world those fits there same =
 
 -- ---- results
 
-module _ (r : Result Delivered RefusedBatch) (query : Checked) (old new : Parts) (batch : Batch) (held : AreHeldParts query old) (limits : InLimits (batch.origin, batch.number))
-    (done : DeliveredTo query old batch new r) where
-  takes : IfOk r (DeliversAt query old batch.origin batch.number batch.rows new)
+module _ (r : Result Delivered RefusedBatch) (honest : Bool) (query : Checked) (old new : Parts) (batch : Batch) (held : AreHeldParts query old) (limits : InLimits (batch.origin, batch.number))
+    (done : DeliveredTo honest query old batch new r) where
+  takes : IfOk r (DeliversAt honest query old batch.origin batch.number batch.rows new)
   takes = go r done
     where
-      go : (s : Result Delivered RefusedBatch) → DeliveredTo query old batch new s → IfOk s (DeliversAt query old batch.origin batch.number batch.rows new)
+      go : (s : Result Delivered RefusedBatch) → DeliveredTo honest query old batch new s → IfOk s (DeliversAt honest query old batch.origin batch.number batch.rows new)
       go (Ok reply) d = d
       go (Err e) d = tt
 
   refuses : IfErr r (RefusesAt old batch new)
   refuses = go r done
     where
-      go : (s : Result Delivered RefusedBatch) → DeliveredTo query old batch new s → IfErr s (RefusesAt old batch new)
+      go : (s : Result Delivered RefusedBatch) → DeliveredTo honest query old batch new s → IfErr s (RefusesAt old batch new)
       go (Ok reply) d = tt
       go (Err e) d = d
 
   pub still_held : AreHeldParts query new
   still_held = go r done
     where
-      go : (s : Result Delivered RefusedBatch) → DeliveredTo query old batch new s → AreHeldParts query new
-      go (Ok reply) d = delivered_held query old new batch.origin batch.number batch.rows reply held limits d
+      go : (s : Result Delivered RefusedBatch) → DeliveredTo honest query old batch new s → AreHeldParts query new
+      go (Ok reply) d = delivered_held honest query old new batch.origin batch.number batch.rows reply held limits d
       go (Err e) d = subst (AreHeldParts query) (sym d.same) held
 
   pub reply_told : IfOk r (λ reply. reply ≡ reply_of (told old) (batch.origin, batch.number))
-  reply_told = IfOk-weaker r (DeliversAt query old batch.origin batch.number batch.rows new) _ (λ reply d. delivered_reply query old new batch.origin batch.number batch.rows reply held limits d) takes
+  reply_told = IfOk-weaker r (DeliversAt honest query old batch.origin batch.number batch.rows new) _ (λ reply d. delivered_reply honest query old new batch.origin batch.number batch.rows reply held limits d) takes
 
   pub more_told : OnOk r (told new ≡ learn (told old) (batch.origin, batch.number))
-  more_told = IfOk-weaker r (DeliversAt query old batch.origin batch.number batch.rows new) _ (λ reply d. delivered_told query old new batch.origin batch.number batch.rows reply held limits d) takes
+  more_told = IfOk-weaker r (DeliversAt honest query old batch.origin batch.number batch.rows new) _ (λ reply d. delivered_told honest query old new batch.origin batch.number batch.rows reply held limits d) takes
 
-  pub still_fits : OnOk r ((world : World) (those : List Row) → IsWorld (kinds query.columns) world → Fits world (record { query = query; parts = old }) → world batch.origin batch.number ≡ Some those
+  pub still_fits : OnOk r (IsTrue honest → (world : World) (those : List Row) → IsWorld (kinds query.columns) world → Fits world (record { query = query; parts = old }) → world batch.origin batch.number ≡ Some those
       → batch.rows ≡ packings those → Fits world (record { query = query; parts = new }))
   still_fits =
-      IfOk-weaker r (DeliversAt query old batch.origin batch.number batch.rows new) _
-      (λ reply d world those is fits there same. delivered_fits query old new batch.origin batch.number batch.rows reply held d world those is fits there same) takes
+      IfOk-weaker r (DeliversAt honest query old batch.origin batch.number batch.rows new) _
+      (λ reply d so world those is fits there same. delivered_fits honest so query old new batch.origin batch.number batch.rows reply held d world those is fits there same) takes
 
   pub handed_back : IfErr r (λ e. (e.batch ≡ batch) × ◌≡◌ {A = Held} (record { query = query; parts = new }) (record { query = query; parts = old }))
   handed_back = IfErr-weaker r (RefusesAt old batch new) _ (λ e d. (d.back, λ i. record { query = query; parts = d.same i })) refuses
@@ -321,11 +321,11 @@ module _ (r : Result Delivered RefusedBatch) (query : Checked) (old new : Parts)
 
   pub agreed_else : IfOk r (λ _. ¬ (Disagrees (part_of old batch.origin) batch.number batch.rows))
   agreed_else =
-      IfOk-weaker r (DeliversAt query old batch.origin batch.number batch.rows new) _
-      (λ reply d. taken_agrees query (part_of old batch.origin) d.part batch.number batch.rows reply (part_is query old held batch.origin) d.delivers) takes
+      IfOk-weaker r (DeliversAt honest query old batch.origin batch.number batch.rows new) _
+      (λ reply d. taken_agrees honest query (part_of old batch.origin) d.part batch.number batch.rows reply (part_is query old held batch.origin) d.delivers) takes
 
-  pub memory_wanting : IfErr r (λ e. e.why ≡ NoMemory → knows (told old) (batch.origin, batch.number) ≡ false)
-  memory_wanting = IfErr-weaker r (RefusesAt old batch new) _ (λ e d why. known_at old held.rising batch.origin batch.number limits.1 ∙ d.memory why) refuses
+  pub unknown_else : IfErr r (λ e. e.why ≢ OriginDisagrees → knows (told old) (batch.origin, batch.number) ≡ false)
+  unknown_else = IfErr-weaker r (RefusesAt old batch new) _ (λ e d why. known_at old held.rising batch.origin batch.number limits.1 ∙ d.unknown why) refuses
 
   pub world_agrees : IfErr r (λ e. e.why ≡ OriginDisagrees → (world : World) (those : List Row) → Fits world (record { query = query; parts = old }) → world batch.origin batch.number ≡ Some those
       → batch.rows ≢ packings those)

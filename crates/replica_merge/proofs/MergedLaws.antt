@@ -1,5 +1,5 @@
 -- What a replica holds and tells after a merge.
-use Rattle.std.specs.Prelude.{◌≡◌, ◌≢◌, refl, ℕ, ◌<◌, ◌⊎◌, ◌||◌, ◌&&◌, nat_eq, Bool, true, false, cond, List, [], ◌∷◌, length, Option, Some, None, option_map, unwrap_or, if◌then◌else◌}
+use Rattle.std.specs.Prelude.{◌≡◌, ◌≢◌, refl, ℕ, ◌<◌, ◌≤◌, ◌⊎◌, ◌||◌, ◌&&◌, nat_eq, Bool, true, false, cond, List, [], ◌∷◌, length, Option, Some, None, option_map, unwrap_or, if◌then◌else◌, IsTrue}
 use Rattle.std.proofs.Common.{◌∙◌, sym, ap, subst, inl, inr, arith}
 use Rattle.std.proofs.lemmas.Bool.{true≢false}
 use Rattle.std.specs.Option.{is_some}
@@ -19,7 +19,8 @@ use Rattle.origin_prefix.proofs.TellingLaws.{joined_tells}
 use Rattle.origin_prefix.proofs.FittingLaws.{fits_joined, agrees_joined}
 use Rattle.origin_prefix.specs.declared.error.JoinError.{JoinError}
 use Rattle.origin_prefix.specs.declared.error.JoinError.TheVariants as join
-use Rattle.replica_merge.specs.Errors.{merge_error}
+use Rattle.origin_prefix.specs.Errors.{IsErrorOver}
+use Rattle.replica_merge.specs.Errors.{merge_error, IsMergeErrorOver}
 use Rattle.replica_merge.specs.declared.error.MergeError.TheVariants as merge
 use Rattle.replica_merge.specs.Replicas.{Parts, part_at, part_of, told, Fits, IsHeldPart, AreHeldParts, AsideAt, JoinedAside, JoinsAt, Merges, DisagreeSomewhere, filled}
 use Rattle.replica_merge.proofs.ToldLaws.{told_is, some_told, empty_tells, part_here}
@@ -27,9 +28,9 @@ use Rattle.replica_merge.proofs.HeldLaws.{held_part}
 use Rattle.replica_merge.proofs.DeliveredLaws.{part_is, some_if_tells}
 
 -- what stands aside of an origin while some of the other's parts are left
-abbrev pub JoinedSoFar : Checked → Part → Option Part → Option Part → Option Part → Option Part → Type 0
-JoinedSoFar query own old theirs None new = AsideAt query own old theirs new
-JoinedSoFar query own old theirs (Some left) new = (theirs ≡ Some left) × (new ≡ option_map (λ (_ : Part). empty) old)
+abbrev pub JoinedSoFar : (honest : Bool) → Checked → Part → Option Part → Option Part → Option Part → Option Part → Type 0
+JoinedSoFar honest query own old theirs None new = AsideAt honest query own old theirs new
+JoinedSoFar honest query own old theirs (Some left) new = (theirs ≡ Some left) × (new ≡ option_map (λ (_ : Part). empty) old)
 
 -- ---- places
 
@@ -57,47 +58,47 @@ placed old rest n p all o before = go (same_or_other o n)
 -- ---- joining
 
 -- one origin more was joined
-pub joined_more : (query : Checked) (own old_parts theirs_all old rest : Parts) (n : ℕ) (p new : Part) → IsStrictlySortedBy nat_cmp (numbers ((n, p) ∷ rest))
-    → Joins (meaning query) (part_of own n) p new → IsPartOf query new → ¬ (PartsDisagree (part_of own n) p)
-    → (o : ℕ) → JoinedSoFar query (part_of own o) (part_at own o) (part_at theirs_all o) (part_at ((n, p) ∷ rest) o) (part_at old o)
-    → JoinedSoFar query (part_of own o) (part_at own o) (part_at theirs_all o) (part_at rest o) (part_at (insert_entry nat_cmp old n new) o)
-joined_more query own old_parts all old rest n p new rising joins is agree o before = go (same_or_other o n)
+pub joined_more : (honest : Bool) (query : Checked) (own old_parts theirs_all old rest : Parts) (n : ℕ) (p new : Part) → IsStrictlySortedBy nat_cmp (numbers ((n, p) ∷ rest))
+    → Joins honest (meaning query) (part_of own n) p new → IsPartOf query new → ¬ (PartsDisagree (part_of own n) p)
+    → (o : ℕ) → JoinedSoFar honest query (part_of own o) (part_at own o) (part_at theirs_all o) (part_at ((n, p) ∷ rest) o) (part_at old o)
+    → JoinedSoFar honest query (part_of own o) (part_at own o) (part_at theirs_all o) (part_at rest o) (part_at (insert_entry nat_cmp old n new) o)
+joined_more honest query own old_parts all old rest n p new rising joins is agree o before = go (same_or_other o n)
   where
-    at_one : (all_o : Option Part) → all_o ≡ Some p → JoinedSoFar query (part_of own n) (part_at own n) all_o None (Some new)
+    at_one : (all_o : Option Part) → all_o ≡ Some p → JoinedSoFar honest query (part_of own n) (part_at own n) all_o None (Some new)
     at_one None e = absurd (true≢false (sym (ap is_some e)))
-    at_one (Some q) e = (new, refl, subst (λ (t : Part). Joins (meaning query) (part_of own n) t new) new_is joins, is, λ d. agree (subst (PartsDisagree (part_of own n)) (sym new_is) d))
+    at_one (Some q) e = (new, refl, subst (λ (t : Part). Joins honest (meaning query) (part_of own n) t new) new_is joins, is, λ d. agree (subst (PartsDisagree (part_of own n)) (sym new_is) d))
       where
         new_is : p ≡ q
         new_is = some_is p q (sym e)
 
-    here : JoinedSoFar query (part_of own n) (part_at own n) (part_at all n) (Some p) (part_at old n) → JoinedSoFar query (part_of own n) (part_at own n) (part_at all n) (part_at rest n) (part_at (insert_entry nat_cmp old n new) n)
+    here : JoinedSoFar honest query (part_of own n) (part_at own n) (part_at all n) (Some p) (part_at old n) → JoinedSoFar honest query (part_of own n) (part_at own n) (part_at all n) (part_at rest n) (part_at (insert_entry nat_cmp old n new) n)
     here had =
-        subst (λ left. JoinedSoFar query (part_of own n) (part_at own n) (part_at all n) left (part_at (insert_entry nat_cmp old n new) n)) (sym (first_alone n p rest rising))
-        (subst (λ found. JoinedSoFar query (part_of own n) (part_at own n) (part_at all n) None found) (sym (put_same old n new)) (at_one (part_at all n) had.0))
+        subst (λ left. JoinedSoFar honest query (part_of own n) (part_at own n) (part_at all n) left (part_at (insert_entry nat_cmp old n new) n)) (sym (first_alone n p rest rising))
+        (subst (λ found. JoinedSoFar honest query (part_of own n) (part_at own n) (part_at all n) None found) (sym (put_same old n new)) (at_one (part_at all n) had.0))
 
-    go : (o ≡ n) ⊎ (o ≢ n) → JoinedSoFar query (part_of own o) (part_at own o) (part_at all o) (part_at rest o) (part_at (insert_entry nat_cmp old n new) o)
+    go : (o ≡ n) ⊎ (o ≢ n) → JoinedSoFar honest query (part_of own o) (part_at own o) (part_at all o) (part_at rest o) (part_at (insert_entry nat_cmp old n new) o)
     go (inl same) =
-        subst (λ k. JoinedSoFar query (part_of own k) (part_at own k) (part_at all k) (part_at rest k) (part_at (insert_entry nat_cmp old n new) k)) (sym same)
-        (here (subst (λ left. JoinedSoFar query (part_of own n) (part_at own n) (part_at all n) left (part_at old n)) (at_head n p rest)
-        (subst (λ k. JoinedSoFar query (part_of own k) (part_at own k) (part_at all k) (part_at ((n, p) ∷ rest) k) (part_at old k)) same before)))
+        subst (λ k. JoinedSoFar honest query (part_of own k) (part_at own k) (part_at all k) (part_at rest k) (part_at (insert_entry nat_cmp old n new) k)) (sym same)
+        (here (subst (λ left. JoinedSoFar honest query (part_of own n) (part_at own n) (part_at all n) left (part_at old n)) (at_head n p rest)
+        (subst (λ k. JoinedSoFar honest query (part_of own k) (part_at own k) (part_at all k) (part_at ((n, p) ∷ rest) k) (part_at old k)) same before)))
     go (inr other) =
-        subst (λ found. JoinedSoFar query (part_of own o) (part_at own o) (part_at all o) (part_at rest o) found) (sym (put_else old n new o other))
-        (subst (λ left. JoinedSoFar query (part_of own o) (part_at own o) (part_at all o) left (part_at old o)) (behind_head o n p rest other) before)
+        subst (λ found. JoinedSoFar honest query (part_of own o) (part_at own o) (part_at all o) (part_at rest o) found) (sym (put_else old n new o other))
+        (subst (λ left. JoinedSoFar honest query (part_of own o) (part_at own o) (part_at all o) left (part_at old o)) (behind_head o n p rest other) before)
 
 -- before the first
-pub joined_none : (query : Checked) (own all places : Parts) → ((o : ℕ) → part_at places o ≡ option_map (λ (_ : Part). empty) (part_at own o))
-    → (o : ℕ) → JoinedSoFar query (part_of own o) (part_at own o) (part_at all o) (part_at all o) (part_at places o)
-joined_none query own all places at o = go (part_at all o)
+pub joined_none : (honest : Bool) (query : Checked) (own all places : Parts) → ((o : ℕ) → part_at places o ≡ option_map (λ (_ : Part). empty) (part_at own o))
+    → (o : ℕ) → JoinedSoFar honest query (part_of own o) (part_at own o) (part_at all o) (part_at all o) (part_at places o)
+joined_none honest query own all places at o = go (part_at all o)
   where
-    go : (found : Option Part) → JoinedSoFar query (part_of own o) (part_at own o) found found (part_at places o)
+    go : (found : Option Part) → JoinedSoFar honest query (part_of own o) (part_at own o) found found (part_at places o)
     go None = at o
     go (Some p) = (refl, at o)
 
 -- the parts of an origin disagree
-pub found_disagreement : (query : Checked) (own all old : Parts) (n : ℕ) (p : Part) (rest : Parts) → JoinedSoFar query (part_of own n) (part_at own n) (part_at all n) (part_at ((n, p) ∷ rest) n) (part_at old n)
+pub found_disagreement : (honest : Bool) (query : Checked) (own all old : Parts) (n : ℕ) (p : Part) (rest : Parts) → JoinedSoFar honest query (part_of own n) (part_at own n) (part_at all n) (part_at ((n, p) ∷ rest) n) (part_at old n)
     → PartsDisagree (part_of own n) p → DisagreeSomewhere own all
-found_disagreement query own all old n p rest before d =
-    let had = subst (λ left. JoinedSoFar query (part_of own n) (part_at own n) (part_at all n) left (part_at old n)) (at_head n p rest) before in
+found_disagreement honest query own all old n p rest before d =
+    let had = subst (λ left. JoinedSoFar honest query (part_of own n) (part_at own n) (part_at all n) left (part_at old n)) (at_head n p rest) before in
     record { origin = n; theirs = p; there = had.0; parts = d }
 
 -- ---- putting back
@@ -146,10 +147,10 @@ nothing_at old new n p none same o = ap (λ ps. part_at ps o) same ∙ go (same_
 -- ---- the whole merge
 
 -- parts that are joined with one that tells something tell something
-some_joined : (query : Checked) (own theirs new : Part) (o : ℕ) → IsPartOf query own → IsHeldPart query (o, theirs) → Joins (meaning query) own theirs new → (0 < new.prefix) ⊎ (new.early ≢ [])
-some_joined query own theirs new o is held joins =
+some_joined : (honest : Bool) (query : Checked) (own theirs new : Part) (o : ℕ) → IsPartOf query own → IsHeldPart query (o, theirs) → Joins honest (meaning query) own theirs new → (0 < new.prefix) ⊎ (new.early ≢ [])
+some_joined honest query own theirs new o is held joins =
     let some = some_told query o theirs held in
-    some_if_tells new some.0 (joined_tells query (meaning query) own theirs new is held.part joins some.0 ∙ or_true (tells own some.0) (tells theirs some.0) some.2)
+    some_if_tells new some.0 (joined_tells honest query (meaning query) own theirs new is held.part joins some.0 ∙ or_true (tells own some.0) (tells theirs some.0) some.2)
   where
     or_true : (a b : Bool) → b ≡ true → (a || b) ≡ true
     or_true true b e = refl
@@ -168,32 +169,32 @@ not_nothing p (inr some) = both (nat_eq p.prefix 0) (nat_eq (length p.early) 0) 
     of_early (e ∷ es) some = grind arith
 
 -- what is told after a merge
-merges_tells : (query : Checked) (old other new : Parts) → AreHeldParts query old → AreHeldParts query other → Merges query old other new
+merges_tells : (honest : Bool) (query : Checked) (old other new : Parts) → AreHeldParts query old → AreHeldParts query other → Merges honest query old other new
     → (o n : ℕ) → tells (part_of new o) n ≡ (tells (part_of old o) n || tells (part_of other o) n)
-merges_tells query old other new held theirs merges o n = go (part_at other o) refl (merges o)
+merges_tells honest query old other new held theirs merges o n = go (part_at other o) refl (merges o)
   where
     or_false : (b : Bool) → b ≡ (b || false)
     or_false true = refl
     or_false false = refl
 
-    go : (found : Option Part) → part_at other o ≡ found → JoinsAt query (part_of old o) (part_at old o) found (part_at new o) → tells (part_of new o) n ≡ (tells (part_of old o) n || tells (unwrap_or (part_at other o) empty) n)
+    go : (found : Option Part) → part_at other o ≡ found → JoinsAt honest query (part_of old o) (part_at old o) found (part_at new o) → tells (part_of new o) n ≡ (tells (part_of old o) n || tells (unwrap_or (part_at other o) empty) n)
     go None e at =
         ap (λ x. tells (unwrap_or x empty) n) at ∙ or_false (tells (part_of old o) n)
         ∙ sym (ap (λ b. tells (part_of old o) n || b) (ap (λ x. tells (unwrap_or x empty) n) e ∙ empty_tells n))
     go (Some t) e at =
         ap (λ x. tells (unwrap_or x empty) n) at.1
-        ∙ joined_tells query (meaning query) (part_of old o) t at.0 (part_is query old held o) (held_part query other theirs o t e).part at.2 n
+        ∙ joined_tells honest query (meaning query) (part_of old o) t at.0 (part_is query old held o) (held_part query other theirs o t e).part at.2 n
         ∙ sym (ap (λ x. tells (part_of old o) n || tells (unwrap_or x empty) n) e)
 
-pub merges_told : (query : Checked) (old other new : Parts) → AreHeldParts query old → AreHeldParts query other → IsStrictlySortedBy nat_cmp (numbers new) → Merges query old other new → told new ≡ union (told old) (told other)
-merges_told query old other new held theirs rising merges =
+pub merges_told : (honest : Bool) (query : Checked) (old other new : Parts) → AreHeldParts query old → AreHeldParts query other → IsStrictlySortedBy nat_cmp (numbers new) → Merges honest query old other new → told new ≡ union (told old) (told other)
+merges_told honest query old other new held theirs rising merges =
     same_knowledge (told new) (union (told old) (told other)) (λ batch.
-    told_is new rising batch.0 batch.1 ∙ merges_tells query old other new held theirs merges batch.0 batch.1
+    told_is new rising batch.0 batch.1 ∙ merges_tells honest query old other new held theirs merges batch.0 batch.1
     ∙ sym (knows_union (told old) (told other) batch ∙ (λ i. told_is old held.rising batch.0 batch.1 i || told_is other theirs.rising batch.0 batch.1 i)))
 
-module _ (query : Checked) (old other joined new : Parts) (held : AreHeldParts query old) (theirs : AreHeldParts query other) (aside : JoinedAside query old other joined)
+module _ (honest : Bool) (query : Checked) (old other joined new : Parts) (held : AreHeldParts query old) (theirs : AreHeldParts query other) (aside : JoinedAside honest query old other joined)
     (back : (o : ℕ) → part_at new o ≡ filled (part_at joined o) (part_at old o)) where
-  merges_at : (o : ℕ) → JoinsAt query (part_of old o) (part_at old o) (part_at other o) (part_at new o)
+  merges_at : (o : ℕ) → JoinsAt honest query (part_of old o) (part_at old o) (part_at other o) (part_at new o)
   merges_at o = go (part_at other o) refl (aside.at o)
     where
       own_back : (mine : Option Part) → filled (option_map (λ (_ : Part). empty) mine) mine ≡ mine
@@ -204,23 +205,23 @@ module _ (query : Checked) (old other joined new : Parts) (held : AreHeldParts q
       kept p None e = refl
       kept p (Some q) e = ap (λ b. if b then Some q else Some p) e
 
-      go : (found : Option Part) → part_at other o ≡ found → AsideAt query (part_of old o) (part_at old o) found (part_at joined o) → JoinsAt query (part_of old o) (part_at old o) found (part_at new o)
+      go : (found : Option Part) → part_at other o ≡ found → AsideAt honest query (part_of old o) (part_at old o) found (part_at joined o) → JoinsAt honest query (part_of old o) (part_at old o) found (part_at new o)
       go None e at = back o ∙ ap (λ x. filled x (part_at old o)) at ∙ own_back (part_at old o)
       go (Some t) e at = (
         at.0,
         back o ∙ ap (λ x. filled x (part_at old o)) at.1
-            ∙ kept at.0 (part_at old o) (not_nothing at.0 (some_joined query (part_of old o) t at.0 o (part_is query old held o) (held_part query other theirs o t e) at.2)),
+            ∙ kept at.0 (part_at old o) (not_nothing at.0 (some_joined honest query (part_of old o) t at.0 o (part_is query old held o) (held_part query other theirs o t e) at.2)),
         at.2,
       )
 
-  pub merges : Merges query old other new
+  pub merges : Merges honest query old other new
   merges = merges_at
 
   pub merged_held : IsStrictlySortedBy nat_cmp (numbers new) → AreHeldParts query new
   merged_held rising =
       record { rising = rising; each = all_found (IsHeldPart query) new rising (λ o p there. go o p there (part_at other o) refl (aside.at o)) }
     where
-      go : (o : ℕ) (p : Part) → part_at new o ≡ Some p → (found : Option Part) → part_at other o ≡ found → AsideAt query (part_of old o) (part_at old o) found (part_at joined o) → IsHeldPart query (o, p)
+      go : (o : ℕ) (p : Part) → part_at new o ≡ Some p → (found : Option Part) → part_at other o ≡ found → AsideAt honest query (part_of old o) (part_at old o) found (part_at joined o) → IsHeldPart query (o, p)
       go o p there None e at = held_part query old held o p (sym (back o ∙ ap (λ x. filled x (part_at old o)) at ∙ own_back (part_at old o)) ∙ there)
         where
           own_back : (mine : Option Part) → filled (option_map (λ (_ : Part). empty) mine) mine ≡ mine
@@ -228,7 +229,7 @@ module _ (query : Checked) (old other joined new : Parts) (held : AreHeldParts q
           own_back (Some q) = refl
       go o p there (Some t) e at =
           let h : IsHeldPart query (o, t) = held_part query other theirs o t e in
-          let some = some_joined query (part_of old o) t at.0 o (part_is query old held o) h at.2 in
+          let some = some_joined honest query (part_of old o) t at.0 o (part_is query old held o) h at.2 in
           let is : at.0 ≡ p = some_is at.0 p (sym (back o ∙ ap (λ x. filled x (part_at old o)) at.1 ∙ kept (part_at old o) (not_nothing at.0 some)) ∙ there) in
           subst (λ q. IsHeldPart query (o, q)) is (record { within = h.within; part = at.3; some = some })
         where
@@ -237,21 +238,21 @@ module _ (query : Checked) (old other joined new : Parts) (held : AreHeldParts q
           kept (Some q) e = ap (λ b. if b then Some q else Some at.0) e
 
   pub merged_told : IsStrictlySortedBy nat_cmp (numbers new) → told new ≡ union (told old) (told other)
-  merged_told rising = merges_told query old other new held theirs rising merges_at
+  merged_told rising = merges_told honest query old other new held theirs rising merges_at
 
-  pub merged_fits : (world : World) → IsWorld (kinds query.columns) world → Fits world (record { query = query; parts = old }) → Fits world (record { query = query; parts = other }) → Fits world (record { query = query; parts = new })
-  merged_fits world is fits fits_other o = go (part_at other o) refl (merges_at o)
+  pub merged_fits : IsTrue honest → (world : World) → IsWorld (kinds query.columns) world → Fits world (record { query = query; parts = old }) → Fits world (record { query = query; parts = other }) → Fits world (record { query = query; parts = new })
+  merged_fits so world is fits fits_other o = go (part_at other o) refl (merges_at o)
     where
-      go : (found : Option Part) → part_at other o ≡ found → JoinsAt query (part_of old o) (part_at old o) found (part_at new o) → FitsOrigin (meaning query) world o (part_of new o)
+      go : (found : Option Part) → part_at other o ≡ found → JoinsAt honest query (part_of old o) (part_at old o) found (part_at new o) → FitsOrigin (meaning query) world o (part_of new o)
       go None e at = subst (λ x. FitsOrigin (meaning query) world o (unwrap_or x empty)) (sym at) (fits o)
       go (Some t) e at =
           subst (λ x. FitsOrigin (meaning query) world o (unwrap_or x empty)) (sym at.1)
-          (fits_joined query world is o (part_of old o) t at.0 (fits o) (subst (FitsOrigin (meaning query) world o) (part_here other o t e) (fits_other o)) at.2)
+          (fits_joined honest so query world is o (part_of old o) t at.0 (fits o) (subst (FitsOrigin (meaning query) world o) (part_here other o t e) (fits_other o)) at.2)
 
 -- where there are joined parts aside of each origin, none disagree
-pub aside_agree : (query : Checked) (old other joined : Parts) → JoinedAside query old other joined → ¬ (DisagreeSomewhere old other)
-aside_agree query old other joined aside d =
-    (subst (λ found. AsideAt query (part_of old d.origin) (part_at old d.origin) found (part_at joined d.origin)) d.there (aside.at d.origin)).4 d.parts
+pub aside_agree : (honest : Bool) (query : Checked) (old other joined : Parts) → JoinedAside honest query old other joined → ¬ (DisagreeSomewhere old other)
+aside_agree honest query old other joined aside d =
+    (subst (λ found. AsideAt honest query (part_of old d.origin) (part_at old d.origin) found (part_at joined d.origin)) d.there (aside.at d.origin)).4 d.parts
 
 -- replicas that fit one world never disagree
 pub never_somewhere : (query : Checked) (old other : Parts) → DisagreeSomewhere old other → (world : World) → Fits world (record { query = query; parts = old }) → Fits world (record { query = query; parts = other }) → ⊥
@@ -263,7 +264,18 @@ never_somewhere query old other d world fits fits_other =
 pub join_error : (error : JoinError) → merge_error error ≡ merge.OriginDisagrees → error ≡ join.OriginDisagrees
 join_error join.NoMemory e = cc
 join_error join.OriginDisagrees e = refl
+join_error join.TapeFault e = cc
+join_error join.TapeDamaged e = cc
 
 pub not_another_query : (error : JoinError) → merge_error error ≡ merge.DifferentQuery → ⊥
 not_another_query join.NoMemory e = cc
 not_another_query join.OriginDisagrees e = cc
+not_another_query join.TapeFault e = cc
+not_another_query join.TapeDamaged e = cc
+
+-- what it tells of the disk, where calls were made before it
+pub told_later : (honest honest_now : Bool) (before now after : ℕ) (error : JoinError) → honest_now ≡ honest → before ≤ now → IsErrorOver honest_now now after error → IsMergeErrorOver honest before after (merge_error error)
+told_later honest honest_now before now after join.NoMemory same low told = tt
+told_later honest honest_now before now after join.OriginDisagrees same low told = tt
+told_later honest honest_now before now after join.TapeFault same low told = omega (arith, low, told)
+told_later honest honest_now before now after join.TapeDamaged same low told = λ is. told (subst IsTrue (sym same) is)

@@ -1,5 +1,5 @@
 -- What a replica holds and tells, and when it fits a world. All of this is our own.
-use Rattle.std.specs.Prelude.{◌≡◌, ◌≢◌, ℕ, ◌*◌, List, ◌++◌, map, flat_map, Option, Some, None, option_map, unwrap_or, if◌then◌else◌, Result, Ok, Err, false}
+use Rattle.std.specs.Prelude.{◌≡◌, ◌≢◌, ℕ, ◌*◌, List, ◌++◌, map, flat_map, Option, Some, None, option_map, unwrap_or, Bool, if◌then◌else◌, Result, Ok, Err, false}
 use Rattle.std.specs.List.Sorted.{IsStrictlySortedBy}
 use Rattle.std.specs.Map.{lookup}
 use Rattle.std.specs.Ordering.{eq_by_cmp, nat_cmp}
@@ -14,7 +14,7 @@ use Rattle.having_filter.specs.Meaning.{Checked, meaning}
 use Rattle.having_filter.specs.Spelling.{spelling}
 use Rattle.batch_reader.specs.declared.batch.Batch as packed
 use Rattle.origin_prefix.specs.Parts.{Part, empty, knows_number, is_nothing, IsPartOf, Delivers, Disagrees}
-use Rattle.origin_prefix.specs.declared.error.JoinError.TheVariants.{NoMemory, OriginDisagrees}
+use Rattle.origin_prefix.specs.declared.error.JoinError.TheVariants.{OriginDisagrees}
 use Rattle.origin_prefix.specs.declared.error.RefusedBatch.{RefusedBatch}
 use Rattle.origin_prefix.specs.Joins.{Joins, PartsDisagree}
 use Rattle.origin_prefix.specs.Fitting.{FitsOrigin}
@@ -51,22 +51,22 @@ abbrev pub SameQuery : Checked → Checked → Type 0
 SameQuery a b = (printed a.columns ≡ printed b.columns) × (spelling (by_names a) ≡ spelling (by_names b))
 
 -- the parts of one replica and of another, origin by origin: where the other has none, there is what there was
-abbrev pub JoinsAt : Checked → Part → Option Part → Option Part → Option Part → Type 0
-JoinsAt query own old None new = new ≡ old
-JoinsAt query own old (Some theirs) new = (part : Part) × (new ≡ Some part) × Joins (meaning query) own theirs part
+abbrev pub JoinsAt : (honest : Bool) → Checked → Part → Option Part → Option Part → Option Part → Type 0
+JoinsAt honest query own old None new = new ≡ old
+JoinsAt honest query own old (Some theirs) new = (part : Part) × (new ≡ Some part) × Joins honest (meaning query) own theirs part
 
-abbrev pub Merges : Checked → Parts → Parts → Parts → Type 0
-Merges query old other new = (origin : ℕ) → JoinsAt query (part_of old origin) (part_at old origin) (part_at other origin) (part_at new origin)
+abbrev pub Merges : (honest : Bool) → Checked → Parts → Parts → Parts → Type 0
+Merges honest query old other new = (origin : ℕ) → JoinsAt honest query (part_of old origin) (part_at old origin) (part_at other origin) (part_at new origin)
 
 -- what stands aside of an origin while two replicas are merged: the parts of both, joined, or where the other has none, a place for
 -- the own one
-abbrev pub AsideAt : Checked → Part → Option Part → Option Part → Option Part → Type 0
-AsideAt query own old None new = new ≡ option_map (λ (_ : Part). empty) old
-AsideAt query own old (Some theirs) new = (part : Part) × (new ≡ Some part) × Joins (meaning query) own theirs part × IsPartOf query part × ¬ (PartsDisagree own theirs)
+abbrev pub AsideAt : (honest : Bool) → Checked → Part → Option Part → Option Part → Option Part → Type 0
+AsideAt honest query own old None new = new ≡ option_map (λ (_ : Part). empty) old
+AsideAt honest query own old (Some theirs) new = (part : Part) × (new ≡ Some part) × Joins honest (meaning query) own theirs part × IsPartOf query part × ¬ (PartsDisagree own theirs)
 
-pub record JoinedAside (query : Checked) (old other joined : Parts) : Type 0 where
+pub record JoinedAside (honest : Bool) (query : Checked) (old other joined : Parts) : Type 0 where
   pub rising : IsStrictlySortedBy nat_cmp (map (λ (held : ℕ × Part). held.0) joined)
-  pub at : (origin : ℕ) → AsideAt query (part_of old origin) (part_at old origin) (part_at other origin) (part_at joined origin)
+  pub at : (origin : ℕ) → AsideAt honest query (part_of old origin) (part_at old origin) (part_at other origin) (part_at joined origin)
 
 -- what a place holds once the own part was put back where nothing else came
 abbrev pub filled : Option Part → Option Part → Option Part
@@ -82,26 +82,26 @@ pub record DisagreeSomewhere (old other : Parts) : Type 0 where
   pub parts : PartsDisagree (part_of old origin) theirs
 
 -- the part of a batch's origin takes the batch, and the others stay
-pub record DeliversAt (query : Checked) (old : Parts) (origin number : ℕ) (rows : List (List ℕ)) (new : Parts) (reply : Delivered) : Type 0 where
+pub record DeliversAt (honest : Bool) (query : Checked) (old : Parts) (origin number : ℕ) (rows : List (List ℕ)) (new : Parts) (reply : Delivered) : Type 0 where
   pub part : Part
   pub own : part_at new origin ≡ Some part
-  pub delivers : Delivers (meaning query) (part_of old origin) number rows part reply
+  pub delivers : Delivers honest (meaning query) (part_of old origin) number rows part reply
   pub is_part : IsPartOf query part
   pub others : (other : ℕ) → other ≢ origin → part_at new other ≡ part_at old other
   pub rising : IsStrictlySortedBy nat_cmp (map (λ (held : ℕ × Part). held.0) new)
 
--- a batch is refused: it is handed back and the parts stay; where it disagrees it is there with other rows, and memory is wanting
--- only for a number that is not known
+-- a batch is refused: it is handed back and the parts stay; where it disagrees it is there with other rows, and anything else is a
+-- reason only for a number that is not known
 pub record RefusesAt (old : Parts) (batch : packed.Batch) (new : Parts) (refused : RefusedBatch) : Type 0 where
   pub back : refused.batch ≡ batch
   pub same : new ≡ old
   pub other : refused.why ≡ OriginDisagrees → Disagrees (part_of old batch.origin) batch.number batch.rows
-  pub memory : refused.why ≡ NoMemory → knows_number (part_of old batch.origin) batch.number ≡ false
+  pub unknown : refused.why ≢ OriginDisagrees → knows_number (part_of old batch.origin) batch.number ≡ false
 
 -- what becomes of parts to which a batch is delivered: that of its origin takes it, or it is refused
-abbrev pub DeliveredTo : Checked → Parts → packed.Batch → Parts → Result Delivered RefusedBatch → Type 0
-DeliveredTo query old batch new (Ok reply) = DeliversAt query old batch.origin batch.number batch.rows new reply
-DeliveredTo query old batch new (Err refused) = RefusesAt old batch new refused
+abbrev pub DeliveredTo : (honest : Bool) → Checked → Parts → packed.Batch → Parts → Result Delivered RefusedBatch → Type 0
+DeliveredTo honest query old batch new (Ok reply) = DeliversAt honest query old batch.origin batch.number batch.rows new reply
+DeliveredTo honest query old batch new (Err refused) = RefusesAt old batch new refused
 
 -- what a part of an origin says of it
 abbrev pub known_part : ℕ × Part → KnownOrigin

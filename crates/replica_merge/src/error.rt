@@ -20,6 +20,12 @@ pub enum MergeError {
     /// One number of an origin has two different batches, or equal prefixes of an origin have different groups.
     #[error("one number of an origin has two different batches")]
     OriginDisagrees,
+    /// The disk of tapes failed.
+    #[error("the tape disk failed")]
+    TapeFault,
+    /// The disk of tapes gave back what was not written to it.
+    #[error("the tape is damaged")]
+    TapeDamaged,
 }
 
 impl From<AllocError> for MergeError {
@@ -45,6 +51,8 @@ impl From<JoinError> for MergeError {
         match error {
             JoinError::NoMemory => MergeError::NoMemory,
             JoinError::OriginDisagrees => MergeError::OriginDisagrees,
+            JoinError::TapeFault => MergeError::TapeFault,
+            JoinError::TapeDamaged => MergeError::TapeDamaged,
         }
     }
 }

@@ -1,6 +1,6 @@
 //! Merging two replicas: the parts of both are joined aside, and then moved in without taking memory.
 
-ghost use Rattle.std.specs.Prelude.{◌≡◌, ◌≢◌, ℕ, map, cond, option_map, unwrap_or, Some, IfOk, IfErr, OnOk, OnErr};
+ghost use Rattle.std.specs.Prelude.{◌≡◌, ◌≢◌, ℕ, Bool, IsTrue, map, cond, option_map, unwrap_or, Some, IfOk, IfErr, OnOk, OnErr};
 ghost use Rattle.std.specs.List.Sorted.{IsStrictlySortedBy};
 ghost use Rattle.std.specs.BTreeMap.{insert_entry};
 ghost use Rattle.std.specs.Option.{option_copied};
@@ -12,10 +12,14 @@ ghost use Rattle.origin_prefix.specs.Parts.{Part, empty, IsPartOf};
 ghost use Rattle.origin_prefix.specs.Joins.{Joins, PartsDisagree};
 ghost use Rattle.origin_prefix.specs.declared.error.JoinError.TheVariants as joins;
 ghost use Rattle.replica_merge.specs.Replicas.{Parts, part_at, part_of, told, Fits, SameQuery, AreHeldParts, JoinedAside, Merges, DisagreeSomewhere, filled};
+ghost use Rattle.origin_prefix.specs.Errors.{IsErrorOver};
+ghost use Rattle.spill_lists.specs.Standing.{Moves};
+ghost use Rattle.replica_merge.specs.Errors.{IsMergeErrorOver};
 ghost use Rattle.replica_merge.specs.declared.error.MergeError.TheVariants.{DifferentQuery, OriginDisagrees};
 
 use crate::error::MergeError;
 use crate::replica::Replica;
+use hash_agg::{KeyHash, Means, TapeDisk};
 use having_filter::Query;
 use origin_prefix::{JoinError, OriginPart};
 use std::alloc::{AllocError, Global};
@@ -76,46 +80,57 @@ fn places(
 }
 
 /// The own part of an origin, if there is one, joined with another.
-fn join_part(
+fn join_part<H: KeyHash + Copy, D: TapeDisk>(
     alloc: Global,
     query: &Query,
     own: Option<&OriginPart>,
     theirs: &OriginPart,
+    means: &Means<H>,
+    disk: &mut D,
 ) -> Result<OriginPart, JoinError>
     requires own { IsPartOf query.now (unwrap_or (option_copied own) empty) }
     requires theirs { IsPartOf query.now theirs.now }
     ensures joins { IfOk result
-        (Joins (meaning query.now) (unwrap_or (option_copied own.entry) empty) theirs.now) }
+        (Joins (D.honest disk.old) (meaning query.now)
+        (unwrap_or (option_copied own.entry) empty) theirs.now) }
     ensures part { IfOk result (IsPartOf query.now) }
     ensures agree { IfOk result (λ _. ¬ (PartsDisagree (unwrap_or (option_copied own.entry) empty)
         theirs.now)) }
     ensures disagree { IfErr result (λ e. e ≡ joins.OriginDisagrees →
         PartsDisagree (unwrap_or (option_copied own.entry) empty) theirs.now) }
+    ensures over { IfErr result
+        (IsErrorOver (D.honest disk.old) (D.failures disk.old) (D.failures disk.new)) }
+    ensures disk { Moves (D.failures disk.old) (D.failures disk.new) (D.writes disk.old) (D.writes disk.new) (D.honest disk.old) (D.honest disk.new) }
 {
     match own {
-        Some(own) => own.join(theirs, query),
-        None => OriginPart::empty(alloc).join(theirs, query),
+        Some(own) => own.join(theirs, query, means, disk),
+        None => OriginPart::empty(alloc).join(theirs, query, means, disk),
     }
 }
 
 /// The parts of both, joined aside.
-fn join_all(
+fn join_all<H: KeyHash + Copy, D: TapeDisk>(
     alloc: Global,
     query: &Query,
     own: &BTreeMap<u16, OriginPart>,
     theirs: &BTreeMap<u16, OriginPart>,
+    means: &Means<H>,
+    disk: &mut D,
 ) -> Result<BTreeMap<u16, OriginPart>, MergeError>
     requires own { AreHeldParts query.now own.now.entries }
     requires theirs { AreHeldParts query.now theirs.now.entries }
     ensures joined { IfOk result (λ joined.
-        JoinedAside query.now own.now.entries theirs.now.entries joined.entries) }
+        JoinedAside (D.honest disk.old) query.now own.now.entries theirs.now.entries joined.entries) }
     ensures disagree { IfErr result (λ e. e ≡ OriginDisagrees →
         DisagreeSomewhere own.now.entries theirs.now.entries) }
     ensures same { IfErr result (λ e. e ≢ DifferentQuery) }
+    ensures over { IfErr result
+        (IsMergeErrorOver (D.honest disk.old) (D.failures disk.old) (D.failures disk.new)) }
+    ensures disk { Moves (D.failures disk.old) (D.failures disk.new) (D.writes disk.old) (D.writes disk.new) (D.honest disk.old) (D.honest disk.new) }
 {
     let mut joined = places(alloc, own)?;
     for (origin, part) in theirs {
-        let part = join_part(alloc, query, own.get(origin), part)?;
+        let part = join_part(alloc, query, own.get(origin), part, means, disk)?;
         put(&mut joined, *origin, part)?;
     }
     Ok(joined)
@@ -152,9 +167,14 @@ fn fill(parts: &mut BTreeMap<u16, OriginPart>, old: BTreeMap<u16, OriginPart>)
 impl Replica {
     /// What this replica and another hold together, aside from both: `commit` moves it in. `OriginDisagrees` is told where the parts of an
     /// origin disagree.
-    pub fn join(&self, other: &Replica) -> Result<Joined, MergeError>
+    pub fn join<H: KeyHash + Copy, D: TapeDisk>(
+        &self,
+        other: &Replica,
+        means: &Means<H>,
+        disk: &mut D,
+    ) -> Result<Joined, MergeError>
         ensures joined { IfOk result
-            (JoinedAside self.now.query self.now.parts other.now.parts) }
+            (JoinedAside (D.honest disk.old) self.now.query self.now.parts other.now.parts) }
         ensures held { IfOk result (λ _. AreHeldParts self.now.query other.now.parts) }
         ensures query { IfOk result (λ _. other.now.query ≡ self.now.query) }
         ensures different { IfErr result (λ e. e ≡ DifferentQuery →
@@ -166,29 +186,39 @@ impl Replica {
         // Replicas that fit one world never disagree.
         ensures agree { IfErr result (λ e. e ≡ OriginDisagrees → (world : World) →
             Fits world self.now → Fits world other.now → ⊥) }
+        ensures over { IfErr result
+            (IsMergeErrorOver (D.honest disk.old) (D.failures disk.old) (D.failures disk.new)) }
+        ensures disk { Moves (D.failures disk.old) (D.failures disk.new) (D.writes disk.old) (D.writes disk.new) (D.honest disk.old) (D.honest disk.new) }
     {
         if !self.query.same_query(&other.query) {
             return Err(MergeError::DifferentQuery);
         }
         let _own = self.query.schema();
         let _theirs = other.query.schema();
-        let parts = join_all(self.alloc, &self.query, &self.parts, &other.parts)?;
+        let parts = join_all(
+            self.alloc,
+            &self.query,
+            &self.parts,
+            &other.parts,
+            means,
+            disk,
+        )?;
         Ok(Joined { parts })
     }
 
     /// Takes what this replica and another hold together in the place of what it held. It takes no memory.
     pub fn commit(&mut self, joined: Joined)
-        requires { (other : Parts) × AreHeldParts self.old.query other
-            × JoinedAside self.old.query self.old.parts other joined }
+        requires { (honest : Bool) × (other : Parts) × AreHeldParts self.old.query other
+            × JoinedAside honest self.old.query self.old.parts other joined }
         ensures query { self.new.query ≡ self.old.query }
-        ensures merges { (other : Parts) → AreHeldParts self.old.query other →
-            JoinedAside self.old.query self.old.parts other joined →
-            Merges self.old.query self.old.parts other self.new.parts }
-        ensures told { (other : Parts) → AreHeldParts self.old.query other →
-            JoinedAside self.old.query self.old.parts other joined →
+        ensures merges { (honest : Bool) (other : Parts) → AreHeldParts self.old.query other →
+            JoinedAside honest self.old.query self.old.parts other joined →
+            Merges honest self.old.query self.old.parts other self.new.parts }
+        ensures told { (honest : Bool) (other : Parts) → AreHeldParts self.old.query other →
+            JoinedAside honest self.old.query self.old.parts other joined →
             told self.new.parts ≡ union (told self.old.parts) (told other) }
-        ensures fits { (other : Parts) → AreHeldParts self.old.query other →
-            JoinedAside self.old.query self.old.parts other joined → (world : World) →
+        ensures fits { (honest : Bool) → IsTrue honest → (other : Parts) → AreHeldParts self.old.query other →
+            JoinedAside honest self.old.query self.old.parts other joined → (world : World) →
             IsWorld (kinds self.old.query.columns) world → Fits world self.old →
             Fits world (record { query = self.old.query; parts = other }) →
             Fits world self.new }
@@ -201,13 +231,18 @@ impl Replica {
     /// Takes what another replica holds beside what this one does: afterwards it knows what either knew. The other must answer the same
     /// query over the same schema, else `DifferentQuery` is told, and hold no other batch of a number, as far as that can still be
     /// seen, else `OriginDisagrees`. A refused merge changes nothing.
-    pub fn merge(&mut self, other: &Replica) -> Result<(), MergeError>
+    pub fn merge<H: KeyHash + Copy, D: TapeDisk>(
+        &mut self,
+        other: &Replica,
+        means: &Means<H>,
+        disk: &mut D,
+    ) -> Result<(), MergeError>
         ensures query { self.new.query ≡ self.old.query }
         ensures merges { OnOk result
-            (Merges self.old.query self.old.parts other.now.parts self.new.parts) }
+            (Merges (D.honest disk.old) self.old.query self.old.parts other.now.parts self.new.parts) }
         ensures told { OnOk result (told self.new.parts
             ≡ union (told self.old.parts) (told other.now.parts)) }
-        ensures fits { OnOk result ((world : World) → IsWorld (kinds self.old.query.columns) world →
+        ensures fits { OnOk result (IsTrue (D.honest disk.old) → (world : World) → IsWorld (kinds self.old.query.columns) world →
             Fits world self.old → Fits world other.now → Fits world self.new) }
         ensures refused { OnErr result (self.new ≡ self.old) }
         ensures different { IfErr result (λ e. e ≡ DifferentQuery →
@@ -220,8 +255,11 @@ impl Replica {
             DisagreeSomewhere self.old.parts other.now.parts) }
         ensures agree { IfErr result (λ e. e ≡ OriginDisagrees → (world : World) →
             Fits world self.old → Fits world other.now → ⊥) }
+        ensures over { IfErr result
+            (IsMergeErrorOver (D.honest disk.old) (D.failures disk.old) (D.failures disk.new)) }
+        ensures disk { Moves (D.failures disk.old) (D.failures disk.new) (D.writes disk.old) (D.writes disk.new) (D.honest disk.old) (D.honest disk.new) }
     {
-        let joined = self.join(other)?;
+        let joined = self.join(other, means, disk)?;
         self.commit(joined);
         Ok(())
     }

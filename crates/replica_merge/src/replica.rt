@@ -12,16 +12,19 @@ ghost use Rattle.grouping_model.specs.World.{World, IsWorld, knows, learn, prefi
 ghost use Rattle.packed_rows.specs.Columns.{kinds};
 ghost use Rattle.batch_reader.specs.Rows.{ArePackedRows, packings};
 ghost use Rattle.having_filter.specs.Meaning.{meaning};
-ghost use Rattle.hash_agg.specs.Inputs.{Counted, brought, all_rows, IsInput, IsAggregate};
+ghost use Rattle.hash_agg.specs.Inputs.{Counted, brought, all_rows, IsInput, IsAggregate, IsRunOver};
 ghost use Rattle.hash_agg.specs.Standing.{IsRun};
 ghost use Rattle.origin_prefix.specs.Parts.{IsPartOf, Disagrees};
-ghost use Rattle.origin_prefix.specs.declared.error.JoinError.TheVariants.{NoMemory, OriginDisagrees};
+ghost use Rattle.origin_prefix.specs.Errors.{IsErrorOver};
+ghost use Rattle.origin_prefix.specs.declared.error.JoinError.TheVariants.{OriginDisagrees};
+ghost use Rattle.spill_lists.specs.Standing.{Moves, IsReadRefusal};
+ghost use Rattle.spill_lists.specs.declared.error.SpillError.TheVariants.{TapeDamaged};
 ghost use Rattle.replica_merge.specs.Replicas.{part_at, part_of, told, Fits, AreHeldParts, DeliveredTo, known_of, known_part, counted_part};
 
 use crate::known::Known;
 use crate::showing::show;
 use batch_reader::{Batch, PackedRows};
-use hash_agg::{Input, Run, aggregate, fold};
+use hash_agg::{Input, KeyHash, Means, Run, SpillError, TapeDisk, aggregate, fold};
 use having_filter::{Answer, Query};
 use origin_prefix::{Delivered, JoinError, OriginPart, RefusedBatch, most_rows};
 use std::alloc::{AllocError, Global};
@@ -94,53 +97,72 @@ fn part_inputs(
 }
 
 /// The groups of a run, which stand already, with those of others.
-fn with_others(
+fn with_others<H: KeyHash + Copy, D: TapeDisk>(
     alloc: Global,
     query: &Query,
     run: &Run,
     rows: u64,
     others: &[Input<'_>],
-) -> Result<Run, AllocError>
+    means: &Means<H>,
+    disk: &mut D,
+) -> Result<Run, SpillError>
     requires run { IsRun (meaning query.now) rows run.now }
     requires inputs { AllByRecursion (IsInput (meaning query.now)) (map brought others.now) }
     requires few { rows + all_rows (map brought others.now) < 2 ^ 57 }
-    ensures { IfOk result (IsAggregate (meaning query.now)
+    ensures aggregate { IfOk result (λ all. IsTrue (D.honest disk.old) →
+        IsAggregate (meaning query.now) (Counted run.now rows ∷ map brought others.now) all) }
+    ensures run { IfOk result (IsRunOver (meaning query.now)
         (Counted run.now rows ∷ map brought others.now)) }
+    ensures undamaged { IfErr result (λ error. IsTrue (D.honest disk.old) → error ≢ TapeDamaged) }
+    ensures refused { IfErr result (IsReadRefusal (D.failures disk.old) (D.failures disk.new)) }
+    ensures disk { Moves (D.failures disk.old) (D.failures disk.new) (D.writes disk.old) (D.writes disk.new) (D.honest disk.old) (D.honest disk.new) }
 {
     let mut all = run.try_clone(alloc)?;
-    fold(alloc, query, &mut all, rows, others)?;
+    fold(alloc, query, &mut all, rows, others, means, disk)?;
     Ok(all)
 }
 
 /// Takes a batch of an origin of which there is a part. A refused batch is handed back and changes nothing.
-fn deliver_to(
+fn deliver_to<H: KeyHash + Copy, D: TapeDisk>(
     query: &Query,
     parts: &mut BTreeMap<u16, OriginPart>,
     batch: Batch,
+    means: &Means<H>,
+    disk: &mut D,
 ) -> Result<Delivered, RefusedBatch>
     requires there { IsSome (part_at parts.old.entries batch.origin) }
     requires part { IsPartOf query.now (part_of parts.old.entries batch.origin) }
     requires number { (1 ≤ batch.number) × (batch.number ≤ LAST_NUMBER) }
     requires rows { ArePackedRows (kinds query.now.columns) batch.rows }
-    ensures { DeliveredTo query.now parts.old.entries batch parts.new.entries result }
+    ensures delivered { DeliveredTo (D.honest disk.old) query.now parts.old.entries batch
+        parts.new.entries result }
+    ensures over { IfErr result (λ e. IsErrorOver (D.honest disk.old) (D.failures disk.old)
+        (D.failures disk.new) e.why) }
+    ensures disk { Moves (D.failures disk.old) (D.failures disk.new) (D.writes disk.old) (D.writes disk.new) (D.honest disk.old) (D.honest disk.new) }
 {
     match parts.get_mut(&batch.origin) {
-        Some(part) => part.deliver(query, batch),
+        Some(part) => part.deliver(query, batch, means, disk),
         None => unreachable!(),
     }
 }
 
 /// Takes a batch of an origin of which there is no part yet.
-fn deliver_first(
+fn deliver_first<H: KeyHash + Copy, D: TapeDisk>(
     alloc: Global,
     query: &Query,
     parts: &mut BTreeMap<u16, OriginPart>,
     batch: Batch,
+    means: &Means<H>,
+    disk: &mut D,
 ) -> Result<Delivered, RefusedBatch>
     requires none { part_at parts.old.entries batch.origin ≡ None }
     requires number { (1 ≤ batch.number) × (batch.number ≤ LAST_NUMBER) }
     requires rows { ArePackedRows (kinds query.now.columns) batch.rows }
-    ensures { DeliveredTo query.now parts.old.entries batch parts.new.entries result }
+    ensures delivered { DeliveredTo (D.honest disk.old) query.now parts.old.entries batch
+        parts.new.entries result }
+    ensures over { IfErr result (λ e. IsErrorOver (D.honest disk.old) (D.failures disk.old)
+        (D.failures disk.new) e.why) }
+    ensures disk { Moves (D.failures disk.old) (D.failures disk.new) (D.writes disk.old) (D.writes disk.new) (D.honest disk.old) (D.honest disk.new) }
 {
     let origin = batch.origin;
     // The part has its place before the batch is taken, so that a batch is never lost.
@@ -148,7 +170,7 @@ fn deliver_first(
         let why = JoinError::NoMemory;
         return Err(RefusedBatch { batch, why });
     }
-    match deliver_to(query, parts, batch) {
+    match deliver_to(query, parts, batch, means, disk) {
         Ok(delivered) => Ok(delivered),
         Err(refused) => {
             parts.remove(&origin);
@@ -158,21 +180,27 @@ fn deliver_first(
 }
 
 /// Takes a batch to the part of its origin, which is made where there is none yet.
-fn deliver_in(
+fn deliver_in<H: KeyHash + Copy, D: TapeDisk>(
     alloc: Global,
     query: &Query,
     parts: &mut BTreeMap<u16, OriginPart>,
     batch: Batch,
+    means: &Means<H>,
+    disk: &mut D,
 ) -> Result<Delivered, RefusedBatch>
     requires held { AreHeldParts query.now parts.old.entries }
     requires number { (1 ≤ batch.number) × (batch.number ≤ LAST_NUMBER) }
     requires rows { ArePackedRows (kinds query.now.columns) batch.rows }
-    ensures { DeliveredTo query.now parts.old.entries batch parts.new.entries result }
+    ensures delivered { DeliveredTo (D.honest disk.old) query.now parts.old.entries batch
+        parts.new.entries result }
+    ensures over { IfErr result (λ e. IsErrorOver (D.honest disk.old) (D.failures disk.old)
+        (D.failures disk.new) e.why) }
+    ensures disk { Moves (D.failures disk.old) (D.failures disk.new) (D.writes disk.old) (D.writes disk.new) (D.honest disk.old) (D.honest disk.new) }
 {
     if parts.contains_key(&batch.origin) {
-        return deliver_to(query, parts, batch);
+        return deliver_to(query, parts, batch, means, disk);
     }
-    deliver_first(alloc, query, parts, batch)
+    deliver_first(alloc, query, parts, batch, means, disk)
 }
 
 impl Replica {
@@ -225,9 +253,14 @@ impl Replica {
 
     /// Takes a batch of the query's table, with an origin from 0 to 1,023, a number from 1 to 2,147,483,647 and at most
     /// 65,536 rows. A number that is known already changes nothing; one next to its origin's unbroken prefix is folded
-    /// with the early ones that follow without a gap; any other is kept until then. A refused batch is handed back and changes
-    /// nothing: for want of memory, or since its number is kept early with other rows.
-    pub fn deliver(&mut self, batch: Batch) -> Result<Delivered, RefusedBatch>
+    /// with the early ones that follow without a gap, by `means` and over a disk; any other is kept until then. A refused batch is
+    /// handed back and changes nothing: for want of memory, since its number is kept early with other rows, or by the disk.
+    pub fn deliver<H: KeyHash + Copy, D: TapeDisk>(
+        &mut self,
+        batch: Batch,
+        means: &Means<H>,
+        disk: &mut D,
+    ) -> Result<Delivered, RefusedBatch>
         requires limits { InLimits (batch.origin, batch.number) }
         requires rows { ArePackedRows (kinds self.old.query.columns) batch.rows }
         ensures query { self.new.query ≡ self.old.query }
@@ -235,8 +268,8 @@ impl Replica {
             ≡ reply_of (told self.old.parts) (batch.origin, batch.number)) }
         ensures told { OnOk result (told self.new.parts
             ≡ learn (told self.old.parts) (batch.origin, batch.number)) }
-        // A replica that fits a world whose batch this is fits it still.
-        ensures fits { OnOk result ((world : World) (those : List Row) →
+        // Over an honest disk, a replica that fits a world whose batch this is fits it still.
+        ensures fits { OnOk result (IsTrue (D.honest disk.old) → (world : World) (those : List Row) →
             IsWorld (kinds self.old.query.columns) world → Fits world self.old →
             world batch.origin batch.number ≡ Some those → batch.rows ≡ packings those →
             Fits world self.new) }
@@ -246,42 +279,66 @@ impl Replica {
         // Disagreement is told wherever there is one.
         ensures agreed { IfOk result (λ _.
             ¬ (Disagrees (part_of self.old.parts batch.origin) batch.number batch.rows)) }
-        // For a number that is known already memory is never wanting.
-        ensures memory { IfErr result (λ e. e.why ≡ NoMemory →
+        // A number that is known already is refused for nothing else.
+        ensures unknown { IfErr result (λ e. e.why ≢ OriginDisagrees →
             knows (told self.old.parts) (batch.origin, batch.number) ≡ false) }
         // Such a world's batch never disagrees.
         ensures agrees { IfErr result (λ e. e.why ≡ OriginDisagrees →
             (world : World) (those : List Row) → Fits world self.old →
             world batch.origin batch.number ≡ Some those → batch.rows ≢ packings those) }
+        ensures over { IfErr result (λ e. IsErrorOver (D.honest disk.old) (D.failures disk.old)
+            (D.failures disk.new) e.why) }
+        ensures disk { Moves (D.failures disk.old) (D.failures disk.new) (D.writes disk.old) (D.writes disk.new) (D.honest disk.old) (D.honest disk.new) }
     {
-        deliver_in(self.alloc, &self.query, &mut self.parts, batch)
+        deliver_in(self.alloc, &self.query, &mut self.parts, batch, means, disk)
     }
 
     /// The groups of the rows of all unbroken prefixes.
-    fn groups(&self) -> Result<Run, AllocError>
-        ensures { IfOk result (IsAggregate (meaning self.now.query)
+    fn groups<H: KeyHash + Copy, D: TapeDisk>(
+        &self,
+        means: &Means<H>,
+        disk: &mut D,
+    ) -> Result<Run, SpillError>
+        ensures aggregate { IfOk result (λ run. IsTrue (D.honest disk.old) →
+            IsAggregate (meaning self.now.query) (map counted_part self.now.parts) run) }
+        ensures run { IfOk result (IsRunOver (meaning self.now.query)
             (map counted_part self.now.parts)) }
+        ensures undamaged { IfErr result (λ error. IsTrue (D.honest disk.old) → error ≢ TapeDamaged) }
+        ensures refused { IfErr result (IsReadRefusal (D.failures disk.old) (D.failures disk.new)) }
+        ensures disk { Moves (D.failures disk.old) (D.failures disk.new) (D.writes disk.old) (D.writes disk.new) (D.honest disk.old) (D.honest disk.new) }
     {
         let inputs = part_inputs(self.alloc, &self.parts)?;
         match inputs.as_slice().split_first() {
             Some((Input::Groups { run, rows }, others)) => {
-                with_others(self.alloc, &self.query, run, *rows, others)
+                with_others(self.alloc, &self.query, run, *rows, others, means, disk)
             }
-            _ => aggregate(self.alloc, &self.query, &inputs),
+            _ => aggregate(self.alloc, &self.query, &inputs, means, disk),
         }
     }
 
     /// The answer of the query over the rows of the unbroken prefixes, in the order of its keys: a row of the query's
-    /// items for each group of which HAVING is true. Without GROUP BY there is one group, over no rows too. The only
-    /// error is a failed allocation.
-    pub fn answer(&self) -> Result<Answer, AllocError>
+    /// items for each group of which HAVING is true. Without GROUP BY there is one group, over no rows too. The groups of several
+    /// origins are aggregated by `means` and over a disk.
+    ///
+    /// # Errors
+    ///
+    /// `NoMemory`; `TapeFault` where the disk failed; `TapeDamaged` where it gave back what was not written to it.
+    pub fn answer<H: KeyHash + Copy, D: TapeDisk>(
+        &self,
+        means: &Means<H>,
+        disk: &mut D,
+    ) -> Result<Answer, SpillError>
         ensures width { IfOk result (All (λ row. length row
             ≡ length (meaning self.now.query).items)) }
-        ensures answer { IfOk result (λ rows. (world : World) →
+        ensures answer { IfOk result (λ rows. IsTrue (D.honest disk.old) → (world : World) →
             IsWorld (kinds self.now.query.columns) world → Fits world self.now →
             rows ≡ answer (meaning self.now.query) world (told self.now.parts)) }
+        ensures undamaged { IfErr result (λ error. IsTrue (D.honest disk.old) → error ≢ TapeDamaged) }
+        ensures refused { IfErr result (IsReadRefusal (D.failures disk.old) (D.failures disk.new)) }
+        ensures disk { Moves (D.failures disk.old) (D.failures disk.new) (D.writes disk.old) (D.writes disk.new) (D.honest disk.old) (D.honest disk.new) }
     {
-        let run = self.groups()?;
-        show(self.alloc, &self.query, run)
+        let run = self.groups(means, disk)?;
+        let answer = show(self.alloc, &self.query, run)?;
+        Ok(answer)
     }
 }

@@ -2,7 +2,7 @@ ghost use Rattle.std.specs.Prelude.{IfOk};
 ghost use Rattle.origin_prefix.specs.Parts.{IsPartOf};
 
 use crate::fixtures::{batch, of_towns, shown_refusal};
-use hash_agg::Run;
+use hash_agg::{Fnv1a, Means, MemDisk, Run};
 use having_filter::Query;
 use origin_prefix::OriginPart;
 use std::collections::BTreeMap;
@@ -15,7 +15,12 @@ fn reply(rt: HostRuntime, query: &Query, part: &mut OriginPart, told: &str) -> R
     ensures { IsPartOf query.now part.new }
 {
     match batch(rt, query, told) {
-        Ok(batch) => match part.deliver(query, batch) {
+        Ok(batch) => match part.deliver(
+            query,
+            batch,
+            &Means::usual(Fnv1a),
+            &mut MemDisk::new(rt.alloc()),
+        ) {
             Ok(delivered) => Ok(format!(in rt.alloc(); "{delivered:?}; ")?),
             Err(refused) => shown_refusal(rt, &refused),
         },
@@ -138,7 +143,12 @@ fn joined(
     requires one { IsPartOf query.now one.now }
     requires other { IsPartOf query.now other.now }
 {
-    match one.join(other, query) {
+    match one.join(
+        other,
+        query,
+        &Means::usual(Fnv1a),
+        &mut MemDisk::new(rt.alloc()),
+    ) {
         Ok(part) => {
             let shown = shown(rt, &part);
             drop(part);

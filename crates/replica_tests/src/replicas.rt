@@ -1,4 +1,5 @@
 use crate::fixtures::{COLUMNS, TOWNS, batch, query, shown_refusal};
+use hash_agg::{Fnv1a, Means, MemDisk};
 use having_filter::Answer;
 use replica_merge::Replica;
 use std::test::*;
@@ -28,7 +29,11 @@ pub(crate) fn of_replica<F: FnOnce(HostRuntime, &mut Replica, &str) -> Result<St
 /// What is replied to a batch, and where it is refused, the batch that is handed back.
 fn reply(rt: HostRuntime, replica: &mut Replica, told: &str) -> Result<String, Fail> {
     match batch(rt, replica.query(), told) {
-        Ok(batch) => match replica.deliver(batch) {
+        Ok(batch) => match replica.deliver(
+            batch,
+            &Means::usual(Fnv1a),
+            &mut MemDisk::new(rt.alloc()),
+        ) {
             Ok(delivered) => Ok(format!(in rt.alloc(); "{delivered:?}; ")?),
             Err(refused) => shown_refusal(rt, &refused),
         },
@@ -72,7 +77,7 @@ fn values(rt: HostRuntime, answer: &Answer) -> Result<String, Fail> {
 
 /// The values of a replica's answer.
 fn answered(rt: HostRuntime, replica: &Replica) -> Result<String, Fail> {
-    let answer = replica.answer()?;
+    let answer = replica.answer(&Means::usual(Fnv1a), &mut MemDisk::new(rt.alloc()))?;
     let values = values(rt, &answer);
     drop(answer);
     values
@@ -136,7 +141,7 @@ fn merged_with(
     batches: &str,
 ) -> Result<String, Fail> {
     replies(rt, other, batches)?;
-    let became = own.merge(other);
+    let became = own.merge(other, &Means::usual(Fnv1a), &mut MemDisk::new(rt.alloc()));
     let shown = shown(rt, own)?;
     Ok(format!(in rt.alloc(); "{became:?}; {shown}")?)
 }
@@ -182,7 +187,7 @@ fn replicas_merge(rt: HostRuntime) -> Result<(), Fail> {
 fn stays(rt: HostRuntime, replica: &mut Replica, batches: &str) -> Result<String, Fail> {
     replies(rt, replica, batches)?;
     let before = shown(rt, replica)?;
-    let joined = replica.join(replica)?;
+    let joined = replica.join(replica, &Means::usual(Fnv1a), &mut MemDisk::new(rt.alloc()))?;
     replica.commit(joined);
     let after = shown(rt, replica)?;
     Ok(format!(in rt.alloc(); "{}", before == after)?)

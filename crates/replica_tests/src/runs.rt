@@ -7,7 +7,7 @@ ghost use Rattle.packed_rows.specs.View.{bytes_of};
 
 use crate::fixtures::{of_towns, records};
 use batch_reader::{PackedRows, build_batch};
-use hash_agg::{Input, Run, aggregate, first_states, fold};
+use hash_agg::{Fnv1a, Input, Means, MemDisk, Run, aggregate, first_states, fold};
 use having_filter::Query;
 use hex::encode;
 use std::test::*;
@@ -40,7 +40,13 @@ fn groups(rt: HostRuntime, query: &Query, told: u32, lines: &str) -> Result<Run,
     ensures { IfOk result (λ run. IsRun (meaning query.now) told run) }
 {
     let rows = packed(rt, query, told, lines)?;
-    Ok(aggregate(rt.alloc(), query, &[Input::Flat(&rows)])?)
+    Ok(aggregate(
+        rt.alloc(),
+        query,
+        &[Input::Flat(&rows)],
+        &Means::usual(Fnv1a),
+        &mut MemDisk::new(rt.alloc()),
+    )?)
 }
 
 /// The bytes of the keys and of the states of a run's groups.
@@ -66,7 +72,11 @@ fn groups_of_three(rt: HostRuntime, query: &Query, lines: &str) -> Result<String
         },
         Input::Rows(&late),
     ];
-    shown(rt, &aggregate(rt.alloc(), query, &inputs)?)
+    let (means, mut disk) = (Means::usual(Fnv1a), MemDisk::new(rt.alloc()));
+    shown(
+        rt,
+        &aggregate(rt.alloc(), query, &inputs, &means, &mut disk)?,
+    )
 }
 
 #[test]
@@ -112,7 +122,16 @@ fn give(
 {
     let rows = packed(rt, query, told, lines)?;
     let more = [Input::Flat(&rows)];
-    Ok(fold(rt.alloc(), query, run, u64::from(most), &more)?)
+    let (means, mut disk) = (Means::usual(Fnv1a), MemDisk::new(rt.alloc()));
+    Ok(fold(
+        rt.alloc(),
+        query,
+        run,
+        u64::from(most),
+        &more,
+        &means,
+        &mut disk,
+    )?)
 }
 
 /// The groups of three rows and of three more behind a `|`.

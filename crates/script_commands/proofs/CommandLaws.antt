@@ -6,8 +6,8 @@ use Rattle.std.proofs.lemmas.Str.{is_utf8-from_IsUtf8, IsUtf8-from_is_utf8}
 use Rattle.std.specs.Option.{option_map_or}
 use Rattle.std.specs.Str.{bytes_eq, is_utf8}
 use Rattle.script_io.specs.Records.{Record}
-use Rattle.script_io.specs.RowCount.{row_count}
-use Rattle.script_commands.specs.Commands.{Request, Feed, Unknown, command_at, commands_after, commands_of, feed_request, is_name, name_request, names_request, one_field, owned_by, owned_rows, request_of, two_fields}
+use Rattle.script_io.specs.Digits.{row_count, limit_told}
+use Rattle.script_commands.specs.Commands.{Request, Limit, Feed, Unknown, command_at, commands_after, commands_of, feed_request, is_name, name_request, names_request, one_field, owned_by, owned_rows, request_of, two_fields}
 
 pub request_two : (fields : Record) → length fields ≡ 2 → request_of fields ≡ one_field (get_or fields 0 []) (get_or fields 1 [])
 unfolding request_of
@@ -107,11 +107,16 @@ name_no_feed word name =
     (either_no_feed (bytes_eq word (codes "known")) _ _ (λ n o m t e. cc)
     (either_no_feed (bytes_eq word (codes "answer")) _ _ (λ n o m t e. cc) unknown_no_feed))
 
+limit_no_feed : (bytes : Option ℕ) → IsNoFeed (option_map_or Limit bytes Unknown)
+limit_no_feed None name origin number told e = cc
+limit_no_feed (Some n) name origin number told e = cc
+
 one_no_feed : (word field : List ℕ) → IsNoFeed (one_field word field)
 one_no_feed word field =
     either_no_feed (bytes_eq word (codes "columns")) _ _ (either_no_feed (is_utf8 field) _ _ (λ n o m t e. cc) unknown_no_feed)
     (either_no_feed (bytes_eq word (codes "query")) _ _ (either_no_feed (is_utf8 field) _ _ (λ n o m t e. cc) unknown_no_feed)
-    (either_no_feed (is_name field) _ _ (name_no_feed word field) unknown_no_feed))
+    (either_no_feed (bytes_eq word (codes "limit")) _ _ (limit_no_feed (limit_told field))
+    (either_no_feed (is_name field) _ _ (name_no_feed word field) unknown_no_feed)))
 
 names_no_feed : (word name other : List ℕ) → IsNoFeed (names_request word name other)
 names_no_feed word name other =

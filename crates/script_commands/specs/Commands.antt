@@ -6,12 +6,13 @@ use Rattle.std.specs.Char.{is_ascii_alphanumeric}
 use Rattle.std.specs.Option.{option_map_or}
 use Rattle.grouping_model.specs.declared.limits.TheConstants.{LONGEST_NAME}
 use Rattle.script_io.specs.Records.{Record}
-use Rattle.script_io.specs.RowCount.{row_count}
+use Rattle.script_io.specs.Digits.{row_count, limit_told}
 
 -- what a command asks
 pub data Request : Type 0 where
   Columns : (text : List ℕ) → Request
   Query : (text : List ℕ) → Request
+  Limit : (bytes : ℕ) → Request
   Replica : (name : List ℕ) → Request
   Feed : (name origin number : List ℕ) (told : ℕ) → Request
   Known : (name : List ℕ) → Request
@@ -45,6 +46,7 @@ abbrev pub one_field : List ℕ → List ℕ → Request
 one_field word field =
     if bytes_eq word (codes "columns") then (if is_utf8 field then Columns field else Unknown) else
     if bytes_eq word (codes "query") then (if is_utf8 field then Query field else Unknown) else
+    if bytes_eq word (codes "limit") then option_map_or Limit (limit_told field) Unknown else
     if is_name field then name_request word field else Unknown
 
 -- what a word and two names ask; a replica may be merged into itself

@@ -7,6 +7,7 @@ use Rattle.script_commands.specs.declared.request.Request.TheVariants as r
 abbrev pub request_view : Request → ask.Request
 request_view (r.Columns text) = ask.Columns text.now
 request_view (r.Query text) = ask.Query text.now
+request_view (r.Limit bytes) = ask.Limit bytes
 request_view (r.Replica name) = ask.Replica name.now
 request_view (r.Feed name origin number told) = ask.Feed name.now origin.now number.now told
 request_view (r.Known name) = ask.Known name.now

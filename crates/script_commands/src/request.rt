@@ -9,7 +9,7 @@ ghost use Rattle.script_commands.specs.Views.{request_view};
 
 use csv::ByteRecord;
 use grouping_model::limits::LONGEST_NAME;
-use script_io::{field, read_row_count};
+use script_io::{field, read_limit, read_row_count};
 use std::str;
 
 /// What a command asks. Names are 1 to 63 ASCII letters, digits or `_`.
@@ -19,6 +19,8 @@ pub enum Request<'c> {
     Columns(&'c str),
     /// `query,TEXT`: the query that replicas answer.
     Query(&'c str),
+    /// `limit,BYTES`: the most bytes of blocks that the table of an aggregation may take. BYTES is 1 to 19 digits.
+    Limit(u64),
     /// `replica,NAME`: a new replica of this name.
     Replica(&'c [u8]),
     /// `feed,NAME,ORIGIN,NUMBER,ROWS`: a batch for a replica. How many rows it tells is 1 to 9 digits.
@@ -47,7 +49,7 @@ pub enum Request<'c> {
         name: &'c [u8],
         saved: &'c [u8],
     },
-    /// None of these: another word, a wrong number of fields, a text that isn't UTF-8, a bad name or number of rows.
+    /// None of these: another word, a wrong number of fields, a text that isn't UTF-8, a bad name, number of rows or limit.
     Unknown,
 }
 
@@ -105,6 +107,11 @@ fn ask_of_one<'c>(word: &[u8], field: &'c [u8]) -> Request<'c>
     } else if word == b"query".as_slice() {
         match as_text(field) {
             Some(text) => Request::Query(text),
+            None => Request::Unknown,
+        }
+    } else if word == b"limit".as_slice() {
+        match read_limit(field) {
+            Some(bytes) => Request::Limit(bytes),
             None => Request::Unknown,
         }
     } else if is_legal_name(field) {

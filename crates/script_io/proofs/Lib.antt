@@ -1,5 +1,5 @@
 pub mod InputFacts
 pub mod RecordFacts
-pub mod RowCountFacts
+pub mod DigitFacts
 pub mod ListFacts
 pub mod OutputFacts

@@ -1,5 +1,5 @@
 pub mod Input
 pub mod Records
-pub mod RowCount
+pub mod Digits
 pub mod Left
 pub mod Output

@@ -3,14 +3,14 @@
 //! fault the caller knows what was written.
 #![tactic(auto)]
 
+mod digits;
 mod input;
 mod laws;
 mod output;
 mod records;
-mod row_count;
 
+pub use digits::{read_limit, read_row_count};
 pub use input::{InputError, read_input};
 pub use laws::{fronts_range, reads_are_whole, records_are_few, writes_compose};
 pub use output::{WriteFault, put_all};
 pub use records::{Records, field};
-pub use row_count::read_row_count;

@@ -85,6 +85,7 @@ is_world feds columns all o n rows there =
 agrees_reply : (feds : List Fed) (reply : Reply) → ColumnsOf feds reply → AgreesWith (world_of feds) reply
 agrees_reply feds (machine.Has_columns columns) of = is_world feds columns of
 agrees_reply feds (machine.Has_query q) of = tt
+agrees_reply feds (machine.Has_limit n) of = tt
 agrees_reply feds (machine.Created n) of = tt
 agrees_reply feds (machine.Took n f d) of = tt
 agrees_reply feds (machine.Merged i j) of = tt
@@ -97,6 +98,7 @@ agrees_reply feds (machine.Refused w) of = tt
 agrees_feed : (feds : List Fed) → OneBatchEach feds → (old : State) (request : Request) (owned : List Record) → FeedsAmong feds old request owned → FeedAgrees (world_of feds) old request owned
 agrees_feed feds one old (ask.Columns text) owned among = tt
 agrees_feed feds one old (ask.Query text) owned among = tt
+agrees_feed feds one old (ask.Limit bytes) owned among = tt
 agrees_feed feds one old (ask.Replica name) owned among = tt
 agrees_feed feds one old (ask.Known name) owned among = tt
 agrees_feed feds one old (ask.Answer name) owned among = tt

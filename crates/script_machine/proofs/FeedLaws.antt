@@ -1,5 +1,5 @@
 -- What a feed stands for.
-use Rattle.std.specs.Prelude.{◌≡◌, ◌≤◌, ℕ, suc, refl, List, [], ◌∷◌, length}
+use Rattle.std.specs.Prelude.{◌≡◌, ◌≤◌, ◌<◌, ◌+◌, ℕ, suc, refl, Bool, false, IsTrue, if◌then◌else◌, List, [], ◌∷◌, length}
 use Rattle.std.proofs.Common.{◌∙◌, ap, sym, arith}
 use Rattle.std.proofs.lemmas.List.{length-map}
 use Rattle.grouping_model.specs.Datum.{Kind, Row}
@@ -10,7 +10,16 @@ use Rattle.batch_reader.specs.Head.{ReadsOrigin, ReadsBatchNumber}
 use Rattle.batch_reader.specs.Rows.{ReadsRows, packings}
 use Rattle.origin_prefix.specs.declared.error.JoinError.{JoinError}
 use Rattle.origin_prefix.specs.declared.error.JoinError.TheVariants as join
+use Rattle.origin_prefix.specs.Errors.{IsErrorOver}
+use Rattle.spill_lists.specs.Standing.{IsReadRefusal}
+use Rattle.spill_lists.specs.declared.error.SpillError.{SpillError}
+use Rattle.spill_lists.specs.declared.error.SpillError.TheVariants as spill
+use Rattle.script_machine.specs.FileRefusals.{spill_refusal}
 use Rattle.script_machine.specs.Machine.{IsBatch, delivery_refusal}
+use Rattle.script_machine.specs.Views.{IsOfBatch, is_tape_fault, faults_in}
+use Rattle.script_machine.specs.declared.refusal.Refusal.{Refusal}
+use Rattle.script_machine.specs.declared.reply.Reply.{Reply}
+use Rattle.script_machine.specs.declared.reply.Reply.TheVariants as says
 use Rattle.script_machine.specs.declared.refusal.Refusal.TheVariants as refuse
 
 -- as many records as rows
@@ -38,3 +47,56 @@ built_batch ks origin number told records o n packed rows reads_o reads_n few co
 pub other_why : (why : JoinError) → delivery_refusal why ≡ refuse.OriginDisagrees → why ≡ join.OriginDisagrees
 other_why join.NoMemory e = cc
 other_why join.OriginDisagrees e = refl
+other_why join.TapeFault e = cc
+other_why join.TapeDamaged e = cc
+
+-- what a refusal tells of the disk of tapes, from why a batch was not taken
+pub fault_told : (honest : Bool) (before after : ℕ) (why : JoinError) → IsErrorOver honest before after why → delivery_refusal why ≡ refuse.TapeFault → before < after
+fault_told honest before after join.NoMemory told e = cc
+fault_told honest before after join.OriginDisagrees told e = cc
+fault_told honest before after join.TapeFault told e = told
+fault_told honest before after join.TapeDamaged told e = cc
+
+pub never_damaged : (honest : Bool) (before after : ℕ) (why : JoinError) → IsErrorOver honest before after why → IsTrue honest → delivery_refusal why ≡ refuse.TapeDamaged → ⊥
+never_damaged honest before after join.NoMemory told so e = cc
+never_damaged honest before after join.OriginDisagrees told so e = cc
+never_damaged honest before after join.TapeFault told so e = cc
+never_damaged honest before after join.TapeDamaged told so e = told so
+
+-- one that is of the batch isn't one of these
+pub not_of_batch : (why : JoinError) → IsOfBatch (delivery_refusal why) → ⊥
+not_of_batch join.NoMemory of = of
+not_of_batch join.OriginDisagrees of = of
+not_of_batch join.TapeFault of = of
+not_of_batch join.TapeDamaged of = of
+
+-- ---- replies that tell a fault of the disk
+
+-- a reply that tells none
+pub no_fault_in : (before after : ℕ) (reply : Reply) → is_tape_fault reply ≡ false → before ≤ after → before + faults_in reply ≤ after
+no_fault_in before after reply none low =
+    let zero : faults_in reply ≡ 0 = ap (λ b. if b then 1 else 0) none in
+    omega (arith, zero, low)
+
+-- a refusal that tells one only where the disk failed
+pub fault_refused : (before after : ℕ) (refusal : Refusal) → before ≤ after → (refusal ≡ refuse.TapeFault → before < after) → before + faults_in (says.Refused refusal) ≤ after
+fault_refused before after refuse.TapeFault low fault = let high : before < after = fault refl in omega (arith, high)
+fault_refused before after refuse.NoMemory low fault = omega (arith, low)
+fault_refused before after refuse.BadSchema low fault = omega (arith, low)
+fault_refused before after refuse.LimitOutOfRange low fault = omega (arith, low)
+fault_refused before after (refuse.Query error) low fault = omega (arith, low)
+fault_refused before after (refuse.Batch error) low fault = omega (arith, low)
+fault_refused before after (refuse.Summary error) low fault = omega (arith, low)
+fault_refused before after refuse.DifferentQuery low fault = omega (arith, low)
+fault_refused before after refuse.OriginDisagrees low fault = omega (arith, low)
+fault_refused before after refuse.TapeDamaged low fault = omega (arith, low)
+fault_refused before after (refuse.Run error) low fault = omega (arith, low)
+fault_refused before after refuse.BadCommand low fault = omega (arith, low)
+fault_refused before after refuse.NoSuchName low fault = omega (arith, low)
+fault_refused before after refuse.NameTaken low fault = omega (arith, low)
+
+-- an answer that is refused
+pub spill_fault : (before after : ℕ) (error : SpillError) (refusal : Refusal) → refusal ≡ spill_refusal error → IsReadRefusal before after error → refusal ≡ refuse.TapeFault → before < after
+spill_fault before after spill.NoMemory refusal is refused e = absurd (let f = sym is ∙ e in cc)
+spill_fault before after spill.TapeFault refusal is refused e = refused
+spill_fault before after spill.TapeDamaged refusal is refused e = absurd (let f = sym is ∙ e in cc)

@@ -1,5 +1,5 @@
 -- What the code keeps, before and after a command.
-use Rattle.std.specs.Prelude.{◌≡◌, ◌≢◌, ◌⊎◌, refl, ℕ, Bool, true, false, if◌then◌else◌, List, [], length, Option, Some, None, IfSome, option_map, unwrap_or, string_bytes}
+use Rattle.std.specs.Prelude.{◌≡◌, ◌≢◌, ◌<◌, ◌≤◌, ◌⊎◌, ◌&&◌, nat_le, refl, ℕ, Bool, true, false, if◌then◌else◌, List, [], length, Option, Some, None, IfSome, option_map, unwrap_or, string_bytes}
 use Rattle.std.proofs.Common.{◌∙◌, ap, sym, subst, inl, inr, arith}
 use Rattle.std.specs.declared.alloc.Global.{Global}
 use Rattle.std.specs.declared.vec.Vec.{Vec}
@@ -29,9 +29,13 @@ use Rattle.script_commands.specs.Commands as ask
 use Rattle.script_commands.specs.Commands.{Request}
 use Rattle.table_print.specs.Table.{table_text}
 use Rattle.script_machine.specs.Machine as machine
-use Rattle.script_machine.specs.Machine.{State, Fed, IsBatch, IsNoBatch, ColumnsReply, IsNoQuery, QueryReply, replica_reply, FeedReply, known_reply, answer_reply, merge_reply, save_reply, load_reply, Replies, IsReply, IsDisagreement, AgreesAt, FeedAgrees, after, with_replica}
+use Rattle.script_machine.specs.Machine.{State, Fed, IsBatch, IsNoBatch, ColumnsReply, IsNoQuery, QueryReply, limit_reply, replica_reply, FeedReply, known_reply, answer_reply, merge_reply, save_reply, load_reply, Replies, IsReply, IsDisagreement, AgreesAt, FeedAgrees, after, with_replica}
 use Rattle.script_machine.specs.Text.{line, known_text, answer_text}
-use Rattle.script_machine.specs.Views.{Store, IsStore, IsFileOf, AreSaved, IsFitting, Represents, FitsWorld, Answers, Steps, Takes, IsOtherBatch, JoinRefused, Updates, Files, replica_at, saved_at, knowledge_of, said_text}
+use Rattle.script_machine.specs.Views.{Store, IsStore, IsFileOf, AreSaved, IsFitting, Represents, FitsWorld, Answers, Steps, Takes, IsOfBatch, IsOtherBatch, JoinRefused, Updates, Files, replica_at, saved_at, knowledge_of, said_text}
+use Rattle.spill_lists.specs.declared.error.SpillError.{SpillError}
+use Rattle.spill_lists.specs.declared.error.SpillError.TheVariants as spill
+use Rattle.hash_agg.specs.declared.means.TheConstants.{LEAST_LIMIT, GREATEST_LIMIT}
+use Rattle.script_machine.specs.FileRefusals.{spill_refusal}
 use Rattle.script_machine.specs.declared.refusal.Refusal.{Refusal}
 use Rattle.script_machine.specs.declared.refusal.Refusal.TheVariants as why
 use Rattle.script_machine.specs.declared.reply.Reply.TheVariants as says
@@ -56,11 +60,11 @@ others_kept name other old new keeps different =
     keeps (λ (key : Vec ℕ Global). bytes_eq other key.items) (λ x y. alike other x.items y.items) (λ key. apart name other key.items different)
 
 -- a map that was updated at a name is a store that was
-pub updated : {S : Type 0} (columns : Option (List Column)) (query : Option Checked) (saved : List (Vec ℕ Global × Vec ℕ Global)) (name : List ℕ) (held : Held) (old new : HashMap (Vec ℕ Global) Held S)
+pub updated : {S : Type 0} (limit : ℕ) (columns : Option (List Column)) (query : Option Checked) (saved : List (Vec ℕ Global × Vec ℕ Global)) (name : List ℕ) (held : Held) (old new : HashMap (Vec ℕ Global) Held S)
     → UpdatesBy (λ (x y : Vec ℕ Global). bytes_eq x.items y.items) (λ (key : Vec ℕ Global). bytes_eq name key.items) old new (Some held)
-    → Updates (record { columns = columns; query = query; replicas = old.entries; saved = saved }) (record { columns = columns; query = query; replicas = new.entries; saved = saved }) name held
-updated columns query saved name held old new u =
-    record { columns = refl; query = refl; own = u.1; others = λ other. others_kept name other old.entries new.entries u.3; saved = refl }
+    → Updates (record { columns = columns; query = query; replicas = old.entries; saved = saved; limit = limit }) (record { columns = columns; query = query; replicas = new.entries; saved = saved; limit = limit }) name held
+updated limit columns query saved name held old new u =
+    record { columns = refl; query = refl; own = u.1; others = λ other. others_kept name other old.entries new.entries u.3; saved = refl; limit = refl }
 
 -- files that stay are found as they were
 files_at : (old new : Store) → new.saved ≡ old.saved → (name : List ℕ) → saved_at new name ≡ saved_at old name
@@ -118,28 +122,29 @@ pub record Same (old new : Store) : Type 0 where
   pub query : new.query ≡ old.query
   pub replicas : (name : List ℕ) → replica_at new name ≡ replica_at old name
   pub saved : (name : List ℕ) → saved_at new name ≡ saved_at old name
+  pub limit : new.limit ≡ old.limit
 
 pub same : (store : Store) → Same store store
-same store = record { columns = refl; query = refl; replicas = λ name. refl; saved = λ name. refl }
+same store = record { columns = refl; query = refl; replicas = λ name. refl; saved = λ name. refl; limit = refl }
 
 -- a replica that was replaced by itself
 pub same_updated : (old new : Store) (name : List ℕ) (held : Held) → Updates old new name held → replica_at old name ≡ Some held → Same old new
-same_updated old new name held u there = record { columns = u.columns; query = u.query; replicas = λ other. go other (bytes_eq name other) refl; saved = files_at old new u.saved }
+same_updated old new name held u there = record { columns = u.columns; query = u.query; replicas = λ other. go other (bytes_eq name other) refl; saved = files_at old new u.saved; limit = u.limit }
   where
     go : (other : List ℕ) (b : Bool) → bytes_eq name other ≡ b → replica_at new other ≡ replica_at old other
     go other true e = ap (replica_at new) (sym ((bytes_eq-Decides name other).0 e)) ∙ u.own ∙ sym there ∙ ap (replica_at old) ((bytes_eq-Decides name other).0 e)
     go other false e = u.others other e
 
 -- a map that is as it was
-pub same_entries : (columns : Option (List Column)) (query : Option Checked) (saved : List (Vec ℕ Global × Vec ℕ Global)) (old new : List (Vec ℕ Global × Held)) → new ≡ old
-    → Same (record { columns = columns; query = query; replicas = old; saved = saved }) (record { columns = columns; query = query; replicas = new; saved = saved })
-same_entries columns query saved old new e =
-    record { columns = refl; query = refl; replicas = λ name. ap (λ es. lookup (λ (key : Vec ℕ Global). bytes_eq name key.items) es) e; saved = λ name. refl }
+pub same_entries : (limit : ℕ) (columns : Option (List Column)) (query : Option Checked) (saved : List (Vec ℕ Global × Vec ℕ Global)) (old new : List (Vec ℕ Global × Held)) → new ≡ old
+    → Same (record { columns = columns; query = query; replicas = old; saved = saved; limit = limit }) (record { columns = columns; query = query; replicas = new; saved = saved; limit = limit })
+same_entries limit columns query saved old new e =
+    record { columns = refl; query = refl; replicas = λ name. ap (λ es. lookup (λ (key : Vec ℕ Global). bytes_eq name key.items) es) e; saved = λ name. refl; limit = refl }
 
-pub same_files : (columns : Option (List Column)) (query : Option Checked) (replicas : List (Vec ℕ Global × Held)) (old new : List (Vec ℕ Global × Vec ℕ Global)) → new ≡ old
-    → Same (record { columns = columns; query = query; replicas = replicas; saved = old }) (record { columns = columns; query = query; replicas = replicas; saved = new })
-same_files columns query replicas old new e =
-    record { columns = refl; query = refl; replicas = λ name. refl; saved = λ name. ap (λ es. lookup (λ (key : Vec ℕ Global). bytes_eq name key.items) es) e }
+pub same_files : (limit : ℕ) (columns : Option (List Column)) (query : Option Checked) (replicas : List (Vec ℕ Global × Held)) (old new : List (Vec ℕ Global × Vec ℕ Global)) → new ≡ old
+    → Same (record { columns = columns; query = query; replicas = replicas; saved = old; limit = limit }) (record { columns = columns; query = query; replicas = replicas; saved = new; limit = limit })
+same_files limit columns query replicas old new e =
+    record { columns = refl; query = refl; replicas = λ name. refl; saved = λ name. ap (λ es. lookup (λ (key : Vec ℕ Global). bytes_eq name key.items) es) e; limit = refl }
 
 still : (state : State) (old new : Store) → Same old new → Represents state old → Represents state new
 still state old new s r =
@@ -148,6 +153,7 @@ still state old new s r =
       query = r.query ∙ sym s.query;
       replicas = λ name. r.replicas name ∙ ap (option_map knowledge_of) (sym (s.replicas name));
       saved = λ name. subst (AreSaved (state.saved name)) (sym (s.saved name)) (r.saved name);
+      limit = r.limit ∙ sym s.limit;
     }
 
 still_fits : (world : World) (old new : Store) → Same old new → FitsWorld world old → FitsWorld world new
@@ -170,16 +176,17 @@ refused_for request owned old new refusal s may =
         strict = λ world f agrees. may state r;
         represents = still state old new s r;
         refused = refl;
+        faulted = refl;
         fits = λ world f agrees. still_fits world old new s f;
         text = λ world f agrees. refl;
       };
     }
 
 pub no_memory_same : (request : Request) (owned : List Record) (old new : Store) → Same old new → Steps request owned old (says.Refused why.NoMemory) new
-no_memory_same request owned old new s = refused_for request owned old new why.NoMemory s (λ state r. inl refl)
+no_memory_same request owned old new s = refused_for request owned old new why.NoMemory s (λ state r. inl (inl refl))
 
 pub out_of_memory : (request : Request) (owned : List Record) (store : Store) → Steps request owned store (says.Refused why.NoMemory) store
-out_of_memory request owned store = refused_for request owned store store why.NoMemory (same store) (λ state r. inl refl)
+out_of_memory request owned store = refused_for request owned store store why.NoMemory (same store) (λ state r. inl (inl refl))
 
 pub refused : (request : Request) (owned : List Record) (store : Store) (refusal : Refusal)
     → ((state : State) → Represents state store → Replies state request owned (machine.Refused refusal)) → Steps request owned store (says.Refused refusal) store
@@ -190,6 +197,9 @@ memory_or : (refusal : Refusal) → (refusal ≡ why.NoMemory) ⊎ (refusal ≢ 
 memory_or why.NoMemory = inl refl
 memory_or why.OriginDisagrees = inr (λ e. cc)
 memory_or why.BadSchema = inr (λ e. cc)
+memory_or why.LimitOutOfRange = inr (λ e. cc)
+memory_or why.TapeFault = inr (λ e. cc)
+memory_or why.TapeDamaged = inr (λ e. cc)
 memory_or (why.Query error) = inr (λ e. cc)
 memory_or (why.Batch error) = inr (λ e. cc)
 memory_or (why.Summary error) = inr (λ e. cc)
@@ -206,8 +216,8 @@ pub refused_or_memory : (request : Request) (owned : List Record) (old new : Sto
 refused_or_memory request owned old new refusal s replies = refused_for request owned old new refusal s (λ state r. go state r (memory_or refusal))
   where
     go : (state : State) → Represents state old → (refusal ≡ why.NoMemory) ⊎ (refusal ≢ why.NoMemory)
-        → (machine.Refused refusal ≡ machine.Refused why.NoMemory) ⊎ Replies state request owned (machine.Refused refusal)
-    go state r (inl e) = inl (ap machine.Refused e)
+        → IsReply state request owned (machine.Refused refusal)
+    go state r (inl e) = inl (inl (ap machine.Refused e))
     go state r (inr other) = inr (replies other state r)
 
 -- ---- columns and query
@@ -238,8 +248,9 @@ columns_told store text owned columns count none is counted =
         said = machine.Has_columns columns;
         may = inl (inr (subst (λ cs. ColumnsReply cs text (machine.Has_columns columns)) (sym (r.columns ∙ none_there store.columns none)) is));
         strict = λ world f agrees. inr (subst (λ cs. ColumnsReply cs text (machine.Has_columns columns)) (sym (r.columns ∙ none_there store.columns none)) is);
-        represents = record { columns = refl; query = r.query; replicas = r.replicas; saved = r.saved };
+        represents = record { columns = refl; query = r.query; replicas = r.replicas; saved = r.saved; limit = r.limit };
         refused = refl;
+        faulted = refl;
         fits = λ world f agrees. record { of_columns = agrees.0; fit = f.fit; files = f.files };
         text = λ world f agrees. ap (λ n. said_text (says.Columns n)) counted;
       };
@@ -280,8 +291,9 @@ query_told store text owned columns query shown told none is spelled =
         said = machine.Has_query query;
         may = inl (inr (query_says state store text columns None (machine.Has_query query) r told (none_there store.query none) is));
         strict = λ world f agrees. inr (query_says state store text columns None (machine.Has_query query) r told (none_there store.query none) is);
-        represents = record { columns = r.columns; query = refl; replicas = r.replicas; saved = r.saved };
+        represents = record { columns = r.columns; query = refl; replicas = r.replicas; saved = r.saved; limit = r.limit };
         refused = refl;
+        faulted = refl;
         fits = λ world f agrees. record { of_columns = f.of_columns; fit = f.fit; files = f.files };
         text = λ world f agrees. ap (λ bytes. line (codes "query ") bytes) spelled;
       };
@@ -304,6 +316,38 @@ store_asked store columns query is told none over =
     go : (o : Option Held) → IfSome o (λ (held : Held). (◌≡◌ {A = Option Checked} None (Some held.query))) → IfSome o (λ (held : Held). (◌≡◌ {A = Option Checked} (Some query) (Some held.query)))
     go None h = tt
     go (Some held) h = absurd cc
+
+-- ---- the limit
+
+pub limit_told : (store : Store) (bytes : ℕ) (owned : List Record) → LEAST_LIMIT ≤ bytes → bytes ≤ GREATEST_LIMIT
+    → Steps (ask.Limit bytes) owned store (says.Limit bytes) (record store { limit = bytes })
+limit_told store bytes owned low high =
+    let reply : machine.Has_limit bytes ≡ limit_reply bytes = sym (ap (λ b. if b then machine.Has_limit bytes else machine.Refused why.LimitOutOfRange) within) in
+    record {
+      steps = λ state r. record {
+        said = machine.Has_limit bytes;
+        may = inl (inr reply);
+        strict = λ world f agrees. inr reply;
+        represents = record { columns = r.columns; query = r.query; replicas = r.replicas; saved = r.saved; limit = refl };
+        refused = refl;
+        faulted = refl;
+        fits = λ world f agrees. record { of_columns = f.of_columns; fit = f.fit; files = f.files };
+        text = λ world f agrees. refl;
+      };
+    }
+  where
+    within : (nat_le LEAST_LIMIT bytes && nat_le bytes GREATEST_LIMIT) ≡ true
+    within = grind (arith, low, high)
+
+pub limit_refused : (store : Store) (bytes : ℕ) (owned : List Record) → (bytes < LEAST_LIMIT) ⊎ (GREATEST_LIMIT < bytes)
+    → Steps (ask.Limit bytes) owned store (says.Refused why.LimitOutOfRange) store
+limit_refused store bytes owned beyond =
+    refused (ask.Limit bytes) owned store why.LimitOutOfRange
+    (λ state r. sym (ap (λ b. if b then machine.Has_limit bytes else machine.Refused why.LimitOutOfRange) (outside beyond)))
+  where
+    outside : (bytes < LEAST_LIMIT) ⊎ (GREATEST_LIMIT < bytes) → (nat_le LEAST_LIMIT bytes && nat_le bytes GREATEST_LIMIT) ≡ false
+    outside (inl low) = grind (arith, low)
+    outside (inr high) = grind (arith, high)
 
 -- ---- replicas
 
@@ -351,8 +395,10 @@ replica_made old new name owned query told none u =
           query = r.query ∙ sym u.query;
           replicas = known_updated state old new name.now (record { query = query; parts = [] }) r u;
           saved = saved_still state old new u.saved r;
+          limit = r.limit ∙ sym u.limit;
         };
         refused = refl;
+        faulted = refl;
         fits = λ world f agrees. fits_updated world old new name.now (record { query = query; parts = [] }) u (fits_nothing query world) f;
         text = λ world f agrees. refl;
       };
@@ -406,6 +452,7 @@ feed_disagrees old new name origin number told_rows owned held is there s other 
             absurd (other.never world (subst (λ o. IfSome o (Fits world)) there (f.fit name)) (fed_of_world world state old name origin number told_rows owned held is there r agrees.1 other.fed other.is_batch));
         represents = still state old new s r;
         refused = refl;
+        faulted = refl;
         fits = λ world f agrees. still_fits world old new s f;
         text = λ world f agrees. refl;
       };
@@ -415,6 +462,9 @@ pub disagrees_or : (refusal : Refusal) → (refusal ≡ why.OriginDisagrees) ⊎
 disagrees_or why.OriginDisagrees = inl refl
 disagrees_or why.NoMemory = inr (λ e. cc)
 disagrees_or why.BadSchema = inr (λ e. cc)
+disagrees_or why.LimitOutOfRange = inr (λ e. cc)
+disagrees_or why.TapeFault = inr (λ e. cc)
+disagrees_or why.TapeDamaged = inr (λ e. cc)
 disagrees_or (why.Query error) = inr (λ e. cc)
 disagrees_or (why.Batch error) = inr (λ e. cc)
 disagrees_or (why.Summary error) = inr (λ e. cc)
@@ -432,16 +482,36 @@ feed_nowhere store name origin number told_rows owned none =
     (sym (known_nowhere state store name r none)) refl)
 
 pub feed_refused : (old new : Store) (name origin number : List ℕ) (told_rows : ℕ) (owned : List Record) (held : Held) (refusal : Refusal) → IsStore old
-    → replica_at old name ≡ Some held → Same old new → refusal ≢ why.OriginDisagrees → (refusal ≢ why.NoMemory → refusal ≢ why.OriginDisagrees → IsNoBatch (kinds held.query.columns) origin number told_rows owned refusal)
+    → replica_at old name ≡ Some held → Same old new → refusal ≢ why.OriginDisagrees → refusal ≢ why.TapeDamaged → (IsOfBatch refusal → IsNoBatch (kinds held.query.columns) origin number told_rows owned refusal)
     → Steps (ask.Feed name origin number told_rows) owned old (says.Refused refusal) new
-feed_refused old new name origin number told_rows owned held refusal is there s agreed bad =
-    refused_or_memory (ask.Feed name origin number told_rows) owned old new refusal s
-    (λ other state r.
-    subst (λ known. FeedReply (unwrap_or state.columns []) known name origin number told_rows owned (machine.Refused refusal)) (sym (known_there state old name held r there))
-    (subst (λ cs. IsNoBatch (kinds cs) origin number told_rows owned refusal) (sym (feed_columns state old name held r is there)) (bad other agreed)))
+feed_refused old new name origin number told_rows owned held refusal is there s agreed undamaged bad =
+    refused_for (ask.Feed name origin number told_rows) owned old new refusal s (λ state r. go state r refusal agreed undamaged bad)
+  where
+    of_batch : (state : State) → Represents state old → (refusal : Refusal) → IsNoBatch (kinds held.query.columns) origin number told_rows owned refusal
+        → IsReply state (ask.Feed name origin number told_rows) owned (machine.Refused refusal)
+    of_batch state r refusal bad =
+        inr (subst (λ known. FeedReply (unwrap_or state.columns []) known name origin number told_rows owned (machine.Refused refusal)) (sym (known_there state old name held r there))
+        (subst (λ cs. IsNoBatch (kinds cs) origin number told_rows owned refusal) (sym (feed_columns state old name held r is there)) bad))
+
+    go : (state : State) → Represents state old → (refusal : Refusal) → refusal ≢ why.OriginDisagrees → refusal ≢ why.TapeDamaged → (IsOfBatch refusal → IsNoBatch (kinds held.query.columns) origin number told_rows owned refusal)
+        → IsReply state (ask.Feed name origin number told_rows) owned (machine.Refused refusal)
+    go state r why.NoMemory agreed undamaged bad = inl (inl refl)
+    go state r why.TapeFault agreed undamaged bad = inl (inr (refl, refl))
+    go state r why.OriginDisagrees agreed undamaged bad = absurd (agreed refl)
+    go state r why.TapeDamaged agreed undamaged bad = absurd (undamaged refl)
+    go state r why.BadSchema agreed undamaged bad = of_batch state r why.BadSchema (bad tt)
+    go state r why.LimitOutOfRange agreed undamaged bad = of_batch state r why.LimitOutOfRange (bad tt)
+    go state r (why.Query error) agreed undamaged bad = of_batch state r (why.Query error) (bad tt)
+    go state r (why.Batch error) agreed undamaged bad = of_batch state r (why.Batch error) (bad tt)
+    go state r (why.Summary error) agreed undamaged bad = of_batch state r (why.Summary error) (bad tt)
+    go state r why.DifferentQuery agreed undamaged bad = of_batch state r why.DifferentQuery (bad tt)
+    go state r (why.Run error) agreed undamaged bad = of_batch state r (why.Run error) (bad tt)
+    go state r why.BadCommand agreed undamaged bad = of_batch state r why.BadCommand (bad tt)
+    go state r why.NoSuchName agreed undamaged bad = of_batch state r why.NoSuchName (bad tt)
+    go state r why.NameTaken agreed undamaged bad = of_batch state r why.NameTaken (bad tt)
 
 pub feed_took : (old new : Store) (name origin number : List ℕ) (told_rows : ℕ) (owned : List Record) (held later : Held) (delivered : Delivered) → IsStore old
-    → replica_at old name ≡ Some held → Takes origin number told_rows owned held later delivered → Updates old new name later
+    → replica_at old name ≡ Some held → Takes true origin number told_rows owned held later delivered → Updates old new name later
     → Steps (ask.Feed name origin number told_rows) owned old (says.Delivered delivered) new
 feed_took old new name origin number told_rows owned held later delivered is there takes u =
     record {
@@ -458,10 +528,12 @@ feed_took old new name origin number told_rows owned held later delivered is the
               (ap (λ known. learn (unwrap_or known nothing) (takes.fed.origin, takes.fed.number)) (known_there state old name held r there) ∙ sym takes.learns)
               ∙ known_updated state old new name later r u other;
           saved = saved_still state old new u.saved r;
+          limit = r.limit ∙ sym u.limit;
         };
         refused = refl;
+        faulted = refl;
         fits = λ world f agrees. fits_updated world old new name later u
-            (takes.fits world (columns_of_world world old name held is there f) (subst (λ o. IfSome o (Fits world)) there (f.fit name)) (fed_of_world world state old name origin number told_rows owned held is there r agrees.1 takes.fed takes.is_batch)) f;
+            (takes.fits refl world (columns_of_world world old name held is there f) (subst (λ o. IfSome o (Fits world)) there (f.fit name)) (fed_of_world world state old name origin number told_rows owned held is there r agrees.1 takes.fed takes.is_batch)) f;
         text = λ world f agrees. refl;
       };
     }
@@ -482,6 +554,7 @@ known_listed store name owned held lines there shown =
         strict = λ world f agrees. inr (sym (ap known_reply (known_there state store name held r there)));
         represents = r;
         refused = refl;
+        faulted = refl;
         fits = λ world f agrees. f;
         text = λ world f agrees. shown;
       };
@@ -509,6 +582,7 @@ answered store name owned held rows table is there shown =
         strict = λ world f agrees. inr (sym (ap (λ q. answer_reply q (state.replicas name)) (r.query ∙ asks.0) ∙ ap (λ known. answer_reply (Some held.query) known) (known_there state store name held r there)));
         represents = r;
         refused = refl;
+        faulted = refl;
         fits = λ world f agrees. f;
         text = λ world f agrees.
             let of_world = subst (λ cs. IfSome cs (λ (columns : List Column). IsWorld (kinds columns) world)) asks.1 f.of_columns in
@@ -516,6 +590,15 @@ answered store name owned held rows table is there shown =
             ap (λ n. answer_text n table.items) right.0 ∙ ap (λ bytes. answer_text (length (answer (meaning held.query) world (told held.parts))) bytes) right.1;
       };
     }
+
+-- an answer for which memory was wanting, or the disk of tapes failed
+pub answer_refused : (store : Store) (name : List ℕ) (owned : List Record) (error : SpillError) (refusal : Refusal) → refusal ≡ spill_refusal error → error ≢ spill.TapeDamaged → Steps (ask.Answer name) owned store (says.Refused refusal) store
+answer_refused store name owned error refusal is undamaged = subst (λ w. Steps (ask.Answer name) owned store (says.Refused w) store) (sym is) (go error undamaged)
+  where
+    go : (error : SpillError) → error ≢ spill.TapeDamaged → Steps (ask.Answer name) owned store (says.Refused (spill_refusal error)) store
+    go spill.NoMemory undamaged = out_of_memory (ask.Answer name) owned store
+    go spill.TapeFault undamaged = refused_for (ask.Answer name) owned store store why.TapeFault (same store) (λ state r. inl (inr (refl, refl)))
+    go spill.TapeDamaged undamaged = absurd (undamaged refl)
 
 -- ---- merging
 
@@ -532,19 +615,22 @@ merge_nowhere store into from owned none =
     go state r (inl e) = sym (ap (λ known. merge_reply known (state.replicas from) into from) (known_nowhere state store into r e))
     go state r (inr e) = second (state.replicas into) ∙ sym (ap (λ known. merge_reply (state.replicas into) known into from) (known_nowhere state store from r e))
 
-pub merge_refused : (store : Store) (into from : List ℕ) (owned : List Record) (refusal : Refusal) → JoinRefused (replica_at store into) (replica_at store from) refusal
+pub merge_refused : (store : Store) (into from : List ℕ) (owned : List Record) (refusal : Refusal) → JoinRefused (replica_at store into) (replica_at store from) refusal → refusal ≢ why.TapeDamaged
     → Steps (ask.Merge into from) owned store (says.Refused refusal) store
-merge_refused store into from owned refusal refused_is = go (replica_at store into) (replica_at store from) refl refl refusal refused_is
+merge_refused store into from owned refusal refused_is undamaged = go (replica_at store into) (replica_at store from) refl refl refusal undamaged refused_is
   where
     both : (own theirs : Held) → replica_at store into ≡ Some own → replica_at store from ≡ Some theirs → (state : State) → Represents state store
         → machine.Merged into from ≡ merge_reply (state.replicas into) (state.replicas from) into from
     both own theirs one two state r = sym (λ i. merge_reply (known_there state store into own r one i) (known_there state store from theirs r two i) into from)
 
-    go : (own theirs : Option Held) → replica_at store into ≡ own → replica_at store from ≡ theirs → (refusal : Refusal) → JoinRefused own theirs refusal → Steps (ask.Merge into from) owned store (says.Refused refusal) store
-    go None theirs one two refusal is = subst (λ w. Steps (ask.Merge into from) owned store (says.Refused w) store) (sym is) (merge_nowhere store into from owned (inl one))
-    go (Some own) None one two refusal is = subst (λ w. Steps (ask.Merge into from) owned store (says.Refused w) store) (sym is) (merge_nowhere store into from owned (inr two))
-    go (Some own) (Some theirs) one two why.NoMemory is = out_of_memory (ask.Merge into from) owned store
-    go (Some own) (Some theirs) one two why.OriginDisagrees never =
+    go : (own theirs : Option Held) → replica_at store into ≡ own → replica_at store from ≡ theirs → (refusal : Refusal) → refusal ≢ why.TapeDamaged → JoinRefused own theirs refusal → Steps (ask.Merge into from) owned store (says.Refused refusal) store
+    go None theirs one two refusal undamaged is = subst (λ w. Steps (ask.Merge into from) owned store (says.Refused w) store) (sym is) (merge_nowhere store into from owned (inl one))
+    go (Some own) None one two refusal undamaged is = subst (λ w. Steps (ask.Merge into from) owned store (says.Refused w) store) (sym is) (merge_nowhere store into from owned (inr two))
+    go (Some own) (Some theirs) one two why.NoMemory undamaged is = out_of_memory (ask.Merge into from) owned store
+    go (Some own) (Some theirs) one two why.TapeFault undamaged is = refused_for (ask.Merge into from) owned store store why.TapeFault (same store) (λ state r. inl (inr (refl, refl)))
+    go (Some own) (Some theirs) one two why.TapeDamaged undamaged is = absurd (undamaged refl)
+    go (Some own) (Some theirs) one two why.LimitOutOfRange undamaged is = absurd is
+    go (Some own) (Some theirs) one two why.OriginDisagrees undamaged never =
         record {
           steps = λ state r. record {
             said = machine.Refused why.OriginDisagrees;
@@ -553,19 +639,20 @@ merge_refused store into from owned refusal refused_is = go (replica_at store in
                 absurd (never world (subst (λ o. IfSome o (Fits world)) one (f.fit into)) (subst (λ o. IfSome o (Fits world)) two (f.fit from)));
             represents = r;
             refused = refl;
+            faulted = refl;
             fits = λ world f agrees. f;
             text = λ world f agrees. refl;
           };
         }
-    go (Some own) (Some theirs) one two why.BadSchema is = absurd is
-    go (Some own) (Some theirs) one two (why.Query error) is = absurd is
-    go (Some own) (Some theirs) one two (why.Batch error) is = absurd is
-    go (Some own) (Some theirs) one two (why.Summary error) is = absurd is
-    go (Some own) (Some theirs) one two why.DifferentQuery is = absurd is
-    go (Some own) (Some theirs) one two (why.Run error) is = absurd is
-    go (Some own) (Some theirs) one two why.BadCommand is = absurd is
-    go (Some own) (Some theirs) one two why.NoSuchName is = absurd is
-    go (Some own) (Some theirs) one two why.NameTaken is = absurd is
+    go (Some own) (Some theirs) one two why.BadSchema undamaged is = absurd is
+    go (Some own) (Some theirs) one two (why.Query error) undamaged is = absurd is
+    go (Some own) (Some theirs) one two (why.Batch error) undamaged is = absurd is
+    go (Some own) (Some theirs) one two (why.Summary error) undamaged is = absurd is
+    go (Some own) (Some theirs) one two why.DifferentQuery undamaged is = absurd is
+    go (Some own) (Some theirs) one two (why.Run error) undamaged is = absurd is
+    go (Some own) (Some theirs) one two why.BadCommand undamaged is = absurd is
+    go (Some own) (Some theirs) one two why.NoSuchName undamaged is = absurd is
+    go (Some own) (Some theirs) one two why.NameTaken undamaged is = absurd is
 
 pub merged : (old new : Store) (into from : List ℕ) (owned : List Record) (own theirs later : Held) → IsStore old → replica_at old into ≡ Some own → replica_at old from ≡ Some theirs
     → told later.parts ≡ union (told own.parts) (told theirs.parts)
@@ -587,8 +674,10 @@ merged old new into from owned own theirs later is one two learns fits u =
                   ((λ i. union (unwrap_or (known_there state old into own r one i) nothing) (unwrap_or (known_there state old from theirs r two i) nothing)) ∙ sym learns)
                   ∙ known_updated state old new into later r u other;
               saved = saved_still state old new u.saved r;
+              limit = r.limit ∙ sym u.limit;
             };
             refused = refl;
+            faulted = refl;
             fits = λ world f agrees. fits_updated world old new into later u
                 (fits world (columns_of_world world old into own is one f) (subst (λ o. IfSome o (Fits world)) one (f.fit into)) (subst (λ o. IfSome o (Fits world)) two (f.fit from))) f;
             text = λ world f agrees. refl;
@@ -619,11 +708,11 @@ save_nowhere store name saved owned none =
     go (Some q) = refl
 
 -- a map that was updated at a name has another file
-pub filed : {S : Type 0} (columns : Option (List Column)) (query : Option Checked) (replicas : List (Vec ℕ Global × Held)) (name : List ℕ) (bytes : Vec ℕ Global) (old new : HashMap (Vec ℕ Global) (Vec ℕ Global) S)
+pub filed : {S : Type 0} (limit : ℕ) (columns : Option (List Column)) (query : Option Checked) (replicas : List (Vec ℕ Global × Held)) (name : List ℕ) (bytes : Vec ℕ Global) (old new : HashMap (Vec ℕ Global) (Vec ℕ Global) S)
     → UpdatesBy (λ (x y : Vec ℕ Global). bytes_eq x.items y.items) (λ (key : Vec ℕ Global). bytes_eq name key.items) old new (Some bytes)
-    → Files (record { columns = columns; query = query; replicas = replicas; saved = old.entries }) (record { columns = columns; query = query; replicas = replicas; saved = new.entries }) name bytes
-filed columns query replicas name bytes old new u =
-    record { columns = refl; query = refl; replicas = refl; own = u.1; others = λ other. others_kept name other old.entries new.entries u.3 }
+    → Files (record { columns = columns; query = query; replicas = replicas; saved = old.entries; limit = limit }) (record { columns = columns; query = query; replicas = replicas; saved = new.entries; limit = limit }) name bytes
+filed limit columns query replicas name bytes old new u =
+    record { columns = refl; query = refl; replicas = refl; own = u.1; others = λ other. others_kept name other old.entries new.entries u.3; limit = refl }
 
 -- what holds of each file, and of the new one, holds of each file then
 each_file : (P : List ℕ → Option (Vec ℕ Global) → Type 0) (old new : Store) (name : List ℕ) (bytes : Vec ℕ Global) → Files old new name bytes
@@ -669,8 +758,10 @@ saved_as old new name saved owned held bytes count is there file world_is counte
               saved = each_file (λ other o. AreSaved (with_replica state.saved saved (told held.parts) other) o) old new saved bytes u
                   (subst (λ b. AreSaved (if b then Some (told held.parts) else state.saved saved) (Some bytes)) (sym ((bytes_eq-Decides saved saved).1 refl)) (record { held = held; is = file; tells = refl }))
                   (λ other different. subst (λ b. AreSaved (if b then Some (told held.parts) else state.saved other) (saved_at old other)) (sym different) (r.saved other));
+              limit = r.limit ∙ sym u.limit;
             };
             refused = refl;
+            faulted = refl;
             fits = λ world f agrees. record {
               of_columns = subst (λ cs. IfSome cs (λ (columns : List Column). IsWorld (kinds columns) world)) (sym u.columns) f.of_columns;
               fit = λ other. subst (λ o. IfSome o (λ (h : Held). Fits world h)) (sym (replicas_at old new u.replicas other)) (f.fit other);
@@ -708,8 +799,10 @@ loaded old new name saved owned bytes later there is u =
             query = r.query ∙ sym u.query;
             replicas = λ other. ap (λ k. with_replica state.replicas name k other) (sym are.tells ∙ ap knowledge_of (sym (is are.held are.is))) ∙ known_updated state old new name later r u other;
             saved = saved_still state old new u.saved r;
+            limit = r.limit ∙ sym u.limit;
           };
           refused = refl;
+          faulted = refl;
           fits = λ world f agrees.
               let file = subst (λ o. IfSome o (IsFitting world)) there (f.files saved) in
               fits_updated world old new name later u (subst (Fits world) (sym (is file.held file.is)) file.fits) f;

@@ -1,5 +1,5 @@
 -- The machine that a script runs: what is known under each name, and how each command is answered. All of this is our own.
-use Rattle.std.specs.Prelude.{ℕ, ◌≡◌, ◌≢◌, ◌≤◌, ◌⊎◌, Bool, true, false, List, [], ◌∷◌, length, Option, Some, None, IfSome, unwrap_or, if◌then◌else◌}
+use Rattle.std.specs.Prelude.{ℕ, ◌≡◌, ◌≢◌, ◌≤◌, ◌⊎◌, nat_le, ◌&&◌, Bool, true, false, IsTrue, List, [], ◌∷◌, length, Option, Some, None, IfSome, unwrap_or, if◌then◌else◌}
 use Rattle.std.specs.Str.{bytes_eq}
 use Rattle.grouping_model.specs.Datum.{Kind, Row}
 use Rattle.grouping_model.specs.declared.limits.TheConstants.{MOST_ROWS}
@@ -18,24 +18,26 @@ use Rattle.batch_reader.specs.declared.error.BatchError.{BatchError}
 use Rattle.batch_reader.specs.declared.error.BatchError.TheVariants as batch
 use Rattle.origin_prefix.specs.declared.error.JoinError.{JoinError}
 use Rattle.origin_prefix.specs.declared.error.JoinError.TheVariants as join
+use Rattle.hash_agg.specs.declared.means.TheConstants.{LEAST_LIMIT, GREATEST_LIMIT, USUAL_LIMIT}
 use Rattle.script_io.specs.Records.{Record}
-use Rattle.script_commands.specs.Commands.{Command, Request, Columns, Query, Replica, Feed, Known, Answer, Merge, Save, Load, Unknown, request_of}
+use Rattle.script_commands.specs.Commands.{Command, Request, Columns, Query, Limit, Replica, Feed, Known, Answer, Merge, Save, Load, Unknown, request_of}
 use Rattle.script_machine.specs.declared.refusal.Refusal.{Refusal}
 use Rattle.having_filter.specs.declared.error.QueryError.TheVariants as checks
 use Rattle.script_machine.specs.declared.refusal.Refusal.TheVariants as refuse
-use Rattle.script_machine.specs.declared.refusal.Refusal.TheVariants.{NoMemory, BadSchema, Batch, OriginDisagrees, BadCommand, NoSuchName, NameTaken}
+use Rattle.script_machine.specs.declared.refusal.Refusal.TheVariants.{NoMemory, BadSchema, LimitOutOfRange, Batch, OriginDisagrees, TapeFault, TapeDamaged, BadCommand, NoSuchName, NameTaken}
 
--- what is there: the columns and the query, once they were told, what each replica knows, by its name, and what was saved, by the name
--- that it was given
+-- what is there: the columns and the query, once they were told, what each replica knows, by its name, what was saved, by the name
+-- that it was given, and the limit of aggregations
 pub record State : Type 0 where
   pub columns : Option (List Column)
   pub query : Option Checked
   pub replicas : List ℕ → Option Knowledge
   pub saved : List ℕ → Option Knowledge
+  pub limit : ℕ
 
--- nothing is there
+-- nothing is there but the usual limit
 abbrev pub start : State
-start = record { columns = None; query = None; replicas = λ name. None; saved = λ name. None }
+start = record { columns = None; query = None; replicas = λ name. None; saved = λ name. None; limit = USUAL_LIMIT }
 
 -- a batch as it was fed
 pub record Fed : Type 0 where
@@ -49,6 +51,8 @@ pub data Reply : Type 0 where
   Has_columns : List Column → Reply
   -- this is the query
   Has_query : Checked → Reply
+  -- this is the limit
+  Has_limit : (bytes : ℕ) → Reply
   -- a replica of this name is there
   Created : (name : List ℕ) → Reply
   -- the replica of this name took a batch
@@ -90,6 +94,8 @@ pub record IsNoBatch (kinds : List Kind) (origin number : List ℕ) (told : ℕ)
 abbrev pub delivery_refusal : JoinError → Refusal
 delivery_refusal join.NoMemory = NoMemory
 delivery_refusal join.OriginDisagrees = OriginDisagrees
+delivery_refusal join.TapeFault = TapeFault
+delivery_refusal join.TapeDamaged = TapeDamaged
 
 -- the reply to a schema's text: columns are told once
 abbrev pub ColumnsReply : Option (List Column) → List ℕ → Reply → Type 0
@@ -116,6 +122,10 @@ QueryReply (Some columns) (Some query) text reply = reply ≡ Refused BadCommand
 QueryReply (Some columns) None text (Has_query query) = Accepts columns text query
 QueryReply (Some columns) None text (Refused why) = IsNoQuery columns text why
 QueryReply (Some columns) None text reply = ⊥
+
+-- the reply to a limit
+abbrev pub limit_reply : ℕ → Reply
+limit_reply bytes = if nat_le LEAST_LIMIT bytes && nat_le bytes GREATEST_LIMIT then Has_limit bytes else Refused LimitOutOfRange
 
 -- the reply to a new name: replicas come after the query
 abbrev pub replica_reply : Option Checked → Option Knowledge → List ℕ → Reply
@@ -155,10 +165,11 @@ abbrev pub load_reply : Option Knowledge → (name : List ℕ) → Reply
 load_reply (Some known) name = Loaded name known
 load_reply None name = Refused NoSuchName
 
--- how a command is answered that asks for this and owns these records, where memory is there. There is one way only (law one_reply)
+-- how a command is answered that asks for this and owns these records, where memory is there and no disk fails. There is one way only (law one_reply)
 abbrev pub Replies : State → Request → List Record → Reply → Type 0
 Replies old (Columns text) owned reply = ColumnsReply old.columns text reply
 Replies old (Query text) owned reply = QueryReply old.columns old.query text reply
+Replies old (Limit bytes) owned reply = reply ≡ limit_reply bytes
 Replies old (Replica name) owned reply = reply ≡ replica_reply old.query (old.replicas name) name
 Replies old (Feed name origin number told) owned reply =
     FeedReply (unwrap_or old.columns []) (old.replicas name) name origin number told owned reply
@@ -169,9 +180,20 @@ Replies old (Save name saved) owned reply = reply ≡ save_reply old.query (old.
 Replies old (Load name saved) owned reply = reply ≡ load_reply (old.saved saved) name
 Replies old Unknown owned reply = reply ≡ Refused BadCommand
 
--- how a command may be answered: in its one way, or memory is wanting
+-- whether a command aggregates, so that a disk of tapes is read and written for it
+abbrev pub uses_tapes : Request → Bool
+uses_tapes (Feed name origin number told) = true
+uses_tapes (Answer name) = true
+uses_tapes (Merge into from) = true
+uses_tapes request = false
+
+-- a command is refused for want of memory, or since the disk of tapes failed
+abbrev pub IsRefusedStep : Request → Reply → Type 0
+IsRefusedStep request reply = (reply ≡ Refused NoMemory) ⊎ (IsTrue (uses_tapes request) × (reply ≡ Refused TapeFault))
+
+-- how a command may be answered: in its one way, or by such a refusal
 abbrev pub IsReply : State → Request → List Record → Reply → Type 0
-IsReply old request owned reply = (reply ≡ Refused NoMemory) ⊎ Replies old request owned reply
+IsReply old request owned reply = IsRefusedStep request reply ⊎ Replies old request owned reply
 
 -- whether a replica takes batches with a reply
 abbrev pub takes_batches : Reply → Bool
@@ -198,6 +220,7 @@ with_replica replicas name known other = if bytes_eq name other then Some known 
 abbrev pub after : State → Reply → State
 after old (Has_columns columns) = record old { columns = Some columns }
 after old (Has_query query) = record old { query = Some query }
+after old (Has_limit bytes) = record old { limit = bytes }
 after old (Created name) = record old { replicas = with_replica old.replicas name nothing }
 after old (Took name fed delivered) =
     record old { replicas = with_replica old.replicas name (learn (unwrap_or (old.replicas name) nothing) (fed.origin, fed.number)) }
@@ -217,7 +240,12 @@ abbrev pub is_refused : Reply → Bool
 is_refused (Refused why) = true
 is_refused reply = false
 
--- the same, each in its one way or for want of memory
+-- whether a reply tells that the disk of tapes failed
+abbrev pub is_fault : Reply → Bool
+is_fault (Refused TapeFault) = true
+is_fault reply = false
+
+-- the same, each in its one way, or refused for want of memory or by the disk of tapes
 unfoldable pub StrictRun : State → List Command → List Reply → Type 0
 StrictRun old [] [] = Unit {0}
 StrictRun old (command ∷ commands) (reply ∷ replies) = IsReply old (request_of command.head) command.owned reply × StrictRun (after old reply) commands replies

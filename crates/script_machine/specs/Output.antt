@@ -1,5 +1,5 @@
 -- What a run of a script writes. All of this is our own.
-use Rattle.std.specs.Prelude.{ℕ, ◌≡◌, ◌≤◌, ◌<◌, List, ◌++◌, length, count_by, Option, IfSome}
+use Rattle.std.specs.Prelude.{ℕ, ◌≡◌, ◌≤◌, ◌<◌, ◌+◌, Bool, IsTrue, List, ◌++◌, length, count_by, Option, IfSome}
 use Rattle.std.specs.Io.KnownBytes.{Appends, Keeps}
 use Rattle.grouping_model.specs.World.{World}
 use Rattle.grouping_model.specs.declared.limits.TheConstants.{LONGEST_SCRIPT}
@@ -8,7 +8,7 @@ use Rattle.script_io.specs.Records.{records_of}
 use Rattle.script_io.specs.declared.input.InputError.{InputError}
 use Rattle.script_io.specs.declared.input.InputError.TheVariants as input
 use Rattle.script_commands.specs.Commands.{Command, commands_of}
-use Rattle.script_machine.specs.Machine.{Reply, Run, StrictRun, start, is_refused, Agrees}
+use Rattle.script_machine.specs.Machine.{Reply, Run, StrictRun, start, is_refused, is_fault, Agrees}
 use Rattle.script_machine.specs.Text.{replies_text}
 use Rattle.script_machine.specs.declared.refusal.Refusal.{Refusal}
 use Rattle.script_machine.specs.declared.refusal.Refusal.TheVariants as refusal
@@ -19,52 +19,64 @@ use Rattle.script_machine.specs.declared.error.RunError.TheVariants.{InputTooLon
 abbrev pub commands_in : List ℕ → List Command
 commands_in script = commands_of (records_of script)
 
+-- the disk of tapes while a run is made: whether it is honest, and how often it had failed before and after
+pub record Disk : Type 0 where
+  pub honest : Bool
+  pub failed : ℕ
+  pub failed_now : ℕ
+
+-- replies tell no more often that the disk failed than it did
+abbrev pub AreFaultsOf : Disk → List Reply → Type 0
+AreFaultsOf disk replies = disk.failed + count_by is_fault replies ≤ disk.failed_now
+
 -- what was written is an output of the commands: the replies of a run of the machine over them, in order, of which so many
 -- are refusals. For each world with which the script agrees, none is for disagreement, and these are the bytes
-pub record WritesAll (commands : List Command) (old new : Option (List ℕ)) (refused : ℕ) : Type 0 where
+pub record WritesAll (disk : Disk) (commands : List Command) (old new : Option (List ℕ)) (refused : ℕ) : Type 0 where
   pub replies : List Reply
   pub runs : Run start commands replies
   pub counts : count_by is_refused replies ≡ refused
+  pub faults : AreFaultsOf disk replies
   pub strict : (world : World) → Agrees world start commands replies → StrictRun start commands replies
   pub writes : (world : World) → Agrees world start commands replies → Appends old new (replies_text world replies)
 
 -- what was written is the front of an output of the commands
-pub record WritesFront (commands : List Command) (old new : Option (List ℕ)) : Type 0 where
+pub record WritesFront (disk : Disk) (commands : List Command) (old new : Option (List ℕ)) : Type 0 where
   pub replies : List Reply
   pub runs : Run start commands replies
+  pub faults : AreFaultsOf disk replies
   pub strict : (world : World) → Agrees world start commands replies → StrictRun start commands replies
   pub writes : (world : World) → Agrees world start commands replies → AppendsFront old new (replies_text world replies)
 
 -- what was written is an output of the commands before some command
-pub record WritesBefore (commands : List Command) (old new : Option (List ℕ)) : Type 0 where
+pub record WritesBefore (disk : Disk) (commands : List Command) (old new : Option (List ℕ)) : Type 0 where
   pub before : List Command
   pub left : List Command
   pub all : commands ≡ before ++ left
   pub refused : ℕ
-  pub writes : WritesAll before old new refused
+  pub writes : WritesAll disk before old new refused
 
--- what was written where not all commands were answered: the front of an output at a fault of the writer, and for want of
--- memory the output of the commands before
-abbrev pub WritesSome : List Command → Option (List ℕ) → Option (List ℕ) → RunError → Type 0
-WritesSome commands old new WriteFault = WritesFront commands old new
-WritesSome commands old new NoMemory = WritesBefore commands old new
-WritesSome commands old new error = ⊥
+-- what was written where not all commands were answered, over an honest disk: the front of an output at a fault of the writer, and
+-- for want of memory the output of the commands before
+abbrev pub WritesSome : Disk → List Command → Option (List ℕ) → Option (List ℕ) → RunError → Type 0
+WritesSome disk commands old new WriteFault = IsTrue disk.honest → WritesFront disk commands old new
+WritesSome disk commands old new NoMemory = IsTrue disk.honest → WritesBefore disk commands old new
+WritesSome disk commands old new error = ⊥
 
 -- what a run that stopped tells of its script: it is longer than the limit, or it could not be read, or not all of its
 -- commands were answered
-abbrev pub StopsAt : ℕ → List ℕ → Option (List ℕ) → Option (List ℕ) → RunError → Type 0
-StopsAt most script old new InputTooLong = most < length script
-StopsAt most script old new ReadFault = Unit {0}
-StopsAt most script old new WriteFault = (length script ≤ most) × WritesFront (commands_in script) old new
-StopsAt most script old new NoMemory = (most < length script → Keeps old new) × WritesBefore (commands_in script) old new
+abbrev pub StopsAt : Disk → ℕ → List ℕ → Option (List ℕ) → Option (List ℕ) → RunError → Type 0
+StopsAt disk most script old new InputTooLong = most < length script
+StopsAt disk most script old new ReadFault = Unit {0}
+StopsAt disk most script old new WriteFault = (length script ≤ most) × WritesSome disk (commands_in script) old new WriteFault
+StopsAt disk most script old new NoMemory = (most < length script → Keeps old new) × WritesSome disk (commands_in script) old new NoMemory
 
--- a run answered a script within the limit as the machine does, with so many refusals
-abbrev pub AnswersAll : Option (List ℕ) → Option (List ℕ) → Option (List ℕ) → ℕ → Type 0
-AnswersAll unread old new refused = IfSome unread (λ script. (length script ≤ LONGEST_SCRIPT) × WritesAll (commands_in script) old new refused)
+-- a run answered a script within the limit, and over an honest disk as the machine does, with so many refusals
+abbrev pub AnswersAll : Disk → Option (List ℕ) → Option (List ℕ) → Option (List ℕ) → ℕ → Type 0
+AnswersAll disk unread old new refused = IfSome unread (λ script. (length script ≤ LONGEST_SCRIPT) × (IsTrue disk.honest → WritesAll disk (commands_in script) old new refused))
 
 -- a run stopped before the end of its script
-abbrev pub AnswersSome : Option (List ℕ) → Option (List ℕ) → Option (List ℕ) → RunError → Type 0
-AnswersSome unread old new error = IfSome unread (λ script. StopsAt LONGEST_SCRIPT script old new error)
+abbrev pub AnswersSome : Disk → Option (List ℕ) → Option (List ℕ) → Option (List ℕ) → RunError → Type 0
+AnswersSome disk unread old new error = IfSome unread (λ script. StopsAt disk LONGEST_SCRIPT script old new error)
 
 -- a run that did not read its script wrote nothing
 abbrev pub KeepsUnread : Option (List ℕ) → Option (List ℕ) → RunError → Type 0

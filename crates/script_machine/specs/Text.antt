@@ -18,9 +18,9 @@ use Rattle.summary_codec.specs.WorldFile.{world_file}
 use Rattle.summary_codec.specs.declared.error.SummaryError.{SummaryError}
 use Rattle.summary_codec.specs.declared.error.SummaryError.TheVariants as summary
 use Rattle.table_print.specs.Table.{table_text}
-use Rattle.script_machine.specs.Machine.{Reply, Has_columns, Has_query, Created, Took, Merged, Saved, Loaded, Listed, Answered, Refused}
+use Rattle.script_machine.specs.Machine.{Reply, Has_columns, Has_query, Has_limit, Created, Took, Merged, Saved, Loaded, Listed, Answered, Refused}
 use Rattle.script_machine.specs.declared.refusal.Refusal.{Refusal}
-use Rattle.script_machine.specs.declared.refusal.Refusal.TheVariants.{NoMemory, BadSchema, Query, Batch, Summary, DifferentQuery, OriginDisagrees, Run, BadCommand, NoSuchName, NameTaken}
+use Rattle.script_machine.specs.declared.refusal.Refusal.TheVariants.{NoMemory, BadSchema, LimitOutOfRange, Query, Batch, Summary, DifferentQuery, OriginDisagrees, TapeFault, TapeDamaged, Run, BadCommand, NoSuchName, NameTaken}
 use Rattle.script_machine.specs.declared.error.RunError.{RunError}
 use Rattle.script_machine.specs.declared.error.RunError.TheVariants as stop
 
@@ -69,11 +69,14 @@ run_name stop.WriteFault = codes "WriteFault"
 abbrev pub refusal_name : Refusal → List ℕ
 refusal_name NoMemory = codes "NoMemory"
 refusal_name BadSchema = codes "BadSchema"
+refusal_name LimitOutOfRange = codes "LimitOutOfRange"
 refusal_name (Query error) = parse_name error
 refusal_name (Batch error) = batch_name error
 refusal_name (Summary error) = summary_name error
 refusal_name DifferentQuery = codes "DifferentQuery"
 refusal_name OriginDisagrees = codes "OriginDisagrees"
+refusal_name TapeFault = codes "TapeFault"
+refusal_name TapeDamaged = codes "TapeDamaged"
 refusal_name (Run error) = run_name error
 refusal_name BadCommand = codes "BadCommand"
 refusal_name NoSuchName = codes "NoSuchName"
@@ -117,6 +120,7 @@ answer_text rows table = line (codes "answer ") (decimal rows) ++ table
 abbrev pub reply_text : World → Reply → List ℕ
 reply_text world (Has_columns columns) = line (codes "columns ") (decimal (length columns))
 reply_text world (Has_query query) = line (codes "query ") (spelling (by_names query))
+reply_text world (Has_limit bytes) = line (codes "limit ") (decimal bytes)
 reply_text world (Created name) = line (codes "replica ") name
 reply_text world (Took name fed delivered) = delivered_text delivered
 reply_text world (Merged into from) = line (codes "merged") []

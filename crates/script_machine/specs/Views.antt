@@ -1,9 +1,10 @@
 -- What a clause sees of the values of the code.
-use Rattle.std.specs.Prelude.{ℕ, ◌≡◌, ◌⊎◌, Bool, true, false, List, [], codes, decimal, Option, Some, None, IfSome, option_map, string_bytes, Result, Ok, Err}
+use Rattle.std.specs.Prelude.{ℕ, ◌≡◌, ◌⊎◌, Bool, true, false, List, [], codes, decimal, Option, Some, None, IfSome, IsTrue, option_map, if◌then◌else◌, string_bytes, Result, Ok, Err}
 use Rattle.std.specs.declared.alloc.Global.{Global}
 use Rattle.std.specs.declared.vec.Vec.{Vec}
 use Rattle.std.specs.Map.{lookup}
 use Rattle.std.specs.Str.{bytes_eq}
+use Rattle.hash_agg.specs.declared.means.TheConstants.{USUAL_LIMIT}
 use Rattle.grouping_model.specs.World.{World, IsWorld, Knowledge, learn}
 use Rattle.packed_rows.specs.Columns.{Column, kinds}
 use Rattle.having_filter.specs.Meaning.{Checked}
@@ -16,7 +17,7 @@ use Rattle.script_commands.specs.Commands.{Request}
 use Rattle.script_machine.specs.Machine as machine
 use Rattle.script_machine.specs.Machine.{State, Fed, IsBatch, IsNoBatch, IsReply, IsDisagreement, AgreesAt, after}
 use Rattle.script_machine.specs.Text.{line, delivered_text, refusal_name, answer_text, reply_text}
-use Rattle.script_machine.specs.declared.refusal.Refusal.TheVariants.{NoMemory, OriginDisagrees, NoSuchName}
+use Rattle.script_machine.specs.declared.refusal.Refusal.TheVariants.{NoMemory, OriginDisagrees, TapeFault, TapeDamaged, NoSuchName}
 use Rattle.script_machine.specs.declared.refusal.Refusal.{Refusal}
 use Rattle.script_machine.specs.declared.reply.Reply.{Reply}
 use Rattle.script_machine.specs.declared.reply.Reply.TheVariants as says
@@ -25,6 +26,7 @@ use Rattle.script_machine.specs.declared.reply.Reply.TheVariants as says
 abbrev pub said_text : Reply → List ℕ
 said_text (says.Columns count) = line (codes "columns ") (decimal count)
 said_text (says.Query text) = line (codes "query ") (string_bytes text)
+said_text (says.Limit bytes) = line (codes "limit ") (decimal bytes)
 said_text (says.Created name) = line (codes "replica ") name.now
 said_text (says.Delivered delivered) = delivered_text delivered
 said_text says.Merged = line (codes "merged") []
@@ -38,16 +40,26 @@ abbrev pub is_refusal : Reply → Bool
 is_refusal (says.Refused why) = true
 is_refusal reply = false
 
--- what the code keeps: the columns and the query, once they were told, the replicas by their names, and the summary files by theirs
+-- whether a reply tells that the disk of tapes failed, and how often it does
+abbrev pub is_tape_fault : Reply → Bool
+is_tape_fault (says.Refused TapeFault) = true
+is_tape_fault reply = false
+
+abbrev pub faults_in : Reply → ℕ
+faults_in reply = if is_tape_fault reply then 1 else 0
+
+-- what the code keeps: the columns and the query, once they were told, the replicas by their names, the summary files by theirs, and the
+-- limit of aggregations
 pub record Store : Type 0 where
   pub columns : Option (List Column)
   pub query : Option Checked
   pub replicas : List (Vec ℕ Global × Held)
   pub saved : List (Vec ℕ Global × Vec ℕ Global)
+  pub limit : ℕ
 
--- nothing is there
+-- nothing is there but the usual limit
 abbrev pub empty : Store
-empty = record { columns = None; query = None; replicas = []; saved = [] }
+empty = record { columns = None; query = None; replicas = []; saved = []; limit = USUAL_LIMIT }
 
 -- the replica of a name
 abbrev pub replica_at : Store → List ℕ → Option Held
@@ -90,6 +102,7 @@ pub record Represents (state : State) (store : Store) : Type 0 where
   pub query : state.query ≡ store.query
   pub replicas : (name : List ℕ) → state.replicas name ≡ option_map knowledge_of (replica_at store name)
   pub saved : (name : List ℕ) → AreSaved (state.saved name) (saved_at store name)
+  pub limit : state.limit ≡ store.limit
 
 -- the file of what fits a world
 pub record IsFitting (world : World) (bytes : Vec ℕ Global) : Type 0 where
@@ -109,6 +122,7 @@ pub record Answers (state : State) (request : Request) (owned : List Record) (ol
   pub may : IsReply state request owned said ⊎ IsDisagreement state request owned said
   pub represents : Represents (after state said) new
   pub refused : is_refusal reply ≡ machine.is_refused said
+  pub faulted : is_tape_fault reply ≡ machine.is_fault said
   pub strict : (world : World) → FitsWorld world old → AgreesAt world state request owned said → IsReply state request owned said
   pub fits : (world : World) → FitsWorld world old → AgreesAt world state request owned said → FitsWorld world new
   pub text : (world : World) → FitsWorld world old → AgreesAt world state request owned said → said_text reply ≡ reply_text world said
@@ -124,6 +138,7 @@ pub record Updates (old new : Store) (name : List ℕ) (held : Held) : Type 0 wh
   pub own : replica_at new name ≡ Some held
   pub others : (other : List ℕ) → bytes_eq name other ≡ false → replica_at new other ≡ replica_at old other
   pub saved : new.saved ≡ old.saved
+  pub limit : new.limit ≡ old.limit
 
 -- one name has this file now, and nothing else changed
 pub record Files (old new : Store) (name : List ℕ) (bytes : Vec ℕ Global) : Type 0 where
@@ -132,15 +147,24 @@ pub record Files (old new : Store) (name : List ℕ) (bytes : Vec ℕ Global) : 
   pub replicas : new.replicas ≡ old.replicas
   pub own : saved_at new name ≡ Some bytes
   pub others : (other : List ℕ) → bytes_eq name other ≡ false → saved_at new other ≡ saved_at old other
+  pub limit : new.limit ≡ old.limit
 
--- a replica took a batch that was fed
-pub record Takes (origin number : List ℕ) (told_rows : ℕ) (owned : List Record) (old new : Held) (delivered : Delivered) : Type 0 where
+-- a replica took a batch that was fed, over a disk of tapes that may be honest
+pub record Takes (honest : Bool) (origin number : List ℕ) (told_rows : ℕ) (owned : List Record) (old new : Held) (delivered : Delivered) : Type 0 where
   pub fed : Fed
   pub is_batch : IsBatch (kinds old.query.columns) origin number told_rows owned fed
   pub reply : delivered ≡ reply_of (told old.parts) (fed.origin, fed.number)
   pub learns : told new.parts ≡ learn (told old.parts) (fed.origin, fed.number)
-  pub fits : (world : World) → IsWorld (kinds old.query.columns) world → Fits world old → world fed.origin fed.number ≡ Some fed.rows → Fits world new
+  pub fits : IsTrue honest → (world : World) → IsWorld (kinds old.query.columns) world → Fits world old → world fed.origin fed.number ≡ Some fed.rows → Fits world new
   pub asked : new.query ≡ old.query
+
+-- a refusal that is of the batch itself
+abbrev pub IsOfBatch : Refusal → Type 0
+IsOfBatch NoMemory = ⊥
+IsOfBatch OriginDisagrees = ⊥
+IsOfBatch TapeFault = ⊥
+IsOfBatch TapeDamaged = ⊥
+IsOfBatch why = Unit {0}
 
 -- a batch that was fed disagrees with what a replica holds: no world that this fits has the batch
 pub record IsOtherBatch (origin number : List ℕ) (told_rows : ℕ) (owned : List Record) (held : Held) : Type 0 where
@@ -149,17 +173,19 @@ pub record IsOtherBatch (origin number : List ℕ) (told_rows : ℕ) (owned : Li
   pub never : (world : World) → Fits world held → ¬ (world fed.origin fed.number ≡ Some fed.rows)
 
 -- what the replicas of two names hold together, or why it is refused
-pub record JoinsHeld (own theirs : Held) (joined : Parts) : Type 0 where
+pub record JoinsHeld (honest : Bool) (own theirs : Held) (joined : Parts) : Type 0 where
   pub held : AreHeldParts own.query theirs.parts
-  pub aside : JoinedAside own.query own.parts theirs.parts joined
+  pub aside : JoinedAside honest own.query own.parts theirs.parts joined
 
 abbrev pub JoinRefused : Option Held → Option Held → Refusal → Type 0
 JoinRefused (Some own) (Some theirs) NoMemory = Unit {0}
+JoinRefused (Some own) (Some theirs) TapeFault = Unit {0}
+JoinRefused (Some own) (Some theirs) TapeDamaged = Unit {0}
 JoinRefused (Some own) (Some theirs) OriginDisagrees = (world : World) → Fits world own → ¬ (Fits world theirs)
 JoinRefused (Some own) (Some theirs) why = ⊥
 JoinRefused own theirs why = why ≡ NoSuchName
 
-abbrev pub JoinsNames : Store → List ℕ → List ℕ → Result Parts Refusal → Type 0
-JoinsNames store into from (Ok joined) =
-    (own theirs : Held) × (replica_at store into ≡ Some own) × (replica_at store from ≡ Some theirs) × JoinsHeld own theirs joined
-JoinsNames store into from (Err why) = JoinRefused (replica_at store into) (replica_at store from) why
+abbrev pub JoinsNames : (honest : Bool) → Store → List ℕ → List ℕ → Result Parts Refusal → Type 0
+JoinsNames honest store into from (Ok joined) =
+    (own theirs : Held) × (replica_at store into ≡ Some own) × (replica_at store from ≡ Some theirs) × JoinsHeld honest own theirs joined
+JoinsNames honest store into from (Err why) = JoinRefused (replica_at store into) (replica_at store from) why

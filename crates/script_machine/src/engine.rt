@@ -1,6 +1,6 @@
 //! Runs a script.
 
-ghost use Rattle.std.specs.Prelude.{◌≡◌, ◌≤◌, ◌+◌, length, IfErr, IfOk, MatchResult};
+ghost use Rattle.std.specs.Prelude.{◌≡◌, ◌≤◌, ◌+◌, length, IfErr, IfOk, IsTrue, MatchResult};
 ghost use Rattle.script_io.specs.Input.{ConsumesAtMost};
 ghost use Rattle.script_commands.specs.Commands.{commands_of};
 ghost use Rattle.script_machine.specs.Views.{empty};
@@ -13,6 +13,7 @@ use crate::reply::Reply;
 use crate::session::Session;
 use csv::ByteRecord;
 use grouping_model::limits::LONGEST_SCRIPT;
+use hash_agg::TapeDisk;
 use script_commands::{Command, next_command};
 use script_io::{Records, read_input};
 use std::alloc::Global;
@@ -55,23 +56,24 @@ fn tell<O: Observer>(observer: &mut O, command: &Command, reply: &Reply<'_>) {
 }
 
 /// Answers the commands that are left, one after the other, where nothing is there.
-fn answer_all<W: Write, O: Observer>(
+fn answer_all<W: Write, O: Observer, D: TapeDisk>(
     records: &mut Records<'_>,
     session: &mut Session,
     writer: &mut W,
     observer: &mut O,
+    disk: &mut D,
 ) -> Result<Outcome, RunError>
     requires few { length records.old ≤ LONGEST_SCRIPT + 1 }
     requires none { session.old ≡ empty }
     ensures { MatchResult result
-        (λ outcome. WritesAll (commands_of records.old) (W.contents writer.old)
+        (λ outcome. IsTrue (D.honest disk.old) → WritesAll (record { honest = D.honest disk.old; failed = D.failures disk.old; failed_now = D.failures disk.new }) (commands_of records.old) (W.contents writer.old)
         (W.contents writer.new) outcome.refused)
-        (λ e. WritesSome (commands_of records.old) (W.contents writer.old)
+        (λ e. WritesSome (record { honest = D.honest disk.old; failed = D.failures disk.old; failed_now = D.failures disk.new }) (commands_of records.old) (W.contents writer.old)
         (W.contents writer.new) e) }
 {
     let mut refused = 0;
     while let Some(command) = next_command(records)? {
-        let reply = session.execute(&command, records)?;
+        let reply = session.execute(&command, records, disk)?;
         if reply.is_refused() {
             refused += 1;
         }
@@ -82,22 +84,23 @@ fn answer_all<W: Write, O: Observer>(
 }
 
 /// Answers the commands of a script, one after the other.
-fn run_script<W: Write, O: Observer>(
+fn run_script<W: Write, O: Observer, D: TapeDisk>(
     alloc: Global,
     script: &[u8],
     writer: &mut W,
     observer: &mut O,
+    disk: &mut D,
 ) -> Result<Outcome, RunError>
     requires { length script.now ≤ LONGEST_SCRIPT }
     ensures { MatchResult result
-        (λ outcome. WritesAll (commands_in script.now) (W.contents writer.old)
+        (λ outcome. IsTrue (D.honest disk.old) → WritesAll (record { honest = D.honest disk.old; failed = D.failures disk.old; failed_now = D.failures disk.new }) (commands_in script.now) (W.contents writer.old)
         (W.contents writer.new) outcome.refused)
-        (λ e. WritesSome (commands_in script.now) (W.contents writer.old)
+        (λ e. WritesSome (record { honest = D.honest disk.old; failed = D.failures disk.old; failed_now = D.failures disk.new }) (commands_in script.now) (W.contents writer.old)
         (W.contents writer.new) e) }
 {
     let mut records = Records::new(alloc, script);
     let mut session = Session::new(alloc);
-    let outcome = answer_all(&mut records, &mut session, writer, observer);
+    let outcome = answer_all(&mut records, &mut session, writer, observer, disk);
     drop(session);
     outcome
 }
@@ -105,42 +108,44 @@ fn run_script<W: Write, O: Observer>(
 /// Runs the script that a reader has left, and writes the replies to its commands.
 ///
 /// It reads the whole script before it writes anything, and never takes more than 67,108,865 bytes. A refused command
-/// replies so, changes nothing, and the run goes on.
-pub fn run<R: Read, W: Write>(
+/// replies so, changes nothing, and the run goes on. What groups do not keep within the limit is spilled to the disk.
+pub fn run<R: Read, W: Write, D: TapeDisk>(
     alloc: Global,
     reader: &mut R,
     writer: &mut W,
+    disk: &mut D,
 ) -> Result<Outcome, RunError>
     // No more is read than the longest script and one byte.
     ensures reads { ConsumesAtMost (R.remaining reader.old) (R.remaining reader.new)
         (LONGEST_SCRIPT + 1) }
-    // A script within the limit is answered as the machine does, with so many refusals.
-    ensures done { IfOk result (λ outcome. AnswersAll (R.remaining reader.old)
+    // A script within the limit is answered, over an honest disk, as the machine does, with so many refusals.
+    ensures done { IfOk result (λ outcome. AnswersAll (record { honest = D.honest disk.old; failed = D.failures disk.old; failed_now = D.failures disk.new }) (R.remaining reader.old)
         (W.contents writer.old) (W.contents writer.new) outcome.refused) }
     // What was written where the run stopped.
-    ensures stopped { IfErr result (AnswersSome (R.remaining reader.old) (W.contents writer.old)
+    ensures stopped { IfErr result (AnswersSome (record { honest = D.honest disk.old; failed = D.failures disk.old; failed_now = D.failures disk.new }) (R.remaining reader.old) (W.contents writer.old)
         (W.contents writer.new)) }
     // Nothing was written where the script was not read.
     ensures silent { IfErr result (KeepsUnread (W.contents writer.old) (W.contents writer.new)) }
 {
-    run_observed(alloc, reader, writer, &mut Unobserved)
+    run_observed(alloc, reader, writer, &mut Unobserved, disk)
 }
 
 /// The same as `run`, whose observer is told of each command that is refused, and where it stands in the script.
-pub fn run_observed<R: Read, W: Write, O: Observer>(
+pub fn run_observed<R: Read, W: Write, O: Observer, D: TapeDisk>(
     alloc: Global,
     reader: &mut R,
     writer: &mut W,
     observer: &mut O,
+    disk: &mut D,
 ) -> Result<Outcome, RunError>
     ensures reads { ConsumesAtMost (R.remaining reader.old) (R.remaining reader.new)
         (LONGEST_SCRIPT + 1) }
-    ensures done { IfOk result (λ outcome. AnswersAll (R.remaining reader.old)
+    ensures done { IfOk result (λ outcome. AnswersAll (record { honest = D.honest disk.old; failed = D.failures disk.old; failed_now = D.failures disk.new }) (R.remaining reader.old)
         (W.contents writer.old) (W.contents writer.new) outcome.refused) }
-    ensures stopped { IfErr result (AnswersSome (R.remaining reader.old) (W.contents writer.old)
+    ensures stopped { IfErr result (AnswersSome (record { honest = D.honest disk.old; failed = D.failures disk.old; failed_now = D.failures disk.new }) (R.remaining reader.old) (W.contents writer.old)
         (W.contents writer.new)) }
     ensures silent { IfErr result (KeepsUnread (W.contents writer.old) (W.contents writer.new)) }
 {
     let script = read_input(alloc, reader, LONGEST_SCRIPT)?;
-    run_script(alloc, &script, writer, observer)
+    run_script(alloc, &script, writer, observer, disk)
 }

@@ -82,6 +82,7 @@ pub fn put_reply<W: Write>(writer: &mut W, reply: &Reply<'_>) -> Result<(), Writ
     match reply {
         Reply::Columns(count) => put_count(writer, b"columns ", *count),
         Reply::Query(text) => put_line(writer, b"query ", text.as_bytes()),
+        Reply::Limit(bytes) => put_count(writer, b"limit ", *bytes as usize),
         Reply::Created(name) => put_line(writer, b"replica ", *name),
         Reply::Delivered(delivered) => put_delivered(writer, *delivered),
         Reply::Merged => put_line(writer, b"merged", b""),

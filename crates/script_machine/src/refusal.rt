@@ -2,13 +2,14 @@
 
 ghost use Rattle.std.specs.Prelude.{◌≡◌};
 ghost use Rattle.script_machine.specs.Machine.{batch_refusal, delivery_refusal, query_refusal};
-ghost use Rattle.script_machine.specs.FileRefusals.{summary_refusal, merge_refusal};
+ghost use Rattle.script_machine.specs.FileRefusals.{summary_refusal, merge_refusal, spill_refusal};
 ghost use Rattle.script_machine.specs.Text.{refusal_name, query_name, parse_name, batch_name, summary_name, run_name};
-ghost use Rattle.script_machine.specs.declared.refusal.Refusal.TheVariants.{NoMemory};
+ghost use Rattle.script_machine.specs.declared.refusal.Refusal.TheVariants.{NoMemory, LimitOutOfRange};
 
 use crate::error::RunError;
 use batch_reader::BatchError;
 use group_parser::ParseError;
+use hash_agg::{LimitOutOfRange, SpillError};
 use having_filter::QueryError;
 use replica_merge::{JoinError, MergeError, SummaryError};
 use std::alloc::AllocError;
@@ -24,6 +25,9 @@ pub enum Refusal {
     /// The text is that of no schema.
     #[error("the text describes no columns")]
     BadSchema,
+    /// A limit is less than 65,536 bytes, or more than 1,099,511,627,776.
+    #[error("a limit is 65,536 to 1,099,511,627,776 bytes")]
+    LimitOutOfRange,
     /// The text is that of no query over the columns.
     #[error(transparent)]
     Query(ParseError),
@@ -39,6 +43,12 @@ pub enum Refusal {
     /// One number of an origin has two different batches, or equal prefixes of an origin have different groups.
     #[error("one number of an origin has two different batches")]
     OriginDisagrees,
+    /// The disk of tapes failed.
+    #[error("the tape disk failed")]
+    TapeFault,
+    /// The disk of tapes gave back what was not written to it.
+    #[error("the tape is damaged")]
+    TapeDamaged,
     /// The run stopped before the end of its script.
     #[error(transparent)]
     Run(RunError),
@@ -131,11 +141,14 @@ pub fn name(refusal: Refusal) -> &'static str
     match refusal {
         Refusal::NoMemory => "NoMemory",
         Refusal::BadSchema => "BadSchema",
+        Refusal::LimitOutOfRange => "LimitOutOfRange",
         Refusal::Query(error) => parse_name(error),
         Refusal::Batch(error) => batch_name(error),
         Refusal::Summary(error) => summary_name(error),
         Refusal::DifferentQuery => "DifferentQuery",
         Refusal::OriginDisagrees => "OriginDisagrees",
+        Refusal::TapeFault => "TapeFault",
+        Refusal::TapeDamaged => "TapeDamaged",
         Refusal::Run(error) => run_name(error),
         Refusal::BadCommand => "BadCommand",
         Refusal::NoSuchName => "NoSuchName",
@@ -180,6 +193,8 @@ impl From<JoinError> for Refusal {
         match error {
             JoinError::NoMemory => Refusal::NoMemory,
             JoinError::OriginDisagrees => Refusal::OriginDisagrees,
+            JoinError::TapeFault => Refusal::TapeFault,
+            JoinError::TapeDamaged => Refusal::TapeDamaged,
         }
     }
 }
@@ -203,6 +218,28 @@ impl From<MergeError> for Refusal {
             MergeError::NoMemory => Refusal::NoMemory,
             MergeError::DifferentQuery => Refusal::DifferentQuery,
             MergeError::OriginDisagrees => Refusal::OriginDisagrees,
+            MergeError::TapeFault => Refusal::TapeFault,
+            MergeError::TapeDamaged => Refusal::TapeDamaged,
         }
+    }
+}
+
+impl From<SpillError> for Refusal {
+    ghost from_gives = { λ error refusal. refusal ≡ spill_refusal error };
+
+    fn from(error: SpillError) -> Refusal {
+        match error {
+            SpillError::NoMemory => Refusal::NoMemory,
+            SpillError::TapeFault => Refusal::TapeFault,
+            SpillError::TapeDamaged => Refusal::TapeDamaged,
+        }
+    }
+}
+
+impl From<LimitOutOfRange> for Refusal {
+    ghost from_gives = { λ _ refusal. refusal ≡ LimitOutOfRange };
+
+    fn from(_error: LimitOutOfRange) -> Refusal {
+        Refusal::LimitOutOfRange
     }
 }

@@ -13,6 +13,8 @@ pub enum Reply<'c> {
     Columns(usize),
     /// The query, in its canonical text.
     Query(String),
+    /// The limit is so many bytes.
+    Limit(u64),
     /// There is a replica of this name now.
     Created(&'c [u8]),
     /// What became of a batch.

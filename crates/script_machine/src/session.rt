@@ -1,6 +1,6 @@
 //! What is there while a script runs, and how its commands are answered.
 
-ghost use Rattle.std.specs.Prelude.{◌≡◌, ◌≢◌, List, Some, None, [], IfOk, IfErr, OnOk, OnErr, drop, length, string_bytes, take};
+ghost use Rattle.std.specs.Prelude.{◌≡◌, ◌≢◌, ◌+◌, ◌<◌, ◌≤◌, IsTrue, false, List, Some, None, [], IfOk, IfErr, OnOk, OnErr, drop, length, string_bytes, take};
 ghost use Rattle.std.specs.HashMap.{UpdatesBy};
 ghost use Rattle.std.specs.Str.{bytes_eq};
 ghost use Rattle.csv.specs.Records.{fields_of};
@@ -21,14 +21,18 @@ ghost use Rattle.packed_rows.specs.Columns.{kinds};
 ghost use Rattle.script_commands.specs.Commands as ask;
 ghost use Rattle.script_commands.specs.Commands.{owned_by, request_of};
 ghost use Rattle.script_machine.specs.Machine.{IsNoBatch, IsNoQuery};
-ghost use Rattle.script_machine.specs.Views.{Store, IsStore, empty, Steps, Takes, IsOtherBatch, JoinsNames};
-ghost use Rattle.script_machine.specs.declared.refusal.Refusal.TheVariants.{NoMemory, OriginDisagrees};
+ghost use Rattle.script_machine.specs.Views.{Store, IsStore, empty, faults_in, is_tape_fault, Steps, Takes, IsOfBatch, IsOtherBatch, JoinsNames};
+ghost use Rattle.script_machine.specs.declared.reply.Reply.TheVariants as says;
+ghost use Rattle.script_machine.specs.declared.refusal.Refusal.TheVariants.{NoMemory, OriginDisagrees, TapeFault, TapeDamaged};
+ghost use Rattle.spill_lists.specs.Standing.{Moves, IsReadRefusal};
+ghost use Rattle.spill_lists.specs.declared.error.SpillError.TheVariants as spill;
 
 use crate::refusal::Refusal;
 use crate::reply::Reply;
 use crate::texts::known_lines;
 use batch_reader::read_rows;
 use group_parser::{parse, print};
+use hash_agg::{Fnv1a, Means, SpillError, TapeDisk};
 use having_filter::Query;
 use indexmap::IndexMap;
 use packed_rows::{RowError, Schema};
@@ -39,7 +43,8 @@ use std::alloc::{AllocError, Global};
 use std::marker::Model;
 use table_print::print_csv;
 
-/// The columns and the query, once they were told, the replicas by their names, and what was saved of them.
+/// The columns and the query, once they were told, the replicas by their names, what was saved of them, and the means of
+/// aggregations.
 #[derive(Drop)]
 pub(crate) struct Session {
     alloc: Global,
@@ -48,6 +53,7 @@ pub(crate) struct Session {
     replicas: IndexMap<Vec<u8>, Replica>,
     /// Summary files, by the names that they were saved under.
     saved: IndexMap<Vec<u8>, Vec<u8>>,
+    means: Means<Fnv1a>,
 }
 
 impl Model for Session {
@@ -65,6 +71,7 @@ impl Model for Session {
           query = s.query;
           replicas = s.replicas.entries;
           saved = s.saved.entries;
+          limit = s.means.limit;
         } };
 
     ghost invariant = { λ s. IsStore
@@ -73,36 +80,44 @@ impl Model for Session {
           query = s.query;
           replicas = s.replicas.entries;
           saved = s.saved.entries;
+          limit = s.means.limit;
         }) };
 }
 
 /// The batch of the next records, as many as told, delivered to a replica. These records are taken in any case. The only
 /// outer error is that memory ran out for a record.
-fn deliver(
+fn deliver<D: TapeDisk>(
     alloc: Global,
     replica: &mut Replica,
     origin: &[u8],
     number: &[u8],
     told: u32,
     records: &mut Records<'_>,
+    means: &Means<Fnv1a>,
+    disk: &mut D,
 ) -> Result<Result<Delivered, Refusal>, AllocError>
-    ensures took { IfOk result (λ done. IfOk done (Takes origin.now number.now told (take told
+    ensures took { IfOk result (λ done. IfOk done (Takes (D.honest disk.old) origin.now number.now told (take told
         records.old) replica.old replica.new)) }
     ensures query { replica.new.query ≡ replica.old.query }
     ensures same { IfOk result (λ done. OnErr done (replica.new ≡ replica.old)) }
-    ensures why { IfOk result (λ done. IfErr done (λ why. why ≢ NoMemory → why ≢ OriginDisagrees
+    ensures why { IfOk result (λ done. IfErr done (λ why. IsOfBatch why
         → IsNoBatch (kinds replica.old.query.columns) origin.now number.now told (take told
         records.old) why)) }
     ensures other { IfOk result (λ done. IfErr done (λ why. why ≡ OriginDisagrees → IsOtherBatch
         origin.now number.now told (take told records.old) replica.old)) }
+    ensures fault { IfOk result (λ done. IfErr done (λ why. why ≡ TapeFault
+        → D.failures disk.old < D.failures disk.new)) }
+    ensures undamaged { IfOk result (λ done. IfErr done (λ why. IsTrue (D.honest disk.old)
+        → why ≢ TapeDamaged)) }
     ensures left { OnOk result (records.new ≡ drop told records.old) }
+    ensures disk { Moves (D.failures disk.old) (D.failures disk.new) (D.writes disk.old) (D.writes disk.new) (D.honest disk.old) (D.honest disk.new) }
 {
     let schema = replica.query().schema();
     let batch = match read_rows(alloc, schema, origin, number, told, records)? {
         Ok(batch) => batch,
         Err(why) => return Ok(Err(Refusal::from(why))),
     };
-    match replica.deliver(batch) {
+    match replica.deliver(batch, means, disk) {
         Ok(delivered) => Ok(Ok(delivered)),
         Err(refused) => Ok(Err(Refusal::from(refused.why))),
     }
@@ -115,6 +130,7 @@ fn read_query(alloc: Global, schema: &Schema, text: &str) -> Result<(Query, Stri
         × (string_bytes found.1 ≡ spelling (by_names found.0))) }
     ensures columns { IfOk result (λ found. found.0.columns ≡ schema.now) }
     ensures why { IfErr result (λ why. why ≢ NoMemory → IsNoQuery schema.now text.now why) }
+    ensures faultless { IfErr result (λ why. is_tape_fault (says.Refused why) ≡ false) }
 {
     let query = parse(alloc, schema, text)?;
     match print(alloc, &query) {
@@ -145,13 +161,21 @@ fn known_of_replica(alloc: Global, replica: &Replica) -> Result<Vec<u8>, AllocEr
 }
 
 /// How many rows a replica's answer has, and its table.
-fn answer_of_replica(alloc: Global, replica: &Replica) -> Result<(usize, Vec<u8>), AllocError>
-    ensures { IfOk result (λ found. (world : World) → IsWorld (kinds replica.now.query.columns) world
+fn answer_of_replica<D: TapeDisk>(
+    alloc: Global,
+    replica: &Replica,
+    means: &Means<Fnv1a>,
+    disk: &mut D,
+) -> Result<(usize, Vec<u8>), SpillError>
+    ensures answer { IfOk result (λ found. IsTrue (D.honest disk.old) → (world : World) → IsWorld (kinds replica.now.query.columns) world
         → Fits world replica.now → (found.0 ≡ length (answer (meaning replica.now.query) world
         (told replica.now.parts))) × (found.1.items ≡ table_text (headers replica.now.query) (answer
         (meaning replica.now.query) world (told replica.now.parts)))) }
+    ensures undamaged { IfErr result (λ error. IsTrue (D.honest disk.old) → error ≢ spill.TapeDamaged) }
+    ensures refused { IfErr result (IsReadRefusal (D.failures disk.old) (D.failures disk.new)) }
+    ensures disk { Moves (D.failures disk.old) (D.failures disk.new) (D.writes disk.old) (D.writes disk.new) (D.honest disk.old) (D.honest disk.new) }
 {
-    let answer = replica.answer()?;
+    let answer = replica.answer(means, disk)?;
     let table = print_csv(alloc, replica.query(), &answer);
     let rows = answer.len();
     drop(answer);
@@ -217,12 +241,14 @@ impl Session {
             query: None,
             replicas: IndexMap::new(alloc),
             saved: IndexMap::new(alloc),
+            means: Means::usual(Fnv1a),
         }
     }
 
     /// Answers `columns`.
     fn tell_columns(&mut self, text: &str) -> Reply<'static>
-        ensures { (owned : List Record) → Steps (ask.Columns text.now) owned self.old result self.new }
+        ensures answers { (owned : List Record) → Steps (ask.Columns text.now) owned self.old result self.new }
+        ensures faultless { is_tape_fault result ≡ false }
     {
         if self.columns.is_some() {
             return Reply::Refused(Refusal::BadCommand);
@@ -241,7 +267,8 @@ impl Session {
 
     /// Answers `query`.
     fn tell_query(&mut self, text: &str) -> Reply<'static>
-        ensures { (owned : List Record) → Steps (ask.Query text.now) owned self.old result self.new }
+        ensures answers { (owned : List Record) → Steps (ask.Query text.now) owned self.old result self.new }
+        ensures faultless { is_tape_fault result ≡ false }
     {
         let Some(schema) = &self.columns else {
             return Reply::Refused(Refusal::BadCommand);
@@ -258,9 +285,24 @@ impl Session {
         }
     }
 
+    /// Answers `limit`.
+    fn tell_limit(&mut self, bytes: u64) -> Reply<'static>
+        ensures answers { (owned : List Record) → Steps (ask.Limit bytes) owned self.old result self.new }
+        ensures faultless { is_tape_fault result ≡ false }
+    {
+        match Means::new(bytes, Fnv1a) {
+            Ok(means) => {
+                self.means = means;
+                Reply::Limit(bytes)
+            }
+            Err(error) => Reply::Refused(Refusal::from(error)),
+        }
+    }
+
     /// Answers `replica`.
     fn add_replica<'c>(&mut self, name: &'c [u8]) -> Reply<'c>
-        ensures { (owned : List Record) → Steps (ask.Replica name.now) owned self.old result self.new }
+        ensures answers { (owned : List Record) → Steps (ask.Replica name.now) owned self.old result self.new }
+        ensures faultless { is_tape_fault result ≡ false }
     {
         let Some(query) = &self.query else {
             return Reply::Refused(Refusal::BadCommand);
@@ -278,23 +320,29 @@ impl Session {
     }
 
     /// Answers `feed`, and takes the records that belong to it. The only error is that memory ran out for a record.
-    fn feed(
+    fn feed<D: TapeDisk>(
         &mut self,
         name: &[u8],
         origin: &[u8],
         number: &[u8],
         told: u32,
         records: &mut Records<'_>,
+        disk: &mut D,
     ) -> Result<Reply<'static>, AllocError>
-        ensures answers { IfOk result (λ reply. Steps (ask.Feed name.now origin.now number.now told)
+        ensures answers { IfOk result (λ reply. IsTrue (D.honest disk.old) → Steps (ask.Feed name.now origin.now number.now told)
             (take told records.old) self.old reply self.new) }
+        ensures faults { IfOk result (λ reply. D.failures disk.old + faults_in reply ≤ D.failures disk.new) }
         ensures left { OnOk result (records.new ≡ drop told records.old) }
+        ensures disk { Moves (D.failures disk.old) (D.failures disk.new) (D.writes disk.old) (D.writes disk.new) (D.honest disk.old) (D.honest disk.new) }
     {
         let Some(replica) = self.replicas.get_mut(name) else {
             records.skip(told as usize)?;
             return Ok(Reply::Refused(Refusal::NoSuchName));
         };
-        match deliver(self.alloc, replica, origin, number, told, records)? {
+        let means = &self.means;
+        match deliver(
+            self.alloc, replica, origin, number, told, records, means, disk,
+        )? {
             Ok(delivered) => Ok(Reply::Delivered(delivered)),
             Err(why) => Ok(Reply::Refused(why)),
         }
@@ -302,7 +350,8 @@ impl Session {
 
     /// Answers `known`.
     fn known(&self, name: &[u8]) -> Reply<'static>
-        ensures { (owned : List Record) → Steps (ask.Known name.now) owned self.now result self.now }
+        ensures answers { (owned : List Record) → Steps (ask.Known name.now) owned self.now result self.now }
+        ensures faultless { is_tape_fault result ≡ false }
     {
         match self.replicas.get(name) {
             None => Reply::Refused(Refusal::NoSuchName),
@@ -314,21 +363,26 @@ impl Session {
     }
 
     /// Answers `answer`.
-    fn answer(&self, name: &[u8]) -> Reply<'static>
-        ensures { (owned : List Record) → Steps (ask.Answer name.now) owned self.now result self.now }
+    fn answer<D: TapeDisk>(&self, name: &[u8], disk: &mut D) -> Reply<'static>
+        ensures answers { IsTrue (D.honest disk.old) → (owned : List Record) → Steps (ask.Answer name.now) owned self.now result self.now }
+        ensures faults { D.failures disk.old + faults_in result ≤ D.failures disk.new }
+        ensures disk { Moves (D.failures disk.old) (D.failures disk.new) (D.writes disk.old) (D.writes disk.new) (D.honest disk.old) (D.honest disk.new) }
     {
         match self.replicas.get(name) {
             None => Reply::Refused(Refusal::NoSuchName),
-            Some(replica) => match answer_of_replica(self.alloc, replica) {
+            Some(replica) => match answer_of_replica(self.alloc, replica, &self.means, disk) {
                 Ok((rows, table)) => Reply::Answer { rows, table },
-                Err(_) => Reply::Refused(Refusal::NoMemory),
+                Err(error) => Reply::Refused(Refusal::from(error)),
             },
         }
     }
 
     /// What two replicas hold together, aside from both.
-    fn join(&self, into: &[u8], from: &[u8]) -> Result<Joined, Refusal>
-        ensures { JoinsNames self.now into.now from.now result }
+    fn join<D: TapeDisk>(&self, into: &[u8], from: &[u8], disk: &mut D) -> Result<Joined, Refusal>
+        ensures joins { JoinsNames (D.honest disk.old) self.now into.now from.now result }
+        ensures fault { IfErr result (λ why. why ≡ TapeFault → D.failures disk.old < D.failures disk.new) }
+        ensures undamaged { IfErr result (λ why. IsTrue (D.honest disk.old) → why ≢ TapeDamaged) }
+        ensures disk { Moves (D.failures disk.old) (D.failures disk.new) (D.writes disk.old) (D.writes disk.new) (D.honest disk.old) (D.honest disk.new) }
     {
         let Some(own) = self.replicas.get(into) else {
             return Err(Refusal::NoSuchName);
@@ -336,21 +390,25 @@ impl Session {
         let Some(theirs) = self.replicas.get(from) else {
             return Err(Refusal::NoSuchName);
         };
-        match own.join(theirs) {
+        match own.join(theirs, &self.means, disk) {
             Ok(joined) => Ok(joined),
             Err(MergeError::NoMemory) => Err(Refusal::NoMemory),
             Err(MergeError::OriginDisagrees) => Err(Refusal::OriginDisagrees),
+            Err(MergeError::TapeFault) => Err(Refusal::TapeFault),
+            Err(MergeError::TapeDamaged) => Err(Refusal::TapeDamaged),
             // All replicas have the query that was told.
             Err(MergeError::DifferentQuery) => unreachable!(),
         }
     }
 
     /// Answers `merge`.
-    fn merge(&mut self, into: &[u8], from: &[u8]) -> Reply<'static>
-        ensures { (owned : List Record) → Steps (ask.Merge into.now from.now) owned self.old result
-            self.new }
+    fn merge<D: TapeDisk>(&mut self, into: &[u8], from: &[u8], disk: &mut D) -> Reply<'static>
+        ensures answers { IsTrue (D.honest disk.old) → (owned : List Record) →
+            Steps (ask.Merge into.now from.now) owned self.old result self.new }
+        ensures faults { D.failures disk.old + faults_in result ≤ D.failures disk.new }
+        ensures disk { Moves (D.failures disk.old) (D.failures disk.new) (D.writes disk.old) (D.writes disk.new) (D.honest disk.old) (D.honest disk.new) }
     {
-        let joined = match self.join(into, from) {
+        let joined = match self.join(into, from, disk) {
             Ok(joined) => joined,
             Err(why) => return Reply::Refused(why),
         };
@@ -365,8 +423,9 @@ impl Session {
 
     /// Answers `save`.
     fn save(&mut self, name: &[u8], saved: &[u8]) -> Reply<'static>
-        ensures { (owned : List Record) → Steps (ask.Save name.now saved.now) owned self.old result
+        ensures answers { (owned : List Record) → Steps (ask.Save name.now saved.now) owned self.old result
             self.new }
+        ensures faultless { is_tape_fault result ≡ false }
     {
         let Some(replica) = self.replicas.get(name) else {
             return Reply::Refused(Refusal::NoSuchName);
@@ -383,8 +442,9 @@ impl Session {
 
     /// Answers `load`.
     fn load(&mut self, name: &[u8], saved: &[u8]) -> Reply<'static>
-        ensures { (owned : List Record) → Steps (ask.Load name.now saved.now) owned self.old result
+        ensures answers { (owned : List Record) → Steps (ask.Load name.now saved.now) owned self.old result
             self.new }
+        ensures faultless { is_tape_fault result ≡ false }
     {
         let Some(file) = self.saved.get(saved) else {
             return Reply::Refused(Refusal::NoSuchName);
@@ -400,15 +460,18 @@ impl Session {
 
     /// Answers a command, and takes the records that belong to it, which come next. The only error is that memory ran out
     /// for a record.
-    pub(crate) fn execute<'c>(
+    pub(crate) fn execute<'c, D: TapeDisk>(
         &mut self,
         command: &'c Command,
         records: &mut Records<'_>,
+        disk: &mut D,
     ) -> Result<Reply<'c>, AllocError>
-        ensures answers { IfOk result (λ reply. Steps (request_of (fields_of command.now.head))
+        ensures answers { IfOk result (λ reply. IsTrue (D.honest disk.old) → Steps (request_of (fields_of command.now.head))
             (take (owned_by (fields_of command.now.head)) records.old) self.old reply self.new) }
+        ensures faults { IfOk result (λ reply. D.failures disk.old + faults_in reply ≤ D.failures disk.new) }
         ensures left { OnOk result (records.new
             ≡ drop (owned_by (fields_of command.now.head)) records.old) }
+        ensures disk { Moves (D.failures disk.old) (D.failures disk.new) (D.writes disk.old) (D.writes disk.new) (D.honest disk.old) (D.honest disk.new) }
     {
         let reply = match command.request() {
             Request::Feed {
@@ -416,13 +479,14 @@ impl Session {
                 origin,
                 number,
                 told,
-            } => return self.feed(name, origin, number, told, records),
+            } => return self.feed(name, origin, number, told, records, disk),
             Request::Columns(text) => self.tell_columns(text),
             Request::Query(text) => self.tell_query(text),
+            Request::Limit(bytes) => self.tell_limit(bytes),
             Request::Replica(name) => self.add_replica(name),
             Request::Known(name) => self.known(name),
-            Request::Answer(name) => self.answer(name),
-            Request::Merge { into, from } => self.merge(into, from),
+            Request::Answer(name) => self.answer(name, disk),
+            Request::Merge { into, from } => self.merge(into, from, disk),
             Request::Save { name, saved } => self.save(name, saved),
             Request::Load { name, saved } => self.load(name, saved),
             Request::Unknown => Reply::Refused(Refusal::BadCommand),

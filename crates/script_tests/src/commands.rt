@@ -28,6 +28,7 @@ fn asked(rt: HostRuntime, request: Request<'_>) -> Result<String, Fail> {
     match request {
         Request::Columns(schema) => named(rt, "columns", schema.as_bytes(), b""),
         Request::Query(text) => named(rt, "query", text.as_bytes(), b""),
+        Request::Limit(bytes) => Ok(format!(in rt.alloc(); "limit|{bytes}|")?),
         Request::Replica(name) => named(rt, "replica", name, b""),
         Request::Known(name) => named(rt, "known", name, b""),
         Request::Answer(name) => named(rt, "answer", name, b""),
@@ -90,6 +91,11 @@ columns,c => columns|c| 0
 query,\u{e9} => query|\u{e9}| 0
 columns, => columns|| 0
 query,\"a,\"\"b\"\"/c\" => query|a,\"b\"/c| 0
+limit,0065536 => limit|65536| 0
+limit,9999999999999999999 => limit|9999999999999999999| 0
+limit,00000000000000000001 => unknown|| 0
+limit,-1 => unknown|| 0
+limit, => unknown|| 0
 replica,A_9 => replica|A_9| 0
 known,a_name_that_has_as_many_letters_as_a_name_may_have_which_are_63 => \
 known|a_name_that_has_as_many_letters_as_a_name_may_have_which_are_63| 0

@@ -1,9 +1,12 @@
 use crate::tables::{accepted, written};
 use batch_reader::BatchError;
+use hash_agg::MemDisk;
 use script_machine::{Observer, Outcome, Refusal, RunError, name, run, run_observed};
 use std::io;
 use std::io::{Error, ErrorKind, Read, Write};
 use std::test::*;
+use test_disks::FailsFirst;
+use test_tables::halves;
 
 /// The commands that each example begins with, and their replies.
 const HEAD: &str = "columns,\"c text, d bigint\"\n\
@@ -20,7 +23,7 @@ struct Example {
     refused: u64,
 }
 
-const EXAMPLES: [Example; 8] = [
+const EXAMPLES: [Example; 9] = [
     // A first run.
     Example {
         commands: "feed,a,0,1,3\noslo,5\nbergen,7\noslo,-2\nknown,a\nanswer,a\n",
@@ -58,10 +61,11 @@ const EXAMPLES: [Example; 8] = [
     // Refusals.
     Example {
         commands: "feed,a,0,1,2\noslo,5\noslo,x\nfeed,a,0,1,1\noslo,5,6\nfeed,a,1024,1,0\nfeed,z,0,1,0\n\
-            replica,a\nhello\nanswer,a\nfeed,a,0,1,3\noslo,1\n",
+            replica,a\nlimit,65535\nhello\nanswer,a\nfeed,a,0,1,3\noslo,1\n",
         replies: "refused BadField\nrefused WrongWidth\nrefused BadBatchHead\nrefused NoSuchName\n\
-            refused NameTaken\nrefused BadCommand\nanswer 0\nc,count,sum\nrefused RowCount\n",
-        refused: 7,
+            refused NameTaken\nrefused LimitOutOfRange\nrefused BadCommand\nanswer 0\nc,count,sum\n\
+            refused RowCount\n",
+        refused: 8,
     },
     // The rows of a feed that is refused are passed over, and fewer rows than told come before a bad row.
     Example {
@@ -71,6 +75,15 @@ const EXAMPLES: [Example; 8] = [
         replies: "refused BadBatchHead\nrefused NoSuchName\nrefused BadCommand\nrefused BadField\n\
             folded upto 1\nknown 1\norigin 0 upto 1\nrefused RowCount\n",
         refused: 5,
+    },
+    // Limits, at both ends of their range, with zeros in front, and none.
+    Example {
+        commands: "limit,65536\nlimit,0001099511627776\nlimit,1099511627777\nlimit,9999999999999999999\n\
+            limit,00000000000000065536\nlimit,-65536\nlimit,\nlimit\nlimit,65536,\nlimit,65_536\n",
+        replies: "limit 65536\nlimit 1099511627776\nrefused LimitOutOfRange\nrefused LimitOutOfRange\n\
+            refused BadCommand\nrefused BadCommand\nrefused BadCommand\nrefused BadCommand\n\
+            refused BadCommand\nrefused BadCommand\n",
+        refused: 8,
     },
     // More rows are told than a batch may have, and all commands behind are passed over.
     Example {
@@ -271,7 +284,12 @@ fn written_to(rt: HostRuntime, script: &str, room: usize) -> (Result<Outcome, Ru
         taken: Vec::new(rt.alloc()),
         room,
     };
-    let outcome = run(rt.alloc(), &mut script.as_bytes(), &mut writer);
+    let outcome = run(
+        rt.alloc(),
+        &mut script.as_bytes(),
+        &mut writer,
+        &mut MemDisk::new(rt.alloc()),
+    );
     (outcome, writer.taken.len())
 }
 
@@ -289,7 +307,12 @@ fn faults_of_writers_end_a_run(rt: HostRuntime) -> Result<(), Fail> {
 #[test]
 fn faults_of_readers_end_a_run(rt: HostRuntime) {
     let mut written = Vec::new(rt.alloc());
-    let outcome = run(rt.alloc(), &mut FailingReader, &mut written);
+    let outcome = run(
+        rt.alloc(),
+        &mut FailingReader,
+        &mut written,
+        &mut MemDisk::new(rt.alloc()),
+    );
     assert_eq!(rt; outcome, Err(RunError::ReadFault));
     assert!(rt; written.is_empty());
 }
@@ -298,7 +321,12 @@ fn faults_of_readers_end_a_run(rt: HostRuntime) {
 fn readers_without_an_end_end_a_run(rt: HostRuntime) {
     let mut written = Vec::new(rt.alloc());
     let mut endless = EndlessReader { taken: 0 };
-    let outcome = run(rt.alloc(), &mut endless, &mut written);
+    let outcome = run(
+        rt.alloc(),
+        &mut endless,
+        &mut written,
+        &mut MemDisk::new(rt.alloc()),
+    );
     assert_eq!(rt; outcome, Err(RunError::InputTooLong));
     assert_eq!(rt; endless.taken, 67_108_865);
     assert!(rt; written.is_empty());
@@ -307,7 +335,12 @@ fn readers_without_an_end_end_a_run(rt: HostRuntime) {
 #[test]
 fn nothing_is_answered_by_nothing(rt: HostRuntime) -> Result<(), Fail> {
     let mut written = Vec::new(rt.alloc());
-    let outcome = run(rt.alloc(), &mut io::empty(), &mut written);
+    let outcome = run(
+        rt.alloc(),
+        &mut io::empty(),
+        &mut written,
+        &mut MemDisk::new(rt.alloc()),
+    );
     assert_eq!(rt; outcome, Ok(Outcome { refused: 0 }));
     assert!(rt; written.is_empty());
     Ok(())
@@ -341,6 +374,7 @@ fn refused_commands_are_told_with_their_lines(rt: HostRuntime) -> Result<(), Fai
         &mut script.as_bytes(),
         &mut written,
         &mut refusals,
+        &mut MemDisk::new(rt.alloc()),
     );
     assert_eq!(rt; outcome, Ok(Outcome { refused: 3 }));
     let wanted = [
@@ -359,5 +393,66 @@ fn refusals_have_names(rt: HostRuntime) -> Result<(), Fail> {
         "BadField"
     );
     assert_eq!(rt; name(Refusal::from(RunError::InputTooLong)), "InputTooLong");
+    Ok(())
+}
+
+/// A script that feeds a row of each of so many towns, as a batch of either of two origins, behind a limit, and answers.
+fn counting(rt: HostRuntime, limit: u64, towns: u32) -> Result<String, Fail> {
+    let mut script = format!(in rt.alloc(); "{HEAD}limit,{limit}\n")?;
+    for origin in 0..2_u32 {
+        script.push_str(&format!(in rt.alloc(); "feed,a,{origin},1,{towns}\n")?)?;
+        for town in 0..towns {
+            script.push_str(&format!(in rt.alloc(); "k{town:05},{town}\n")?)?;
+        }
+    }
+    script.push_str("answer,a\n")?;
+    Ok(script)
+}
+
+/// What it replies behind the limit.
+fn counted(rt: HostRuntime, limit: u64, towns: u32) -> Result<String, Fail> {
+    let replies = accepted(rt, &counting(rt, limit, towns)?)?;
+    let (_, counted) = halves(&replies, "folded")?;
+    Ok(String::from_str(rt.alloc(), counted)?)
+}
+
+#[test]
+fn a_limit_changes_no_answer(rt: HostRuntime) -> Result<(), Fail> {
+    // A table of 65,536 bytes holds some 380 of the groups.
+    let (spilled, whole) = (
+        counted(rt, 65_536, 1_500)?,
+        counted(rt, 1_099_511_627_776, 1_500)?,
+    );
+    assert!(rt; spilled == whole);
+    assert!(rt;
+        spilled.as_str().starts_with(
+            " upto 1\nfolded upto 1\nanswer 1500\nc,count,sum\nk00000,2,0\nk00001,2,2\n"
+        )
+    );
+    Ok(())
+}
+
+#[test]
+fn a_fault_of_the_disk_is_told_once(rt: HostRuntime) -> Result<(), Fail> {
+    let mut script = counting(rt, 65_536, 500)?;
+    script.push_str("feed,a,0,1,0\nanswer,a\n")?;
+    let mut disk = FailsFirst {
+        inner: MemDisk::new(rt.alloc()),
+        has_failed: false,
+    };
+    let mut written = Vec::new(rt.alloc());
+    let outcome = run(rt.alloc(), &mut script.as_bytes(), &mut written, &mut disk)?;
+    assert_eq!(rt; outcome, Outcome { refused: 1 });
+    let replies = str::from_utf8(&written)?;
+    let (_, faulty) = halves(replies, "limit 65536\n")?;
+    // The first batch is refused, and then fed again without a row.
+    assert!(rt;
+        faulty.starts_with(
+            "refused TapeFault\nfolded upto 1\nanswer 500\nc,count,sum\nk00000,1,0\n"
+        )
+    );
+    assert!(rt;
+        faulty.contains("\nfolded upto 1\nanswer 500\nc,count,sum\nk00000,1,0\nk00001,1,1\n")
+    );
     Ok(())
 }

@@ -1,4 +1,5 @@
 use crate::tables::accepted;
+use hash_agg::MemDisk;
 use script_machine::{Observer, Refusal, run_observed};
 use std::test::*;
 use test_tables::{differing, halves};
@@ -30,7 +31,13 @@ fn told(rt: HostRuntime, query: &str) -> Result<String, Fail> {
     let script = asked(rt, query)?;
     let mut last = LastRefusal { why: None };
     let mut written = Vec::new(rt.alloc());
-    run_observed(rt.alloc(), &mut script.as_bytes(), &mut written, &mut last)?;
+    run_observed(
+        rt.alloc(),
+        &mut script.as_bytes(),
+        &mut written,
+        &mut last,
+        &mut MemDisk::new(rt.alloc()),
+    )?;
     if let Some(why) = last.why {
         return Ok(format!(in rt.alloc(); "{why}")?);
     }

@@ -1,3 +1,4 @@
+use hash_agg::MemDisk;
 use script_machine::{Outcome, run};
 use std::test::*;
 use test_tables::halves;
@@ -5,7 +6,8 @@ use test_tables::halves;
 /// What a script's run writes, and how many of its commands are refused.
 pub(crate) fn written(rt: HostRuntime, script: &str) -> Result<(String, u64), Fail> {
     let mut written = Vec::new(rt.alloc());
-    let Outcome { refused } = run(rt.alloc(), &mut script.as_bytes(), &mut written)?;
+    let mut disk = MemDisk::new(rt.alloc());
+    let Outcome { refused } = run(rt.alloc(), &mut script.as_bytes(), &mut written, &mut disk)?;
     Ok((String::from_utf8(written).ok().ok_or("not UTF-8")?, refused))
 }
 

@@ -4,8 +4,6 @@
 #[cfg(test)]
 mod calls;
 #[cfg(test)]
-mod disks;
-#[cfg(test)]
 mod lists;
 #[cfg(test)]
 mod tapes;

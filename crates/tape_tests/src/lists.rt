@@ -1,11 +1,11 @@
 //! Lists that passes spill, and read again.
 ghost use Rattle.std.specs.Prelude.{◌≡◌, [], false, OnOk};
 
-use crate::disks::{FailsFirst, Flips, Marks};
 use spill_lists::{SpillError, SpillLists};
 use spill_tapes::{MemDisk, TapeDisk};
 use std::alloc::Global;
 use std::test::*;
+use test_disks::{FailsFirst, Flips, Marks};
 
 /// Spills a record: its hash, its tag and its bytes.
 fn spill<D: TapeDisk>(

@@ -1,10 +1,10 @@
 //! Tapes that are written, read and closed.
 
 use crate::calls::{append, close, next, rewind};
-use crate::disks::{FailsFirst, Flips, Marks};
 use spill_tapes::{MemDisk, TapeDisk, TapeId, Tapes};
 use std::alloc::Global;
 use std::test::Fail;
+use test_disks::{FailsFirst, Flips, Marks};
 
 /// How many tapes there are at once, and how many records each has.
 const TAPES: u32 = 16;

@@ -8,22 +8,22 @@ use Rattle.file_commands.proofs.FileLaws.{FileBatch, read_of_file, packed_of_fil
 use Rattle.file_commands.proofs.feeding.feed.Goals as goal
 
 pub deliver-requires-clause-rows : goal.deliver-requires-clause-rows
-deliver-requires-clause-rows c =
+deliver-requires-clause-rows g c =
     let batch = c.in_ok-batch.ensures in
     let same : c.schema-schema.result.now ≡ c.args.replica.now.query.columns = c.schema-schema.ensures.columns ∙ ap (λ (q : Checked). q.columns) c.query.ensures in
     let found = read_of_file _ _ _ _ _ batch.origin batch.number batch.few batch.told batch.rows in
     packed_of_file _ _ _ _ _ (subst (λ columns. FileBatch (kinds columns) (read_file c.args.file.now) c.in_ok-batch.batch.origin c.in_ok-batch.batch.number c.in_ok-batch.batch.rows) same found) batch.few
 
 pub returns-in-Ok-clause-took : goal.returns-in-Ok-clause-took
-returns-in-Ok-clause-took c =
+returns-in-Ok-clause-took g c =
     let batch = c.in_ok-batch.ensures in
     let same : c.schema-schema.result.now ≡ c.args.replica.now.query.columns = c.schema-schema.ensures.columns ∙ ap (λ (q : Checked). q.columns) c.query.ensures in
     let found = read_of_file _ _ _ _ _ batch.origin batch.number batch.few batch.told batch.rows in
     let done = c.in-Ok.ensures in
-    takes_file _ _ _ _ _ _ _ (subst (λ columns. FileBatch (kinds columns) (read_file c.args.file.now) c.in_ok-batch.batch.origin c.in_ok-batch.batch.number c.in_ok-batch.batch.rows) same found) done.reply done.told done.fits done.query
+    takes_file _ _ _ _ _ _ _ _ (subst (λ columns. FileBatch (kinds columns) (read_file c.args.file.now) c.in_ok-batch.batch.origin c.in_ok-batch.batch.number c.in_ok-batch.batch.rows) same found) done.reply done.told done.fits done.query
 
 pub returns-in-Err-clause-other : goal.returns-in-Err-clause-other
-returns-in-Err-clause-other c = λ is.
+returns-in-Err-clause-other g c = λ is.
     let batch = c.in_ok-batch.ensures in
     let same : c.schema-schema.result.now ≡ c.args.replica.now.query.columns = c.schema-schema.ensures.columns ∙ ap (λ (q : Checked). q.columns) c.query.ensures in
     let found = read_of_file _ _ _ _ _ batch.origin batch.number batch.few batch.told batch.rows in

@@ -8,17 +8,17 @@ use Rattle.file_commands.proofs.FileLaws.{if_err, on_ok}
 use Rattle.file_commands.proofs.merging.merge.Goals as goal
 
 pub returns-clause-merged : goal.returns-clause-merged
-returns-clause-merged c =
-    on_ok c.take_in.result (MergesHeld c.args.replica.now c.in_ok-other.other c.take_in.new.replica) (MergesFile c.args.file.now c.args.replica.now c.take_in.new.replica)
+returns-clause-merged g c =
+    on_ok c.take_in.result (MergesHeld (g.D.TapeDisk.honest c.args.disk.now) c.args.replica.now c.in_ok-other.other c.take_in.new.replica) (MergesFile (g.D.TapeDisk.honest c.args.disk.now) c.args.file.now c.args.replica.now c.take_in.new.replica)
     (λ held. (c.in_ok-other.other, c.in_ok-other.ensures.loaded, held)) c.take_in.ensures.merged
 
 pub returns-clause-why : goal.returns-clause-why
-returns-clause-why c =
+returns-clause-why g c =
     if_err c.take_in.result (IsApart c.args.replica.now c.in_ok-other.other) (IsNotMerged c.args.file.now c.args.replica.now)
     (λ why is. inr (c.in_ok-other.other, c.in_ok-other.ensures.loaded, is)) c.take_in.ensures.why
 
 pub returns-clause-agree : goal.returns-clause-agree
-returns-clause-agree c =
+returns-clause-agree g c =
     if_err c.take_in.result (λ why. why ≡ OriginDisagrees → (world : World) → Fits world c.args.replica.now → ¬ (Fits world c.in_ok-other.other))
     (λ why. why ≡ OriginDisagrees → (world : World) → Fits world c.args.replica.now → (other : Held) → _ → ¬ (Fits world other))
     (λ why agree is world own other is_file theirs. agree is world own (subst (Fits world) (sym (c.in_ok-other.ensures.saved other is_file)) theirs))

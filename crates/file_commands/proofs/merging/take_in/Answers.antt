@@ -4,10 +4,10 @@ use Rattle.file_commands.proofs.FileLaws.{apart, told_disagreement}
 use Rattle.file_commands.proofs.merging.take_in.Goals as goal
 
 pub returns-in-Err-clause-why : goal.returns-in-Err-clause-why
-returns-in-Err-clause-why c =
+returns-in-Err-clause-why g c =
     subst (IsApart c.args.replica.now c.args.other.now) (sym c.from.ensures)
     (apart c.args.replica.now c.args.other.now c.in-Err.error c.in-Err.ensures.different c.in-Err.ensures.disagree)
 
 pub returns-in-Err-clause-agree : goal.returns-in-Err-clause-agree
-returns-in-Err-clause-agree c =
+returns-in-Err-clause-agree g c =
     λ is world own theirs. c.in-Err.ensures.agree (told_disagreement c.in-Err.error (sym c.from.ensures ∙ is)) world own theirs

@@ -10,13 +10,13 @@ use Rattle.origin_prefix.proofs.PartLaws.{following_inputs, few_following}
 use Rattle.origin_prefix.proofs.part.fold_following.Goals as goal
 
 pub fold-requires-clause-inputs : goal.fold-requires-clause-inputs
-fold-requires-clause-inputs c =
+fold-requires-clause-inputs g c =
     let batches : Batches = behind c.args.prefix c.args.early.now.entries (option_copied c.args.next) in
     let are : map brought c.deref.result.now ≡ map Packed (rows_following c.args.prefix batches) = ap (map brought) c.deref.ensures.value ∙ c.in_ok-inputs.ensures.inputs in
     subst (AllByRecursion (IsInput (meaning c.args.query.now))) (sym are) (following_inputs c.args.query.now c.args.prefix batches c.requires.may.above)
 
 pub fold-requires-clause-few : goal.fold-requires-clause-few
-fold-requires-clause-few c =
+fold-requires-clause-few g c =
     let batches : Batches = behind c.args.prefix c.args.early.now.entries (option_copied c.args.next) in
     let are : map brought c.deref.result.now ≡ map Packed (rows_following c.args.prefix batches) = ap (map brought) c.deref.ensures.value ∙ c.in_ok-inputs.ensures.inputs in
     let few : all_rows (map Packed (rows_following c.args.prefix batches)) ≤ following c.args.prefix batches * MOST_ROWS = few_following c.args.query.now c.args.prefix batches c.requires.may.above in

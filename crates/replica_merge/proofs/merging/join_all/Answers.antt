@@ -12,27 +12,28 @@ use Rattle.replica_merge.specs.Replicas.{Parts, part_at, part_of, IsHeldPart, Di
 use Rattle.replica_merge.specs.declared.error.MergeError.TheVariants.{OriginDisagrees}
 use Rattle.replica_merge.proofs.DeliveredLaws.{part_is}
 use Rattle.replica_merge.proofs.MergedLaws.{JoinedSoFar, joined_more, found_disagreement, join_error}
+use Rattle.hash_agg.proofs.DiskLaws.{moves_twice}
 use Rattle.replica_merge.proofs.merging.join_all.Goals as goal
 
 pub join_part-requires-clause-own : goal.join_part-requires-clause-own
-join_part-requires-clause-own c =
+join_part-requires-clause-own g c =
     subst (λ o. IsPartOf c.args.query.now (unwrap_or o empty)) (sym c.get.ensures.value) (part_is c.args.query.now c.args.own.now.entries c.requires.own c.in-Some.origin.now)
 
 pub returns-in_err-part-clause-disagree : goal.returns-in_err-part-clause-disagree
-returns-in_err-part-clause-disagree c =
+returns-in_err-part-clause-disagree g c =
     let own : Parts = c.args.own.now.entries in
     let all : Parts = c.into_iter-origin-iterator.result in
     let theirs : all ≡ c.args.theirs.now.entries = c.into_iter-origin-iterator.ensures.into_iter_gives.0 in
     let p = err_from_is_err_and c.from_residual-in_err-part.result c.from_residual-in_err-part.ensures.1 in
-    let had = subst (λ rest. JoinedSoFar c.args.query.now (part_of own c.in-Some.origin.now) (part_at own c.in-Some.origin.now) (part_at all c.in-Some.origin.now) (part_at rest c.in-Some.origin.now) (part_at c.loop-origin.joined.entries c.in-Some.origin.now))
+    let had = subst (λ rest. JoinedSoFar (g.D.TapeDisk.honest c.args.disk.now) c.args.query.now (part_of own c.in-Some.origin.now) (part_at own c.in-Some.origin.now) (part_at all c.in-Some.origin.now) (part_at rest c.in-Some.origin.now) (part_at c.loop-origin.joined.entries c.in-Some.origin.now))
     c.in-Some.ensures.steps (c.loop-origin.invariant.at c.in-Some.origin.now) in
     subst (λ r. IfErr r (λ e. e ≡ OriginDisagrees → DisagreeSomewhere own c.args.theirs.now.entries)) (sym p.1)
     (λ is. subst (DisagreeSomewhere own) theirs
-    (found_disagreement c.args.query.now own all c.loop-origin.joined.entries c.in-Some.origin.now c.in-Some.part.now c.next.new.self had
+    (found_disagreement (g.D.TapeDisk.honest c.args.disk.now) c.args.query.now own all c.loop-origin.joined.entries c.in-Some.origin.now c.in-Some.part.now c.next.new.self had
     (subst (λ o. PartsDisagree (unwrap_or o empty) c.in-Some.part.now) c.get.ensures.value (c.in_err-part.ensures.disagree (join_error c.in_err-part.field-0.0 (sym p.2 ∙ is))))))
 
 pub loop-origin-preserved : goal.loop-origin-preserved
-loop-origin-preserved c =
+loop-origin-preserved g c =
     let own : Parts = c.args.own.now.entries in
     let all : Parts = c.into_iter-origin-iterator.result in
     let old : Parts = c.loop-origin.joined.entries in
@@ -40,16 +41,19 @@ loop-origin-preserved c =
     let rest : Parts = c.next.new.self in
     let rising = subst (λ rest. IsStrictlySortedBy nat_cmp (numbers rest)) c.in-Some.ensures.steps c.loop-origin.invariant.rest in
     let new : Part = c.in_ok-part.part in
-    let joins : Joins (meaning c.args.query.now) (part_of own n) c.in-Some.part.now new = subst (λ o. Joins (meaning c.args.query.now) (unwrap_or o empty) c.in-Some.part.now new) c.get.ensures.value c.in_ok-part.ensures.joins in
+    let joins : Joins (g.D.TapeDisk.honest c.args.disk.now) (meaning c.args.query.now) (part_of own n) c.in-Some.part.now new = subst (λ honest. Joins honest (meaning c.args.query.now) (part_of own n) c.in-Some.part.now new) c.loop-origin.invariant.disk.honesty
+    (subst (λ o. Joins (g.D.TapeDisk.honest c.loop-origin.disk) (meaning c.args.query.now) (unwrap_or o empty) c.in-Some.part.now new) c.get.ensures.value c.in_ok-part.ensures.joins) in
     let agree : ¬ (PartsDisagree (part_of own n) c.in-Some.part.now) = subst (λ o. ¬ (PartsDisagree (unwrap_or o empty) c.in-Some.part.now)) c.get.ensures.value c.in_ok-part.ensures.agree in
     record {
       at = λ o.
-          subst (λ ps. JoinedSoFar c.args.query.now (part_of own o) (part_at own o) (part_at all o) (part_at rest o) (part_at ps o)) (sym c.in_ok-put.ensures.entries)
-          (joined_more c.args.query.now own own all old rest n c.in-Some.part.now new rising joins c.in_ok-part.ensures.part agree o
-          (subst (λ left. JoinedSoFar c.args.query.now (part_of own o) (part_at own o) (part_at all o) (part_at left o) (part_at old o)) c.in-Some.ensures.steps (c.loop-origin.invariant.at o)));
+          subst (λ ps. JoinedSoFar (g.D.TapeDisk.honest c.args.disk.now) c.args.query.now (part_of own o) (part_at own o) (part_at all o) (part_at rest o) (part_at ps o)) (sym c.in_ok-put.ensures.entries)
+          (joined_more (g.D.TapeDisk.honest c.args.disk.now) c.args.query.now own own all old rest n c.in-Some.part.now new rising joins c.in_ok-part.ensures.part agree o
+          (subst (λ left. JoinedSoFar (g.D.TapeDisk.honest c.args.disk.now) c.args.query.now (part_of own o) (part_at own o) (part_at all o) (part_at left o) (part_at old o)) c.in-Some.ensures.steps (c.loop-origin.invariant.at o)));
       rest = rising_rest (n, c.in-Some.part.now) rest rising;
       held = (subst (AllByRecursion (IsHeldPart c.args.query.now)) c.in-Some.ensures.steps c.loop-origin.invariant.held).1;
       rising = c.in_ok-put.ensures.rising;
+      disk = moves_twice (g.D.TapeDisk.failures c.args.disk.now) (g.D.TapeDisk.failures c.loop-origin.disk) (g.D.TapeDisk.failures c.join_part.new.disk) (g.D.TapeDisk.writes c.args.disk.now) (g.D.TapeDisk.writes c.loop-origin.disk) (g.D.TapeDisk.writes c.join_part.new.disk)
+          (g.D.TapeDisk.honest c.args.disk.now) (g.D.TapeDisk.honest c.loop-origin.disk) (g.D.TapeDisk.honest c.join_part.new.disk) c.loop-origin.invariant.disk c.join_part.ensures.disk;
       can = tt;
       finite = tt;
     }

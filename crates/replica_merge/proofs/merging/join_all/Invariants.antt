@@ -3,17 +3,19 @@ use Rattle.std.specs.List.{AllByRecursion}
 use Rattle.std.specs.List.Sorted.{IsStrictlySortedBy}
 use Rattle.std.specs.Ordering.{nat_cmp}
 use Rattle.origin_prefix.specs.Parts.{Part}
+use Rattle.spill_lists.specs.Standing.{Moves}
 use Rattle.replica_merge.specs.Replicas.{part_at, part_of, IsHeldPart}
 use Rattle.replica_merge.proofs.MergedLaws.{JoinedSoFar}
 use Rattle.replica_merge.proofs.merging.join_all.Given as goal
 
 abbrev pub invariant-loop-origin : goal.invariant-loop-origin
-invariant-loop-origin l =
+invariant-loop-origin g l =
     record {
-      at : (o : ℕ) → JoinedSoFar l.query (part_of l.own.entries o) (part_at l.own.entries o) (part_at l.initial.origin-iterator o) (part_at l.origin-iterator o) (part_at l.joined.entries o);
+      at : (o : ℕ) → JoinedSoFar (g.D.TapeDisk.honest l.fn.disk) l.query (part_of l.own.entries o) (part_at l.own.entries o) (part_at l.initial.origin-iterator o) (part_at l.origin-iterator o) (part_at l.joined.entries o);
       rest : IsStrictlySortedBy nat_cmp (map (λ (held : ℕ × Part). held.0) l.origin-iterator);
       held : AllByRecursion (IsHeldPart l.query) l.origin-iterator;
       rising : IsStrictlySortedBy nat_cmp (map (λ (held : ℕ × Part). held.0) l.joined.entries);
-      can : (goal.iterator-loop-origin).can_next l.origin-iterator;
-      finite : (goal.iterator-loop-origin).is_finite l.origin-iterator;
+      disk : Moves (g.D.TapeDisk.failures l.fn.disk) (g.D.TapeDisk.failures l.disk) (g.D.TapeDisk.writes l.fn.disk) (g.D.TapeDisk.writes l.disk) (g.D.TapeDisk.honest l.fn.disk) (g.D.TapeDisk.honest l.disk);
+      can : (goal.iterator-loop-origin g).can_next l.origin-iterator;
+      finite : (goal.iterator-loop-origin g).is_finite l.origin-iterator;
     }

@@ -7,6 +7,6 @@ use Rattle.origin_prefix.specs.declared.error.JoinError.TheVariants.{OriginDisag
 use Rattle.replica_merge.proofs.merging.join_part.Goals as goal
 
 pub returns-in-Some-clause-disagree : goal.returns-in-Some-clause-disagree
-returns-in-Some-clause-disagree c =
+returns-in-Some-clause-disagree g c =
     subst (λ (own : Part). IfErr c.join.result (λ e. e ≡ OriginDisagrees → PartsDisagree own c.args.theirs.now))
     (sym (ap (λ o. unwrap_or (option_copied o) empty) c.in-Some.is)) c.join.ensures.disagree

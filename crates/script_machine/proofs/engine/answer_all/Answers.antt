@@ -1,31 +1,39 @@
-use Rattle.std.specs.Prelude.{◌≡◌, ◌<◌, ◌≤◌, ◌+◌, refl, if◌then◌else◌, length}
-use Rattle.std.proofs.Common.{arith, ap, sym, ◌∙◌}
+use Rattle.std.specs.Prelude.{◌≡◌, ◌<◌, ◌≤◌, ◌+◌, refl, if◌then◌else◌, length, IsTrue}
+use Rattle.std.proofs.Common.{arith, ap, sym, subst, ◌∙◌}
 use Rattle.std.proofs.lemmas.List.{length-drop}
 use Rattle.csv.specs.Records.{fields_of}
 use Rattle.script_commands.specs.Commands.{command_at, owned_by}
+use Rattle.hash_agg.proofs.DiskLaws.{moves_none, moves_twice}
 use Rattle.script_machine.specs.Views.{is_refusal}
 use Rattle.script_machine.specs.declared.error.RunError.TheVariants as stop
 use Rattle.script_machine.proofs.OutputLaws.{passed_as}
-use Rattle.script_machine.proofs.RunLaws.{ran_front, ran_more, ran_start, ran_stop}
+use Rattle.script_machine.proofs.RunLaws.{ran_all, ran_front, ran_more, ran_start, ran_stop}
 use Rattle.script_machine.proofs.engine.answer_all.Goals as goal
 use Rattle.script_machine.proofs.engine.answer_all.Goals.{then-is_refused, else-is_refused}
 
 pub loop-command-init : goal.loop-command-init
-loop-command-init g c = (omega arith, ran_start _ _ _ c.requires.none)
+loop-command-init g c =
+    record {
+      room = omega arith;
+      ran = λ honest. ran_start _ (omega arith) _ _ _ c.requires.none;
+      disk = moves_none (g.D.TapeDisk.failures c.args.disk.now) (g.D.TapeDisk.writes c.args.disk.now) (g.D.TapeDisk.honest c.args.disk.now);
+    }
 
 pub returns-in_err-command : goal.returns-in_err-command
 returns-in_err-command g c =
-    passed_as c.from_residual.result stop.NoMemory _ _ c.from_residual.ensures.1 (ran_stop _ _ _ _ _ _ c.loop-command.invariant.1)
+    passed_as c.from_residual.result stop.NoMemory _ _ c.from_residual.ensures.1 (λ honest. ran_stop _ _ (omega arith) _ _ _ _ _ _ (c.loop-command.invariant.ran honest))
 
 pub returns-in_err-reply : goal.returns-in_err-reply
 returns-in_err-reply g c =
-    passed_as c.from_residual-in_err-reply.result stop.NoMemory _ _ c.from_residual-in_err-reply.ensures.1 (ran_stop _ _ _ _ _ _ c.loop-command.invariant.1)
+    let later = c.execute.ensures.disk.failures in
+    passed_as c.from_residual-in_err-reply.result stop.NoMemory _ _ c.from_residual-in_err-reply.ensures.1 (λ honest. ran_stop _ _ later _ _ _ _ _ _ (c.loop-command.invariant.ran honest))
 
 pub returns-in_err-put_reply : goal.returns-in_err-put_reply
 returns-in_err-put_reply g c =
     let next = rw c.in-Some.is at c.in_ok-command.ensures.found in
     passed_as c.from_residual-in_err-put_reply.result stop.WriteFault _ _ c.from_residual-in_err-put_reply.ensures.1
-    (ran_front _ _ _ _ _ _ _ _ (command_at (fields_of c.in-Some.command.head) c.next_command.new.records) _ (rw next at c.loop-command.invariant.1) c.in_ok-reply.ensures.answers c.in_err-put_reply.ensures)
+    (λ honest. ran_front _ _ _ _ _ _ _ _ _ _ (command_at (fields_of c.in-Some.command.head) c.next_command.new.records) _ (rw next at c.loop-command.invariant.ran honest)
+    (c.in_ok-reply.ensures.answers (subst IsTrue (sym c.loop-command.invariant.disk.honesty) honest)) c.in_err-put_reply.ensures c.in_ok-reply.ensures.faults)
 
 pub loop-command-smaller : goal.loop-command-smaller
 loop-command-smaller g c =
@@ -47,8 +55,13 @@ loop-command-preserved g c =
     ] in
     let bounded : c.if-is_refused.refused ≤ c.loop-command.refused + 1 =
     elim c.if-is_refused.branch [ then-is_refused w ↦ omega arith | else-is_refused w ↦ omega arith ] in
-    let room = inv.0 in (
-      omega (arith, room, bounded, fewer),
-      rw c.in_ok-reply.ensures.left
-          (ran_more _ _ _ _ _ _ _ _ _ (command_at (fields_of c.in-Some.command.head) c.next_command.new.records) _ (rw next at inv.1) c.in_ok-reply.ensures.answers c.in_ok-put_reply.ensures counts),
-    )
+    let room = inv.room in
+    record {
+      room = omega (arith, room, bounded, fewer);
+      ran = λ honest.
+          rw c.in_ok-reply.ensures.left
+          (ran_more _ _ _ _ _ _ _ _ _ _ _ (command_at (fields_of c.in-Some.command.head) c.next_command.new.records) _ (rw next at inv.ran honest)
+          (c.in_ok-reply.ensures.answers (subst IsTrue (sym inv.disk.honesty) honest)) c.in_ok-put_reply.ensures counts c.in_ok-reply.ensures.faults);
+      disk = moves_twice (g.D.TapeDisk.failures c.args.disk.now) (g.D.TapeDisk.failures c.loop-command.disk) (g.D.TapeDisk.failures c.execute.new.disk) (g.D.TapeDisk.writes c.args.disk.now) (g.D.TapeDisk.writes c.loop-command.disk) (g.D.TapeDisk.writes c.execute.new.disk)
+          (g.D.TapeDisk.honest c.args.disk.now) (g.D.TapeDisk.honest c.loop-command.disk) (g.D.TapeDisk.honest c.execute.new.disk) inv.disk c.execute.ensures.disk;
+    }

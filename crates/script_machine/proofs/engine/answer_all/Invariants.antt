@@ -1,11 +1,18 @@
-use Rattle.std.proofs.Common.{◌+◌, ◌≤◌, length}
+use Rattle.std.proofs.Common.{◌+◌, ◌≤◌, length, IsTrue}
+use Rattle.spill_lists.specs.Standing.{Moves}
 use Rattle.script_commands.specs.Commands.{commands_of}
 use Rattle.script_machine.proofs.RunLaws.{Ran}
 use Rattle.script_machine.proofs.engine.answer_all.Given as goal
 
 abbrev pub invariant-loop-command : goal.invariant-loop-command
-invariant-loop-command g l = (l.refused + length l.records ≤ length l.fn.records)
-    × Ran (commands_of l.fn.records) (g.W.Write.contents l.fn.writer) (g.W.Write.contents l.writer) l.refused (commands_of l.records) l.session
+invariant-loop-command g l =
+    record {
+      room : l.refused + length l.records ≤ length l.fn.records;
+      ran : IsTrue (g.D.TapeDisk.honest l.fn.disk)
+          → Ran (record { honest = g.D.TapeDisk.honest l.fn.disk; failed = g.D.TapeDisk.failures l.fn.disk; failed_now = g.D.TapeDisk.failures l.disk })
+          (commands_of l.fn.records) (g.W.Write.contents l.fn.writer) (g.W.Write.contents l.writer) l.refused (commands_of l.records) l.session;
+      disk : Moves (g.D.TapeDisk.failures l.fn.disk) (g.D.TapeDisk.failures l.disk) (g.D.TapeDisk.writes l.fn.disk) (g.D.TapeDisk.writes l.disk) (g.D.TapeDisk.honest l.fn.disk) (g.D.TapeDisk.honest l.disk);
+    }
 
 abbrev pub decreases-loop-command : goal.decreases-loop-command
 decreases-loop-command g l = length l.records

@@ -1,3 +1,4 @@
+use Rattle.std.proofs.Common.{arith}
 use Rattle.script_machine.specs.Output.{run_error}
 use Rattle.script_machine.proofs.OutputLaws.{passed_as}
 use Rattle.script_machine.proofs.RunLaws.{stops_unread, stops_read}
@@ -6,10 +7,10 @@ use Rattle.script_machine.proofs.engine.run_observed.Goals as goal
 pub returns-in_err-script-clause-stopped : goal.returns-in_err-script-clause-stopped
 returns-in_err-script-clause-stopped g c =
     passed_as c.from_residual.result (run_error c.in_err-script.field-0.0) _ _ c.from_residual.ensures.1
-    (stops_unread _ _ _ _ c.in_err-script.field-0.0 c.in_err-script.ensures.why)
+    (stops_unread _ (omega arith) _ _ _ _ c.in_err-script.field-0.0 c.in_err-script.ensures.why)
 
 pub returns-clause-stopped : goal.returns-clause-stopped
 returns-clause-stopped g c =
     let whole = c.in_ok-script.ensures.whole in
     let written = rw c.deref.ensures.value at c.run_script.ensures in
-    stops_read c.run_script.result _ _ _ _ _ c.in_ok-script.script.items _ whole.0 whole.1 whole.2 written
+    stops_read _ c.run_script.result _ _ _ _ _ c.in_ok-script.script.items _ whole.0 whole.1 whole.2 written

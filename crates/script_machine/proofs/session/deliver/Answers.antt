@@ -4,11 +4,12 @@ use Rattle.packed_rows.specs.Columns.{kinds}
 use Rattle.batch_reader.specs.Rows.{ReadsRows}
 use Rattle.batch_reader.proofs.RecordLaws.{built_rows}
 use Rattle.having_filter.specs.Meaning.{Checked}
-use Rattle.script_machine.proofs.FeedLaws.{built_batch, other_why}
+use Rattle.script_machine.specs.Views.{IsOfBatch}
+use Rattle.script_machine.proofs.FeedLaws.{built_batch, other_why, fault_told, never_damaged, not_of_batch}
 use Rattle.script_machine.proofs.session.deliver.Goals as goal
 
 pub deliver-requires-clause-rows : goal.deliver-requires-clause-rows
-deliver-requires-clause-rows c =
+deliver-requires-clause-rows g c =
     let rows = rw c.in-Ok.is at c.in_ok-batch.ensures.rows in
     let few = rw c.in-Ok.is at c.in_ok-batch.ensures.few in
     let same : c.schema-schema.result.now ≡ c.args.replica.now.query.columns = c.schema-schema.ensures.columns ∙ ap (λ (q : Checked). q.columns) c.query.ensures in
@@ -16,7 +17,7 @@ deliver-requires-clause-rows c =
     built_rows (kinds c.args.replica.now.query.columns) (take c.args.told c.args.records.now) rows.0 _ reads rows.2 few
 
 pub returns-in-Ok-deliver-clause-took : goal.returns-in-Ok-deliver-clause-took
-returns-in-Ok-deliver-clause-took c =
+returns-in-Ok-deliver-clause-took g c =
     let origin = rw c.in-Ok.is at c.in_ok-batch.ensures.origin in
     let number = rw c.in-Ok.is at c.in_ok-batch.ensures.number in
     let few = rw c.in-Ok.is at c.in_ok-batch.ensures.few in
@@ -30,12 +31,12 @@ returns-in-Ok-deliver-clause-took c =
       is_batch = built_batch _ _ _ _ _ _ _ _ rows.0 origin number few told reads rows.2;
       reply = done.reply;
       learns = done.told;
-      fits = λ world is fits there. done.fits world rows.0 is fits there rows.2;
+      fits = λ honest world is fits there. done.fits honest world rows.0 is fits there rows.2;
       asked = done.query;
     }
 
 pub returns-in-Err-deliver-clause-other : goal.returns-in-Err-deliver-clause-other
-returns-in-Err-deliver-clause-other c = λ is.
+returns-in-Err-deliver-clause-other g c = λ is.
     let origin = rw c.in-Ok.is at c.in_ok-batch.ensures.origin in
     let number = rw c.in-Ok.is at c.in_ok-batch.ensures.number in
     let few = rw c.in-Ok.is at c.in_ok-batch.ensures.few in
@@ -48,3 +49,12 @@ returns-in-Err-deliver-clause-other c = λ is.
       is_batch = built_batch _ _ _ _ _ _ _ _ rows.0 origin number few told reads rows.2;
       never = λ world fits there. c.in-Err-deliver.ensures.agrees (other_why c.in-Err-deliver.refused.why (sym c.from-in-Err-deliver.ensures ∙ is)) world rows.0 fits there rows.2;
     }
+
+pub returns-in-Err-deliver-clause-why : goal.returns-in-Err-deliver-clause-why
+returns-in-Err-deliver-clause-why g c = λ of. absurd (not_of_batch c.in-Err-deliver.refused.why (subst IsOfBatch c.from-in-Err-deliver.ensures of))
+
+pub returns-in-Err-deliver-clause-fault : goal.returns-in-Err-deliver-clause-fault
+returns-in-Err-deliver-clause-fault g c = λ is. fault_told _ _ _ c.in-Err-deliver.refused.why c.in-Err-deliver.ensures.over (sym c.from-in-Err-deliver.ensures ∙ is)
+
+pub returns-in-Err-deliver-clause-undamaged : goal.returns-in-Err-deliver-clause-undamaged
+returns-in-Err-deliver-clause-undamaged g c = λ honest is. never_damaged _ _ _ c.in-Err-deliver.refused.why c.in-Err-deliver.ensures.over honest (sym c.from-in-Err-deliver.ensures ∙ is)

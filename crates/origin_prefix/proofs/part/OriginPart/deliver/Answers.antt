@@ -4,30 +4,30 @@ use Rattle.std.specs.Option.{option_copied}
 use Rattle.grouping_model.specs.declared.limits.TheConstants.{LAST_NUMBER}
 use Rattle.having_filter.specs.Meaning.{meaning}
 use Rattle.origin_prefix.specs.Parts.{Part, rows_at, behind}
-use Rattle.origin_prefix.proofs.DeliverLaws.{known_within, reply_early, refused_early, unknown_refused, part_kept, part_settled, behind_gap, next_open}
+use Rattle.origin_prefix.proofs.DeliverLaws.{known_within, reply_early, refused_early, unknown, unknown_refused, kept_delivers, part_kept, part_settled, behind_gap, next_open}
 use Rattle.origin_prefix.proofs.part.OriginPart.deliver.Goals as goal
 
 pub returns-then-batch-self-clause-delivers : goal.returns-then-batch-self-clause-delivers
-returns-then-batch-self-clause-delivers c =
-    known_within c.args.query.now (meaning c.args.query.now) c.args.self.now c.args.batch.number c.args.batch.rows c.requires.part
+returns-then-batch-self-clause-delivers g c =
+    known_within (g.D.TapeDisk.honest c.args.disk.now) c.args.query.now (meaning c.args.query.now) c.args.self.now c.args.batch.number c.args.batch.rows c.requires.part
     (subst (λ (p : Part). c.args.batch.number ≤ p.prefix) c.self.view_is c.if-batch-self.true)
 
 pub returns-in-Some-clause-delivers : goal.returns-in-Some-clause-delivers
-returns-in-Some-clause-delivers c =
+returns-in-Some-clause-delivers g c =
     let part : Part = c.args.self.now in
     let there : rows_at part.early c.args.batch.number ≡ Some c.in-Some.kept.now =
     subst (λ (p : Part). rows_at p.early c.args.batch.number ≡ Some c.in-Some.kept.now) c.self.view_is (sym c.get.ensures.value ∙ ap option_copied c.in-Some.is) in
-    reply_early (meaning c.args.query.now) part c.args.batch.number c.args.batch.rows c.in-Some.kept.now c.known_again.result there c.known_again.ensures.known
+    reply_early (g.D.TapeDisk.honest c.args.disk.now) (meaning c.args.query.now) part c.args.batch.number c.args.batch.rows c.in-Some.kept.now c.known_again.result there c.known_again.ensures.known
 
 pub returns-in-Some-clause-why : goal.returns-in-Some-clause-why
-returns-in-Some-clause-why c =
+returns-in-Some-clause-why g c =
     let part : Part = c.args.self.now in
     let there : rows_at part.early c.args.batch.number ≡ Some c.in-Some.kept.now =
     subst (λ (p : Part). rows_at p.early c.args.batch.number ≡ Some c.in-Some.kept.now) c.self.view_is (sym c.get.ensures.value ∙ ap option_copied c.in-Some.is) in
     refused_early part c.args.batch.number c.args.batch c.in-Some.kept.now c.known_again.result there c.known_again.ensures.other
 
 pub returns-then-batch-self-2-clause-part : goal.returns-then-batch-self-2-clause-part
-returns-then-batch-self-2-clause-part c =
+returns-then-batch-self-2-clause-part g c =
     let above = c.if-batch-self.false in
     let apart = c.if-batch-self-2.true in
     let prefix : c.self.inside.prefix ≡ c.args.self.now.prefix = ap (λ (p : Part). p.prefix) c.self.view_is in
@@ -35,8 +35,20 @@ returns-then-batch-self-2-clause-part c =
     part_kept c.keep_early.result c.args.query.now c.args.self.now c.keep_early.new.self c.args.batch c.requires.part behind c.requires.number.1 c.requires.rows
     c.keep_early.ensures.kept c.keep_early.ensures.refused c.keep_early.ensures.rising
 
+pub returns-then-batch-self-2-clause-delivers : goal.returns-then-batch-self-2-clause-delivers
+returns-then-batch-self-2-clause-delivers g c =
+    let part : Part = c.args.self.now in
+    let above : part.prefix < c.args.batch.number = grind (arith, c.if-batch-self.false, ap (λ (p : Part). p.prefix) c.self.view_is) in
+    let apart = c.if-batch-self-2.true in
+    let prefix : c.self.inside.prefix ≡ part.prefix = ap (λ (p : Part). p.prefix) c.self.view_is in
+    let behind : part.prefix + 1 < c.args.batch.number = subst (λ n. n + 1 < c.args.batch.number) prefix (behind_gap c.self.inside.prefix c.args.batch.number c.if-batch-self.false apart) in
+    let none : rows_at part.early c.args.batch.number ≡ None =
+    subst (λ (p : Part). rows_at p.early c.args.batch.number ≡ None) c.self.view_is (sym c.get.ensures.value ∙ ap option_copied c.in_default.is) in
+    kept_delivers (g.D.TapeDisk.honest c.args.disk.now) (meaning c.args.query.now) part c.keep_early.new.self c.args.batch.number c.args.batch.rows c.keep_early.result
+    (unknown part c.args.batch.number above none) (λ same. omega (arith, behind, same)) c.keep_early.ensures.kept
+
 pub settle-requires : goal.settle-requires
-settle-requires c =
+settle-requires g c =
     let above = c.if-batch-self.false in
     let next = c.if-batch-self-2.false in
     let prefix : c.self.inside.prefix ≡ c.args.self.now.prefix = ap (λ (p : Part). p.prefix) c.self.view_is in
@@ -44,25 +56,25 @@ settle-requires c =
     record { may = next_open c.args.query.now c.args.self.now c.args.batch.rows c.requires.part (omega (arith, above, next, prefix, high)) c.requires.rows }
 
 pub returns-clause-part : goal.returns-clause-part
-returns-clause-part c =
+returns-clause-part g c =
     let above = c.if-batch-self.false in
     let next = c.if-batch-self-2.false in
     let prefix : c.self.inside.prefix ≡ c.args.self.now.prefix = ap (λ (p : Part). p.prefix) c.self.view_is in
     let high : c.args.batch.number ≤ LAST_NUMBER = c.requires.number.1 in
-    part_settled c.settle.result c.args.query.now c.args.self.now c.settle.new.self (behind c.args.self.now.prefix c.args.self.now.early (Some c.args.batch.rows)) c.requires.part
+    part_settled c.settle.result (g.D.TapeDisk.honest c.args.disk.now) c.args.query.now c.args.self.now c.settle.new.self (behind c.args.self.now.prefix c.args.self.now.early (Some c.args.batch.rows)) c.requires.part
     (next_open c.args.query.now c.args.self.now c.args.batch.rows c.requires.part (omega (arith, above, next, prefix, high)) c.requires.rows)
-    c.settle.ensures.settled c.settle.ensures.refused
+    c.settle.ensures.settled c.settle.ensures.same
 
-pub returns-then-batch-self-2-clause-memory : goal.returns-then-batch-self-2-clause-memory
-returns-then-batch-self-2-clause-memory c =
+pub returns-then-batch-self-2-clause-unknown : goal.returns-then-batch-self-2-clause-unknown
+returns-then-batch-self-2-clause-unknown g c =
     let part : Part = c.args.self.now in
     let above : part.prefix < c.args.batch.number = grind (arith, c.if-batch-self.false, ap (λ (p : Part). p.prefix) c.self.view_is) in
     let none : rows_at part.early c.args.batch.number ≡ None =
     subst (λ (p : Part). rows_at p.early c.args.batch.number ≡ None) c.self.view_is (sym c.get.ensures.value ∙ ap option_copied c.in_default.is) in
     unknown_refused c.keep_early.result part c.args.batch.number above none
 
-pub returns-clause-memory : goal.returns-clause-memory
-returns-clause-memory c =
+pub returns-clause-unknown : goal.returns-clause-unknown
+returns-clause-unknown g c =
     let part : Part = c.args.self.now in
     let above : part.prefix < c.args.batch.number = grind (arith, c.if-batch-self.false, ap (λ (p : Part). p.prefix) c.self.view_is) in
     let none : rows_at part.early c.args.batch.number ≡ None =

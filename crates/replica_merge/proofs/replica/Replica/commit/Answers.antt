@@ -1,4 +1,4 @@
-use Rattle.std.specs.Prelude.{◌≡◌, ℕ}
+use Rattle.std.specs.Prelude.{◌≡◌, ℕ, Bool, IsTrue}
 use Rattle.std.proofs.Common.{◌∙◌, sym, subst}
 use Rattle.grouping_model.specs.World.{World, IsWorld, union}
 use Rattle.packed_rows.specs.Columns.{kinds}
@@ -12,8 +12,8 @@ invariant_of-self c =
     let joined : Parts = c.joined.inside.parts.entries in
     let back : (o : ℕ) → part_at c.fill.new.parts.entries o ≡ filled (part_at joined o) (part_at old o) = λ o.
     c.fill.ensures.at o ∙ (λ i. filled (part_at (c.replace-old.ensures.after i).entries o) (part_at (c.replace-old.ensures.value i).entries o)) in
-    let there = subst (λ (h : Held). (other : Parts) × AreHeldParts h.query other × JoinedAside h.query h.parts other c.args.joined) (sym c.self.view_is) c.requires in
-    merged_held c.self.inside.query old there.0 joined c.fill.new.parts.entries c.self.invariant there.1 (subst (JoinedAside c.self.inside.query old there.0) (sym c.joined.view_is) there.2) back c.fill.ensures.rising
+    let there = subst (λ (h : Held). (honest : Bool) × (other : Parts) × AreHeldParts h.query other × JoinedAside honest h.query h.parts other c.args.joined) (sym c.self.view_is) c.requires in
+    merged_held there.0 c.self.inside.query old there.1 joined c.fill.new.parts.entries c.self.invariant there.2 (subst (JoinedAside there.0 c.self.inside.query old there.1) (sym c.joined.view_is) there.3) back c.fill.ensures.rising
 
 pub returns-clause-merges : goal.returns-clause-merges
 returns-clause-merges c =
@@ -21,8 +21,8 @@ returns-clause-merges c =
     let joined : Parts = c.joined.inside.parts.entries in
     let back : (o : ℕ) → part_at c.fill.new.parts.entries o ≡ filled (part_at joined o) (part_at old o) = λ o.
     c.fill.ensures.at o ∙ (λ i. filled (part_at (c.replace-old.ensures.after i).entries o) (part_at (c.replace-old.ensures.value i).entries o)) in
-    subst (λ (h : Held). (other : Parts) → AreHeldParts h.query other → JoinedAside h.query h.parts other c.args.joined → Merges h.query h.parts other c.fill.new.parts.entries) c.self.view_is
-    (λ other theirs aside. merges c.self.inside.query old other joined c.fill.new.parts.entries c.self.invariant theirs (subst (JoinedAside c.self.inside.query old other) (sym c.joined.view_is) aside) back)
+    subst (λ (h : Held). (honest : Bool) (other : Parts) → AreHeldParts h.query other → JoinedAside honest h.query h.parts other c.args.joined → Merges honest h.query h.parts other c.fill.new.parts.entries) c.self.view_is
+    (λ honest other theirs aside. merges honest c.self.inside.query old other joined c.fill.new.parts.entries c.self.invariant theirs (subst (JoinedAside honest c.self.inside.query old other) (sym c.joined.view_is) aside) back)
 
 pub returns-clause-told : goal.returns-clause-told
 returns-clause-told c =
@@ -30,8 +30,8 @@ returns-clause-told c =
     let joined : Parts = c.joined.inside.parts.entries in
     let back : (o : ℕ) → part_at c.fill.new.parts.entries o ≡ filled (part_at joined o) (part_at old o) = λ o.
     c.fill.ensures.at o ∙ (λ i. filled (part_at (c.replace-old.ensures.after i).entries o) (part_at (c.replace-old.ensures.value i).entries o)) in
-    subst (λ (h : Held). (other : Parts) → AreHeldParts h.query other → JoinedAside h.query h.parts other c.args.joined → told c.fill.new.parts.entries ≡ union (told h.parts) (told other)) c.self.view_is
-    (λ other theirs aside. merged_told c.self.inside.query old other joined c.fill.new.parts.entries c.self.invariant theirs (subst (JoinedAside c.self.inside.query old other) (sym c.joined.view_is) aside) back
+    subst (λ (h : Held). (honest : Bool) (other : Parts) → AreHeldParts h.query other → JoinedAside honest h.query h.parts other c.args.joined → told c.fill.new.parts.entries ≡ union (told h.parts) (told other)) c.self.view_is
+    (λ honest other theirs aside. merged_told honest c.self.inside.query old other joined c.fill.new.parts.entries c.self.invariant theirs (subst (JoinedAside honest c.self.inside.query old other) (sym c.joined.view_is) aside) back
     c.fill.ensures.rising)
 
 pub returns-clause-fits : goal.returns-clause-fits
@@ -40,7 +40,7 @@ returns-clause-fits c =
     let joined : Parts = c.joined.inside.parts.entries in
     let back : (o : ℕ) → part_at c.fill.new.parts.entries o ≡ filled (part_at joined o) (part_at old o) = λ o.
     c.fill.ensures.at o ∙ (λ i. filled (part_at (c.replace-old.ensures.after i).entries o) (part_at (c.replace-old.ensures.value i).entries o)) in
-    subst (λ (h : Held). (other : Parts) → AreHeldParts h.query other → JoinedAside h.query h.parts other c.args.joined → (world : World) → IsWorld (kinds h.query.columns) world → Fits world h
+    subst (λ (h : Held). (honest : Bool) → IsTrue honest → (other : Parts) → AreHeldParts h.query other → JoinedAside honest h.query h.parts other c.args.joined → (world : World) → IsWorld (kinds h.query.columns) world → Fits world h
     → Fits world (record { query = h.query; parts = other }) → Fits world (record { query = c.self.inside.query; parts = c.fill.new.parts.entries })) c.self.view_is
-    (λ other theirs aside world is fits fits_other.
-    merged_fits c.self.inside.query old other joined c.fill.new.parts.entries c.self.invariant theirs (subst (JoinedAside c.self.inside.query old other) (sym c.joined.view_is) aside) back world is fits fits_other)
+    (λ honest so other theirs aside world is fits fits_other.
+    merged_fits honest c.self.inside.query old other joined c.fill.new.parts.entries c.self.invariant theirs (subst (JoinedAside honest c.self.inside.query old other) (sym c.joined.view_is) aside) back so world is fits fits_other)

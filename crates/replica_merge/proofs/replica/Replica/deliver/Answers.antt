@@ -1,4 +1,4 @@
-use Rattle.std.specs.Prelude.{◌≡◌, ◌≢◌, List, Some, IfOk, IfErr, OnOk, false}
+use Rattle.std.specs.Prelude.{◌≡◌, ◌≢◌, List, Some, IfOk, IfErr, OnOk, IsTrue, false}
 use Rattle.std.proofs.Common.{subst}
 use Rattle.grouping_model.specs.Datum.{Row}
 use Rattle.grouping_model.specs.Replies.{reply_of}
@@ -6,52 +6,52 @@ use Rattle.grouping_model.specs.World.{World, IsWorld, knows, learn}
 use Rattle.packed_rows.specs.Columns.{kinds}
 use Rattle.batch_reader.specs.Rows.{packings}
 use Rattle.origin_prefix.specs.Parts.{Disagrees}
-use Rattle.origin_prefix.specs.declared.error.JoinError.TheVariants.{NoMemory, OriginDisagrees}
+use Rattle.origin_prefix.specs.declared.error.JoinError.TheVariants.{OriginDisagrees}
 use Rattle.replica_merge.specs.Replicas.{Held, part_of, told, Fits}
-use Rattle.replica_merge.proofs.DeliveredLaws.{still_held, reply_told, more_told, still_fits, handed_back, disagreed, agreed_else, memory_wanting, world_agrees}
+use Rattle.replica_merge.proofs.DeliveredLaws.{still_held, reply_told, more_told, still_fits, handed_back, disagreed, agreed_else, unknown_else, world_agrees}
 use Rattle.replica_merge.proofs.replica.Replica.deliver.Goals as goal
 
 pub invariant_of-self : goal.invariant_of-self
-invariant_of-self c = still_held c.deliver_in.result c.self.inside.query c.self.inside.parts.entries c.deliver_in.new.parts.entries c.args.batch c.self.invariant c.requires.limits c.deliver_in.ensures
+invariant_of-self g c = still_held c.deliver_in.result (g.D.TapeDisk.honest c.args.disk.now) c.self.inside.query c.self.inside.parts.entries c.deliver_in.new.parts.entries c.args.batch c.self.invariant c.requires.limits c.deliver_in.ensures.delivered
 
 pub returns-clause-reply : goal.returns-clause-reply
-returns-clause-reply c =
+returns-clause-reply g c =
     subst (λ (h : Held). IfOk c.deliver_in.result (λ reply. reply ≡ reply_of (told h.parts) (c.args.batch.origin, c.args.batch.number))) c.self.view_is
-    (reply_told c.deliver_in.result c.self.inside.query c.self.inside.parts.entries c.deliver_in.new.parts.entries c.args.batch c.self.invariant c.requires.limits c.deliver_in.ensures)
+    (reply_told c.deliver_in.result (g.D.TapeDisk.honest c.args.disk.now) c.self.inside.query c.self.inside.parts.entries c.deliver_in.new.parts.entries c.args.batch c.self.invariant c.requires.limits c.deliver_in.ensures.delivered)
 
 pub returns-clause-told : goal.returns-clause-told
-returns-clause-told c =
+returns-clause-told g c =
     subst (λ (h : Held). OnOk c.deliver_in.result (told c.deliver_in.new.parts.entries ≡ learn (told h.parts) (c.args.batch.origin, c.args.batch.number))) c.self.view_is
-    (more_told c.deliver_in.result c.self.inside.query c.self.inside.parts.entries c.deliver_in.new.parts.entries c.args.batch c.self.invariant c.requires.limits c.deliver_in.ensures)
+    (more_told c.deliver_in.result (g.D.TapeDisk.honest c.args.disk.now) c.self.inside.query c.self.inside.parts.entries c.deliver_in.new.parts.entries c.args.batch c.self.invariant c.requires.limits c.deliver_in.ensures.delivered)
 
 pub returns-clause-fits : goal.returns-clause-fits
-returns-clause-fits c =
-    subst (λ (h : Held). OnOk c.deliver_in.result ((world : World) (those : List Row) → IsWorld (kinds h.query.columns) world → Fits world h → world c.args.batch.origin c.args.batch.number ≡ Some those
+returns-clause-fits g c =
+    subst (λ (h : Held). OnOk c.deliver_in.result (IsTrue (g.D.TapeDisk.honest c.args.disk.now) → (world : World) (those : List Row) → IsWorld (kinds h.query.columns) world → Fits world h → world c.args.batch.origin c.args.batch.number ≡ Some those
     → c.args.batch.rows ≡ packings those → Fits world (record { query = c.self.inside.query; parts = c.deliver_in.new.parts.entries }))) c.self.view_is
-    (still_fits c.deliver_in.result c.self.inside.query c.self.inside.parts.entries c.deliver_in.new.parts.entries c.args.batch c.self.invariant c.requires.limits c.deliver_in.ensures)
+    (still_fits c.deliver_in.result (g.D.TapeDisk.honest c.args.disk.now) c.self.inside.query c.self.inside.parts.entries c.deliver_in.new.parts.entries c.args.batch c.self.invariant c.requires.limits c.deliver_in.ensures.delivered)
 
 pub returns-clause-refused : goal.returns-clause-refused
-returns-clause-refused c =
+returns-clause-refused g c =
     subst (λ (h : Held). IfErr c.deliver_in.result (λ e. (e.batch ≡ c.args.batch) × (record { query = c.self.inside.query; parts = c.deliver_in.new.parts.entries } ≡ h))) c.self.view_is
-    (handed_back c.deliver_in.result c.self.inside.query c.self.inside.parts.entries c.deliver_in.new.parts.entries c.args.batch c.self.invariant c.requires.limits c.deliver_in.ensures)
+    (handed_back c.deliver_in.result (g.D.TapeDisk.honest c.args.disk.now) c.self.inside.query c.self.inside.parts.entries c.deliver_in.new.parts.entries c.args.batch c.self.invariant c.requires.limits c.deliver_in.ensures.delivered)
 
 pub returns-clause-why : goal.returns-clause-why
-returns-clause-why c =
+returns-clause-why g c =
     subst (λ (h : Held). IfErr c.deliver_in.result (λ e. e.why ≡ OriginDisagrees → Disagrees (part_of h.parts c.args.batch.origin) c.args.batch.number c.args.batch.rows)) c.self.view_is
-    (disagreed c.deliver_in.result c.self.inside.query c.self.inside.parts.entries c.deliver_in.new.parts.entries c.args.batch c.self.invariant c.requires.limits c.deliver_in.ensures)
+    (disagreed c.deliver_in.result (g.D.TapeDisk.honest c.args.disk.now) c.self.inside.query c.self.inside.parts.entries c.deliver_in.new.parts.entries c.args.batch c.self.invariant c.requires.limits c.deliver_in.ensures.delivered)
 
 pub returns-clause-agreed : goal.returns-clause-agreed
-returns-clause-agreed c =
+returns-clause-agreed g c =
     subst (λ (h : Held). IfOk c.deliver_in.result (λ _. ¬ (Disagrees (part_of h.parts c.args.batch.origin) c.args.batch.number c.args.batch.rows))) c.self.view_is
-    (agreed_else c.deliver_in.result c.self.inside.query c.self.inside.parts.entries c.deliver_in.new.parts.entries c.args.batch c.self.invariant c.requires.limits c.deliver_in.ensures)
+    (agreed_else c.deliver_in.result (g.D.TapeDisk.honest c.args.disk.now) c.self.inside.query c.self.inside.parts.entries c.deliver_in.new.parts.entries c.args.batch c.self.invariant c.requires.limits c.deliver_in.ensures.delivered)
 
-pub returns-clause-memory : goal.returns-clause-memory
-returns-clause-memory c =
-    subst (λ (h : Held). IfErr c.deliver_in.result (λ e. e.why ≡ NoMemory → knows (told h.parts) (c.args.batch.origin, c.args.batch.number) ≡ false)) c.self.view_is
-    (memory_wanting c.deliver_in.result c.self.inside.query c.self.inside.parts.entries c.deliver_in.new.parts.entries c.args.batch c.self.invariant c.requires.limits c.deliver_in.ensures)
+pub returns-clause-unknown : goal.returns-clause-unknown
+returns-clause-unknown g c =
+    subst (λ (h : Held). IfErr c.deliver_in.result (λ e. e.why ≢ OriginDisagrees → knows (told h.parts) (c.args.batch.origin, c.args.batch.number) ≡ false)) c.self.view_is
+    (unknown_else c.deliver_in.result (g.D.TapeDisk.honest c.args.disk.now) c.self.inside.query c.self.inside.parts.entries c.deliver_in.new.parts.entries c.args.batch c.self.invariant c.requires.limits c.deliver_in.ensures.delivered)
 
 pub returns-clause-agrees : goal.returns-clause-agrees
-returns-clause-agrees c =
+returns-clause-agrees g c =
     subst (λ (h : Held). IfErr c.deliver_in.result (λ e. e.why ≡ OriginDisagrees → (world : World) (those : List Row) → Fits world h → world c.args.batch.origin c.args.batch.number ≡ Some those
     → c.args.batch.rows ≢ packings those)) c.self.view_is
-    (world_agrees c.deliver_in.result c.self.inside.query c.self.inside.parts.entries c.deliver_in.new.parts.entries c.args.batch c.self.invariant c.requires.limits c.deliver_in.ensures)
+    (world_agrees c.deliver_in.result (g.D.TapeDisk.honest c.args.disk.now) c.self.inside.query c.self.inside.parts.entries c.deliver_in.new.parts.entries c.args.batch c.self.invariant c.requires.limits c.deliver_in.ensures.delivered)

@@ -10,13 +10,13 @@ use Rattle.replica_merge.proofs.MergedLaws.{never_somewhere}
 use Rattle.replica_merge.proofs.replica.Replica.join.Goals as goal
 
 pub join_all-requires-clause-theirs : goal.join_all-requires-clause-theirs
-join_all-requires-clause-theirs c =
+join_all-requires-clause-theirs g c =
     let texts = c.same_query.ensures.0 c.if-not-same_query.false in
     let same : c.self.inside.query ≡ c.other.inside.query = one_text c.self.inside.query c.other.inside.query c.schema-own.ensures.query c.schema-theirs.ensures.query texts.0 texts.1 in
     subst (λ (q : Checked). AreHeldParts q c.other.inside.parts.entries) (sym same) c.other.invariant
 
 pub returns-in_err-parts-clause-same : goal.returns-in_err-parts-clause-same
-returns-in_err-parts-clause-same c =
+returns-in_err-parts-clause-same g c =
     let texts = c.same_query.ensures.0 c.if-not-same_query.false in
     let same : c.self.inside.query ≡ c.other.inside.query = one_text c.self.inside.query c.other.inside.query c.schema-own.ensures.query c.schema-theirs.ensures.query texts.0 texts.1 in
     let p = err_from_is_err_and c.from_residual.result c.from_residual.ensures.1 in
@@ -24,7 +24,7 @@ returns-in_err-parts-clause-same c =
     (λ _. sym (ap (λ (h : Held). h.query) c.other.view_is) ∙ sym same ∙ ap (λ (h : Held). h.query) c.self.view_is)
 
 pub returns-in_err-parts-clause-agree : goal.returns-in_err-parts-clause-agree
-returns-in_err-parts-clause-agree c =
+returns-in_err-parts-clause-agree g c =
     let texts = c.same_query.ensures.0 c.if-not-same_query.false in
     let same : c.self.inside.query ≡ c.other.inside.query = one_text c.self.inside.query c.other.inside.query c.schema-own.ensures.query c.schema-theirs.ensures.query texts.0 texts.1 in
     let p = err_from_is_err_and c.from_residual.result c.from_residual.ensures.1 in
@@ -37,13 +37,13 @@ returns-in_err-parts-clause-agree c =
     (subst (λ (q : Checked). Fits world (record { query = q; parts = c.other.inside.parts.entries })) (sym same) (subst (Fits world) (sym c.other.view_is) fits_other)))
 
 pub returns-clause-query : goal.returns-clause-query
-returns-clause-query c =
+returns-clause-query g c =
     let texts = c.same_query.ensures.0 c.if-not-same_query.false in
     let same : c.self.inside.query ≡ c.other.inside.query = one_text c.self.inside.query c.other.inside.query c.schema-own.ensures.query c.schema-theirs.ensures.query texts.0 texts.1 in
     sym (ap (λ (h : Held). h.query) c.other.view_is) ∙ sym same ∙ ap (λ (h : Held). h.query) c.self.view_is
 
 pub returns-clause-held : goal.returns-clause-held
-returns-clause-held c =
+returns-clause-held g c =
     let texts = c.same_query.ensures.0 c.if-not-same_query.false in
     let same : c.self.inside.query ≡ c.other.inside.query = one_text c.self.inside.query c.other.inside.query c.schema-own.ensures.query c.schema-theirs.ensures.query texts.0 texts.1 in
     subst (λ (h : Held). AreHeldParts h.query c.args.other.now.parts) c.self.view_is

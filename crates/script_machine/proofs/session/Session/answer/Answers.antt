@@ -3,18 +3,24 @@ use Rattle.script_commands.specs.Commands as ask
 use Rattle.script_machine.specs.Views.{Steps}
 use Rattle.script_machine.specs.declared.refusal.Refusal.TheVariants as why
 use Rattle.script_machine.specs.declared.reply.Reply.TheVariants as says
-use Rattle.script_machine.proofs.StoreLaws.{answer_nowhere, answered, out_of_memory}
+use Rattle.script_machine.proofs.FeedLaws.{fault_refused, spill_fault}
+use Rattle.script_machine.proofs.StoreLaws.{answer_nowhere, answer_refused, answered}
 use Rattle.script_machine.proofs.session.Session.answer.Goals as goal
 
-pub returns-in-None : goal.returns-in-None
-returns-in-None c = λ owned.
+pub returns-in-None-clause-answers : goal.returns-in-None-clause-answers
+returns-in-None-clause-answers g c = λ honest owned.
     subst (λ s. Steps (ask.Answer c.args.name.now) owned s (says.Refused why.NoSuchName) s) c.self.view_is
     (answer_nowhere _ c.args.name.now owned (sym c.in-None.ensures.value))
 
-pub returns-in-Ok : goal.returns-in-Ok
-returns-in-Ok c = λ owned.
+pub returns-in-Ok-clause-answers : goal.returns-in-Ok-clause-answers
+returns-in-Ok-clause-answers g c = λ honest owned.
     subst (λ s. Steps (ask.Answer c.args.name.now) owned s (says.Answer c.in-Ok.rows c.in-Ok.table) s) c.self.view_is
-    (answered _ c.args.name.now owned c.in-Some.replica.now c.in-Ok.rows c.in-Ok.table c.self.invariant (sym c.in-Some.ensures.value) c.in-Ok.ensures)
+    (answered _ c.args.name.now owned c.in-Some.replica.now c.in-Ok.rows c.in-Ok.table c.self.invariant (sym c.in-Some.ensures.value) (c.in-Ok.ensures.answer honest))
 
-pub returns-in-Err : goal.returns-in-Err
-returns-in-Err c = λ owned. out_of_memory (ask.Answer c.args.name.now) owned c.args.self.now
+pub returns-in-Err-clause-answers : goal.returns-in-Err-clause-answers
+returns-in-Err-clause-answers g c = λ honest owned. answer_refused c.args.self.now c.args.name.now owned c.in-Err.error c.from.result c.from.ensures (c.in-Err.ensures.undamaged honest)
+
+pub returns-in-Err-clause-faults : goal.returns-in-Err-clause-faults
+returns-in-Err-clause-faults g c =
+    fault_refused (g.D.TapeDisk.failures c.args.disk.now) (g.D.TapeDisk.failures c.answer_of_replica.new.disk) c.from.result c.answer_of_replica.ensures.disk.failures
+    (spill_fault (g.D.TapeDisk.failures c.args.disk.now) (g.D.TapeDisk.failures c.answer_of_replica.new.disk) c.in-Err.error c.from.result c.from.ensures c.in-Err.ensures.refused)

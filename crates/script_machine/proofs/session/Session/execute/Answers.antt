@@ -1,5 +1,5 @@
 use Rattle.std.specs.Prelude.{◌≡◌, ℕ, refl, drop, take}
-use Rattle.std.proofs.Common.{◌∙◌, ap, sym, subst}
+use Rattle.std.proofs.Common.{◌∙◌, ap, sym, subst, arith}
 use Rattle.csv.specs.Records.{fields_of}
 use Rattle.script_commands.specs.Commands as ask
 use Rattle.script_commands.specs.Commands.{owned_by, request_of}
@@ -9,50 +9,68 @@ use Rattle.script_commands.proofs.CommandLaws.{owned_told}
 use Rattle.script_machine.specs.Views.{Steps}
 use Rattle.script_machine.specs.declared.refusal.Refusal.TheVariants as why
 use Rattle.script_machine.specs.declared.reply.Reply.TheVariants as says
+use Rattle.script_machine.proofs.FeedLaws.{no_fault_in}
 use Rattle.script_machine.proofs.StoreLaws.{refused}
 use Rattle.script_machine.proofs.session.Session.execute.Goals as goal
-use Rattle.script_machine.proofs.session.Session.execute.Goals.{in-Columns, in-Query, in-Replica, in-Known, in-Answer, in-Merge, in-Save, in-Load, in-Unknown}
+use Rattle.script_machine.proofs.session.Session.execute.Goals.{in-Columns, in-Query, in-Limit, in-Replica, in-Known, in-Answer, in-Merge, in-Save, in-Load, in-Unknown}
 
 pub returns-in-Feed-clause-answers : goal.returns-in-Feed-clause-answers
-returns-in-Feed-clause-answers c =
+returns-in-Feed-clause-answers g c =
     let head = fields_of c.args.command.now.head in
     let asks = sym c.request.ensures ∙ ap request_view c.in-Feed.is in
     let told = owned_told head _ _ _ _ asks in
     rw (asks, told) c.feed.ensures.answers
 
 pub returns-in-Feed-clause-left : goal.returns-in-Feed-clause-left
-returns-in-Feed-clause-left c =
+returns-in-Feed-clause-left g c =
     let head = fields_of c.args.command.now.head in
     let asks = sym c.request.ensures ∙ ap request_view c.in-Feed.is in
     let told = owned_told head _ _ _ _ asks in
     rw told c.feed.ensures.left
 
 pub returns-clause-answers : goal.returns-clause-answers
-returns-clause-answers c =
+returns-clause-answers g c = λ honest.
     let head = fields_of c.args.command.now.head in
     let owned = take (owned_by head) c.args.records.now in
     let asks : (r : Request) → c.request.result ≡ r → request_view r ≡ request_of head = λ r is. sym (ap request_view is) ∙ c.request.ensures in
     elim c.match-request.branch [
       | in-Columns w ↦ rw (w.reply-is, w.self-is)
-          (subst (λ r. Steps r owned c.args.self.now w.tell_columns-reply.result w.tell_columns-reply.new.self) (asks _ w.in-Columns.is) (w.tell_columns-reply.ensures owned))
+          (subst (λ r. Steps r owned c.args.self.now w.tell_columns-reply.result w.tell_columns-reply.new.self) (asks _ w.in-Columns.is) (w.tell_columns-reply.ensures.answers owned))
       | in-Query w ↦ rw (w.reply-is, w.self-is)
-          (subst (λ r. Steps r owned c.args.self.now w.tell_query-reply.result w.tell_query-reply.new.self) (asks _ w.in-Query.is) (w.tell_query-reply.ensures owned))
+          (subst (λ r. Steps r owned c.args.self.now w.tell_query-reply.result w.tell_query-reply.new.self) (asks _ w.in-Query.is) (w.tell_query-reply.ensures.answers owned))
+      | in-Limit w ↦ rw (w.reply-is, w.self-is)
+          (subst (λ r. Steps r owned c.args.self.now w.tell_limit-reply.result w.tell_limit-reply.new.self) (asks _ w.in-Limit.is) (w.tell_limit-reply.ensures.answers owned))
       | in-Replica w ↦ rw (w.reply-is, w.self-is)
-          (subst (λ r. Steps r owned c.args.self.now w.add_replica-reply.result w.add_replica-reply.new.self) (asks _ w.in-Replica.is) (w.add_replica-reply.ensures owned))
+          (subst (λ r. Steps r owned c.args.self.now w.add_replica-reply.result w.add_replica-reply.new.self) (asks _ w.in-Replica.is) (w.add_replica-reply.ensures.answers owned))
       | in-Known w ↦ rw (w.reply-is, w.self-is)
-          (subst (λ r. Steps r owned c.args.self.now w.known-reply.result c.args.self.now) (asks _ w.in-Known.is) (w.known-reply.ensures owned))
+          (subst (λ r. Steps r owned c.args.self.now w.known-reply.result c.args.self.now) (asks _ w.in-Known.is) (w.known-reply.ensures.answers owned))
       | in-Answer w ↦ rw (w.reply-is, w.self-is)
-          (subst (λ r. Steps r owned c.args.self.now w.answer-reply.result c.args.self.now) (asks _ w.in-Answer.is) (w.answer-reply.ensures owned))
+          (subst (λ r. Steps r owned c.args.self.now w.answer-reply.result c.args.self.now) (asks _ w.in-Answer.is) (w.answer-reply.ensures.answers honest owned))
       | in-Merge w ↦ rw (w.reply-is, w.self-is)
-          (subst (λ r. Steps r owned c.args.self.now w.merge-reply.result w.merge-reply.new.self) (asks _ w.in-Merge.is) (w.merge-reply.ensures owned))
+          (subst (λ r. Steps r owned c.args.self.now w.merge-reply.result w.merge-reply.new.self) (asks _ w.in-Merge.is) (w.merge-reply.ensures.answers honest owned))
       | in-Save w ↦ rw (w.reply-is, w.self-is)
-          (subst (λ r. Steps r owned c.args.self.now w.save-reply.result w.save-reply.new.self) (asks _ w.in-Save.is) (w.save-reply.ensures owned))
+          (subst (λ r. Steps r owned c.args.self.now w.save-reply.result w.save-reply.new.self) (asks _ w.in-Save.is) (w.save-reply.ensures.answers owned))
       | in-Load w ↦ rw (w.reply-is, w.self-is)
-          (subst (λ r. Steps r owned c.args.self.now w.load-reply.result w.load-reply.new.self) (asks _ w.in-Load.is) (w.load-reply.ensures owned))
+          (subst (λ r. Steps r owned c.args.self.now w.load-reply.result w.load-reply.new.self) (asks _ w.in-Load.is) (w.load-reply.ensures.answers owned))
       | in-Unknown w ↦ rw (w.reply-is, w.self-is)
           (subst (λ r. Steps r owned c.args.self.now (says.Refused why.BadCommand) c.args.self.now) (asks _ w.in-Unknown.is)
           (refused ask.Unknown owned c.args.self.now why.BadCommand (λ state r. refl)))
     ]
 
 pub returns-clause-left : goal.returns-clause-left
-returns-clause-left c = c.in_ok-skip.ensures ∙ ap (λ (n : ℕ). drop n c.args.records.now) c.owned.ensures
+returns-clause-left g c = c.in_ok-skip.ensures ∙ ap (λ (n : ℕ). drop n c.args.records.now) c.owned.ensures
+
+pub returns-clause-faults : goal.returns-clause-faults
+returns-clause-faults g c =
+    elim c.match-request.branch [
+      | in-Columns w ↦ rw (w.reply-is, w.disk-is) (no_fault_in (g.D.TapeDisk.failures c.args.disk.now) (g.D.TapeDisk.failures c.args.disk.now) w.tell_columns-reply.result w.tell_columns-reply.ensures.faultless (omega arith))
+      | in-Query w ↦ rw (w.reply-is, w.disk-is) (no_fault_in (g.D.TapeDisk.failures c.args.disk.now) (g.D.TapeDisk.failures c.args.disk.now) w.tell_query-reply.result w.tell_query-reply.ensures.faultless (omega arith))
+      | in-Limit w ↦ rw (w.reply-is, w.disk-is) (no_fault_in (g.D.TapeDisk.failures c.args.disk.now) (g.D.TapeDisk.failures c.args.disk.now) w.tell_limit-reply.result w.tell_limit-reply.ensures.faultless (omega arith))
+      | in-Replica w ↦ rw (w.reply-is, w.disk-is) (no_fault_in (g.D.TapeDisk.failures c.args.disk.now) (g.D.TapeDisk.failures c.args.disk.now) w.add_replica-reply.result w.add_replica-reply.ensures.faultless (omega arith))
+      | in-Known w ↦ rw (w.reply-is, w.disk-is) (no_fault_in (g.D.TapeDisk.failures c.args.disk.now) (g.D.TapeDisk.failures c.args.disk.now) w.known-reply.result w.known-reply.ensures.faultless (omega arith))
+      | in-Answer w ↦ rw (w.reply-is, w.disk-is) w.answer-reply.ensures.faults
+      | in-Merge w ↦ rw (w.reply-is, w.disk-is) w.merge-reply.ensures.faults
+      | in-Save w ↦ rw (w.reply-is, w.disk-is) (no_fault_in (g.D.TapeDisk.failures c.args.disk.now) (g.D.TapeDisk.failures c.args.disk.now) w.save-reply.result w.save-reply.ensures.faultless (omega arith))
+      | in-Load w ↦ rw (w.reply-is, w.disk-is) (no_fault_in (g.D.TapeDisk.failures c.args.disk.now) (g.D.TapeDisk.failures c.args.disk.now) w.load-reply.result w.load-reply.ensures.faultless (omega arith))
+      | in-Unknown w ↦ rw (w.reply-is, w.disk-is) (no_fault_in (g.D.TapeDisk.failures c.args.disk.now) (g.D.TapeDisk.failures c.args.disk.now) (says.Refused why.BadCommand) refl (omega arith))
+    ]

@@ -1,73 +1,85 @@
 use Rattle.std.specs.Prelude.{Some, take}
-use Rattle.std.proofs.Common.{◌∙◌, ap, sym, subst, inl, inr}
+use Rattle.std.proofs.Common.{◌∙◌, ap, sym, subst, inl, inr, arith}
 use Rattle.std.specs.Option.{is_some}
 use Rattle.script_commands.specs.Commands as ask
-use Rattle.script_machine.specs.Views.{Store, Steps, Updates}
+use Rattle.script_machine.specs.Views.{Store, Steps, Takes, Updates}
 use Rattle.script_machine.specs.declared.refusal.Refusal.TheVariants as why
 use Rattle.script_machine.specs.declared.reply.Reply.TheVariants as says
+use Rattle.script_machine.proofs.FeedLaws.{fault_refused}
 use Rattle.script_machine.proofs.StoreLaws.{disagrees_or, feed_disagrees, feed_nowhere, feed_refused, feed_took, held_asks, same_updated, store_updated, updated}
 use Rattle.script_machine.proofs.session.Session.feed.Goals as goal
 use Rattle.script_machine.proofs.session.Session.feed.Goals.{in-Ok, in-Err}
 
 pub returns-in_default-clause-answers : goal.returns-in_default-clause-answers
-returns-in_default-clause-answers c =
+returns-in_default-clause-answers g c = λ honest.
     let request = ask.Feed c.args.name.now c.args.origin.now c.args.number.now c.args.told in
     let owned = take c.args.told c.args.records.now in
-    let new : Store = record { columns = c.self.inside.columns; query = c.self.inside.query; replicas = c.get_mut.follows.lender-at-none.entries; saved = c.self.inside.saved.entries } in
-    let old : Store = record { columns = c.self.inside.columns; query = c.self.inside.query; replicas = c.self.inside.replicas.entries; saved = c.self.inside.saved.entries } in
+    let new : Store = record { columns = c.self.inside.columns; query = c.self.inside.query; replicas = c.get_mut.follows.lender-at-none.entries; saved = c.self.inside.saved.entries; limit = c.self.inside.means.limit } in
+    let old : Store = record { columns = c.self.inside.columns; query = c.self.inside.query; replicas = c.self.inside.replicas.entries; saved = c.self.inside.saved.entries; limit = c.self.inside.means.limit } in
     subst (λ s. Steps request owned s (says.Refused why.NoSuchName) new) c.self.view_is
-    (subst (λ m. Steps request owned old (says.Refused why.NoSuchName) (record { columns = c.self.inside.columns; query = c.self.inside.query; replicas = m.entries; saved = c.self.inside.saved.entries })) (sym c.get_mut.follows.holds-at-none)
+    (subst (λ m. Steps request owned old (says.Refused why.NoSuchName) (record { columns = c.self.inside.columns; query = c.self.inside.query; replicas = m.entries; saved = c.self.inside.saved.entries; limit = c.self.inside.means.limit })) (sym c.get_mut.follows.holds-at-none)
     (feed_nowhere old c.args.name.now c.args.origin.now c.args.number.now c.args.told owned (sym c.in_default.ensures.value)))
 
 pub invariant_of-self-in_err-delivered : goal.invariant_of-self-in_err-delivered
-invariant_of-self-in_err-delivered c =
+invariant_of-self-in_err-delivered g c =
     let there = sym c.in-Some.ensures.value in
-    let old : Store = record { columns = c.self.inside.columns; query = c.self.inside.query; replicas = c.self.inside.replicas.entries; saved = c.self.inside.saved.entries } in
+    let old : Store = record { columns = c.self.inside.columns; query = c.self.inside.query; replicas = c.self.inside.replicas.entries; saved = c.self.inside.saved.entries; limit = c.self.inside.means.limit } in
     let asks = held_asks old c.args.name.now c.in-Some.replica.now c.self.invariant there in
     store_updated old _ c.args.name.now c.deliver.new.replica
-    (updated c.self.inside.columns c.self.inside.query c.self.inside.saved.entries c.args.name.now c.deliver.new.replica c.self.inside.replicas (c.get_mut.follows.lender c.deliver.new.replica)
+    (updated c.self.inside.means.limit c.self.inside.columns c.self.inside.query c.self.inside.saved.entries c.args.name.now c.deliver.new.replica c.self.inside.replicas (c.get_mut.follows.lender c.deliver.new.replica)
     ((c.get_mut.follows.holds c.deliver.new.replica).3 (ap is_some there)))
     (asks.0 ∙ ap Some (sym c.deliver.ensures.query)) c.self.invariant
 
 pub invariant_of-self-2 : goal.invariant_of-self-2
-invariant_of-self-2 c =
+invariant_of-self-2 g c =
     let there = sym c.in-Some.ensures.value in
-    let old : Store = record { columns = c.self.inside.columns; query = c.self.inside.query; replicas = c.self.inside.replicas.entries; saved = c.self.inside.saved.entries } in
+    let old : Store = record { columns = c.self.inside.columns; query = c.self.inside.query; replicas = c.self.inside.replicas.entries; saved = c.self.inside.saved.entries; limit = c.self.inside.means.limit } in
     let asks = held_asks old c.args.name.now c.in-Some.replica.now c.self.invariant there in
     store_updated old _ c.args.name.now c.deliver.new.replica
-    (updated c.self.inside.columns c.self.inside.query c.self.inside.saved.entries c.args.name.now c.deliver.new.replica c.self.inside.replicas (c.get_mut.follows.lender c.deliver.new.replica)
+    (updated c.self.inside.means.limit c.self.inside.columns c.self.inside.query c.self.inside.saved.entries c.args.name.now c.deliver.new.replica c.self.inside.replicas (c.get_mut.follows.lender c.deliver.new.replica)
     ((c.get_mut.follows.holds c.deliver.new.replica).3 (ap is_some there)))
     (asks.0 ∙ ap Some (sym c.deliver.ensures.query)) c.self.invariant
 
 pub returns-clause-answers : goal.returns-clause-answers
-returns-clause-answers c =
+returns-clause-answers g c =
     let request = ask.Feed c.args.name.now c.args.origin.now c.args.number.now c.args.told in
     let owned = take c.args.told c.args.records.now in
     let there = sym c.in-Some.ensures.value in
-    let old : Store = record { columns = c.self.inside.columns; query = c.self.inside.query; replicas = c.self.inside.replicas.entries; saved = c.self.inside.saved.entries } in
-    let new : Store = record { columns = c.self.inside.columns; query = c.self.inside.query; replicas = (c.get_mut.follows.lender c.deliver.new.replica).entries; saved = c.self.inside.saved.entries } in
+    let old : Store = record { columns = c.self.inside.columns; query = c.self.inside.query; replicas = c.self.inside.replicas.entries; saved = c.self.inside.saved.entries; limit = c.self.inside.means.limit } in
+    let new : Store = record { columns = c.self.inside.columns; query = c.self.inside.query; replicas = (c.get_mut.follows.lender c.deliver.new.replica).entries; saved = c.self.inside.saved.entries; limit = c.self.inside.means.limit } in
     let u : Updates old new c.args.name.now c.deliver.new.replica =
-    updated c.self.inside.columns c.self.inside.query c.self.inside.saved.entries c.args.name.now c.deliver.new.replica c.self.inside.replicas (c.get_mut.follows.lender c.deliver.new.replica)
+    updated c.self.inside.means.limit c.self.inside.columns c.self.inside.query c.self.inside.saved.entries c.args.name.now c.deliver.new.replica c.self.inside.replicas (c.get_mut.follows.lender c.deliver.new.replica)
     ((c.get_mut.follows.holds c.deliver.new.replica).3 (ap is_some there)) in
     elim c.match-branch-3.branch [
       | in-Ok w ↦
           let took = rw w.in-Ok.is at c.in_ok-delivered.ensures.took in
           rw w.result-is
-          (subst (λ s. Steps request owned s (says.Delivered w.in-Ok.delivered) new) c.self.view_is
+          (λ honest. subst (λ s. Steps request owned s (says.Delivered w.in-Ok.delivered) new) c.self.view_is
           (feed_took old new c.args.name.now c.args.origin.now c.args.number.now c.args.told owned c.in-Some.replica.now c.deliver.new.replica w.in-Ok.delivered
-          c.self.invariant there took u))
+          c.self.invariant there (subst (λ h. Takes h c.args.origin.now c.args.number.now c.args.told owned c.in-Some.replica.now c.deliver.new.replica w.in-Ok.delivered) honest took) u))
       | in-Err w ↦
           let stays = rw w.in-Err.is at c.in_ok-delivered.ensures.same in
           let other = rw w.in-Err.is at c.in_ok-delivered.ensures.other in
+          let undamaged = rw w.in-Err.is at c.in_ok-delivered.ensures.undamaged in
           let is_none = rw w.in-Err.is at c.in_ok-delivered.ensures.why in
           rw w.result-is
-          (subst (λ s. Steps request owned s (says.Refused w.in-Err.why) new) c.self.view_is
+          (λ honest. subst (λ s. Steps request owned s (says.Refused w.in-Err.why) new) c.self.view_is
           (elim (disagrees_or w.in-Err.why) [
             | inl is ↦ subst (λ why'. Steps request owned old (says.Refused why') new) (sym is)
                 (feed_disagrees old new c.args.name.now c.args.origin.now c.args.number.now c.args.told owned c.in-Some.replica.now
                 c.self.invariant there (same_updated old new c.args.name.now c.in-Some.replica.now (subst (Updates old new c.args.name.now) stays u) there) (other is))
             | inr agreed ↦
                 feed_refused old new c.args.name.now c.args.origin.now c.args.number.now c.args.told owned c.in-Some.replica.now w.in-Err.why
-                c.self.invariant there (same_updated old new c.args.name.now c.in-Some.replica.now (subst (Updates old new c.args.name.now) stays u) there) agreed is_none
+                c.self.invariant there (same_updated old new c.args.name.now c.in-Some.replica.now (subst (Updates old new c.args.name.now) stays u) there) agreed (undamaged honest) is_none
           ]))
+    ]
+
+pub returns-clause-faults : goal.returns-clause-faults
+returns-clause-faults g c =
+    let low = c.deliver.ensures.disk.failures in
+    elim c.match-branch-3.branch [
+      | in-Ok w ↦ rw w.result-is (omega (arith, low))
+      | in-Err w ↦
+          let fault = rw w.in-Err.is at c.in_ok-delivered.ensures.fault in
+          rw w.result-is (fault_refused (g.D.TapeDisk.failures c.args.disk.now) (g.D.TapeDisk.failures c.deliver.new.disk) w.in-Err.why low fault)
     ]

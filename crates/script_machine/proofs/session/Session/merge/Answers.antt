@@ -6,38 +6,44 @@ use Rattle.replica_merge.specs.Replicas.{Held, Fits}
 use Rattle.script_commands.specs.Commands as ask
 use Rattle.script_machine.specs.Views.{Store, Steps, Updates, JoinsHeld, replica_at}
 use Rattle.script_machine.specs.declared.reply.Reply.TheVariants as says
+use Rattle.script_machine.proofs.FeedLaws.{fault_refused}
 use Rattle.script_machine.proofs.StoreLaws.{held_asks, merge_refused, merged, one_query, one_there, store_updated, updated}
 use Rattle.script_machine.proofs.session.Session.merge.Goals as goal
 
-pub returns-in-Err : goal.returns-in-Err
-returns-in-Err c = λ owned. merge_refused c.args.self.now c.args.into.now c.args.from.now owned c.in-Err.why c.in-Err.ensures
+pub returns-in-Err-clause-answers : goal.returns-in-Err-clause-answers
+returns-in-Err-clause-answers g c = λ honest owned.
+    merge_refused c.args.self.now c.args.into.now c.args.from.now owned c.in-Err.why c.in-Err.ensures.joins (c.in-Err.ensures.undamaged honest)
+
+pub returns-in-Err-clause-faults : goal.returns-in-Err-clause-faults
+returns-in-Err-clause-faults g c =
+    fault_refused (g.D.TapeDisk.failures c.args.disk.now) (g.D.TapeDisk.failures c.join.new.disk) c.in-Err.why c.join.ensures.disk.failures c.in-Err.ensures.fault
 
 pub invariant_of-self : goal.invariant_of-self
-invariant_of-self c =
+invariant_of-self g c =
     let there = sym c.in-Some.ensures.value in
-    let old : Store = record { columns = c.self.inside.columns; query = c.self.inside.query; replicas = c.self.inside.replicas.entries; saved = c.self.inside.saved.entries } in
+    let old : Store = record { columns = c.self.inside.columns; query = c.self.inside.query; replicas = c.self.inside.replicas.entries; saved = c.self.inside.saved.entries; limit = c.self.inside.means.limit } in
     let asks = held_asks old c.args.into.now c.in-Some.replica.now c.self.invariant there in
     store_updated old _ c.args.into.now c.commit.new.self
-    (updated c.self.inside.columns c.self.inside.query c.self.inside.saved.entries c.args.into.now c.commit.new.self c.self.inside.replicas (c.get_mut.follows.lender c.commit.new.self)
+    (updated c.self.inside.means.limit c.self.inside.columns c.self.inside.query c.self.inside.saved.entries c.args.into.now c.commit.new.self c.self.inside.replicas (c.get_mut.follows.lender c.commit.new.self)
     ((c.get_mut.follows.holds c.commit.new.self).3 (ap is_some there)))
     (asks.0 ∙ ap Some (sym c.commit.ensures.query)) c.self.invariant
 
-pub returns : goal.returns
-returns c = λ owned.
+pub returns-clause-answers : goal.returns-clause-answers
+returns-clause-answers g c = λ honest owned.
     let request = ask.Merge c.args.into.now c.args.from.now in
     let there = sym c.in-Some.ensures.value in
-    let old : Store = record { columns = c.self.inside.columns; query = c.self.inside.query; replicas = c.self.inside.replicas.entries; saved = c.self.inside.saved.entries } in
-    let new : Store = record { columns = c.self.inside.columns; query = c.self.inside.query; replicas = (c.get_mut.follows.lender c.commit.new.self).entries; saved = c.self.inside.saved.entries } in
+    let old : Store = record { columns = c.self.inside.columns; query = c.self.inside.query; replicas = c.self.inside.replicas.entries; saved = c.self.inside.saved.entries; limit = c.self.inside.means.limit } in
+    let new : Store = record { columns = c.self.inside.columns; query = c.self.inside.query; replicas = (c.get_mut.follows.lender c.commit.new.self).entries; saved = c.self.inside.saved.entries; limit = c.self.inside.means.limit } in
     let u : Updates old new c.args.into.now c.commit.new.self =
-    updated c.self.inside.columns c.self.inside.query c.self.inside.saved.entries c.args.into.now c.commit.new.self c.self.inside.replicas (c.get_mut.follows.lender c.commit.new.self)
+    updated c.self.inside.means.limit c.self.inside.columns c.self.inside.query c.self.inside.saved.entries c.args.into.now c.commit.new.self c.self.inside.replicas (c.get_mut.follows.lender c.commit.new.self)
     ((c.get_mut.follows.holds c.commit.new.self).3 (ap is_some there)) in
-    let found = subst (λ (s : Store). (own theirs : Held) × (replica_at s c.args.into.now ≡ Some own) × (replica_at s c.args.from.now ≡ Some theirs) × JoinsHeld own theirs c.in-Ok.joined) (sym c.self.view_is) c.in-Ok.ensures in
+    let found = subst (λ (s : Store). (own theirs : Held) × (replica_at s c.args.into.now ≡ Some own) × (replica_at s c.args.from.now ≡ Some theirs) × JoinsHeld (g.D.TapeDisk.honest c.args.disk.now) own theirs c.in-Ok.joined) (sym c.self.view_is) c.in-Ok.ensures.joins in
     let own : Held = c.in-Some.replica.now in
     let theirs : Held = found.1 in
-    let joins : JoinsHeld own theirs c.in-Ok.joined = subst (λ (h : Held). JoinsHeld h theirs c.in-Ok.joined) (one_there found.0 own found.2 there) found.4 in
+    let joins : JoinsHeld (g.D.TapeDisk.honest c.args.disk.now) own theirs c.in-Ok.joined = subst (λ (h : Held). JoinsHeld (g.D.TapeDisk.honest c.args.disk.now) h theirs c.in-Ok.joined) (one_there found.0 own found.2 there) found.4 in
     let same : own.query ≡ theirs.query = one_query old c.args.into.now c.args.from.now own theirs c.self.invariant there found.3 in
     subst (λ (s : Store). Steps request owned s says.Merged new) c.self.view_is
     (merged old new c.args.into.now c.args.from.now owned own theirs c.commit.new.self c.self.invariant there found.3
-    (c.commit.ensures.told theirs.parts joins.held joins.aside)
-    (λ world is fits fits_theirs. c.commit.ensures.fits theirs.parts joins.held joins.aside world is fits (subst (λ (q : Checked). Fits world (record { query = q; parts = theirs.parts })) (sym same) fits_theirs))
+    (c.commit.ensures.told (g.D.TapeDisk.honest c.args.disk.now) theirs.parts joins.held joins.aside)
+    (λ world is fits fits_theirs. c.commit.ensures.fits (g.D.TapeDisk.honest c.args.disk.now) honest theirs.parts joins.held joins.aside world is fits (subst (λ (q : Checked). Fits world (record { query = q; parts = theirs.parts })) (sym same) fits_theirs))
     u)

@@ -8,20 +8,20 @@ use Rattle.script_machine.specs.declared.reply.Reply.TheVariants as says
 use Rattle.script_machine.proofs.StoreLaws.{columns_there, no_schema, columns_told, out_of_memory}
 use Rattle.script_machine.proofs.session.Session.tell_columns.Goals as goal
 
-pub returns-then-is_some : goal.returns-then-is_some
-returns-then-is_some c = λ owned. columns_there c.args.self.now c.args.text.now owned
+pub returns-then-is_some-clause-answers : goal.returns-then-is_some-clause-answers
+returns-then-is_some-clause-answers c = λ owned. columns_there c.args.self.now c.args.text.now owned
     (ap (λ (s : Store). is_some s.columns) (sym c.self.view_is) ∙ sym c.is_some.ensures ∙ c.if-is_some.true)
 
-pub returns-in-Ok : goal.returns-in-Ok
-returns-in-Ok c = λ owned.
-    let new : Store = record { columns = Some c.in-Ok.schema; query = c.self.inside.query; replicas = c.self.inside.replicas.entries; saved = c.self.inside.saved.entries } in
+pub returns-in-Ok-clause-answers : goal.returns-in-Ok-clause-answers
+returns-in-Ok-clause-answers c = λ owned.
+    let new : Store = record { columns = Some c.in-Ok.schema; query = c.self.inside.query; replicas = c.self.inside.replicas.entries; saved = c.self.inside.saved.entries; limit = c.self.inside.means.limit } in
     subst (λ s. Steps (ask.Columns c.args.text.now) owned s (says.Columns c.width-count.result) new) c.self.view_is
     (columns_told _ c.args.text.now owned c.in-Ok.schema c.width-count.result (sym c.is_some.ensures ∙ c.if-is_some.false) c.in-Ok.ensures.parsed c.width-count.ensures.width)
 
-pub returns-in-Err-BadSchema : goal.returns-in-Err-BadSchema
-returns-in-Err-BadSchema c = λ owned. no_schema c.args.self.now c.args.text.now owned
+pub returns-in-Err-BadSchema-clause-answers : goal.returns-in-Err-BadSchema-clause-answers
+returns-in-Err-BadSchema-clause-answers c = λ owned. no_schema c.args.self.now c.args.text.now owned
     (ap (λ (s : Store). is_some s.columns) (sym c.self.view_is) ∙ sym c.is_some.ensures ∙ c.if-is_some.false)
     (subst (ParseFault c.args.text.now) c.in-Err-BadSchema.field-0-is c.in-Err-BadSchema.ensures.refused)
 
-pub returns-in-Err : goal.returns-in-Err
-returns-in-Err c = λ owned. out_of_memory (ask.Columns c.args.text.now) owned c.args.self.now
+pub returns-in-Err-clause-answers : goal.returns-in-Err-clause-answers
+returns-in-Err-clause-answers c = λ owned. out_of_memory (ask.Columns c.args.text.now) owned c.args.self.now

@@ -15,7 +15,7 @@ use Rattle.hash_agg.proofs.StepLaws.{err_out, on_error}
 use Rattle.hash_agg.proofs.CountLaws.{all_made, made_rise, all_few, few_keys}
 use Rattle.hash_agg.proofs.UnionLaws.{all_stand, safe_run}
 use Rattle.hash_agg.proofs.WholeLaws.{all_given, lists_give, keys_give, keys_are, keys_few}
-use Rattle.hash_agg.proofs.aggregation.aggregate_over.Goals as goal
+use Rattle.hash_agg.proofs.aggregation.aggregate.Goals as goal
 
 -- what all passes hold in the end is the aggregate
 is_aggregate : (q : Query) (hf : List ℕ → ℕ) (inputs : List Brought) (run : List Entry) → AllByRecursion (IsInput q) inputs → Rises run → ((givens : List Given) → AllGive q inputs givens → Stands q hf (all_pieces inputs givens) run []) → IsAggregate q inputs run

@@ -1,4 +1,6 @@
-//! Disks of the tests' own, over one in memory.
+//! Disks for tests, over one in memory: they fail, mark or flip.
+#![tactic(auto)]
+
 ghost use Rattle.std.specs.Prelude.{◌≡◌, cond, true, false};
 ghost use Rattle.spill_tapes.specs.Memory.{byte_at};
 
@@ -6,9 +8,9 @@ use spill_tapes::{DiskError, MemDisk, TapeDisk};
 
 /// A disk whose first write fails.
 #[derive(Drop)]
-pub(crate) struct FailsFirst {
-    pub(crate) inner: MemDisk,
-    pub(crate) has_failed: bool,
+pub struct FailsFirst {
+    pub inner: MemDisk,
+    pub has_failed: bool,
 }
 
 impl TapeDisk for FailsFirst {
@@ -35,9 +37,9 @@ impl TapeDisk for FailsFirst {
 
 /// A disk that keeps how far it was written.
 #[derive(Drop)]
-pub(crate) struct Marks {
-    pub(crate) inner: MemDisk,
-    pub(crate) end: u64,
+pub struct Marks {
+    pub inner: MemDisk,
+    pub end: u64,
 }
 
 impl TapeDisk for Marks {
@@ -61,8 +63,8 @@ impl TapeDisk for Marks {
 
 /// A disk that flips one bit of the fifth byte of all that is read.
 #[derive(Drop)]
-pub(crate) struct Flips {
-    pub(crate) inner: MemDisk,
+pub struct Flips {
+    pub inner: MemDisk,
 }
 
 impl TapeDisk for Flips {

@@ -1,0 +1,78 @@
+//! What an aggregation may use.
+
+ghost use Rattle.std.specs.Prelude.{◌≡◌, ◌≤◌, ◌<◌, ◌⊎◌, IfOk, IfErr};
+
+use group_table::KeyHash;
+use std::marker::Model;
+use thiserror::Error;
+
+/// The least limit of an aggregation, in bytes.
+pub const LEAST_LIMIT: u64 = 65_536;
+
+/// The greatest limit of an aggregation, in bytes.
+pub const GREATEST_LIMIT: u64 = 1_099_511_627_776;
+
+/// The limit of whoever tells none, in bytes.
+pub const USUAL_LIMIT: u64 = 4_194_304;
+
+/// A limit is less than the least one, or more than the greatest.
+#[derive(Clone, Copy, Debug, PartialEq, Eq, Error)]
+#[error("a limit is 65,536 to 1,099,511,627,776 bytes")]
+pub struct LimitOutOfRange;
+
+/// What an aggregation may use: a limit on the blocks of its table of groups, in bytes, and the hash function of its keys. The
+/// disk to which it spills what doesn't keep within the limit is handed in beside it.
+#[derive(Drop)]
+pub struct Means<H: KeyHash + Copy> {
+    limit: u64,
+    hash: H,
+}
+
+impl<H: KeyHash + Copy> Model for Means<H> {
+    ghost use Rattle.hash_agg.specs.Means.{MeansState, AreMeans};
+
+    ghost Value = { MeansState H };
+
+    ghost view = { λ m. record { limit = m.limit; hash = m.hash } };
+
+    ghost invariant = { λ m. AreMeans m.limit };
+}
+
+impl<H: KeyHash + Copy> Means<H> {
+    /// A limit in bytes, from 65,536 to 1,099,511,627,776, and a hash function.
+    pub fn new(limit: u64, hash: H) -> Result<Means<H>, LimitOutOfRange>
+        ensures means { IfOk result (λ means. means ≡ record { limit = limit; hash = hash }) }
+        ensures within { IfOk result (λ _. (LEAST_LIMIT ≤ limit) × (limit ≤ GREATEST_LIMIT)) }
+        ensures refused { IfErr result (λ _. (limit < LEAST_LIMIT) ⊎ (GREATEST_LIMIT < limit)) }
+    {
+        if limit < LEAST_LIMIT || limit > GREATEST_LIMIT {
+            return Err(LimitOutOfRange);
+        }
+        Ok(Means { limit, hash })
+    }
+
+    /// The usual limit, of 4,194,304 bytes, and a hash function.
+    pub fn usual(hash: H) -> Means<H>
+        ensures { result ≡ record { limit = USUAL_LIMIT; hash = hash } }
+    {
+        Means {
+            limit: USUAL_LIMIT,
+            hash,
+        }
+    }
+
+    /// The limit, in bytes.
+    pub fn limit(&self) -> u64
+        ensures limit { result ≡ self.now.limit }
+        ensures within { (LEAST_LIMIT ≤ result) × (result ≤ GREATEST_LIMIT) }
+    {
+        self.limit
+    }
+
+    /// The hash function.
+    pub fn hash(&self) -> H
+        ensures { result ≡ self.now.hash }
+    {
+        self.hash
+    }
+}
