@@ -1,12 +1,12 @@
 -- A context of any kind: what is said of the four kinds, by its kind.
-use Rattle.std.specs.Prelude.{ℕ, Bool, true, false, List, Option, None}
+use Rattle.std.specs.Prelude.{◌≡◌, ℕ, ◌*◌, nat_lt, Bool, true, false, List, Option, None, length}
 use Rattle.chunk_layout.specs.Pieces.{Piece, total}
 use Rattle.chunk_layout.specs.declared.place.Place.{Place}
 use Rattle.chunk_layout.specs.declared.place.ChunkName.{ChunkName}
 use Rattle.chunk_contexts.specs.Chunks.{is_live, bytes_of}
 use Rattle.chunk_contexts.specs.Rooms.{rounded, over_most}
 use Rattle.chunk_contexts.specs.Set.{new_set, set_room, set_growth, set_taken, set_wrote, set_put, set_freed, set_reset}
-use Rattle.chunk_contexts.specs.Slab.{new_slab, slab_refusal, slab_growth, slab_taken, slab_wrote, slab_freed, slab_reset}
+use Rattle.chunk_contexts.specs.Slab.{new_slab, slab_refusal, slab_growth, slab_taken, slab_wrote, slab_freed, slab_reset, has_spare, per_block, block_count}
 use Rattle.chunk_contexts.specs.Run.{new_run, run_growth, run_taken, run_wrote, run_put, run_reset}
 use Rattle.chunk_contexts.specs.Generation.{gen_freed}
 use Rattle.chunk_contexts.specs.declared.error.ContextError.{ContextError}
@@ -113,3 +113,10 @@ chunk_bytes c name = bytes_of (chunks_of c) name
 -- the bytes of all its blocks
 abbrev pub held_by : Context → ℕ
 held_by c = total (blocks_of c)
+
+-- a block of a slab has a free chunk just where there are fewer chunks than all its blocks have room for
+abbrev pub IsCounted : Context → Type 0
+IsCounted (AllocSet s) = Unit {0}
+IsCounted (Slab s) = has_spare s ≡ nat_lt (length s.chunks) (per_block (rounded s.size) * block_count s.blocks)
+IsCounted (Generation s) = Unit {0}
+IsCounted (Bump s) = Unit {0}

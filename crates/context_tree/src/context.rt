@@ -1,6 +1,6 @@
 //! One value of the four kinds of context.
 ghost use Rattle.std.specs.Prelude.{◌≡◌, None, Some, MatchResult};
-ghost use Rattle.context_tree.specs.Contexts.{new_context, kind_refusal};
+ghost use Rattle.context_tree.specs.Contexts.{new_context, kind_refusal, IsCounted};
 
 use crate::kind::Kind;
 use chunk_contexts::{AllocSet, Bump, ChunkContext, ChunkName, ContextError, Generation, Slab};
@@ -27,6 +27,16 @@ impl Context {
             Kind::Generation => Context::Generation(Generation::new(alloc)),
             Kind::Bump => Context::Bump(Bump::new(alloc)),
         })
+    }
+
+    /// A law: a block of a slab has a free chunk just where there are fewer chunks than all its blocks have room for.
+    pub(crate) fn spare_by_count(&self)
+        ensures { IsCounted self.now }
+    {
+        match self {
+            Context::AllocSet(_) | Context::Generation(_) | Context::Bump(_) => {}
+            Context::Slab(slab) => slab.spare_by_count(),
+        }
     }
 }
 

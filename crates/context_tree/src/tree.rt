@@ -5,7 +5,7 @@ ghost use Rattle.block_memory.specs.Cells.{zeros};
 ghost use Rattle.chunk_layout.specs.Pieces.{place_of, without, piece_at, resized, total};
 ghost use Rattle.chunk_contexts.specs.Chunks.{chunk_of, Adds, Keeps, KeepsOthers, IsRefused, IsResizeRefused, IsResized};
 ghost use Rattle.chunk_contexts.specs.declared.error.ContextError.TheVariants.{NotSupported};
-ghost use Rattle.context_tree.specs.Contexts.{chunks_of, blocks_of, room_in, refusal_of, growth_of, can_free, with_chunk, with_bytes, with_resized, without_chunk, kind_refusal, no_context, has_chunk, chunk_bytes, held_by};
+ghost use Rattle.context_tree.specs.Contexts.{chunks_of, blocks_of, room_in, refusal_of, growth_of, can_free, with_chunk, with_bytes, with_resized, without_chunk, kind_refusal, no_context, has_chunk, chunk_bytes, held_by, IsCounted};
 ghost use Rattle.context_tree.specs.Links.{is_under, placed};
 ghost use Rattle.context_tree.specs.Tree.{new_tree, is_there, context_at, parent_id, id_in, with_context, with_new, without_slots, deleted, reset, held_below, held_from, IsWhole, IsRefusedBy, IsKept, IsNotMade};
 ghost use Rattle.context_tree.specs.declared.error.TreeError.TheVariants.{NoSuchContext};
@@ -85,7 +85,8 @@ fn give_up_free(contexts: &mut [Context], links: &Links, from: usize, alloc: Glo
 /// The bytes of the blocks of the context in a slot and of its descendants.
 fn sum_below(links: &Links, contexts: &[Context], above: u32) -> u128
     requires { length contexts.now ≡ length links.now }
-    ensures { result ≡ held_from links.now above 0 contexts.now }
+    ensures value { result ≡ held_from links.now above 0 contexts.now }
+    ensures bound { result < 2 ^ 96 }
 {
     let mut sum = 0;
     for slot in 0..links.len() {
@@ -143,6 +144,15 @@ impl Tree {
             return Err(TreeError::NoSuchContext);
         }
         Ok(())
+    }
+
+    /// A law: a block of a slab has a free chunk just where there are fewer chunks than all its blocks have room for.
+    pub fn spare_by_count(&self, id: ContextId)
+        ensures { IsCounted (context_at self.now id) }
+    {
+        if let Some(context) = self.contexts.get(id.slot as usize) {
+            context.spare_by_count();
+        }
     }
 
     /// The id of the root.
@@ -269,7 +279,8 @@ impl Tree {
 
     /// The bytes of the blocks of a context and of all its descendants.
     pub fn held_below(&self, id: ContextId) -> Result<u128, TreeError>
-        ensures { MatchResult result (λ held. (is_there self.now id ≡ true) × (held ≡ held_below self.now id)) (λ e. (is_there self.now id ≡ false) × (e ≡ NoSuchContext)) }
+        ensures bound { IfOk result (λ held. held < 2 ^ 96) }
+        ensures value { MatchResult result (λ held. (is_there self.now id ≡ true) × (held ≡ held_below self.now id)) (λ e. (is_there self.now id ≡ false) × (e ≡ NoSuchContext)) }
     {
         self.check(id)?;
         Ok(sum_below(&self.links, &self.contexts, id.slot))
