@@ -161,13 +161,13 @@ module _ {H : Type 0} (hash_of : H → List ℕ → ℕ) (t : TableState H) (t0 
           ∙ ap (λ (x : TreeState). context_at x t.buckets) e2 ∙ context_kept t1 t.keys t.buckets p1.keys_apart.not_last p1.keys_apart.differ
           ∙ ap (λ (x : TreeState). context_at x t.buckets) e1 ∙ context_reset t0 t.buckets p0.buckets.within
 
-      k3 : context_at t3 t.keys ≡ reset_context (context_at t0 t.keys)
+      pub k3 : context_at t3 t.keys ≡ reset_context (context_at t0 t.keys)
       k3 =
           ap (λ (x : TreeState). context_at x t.keys) e3 ∙ context_kept t2 t.states t.keys p2.both_apart.not_last p2.both_apart.differ
           ∙ ap (λ (x : TreeState). context_at x t.keys) e2 ∙ context_reset t1 t.keys p1.keys.within
           ∙ ap reset_context (ap (λ (x : TreeState). context_at x t.keys) e1 ∙ context_kept t0 t.buckets t.keys p0.keys_apart.not_first (λ same. p0.keys_apart.differ (sym same)))
 
-      s3 : context_at t3 t.states ≡ reset_context (context_at t0 t.states)
+      pub s3 : context_at t3 t.states ≡ reset_context (context_at t0 t.states)
       s3 =
           ap (λ (x : TreeState). context_at x t.states) e3 ∙ context_reset t2 t.states p2.states.within
           ∙ ap reset_context (ap (λ (x : TreeState). context_at x t.states) e2 ∙ context_kept t1 t.keys t.states p1.both_apart.not_first (λ same. p1.both_apart.differ (sym same))

@@ -1,6 +1,6 @@
 -- What the clearing of a table leaves of its tree, and what is held then.
-use Rattle.std.specs.Prelude.{◌≡◌, ◌≢◌, refl, ℕ, ◌+◌, ◌≤◌, ◌==◌, ◌&&◌, not, Bool, false, List, None, length, get_or}
-use Rattle.std.proofs.Common.{sym, ◌∙◌, ap, arith}
+use Rattle.std.specs.Prelude.{◌≡◌, ◌≢◌, refl, ℕ, ◌+◌, ◌≤◌, ◌==◌, ◌&&◌, not, Bool, false, List, [], None, length, get_or}
+use Rattle.std.proofs.Common.{sym, ◌∙◌, ap, subst, arith}
 use Rattle.std.proofs.lemmas.Bool.{false≢true}
 use Rattle.std.proofs.lemmas.List.{length-set}
 use Rattle.context_tree.specs.Contexts.{no_context, reset_context, held_by}
@@ -8,9 +8,11 @@ use Rattle.context_tree.specs.Links.{is_below, is_under, cleared}
 use Rattle.context_tree.specs.Tree.{TreeState, IsWhole, context_at, reset, held_below}
 use Rattle.context_tree.specs.declared.links.ContextId.{ContextId}
 use Rattle.group_table.specs.Table.{TableState, held_in, IsEmptied}
-use Rattle.group_table.specs.Standing.{IsPlaced, IsTableIn, KeepsBeside}
+use Rattle.group_table.specs.Standing.{IsFirst, HasArray, IsPlaced, IsTableIn, KeepsBeside}
+use Rattle.group_table.specs.Space.{IsRunWith, IsSlabWith, HoldsArray, HoldsKeyBlocks, HoldsStates, HoldsKeys}
 use Rattle.group_table.proofs.ChildLaws.{below_self}
-use Rattle.group_table.proofs.ClearLaws.{length_cleared, link_kept, context_kept, p1, p2, p3, is_cleared, cleared_with}
+use Rattle.group_table.proofs.ClearLaws.{length_cleared, link_kept, context_kept, p1, p2, p3, k3, s3, table_cleared, is_cleared, cleared_with}
+use Rattle.group_table.proofs.SpaceLaws.{set_map, run_empty, slab_empty}
 use Rattle.group_table.proofs.HeldLaws.{below_less, held_at_least, held_reset}
 
 -- a context is reset: those beside it are as they were
@@ -91,4 +93,15 @@ module _ {H : Type 0} (hash_of : H → List ℕ → ℕ) (t : TableState H) (t0 
         keys = told.keys;
         states = told.states;
         buckets = omega (arith, alone, less_held, told.keys, told.states, held_at_least t3 t.parent t.buckets q3.buckets.below q3.buckets.within);
+      }
+
+  pub holds_none : (n : ℕ) → held_below t0 t.parent ≡ held_in t t0 → HoldsKeys (cleared_with t n) t3
+  holds_none n alone =
+      let told = is_cleared hash_of t t0 t1 t2 t3 is e1 w0 w1 e2 w2 e3 w3 in
+      let table = table_cleared hash_of t t0 t1 t2 t3 is e1 w0 w1 e2 w2 e3 w3 n in
+      record {
+        alone = omega (arith, (is_emptied n alone).buckets, told.keys, told.states);
+        in_buckets = set_map (λ s. IsFirst s × HasArray hash_of (cleared_with t n) (context_at t3 t.keys) None s) (HoldsArray None 0) (context_at t3 t.buckets) (λ s held. refl) table.standing.stands.set;
+        in_keys = subst (IsRunWith (HoldsKeyBlocks [])) (sym (k3 hash_of t t0 t1 t2 t3 is e1 w0 w1 e2 w2 e3 w3)) (run_empty (context_at t0 t.keys) is.standing.stands.run);
+        in_states = subst (IsSlabWith (HoldsStates t.width 0)) (sym (s3 hash_of t t0 t1 t2 t3 is e1 w0 w1 e2 w2 e3 w3)) (slab_empty t.width (context_at t0 t.states) is.standing.stands.slab);
       }

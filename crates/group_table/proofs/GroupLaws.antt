@@ -36,7 +36,7 @@ module _ {H : Type 0} (hash_of : H → List ℕ → ℕ) (t : TableState H) wher
   -- a chunk is taken from the context of the keys
   module _ (tree after : TreeState) (is : IsStanding hash_of t tree) (n : ℕ) (p : Piece) (name : ChunkName)
       (space : after ≡ with_context tree t.keys (with_chunk (context_at tree t.keys) n p)) (keeps : Keeps (chunks_of (context_at tree t.keys)) (chunks_of (context_at after t.keys)) name) where
-    keys_is : context_at after t.keys ≡ with_chunk (context_at tree t.keys) n p
+    pub keys_is : context_at after t.keys ≡ with_chunk (context_at tree t.keys) n p
     keys_is = ap (λ (x : TreeState). context_at x t.keys) space ∙ at_same tree t.keys (with_chunk (context_at tree t.keys) n p) is.placed.keys.within
 
     pub only_keys : OnlyIn t.keys tree after
@@ -75,7 +75,7 @@ module _ {H : Type 0} (hash_of : H → List ℕ → ℕ) (t : TableState H) wher
   -- a chunk is taken from the context of the states
   module _ (tree after : TreeState) (is : IsStanding hash_of t tree) (n : ℕ) (p : Piece) (name : ChunkName)
       (space : after ≡ with_context tree t.states (with_chunk (context_at tree t.states) n p)) (keeps : Keeps (chunks_of (context_at tree t.states)) (chunks_of (context_at after t.states)) name) where
-    states_is : context_at after t.states ≡ with_chunk (context_at tree t.states) n p
+    pub states_is : context_at after t.states ≡ with_chunk (context_at tree t.states) n p
     states_is = ap (λ (x : TreeState). context_at x t.states) space ∙ at_same tree t.states (with_chunk (context_at tree t.states) n p) is.placed.states.within
 
     pub only_states : OnlyIn t.states tree after

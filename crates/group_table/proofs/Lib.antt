@@ -18,3 +18,6 @@ pub mod ChildLaws
 pub mod HeldLaws
 pub mod EmptyLaws
 pub mod StayLaws
+pub mod CountLaws
+pub mod BlockLaws
+pub mod SpaceLaws

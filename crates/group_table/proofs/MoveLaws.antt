@@ -1,13 +1,13 @@
 -- The buckets move to the next array.
-use Rattle.std.specs.Prelude.{◌≡◌, ◌≢◌, refl, ℕ, zero, suc, ◌*◌, ◌<◌, ◌≤◌, ◌⊎◌, ◌==◌, ◌&&◌, not, nat_lt, Bool, true, false, cond, if◌then◌else◌, List, [], ◌∷◌, Option, Some, None, length, get_or, slice_get, slice_set, is_some, unwrap_or, IsTrue}
+use Rattle.std.specs.Prelude.{◌≡◌, ◌≢◌, refl, ℕ, zero, suc, ◌+◌, ◌*◌, ◌<◌, ◌≤◌, ◌⊎◌, ◌==◌, ◌&&◌, not, nat_lt, Bool, true, false, cond, List, [], ◌∷◌, Option, Some, None, length, slice_get, slice_set, is_some, unwrap_or, IsTrue}
 use Rattle.std.proofs.Common.{inl, inr, sym, ◌∙◌, ap, subst, arith}
-use Rattle.std.proofs.lemmas.Bool.{cases_eq, leb-true, false≢true, cond-false, eqb-true, eq-eqb, ne_eqb, le-leb}
+use Rattle.std.proofs.lemmas.Bool.{cases_eq, leb-true, false≢true, cond-false, eqb-true, eq-eqb, ne_eqb}
 use Rattle.std.proofs.lemmas.List.{get_or-set_other}
 use Rattle.chunk_layout.specs.Pieces.{Piece, same_place, place_of, is_at, piece_at, without, size_at, total}
 use Rattle.chunk_layout.specs.declared.place.Place.{Place}
 use Rattle.chunk_layout.specs.declared.place.ChunkName.{ChunkName}
 use Rattle.chunk_contexts.specs.Chunks.{KeepsOthers, is_live, bytes_of}
-use Rattle.chunk_contexts.specs.Rooms.{largest, rooms, room_of, class_of}
+use Rattle.chunk_contexts.specs.Rooms.{largest}
 use Rattle.chunk_contexts.specs.Set.{SetState, set_room, set_freed}
 use Rattle.context_tree.specs.Contexts.{chunks_of, has_chunk, chunk_bytes, without_chunk, held_by}
 use Rattle.context_tree.specs.Tree.{TreeState, context_at, with_context}
@@ -18,7 +18,9 @@ use Rattle.group_table.specs.Index.{in_use, HasAll}
 use Rattle.group_table.specs.Table.{TableState}
 use Rattle.group_table.specs.Standing.{IsSetWith, IsBump, IsSlabOf, IsFirst, IsBesideFirst, HasArray, AreGroups, IsPlaced, IsStanding, IsArrayIn, IsArrayOf, bucket_of}
 use Rattle.group_table.specs.Arrays.{IsRewritten, OnlyIn, IsSpare, bytes_at, count_of, with_array}
+use Rattle.group_table.specs.Space.{HoldsArray, AreArraysHeld, HoldsNext}
 use Rattle.group_table.proofs.ArrayLaws.{as_named, one_set}
+use Rattle.group_table.proofs.BlockLaws.{short_room, first_settled, larger_settled}
 use Rattle.group_table.proofs.IndexLaws.{none_yet}
 use Rattle.group_table.proofs.StandLaws.{SetOf, set_of, set_with}
 use Rattle.group_table.proofs.TreeFacts.{at_same, at_other, placed_kept, same_links, same_number, only_twice}
@@ -63,23 +65,6 @@ piece_left (p ∷ ps) gone q differ = by (is_at gone p) refl (piece_left ps gone
     by : (b : Bool) → is_at gone p ≡ b → piece_at (without ps gone) q ≡ piece_at ps q → piece_at (cond (not b) (p ∷ without ps gone) (without ps gone)) q ≡ cond (is_at q p) p (piece_at ps q)
     by true here rest = rest ∙ sym (cond-false (is_at q p) p (piece_at ps q) (not_it here))
     by false here rest = ap (λ x. cond (is_at q p) p x) rest
-
--- a short chunk has a room of a class
-AllLow : List ℕ → Type 0
-AllLow [] = Unit {0}
-AllLow (x ∷ xs) = (x ≤ 8192) × AllLow xs
-
-low_at : (xs : List ℕ) (k : ℕ) → AllLow xs → get_or xs k 0 ≤ 8192
-unfolding AllLow
-low_at [] k low = omega arith
-low_at (x ∷ xs) zero low = low.0
-low_at (x ∷ xs) (suc k) (first, rest) = low_at xs k rest
-
-pub short_room : (n : ℕ) → n ≤ 8192 → set_room n ≤ 8192
-unfolding AllLow rooms room_of
-short_room n short =
-    subst (λ b. (if b then room_of (class_of n) else Rattle.chunk_contexts.specs.Rooms.rounded n) ≤ 8192) (sym (le-leb n 8192 short))
-    (low_at rooms (class_of n) (omega arith, (omega arith, (omega arith, (omega arith, (omega arith, (omega arith, (omega arith, (omega arith, (omega arith, (omega arith, (omega arith, tt))))))))))))
 
 -- the blocks after one was given back
 total_less : (bs : List (Option ℕ)) (block : ℕ) → total (slice_set bs block None) ≤ total bs
@@ -184,6 +169,12 @@ module _ {H : Type 0} (hash_of : H → List ℕ → ℕ) (t : TableState H) (nam
         (subst (λ bs. IsArrayOf hash_of moved keys bs (count_of name)) bytes
         (array_of_none keys (bytes_at tree t.buckets name) (count_of name) set.with.1 (as_named b name spare.array.lives ∙ spare.array.whole) spare.empty))
 
+    -- and then no other block is held
+    pub first_holds : t.array ≡ None → (number : ℕ) → IsSetWith (HoldsNext t.array (Some name) number) b → IsSetWith (HoldsArray (Some name) (number + 1)) b
+    first_holds array number holds =
+        let set = set_of (HoldsNext t.array (Some name) number) b holds in
+        set_with (HoldsArray (Some name) (number + 1)) b set.set set.is (first_settled set.set name number (subst (λ a. AreArraysHeld set.set a name number) array set.with))
+
     -- a larger one
     module _ (old : ChunkName) (array : t.array ≡ Some old) (mid after : TreeState) (filled : OnlyIn t.buckets tree mid) (written : IsRewritten b (context_at mid t.buckets) name)
         (all : HasAll (bytes_at mid t.buckets name) (count_of name) (bytes_at tree t.buckets old) (count_of old))
@@ -280,3 +271,9 @@ module _ {H : Type 0} (hash_of : H → List ℕ → ℕ) (t : TableState H) (nam
           less : (large : Bool) → total (cond large (slice_set m.blocks old.block None) m.blocks) ≤ total m.blocks
           less true = total_less m.blocks old.block
           less false = omega arith
+
+      pub larger_holds : (number : ℕ) → IsSetWith (HoldsNext t.array (Some name) number) b → IsSetWith (HoldsArray (Some name) (number + 1)) (context_at after t.buckets)
+      larger_holds number holds =
+          let all : AreArraysHeld s t.array name number = subst (IsSetWith (HoldsNext t.array (Some name) number)) set.is holds in
+          set_with (HoldsArray (Some name) (number + 1)) (context_at after t.buckets) freed is_freed
+          (larger_settled s m old name number (subst (λ a. AreArraysHeld s a name number) array all) blocks_same (room_at (place_of old) ∙ was.beside.room))

@@ -19,7 +19,7 @@ size_kept (b ∷ bs) zero x (suc first) is differ = is
 size_kept (b ∷ bs) (suc block) x zero is differ = is
 size_kept (b ∷ bs) (suc block) x (suc first) is differ = size_kept bs block x first is (λ same. differ (ap suc same))
 
-sum_with : (bs : List (Option ℕ)) (block x : ℕ) → total (with_block bs block x) + size_at bs block ≡ total bs + x
+pub sum_with : (bs : List (Option ℕ)) (block x : ℕ) → total (with_block bs block x) + size_at bs block ≡ total bs + x
 sum_with [] block x = omega arith
 sum_with (b ∷ bs) zero x = omega arith
 sum_with (b ∷ bs) (suc block) x = omega (arith, sum_with bs block x)

@@ -67,7 +67,7 @@ none_in_zeros n place =
 none_some : {X : Type 0} → (x : X) → None ≡ Some x → ⊥
 none_some x e = false≢true (ap is_some e)
 
-not_over : (n : ℕ) → n ≤ most → over_most n ≡ None
+pub not_over : (n : ℕ) → n ≤ most → over_most n ≡ None
 not_over n low = ap (λ b. if b then Some TooLarge else None) (false_from_ne_true (nat_lt most n) (λ is. omega (arith, low, leb-true (suc most) n is)))
 
 -- the chunk that is taken

@@ -1,10 +1,12 @@
 //! A table of groups.
-ghost use Rattle.std.specs.Prelude.{◌≡◌, ◌≢◌, ◌*◌, ◌-◌, ◌^◌, ◌+◌, ◌<◌, ◌≤◌, ℕ, List, [], ◌∷◌, ◌++◌, Some, None, MatchOption, IfOk, IfErr, OnOk, OnErr, IsTrue, true, false, map, length, slice_get, slice_set, slice_index_or};
+ghost use Rattle.std.specs.Prelude.{◌≡◌, ◌≢◌, ◌*◌, ◌-◌, ◌^◌, ◌+◌, ◌<◌, ◌≤◌, ℕ, List, [], ◌∷◌, ◌++◌, Some, None, MatchOption, IfSome, IfNone, IfOk, IfErr, OnOk, OnErr, IsTrue, true, false, map, length, slice_get, slice_set, slice_index_or};
 ghost use Rattle.chunk_layout.specs.Pieces.{place_of};
 ghost use Rattle.context_tree.specs.Contexts.{has_chunk, chunk_bytes, with_bytes, held_by, growth_of};
 ghost use Rattle.context_tree.specs.Tree.{TreeState, is_there, context_at, held_below, reset, IsWhole};
 ghost use Rattle.group_table.specs.Table.{key_in, state_in, group_in, groups, IsSlot, Names, HasNo, buckets_in, buckets_for, most_buckets, array_growth, group_growth, has_room, held_in, without_groups, IsEmptied, IsSameBut};
-ghost use Rattle.group_table.specs.Standing.{IsStanding, IsTableIn, KeepsOthers, KeepsBeside, IsSameFor};
+ghost use Rattle.aggregation_cost.specs.Space.{Key, need, held_after, fits};
+ghost use Rattle.group_table.specs.Space.{keys_in, is_within, IsRunWith, IsSlabWith, HoldsArray, HoldsNext, HoldsKeyBlocks, HoldsStates, HoldsKeys};
+ghost use Rattle.group_table.specs.Standing.{IsSetWith, IsStanding, IsTableIn, KeepsOthers, KeepsBeside, IsSameFor};
 ghost use Rattle.group_table.specs.Children.{IsRefused, IsAsBefore, IsNewTable, IsCleared};
 ghost use Rattle.group_table.specs.Arrays.{OnlyIn, HasNext, IsSpare, IsNext, with_array, with_next, with_slot, with_spare};
 
@@ -88,7 +90,8 @@ fn empty(tree: &mut Tree, id: ContextId)
 /// The bytes of the blocks of a context that is there and of all that are below it.
 fn held_below(tree: &Tree, id: ContextId) -> u128
     requires { is_there tree.now id ≡ true }
-    ensures { result ≡ held_below tree.now id }
+    ensures value { result ≡ held_below tree.now id }
+    ensures bound { result < 2 ^ 96 }
 {
     match tree.held_below(id) {
         Ok(held) => held,
@@ -113,6 +116,7 @@ impl<H: KeyHash + Drop> GroupTable<H> {
         requires width { width ≤ 65535 }
         ensures table { IfOk result (λ table. IsTableIn H.hash_of table tree.new) }
         ensures made { IfOk result (IsNewTable tree.old tree.new parent width hash) }
+        ensures holds { IfOk result (λ table. held_below tree.old parent ≡ 0 → HoldsKeys table tree.new) }
         ensures refused { IfErr result (IsRefused tree.old) }
         ensures as_before { OnErr result (IsAsBefore tree.old tree.new parent) }
     {
@@ -138,6 +142,17 @@ impl<H: KeyHash + Drop> GroupTable<H> {
         requires { IsTableIn H.hash_of self.now tree.now }
         ensures table { (after : TreeState) → IsWhole after → IsSameFor self.now tree.now after → IsTableIn H.hash_of self.now after }
         ensures groups { (after : TreeState) → IsSameFor self.now tree.now after → groups self.now after ≡ groups self.now tree.now }
+        ensures holds { (after : TreeState) → IsWhole after → IsSameFor self.now tree.now after → held_below after self.now.parent ≡ held_below tree.now self.now.parent → HoldsKeys self.now tree.now → HoldsKeys self.now after }
+    {
+        let _slots = &self.slots;
+    }
+
+    /// A law: where the contexts of the table hold what is counted for its keys, that much is held below its parent. Where
+    /// there is no group, that is a block of buckets at most.
+    pub fn held_by_keys(&self, tree: &Tree)
+        requires { IsTableIn H.hash_of self.now tree.now }
+        ensures some { HoldsKeys self.now tree.now → 0 < length self.now.slots → held_below tree.now self.now.parent ≡ held_after self.now.width (keys_in self.now tree.now) }
+        ensures none { HoldsKeys self.now tree.now → length self.now.slots ≡ 0 → held_below tree.now self.now.parent ≤ 16384 }
     {
         let _slots = &self.slots;
     }
@@ -195,7 +210,8 @@ impl<H: KeyHash + Drop> GroupTable<H> {
     }
 
     /// Whether one more group with this key keeps within a limit, in bytes of blocks, on what is held below the table's
-    /// parent at each step of the way, and within 2^24 buckets.
+    /// parent at each step of the way, and within 2^24 buckets. Where the contexts hold what is counted for the keys of the
+    /// table and nothing else is held, it is so just where the keys with this one fit.
     ///
     /// It is true of each key of up to 8,192 bytes at each limit from 32,768 up where there is no group and nothing is held
     /// below the parent but by the buckets, as when the table was just made or cleared, if a state has up to 8,184 bytes.
@@ -203,14 +219,31 @@ impl<H: KeyHash + Drop> GroupTable<H> {
         requires table { IsTableIn H.hash_of self.now tree.now }
         requires key { length key.now ≤ 65535 }
         ensures exact { result ≡ has_room self.now tree.now (length key.now) limit }
+        ensures by_keys { HoldsKeys self.now tree.now → (hash : Key → ℕ) → result ≡ fits (record { limit = limit; width = self.now.width; hash = hash }) (keys_in self.now tree.now ++ key.now ∷ []) }
         ensures emptied { IsEmptied self.now tree.now → length key.now ≤ 8192 → self.now.width ≤ 8184 → 32768 ≤ limit → result ≡ true }
     {
-        if self.buckets_wanted() > MOST_BUCKETS {
-            return false;
+        match self.need_for(tree, key) {
+            Some(need) => need <= u128::from(limit),
+            None => false,
         }
-        let limit = u128::from(limit);
-        let growth = self.growth_for(tree, key.len());
-        growth <= limit && held_below(tree, self.parent) <= limit - growth
+    }
+
+    /// What is held below the table's parent at most while a group with this key enters, in bytes of blocks, unless there
+    /// would be more than 2^24 buckets.
+    pub fn need_for(&self, tree: &Tree, key: &[u8]) -> Option<u128>
+        requires table { IsTableIn H.hash_of self.now tree.now }
+        requires key { length key.now ≤ 65535 }
+        ensures bytes { IfSome result (λ bytes. bytes ≡ held_below tree.now self.now.parent + group_growth self.now tree.now (length key.now)) }
+        ensures few { IfSome result (λ _. buckets_for (buckets_in self.now.array) (length self.now.slots) ≤ most_buckets) }
+        ensures none { IfNone result (most_buckets < buckets_for (buckets_in self.now.array) (length self.now.slots)) }
+        ensures by_keys { HoldsKeys self.now tree.now → IfSome result (λ bytes. bytes ≡ need self.now.width (keys_in self.now tree.now ++ key.now ∷ [])) }
+        ensures fits { HoldsKeys self.now tree.now → (limit : ℕ) → (hash : Key → ℕ) → is_within result limit ≡ fits (record { limit = limit; width = self.now.width; hash = hash }) (keys_in self.now tree.now ++ key.now ∷ []) }
+    {
+        tree.spare_by_count(self.states);
+        if self.buckets_wanted() > MOST_BUCKETS {
+            return None;
+        }
+        Some(held_below(tree, self.parent) + self.growth_for(tree, key.len()))
     }
 
     /// How many bytes of blocks one more group takes, with a key of so many bytes.
@@ -241,6 +274,7 @@ impl<H: KeyHash + Drop> GroupTable<H> {
         ensures next { IfOk result (HasNext self.now tree.new) }
         ensures unchanged { OnErr result (tree.new ≡ tree.old) }
         ensures held { held_by (context_at tree.new self.now.buckets) ≤ held_by (context_at tree.old self.now.buckets) + array_growth self.now tree.old }
+        ensures holds { IfOk result (λ next. IsSetWith (HoldsArray self.now.array (length self.now.slots)) (context_at tree.old self.now.buckets) → IsSetWith (HoldsNext self.now.array next (length self.now.slots)) (context_at tree.new self.now.buckets)) }
     {
         let wanted = self.buckets_wanted();
         if wanted == self.bucket_count() {
@@ -285,7 +319,10 @@ impl<H: KeyHash + Drop> GroupTable<H> {
         ensures groups { groups self.now tree.new ≡ groups self.now tree.old }
         ensures next { IfOk result (IsNext self.now tree.new key.now state.now) }
         ensures held { held_below tree.new self.now.parent ≤ held_below tree.old self.now.parent + growth_of (context_at tree.old self.now.keys) (length key.now) + growth_of (context_at tree.old self.now.states) self.now.width }
+        ensures keys { OnOk result ((keys : List (List ℕ)) → IsRunWith (HoldsKeyBlocks keys) (context_at tree.old self.now.keys) → IsRunWith (HoldsKeyBlocks (keys ++ key.now ∷ [])) (context_at tree.new self.now.keys)) }
+        ensures states { OnOk result ((number : ℕ) → IsSlabWith (HoldsStates self.now.width number) (context_at tree.old self.now.states) → IsSlabWith (HoldsStates self.now.width (number + 1)) (context_at tree.new self.now.states)) }
     {
+        tree.spare_by_count(self.states);
         let Ok(key) = tree.alloc(self.keys, key) else {
             return Err(AllocError);
         };
@@ -303,6 +340,7 @@ impl<H: KeyHash + Drop> GroupTable<H> {
         ensures array { self.new ≡ with_array self.old name }
         ensures standing { IsStanding H.hash_of self.new tree.new }
         ensures held { held_by (context_at tree.new self.old.buckets) ≤ held_by (context_at tree.old self.old.buckets) }
+        ensures holds { (number : ℕ) → IsSetWith (HoldsNext self.old.array (Some name) number) (context_at tree.old self.old.buckets) → IsSetWith (HoldsArray (Some name) (number + 1)) (context_at tree.new self.old.buckets) }
     {
         if let Some(old) = self.array {
             refill(tree, self.buckets, old, name);
@@ -323,6 +361,7 @@ impl<H: KeyHash + Drop> GroupTable<H> {
         ensures beside { KeepsBeside self.old tree.old tree.new }
         ensures rest { held_below tree.new self.old.parent + held_in self.old tree.old ≤ held_below tree.old self.old.parent + held_in self.old tree.new }
         ensures emptied { held_below tree.old self.old.parent ≡ held_in self.old tree.old → IsEmptied self.new tree.new }
+        ensures holds { held_below tree.old self.old.parent ≡ held_in self.old tree.old → HoldsKeys self.new tree.new }
     {
         empty(tree, self.buckets);
         empty(tree, self.keys);
@@ -340,6 +379,7 @@ impl<H: KeyHash + Drop> GroupTable<H> {
         ensures standing { IsStanding H.hash_of self.new tree.new }
         ensures room { HasNext self.new tree.new None }
         ensures held { held_by (context_at tree.new self.old.buckets) ≤ held_by (context_at tree.old self.old.buckets) }
+        ensures holds { (number : ℕ) → IsSetWith (HoldsNext self.old.array next number) (context_at tree.old self.old.buckets) → IsSetWith (HoldsArray self.new.array (number + 1)) (context_at tree.new self.old.buckets) }
     {
         if let Some(name) = next {
             self.move_to(tree, name);
@@ -355,6 +395,7 @@ impl<H: KeyHash + Drop> GroupTable<H> {
         ensures only { OnlyIn self.now.buckets tree.old tree.new }
         ensures standing { IsStanding H.hash_of (with_slot self.now slot) tree.new }
         ensures held { held_by (context_at tree.new self.now.buckets) ≡ held_by (context_at tree.old self.now.buckets) }
+        ensures holds { (number : ℕ) → IsSetWith (HoldsArray self.now.array number) (context_at tree.old self.now.buckets) → IsSetWith (HoldsArray self.now.array number) (context_at tree.new self.now.buckets) }
     {
         let Some(name) = self.array else {
             unreachable!();
@@ -368,7 +409,7 @@ impl<H: KeyHash + Drop> GroupTable<H> {
     /// be 2^24 buckets at most, as where `room_for` is true for some limit.
     ///
     /// The only error is a failed allocation. The groups are then as they were, and blocks that were taken may stay held. On the
-    /// way no more is held below the parent than `room_for` counts: an array twice as long beside the old one, the key, and
+    /// way no more is held below the parent than `need_for` counts: an array twice as long beside the old one, the key, and
     /// the state.
     pub fn insert(&mut self, tree: &mut Tree, key: &[u8], state: &[u8]) -> Result<Slot, AllocError>
         requires table { IsTableIn H.hash_of self.old tree.old }
@@ -384,6 +425,7 @@ impl<H: KeyHash + Drop> GroupTable<H> {
         ensures others { KeepsOthers self.old tree.old tree.new }
         ensures held { held_below tree.new self.old.parent ≤ held_below tree.old self.old.parent + group_growth self.old tree.old (length key.now) }
         ensures rest { held_below tree.new self.old.parent + held_in self.old tree.old ≡ held_below tree.old self.old.parent + held_in self.old tree.new }
+        ensures holds { OnOk result (HoldsKeys self.old tree.old → HoldsKeys self.new tree.new) }
     {
         self.make_room()?;
         self.insert_noted(tree, key, state)
@@ -417,6 +459,7 @@ impl<H: KeyHash + Drop> GroupTable<H> {
         ensures refused { OnErr result ((self.new.slots ≡ self.old.slots) × (groups self.new tree.new ≡ groups self.old tree.old)) }
         ensures others { KeepsOthers self.old tree.old tree.new }
         ensures held { held_below tree.new self.old.parent ≤ held_below tree.old self.old.parent + group_growth self.old tree.old (length key.now) }
+        ensures holds { OnOk result (HoldsKeys self.old tree.old → HoldsKeys self.new tree.new) }
     {
         let next = self.take_array(tree)?;
         let taken = self.take_group(tree, key, state);
@@ -444,6 +487,7 @@ impl<H: KeyHash + Drop> GroupTable<H> {
         ensures stands { (ws : List ℕ) → length ws ≡ table.now.width → IsTableIn H.hash_of table.now (with_bytes_in tree.old table.now.states slot.state ws) }
         ensures written { (ws : List ℕ) → (place : ℕ) → length ws ≡ table.now.width → slice_get table.now.slots place ≡ Some slot → groups table.now (with_bytes_in tree.old table.now.states slot.state ws) ≡ slice_set (groups table.now tree.old) place (key_in table.now tree.old slot, ws) }
         ensures others { (ws : List ℕ) → KeepsOthers table.now tree.old (with_bytes_in tree.old table.now.states slot.state ws) }
+        ensures holds { (ws : List ℕ) → length ws ≡ table.now.width → HoldsKeys table.now tree.old → HoldsKeys table.now (with_bytes_in tree.old table.now.states slot.state ws) }
     {
         tree.bytes_mut(table.states, slot.state)
     }

@@ -3,9 +3,10 @@ use Rattle.std.specs.Vec.{vec_capacity, vec_len}
 use Rattle.context_tree.specs.Tree.{TreeState, reset, held_below}
 use Rattle.group_table.specs.Table.{TableState, held_in, without_groups, IsEmptied}
 use Rattle.group_table.specs.Standing.{IsTableIn, KeepsBeside}
+use Rattle.group_table.specs.Space.{HoldsKeys}
 use Rattle.group_table.specs.Children.{IsCleared}
 use Rattle.group_table.proofs.ClearLaws.{p1, p2, table_cleared, is_cleared}
-use Rattle.group_table.proofs.EmptyLaws.{keeps_beside, less_held, is_emptied}
+use Rattle.group_table.proofs.EmptyLaws.{keeps_beside, less_held, is_emptied, holds_none}
 use Rattle.group_table.proofs.table.GroupTable.clear.Goals as goal
 
 pub empty-requires-2 : goal.empty-requires-2
@@ -59,4 +60,13 @@ returns-clause-emptied g c alone =
     subst (λ (y : TableState g.row.H.Denot). IsEmptied y c.empty-3.new.tree)
     (ap (λ xs. record { parent = x.parent; buckets = x.buckets; keys = x.keys; states = x.states; width = x.width; hash = x.hash; array = None; slots = xs; spare = vec_capacity v - vec_len v }) (sym c.clear.ensures.items))
     (is_emptied g.H.KeyHash.hash_of _ c.args.tree.now c.empty.new.tree c.empty-2.new.tree c.empty-3.new.tree is c.empty.ensures.reset c.empty.ensures.before c.empty.ensures.after c.empty-2.ensures.reset c.empty-2.ensures.after c.empty-3.ensures.reset c.empty-3.ensures.after (vec_capacity v - vec_len v)
+    (subst (λ (y : TableState g.row.H.Denot). held_below c.args.tree.now y.parent ≡ held_in y c.args.tree.now) (sym c.self.view_is) alone))
+
+pub returns-clause-holds : goal.returns-clause-holds
+returns-clause-holds g c alone =
+    let is = subst (λ (x : TableState g.row.H.Denot). IsTableIn g.H.KeyHash.hash_of x c.args.tree.now) (sym c.self.view_is) c.requires in
+    let x = c.self.inside in let v = c.clear.new.self in
+    subst (λ (y : TableState g.row.H.Denot). HoldsKeys y c.empty-3.new.tree)
+    (ap (λ xs. record { parent = x.parent; buckets = x.buckets; keys = x.keys; states = x.states; width = x.width; hash = x.hash; array = None; slots = xs; spare = vec_capacity v - vec_len v }) (sym c.clear.ensures.items))
+    (holds_none g.H.KeyHash.hash_of _ c.args.tree.now c.empty.new.tree c.empty-2.new.tree c.empty-3.new.tree is c.empty.ensures.reset c.empty.ensures.before c.empty.ensures.after c.empty-2.ensures.reset c.empty-2.ensures.after c.empty-3.ensures.reset c.empty-3.ensures.after (vec_capacity v - vec_len v)
     (subst (λ (y : TableState g.row.H.Denot). held_below c.args.tree.now y.parent ≡ held_in y c.args.tree.now) (sym c.self.view_is) alone))

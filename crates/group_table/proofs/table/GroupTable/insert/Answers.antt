@@ -3,6 +3,8 @@ use Rattle.std.specs.Prelude.{OnOk, OnErr}
 use Rattle.group_table.specs.Table.{TableState, groups}
 use Rattle.group_table.specs.Standing.{IsTableIn, KeepsOthers}
 use Rattle.group_table.proofs.HeldLaws.{others_held}
+use Rattle.group_table.specs.Space.{HoldsKeys}
+use Rattle.group_table.proofs.SpaceLaws.{holds_spare, ok_map}
 use Rattle.group_table.proofs.InsertLaws.{always_err, spare_table}
 use Rattle.group_table.proofs.table.GroupTable.insert.Goals as goal
 
@@ -34,3 +36,8 @@ returns-clause-rest g c =
     let kept = subst (λ (x : TableState g.row.H.Denot). KeepsOthers x c.args.tree.now c.insert_noted.new.tree) c.make_room.ensures.same c.insert_noted.ensures.others in
     others_held c.args.self.now c.args.tree.now c.insert_noted.new.tree c.requires.table.standing.placed
     (record { links = kept.links; last = kept.last; number = kept.number; others = kept.others })
+
+pub returns-clause-holds : goal.returns-clause-holds
+returns-clause-holds g c =
+    let tree = c.args.tree.now in
+    ok_map c.insert_noted.result (λ told holds. told (subst (λ (x : TableState g.row.H.Denot). HoldsKeys x tree) (sym c.make_room.ensures.same) (holds_spare c.args.self.now c.make_room.new.self.spare tree holds))) c.insert_noted.ensures.holds

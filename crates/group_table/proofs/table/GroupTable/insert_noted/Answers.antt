@@ -1,11 +1,14 @@
-use Rattle.std.proofs.Common.{◌≡◌, ◌-◌, ◌++◌, ◌∷◌, [], length, sym, subst, ◌∙◌, ap, arith}
+use Rattle.std.proofs.Common.{◌≡◌, ◌+◌, ◌-◌, ◌++◌, ◌∷◌, [], length, sym, subst, ◌∙◌, ap, arith}
 use Rattle.std.specs.Vec.{vec_capacity, vec_len}
 use Rattle.context_tree.specs.Tree.{context_at, held_below}
 use Rattle.context_tree.specs.declared.links.ContextId.{ContextId}
-use Rattle.group_table.specs.Table.{TableState, groups, HasNo, IsSameBut}
-use Rattle.group_table.specs.Standing.{IsTableIn, IsFirst, HasArray, KeepsOthers}
+use Rattle.group_table.specs.Table.{TableState, groups, held_in, HasNo, IsSameBut}
+use Rattle.group_table.specs.Standing.{IsSetWith, IsTableIn, IsFirst, HasArray, KeepsOthers}
 use Rattle.group_table.specs.Arrays.{IsNext, with_slot}
-use Rattle.group_table.proofs.InsertLaws.{always_err, next_slots, next_same, others_twice, others_left, next_others, next_parent, any_space, groups_left, groups_pushed, held_left, next_left, settled_groups, settled_others, settled_next, settled_absent, settled_held}
+use Rattle.group_table.specs.Space.{keys_in, IsRunWith, IsSlabWith, HoldsArray, HoldsNext, HoldsKeyBlocks, HoldsStates}
+use Rattle.group_table.proofs.HeldLaws.{others_held}
+use Rattle.group_table.proofs.SpaceLaws.{holds_more, buckets_at, keys_after, states_after}
+use Rattle.group_table.proofs.InsertLaws.{always_err, keys_left, states_left, next_slots, next_same, others_twice, others_left, next_others, next_parent, any_space, groups_left, groups_pushed, held_left, next_left, settled_groups, settled_others, settled_next, settled_absent, settled_held}
 use Rattle.group_table.proofs.table.GroupTable.insert_noted.Goals as goal
 
 pub returns-in_err-slot-clause-refused : goal.returns-in_err-slot-clause-refused
@@ -109,3 +112,26 @@ returns-clause-held g c =
     let after : held_below d s1.parent ≡ held_below e s1.parent = omega (arith, last, same) in
     let kept : held_below d t.parent ≡ held_below e t.parent = subst (λ (p : ContextId). held_below d p ≡ held_below e p) parent after in
     omega (arith, kept, settled_held t c.in_ok-next.next tree a b e c.requires.table.standing.placed one.only two.others two.buckets two.groups two.standing.placed three.only (length c.args.key.now) one.held two.held three.held)
+
+pub returns-clause-holds : goal.returns-clause-holds
+returns-clause-holds g c holds =
+    let t = c.args.self.now in let tree = c.args.tree.now in let a = c.take_array.new.tree in let b = c.take_group-taken.new.tree in let e = c.settle.new.tree in let d = c.put_slot.new.tree in
+    let one = c.in_ok-next.ensures in let two = c.in_ok-slot.ensures in let three = c.settle.ensures in let four = c.put_slot.ensures in
+    let s1 = c.settle.new.self in let next = c.in_ok-next.next in let slot = c.in_ok-slot.slot in let key = c.args.key.now in
+    let x = c.self.inside in let v = c.push_reserved.new.self in
+    let fin : TableState g.row.H.Denot = record { parent = x.parent; buckets = x.buckets; keys = x.keys; states = x.states; width = x.width; hash = x.hash; array = x.array; slots = v.items; spare = vec_capacity v - vec_len v } in
+    let placed = c.requires.table.standing.placed in
+    let others = returns-clause-others g c in
+    let alone : held_below d t.parent ≡ held_in t d = omega (arith, holds.alone, others_held t tree d placed others) in
+    let slots : v.items ≡ t.slots ++ slot ∷ [] =
+    c.push_reserved.ensures.items ∙ ap (λ (y : TableState g.row.H.Denot). y.slots ++ slot ∷ []) (c.self.view_is ∙ three.array) ∙ ap (λ ys. ys ++ slot ∷ []) (next_slots t next) in
+    let array = three.holds (length t.slots) (subst (IsSetWith (HoldsNext t.array next (length t.slots))) (sym two.buckets) (one.holds holds.in_buckets)) in
+    let at = buckets_at t next s1 three.array b e d two.standing.placed three.only three.standing.placed four.only in
+    let put = subst (λ id. IsSetWith (HoldsArray s1.array (length t.slots + 1)) (context_at d id)) at (four.holds (length t.slots + 1) (subst (λ id. IsSetWith (HoldsArray s1.array (length t.slots + 1)) (context_at e id)) (sym at) array)) in
+    let keys = subst (IsRunWith (HoldsKeyBlocks (keys_in t tree ++ key ∷ []))) (sym (keys_after t next s1 three.array b e d two.standing.placed three.only three.standing.placed four.only))
+    (two.keys (keys_in t tree) (subst (IsRunWith (HoldsKeyBlocks (keys_in t tree))) (sym (keys_left t tree a one.only placed)) holds.in_keys)) in
+    let states = subst (IsSlabWith (HoldsStates t.width (length t.slots + 1))) (sym (states_after t next s1 three.array b e d two.standing.placed three.only three.standing.placed four.only))
+    (two.states (length t.slots) (subst (IsSlabWith (HoldsStates t.width (length t.slots))) (sym (states_left t tree a one.only placed)) holds.in_states)) in
+    holds_more t tree fin d (returns-clause-same g c) key c.args.state.now slot slots (returns-clause-groups g c) alone
+    (subst (λ o. IsSetWith (HoldsArray o (length t.slots + 1)) (context_at d t.buckets)) (sym (ap (λ (y : TableState g.row.H.Denot). y.array) c.self.view_is)) put)
+    keys states

@@ -1,11 +1,12 @@
-use Rattle.std.proofs.Common.{◌≤◌, ◌-◌, Some, sym, subst, arith}
+use Rattle.std.proofs.Common.{◌≤◌, ◌+◌, ◌-◌, Some, sym, subst, arith}
 use Rattle.std.specs.Vec.{vec_capacity, vec_len}
 use Rattle.context_tree.specs.Contexts.{held_by}
 use Rattle.context_tree.specs.Tree.{TreeState, context_at}
 use Rattle.group_table.specs.Table.{TableState}
-use Rattle.group_table.specs.Standing.{IsStanding}
+use Rattle.group_table.specs.Standing.{IsSetWith, IsStanding}
 use Rattle.group_table.specs.Arrays.{IsSpare, OnlyIn}
-use Rattle.group_table.proofs.MoveLaws.{first_moved, larger_moved, only_moved, less_held}
+use Rattle.group_table.specs.Space.{HoldsArray, HoldsNext}
+use Rattle.group_table.proofs.MoveLaws.{first_moved, larger_moved, only_moved, less_held, first_holds, larger_holds}
 use Rattle.group_table.proofs.TreeFacts.{only_once}
 use Rattle.group_table.proofs.table.GroupTable.move_to.Goals as goal
 use Rattle.group_table.proofs.table.GroupTable.move_to.Goals.{in-Some, in_default}
@@ -45,4 +46,16 @@ returns-clause-held g c =
       | in-Some w ↦ subst (λ (x : TreeState). held_by (context_at x c.self.inside.buckets) ≤ held_by (context_at tree c.self.inside.buckets)) (sym w.tree-is)
           (less_held hash _ name tree is spare w.in-Some.old w.in-Some.is w.refill.new.tree w.give_up.new.tree w.refill.ensures.only w.refill.ensures.rewritten w.refill.ensures.all w.give_up.ensures.gone w.give_up.ensures.keeps)
       | in_default w ↦ subst (λ (x : TreeState). held_by (context_at x c.self.inside.buckets) ≤ held_by (context_at tree c.self.inside.buckets)) (sym w.tree-is) (omega arith)
+    ])
+
+pub returns-clause-holds : goal.returns-clause-holds
+returns-clause-holds g c number =
+    let hash = g.H.KeyHash.hash_of in let tree = c.args.tree.now in let name = c.args.name in
+    let is = subst (λ (x : TableState g.row.H.Denot). IsStanding hash x tree) (sym c.self.view_is) c.requires.standing in
+    let spare = subst (λ (x : TableState g.row.H.Denot). IsSpare x tree name) (sym c.self.view_is) c.requires.spare in
+    subst (λ (x : TableState g.row.H.Denot). IsSetWith (HoldsNext x.array (Some name) number) (context_at tree x.buckets) → IsSetWith (HoldsArray (Some name) (number + 1)) (context_at c.match-self.tree x.buckets)) c.self.view_is
+    (λ holds. elim c.match-self.branch [
+      | in-Some w ↦ subst (λ (x : TreeState). IsSetWith (HoldsArray (Some name) (number + 1)) (context_at x c.self.inside.buckets)) (sym w.tree-is)
+          (larger_holds hash _ name tree is spare w.in-Some.old w.in-Some.is w.refill.new.tree w.give_up.new.tree w.refill.ensures.only w.refill.ensures.rewritten w.refill.ensures.all w.give_up.ensures.gone w.give_up.ensures.keeps number holds)
+      | in_default w ↦ subst (λ (x : TreeState). IsSetWith (HoldsArray (Some name) (number + 1)) (context_at x c.self.inside.buckets)) (sym w.tree-is) (first_holds hash _ name tree is spare w.in_default.is number holds)
     ])

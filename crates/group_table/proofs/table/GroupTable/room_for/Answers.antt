@@ -1,17 +1,16 @@
-use Rattle.std.proofs.Common.{◌≡◌, ◌-◌, length, ◌∙◌, ap, arith}
+use Rattle.std.proofs.Common.{length, ◌∙◌, ap, arith}
+use Rattle.std.specs.Prelude.{nat_le}
 use Rattle.std.proofs.lemmas.Bool.{le-leb}
-use Rattle.context_tree.specs.Tree.{held_below}
-use Rattle.group_table.specs.Table.{TableState}
 use Rattle.group_table.proofs.RoomLaws.{all_growth}
 use Rattle.group_table.proofs.table.GroupTable.room_for.Goals as goal
 
-pub returns-then-growth-limit-clause-emptied : goal.returns-then-growth-limit-clause-emptied
-returns-then-growth-limit-clause-emptied g c emptied short narrow limit =
-    let all = all_growth g.H.KeyHash.hash_of c.args.self.now c.args.tree.now c.requires.table emptied (length c.args.key.now) short narrow in
-    let held : c.held_below.result ≡ held_below c.args.tree.now c.args.self.now.parent = c.held_below.ensures ∙ ap (λ (x : TableState g.row.H.Denot). held_below c.args.tree.now x.parent) c.self.view_is in
-    le-leb c.held_below.result (c.from-limit.result - c.growth_for-growth.result) (omega (arith, all, held, c.growth_for-growth.ensures.value, c.from-limit.ensures, limit))
+pub returns-in-Some-clause-by_keys : goal.returns-in-Some-clause-by_keys
+returns-in-Some-clause-by_keys g c holds hash = ap (nat_le c.in-Some.need) c.from.ensures ∙ c.in-Some.ensures.fits holds c.args.limit hash
 
-pub returns-else-growth-limit-clause-emptied : goal.returns-else-growth-limit-clause-emptied
-returns-else-growth-limit-clause-emptied g c emptied short narrow limit =
+pub returns-in-Some-clause-emptied : goal.returns-in-Some-clause-emptied
+returns-in-Some-clause-emptied g c emptied short narrow limit =
     let all = all_growth g.H.KeyHash.hash_of c.args.self.now c.args.tree.now c.requires.table emptied (length c.args.key.now) short narrow in
-    le-leb c.growth_for-growth.result c.from-limit.result (omega (arith, all, c.growth_for-growth.ensures.value, c.from-limit.ensures, limit))
+    le-leb c.in-Some.need c.from.result (omega (arith, all, c.in-Some.ensures.bytes, c.from.ensures, limit))
+
+pub returns-in-None-clause-by_keys : goal.returns-in-None-clause-by_keys
+returns-in-None-clause-by_keys g c holds = c.in-None.ensures.fits holds c.args.limit

@@ -7,6 +7,7 @@ use Rattle.context_tree.specs.Tree.{context_at}
 use Rattle.context_tree.specs.TreeLends.{with_bytes_in}
 use Rattle.context_tree.specs.declared.links.ContextId.{ContextId}
 use Rattle.group_table.specs.Table.{TableState}
+use Rattle.group_table.proofs.SpaceLaws.{holds_written}
 use Rattle.group_table.proofs.WriteLaws.{table_written, others_written, groups_written}
 use Rattle.group_table.proofs.table.GroupTable.state_mut.Goals as goal
 
@@ -29,5 +30,6 @@ returns g c =
         stands = λ ws len. table_written hash t tree c.requires.table slot c.requires.slot ws (lives ws) (keeps ws);
         written = λ ws place len at_place. groups_written hash t tree c.requires.table slot c.requires.slot ws (lives ws) (keeps ws) place at_place (holds ws len);
         others = λ ws. others_written hash t tree c.requires.table slot c.requires.slot ws (lives ws) (keeps ws);
+        holds = λ ws len. holds_written t tree c.requires.table.standing.placed (place_of slot.state) ws;
       },
     )

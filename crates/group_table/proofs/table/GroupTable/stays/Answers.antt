@@ -1,3 +1,4 @@
+use Rattle.group_table.proofs.SpaceLaws.{holds_stay}
 use Rattle.group_table.proofs.StayLaws.{table_stays, groups_stay}
 use Rattle.group_table.proofs.table.GroupTable.stays.Goals as goal
 
@@ -6,3 +7,6 @@ returns-clause-table g c after whole same = table_stays g.H.KeyHash.hash_of c.ar
 
 pub returns-clause-groups : goal.returns-clause-groups
 returns-clause-groups g c after same = groups_stay c.args.self.now c.args.tree.now after same
+
+pub returns-clause-holds : goal.returns-clause-holds
+returns-clause-holds g c after whole same held holds = holds_stay c.args.self.now c.args.tree.now after same held holds
