@@ -58,6 +58,12 @@ impl<H: KeyHash + Drop> Groups<H> {
         self.table.room_for(&self.tree, key, limit)
     }
 
+    pub(crate) fn need_for(&self, key: &[u8]) -> Option<u128>
+        requires { length key.now ≤ 65535 }
+    {
+        self.table.need_for(&self.tree, key)
+    }
+
     /// Whether there is a group of a key.
     pub(crate) fn has(&self, key: &[u8]) -> bool {
         self.table.find(&self.tree, key).is_some()

@@ -178,6 +178,37 @@ fn room_is_what_is_held_on_the_way(rt: HostRuntime) -> Result<(), Fail> {
     Ok(())
 }
 
+/// What one more group needs where there are those of so many numbers, and what is held then.
+fn need_behind(
+    groups: &mut Groups<Fnv1a>,
+    count: u32,
+) -> Result<(Option<u128>, Option<u128>), Fail> {
+    groups.clear();
+    if !put_numbers(groups, count)? {
+        return Ok((None, None));
+    }
+    Ok((groups.need_for(&key(count)), groups.held()))
+}
+
+/// A block of 8,192 bytes has room for 1,024 of these keys and for 512 states, each in a chunk of 16 bytes. The array that is held
+/// from the first group on has 256 buckets. It is doubled by the 193rd group, to 16,392 bytes, and by the 385th, to 32,776.
+fn needs(rt: HostRuntime, groups: &mut Groups<Fnv1a>) -> Result<String, Fail> {
+    let first = need_behind(groups, 0)?;
+    let (full, half) = (need_behind(groups, 191)?, need_behind(groups, 192)?);
+    let (again, states) = (need_behind(groups, 384)?, need_behind(groups, 512)?);
+    Ok(format!(in rt.alloc(); "{first:?} {full:?} {half:?} {again:?} {states:?}")?)
+}
+
+#[test]
+fn a_group_needs_what_is_counted(rt: HostRuntime) -> Result<(), Fail> {
+    let told = of_groups(rt, needs)?;
+    assert_eq!(rt;
+        told.as_str(),
+        "(Some(32768), Some(0)) (Some(32768), Some(32768)) (Some(49160), Some(32768)) (Some(81936), Some(49160)) (Some(73736), Some(65544))"
+    );
+    Ok(())
+}
+
 /// Puts the groups of the first numbers, each again if memory is refused for it: whether each is a new one, and the others were
 /// those from before after each refusal.
 fn put_again(groups: &mut Groups<Fnv1a>, count: u32) -> Result<bool, Fail> {
