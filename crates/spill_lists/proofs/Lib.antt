@@ -5,3 +5,4 @@ pub mod EndLaws
 pub mod StandingLaws
 pub mod OpenLaws
 pub mod PassLaws
+pub mod CountLaws

@@ -117,6 +117,18 @@ impl SpillLists {
         self.parts.is_empty()
     }
 
+    /// How many records the pass has spilled.
+    pub fn spilled<D: TapeDisk>(&self, _disk: &D) -> u128
+        ensures number { result ≡ spilled_number self.now }
+        ensures count { (spilled ahead : List Record) (todo : List LeftList) → HasLists (D.last _disk.now) self.now spilled ahead todo → result ≡ length spilled }
+    {
+        let mut number = 0;
+        for list in &self.parts {
+            number += u128::from(list.records);
+        }
+        number
+    }
+
     /// Adds a record to those that the pass spills: a hash, a tag, which is 0 or 1, and up to 65,535 bytes.
     pub fn spill<D: TapeDisk>(
         &mut self,
