@@ -22,7 +22,7 @@ use Rattle.hash_agg.specs.declared.plan.Plan.{Plan}
 use Rattle.hash_agg.specs.Runs.{Entry}
 use Rattle.hash_agg.specs.Inputs.{Brought, Packed, Counted, on_end, rows_in, all_rows, IsInput, AllBring}
 use Rattle.hash_agg.specs.Adding.{row_added, rows_added, group_added, groups_added, Given, Of_rows, Of_groups, Gives, AllGive, given_added, all_added}
-use Rattle.hash_agg.specs.Passes.{Of_row, Of_group, pieces_added, made_of, piece_key, weight, rows_at, CountUpTo, AreOf, given_pieces, all_pieces, PassState, Holds, CanRead, Reads, total, brings, brought_by, Brings}
+use Rattle.hash_agg.specs.Passes.{Of_row, Of_group, pieces_added, made_of, piece_key, weight, rows_at, CountUpTo, AreOf, given_pieces, all_pieces, PassState, setting_of, Holds, CanRead, Reads, total, brings, brought_by, Brings}
 use Rattle.hash_agg.proofs.InputLaws.{run_apart, groups_long}
 use Rattle.hash_agg.proofs.MergeLaws.{AreApart, puts_rise, nothing_rises, keys_of-rows_added, keys_of-groups_added}
 use Rattle.hash_agg.proofs.PassLaws.{rows_append, pieces_append}
@@ -170,13 +170,13 @@ module _ (plan : Plan) (hf : List ℕ → ℕ) (inputs : List Brought) (givens :
       ap (rows_at (meaning plan.query.now) k) (pieces_next inputs givens i input found.given at found.at) in
       omega (arith, a, b, c, low)
 
-  module _ (pass : PassState) (ahead : List Record) (todo : List LeftList) (holds : Holds (meaning plan.query.now) hf pass (all_pieces (take i inputs) (take i givens)) ahead todo) where
+  module _ (pass : PassState) (ahead : List Record) (todo : List LeftList) (holds : Holds (meaning plan.query.now) (setting_of plan hf) pass (all_pieces (take i inputs) (take i givens)) ahead todo) where
     pub can_read_input : CanRead plan hf (AreOf (meaning plan.query.now) input) pass
     can_read_input = (all_pieces (take i inputs) (take i givens), given_pieces input found.given, ahead, todo, holds, pieces_of (meaning plan.query.now) input found.given found.gives, front_count)
 
-    pub input_read : (next : PassState) → Reads plan hf (AreOf (meaning plan.query.now) input) pass next → Holds (meaning plan.query.now) hf next (all_pieces (take (i + 1) inputs) (take (i + 1) givens)) ahead todo
+    pub input_read : (next : PassState) → Reads plan hf (AreOf (meaning plan.query.now) input) pass next → Holds (meaning plan.query.now) (setting_of plan hf) next (all_pieces (take (i + 1) inputs) (take (i + 1) givens)) ahead todo
     input_read next reads =
-        subst (λ ps. Holds (meaning plan.query.now) hf next ps ahead todo) (sym (pieces_next inputs givens i input found.given at found.at))
+        subst (λ ps. Holds (meaning plan.query.now) (setting_of plan hf) next ps ahead todo) (sym (pieces_next inputs givens i input found.given at found.at))
         (reads (all_pieces (take i inputs) (take i givens)) (given_pieces input found.given) ahead todo holds (pieces_of (meaning plan.query.now) input found.given found.gives) front_count)
 
 -- what an input brings, on top of what those before it brought

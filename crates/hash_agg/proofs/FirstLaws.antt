@@ -2,19 +2,25 @@
 use Rattle.std.specs.Prelude.{◌≡◌, refl, ℕ, zero, suc, ◌+◌, ◌≤◌, List, [], ◌∷◌, ◌++◌, length, slice_get, Some, IfOk, OnOk, Ok, Err}
 use Rattle.std.specs.declared.result.Result.{Result}
 use Rattle.std.specs.List.Sorted.{IsPermutation}
-use Rattle.std.proofs.Common.{ap, arith}
+use Rattle.std.proofs.Common.{sym, ap, subst, arith}
 use Rattle.std.proofs.lemmas.List.Sorted.{length_permutation}
 use Rattle.std.proofs.lemmas.List.Sums.{sum_by-cons}
 use Rattle.grouping_model.specs.Query.{Query}
+use Rattle.aggregation_cost.specs.Cost.{Cost}
+use Rattle.aggregation_cost.specs.Passes.{EachFits}
+use Rattle.aggregation_cost.specs.Space.{Setting}
 use Rattle.spill_tapes.specs.Records.{Record}
 use Rattle.spill_lists.specs.Lists.{LeftList, left_by}
 use Rattle.spill_lists.specs.Standing.{ListsState, HasLists, count_of, spilled_number, waiting_number}
 use Rattle.hash_agg.specs.Runs.{Entry, Rises}
 use Rattle.hash_agg.specs.Inputs.{Brought, rows_in, all_rows}
-use Rattle.hash_agg.specs.Passes.{Piece, PassState, Holds, total}
-use Rattle.hash_agg.specs.Waiting.{Waits}
+use Rattle.hash_agg.specs.Passes.{Piece, PassState, Holds, records_of, total}
+use Rattle.hash_agg.specs.Waiting.{Waits, Costs, AddsUp, pass_cost}
+use Rattle.hash_agg.specs.declared.work.Work.{Work}
+use Rattle.hash_agg.proofs.SpillLaws.{nothing_spills}
 use Rattle.hash_agg.proofs.UnionLaws.{nothing_stands, ends}
 use Rattle.hash_agg.proofs.WaitLaws.{waits_first}
+use Rattle.hash_agg.proofs.WorkLaws.{costs_first}
 
 -- what holds of a result, and what of all that a success leaves
 pub if_ok_on : {T E : Type 0} (r : Result T E) (P : T → Type 0) {A : Type 0} (R : T → Type 0) → ((x : T) → P x → A → R x) → IfOk r P → OnOk r A → IfOk r R
@@ -35,8 +41,8 @@ input_few (x ∷ inputs) (suc i) input at =
     omega (arith, rest, sum)
 
 -- before any input
-pub first_holds : (q : Query) (hf : List ℕ → ℕ) (pass : PassState) → pass.entries ≡ [] → HasLists pass.last pass.lists [] [] [] → Holds q hf pass [] [] []
-first_holds q hf pass empty none = ([], none, nothing_stands q hf pass.entries [] empty refl)
+pub first_holds : (q : Query) (s : Setting) (pass : PassState) → pass.entries ≡ [] → pass.lists.parts ≡ [] → HasLists pass.last pass.lists [] [] [] → Holds q s pass [] [] []
+first_holds q s pass empty clear none = ([], none, nothing_stands q s.hash pass.entries [] empty refl, nothing_spills q s pass.entries pass.lists.parts [] empty clear refl)
 
 pub first_total : (entries : List Entry) (lists : ListsState) → entries ≡ [] → lists.parts ≡ [] → total entries lists ≤ 0
 first_total entries lists empty none =
@@ -45,14 +51,19 @@ first_total entries lists empty none =
     omega (arith, a, b)
 
 -- after all of them
-pub first_waits : (q : Query) (hf : List ℕ → ℕ) (pieces : List Piece) (pass : PassState) (run : List Entry) (after : ListsState) (now : ℕ → ℕ → Type 0) → IsPermutation pass.entries run → Rises run
+pub first_waits : (q : Query) (s : Setting) (pieces : List Piece) (pass : PassState) (run : List Entry) (after : ListsState) (now : ℕ → ℕ → Type 0) (before done : Work) → IsPermutation pass.entries run → Rises run → pass.lists.level ≡ 0 → EachFits s (records_of q s.width pieces)
     → ((spilled ahead : List Record) (todo : List LeftList) → HasLists pass.last pass.lists spilled ahead todo → HasLists now after [] ahead (todo ++ left_by pass.lists.level spilled))
-    → Holds q hf pass pieces [] [] → (todo : List LeftList) × HasLists now after [] [] todo × Waits q hf pieces run todo
-first_waits q hf pieces pass run after now moved rises left (spilled, has, stands) = (
-  left_by pass.lists.level spilled,
-  left spilled [] [] has,
-  waits_first q hf pieces run spilled pass.lists.level (ends q hf pieces pass.entries run spilled spilled moved rises refl stands),
-)
+    → ((spilled ahead : List Record) (todo : List LeftList) (pages : ℕ) → HasLists pass.last pass.lists spilled ahead todo → AddsUp before (pass_cost s.width pass.entries (length spilled) pages) done)
+    → Holds q s pass pieces [] [] → (todo : List LeftList) × HasLists now after [] [] todo × Waits q s.hash pieces run todo × (made : Cost) × Costs q s pieces made todo × AddsUp before made done
+first_waits q s pieces pass run after now before done moved rises top fit left adds (spilled, has, stands, spills) =
+    let costs = costs_first q s pieces pass.entries pass.lists.parts spilled fit spills in (
+      left_by pass.lists.level spilled,
+      left spilled [] [] has,
+      waits_first q s.hash pieces run spilled pass.lists.level (ends q s.hash pieces pass.entries run spilled spilled moved rises refl stands),
+      pass_cost s.width pass.entries (length spilled) costs.0,
+      subst (λ level. Costs q s pieces (pass_cost s.width pass.entries (length spilled) costs.0) (left_by level spilled)) (sym top) costs.1,
+      adds spilled [] [] costs.0 has,
+    )
 
 pub first_few : (entries run : List Entry) (lists after : ListsState) (most : ℕ) → IsPermutation entries run → waiting_number after ≡ waiting_number lists + spilled_number lists → lists.todo ≡ [] → total entries lists ≤ most → length run + waiting_number after ≤ most
 first_few entries run lists after most moved waiting none few =

@@ -1,28 +1,37 @@
 -- One later pass after the other.
-use Rattle.std.specs.Prelude.{◌≡◌, refl, ℕ, List, [], ◌∷◌, ◌++◌}
-use Rattle.std.proofs.Common.{subst}
+use Rattle.std.specs.Prelude.{◌≡◌, refl, ℕ, List, [], ◌∷◌, ◌++◌, length}
+use Rattle.std.proofs.Common.{sym, ◌∙◌, subst}
 use Rattle.std.specs.List.Sorted.{IsPermutation}
 use Rattle.grouping_model.specs.Query.{Query}
+use Rattle.aggregation_cost.specs.Cost.{Cost, both, cost}
+use Rattle.aggregation_cost.specs.Space.{Setting}
+use Rattle.having_filter.specs.Kept.{IsWellFormed}
 use Rattle.spill_tapes.specs.Records.{Record}
 use Rattle.spill_lists.specs.Lists.{LeftList, left_by}
 use Rattle.spill_lists.specs.Standing.{ListsState, HasLists, BeginsLast, AreOn}
 use Rattle.having_filter.specs.Meaning.{meaning}
 use Rattle.hash_agg.specs.declared.plan.Plan.{Plan}
 use Rattle.hash_agg.specs.Runs.{Entry, Rises}
-use Rattle.hash_agg.specs.Passes.{Piece, AreOnce, CountUpTo, Stands, ReadsList, CanReadList}
-use Rattle.hash_agg.specs.Waiting.{Waits}
+use Rattle.hash_agg.specs.Passes.{Piece, AreOnce, CountUpTo, Stands, setting_of, records_of, ReadsList, CanReadList}
+use Rattle.hash_agg.specs.Waiting.{Waits, Costs, AddsUp, pass_cost}
+use Rattle.hash_agg.specs.declared.work.Work.{Work}
 use Rattle.hash_agg.proofs.SortLaws.{rises_once}
 use Rattle.hash_agg.proofs.UnionLaws.{ends}
 use Rattle.hash_agg.proofs.WaitLaws.{waits_next, waits_end}
+use Rattle.hash_agg.proofs.WorkLaws.{none_yet, none_after, both_once, adds_twice, costs_next, costs_end}
 
--- these pieces are in entries, no two of the same key, and on the lists that are left
-pub record IsWaiting (q : Query) (hf : List ℕ → ℕ) (pieces : List Piece) (entries : List Entry) (lists : ListsState) (last : ℕ → ℕ → Type 0) : Type 0 where
+-- these pieces are in entries, no two of the same key, and on the lists that are left; and what was made so far, on top of a cost, is
+-- what the cost says but for these lists
+pub record IsWaiting (q : Query) (s : Setting) (pieces : List Piece) (entries : List Entry) (lists : ListsState) (last : ℕ → ℕ → Type 0) (first : Cost) (before now : Work) : Type 0 where
   pub todo : List LeftList
   pub has : HasLists last lists [] [] todo
-  pub waits : Waits q hf pieces entries todo
+  pub waits : Waits q s.hash pieces entries todo
   pub once : AreOnce entries
+  pub more : Cost
+  pub costs : Costs q s pieces (both first more) todo
+  pub adds : (start : Work) → AddsUp start first before → AddsUp start (both first more) now
 
-module _ (plan : Plan) (hf : List ℕ → ℕ) (pieces : List Piece) (entries none : List Entry) (before begun : ListsState) (last : ℕ → ℕ → Type 0) (w : IsWaiting (meaning plan.query.now) hf pieces entries before last) (count : CountUpTo (meaning plan.query.now) plan.most pieces)
+module _ (plan : Plan) (hf : List ℕ → ℕ) (pieces : List Piece) (entries none : List Entry) (before begun : ListsState) (last : ℕ → ℕ → Type 0) (first : Cost) (start mid : Work) (w : IsWaiting (meaning plan.query.now) (setting_of plan hf) pieces entries before last first start mid) (count : CountUpTo (meaning plan.query.now) plan.most pieces)
     (begins : (todo : List LeftList) → HasLists last before [] [] todo → BeginsLast last begun todo) where
   pub pass_can : CanReadList plan hf (record { entries = none; lists = begun; last = last })
   pass_can =
@@ -30,24 +39,49 @@ module _ (plan : Plan) (hf : List ℕ → ℕ) (pieces : List Piece) (entries no
       let n = waits_next (meaning plan.query.now) hf pieces entries b.0 b.1 (subst (Waits (meaning plan.query.now) hf pieces entries) b.2 w.waits) in
       (b.1.records, n.rest, b.0, b.4, n.are, n.count plan.most count)
 
-  pub pass_made : (read after : ListsState) (then now : ℕ → ℕ → Type 0) (es run : List Entry) → ReadsList plan hf (record { entries = none; lists = begun; last = last }) (record { entries = es; lists = read; last = then }) → IsPermutation es run → Rises run
-      → ((spilled ahead : List Record) (todo : List LeftList) → HasLists then read spilled ahead todo → HasLists now after [] ahead (todo ++ left_by read.level spilled)) → IsWaiting (meaning plan.query.now) hf pieces (entries ++ run) after now
-  pass_made read after then now es run reads moved rises left =
+  pub pass_made : (read after : ListsState) (then now : ℕ → ℕ → Type 0) (es run : List Entry) (done : Work) → IsWellFormed (meaning plan.query.now) → read.level ≡ begun.level → ReadsList plan hf (record { entries = none; lists = begun; last = last }) (record { entries = es; lists = read; last = then }) → IsPermutation es run → Rises run
+      → ((spilled ahead : List Record) (todo : List LeftList) → HasLists then read spilled ahead todo → HasLists now after [] ahead (todo ++ left_by read.level spilled))
+      → ((spilled ahead : List Record) (todo : List LeftList) (pages : ℕ) → HasLists then read spilled ahead todo → AddsUp mid (pass_cost (length plan.first.items) es (length spilled) pages) done)
+      → IsWaiting (meaning plan.query.now) (setting_of plan hf) pieces (entries ++ run) after now first start done
+  pass_made read after then now es run done formed deep reads moved rises left adds =
+      let q : Query = meaning plan.query.now in
+      let set : Setting = setting_of plan hf in
       let b = begins w.todo w.has in
-      let n = waits_next (meaning plan.query.now) hf pieces entries b.0 b.1 (subst (Waits (meaning plan.query.now) hf pieces entries) b.2 w.waits) in
+      let n = waits_next q hf pieces entries b.0 b.1 (subst (Waits q hf pieces entries) b.2 w.waits) in
       let h = reads b.1.records n.rest b.0 b.4 n.are (n.count plan.most count) in
-      let s : Stands (meaning plan.query.now) hf n.rest run h.0 = ends (meaning plan.query.now) hf n.rest es run h.0 h.0 moved rises refl h.2 in
+      let s : Stands q hf n.rest run h.0 = ends q hf n.rest es run h.0 h.0 moved rises refl h.2 in
+      let c = costs_next q set pieces (both first w.more) b.0 b.1 (subst (Costs q set pieces (both first w.more)) b.2 w.costs) n.rest es read.parts h.0 read.level formed (deep ∙ b.3) n.are h.3 in
       record {
         todo = b.0 ++ left_by read.level h.0;
         has = left h.0 [] b.0 h.1;
         waits = n.waits run h.0 read.level s;
         once = n.once run h.0 s w.once (rises_once run rises);
+        more = both w.more (pass_cost set.width es (length h.0) c.0);
+        costs = subst (λ made. Costs q set pieces made (b.0 ++ left_by read.level h.0)) (both_once first w.more (pass_cost set.width es (length h.0) c.0)) c.1;
+        adds = λ before_all is.
+            subst (λ made. AddsUp before_all made done) (both_once first w.more (pass_cost set.width es (length h.0) c.0))
+            (adds_twice before_all mid done (both first w.more) (pass_cost set.width es (length h.0) c.0) (w.adds before_all is) (adds h.0 [] b.0 c.0 h.1));
       }
 
+-- no later pass was made
+pub waiting_begins : (q : Query) (s : Setting) (pieces : List Piece) (entries : List Entry) (lists : ListsState) (last : ℕ → ℕ → Type 0) (first : Cost) (todo : List LeftList) (work : Work) → HasLists last lists [] [] todo → Waits q s.hash pieces entries todo → AreOnce entries → Costs q s pieces first todo
+    → IsWaiting q s pieces entries lists last first work work
+waiting_begins q s pieces entries lists last first todo work has waits once costs = record {
+  todo = todo;
+  has = has;
+  waits = waits;
+  once = once;
+  more = none_yet;
+  costs = subst (λ made. Costs q s pieces made todo) (sym (none_after first)) costs;
+  adds = λ start is. subst (λ made. AddsUp start made work) (sym (none_after first)) is;
+}
+
 -- no list is left
-pub waiting_ends : (q : Query) (hf : List ℕ → ℕ) (pieces : List Piece) (entries : List Entry) (lists : ListsState) (last : ℕ → ℕ → Type 0) → lists.todo ≡ [] → IsWaiting q hf pieces entries lists last → Stands q hf pieces entries []
-waiting_ends q hf pieces entries lists last none w =
-    waits_end q hf pieces entries (subst (Waits q hf pieces entries) (gone w.todo (subst (λ tapes. AreOn last lists.tapes tapes w.todo) none w.has.todo_are)) w.waits)
+pub waiting_ends : (q : Query) (s : Setting) (pieces : List Piece) (entries : List Entry) (lists : ListsState) (last : ℕ → ℕ → Type 0) (first : Cost) (before now : Work) → lists.todo ≡ [] → IsWaiting q s pieces entries lists last first before now
+    → Stands q s.hash pieces entries [] × (more : Cost) × (both first more ≡ cost s (records_of q s.width pieces)) × ((start : Work) → AddsUp start first before → AddsUp start (both first more) now)
+waiting_ends q s pieces entries lists last first before now none w =
+    let all = gone w.todo (subst (λ tapes. AreOn last lists.tapes tapes w.todo) none w.has.todo_are) in
+    (waits_end q s.hash pieces entries (subst (Waits q s.hash pieces entries) all w.waits), w.more, costs_end q s pieces (both first w.more) (subst (Costs q s pieces (both first w.more)) all w.costs), w.adds)
   where
     gone : (todo : List LeftList) → AreOn last lists.tapes [] todo → todo ≡ []
     gone [] are = refl

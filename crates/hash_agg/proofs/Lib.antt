@@ -22,3 +22,7 @@ pub mod ReadLaws
 pub mod LaterLaws
 pub mod CountLaws
 pub mod FirstLaws
+pub mod NeedLaws
+pub mod SpillLaws
+pub mod WorkLaws
+pub mod FitLaws

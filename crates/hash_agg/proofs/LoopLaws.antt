@@ -14,30 +14,30 @@ use Rattle.hash_agg.proofs.StepLaws.{one_group}
 pub run_within : (q : Query) (m most : ℕ) (run : List Entry) → m ≤ most → IsRun q m run → IsRun q most run
 run_within q m most run low is = record { groups = is.groups; are = groups_raised q m most run is.groups low is.are; rises = is.rises }
 
-pub same_table_twice : {Hash : Type 0} (a b c : GroupsState Hash) → IsSameTable a b → IsSameTable b c → IsSameTable a c
-same_table_twice a b c first second = record { width = second.width ∙ first.width; hash = second.hash ∙ first.hash }
+pub same_table_twice : {Hash : Type 0} {limit : ℕ} (a b c : GroupsState Hash) → IsSameTable limit a b → IsSameTable limit b c → IsSameTable limit a c
+same_table_twice a b c first second = record { width = second.width ∙ first.width; hash = second.hash ∙ first.hash; within = λ is. second.within (first.within is) }
 
 pub keeps_lists_twice : (a b c : ListsState) → KeepsLists a b → KeepsLists b c → KeepsLists a c
 keeps_lists_twice a b c first second = record { source = second.source ∙ first.source; todo = second.todo ∙ first.todo; level = second.level ∙ first.level }
 
 -- its entries stay within the bound, its table and the lists that it doesn't spill to the same, and its tapes alive
-pub record Keeps {Hash : Type 0} (q : Query) (most : ℕ) (old new : GroupsState Hash) (before after : ListsState) : Type 0 where
+pub record Keeps {Hash : Type 0} (q : Query) (most limit : ℕ) (old new : GroupsState Hash) (before after : ListsState) : Type 0 where
   pub safe : AreSafe q most (entries_of old) → AreSafe q most (entries_of new)
-  pub table : IsSameTable old new
+  pub table : IsSameTable limit old new
   pub lists : KeepsLists before after
   pub alive : after.tapes.is_dead ≡ false
 
-pub keeps_none : {Hash : Type 0} (q : Query) (most : ℕ) (old : GroupsState Hash) (before : ListsState) → before.tapes.is_dead ≡ false → Keeps q most old old before before
-keeps_none q most old before alive = record {
+pub keeps_none : {Hash : Type 0} (q : Query) (most limit : ℕ) (old : GroupsState Hash) (before : ListsState) → before.tapes.is_dead ≡ false → Keeps q most limit old old before before
+keeps_none q most limit old before alive = record {
   safe = λ is. is;
-  table = record { width = refl; hash = refl };
+  table = record { width = refl; hash = refl; within = λ is. is };
   lists = record { source = refl; todo = refl; level = refl };
   alive = alive;
 }
 
-pub keeps_next : {Hash : Type 0} (q : Query) (most : ℕ) (old now next : GroupsState Hash) (before at after : ListsState) → Keeps q most old now before at
-    → (AreSafe q most (entries_of now) → AreSafe q most (entries_of next)) → IsSameTable now next → KeepsLists at after → after.tapes.is_dead ≡ false → Keeps q most old next before after
-keeps_next q most old now next before at after kept safe table lists alive = record {
+pub keeps_next : {Hash : Type 0} (q : Query) (most limit : ℕ) (old now next : GroupsState Hash) (before at after : ListsState) → Keeps q most limit old now before at
+    → (AreSafe q most (entries_of now) → AreSafe q most (entries_of next)) → IsSameTable limit now next → KeepsLists at after → after.tapes.is_dead ≡ false → Keeps q most limit old next before after
+keeps_next q most limit old now next before at after kept safe table lists alive = record {
   safe = λ is. safe (kept.safe is);
   table = same_table_twice old now next kept.table table;
   lists = keeps_lists_twice before at after kept.lists lists;

@@ -9,8 +9,9 @@ use Rattle.spill_lists.specs.Standing.{ListsState, HasLists, spilled_number, ahe
 use Rattle.having_filter.specs.Meaning.{meaning}
 use Rattle.hash_agg.specs.declared.plan.Plan.{Plan}
 use Rattle.hash_agg.specs.Runs.{Entry}
-use Rattle.hash_agg.specs.Passes.{Piece, ArePieces, CountUpTo, Stands, PassState, Holds, CanRead, Reads, Proceeds}
+use Rattle.hash_agg.specs.Passes.{Piece, ArePieces, CountUpTo, Stands, Spills, setting_of, PassState, Holds, CanRead, Reads, Proceeds}
 use Rattle.hash_agg.proofs.PassLaws.{rows_append}
+use Rattle.hash_agg.proofs.SpillLaws.{nothing_spills}
 use Rattle.hash_agg.proofs.UnionLaws.{nothing_stands}
 
 -- of these pieces some were read, and the records of the others are still to be read
@@ -20,11 +21,11 @@ pub record IsReading (plan : Plan) (hf : List ℕ → ℕ) (now : PassState) (pi
   pub ahead : List Record
   pub is : pieces ≡ done ++ rest
   pub are : ArePieces (meaning plan.query.now) hf ahead rest
-  pub holds : Holds (meaning plan.query.now) hf now done ahead todo
+  pub holds : Holds (meaning plan.query.now) (setting_of plan hf) now done ahead todo
 
-pub reading_begins : (plan : Plan) (hf : List ℕ → ℕ) (now : PassState) (records : List Record) (pieces : List Piece) (todo : List LeftList) → now.entries ≡ [] → HasLists now.last now.lists [] records todo → ArePieces (meaning plan.query.now) hf records pieces → IsReading plan hf now pieces todo
-reading_begins plan hf now records pieces todo empty has are =
-    record { done = []; rest = pieces; ahead = records; is = refl; are = are; holds = ([], has, nothing_stands (meaning plan.query.now) hf now.entries [] empty refl) }
+pub reading_begins : (plan : Plan) (hf : List ℕ → ℕ) (now : PassState) (records : List Record) (pieces : List Piece) (todo : List LeftList) → now.entries ≡ [] → now.lists.parts ≡ [] → HasLists now.last now.lists [] records todo → ArePieces (meaning plan.query.now) hf records pieces → IsReading plan hf now pieces todo
+reading_begins plan hf now records pieces todo empty clear has are =
+    record { done = []; rest = pieces; ahead = records; is = refl; are = are; holds = ([], has, nothing_stands (meaning plan.query.now) hf now.entries [] empty refl, nothing_spills (meaning plan.query.now) (setting_of plan hf) now.entries now.lists.parts [] empty clear refl) }
 
 count_next : (q : Query) (m : ℕ) (done ps : List Piece) (p : Piece) → CountUpTo q m (done ++ p ∷ ps) → CountUpTo q m (done ++ p ∷ [])
 count_next q m done ps p count k =
@@ -34,12 +35,12 @@ count_next q m done ps p count k =
     let front = rows_append q k done (p ∷ []) in
     omega (arith, all, whole, split, front)
 
-module _ (plan : Plan) (hf : List ℕ → ℕ) (pieces : List Piece) (todo : List LeftList) (entries : List Entry) (before after : ListsState) (last now : ℕ → ℕ → Type 0) (hash tag : ℕ) (bytes : List ℕ) (count : CountUpTo (meaning plan.query.now) plan.most pieces)
+module _ (plan : Plan) (hf : List ℕ → ℕ) (pieces : List Piece) (todo : List LeftList) (entries : List Entry) (before after : ListsState) (last now : ℕ → ℕ → Type 0) (hash tag : ℕ) (bytes : List ℕ) (count : CountUpTo (meaning plan.query.now) plan.most pieces) (same : after.parts ≡ before.parts)
     (gives : (spilled ahead : List Record) (todo : List LeftList) → HasLists last before spilled ahead todo → Gives (λ rest. HasLists now after spilled rest todo) ahead bytes (Some (hash, tag))) where
   -- the record that was given is the next one
   next_given : IsReading plan hf (record { entries = entries; lists = before; last = last }) pieces todo
       → (done rest : List Piece) × (p : Piece) × (ahead spilled : List Record) × (pieces ≡ done ++ p ∷ rest) × (ArePieces (meaning plan.query.now) hf (record { hash = hash; tag = tag; bytes = bytes } ∷ []) (p ∷ [])) × ArePieces (meaning plan.query.now) hf ahead rest
-      × HasLists now after spilled ahead todo × Stands (meaning plan.query.now) hf done entries spilled
+      × HasLists now after spilled ahead todo × Stands (meaning plan.query.now) hf done entries spilled × Spills (meaning plan.query.now) (setting_of plan hf) done entries after.parts spilled
   next_given r =
       let spilled = r.holds.0 in
       let g = gives spilled r.ahead todo r.holds.1 in
@@ -47,15 +48,15 @@ module _ (plan : Plan) (hf : List ℕ → ℕ) (pieces : List Piece) (todo : Lis
     where
       found : (ahead : List Record) (rest : List Piece) → pieces ≡ r.done ++ rest → ArePieces (meaning plan.query.now) hf (record { hash = hash; tag = tag; bytes = bytes } ∷ ahead) rest → HasLists now after r.holds.0 ahead todo
           → (done rest : List Piece) × (p : Piece) × (ahead spilled : List Record) × (pieces ≡ done ++ p ∷ rest) × (ArePieces (meaning plan.query.now) hf (record { hash = hash; tag = tag; bytes = bytes } ∷ []) (p ∷ [])) × ArePieces (meaning plan.query.now) hf ahead rest
-          × HasLists now after spilled ahead todo × Stands (meaning plan.query.now) hf done entries spilled
+          × HasLists now after spilled ahead todo × Stands (meaning plan.query.now) hf done entries spilled × Spills (meaning plan.query.now) (setting_of plan hf) done entries after.parts spilled
       found ahead [] is are has = absurd are
-      found ahead (p ∷ ps) is (first, others) has = (r.done, ps, p, ahead, r.holds.0, is, (first, tt), others, has, r.holds.2)
+      found ahead (p ∷ ps) is (first, others) has = (r.done, ps, p, ahead, r.holds.0, is, (first, tt), others, has, r.holds.2, subst (λ parts. Spills (meaning plan.query.now) (setting_of plan hf) r.done entries parts r.holds.0) (sym same) r.holds.3)
 
   pub can_read_next : IsReading plan hf (record { entries = entries; lists = before; last = last }) pieces todo
       → CanRead plan hf (ArePieces (meaning plan.query.now) hf (record { hash = hash; tag = tag; bytes = bytes } ∷ [])) (record { entries = entries; lists = after; last = now })
   can_read_next r =
       let n = next_given r in
-      (n.0, n.2 ∷ [], n.3, todo, (n.4, n.8, n.9), n.6, count_next (meaning plan.query.now) plan.most n.0 n.1 n.2 (subst (CountUpTo (meaning plan.query.now) plan.most) n.5 count))
+      (n.0, n.2 ∷ [], n.3, todo, (n.4, n.8, n.9, n.10), n.6, count_next (meaning plan.query.now) plan.most n.0 n.1 n.2 (subst (CountUpTo (meaning plan.query.now) plan.most) n.5 count))
 
   pub reads_next : (new : PassState) → Reads plan hf (ArePieces (meaning plan.query.now) hf (record { hash = hash; tag = tag; bytes = bytes } ∷ [])) (record { entries = entries; lists = after; last = now }) new
       → IsReading plan hf (record { entries = entries; lists = before; last = last }) pieces todo → IsReading plan hf new pieces todo
@@ -67,17 +68,22 @@ module _ (plan : Plan) (hf : List ℕ → ℕ) (pieces : List Piece) (todo : Lis
         ahead = n.3;
         is = n.5 ∙ sym (append_assoc n.0 (n.2 ∷ []) n.1);
         are = n.7;
-        holds = reads n.0 (n.2 ∷ []) n.3 todo (n.4, n.8, n.9) n.6 (count_next (meaning plan.query.now) plan.most n.0 n.1 n.2 (subst (CountUpTo (meaning plan.query.now) plan.most) n.5 count));
+        holds = reads n.0 (n.2 ∷ []) n.3 todo (n.4, n.8, n.9, n.10) n.6 (count_next (meaning plan.query.now) plan.most n.0 n.1 n.2 (subst (CountUpTo (meaning plan.query.now) plan.most) n.5 count));
       }
 
 -- no record is left
 pub reading_ends : (plan : Plan) (hf : List ℕ → ℕ) (pieces : List Piece) (todo : List LeftList) (entries : List Entry) (before after : ListsState) (last now : ℕ → ℕ → Type 0) (bytes : List ℕ)
-    → ((spilled ahead : List Record) (todo : List LeftList) → HasLists last before spilled ahead todo → Gives (λ rest. HasLists now after spilled rest todo) ahead bytes None)
-    → IsReading plan hf (record { entries = entries; lists = before; last = last }) pieces todo → Holds (meaning plan.query.now) hf (record { entries = entries; lists = after; last = now }) pieces [] todo
-reading_ends plan hf pieces todo entries before after last now bytes gives r =
+    → after.parts ≡ before.parts → ((spilled ahead : List Record) (todo : List LeftList) → HasLists last before spilled ahead todo → Gives (λ rest. HasLists now after spilled rest todo) ahead bytes None)
+    → IsReading plan hf (record { entries = entries; lists = before; last = last }) pieces todo → Holds (meaning plan.query.now) (setting_of plan hf) (record { entries = entries; lists = after; last = now }) pieces [] todo
+reading_ends plan hf pieces todo entries before after last now bytes same gives r =
     let g = gives r.holds.0 r.ahead todo r.holds.1 in
-    let all : pieces ≡ r.done = ended r.rest r.is (subst (λ ahead. ArePieces (meaning plan.query.now) hf ahead r.rest) g.0 r.are) in
-    (r.holds.0, g.1, subst (λ pieces. Stands (meaning plan.query.now) hf pieces entries r.holds.0) (sym all) r.holds.2)
+    let all : pieces ≡ r.done = ended r.rest r.is (subst (λ ahead. ArePieces (meaning plan.query.now) hf ahead r.rest) g.0 r.are) in (
+      r.holds.0,
+      g.1,
+      subst (λ pieces. Stands (meaning plan.query.now) hf pieces entries r.holds.0) (sym all) r.holds.2,
+      subst (λ pieces. Spills (meaning plan.query.now) (setting_of plan hf) pieces entries after.parts r.holds.0) (sym all)
+          (subst (λ parts. Spills (meaning plan.query.now) (setting_of plan hf) r.done entries parts r.holds.0) (sym same) r.holds.3),
+    )
   where
     ended : (rest : List Piece) → pieces ≡ r.done ++ rest → ArePieces (meaning plan.query.now) hf [] rest → pieces ≡ r.done
     ended [] is are = is ∙ append-nil r.done

@@ -13,9 +13,10 @@ use Rattle.having_filter.specs.Meaning.{meaning}
 use Rattle.hash_agg.specs.declared.plan.Plan.{Plan}
 use Rattle.hash_agg.specs.Runs.{Entry}
 use Rattle.hash_agg.specs.Standing.{StandsFor}
-use Rattle.hash_agg.specs.Passes.{Piece, Of_row, Of_group, group_record, IsRowRecord, IsGroupRecord, ArePieces, made_of, CountUpTo, Stands, PassState, CanRead, Reads, AreRows, AreOfRun, brings, brought_by, Proceeds, Brings}
+use Rattle.hash_agg.specs.Passes.{Piece, Of_row, Of_group, group_record, IsRowRecord, IsGroupRecord, ArePieces, made_of, CountUpTo, Stands, Spills, setting_of, PassState, CanRead, Reads, AreRows, AreOfRun, brings, brought_by, Proceeds, Brings}
 use Rattle.hash_agg.proofs.InputLaws.{packed_once}
 use Rattle.hash_agg.proofs.PassLaws.{reads_over}
+use Rattle.hash_agg.proofs.SpillLaws.{spills_over}
 use Rattle.hash_agg.proofs.StepLaws.{one_row, passed_over, can_count, of_group_record}
 
 -- ---- other words for what is read
@@ -39,11 +40,13 @@ pub can_row : (plan : Plan) (hf : List ℕ → ℕ) (packed : List ℕ) (old : P
 can_row plan hf packed old (pieces, more, ahead, todo, holds, are, count) = the_row (meaning plan.query.now) packed more are
 
 pub row_over : (plan : Plan) (hf : List ℕ → ℕ) (packed : List ℕ) (row : Row) (old : PassState) → HasKinds (meaning plan.query.now).kinds row → packed ≡ packing row → is_met (column_of row) (meaning plan.query.now).condition ≡ false → Reads plan hf (AreRows (meaning plan.query.now) (packed ∷ [])) old old
-row_over plan hf packed row old has is unmet pieces more ahead todo (spilled, lists, stands) are count = (
+row_over plan hf packed row old has is unmet pieces more ahead todo (spilled, lists, stands, spills) are count = (
   spilled,
   lists,
   subst (λ more. Stands (meaning plan.query.now) hf (pieces ++ more) old.entries spilled) (sym (one_row (meaning plan.query.now) packed row more has is are))
       (reads_over (meaning plan.query.now) hf old.entries spilled pieces (Of_row row) (passed_over (meaning plan.query.now) (made_of (meaning plan.query.now) pieces) row unmet) stands),
+  subst (λ more. Spills (meaning plan.query.now) (setting_of plan hf) (pieces ++ more) old.entries old.lists.parts spilled) (sym (one_row (meaning plan.query.now) packed row more has is are))
+      (spills_over (meaning plan.query.now) (setting_of plan hf) pieces row old.entries old.lists.parts spilled unmet spills),
 )
 
 pub row_brings : (q : Query) (packed : List ℕ) (row : Row) (old new : List Entry) (before after : ListsState) → HasKinds q.kinds row → packed ≡ packing row → is_met (column_of row) q.condition ≡ true → Proceeds old before new after → Brings q (AreRows q (packed ∷ [])) old before new after

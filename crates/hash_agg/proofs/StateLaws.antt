@@ -1,5 +1,5 @@
 -- The states of one group.
-use Rattle.std.specs.Prelude.{◌≡◌, refl, ℕ, zero, suc, ◌+◌, ◌*◌, ◌^◌, ◌<◌, ◌≤◌, true, false, if◌then◌else◌, List, [], ◌∷◌, ◌++◌, length, map, take, drop, Option, Some, None, option_map, slice_get}
+use Rattle.std.specs.Prelude.{◌≡◌, refl, ℕ, zero, suc, ◌+◌, ◌*◌, ◌^◌, ◌<◌, ◌≤◌, true, false, if◌then◌else◌, List, [], ◌∷◌, ◌++◌, length, map, take, drop, sum_by, Option, Some, None, option_map, slice_get}
 use Rattle.std.proofs.Common.{sym, ◌∙◌, ap, subst, arith, add-one}
 use Rattle.std.proofs.lemmas.List.{append-nil, length-append, length-map, take-append-drop}
 use Rattle.std.proofs.Math.Seq.{take-append_seam, drop-append_seam, take-length, drop-length}
@@ -26,6 +26,7 @@ use Rattle.agg_library.specs.StateRows.{Denotes, AllWithin, initial_partials, pa
 use Rattle.having_filter.specs.Kept.{TakesRows, IsWellFormed}
 use Rattle.hash_agg.specs.Standing.{AreStates}
 use Rattle.hash_agg.specs.Adding.{partial_after_row}
+use Rattle.hash_agg.specs.Passes.{states_width}
 
 -- ---- one state
 
@@ -259,8 +260,16 @@ states_wide m (k ∷ ks) bytes (p ∷ ps) (first, rest) =
     let wide = sum_by-cons kind_width k ks in
     omega (arith, one, others, both, sum, wide)
 
+-- states of a query are all as long
+widths_named : (kinds : List AggKind) → row_width kinds ≡ sum_by (λ function. states.width_of (shape_of function)) (functions_of kinds)
+widths_named [] = refl
+widths_named (k ∷ ks) = sum_by-cons kind_width k ks ∙ ap (λ n. kind_width k + n) (widths_named ks) ∙ sym (sum_by-cons (λ function. states.width_of (shape_of function)) (function_of k) (functions_of ks))
+
+pub states_long : (q : Query) (m : ℕ) (bytes : List ℕ) (ps : List Partial) → AreStates (functions q) m bytes ps → length bytes ≡ states_width q
+states_long q m bytes ps are = states_wide m are.kinds bytes ps are.denote ∙ widths_named are.kinds ∙ ap (λ these. sum_by (λ function. states.width_of (shape_of function)) these) are.named
+
 -- states are not too long for a table
-pub states_short : (q : Query) (m : ℕ) (bytes : List ℕ) (ps : List Partial) → IsWellFormed q → AreStates (functions q) m bytes ps → length bytes ≤ 65535
+pub states_short : (q : Query) (m : ℕ) (bytes : List ℕ) (ps : List Partial) → IsWellFormed q → AreStates (functions q) m bytes ps → length bytes ≤ 8184
 states_short q m bytes ps formed are =
     let wide = states_wide m are.kinds bytes ps are.denote in
     let few = narrow are.kinds in

@@ -1,5 +1,5 @@
 -- One step of a pass.
-use Rattle.std.specs.Prelude.{◌≡◌, refl, ℕ, zero, suc, ◌+◌, ◌*◌, ◌<◌, ◌≤◌, true, false, cond, List, [], ◌∷◌, ◌++◌, length, take, drop, slice_get, slice_index_or, slice_set, Some, None, OnOk, IfErr, IsErrAnd, Ok, Err}
+use Rattle.std.specs.Prelude.{◌≡◌, refl, ℕ, zero, suc, ◌+◌, ◌*◌, ◌<◌, ◌≤◌, ◌&&◌, Bool, true, false, cond, List, [], ◌∷◌, ◌++◌, length, take, drop, slice_get, slice_index_or, slice_set, Some, None, OnOk, IfErr, IsErrAnd, Ok, Err}
 use Rattle.std.specs.Int.{w16, to_be_bytes, from_be_bytes}
 use Rattle.std.specs.declared.result.Result.{Result}
 use Rattle.std.proofs.lemmas.Result.{err_from_is_err_and}
@@ -19,19 +19,25 @@ use Rattle.packed_rows.specs.Packing.{packing, value_packing}
 use Rattle.packed_rows.specs.View.{bytes_of}
 use Rattle.std.specs.declared.alloc.Global.{Global}
 use Rattle.std.specs.declared.vec.Vec.{Vec}
+use Rattle.aggregation_cost.specs.Passes.{is_empty}
+use Rattle.aggregation_cost.specs.Space.{fits}
 use Rattle.spill_tapes.specs.Records.{Record}
+use Rattle.spill_tapes.specs.Tapes.{TapesState}
 use Rattle.spill_lists.specs.Lists.{LeftList}
 use Rattle.spill_lists.specs.Standing.{ListsState, HasLists, AreSpilled}
+use Rattle.spill_lists.specs.declared.lists.OnTape.{OnTape}
 use Rattle.group_table.specs.Table.{TableState, Names, HasNo, state_in, group_in}
 use Rattle.group_table.specs.declared.table.Slot.{Slot}
 use Rattle.having_filter.specs.Kept.{key_kinds, IsWellFormed}
 use Rattle.having_filter.specs.Meaning.{meaning}
 use Rattle.hash_agg.specs.declared.plan.Plan.{Plan}
-use Rattle.hash_agg.specs.Runs.{Entry}
+use Rattle.hash_agg.specs.Runs.{Entry, packed_keys}
 use Rattle.hash_agg.specs.Standing.{AreStates, StandsFor}
 use Rattle.hash_agg.specs.Steps.{AreWithin, AreAdvanced, AreCombined}
-use Rattle.hash_agg.specs.Passes.{Piece, Of_row, Of_group, group_record, IsGroupRecord, IsPiece, piece_key, piece_added, weight, rows_at, CountUpTo, AreOnce, AreGroupsBy, GroupsState, entries_of, WritesAt, Stands, AreSafe, PassState, standing, Holds, CanRead, Reads, ReadsSome, IsAt, AreRows, AreOfRun, total, brings, brought_by, Brings}
+use Rattle.hash_agg.specs.Passes.{Piece, Of_row, Of_group, group_record, IsGroupRecord, IsPiece, piece_key, piece_added, weight, rows_at, CountUpTo, AreOnce, AreGroupsBy, GroupsState, entries_of, WritesAt, Stands, Spills, AreSafe, PassState, standing, setting_of, Holds, CanRead, Reads, ReadsSome, IsAt, AreRows, AreOfRun, total, brings, brought_by, Brings, Proceeds}
 use Rattle.hash_agg.proofs.KeyLaws.{key_has}
+use Rattle.hash_agg.proofs.NeedLaws.{keys_set}
+use Rattle.hash_agg.proofs.SpillLaws.{among_entries, none_of, spills_there, spills_new, spills_left}
 use Rattle.hash_agg.proofs.InputLaws.{packed_once, take_found, row_at, flat_row_at, rows_long, group_at, groups_long}
 use Rattle.hash_agg.proofs.StateLaws.{states_by, states_wide, narrow}
 use Rattle.hash_agg.proofs.TableLaws.{no_key, named_at, get_mapped}
@@ -78,13 +84,16 @@ row_short (kind ∷ kinds) (value ∷ row) (first, has) =
     let long = length-append (value_packing value) (packing row) in
     omega (arith, one, rest, long)
 
-pub key_short : (q : Query) (bytes : List ℕ) (k : Row) → IsWellFormed q → bytes ≡ packing k → HasKinds (key_kinds q) k → length bytes ≤ 65535
-key_short q bytes k formed is has =
+pub key_brief : (q : Query) (bytes : List ℕ) (k : Row) → IsWellFormed q → bytes ≡ packing k → HasKinds (key_kinds q) k → length bytes ≤ 8192
+key_brief q bytes k formed is has =
     let long : length (key_kinds q) ≡ length q.keys = length-map q.keys _ in
     let few : length q.keys ≤ 16 = formed.few_keys in
     let short = row_short (key_kinds q) k has in
     let same = ap length is in
     omega (arith, long, few, short, same)
+
+pub key_short : (q : Query) (bytes : List ℕ) (k : Row) → IsWellFormed q → bytes ≡ packing k → HasKinds (key_kinds q) k → length bytes ≤ 65535
+key_short q bytes k formed is has = let brief = key_brief q bytes k formed is has in omega (arith, brief)
 
 pub packed_short : (columns : List Column) (bytes : List ℕ) (row : Row) → AreColumns columns → bytes ≡ packing row → HasKinds (kinds columns) row → length bytes ≤ 65535
 packed_short columns bytes row are is has =
@@ -243,6 +252,12 @@ left_reads {Hash} q hf g h left after_left ps p r bytes is has kept absent uncha
     subst (λ (h : GroupsState Hash). Stands q hf (ps ++ p ∷ []) (entries_of h) after_left) (sym unchanged)
     (subst (λ l. Stands q hf (ps ++ p ∷ []) (entries_of g) l) (sym same) (reads_left q hf (entries_of g) left ps p bytes is has kept s r piece (no_key g bytes absent)))
 
+-- once a record was spilled there are lists
+lists_begun : (last : ℕ → ℕ → Type 0) (t : TapesState) (level : ℕ) (parts : List OnTape) (spilled : List Record) (one : Record) → AreSpilled last t level parts (spilled ++ one ∷ []) → is_empty parts ≡ false
+lists_begun last t level [] [] one none = absurd cc
+lists_begun last t level [] (r ∷ spilled) one none = absurd cc
+lists_begun last t level (tape ∷ parts) spilled one are = refl
+
 -- a row that WHERE passes over
 pub passed_over : (q : Query) (all : List Group) (row : Row) → is_met (column_of row) q.condition ≡ false → piece_added q all (Of_row row) ≡ all
 passed_over q all row unmet = ap (λ b. cond b (with_row q all row) all) unmet
@@ -253,28 +268,35 @@ module _ {Hash : Type 0} (plan : Plan) (hf : List ℕ → ℕ) (g : GroupsState 
 
   -- it goes to the group of its key
   pub one_there : (h : GroupsState Hash) (slot : Slot) → AreOnce (entries_of g) → Names g.table g.tree slot key → WritesAt g slot (Moved (state_in g.table g.tree slot)) h → Reads plan hf Are (standing g lists last) (standing h lists last)
-  one_there h slot once named writes pieces more ahead todo (spilled, has, stands) are count =
+  one_there h slot once named writes pieces more ahead todo (spilled, has, stands, spills) are count =
       let t = told more are in
-      let low = counted pieces more are count in (
+      let low = counted pieces more are count in
+      let at = named_at g slot key named.0.0 named.0.1 named.1 in
+      let w = writes named.0.0 named.0.1 in
+      let keys : packed_keys (entries_of h) ≡ packed_keys (entries_of g) =
+      ap packed_keys (w.2 ∙ ap (λ (key : List ℕ). slice_set (entries_of g) named.0.0 (key, w.0)) named.1) ∙ keys_set (entries_of g) named.0.0 key (state_in g.table g.tree slot) w.0 at in (
         spilled,
         has,
         subst (λ more. Stands (meaning plan.query.now) hf (pieces ++ more) (entries_of h) spilled) (sym t.is)
             (there_reads (meaning plan.query.now) hf g h spilled pieces t.piece key slot (Moved (state_in g.table g.tree slot)) t.named t.has t.kept once named writes
             (λ new moved found mine. t.moves (rows_at (meaning plan.query.now) (piece_key (meaning plan.query.now) t.piece) pieces) (state_in g.table g.tree slot) new found moved low mine)
             stands),
+        subst (λ more. Spills (meaning plan.query.now) (setting_of plan hf) (pieces ++ more) (entries_of h) lists.parts spilled) (sym t.is)
+            (spills_there (meaning plan.query.now) (setting_of plan hf) pieces t.piece key t.named t.kept (entries_of g) lists.parts spilled spills (entries_of h) keys
+            (among_entries (entries_of g) key (state_in g.table g.tree slot) named.0.0 at)),
       )
 
   -- whose states have room for it
   pub there_room : (slot : Slot) → Names g.table g.tree slot key → CanRead plan hf Are (standing g lists last) → (more : List Piece) × (are : Are more) × (m : ℕ) × (found : List Partial) × AreStates (functions (meaning plan.query.now)) m (state_in g.table g.tree slot) found × (m + weight (told more are).piece ≤ plan.most)
-  there_room slot named (pieces, more, ahead, todo, (spilled, has, stands), are, count) =
+  there_room slot named (pieces, more, ahead, todo, (spilled, has, stands, spills), are, count) =
       let t = told more are in
       let found = states_at (meaning plan.query.now) hf g spilled pieces t.piece slot key t.named t.has stands named in
       (more, are, rows_at (meaning plan.query.now) (piece_key (meaning plan.query.now) t.piece) pieces, found.0, found.1, counted pieces more are count)
 
   -- it makes a group of its own
-  pub one_new : (h : GroupsState Hash) (states : List ℕ) → HasNo g.table g.tree key → lists.parts ≡ [] → entries_of h ≡ entries_of g ++ (key, states) ∷ []
+  pub one_new : (h : GroupsState Hash) (states : List ℕ) → HasNo g.table g.tree key → lists.parts ≡ [] → fits (setting_of plan hf) (packed_keys (entries_of g) ++ key ∷ []) ≡ true → entries_of h ≡ entries_of g ++ (key, states) ∷ []
       → ((more : List Piece) (are : Are more) → weight (told more are).piece ≤ plan.most → AreStates (functions (meaning plan.query.now)) (weight (told more are).piece) states (after (meaning plan.query.now) None (told more are).piece)) → Reads plan hf Are (standing g lists last) (standing h lists last)
-  one_new h states absent none entered makes pieces more ahead todo (spilled, has, stands) are count =
+  one_new h states absent none fit entered makes pieces more ahead todo (spilled, has, stands, spills) are count =
       let t = told more are in
       let low = counted pieces more are count in
       let empty : spilled ≡ [] = subst (λ parts. AreSpilled last lists.tapes lists.level parts spilled) none has.spilled_are in (
@@ -282,6 +304,9 @@ module _ {Hash : Type 0} (plan : Plan) (hf : List ℕ → ℕ) (g : GroupsState 
         has,
         subst (λ more. Stands (meaning plan.query.now) hf (pieces ++ more) (entries_of h) spilled) (sym t.is)
             (new_reads (meaning plan.query.now) hf g h spilled spilled pieces t.piece key states t.named t.has t.kept absent empty refl entered (makes more are (omega (arith, low))) stands),
+        subst (λ more. Spills (meaning plan.query.now) (setting_of plan hf) (pieces ++ more) (entries_of h) lists.parts spilled) (sym t.is)
+            (spills_new (meaning plan.query.now) (setting_of plan hf) pieces t.piece key t.named t.kept (entries_of g) lists.parts spilled spills (entries_of h) states entered
+            (none_of (entries_of g) key (no_key g key absent)) (ap is_empty none) fit),
       )
 
   -- there is room for a new group of it
@@ -289,14 +314,19 @@ module _ {Hash : Type 0} (plan : Plan) (hf : List ℕ → ℕ) (g : GroupsState 
   new_room (pieces, more, ahead, todo, holds, are, count) = let low = counted pieces more are count in (more, are, omega (arith, low))
 
   -- it is spilled
-  pub one_left : (h : GroupsState Hash) (after : ListsState) (now : ℕ → ℕ → Type 0) (one : Record) → HasNo g.table g.tree key → h ≡ g → ((more : List Piece) (are : Are more) → IsPiece (meaning plan.query.now) hf one (told more are).piece)
+  pub one_left : (h : GroupsState Hash) (after : ListsState) (now : ℕ → ℕ → Type 0) (one : Record) → HasNo g.table g.tree key → (is_empty lists.parts && fits (setting_of plan hf) (packed_keys (entries_of g) ++ key ∷ [])) ≡ false → h ≡ g → ((more : List Piece) (are : Are more) → IsPiece (meaning plan.query.now) hf one (told more are).piece)
       → ((spilled ahead : List Record) (todo : List LeftList) → HasLists last lists spilled ahead todo → HasLists now after (spilled ++ one ∷ []) ahead todo) → Reads plan hf Are (standing g lists last) (standing h after now)
-  one_left h after now one absent unchanged is spills pieces more ahead todo (spilled, has, stands) are count =
-      let t = told more are in (
+  one_left h after now one absent out unchanged is puts pieces more ahead todo (spilled, has, stands, spills) are count =
+      let t = told more are in
+      let put = puts spilled ahead todo has in (
         spilled ++ one ∷ [],
-        spills spilled ahead todo has,
+        put,
         subst (λ more. Stands (meaning plan.query.now) hf (pieces ++ more) (entries_of h) (spilled ++ one ∷ [])) (sym t.is)
             (left_reads (meaning plan.query.now) hf g h spilled (spilled ++ one ∷ []) pieces t.piece one key t.named t.has t.kept absent unchanged refl (is more are) stands),
+        subst (λ more. Spills (meaning plan.query.now) (setting_of plan hf) (pieces ++ more) (entries_of h) after.parts (spilled ++ one ∷ [])) (sym t.is)
+            (subst (λ (h : GroupsState Hash). Spills (meaning plan.query.now) (setting_of plan hf) (pieces ++ t.piece ∷ []) (entries_of h) after.parts (spilled ++ one ∷ [])) (sym unchanged)
+            (spills_left (meaning plan.query.now) (setting_of plan hf) pieces t.piece key t.named t.kept (entries_of g) lists.parts spilled spills one after.parts (is more are)
+            (none_of (entries_of g) key (no_key g key absent)) out (lists_begun now after.tapes after.level after.parts spilled one put.spilled_are))),
       )
 
 -- ---- over any disk
@@ -347,15 +377,15 @@ module _ (plan : Plan) (hf : List ℕ → ℕ) (Are One : List Piece → Type 0)
   pub next_read : (next : PassState) → Reads plan hf One now next → ReadsSome plan hf Are (i + 1) old next
   next_read next reads pieces more ahead todo holds are count =
       let found = at more are in
-      subst (λ pieces. Holds (meaning plan.query.now) hf next pieces ahead todo) (append_assoc pieces (take i more) (found.0 ∷ []) ∙ ap (λ more. pieces ++ more) (sym (take_found more i found.0 found.1)))
+      subst (λ pieces. Holds (meaning plan.query.now) (setting_of plan hf) next pieces ahead todo) (append_assoc pieces (take i more) (found.0 ∷ []) ∙ ap (λ more. pieces ++ more) (sym (take_found more i found.0 found.1)))
       (reads (pieces ++ take i more) (found.0 ∷ []) ahead todo (h pieces more ahead todo holds are count) found.2 (count_front (meaning plan.query.now) plan.most pieces more i found.0 count found.1))
 
 pub none_read : (plan : Plan) (hf : List ℕ → ℕ) (Are : List Piece → Type 0) (old : PassState) → ReadsSome plan hf Are 0 old old
-none_read plan hf Are old pieces more ahead todo holds are count = subst (λ pieces. Holds (meaning plan.query.now) hf old pieces ahead todo) (sym (append-nil pieces)) holds
+none_read plan hf Are old pieces more ahead todo holds are count = subst (λ pieces. Holds (meaning plan.query.now) (setting_of plan hf) old pieces ahead todo) (sym (append-nil pieces)) holds
 
 pub all_read : (plan : Plan) (hf : List ℕ → ℕ) (Are : List Piece → Type 0) (old : PassState) (i : ℕ) (now : PassState) → ReadsSome plan hf Are i old now → ((more : List Piece) → Are more → length more ≤ i) → Reads plan hf Are old now
 all_read plan hf Are old i now h short pieces more ahead todo holds are count =
-    subst (λ more. Holds (meaning plan.query.now) hf now (pieces ++ more) ahead todo) (take_all i more (short more are)) (h pieces more ahead todo holds are count)
+    subst (λ more. Holds (meaning plan.query.now) (setting_of plan hf) now (pieces ++ more) ahead todo) (take_all i more (short more are)) (h pieces more ahead todo holds are count)
 
 -- ---- the pieces of rows, and of a run
 
@@ -407,3 +437,14 @@ pub get_in : {X : Type 0} (xs : List X) (i : ℕ) (d : X) → i < length xs → 
 get_in [] i d low = absurd (omega (arith, low))
 get_in (x ∷ xs) zero d low = refl
 get_in (x ∷ xs) (suc i) d low = get_in xs i d (omega (arith, low))
+
+-- ---- whether a group enters
+
+pub fit_told : (a f : Bool) → true ≡ (a && f) → f ≡ true
+fit_told true f is = sym is
+fit_told false f is = absurd cc
+
+pub proceeds_new : {Hash : Type 0} (g h : GroupsState Hash) (lists : ListsState) (entry : Entry) → entries_of h ≡ entries_of g ++ entry ∷ [] → Proceeds (entries_of g) lists (entries_of h) lists
+proceeds_new g h lists entry entered =
+    let long : length (entries_of h) ≡ length (entries_of g) + 1 = ap length entered ∙ length-append (entries_of g) (entry ∷ []) in
+    record { first = λ none clear. clear; slow = omega arith; few = omega (arith, long) }

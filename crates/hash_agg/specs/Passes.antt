@@ -4,6 +4,11 @@ use Rattle.std.specs.Int.{w16, to_be_bytes}
 use Rattle.std.specs.Prelude.{◌≡◌, ◌≢◌, ℕ, ◌+◌, ◌≤◌, ◌<◌, ◌⊎◌, if◌then◌else◌, List, [], ◌∷◌, ◌++◌, length, map, flat_map, sum_by, take, slice_get, slice_index, slice_set, Some, None}
 use Rattle.byteorder.specs.Endian.{big_from}
 use Rattle.context_tree.specs.Tree.{TreeState}
+use Rattle.aggregation_cost.specs.Cost.{greatest}
+use Rattle.aggregation_cost.specs.Passes as cost
+use Rattle.aggregation_cost.specs.Space.{Setting, need, fronts}
+use Rattle.group_table.specs.Space.{HoldsKeys, keys_in}
+use Rattle.group_table.specs.Standing.{IsTableIn}
 use Rattle.group_table.specs.Table.{TableState, groups, key_in, buckets_for, buckets_in, most_buckets}
 use Rattle.group_table.specs.declared.table.Slot.{Slot}
 use Rattle.grouping_model.specs.Datum.{Row, HasKinds, same_row}
@@ -16,11 +21,12 @@ use Rattle.packed_rows.specs.Packing.{packing}
 use Rattle.spill_tapes.specs.Records.{Record}
 use Rattle.spill_lists.specs.Lists.{LeftList}
 use Rattle.spill_lists.specs.Standing.{ListsState, HasLists, spilled_number}
-use Rattle.agg_protocol.specs.States.{most_rows}
+use Rattle.spill_lists.specs.declared.lists.OnTape.{OnTape}
+use Rattle.agg_protocol.specs.States.{most_rows, shape_of, width_of}
 use Rattle.having_filter.specs.Kept.{IsWellFormed}
 use Rattle.having_filter.specs.Meaning.{meaning}
 use Rattle.hash_agg.specs.declared.plan.Plan.{Plan}
-use Rattle.hash_agg.specs.Runs.{Entry}
+use Rattle.hash_agg.specs.Runs.{Entry, packed_keys}
 use Rattle.hash_agg.specs.Standing.{AreStates, StandsFor, AreGroups}
 use Rattle.hash_agg.specs.Inputs.{Brought, Packed, Counted, ArePackings, rows_in}
 use Rattle.hash_agg.specs.Adding.{row_added, group_added, Given, Of_rows, Of_groups}
@@ -100,14 +106,22 @@ HasNoKey entries key = (i : ℕ) (x : Entry) → slice_get entries i ≡ Some x 
 
 -- ---- the table of a pass
 
--- a table of groups, and the tree in which it lies
+-- a table of groups, the tree in which it lies, and the most bytes of blocks that it held since it had no group
 pub record GroupsState (H : Type 0) : Type 0 where
   pub table : TableState H
   pub tree : TreeState
+  pub most_held : ℕ
 
 -- its groups in the order in which they came
 abbrev pub entries_of : {H : Type 0} → GroupsState H → List Entry
 entries_of g = groups g.table g.tree
+
+-- it is a table of that tree, in which it holds what its keys need and nothing else is held; and it never held more than it needed
+-- while one of these entered
+pub record AreHeld {H : Type 0} (hash_of : H → List ℕ → ℕ) (g : GroupsState H) : Type 0 where
+  pub in_tree : IsTableIn hash_of g.table g.tree
+  pub by_keys : HoldsKeys g.table g.tree
+  pub most : g.most_held ≡ greatest (map (need g.table.width) (fronts (keys_in g.table g.tree)))
 
 -- the states of the group of a slot are moved on by a row, or combined with others, and all else stays
 abbrev pub WritesAt : {H : Type 0} → GroupsState H → Slot → (List ℕ → Type 0) → GroupsState H → Type 0
@@ -144,23 +158,65 @@ pub record Stands (query : Query) (hash : List ℕ → ℕ) (pieces : List Piece
   pub parted : IsParted (made_of query pieces) entered (made_of query rest)
   pub fewer : (key : Row) → rows_at query key rest ≤ rows_at query key pieces
 
+-- ---- what it costs
+
+-- how many bytes the states of a group have
+abbrev pub states_width : Query → ℕ
+states_width query = sum_by (λ function. width_of (shape_of function)) (functions query)
+
+-- a limit and a hash function for the groups of a query, as the cost has them
+abbrev pub setting_for : Query → ℕ → (List ℕ → ℕ) → Setting
+setting_for query limit hash = record { limit = limit; width = states_width query; hash = hash }
+
+-- what a piece is as a record of the cost: nothing if WHERE passes over it; a row is its packing; a group is its key and states, of
+-- which each group has as many bytes
+abbrev pub cost_records : Query → ℕ → Piece → List cost.Record
+cost_records query width (Of_row row) = if is_met (column_of row) query.condition then cost.of_row (packing (key_of query row)) (packing row) ∷ [] else []
+cost_records query width (Of_group group most) = record { key = packing group.0; on_tape = 9 + (2 + length (packing group.0) + width) } ∷ []
+
+abbrev pub records_of : Query → ℕ → List Piece → List cost.Record
+records_of query width pieces = flat_map (cost_records query width) pieces
+
+-- a record on a tape is that of a piece which is this record of the cost
+pub record IsCosted (query : Query) (setting : Setting) (one : Record) (costed : cost.Record) : Type 0 where
+  pub piece : Piece
+  pub is : IsPiece query setting.hash one piece
+  pub costs : cost_records query setting.width piece ≡ costed ∷ []
+  pub hashed : one.hash ≡ setting.hash costed.key
+
+abbrev pub AreCosted : Query → Setting → List Record → List cost.Record → Type 0
+AreCosted query setting [] [] = Unit {0}
+AreCosted query setting (one ∷ records) (costed ∷ others) = IsCosted query setting one costed × AreCosted query setting records others
+AreCosted query setting records others = ⊥
+
+-- of what it has read, a pass took the keys and spilled the records that the cost says; it has lists once it spilled
+pub record Spills (query : Query) (setting : Setting) (pieces : List Piece) (entries : List Entry) (parts : List OnTape) (left : List Record) : Type 0 where
+  pub took : packed_keys entries ≡ cost.taken_from setting (records_of query setting.width pieces)
+  pub spilled : AreCosted query setting left (cost.spilled_from setting (records_of query setting.width pieces))
+  pub begun : cost.is_empty parts ≡ cost.is_empty left
+
 -- over any disk: entries stand for groups of the query that count at most so many rows each
 abbrev pub AreSafe : Query → ℕ → List Entry → Type 0
 AreSafe query most entries = (entered : List Group) × AreGroupsBy query (λ key. most) entries entered
 
 -- ---- a pass
 
--- a table of the same hash function, whose states are as long
-pub record IsSameTable {H : Type 0} (old new : GroupsState H) : Type 0 where
+-- a table of the same hash function, whose states are as long, and which held no more than a limit if it did so before
+pub record IsSameTable {H : Type 0} (limit : ℕ) (old new : GroupsState H) : Type 0 where
   pub width : new.table.width ≡ old.table.width
   pub hash : new.table.hash ≡ old.table.hash
+  pub within : old.most_held ≤ limit → new.most_held ≤ limit
 
--- what all passes of an aggregation have in common: a checked query, the states before any row, and the most rows that a group counts
+-- what all passes of an aggregation have in common: a checked query, the states before any row, the most rows that a group counts,
+-- and a limit within which each group fits by itself
 pub record IsPlan (plan : Plan) : Type 0 where
   pub columns : AreColumns plan.query.now.columns
   pub formed : IsWellFormed (meaning plan.query.now)
   pub states : AreStates (functions (meaning plan.query.now)) 0 plan.first.items (partials (meaning plan.query.now) [])
   pub few : plan.most ≤ most_rows
+  pub width : length plan.first.items ≡ states_width (meaning plan.query.now)
+  pub narrow : length plan.first.items ≤ 8184
+  pub limit : 32768 ≤ plan.limit
 
 -- where a pass stands: its entries, its lists, and what the disk of these has
 pub record PassState : Type 1 where
@@ -171,26 +227,33 @@ pub record PassState : Type 1 where
 abbrev pub standing : {H : Type 0} → GroupsState H → ListsState → (ℕ → ℕ → Type 0) → PassState
 standing groups lists last = record { entries = entries_of groups; lists = lists; last = last }
 
--- what a pass has read is in its entries, and on the lists to which it spills. It has these records still to read, and these
--- lists are left to later passes
-abbrev pub Holds : Query → (List ℕ → ℕ) → PassState → List Piece → List Record → List LeftList → Type 0
-Holds query hash pass pieces ahead todo =
-    (spilled : List Record) × HasLists pass.last pass.lists spilled ahead todo × Stands query hash pieces pass.entries spilled
+-- what all passes have in common as the cost has it
+abbrev pub setting_of : Plan → (List ℕ → ℕ) → Setting
+setting_of plan hash = record { limit = plan.limit; width = length plan.first.items; hash = hash }
+
+-- what a pass has read is in its entries, and on the lists to which it spills, as the cost says. It has these records still to read,
+-- and these lists are left to later passes
+abbrev pub Holds : Query → Setting → PassState → List Piece → List Record → List LeftList → Type 0
+Holds query setting pass pieces ahead todo =
+    (spilled : List Record)
+    × HasLists pass.last pass.lists spilled ahead todo
+    × Stands query setting.hash pieces pass.entries spilled
+    × Spills query setting pieces pass.entries pass.lists.parts spilled
 
 -- these pieces are read, if they and those before them count few enough rows
 abbrev pub Reads : Plan → (List ℕ → ℕ) → (List Piece → Type 0) → PassState → PassState → Type 0
 Reads plan hash Are old new =
     (pieces more : List Piece) (ahead : List Record) (todo : List LeftList)
-    → Holds (meaning plan.query.now) hash old pieces ahead todo
+    → Holds (meaning plan.query.now) (setting_of plan hash) old pieces ahead todo
     → Are more
     → CountUpTo (meaning plan.query.now) plan.most (pieces ++ more)
-    → Holds (meaning plan.query.now) hash new (pieces ++ more) ahead todo
+    → Holds (meaning plan.query.now) (setting_of plan hash) new (pieces ++ more) ahead todo
 
 -- they can be read: a disk that tells what was written is no reason for a refusal
 abbrev pub CanRead : Plan → (List ℕ → ℕ) → (List Piece → Type 0) → PassState → Type 0
 CanRead plan hash Are old =
     (pieces more : List Piece) × (ahead : List Record) × (todo : List LeftList)
-    × Holds (meaning plan.query.now) hash old pieces ahead todo
+    × Holds (meaning plan.query.now) (setting_of plan hash) old pieces ahead todo
     × Are more
     × CountUpTo (meaning plan.query.now) plan.most (pieces ++ more)
 
@@ -201,7 +264,7 @@ ReadsList plan hash old new =
     → HasLists old.last old.lists [] records todo
     → ArePieces (meaning plan.query.now) hash records pieces
     → CountUpTo (meaning plan.query.now) plan.most pieces
-    → Holds (meaning plan.query.now) hash new pieces [] todo
+    → Holds (meaning plan.query.now) (setting_of plan hash) new pieces [] todo
 
 abbrev pub CanReadList : Plan → (List ℕ → ℕ) → PassState → Type 0
 CanReadList plan hash old =
@@ -214,10 +277,10 @@ CanReadList plan hash old =
 abbrev pub ReadsSome : Plan → (List ℕ → ℕ) → (List Piece → Type 0) → ℕ → PassState → PassState → Type 0
 ReadsSome plan hash Are number old new =
     (pieces more : List Piece) (ahead : List Record) (todo : List LeftList)
-    → Holds (meaning plan.query.now) hash old pieces ahead todo
+    → Holds (meaning plan.query.now) (setting_of plan hash) old pieces ahead todo
     → Are more
     → CountUpTo (meaning plan.query.now) plan.most (pieces ++ more)
-    → Holds (meaning plan.query.now) hash new (pieces ++ take number more) ahead todo
+    → Holds (meaning plan.query.now) (setting_of plan hash) new (pieces ++ take number more) ahead todo
 
 -- the piece at a place, alone
 abbrev pub IsAt : (List Piece → Type 0) → ℕ → (List Piece → Type 0) → Type 0

@@ -48,7 +48,7 @@ pub fn fold<H: KeyHash + Copy, D: TapeDisk>(
     ensures disk { Moves (D.failures disk.old) (D.failures disk.new) (D.writes disk.old) (D.writes disk.new) (D.honest disk.old) (D.honest disk.new) }
 {
     let _schema = query.schema();
-    let more = aggregate(alloc, query, more, means, disk)?;
+    let (more, _work) = aggregate(alloc, query, more, means, disk)?;
     run.absorb(alloc, query, &more)?;
     Ok(())
 }

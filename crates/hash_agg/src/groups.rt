@@ -1,18 +1,20 @@
 //! The groups of a pass, in a table whose bytes lie in memory contexts.
 
-ghost use Rattle.std.specs.Prelude.{◌≡◌, ◌≢◌, ◌++◌, ◌∷◌, ◌≤◌, ◌<◌, true, List, [], Some, length, slice_get, IsTrue, MatchOption, IfOk, OnOk, OnErr};
+ghost use Rattle.std.specs.Prelude.{◌≡◌, ◌≢◌, ◌++◌, ◌∷◌, ◌≤◌, ◌<◌, max, ℕ, true, List, [], map, Some, is_some, length, slice_get, MatchOption, IfOk, IfSome, OnOk, OnErr};
 ghost use Rattle.std.specs.List.Sorted.{IsPermutation};
 ghost use Rattle.grouping_model.specs.Datum.{HasKinds};
 ghost use Rattle.grouping_model.specs.Parts.{functions};
 ghost use Rattle.packed_rows.specs.View.{row_of};
 ghost use Rattle.agg_protocol.specs.States.{most_rows};
-ghost use Rattle.context_tree.specs.Tree.{is_there, new_tree};
+ghost use Rattle.aggregation_cost.specs.Cost.{greatest};
+ghost use Rattle.aggregation_cost.specs.Space.{Key, need, fits, fronts};
+ghost use Rattle.context_tree.specs.Tree.{is_there, new_tree, held_below};
 ghost use Rattle.group_table.specs.Standing.{IsTableIn};
 ghost use Rattle.group_table.specs.Table.{IsSlot, Names, HasNo, state_in};
 ghost use Rattle.having_filter.specs.Kept.{IsWellFormed};
 ghost use Rattle.having_filter.specs.Meaning.{meaning};
-ghost use Rattle.hash_agg.specs.Runs.{Rises};
-ghost use Rattle.hash_agg.specs.Passes.{AreOnce, entries_of, HasPlace, WritesAt};
+ghost use Rattle.hash_agg.specs.Runs.{Rises, packed_keys};
+ghost use Rattle.hash_agg.specs.Passes.{AreOnce, entries_of, HasPlace, WritesAt, IsSameTable};
 ghost use Rattle.hash_agg.specs.Steps.{HaveRoomForRow, AreAdvanced, HaveRoomWithin, AreCombined};
 
 use crate::run::Run;
@@ -27,28 +29,30 @@ use std::alloc::{AllocError, Global};
 use std::marker::Model;
 
 /// Groups: a hash table from their packed keys to their states. Its buckets, keys and states lie in contexts below that of
-/// the pass, which lies below the root of a tree.
+/// the pass, which lies below the root of a tree and has nothing else below it. `most_held` is the most bytes of blocks that these
+/// held since there was no group.
 #[derive(Drop)]
 pub(crate) struct Groups<H: KeyHash + Drop> {
     tree: Tree,
     table: GroupTable<H>,
+    most_held: u64,
 }
 
 impl<H: KeyHash + Drop> Model for Groups<H> {
-    ghost use Rattle.group_table.specs.Standing.{IsTableIn};
-    ghost use Rattle.hash_agg.specs.Passes.{GroupsState};
+    ghost use Rattle.hash_agg.specs.Passes.{GroupsState, AreHeld};
 
     ghost Value = { GroupsState H };
 
-    ghost view = { λ g. record { table = g.table; tree = g.tree } };
+    ghost view = { λ g. record { table = g.table; tree = g.tree; most_held = g.most_held } };
 
-    ghost invariant = { λ g. IsTableIn H.hash_of g.table g.tree };
+    ghost invariant = { λ g. AreHeld H.hash_of (record { table = g.table; tree = g.tree; most_held = g.most_held }) };
 }
 
 /// The context of a pass, below the root of a new tree.
 fn pass_context(tree: &mut Tree) -> Result<ContextId, AllocError>
     requires { tree.old ≡ new_tree 0 }
-    ensures { IfOk result (λ id. is_there tree.new id ≡ true) }
+    ensures there { IfOk result (λ id. is_there tree.new id ≡ true) }
+    ensures empty { IfOk result (λ id. held_below tree.new id ≡ 0) }
 {
     let root = tree.root();
     match tree.create(root, Kind::AllocSet) {
@@ -64,11 +68,16 @@ impl<H: KeyHash + Drop> Groups<H> {
         ensures empty { IfOk result (λ made. entries_of made ≡ []) }
         ensures width { IfOk result (λ made. made.table.width ≡ width) }
         ensures hash { IfOk result (λ made. made.table.hash ≡ hash) }
+        ensures held { IfOk result (λ made. made.most_held ≡ 0) }
     {
         let mut tree = Tree::new(alloc);
         let pass = pass_context(&mut tree)?;
         match GroupTable::new(alloc, &mut tree, pass, width, hash) {
-            Ok(table) => Ok(Groups { tree, table }),
+            Ok(table) => Ok(Groups {
+                tree,
+                table,
+                most_held: 0,
+            }),
             Err(_) => Err(AllocError),
         }
     }
@@ -105,27 +114,52 @@ impl<H: KeyHash + Drop> Groups<H> {
         self.table.entry(&self.tree, place)
     }
 
-    /// Whether one more group keeps within a limit, in bytes of blocks. The first one always does.
-    pub(crate) fn has_room(&self, key: &[u8], limit: u64) -> bool
-        requires { length key.now ≤ 65535 }
-        ensures few { IsTrue result → HasPlace self.now }
-        ensures first { entries_of self.now ≡ [] → result ≡ true }
+    /// The most bytes of blocks that the groups held since there was none.
+    pub(crate) fn most_held(&self) -> u64
+        ensures is { result ≡ self.now.most_held }
+        ensures by_needs { result ≡ greatest (map (need self.now.table.width) (fronts (packed_keys (entries_of self.now)))) }
     {
-        self.table.len() == 0 || self.table.room_for(&self.tree, key, limit)
+        self.most_held
     }
 
-    /// Adds a group whose key isn't there. The only error is a failed allocation, which changes no group.
-    pub(crate) fn enter(&mut self, key: &[u8], states: &[u8]) -> Result<(), AllocError>
+    /// How many bytes of blocks are held at most while a group with this key enters, if these are within a limit and the buckets are
+    /// not too many.
+    pub(crate) fn need_within(&self, key: &[u8], limit: u64) -> Option<u64>
+        requires { length key.now ≤ 65535 }
+        ensures few { IfSome result (λ need. HasPlace self.now) }
+        ensures within { IfSome result (λ need. need ≤ limit) }
+        ensures needed { IfSome result (λ bytes. bytes ≡ need self.now.table.width (packed_keys (entries_of self.now) ++ key.now ∷ [])) }
+        ensures fits { (hash : Key → ℕ) → is_some result ≡ fits (record { limit = limit; width = self.now.table.width; hash = hash }) (packed_keys (entries_of self.now) ++ key.now ∷ []) }
+    {
+        let need = self.table.need_for(&self.tree, key)?;
+        if need > u128::from(limit) {
+            return None;
+        }
+        Some(need as u64)
+    }
+
+    /// Adds a group whose key isn't there, while so many bytes of blocks are held at most. The only error is a failed allocation, and
+    /// no group is left then.
+    pub(crate) fn enter(&mut self, key: &[u8], states: &[u8], held: u64) -> Result<(), AllocError>
         requires absent { HasNo self.old.table self.old.tree key.now }
         requires key { length key.now ≤ 65535 }
         requires states { length states.now ≡ self.old.table.width }
         requires few { HasPlace self.old }
+        requires held { held ≡ need self.old.table.width (packed_keys (entries_of self.old) ++ key.now ∷ []) }
         ensures entered { OnOk result (entries_of self.new ≡ entries_of self.old ++ (key.now, states.now) ∷ []) }
-        ensures width { self.new.table.width ≡ self.old.table.width }
-        ensures hash { self.new.table.hash ≡ self.old.table.hash }
+        ensures table { (limit : ℕ) → held ≤ limit → IsSameTable limit self.old self.new }
     {
-        self.table.insert(&mut self.tree, key, states)?;
-        Ok(())
+        match self.table.insert(&mut self.tree, key, states) {
+            Ok(_) => {
+                self.most_held = self.most_held.max(held);
+                Ok(())
+            }
+            Err(error) => {
+                self.table.clear(&mut self.tree); // Blocks that were taken on the way are given up too.
+                self.most_held = 0;
+                Err(error)
+            }
+        }
     }
 
     /// Moves the states of a group on by a row. They are refused if they would count more than `most` rows then.
@@ -141,6 +175,7 @@ impl<H: KeyHash + Drop> Groups<H> {
         requires row { HasKinds (meaning query.now).kinds (row_of row.now) }
         requires most { most ≤ most_rows }
         ensures table { self.new.table ≡ self.old.table }
+        ensures held { self.new.most_held ≡ self.old.most_held }
         ensures written { OnOk result (WritesAt self.old slot (AreAdvanced (meaning query.now) most (state_in self.old.table self.old.tree slot) (row_of row.now)) self.new) }
         ensures refused { OnErr result (¬ HaveRoomForRow (functions (meaning query.now)) most (state_in self.old.table self.old.tree slot)) }
     {
@@ -160,6 +195,7 @@ impl<H: KeyHash + Drop> Groups<H> {
         requires slot { IsSlot self.old.table slot }
         requires most { most ≤ most_rows }
         ensures table { self.new.table ≡ self.old.table }
+        ensures held { self.new.most_held ≡ self.old.most_held }
         ensures written { OnOk result (WritesAt self.old slot (AreCombined (functions (meaning query.now)) most (state_in self.old.table self.old.tree slot) more.now) self.new) }
         ensures refused { OnErr result (¬ HaveRoomWithin (functions (meaning query.now)) most (state_in self.old.table self.old.tree slot) more.now) }
     {
@@ -170,10 +206,12 @@ impl<H: KeyHash + Drop> Groups<H> {
     /// Gives up all groups.
     pub(crate) fn clear(&mut self)
         ensures empty { entries_of self.new ≡ [] }
+        ensures held { self.new.most_held ≡ 0 }
         ensures width { self.new.table.width ≡ self.old.table.width }
         ensures hash { self.new.table.hash ≡ self.old.table.hash }
     {
         self.table.clear(&mut self.tree);
+        self.most_held = 0;
     }
 
     /// The groups in the order of their keys.

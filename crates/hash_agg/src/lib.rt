@@ -14,6 +14,7 @@ mod record;
 mod run;
 mod sorting;
 mod states;
+mod work;
 
 pub use aggregation::aggregate;
 pub use folding::fold;
@@ -25,3 +26,4 @@ pub use run::Run;
 pub use spill_lists::SpillError;
 pub use spill_tapes::{MemDisk, TapeDisk};
 pub use states::first_states;
+pub use work::Work;

@@ -1,11 +1,13 @@
 //! A pass: the groups that its table takes, and the records that it spills to lists for later passes.
 
-ghost use Rattle.std.specs.Prelude.{◌≡◌, ◌≢◌, ◌+◌, ◌<◌, ◌≤◌, ◌++◌, ◌∷◌, ℕ, List, [], true, false, length, IsTrue, IfOk, IfErr, OnOk};
+ghost use Rattle.std.specs.Prelude.{◌≡◌, ◌≢◌, ◌+◌, ◌<◌, ◌≤◌, ◌++◌, ◌∷◌, ◌&&◌, max, ℕ, List, [], true, false, is_some, length, IsTrue, IfOk, IfErr, IfSome, OnOk};
 ghost use Rattle.std.specs.List.Sorted.{IsPermutation};
 ghost use Rattle.spill_tapes.specs.Records.{Record};
 ghost use Rattle.spill_lists.specs.Lists.{LeftList, left_by};
 ghost use Rattle.spill_lists.specs.Standing.{HasLists, BeginsLast, Moves, IsReadRefusal, IsSpillRefusal, spilled_number, ahead_number, waiting_number};
 ghost use Rattle.spill_lists.specs.declared.error.SpillError.TheVariants.{TapeDamaged};
+ghost use Rattle.aggregation_cost.specs.Passes.{is_empty};
+ghost use Rattle.aggregation_cost.specs.Space.{need, fits};
 ghost use Rattle.grouping_model.specs.Condition.{is_met};
 ghost use Rattle.grouping_model.specs.Datum.{Row, HasKinds};
 ghost use Rattle.grouping_model.specs.Grouping.{Group, column_of, key_of};
@@ -13,15 +15,17 @@ ghost use Rattle.packed_rows.specs.Packing.{packing};
 ghost use Rattle.packed_rows.specs.View.{bytes_of, row_of};
 ghost use Rattle.having_filter.specs.Meaning.{meaning};
 ghost use Rattle.hash_agg.specs.Inputs.{brought, IsInput, rows_in};
-ghost use Rattle.hash_agg.specs.Runs.{Rises};
+ghost use Rattle.hash_agg.specs.Runs.{Rises, packed_keys};
 ghost use Rattle.hash_agg.specs.Standing.{StandsFor, IsRun};
-ghost use Rattle.hash_agg.specs.Passes.{Piece, entries_of, HasPlace, IsPlan, IsSameTable, standing, Holds, Reads, CanRead, AreSafe, Proceeds, Brings, KeepsLists, CountUpTo, Stands, ArePieces, AreRows, AreOfRun, AreOf, total, ReadsList, CanReadList};
+ghost use Rattle.hash_agg.specs.Passes.{Piece, entries_of, HasPlace, IsPlan, IsSameTable, standing, setting_of, Holds, Reads, CanRead, AreSafe, Proceeds, Brings, KeepsLists, CountUpTo, Stands, ArePieces, AreRows, AreOfRun, AreOf, total, ReadsList, CanReadList};
+ghost use Rattle.hash_agg.specs.Waiting.{AddsUp, pass_cost};
 
 use crate::groups::Groups;
 use crate::input::Input;
 use crate::plan::Plan;
 use crate::record::{GROUP, ROW, split_group, write_group};
 use crate::run::Run;
+use crate::work::Work;
 use agg_protocol::BadState;
 use flat_rows::PackedRows;
 use group_table::KeyHash;
@@ -64,15 +68,17 @@ impl<H: KeyHash + Drop> Pass<H> {
         hash: H,
         disk: &D,
     ) -> Result<Pass<H>, AllocError>
-        requires short { length plan.now.first.items ≤ 65535 }
+        requires plan { IsPlan plan.now }
         ensures empty { IfOk result (λ pass. entries_of pass.groups ≡ []) }
         ensures width { IfOk result (λ pass. pass.groups.table.width ≡ length plan.now.first.items) }
         ensures hash { IfOk result (λ pass. pass.groups.table.hash ≡ hash) }
+        ensures held { IfOk result (λ pass. pass.groups.most_held ≡ 0) }
         ensures alive { IfOk result (λ pass. pass.lists.tapes.is_dead ≡ false) }
         ensures none { IfOk result (λ pass. HasLists (D.last disk.now) pass.lists [] [] []) }
         ensures parts { IfOk result (λ pass. pass.lists.parts ≡ []) }
         ensures source { IfOk result (λ pass. pass.lists.source ≡ []) }
         ensures todo { IfOk result (λ pass. pass.lists.todo ≡ []) }
+        ensures level { IfOk result (λ pass. pass.lists.level ≡ 0) }
     {
         let groups = Groups::new(alloc, plan.first.len() as u32, hash)?;
         Ok(Pass {
@@ -81,14 +87,22 @@ impl<H: KeyHash + Drop> Pass<H> {
         })
     }
 
-    /// Whether a group that isn't there enters the table.
-    fn takes(&self, plan: &Plan<'_>, key: &[u8]) -> bool
-        requires { length key.now ≤ 65535 }
-        ensures none { IsTrue result → self.now.lists.parts ≡ [] }
-        ensures few { IsTrue result → HasPlace self.now.groups }
-        ensures first { entries_of self.now.groups ≡ [] → self.now.lists.parts ≡ [] → result ≡ true }
+    /// How many bytes of blocks the table holds at most while a group that isn't there enters it, if it may enter.
+    fn room_for(&self, plan: &Plan<'_>, key: &[u8]) -> Option<u64>
+        requires plan { IsPlan plan.now }
+        requires width { self.now.groups.table.width ≡ length plan.now.first.items }
+        requires key { length key.now ≤ 8192 }
+        ensures none { IfSome result (λ need. self.now.lists.parts ≡ []) }
+        ensures few { IfSome result (λ need. HasPlace self.now.groups) }
+        ensures within { IfSome result (λ need. need ≤ plan.now.limit) }
+        ensures exact { (hash : List ℕ → ℕ) → is_some result ≡ (is_empty self.now.lists.parts && fits (setting_of plan.now hash) (packed_keys (entries_of self.now.groups) ++ key.now ∷ [])) }
+        ensures needed { IfSome result (λ bytes. bytes ≡ need self.now.groups.table.width (packed_keys (entries_of self.now.groups) ++ key.now ∷ [])) }
+        ensures first { entries_of self.now.groups ≡ [] → self.now.lists.parts ≡ [] → is_some result ≡ true }
     {
-        self.lists.is_empty() && self.groups.has_room(key, plan.limit)
+        if !self.lists.is_empty() {
+            return None;
+        }
+        self.groups.need_within(key, plan.limit)
     }
 
     /// Reads a row that WHERE keeps, whose packed key this is. What `states` holds doesn't matter.
@@ -111,7 +125,7 @@ impl<H: KeyHash + Drop> Pass<H> {
         ensures undamaged { IfErr result (λ error. CanRead plan.now (H.hash_of self.old.groups.table.hash) (AreRows (meaning plan.now.query.now) (packed.now ∷ [])) (standing self.old.groups self.old.lists (D.last disk.old)) → error ≢ TapeDamaged) }
         ensures safe { OnOk result (AreSafe (meaning plan.now.query.now) plan.now.most (entries_of self.old.groups) → AreSafe (meaning plan.now.query.now) plan.now.most (entries_of self.new.groups)) }
         ensures proceeds { OnOk result (Proceeds (entries_of self.old.groups) self.old.lists (entries_of self.new.groups) self.new.lists) }
-        ensures table { IsSameTable self.old.groups self.new.groups }
+        ensures table { IsSameTable plan.now.limit self.old.groups self.new.groups }
         ensures lists { KeepsLists self.old.lists self.new.lists }
         ensures alive { OnOk result (self.new.lists.tapes.is_dead ≡ false) }
         ensures refused { IfErr result (IsReadRefusal (D.failures disk.old) (D.failures disk.new)) }
@@ -123,9 +137,9 @@ impl<H: KeyHash + Drop> Pass<H> {
                 Err(BadState) => Err(SpillError::TapeDamaged),
             };
         }
-        if self.takes(plan, key) {
+        if let Some(need) = self.room_for(plan, key) {
             plan.first_after(row, states)?;
-            self.groups.enter(key, states)?;
+            self.groups.enter(key, states, need)?;
             return Ok(());
         }
         let hash = self.groups.hash(key);
@@ -149,7 +163,7 @@ impl<H: KeyHash + Drop> Pass<H> {
         ensures undamaged { IfErr result (λ error. (m : ℕ) → CanRead plan.now (H.hash_of self.old.groups.table.hash) (AreOfRun (meaning plan.now.query.now) m ((key.now, states.now) ∷ [])) (standing self.old.groups self.old.lists (D.last disk.old)) → error ≢ TapeDamaged) }
         ensures safe { OnOk result (AreSafe (meaning plan.now.query.now) plan.now.most (entries_of self.old.groups) → AreSafe (meaning plan.now.query.now) plan.now.most (entries_of self.new.groups)) }
         ensures proceeds { OnOk result (Proceeds (entries_of self.old.groups) self.old.lists (entries_of self.new.groups) self.new.lists) }
-        ensures table { IsSameTable self.old.groups self.new.groups }
+        ensures table { IsSameTable plan.now.limit self.old.groups self.new.groups }
         ensures lists { KeepsLists self.old.lists self.new.lists }
         ensures alive { OnOk result (self.new.lists.tapes.is_dead ≡ false) }
         ensures refused { IfErr result (IsReadRefusal (D.failures disk.old) (D.failures disk.new)) }
@@ -161,8 +175,8 @@ impl<H: KeyHash + Drop> Pass<H> {
                 Err(BadState) => Err(SpillError::TapeDamaged),
             };
         }
-        if self.takes(plan, key) {
-            self.groups.enter(key, states)?;
+        if let Some(need) = self.room_for(plan, key) {
+            self.groups.enter(key, states, need)?;
             return Ok(());
         }
         let hash = self.groups.hash(key);
@@ -186,7 +200,7 @@ impl<H: KeyHash + Drop> Pass<H> {
         ensures undamaged { IfErr result (λ error. CanRead plan.now (H.hash_of self.old.groups.table.hash) (AreRows (meaning plan.now.query.now) (packed.now ∷ [])) (standing self.old.groups self.old.lists (D.last disk.old)) → error ≢ TapeDamaged) }
         ensures safe { OnOk result (AreSafe (meaning plan.now.query.now) plan.now.most (entries_of self.old.groups) → AreSafe (meaning plan.now.query.now) plan.now.most (entries_of self.new.groups)) }
         ensures brings { OnOk result (Brings (meaning plan.now.query.now) (AreRows (meaning plan.now.query.now) (packed.now ∷ [])) (entries_of self.old.groups) self.old.lists (entries_of self.new.groups) self.new.lists) }
-        ensures table { IsSameTable self.old.groups self.new.groups }
+        ensures table { IsSameTable plan.now.limit self.old.groups self.new.groups }
         ensures lists { KeepsLists self.old.lists self.new.lists }
         ensures alive { OnOk result (self.new.lists.tapes.is_dead ≡ false) }
         ensures refused { IfErr result (IsReadRefusal (D.failures disk.old) (D.failures disk.new)) }
@@ -216,7 +230,7 @@ impl<H: KeyHash + Drop> Pass<H> {
         ensures undamaged { IfErr result (λ error. CanRead plan.now (H.hash_of self.old.groups.table.hash) (ArePieces (meaning plan.now.query.now) (H.hash_of self.old.groups.table.hash) (record { hash = hash; tag = 0; bytes = packed.now } ∷ [])) (standing self.old.groups self.old.lists (D.last disk.old)) → error ≢ TapeDamaged) }
         ensures safe { OnOk result (AreSafe (meaning plan.now.query.now) plan.now.most (entries_of self.old.groups) → AreSafe (meaning plan.now.query.now) plan.now.most (entries_of self.new.groups)) }
         ensures proceeds { OnOk result (Proceeds (entries_of self.old.groups) self.old.lists (entries_of self.new.groups) self.new.lists) }
-        ensures table { IsSameTable self.old.groups self.new.groups }
+        ensures table { IsSameTable plan.now.limit self.old.groups self.new.groups }
         ensures lists { KeepsLists self.old.lists self.new.lists }
         ensures alive { OnOk result (self.new.lists.tapes.is_dead ≡ false) }
         ensures refused { IfErr result (IsReadRefusal (D.failures disk.old) (D.failures disk.new)) }
@@ -250,7 +264,7 @@ impl<H: KeyHash + Drop> Pass<H> {
         ensures undamaged { IfErr result (λ error. CanRead plan.now (H.hash_of self.old.groups.table.hash) (ArePieces (meaning plan.now.query.now) (H.hash_of self.old.groups.table.hash) (record { hash = hash; tag = 1; bytes = bytes.now } ∷ [])) (standing self.old.groups self.old.lists (D.last disk.old)) → error ≢ TapeDamaged) }
         ensures safe { OnOk result (AreSafe (meaning plan.now.query.now) plan.now.most (entries_of self.old.groups) → AreSafe (meaning plan.now.query.now) plan.now.most (entries_of self.new.groups)) }
         ensures proceeds { OnOk result (Proceeds (entries_of self.old.groups) self.old.lists (entries_of self.new.groups) self.new.lists) }
-        ensures table { IsSameTable self.old.groups self.new.groups }
+        ensures table { IsSameTable plan.now.limit self.old.groups self.new.groups }
         ensures lists { KeepsLists self.old.lists self.new.lists }
         ensures alive { OnOk result (self.new.lists.tapes.is_dead ≡ false) }
         ensures refused { IfErr result (IsReadRefusal (D.failures disk.old) (D.failures disk.new)) }
@@ -285,7 +299,7 @@ impl<H: KeyHash + Drop> Pass<H> {
         ensures undamaged { IfErr result (λ error. CanRead plan.now (H.hash_of self.old.groups.table.hash) (ArePieces (meaning plan.now.query.now) (H.hash_of self.old.groups.table.hash) (record { hash = hash; tag = tag; bytes = bytes.now } ∷ [])) (standing self.old.groups self.old.lists (D.last disk.old)) → error ≢ TapeDamaged) }
         ensures safe { OnOk result (AreSafe (meaning plan.now.query.now) plan.now.most (entries_of self.old.groups) → AreSafe (meaning plan.now.query.now) plan.now.most (entries_of self.new.groups)) }
         ensures proceeds { OnOk result (Proceeds (entries_of self.old.groups) self.old.lists (entries_of self.new.groups) self.new.lists) }
-        ensures table { IsSameTable self.old.groups self.new.groups }
+        ensures table { IsSameTable plan.now.limit self.old.groups self.new.groups }
         ensures lists { KeepsLists self.old.lists self.new.lists }
         ensures alive { OnOk result (self.new.lists.tapes.is_dead ≡ false) }
         ensures refused { IfErr result (IsReadRefusal (D.failures disk.old) (D.failures disk.new)) }
@@ -314,7 +328,7 @@ impl<H: KeyHash + Drop> Pass<H> {
         ensures undamaged { IfErr result (λ error. CanRead plan.now (H.hash_of self.old.groups.table.hash) (AreRows (meaning plan.now.query.now) (bytes_of rows.now)) (standing self.old.groups self.old.lists (D.last disk.old)) → error ≢ TapeDamaged) }
         ensures safe { OnOk result (AreSafe (meaning plan.now.query.now) plan.now.most (entries_of self.old.groups) → AreSafe (meaning plan.now.query.now) plan.now.most (entries_of self.new.groups)) }
         ensures brings { OnOk result (Brings (meaning plan.now.query.now) (AreRows (meaning plan.now.query.now) (bytes_of rows.now)) (entries_of self.old.groups) self.old.lists (entries_of self.new.groups) self.new.lists) }
-        ensures table { IsSameTable self.old.groups self.new.groups }
+        ensures table { IsSameTable plan.now.limit self.old.groups self.new.groups }
         ensures lists { KeepsLists self.old.lists self.new.lists }
         ensures alive { OnOk result (self.new.lists.tapes.is_dead ≡ false) }
         ensures refused { IfErr result (IsReadRefusal (D.failures disk.old) (D.failures disk.new)) }
@@ -342,7 +356,7 @@ impl<H: KeyHash + Drop> Pass<H> {
         ensures undamaged { IfErr result (λ error. CanRead plan.now (H.hash_of self.old.groups.table.hash) (AreRows (meaning plan.now.query.now) rows.now) (standing self.old.groups self.old.lists (D.last disk.old)) → error ≢ TapeDamaged) }
         ensures safe { OnOk result (AreSafe (meaning plan.now.query.now) plan.now.most (entries_of self.old.groups) → AreSafe (meaning plan.now.query.now) plan.now.most (entries_of self.new.groups)) }
         ensures brings { OnOk result (Brings (meaning plan.now.query.now) (AreRows (meaning plan.now.query.now) rows.now) (entries_of self.old.groups) self.old.lists (entries_of self.new.groups) self.new.lists) }
-        ensures table { IsSameTable self.old.groups self.new.groups }
+        ensures table { IsSameTable plan.now.limit self.old.groups self.new.groups }
         ensures lists { KeepsLists self.old.lists self.new.lists }
         ensures alive { OnOk result (self.new.lists.tapes.is_dead ≡ false) }
         ensures refused { IfErr result (IsReadRefusal (D.failures disk.old) (D.failures disk.new)) }
@@ -370,7 +384,7 @@ impl<H: KeyHash + Drop> Pass<H> {
         ensures undamaged { IfErr result (λ error. (m : ℕ) → CanRead plan.now (H.hash_of self.old.groups.table.hash) (AreOfRun (meaning plan.now.query.now) m run.now) (standing self.old.groups self.old.lists (D.last disk.old)) → error ≢ TapeDamaged) }
         ensures safe { OnOk result (AreSafe (meaning plan.now.query.now) plan.now.most (entries_of self.old.groups) → AreSafe (meaning plan.now.query.now) plan.now.most (entries_of self.new.groups)) }
         ensures brings { OnOk result ((m : ℕ) → Brings (meaning plan.now.query.now) (AreOfRun (meaning plan.now.query.now) m run.now) (entries_of self.old.groups) self.old.lists (entries_of self.new.groups) self.new.lists) }
-        ensures table { IsSameTable self.old.groups self.new.groups }
+        ensures table { IsSameTable plan.now.limit self.old.groups self.new.groups }
         ensures lists { KeepsLists self.old.lists self.new.lists }
         ensures alive { OnOk result (self.new.lists.tapes.is_dead ≡ false) }
         ensures refused { IfErr result (IsReadRefusal (D.failures disk.old) (D.failures disk.new)) }
@@ -401,7 +415,7 @@ impl<H: KeyHash + Drop> Pass<H> {
         ensures undamaged { IfErr result (λ error. CanRead plan.now (H.hash_of self.old.groups.table.hash) (AreOf (meaning plan.now.query.now) (brought input.entry)) (standing self.old.groups self.old.lists (D.last disk.old)) → error ≢ TapeDamaged) }
         ensures safe { OnOk result (AreSafe (meaning plan.now.query.now) plan.now.most (entries_of self.old.groups) → AreSafe (meaning plan.now.query.now) plan.now.most (entries_of self.new.groups)) }
         ensures brings { OnOk result (Brings (meaning plan.now.query.now) (AreOf (meaning plan.now.query.now) (brought input.entry)) (entries_of self.old.groups) self.old.lists (entries_of self.new.groups) self.new.lists) }
-        ensures table { IsSameTable self.old.groups self.new.groups }
+        ensures table { IsSameTable plan.now.limit self.old.groups self.new.groups }
         ensures lists { KeepsLists self.old.lists self.new.lists }
         ensures alive { OnOk result (self.new.lists.tapes.is_dead ≡ false) }
         ensures refused { IfErr result (IsReadRefusal (D.failures disk.old) (D.failures disk.new)) }
@@ -433,7 +447,7 @@ impl<H: KeyHash + Drop> Pass<H> {
         ensures safe { OnOk result (AreSafe (meaning plan.now.query.now) plan.now.most (entries_of self.new.groups)) }
         ensures few { OnOk result (total (entries_of self.new.groups) self.new.lists ≤ ahead_number self.old.lists) }
         ensures fewer { OnOk result (0 < ahead_number self.old.lists → spilled_number self.new.lists < ahead_number self.old.lists) }
-        ensures table { IsSameTable self.old.groups self.new.groups }
+        ensures table { IsSameTable plan.now.limit self.old.groups self.new.groups }
         ensures source { OnOk result (self.new.lists.source ≡ []) }
         ensures todo { self.new.lists.todo ≡ self.old.lists.todo }
         ensures level { self.new.lists.level ≡ self.old.lists.level }
@@ -448,24 +462,33 @@ impl<H: KeyHash + Drop> Pass<H> {
     }
 
     /// Ends the pass: its groups become a run, the next pass begins with none, and what was spilled is left to later passes.
+    /// The pass, what it spilled and what its table held are counted in `work`.
     pub(crate) fn finish<D: TapeDisk>(
         &mut self,
         alloc: Global,
         disk: &mut D,
+        work: &mut Work,
     ) -> Result<Run, SpillError>
         requires alive { self.old.lists.tapes.is_dead ≡ false }
         ensures run { IfOk result (λ run. IsPermutation (entries_of self.old.groups) run) }
         ensures rises { IfOk result Rises }
         ensures emptied { OnOk result (entries_of self.new.groups ≡ []) }
+        ensures unheld { OnOk result (self.new.groups.most_held ≡ 0) }
         ensures left { OnOk result ((spilled ahead : List Record) (todo : List LeftList) → HasLists (D.last disk.old) self.old.lists spilled ahead todo → HasLists (D.last disk.new) self.new.lists [] ahead (todo ++ left_by self.old.lists.level spilled)) }
         ensures parts { OnOk result (self.new.lists.parts ≡ []) }
         ensures waiting { OnOk result (waiting_number self.new.lists ≡ waiting_number self.old.lists + spilled_number self.old.lists) }
         ensures source { self.new.lists.source ≡ self.old.lists.source }
-        ensures table { IsSameTable self.old.groups self.new.groups }
+        ensures table { (limit : ℕ) → IsSameTable limit self.old.groups self.new.groups }
+        ensures counted { 1 ≤ work.new.passes }
+        ensures held { work.new.most_held ≡ max work.old.most_held self.old.groups.most_held }
+        ensures adds { (spilled ahead : List Record) (todo : List LeftList) (pages : ℕ) → HasLists (D.last disk.old) self.old.lists spilled ahead todo → AddsUp work.old (pass_cost self.old.groups.table.width (entries_of self.old.groups) (length spilled) pages) work.new }
         ensures alive { OnOk result (self.new.lists.tapes.is_dead ≡ false) }
         ensures refused { IfErr result (IsSpillRefusal (D.failures disk.old) (D.failures disk.new)) }
         ensures disk { Moves (D.failures disk.old) (D.failures disk.new) (D.writes disk.old) (D.writes disk.new) (D.honest disk.old) (D.honest disk.new) }
     {
+        work.passes = work.passes.saturating_add(1);
+        work.spilled = work.spilled.saturating_add(self.lists.spilled(disk));
+        work.most_held = work.most_held.max(self.groups.most_held());
         let run = self.groups.sorted(alloc)?;
         self.groups.clear();
         self.lists.end_pass(disk)?;

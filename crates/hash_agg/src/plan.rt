@@ -73,10 +73,11 @@ impl<'a> Plan<'a> {
         limit: u64,
     ) -> Result<Plan<'a>, AllocError>
         requires most { most ≤ most_rows }
+        requires limit { 32768 ≤ limit }
         ensures plan { IfOk result IsPlan }
         ensures query { IfOk result (λ plan. plan.query.now ≡ query.now) }
         ensures most { IfOk result (λ plan. plan.most ≡ most) }
-        ensures short { IfOk result (λ plan. length plan.first.items ≤ 65535) }
+        ensures limit { IfOk result (λ plan. plan.limit ≡ limit) }
     {
         let _schema = query.schema();
         let first = first_states(alloc, query)?;

@@ -2,18 +2,22 @@ use Rattle.std.specs.Prelude.{◌≡◌, ◌≤◌, ℕ, List, [], length, map, 
 use Rattle.std.specs.List.Sorted.{IsPermutation}
 use Rattle.std.proofs.Common.{sym, ◌∙◌, ap, subst, arith}
 use Rattle.std.proofs.lemmas.List.{length-map, take_all}
+use Rattle.aggregation_cost.specs.Space.{Setting}
 use Rattle.grouping_model.specs.Query.{Query}
 use Rattle.having_filter.specs.Meaning.{meaning}
 use Rattle.hash_agg.specs.Runs.{Rises}
 use Rattle.hash_agg.specs.Inputs.{Brought, brought, IsInput}
-use Rattle.hash_agg.specs.Passes.{PassState, standing, entries_of, AreOf, AreSafe, Holds, total, all_pieces, brought_by}
+use Rattle.hash_agg.specs.Passes.{PassState, standing, setting_of, entries_of, AreOf, AreSafe, Holds, total, all_pieces, brought_by}
+use Rattle.hash_agg.specs.Waiting.{AddsUp, pass_cost}
+use Rattle.hash_agg.proofs.FitLaws.{all_fit}
 use Rattle.hash_agg.proofs.KeyLaws.{if_ok, if_ok_both}
 use Rattle.hash_agg.proofs.StateLaws.{all_at}
-use Rattle.hash_agg.proofs.StepLaws.{err_out, get_in}
+use Rattle.hash_agg.proofs.StepLaws.{on_ok, err_out, get_in}
+use Rattle.hash_agg.proofs.NeedLaws.{none_held, held_by_both}
 use Rattle.hash_agg.proofs.UnionLaws.{none_safe, safe_moved}
 use Rattle.hash_agg.proofs.WholeLaws.{all_given, given_at, given_long, brought_at}
 use Rattle.hash_agg.proofs.DiskLaws.{moves_none, moves_twice}
-use Rattle.hash_agg.proofs.LoopLaws.{keeps_none, keeps_next, room_by, reads_by}
+use Rattle.hash_agg.proofs.LoopLaws.{same_table_twice, keeps_none, keeps_next, room_by, reads_by}
 use Rattle.hash_agg.proofs.CountLaws.{can_read_input, input_read, input_brings}
 use Rattle.hash_agg.proofs.FirstLaws.{if_ok_on, input_few, first_holds, first_total, first_waits, first_few}
 use Rattle.hash_agg.proofs.aggregation.first_pass.Goals as goal
@@ -22,9 +26,9 @@ pub loop-input-init : goal.loop-input-init
 loop-input-init g c =
     let q : Query = meaning c.args.plan.now.query.now in
     record {
-      reads = λ givens give. first_holds q (g.H.KeyHash.hash_of c.args.pass.now.groups.table.hash) (standing c.args.pass.now.groups c.args.pass.now.lists (g.D.TapeDisk.last c.args.disk.now)) c.requires.empty c.requires.none;
+      reads = λ givens give. first_holds q (setting_of c.args.plan.now (g.H.KeyHash.hash_of c.args.pass.now.groups.table.hash)) (standing c.args.pass.now.groups c.args.pass.now.lists (g.D.TapeDisk.last c.args.disk.now)) c.requires.empty c.requires.parts c.requires.none;
       brings = λ givens give. first_total (entries_of c.args.pass.now.groups) c.args.pass.now.lists c.requires.empty c.requires.parts;
-      keeps = keeps_none q c.args.plan.now.most c.args.pass.now.groups c.args.pass.now.lists c.requires.alive;
+      keeps = keeps_none q c.args.plan.now.most c.args.plan.now.limit c.args.pass.now.groups c.args.pass.now.lists c.requires.alive;
       disk = moves_none (g.D.TapeDisk.failures c.args.disk.now) (g.D.TapeDisk.writes c.args.disk.now) (g.D.TapeDisk.honest c.args.disk.now);
     }
 
@@ -85,7 +89,7 @@ loop-input-preserved g c =
       brings = λ givens give.
           let found = given_at q inputs givens i input give here.1 here.0 in
           input_brings q inputs givens i input now.entries next.entries now.lists next.lists at found done.brings (c.loop-input.invariant.brings givens give);
-      keeps = keeps_next q c.args.plan.now.most c.args.pass.now.groups c.loop-input.pass.groups c.add_input.new.self.groups c.args.pass.now.lists now.lists next.lists c.loop-input.invariant.keeps done.safe done.table done.lists done.alive;
+      keeps = keeps_next q c.args.plan.now.most c.args.plan.now.limit c.args.pass.now.groups c.loop-input.pass.groups c.add_input.new.self.groups c.args.pass.now.lists now.lists next.lists c.loop-input.invariant.keeps done.safe done.table done.lists done.alive;
       disk = moves_twice (g.D.TapeDisk.failures c.args.disk.now) (g.D.TapeDisk.failures c.loop-input.disk) (g.D.TapeDisk.failures c.add_input.new.disk) (g.D.TapeDisk.writes c.args.disk.now) (g.D.TapeDisk.writes c.loop-input.disk) (g.D.TapeDisk.writes c.add_input.new.disk)
           (g.D.TapeDisk.honest c.args.disk.now) (g.D.TapeDisk.honest c.loop-input.disk) (g.D.TapeDisk.honest c.add_input.new.disk) c.loop-input.invariant.disk c.add_input.ensures.disk;
     }
@@ -99,12 +103,16 @@ returns-clause-waits g c =
     let past = c.loop-input-test.false in
     let long : length inputs ≡ length c.args.inputs.now = length-map c.args.inputs.now brought in
     let now : PassState = standing c.loop-input.pass.groups c.loop-input.pass.lists (g.D.TapeDisk.last c.loop-input.disk) in
+    let set : Setting = setting_of c.args.plan.now hf in
+    let wide : c.loop-input.pass.groups.table.width ≡ set.width = c.loop-input.invariant.keeps.table.width ∙ c.requires.width in
     if_ok_on c.finish.result (λ run. IsPermutation now.entries run × Rises run) _
     (λ run made left givens give.
     let many : length inputs ≡ length givens = given_long q inputs givens give in
     let all_of : all_pieces (take i inputs) (take i givens) ≡ all_pieces inputs givens = λ j. all_pieces (take_all i inputs (omega (arith, past, long)) j) (take_all i givens (omega (arith, past, long, many)) j) in
-    first_waits q hf (all_pieces inputs givens) now run c.finish.new.self.lists (g.D.TapeDisk.last c.finish.new.disk) made.0 made.1 left
-    (subst (λ pieces. Holds q hf now pieces [] []) all_of (c.loop-input.invariant.reads givens give)))
+    first_waits q set (all_pieces inputs givens) now run c.finish.new.self.lists (g.D.TapeDisk.last c.finish.new.disk) c.args.work.now c.finish.new.work made.0 made.1 (c.loop-input.invariant.keeps.lists.level ∙ c.requires.level)
+    (all_fit q set inputs givens c.requires.plan.formed c.requires.plan.limit c.requires.plan.narrow give) left
+    (λ spilled ahead todo pages has. subst (λ width. AddsUp c.args.work.now (pass_cost width now.entries (length spilled) pages) c.finish.new.work) wide (c.finish.ensures.adds spilled ahead todo pages has))
+    (subst (λ pieces. Holds q set now pieces [] []) all_of (c.loop-input.invariant.reads givens give)))
     (if_ok_both c.finish.result (IsPermutation now.entries) Rises _ (λ run moved rises. (moved, rises)) c.finish.ensures.run c.finish.ensures.rises)
     c.finish.ensures.left
 
@@ -131,3 +139,12 @@ returns-clause-few g c =
     first_few (entries_of c.loop-input.pass.groups) run c.loop-input.pass.lists c.finish.new.self.lists (brought_by q (all_pieces inputs givens)) moved waiting (c.loop-input.invariant.keeps.lists.todo ∙ c.requires.todo)
     (subst (λ pieces. total (entries_of c.loop-input.pass.groups) c.loop-input.pass.lists ≤ brought_by q pieces) all_of (c.loop-input.invariant.brings givens give)))
     c.finish.ensures.run c.finish.ensures.waiting
+
+pub returns-clause-held : goal.returns-clause-held
+returns-clause-held g c =
+    on_ok c.finish.result
+    (λ done within. held_by_both c.args.plan.now.limit _ _ _ c.finish.ensures.held within (c.loop-input.invariant.keeps.table.within (none_held c.args.plan.now.limit _ c.requires.unheld)))
+    c.finish.ensures.emptied
+
+pub returns-clause-table : goal.returns-clause-table
+returns-clause-table g c = same_table_twice c.args.pass.now.groups c.loop-input.pass.groups c.finish.new.self.groups c.loop-input.invariant.keeps.table (c.finish.ensures.table c.args.plan.now.limit)

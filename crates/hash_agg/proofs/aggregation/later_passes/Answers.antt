@@ -7,13 +7,15 @@ use Rattle.grouping_model.specs.Query.{Query}
 use Rattle.spill_lists.specs.Standing.{count_of, waiting_number}
 use Rattle.having_filter.specs.Meaning.{meaning}
 use Rattle.hash_agg.specs.Runs.{Entry}
-use Rattle.hash_agg.specs.Passes.{AreOnce, AreSafe, ReadsList, CanReadList, entries_of, standing, all_in}
+use Rattle.hash_agg.specs.Passes.{AreOnce, AreSafe, setting_of, ReadsList, CanReadList, entries_of, standing, all_in}
+use Rattle.hash_agg.specs.Waiting.{AddsUp, pass_cost}
 use Rattle.hash_agg.proofs.DiskLaws.{moves_none, moves_twice}
 use Rattle.hash_agg.proofs.SortLaws.{rises_once}
 use Rattle.hash_agg.proofs.UnionLaws.{one_run_more, safe_append, safe_moved, moved_stands}
 use Rattle.hash_agg.proofs.KeyLaws.{if_ok}
 use Rattle.hash_agg.proofs.StepLaws.{err_out, on_error}
-use Rattle.hash_agg.proofs.LaterLaws.{IsWaiting, pass_can, pass_made, waiting_ends}
+use Rattle.hash_agg.proofs.NeedLaws.{none_held, held_by_both}
+use Rattle.hash_agg.proofs.LaterLaws.{IsWaiting, waiting_begins, pass_can, pass_made, waiting_ends}
 use Rattle.hash_agg.proofs.aggregation.later_passes.Goals as goal
 
 pub loop-pass-init : goal.loop-pass-init
@@ -27,14 +29,17 @@ loop-pass-init g c =
       hash = refl;
       alive = c.requires.alive;
       empty = c.requires.empty;
+      unheld = c.requires.unheld;
+      counted = c.requires.counted;
+      held = λ is. is;
       parts = c.requires.parts;
       source = c.requires.source;
       moves = moves_none (g.D.TapeDisk.failures c.args.disk.now) (g.D.TapeDisk.writes c.args.disk.now) (g.D.TapeDisk.honest c.args.disk.now);
       safe = subst (AreSafe q c.args.plan.now.most) (sym one) c.requires.safe;
       few = omega (arith, long);
-      waits = λ honest pieces todo has waits count.
-          subst (λ es. IsWaiting q hf pieces es c.args.pass.now.lists (g.D.TapeDisk.last c.args.disk.now)) (sym one)
-          (record { todo = todo; has = has; waits = waits; once = rises_once c.args.run c.requires.rises });
+      waits = λ honest pieces todo made has waits count costs.
+          subst (λ es. IsWaiting q (setting_of c.args.plan.now hf) pieces es c.args.pass.now.lists (g.D.TapeDisk.last c.args.disk.now) made c.args.work.now c.args.work.now) (sym one)
+          (waiting_begins q (setting_of c.args.plan.now hf) pieces c.args.run c.args.pass.now.lists (g.D.TapeDisk.last c.args.disk.now) made todo c.args.work.now has waits (rises_once c.args.run c.requires.rises) costs);
     }
 
 pub returns-in_err-add_list-clause-undamaged : goal.returns-in_err-add_list-clause-undamaged
@@ -42,10 +47,10 @@ returns-in_err-add_list-clause-undamaged g c =
     let hf : List ℕ → ℕ = g.H.KeyHash.hash_of c.args.pass.now.groups.table.hash in
     let i = c.loop-pass.invariant in
     err_out c.from_residual-in_err-add_list.result c.in_err-add_list.field-0.0 _ c.from_residual-in_err-add_list.ensures.1
-    (λ honest pieces todo has waits count.
+    (λ honest pieces todo made has waits count costs.
     c.in_err-add_list.ensures.undamaged (subst IsTrue (sym i.moves.honesty) honest)
     (subst (λ hash. CanReadList c.args.plan.now (g.H.KeyHash.hash_of hash) (standing c.loop-pass.pass.groups c.begin_pass.new.self (g.D.TapeDisk.last c.loop-pass.disk))) (sym i.hash)
-    (pass_can c.args.plan.now hf pieces (all_in c.loop-pass.runs.items) (entries_of c.loop-pass.pass.groups) c.loop-pass.pass.lists c.begin_pass.new.self (g.D.TapeDisk.last c.loop-pass.disk) (i.waits honest pieces todo has waits count) count
+    (pass_can c.args.plan.now hf pieces (all_in c.loop-pass.runs.items) (entries_of c.loop-pass.pass.groups) c.loop-pass.pass.lists c.begin_pass.new.self (g.D.TapeDisk.last c.loop-pass.disk) made c.args.work.now c.loop-pass.work (i.waits honest pieces todo made has waits count costs) count
     (c.begin_pass.ensures.begins c.loop-pass-test.true))))
 
 pub loop-pass-preserved : goal.loop-pass-preserved
@@ -65,10 +70,13 @@ loop-pass-preserved g c =
     let counted = c.begin_pass.ensures.counted in
     let before = i.few in
     record {
-      width = f.table.width ∙ a.table.width ∙ i.width;
-      hash = f.table.hash ∙ a.table.hash ∙ i.hash;
+      width = (f.table c.args.plan.now.limit).width ∙ a.table.width ∙ i.width;
+      hash = (f.table c.args.plan.now.limit).hash ∙ a.table.hash ∙ i.hash;
       alive = f.alive;
       empty = f.emptied;
+      unheld = f.unheld;
+      counted = f.counted;
+      held = λ within. held_by_both c.args.plan.now.limit _ _ _ f.held (i.held within) (a.table.within (none_held c.args.plan.now.limit _ i.unheld));
       parts = f.parts;
       source = f.source ∙ a.source;
       moves = moves_twice (g.D.TapeDisk.failures c.args.disk.now) (g.D.TapeDisk.failures c.add_list.new.disk) (g.D.TapeDisk.failures c.finish.new.disk) (g.D.TapeDisk.writes c.args.disk.now) (g.D.TapeDisk.writes c.add_list.new.disk) (g.D.TapeDisk.writes c.finish.new.disk) (g.D.TapeDisk.honest c.args.disk.now) (g.D.TapeDisk.honest c.add_list.new.disk) (g.D.TapeDisk.honest c.finish.new.disk)
@@ -76,14 +84,15 @@ loop-pass-preserved g c =
           c.finish.ensures.disk;
       safe = subst (AreSafe q c.args.plan.now.most) (sym more) (safe_append q c.args.plan.now.most (all_in c.loop-pass.runs.items) run i.safe (safe_moved q c.args.plan.now.most (entries_of c.add_list.new.self.groups) run a.safe f.run));
       few = omega (arith, both, many, made, left, same, counted, before);
-      waits = λ honest pieces todo has waits count.
-          subst (λ es. IsWaiting q hf pieces es c.finish.new.self.lists (g.D.TapeDisk.last c.finish.new.disk)) (sym more)
-          (pass_made c.args.plan.now hf pieces (all_in c.loop-pass.runs.items) (entries_of c.loop-pass.pass.groups) c.loop-pass.pass.lists c.begin_pass.new.self (g.D.TapeDisk.last c.loop-pass.disk) (i.waits honest pieces todo has waits count) count
+      waits = λ honest pieces todo made has waits count costs.
+          subst (λ es. IsWaiting q (setting_of c.args.plan.now hf) pieces es c.finish.new.self.lists (g.D.TapeDisk.last c.finish.new.disk) made c.args.work.now c.finish.new.work) (sym more)
+          (pass_made c.args.plan.now hf pieces (all_in c.loop-pass.runs.items) (entries_of c.loop-pass.pass.groups) c.loop-pass.pass.lists c.begin_pass.new.self (g.D.TapeDisk.last c.loop-pass.disk) made c.args.work.now c.loop-pass.work (i.waits honest pieces todo made has waits count costs) count
           (c.begin_pass.ensures.begins c.loop-pass-test.true)
-          c.add_list.new.self.lists c.finish.new.self.lists (g.D.TapeDisk.last c.add_list.new.disk) (g.D.TapeDisk.last c.finish.new.disk) (entries_of c.add_list.new.self.groups) run
+          c.add_list.new.self.lists c.finish.new.self.lists (g.D.TapeDisk.last c.add_list.new.disk) (g.D.TapeDisk.last c.finish.new.disk) (entries_of c.add_list.new.self.groups) run c.finish.new.work c.requires.plan.formed a.level
           (subst (λ hash. ReadsList c.args.plan.now (g.H.KeyHash.hash_of hash) (standing c.loop-pass.pass.groups c.begin_pass.new.self (g.D.TapeDisk.last c.loop-pass.disk)) (standing c.add_list.new.self.groups c.add_list.new.self.lists (g.D.TapeDisk.last c.add_list.new.disk))) i.hash
           (a.reads (subst IsTrue (sym i.moves.honesty) honest)))
-          f.run f.rises f.left);
+          f.run f.rises f.left
+          (λ spilled ahead todo pages has. subst (λ width. AddsUp c.loop-pass.work (pass_cost width (entries_of c.add_list.new.self.groups) (length spilled) pages) c.finish.new.work) (a.table.width ∙ i.width) (f.adds spilled ahead todo pages has)));
     }
 
 pub returns-clause-stands : goal.returns-clause-stands
@@ -92,10 +101,10 @@ returns-clause-stands g c =
     let hf : List ℕ → ℕ = g.H.KeyHash.hash_of c.args.pass.now.groups.table.hash in
     let i = c.loop-pass.invariant in
     if_ok c.united.result (IsPermutation (all_in c.deref.result.now)) _
-    (λ all moved honest pieces todo has waits count.
-    let w = i.waits honest pieces todo has waits count in
-    moved_stands q hf pieces (all_in c.loop-pass.runs.items) all [] (subst (λ (rs : List (List Entry)). IsPermutation (all_in rs) all) c.deref.ensures.value moved) w.once
-    (waiting_ends q hf pieces (all_in c.loop-pass.runs.items) c.loop-pass.pass.lists (g.D.TapeDisk.last c.loop-pass.disk) (c.begin_pass.ensures.none c.loop-pass-test.false) w))
+    (λ all moved honest pieces todo made has waits count costs.
+    let w = i.waits honest pieces todo made has waits count costs in
+    let e = waiting_ends q (setting_of c.args.plan.now hf) pieces (all_in c.loop-pass.runs.items) c.loop-pass.pass.lists (g.D.TapeDisk.last c.loop-pass.disk) made c.args.work.now c.loop-pass.work (c.begin_pass.ensures.none c.loop-pass-test.false) w in
+    (moved_stands q hf pieces (all_in c.loop-pass.runs.items) all [] (subst (λ (rs : List (List Entry)). IsPermutation (all_in rs) all) c.deref.ensures.value moved) w.once e.0, e.1, e.2, e.3))
     c.united.ensures.sorted
 
 pub returns-clause-safe : goal.returns-clause-safe
@@ -118,6 +127,6 @@ pub returns-clause-undamaged : goal.returns-clause-undamaged
 returns-clause-undamaged g c =
     let i = c.loop-pass.invariant in
     on_error c.united.result
-    (λ error right honest pieces todo has waits count.
-    right (subst (λ (rs : List (List Entry)). AreOnce (all_in rs)) (sym c.deref.ensures.value) (i.waits honest pieces todo has waits count).once))
+    (λ error right honest pieces todo made has waits count costs.
+    right (subst (λ (rs : List (List Entry)). AreOnce (all_in rs)) (sym c.deref.ensures.value) (i.waits honest pieces todo made has waits count costs).once))
     c.united.ensures.undamaged

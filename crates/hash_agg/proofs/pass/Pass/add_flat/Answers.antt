@@ -40,7 +40,7 @@ loop-place-preserved g c =
       reads = next_read c.args.plan.now hf (AreRows q c.args.rows.now) (AreRows q (c.row.result.now ∷ [])) old i now c.loop-place.invariant.reads at next
           (reads_by c.args.plan.now hf here (AreRows q (c.row.result.now ∷ [])) (ap g.H.KeyHash.hash_of c.loop-place.invariant.keeps.table.hash) now next done.reads);
       brings = next_brings q (AreRows q c.args.rows.now) (AreRows q (c.row.result.now ∷ [])) i old.entries now.entries next.entries old.lists now.lists next.lists at c.loop-place.invariant.brings done.brings;
-      keeps = keeps_next q c.args.plan.now.most c.args.self.now.groups c.loop-place.self.groups c.add_row.new.self.groups old.lists now.lists next.lists c.loop-place.invariant.keeps done.safe done.table done.lists done.alive;
+      keeps = keeps_next q c.args.plan.now.most c.args.plan.now.limit c.args.self.now.groups c.loop-place.self.groups c.add_row.new.self.groups old.lists now.lists next.lists c.loop-place.invariant.keeps done.safe done.table done.lists done.alive;
       disk = moves_twice (g.D.TapeDisk.failures c.args.disk.now) (g.D.TapeDisk.failures c.loop-place.disk) (g.D.TapeDisk.failures c.add_row.new.disk) (g.D.TapeDisk.writes c.args.disk.now) (g.D.TapeDisk.writes c.loop-place.disk) (g.D.TapeDisk.writes c.add_row.new.disk)
           (g.D.TapeDisk.honest c.args.disk.now) (g.D.TapeDisk.honest c.loop-place.disk) (g.D.TapeDisk.honest c.add_row.new.disk) c.loop-place.invariant.disk c.add_row.ensures.disk;
     }

@@ -8,7 +8,7 @@ use Rattle.group_table.specs.Table.{state_in}
 use Rattle.having_filter.specs.Meaning.{meaning}
 use Rattle.hash_agg.specs.Steps.{AreCombined}
 use Rattle.hash_agg.specs.Passes.{AreOfRun, group_record}
-use Rattle.hash_agg.proofs.StepLaws.{on_ok, key_short, group_short, same_wide, group_told, one_there, there_room, one_new, one_left, safe_there, safe_new, one_group, is_group_record}
+use Rattle.hash_agg.proofs.StepLaws.{on_ok, key_brief, key_short, group_short, same_wide, group_told, one_there, there_room, one_new, one_left, safe_there, safe_new, one_group, is_group_record, fit_told}
 use Rattle.hash_agg.proofs.pass.Pass.add_group.Goals as goal
 
 pub returns-in-Ok-clause-reads : goal.returns-in-Ok-clause-reads
@@ -34,10 +34,10 @@ returns-in-Err-clause-undamaged g c = λ m can same.
     let one = one_group q m c.args.key.now c.args.states.now room.0 room.1 in
     c.in-Err.ensures.refused (room.2, m, room.3, one.0.1, room.4, one.2.states, room.5)
 
-pub takes-requires : goal.takes-requires
-takes-requires g c =
+pub room_for-requires-clause-key : goal.room_for-requires-clause-key
+room_for-requires-clause-key g c =
     let group = c.requires.group in
-    key_short (meaning c.args.plan.now.query.now) c.args.key.now group.0.0 c.requires.plan.formed group.1.key group.1.of_kinds
+    key_brief (meaning c.args.plan.now.query.now) c.args.key.now group.0.0 c.requires.plan.formed group.1.key group.1.of_kinds
 
 pub enter-requires-clause-key : goal.enter-requires-clause-key
 enter-requires-clause-key g c =
@@ -50,16 +50,16 @@ enter-requires-clause-states g c =
     let group = c.requires.group in
     same_wide (functions q) c.args.plan.now.most 0 c.args.states.now c.args.plan.now.first.items group.0.1 (partials q []) group.1.states c.requires.plan.states ∙ sym c.requires.width
 
-pub returns-then-takes-clause-reads : goal.returns-then-takes-clause-reads
-returns-then-takes-clause-reads g c = λ m.
+pub returns-in-Some-room_for-clause-reads : goal.returns-in-Some-room_for-clause-reads
+returns-in-Some-room_for-clause-reads g c = λ m.
     let q : Query = meaning c.args.plan.now.query.now in
     one_new c.args.plan.now (g.H.KeyHash.hash_of c.args.self.now.groups.table.hash) c.args.self.now.groups c.args.self.now.lists (g.D.TapeDisk.last c.args.disk.now) c.args.key.now
     (AreOfRun q m ((c.args.key.now, c.args.states.now) ∷ [])) (λ old new. AreCombined (functions q) c.args.plan.now.most old c.args.states.now new) (group_told q c.args.plan.now.most m c.args.key.now c.args.states.now)
-    c.enter.new.self c.args.states.now c.in_default.ensures.found (c.if-takes.ensures.none refl) c.in_ok-enter.ensures.entered
+    c.enter.new.self c.args.states.now c.in_default.ensures.found c.in-Some-room_for.ensures.none (fit_told _ _ (c.in-Some-room_for.ensures.exact (g.H.KeyHash.hash_of c.args.self.now.groups.table.hash))) c.in_ok-enter.ensures.entered
     (λ more are low. (one_group q m c.args.key.now c.args.states.now more are).2.states)
 
-pub returns-then-takes-clause-safe : goal.returns-then-takes-clause-safe
-returns-then-takes-clause-safe g c =
+pub returns-in-Some-room_for-clause-safe : goal.returns-in-Some-room_for-clause-safe
+returns-in-Some-room_for-clause-safe g c =
     let q : Query = meaning c.args.plan.now.query.now in
     let group = c.requires.group in
     safe_new q c.args.plan.now.most c.args.self.now.groups c.enter.new.self c.args.key.now c.args.states.now group.0 group.1 c.in_ok-enter.ensures.entered
@@ -85,7 +85,7 @@ returns-clause-reads g c =
     (λ spills m.
     one_left c.args.plan.now hf c.args.self.now.groups c.args.self.now.lists (g.D.TapeDisk.last c.args.disk.now) c.args.key.now
     (AreOfRun q m ((c.args.key.now, c.args.states.now) ∷ [])) (λ old new. AreCombined (functions q) c.args.plan.now.most old c.args.states.now new) (group_told q c.args.plan.now.most m c.args.key.now c.args.states.now)
-    c.args.self.now.groups c.spill.new.self (g.D.TapeDisk.last c.spill.new.disk) one c.in_default.ensures.found refl
+    c.args.self.now.groups c.spill.new.self (g.D.TapeDisk.last c.spill.new.disk) one c.in_default.ensures.found (sym (c.in_default-room_for.ensures.exact hf)) refl
     (λ more are. is_group_record q hf m one c.args.key.now c.args.states.now (one_group q m c.args.key.now c.args.states.now more are).0 refl written c.hash-hash.ensures (one_group q m c.args.key.now c.args.states.now more are).2)
     spills)
     c.spill.ensures.spilled

@@ -18,7 +18,7 @@ loop-hash-init g c =
     let none = ap length c.requires.empty in
     let clear : spilled_number c.args.self.now.lists ≡ 0 = ap count_of c.requires.none in
     record {
-      table = record { width = refl; hash = refl };
+      table = record { width = refl; hash = refl; within = λ is. is };
       todo = refl;
       level = refl;
       alive = c.requires.alive;
@@ -26,7 +26,7 @@ loop-hash-init g c =
       safe = subst (AreSafe q c.args.plan.now.most) (sym c.requires.empty) (none_safe q c.args.plan.now.most);
       few = omega (arith, none, clear);
       spent = inl (c.requires.empty, c.requires.none, refl);
-      reads = λ honest records pieces todo has are count. reading_begins c.args.plan.now hf (standing c.args.self.now.groups c.args.self.now.lists (g.D.TapeDisk.last c.args.disk.now)) records pieces todo c.requires.empty has are;
+      reads = λ honest records pieces todo has are count. reading_begins c.args.plan.now hf (standing c.args.self.now.groups c.args.self.now.lists (g.D.TapeDisk.last c.args.disk.now)) records pieces todo c.requires.empty c.requires.none has are;
     }
 
 pub returns-in_err-hash-clause-undamaged : goal.returns-in_err-hash-clause-undamaged
@@ -48,7 +48,7 @@ loop-hash-preserved g c =
     let more = add.proceeds.few in
     let before = i.few in
     record {
-      table = record { width = add.table.width ∙ i.table.width; hash = add.table.hash ∙ i.table.hash };
+      table = record { width = add.table.width ∙ i.table.width; hash = add.table.hash ∙ i.table.hash; within = λ is. add.table.within (i.table.within is) };
       todo = add.lists.todo ∙ c.next.ensures.todo ∙ i.todo;
       level = add.lists.level ∙ c.next.ensures.level ∙ i.level;
       alive = add.alive;
@@ -59,7 +59,7 @@ loop-hash-preserved g c =
       few = omega (arith, counted, kept, same, more, before);
       spent = spent_next (ahead_number c.args.self.now.lists) (entries_of c.loop-hash.self.groups) (entries_of c.add_record.new.self.groups) c.loop-hash.self.lists c.next.new.self c.add_record.new.self.lists i.spent c.next.ensures.parts counted add.lists.source add.proceeds;
       reads = λ honest records pieces todo has are count.
-          reads_next c.args.plan.now hf pieces todo (entries_of c.loop-hash.self.groups) c.loop-hash.self.lists c.next.new.self (g.D.TapeDisk.last c.loop-hash.disk) (g.D.TapeDisk.last c.next.new.disk) c.in-Some.hash c.in-Some.tag c.next.new.bytes.items count
+          reads_next c.args.plan.now hf pieces todo (entries_of c.loop-hash.self.groups) c.loop-hash.self.lists c.next.new.self (g.D.TapeDisk.last c.loop-hash.disk) (g.D.TapeDisk.last c.next.new.disk) c.in-Some.hash c.in-Some.tag c.next.new.bytes.items count c.next.ensures.parts
           (λ spilled ahead todo had. subst (Gives (λ rest. HasLists (g.D.TapeDisk.last c.next.new.disk) c.next.new.self spilled rest todo) ahead c.next.new.bytes.items) c.in-Some.is (c.in_ok-hash.ensures.gives (subst IsTrue (sym i.moves.honesty) honest) spilled ahead todo had))
           (standing c.add_record.new.self.groups c.add_record.new.self.lists (g.D.TapeDisk.last c.add_record.new.disk))
           (subst (λ bytes. Reads c.args.plan.now hf (ArePieces q hf (record { hash = c.in-Some.hash; tag = c.in-Some.tag; bytes = bytes } ∷ [])) (standing c.loop-hash.self.groups c.next.new.self (g.D.TapeDisk.last c.next.new.disk)) (standing c.add_record.new.self.groups c.add_record.new.self.lists (g.D.TapeDisk.last c.add_record.new.disk))) c.deref.ensures.value
@@ -77,7 +77,7 @@ returns-in_err-add_record-clause-undamaged g c =
     c.in_err-add_record.ensures.undamaged
     (subst (λ hash. CanRead c.args.plan.now (g.H.KeyHash.hash_of hash) (ArePieces q (g.H.KeyHash.hash_of hash) (record { hash = c.in-Some.hash; tag = c.in-Some.tag; bytes = c.deref.result.now } ∷ [])) (standing c.loop-hash.self.groups c.next.new.self (g.D.TapeDisk.last c.next.new.disk))) (sym i.table.hash)
     (subst (λ bytes. CanRead c.args.plan.now hf (ArePieces q hf (record { hash = c.in-Some.hash; tag = c.in-Some.tag; bytes = bytes } ∷ [])) (standing c.loop-hash.self.groups c.next.new.self (g.D.TapeDisk.last c.next.new.disk))) (sym c.deref.ensures.value)
-    (can_read_next c.args.plan.now hf can.1 can.2 (entries_of c.loop-hash.self.groups) c.loop-hash.self.lists c.next.new.self (g.D.TapeDisk.last c.loop-hash.disk) (g.D.TapeDisk.last c.next.new.disk) c.in-Some.hash c.in-Some.tag c.next.new.bytes.items can.5
+    (can_read_next c.args.plan.now hf can.1 can.2 (entries_of c.loop-hash.self.groups) c.loop-hash.self.lists c.next.new.self (g.D.TapeDisk.last c.loop-hash.disk) (g.D.TapeDisk.last c.next.new.disk) c.in-Some.hash c.in-Some.tag c.next.new.bytes.items can.5 c.next.ensures.parts
     (λ spilled ahead todo had. subst (Gives (λ rest. HasLists (g.D.TapeDisk.last c.next.new.disk) c.next.new.self spilled rest todo) ahead c.next.new.bytes.items) c.in-Some.is (c.in_ok-hash.ensures.gives (subst IsTrue (sym i.moves.honesty) honest) spilled ahead todo had))
     (i.reads honest can.0 can.1 can.2 can.3 can.4 can.5)))))
 
@@ -85,6 +85,6 @@ pub returns-clause-reads : goal.returns-clause-reads
 returns-clause-reads g c = λ honest records pieces todo has are count.
     let i = c.loop-hash.invariant in
     let hf : List ℕ → ℕ = g.H.KeyHash.hash_of c.args.self.now.groups.table.hash in
-    reading_ends c.args.plan.now hf pieces todo (entries_of c.loop-hash.self.groups) c.loop-hash.self.lists c.next.new.self (g.D.TapeDisk.last c.loop-hash.disk) (g.D.TapeDisk.last c.next.new.disk) c.next.new.bytes.items
+    reading_ends c.args.plan.now hf pieces todo (entries_of c.loop-hash.self.groups) c.loop-hash.self.lists c.next.new.self (g.D.TapeDisk.last c.loop-hash.disk) (g.D.TapeDisk.last c.next.new.disk) c.next.new.bytes.items c.next.ensures.parts
     (λ spilled ahead todo had. subst (Gives (λ rest. HasLists (g.D.TapeDisk.last c.next.new.disk) c.next.new.self spilled rest todo) ahead c.next.new.bytes.items) c.in_default.is (c.in_ok-hash.ensures.gives (subst IsTrue (sym i.moves.honesty) honest) spilled ahead todo had))
     (i.reads honest records pieces todo has are count)

@@ -10,7 +10,7 @@ use Rattle.hash_agg.proofs.pass.Pass.add_list.Given as goal
 abbrev pub invariant-loop-hash : goal.invariant-loop-hash
 invariant-loop-hash g l =
     record {
-      table : IsSameTable l.initial.self.groups l.self.groups;
+      table : IsSameTable l.plan.limit l.initial.self.groups l.self.groups;
       todo : l.self.lists.todo ≡ l.initial.self.lists.todo;
       level : l.self.lists.level ≡ l.initial.self.lists.level;
       alive : l.self.lists.tapes.is_dead ≡ false;

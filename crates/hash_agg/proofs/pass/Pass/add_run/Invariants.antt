@@ -13,6 +13,6 @@ invariant-loop-place g l =
           → ReadsSome l.plan (g.H.KeyHash.hash_of l.fn.self.groups.table.hash) (AreOfRun (meaning l.plan.query.now) m l.run) l.place
           (standing l.fn.self.groups l.fn.self.lists (g.D.TapeDisk.last l.fn.disk)) (standing l.self.groups l.self.lists (g.D.TapeDisk.last l.disk));
       brings : (m : ℕ) → BringsSome (meaning l.plan.query.now) (AreOfRun (meaning l.plan.query.now) m l.run) l.place (entries_of l.fn.self.groups) l.fn.self.lists (entries_of l.self.groups) l.self.lists;
-      keeps : Keeps (meaning l.plan.query.now) l.plan.most l.fn.self.groups l.self.groups l.fn.self.lists l.self.lists;
+      keeps : Keeps (meaning l.plan.query.now) l.plan.most l.plan.limit l.fn.self.groups l.self.groups l.fn.self.lists l.self.lists;
       disk : Moves (g.D.TapeDisk.failures l.fn.disk) (g.D.TapeDisk.failures l.disk) (g.D.TapeDisk.writes l.fn.disk) (g.D.TapeDisk.writes l.disk) (g.D.TapeDisk.honest l.fn.disk) (g.D.TapeDisk.honest l.disk);
     }

@@ -1,5 +1,5 @@
 use Rattle.std.specs.Prelude.{refl, ◌∷◌, ◌++◌, []}
-use Rattle.std.proofs.Common.{◌∙◌, ap, arith}
+use Rattle.std.proofs.Common.{sym, ◌∙◌, ap, arith}
 use Rattle.grouping_model.specs.Datum.{Row}
 use Rattle.grouping_model.specs.Query.{Query}
 use Rattle.grouping_model.specs.Grouping.{key_of, partials}
@@ -9,7 +9,7 @@ use Rattle.having_filter.specs.Meaning.{meaning}
 use Rattle.hash_agg.specs.Steps.{AreAdvanced}
 use Rattle.hash_agg.specs.Passes.{AreRows, entries_of}
 use Rattle.hash_agg.proofs.KeyLaws.{key_has}
-use Rattle.hash_agg.proofs.StepLaws.{on_ok, err_out, key_short, packed_short, IsSelected, row_told, one_there, there_room, one_new, new_room, one_left, safe_there, safe_new}
+use Rattle.hash_agg.proofs.StepLaws.{on_ok, err_out, key_brief, key_short, packed_short, IsSelected, row_told, one_there, there_room, one_new, new_room, one_left, safe_there, safe_new, fit_told, proceeds_new}
 use Rattle.hash_agg.proofs.pass.Pass.add_selected.Goals as goal
 
 pub returns-in-Ok-clause-reads : goal.returns-in-Ok-clause-reads
@@ -39,10 +39,10 @@ returns-in-Err-clause-undamaged g c = λ can same.
     let low = room.5 in
     c.in-Err.ensures.refused (room.2, room.3, room.4, omega (arith, low))
 
-pub takes-requires : goal.takes-requires
-takes-requires g c =
+pub room_for-requires-clause-key : goal.room_for-requires-clause-key
+room_for-requires-clause-key g c =
     let q : Query = meaning c.args.plan.now.query.now in
-    key_short q c.args.key.now (key_of q (row_of c.args.row.now)) c.requires.plan.formed c.requires.key (key_has q (row_of c.args.row.now) c.requires.plan.formed.keys c.requires.row.0)
+    key_brief q c.args.key.now (key_of q (row_of c.args.row.now)) c.requires.plan.formed c.requires.key (key_has q (row_of c.args.row.now) c.requires.plan.formed.keys c.requires.row.0)
 
 pub returns-in_err-first_after-clause-undamaged : goal.returns-in_err-first_after-clause-undamaged
 returns-in_err-first_after-clause-undamaged g c =
@@ -61,19 +61,19 @@ enter-requires-clause-key g c =
     let q : Query = meaning c.args.plan.now.query.now in
     key_short q c.args.key.now (key_of q (row_of c.args.row.now)) c.requires.plan.formed c.requires.key (key_has q (row_of c.args.row.now) c.requires.plan.formed.keys c.requires.row.0)
 
-pub returns-then-takes-clause-reads : goal.returns-then-takes-clause-reads
-returns-then-takes-clause-reads g c =
+pub returns-in-Some-room_for-clause-reads : goal.returns-in-Some-room_for-clause-reads
+returns-in-Some-room_for-clause-reads g c =
     let q : Query = meaning c.args.plan.now.query.now in
     let row : Row = row_of c.args.row.now in
     let selected : IsSelected q c.args.packed.now c.args.key.now row = record { has = c.requires.row.0; is = c.requires.row.1; met = c.requires.met; named = c.requires.key } in
     one_new c.args.plan.now (g.H.KeyHash.hash_of c.args.self.now.groups.table.hash) c.args.self.now.groups c.args.self.now.lists (g.D.TapeDisk.last c.args.disk.now) c.args.key.now
     (AreRows q (c.args.packed.now ∷ [])) (λ old new. AreAdvanced q c.args.plan.now.most old row new) (row_told q c.args.plan.now.most c.args.packed.now c.args.key.now row c.requires.plan.formed selected)
-    c.enter.new.self c.first_after.new.states.items c.in_default.ensures.found (c.if-takes.ensures.none refl)
+    c.enter.new.self c.first_after.new.states.items c.in_default.ensures.found c.in-Some-room_for.ensures.none (fit_told _ _ (c.in-Some-room_for.ensures.exact (g.H.KeyHash.hash_of c.args.self.now.groups.table.hash)))
     (c.in_ok-enter.ensures.entered ∙ ap (λ states. entries_of c.args.self.now.groups ++ (c.args.key.now, states) ∷ []) c.deref.ensures.value)
     (λ more are low. c.in_ok-first_after.ensures.advanced.moved 0 (partials q []) (omega (arith, low)) c.requires.plan.states)
 
-pub returns-then-takes-clause-safe : goal.returns-then-takes-clause-safe
-returns-then-takes-clause-safe g c =
+pub returns-in-Some-room_for-clause-safe : goal.returns-in-Some-room_for-clause-safe
+returns-in-Some-room_for-clause-safe g c =
     let q : Query = meaning c.args.plan.now.query.now in
     let row : Row = row_of c.args.row.now in
     let within = c.in_ok-first_after.ensures.advanced.within in
@@ -93,7 +93,12 @@ returns-clause-reads g c =
     (λ spills.
     one_left c.args.plan.now (g.H.KeyHash.hash_of c.args.self.now.groups.table.hash) c.args.self.now.groups c.args.self.now.lists (g.D.TapeDisk.last c.args.disk.now) c.args.key.now
     (AreRows q (c.args.packed.now ∷ [])) (λ old new. AreAdvanced q c.args.plan.now.most old row new) (row_told q c.args.plan.now.most c.args.packed.now c.args.key.now row c.requires.plan.formed selected)
-    c.args.self.now.groups c.spill.new.self (g.D.TapeDisk.last c.spill.new.disk) _ c.in_default.ensures.found refl
+    c.args.self.now.groups c.spill.new.self (g.D.TapeDisk.last c.spill.new.disk) _ c.in_default.ensures.found (sym (c.in_default-room_for.ensures.exact (g.H.KeyHash.hash_of c.args.self.now.groups.table.hash))) refl
     (λ more are. record { tag = refl; of_kinds = c.requires.row.0; bytes = c.requires.row.1; hashed = c.hash-hash.ensures ∙ ap (g.H.KeyHash.hash_of c.args.self.now.groups.table.hash) c.requires.key })
     spills)
     c.spill.ensures.spilled
+
+pub returns-in-Some-room_for-clause-proceeds : goal.returns-in-Some-room_for-clause-proceeds
+returns-in-Some-room_for-clause-proceeds g c =
+    proceeds_new c.args.self.now.groups c.enter.new.self c.args.self.now.lists (c.args.key.now, c.first_after.new.states.items)
+    (c.in_ok-enter.ensures.entered ∙ ap (λ states. entries_of c.args.self.now.groups ++ (c.args.key.now, states) ∷ []) c.deref.ensures.value)

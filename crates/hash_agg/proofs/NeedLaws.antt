@@ -1,0 +1,78 @@
+-- What the table of a pass needs.
+use Rattle.std.specs.Prelude.{◌≡◌, refl, ℕ, zero, suc, ◌<◌, ◌≤◌, nat_le, true, false, max, List, [], ◌∷◌, ◌++◌, map, length, slice_get, slice_set, Some, Ok, Err, IfOk, OnOk}
+use Rattle.std.specs.declared.result.Result.{Result}
+use Rattle.std.proofs.Common.{sym, ◌∙◌, ap, arith}
+use Rattle.std.proofs.lemmas.Bool.Decides.{nat_tests}
+use Rattle.std.proofs.lemmas.List.{map-append}
+use Rattle.aggregation_cost.specs.Cost.{greatest}
+use Rattle.aggregation_cost.specs.Space.{Key, Setting, need, fits, fronts}
+use Rattle.aggregation_cost.proofs.CostLaws.{one_fits}
+use Rattle.context_tree.specs.Tree.{TreeState}
+use Rattle.group_table.specs.Space.{key_of, keys_in}
+use Rattle.group_table.specs.Table.{TableState, IsSameBut, group_in, groups}
+use Rattle.hash_agg.specs.Runs.{Entry, packed_keys}
+
+-- one key more has one front more
+fronts_more : {X : Type 0} (xs : List X) (x : X) → fronts (xs ++ x ∷ []) ≡ fronts xs ++ (xs ++ x ∷ []) ∷ []
+fronts_more [] x = refl
+fronts_more (y ∷ ys) x =
+    ap (λ fs. (y ∷ []) ∷ map (λ front. y ∷ front) fs) (fronts_more ys x)
+    ∙ ap (λ fs. (y ∷ []) ∷ fs) (map-append (λ front. y ∷ front) (fronts ys) ((ys ++ x ∷ []) ∷ []))
+
+greatest_more : (ns : List ℕ) (n : ℕ) → greatest (ns ++ n ∷ []) ≡ max (greatest ns) n
+greatest_more [] n = omega arith
+greatest_more (m ∷ ms) n = let rest = greatest_more ms n in omega (arith, rest)
+
+-- what is needed at most while one key more enters
+pub most_more : (width : ℕ) (keys : List Key) (key : Key) → greatest (map (need width) (fronts (keys ++ key ∷ []))) ≡ max (greatest (map (need width) (fronts keys))) (need width (keys ++ key ∷ []))
+most_more width keys key =
+    ap (λ fs. greatest (map (need width) fs)) (fronts_more keys key)
+    ∙ ap greatest (map-append (need width) (fronts keys) ((keys ++ key ∷ []) ∷ []))
+    ∙ greatest_more (map (need width) (fronts keys)) (need width (keys ++ key ∷ []))
+
+-- other states are for the same keys
+pub keys_set : (es : List Entry) (place : ℕ) (key states more : List ℕ) → slice_get es place ≡ Some (key, states) → packed_keys (slice_set es place (key, more)) ≡ packed_keys es
+keys_set [] place key states more at = absurd cc
+keys_set (e ∷ es) zero key states more at = let same : e ≡ (key, states) = cc in ap (λ (e : Entry). e.0 ∷ packed_keys es) (sym same)
+keys_set (e ∷ es) (suc place) key states more at = ap (λ ks. e.0 ∷ ks) (keys_set es place key states more at)
+
+-- what was held stays within a limit
+pub none_held : (limit held : ℕ) → held ≡ 0 → held ≤ limit
+none_held limit held none = omega (arith, none)
+
+pub held_by_both : (limit before now after : ℕ) → after ≡ max before now → before ≤ limit → now ≤ limit → after ≤ limit
+held_by_both limit before now after is a b = omega (arith, is, a, b)
+
+-- within a limit, and not
+pub within_told : (bytes limit : ℕ) → bytes ≤ limit → nat_le bytes limit ≡ true
+within_told bytes limit low = grind (arith, nat_tests)
+
+pub beyond_told : (bytes limit : ℕ) → limit < bytes → nat_le bytes limit ≡ false
+beyond_told bytes limit high = grind (arith, nat_tests)
+
+-- one group more entered
+pub most_entered : {Hash : Type 0} (t u : TableState Hash) (before after : TreeState) (most held : ℕ) (key states : List ℕ) → IsSameBut t u → most ≡ greatest (map (need t.width) (fronts (keys_in t before))) → held ≡ need t.width (keys_in t before ++ key ∷ [])
+    → groups u after ≡ groups t before ++ (key, states) ∷ [] → max most held ≡ greatest (map (need u.width) (fronts (keys_in u after)))
+most_entered t u before after most held key states same is needed entered =
+    let keys : keys_in u after ≡ keys_in t before ++ key ∷ [] = ap (map key_of) entered ∙ map-append key_of (groups t before) ((key, states) ∷ []) in
+    (λ i. max (is i) (needed i))
+    ∙ sym (most_more t.width (keys_in t before) key)
+    ∙ (λ i. greatest (map (need (sym same.width i)) (fronts (sym keys i))))
+
+-- none entered
+pub none_needed : {Hash : Type 0} (t : TableState Hash) (tree : TreeState) → t.slots ≡ [] → 0 ≡ greatest (map (need t.width) (fronts (keys_in t tree)))
+none_needed t tree none = ap (λ slots. greatest (map (need t.width) (fronts (map key_of (map (group_in t tree) slots))))) (sym none)
+
+-- the states of one were written anew
+pub same_needed : {Hash : Type 0} (t : TableState Hash) (before after : TreeState) (place most : ℕ) (key states more : List ℕ) → slice_get (groups t before) place ≡ Some (key, states) → groups t after ≡ slice_set (groups t before) place (key, more) → most ≡ greatest (map (need t.width) (fronts (keys_in t before))) → most ≡ greatest (map (need t.width) (fronts (keys_in t after)))
+same_needed t before after place most key states more at written is =
+    is ∙ ap (λ keys. greatest (map (need t.width) (fronts keys))) (sym (ap (map key_of) written ∙ keys_set (groups t before) place key states more at))
+
+-- what a success tells holds of all that it leaves
+pub ok_from : {T E : Type 0} (r : Result T E) (P : T → Type 0) {A : Type 0} → ((x : T) → P x → A) → IfOk r P → OnOk r A
+ok_from (Ok x) P gives p = gives x p
+ok_from (Err e) P gives p = tt
+
+-- the first key fits
+pub first_fits : (set : Setting) (key : Key) → 32768 ≤ set.limit → set.width ≤ 8184 → length key ≤ 8192 → fits set (key ∷ []) ≡ true
+first_fits set key limit narrow short = one_fits set key (omega (arith, limit, narrow, short))

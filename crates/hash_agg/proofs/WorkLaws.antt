@@ -1,0 +1,266 @@
+-- What the passes that were made took, and what those that are to be made will take, is what the cost says.
+use Rattle.std.specs.Prelude.{◌≡◌, refl, ℕ, zero, suc, ◌+◌, ◌<◌, ◌≤◌, ◌-◌, ◌/◌, ◌%◌, ◌^◌, ◌==◌, nat_lt, max, Bool, true, false, cond, not, List, [], ◌∷◌, ◌++◌, map, filter, flat_map, length, IsPermutation}
+use Rattle.std.specs.List.{AllByRecursion, sum_by, range_with_len}
+use Rattle.std.proofs.Common.{sym, ◌∙◌, ap, subst, arith, append-nil}
+use Rattle.std.proofs.lemmas.Bool.Decides.{nat_tests}
+use Rattle.std.proofs.lemmas.List.Elements.{recursion_from_All}
+use Rattle.std.proofs.lemmas.List.Sums.{sum_by-cons}
+use Rattle.std.proofs.lemmas.List.Sorted.{IsPermutation-append_comm}
+use Rattle.having_filter.proofs.DistinctLaws.{all_append}
+use Rattle.grouping_model.specs.Query.{Query}
+use Rattle.grouping_model.specs.Datum.{Row}
+use Rattle.packed_rows.specs.Packing.{packing}
+use Rattle.aggregation_cost.specs.Passes as cost
+use Rattle.aggregation_cost.specs.Cost.{Cost, greatest, pages_by, needs_by, cost_of, both, cost_from}
+use Rattle.aggregation_cost.specs.Space.{Setting, need, fronts}
+use Rattle.aggregation_cost.proofs.WorkLaws.{cost_of_next, cost_reordered, fits_further_down}
+use Rattle.spill_tapes.specs.Records.{Record}
+use Rattle.spill_lists.specs.Lists.{LeftList, list_of, on_list, deeper, is_none, left_by}
+use Rattle.spill_lists.specs.declared.lists.OnTape.{OnTape}
+use Rattle.having_filter.specs.Kept.{IsWellFormed, key_kinds}
+use Rattle.hash_agg.specs.Runs.{Entry, packed_keys}
+use Rattle.hash_agg.specs.Passes.{Piece, Of_row, Of_group, IsPiece, ArePieces, group_record, cost_records, records_of, IsCosted, AreCosted, Spills}
+use Rattle.hash_agg.specs.Waiting.{capped, IsLeft, AreLeft, Costs, AddsUp, pass_cost, IsWork}
+use Rattle.hash_agg.specs.declared.work.Work.{Work}
+use Rattle.hash_agg.proofs.InputLaws.{packed_once}
+use Rattle.hash_agg.proofs.StepLaws.{key_short, group_apart}
+use Rattle.hash_agg.proofs.SpillLaws.{as_empty, as_long}
+
+-- ---- the pieces of records are told by their bytes
+
+same_costs : (q : Query) (s : Setting) (one : Record) (c : cost.Record) (p r : Piece) → IsWellFormed q → IsPiece q s.hash one p → IsPiece q s.hash one r → cost_records q s.width r ≡ c ∷ [] → cost_records q s.width p ≡ c ∷ []
+same_costs q s one c (Of_row row) (Of_row other) formed is are costs =
+    ap (λ (row : Row). cost_records q s.width (Of_row row)) (packed_once q.kinds one.bytes row other is.of_kinds are.of_kinds is.bytes are.bytes) ∙ costs
+same_costs q s one c (Of_row row) (Of_group group most) formed is are costs = absurd (let a = is.tag in let b = are.tag in omega (arith, a, b))
+same_costs q s one c (Of_group group most) (Of_row row) formed is are costs = absurd (let a = is.tag in let b = are.tag in omega (arith, a, b))
+same_costs q s one c (Of_group group most) (Of_group other more) formed is are costs =
+    let apart = group_apart (packing group.0) (packing other.0) is.states are.states (key_short q (packing group.0) group.0 formed refl is.stands.of_kinds) (key_short q (packing other.0) other.0 formed refl are.stands.of_kinds) (sym is.bytes ∙ are.bytes) in
+    ap (λ (key : List ℕ). record { key = key; on_tape = 9 + (2 + length key + s.width) } ∷ []) apart.0 ∙ costs
+
+pub told_costs : (q : Query) (s : Setting) (records : List Record) (pieces : List Piece) (cs : List cost.Record) → IsWellFormed q → ArePieces q s.hash records pieces → AreCosted q s records cs → records_of q s.width pieces ≡ cs
+told_costs q s [] [] [] formed are costed = refl
+told_costs q s [] [] (c ∷ cs) formed are costed = absurd costed
+told_costs q s [] (p ∷ ps) cs formed are costed = absurd are
+told_costs q s (one ∷ records) [] cs formed are costed = absurd are
+told_costs q s (one ∷ records) (p ∷ ps) [] formed are costed = absurd costed
+told_costs q s (one ∷ records) (p ∷ ps) (c ∷ cs) formed (first, are) (is, costed) =
+    (λ i. same_costs q s one c p is.piece formed first is.is is.costs i ++ told_costs q s records ps cs formed are costed i)
+
+-- ---- a list is one of the cost
+
+capped_list : (level h : ℕ) → list_of (capped level) h ≡ cond (nat_lt level 8) (h / 16 ^ (7 - level) % 16) 0
+capped_list level h =
+    elim (nat_lt level 8) as (λ b. nat_lt level 8 ≡ b → list_of (cond b level 8) h ≡ cond b (h / 16 ^ (7 - level) % 16) 0) [
+      | true ↦ λ e. ap (λ b. cond b (h / 16 ^ (7 - level) % 16) 0) e
+      | false ↦ λ e. refl
+    ] refl
+
+capped_deeper : (level : ℕ) → deeper (capped level) ≡ capped (level + 1)
+capped_deeper level = grind (arith, nat_tests)
+
+module _ (q : Query) (s : Setting) (level : ℕ) where
+  same_list : (one : Record) (c : cost.Record) → IsCosted q s one c → list_of (capped level) one.hash ≡ cost.list_of s level c.key
+  same_list one c is = ap (list_of (capped level)) is.hashed ∙ capped_list level (s.hash c.key)
+
+  costed_on : (i : ℕ) (rs : List Record) (cs : List cost.Record) → AreCosted q s rs cs → AreCosted q s (on_list (capped level) rs i) (cost.on_list s level cs i)
+  costed_on i [] [] are = tt
+  costed_on i [] (c ∷ cs) are = absurd are
+  costed_on i (r ∷ rs) [] are = absurd are
+  costed_on i (r ∷ rs) (c ∷ cs) (first, are) =
+      let rest = costed_on i rs cs are in
+      let some : List Record = on_list (capped level) rs i in
+      let those : List cost.Record = cost.on_list s level cs i in
+      subst (λ n. AreCosted q s (cond (n == i) (r ∷ some) some) (cond (cost.list_of s level c.key == i) (c ∷ those) those)) (sym (same_list r c first))
+      (elim (cost.list_of s level c.key == i) as (λ b. AreCosted q s (cond b (r ∷ some) some) (cond b (c ∷ those) those)) [
+        | true ↦ (first, rest)
+        | false ↦ rest
+      ])
+
+  none_of_none : (rs : List Record) (cs : List cost.Record) → AreCosted q s rs cs → is_none rs ≡ cost.is_empty cs
+  none_of_none [] [] are = refl
+  none_of_none [] (c ∷ cs) are = absurd are
+  none_of_none (r ∷ rs) [] are = absurd are
+  none_of_none (r ∷ rs) (c ∷ cs) are = refl
+
+  abbrev lists_of_some : List Record → ℕ → ℕ → List LeftList
+  lists_of_some rs a n = map (λ i. record { level = deeper (capped level); records = on_list (capped level) rs i }) (range_with_len a n)
+
+  abbrev those_left : List LeftList → List LeftList
+  those_left ls = filter (λ (list : LeftList). not (is_none list.records)) ls
+
+  abbrev passes_left : List (List cost.Record) → List cost.Pass
+  passes_left lists = map (cost.one_deeper level) (filter (λ records. not (cost.is_empty records)) lists)
+
+  some_left : (rs : List Record) (cs : List cost.Record) → AreCosted q s rs cs → (a n : ℕ) → AreLeft q s (those_left (lists_of_some rs a n)) (passes_left (map (cost.on_list s level cs) (range_with_len a n)))
+  some_left rs cs are a zero = tt
+  some_left rs cs are a (suc n) =
+      let rest = some_left rs cs are (a + 1) n in
+      let here = costed_on a rs cs are in
+      let xs : List Record = on_list (capped level) rs a in
+      let ys : List cost.Record = cost.on_list s level cs a in
+      let list : LeftList = record { level = deeper (capped level); records = xs } in
+      let more : List LeftList = those_left (lists_of_some rs (a + 1) n) in
+      let others : List (List cost.Record) = filter (λ records. not (cost.is_empty records)) (map (cost.on_list s level cs) (range_with_len (a + 1) n)) in
+      subst (λ b. AreLeft q s (cond (not b) (list ∷ more) more) (map (cost.one_deeper level) (cond (not (cost.is_empty ys)) (ys ∷ others) others))) (sym (none_of_none xs ys here))
+      (elim (cost.is_empty ys) as (λ b. AreLeft q s (cond (not b) (list ∷ more) more) (map (cost.one_deeper level) (cond (not b) (ys ∷ others) others))) [
+        | true ↦ rest
+        | false ↦ (record { records = here; level = capped_deeper level }, rest)
+      ])
+
+-- the lists that a pass leaves are those of the cost
+pub lists_left : (q : Query) (s : Setting) (pass : cost.Pass) (rs : List Record) → AreCosted q s rs (cost.spilled_by s pass) → AreLeft q s (left_by (capped pass.level) rs) (cost.left_by s pass)
+lists_left q s pass rs are = some_left q s pass.level rs (cost.spilled_by s pass) are 0 16
+
+-- ---- one pass after the other
+
+pub both_once : (a b c : Cost) → both (both a b) c ≡ both a (both b c)
+both_once a b c =
+    let passes : (a.passes + b.passes) + c.passes ≡ a.passes + (b.passes + c.passes) = omega arith in
+    let spilled : (a.spilled + b.spilled) + c.spilled ≡ a.spilled + (b.spilled + c.spilled) = omega arith in
+    let pages : (a.pages + b.pages) + c.pages ≡ a.pages + (b.pages + c.pages) = omega arith in
+    let most : max (max a.most_held b.most_held) c.most_held ≡ max a.most_held (max b.most_held c.most_held) = omega arith in
+    λ i. record { passes = passes i; spilled = spilled i; pages = pages i; most_held = most i }
+
+abbrev pub none_yet : Cost
+none_yet = record { passes = 0; spilled = 0; pages = 0; most_held = 0 }
+
+pub none_after : (made : Cost) → both made none_yet ≡ made
+none_after made =
+    let passes : made.passes + 0 ≡ made.passes = omega arith in
+    let spilled : made.spilled + 0 ≡ made.spilled = omega arith in
+    let pages : made.pages + 0 ≡ made.pages = omega arith in
+    let most : max made.most_held 0 ≡ made.most_held = omega arith in
+    λ i. record { passes = passes i; spilled = spilled i; pages = pages i; most_held = most i }
+
+none_made : (one : Cost) → both none_yet one ≡ one
+none_made one =
+    let passes : 0 + one.passes ≡ one.passes = omega arith in
+    let spilled : 0 + one.spilled ≡ one.spilled = omega arith in
+    let pages : 0 + one.pages ≡ one.pages = omega arith in
+    let most : max 0 one.most_held ≡ one.most_held = omega arith in
+    λ i. record { passes = passes i; spilled = spilled i; pages = pages i; most_held = most i }
+
+-- the last of the passes that are to be made is made
+one_made : (s : Setting) (made : Cost) (others : List cost.Pass) (pass : cost.Pass) → cost.EachFits s pass.records
+    → both made (cost_of s (flat_map (cost.passes_from s) (others ++ pass ∷ []))) ≡ both (both made (cost_of s (pass ∷ []))) (cost_of s (flat_map (cost.passes_from s) (others ++ cost.left_by s pass)))
+one_made s made others pass fit =
+    ap (both made) (cost_reordered s (pass ∷ others) (others ++ pass ∷ []) (IsPermutation-append_comm (pass ∷ []) others) ∙ cost_of_next s pass others fit)
+    ∙ sym (both_once made (cost_of s (pass ∷ [])) (cost_of s (flat_map (cost.passes_from s) (cost.left_by s pass ++ others))))
+    ∙ ap (both (both made (cost_of s (pass ∷ [])))) (cost_reordered s (others ++ cost.left_by s pass) (cost.left_by s pass ++ others) (IsPermutation-append_comm others (cost.left_by s pass)))
+
+left_append : (q : Query) (s : Setting) (ls ms : List LeftList) (ps rs : List cost.Pass) → AreLeft q s ls ps → AreLeft q s ms rs → AreLeft q s (ls ++ ms) (ps ++ rs)
+left_append q s [] ms [] rs are more = more
+left_append q s [] ms (p ∷ ps) rs are more = absurd are
+left_append q s (l ∷ ls) ms [] rs are more = absurd are
+left_append q s (l ∷ ls) ms (p ∷ ps) rs (first, are) more = (first, left_append q s ls ms ps rs are more)
+
+-- the last list, and the pass over it
+pub record LastPass (q : Query) (s : Setting) (others : List LeftList) (list : LeftList) (passes : List cost.Pass) : Type 0 where
+  pub front : List cost.Pass
+  pub pass : cost.Pass
+  pub is : passes ≡ front ++ pass ∷ []
+  pub are : AreLeft q s others front
+  pub one : IsLeft q s list pass
+
+last_pass : (q : Query) (s : Setting) (others : List LeftList) (list : LeftList) (passes : List cost.Pass) → AreLeft q s (others ++ list ∷ []) passes → LastPass q s others list passes
+last_pass q s [] list [] are = absurd are
+last_pass q s [] list (p ∷ []) (first, are) = record { front = []; pass = p; is = refl; are = tt; one = first }
+last_pass q s [] list (p ∷ r ∷ passes) (first, are) = absurd are
+last_pass q s (l ∷ others) list [] are = absurd are
+last_pass q s (l ∷ others) list (p ∷ passes) (first, are) =
+    let found = last_pass q s others list passes are in
+    record { front = p ∷ found.front; pass = found.pass; is = ap (λ ps. p ∷ ps) found.is; are = (first, found.are); one = found.one }
+
+all_parts : {A : Type 0} (P : A → Type 0) (xs ys : List A) → AllByRecursion P (xs ++ ys) → AllByRecursion P xs × AllByRecursion P ys
+all_parts P [] ys all = (tt, all)
+all_parts P (x ∷ xs) ys (first, all) = let both = all_parts P xs ys all in ((first, both.0), both.1)
+
+-- the pages that it writes are by the level of its lists, all else is not
+same_but_pages : (s : Setting) (pass : cost.Pass) → (pages : ℕ) × (cost_of s (pass ∷ []) ≡ record { passes = 1; spilled = length (cost.spilled_from s pass.records); pages = pages; most_held = greatest (map (need s.width) (fronts (cost.taken_from s pass.records))) })
+same_but_pages s pass =
+    let sum = sum_by-cons (λ pass. length (cost.spilled_by s pass)) pass [] in
+    let none : sum_by (λ pass. length (cost.spilled_by s pass)) (pass ∷ []) ≡ length (cost.spilled_from s pass.records) = omega (arith, sum) in (
+      sum_by (pages_by s) (pass ∷ []),
+      λ i. record { passes = 1; spilled = none i; pages = sum_by (pages_by s) (pass ∷ []); most_held = greatest (append-nil (needs_by s pass) i) },
+    )
+
+-- after the first pass
+pub costs_first : (q : Query) (s : Setting) (pieces : List Piece) (entries : List Entry) (parts : List OnTape) (spilled : List Record) → cost.EachFits s (records_of q s.width pieces) → Spills q s pieces entries parts spilled
+    → (pages : ℕ) × Costs q s pieces (pass_cost s.width entries (length spilled) pages) (left_by 0 spilled)
+costs_first q s pieces entries parts spilled fit sp =
+    let first : cost.Pass = record { level = 0; records = records_of q s.width pieces } in
+    let one = same_but_pages s first in
+    let long = as_long q s spilled (cost.spilled_from s first.records) sp.spilled in
+    let made : cost_of s (first ∷ []) ≡ pass_cost s.width entries (length spilled) one.0 =
+    one.1 ∙ (λ i. record { passes = 1; spilled = sym long i; pages = one.0; most_held = greatest (map (need s.width) (fronts (sym sp.took i))) }) in (
+      one.0,
+      record {
+        passes = cost.left_by s first;
+        left = lists_left q s first spilled sp.spilled;
+        fit = recursion_from_All (λ (next : cost.Pass). cost.EachFits s next.records) (cost.left_by s first) (fits_further_down s first fit);
+        whole =
+            ap (λ made. both made (cost_of s (flat_map (cost.passes_from s) (cost.left_by s first)))) (sym made)
+            ∙ ap (λ made. both made (cost_of s (flat_map (cost.passes_from s) (cost.left_by s first)))) (sym (none_made (cost_of s (first ∷ []))))
+            ∙ sym (one_made s none_yet [] first fit)
+            ∙ none_made (cost_of s (cost.passes_from s first ++ []))
+            ∙ ap (cost_of s) (append-nil (cost.passes_from s first));
+      },
+    )
+
+-- after one pass more, which read the last list
+module _ (q : Query) (s : Setting) (pieces : List Piece) (made : Cost) (others : List LeftList) (list : LeftList) (c : Costs q s pieces made (others ++ list ∷ [])) where
+  last : LastPass q s others list c.passes
+  last = last_pass q s others list c.passes c.left
+
+  pub costs_next : (rest : List Piece) (entries : List Entry) (parts : List OnTape) (spilled : List Record) (level : ℕ) → IsWellFormed q → level ≡ list.level → ArePieces q s.hash list.records rest → Spills q s rest entries parts spilled
+      → (pages : ℕ) × Costs q s pieces (both made (pass_cost s.width entries (length spilled) pages)) (others ++ left_by level spilled)
+  costs_next rest entries parts spilled level formed deep are sp =
+      let pass : cost.Pass = last.pass in
+      let told : records_of q s.width rest ≡ pass.records = told_costs q s list.records rest pass.records formed are last.one.records in
+      let fits = all_parts (λ (pass : cost.Pass). cost.EachFits s pass.records) last.front (pass ∷ []) (subst (AllByRecursion (λ (pass : cost.Pass). cost.EachFits s pass.records)) last.is c.fit) in
+      let took : packed_keys entries ≡ cost.taken_from s pass.records = sp.took ∙ ap (cost.taken_from s) told in
+      let sent : AreCosted q s spilled (cost.spilled_from s pass.records) = subst (λ records. AreCosted q s spilled (cost.spilled_from s records)) told sp.spilled in
+      let one = same_but_pages s pass in
+      let long = as_long q s spilled (cost.spilled_from s pass.records) sent in
+      let by : cost_of s (pass ∷ []) ≡ pass_cost s.width entries (length spilled) one.0 =
+      one.1 ∙ (λ i. record { passes = 1; spilled = sym long i; pages = one.0; most_held = greatest (map (need s.width) (fronts (sym took i))) }) in (
+        one.0,
+        record {
+          passes = last.front ++ cost.left_by s pass;
+          left = left_append q s others (left_by level spilled) last.front (cost.left_by s pass) last.are (subst (λ level. AreLeft q s (left_by level spilled) (cost.left_by s pass)) (sym (deep ∙ last.one.level)) (lists_left q s pass spilled sent));
+          fit = all_append (λ (pass : cost.Pass). cost.EachFits s pass.records) last.front (cost.left_by s pass) fits.0 (recursion_from_All (λ (next : cost.Pass). cost.EachFits s next.records) (cost.left_by s pass) (fits_further_down s pass fits.1.0));
+          whole =
+              ap (λ one. both (both made one) (cost_of s (flat_map (cost.passes_from s) (last.front ++ cost.left_by s pass)))) (sym by)
+              ∙ sym (one_made s made last.front pass fits.1.0)
+              ∙ ap (λ passes. both made (cost_of s (flat_map (cost.passes_from s) passes))) (sym last.is)
+              ∙ c.whole;
+        },
+      )
+
+-- no list is left
+pub costs_end : (q : Query) (s : Setting) (pieces : List Piece) (made : Cost) → Costs q s pieces made [] → made ≡ cost_from s (record { level = 0; records = records_of q s.width pieces })
+costs_end q s pieces made c = sym (none_after made) ∙ ap (λ passes. both made (cost_of s (flat_map (cost.passes_from s) passes))) (sym (none c.passes c.left)) ∙ c.whole
+  where
+    none : (passes : List cost.Pass) → AreLeft q s [] passes → passes ≡ []
+    none [] are = refl
+    none (pass ∷ passes) are = absurd are
+
+-- ---- what was counted
+
+pub adds_twice : (a b c : Work) (m n : Cost) → AddsUp a m b → AddsUp b n c → AddsUp a (both m n) c
+adds_twice a b c m n first second =
+    let p = first.passes in
+    let q = second.passes in
+    let s = first.spilled in
+    let t = second.spilled in
+    let u = first.most_held in
+    let v = second.most_held in
+    record { passes = omega (arith, p, q); spilled = omega (arith, s, t); most_held = omega (arith, u, v) }
+
+-- what was counted on top of nothing
+pub is_work : (work : Work) (c : Cost) → AddsUp (record { passes = 0; spilled = 0; most_held = 0 }) c work → IsWork work c
+is_work work c adds =
+    let p = adds.passes in
+    let s = adds.spilled in
+    let m = adds.most_held in
+    record { passes = omega (arith, p); spilled = omega (arith, s); most_held = omega (arith, m) }
