@@ -6,3 +6,4 @@ pub mod StandingLaws
 pub mod OpenLaws
 pub mod PassLaws
 pub mod CountLaws
+pub mod PageLaws

@@ -98,7 +98,7 @@ pub kept_new : (last last' : ℕ → ℕ → Type 0) (t t' : TapesState) (id : T
 kept_new last last' t t' id level [] keeps none had = had
 kept_new last last' t t' id level (tape ∷ tapes) keeps none had =
     let differ : tape.tape ≢ id = differs id tape.tape (omega (arith, none)) in (
-      record { none = keeps.records tape.tape differ [] had.0.none; number = had.0.number; deep = had.0.deep; written = ap (is_in Written) (keeps.phases tape.tape differ) ∙ had.0.written },
+      record { none = keeps.records tape.tape differ [] had.0.none; number = had.0.number; deep = had.0.deep; written = ap (is_in Written) (keeps.phases tape.tape differ) ∙ had.0.written; short = keeps.lens tape.tape differ ∙ had.0.short },
       kept_new last last' t t' id level tapes keeps (omega (arith, none)) had.1,
     )
 

@@ -1,7 +1,7 @@
 -- Lists on tapes.
-use Rattle.std.specs.Prelude.{◌≡◌, ℕ, ◌+◌, ◌<◌, ◌≤◌, ◌⊎◌, ◌==◌, cond, Bool, true, false, not, List, [], ◌∷◌, ◌++◌, length, sum_by, filter}
-use Rattle.spill_tapes.specs.Records.{Record}
-use Rattle.spill_tapes.specs.Tapes.{TapesState, IsTape, is_written, is_read}
+use Rattle.std.specs.Prelude.{◌≡◌, ℕ, ◌+◌, ◌/◌, ◌<◌, ◌≤◌, ◌⊎◌, ◌==◌, cond, Bool, true, false, not, List, [], ◌∷◌, ◌++◌, length, sum_by, filter}
+use Rattle.spill_tapes.specs.Records.{Record, tape_bytes}
+use Rattle.spill_tapes.specs.Tapes.{TapesState, IsTape, is_written, is_read, written_len}
 use Rattle.spill_tapes.specs.declared.tape_id.TapeId.{TapeId}
 use Rattle.spill_lists.specs.declared.lists.OnTape.{OnTape}
 use Rattle.spill_lists.specs.declared.error.SpillError.{SpillError}
@@ -29,6 +29,20 @@ ahead_number s = count_of s.source
 
 abbrev pub waiting_number : ListsState → ℕ
 waiting_number s = count_of s.todo
+
+-- the pages of 8,192 bytes of a tape of some records, and of the tapes of some lists
+abbrev pub list_pages : List Record → ℕ
+list_pages records = (length (tape_bytes records) + 8191) / 8192
+
+abbrev pub pages_of : List LeftList → ℕ
+pages_of lists = sum_by (λ (list : LeftList). list_pages list.records) lists
+
+-- how many pages of tapes were written so far: those that are full
+abbrev pub full_pages : TapesState → List OnTape → ℕ
+full_pages t tapes = sum_by (λ (list : OnTape). written_len t list.tape / 8192) tapes
+
+abbrev pub written_pages : ListsState → ℕ
+written_pages s = full_pages s.tapes s.parts
 
 -- over a disk whose last bytes are these, tape by tape these are lists of records
 abbrev pub AreOn : (ℕ → ℕ → Type 0) → TapesState → List OnTape → List LeftList → Type 0
@@ -107,6 +121,7 @@ pub record IsNewList (last : ℕ → ℕ → Type 0) (t : TapesState) (level : �
   pub number : list.records ≡ 0
   pub deep : list.level ≡ level
   pub written : is_written t list.tape ≡ true
+  pub short : written_len t list.tape ≡ 0
 
 -- what is true of all lists
 pub record AreLists (s : ListsState) : Type 0 where

@@ -1,11 +1,11 @@
 //! Lists of records on tapes.
 
-ghost use Rattle.std.specs.Prelude.{◌≡◌, ◌≢◌, ◌↔◌, ◌+◌, ◌<◌, ◌≤◌, ℕ, ◌++◌, ◌∷◌, List, [], true, false, length, IsTrue, IfOk, IfErr, OnOk, OnErr, IfSome, IfNone};
+ghost use Rattle.std.specs.Prelude.{◌≡◌, ◌≢◌, ◌↔◌, ◌+◌, ◌/◌, ◌<◌, ◌≤◌, ℕ, ◌++◌, ◌∷◌, List, [], true, false, length, IsTrue, IfOk, IfErr, OnOk, OnErr, IfSome, IfNone};
 ghost use Rattle.spill_tapes.specs.Records.{Record};
 ghost use Rattle.spill_tapes.specs.Tape.{Gives};
-ghost use Rattle.spill_tapes.specs.Tapes.{IsTape, KeepsOthers, is_open, is_written};
-ghost use Rattle.spill_lists.specs.Lists.{LeftList, left_by, list_of, deeper};
-ghost use Rattle.spill_lists.specs.Standing.{HasLists, BeginsLast, IsNewList, times, those_with_records, Moves, IsSpillRefusal, IsReadRefusal, spilled_number, ahead_number, waiting_number};
+ghost use Rattle.spill_tapes.specs.Tapes.{IsTape, KeepsOthers, is_open, is_written, written_len};
+ghost use Rattle.spill_lists.specs.Lists.{LeftList, lists, left_by, list_of, deeper};
+ghost use Rattle.spill_lists.specs.Standing.{HasLists, BeginsLast, IsNewList, times, those_with_records, Moves, IsSpillRefusal, IsReadRefusal, spilled_number, ahead_number, waiting_number, list_pages, pages_of, written_pages};
 ghost use Rattle.spill_lists.specs.Errors.{spill_error};
 ghost use Rattle.spill_lists.specs.declared.error.SpillError.TheVariants.{NoMemory, TapeDamaged};
 ghost use Rattle.spill_tapes.specs.declared.error.TapeError.TheVariants.{TapesDead};
@@ -142,6 +142,7 @@ impl SpillLists {
         requires len { length bytes.now ≤ 65535 }
         ensures spilled { OnOk result ((spilled ahead : List Record) (todo : List LeftList) → HasLists (D.last disk.old) self.old spilled ahead todo → HasLists (D.last disk.new) self.new (spilled ++ record { hash = hash; tag = tag; bytes = bytes.now } ∷ []) ahead todo) }
         ensures counted { OnOk result (spilled_number self.new ≡ spilled_number self.old + 1) }
+        ensures paged { OnOk result (D.writes disk.new + written_pages self.old ≡ D.writes disk.old + written_pages self.new) }
         ensures alive { OnOk result (self.new.tapes.is_dead ≡ false) }
         ensures source { self.new.source ≡ self.old.source }
         ensures todo { self.new.todo ≡ self.old.todo }
@@ -163,6 +164,7 @@ impl SpillLists {
         ensures opened { OnOk result ((spilled ahead : List Record) (todo : List LeftList) → HasLists (D.last disk.now) self.old spilled ahead todo → HasLists (D.last disk.now) self.new spilled ahead todo) }
         ensures sixteen { OnOk result (length self.new.parts ≡ 16) }
         ensures counted { OnOk result (spilled_number self.new ≡ 0) }
+        ensures paged { OnOk result (written_pages self.new ≡ 0) }
         ensures alive { self.new.tapes.is_dead ≡ false }
         ensures source { self.new.source ≡ self.old.source }
         ensures todo { self.new.todo ≡ self.old.todo }
@@ -218,6 +220,7 @@ impl SpillLists {
         requires len { length bytes.now ≤ 65535 }
         ensures spilled { OnOk result ((spilled ahead : List Record) (todo : List LeftList) → HasLists (D.last disk.old) self.old spilled ahead todo → HasLists (D.last disk.new) self.new (spilled ++ record { hash = hash; tag = tag; bytes = bytes.now } ∷ []) ahead todo) }
         ensures counted { OnOk result (spilled_number self.new ≡ spilled_number self.old + 1) }
+        ensures paged { OnOk result (D.writes disk.new + written_pages self.old ≡ D.writes disk.old + written_pages self.new) }
         ensures alive { OnOk result (self.new.tapes.is_dead ≡ false) }
         ensures source { self.new.source ≡ self.old.source }
         ensures todo { self.new.todo ≡ self.old.todo }
@@ -244,6 +247,7 @@ impl SpillLists {
         ensures left { OnOk result ((spilled ahead : List Record) (todo : List LeftList) → HasLists (D.last disk.old) self.old spilled ahead todo → HasLists (D.last disk.new) self.new [] ahead (todo ++ left_by self.old.level spilled)) }
         ensures parts { OnOk result (self.new.parts ≡ []) }
         ensures waiting { OnOk result (waiting_number self.new ≡ waiting_number self.old + spilled_number self.old) }
+        ensures paged { OnOk result ((spilled ahead : List Record) (todo : List LeftList) → HasLists (D.last disk.old) self.old spilled ahead todo → D.writes disk.new + written_pages self.old ≡ D.writes disk.old + pages_of (lists self.old.level spilled)) }
         ensures alive { OnOk result (self.new.tapes.is_dead ≡ false) }
         ensures source { self.new.source ≡ self.old.source }
         ensures level { self.new.level ≡ self.old.level }
@@ -264,6 +268,7 @@ impl SpillLists {
         requires parts { self.old.parts ≡ [] }
         requires apart { times list.tape.index (self.old.source ++ self.old.todo) ≡ 0 }
         ensures left { OnOk result (self.new.todo ≡ self.old.todo ++ those_with_records (list ∷ [])) }
+        ensures paged { OnOk result ((records : List Record) → IsTape (D.last disk.old) self.old.tapes list.tape records → list.records ≡ length records → D.writes disk.new + written_len self.old.tapes list.tape / 8192 ≡ D.writes disk.old + list_pages records) }
         ensures kept { OnOk result (0 < list.records → (records : List Record) → IsTape (D.last disk.old) self.old.tapes list.tape records → IsTape (D.last disk.new) self.new.tapes list.tape records) }
         ensures others { KeepsOthers (D.last disk.old) (D.last disk.new) self.old.tapes self.new.tapes list.tape }
         ensures alive { OnOk result (self.new.tapes.is_dead ≡ false) }
@@ -273,6 +278,7 @@ impl SpillLists {
         ensures refused { IfErr result (IsSpillRefusal (D.failures disk.old) (D.failures disk.new)) }
         ensures disk { Moves (D.failures disk.old) (D.failures disk.new) (D.writes disk.old) (D.writes disk.new) (D.honest disk.old) (D.honest disk.new) }
     {
+        self.tapes.bytes_written(disk, list.tape);
         if list.records == 0 {
             self.tapes.close(disk, list.tape);
             return Ok(());
@@ -325,6 +331,8 @@ impl SpillLists {
         ensures nothing { OnErr result (bytes.new.items ≡ []) }
         ensures alive { OnOk result (self.new.tapes.is_dead ≡ false) }
         ensures parts { self.new.parts ≡ self.old.parts }
+        ensures writes { D.writes disk.new ≡ D.writes disk.old }
+        ensures paged { written_pages self.new ≡ written_pages self.old }
         ensures todo { self.new.todo ≡ self.old.todo }
         ensures level { self.new.level ≡ self.old.level }
         ensures refused { IfErr result (IsReadRefusal (D.failures disk.old) (D.failures disk.new)) }

@@ -220,6 +220,15 @@ impl Tapes {
         }
     }
 
+    /// A law: as many bytes were written to a tape that is being written as its records have.
+    #[tactic(auto, using(crate::proofs::TapesLaws::bytes_written))]
+    pub fn bytes_written<D: TapeDisk>(&self, _disk: &D, _tape: TapeId)
+        requires { is_written self.now _tape ≡ true }
+        ensures { (rs : List Record) → IsTape (D.last _disk.now) self.now _tape rs → written_len self.now _tape ≡ length (tape_bytes rs) }
+    {
+        let _pool = &self.pool;
+    }
+
     /// Ends the writing of a tape, which is then to be read.
     #[tactic(auto, using(crate::proofs::TapesLaws::bytes_written))]
     pub fn rewind<D: TapeDisk>(&mut self, disk: &mut D, tape: TapeId) -> Result<(), TapeError>

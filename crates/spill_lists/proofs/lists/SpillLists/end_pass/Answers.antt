@@ -1,10 +1,12 @@
-use Rattle.std.proofs.Common.{◌≡◌, ◌+◌, ◌<◌, ◌∷◌, [], ℕ, List, false, length, get_or, drop, ap, sym, subst, ◌∙◌, add-one}
+use Rattle.std.proofs.Common.{◌≡◌, ◌+◌, ◌<◌, ◌∷◌, ◌++◌, [], ℕ, List, false, length, get_or, drop, ap, sym, subst, ◌∙◌, add-one}
 use Rattle.spill_lists.specs.declared.lists.OnTape.{OnTape}
 use Rattle.spill_lists.specs.Fields.{one_or_none}
-use Rattle.spill_lists.specs.Standing.{ListsState}
+use Rattle.spill_lists.specs.Lists.{lists}
+use Rattle.spill_lists.specs.Standing.{ListsState, AreSpilled, pages_of, written_pages}
+use Rattle.spill_lists.proofs.PageLaws.{IsPaged, paged_start, paged_step, paged_end, rest_apart}
 use Rattle.std.proofs.Math.Seq.{drop-cons}
 use Rattle.std.proofs.lemmas.List.{drop_all}
-use Rattle.spill_lists.proofs.PassLaws.{IsEnding, ending_start, lists_without, ending_written, ending_beside, ending_step, ending_end, moves_none, moves_twice}
+use Rattle.spill_lists.proofs.PassLaws.{IsEnding, ending_start, lists_without, ending_written, ending_apart, ending_beside, ending_step, ending_end, moves_none, moves_twice}
 use Rattle.spill_lists.proofs.StandingLaws.{state}
 use Rattle.spill_lists.proofs.lists.SpillLists.end_pass.Goals as goal
 
@@ -21,6 +23,10 @@ loop-list-init g c =
     record {
       lists = subst (λ (s : ListsState). IsEnding (g.D.TapeDisk.last c.args.disk.now) (g.D.TapeDisk.last c.args.disk.now) s (state c.self.inside.tapes c.self.inside.level c.replace-parts.new.dest.items (one_or_none c.self.inside.source) c.self.inside.todo.items) c.deref-list-items.result.now) c.self.view_is
           (ending_start (g.D.TapeDisk.last c.args.disk.now) c.self.inside.tapes c.self.inside.level c.self.inside.parts.items c.replace-parts.new.dest.items (one_or_none c.self.inside.source) c.self.inside.todo.items c.deref-list-items.result.now alive empty is c.self.invariant);
+      pages = λ spilled ahead todo had.
+          subst (λ (s : ListsState). IsPaged (g.D.TapeDisk.last c.args.disk.now) c.self.inside.tapes c.deref-list-items.result.now (g.D.TapeDisk.writes c.args.disk.now) (pages_of (lists s.level spilled)) (written_pages s) (g.D.TapeDisk.writes c.args.disk.now)) c.self.view_is
+          (paged_start (g.D.TapeDisk.last c.args.disk.now) c.self.inside.tapes c.self.inside.level c.self.inside.parts.items c.deref-list-items.result.now spilled (g.D.TapeDisk.writes c.args.disk.now) is
+          (subst (λ (s : ListsState). AreSpilled (g.D.TapeDisk.last c.args.disk.now) s.tapes s.level s.parts spilled) (sym c.self.view_is) had.spilled_are));
       disk = moves_none (g.D.TapeDisk.failures c.args.disk.now) (g.D.TapeDisk.writes c.args.disk.now) (g.D.TapeDisk.honest c.args.disk.now);
     }
 
@@ -45,8 +51,18 @@ loop-list-preserved g c =
     let here : drop c.loop-list.list-index c.deref-list-items.result.now ≡ x ∷ drop (c.loop-list.list-index + 1) c.deref-list-items.result.now = next_of c.deref-list-items.result.now c.loop-list.list-index (record { tape = record { index = 0 }; records = 0; level = 0 }) c.loop-list-test.true in
     record {
       lists = ending_step (g.D.TapeDisk.last c.args.disk.now) (g.D.TapeDisk.last c.loop-list.disk) (g.D.TapeDisk.last c.leave.new.disk) c.args.self.now c.loop-list.self c.leave.new.self (drop c.loop-list.list-index c.deref-list-items.result.now) (drop (c.loop-list.list-index + 1) c.deref-list-items.result.now) x here c.leave.ensures.others c.in_ok-leave.ensures.kept c.in_ok-leave.ensures.left c.in_ok-leave.ensures.alive c.leave.ensures.parts c.leave.ensures.source c.leave.ensures.level c.loop-list.invariant.lists;
+      pages = λ spilled ahead todo had.
+          paged_step (g.D.TapeDisk.last c.loop-list.disk) (g.D.TapeDisk.last c.leave.new.disk) c.loop-list.self.tapes c.leave.new.self.tapes (drop c.loop-list.list-index c.deref-list-items.result.now) (drop (c.loop-list.list-index + 1) c.deref-list-items.result.now) x
+          (g.D.TapeDisk.writes c.args.disk.now) (pages_of (lists c.args.self.now.level spilled)) (written_pages c.args.self.now) (g.D.TapeDisk.writes c.loop-list.disk) (g.D.TapeDisk.writes c.leave.new.disk) here c.leave.ensures.others
+          (rest_apart (drop (c.loop-list.list-index + 1) c.deref-list-items.result.now) (c.loop-list.self.source ++ c.loop-list.self.todo) x.tape.index (ending_apart (g.D.TapeDisk.last c.args.disk.now) (g.D.TapeDisk.last c.loop-list.disk) c.args.self.now c.loop-list.self (drop c.loop-list.list-index c.deref-list-items.result.now) (drop (c.loop-list.list-index + 1) c.deref-list-items.result.now) x here c.loop-list.invariant.lists))
+          c.in_ok-leave.ensures.paged (c.loop-list.invariant.pages spilled ahead todo had);
       disk = moves_twice (g.D.TapeDisk.failures c.args.disk.now) (g.D.TapeDisk.failures c.loop-list.disk) (g.D.TapeDisk.failures c.leave.new.disk) (g.D.TapeDisk.writes c.args.disk.now) (g.D.TapeDisk.writes c.loop-list.disk) (g.D.TapeDisk.writes c.leave.new.disk) (g.D.TapeDisk.honest c.args.disk.now) (g.D.TapeDisk.honest c.loop-list.disk) (g.D.TapeDisk.honest c.leave.new.disk) c.loop-list.invariant.disk c.leave.ensures.disk;
     }
 
 pub returns-clause-left : goal.returns-clause-left
 returns-clause-left g c = ending_end (g.D.TapeDisk.last c.args.disk.now) (g.D.TapeDisk.last c.loop-list.disk) c.args.self.now c.loop-list.self (drop c.loop-list.list-index c.deref-list-items.result.now) (drop_all c.loop-list.list-index c.deref-list-items.result.now c.loop-list-test.false) c.loop-list.invariant.lists
+
+pub returns-clause-paged : goal.returns-clause-paged
+returns-clause-paged g c = λ spilled ahead todo had.
+    paged_end (g.D.TapeDisk.last c.loop-list.disk) c.loop-list.self.tapes (drop c.loop-list.list-index c.deref-list-items.result.now) (g.D.TapeDisk.writes c.args.disk.now) (pages_of (lists c.args.self.now.level spilled)) (written_pages c.args.self.now) (g.D.TapeDisk.writes c.loop-list.disk)
+    (drop_all c.loop-list.list-index c.deref-list-items.result.now c.loop-list-test.false) (c.loop-list.invariant.pages spilled ahead todo had)

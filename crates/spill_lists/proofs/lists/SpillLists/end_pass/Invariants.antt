@@ -1,10 +1,18 @@
+use Rattle.std.specs.Prelude.{List}
 use Rattle.std.proofs.Common.{drop}
-use Rattle.spill_lists.specs.Standing.{Moves}
+use Rattle.spill_tapes.specs.Records.{Record}
+use Rattle.spill_lists.specs.Lists.{LeftList, lists}
+use Rattle.spill_lists.specs.Standing.{Moves, HasLists, pages_of, written_pages}
+use Rattle.spill_lists.proofs.PageLaws.{IsPaged}
 use Rattle.spill_lists.proofs.PassLaws.{IsEnding}
 use Rattle.spill_lists.proofs.lists.SpillLists.end_pass.Given as goal
 
 abbrev pub invariant-loop-list : goal.invariant-loop-list
 invariant-loop-list g l = record {
+  pages :
+      (spilled ahead : List Record) (todo : List LeftList)
+      → HasLists (g.D.TapeDisk.last l.fn.disk) l.fn.self spilled ahead todo
+      → IsPaged (g.D.TapeDisk.last l.disk) l.self.tapes (drop l.list-index l.list-items) (g.D.TapeDisk.writes l.fn.disk) (pages_of (lists l.fn.self.level spilled)) (written_pages l.fn.self) (g.D.TapeDisk.writes l.disk);
   lists : IsEnding (g.D.TapeDisk.last l.fn.disk) (g.D.TapeDisk.last l.disk) l.fn.self l.self (drop l.list-index l.list-items);
   disk : Moves (g.D.TapeDisk.failures l.fn.disk) (g.D.TapeDisk.failures l.disk) (g.D.TapeDisk.writes l.fn.disk) (g.D.TapeDisk.writes l.disk) (g.D.TapeDisk.honest l.fn.disk) (g.D.TapeDisk.honest l.disk);
 }

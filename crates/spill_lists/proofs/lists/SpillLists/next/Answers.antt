@@ -1,8 +1,9 @@
 use Rattle.std.proofs.Common.{◌≡◌, false, refl, arith, ap, sym, subst, ◌∙◌}
 use Rattle.spill_lists.specs.declared.lists.OnTape.{OnTape}
 use Rattle.spill_lists.specs.Fields.{lists_of, one_or_none}
-use Rattle.spill_lists.specs.Standing.{ListsState, HasLists}
+use Rattle.spill_lists.specs.Standing.{ListsState, HasLists, written_pages}
 use Rattle.spill_lists.proofs.StandingLaws.{lists_ended, has_ended, lists_read, has_read, lists_same, tape_ahead}
+use Rattle.spill_lists.proofs.PageLaws.{kept_pages, source_apart}
 use Rattle.spill_lists.proofs.lists.SpillLists.next.Goals as goal
 
 pub invariant_of-self : goal.invariant_of-self
@@ -32,3 +33,27 @@ returns-in-Ok-Some-clause-gives g c honest spilled ahead todo had =
     let ensured = rw c.in-Ok-Some.field-0-is at c.in-Ok-Some.ensures in
     has_read (g.D.TapeDisk.last c.args.disk.now) (g.D.TapeDisk.last c.next.new.disk) c.self.inside.tapes c.next.new.self c.self.inside.level c.self.inside.parts.items (one_or_none c.self.inside.source) c.self.inside.todo.items spilled ahead todo c.in-Some.list y c.next.new.bytes.items c.in-Ok-Some.found (ap one_or_none c.in-Some.is) refl (omega (arith, c.in-Some-checked_sub.ensures)) c.next.ensures.others c.self.invariant.apart here
     (ensured.gives honest ahead (tape_ahead (g.D.TapeDisk.last c.args.disk.now) c.self.inside.tapes c.self.inside.level c.self.inside.parts.items (one_or_none c.self.inside.source) c.self.inside.todo.items spilled ahead todo c.in-Some.list (ap one_or_none c.in-Some.is) here).0)
+
+pub returns-in_default-checked_sub-clause-paged : goal.returns-in_default-checked_sub-clause-paged
+returns-in_default-checked_sub-clause-paged g c =
+    kept_pages (g.D.TapeDisk.last c.args.disk.now) (g.D.TapeDisk.last c.args.disk.now) c.self.inside.tapes c.close.new.self c.in-Some.list.tape c.self.inside.parts.items c.close.ensures.others
+    (source_apart c.self.inside.parts.items (one_or_none c.self.inside.source) c.self.inside.todo.items c.in-Some.list (ap one_or_none c.in-Some.is) c.self.invariant.apart)
+    ∙ ap written_pages c.self.view_is
+
+pub returns-in-Ok-Some-clause-paged : goal.returns-in-Ok-Some-clause-paged
+returns-in-Ok-Some-clause-paged g c =
+    kept_pages (g.D.TapeDisk.last c.args.disk.now) (g.D.TapeDisk.last c.next.new.disk) c.self.inside.tapes c.next.new.self c.in-Some.list.tape c.self.inside.parts.items c.next.ensures.others
+    (source_apart c.self.inside.parts.items (one_or_none c.self.inside.source) c.self.inside.todo.items c.in-Some.list (ap one_or_none c.in-Some.is) c.self.invariant.apart)
+    ∙ ap written_pages c.self.view_is
+
+pub returns-in-Ok-None-clause-paged : goal.returns-in-Ok-None-clause-paged
+returns-in-Ok-None-clause-paged g c =
+    kept_pages (g.D.TapeDisk.last c.args.disk.now) (g.D.TapeDisk.last c.next.new.disk) c.self.inside.tapes c.next.new.self c.in-Some.list.tape c.self.inside.parts.items c.next.ensures.others
+    (source_apart c.self.inside.parts.items (one_or_none c.self.inside.source) c.self.inside.todo.items c.in-Some.list (ap one_or_none c.in-Some.is) c.self.invariant.apart)
+    ∙ ap written_pages c.self.view_is
+
+pub returns-in-Err-clause-paged : goal.returns-in-Err-clause-paged
+returns-in-Err-clause-paged g c =
+    kept_pages (g.D.TapeDisk.last c.args.disk.now) (g.D.TapeDisk.last c.next.new.disk) c.self.inside.tapes c.next.new.self c.in-Some.list.tape c.self.inside.parts.items c.next.ensures.others
+    (source_apart c.self.inside.parts.items (one_or_none c.self.inside.source) c.self.inside.todo.items c.in-Some.list (ap one_or_none c.in-Some.is) c.self.invariant.apart)
+    ∙ ap written_pages c.self.view_is

@@ -1,10 +1,11 @@
 use Rattle.std.proofs.Common.{◌≡◌, ◌++◌, arith, ap, sym, subst, ◌∙◌}
 use Rattle.spill_lists.specs.Lists.{deeper}
 use Rattle.spill_lists.specs.Fields.{lists_of, one_or_none}
-use Rattle.spill_lists.specs.Standing.{ListsState, HasLists, AreLists, AreApart, AreWritten}
+use Rattle.spill_lists.specs.Standing.{ListsState, HasLists, AreLists, AreApart, AreWritten, full_pages}
 use Rattle.spill_lists.proofs.OpenLaws.{opening_start, opening_step, opening_has}
 use Rattle.spill_lists.proofs.StandingLaws.{lists_opened}
 use Rattle.spill_lists.proofs.ListLaws.{AreNew, new_written, new_count}
+use Rattle.spill_lists.proofs.PageLaws.{new_pages}
 use Rattle.spill_lists.proofs.lists.SpillLists.open_lists.Goals as goal
 
 pub loop-place-init : goal.loop-place-init
@@ -37,3 +38,8 @@ returns-clause-opened g c spilled ahead todo had =
 
 pub returns-clause-counted : goal.returns-clause-counted
 returns-clause-counted g c = new_count (g.D.TapeDisk.last c.args.disk.now) c.loop-place.self.tapes c.deeper-level.result c.loop-place.parts.items c.loop-place.invariant.new
+
+pub returns-clause-paged : goal.returns-clause-paged
+returns-clause-paged g c =
+    subst (λ (s : ListsState). full_pages s.tapes c.loop-place.parts.items ≡ 0) (sym c.self-2.view_is)
+    (new_pages (g.D.TapeDisk.last c.args.disk.now) c.loop-place.self.tapes c.deeper-level.result c.loop-place.parts.items c.loop-place.invariant.new)
