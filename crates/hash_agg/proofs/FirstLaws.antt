@@ -10,8 +10,8 @@ use Rattle.aggregation_cost.specs.Cost.{Cost}
 use Rattle.aggregation_cost.specs.Passes.{EachFits}
 use Rattle.aggregation_cost.specs.Space.{Setting}
 use Rattle.spill_tapes.specs.Records.{Record}
-use Rattle.spill_lists.specs.Lists.{LeftList, left_by}
-use Rattle.spill_lists.specs.Standing.{ListsState, HasLists, count_of, spilled_number, waiting_number}
+use Rattle.spill_lists.specs.Lists.{LeftList, lists, left_by}
+use Rattle.spill_lists.specs.Standing.{ListsState, HasLists, count_of, spilled_number, waiting_number, pages_of, written_pages}
 use Rattle.hash_agg.specs.Runs.{Entry, Rises}
 use Rattle.hash_agg.specs.Inputs.{Brought, rows_in, all_rows}
 use Rattle.hash_agg.specs.Passes.{Piece, PassState, Holds, records_of, total}
@@ -51,18 +51,21 @@ first_total entries lists empty none =
     omega (arith, a, b)
 
 -- after all of them
-pub first_waits : (q : Query) (s : Setting) (pieces : List Piece) (pass : PassState) (run : List Entry) (after : ListsState) (now : ℕ → ℕ → Type 0) (before done : Work) → IsPermutation pass.entries run → Rises run → pass.lists.level ≡ 0 → EachFits s (records_of q s.width pieces)
+pub first_waits : (q : Query) (s : Setting) (pieces : List Piece) (pass : PassState) (run : List Entry) (after : ListsState) (now : ℕ → ℕ → Type 0) (before done : Work) (start written end : ℕ) → IsPermutation pass.entries run → Rises run → pass.lists.level ≡ 0 → EachFits s (records_of q s.width pieces) → written ≡ start + written_pages pass.lists
     → ((spilled ahead : List Record) (todo : List LeftList) → HasLists pass.last pass.lists spilled ahead todo → HasLists now after [] ahead (todo ++ left_by pass.lists.level spilled))
+    → ((spilled ahead : List Record) (todo : List LeftList) → HasLists pass.last pass.lists spilled ahead todo → end + written_pages pass.lists ≡ written + pages_of (lists pass.lists.level spilled))
     → ((spilled ahead : List Record) (todo : List LeftList) (pages : ℕ) → HasLists pass.last pass.lists spilled ahead todo → AddsUp before (pass_cost s.width pass.entries (length spilled) pages) done)
-    → Holds q s pass pieces [] [] → (todo : List LeftList) × HasLists now after [] [] todo × Waits q s.hash pieces run todo × (made : Cost) × Costs q s pieces made todo × AddsUp before made done
-first_waits q s pieces pass run after now before done moved rises top fit left adds (spilled, has, stands, spills) =
-    let costs = costs_first q s pieces pass.entries pass.lists.parts spilled fit spills in (
+    → Holds q s pass pieces [] [] → (todo : List LeftList) × HasLists now after [] [] todo × Waits q s.hash pieces run todo × (made : Cost) × Costs q s pieces made todo × AddsUp before made done × (end ≡ start + made.pages)
+first_waits q s pieces pass run after now before done start written end moved rises top fit so_far left paged adds (spilled, has, stands, spills) =
+    let all : pages_of (lists pass.lists.level spilled) ≡ pages_of (lists 0 spilled) = ap (λ level. pages_of (lists level spilled)) top in
+    let sum = paged spilled [] [] has in (
       left_by pass.lists.level spilled,
       left spilled [] [] has,
       waits_first q s.hash pieces run spilled pass.lists.level (ends q s.hash pieces pass.entries run spilled spilled moved rises refl stands),
-      pass_cost s.width pass.entries (length spilled) costs.0,
-      subst (λ level. Costs q s pieces (pass_cost s.width pass.entries (length spilled) costs.0) (left_by level spilled)) (sym top) costs.1,
-      adds spilled [] [] costs.0 has,
+      pass_cost s.width pass.entries (length spilled) (pages_of (lists 0 spilled)),
+      subst (λ level. Costs q s pieces (pass_cost s.width pass.entries (length spilled) (pages_of (lists 0 spilled))) (left_by level spilled)) (sym top) (costs_first q s pieces pass.entries pass.lists.parts spilled fit spills),
+      adds spilled [] [] (pages_of (lists 0 spilled)) has,
+      omega (arith, all, sum, so_far),
     )
 
 pub first_few : (entries run : List Entry) (lists after : ListsState) (most : ℕ) → IsPermutation entries run → waiting_number after ≡ waiting_number lists + spilled_number lists → lists.todo ≡ [] → total entries lists ≤ most → length run + waiting_number after ≤ most

@@ -3,7 +3,8 @@ use Rattle.std.specs.Prelude.{◌≡◌, ◌≢◌, refl, ℕ, zero, suc, ◌+�
 use Rattle.std.proofs.Common.{sym, ◌∙◌, ap, subst, arith, append-nil}
 use Rattle.std.proofs.lemmas.List.Concat.{flat_map-append}
 use Rattle.std.proofs.lemmas.Bool.{or_right}
-use Rattle.std.proofs.lemmas.List.{map-append}
+use Rattle.std.specs.Int.{w16, to_be_bytes}
+use Rattle.std.proofs.lemmas.List.{map-append, length-append}
 use Rattle.grouping_model.specs.Datum.{Row, HasKinds}
 use Rattle.grouping_model.specs.Condition.{is_met}
 use Rattle.grouping_model.specs.Query.{Query}
@@ -16,8 +17,9 @@ use Rattle.aggregation_cost.proofs.Steps.{taken_from-push, spilled_from-push}
 use Rattle.spill_tapes.specs.Records.{Record}
 use Rattle.spill_lists.specs.declared.lists.OnTape.{OnTape}
 use Rattle.hash_agg.specs.Runs.{Entry, packed_keys}
-use Rattle.hash_agg.specs.Passes.{Piece, Of_row, Of_group, IsPiece, piece_key, HasNoKey, cost_records, records_of, IsCosted, AreCosted, Spills}
+use Rattle.hash_agg.specs.Passes.{Piece, Of_row, Of_group, IsPiece, piece_key, HasNoKey, states_width, cost_records, records_of, IsCosted, AreCosted, Spills}
 use Rattle.hash_agg.proofs.PassLaws.{IsKept}
+use Rattle.hash_agg.proofs.StateLaws.{states_long}
 
 -- ---- keys
 
@@ -49,13 +51,24 @@ pub records_more : (q : Query) (width : ℕ) (ps more : List Piece) → records_
 records_more q width ps more = flat_map-append (cost_records q width) ps more
 
 -- a piece that WHERE keeps is one record of its key
-pub kept_record : (q : Query) (width : ℕ) (p : Piece) → IsKept q p → (one : cost.Record) × (cost_records q width p ≡ one ∷ []) × (one.key ≡ packing (piece_key q p))
+abbrev pub kept_record : (q : Query) (width : ℕ) (p : Piece) → IsKept q p → (one : cost.Record) × (cost_records q width p ≡ one ∷ []) × (one.key ≡ packing (piece_key q p))
 kept_record q width (Of_row row) kept = (cost.of_row (packing (key_of q row)) (packing row), ap (λ b. cond b (cost.of_row (packing (key_of q row)) (packing row) ∷ []) []) kept, refl)
 kept_record q width (Of_group group most) kept = (record { key = packing group.0; on_tape = 9 + (2 + length (packing group.0) + width) }, refl, refl)
 
 piece_hash : (q : Query) (hf : List ℕ → ℕ) (one : Record) (p : Piece) → IsPiece q hf one p → one.hash ≡ hf (packing (piece_key q p))
 piece_hash q hf one (Of_row row) is = is.hashed
 piece_hash q hf one (Of_group group most) is = is.hashed
+
+-- and has as many bytes on a tape
+piece_long : (q : Query) (hf : List ℕ → ℕ) (width : ℕ) (one : Record) (p : Piece) (kept : IsKept q p) → width ≡ states_width q → IsPiece q hf one p → 9 + length one.bytes ≡ (kept_record q width p kept).0.on_tape
+piece_long q hf width one (Of_row row) kept wide is = ap (λ (bytes : List ℕ). 9 + length bytes) is.bytes
+piece_long q hf width one (Of_group group most) kept wide is =
+    let states = states_long q most is.states group.1 is.stands.states in
+    let front : length (to_be_bytes w16 (length (packing group.0))) ≡ 2 = refl in
+    let whole = length-append (to_be_bytes w16 (length (packing group.0))) (packing group.0 ++ is.states) in
+    let both = length-append (packing group.0) is.states in
+    let same = ap (λ (bytes : List ℕ). length bytes) is.bytes in
+    omega (arith, states, front, whole, both, same, wide)
 
 pub costed_append : (q : Query) (s : Setting) (xs ys : List Record) (cs ds : List cost.Record) → AreCosted q s xs cs → AreCosted q s ys ds → AreCosted q s (xs ++ ys) (cs ++ ds)
 costed_append q s [] ys [] ds are more = more
@@ -179,14 +192,14 @@ module _ (q : Query) (s : Setting) (ps : List Piece) (p : Piece) (key : Key) (na
       }
 
   -- it is spilled
-  pub spills_left : (one : Record) (now : List OnTape) → IsPiece q s.hash one p → cost.is_one_of (packed_keys es) key ≡ false → (cost.is_empty parts && fits s (packed_keys es ++ key ∷ [])) ≡ false → cost.is_empty now ≡ false → Spills q s (ps ++ p ∷ []) es now (left ++ one ∷ [])
-  spills_left one now is absent out begun =
+  pub spills_left : (one : Record) (now : List OnTape) → s.width ≡ states_width q → IsPiece q s.hash one p → cost.is_one_of (packed_keys es) key ≡ false → (cost.is_empty parts && fits s (packed_keys es ++ key ∷ [])) ≡ false → cost.is_empty now ≡ false → Spills q s (ps ++ p ∷ []) es now (left ++ one ∷ [])
+  spills_left one now wide is absent out begun =
       let shut : (none_yet && may_enter) ≡ false = (λ i. told i && may i) ∙ out in
       let taken : cost.taken_from s (records_of q s.width (ps ++ p ∷ [])) ≡ cost.taken_from s rs = taken_so ∙ stays_out none_yet may_enter (cost.taken_from s rs ++ new.key ∷ []) (cost.taken_from s rs) (cost.is_one_of (cost.taken_from s rs) new.key) (found false absent) shut in
       let spilled = spilled_so false (ap (λ keys. cost.is_one_of keys new.key) taken ∙ found false absent) in
       record {
         took = sp.took ∙ sym taken;
         spilled = subst (AreCosted q s (left ++ one ∷ [])) (sym spilled)
-            (costed_append q s left (one ∷ []) (cost.spilled_from s rs) (new ∷ []) sp.spilled (record { piece = p; is = is; costs = (kept_record q s.width p kept).1; hashed = piece_hash q s.hash one p is ∙ ap s.hash (sym (kept_record q s.width p kept).2) }, tt));
+            (costed_append q s left (one ∷ []) (cost.spilled_from s rs) (new ∷ []) sp.spilled (record { piece = p; is = is; costs = (kept_record q s.width p kept).1; hashed = piece_hash q s.hash one p is ∙ ap s.hash (sym (kept_record q s.width p kept).2); long = piece_long q s.hash s.width one p kept wide is }, tt));
         begun = begun ∙ sym (some_behind left one);
       }

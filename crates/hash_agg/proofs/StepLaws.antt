@@ -34,7 +34,7 @@ use Rattle.hash_agg.specs.declared.plan.Plan.{Plan}
 use Rattle.hash_agg.specs.Runs.{Entry, packed_keys}
 use Rattle.hash_agg.specs.Standing.{AreStates, StandsFor}
 use Rattle.hash_agg.specs.Steps.{AreWithin, AreAdvanced, AreCombined}
-use Rattle.hash_agg.specs.Passes.{Piece, Of_row, Of_group, group_record, IsGroupRecord, IsPiece, piece_key, piece_added, weight, rows_at, CountUpTo, AreOnce, AreGroupsBy, GroupsState, entries_of, WritesAt, Stands, Spills, AreSafe, PassState, standing, setting_of, Holds, CanRead, Reads, ReadsSome, IsAt, AreRows, AreOfRun, total, brings, brought_by, Brings, Proceeds}
+use Rattle.hash_agg.specs.Passes.{Piece, Of_row, Of_group, group_record, IsGroupRecord, IsPiece, piece_key, piece_added, weight, rows_at, CountUpTo, AreOnce, AreGroupsBy, GroupsState, entries_of, WritesAt, Stands, states_width, Spills, AreSafe, PassState, standing, setting_of, Holds, CanRead, Reads, ReadsSome, IsAt, AreRows, AreOfRun, total, brings, brought_by, Brings, Proceeds}
 use Rattle.hash_agg.proofs.KeyLaws.{key_has}
 use Rattle.hash_agg.proofs.NeedLaws.{keys_set}
 use Rattle.hash_agg.proofs.SpillLaws.{among_entries, none_of, spills_there, spills_new, spills_left}
@@ -46,6 +46,10 @@ use Rattle.hash_agg.proofs.PassLaws.{IsKept, after, by_at, by_set, by_append, ro
 pub on_ok : {T E : Type 0} (r : Result T E) {P Q : Type 0} → (P → Q) → OnOk r P → OnOk r Q
 on_ok (Ok x) gives holds = gives holds
 on_ok (Err e) gives holds = tt
+
+pub ok_both : {T E : Type 0} (r : Result T E) (P Q : Type 0) → OnOk r P → OnOk r Q → OnOk r (P × Q)
+ok_both (Ok x) P Q p q = (p, q)
+ok_both (Err e) P Q p q = tt
 
 pub on_error : {T E : Type 0} (r : Result T E) {P Q : E → Type 0} → ((e : E) → P e → Q e) → IfErr r P → IfErr r Q
 on_error (Ok x) gives holds = tt
@@ -314,9 +318,9 @@ module _ {Hash : Type 0} (plan : Plan) (hf : List ℕ → ℕ) (g : GroupsState 
   new_room (pieces, more, ahead, todo, holds, are, count) = let low = counted pieces more are count in (more, are, omega (arith, low))
 
   -- it is spilled
-  pub one_left : (h : GroupsState Hash) (after : ListsState) (now : ℕ → ℕ → Type 0) (one : Record) → HasNo g.table g.tree key → (is_empty lists.parts && fits (setting_of plan hf) (packed_keys (entries_of g) ++ key ∷ [])) ≡ false → h ≡ g → ((more : List Piece) (are : Are more) → IsPiece (meaning plan.query.now) hf one (told more are).piece)
+  pub one_left : (h : GroupsState Hash) (after : ListsState) (now : ℕ → ℕ → Type 0) (one : Record) → HasNo g.table g.tree key → length plan.first.items ≡ states_width (meaning plan.query.now) → (is_empty lists.parts && fits (setting_of plan hf) (packed_keys (entries_of g) ++ key ∷ [])) ≡ false → h ≡ g → ((more : List Piece) (are : Are more) → IsPiece (meaning plan.query.now) hf one (told more are).piece)
       → ((spilled ahead : List Record) (todo : List LeftList) → HasLists last lists spilled ahead todo → HasLists now after (spilled ++ one ∷ []) ahead todo) → Reads plan hf Are (standing g lists last) (standing h after now)
-  one_left h after now one absent out unchanged is puts pieces more ahead todo (spilled, has, stands, spills) are count =
+  one_left h after now one absent wide out unchanged is puts pieces more ahead todo (spilled, has, stands, spills) are count =
       let t = told more are in
       let put = puts spilled ahead todo has in (
         spilled ++ one ∷ [],
@@ -325,7 +329,7 @@ module _ {Hash : Type 0} (plan : Plan) (hf : List ℕ → ℕ) (g : GroupsState 
             (left_reads (meaning plan.query.now) hf g h spilled (spilled ++ one ∷ []) pieces t.piece one key t.named t.has t.kept absent unchanged refl (is more are) stands),
         subst (λ more. Spills (meaning plan.query.now) (setting_of plan hf) (pieces ++ more) (entries_of h) after.parts (spilled ++ one ∷ [])) (sym t.is)
             (subst (λ (h : GroupsState Hash). Spills (meaning plan.query.now) (setting_of plan hf) (pieces ++ t.piece ∷ []) (entries_of h) after.parts (spilled ++ one ∷ [])) (sym unchanged)
-            (spills_left (meaning plan.query.now) (setting_of plan hf) pieces t.piece key t.named t.kept (entries_of g) lists.parts spilled spills one after.parts (is more are)
+            (spills_left (meaning plan.query.now) (setting_of plan hf) pieces t.piece key t.named t.kept (entries_of g) lists.parts spilled spills one after.parts wide (is more are)
             (none_of (entries_of g) key (no_key g key absent)) out (lists_begun now after.tapes after.level after.parts spilled one put.spilled_are))),
       )
 

@@ -4,6 +4,7 @@ use Rattle.std.specs.List.{AllByRecursion, sum_by, range_with_len}
 use Rattle.std.proofs.Common.{sym, ◌∙◌, ap, subst, arith, append-nil}
 use Rattle.std.proofs.lemmas.Bool.Decides.{nat_tests}
 use Rattle.std.proofs.lemmas.List.Elements.{recursion_from_All}
+use Rattle.std.proofs.lemmas.List.{length-append}
 use Rattle.std.proofs.lemmas.List.Sums.{sum_by-cons}
 use Rattle.std.proofs.lemmas.List.Sorted.{IsPermutation-append_comm}
 use Rattle.having_filter.proofs.DistinctLaws.{all_append}
@@ -11,11 +12,13 @@ use Rattle.grouping_model.specs.Query.{Query}
 use Rattle.grouping_model.specs.Datum.{Row}
 use Rattle.packed_rows.specs.Packing.{packing}
 use Rattle.aggregation_cost.specs.Passes as cost
+use Rattle.aggregation_cost.specs.Cost as costs
 use Rattle.aggregation_cost.specs.Cost.{Cost, greatest, pages_by, needs_by, cost_of, both, cost_from}
 use Rattle.aggregation_cost.specs.Space.{Setting, need, fronts}
 use Rattle.aggregation_cost.proofs.WorkLaws.{cost_of_next, cost_reordered, fits_further_down}
-use Rattle.spill_tapes.specs.Records.{Record}
-use Rattle.spill_lists.specs.Lists.{LeftList, list_of, on_list, deeper, is_none, left_by}
+use Rattle.spill_tapes.specs.Records.{Record, header_of, record_bytes, tape_bytes}
+use Rattle.spill_lists.specs.Lists.{LeftList, list_of, on_list, deeper, is_none, lists, left_by}
+use Rattle.spill_lists.specs.Standing.{list_pages, pages_of}
 use Rattle.spill_lists.specs.declared.lists.OnTape.{OnTape}
 use Rattle.having_filter.specs.Kept.{IsWellFormed, key_kinds}
 use Rattle.hash_agg.specs.Runs.{Entry, packed_keys}
@@ -175,37 +178,67 @@ all_parts : {A : Type 0} (P : A → Type 0) (xs ys : List A) → AllByRecursion 
 all_parts P [] ys all = (tt, all)
 all_parts P (x ∷ xs) ys (first, all) = let both = all_parts P xs ys all in ((first, both.0), both.1)
 
--- the pages that it writes are by the level of its lists, all else is not
-same_but_pages : (s : Setting) (pass : cost.Pass) → (pages : ℕ) × (cost_of s (pass ∷ []) ≡ record { passes = 1; spilled = length (cost.spilled_from s pass.records); pages = pages; most_held = greatest (map (need s.width) (fronts (cost.taken_from s pass.records))) })
-same_but_pages s pass =
+-- ---- pages
+
+header_long : (hash tag len : ℕ) → length (header_of hash tag len) ≡ 9
+unfolding header_of
+header_long hash tag len = refl
+
+tape_long : (q : Query) (s : Setting) (rs : List Record) (cs : List cost.Record) → AreCosted q s rs cs → length (tape_bytes rs) ≡ sum_by (λ (one : cost.Record). one.on_tape) cs
+tape_long q s [] [] are = refl
+tape_long q s [] (c ∷ cs) are = absurd are
+tape_long q s (r ∷ rs) [] are = absurd are
+tape_long q s (r ∷ rs) (c ∷ cs) (first, are) =
+    let rest = tape_long q s rs cs are in
+    let sum = sum_by-cons (λ (one : cost.Record). one.on_tape) c cs in
+    let header = header_long r.hash r.tag (length r.bytes) in
+    let one = length-append (header_of r.hash r.tag (length r.bytes)) r.bytes in
+    let all = length-append (record_bytes r) (tape_bytes rs) in
+    let long = first.long in
+    omega (arith, rest, sum, header, one, all, long)
+
+some_pages : (q : Query) (s : Setting) (level : ℕ) (rs : List Record) (cs : List cost.Record) → AreCosted q s rs cs → (a n : ℕ) → pages_of (lists_of_some q s level rs a n) ≡ sum_by costs.pages_of (map (cost.on_list s level cs) (range_with_len a n))
+some_pages q s level rs cs are a zero = refl
+some_pages q s level rs cs are a (suc n) =
+    let here = tape_long q s (on_list (capped level) rs a) (cost.on_list s level cs a) (costed_on q s level a rs cs are) in
+    let one : list_pages (on_list (capped level) rs a) ≡ costs.pages_of (cost.on_list s level cs a) = ap (λ n. (n + 8191) / 8192) here in
+    let rest = some_pages q s level rs cs are (a + 1) n in
+    let x = sum_by-cons (λ (list : LeftList). list_pages list.records) (record { level = deeper (capped level); records = on_list (capped level) rs a }) (lists_of_some q s level rs (a + 1) n) in
+    let y = sum_by-cons costs.pages_of (cost.on_list s level cs a) (map (cost.on_list s level cs) (range_with_len (a + 1) n)) in
+    omega (arith, one, rest, x, y)
+
+pub pages_left : (q : Query) (s : Setting) (pass : cost.Pass) (rs : List Record) → AreCosted q s rs (cost.spilled_by s pass) → pages_of (lists (capped pass.level) rs) ≡ pages_by s pass
+pages_left q s pass rs are = some_pages q s pass.level rs (cost.spilled_by s pass) are 0 16
+
+-- what a pass costs by itself
+cost_of_one : (s : Setting) (pass : cost.Pass) → cost_of s (pass ∷ []) ≡ record { passes = 1; spilled = length (cost.spilled_from s pass.records); pages = pages_by s pass; most_held = greatest (map (need s.width) (fronts (cost.taken_from s pass.records))) }
+cost_of_one s pass =
     let sum = sum_by-cons (λ pass. length (cost.spilled_by s pass)) pass [] in
-    let none : sum_by (λ pass. length (cost.spilled_by s pass)) (pass ∷ []) ≡ length (cost.spilled_from s pass.records) = omega (arith, sum) in (
-      sum_by (pages_by s) (pass ∷ []),
-      λ i. record { passes = 1; spilled = none i; pages = sum_by (pages_by s) (pass ∷ []); most_held = greatest (append-nil (needs_by s pass) i) },
-    )
+    let spilled : sum_by (λ pass. length (cost.spilled_by s pass)) (pass ∷ []) ≡ length (cost.spilled_from s pass.records) = omega (arith, sum) in
+    let written = sum_by-cons (pages_by s) pass [] in
+    let pages : sum_by (pages_by s) (pass ∷ []) ≡ pages_by s pass = omega (arith, written) in
+    λ i. record { passes = 1; spilled = spilled i; pages = pages i; most_held = greatest (append-nil (needs_by s pass) i) }
 
 -- after the first pass
 pub costs_first : (q : Query) (s : Setting) (pieces : List Piece) (entries : List Entry) (parts : List OnTape) (spilled : List Record) → cost.EachFits s (records_of q s.width pieces) → Spills q s pieces entries parts spilled
-    → (pages : ℕ) × Costs q s pieces (pass_cost s.width entries (length spilled) pages) (left_by 0 spilled)
+    → Costs q s pieces (pass_cost s.width entries (length spilled) (pages_of (lists 0 spilled))) (left_by 0 spilled)
 costs_first q s pieces entries parts spilled fit sp =
     let first : cost.Pass = record { level = 0; records = records_of q s.width pieces } in
-    let one = same_but_pages s first in
     let long = as_long q s spilled (cost.spilled_from s first.records) sp.spilled in
-    let made : cost_of s (first ∷ []) ≡ pass_cost s.width entries (length spilled) one.0 =
-    one.1 ∙ (λ i. record { passes = 1; spilled = sym long i; pages = one.0; most_held = greatest (map (need s.width) (fronts (sym sp.took i))) }) in (
-      one.0,
-      record {
-        passes = cost.left_by s first;
-        left = lists_left q s first spilled sp.spilled;
-        fit = recursion_from_All (λ (next : cost.Pass). cost.EachFits s next.records) (cost.left_by s first) (fits_further_down s first fit);
-        whole =
-            ap (λ made. both made (cost_of s (flat_map (cost.passes_from s) (cost.left_by s first)))) (sym made)
-            ∙ ap (λ made. both made (cost_of s (flat_map (cost.passes_from s) (cost.left_by s first)))) (sym (none_made (cost_of s (first ∷ []))))
-            ∙ sym (one_made s none_yet [] first fit)
-            ∙ none_made (cost_of s (cost.passes_from s first ++ []))
-            ∙ ap (cost_of s) (append-nil (cost.passes_from s first));
-      },
-    )
+    let pages = pages_left q s first spilled sp.spilled in
+    let made : cost_of s (first ∷ []) ≡ pass_cost s.width entries (length spilled) (pages_of (lists 0 spilled)) =
+    cost_of_one s first ∙ (λ i. record { passes = 1; spilled = sym long i; pages = sym pages i; most_held = greatest (map (need s.width) (fronts (sym sp.took i))) }) in
+    record {
+      passes = cost.left_by s first;
+      left = lists_left q s first spilled sp.spilled;
+      fit = recursion_from_All (λ (next : cost.Pass). cost.EachFits s next.records) (cost.left_by s first) (fits_further_down s first fit);
+      whole =
+          ap (λ made. both made (cost_of s (flat_map (cost.passes_from s) (cost.left_by s first)))) (sym made)
+          ∙ ap (λ made. both made (cost_of s (flat_map (cost.passes_from s) (cost.left_by s first)))) (sym (none_made (cost_of s (first ∷ []))))
+          ∙ sym (one_made s none_yet [] first fit)
+          ∙ none_made (cost_of s (cost.passes_from s first ++ []))
+          ∙ ap (cost_of s) (append-nil (cost.passes_from s first));
+    }
 
 -- after one pass more, which read the last list
 module _ (q : Query) (s : Setting) (pieces : List Piece) (made : Cost) (others : List LeftList) (list : LeftList) (c : Costs q s pieces made (others ++ list ∷ [])) where
@@ -213,29 +246,28 @@ module _ (q : Query) (s : Setting) (pieces : List Piece) (made : Cost) (others :
   last = last_pass q s others list c.passes c.left
 
   pub costs_next : (rest : List Piece) (entries : List Entry) (parts : List OnTape) (spilled : List Record) (level : ℕ) → IsWellFormed q → level ≡ list.level → ArePieces q s.hash list.records rest → Spills q s rest entries parts spilled
-      → (pages : ℕ) × Costs q s pieces (both made (pass_cost s.width entries (length spilled) pages)) (others ++ left_by level spilled)
+      → Costs q s pieces (both made (pass_cost s.width entries (length spilled) (pages_of (lists level spilled)))) (others ++ left_by level spilled)
   costs_next rest entries parts spilled level formed deep are sp =
       let pass : cost.Pass = last.pass in
       let told : records_of q s.width rest ≡ pass.records = told_costs q s list.records rest pass.records formed are last.one.records in
       let fits = all_parts (λ (pass : cost.Pass). cost.EachFits s pass.records) last.front (pass ∷ []) (subst (AllByRecursion (λ (pass : cost.Pass). cost.EachFits s pass.records)) last.is c.fit) in
       let took : packed_keys entries ≡ cost.taken_from s pass.records = sp.took ∙ ap (cost.taken_from s) told in
       let sent : AreCosted q s spilled (cost.spilled_from s pass.records) = subst (λ records. AreCosted q s spilled (cost.spilled_from s records)) told sp.spilled in
-      let one = same_but_pages s pass in
       let long = as_long q s spilled (cost.spilled_from s pass.records) sent in
-      let by : cost_of s (pass ∷ []) ≡ pass_cost s.width entries (length spilled) one.0 =
-      one.1 ∙ (λ i. record { passes = 1; spilled = sym long i; pages = one.0; most_held = greatest (map (need s.width) (fronts (sym took i))) }) in (
-        one.0,
-        record {
-          passes = last.front ++ cost.left_by s pass;
-          left = left_append q s others (left_by level spilled) last.front (cost.left_by s pass) last.are (subst (λ level. AreLeft q s (left_by level spilled) (cost.left_by s pass)) (sym (deep ∙ last.one.level)) (lists_left q s pass spilled sent));
-          fit = all_append (λ (pass : cost.Pass). cost.EachFits s pass.records) last.front (cost.left_by s pass) fits.0 (recursion_from_All (λ (next : cost.Pass). cost.EachFits s next.records) (cost.left_by s pass) (fits_further_down s pass fits.1.0));
-          whole =
-              ap (λ one. both (both made one) (cost_of s (flat_map (cost.passes_from s) (last.front ++ cost.left_by s pass)))) (sym by)
-              ∙ sym (one_made s made last.front pass fits.1.0)
-              ∙ ap (λ passes. both made (cost_of s (flat_map (cost.passes_from s) passes))) (sym last.is)
-              ∙ c.whole;
-        },
-      )
+      let level_is : level ≡ capped pass.level = deep ∙ last.one.level in
+      let pages : pages_of (lists level spilled) ≡ pages_by s pass = ap (λ level. pages_of (lists level spilled)) level_is ∙ pages_left q s pass spilled sent in
+      let by : cost_of s (pass ∷ []) ≡ pass_cost s.width entries (length spilled) (pages_of (lists level spilled)) =
+      cost_of_one s pass ∙ (λ i. record { passes = 1; spilled = sym long i; pages = sym pages i; most_held = greatest (map (need s.width) (fronts (sym took i))) }) in
+      record {
+        passes = last.front ++ cost.left_by s pass;
+        left = left_append q s others (left_by level spilled) last.front (cost.left_by s pass) last.are (subst (λ level. AreLeft q s (left_by level spilled) (cost.left_by s pass)) (sym level_is) (lists_left q s pass spilled sent));
+        fit = all_append (λ (pass : cost.Pass). cost.EachFits s pass.records) last.front (cost.left_by s pass) fits.0 (recursion_from_All (λ (next : cost.Pass). cost.EachFits s next.records) (cost.left_by s pass) (fits_further_down s pass fits.1.0));
+        whole =
+            ap (λ one. both (both made one) (cost_of s (flat_map (cost.passes_from s) (last.front ++ cost.left_by s pass)))) (sym by)
+            ∙ sym (one_made s made last.front pass fits.1.0)
+            ∙ ap (λ passes. both made (cost_of s (flat_map (cost.passes_from s) passes))) (sym last.is)
+            ∙ c.whole;
+      }
 
 -- no list is left
 pub costs_end : (q : Query) (s : Setting) (pieces : List Piece) (made : Cost) → Costs q s pieces made [] → made ≡ cost_from s (record { level = 0; records = records_of q s.width pieces })

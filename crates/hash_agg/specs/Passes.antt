@@ -20,7 +20,7 @@ use Rattle.packed_rows.specs.Columns.{AreColumns}
 use Rattle.packed_rows.specs.Packing.{packing}
 use Rattle.spill_tapes.specs.Records.{Record}
 use Rattle.spill_lists.specs.Lists.{LeftList}
-use Rattle.spill_lists.specs.Standing.{ListsState, HasLists, spilled_number}
+use Rattle.spill_lists.specs.Standing.{ListsState, HasLists, spilled_number, written_pages}
 use Rattle.spill_lists.specs.declared.lists.OnTape.{OnTape}
 use Rattle.agg_protocol.specs.States.{most_rows, shape_of, width_of}
 use Rattle.having_filter.specs.Kept.{IsWellFormed}
@@ -183,6 +183,7 @@ pub record IsCosted (query : Query) (setting : Setting) (one : Record) (costed :
   pub is : IsPiece query setting.hash one piece
   pub costs : cost_records query setting.width piece ≡ costed ∷ []
   pub hashed : one.hash ≡ setting.hash costed.key
+  pub long : 9 + length one.bytes ≡ costed.on_tape
 
 abbrev pub AreCosted : Query → Setting → List Record → List cost.Record → Type 0
 AreCosted query setting [] [] = Unit {0}
@@ -329,6 +330,10 @@ pub record Proceeds (old : List Entry) (before : ListsState) (new : List Entry) 
 -- these pieces make as many groups and records as they bring, at most
 abbrev pub Brings : Query → (List Piece → Type 0) → List Entry → ListsState → List Entry → ListsState → Type 0
 Brings query Are old before new after = (more : List Piece) → Are more → total new after ≤ total old before + brought_by query more
+
+-- the pages that were written meanwhile are those that became full on the lists of the pass
+abbrev pub WritesPages : ℕ → ListsState → ℕ → ListsState → Type 0
+WritesPages written before now after = now + written_pages before ≡ written + written_pages after
 
 -- what is read stays as it is, and so is what is left to later passes
 pub record KeepsLists (before after : ListsState) : Type 0 where

@@ -44,7 +44,8 @@ use std::alloc::Global;
 /// at most.
 ///
 /// Beside the run it is told what the aggregation took, which over an honest disk is what `aggregation_cost` says of the selected rows and
-/// of the groups: one pass at least, and the blocks of its table never have more bytes than the limit of its means, over any disk.
+/// of the groups, and so is how often the disk was written. It is one pass at least, and over any disk the blocks of its table never
+/// have more bytes than the limit of its means.
 pub fn aggregate<H: KeyHash + Copy, D: TapeDisk>(
     alloc: Global,
     query: &Query,
@@ -58,6 +59,8 @@ pub fn aggregate<H: KeyHash + Copy, D: TapeDisk>(
     ensures run { IfOk result (λ done. IsRunOver (meaning query.now) (map brought inputs.now) done.0) }
     ensures work { IfOk result (λ done. IsTrue (D.honest disk.old) → (givens : List Given) → AllGive (meaning query.now) (map brought inputs.now) givens →
         IsWork done.1 (cost (setting_for (meaning query.now) means.now.limit (H.hash_of means.now.hash)) (records_of (meaning query.now) (states_width (meaning query.now)) (all_pieces (map brought inputs.now) givens)))) }
+    ensures pages { OnOk result (IsTrue (D.honest disk.old) → (givens : List Given) → AllGive (meaning query.now) (map brought inputs.now) givens →
+        D.writes disk.new ≡ D.writes disk.old + (cost (setting_for (meaning query.now) means.now.limit (H.hash_of means.now.hash)) (records_of (meaning query.now) (states_width (meaning query.now)) (all_pieces (map brought inputs.now) givens))).pages) }
     ensures passes { IfOk result (λ done. 1 ≤ done.1.passes) }
     ensures held { IfOk result (λ done. done.1.most_held ≤ means.now.limit) }
     ensures undamaged { IfErr result (λ error. IsTrue (D.honest disk.old) → error ≢ TapeDamaged) }
@@ -88,6 +91,8 @@ fn aggregated<H: KeyHash + Copy, D: TapeDisk>(
     ensures run { IfOk result (IsRunOver (meaning query.now) (map brought inputs.now)) }
     ensures work { OnOk result (IsTrue (D.honest disk.old) → (givens : List Given) → AllGive (meaning query.now) (map brought inputs.now) givens →
         AddsUp work.old (cost (setting_for (meaning query.now) means.now.limit (H.hash_of means.now.hash)) (records_of (meaning query.now) (states_width (meaning query.now)) (all_pieces (map brought inputs.now) givens))) work.new) }
+    ensures pages { OnOk result (IsTrue (D.honest disk.old) → (givens : List Given) → AllGive (meaning query.now) (map brought inputs.now) givens →
+        D.writes disk.new ≡ D.writes disk.old + (cost (setting_for (meaning query.now) means.now.limit (H.hash_of means.now.hash)) (records_of (meaning query.now) (states_width (meaning query.now)) (all_pieces (map brought inputs.now) givens))).pages) }
     ensures passes { OnOk result (1 ≤ work.new.passes) }
     ensures held { OnOk result (work.old.most_held ≤ means.now.limit → work.new.most_held ≤ means.now.limit) }
     ensures undamaged { IfErr result (λ error. IsTrue (D.honest disk.old) → error ≢ TapeDamaged) }
@@ -137,7 +142,7 @@ fn first_pass<H: KeyHash + Drop, D: TapeDisk>(
     requires level { pass.old.lists.level ≡ 0 }
     ensures waits { IfOk result (λ run. (givens : List Given) → AllGive (meaning plan.now.query.now) (map brought inputs.now) givens →
         (todo : List LeftList) × HasLists (D.last disk.new) pass.new.lists [] [] todo × Waits (meaning plan.now.query.now) (H.hash_of pass.old.groups.table.hash) (all_pieces (map brought inputs.now) givens) run todo
-        × (made : Cost) × Costs (meaning plan.now.query.now) (setting_of plan.now (H.hash_of pass.old.groups.table.hash)) (all_pieces (map brought inputs.now) givens) made todo × AddsUp work.old made work.new) }
+        × (made : Cost) × Costs (meaning plan.now.query.now) (setting_of plan.now (H.hash_of pass.old.groups.table.hash)) (all_pieces (map brought inputs.now) givens) made todo × AddsUp work.old made work.new × (D.writes disk.new ≡ D.writes disk.old + made.pages)) }
     ensures safe { IfOk result (AreSafe (meaning plan.now.query.now) plan.now.most) }
     ensures rises { IfOk result Rises }
     ensures few { IfOk result (λ run. (givens : List Given) → AllGive (meaning plan.now.query.now) (map brought inputs.now) givens →
@@ -186,7 +191,7 @@ fn later_passes<H: KeyHash + Drop, D: TapeDisk>(
         Costs (meaning plan.now.query.now) (setting_of plan.now (H.hash_of pass.old.groups.table.hash)) pieces made todo →
         Stands (meaning plan.now.query.now) (H.hash_of pass.old.groups.table.hash) pieces all []
         × (more : Cost) × (both made more ≡ cost (setting_of plan.now (H.hash_of pass.old.groups.table.hash)) (records_of (meaning plan.now.query.now) (length plan.now.first.items) pieces))
-        × ((start : Work) → AddsUp start made work.old → AddsUp start (both made more) work.new)) }
+        × ((start : Work) → AddsUp start made work.old → AddsUp start (both made more) work.new) × (D.writes disk.new ≡ D.writes disk.old + more.pages)) }
     ensures safe { IfOk result (AreSafe (meaning plan.now.query.now) plan.now.most) }
     ensures rises { IfOk result Rises }
     ensures few { IfOk result (λ all. length all ≤ length run + waiting_number pass.old.lists) }

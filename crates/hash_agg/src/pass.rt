@@ -3,8 +3,8 @@
 ghost use Rattle.std.specs.Prelude.{◌≡◌, ◌≢◌, ◌+◌, ◌<◌, ◌≤◌, ◌++◌, ◌∷◌, ◌&&◌, max, ℕ, List, [], true, false, is_some, length, IsTrue, IfOk, IfErr, IfSome, OnOk};
 ghost use Rattle.std.specs.List.Sorted.{IsPermutation};
 ghost use Rattle.spill_tapes.specs.Records.{Record};
-ghost use Rattle.spill_lists.specs.Lists.{LeftList, left_by};
-ghost use Rattle.spill_lists.specs.Standing.{HasLists, BeginsLast, Moves, IsReadRefusal, IsSpillRefusal, spilled_number, ahead_number, waiting_number};
+ghost use Rattle.spill_lists.specs.Lists.{LeftList, lists, left_by};
+ghost use Rattle.spill_lists.specs.Standing.{HasLists, BeginsLast, Moves, IsReadRefusal, IsSpillRefusal, spilled_number, ahead_number, waiting_number, pages_of, written_pages};
 ghost use Rattle.spill_lists.specs.declared.error.SpillError.TheVariants.{TapeDamaged};
 ghost use Rattle.aggregation_cost.specs.Passes.{is_empty};
 ghost use Rattle.aggregation_cost.specs.Space.{need, fits};
@@ -17,7 +17,7 @@ ghost use Rattle.having_filter.specs.Meaning.{meaning};
 ghost use Rattle.hash_agg.specs.Inputs.{brought, IsInput, rows_in};
 ghost use Rattle.hash_agg.specs.Runs.{Rises, packed_keys};
 ghost use Rattle.hash_agg.specs.Standing.{StandsFor, IsRun};
-ghost use Rattle.hash_agg.specs.Passes.{Piece, entries_of, HasPlace, IsPlan, IsSameTable, standing, setting_of, Holds, Reads, CanRead, AreSafe, Proceeds, Brings, KeepsLists, CountUpTo, Stands, ArePieces, AreRows, AreOfRun, AreOf, total, ReadsList, CanReadList};
+ghost use Rattle.hash_agg.specs.Passes.{Piece, entries_of, HasPlace, IsPlan, IsSameTable, standing, setting_of, Holds, Reads, CanRead, AreSafe, Proceeds, Brings, WritesPages, KeepsLists, CountUpTo, Stands, ArePieces, AreRows, AreOfRun, AreOf, total, ReadsList, CanReadList};
 ghost use Rattle.hash_agg.specs.Waiting.{AddsUp, pass_cost};
 
 use crate::groups::Groups;
@@ -122,6 +122,7 @@ impl<H: KeyHash + Drop> Pass<H> {
         requires met { is_met (column_of (row_of row.now)) (meaning plan.now.query.now).condition ≡ true }
         requires key { key.now ≡ packing (key_of (meaning plan.now.query.now) (row_of row.now)) }
         ensures reads { OnOk result (Reads plan.now (H.hash_of self.old.groups.table.hash) (AreRows (meaning plan.now.query.now) (packed.now ∷ [])) (standing self.old.groups self.old.lists (D.last disk.old)) (standing self.new.groups self.new.lists (D.last disk.new))) }
+        ensures pages { OnOk result (WritesPages (D.writes disk.old) self.old.lists (D.writes disk.new) self.new.lists) }
         ensures undamaged { IfErr result (λ error. CanRead plan.now (H.hash_of self.old.groups.table.hash) (AreRows (meaning plan.now.query.now) (packed.now ∷ [])) (standing self.old.groups self.old.lists (D.last disk.old)) → error ≢ TapeDamaged) }
         ensures safe { OnOk result (AreSafe (meaning plan.now.query.now) plan.now.most (entries_of self.old.groups) → AreSafe (meaning plan.now.query.now) plan.now.most (entries_of self.new.groups)) }
         ensures proceeds { OnOk result (Proceeds (entries_of self.old.groups) self.old.lists (entries_of self.new.groups) self.new.lists) }
@@ -160,6 +161,7 @@ impl<H: KeyHash + Drop> Pass<H> {
         requires alive { self.old.lists.tapes.is_dead ≡ false }
         requires group { (group : Group) × StandsFor (meaning plan.now.query.now) plan.now.most (key.now, states.now) group }
         ensures reads { OnOk result ((m : ℕ) → Reads plan.now (H.hash_of self.old.groups.table.hash) (AreOfRun (meaning plan.now.query.now) m ((key.now, states.now) ∷ [])) (standing self.old.groups self.old.lists (D.last disk.old)) (standing self.new.groups self.new.lists (D.last disk.new))) }
+        ensures pages { OnOk result (WritesPages (D.writes disk.old) self.old.lists (D.writes disk.new) self.new.lists) }
         ensures undamaged { IfErr result (λ error. (m : ℕ) → CanRead plan.now (H.hash_of self.old.groups.table.hash) (AreOfRun (meaning plan.now.query.now) m ((key.now, states.now) ∷ [])) (standing self.old.groups self.old.lists (D.last disk.old)) → error ≢ TapeDamaged) }
         ensures safe { OnOk result (AreSafe (meaning plan.now.query.now) plan.now.most (entries_of self.old.groups) → AreSafe (meaning plan.now.query.now) plan.now.most (entries_of self.new.groups)) }
         ensures proceeds { OnOk result (Proceeds (entries_of self.old.groups) self.old.lists (entries_of self.new.groups) self.new.lists) }
@@ -197,6 +199,7 @@ impl<H: KeyHash + Drop> Pass<H> {
         requires width { self.old.groups.table.width ≡ length plan.now.first.items }
         requires alive { self.old.lists.tapes.is_dead ≡ false }
         ensures reads { OnOk result (Reads plan.now (H.hash_of self.old.groups.table.hash) (AreRows (meaning plan.now.query.now) (packed.now ∷ [])) (standing self.old.groups self.old.lists (D.last disk.old)) (standing self.new.groups self.new.lists (D.last disk.new))) }
+        ensures pages { OnOk result (WritesPages (D.writes disk.old) self.old.lists (D.writes disk.new) self.new.lists) }
         ensures undamaged { IfErr result (λ error. CanRead plan.now (H.hash_of self.old.groups.table.hash) (AreRows (meaning plan.now.query.now) (packed.now ∷ [])) (standing self.old.groups self.old.lists (D.last disk.old)) → error ≢ TapeDamaged) }
         ensures safe { OnOk result (AreSafe (meaning plan.now.query.now) plan.now.most (entries_of self.old.groups) → AreSafe (meaning plan.now.query.now) plan.now.most (entries_of self.new.groups)) }
         ensures brings { OnOk result (Brings (meaning plan.now.query.now) (AreRows (meaning plan.now.query.now) (packed.now ∷ [])) (entries_of self.old.groups) self.old.lists (entries_of self.new.groups) self.new.lists) }
@@ -227,6 +230,7 @@ impl<H: KeyHash + Drop> Pass<H> {
         requires width { self.old.groups.table.width ≡ length plan.now.first.items }
         requires alive { self.old.lists.tapes.is_dead ≡ false }
         ensures reads { OnOk result (Reads plan.now (H.hash_of self.old.groups.table.hash) (ArePieces (meaning plan.now.query.now) (H.hash_of self.old.groups.table.hash) (record { hash = hash; tag = 0; bytes = packed.now } ∷ [])) (standing self.old.groups self.old.lists (D.last disk.old)) (standing self.new.groups self.new.lists (D.last disk.new))) }
+        ensures pages { OnOk result (WritesPages (D.writes disk.old) self.old.lists (D.writes disk.new) self.new.lists) }
         ensures undamaged { IfErr result (λ error. CanRead plan.now (H.hash_of self.old.groups.table.hash) (ArePieces (meaning plan.now.query.now) (H.hash_of self.old.groups.table.hash) (record { hash = hash; tag = 0; bytes = packed.now } ∷ [])) (standing self.old.groups self.old.lists (D.last disk.old)) → error ≢ TapeDamaged) }
         ensures safe { OnOk result (AreSafe (meaning plan.now.query.now) plan.now.most (entries_of self.old.groups) → AreSafe (meaning plan.now.query.now) plan.now.most (entries_of self.new.groups)) }
         ensures proceeds { OnOk result (Proceeds (entries_of self.old.groups) self.old.lists (entries_of self.new.groups) self.new.lists) }
@@ -261,6 +265,7 @@ impl<H: KeyHash + Drop> Pass<H> {
         requires width { self.old.groups.table.width ≡ length plan.now.first.items }
         requires alive { self.old.lists.tapes.is_dead ≡ false }
         ensures reads { OnOk result (Reads plan.now (H.hash_of self.old.groups.table.hash) (ArePieces (meaning plan.now.query.now) (H.hash_of self.old.groups.table.hash) (record { hash = hash; tag = 1; bytes = bytes.now } ∷ [])) (standing self.old.groups self.old.lists (D.last disk.old)) (standing self.new.groups self.new.lists (D.last disk.new))) }
+        ensures pages { OnOk result (WritesPages (D.writes disk.old) self.old.lists (D.writes disk.new) self.new.lists) }
         ensures undamaged { IfErr result (λ error. CanRead plan.now (H.hash_of self.old.groups.table.hash) (ArePieces (meaning plan.now.query.now) (H.hash_of self.old.groups.table.hash) (record { hash = hash; tag = 1; bytes = bytes.now } ∷ [])) (standing self.old.groups self.old.lists (D.last disk.old)) → error ≢ TapeDamaged) }
         ensures safe { OnOk result (AreSafe (meaning plan.now.query.now) plan.now.most (entries_of self.old.groups) → AreSafe (meaning plan.now.query.now) plan.now.most (entries_of self.new.groups)) }
         ensures proceeds { OnOk result (Proceeds (entries_of self.old.groups) self.old.lists (entries_of self.new.groups) self.new.lists) }
@@ -296,6 +301,7 @@ impl<H: KeyHash + Drop> Pass<H> {
         requires alive { self.old.lists.tapes.is_dead ≡ false }
         requires tag { tag < 2 }
         ensures reads { OnOk result (Reads plan.now (H.hash_of self.old.groups.table.hash) (ArePieces (meaning plan.now.query.now) (H.hash_of self.old.groups.table.hash) (record { hash = hash; tag = tag; bytes = bytes.now } ∷ [])) (standing self.old.groups self.old.lists (D.last disk.old)) (standing self.new.groups self.new.lists (D.last disk.new))) }
+        ensures pages { OnOk result (WritesPages (D.writes disk.old) self.old.lists (D.writes disk.new) self.new.lists) }
         ensures undamaged { IfErr result (λ error. CanRead plan.now (H.hash_of self.old.groups.table.hash) (ArePieces (meaning plan.now.query.now) (H.hash_of self.old.groups.table.hash) (record { hash = hash; tag = tag; bytes = bytes.now } ∷ [])) (standing self.old.groups self.old.lists (D.last disk.old)) → error ≢ TapeDamaged) }
         ensures safe { OnOk result (AreSafe (meaning plan.now.query.now) plan.now.most (entries_of self.old.groups) → AreSafe (meaning plan.now.query.now) plan.now.most (entries_of self.new.groups)) }
         ensures proceeds { OnOk result (Proceeds (entries_of self.old.groups) self.old.lists (entries_of self.new.groups) self.new.lists) }
@@ -325,6 +331,7 @@ impl<H: KeyHash + Drop> Pass<H> {
         requires width { self.old.groups.table.width ≡ length plan.now.first.items }
         requires alive { self.old.lists.tapes.is_dead ≡ false }
         ensures reads { OnOk result (Reads plan.now (H.hash_of self.old.groups.table.hash) (AreRows (meaning plan.now.query.now) (bytes_of rows.now)) (standing self.old.groups self.old.lists (D.last disk.old)) (standing self.new.groups self.new.lists (D.last disk.new))) }
+        ensures pages { OnOk result (WritesPages (D.writes disk.old) self.old.lists (D.writes disk.new) self.new.lists) }
         ensures undamaged { IfErr result (λ error. CanRead plan.now (H.hash_of self.old.groups.table.hash) (AreRows (meaning plan.now.query.now) (bytes_of rows.now)) (standing self.old.groups self.old.lists (D.last disk.old)) → error ≢ TapeDamaged) }
         ensures safe { OnOk result (AreSafe (meaning plan.now.query.now) plan.now.most (entries_of self.old.groups) → AreSafe (meaning plan.now.query.now) plan.now.most (entries_of self.new.groups)) }
         ensures brings { OnOk result (Brings (meaning plan.now.query.now) (AreRows (meaning plan.now.query.now) (bytes_of rows.now)) (entries_of self.old.groups) self.old.lists (entries_of self.new.groups) self.new.lists) }
@@ -353,6 +360,7 @@ impl<H: KeyHash + Drop> Pass<H> {
         requires width { self.old.groups.table.width ≡ length plan.now.first.items }
         requires alive { self.old.lists.tapes.is_dead ≡ false }
         ensures reads { OnOk result (Reads plan.now (H.hash_of self.old.groups.table.hash) (AreRows (meaning plan.now.query.now) rows.now) (standing self.old.groups self.old.lists (D.last disk.old)) (standing self.new.groups self.new.lists (D.last disk.new))) }
+        ensures pages { OnOk result (WritesPages (D.writes disk.old) self.old.lists (D.writes disk.new) self.new.lists) }
         ensures undamaged { IfErr result (λ error. CanRead plan.now (H.hash_of self.old.groups.table.hash) (AreRows (meaning plan.now.query.now) rows.now) (standing self.old.groups self.old.lists (D.last disk.old)) → error ≢ TapeDamaged) }
         ensures safe { OnOk result (AreSafe (meaning plan.now.query.now) plan.now.most (entries_of self.old.groups) → AreSafe (meaning plan.now.query.now) plan.now.most (entries_of self.new.groups)) }
         ensures brings { OnOk result (Brings (meaning plan.now.query.now) (AreRows (meaning plan.now.query.now) rows.now) (entries_of self.old.groups) self.old.lists (entries_of self.new.groups) self.new.lists) }
@@ -381,6 +389,7 @@ impl<H: KeyHash + Drop> Pass<H> {
         requires alive { self.old.lists.tapes.is_dead ≡ false }
         requires run { IsRun (meaning plan.now.query.now) plan.now.most run.now }
         ensures reads { OnOk result ((m : ℕ) → Reads plan.now (H.hash_of self.old.groups.table.hash) (AreOfRun (meaning plan.now.query.now) m run.now) (standing self.old.groups self.old.lists (D.last disk.old)) (standing self.new.groups self.new.lists (D.last disk.new))) }
+        ensures pages { OnOk result (WritesPages (D.writes disk.old) self.old.lists (D.writes disk.new) self.new.lists) }
         ensures undamaged { IfErr result (λ error. (m : ℕ) → CanRead plan.now (H.hash_of self.old.groups.table.hash) (AreOfRun (meaning plan.now.query.now) m run.now) (standing self.old.groups self.old.lists (D.last disk.old)) → error ≢ TapeDamaged) }
         ensures safe { OnOk result (AreSafe (meaning plan.now.query.now) plan.now.most (entries_of self.old.groups) → AreSafe (meaning plan.now.query.now) plan.now.most (entries_of self.new.groups)) }
         ensures brings { OnOk result ((m : ℕ) → Brings (meaning plan.now.query.now) (AreOfRun (meaning plan.now.query.now) m run.now) (entries_of self.old.groups) self.old.lists (entries_of self.new.groups) self.new.lists) }
@@ -412,6 +421,7 @@ impl<H: KeyHash + Drop> Pass<H> {
         requires input { IsInput (meaning plan.now.query.now) (brought input) }
         requires few { rows_in (brought input) ≤ plan.now.most }
         ensures reads { OnOk result (Reads plan.now (H.hash_of self.old.groups.table.hash) (AreOf (meaning plan.now.query.now) (brought input.entry)) (standing self.old.groups self.old.lists (D.last disk.old)) (standing self.new.groups self.new.lists (D.last disk.new))) }
+        ensures pages { OnOk result (WritesPages (D.writes disk.old) self.old.lists (D.writes disk.new) self.new.lists) }
         ensures undamaged { IfErr result (λ error. CanRead plan.now (H.hash_of self.old.groups.table.hash) (AreOf (meaning plan.now.query.now) (brought input.entry)) (standing self.old.groups self.old.lists (D.last disk.old)) → error ≢ TapeDamaged) }
         ensures safe { OnOk result (AreSafe (meaning plan.now.query.now) plan.now.most (entries_of self.old.groups) → AreSafe (meaning plan.now.query.now) plan.now.most (entries_of self.new.groups)) }
         ensures brings { OnOk result (Brings (meaning plan.now.query.now) (AreOf (meaning plan.now.query.now) (brought input.entry)) (entries_of self.old.groups) self.old.lists (entries_of self.new.groups) self.new.lists) }
@@ -443,6 +453,7 @@ impl<H: KeyHash + Drop> Pass<H> {
         requires empty { entries_of self.old.groups ≡ [] }
         requires none { self.old.lists.parts ≡ [] }
         ensures reads { OnOk result (IsTrue (D.honest disk.old) → ReadsList plan.now (H.hash_of self.old.groups.table.hash) (standing self.old.groups self.old.lists (D.last disk.old)) (standing self.new.groups self.new.lists (D.last disk.new))) }
+        ensures pages { OnOk result (WritesPages (D.writes disk.old) self.old.lists (D.writes disk.new) self.new.lists) }
         ensures undamaged { IfErr result (λ error. IsTrue (D.honest disk.old) → CanReadList plan.now (H.hash_of self.old.groups.table.hash) (standing self.old.groups self.old.lists (D.last disk.old)) → error ≢ TapeDamaged) }
         ensures safe { OnOk result (AreSafe (meaning plan.now.query.now) plan.now.most (entries_of self.new.groups)) }
         ensures few { OnOk result (total (entries_of self.new.groups) self.new.lists ≤ ahead_number self.old.lists) }
@@ -475,6 +486,7 @@ impl<H: KeyHash + Drop> Pass<H> {
         ensures emptied { OnOk result (entries_of self.new.groups ≡ []) }
         ensures unheld { OnOk result (self.new.groups.most_held ≡ 0) }
         ensures left { OnOk result ((spilled ahead : List Record) (todo : List LeftList) → HasLists (D.last disk.old) self.old.lists spilled ahead todo → HasLists (D.last disk.new) self.new.lists [] ahead (todo ++ left_by self.old.lists.level spilled)) }
+        ensures paged { OnOk result ((spilled ahead : List Record) (todo : List LeftList) → HasLists (D.last disk.old) self.old.lists spilled ahead todo → D.writes disk.new + written_pages self.old.lists ≡ D.writes disk.old + pages_of (lists self.old.lists.level spilled)) }
         ensures parts { OnOk result (self.new.lists.parts ≡ []) }
         ensures waiting { OnOk result (waiting_number self.new.lists ≡ waiting_number self.old.lists + spilled_number self.old.lists) }
         ensures source { self.new.lists.source ≡ self.old.lists.source }

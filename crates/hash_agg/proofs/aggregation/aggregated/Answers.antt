@@ -1,7 +1,7 @@
-use Rattle.std.specs.Prelude.{◌≡◌, ◌≤◌, ℕ, List, [], map, length, IsTrue}
+use Rattle.std.specs.Prelude.{◌≡◌, ◌+◌, ◌≤◌, ℕ, List, [], map, length, IsTrue}
 use Rattle.std.proofs.Common.{sym, ◌∙◌, ap, subst, arith}
 use Rattle.std.specs.List.{AllByRecursion}
-use Rattle.aggregation_cost.specs.Cost.{cost}
+use Rattle.aggregation_cost.specs.Cost.{Cost, cost}
 use Rattle.aggregation_cost.specs.Space.{Setting}
 use Rattle.grouping_model.specs.Query.{Query}
 use Rattle.having_filter.specs.Meaning.{Checked, meaning}
@@ -89,6 +89,33 @@ returns-clause-work g c =
     (subst (λ hash. Costs q (setting_of c.in_ok-plan.plan (g.H.KeyHash.hash_of hash)) pieces w.3 w.0) (sym first.table.hash) w.4) in
     subst (λ (set : Setting). AddsUp c.args.work.now (cost set (records_of q set.width pieces)) c.later_passes.new.work) set
     (subst (λ made. AddsUp c.args.work.now made c.later_passes.new.work) s.2 (s.3 c.args.work.now w.5))))
+    c.later_passes.ensures.stands
+
+pub returns-clause-pages : goal.returns-clause-pages
+returns-clause-pages g c =
+    let inputs : List Brought = map brought c.args.inputs.now in
+    let q : Query = meaning c.in_ok-plan.plan.query.now in
+    let all : AllByRecursion (IsInput q) inputs = subst (λ (query : Checked). AllByRecursion (IsInput (meaning query)) inputs) (sym c.in_ok-plan.ensures.query) c.requires.inputs in
+    let first = c.in_ok-run.ensures in
+    let most : c.in_ok-plan.plan.most ≡ all_rows inputs = c.in_ok-plan.ensures.most ∙ c.rows_of_all.ensures in
+    let here : List ℕ → ℕ = g.H.KeyHash.hash_of c.first_pass.new.pass.groups.table.hash in
+    let there : List ℕ → ℕ = g.H.KeyHash.hash_of c.args.means.now.hash in
+    let hashed : here ≡ there = ap g.H.KeyHash.hash_of (first.table.hash ∙ c.in_ok-pass.ensures.hash ∙ c.hash.ensures) in
+    let limit : c.in_ok-plan.plan.limit ≡ c.args.means.now.limit = c.in_ok-plan.ensures.limit ∙ c.limit.ensures.limit in
+    let set : setting_of c.in_ok-plan.plan here ≡ setting_for q c.args.means.now.limit there = λ i. record { limit = limit i; width = c.in_ok-plan.ensures.plan.width i; hash = hashed i } in
+    ok_from c.later_passes.result _
+    (λ run stands honest. subst (λ (query : Checked). (givens : List Given) → AllGive (meaning query) inputs givens → g.D.TapeDisk.writes c.later_passes.new.disk ≡ g.D.TapeDisk.writes c.args.disk.now + (cost (setting_for (meaning query) c.args.means.now.limit there) (records_of (meaning query) (states_width (meaning query)) (all_pieces inputs givens))).pages) c.in_ok-plan.ensures.query
+    (λ givens give.
+    let pieces : List Piece = all_pieces inputs givens in
+    let w = first.waits givens give in
+    let s = stands (subst IsTrue (sym c.first_pass.ensures.disk.honesty) honest) pieces w.0 w.3 w.1
+    (subst (λ hash. Waits q (g.H.KeyHash.hash_of hash) pieces c.in_ok-run.run' w.0) (sym first.table.hash) w.2)
+    (λ k. let few = all_few q k inputs givens all give in omega (arith, few, most))
+    (subst (λ hash. Costs q (setting_of c.in_ok-plan.plan (g.H.KeyHash.hash_of hash)) pieces w.3 w.0) (sym first.table.hash) w.4) in
+    let early = w.6 in
+    let late = s.4 in
+    subst (λ (set : Setting). g.D.TapeDisk.writes c.later_passes.new.disk ≡ g.D.TapeDisk.writes c.args.disk.now + (cost set (records_of q set.width pieces)).pages) set
+    (subst (λ (made : Cost). g.D.TapeDisk.writes c.later_passes.new.disk ≡ g.D.TapeDisk.writes c.args.disk.now + made.pages) s.2 (omega (arith, early, late)))))
     c.later_passes.ensures.stands
 
 pub returns-clause-held : goal.returns-clause-held

@@ -5,6 +5,7 @@ use Rattle.std.proofs.lemmas.List.{length-map, take_all}
 use Rattle.aggregation_cost.specs.Space.{Setting}
 use Rattle.grouping_model.specs.Query.{Query}
 use Rattle.having_filter.specs.Meaning.{meaning}
+use Rattle.spill_lists.specs.Standing.{full_pages, written_pages}
 use Rattle.hash_agg.specs.Runs.{Rises}
 use Rattle.hash_agg.specs.Inputs.{Brought, brought, IsInput}
 use Rattle.hash_agg.specs.Passes.{PassState, standing, setting_of, entries_of, AreOf, AreSafe, Holds, total, all_pieces, brought_by}
@@ -12,7 +13,7 @@ use Rattle.hash_agg.specs.Waiting.{AddsUp, pass_cost}
 use Rattle.hash_agg.proofs.FitLaws.{all_fit}
 use Rattle.hash_agg.proofs.KeyLaws.{if_ok, if_ok_both}
 use Rattle.hash_agg.proofs.StateLaws.{all_at}
-use Rattle.hash_agg.proofs.StepLaws.{on_ok, err_out, get_in}
+use Rattle.hash_agg.proofs.StepLaws.{on_ok, ok_both, err_out, get_in}
 use Rattle.hash_agg.proofs.NeedLaws.{none_held, held_by_both}
 use Rattle.hash_agg.proofs.UnionLaws.{none_safe, safe_moved}
 use Rattle.hash_agg.proofs.WholeLaws.{all_given, given_at, given_long, brought_at}
@@ -29,6 +30,7 @@ loop-input-init g c =
       reads = λ givens give. first_holds q (setting_of c.args.plan.now (g.H.KeyHash.hash_of c.args.pass.now.groups.table.hash)) (standing c.args.pass.now.groups c.args.pass.now.lists (g.D.TapeDisk.last c.args.disk.now)) c.requires.empty c.requires.parts c.requires.none;
       brings = λ givens give. first_total (entries_of c.args.pass.now.groups) c.args.pass.now.lists c.requires.empty c.requires.parts;
       keeps = keeps_none q c.args.plan.now.most c.args.plan.now.limit c.args.pass.now.groups c.args.pass.now.lists c.requires.alive;
+      pages = omega arith;
       disk = moves_none (g.D.TapeDisk.failures c.args.disk.now) (g.D.TapeDisk.writes c.args.disk.now) (g.D.TapeDisk.honest c.args.disk.now);
     }
 
@@ -90,6 +92,7 @@ loop-input-preserved g c =
           let found = given_at q inputs givens i input give here.1 here.0 in
           input_brings q inputs givens i input now.entries next.entries now.lists next.lists at found done.brings (c.loop-input.invariant.brings givens give);
       keeps = keeps_next q c.args.plan.now.most c.args.plan.now.limit c.args.pass.now.groups c.loop-input.pass.groups c.add_input.new.self.groups c.args.pass.now.lists now.lists next.lists c.loop-input.invariant.keeps done.safe done.table done.lists done.alive;
+      pages = let so_far = c.loop-input.invariant.pages in let more = done.pages in omega (arith, so_far, more);
       disk = moves_twice (g.D.TapeDisk.failures c.args.disk.now) (g.D.TapeDisk.failures c.loop-input.disk) (g.D.TapeDisk.failures c.add_input.new.disk) (g.D.TapeDisk.writes c.args.disk.now) (g.D.TapeDisk.writes c.loop-input.disk) (g.D.TapeDisk.writes c.add_input.new.disk)
           (g.D.TapeDisk.honest c.args.disk.now) (g.D.TapeDisk.honest c.loop-input.disk) (g.D.TapeDisk.honest c.add_input.new.disk) c.loop-input.invariant.disk c.add_input.ensures.disk;
     }
@@ -104,17 +107,19 @@ returns-clause-waits g c =
     let long : length inputs ≡ length c.args.inputs.now = length-map c.args.inputs.now brought in
     let now : PassState = standing c.loop-input.pass.groups c.loop-input.pass.lists (g.D.TapeDisk.last c.loop-input.disk) in
     let set : Setting = setting_of c.args.plan.now hf in
+    let so_far = c.loop-input.invariant.pages in
+    let none : written_pages c.args.pass.now.lists ≡ 0 = ap (full_pages c.args.pass.now.lists.tapes) c.requires.parts in
     let wide : c.loop-input.pass.groups.table.width ≡ set.width = c.loop-input.invariant.keeps.table.width ∙ c.requires.width in
     if_ok_on c.finish.result (λ run. IsPermutation now.entries run × Rises run) _
-    (λ run made left givens give.
+    (λ run made after givens give.
     let many : length inputs ≡ length givens = given_long q inputs givens give in
     let all_of : all_pieces (take i inputs) (take i givens) ≡ all_pieces inputs givens = λ j. all_pieces (take_all i inputs (omega (arith, past, long)) j) (take_all i givens (omega (arith, past, long, many)) j) in
-    first_waits q set (all_pieces inputs givens) now run c.finish.new.self.lists (g.D.TapeDisk.last c.finish.new.disk) c.args.work.now c.finish.new.work made.0 made.1 (c.loop-input.invariant.keeps.lists.level ∙ c.requires.level)
-    (all_fit q set inputs givens c.requires.plan.formed c.requires.plan.limit c.requires.plan.narrow give) left
+    first_waits q set (all_pieces inputs givens) now run c.finish.new.self.lists (g.D.TapeDisk.last c.finish.new.disk) c.args.work.now c.finish.new.work (g.D.TapeDisk.writes c.args.disk.now) (g.D.TapeDisk.writes c.loop-input.disk) (g.D.TapeDisk.writes c.finish.new.disk) made.0 made.1 (c.loop-input.invariant.keeps.lists.level ∙ c.requires.level)
+    (all_fit q set inputs givens c.requires.plan.formed c.requires.plan.limit c.requires.plan.narrow give) (omega (arith, so_far, none)) after.0 after.1
     (λ spilled ahead todo pages has. subst (λ width. AddsUp c.args.work.now (pass_cost width now.entries (length spilled) pages) c.finish.new.work) wide (c.finish.ensures.adds spilled ahead todo pages has))
     (subst (λ pieces. Holds q set now pieces [] []) all_of (c.loop-input.invariant.reads givens give)))
     (if_ok_both c.finish.result (IsPermutation now.entries) Rises _ (λ run moved rises. (moved, rises)) c.finish.ensures.run c.finish.ensures.rises)
-    c.finish.ensures.left
+    (ok_both c.finish.result _ _ c.finish.ensures.left c.finish.ensures.paged)
 
 pub returns-clause-safe : goal.returns-clause-safe
 returns-clause-safe g c =

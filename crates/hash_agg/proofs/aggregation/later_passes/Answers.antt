@@ -4,7 +4,7 @@ use Rattle.std.proofs.lemmas.List.{length-append}
 use Rattle.std.proofs.lemmas.List.Sorted.{length_permutation}
 use Rattle.std.specs.List.Sorted.{IsPermutation}
 use Rattle.grouping_model.specs.Query.{Query}
-use Rattle.spill_lists.specs.Standing.{count_of, waiting_number}
+use Rattle.spill_lists.specs.Standing.{count_of, waiting_number, full_pages, written_pages}
 use Rattle.having_filter.specs.Meaning.{meaning}
 use Rattle.hash_agg.specs.Runs.{Entry}
 use Rattle.hash_agg.specs.Passes.{AreOnce, AreSafe, setting_of, ReadsList, CanReadList, entries_of, standing, all_in}
@@ -38,8 +38,8 @@ loop-pass-init g c =
       safe = subst (AreSafe q c.args.plan.now.most) (sym one) c.requires.safe;
       few = omega (arith, long);
       waits = λ honest pieces todo made has waits count costs.
-          subst (λ es. IsWaiting q (setting_of c.args.plan.now hf) pieces es c.args.pass.now.lists (g.D.TapeDisk.last c.args.disk.now) made c.args.work.now c.args.work.now) (sym one)
-          (waiting_begins q (setting_of c.args.plan.now hf) pieces c.args.run c.args.pass.now.lists (g.D.TapeDisk.last c.args.disk.now) made todo c.args.work.now has waits (rises_once c.args.run c.requires.rises) costs);
+          subst (λ es. IsWaiting q (setting_of c.args.plan.now hf) pieces es c.args.pass.now.lists (g.D.TapeDisk.last c.args.disk.now) made c.args.work.now c.args.work.now (g.D.TapeDisk.writes c.args.disk.now) (g.D.TapeDisk.writes c.args.disk.now)) (sym one)
+          (waiting_begins q (setting_of c.args.plan.now hf) pieces c.args.run c.args.pass.now.lists (g.D.TapeDisk.last c.args.disk.now) made todo c.args.work.now (g.D.TapeDisk.writes c.args.disk.now) has waits (rises_once c.args.run c.requires.rises) costs);
     }
 
 pub returns-in_err-add_list-clause-undamaged : goal.returns-in_err-add_list-clause-undamaged
@@ -50,7 +50,7 @@ returns-in_err-add_list-clause-undamaged g c =
     (λ honest pieces todo made has waits count costs.
     c.in_err-add_list.ensures.undamaged (subst IsTrue (sym i.moves.honesty) honest)
     (subst (λ hash. CanReadList c.args.plan.now (g.H.KeyHash.hash_of hash) (standing c.loop-pass.pass.groups c.begin_pass.new.self (g.D.TapeDisk.last c.loop-pass.disk))) (sym i.hash)
-    (pass_can c.args.plan.now hf pieces (all_in c.loop-pass.runs.items) (entries_of c.loop-pass.pass.groups) c.loop-pass.pass.lists c.begin_pass.new.self (g.D.TapeDisk.last c.loop-pass.disk) made c.args.work.now c.loop-pass.work (i.waits honest pieces todo made has waits count costs) count
+    (pass_can c.args.plan.now hf pieces (all_in c.loop-pass.runs.items) (entries_of c.loop-pass.pass.groups) c.loop-pass.pass.lists c.begin_pass.new.self (g.D.TapeDisk.last c.loop-pass.disk) made c.args.work.now c.loop-pass.work (g.D.TapeDisk.writes c.args.disk.now) (g.D.TapeDisk.writes c.loop-pass.disk) (i.waits honest pieces todo made has waits count costs) count
     (c.begin_pass.ensures.begins c.loop-pass-test.true))))
 
 pub loop-pass-preserved : goal.loop-pass-preserved
@@ -69,6 +69,8 @@ loop-pass-preserved g c =
     let same : waiting_number c.add_list.new.self.lists ≡ waiting_number c.begin_pass.new.self = ap count_of a.todo in
     let counted = c.begin_pass.ensures.counted in
     let before = i.few in
+    let read_pages = a.pages in
+    let none : written_pages c.begin_pass.new.self ≡ 0 = ap (full_pages c.begin_pass.new.self.tapes) c.begin_pass.ensures.parts in
     record {
       width = (f.table c.args.plan.now.limit).width ∙ a.table.width ∙ i.width;
       hash = (f.table c.args.plan.now.limit).hash ∙ a.table.hash ∙ i.hash;
@@ -85,14 +87,15 @@ loop-pass-preserved g c =
       safe = subst (AreSafe q c.args.plan.now.most) (sym more) (safe_append q c.args.plan.now.most (all_in c.loop-pass.runs.items) run i.safe (safe_moved q c.args.plan.now.most (entries_of c.add_list.new.self.groups) run a.safe f.run));
       few = omega (arith, both, many, made, left, same, counted, before);
       waits = λ honest pieces todo made has waits count costs.
-          subst (λ es. IsWaiting q (setting_of c.args.plan.now hf) pieces es c.finish.new.self.lists (g.D.TapeDisk.last c.finish.new.disk) made c.args.work.now c.finish.new.work) (sym more)
-          (pass_made c.args.plan.now hf pieces (all_in c.loop-pass.runs.items) (entries_of c.loop-pass.pass.groups) c.loop-pass.pass.lists c.begin_pass.new.self (g.D.TapeDisk.last c.loop-pass.disk) made c.args.work.now c.loop-pass.work (i.waits honest pieces todo made has waits count costs) count
+          subst (λ es. IsWaiting q (setting_of c.args.plan.now hf) pieces es c.finish.new.self.lists (g.D.TapeDisk.last c.finish.new.disk) made c.args.work.now c.finish.new.work (g.D.TapeDisk.writes c.args.disk.now) (g.D.TapeDisk.writes c.finish.new.disk)) (sym more)
+          (pass_made c.args.plan.now hf pieces (all_in c.loop-pass.runs.items) (entries_of c.loop-pass.pass.groups) c.loop-pass.pass.lists c.begin_pass.new.self (g.D.TapeDisk.last c.loop-pass.disk) made c.args.work.now c.loop-pass.work (g.D.TapeDisk.writes c.args.disk.now) (g.D.TapeDisk.writes c.loop-pass.disk) (i.waits honest pieces todo made has waits count costs) count
           (c.begin_pass.ensures.begins c.loop-pass-test.true)
-          c.add_list.new.self.lists c.finish.new.self.lists (g.D.TapeDisk.last c.add_list.new.disk) (g.D.TapeDisk.last c.finish.new.disk) (entries_of c.add_list.new.self.groups) run c.finish.new.work c.requires.plan.formed a.level
+          c.add_list.new.self.lists c.finish.new.self.lists (g.D.TapeDisk.last c.add_list.new.disk) (g.D.TapeDisk.last c.finish.new.disk) (entries_of c.add_list.new.self.groups) run c.finish.new.work (g.D.TapeDisk.writes c.add_list.new.disk) (g.D.TapeDisk.writes c.finish.new.disk) c.requires.plan.formed a.level
           (subst (λ hash. ReadsList c.args.plan.now (g.H.KeyHash.hash_of hash) (standing c.loop-pass.pass.groups c.begin_pass.new.self (g.D.TapeDisk.last c.loop-pass.disk)) (standing c.add_list.new.self.groups c.add_list.new.self.lists (g.D.TapeDisk.last c.add_list.new.disk))) i.hash
           (a.reads (subst IsTrue (sym i.moves.honesty) honest)))
           f.run f.rises f.left
-          (λ spilled ahead todo pages has. subst (λ width. AddsUp c.loop-pass.work (pass_cost width (entries_of c.add_list.new.self.groups) (length spilled) pages) c.finish.new.work) (a.table.width ∙ i.width) (f.adds spilled ahead todo pages has)));
+          (λ spilled ahead todo pages has. subst (λ width. AddsUp c.loop-pass.work (pass_cost width (entries_of c.add_list.new.self.groups) (length spilled) pages) c.finish.new.work) (a.table.width ∙ i.width) (f.adds spilled ahead todo pages has))
+          (omega (arith, read_pages, none)) f.paged);
     }
 
 pub returns-clause-stands : goal.returns-clause-stands
@@ -103,8 +106,8 @@ returns-clause-stands g c =
     if_ok c.united.result (IsPermutation (all_in c.deref.result.now)) _
     (λ all moved honest pieces todo made has waits count costs.
     let w = i.waits honest pieces todo made has waits count costs in
-    let e = waiting_ends q (setting_of c.args.plan.now hf) pieces (all_in c.loop-pass.runs.items) c.loop-pass.pass.lists (g.D.TapeDisk.last c.loop-pass.disk) made c.args.work.now c.loop-pass.work (c.begin_pass.ensures.none c.loop-pass-test.false) w in
-    (moved_stands q hf pieces (all_in c.loop-pass.runs.items) all [] (subst (λ (rs : List (List Entry)). IsPermutation (all_in rs) all) c.deref.ensures.value moved) w.once e.0, e.1, e.2, e.3))
+    let e = waiting_ends q (setting_of c.args.plan.now hf) pieces (all_in c.loop-pass.runs.items) c.loop-pass.pass.lists (g.D.TapeDisk.last c.loop-pass.disk) made c.args.work.now c.loop-pass.work (g.D.TapeDisk.writes c.args.disk.now) (g.D.TapeDisk.writes c.loop-pass.disk) (c.begin_pass.ensures.none c.loop-pass-test.false) w in
+    (moved_stands q hf pieces (all_in c.loop-pass.runs.items) all [] (subst (λ (rs : List (List Entry)). IsPermutation (all_in rs) all) c.deref.ensures.value moved) w.once e.0, e.1, e.2, e.3, e.4))
     c.united.ensures.sorted
 
 pub returns-clause-safe : goal.returns-clause-safe

@@ -29,7 +29,7 @@ invariant-loop-pass g l =
           → Waits (meaning l.plan.query.now) (g.H.KeyHash.hash_of l.fn.pass.groups.table.hash) pieces l.fn.run todo
           → CountUpTo (meaning l.plan.query.now) l.plan.most pieces
           → Costs (meaning l.plan.query.now) (setting_of l.plan (g.H.KeyHash.hash_of l.fn.pass.groups.table.hash)) pieces made todo
-          → IsWaiting (meaning l.plan.query.now) (setting_of l.plan (g.H.KeyHash.hash_of l.fn.pass.groups.table.hash)) pieces (all_in l.runs.items) l.pass.lists (g.D.TapeDisk.last l.disk) made l.fn.work l.work;
+          → IsWaiting (meaning l.plan.query.now) (setting_of l.plan (g.H.KeyHash.hash_of l.fn.pass.groups.table.hash)) pieces (all_in l.runs.items) l.pass.lists (g.D.TapeDisk.last l.disk) made l.fn.work l.work (g.D.TapeDisk.writes l.fn.disk) (g.D.TapeDisk.writes l.disk);
     }
 
 abbrev pub decreases-loop-pass : goal.decreases-loop-pass

@@ -85,7 +85,7 @@ returns-clause-reads g c =
     (λ spills m.
     one_left c.args.plan.now hf c.args.self.now.groups c.args.self.now.lists (g.D.TapeDisk.last c.args.disk.now) c.args.key.now
     (AreOfRun q m ((c.args.key.now, c.args.states.now) ∷ [])) (λ old new. AreCombined (functions q) c.args.plan.now.most old c.args.states.now new) (group_told q c.args.plan.now.most m c.args.key.now c.args.states.now)
-    c.args.self.now.groups c.spill.new.self (g.D.TapeDisk.last c.spill.new.disk) one c.in_default.ensures.found (sym (c.in_default-room_for.ensures.exact hf)) refl
+    c.args.self.now.groups c.spill.new.self (g.D.TapeDisk.last c.spill.new.disk) one c.in_default.ensures.found c.requires.plan.width (sym (c.in_default-room_for.ensures.exact hf)) refl
     (λ more are. is_group_record q hf m one c.args.key.now c.args.states.now (one_group q m c.args.key.now c.args.states.now more are).0 refl written c.hash-hash.ensures (one_group q m c.args.key.now c.args.states.now more are).2)
     spills)
     c.spill.ensures.spilled

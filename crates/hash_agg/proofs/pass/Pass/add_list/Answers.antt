@@ -22,6 +22,7 @@ loop-hash-init g c =
       todo = refl;
       level = refl;
       alive = c.requires.alive;
+      pages = omega arith;
       moves = moves_none (g.D.TapeDisk.failures c.args.disk.now) (g.D.TapeDisk.writes c.args.disk.now) (g.D.TapeDisk.honest c.args.disk.now);
       safe = subst (AreSafe q c.args.plan.now.most) (sym c.requires.empty) (none_safe q c.args.plan.now.most);
       few = omega (arith, none, clear);
@@ -52,6 +53,7 @@ loop-hash-preserved g c =
       todo = add.lists.todo ∙ c.next.ensures.todo ∙ i.todo;
       level = add.lists.level ∙ c.next.ensures.level ∙ i.level;
       alive = add.alive;
+      pages = let so_far = i.pages in let quiet = c.next.ensures.writes in let kept = c.next.ensures.paged in let step = add.pages in omega (arith, so_far, quiet, kept, step);
       moves = moves_twice (g.D.TapeDisk.failures c.args.disk.now) (g.D.TapeDisk.failures c.next.new.disk) (g.D.TapeDisk.failures c.add_record.new.disk) (g.D.TapeDisk.writes c.args.disk.now) (g.D.TapeDisk.writes c.next.new.disk) (g.D.TapeDisk.writes c.add_record.new.disk) (g.D.TapeDisk.honest c.args.disk.now) (g.D.TapeDisk.honest c.next.new.disk) (g.D.TapeDisk.honest c.add_record.new.disk)
           (moves_twice (g.D.TapeDisk.failures c.args.disk.now) (g.D.TapeDisk.failures c.loop-hash.disk) (g.D.TapeDisk.failures c.next.new.disk) (g.D.TapeDisk.writes c.args.disk.now) (g.D.TapeDisk.writes c.loop-hash.disk) (g.D.TapeDisk.writes c.next.new.disk) (g.D.TapeDisk.honest c.args.disk.now) (g.D.TapeDisk.honest c.loop-hash.disk) (g.D.TapeDisk.honest c.next.new.disk) i.moves c.next.ensures.disk)
           c.add_record.ensures.disk;

@@ -3,7 +3,7 @@ use Rattle.spill_tapes.specs.Records.{Record}
 use Rattle.spill_lists.specs.Lists.{LeftList}
 use Rattle.spill_lists.specs.Standing.{HasLists, Moves, ahead_number}
 use Rattle.having_filter.specs.Meaning.{meaning}
-use Rattle.hash_agg.specs.Passes.{Piece, ArePieces, CountUpTo, IsSameTable, AreSafe, entries_of, standing, total}
+use Rattle.hash_agg.specs.Passes.{Piece, ArePieces, CountUpTo, IsSameTable, WritesPages, AreSafe, entries_of, standing, total}
 use Rattle.hash_agg.proofs.ReadLaws.{IsReading, IsSpent}
 use Rattle.hash_agg.proofs.pass.Pass.add_list.Given as goal
 
@@ -14,6 +14,7 @@ invariant-loop-hash g l =
       todo : l.self.lists.todo ≡ l.initial.self.lists.todo;
       level : l.self.lists.level ≡ l.initial.self.lists.level;
       alive : l.self.lists.tapes.is_dead ≡ false;
+      pages : WritesPages (g.D.TapeDisk.writes l.initial.disk) l.initial.self.lists (g.D.TapeDisk.writes l.disk) l.self.lists;
       moves : Moves (g.D.TapeDisk.failures l.initial.disk) (g.D.TapeDisk.failures l.disk) (g.D.TapeDisk.writes l.initial.disk) (g.D.TapeDisk.writes l.disk) (g.D.TapeDisk.honest l.initial.disk) (g.D.TapeDisk.honest l.disk);
       safe : AreSafe (meaning l.plan.query.now) l.plan.most (entries_of l.self.groups);
       few : total (entries_of l.self.groups) l.self.lists + ahead_number l.self.lists ≤ ahead_number l.initial.self.lists;

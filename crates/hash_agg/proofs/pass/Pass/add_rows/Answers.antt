@@ -42,6 +42,7 @@ loop-packed-preserved g c =
           (reads_by c.args.plan.now hf here (AreRows q (c.deref.result.now ∷ [])) (ap g.H.KeyHash.hash_of c.loop-packed.invariant.keeps.table.hash) now next done.reads);
       brings = next_brings q (AreRows q (bytes_of c.args.rows.now)) (AreRows q (c.deref.result.now ∷ [])) i old.entries now.entries next.entries old.lists now.lists next.lists at c.loop-packed.invariant.brings done.brings;
       keeps = keeps_next q c.args.plan.now.most c.args.plan.now.limit c.args.self.now.groups c.loop-packed.self.groups c.add_row.new.self.groups old.lists now.lists next.lists c.loop-packed.invariant.keeps done.safe done.table done.lists done.alive;
+      pages = let so_far = c.loop-packed.invariant.pages in let more = done.pages in omega (arith, so_far, more);
       disk = moves_twice (g.D.TapeDisk.failures c.args.disk.now) (g.D.TapeDisk.failures c.loop-packed.disk) (g.D.TapeDisk.failures c.add_row.new.disk) (g.D.TapeDisk.writes c.args.disk.now) (g.D.TapeDisk.writes c.loop-packed.disk) (g.D.TapeDisk.writes c.add_row.new.disk)
           (g.D.TapeDisk.honest c.args.disk.now) (g.D.TapeDisk.honest c.loop-packed.disk) (g.D.TapeDisk.honest c.add_row.new.disk) c.loop-packed.invariant.disk c.add_row.ensures.disk;
     }

@@ -50,6 +50,7 @@ loop-place-preserved g c =
           next_brings q (AreOfRun q m c.args.run.now) One i old.entries now.entries next.entries old.lists now.lists next.lists (at m) (c.loop-place.invariant.brings m)
           (group_brings q m c.group.result.0.now c.group.result.1.now now.entries next.entries now.lists next.lists done.proceeds);
       keeps = keeps_next q c.args.plan.now.most c.args.plan.now.limit c.args.self.now.groups c.loop-place.self.groups c.add_group.new.self.groups old.lists now.lists next.lists c.loop-place.invariant.keeps done.safe done.table done.lists done.alive;
+      pages = let so_far = c.loop-place.invariant.pages in let more = done.pages in omega (arith, so_far, more);
       disk = moves_twice (g.D.TapeDisk.failures c.args.disk.now) (g.D.TapeDisk.failures c.loop-place.disk) (g.D.TapeDisk.failures c.add_group.new.disk) (g.D.TapeDisk.writes c.args.disk.now) (g.D.TapeDisk.writes c.loop-place.disk) (g.D.TapeDisk.writes c.add_group.new.disk)
           (g.D.TapeDisk.honest c.args.disk.now) (g.D.TapeDisk.honest c.loop-place.disk) (g.D.TapeDisk.honest c.add_group.new.disk) c.loop-place.invariant.disk c.add_group.ensures.disk;
     }

@@ -93,7 +93,7 @@ returns-clause-reads g c =
     (λ spills.
     one_left c.args.plan.now (g.H.KeyHash.hash_of c.args.self.now.groups.table.hash) c.args.self.now.groups c.args.self.now.lists (g.D.TapeDisk.last c.args.disk.now) c.args.key.now
     (AreRows q (c.args.packed.now ∷ [])) (λ old new. AreAdvanced q c.args.plan.now.most old row new) (row_told q c.args.plan.now.most c.args.packed.now c.args.key.now row c.requires.plan.formed selected)
-    c.args.self.now.groups c.spill.new.self (g.D.TapeDisk.last c.spill.new.disk) _ c.in_default.ensures.found (sym (c.in_default-room_for.ensures.exact (g.H.KeyHash.hash_of c.args.self.now.groups.table.hash))) refl
+    c.args.self.now.groups c.spill.new.self (g.D.TapeDisk.last c.spill.new.disk) _ c.in_default.ensures.found c.requires.plan.width (sym (c.in_default-room_for.ensures.exact (g.H.KeyHash.hash_of c.args.self.now.groups.table.hash))) refl
     (λ more are. record { tag = refl; of_kinds = c.requires.row.0; bytes = c.requires.row.1; hashed = c.hash-hash.ensures ∙ ap (g.H.KeyHash.hash_of c.args.self.now.groups.table.hash) c.requires.key })
     spills)
     c.spill.ensures.spilled
