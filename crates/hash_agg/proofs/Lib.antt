@@ -26,3 +26,4 @@ pub mod NeedLaws
 pub mod SpillLaws
 pub mod WorkLaws
 pub mod FitLaws
+pub mod FewLaws

@@ -296,3 +296,6 @@ is_work work c adds =
     let s = adds.spilled in
     let m = adds.most_held in
     record { passes = omega (arith, p); spilled = omega (arith, s); most_held = omega (arith, m) }
+
+pub work_few : (work : Work) (c : Cost) (most : ℕ) → IsWork work c → c.passes ≤ most → work.passes ≤ most
+work_few work c most is few = let p = is.passes in omega (arith, p, few)

@@ -1,6 +1,6 @@
 //! The aggregation of inputs.
 
-ghost use Rattle.std.specs.Prelude.{◌≡◌, ◌≢◌, ◌+◌, ◌<◌, ◌≤◌, ◌^◌, [], false, List, map, length, IsTrue, IfOk, IfErr, OnOk};
+ghost use Rattle.std.specs.Prelude.{◌≡◌, ◌≢◌, ◌+◌, ◌<◌, ◌≤◌, ◌^◌, max, [], false, List, map, length, IsTrue, IfOk, IfErr, OnOk};
 ghost use Rattle.std.specs.List.{AllByRecursion};
 ghost use Rattle.aggregation_cost.specs.Cost.{Cost, both, cost};
 ghost use Rattle.spill_lists.specs.Lists.{LeftList};
@@ -44,8 +44,8 @@ use std::alloc::Global;
 /// at most.
 ///
 /// Beside the run it is told what the aggregation took, which over an honest disk is what `aggregation_cost` says of the selected rows and
-/// of the groups, and so is how often the disk was written. It is one pass at least, and over any disk the blocks of its table never
-/// have more bytes than the limit of its means.
+/// of the groups, and so is how often the disk was written: one pass at least, and no more than groups. Over any disk the blocks of its
+/// table never have more bytes than the limit of its means.
 pub fn aggregate<H: KeyHash + Copy, D: TapeDisk>(
     alloc: Global,
     query: &Query,
@@ -62,6 +62,7 @@ pub fn aggregate<H: KeyHash + Copy, D: TapeDisk>(
     ensures pages { OnOk result (IsTrue (D.honest disk.old) → (givens : List Given) → AllGive (meaning query.now) (map brought inputs.now) givens →
         D.writes disk.new ≡ D.writes disk.old + (cost (setting_for (meaning query.now) means.now.limit (H.hash_of means.now.hash)) (records_of (meaning query.now) (states_width (meaning query.now)) (all_pieces (map brought inputs.now) givens))).pages) }
     ensures passes { IfOk result (λ done. 1 ≤ done.1.passes) }
+    ensures few { IfOk result (λ done. IsTrue (D.honest disk.old) → done.1.passes ≤ max 1 (length done.0)) }
     ensures held { IfOk result (λ done. done.1.most_held ≤ means.now.limit) }
     ensures undamaged { IfErr result (λ error. IsTrue (D.honest disk.old) → error ≢ TapeDamaged) }
     ensures refused { IfErr result (IsReadRefusal (D.failures disk.old) (D.failures disk.new)) }
@@ -94,6 +95,8 @@ fn aggregated<H: KeyHash + Copy, D: TapeDisk>(
     ensures pages { OnOk result (IsTrue (D.honest disk.old) → (givens : List Given) → AllGive (meaning query.now) (map brought inputs.now) givens →
         D.writes disk.new ≡ D.writes disk.old + (cost (setting_for (meaning query.now) means.now.limit (H.hash_of means.now.hash)) (records_of (meaning query.now) (states_width (meaning query.now)) (all_pieces (map brought inputs.now) givens))).pages) }
     ensures passes { OnOk result (1 ≤ work.new.passes) }
+    ensures few { IfOk result (λ run. IsTrue (D.honest disk.old) → (givens : List Given) → AllGive (meaning query.now) (map brought inputs.now) givens →
+        (cost (setting_for (meaning query.now) means.now.limit (H.hash_of means.now.hash)) (records_of (meaning query.now) (states_width (meaning query.now)) (all_pieces (map brought inputs.now) givens))).passes ≤ max 1 (length run)) }
     ensures held { OnOk result (work.old.most_held ≤ means.now.limit → work.new.most_held ≤ means.now.limit) }
     ensures undamaged { IfErr result (λ error. IsTrue (D.honest disk.old) → error ≢ TapeDamaged) }
     ensures refused { IfErr result (IsReadRefusal (D.failures disk.old) (D.failures disk.new)) }

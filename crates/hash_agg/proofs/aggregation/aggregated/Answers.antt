@@ -1,4 +1,4 @@
-use Rattle.std.specs.Prelude.{◌≡◌, ◌+◌, ◌≤◌, ℕ, List, [], map, length, IsTrue}
+use Rattle.std.specs.Prelude.{◌≡◌, ◌+◌, ◌≤◌, max, ℕ, List, [], map, length, IsTrue}
 use Rattle.std.proofs.Common.{sym, ◌∙◌, ap, subst, arith}
 use Rattle.std.specs.List.{AllByRecursion}
 use Rattle.aggregation_cost.specs.Cost.{Cost, cost}
@@ -11,7 +11,9 @@ use Rattle.hash_agg.specs.Inputs.{Brought, brought, all_rows, on_end, IsInput, I
 use Rattle.hash_agg.specs.Adding.{Given, AllGive, all_added}
 use Rattle.hash_agg.specs.Passes.{Piece, AreSafe, Stands, setting_of, setting_for, states_width, records_of, all_pieces}
 use Rattle.hash_agg.specs.Waiting.{Waits, Costs, AddsUp}
-use Rattle.hash_agg.proofs.KeyLaws.{if_ok_both}
+use Rattle.hash_agg.proofs.KeyLaws.{if_ok, if_ok_both}
+use Rattle.hash_agg.proofs.FewLaws.{few_passes}
+use Rattle.hash_agg.proofs.FitLaws.{all_fit}
 use Rattle.hash_agg.proofs.DiskLaws.{refused_longer}
 use Rattle.hash_agg.proofs.StepLaws.{err_out, on_ok, on_error}
 use Rattle.hash_agg.proofs.NeedLaws.{ok_from}
@@ -164,3 +166,19 @@ returns-clause-refused g c =
     on_error c.later_passes.result
     (λ error refused. refused_longer (g.D.TapeDisk.failures c.args.disk.now) (g.D.TapeDisk.failures c.first_pass.new.disk) (g.D.TapeDisk.failures c.later_passes.new.disk) (g.D.TapeDisk.failures c.later_passes.new.disk) error before (omega arith) refused)
     c.later_passes.ensures.refused
+
+pub returns-clause-few : goal.returns-clause-few
+returns-clause-few g c =
+    let inputs : List Brought = map brought c.args.inputs.now in
+    let there : List ℕ → ℕ = g.H.KeyHash.hash_of c.args.means.now.hash in
+    let limit : c.in_ok-plan.plan.limit ≡ c.args.means.now.limit = c.in_ok-plan.ensures.limit ∙ c.limit.ensures.limit in
+    let set : setting_of c.in_ok-plan.plan there ≡ setting_for (meaning c.in_ok-plan.plan.query.now) c.args.means.now.limit there = λ i. record { limit = limit i; width = c.in_ok-plan.ensures.plan.width i; hash = there } in
+    if_ok c.later_passes.result (λ run. IsTrue (g.D.TapeDisk.honest c.args.disk.now) → IsAggregate (meaning c.args.query.now) inputs run) _
+    (λ run is honest.
+    subst (λ (query : Checked). (givens : List Given) → AllGive (meaning query) inputs givens → (cost (setting_for (meaning query) c.args.means.now.limit there) (records_of (meaning query) (states_width (meaning query)) (all_pieces inputs givens))).passes ≤ max 1 (length run)) c.in_ok-plan.ensures.query
+    (λ givens give.
+    subst (λ (set : Setting). (cost set (records_of (meaning c.in_ok-plan.plan.query.now) set.width (all_pieces inputs givens))).passes ≤ max 1 (length run)) set
+    (few_passes (meaning c.in_ok-plan.plan.query.now) (setting_of c.in_ok-plan.plan there) inputs givens run
+    (subst (λ (query : Checked). IsAggregate (meaning query) inputs run) (sym c.in_ok-plan.ensures.query) (is honest)) give
+    (all_fit (meaning c.in_ok-plan.plan.query.now) (setting_of c.in_ok-plan.plan there) inputs givens c.in_ok-plan.ensures.plan.formed c.in_ok-plan.ensures.plan.limit c.in_ok-plan.ensures.plan.narrow give))))
+    (returns-clause-aggregate g c)

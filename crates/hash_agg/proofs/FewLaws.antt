@@ -1,0 +1,149 @@
+-- There are at most as many passes as groups.
+use Rattle.std.specs.Prelude.{◌≡◌, refl, ℕ, ◌+◌, ◌<◌, ◌≤◌, max, Bool, true, false, cond, not, ◌||◌, List, [], ◌∷◌, ◌++◌, map, filter, length}
+use Rattle.std.specs.List.{AllByRecursion, IsDistinct, list_any}
+use Rattle.std.proofs.Common.{sym, ◌∙◌, ap, subst, inl, inr, arith}
+use Rattle.std.proofs.lemmas.Bool.{both_ways, false_from_ne_true}
+use Rattle.std.proofs.lemmas.List.{map-append, length-map}
+use Rattle.grouping_model.specs.Condition.{is_met}
+use Rattle.grouping_model.specs.Datum.{Row, row_cmp}
+use Rattle.grouping_model.specs.Query.{Query}
+use Rattle.grouping_model.specs.Rising.{distinct}
+use Rattle.grouping_model.specs.Grouping.{Group, column_of, key_of, selected}
+use Rattle.grouping_model.specs.Parts.{keys_of}
+use Rattle.grouping_model.proofs.DatumOrder.{row_cmp_total, row_cmp_ties}
+use Rattle.grouping_model.proofs.Members.{Member, member_any, member_map, distinct_member}
+use Rattle.packed_rows.specs.Packing.{packing}
+use Rattle.aggregation_cost.specs.Cost.{cost}
+use Rattle.aggregation_cost.specs.Passes as cost
+use Rattle.aggregation_cost.specs.Space.{Key, Setting}
+use Rattle.aggregation_cost.proofs.CostLaws.{passes_few}
+use Rattle.aggregation_cost.proofs.Keys.{same_key_itself, same_key-is, distinct-apart}
+use Rattle.aggregation_cost.proofs.Lists.{any-filter, each_gives, each_both, each_of_filter}
+use Rattle.hash_agg.specs.Runs.{Entry, packed_keys}
+use Rattle.hash_agg.specs.Standing.{AreGroups}
+use Rattle.hash_agg.specs.Inputs.{Brought, Packed, Counted, AllBring, IsAggregate, on_end}
+use Rattle.hash_agg.specs.Adding.{Given, Of_rows, Of_groups, AllGive}
+use Rattle.hash_agg.specs.Passes.{Piece, Of_row, Of_group, cost_records, records_of, given_pieces, all_pieces}
+use Rattle.hash_agg.proofs.InputLaws.{keys_packed, keys_of_kinds}
+use Rattle.hash_agg.proofs.SpillLaws.{records_more}
+
+-- ---- lists of which each member is in another
+
+abbrev Others : Key → List Key → List Key
+Others x ys = filter (λ y. not (cost.same_key x y)) ys
+
+no_longer : (x : Key) (ys : List Key) → length (Others x ys) ≤ length ys
+no_longer x [] = omega arith
+no_longer x (y ∷ ys) =
+    let rest = no_longer x ys in
+    elim (cost.same_key x y) as (λ b. length (cond (not b) (y ∷ Others x ys) (Others x ys)) ≤ length (y ∷ ys)) [
+      | true ↦ omega (arith, rest)
+      | false ↦ omega (arith, rest)
+    ]
+
+fewer_without : (x : Key) (ys : List Key) → cost.is_one_of ys x ≡ true → length (Others x ys) < length ys
+fewer_without x [] among = absurd cc
+fewer_without x (y ∷ ys) among =
+    let most = no_longer x ys in
+    elim (cost.same_key x y) as (λ b. (b || cost.is_one_of ys x) ≡ true → length (cond (not b) (y ∷ Others x ys) (Others x ys)) < length (y ∷ ys)) [
+      | true ↦ λ e. omega (arith, most)
+      | false ↦ λ e. let rest = fewer_without x ys e in omega (arith, rest)
+    ] among
+
+still_there : (x z : Key) (ys : List Key) → cost.same_key x z ≡ false → cost.is_one_of ys z ≡ true → cost.is_one_of (Others x ys) z ≡ true
+still_there x z ys other among =
+    any-filter (cost.same_key z) (λ y. not (cost.same_key x y))
+    (λ y same. ap not (false_from_ne_true (cost.same_key x y) (λ t. both_ways (cost.same_key x z) other (subst (λ k. cost.same_key x k ≡ true) (sym (same_key-is z y same)) t)))) ys
+    ∙ among
+
+fewer_distinct : (xs ys : List Key) → IsDistinct cost.same_key xs → AllByRecursion (λ x. cost.is_one_of ys x ≡ true) xs → length xs ≤ length ys
+unfolding IsDistinct
+fewer_distinct [] ys apart all = omega arith
+fewer_distinct (x ∷ xs) ys (here, apart) (among, all) =
+    let rest = fewer_distinct xs (Others x ys) apart
+    (each_gives (λ z. (cost.same_key x z ≡ false) × (cost.is_one_of ys z ≡ true)) (λ z. cost.is_one_of (Others x ys) z ≡ true) (λ z has. still_there x z ys has.0 has.1) xs
+    (each_both (λ z. cost.same_key x z ≡ false) (λ z. cost.is_one_of ys z ≡ true) xs here all)) in
+    let less = fewer_without x ys among in
+    omega (arith, rest, less)
+
+each_distinct : (P : Key → Type 0) (keys : List Key) → AllByRecursion P keys → AllByRecursion P (cost.distinct keys)
+each_distinct P [] all = tt
+each_distinct P (key ∷ keys) (first, all) =
+    (first, each_gives (λ x. P x × (not (cost.same_key key x) ≡ true)) P (λ x has. has.0) (Others key (cost.distinct keys)) (each_of_filter P (λ x. not (cost.same_key key x)) (cost.distinct keys) (each_distinct P keys all)))
+
+-- ---- the keys of what is given
+
+rows_keys : (q : Query) (width : ℕ) (rows : List Row) → cost.keys_of (records_of q width (map Of_row rows)) ≡ map packing (map (key_of q) (selected q rows))
+rows_keys q width [] = refl
+rows_keys q width (row ∷ rows) =
+    let rest = rows_keys q width rows in
+    elim (is_met (column_of row) q.condition) as (λ b. cost.keys_of (cond b (cost.of_row (packing (key_of q row)) (packing row) ∷ []) [] ++ records_of q width (map Of_row rows)) ≡ map packing (map (key_of q) (cond b (row ∷ selected q rows) (selected q rows)))) [
+      | true ↦ ap (λ keys. packing (key_of q row) ∷ keys) rest
+      | false ↦ rest
+    ]
+
+groups_keys : (q : Query) (width most : ℕ) (groups : List Group) → cost.keys_of (records_of q width (map (λ group. Of_group group most) groups)) ≡ map packing (keys_of groups)
+groups_keys q width most [] = refl
+groups_keys q width most (group ∷ groups) = ap (λ keys. packing group.0 ∷ keys) (groups_keys q width most groups)
+
+record HasKeys (q : Query) (width : ℕ) (inputs : List Brought) (givens : List Given) : Type 0 where
+  lists : List (List Row)
+  bring : AllBring q inputs lists
+  keys : cost.keys_of (records_of q width (all_pieces inputs givens)) ≡ map packing (on_end lists)
+
+more_keys : (q : Query) (width : ℕ) (pieces others : List Piece) (ks more : List Row) → cost.keys_of (records_of q width pieces) ≡ map packing ks → cost.keys_of (records_of q width others) ≡ map packing more → cost.keys_of (records_of q width (pieces ++ others)) ≡ map packing (ks ++ more)
+more_keys q width pieces others ks more a b =
+    ap cost.keys_of (records_more q width pieces others)
+    ∙ map-append (λ (entry : cost.Record). entry.key) (records_of q width pieces) (records_of q width others)
+    ∙ (λ i. a i ++ b i)
+    ∙ sym (map-append packing ks more)
+
+has_keys : (q : Query) (width : ℕ) (inputs : List Brought) (givens : List Given) → AllGive q inputs givens → HasKeys q width inputs givens
+has_keys q width [] [] give = record { lists = []; bring = tt; keys = refl }
+has_keys q width [] (given ∷ givens) give = absurd give
+has_keys q width (input ∷ inputs) [] give = absurd give
+has_keys q width (Packed packed ∷ inputs) (Of_rows rows ∷ givens) (first, give) =
+    let rest = has_keys q width inputs givens give in
+    let ks : List Row = map (key_of q) (selected q rows) in
+    record { lists = ks ∷ rest.lists; bring = ((rows, first, refl), rest.bring); keys = more_keys q width (map Of_row rows) (all_pieces inputs givens) ks (on_end rest.lists) (rows_keys q width rows) rest.keys }
+has_keys q width (Counted run most ∷ inputs) (Of_groups groups ∷ givens) (first, give) =
+    let rest = has_keys q width inputs givens give in
+    record {
+      lists = keys_of groups ∷ rest.lists;
+      bring = (record { of_kinds = keys_of_kinds q most run groups first; packings_are = keys_packed q most run groups first }, rest.bring);
+      keys = more_keys q width (map (λ group. Of_group group most) groups) (all_pieces inputs givens) (keys_of groups) (on_end rest.lists) (groups_keys q width most groups) rest.keys;
+    }
+has_keys q width (Packed packed ∷ inputs) (Of_groups groups ∷ givens) (first, give) = absurd first
+has_keys q width (Counted run most ∷ inputs) (Of_rows rows ∷ givens) (first, give) = absurd first
+
+-- ---- the passes
+
+each_among : (ks some : List Row) → ((k : Row) → Member some k → Member ks k) → AllByRecursion (λ x. cost.is_one_of (map packing (distinct row_cmp ks)) x ≡ true) (map packing some)
+each_among ks [] within = tt
+each_among ks (k ∷ some) within = (
+  member_any (cost.same_key (packing k)) (map packing (distinct row_cmp ks)) (packing k) (member_map packing (distinct row_cmp ks) k ((distinct_member row_cmp_total row_cmp_ties ks k).1 (within k (inl refl)))) (same_key_itself (packing k)),
+  each_among ks some (λ z m. within z (inr m)),
+)
+
+pub few_passes : (q : Query) (s : Setting) (inputs : List Brought) (givens : List Given) (run : List Entry) → IsAggregate q inputs run → AllGive q inputs givens → cost.EachFits s (records_of q s.width (all_pieces inputs givens)) → (cost s (records_of q s.width (all_pieces inputs givens))).passes ≤ max 1 (length run)
+few_passes q s inputs givens run is give fit = by (records_of q s.width (all_pieces inputs givens)) refl
+  where
+    keys : HasKeys q s.width inputs givens
+    keys = has_keys q s.width inputs givens give
+
+    run_keys : packed_keys run ≡ map packing (distinct row_cmp (on_end keys.lists))
+    run_keys = is.keys keys.lists keys.bring
+
+    long : length (map packing (distinct row_cmp (on_end keys.lists))) ≡ length run
+    long = ap length (sym run_keys) ∙ length-map run (λ (e : Entry). e.0)
+
+    by : (records : List cost.Record) → records_of q s.width (all_pieces inputs givens) ≡ records → (cost s records).passes ≤ max 1 (length run)
+    by [] none = omega arith
+    by (one ∷ more) are =
+        let fits : cost.EachFits s (one ∷ more) = subst (cost.EachFits s) are fit in
+        let few = passes_few s (one ∷ more) fits (omega arith) in
+        let named : cost.keys_of (one ∷ more) ≡ map packing (on_end keys.lists) = ap cost.keys_of (sym are) ∙ keys.keys in
+        let all : AllByRecursion (λ x. cost.is_one_of (map packing (distinct row_cmp (on_end keys.lists))) x ≡ true) (cost.keys_of (one ∷ more)) =
+        subst (AllByRecursion (λ x. cost.is_one_of (map packing (distinct row_cmp (on_end keys.lists))) x ≡ true)) (sym named) (each_among (on_end keys.lists) (on_end keys.lists) (λ k m. m)) in
+        let fewer = fewer_distinct (cost.distinct (cost.keys_of (one ∷ more))) (map packing (distinct row_cmp (on_end keys.lists))) (distinct-apart (cost.keys_of (one ∷ more))) (each_distinct (λ x. cost.is_one_of (map packing (distinct row_cmp (on_end keys.lists))) x ≡ true) (cost.keys_of (one ∷ more)) all) in
+        omega (arith, few, fewer, long)
