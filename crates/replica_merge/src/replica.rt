@@ -312,7 +312,10 @@ impl Replica {
             Some((Input::Groups { run, rows }, others)) => {
                 with_others(self.alloc, &self.query, run, *rows, others, means, disk)
             }
-            _ => aggregate(self.alloc, &self.query, &inputs, means, disk),
+            _ => {
+                let (run, _work) = aggregate(self.alloc, &self.query, &inputs, means, disk)?;
+                Ok(run)
+            }
         }
     }
 
