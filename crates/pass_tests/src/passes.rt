@@ -74,13 +74,9 @@ fn counted<H: KeyHash + Copy>(
 {
     let means = Means::new(limit, hash)?;
     let inputs = [Input::Flat(rows)];
-    Ok(aggregate(
-        rt.alloc(),
-        query,
-        &inputs,
-        &means,
-        &mut MemDisk::new(rt.alloc()),
-    )?)
+    let mut disk = MemDisk::new(rt.alloc());
+    let (run, _) = aggregate(rt.alloc(), query, &inputs, &means, &mut disk)?;
+    Ok(run)
 }
 
 /// How many groups there are of a row of each of so many towns, and whether they are the same within 65,536 bytes, where a table

@@ -40,13 +40,10 @@ fn groups(rt: HostRuntime, query: &Query, told: u32, lines: &str) -> Result<Run,
     ensures { IfOk result (λ run. IsRun (meaning query.now) told run) }
 {
     let rows = packed(rt, query, told, lines)?;
-    Ok(aggregate(
-        rt.alloc(),
-        query,
-        &[Input::Flat(&rows)],
-        &Means::usual(Fnv1a),
-        &mut MemDisk::new(rt.alloc()),
-    )?)
+    let inputs = [Input::Flat(&rows)];
+    let (means, mut disk) = (Means::usual(Fnv1a), MemDisk::new(rt.alloc()));
+    let (run, _) = aggregate(rt.alloc(), query, &inputs, &means, &mut disk)?;
+    Ok(run)
 }
 
 /// The bytes of the keys and of the states of a run's groups.
@@ -73,10 +70,8 @@ fn groups_of_three(rt: HostRuntime, query: &Query, lines: &str) -> Result<String
         Input::Rows(&late),
     ];
     let (means, mut disk) = (Means::usual(Fnv1a), MemDisk::new(rt.alloc()));
-    shown(
-        rt,
-        &aggregate(rt.alloc(), query, &inputs, &means, &mut disk)?,
-    )
+    let (run, _) = aggregate(rt.alloc(), query, &inputs, &means, &mut disk)?;
+    shown(rt, &run)
 }
 
 #[test]
