@@ -31,8 +31,8 @@ pub returns-in-Ok-clause-paged : goal.returns-in-Ok-clause-paged
 returns-in-Ok-clause-paged g c =
     let y : OnTape = record { tape = c.index-list.result.now.tape; records = c.in-Some.records; level = c.index-list.result.now.level } in
     let put = put_pages (g.D.TapeDisk.last c.args.disk.now) (g.D.TapeDisk.last c.append.new.disk) c.self.inside.tapes c.append.new.self c.self.inside.parts.items c.args.place c.index-list.result.now y
-        (subst (λ (s : ListsState). c.args.place < length s.parts) (sym c.self.view_is) c.requires.parts) c.index-list.ensures
-        (parts_once c.self.inside.parts.items (one_or_none c.self.inside.source) c.self.inside.todo.items c.index-list.result.now.tape.index c.self.invariant.apart) c.append.ensures.others refl in
+    (subst (λ (s : ListsState). c.args.place < length s.parts) (sym c.self.view_is) c.requires.parts) c.index-list.ensures
+    (parts_once c.self.inside.parts.items (one_or_none c.self.inside.source) c.self.inside.todo.items c.index-list.result.now.tape.index c.self.invariant.apart) c.append.ensures.others refl in
     let counted = c.in-Ok.ensures.counted in
     let old : written_pages (lists_of c.self.inside) ≡ written_pages c.args.self.now = ap written_pages c.self.view_is in
     omega (arith, put, counted, old)
