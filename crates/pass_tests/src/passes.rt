@@ -6,7 +6,7 @@ ghost use Rattle.hash_agg.specs.Inputs.{ArePackings};
 use batch_reader::{PackedRows, build_batch};
 use csv::ByteRecord;
 use group_parser::parse;
-use hash_agg::{Fnv1a, Input, KeyHash, Means, MemDisk, Run, aggregate};
+use hash_agg::{Fnv1a, Input, KeyHash, Means, MemDisk, Run, Work, aggregate};
 use having_filter::Query;
 use packed_rows::Schema;
 use std::test::*;
@@ -26,12 +26,17 @@ fn query(rt: HostRuntime) -> Result<Query, Fail> {
     }
 }
 
-/// A record of each of so many towns, `k00000` and on, with its number for its amount.
+/// A record of each of so many towns, `k0000` to `k9999`, or `k00000` and on where there are more, with its number for its amount.
 fn records(rt: HostRuntime, towns: u32) -> Result<Vec<ByteRecord>, Fail> {
     let mut records = Vec::new(rt.alloc());
     for town in 0..towns {
         let mut fields = ByteRecord::new(rt.alloc());
-        fields.push_field(format!(in rt.alloc(); "k{town:05}")?.as_bytes())?;
+        let name = if towns > 10_000 {
+            format!(in rt.alloc(); "k{town:05}")?
+        } else {
+            format!(in rt.alloc(); "k{town:04}")?
+        };
+        fields.push_field(name.as_bytes())?;
         fields.push_field(format!(in rt.alloc(); "{town}")?.as_bytes())?;
         records.push(fields)?;
     }
@@ -61,54 +66,93 @@ impl KeyHash for Constant {
     }
 }
 
-/// The groups of a row of each of some towns within a limit, by a hash function.
+/// The groups of a row of each of some towns within a limit, by a hash function, what these took, and how many pages of tape.
 fn counted<H: KeyHash + Copy>(
     rt: HostRuntime,
     query: &Query,
     rows: &PackedRows,
     limit: u64,
     hash: H,
-) -> Result<Run, Fail>
+) -> Result<(Run, Work, u64), Fail>
     requires rows { (those : List Row) × ArePackings (meaning query.now).kinds rows.now those }
     requires few { length rows.now < 2 ^ 57 }
 {
     let means = Means::new(limit, hash)?;
     let inputs = [Input::Flat(rows)];
     let mut disk = MemDisk::new(rt.alloc());
-    let (run, _) = aggregate(rt.alloc(), query, &inputs, &means, &mut disk)?;
-    Ok(run)
+    let (run, work) = aggregate(rt.alloc(), query, &inputs, &means, &mut disk)?;
+    Ok((run, work, disk.writes()))
 }
 
-/// How many groups there are of a row of each of so many towns, and whether they are the same within 65,536 bytes, where a table
-/// holds some 380 of them, and the same by another hash function.
-fn limited<H: KeyHash + Copy>(
+/// How many groups there are of a row of each of so many towns, whether they are the same within a limit by a hash function, and what
+/// that takes.
+fn compared<H: KeyHash + Copy>(
     rt: HostRuntime,
     query: &Query,
     towns: u32,
+    limit: u64,
     hash: H,
 ) -> Result<String, Fail> {
     let rows = packed(rt, query, towns)?;
-    let whole = counted(rt, query, &rows, 1_099_511_627_776, Fnv1a)?;
-    let parts = counted(rt, query, &rows, 65_536, hash)?;
+    let (whole, _, _) = counted(rt, query, &rows, 1_099_511_627_776, Fnv1a)?;
+    let (parts, work, pages) = counted(rt, query, &rows, limit, hash)?;
     let (many, same) = (whole.len(), whole.same_groups(&parts));
-    Ok(format!(in rt.alloc(); "{many} {same}")?)
+    let (passes, spilled, held) = (work.passes, work.spilled, work.most_held);
+    Ok(format!(in rt.alloc();
+        "{many} {same}: passes {passes}, spilled {spilled}, pages {pages}, held {held}"
+    )?)
+}
+
+/// The same of the groups of the query.
+fn limited<H: KeyHash + Copy>(
+    rt: HostRuntime,
+    towns: u32,
+    limit: u64,
+    hash: H,
+) -> Result<String, Fail> {
+    let query = query(rt)?;
+    let told = compared(rt, &query, towns, limit, hash);
+    drop(query);
+    told
 }
 
 #[test]
 fn a_limit_changes_nothing(rt: HostRuntime) -> Result<(), Fail> {
-    let query = query(rt)?;
-    let told = limited(rt, &query, 20_000, Fnv1a);
-    drop(query);
-    assert_eq!(rt; told?.as_str(), "20000 true");
+    // The first pass leaves 16 lists of some 1,200 rows, and the passes over these 256 of some 50. A table holds 384 groups, so 53
+    // passes are the fewest that there can be.
+    let told = limited(rt, 20_000, 65_536, Fnv1a)?;
+    assert_eq!(rt;
+        told.as_str(),
+        "20000 true: passes 273, spilled 33088, pages 322, held 57352"
+    );
     Ok(())
 }
 
 #[test]
 fn a_hash_function_changes_nothing(rt: HostRuntime) -> Result<(), Fail> {
-    let query = query(rt)?;
-    let told = limited(rt, &query, 1_200, Constant);
-    drop(query);
-    assert_eq!(rt; told?.as_str(), "1200 true");
+    // All that is spilled falls on one list: 4,616 rows, then 4,232 and so on.
+    let told = limited(rt, 5_000, 65_536, Constant)?;
+    assert_eq!(rt;
+        told.as_str(),
+        "5000 true: passes 14, spilled 30056, pages 99, held 57352"
+    );
+    Ok(())
+}
+
+#[test]
+fn a_group_too_many_is_spilled(rt: HostRuntime) -> Result<(), Fail> {
+    // At the 385th group the buckets are doubled, to 1,024 beside the old 512.
+    for (limit, wanted) in [
+        (65_536, "passes 2, spilled 1, pages 1, held 57352"),
+        (90_127, "passes 2, spilled 1, pages 1, held 57352"),
+        (90_128, "passes 1, spilled 0, pages 0, held 90128"),
+    ] {
+        let told = limited(rt, 385, limit, Constant)?;
+        assert_eq!(rt;
+            told.as_str(),
+            format!(in rt.alloc(); "385 true: {wanted}")?.as_str()
+        );
+    }
     Ok(())
 }
 
