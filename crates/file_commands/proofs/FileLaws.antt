@@ -7,13 +7,17 @@ use Rattle.grouping_model.specs.Replies.{reply_of}
 use Rattle.grouping_model.specs.declared.delivered.Delivered.{Delivered}
 use Rattle.grouping_model.specs.declared.limits.TheConstants.{MOST_ROWS}
 use Rattle.packed_rows.specs.Columns.{Column, kinds, IsSchemaText}
-use Rattle.having_filter.specs.Meaning.{Checked}
+use Rattle.having_filter.specs.Meaning.{Checked, meaning}
+use Rattle.aggregation_cost.specs.Space.{Setting}
+use Rattle.hash_agg.specs.Counting.{AreCounted}
+use Rattle.hash_agg.specs.declared.work.Work.{Work}
+use Rattle.origin_prefix.specs.Parts.{aggregations_on}
 use Rattle.group_parser.specs.Parsing.{Accepts}
 use Rattle.batch_reader.specs.File.{BatchFile}
 use Rattle.batch_reader.specs.Head.{ReadsOrigin, ReadsBatchNumber}
 use Rattle.batch_reader.specs.Rows.{ReadsRows, ArePackedRows, packings}
 use Rattle.batch_reader.proofs.RecordLaws.{built_rows}
-use Rattle.replica_merge.specs.Replicas.{Held, told, Fits, SameQuery, DisagreeSomewhere}
+use Rattle.replica_merge.specs.Replicas.{Held, part_of, told, Fits, SameQuery, DisagreeSomewhere}
 use Rattle.replica_merge.specs.declared.error.MergeError.{MergeError}
 use Rattle.replica_merge.specs.declared.error.MergeError.TheVariants as merge
 use Rattle.summary_codec.specs.Reading.{HasFault}
@@ -25,7 +29,7 @@ use Rattle.script_machine.specs.declared.refusal.Refusal.{Refusal}
 use Rattle.script_machine.specs.declared.refusal.Refusal.TheVariants as refuse
 use Rattle.script_machine.proofs.FeedLaws.{built_batch}
 use Rattle.script_machine.proofs.QueryLaws.{read_over}
-use Rattle.file_commands.specs.Commands.{IsNew, IsNoSummary, IsApart, TakesFile, IsOtherFile}
+use Rattle.file_commands.specs.Commands.{IsNew, IsNoSummary, IsApart, TakesFile, IsOtherFile, FeedIsCounted}
 
 -- bytes are no summary file, by the refusal of their first fault
 pub no_summary : (file : List ℕ) (e : SummaryError) → (e ≢ summary.NoMemory → HasFault file e) → IsNoSummary file (summary_refusal e)
@@ -107,6 +111,24 @@ takes_file honest (Some read) old new delivered origin number packed found repli
       learns = learns;
       fits = λ so world is fit there. fits so world found.0 is fit there found.3;
       asked = asked;
+    }
+
+-- what delivering it takes was counted of the file
+pub file_counted : (setting : Setting) (file : Option BatchFile) (held : Held) (origin number : ℕ) (packed : List (List ℕ)) (old : Work) (writes : ℕ) (new : Work) (written : ℕ)
+    → IsSomeAnd file (λ read. ReadsOrigin read.head.origin origin) → IsSomeAnd file (λ read. ReadsBatchNumber read.head.number number)
+    → IsSomeAnd file (λ read. (rows : List Row) × ReadsRows (kinds held.query.columns) read.records rows × (packed ≡ packings rows))
+    → AreCounted (meaning held.query) setting (aggregations_on (part_of held.parts origin) number packed) old writes new written
+    → FeedIsCounted setting file held old writes new written
+file_counted setting None held origin number packed old writes new written from numbered rows counted = absurd from
+file_counted setting (Some read) held origin number packed old writes new written from numbered rows counted =
+    record {
+      origin = origin;
+      number = number;
+      rows = rows.0;
+      from = from;
+      numbered = numbered;
+      read_are = rows.1;
+      counted = subst (λ those. AreCounted (meaning held.query) setting (aggregations_on (part_of held.parts origin) number those) old writes new written) rows.2 counted;
     }
 
 -- one that disagrees with it disagrees with the file

@@ -2,18 +2,25 @@
 -- the replica means that it is of. All of this is our own.
 use Rattle.std.specs.Prelude.{Bool, IsTrue, ℕ, ◌≡◌, ◌<◌, ◌⊎◌, List, [], length, Option, Some, None, IsSomeAnd}
 use Rattle.grouping_model.specs.Aggregates.{Outcome}
-use Rattle.grouping_model.specs.Datum.{Kind}
+use Rattle.grouping_model.specs.Datum.{Kind, Row}
 use Rattle.grouping_model.specs.World.{World, IsWorld, union}
 use Rattle.grouping_model.specs.declared.delivered.Delivered.{Delivered}
 use Rattle.grouping_model.specs.declared.limits.TheConstants.{LONGEST_SCRIPT}
 use Rattle.packed_rows.specs.Columns.{Column, kinds, IsSchemaText}
 use Rattle.having_filter.specs.Kept.{headers}
-use Rattle.having_filter.specs.Meaning.{Checked}
+use Rattle.having_filter.specs.Meaning.{Checked, meaning}
+use Rattle.aggregation_cost.specs.Space.{Setting}
+use Rattle.hash_agg.specs.Counting.{AreCounted}
+use Rattle.hash_agg.specs.declared.work.Work.{Work}
+use Rattle.origin_prefix.specs.Parts.{aggregations_on}
 use Rattle.group_parser.specs.Parsing.{Accepts}
 use Rattle.batch_reader.specs.File.{BatchFile}
+use Rattle.batch_reader.specs.Head.{ReadsOrigin, ReadsBatchNumber}
+use Rattle.batch_reader.specs.Rows.{ReadsRows, packings}
 use Rattle.batch_reader.specs.declared.error.BatchError.TheVariants as batch
 use Rattle.summary_codec.specs.Reading.{IsSummary, HasFault}
-use Rattle.replica_merge.specs.Replicas.{Held, told, Fits, SameQuery, DisagreeSomewhere}
+use Rattle.replica_merge.specs.Replicas.{Held, part_of, told, Fits, SameQuery, DisagreeSomewhere}
+use Rattle.replica_merge.specs.Counting.{MergeIsCounted}
 use Rattle.table_print.specs.Aligned.{aligned_text, sides}
 use Rattle.table_print.specs.Table.{table_text}
 use Rattle.script_machine.specs.Machine.{IsNoQuery, IsNoBatch}
@@ -38,6 +45,19 @@ IsNotNew columns query why = (found : List Column) × IsSchemaText columns found
 -- a replica takes the batch of a batch file, over a disk of tapes that may be honest
 abbrev pub TakesFile : (honest : Bool) → Option BatchFile → (old new : Held) → Delivered → Type 0
 TakesFile honest file old new delivered = IsSomeAnd file (λ read. Takes honest read.head.origin read.head.number read.head.told read.records old new delivered)
+
+-- what feeding a batch file takes was counted: the aggregation of its batch and of the early ones that follow it
+pub record BatchIsCounted (setting : Setting) (read : BatchFile) (held : Held) (old : Work) (writes : ℕ) (new : Work) (written : ℕ) : Type 0 where
+  pub origin : ℕ
+  pub number : ℕ
+  pub rows : List Row
+  pub from : ReadsOrigin read.head.origin origin
+  pub numbered : ReadsBatchNumber read.head.number number
+  pub read_are : ReadsRows (kinds held.query.columns) read.records rows
+  pub counted : AreCounted (meaning held.query) setting (aggregations_on (part_of held.parts origin) number (packings rows)) old writes new written
+
+abbrev pub FeedIsCounted : Setting → Option BatchFile → Held → Work → ℕ → Work → ℕ → Type 0
+FeedIsCounted setting file held old writes new written = IsSomeAnd file (λ read. BatchIsCounted setting read held old writes new written)
 
 -- why a file is no batch file of these columns: its head is bad, or else it is refused as a feed is
 abbrev pub IsNoBatchFile : List Kind → Option BatchFile → Refusal → Type 0
@@ -64,6 +84,11 @@ pub record MergesHeld (honest : Bool) (old other new : Held) : Type 0 where
 -- the same for the replica that a summary file is of
 abbrev pub MergesFile : (honest : Bool) → List ℕ → (old new : Held) → Type 0
 MergesFile honest file old new = (other : Held) × IsSummary file other.query other.parts × MergesHeld honest old other new
+
+-- what merging the replica of a summary file takes was counted
+abbrev pub FileMergeIsCounted : Setting → List ℕ → Held → Work → ℕ → Work → ℕ → Type 0
+FileMergeIsCounted setting file held old writes new written =
+    (other : Held) × IsSummary file other.query other.parts × MergeIsCounted (meaning held.query) setting held.parts other.parts old writes new written
 
 -- why a replica is not merged into another, unless memory ran out or the disk of tapes failed or is damaged: it has another query, or one
 -- number of an origin has two batches

@@ -1,18 +1,20 @@
 //! What a replica knows and answers, as text.
 
-ghost use Rattle.std.specs.Prelude.{◌≡◌, ◌≢◌, All, IfErr, IfOk, IsTrue, length};
+ghost use Rattle.std.specs.Prelude.{◌≡◌, ◌≢◌, All, IfErr, IfOk, OnOk, IsTrue, length};
 ghost use Rattle.grouping_model.specs.Answer.{answer};
 ghost use Rattle.grouping_model.specs.Replies.{known_list};
 ghost use Rattle.grouping_model.specs.World.{World, IsWorld};
 ghost use Rattle.having_filter.specs.Meaning.{meaning};
+ghost use Rattle.hash_agg.specs.Counting.{AreCounted, setting_by};
 ghost use Rattle.packed_rows.specs.Columns.{kinds};
 ghost use Rattle.replica_merge.specs.Replicas.{told, Fits};
+ghost use Rattle.replica_merge.specs.Counting.{aggregations_asked};
 ghost use Rattle.script_machine.specs.Text.{origins_text};
 ghost use Rattle.spill_lists.specs.Standing.{Moves, IsReadRefusal};
 ghost use Rattle.spill_lists.specs.declared.error.SpillError.TheVariants.{TapeDamaged};
 ghost use Rattle.file_commands.specs.Commands.{text_of};
 
-use hash_agg::{KeyHash, Means, SpillError, TapeDisk};
+use hash_agg::{KeyHash, Means, SpillError, TapeDisk, Work};
 use having_filter::{Answer, Query};
 use replica_merge::Replica;
 use script_machine::origin_lines;
@@ -53,7 +55,7 @@ fn print(
     }
 }
 
-/// The table of a replica's answer, by `means` and over a disk of tapes.
+/// The table of a replica's answer, by `means` and over a disk of tapes. What its aggregation took is added to `work`.
 ///
 /// # Errors
 ///
@@ -64,15 +66,19 @@ pub fn table<H: KeyHash + Copy, D: TapeDisk>(
     format: Format,
     means: &Means<H>,
     disk: &mut D,
+    work: &mut Work,
 ) -> Result<Vec<u8>, SpillError>
     ensures table { IfOk result (λ text. IsTrue (D.honest disk.old) → (world : World) → IsWorld (kinds replica.now.query.columns) world →
         Fits world replica.now → text.items ≡ text_of format replica.now.query
         (answer (meaning replica.now.query) world (told replica.now.parts))) }
+    ensures counted { OnOk result (IsTrue (D.honest disk.old) →
+        AreCounted (meaning replica.now.query) (setting_by H.hash_of (meaning replica.now.query) means.now)
+        (aggregations_asked replica.now.parts) work.old (D.writes disk.old) work.new (D.writes disk.new)) }
     ensures undamaged { IfErr result (λ error. IsTrue (D.honest disk.old) → error ≢ TapeDamaged) }
     ensures refused { IfErr result (IsReadRefusal (D.failures disk.old) (D.failures disk.new)) }
     ensures disk { Moves (D.failures disk.old) (D.failures disk.new) (D.writes disk.old) (D.writes disk.new) (D.honest disk.old) (D.honest disk.new) }
 {
-    let answer = replica.answer(means, disk)?;
+    let answer = replica.answer(means, disk, work)?;
     let text = print(alloc, replica.query(), &answer, format);
     drop(answer);
     Ok(text?)

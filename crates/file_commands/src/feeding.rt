@@ -1,21 +1,23 @@
 //! Batch files that are fed to a replica.
 
-ghost use Rattle.std.specs.Prelude.{◌≡◌, ◌≢◌, ◌<◌, IsTrue, IfOk, IfErr, OnErr};
+ghost use Rattle.std.specs.Prelude.{◌≡◌, ◌≢◌, ◌<◌, IsTrue, IfOk, IfErr, OnOk, OnErr};
 ghost use Rattle.packed_rows.specs.Columns.{kinds};
 ghost use Rattle.batch_reader.specs.File.{read_file};
+ghost use Rattle.having_filter.specs.Meaning.{meaning};
+ghost use Rattle.hash_agg.specs.Counting.{setting_by};
 ghost use Rattle.script_machine.specs.declared.refusal.Refusal.TheVariants.{OriginDisagrees, TapeFault, TapeDamaged};
 ghost use Rattle.script_machine.specs.Views.{IsOfBatch};
 ghost use Rattle.spill_lists.specs.Standing.{Moves};
-ghost use Rattle.file_commands.specs.Commands.{TakesFile, IsNoBatchFile, IsOtherFile};
+ghost use Rattle.file_commands.specs.Commands.{TakesFile, FeedIsCounted, IsNoBatchFile, IsOtherFile};
 
 use batch_reader::read_batch;
-use hash_agg::{KeyHash, Means, TapeDisk};
+use hash_agg::{KeyHash, Means, TapeDisk, Work};
 use replica_merge::{Delivered, Replica};
 use script_machine::Refusal;
 use std::alloc::Global;
 
 /// Feeds the batch of a batch file to a replica, as `feed` does in a script, by `means` and over a disk of tapes. A batch that is
-/// refused changes nothing.
+/// refused changes nothing. What the aggregation of batches that are folded took is added to `work`.
 ///
 /// # Errors
 ///
@@ -26,8 +28,12 @@ pub fn feed<H: KeyHash + Copy, D: TapeDisk>(
     file: &[u8],
     means: &Means<H>,
     disk: &mut D,
+    work: &mut Work,
 ) -> Result<Delivered, Refusal>
     ensures took { IfOk result (TakesFile (D.honest disk.old) (read_file file.now) replica.old replica.new) }
+    ensures counted { OnOk result (IsTrue (D.honest disk.old) →
+        FeedIsCounted (setting_by H.hash_of (meaning replica.old.query) means.now) (read_file file.now)
+        replica.old work.old (D.writes disk.old) work.new (D.writes disk.new)) }
     ensures same { OnErr result (replica.new ≡ replica.old) }
     ensures why { IfErr result (λ why. IsOfBatch why →
         IsNoBatchFile (kinds replica.old.query.columns) (read_file file.now) why) }
@@ -39,7 +45,7 @@ pub fn feed<H: KeyHash + Copy, D: TapeDisk>(
 {
     let schema = replica.query().schema();
     let batch = read_batch(alloc, schema, file)?;
-    match replica.deliver(batch, means, disk) {
+    match replica.deliver(batch, means, disk, work) {
         Ok(delivered) => Ok(delivered),
         Err(refused) => Err(Refusal::from(refused.why)),
     }

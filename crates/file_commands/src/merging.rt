@@ -2,14 +2,17 @@
 
 ghost use Rattle.std.specs.Prelude.{◌≡◌, ◌≢◌, ◌<◌, IsTrue, IfErr, OnOk, OnErr};
 ghost use Rattle.grouping_model.specs.World.{World};
+ghost use Rattle.having_filter.specs.Meaning.{meaning};
+ghost use Rattle.hash_agg.specs.Counting.{setting_by};
 ghost use Rattle.replica_merge.specs.Replicas.{Held, Fits};
+ghost use Rattle.replica_merge.specs.Counting.{MergeIsCounted};
 ghost use Rattle.summary_codec.specs.Reading.{IsSummary};
 ghost use Rattle.script_machine.specs.declared.refusal.Refusal.TheVariants.{OriginDisagrees, TapeFault, TapeDamaged};
 ghost use Rattle.spill_lists.specs.Standing.{Moves};
-ghost use Rattle.file_commands.specs.Commands.{MergesHeld, IsApart, MergesFile, IsNotMerged};
+ghost use Rattle.file_commands.specs.Commands.{MergesHeld, IsApart, MergesFile, FileMergeIsCounted, IsNotMerged};
 
 use crate::making::load;
-use hash_agg::{KeyHash, Means, TapeDisk};
+use hash_agg::{KeyHash, Means, TapeDisk, Work};
 use replica_merge::Replica;
 use script_machine::Refusal;
 use std::alloc::Global;
@@ -20,8 +23,12 @@ fn take_in<H: KeyHash + Copy, D: TapeDisk>(
     other: &Replica,
     means: &Means<H>,
     disk: &mut D,
+    work: &mut Work,
 ) -> Result<(), Refusal>
     ensures merged { OnOk result (MergesHeld (D.honest disk.old) replica.old other.now replica.new) }
+    ensures counted { OnOk result (IsTrue (D.honest disk.old) →
+        MergeIsCounted (meaning replica.old.query) (setting_by H.hash_of (meaning replica.old.query) means.now) replica.old.parts
+        other.now.parts work.old (D.writes disk.old) work.new (D.writes disk.new)) }
     ensures same { OnErr result (replica.new ≡ replica.old) }
     ensures why { IfErr result (IsApart replica.old other.now) }
     ensures agree { IfErr result (λ why. why ≡ OriginDisagrees → (world : World) →
@@ -30,14 +37,15 @@ fn take_in<H: KeyHash + Copy, D: TapeDisk>(
     ensures undamaged { IfErr result (λ why. IsTrue (D.honest disk.old) → why ≢ TapeDamaged) }
     ensures disk { Moves (D.failures disk.old) (D.failures disk.new) (D.writes disk.old) (D.writes disk.new) (D.honest disk.old) (D.honest disk.new) }
 {
-    match replica.merge(other, means, disk) {
+    match replica.merge(other, means, disk, work) {
         Ok(()) => Ok(()),
         Err(error) => Err(Refusal::from(error)),
     }
 }
 
 /// Merges the replica that a summary file is of into another, as `merge` does in a script: afterwards this knows what either
-/// knew. It is done by `means` and over a disk of tapes. A file that is refused changes nothing.
+/// knew. It is done by `means` and over a disk of tapes, and what the aggregations of early batches that follow now took is
+/// added to `work`. A file that is refused changes nothing.
 ///
 /// # Errors
 ///
@@ -48,8 +56,12 @@ pub fn merge<H: KeyHash + Copy, D: TapeDisk>(
     file: &[u8],
     means: &Means<H>,
     disk: &mut D,
+    work: &mut Work,
 ) -> Result<(), Refusal>
     ensures merged { OnOk result (MergesFile (D.honest disk.old) file.now replica.old replica.new) }
+    ensures counted { OnOk result (IsTrue (D.honest disk.old) →
+        FileMergeIsCounted (setting_by H.hash_of (meaning replica.old.query) means.now) file.now
+        replica.old work.old (D.writes disk.old) work.new (D.writes disk.new)) }
     ensures same { OnErr result (replica.new ≡ replica.old) }
     ensures why { IfErr result (IsNotMerged file.now replica.old) }
     // Replicas that fit one world never disagree.
@@ -61,5 +73,5 @@ pub fn merge<H: KeyHash + Copy, D: TapeDisk>(
     ensures disk { Moves (D.failures disk.old) (D.failures disk.new) (D.writes disk.old) (D.writes disk.new) (D.honest disk.old) (D.honest disk.new) }
 {
     let other = load(alloc, file)?;
-    take_in(replica, &other, means, disk)
+    take_in(replica, &other, means, disk, work)
 }

@@ -290,11 +290,12 @@ adds_twice a b c m n first second =
     record { passes = omega (arith, p, q); spilled = omega (arith, s, t); most_held = omega (arith, u, v) }
 
 -- what was counted on top of nothing
-pub is_work : (work : Work) (c : Cost) → AddsUp (record { passes = 0; spilled = 0; most_held = 0 }) c work → IsWork work c
-is_work work c adds =
-    let p = adds.passes in
-    let s = adds.spilled in
-    let m = adds.most_held in
+pub is_work : (none work : Work) (c : Cost) → none ≡ record { passes = 0; spilled = 0; most_held = 0 } → AddsUp none c work → IsWork work c
+is_work none work c nothing adds =
+    let from : AddsUp (record { passes = 0; spilled = 0; most_held = 0 }) c work = subst (λ old. AddsUp old c work) nothing adds in
+    let p = from.passes in
+    let s = from.spilled in
+    let m = from.most_held in
     record { passes = omega (arith, p); spilled = omega (arith, s); most_held = omega (arith, m) }
 
 pub work_few : (work : Work) (c : Cost) (most : ℕ) → IsWork work c → c.passes ≤ most → work.passes ≤ most

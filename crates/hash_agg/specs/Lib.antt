@@ -8,3 +8,4 @@ pub mod Places
 pub mod Passes
 pub mod Waiting
 pub mod Means
+pub mod Counting

@@ -68,17 +68,13 @@ pub fn aggregate<H: KeyHash + Copy, D: TapeDisk>(
     ensures refused { IfErr result (IsReadRefusal (D.failures disk.old) (D.failures disk.new)) }
     ensures disk { Moves (D.failures disk.old) (D.failures disk.new) (D.writes disk.old) (D.writes disk.new) (D.honest disk.old) (D.honest disk.new) }
 {
-    let mut work = Work {
-        passes: 0,
-        spilled: 0,
-        most_held: 0,
-    };
+    let mut work = Work::none();
     let run = aggregated(alloc, query, inputs, means, disk, &mut work)?;
     Ok((run, work))
 }
 
 /// The same, where the work is added to that of `work`.
-fn aggregated<H: KeyHash + Copy, D: TapeDisk>(
+pub(crate) fn aggregated<H: KeyHash + Copy, D: TapeDisk>(
     alloc: Global,
     query: &Query,
     inputs: &[Input<'_>],

@@ -1,17 +1,19 @@
 //! More inputs for a run.
 
-ghost use Rattle.std.specs.Prelude.{◌≡◌, ◌≢◌, ◌+◌, ◌<◌, ◌^◌, ◌∷◌, map, IsTrue, IfErr, OnOk, OnErr};
+ghost use Rattle.std.specs.Prelude.{◌≡◌, ◌≢◌, ◌+◌, ◌<◌, ◌≤◌, ◌^◌, ◌∷◌, map, IsTrue, IfErr, OnOk, OnErr};
 ghost use Rattle.std.specs.List.{AllByRecursion};
 ghost use Rattle.spill_lists.specs.Standing.{Moves, IsReadRefusal};
 ghost use Rattle.spill_lists.specs.declared.error.SpillError.TheVariants.{TapeDamaged};
 ghost use Rattle.having_filter.specs.Meaning.{meaning};
 ghost use Rattle.hash_agg.specs.Standing.{IsRun};
+ghost use Rattle.hash_agg.specs.Counting.{IsCounted, setting_by};
 ghost use Rattle.hash_agg.specs.Inputs.{Counted, brought, all_rows, IsInput, IsAggregate, IsRunOver};
 
-use crate::aggregation::aggregate;
+use crate::aggregation::aggregated;
 use crate::input::Input;
 use crate::means::Means;
 use crate::run::Run;
+use crate::work::Work;
 use group_table::KeyHash;
 use having_filter::Query;
 use spill_lists::SpillError;
@@ -21,11 +23,11 @@ use std::alloc::Global;
 /// Adds what inputs give to a run, which becomes the run that `aggregate` gives of it and of them.
 ///
 /// No state of the run counts more than `rows` rows, and with those of the inputs they are fewer than 2^57. The limit is that
-/// of the inputs' groups, which are then merged with the run.
+/// of the inputs' groups, which are then merged with the run. What their aggregation took is added to `work`.
 ///
 /// # Errors
 ///
-/// Those of [`aggregate`]. An error leaves the run as it was.
+/// Those of [`aggregate`](crate::aggregate). An error leaves the run and the work as they were.
 pub fn fold<H: KeyHash + Copy, D: TapeDisk>(
     alloc: Global,
     query: &Query,
@@ -34,6 +36,7 @@ pub fn fold<H: KeyHash + Copy, D: TapeDisk>(
     more: &[Input<'_>],
     means: &Means<H>,
     disk: &mut D,
+    work: &mut Work,
 ) -> Result<(), SpillError>
     requires run { IsRun (meaning query.now) rows run.old }
     requires inputs { AllByRecursion (IsInput (meaning query.now)) (map brought more.now) }
@@ -42,13 +45,19 @@ pub fn fold<H: KeyHash + Copy, D: TapeDisk>(
         (Counted run.old rows ∷ map brought more.now) run.new) }
     ensures run { OnOk result (IsRunOver (meaning query.now)
         (Counted run.old rows ∷ map brought more.now) run.new) }
+    ensures counted { OnOk result (IsTrue (D.honest disk.old) →
+        IsCounted (meaning query.now) (setting_by H.hash_of (meaning query.now) means.now) (map brought more.now) work.old (D.writes disk.old) work.new (D.writes disk.new)) }
+    ensures held { OnOk result (work.old.most_held ≤ means.now.limit → work.new.most_held ≤ means.now.limit) }
     ensures same { OnErr result (run.new ≡ run.old) }
+    ensures uncounted { OnErr result (work.new ≡ work.old) }
     ensures undamaged { IfErr result (λ error. IsTrue (D.honest disk.old) → error ≢ TapeDamaged) }
     ensures refused { IfErr result (IsReadRefusal (D.failures disk.old) (D.failures disk.new)) }
     ensures disk { Moves (D.failures disk.old) (D.failures disk.new) (D.writes disk.old) (D.writes disk.new) (D.honest disk.old) (D.honest disk.new) }
 {
     let _schema = query.schema();
-    let (more, _work) = aggregate(alloc, query, more, means, disk)?;
+    let mut counted = *work;
+    let more = aggregated(alloc, query, more, means, disk, &mut counted)?;
     run.absorb(alloc, query, &more)?;
+    *work = counted;
     Ok(())
 }

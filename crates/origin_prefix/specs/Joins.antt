@@ -4,7 +4,10 @@ use Rattle.std.specs.List.{AllByRecursion}
 use Rattle.std.specs.List.Sorted.{IsStrictlySortedBy}
 use Rattle.std.specs.Ordering.{nat_cmp}
 use Rattle.grouping_model.specs.Query.{Query}
-use Rattle.origin_prefix.specs.Parts.{Batches, Part, rows_at, Settles}
+use Rattle.aggregation_cost.specs.Space.{Setting}
+use Rattle.hash_agg.specs.Counting.{AreCounted}
+use Rattle.hash_agg.specs.declared.work.Work.{Work}
+use Rattle.origin_prefix.specs.Parts.{Batches, Part, rows_at, Settles, aggregations_behind}
 
 -- the part whose prefix is the longer one, and the other
 abbrev pub longer : Part → Part → Part
@@ -43,3 +46,9 @@ pub record Joins (honest : Bool) (query : Query) (a b new : Part) : Type 0 where
   pub behind : Batches
   pub united : Unites (longer a b).prefix (longer a b) (shorter a b) behind
   pub settled : Settles honest query (longer a b).prefix (longer a b).run behind new
+
+-- what joining two parts takes was counted: the aggregation of the early batches of both that follow the longer prefix
+pub record JoinIsCounted (query : Query) (setting : Setting) (a b : Part) (old : Work) (writes : ℕ) (new : Work) (written : ℕ) : Type 0 where
+  pub behind : Batches
+  pub united : Unites (longer a b).prefix (longer a b) (shorter a b) behind
+  pub counted : AreCounted query setting (aggregations_behind (longer a b).prefix behind) old writes new written

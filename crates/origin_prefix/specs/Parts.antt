@@ -16,7 +16,7 @@ use Rattle.batch_reader.specs.Rows.{ArePackedRows}
 use Rattle.having_filter.specs.Meaning.{Checked, meaning}
 use Rattle.hash_agg.specs.Runs.{Entry}
 use Rattle.hash_agg.specs.Standing.{IsRun}
-use Rattle.hash_agg.specs.Inputs.{Packed, Counted, IsAggregate, IsRunOver}
+use Rattle.hash_agg.specs.Inputs.{Brought, Packed, Counted, IsAggregate, IsRunOver}
 
 -- batches by their numbers, each with its packed rows
 abbrev pub Batches : Type 0
@@ -96,6 +96,18 @@ Folds honest query old rows (batch ∷ batches) new =
 abbrev pub behind : ℕ → Batches → Option (List (List ℕ)) → Batches
 behind prefix early None = early
 behind prefix early (Some rows) = (prefix + 1, rows) ∷ early
+
+-- the aggregations that folding takes of the batches behind a prefix that follow it without a gap: one of all of them, if there are any
+abbrev pub aggregation_of : List (List (List ℕ)) → List (List Brought)
+aggregation_of [] = []
+aggregation_of (batch ∷ batches) = map Packed (batch ∷ batches) ∷ []
+
+abbrev pub aggregations_behind : ℕ → Batches → List (List Brought)
+aggregations_behind prefix batches = aggregation_of (rows_following prefix batches)
+
+-- those that a delivery takes: none, if the batch isn't next to the prefix
+abbrev pub aggregations_on : Part → ℕ → List (List ℕ) → List (List Brought)
+aggregations_on part number rows = if number == part.prefix + 1 then aggregations_behind part.prefix (behind part.prefix part.early (Some rows)) else []
 
 -- a prefix with its run takes those of the batches behind it that follow without a gap, over a disk that may be honest; the others
 -- stay early

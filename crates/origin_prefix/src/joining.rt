@@ -1,9 +1,10 @@
 //! Joining two parts of one origin.
 
-ghost use Rattle.std.specs.Prelude.{◌≡◌, ◌≢◌, ◌≤◌, ◌↔◌, IsTrue, IfOk, IfErr};
+ghost use Rattle.std.specs.Prelude.{◌≡◌, ◌≢◌, ◌≤◌, ◌↔◌, IsTrue, IfOk, IfErr, OnOk};
 ghost use Rattle.having_filter.specs.Meaning.{meaning};
-ghost use Rattle.origin_prefix.specs.Parts.{Batches, IsPartOf, Settles};
-ghost use Rattle.origin_prefix.specs.Joins.{PartsDisagree, Joins, Unites};
+ghost use Rattle.hash_agg.specs.Counting.{AreCounted, setting_by};
+ghost use Rattle.origin_prefix.specs.Parts.{Batches, IsPartOf, Settles, aggregations_behind};
+ghost use Rattle.origin_prefix.specs.Joins.{PartsDisagree, Joins, Unites, JoinIsCounted};
 ghost use Rattle.origin_prefix.specs.Errors.{IsErrorOver};
 ghost use Rattle.spill_lists.specs.Standing.{Moves, IsReadRefusal};
 ghost use Rattle.spill_lists.specs.declared.error.SpillError.TheVariants.{TapeDamaged};
@@ -12,24 +13,28 @@ ghost use Rattle.origin_prefix.specs.declared.error.JoinError.TheVariants.{Origi
 use crate::early::{copy_above, differ_behind};
 use crate::error::JoinError;
 use crate::part::OriginPart;
-use hash_agg::{KeyHash, Means, SpillError, TapeDisk};
+use hash_agg::{KeyHash, Means, SpillError, TapeDisk, Work};
 use having_filter::Query;
 use std::collections::BTreeMap;
 
 impl OriginPart {
     /// The longer prefix of two parts of one origin with its groups, and the early batches of both, of which those are folded that
     /// follow it without a gap. Parts disagree whose prefixes are equal with different groups, or that have different rows of one
-    /// number behind both prefixes.
+    /// number behind both prefixes. What the aggregation of those that are folded took is added to `work`.
     pub fn join<H: KeyHash + Copy, D: TapeDisk>(
         &self,
         other: &OriginPart,
         query: &Query,
         means: &Means<H>,
         disk: &mut D,
+        work: &mut Work,
     ) -> Result<OriginPart, JoinError>
         requires part { IsPartOf query.now self.now }
         requires other { IsPartOf query.now other.now }
         ensures joins { IfOk result (Joins (D.honest disk.old) (meaning query.now) self.now other.now) }
+        ensures counted { OnOk result (IsTrue (D.honest disk.old) →
+            JoinIsCounted (meaning query.now) (setting_by H.hash_of (meaning query.now) means.now) self.now other.now
+            work.old (D.writes disk.old) work.new (D.writes disk.new)) }
         ensures part { IfOk result (IsPartOf query.now) }
         ensures agree { IfOk result (λ _. ¬ (PartsDisagree self.now other.now)) }
         ensures disagree { IfErr result (λ e. e ≡ OriginDisagrees →
@@ -43,7 +48,7 @@ impl OriginPart {
         if self.disagrees(other) {
             return Err(JoinError::OriginDisagrees);
         }
-        Ok(self.joined(other, query, means, disk)?)
+        Ok(self.joined(other, query, means, disk, work)?)
     }
 
     /// What two parts give that do not disagree.
@@ -53,19 +58,23 @@ impl OriginPart {
         query: &Query,
         means: &Means<H>,
         disk: &mut D,
+        work: &mut Work,
     ) -> Result<OriginPart, SpillError>
         requires part { IsPartOf query.now self.now }
         requires other { IsPartOf query.now other.now }
         ensures joins { IfOk result (Joins (D.honest disk.old) (meaning query.now) self.now other.now) }
+        ensures counted { OnOk result (IsTrue (D.honest disk.old) →
+            JoinIsCounted (meaning query.now) (setting_by H.hash_of (meaning query.now) means.now) self.now other.now
+            work.old (D.writes disk.old) work.new (D.writes disk.new)) }
         ensures part { IfOk result (IsPartOf query.now) }
         ensures undamaged { IfErr result (λ error. IsTrue (D.honest disk.old) → error ≢ TapeDamaged) }
         ensures refused { IfErr result (IsReadRefusal (D.failures disk.old) (D.failures disk.new)) }
         ensures disk { Moves (D.failures disk.old) (D.failures disk.new) (D.writes disk.old) (D.writes disk.new) (D.honest disk.old) (D.honest disk.new) }
     {
         if self.prefix < other.prefix {
-            return other.united(self, query, means, disk);
+            return other.united(self, query, means, disk, work);
         }
-        self.united(other, query, means, disk)
+        self.united(other, query, means, disk, work)
     }
 
     /// Whether the parts disagree.
@@ -85,6 +94,7 @@ impl OriginPart {
         query: &Query,
         means: &Means<H>,
         disk: &mut D,
+        work: &mut Work,
     ) -> Result<OriginPart, SpillError>
         requires part { IsPartOf query.now self.now }
         requires other { IsPartOf query.now shorter.now }
@@ -92,6 +102,11 @@ impl OriginPart {
         ensures joins { IfOk result (λ part. (behind : Batches)
             × Unites self.now.prefix self.now shorter.now behind
             × Settles (D.honest disk.old) (meaning query.now) self.now.prefix self.now.run behind part) }
+        ensures counted { OnOk result (IsTrue (D.honest disk.old) → (behind : Batches)
+            × Unites self.now.prefix self.now shorter.now behind
+            × AreCounted (meaning query.now) (setting_by H.hash_of (meaning query.now) means.now)
+            (aggregations_behind self.now.prefix behind)
+            work.old (D.writes disk.old) work.new (D.writes disk.new)) }
         ensures part { IfOk result (IsPartOf query.now) }
         ensures undamaged { IfErr result (λ error. IsTrue (D.honest disk.old) → error ≢ TapeDamaged) }
         ensures refused { IfErr result (IsReadRefusal (D.failures disk.old) (D.failures disk.new)) }
@@ -106,7 +121,7 @@ impl OriginPart {
             run: self.run.try_clone(self.alloc)?,
             early,
         };
-        part.settle(query, None, means, disk)?;
+        part.settle(query, None, means, disk, work)?;
         Ok(part)
     }
 }

@@ -5,10 +5,11 @@ ghost use Rattle.grouping_model.specs.declared.limits.TheConstants.{LAST_NUMBER,
 ghost use Rattle.std.specs.List.{AllByRecursion};
 ghost use Rattle.std.specs.List.Sorted.{IsStrictlySortedBy};
 ghost use Rattle.hash_agg.specs.Inputs.{Packed, brought};
+ghost use Rattle.hash_agg.specs.Counting.{AreCounted, setting_by};
 ghost use Rattle.having_filter.specs.Meaning.{meaning};
 ghost use Rattle.packed_rows.specs.Columns.{kinds};
 ghost use Rattle.batch_reader.specs.Rows.{ArePackedRows};
-ghost use Rattle.origin_prefix.specs.Parts.{Part, empty, is_nothing, knows_number, IsOpen, IsPartOf, behind, following, rows_following, Folds, Settles, Delivers, Disagrees};
+ghost use Rattle.origin_prefix.specs.Parts.{Part, empty, is_nothing, knows_number, IsOpen, IsPartOf, behind, following, rows_following, aggregations_behind, aggregations_on, Folds, Settles, Delivers, Disagrees};
 ghost use Rattle.spill_lists.specs.Standing.{Moves, IsReadRefusal};
 ghost use Rattle.spill_lists.specs.declared.error.SpillError.TheVariants.{TapeDamaged};
 ghost use Rattle.origin_prefix.specs.Errors.{IsErrorOver};
@@ -23,7 +24,7 @@ use crate::error::{JoinError, RefusedBatch};
 use batch_reader::{Batch, PackedRows};
 use grouping_model::Delivered;
 use grouping_model::limits::MOST_ROWS;
-use hash_agg::{Input, KeyHash, Means, Run, SpillError, TapeDisk, fold};
+use hash_agg::{Input, KeyHash, Means, Run, SpillError, TapeDisk, Work, fold};
 use having_filter::Query;
 use std::alloc::{AllocError, Global};
 use std::collections::BTreeMap;
@@ -103,7 +104,7 @@ fn following_inputs<'a>(
 }
 
 /// Folds into the run of a prefix the rows of the batch next to it, where they are given, and of the early batches that follow
-/// without a gap. Answers the last number that is folded. A refusal changes nothing.
+/// without a gap, and adds to `work` what their aggregation took. Answers the last number that is folded. A refusal changes nothing.
 fn fold_following<H: KeyHash + Copy, D: TapeDisk>(
     alloc: Global,
     query: &Query,
@@ -113,6 +114,7 @@ fn fold_following<H: KeyHash + Copy, D: TapeDisk>(
     early: &BTreeMap<u32, PackedRows>,
     means: &Means<H>,
     disk: &mut D,
+    work: &mut Work,
 ) -> Result<u32, SpillError>
     requires may { IsOpen query.now prefix run.old
         (behind prefix early.now.entries (option_copied next)) }
@@ -121,14 +123,28 @@ fn fold_following<H: KeyHash + Copy, D: TapeDisk>(
     ensures limit { IfOk result (λ upto. upto ≤ LAST_NUMBER) }
     ensures folded { OnOk result (Folds (D.honest disk.old) (meaning query.now) run.old (prefix * MOST_ROWS)
         (rows_following prefix (behind prefix early.now.entries (option_copied next.entry))) run.new) }
+    ensures counted { OnOk result (IsTrue (D.honest disk.old) →
+        AreCounted (meaning query.now) (setting_by H.hash_of (meaning query.now) means.now)
+        (aggregations_behind prefix (behind prefix early.now.entries (option_copied next.entry)))
+        work.old (D.writes disk.old) work.new (D.writes disk.new)) }
     ensures same { OnErr result (run.new ≡ run.old) }
+    ensures uncounted { OnErr result (work.new ≡ work.old) }
     ensures undamaged { IfErr result (λ error. IsTrue (D.honest disk.old) → error ≢ TapeDamaged) }
     ensures refused { IfErr result (IsReadRefusal (D.failures disk.old) (D.failures disk.new)) }
     ensures disk { Moves (D.failures disk.old) (D.failures disk.new) (D.writes disk.old) (D.writes disk.new) (D.honest disk.old) (D.honest disk.new) }
 {
     let (inputs, upto) = following_inputs(alloc, prefix, next, early)?;
     if upto > prefix {
-        fold(alloc, query, run, most_rows(prefix), &inputs, means, disk)?;
+        fold(
+            alloc,
+            query,
+            run,
+            most_rows(prefix),
+            &inputs,
+            means,
+            disk,
+            work,
+        )?;
     }
     Ok(upto)
 }
@@ -199,19 +215,26 @@ impl OriginPart {
     }
 
     /// Folds the early batches that follow the prefix without a gap, behind the rows of the batch next to it where these
-    /// are given. A refusal changes nothing.
+    /// are given; what their aggregation took is added to `work`. A refusal changes nothing.
     pub(crate) fn settle<H: KeyHash + Copy, D: TapeDisk>(
         &mut self,
         query: &Query,
         next: Option<&PackedRows>,
         means: &Means<H>,
         disk: &mut D,
+        work: &mut Work,
     ) -> Result<(), SpillError>
         requires may { IsOpen query.now self.old.prefix self.old.run
             (behind self.old.prefix self.old.early (option_copied next)) }
         ensures settled { OnOk result (Settles (D.honest disk.old) (meaning query.now) self.old.prefix self.old.run
             (behind self.old.prefix self.old.early (option_copied next.entry)) self.new) }
+        ensures counted { OnOk result (IsTrue (D.honest disk.old) →
+            AreCounted (meaning query.now) (setting_by H.hash_of (meaning query.now) means.now)
+            (aggregations_behind self.old.prefix
+            (behind self.old.prefix self.old.early (option_copied next.entry)))
+            work.old (D.writes disk.old) work.new (D.writes disk.new)) }
         ensures same { OnErr result (self.new ≡ self.old) }
+        ensures uncounted { OnErr result (work.new ≡ work.old) }
         ensures undamaged { IfErr result (λ error. IsTrue (D.honest disk.old) → error ≢ TapeDamaged) }
         ensures refused { IfErr result (IsReadRefusal (D.failures disk.old) (D.failures disk.new)) }
         ensures disk { Moves (D.failures disk.old) (D.failures disk.new) (D.writes disk.old) (D.writes disk.new) (D.honest disk.old) (D.honest disk.new) }
@@ -226,6 +249,7 @@ impl OriginPart {
             &self.early,
             means,
             disk,
+            work,
         )?;
         let mut count = upto - self.prefix;
         if next_is_given {
@@ -269,19 +293,25 @@ impl OriginPart {
     /// Takes a batch of the origin for a query, whose table it is a batch of. A number that is known already changes nothing; one
     /// next to the unbroken prefix is folded with the early ones that follow without a gap, by `means` and over a disk; any other is
     /// kept until then. A refused batch is handed back and changes nothing: one whose number is kept early with other rows disagrees. A
-    /// number within the prefix is known, whatever its rows.
+    /// number within the prefix is known, whatever its rows. What the aggregation of the batches that are folded took is added to `work`.
     pub fn deliver<H: KeyHash + Copy, D: TapeDisk>(
         &mut self,
         query: &Query,
         batch: Batch,
         means: &Means<H>,
         disk: &mut D,
+        work: &mut Work,
     ) -> Result<Delivered, RefusedBatch>
         requires part { IsPartOf query.now self.old }
         requires number { (1 ≤ batch.number) × (batch.number ≤ LAST_NUMBER) }
         requires rows { ArePackedRows (kinds query.now.columns) batch.rows }
         ensures delivers { IfOk result (Delivers (D.honest disk.old) (meaning query.now) self.old
             batch.number batch.rows self.new) }
+        ensures counted { OnOk result (IsTrue (D.honest disk.old) →
+            AreCounted (meaning query.now) (setting_by H.hash_of (meaning query.now) means.now)
+            (aggregations_on self.old batch.number batch.rows)
+            work.old (D.writes disk.old) work.new (D.writes disk.new)) }
+        ensures uncounted { OnErr result (work.new ≡ work.old) }
         ensures part { IsPartOf query.now self.new }
         ensures refused { IfErr result (λ e. (e.batch ≡ batch) × (self.new ≡ self.old)) }
         ensures why { IfErr result (λ e. e.why ≡ OriginDisagrees →
@@ -301,7 +331,7 @@ impl OriginPart {
         if batch.number - 1 != self.prefix {
             return self.keep_early(batch);
         }
-        match self.settle(query, Some(&batch.rows), means, disk) {
+        match self.settle(query, Some(&batch.rows), means, disk, work) {
             Ok(()) => Ok(Delivered::Folded { upto: self.prefix }),
             Err(error) => Err(refused(batch, JoinError::from(error))),
         }

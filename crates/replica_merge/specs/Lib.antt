@@ -1,4 +1,5 @@
 pub mod Replicas
 pub mod Coding
 pub mod Groups
+pub mod Counting
 pub mod Errors

@@ -8,9 +8,11 @@ ghost use Rattle.std.specs.Ordering.{eq_by_cmp, nat_cmp};
 ghost use Rattle.grouping_model.specs.World.{World, IsWorld, union};
 ghost use Rattle.packed_rows.specs.Columns.{kinds};
 ghost use Rattle.having_filter.specs.Meaning.{meaning};
+ghost use Rattle.hash_agg.specs.Counting.{setting_by};
 ghost use Rattle.origin_prefix.specs.Parts.{Part, empty, IsPartOf};
-ghost use Rattle.origin_prefix.specs.Joins.{Joins, PartsDisagree};
+ghost use Rattle.origin_prefix.specs.Joins.{Joins, PartsDisagree, JoinIsCounted};
 ghost use Rattle.origin_prefix.specs.declared.error.JoinError.TheVariants as joins;
+ghost use Rattle.replica_merge.specs.Counting.{MergeIsCounted};
 ghost use Rattle.replica_merge.specs.Replicas.{Parts, part_at, part_of, told, Fits, SameQuery, AreHeldParts, JoinedAside, Merges, DisagreeSomewhere, filled};
 ghost use Rattle.origin_prefix.specs.Errors.{IsErrorOver};
 ghost use Rattle.spill_lists.specs.Standing.{Moves};
@@ -19,7 +21,7 @@ ghost use Rattle.replica_merge.specs.declared.error.MergeError.TheVariants.{Diff
 
 use crate::error::MergeError;
 use crate::replica::Replica;
-use hash_agg::{KeyHash, Means, TapeDisk};
+use hash_agg::{KeyHash, Means, TapeDisk, Work};
 use having_filter::Query;
 use origin_prefix::{JoinError, OriginPart};
 use std::alloc::{AllocError, Global};
@@ -87,12 +89,17 @@ fn join_part<H: KeyHash + Copy, D: TapeDisk>(
     theirs: &OriginPart,
     means: &Means<H>,
     disk: &mut D,
+    work: &mut Work,
 ) -> Result<OriginPart, JoinError>
     requires own { IsPartOf query.now (unwrap_or (option_copied own) empty) }
     requires theirs { IsPartOf query.now theirs.now }
     ensures joins { IfOk result
         (Joins (D.honest disk.old) (meaning query.now)
         (unwrap_or (option_copied own.entry) empty) theirs.now) }
+    ensures counted { OnOk result (IsTrue (D.honest disk.old) →
+        JoinIsCounted (meaning query.now) (setting_by H.hash_of (meaning query.now) means.now)
+        (unwrap_or (option_copied own.entry) empty) theirs.now
+        work.old (D.writes disk.old) work.new (D.writes disk.new)) }
     ensures part { IfOk result (IsPartOf query.now) }
     ensures agree { IfOk result (λ _. ¬ (PartsDisagree (unwrap_or (option_copied own.entry) empty)
         theirs.now)) }
@@ -103,8 +110,8 @@ fn join_part<H: KeyHash + Copy, D: TapeDisk>(
     ensures disk { Moves (D.failures disk.old) (D.failures disk.new) (D.writes disk.old) (D.writes disk.new) (D.honest disk.old) (D.honest disk.new) }
 {
     match own {
-        Some(own) => own.join(theirs, query, means, disk),
-        None => OriginPart::empty(alloc).join(theirs, query, means, disk),
+        Some(own) => own.join(theirs, query, means, disk, work),
+        None => OriginPart::empty(alloc).join(theirs, query, means, disk, work),
     }
 }
 
@@ -116,11 +123,16 @@ fn join_all<H: KeyHash + Copy, D: TapeDisk>(
     theirs: &BTreeMap<u16, OriginPart>,
     means: &Means<H>,
     disk: &mut D,
+    work: &mut Work,
 ) -> Result<BTreeMap<u16, OriginPart>, MergeError>
     requires own { AreHeldParts query.now own.now.entries }
     requires theirs { AreHeldParts query.now theirs.now.entries }
     ensures joined { IfOk result (λ joined.
         JoinedAside (D.honest disk.old) query.now own.now.entries theirs.now.entries joined.entries) }
+    ensures counted { OnOk result (IsTrue (D.honest disk.old) →
+        MergeIsCounted (meaning query.now) (setting_by H.hash_of (meaning query.now) means.now)
+        own.now.entries theirs.now.entries
+        work.old (D.writes disk.old) work.new (D.writes disk.new)) }
     ensures disagree { IfErr result (λ e. e ≡ OriginDisagrees →
         DisagreeSomewhere own.now.entries theirs.now.entries) }
     ensures same { IfErr result (λ e. e ≢ DifferentQuery) }
@@ -130,7 +142,7 @@ fn join_all<H: KeyHash + Copy, D: TapeDisk>(
 {
     let mut joined = places(alloc, own)?;
     for (origin, part) in theirs {
-        let part = join_part(alloc, query, own.get(origin), part, means, disk)?;
+        let part = join_part(alloc, query, own.get(origin), part, means, disk, work)?;
         put(&mut joined, *origin, part)?;
     }
     Ok(joined)
@@ -166,15 +178,20 @@ fn fill(parts: &mut BTreeMap<u16, OriginPart>, old: BTreeMap<u16, OriginPart>)
 
 impl Replica {
     /// What this replica and another hold together, aside from both: `commit` moves it in. `OriginDisagrees` is told where the parts of an
-    /// origin disagree.
+    /// origin disagree. What the aggregations of early batches that follow now took is added to `work`.
     pub fn join<H: KeyHash + Copy, D: TapeDisk>(
         &self,
         other: &Replica,
         means: &Means<H>,
         disk: &mut D,
+        work: &mut Work,
     ) -> Result<Joined, MergeError>
         ensures joined { IfOk result
             (JoinedAside (D.honest disk.old) self.now.query self.now.parts other.now.parts) }
+        ensures counted { OnOk result (IsTrue (D.honest disk.old) →
+            MergeIsCounted (meaning self.now.query) (setting_by H.hash_of (meaning self.now.query) means.now)
+            self.now.parts other.now.parts
+            work.old (D.writes disk.old) work.new (D.writes disk.new)) }
         ensures held { IfOk result (λ _. AreHeldParts self.now.query other.now.parts) }
         ensures query { IfOk result (λ _. other.now.query ≡ self.now.query) }
         ensures different { IfErr result (λ e. e ≡ DifferentQuery →
@@ -202,6 +219,7 @@ impl Replica {
             &other.parts,
             means,
             disk,
+            work,
         )?;
         Ok(Joined { parts })
     }
@@ -230,16 +248,22 @@ impl Replica {
 
     /// Takes what another replica holds beside what this one does: afterwards it knows what either knew. The other must answer the same
     /// query over the same schema, else `DifferentQuery` is told, and hold no other batch of a number, as far as that can still be
-    /// seen, else `OriginDisagrees`. A refused merge changes nothing.
+    /// seen, else `OriginDisagrees`. A refused merge changes nothing. What the aggregations of early batches that follow now took is
+    /// added to `work`.
     pub fn merge<H: KeyHash + Copy, D: TapeDisk>(
         &mut self,
         other: &Replica,
         means: &Means<H>,
         disk: &mut D,
+        work: &mut Work,
     ) -> Result<(), MergeError>
         ensures query { self.new.query ≡ self.old.query }
         ensures merges { OnOk result
             (Merges (D.honest disk.old) self.old.query self.old.parts other.now.parts self.new.parts) }
+        ensures counted { OnOk result (IsTrue (D.honest disk.old) →
+            MergeIsCounted (meaning self.old.query) (setting_by H.hash_of (meaning self.old.query) means.now)
+            self.old.parts other.now.parts
+            work.old (D.writes disk.old) work.new (D.writes disk.new)) }
         ensures told { OnOk result (told self.new.parts
             ≡ union (told self.old.parts) (told other.now.parts)) }
         ensures fits { OnOk result (IsTrue (D.honest disk.old) → (world : World) → IsWorld (kinds self.old.query.columns) world →
@@ -259,7 +283,7 @@ impl Replica {
             (IsMergeErrorOver (D.honest disk.old) (D.failures disk.old) (D.failures disk.new)) }
         ensures disk { Moves (D.failures disk.old) (D.failures disk.new) (D.writes disk.old) (D.writes disk.new) (D.honest disk.old) (D.honest disk.new) }
     {
-        let joined = self.join(other, means, disk)?;
+        let joined = self.join(other, means, disk, work)?;
         self.commit(joined);
         Ok(())
     }

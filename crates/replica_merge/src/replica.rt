@@ -1,6 +1,6 @@
 //! What a replica holds, and what it tells of it.
 
-ghost use Rattle.std.specs.Prelude.{◌≡◌, ◌≢◌, ◌+◌, ◌^◌, ◌<◌, ◌≤◌, ◌∷◌, ℕ, List, None, All, [], map, length, Some, IsSome, IfSome, IsTrue, false, IfOk, IfErr, OnOk, OnErr};
+ghost use Rattle.std.specs.Prelude.{◌≡◌, ◌≢◌, ◌+◌, ◌^◌, ◌<◌, ◌≤◌, ◌∷◌, ℕ, List, None, All, [], map, length, drop, Some, IsSome, IfSome, IsTrue, false, IfOk, IfErr, OnOk, OnErr};
 ghost use Rattle.std.specs.BTreeMap.{insert_entry};
 ghost use Rattle.std.specs.List.{AllByRecursion};
 ghost use Rattle.std.specs.Option.{option_copied};
@@ -14,17 +14,19 @@ ghost use Rattle.batch_reader.specs.Rows.{ArePackedRows, packings};
 ghost use Rattle.having_filter.specs.Meaning.{meaning};
 ghost use Rattle.hash_agg.specs.Inputs.{Counted, brought, all_rows, IsInput, IsAggregate, IsRunOver};
 ghost use Rattle.hash_agg.specs.Standing.{IsRun};
-ghost use Rattle.origin_prefix.specs.Parts.{IsPartOf, Disagrees};
+ghost use Rattle.hash_agg.specs.Counting.{IsCounted, AreCounted, setting_by};
+ghost use Rattle.origin_prefix.specs.Parts.{IsPartOf, Disagrees, aggregations_on};
 ghost use Rattle.origin_prefix.specs.Errors.{IsErrorOver};
 ghost use Rattle.origin_prefix.specs.declared.error.JoinError.TheVariants.{OriginDisagrees};
 ghost use Rattle.spill_lists.specs.Standing.{Moves, IsReadRefusal};
 ghost use Rattle.spill_lists.specs.declared.error.SpillError.TheVariants.{TapeDamaged};
+ghost use Rattle.replica_merge.specs.Counting.{aggregations_asked};
 ghost use Rattle.replica_merge.specs.Replicas.{part_at, part_of, told, Fits, AreHeldParts, DeliveredTo, known_of, known_part, counted_part};
 
 use crate::known::Known;
-use crate::showing::show;
+use crate::showing::{show, show_none};
 use batch_reader::{Batch, PackedRows};
-use hash_agg::{Input, KeyHash, Means, Run, SpillError, TapeDisk, aggregate, fold};
+use hash_agg::{Input, KeyHash, Means, Run, SpillError, TapeDisk, Work, fold};
 use having_filter::{Answer, Query};
 use origin_prefix::{Delivered, JoinError, OriginPart, RefusedBatch, most_rows};
 use std::alloc::{AllocError, Global};
@@ -80,15 +82,18 @@ fn known_parts(alloc: Global, parts: &BTreeMap<u16, OriginPart>) -> Result<Vec<K
     Ok(list)
 }
 
-/// The groups of some parts, as inputs.
-fn part_inputs(
+/// The groups of all parts but the first, as inputs.
+fn other_inputs(
     alloc: Global,
     parts: &BTreeMap<u16, OriginPart>,
 ) -> Result<Vec<Input<'_>>, AllocError>
-    ensures { IfOk result (λ inputs. map brought inputs.items ≡ map counted_part parts.now.entries) }
+    ensures { IfOk result (λ inputs. map brought inputs.items
+        ≡ map counted_part (drop 1 parts.now.entries)) }
 {
     let mut inputs = Vec::with_capacity(alloc, parts.len())?;
-    for (_, part) in parts {
+    let mut others = parts.iter();
+    let _first = others.next();
+    for (_, part) in others {
         let run = part.run();
         let rows = most_rows(part.prefix());
         inputs.push(Input::Groups { run, rows })?;
@@ -105,6 +110,7 @@ fn with_others<H: KeyHash + Copy, D: TapeDisk>(
     others: &[Input<'_>],
     means: &Means<H>,
     disk: &mut D,
+    work: &mut Work,
 ) -> Result<Run, SpillError>
     requires run { IsRun (meaning query.now) rows run.now }
     requires inputs { AllByRecursion (IsInput (meaning query.now)) (map brought others.now) }
@@ -113,12 +119,15 @@ fn with_others<H: KeyHash + Copy, D: TapeDisk>(
         IsAggregate (meaning query.now) (Counted run.now rows ∷ map brought others.now) all) }
     ensures run { IfOk result (IsRunOver (meaning query.now)
         (Counted run.now rows ∷ map brought others.now)) }
+    ensures counted { OnOk result (IsTrue (D.honest disk.old) →
+        IsCounted (meaning query.now) (setting_by H.hash_of (meaning query.now) means.now)
+        (map brought others.now) work.old (D.writes disk.old) work.new (D.writes disk.new)) }
     ensures undamaged { IfErr result (λ error. IsTrue (D.honest disk.old) → error ≢ TapeDamaged) }
     ensures refused { IfErr result (IsReadRefusal (D.failures disk.old) (D.failures disk.new)) }
     ensures disk { Moves (D.failures disk.old) (D.failures disk.new) (D.writes disk.old) (D.writes disk.new) (D.honest disk.old) (D.honest disk.new) }
 {
     let mut all = run.try_clone(alloc)?;
-    fold(alloc, query, &mut all, rows, others, means, disk)?;
+    fold(alloc, query, &mut all, rows, others, means, disk, work)?;
     Ok(all)
 }
 
@@ -129,6 +138,7 @@ fn deliver_to<H: KeyHash + Copy, D: TapeDisk>(
     batch: Batch,
     means: &Means<H>,
     disk: &mut D,
+    work: &mut Work,
 ) -> Result<Delivered, RefusedBatch>
     requires there { IsSome (part_at parts.old.entries batch.origin) }
     requires part { IsPartOf query.now (part_of parts.old.entries batch.origin) }
@@ -136,12 +146,17 @@ fn deliver_to<H: KeyHash + Copy, D: TapeDisk>(
     requires rows { ArePackedRows (kinds query.now.columns) batch.rows }
     ensures delivered { DeliveredTo (D.honest disk.old) query.now parts.old.entries batch
         parts.new.entries result }
+    ensures counted { OnOk result (IsTrue (D.honest disk.old) →
+        AreCounted (meaning query.now) (setting_by H.hash_of (meaning query.now) means.now)
+        (aggregations_on (part_of parts.old.entries batch.origin) batch.number batch.rows)
+        work.old (D.writes disk.old) work.new (D.writes disk.new)) }
+    ensures uncounted { OnErr result (work.new ≡ work.old) }
     ensures over { IfErr result (λ e. IsErrorOver (D.honest disk.old) (D.failures disk.old)
         (D.failures disk.new) e.why) }
     ensures disk { Moves (D.failures disk.old) (D.failures disk.new) (D.writes disk.old) (D.writes disk.new) (D.honest disk.old) (D.honest disk.new) }
 {
     match parts.get_mut(&batch.origin) {
-        Some(part) => part.deliver(query, batch, means, disk),
+        Some(part) => part.deliver(query, batch, means, disk, work),
         None => unreachable!(),
     }
 }
@@ -154,12 +169,18 @@ fn deliver_first<H: KeyHash + Copy, D: TapeDisk>(
     batch: Batch,
     means: &Means<H>,
     disk: &mut D,
+    work: &mut Work,
 ) -> Result<Delivered, RefusedBatch>
     requires none { part_at parts.old.entries batch.origin ≡ None }
     requires number { (1 ≤ batch.number) × (batch.number ≤ LAST_NUMBER) }
     requires rows { ArePackedRows (kinds query.now.columns) batch.rows }
     ensures delivered { DeliveredTo (D.honest disk.old) query.now parts.old.entries batch
         parts.new.entries result }
+    ensures counted { OnOk result (IsTrue (D.honest disk.old) →
+        AreCounted (meaning query.now) (setting_by H.hash_of (meaning query.now) means.now)
+        (aggregations_on (part_of parts.old.entries batch.origin) batch.number batch.rows)
+        work.old (D.writes disk.old) work.new (D.writes disk.new)) }
+    ensures uncounted { OnErr result (work.new ≡ work.old) }
     ensures over { IfErr result (λ e. IsErrorOver (D.honest disk.old) (D.failures disk.old)
         (D.failures disk.new) e.why) }
     ensures disk { Moves (D.failures disk.old) (D.failures disk.new) (D.writes disk.old) (D.writes disk.new) (D.honest disk.old) (D.honest disk.new) }
@@ -170,7 +191,7 @@ fn deliver_first<H: KeyHash + Copy, D: TapeDisk>(
         let why = JoinError::NoMemory;
         return Err(RefusedBatch { batch, why });
     }
-    match deliver_to(query, parts, batch, means, disk) {
+    match deliver_to(query, parts, batch, means, disk, work) {
         Ok(delivered) => Ok(delivered),
         Err(refused) => {
             parts.remove(&origin);
@@ -187,20 +208,26 @@ fn deliver_in<H: KeyHash + Copy, D: TapeDisk>(
     batch: Batch,
     means: &Means<H>,
     disk: &mut D,
+    work: &mut Work,
 ) -> Result<Delivered, RefusedBatch>
     requires held { AreHeldParts query.now parts.old.entries }
     requires number { (1 ≤ batch.number) × (batch.number ≤ LAST_NUMBER) }
     requires rows { ArePackedRows (kinds query.now.columns) batch.rows }
     ensures delivered { DeliveredTo (D.honest disk.old) query.now parts.old.entries batch
         parts.new.entries result }
+    ensures counted { OnOk result (IsTrue (D.honest disk.old) →
+        AreCounted (meaning query.now) (setting_by H.hash_of (meaning query.now) means.now)
+        (aggregations_on (part_of parts.old.entries batch.origin) batch.number batch.rows)
+        work.old (D.writes disk.old) work.new (D.writes disk.new)) }
+    ensures uncounted { OnErr result (work.new ≡ work.old) }
     ensures over { IfErr result (λ e. IsErrorOver (D.honest disk.old) (D.failures disk.old)
         (D.failures disk.new) e.why) }
     ensures disk { Moves (D.failures disk.old) (D.failures disk.new) (D.writes disk.old) (D.writes disk.new) (D.honest disk.old) (D.honest disk.new) }
 {
     if parts.contains_key(&batch.origin) {
-        return deliver_to(query, parts, batch, means, disk);
+        return deliver_to(query, parts, batch, means, disk, work);
     }
-    deliver_first(alloc, query, parts, batch, means, disk)
+    deliver_first(alloc, query, parts, batch, means, disk, work)
 }
 
 impl Replica {
@@ -254,12 +281,14 @@ impl Replica {
     /// Takes a batch of the query's table, with an origin from 0 to 1,023, a number from 1 to 2,147,483,647 and at most
     /// 65,536 rows. A number that is known already changes nothing; one next to its origin's unbroken prefix is folded
     /// with the early ones that follow without a gap, by `means` and over a disk; any other is kept until then. A refused batch is
-    /// handed back and changes nothing: for want of memory, since its number is kept early with other rows, or by the disk.
+    /// handed back and changes nothing: for want of memory, since its number is kept early with other rows, or by the disk. What
+    /// the aggregation of the batches that are folded took is added to `work`.
     pub fn deliver<H: KeyHash + Copy, D: TapeDisk>(
         &mut self,
         batch: Batch,
         means: &Means<H>,
         disk: &mut D,
+        work: &mut Work,
     ) -> Result<Delivered, RefusedBatch>
         requires limits { InLimits (batch.origin, batch.number) }
         requires rows { ArePackedRows (kinds self.old.query.columns) batch.rows }
@@ -273,6 +302,12 @@ impl Replica {
             IsWorld (kinds self.old.query.columns) world → Fits world self.old →
             world batch.origin batch.number ≡ Some those → batch.rows ≡ packings those →
             Fits world self.new) }
+        // What the aggregation of the batches that were folded took was added to the work.
+        ensures counted { OnOk result (IsTrue (D.honest disk.old) →
+            AreCounted (meaning self.old.query) (setting_by H.hash_of (meaning self.old.query) means.now)
+            (aggregations_on (part_of self.old.parts batch.origin) batch.number batch.rows)
+            work.old (D.writes disk.old) work.new (D.writes disk.new)) }
+        ensures uncounted { OnErr result (work.new ≡ work.old) }
         ensures refused { IfErr result (λ e. (e.batch ≡ batch) × (self.new ≡ self.old)) }
         ensures why { IfErr result (λ e. e.why ≡ OriginDisagrees →
             Disagrees (part_of self.old.parts batch.origin) batch.number batch.rows) }
@@ -290,38 +325,20 @@ impl Replica {
             (D.failures disk.new) e.why) }
         ensures disk { Moves (D.failures disk.old) (D.failures disk.new) (D.writes disk.old) (D.writes disk.new) (D.honest disk.old) (D.honest disk.new) }
     {
-        deliver_in(self.alloc, &self.query, &mut self.parts, batch, means, disk)
-    }
-
-    /// The groups of the rows of all unbroken prefixes.
-    fn groups<H: KeyHash + Copy, D: TapeDisk>(
-        &self,
-        means: &Means<H>,
-        disk: &mut D,
-    ) -> Result<Run, SpillError>
-        ensures aggregate { IfOk result (λ run. IsTrue (D.honest disk.old) →
-            IsAggregate (meaning self.now.query) (map counted_part self.now.parts) run) }
-        ensures run { IfOk result (IsRunOver (meaning self.now.query)
-            (map counted_part self.now.parts)) }
-        ensures undamaged { IfErr result (λ error. IsTrue (D.honest disk.old) → error ≢ TapeDamaged) }
-        ensures refused { IfErr result (IsReadRefusal (D.failures disk.old) (D.failures disk.new)) }
-        ensures disk { Moves (D.failures disk.old) (D.failures disk.new) (D.writes disk.old) (D.writes disk.new) (D.honest disk.old) (D.honest disk.new) }
-    {
-        let inputs = part_inputs(self.alloc, &self.parts)?;
-        match inputs.as_slice().split_first() {
-            Some((Input::Groups { run, rows }, others)) => {
-                with_others(self.alloc, &self.query, run, *rows, others, means, disk)
-            }
-            _ => {
-                let (run, _work) = aggregate(self.alloc, &self.query, &inputs, means, disk)?;
-                Ok(run)
-            }
-        }
+        deliver_in(
+            self.alloc,
+            &self.query,
+            &mut self.parts,
+            batch,
+            means,
+            disk,
+            work,
+        )
     }
 
     /// The answer of the query over the rows of the unbroken prefixes, in the order of its keys: a row of the query's
     /// items for each group of which HAVING is true. Without GROUP BY there is one group, over no rows too. The groups of several
-    /// origins are aggregated by `means` and over a disk.
+    /// origins are aggregated by `means` and over a disk, which is added to `work`; those of one are shown as they stand.
     ///
     /// # Errors
     ///
@@ -330,18 +347,39 @@ impl Replica {
         &self,
         means: &Means<H>,
         disk: &mut D,
+        work: &mut Work,
     ) -> Result<Answer, SpillError>
         ensures width { IfOk result (All (λ row. length row
             ≡ length (meaning self.now.query).items)) }
         ensures answer { IfOk result (λ rows. IsTrue (D.honest disk.old) → (world : World) →
             IsWorld (kinds self.now.query.columns) world → Fits world self.now →
             rows ≡ answer (meaning self.now.query) world (told self.now.parts)) }
+        ensures counted { OnOk result (IsTrue (D.honest disk.old) →
+            AreCounted (meaning self.now.query) (setting_by H.hash_of (meaning self.now.query) means.now)
+            (aggregations_asked self.now.parts) work.old (D.writes disk.old) work.new (D.writes disk.new)) }
         ensures undamaged { IfErr result (λ error. IsTrue (D.honest disk.old) → error ≢ TapeDamaged) }
         ensures refused { IfErr result (IsReadRefusal (D.failures disk.old) (D.failures disk.new)) }
         ensures disk { Moves (D.failures disk.old) (D.failures disk.new) (D.writes disk.old) (D.writes disk.new) (D.honest disk.old) (D.honest disk.new) }
     {
-        let run = self.groups(means, disk)?;
-        let answer = show(self.alloc, &self.query, run)?;
+        let Some((_, first)) = self.parts.first_key_value() else {
+            return Ok(show_none(self.alloc, &self.query)?);
+        };
+        let others = other_inputs(self.alloc, &self.parts)?;
+        if others.is_empty() {
+            return Ok(show(self.alloc, &self.query, first.run())?);
+        }
+        let rows = most_rows(first.prefix());
+        let run = with_others(
+            self.alloc,
+            &self.query,
+            first.run(),
+            rows,
+            &others,
+            means,
+            disk,
+            work,
+        )?;
+        let answer = show(self.alloc, &self.query, &run)?;
         Ok(answer)
     }
 }

@@ -111,7 +111,7 @@ fn push_group(
 }
 
 /// The answer of no groups. Without GROUP BY there is one all the same, that of no rows.
-fn show_none(alloc: Global, query: &Query) -> Result<Answer, AllocError>
+pub(crate) fn show_none(alloc: Global, query: &Query) -> Result<Answer, AllocError>
     ensures { IfOk result (λ rows. rows ≡ flat_map (answer_rows (meaning query.now))
         (groups_shown (meaning query.now) [])) }
 {
@@ -125,11 +125,11 @@ fn show_none(alloc: Global, query: &Query) -> Result<Answer, AllocError>
 }
 
 /// The answer that the groups of a run give, in their order. Without GROUP BY there is one group, over no rows too.
-pub(crate) fn show(alloc: Global, query: &Query, run: Run) -> Result<Answer, AllocError>
+pub(crate) fn show(alloc: Global, query: &Query, run: &Run) -> Result<Answer, AllocError>
     requires { (most : ℕ) × (groups : List Group)
-        × AreGroups (meaning query.now) most run groups × (most ≤ most_rows) }
+        × AreGroups (meaning query.now) most run.now groups × (most ≤ most_rows) }
     ensures { IfOk result (λ rows. (most : ℕ) (groups : List Group) → most ≤ most_rows →
-        AreGroups (meaning query.now) most run groups →
+        AreGroups (meaning query.now) most run.now groups →
         rows ≡ flat_map (answer_rows (meaning query.now))
         (groups_shown (meaning query.now) groups)) }
 {

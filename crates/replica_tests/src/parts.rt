@@ -2,7 +2,7 @@ ghost use Rattle.std.specs.Prelude.{IfOk};
 ghost use Rattle.origin_prefix.specs.Parts.{IsPartOf};
 
 use crate::fixtures::{batch, of_towns, shown_refusal};
-use hash_agg::{Fnv1a, Means, MemDisk, Run};
+use hash_agg::{Fnv1a, Means, MemDisk, Run, Work};
 use having_filter::Query;
 use origin_prefix::OriginPart;
 use std::collections::BTreeMap;
@@ -20,6 +20,7 @@ fn reply(rt: HostRuntime, query: &Query, part: &mut OriginPart, told: &str) -> R
             batch,
             &Means::usual(Fnv1a),
             &mut MemDisk::new(rt.alloc()),
+            &mut Work::none(),
         ) {
             Ok(delivered) => Ok(format!(in rt.alloc(); "{delivered:?}; ")?),
             Err(refused) => shown_refusal(rt, &refused),
@@ -148,6 +149,7 @@ fn joined(
         query,
         &Means::usual(Fnv1a),
         &mut MemDisk::new(rt.alloc()),
+        &mut Work::none(),
     ) {
         Ok(part) => {
             let shown = shown(rt, &part);

@@ -1,5 +1,5 @@
 use crate::fixtures::{COLUMNS, TOWNS, batch, query, shown_refusal};
-use hash_agg::{Fnv1a, Means, MemDisk};
+use hash_agg::{Fnv1a, Means, MemDisk, Work};
 use having_filter::Answer;
 use replica_merge::Replica;
 use std::test::*;
@@ -33,6 +33,7 @@ fn reply(rt: HostRuntime, replica: &mut Replica, told: &str) -> Result<String, F
             batch,
             &Means::usual(Fnv1a),
             &mut MemDisk::new(rt.alloc()),
+            &mut Work::none(),
         ) {
             Ok(delivered) => Ok(format!(in rt.alloc(); "{delivered:?}; ")?),
             Err(refused) => shown_refusal(rt, &refused),
@@ -77,7 +78,11 @@ fn values(rt: HostRuntime, answer: &Answer) -> Result<String, Fail> {
 
 /// The values of a replica's answer.
 fn answered(rt: HostRuntime, replica: &Replica) -> Result<String, Fail> {
-    let answer = replica.answer(&Means::usual(Fnv1a), &mut MemDisk::new(rt.alloc()))?;
+    let answer = replica.answer(
+        &Means::usual(Fnv1a),
+        &mut MemDisk::new(rt.alloc()),
+        &mut Work::none(),
+    )?;
     let values = values(rt, &answer);
     drop(answer);
     values
@@ -141,7 +146,12 @@ fn merged_with(
     batches: &str,
 ) -> Result<String, Fail> {
     replies(rt, other, batches)?;
-    let became = own.merge(other, &Means::usual(Fnv1a), &mut MemDisk::new(rt.alloc()));
+    let became = own.merge(
+        other,
+        &Means::usual(Fnv1a),
+        &mut MemDisk::new(rt.alloc()),
+        &mut Work::none(),
+    );
     let shown = shown(rt, own)?;
     Ok(format!(in rt.alloc(); "{became:?}; {shown}")?)
 }
@@ -187,7 +197,12 @@ fn replicas_merge(rt: HostRuntime) -> Result<(), Fail> {
 fn stays(rt: HostRuntime, replica: &mut Replica, batches: &str) -> Result<String, Fail> {
     replies(rt, replica, batches)?;
     let before = shown(rt, replica)?;
-    let joined = replica.join(replica, &Means::usual(Fnv1a), &mut MemDisk::new(rt.alloc()))?;
+    let joined = replica.join(
+        replica,
+        &Means::usual(Fnv1a),
+        &mut MemDisk::new(rt.alloc()),
+        &mut Work::none(),
+    )?;
     replica.commit(joined);
     let after = shown(rt, replica)?;
     Ok(format!(in rt.alloc(); "{}", before == after)?)

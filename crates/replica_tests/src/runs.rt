@@ -7,7 +7,7 @@ ghost use Rattle.packed_rows.specs.View.{bytes_of};
 
 use crate::fixtures::{of_towns, records};
 use batch_reader::{PackedRows, build_batch};
-use hash_agg::{Fnv1a, Input, Means, MemDisk, Run, aggregate, first_states, fold};
+use hash_agg::{Fnv1a, Input, Means, MemDisk, Run, Work, aggregate, first_states, fold};
 use having_filter::Query;
 use hex::encode;
 use std::test::*;
@@ -126,6 +126,7 @@ fn give(
         &more,
         &means,
         &mut disk,
+        &mut Work::none(),
     )?)
 }
 

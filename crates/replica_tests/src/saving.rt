@@ -1,7 +1,7 @@
 use crate::fixtures::{COLUMNS, TOWNS};
 use crate::replicas::{of_replica, replies, shown};
 use crate::summaries::{FILE, bytes_of, digits_of};
-use hash_agg::{Fnv1a, Means, MemDisk};
+use hash_agg::{Fnv1a, Means, MemDisk, Work};
 use hex::encode;
 use replica_merge::Replica;
 use std::test::*;
@@ -32,7 +32,12 @@ fn merged_file(
     batches: &str,
 ) -> Result<String, Fail> {
     replies(rt, other, batches)?;
-    own.merge(other, &Means::usual(Fnv1a), &mut MemDisk::new(rt.alloc()))?;
+    own.merge(
+        other,
+        &Means::usual(Fnv1a),
+        &mut MemDisk::new(rt.alloc()),
+        &mut Work::none(),
+    )?;
     file(rt, own)
 }
 

@@ -1,5 +1,5 @@
 use crate::replicas::{of_replica, replies};
-use hash_agg::{Fnv1a, Means, MemDisk};
+use hash_agg::{Fnv1a, Means, MemDisk, Work};
 use replica_merge::Replica;
 use std::test::*;
 use table_print::{print_aligned, print_csv};
@@ -7,13 +7,21 @@ use test_tables::{differing, halves};
 
 /// A replica's answer in columns.
 fn aligned(rt: HostRuntime, replica: &Replica) -> Result<String, Fail> {
-    let answer = replica.answer(&Means::usual(Fnv1a), &mut MemDisk::new(rt.alloc()))?;
+    let answer = replica.answer(
+        &Means::usual(Fnv1a),
+        &mut MemDisk::new(rt.alloc()),
+        &mut Work::none(),
+    )?;
     Ok(String::from_utf8(print_aligned(rt.alloc(), replica.query(), &answer)?)?)
 }
 
 /// A replica's answer in CSV.
 fn in_csv(rt: HostRuntime, replica: &Replica) -> Result<String, Fail> {
-    let answer = replica.answer(&Means::usual(Fnv1a), &mut MemDisk::new(rt.alloc()))?;
+    let answer = replica.answer(
+        &Means::usual(Fnv1a),
+        &mut MemDisk::new(rt.alloc()),
+        &mut Work::none(),
+    )?;
     Ok(String::from_utf8(print_csv(rt.alloc(), replica.query(), &answer)?)?)
 }
 

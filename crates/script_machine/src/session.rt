@@ -32,7 +32,7 @@ use crate::reply::Reply;
 use crate::texts::known_lines;
 use batch_reader::read_rows;
 use group_parser::{parse, print};
-use hash_agg::{Fnv1a, Means, SpillError, TapeDisk};
+use hash_agg::{Fnv1a, Means, SpillError, TapeDisk, Work};
 use having_filter::Query;
 use indexmap::IndexMap;
 use packed_rows::{RowError, Schema};
@@ -117,7 +117,7 @@ fn deliver<D: TapeDisk>(
         Ok(batch) => batch,
         Err(why) => return Ok(Err(Refusal::from(why))),
     };
-    match replica.deliver(batch, means, disk) {
+    match replica.deliver(batch, means, disk, &mut Work::none()) {
         Ok(delivered) => Ok(Ok(delivered)),
         Err(refused) => Ok(Err(Refusal::from(refused.why))),
     }
@@ -175,7 +175,7 @@ fn answer_of_replica<D: TapeDisk>(
     ensures refused { IfErr result (IsReadRefusal (D.failures disk.old) (D.failures disk.new)) }
     ensures disk { Moves (D.failures disk.old) (D.failures disk.new) (D.writes disk.old) (D.writes disk.new) (D.honest disk.old) (D.honest disk.new) }
 {
-    let answer = replica.answer(means, disk)?;
+    let answer = replica.answer(means, disk, &mut Work::none())?;
     let table = print_csv(alloc, replica.query(), &answer);
     let rows = answer.len();
     drop(answer);
@@ -390,7 +390,7 @@ impl Session {
         let Some(theirs) = self.replicas.get(from) else {
             return Err(Refusal::NoSuchName);
         };
-        match own.join(theirs, &self.means, disk) {
+        match own.join(theirs, &self.means, disk, &mut Work::none()) {
             Ok(joined) => Ok(joined),
             Err(MergeError::NoMemory) => Err(Refusal::NoMemory),
             Err(MergeError::OriginDisagrees) => Err(Refusal::OriginDisagrees),

@@ -1,10 +1,12 @@
-use Rattle.std.specs.Prelude.{◌≡◌}
+use Rattle.std.specs.Prelude.{◌≡◌, List, IsSomeAnd}
 use Rattle.std.proofs.Common.{◌∙◌, ap, sym, subst}
 use Rattle.packed_rows.specs.Columns.{kinds}
+use Rattle.grouping_model.specs.Datum.{Row}
 use Rattle.batch_reader.specs.File.{read_file}
+use Rattle.batch_reader.specs.Rows.{ReadsRows, packings}
 use Rattle.having_filter.specs.Meaning.{Checked}
 use Rattle.script_machine.proofs.FeedLaws.{other_why}
-use Rattle.file_commands.proofs.FileLaws.{FileBatch, read_of_file, packed_of_file, takes_file, other_file}
+use Rattle.file_commands.proofs.FileLaws.{FileBatch, read_of_file, packed_of_file, takes_file, file_counted, other_file}
 use Rattle.file_commands.proofs.feeding.feed.Goals as goal
 
 pub deliver-requires-clause-rows : goal.deliver-requires-clause-rows
@@ -29,3 +31,11 @@ returns-in-Err-clause-other g c = λ is.
     let found = read_of_file _ _ _ _ _ batch.origin batch.number batch.few batch.told batch.rows in
     other_file _ _ _ _ _ (subst (λ columns. FileBatch (kinds columns) (read_file c.args.file.now) c.in_ok-batch.batch.origin c.in_ok-batch.batch.number c.in_ok-batch.batch.rows) same found)
     (c.in-Err.ensures.agrees (other_why c.in-Err.refused.why (sym c.from.ensures ∙ is)))
+
+pub returns-in-Ok-clause-counted : goal.returns-in-Ok-clause-counted
+returns-in-Ok-clause-counted g c = λ honest.
+    let batch = c.in_ok-batch.ensures in
+    let same : c.schema-schema.result.now ≡ c.args.replica.now.query.columns = c.schema-schema.ensures.columns ∙ ap (λ (q : Checked). q.columns) c.query.ensures in
+    file_counted _ _ _ _ _ _ _ _ _ _ batch.origin batch.number
+    (subst (λ columns. IsSomeAnd (read_file c.args.file.now) (λ read. (rows : List Row) × ReadsRows (kinds columns) read.records rows × (c.in_ok-batch.batch.rows ≡ packings rows))) same batch.rows)
+    (c.in-Ok.ensures.counted honest)

@@ -3,7 +3,7 @@ use Rattle.std.proofs.Common.{inr, sym, subst}
 use Rattle.grouping_model.specs.World.{World}
 use Rattle.replica_merge.specs.Replicas.{Held, Fits}
 use Rattle.script_machine.specs.declared.refusal.Refusal.TheVariants.{OriginDisagrees}
-use Rattle.file_commands.specs.Commands.{MergesHeld, IsApart, MergesFile, IsNotMerged}
+use Rattle.file_commands.specs.Commands.{MergesHeld, IsApart, MergesFile, FileMergeIsCounted, IsNotMerged}
 use Rattle.file_commands.proofs.FileLaws.{if_err, on_ok}
 use Rattle.file_commands.proofs.merging.merge.Goals as goal
 
@@ -23,3 +23,8 @@ returns-clause-agree g c =
     (λ why. why ≡ OriginDisagrees → (world : World) → Fits world c.args.replica.now → (other : Held) → _ → ¬ (Fits world other))
     (λ why agree is world own other is_file theirs. agree is world own (subst (Fits world) (sym (c.in_ok-other.ensures.saved other is_file)) theirs))
     c.take_in.ensures.agree
+
+pub returns-clause-counted : goal.returns-clause-counted
+returns-clause-counted g c =
+    on_ok c.take_in.result _ (_ → FileMergeIsCounted _ c.args.file.now c.args.replica.now _ _ _ _)
+    (λ counted honest. (c.in_ok-other.other, c.in_ok-other.ensures.loaded, counted honest)) c.take_in.ensures.counted

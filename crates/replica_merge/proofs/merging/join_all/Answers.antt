@@ -1,11 +1,15 @@
-use Rattle.std.specs.Prelude.{◌≡◌, ℕ, unwrap_or, IfErr}
-use Rattle.std.proofs.Common.{◌∙◌, sym, subst}
+use Rattle.std.specs.Prelude.{◌≡◌, refl, ℕ, [], unwrap_or, IfErr, IsTrue}
+use Rattle.std.proofs.Common.{rules, ◌∙◌, sym, subst}
 use Rattle.std.proofs.lemmas.Result.{err_from_is_err_and}
 use Rattle.std.specs.List.{AllByRecursion}
 use Rattle.std.specs.List.Sorted.{IsStrictlySortedBy}
 use Rattle.std.specs.Ordering.{nat_cmp}
 use Rattle.having_filter.specs.Meaning.{meaning}
-use Rattle.origin_prefix.specs.Joins.{Joins, PartsDisagree}
+use Rattle.grouping_model.specs.Query.{Query}
+use Rattle.aggregation_cost.specs.Space.{Setting}
+use Rattle.hash_agg.specs.Counting.{setting_by}
+use Rattle.origin_prefix.specs.Joins.{Joins, PartsDisagree, JoinIsCounted}
+use Rattle.replica_merge.specs.Counting.{MergeIsCounted}
 use Rattle.origin_prefix.specs.Parts.{Part, empty, IsPartOf}
 use Rattle.origin_prefix.proofs.ByNumber.{numbers, rising_rest}
 use Rattle.replica_merge.specs.Replicas.{Parts, part_at, part_of, IsHeldPart, DisagreeSomewhere}
@@ -54,6 +58,25 @@ loop-origin-preserved g c =
       rising = c.in_ok-put.ensures.rising;
       disk = moves_twice (g.D.TapeDisk.failures c.args.disk.now) (g.D.TapeDisk.failures c.loop-origin.disk) (g.D.TapeDisk.failures c.join_part.new.disk) (g.D.TapeDisk.writes c.args.disk.now) (g.D.TapeDisk.writes c.loop-origin.disk) (g.D.TapeDisk.writes c.join_part.new.disk)
           (g.D.TapeDisk.honest c.args.disk.now) (g.D.TapeDisk.honest c.loop-origin.disk) (g.D.TapeDisk.honest c.join_part.new.disk) c.loop-origin.invariant.disk c.join_part.ensures.disk;
+      counted = λ so work written left.
+          let q : Query = meaning c.args.query.now in
+          let setting : Setting = setting_by g.H.KeyHash.hash_of q c.args.means.now in
+          let counted : JoinIsCounted q setting (part_of own n) c.in-Some.part.now c.loop-origin.work (g.D.TapeDisk.writes c.loop-origin.disk) c.join_part.new.work (g.D.TapeDisk.writes c.join_part.new.disk) =
+          subst (λ o. JoinIsCounted q setting (unwrap_or o empty) c.in-Some.part.now c.loop-origin.work (g.D.TapeDisk.writes c.loop-origin.disk) c.join_part.new.work (g.D.TapeDisk.writes c.join_part.new.disk)) c.get.ensures.value
+          (c.in_ok-part.ensures.counted (subst IsTrue (sym c.loop-origin.invariant.disk.honesty) so)) in
+          c.loop-origin.invariant.counted so work written
+          (subst (λ es. MergeIsCounted q setting own es c.loop-origin.work (g.D.TapeDisk.writes c.loop-origin.disk) work written) (sym c.in-Some.ensures.steps)
+          (c.join_part.new.work, g.D.TapeDisk.writes c.join_part.new.disk, counted, left));
       can = tt;
       finite = tt;
     }
+
+pub returns-clause-counted : goal.returns-clause-counted
+returns-clause-counted g c = λ so.
+    let q : Query = meaning c.args.query.now in
+    let setting : Setting = setting_by g.H.KeyHash.hash_of q c.args.means.now in
+    let theirs : c.into_iter-origin-iterator.result ≡ c.args.theirs.now.entries = c.into_iter-origin-iterator.ensures.into_iter_gives.0 in
+    let done : c.loop-origin.origin-iterator ≡ [] = search rules in
+    subst (λ all. MergeIsCounted q setting c.args.own.now.entries all c.args.work.now (g.D.TapeDisk.writes c.args.disk.now) c.loop-origin.work (g.D.TapeDisk.writes c.loop-origin.disk)) theirs
+    (c.loop-origin.invariant.counted so c.loop-origin.work (g.D.TapeDisk.writes c.loop-origin.disk)
+    (subst (λ rest. MergeIsCounted q setting c.args.own.now.entries rest c.loop-origin.work (g.D.TapeDisk.writes c.loop-origin.disk) c.loop-origin.work (g.D.TapeDisk.writes c.loop-origin.disk)) (sym done) (refl, refl)))

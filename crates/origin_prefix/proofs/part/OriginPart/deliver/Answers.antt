@@ -4,6 +4,7 @@ use Rattle.std.specs.Option.{option_copied}
 use Rattle.grouping_model.specs.declared.limits.TheConstants.{LAST_NUMBER}
 use Rattle.having_filter.specs.Meaning.{meaning}
 use Rattle.origin_prefix.specs.Parts.{Part, rows_at, behind}
+use Rattle.origin_prefix.proofs.CountLaws.{on_ok, early_counted}
 use Rattle.origin_prefix.proofs.DeliverLaws.{known_within, reply_early, refused_early, unknown, unknown_refused, kept_delivers, part_kept, part_settled, behind_gap, next_open}
 use Rattle.origin_prefix.proofs.part.OriginPart.deliver.Goals as goal
 
@@ -25,6 +26,13 @@ returns-in-Some-clause-why g c =
     let there : rows_at part.early c.args.batch.number ≡ Some c.in-Some.kept.now =
     subst (λ (p : Part). rows_at p.early c.args.batch.number ≡ Some c.in-Some.kept.now) c.self.view_is (sym c.get.ensures.value ∙ ap option_copied c.in-Some.is) in
     refused_early part c.args.batch.number c.args.batch c.in-Some.kept.now c.known_again.result there c.known_again.ensures.other
+
+pub returns-in-Some-clause-counted : goal.returns-in-Some-clause-counted
+returns-in-Some-clause-counted g c =
+    let part : Part = c.args.self.now in
+    let there : rows_at part.early c.args.batch.number ≡ Some c.in-Some.kept.now =
+    subst (λ (p : Part). rows_at p.early c.args.batch.number ≡ Some c.in-Some.kept.now) c.self.view_is (sym c.get.ensures.value ∙ ap option_copied c.in-Some.is) in
+    on_ok c.known_again.result _ (λ _. early_counted c.args.query.now _ _ part c.args.batch.number c.args.batch.rows c.in-Some.kept.now _ _ c.requires.part there)
 
 pub returns-then-batch-self-2-clause-part : goal.returns-then-batch-self-2-clause-part
 returns-then-batch-self-2-clause-part g c =

@@ -5,7 +5,9 @@ use Rattle.grouping_model.specs.Replies.{reply_of}
 use Rattle.grouping_model.specs.World.{World, IsWorld, knows, learn}
 use Rattle.packed_rows.specs.Columns.{kinds}
 use Rattle.batch_reader.specs.Rows.{packings}
-use Rattle.origin_prefix.specs.Parts.{Disagrees}
+use Rattle.having_filter.specs.Meaning.{meaning}
+use Rattle.hash_agg.specs.Counting.{AreCounted, setting_by}
+use Rattle.origin_prefix.specs.Parts.{Disagrees, aggregations_on}
 use Rattle.origin_prefix.specs.declared.error.JoinError.TheVariants.{OriginDisagrees}
 use Rattle.replica_merge.specs.Replicas.{Held, part_of, told, Fits}
 use Rattle.replica_merge.proofs.DeliveredLaws.{still_held, reply_told, more_told, still_fits, handed_back, disagreed, agreed_else, unknown_else, world_agrees}
@@ -55,3 +57,9 @@ returns-clause-agrees g c =
     subst (λ (h : Held). IfErr c.deliver_in.result (λ e. e.why ≡ OriginDisagrees → (world : World) (those : List Row) → Fits world h → world c.args.batch.origin c.args.batch.number ≡ Some those
     → c.args.batch.rows ≢ packings those)) c.self.view_is
     (world_agrees c.deliver_in.result (g.D.TapeDisk.honest c.args.disk.now) c.self.inside.query c.self.inside.parts.entries c.deliver_in.new.parts.entries c.args.batch c.self.invariant c.requires.limits c.deliver_in.ensures.delivered)
+
+pub returns-clause-counted : goal.returns-clause-counted
+returns-clause-counted g c =
+    subst (λ (h : Held). OnOk c.deliver_in.result (IsTrue (g.D.TapeDisk.honest c.args.disk.now) → AreCounted (meaning h.query) (setting_by g.H.KeyHash.hash_of (meaning h.query) c.args.means.now)
+    (aggregations_on (part_of h.parts c.args.batch.origin) c.args.batch.number c.args.batch.rows) c.args.work.now (g.D.TapeDisk.writes c.args.disk.now) c.deliver_in.new.work (g.D.TapeDisk.writes c.deliver_in.new.disk))) c.self.view_is
+    c.deliver_in.ensures.counted

@@ -1,7 +1,7 @@
 use Rattle.std.specs.Prelude.{◌≡◌, ◌++◌, map}
 use Rattle.hash_agg.specs.Inputs.{brought}
 use Rattle.replica_merge.specs.Replicas.{counted_part}
-use Rattle.replica_merge.proofs.replica.part_inputs.Given as goal
+use Rattle.replica_merge.proofs.replica.other_inputs.Given as goal
 
 abbrev pub invariant-loop-part : goal.invariant-loop-part
 invariant-loop-part l =
