@@ -1,7 +1,7 @@
 //! The words of the command line, and what help says of them.
 
 use clap::builder::ValueParser;
-use clap::{Arg, ArgMatches, Command, Error};
+use clap::{Arg, ArgAction, ArgMatches, Command, Error};
 use std::alloc::{AllocError, Global};
 use std::convert::AsStr;
 
@@ -19,6 +19,8 @@ pub(crate) const QUERY: &str = "query";
 pub(crate) const FORMAT: &str = "format";
 
 pub(crate) const LIMIT: &str = "limit";
+
+pub(crate) const EXPLAIN: &str = "explain";
 
 static FORMATS: [&str; 2] = ["csv", "aligned"];
 
@@ -95,6 +97,9 @@ refused, OUT isn't written.
 
 The groups of a batch take at most --limit bytes of blocks while they are counted; what
 doesn't keep within is spilled, and counted in later passes. The reply is the same.
+--explain tells on standard error what all of it took, as 'passes 2 spilled 1 pages 1
+held 57352 limit 65536': passes, records that were spilled, pages of 8192 bytes written
+for them, and the most bytes held at once.
 
 Example:
   agg_tool feed oslo.sum oslo.sum oslo-3.csv
@@ -111,7 +116,10 @@ under a number that is known. Then OUT is written and 'saved BYTES' printed. OUT
 one of the INs. Where the first IN is refused, OUT isn't written.
 
 Groups of early batches that follow now take at most --limit bytes of blocks while they
-are counted; what doesn't keep within is spilled, and counted in later passes.
+are counted; what doesn't keep within is spilled, and counted in later passes. --explain
+tells on standard error what all of it took, as 'passes 2 spilled 1 pages 1 held 57352
+limit 65536': passes, records that were spilled, pages of 8192 bytes written for them, and
+the most bytes held at once.
 
 Example:
   agg_tool merge all.sum oslo.sum rome.sum
@@ -136,7 +144,10 @@ const ANSWER_ABOUT: &str = "Prints the query's answer over what a summary knows"
 const ANSWER_AFTER: &str = "\
 The rows stand in the order of the query's keys, null last. The groups of several origins
 take at most --limit bytes of blocks while they are combined; what doesn't keep within is
-spilled, and combined in later passes. The answer is the same.
+spilled, and combined in later passes. The answer is the same. --explain tells on standard
+error what that took, as 'passes 2 spilled 1 pages 1 held 57352 limit 65536': passes,
+records that were spilled, pages of 8192 bytes written for them, and the most bytes held
+at once; 'passes 0' where there is nothing to combine.
 
 Example:
   agg_tool answer all.sum --format aligned
@@ -179,19 +190,29 @@ fn limit_option<'a>(alloc: Global) -> Arg<'a> {
     )
 }
 
+/// The option that asks what the work took.
+fn explain_option<'a>(alloc: Global) -> Arg<'a> {
+    Arg::new(alloc, EXPLAIN)
+        .long(EXPLAIN)
+        .action(ArgAction::SetTrue)
+        .help("Also tells on standard error what the grouping took")
+}
+
 fn feed_command<'a>(alloc: Global) -> Result<Command<'a>, AllocError> {
     task(alloc, "feed", FEED_ABOUT, FEED_AFTER)
         .arg(positional(alloc, OUT, "The summary file to write"))?
         .arg(positional(alloc, IN, "The summary file to add to"))?
         .arg(positional(alloc, BATCH, "The batch files to add").num_args(1..))?
-        .arg(limit_option(alloc))
+        .arg(limit_option(alloc))?
+        .arg(explain_option(alloc))
 }
 
 fn merge_command<'a>(alloc: Global) -> Result<Command<'a>, AllocError> {
     task(alloc, "merge", MERGE_ABOUT, MERGE_AFTER)
         .arg(positional(alloc, OUT, "The summary file to write"))?
         .arg(positional(alloc, IN, "The summary files to merge").num_args(1..))?
-        .arg(limit_option(alloc))
+        .arg(limit_option(alloc))?
+        .arg(explain_option(alloc))
 }
 
 fn known_command<'a>(alloc: Global) -> Result<Command<'a>, AllocError> {
@@ -213,7 +234,8 @@ fn answer_command<'a>(alloc: Global) -> Result<Command<'a>, AllocError> {
     task(alloc, "answer", ANSWER_ABOUT, ANSWER_AFTER)
         .arg(positional(alloc, IN, "The summary file to read"))?
         .arg(format_option(alloc))?
-        .arg(limit_option(alloc))
+        .arg(limit_option(alloc))?
+        .arg(explain_option(alloc))
 }
 
 /// The program without its commands.

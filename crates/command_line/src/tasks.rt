@@ -1,12 +1,12 @@
 //! What each command does.
 
-use crate::arguments::{BATCH, COLUMNS, FORMAT, IN, LIMIT, OUT, QUERY};
+use crate::arguments::{BATCH, COLUMNS, EXPLAIN, FORMAT, IN, LIMIT, OUT, QUERY};
 use crate::files::{read_file, write_file};
 use crate::problem::{Problem, output_fault};
 use clap::ArgMatches;
 use exit_status::{Ending, refusal_ending};
 use file_commands::Format;
-use hash_agg::{Fnv1a, Means, MemDisk};
+use hash_agg::{Fnv1a, Means, MemDisk, Work};
 use replica_merge::{Delivered, Replica};
 use script_io::{put_all, read_limit};
 use script_machine::{Refusal, Reply, put_reply};
@@ -67,9 +67,14 @@ fn means_told(text: &str) -> Result<Means<Fnv1a>, Refusal> {
     }
 }
 
+/// Whether a command groups rows, and so has a limit and can tell what it took.
+fn groups_rows(command: &str) -> bool {
+    matches!(command, "feed" | "merge" | "answer")
+}
+
 /// The means that a command tells, or the usual ones.
 fn means_of(command: &str, matches: &ArgMatches<'_>) -> Result<Means<Fnv1a>, Refusal> {
-    if !matches!(command, "feed" | "merge" | "answer") {
+    if !groups_rows(command) {
         return Ok(Means::usual(Fnv1a));
     }
     match matches.get_str(LIMIT) {
@@ -85,9 +90,10 @@ fn feed_file<'p, R: Files + AllocGlobal>(
     path: &'p str,
     means: &Means<Fnv1a>,
     disk: &mut MemDisk,
+    work: &mut Work,
 ) -> Result<Delivered, Problem<'p>> {
     let file = read_file(rt, path)?;
-    match file_commands::feed(rt.alloc(), replica, &file, means, disk) {
+    match file_commands::feed(rt.alloc(), replica, &file, means, disk, work) {
         Ok(delivered) => Ok(delivered),
         Err(why) => Err(Problem::refused(path, why)),
     }
@@ -100,21 +106,24 @@ fn merge_file<'p, R: Files + AllocGlobal>(
     path: &'p str,
     means: &Means<Fnv1a>,
     disk: &mut MemDisk,
+    work: &mut Work,
 ) -> Result<(), Problem<'p>> {
     let file = read_file(rt, path)?;
-    match file_commands::merge(rt.alloc(), replica, &file, means, disk) {
+    match file_commands::merge(rt.alloc(), replica, &file, means, disk, work) {
         Ok(()) => Ok(()),
         Err(why) => Err(Problem::refused(path, why)),
     }
 }
 
-/// A command that runs: the files that it reaches, its streams, its disk of tapes, and whether something was passed over.
+/// A command that runs: the files that it reaches, its streams, its disk of tapes, what its grouping took, and whether
+/// something was passed over.
 #[derive(Drop)]
 pub(crate) struct Session<'c, R, W, E> {
     rt: &'c R,
     writer: &'c mut W,
     errors: &'c mut E,
     disk: MemDisk,
+    work: Work,
     refused: bool,
 }
 
@@ -126,6 +135,7 @@ impl<'c, R: Files + AllocGlobal, W: Write, E: Write> Session<'c, R, W, E> {
             writer,
             errors,
             disk: MemDisk::new(rt.alloc()),
+            work: Work::none(),
             refused: false,
         }
     }
@@ -183,7 +193,14 @@ impl<'c, R: Files + AllocGlobal, W: Write, E: Write> Session<'c, R, W, E> {
             return Ok(());
         };
         for path in paths {
-            match feed_file(self.rt, replica, *path, means, &mut self.disk) {
+            match feed_file(
+                self.rt,
+                replica,
+                *path,
+                means,
+                &mut self.disk,
+                &mut self.work,
+            ) {
                 Ok(delivered) => self.reply(&Reply::Delivered(delivered))?,
                 Err(problem) => self.pass_over(problem)?,
             }
@@ -202,7 +219,14 @@ impl<'c, R: Files + AllocGlobal, W: Write, E: Write> Session<'c, R, W, E> {
             return Ok(());
         };
         for path in paths.iter().skip(1) {
-            match merge_file(self.rt, replica, *path, means, &mut self.disk) {
+            match merge_file(
+                self.rt,
+                replica,
+                *path,
+                means,
+                &mut self.disk,
+                &mut self.work,
+            ) {
                 Ok(()) => self.reply(&Reply::Merged)?,
                 Err(problem) => self.pass_over(problem)?,
             }
@@ -226,7 +250,14 @@ impl<'c, R: Files + AllocGlobal, W: Write, E: Write> Session<'c, R, W, E> {
         means: &Means<Fnv1a>,
     ) -> Result<(), Problem<'p>> {
         let format = format_named(value(matches, FORMAT));
-        match file_commands::table(self.rt.alloc(), replica, format, means, &mut self.disk) {
+        match file_commands::table(
+            self.rt.alloc(),
+            replica,
+            format,
+            means,
+            &mut self.disk,
+            &mut self.work,
+        ) {
             Ok(table) => self.print(&table),
             Err(error) => Err(Problem::refused(value(matches, IN), Refusal::from(error))),
         }
@@ -263,6 +294,19 @@ impl<'c, R: Files + AllocGlobal, W: Write, E: Write> Session<'c, R, W, E> {
         done
     }
 
+    /// Tells what the grouping took, beside the limit.
+    fn explain(&mut self, limit: u64) {
+        // Nothing is left to do where the line can't be written.
+        let _ = writeln!(
+            self.errors,
+            "passes {} spilled {} pages {} held {} limit {limit}",
+            self.work.passes,
+            self.work.spilled,
+            self.disk.writes(),
+            self.work.most_held
+        );
+    }
+
     /// Ends a command that stopped.
     fn stop(&mut self, problem: Problem<'_>) -> Ending {
         self.complain(&problem);
@@ -288,7 +332,11 @@ impl<'c, R: Files + AllocGlobal, W: Write, E: Write> Session<'c, R, W, E> {
             Ok(means) => means,
             Err(why) => return self.refuse_limit(why),
         };
-        match self.run_command(command, matches, &means) {
+        let done = self.run_command(command, matches, &means);
+        if done.is_ok() && groups_rows(command) && matches.get_flag(EXPLAIN) {
+            self.explain(means.limit());
+        }
+        match done {
             Ok(()) if self.refused => Ending::Refused,
             Ok(()) => Ending::Done,
             Err(problem) => self.stop(problem),

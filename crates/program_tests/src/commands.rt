@@ -58,6 +58,32 @@ fn refused_files_are_passed_over(rt: HostRuntime) -> Result<(), Fail> {
     Ok(())
 }
 
+/// What `--explain` tells: 385 towns need 90,128 bytes, and 384 of them 57,352.
+const EXPLAINED: &str = "\
+?rows|@0.csv|0|1|385 => - => 0
+?rows|@1.csv|1|1|385 => - => 0
+?rows|@2.csv|1|2|385 => - => 0
+new|@e.sum|--columns|town text, amount bigint|--query|SELECT town, count(*), sum(amount) FROM batches GROUP BY town HAVING town = 'k0384' => saved 121/ => 0
+feed|@a.sum|@e.sum|@0.csv|--limit|65536|--explain => folded upto 1/saved 15924/ => 0 => passes 2 spilled 1 pages 1 held 57352 limit 65536
+feed|@a.sum|@e.sum|@0.csv|--explain|--limit|90128 => folded upto 1/saved 15924/ => 0 => passes 1 spilled 0 pages 0 held 90128 limit 90128
+feed|@b.sum|@a.sum|@0.csv|@1.csv|@2.csv|--limit|65536|--explain => known/folded upto 1/folded upto 2/saved 31727/ => 0 => passes 4 spilled 2 pages 2 held 57352 limit 65536
+feed|@c.sum|@e.sum|@2.csv|--explain => early/saved 7077/ => 0 => passes 0 spilled 0 pages 0 held 0 limit 4194304
+feed|@d.sum|@a.sum|@1.csv => folded upto 1/saved 31727/ => 0
+merge|@m.sum|@d.sum|@c.sum|@b.sum|--limit|65536|--explain => merged/merged/saved 31727/ => 0 => passes 2 spilled 1 pages 1 held 57352 limit 65536
+?same|@m.sum|@b.sum => - => 0
+answer|@a.sum|--explain => town,count,sum/k0384,1,384/ => 0 => passes 0 spilled 0 pages 0 held 0 limit 4194304
+answer|@m.sum|--limit|65536|--explain => town,count,sum/k0384,3,1152/ => 0 => passes 2 spilled 1 pages 1 held 57352 limit 65536
+answer|@m.sum => town,count,sum/k0384,3,1152/ => 0
+answer|@none.sum|--explain => refused ReadFault/ => 3 => none.sum: refused ReadFault
+known|@m.sum|--explain => - => 2 => --explain
+";
+
+#[test]
+fn what_the_grouping_took_is_told(rt: HostRuntime) -> Result<(), Fail> {
+    assert_eq!(rt; play(&rt, "explained", &[], EXPLAINED)?.as_str(), "");
+    Ok(())
+}
+
 /// Commands that write nothing: `x.sum` is never there.
 const REFUSED: &str = "\
 new|@e.sum|--columns|c text|--query|SELECT c FROM batches GROUP BY c => saved 52/ => 0

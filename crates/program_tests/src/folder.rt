@@ -48,7 +48,20 @@ fn are_same(rt: &HostRuntime, one: &str, other: &str) -> Result<bool, Fail> {
     Ok(bytes == fs::read(rt, other)?)
 }
 
-/// What a test does beside commands: whether files are the same, whether one is there, a link, and a file of a length.
+/// Makes a batch file, the `NUMBER|ROWS` of an origin: a row of each of so many towns, `k0000` and on.
+fn write_rows(rt: &HostRuntime, file: &str, told: &str) -> Result<bool, Fail> {
+    let (origin, told) = told.split_once('|').ok_or("no number")?;
+    let (number, rows) = told.split_once('|').ok_or("no rows")?;
+    let count: u32 = rows.parse().ok().ok_or("no rows")?;
+    let mut text = format!(in rt.alloc(); "batch,{origin},{number},{rows}\n")?;
+    for town in 0..count {
+        text.push_str(&format!(in rt.alloc(); "k{town:04},{town}\n")?)?;
+    }
+    Ok(fs::write(rt, file, text.as_bytes()).is_ok())
+}
+
+/// What a test does beside commands: whether files are the same, whether one is there, a link, a file of a length, and a
+/// batch file of many rows.
 fn aside(rt: &HostRuntime, word: &str, file: &str, rest: &str) -> Result<bool, Fail> {
     match word {
         "same" => are_same(rt, file, rest),
@@ -59,6 +72,7 @@ fn aside(rt: &HostRuntime, word: &str, file: &str, rest: &str) -> Result<bool, F
                 .set_len(rest.parse().ok().ok_or("no length")?)
                 .is_ok(),
         ),
+        "rows" => write_rows(rt, file, rest),
         _ => Err("no such word")?,
     }
 }
