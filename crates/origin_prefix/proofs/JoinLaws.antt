@@ -1,6 +1,6 @@
 -- What two parts give that are joined.
 use Rattle.std.specs.Prelude.{◌≡◌, ℕ, ◌<◌, nat_lt, true, List, [], None, if◌then◌else◌}
-use Rattle.std.proofs.Common.{◌∙◌, ap, arith}
+use Rattle.std.proofs.Common.{◌∙◌, sym, subst, ap, arith}
 use Rattle.std.specs.List.{AllByRecursion}
 use Rattle.std.specs.List.Sorted.{IsStrictlySortedBy}
 use Rattle.std.specs.Ordering.{nat_cmp}
@@ -20,10 +20,22 @@ abbrev pub KeepsBehind : ℕ → Batches → Batches → Batches → Type 0
 KeepsBehind above from old new =
     (ks : List Kind) → AllByRecursion (λ (b : ℕ × List (List ℕ)). above < b.0 → IsBehind ks above b) from → AllByRecursion (IsBehind ks above) old → AllByRecursion (IsBehind ks above) new
 
-module _ (query : Checked) (a b : Part) (first both : Batches) (is : IsPartOf query a) (other : IsPartOf query b)
-    (copied : Copied a.prefix a.early [] first) (then_copied : Copied a.prefix b.early first both)
-    (keeps : KeepsBehind a.prefix a.early [] first) (then_keeps : KeepsBehind a.prefix b.early first both)
+module _ (query : Checked) (a b own shorter : Part) (start first both : Batches) (view : a ≡ own) (other_view : b ≡ shorter) (none : start ≡ []) (own_is : IsPartOf query own)
+    (shorter_is : IsPartOf query shorter) (first_copied : Copied a.prefix a.early start first) (then_copied : Copied a.prefix b.early first both)
+    (first_keeps : KeepsBehind a.prefix a.early start first) (then_keeps : KeepsBehind a.prefix b.early first both)
     (rising : IsStrictlySortedBy nat_cmp (numbers both)) where
+  is : IsPartOf query a
+  is = subst (IsPartOf query) (sym view) own_is
+
+  other : IsPartOf query b
+  other = subst (IsPartOf query) (sym other_view) shorter_is
+
+  copied : Copied a.prefix a.early [] first
+  copied = subst (λ old. Copied a.prefix a.early old first) none first_copied
+
+  keeps : KeepsBehind a.prefix a.early [] first
+  keeps = subst (λ old. KeepsBehind a.prefix a.early old first) none first_keeps
+
   behind_all : AllByRecursion (IsBehind (kinds query.columns) a.prefix) both
   behind_all =
       then_keeps (kinds query.columns)
@@ -36,8 +48,8 @@ module _ (query : Checked) (a b : Part) (first both : Batches) (is : IsPartOf qu
   pub united_open : IsOpen query a.prefix a.run both
   united_open = record { within = is.within; is_run = is.run; few = is.few; rising = rising; above = behind_all }
 
-  pub united_batches : Unites a.prefix a b both
-  united_batches =
+  inside_united : Unites a.prefix a b both
+  inside_united =
       record {
         rising = rising;
         above = all_weaker (IsBehind (kinds query.columns) a.prefix) (λ (e : ℕ × List (List ℕ)). a.prefix < e.0) (λ e i. i.behind) both behind_all;
@@ -47,3 +59,6 @@ module _ (query : Checked) (a b : Part) (first both : Batches) (is : IsPartOf qu
             ∙ (λ i. either (copied n i) (if above i then rows_at b.early n else None))
             ∙ ap (λ b'. either (if b' then rows_at a.early n else None) (rows_at b.early n)) above;
       }
+
+  pub united_batches : Unites own.prefix own shorter both
+  united_batches = subst (λ (p : Part). Unites p.prefix p shorter both) view (subst (λ (p : Part). Unites a.prefix a p both) other_view inside_united)
