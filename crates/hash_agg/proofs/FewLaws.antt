@@ -1,6 +1,6 @@
 -- There are at most as many passes as groups.
-use Rattle.std.specs.Prelude.{◌≡◌, refl, ℕ, ◌+◌, ◌<◌, ◌≤◌, max, Bool, true, false, cond, not, ◌||◌, List, [], ◌∷◌, ◌++◌, map, filter, length}
-use Rattle.std.specs.List.{AllByRecursion, IsDistinct, list_any}
+use Rattle.std.specs.Prelude.{◌≡◌, refl, ℕ, ◌<◌, ◌≤◌, max, true, false, cond, not, ◌||◌, List, [], ◌∷◌, ◌++◌, map, filter, length}
+use Rattle.std.specs.List.{AllByRecursion, IsDistinct}
 use Rattle.std.proofs.Common.{sym, ◌∙◌, ap, subst, inl, inr, arith}
 use Rattle.std.proofs.lemmas.Bool.{both_ways, false_from_ne_true}
 use Rattle.std.proofs.lemmas.List.{map-append, length-map}
@@ -20,10 +20,9 @@ use Rattle.aggregation_cost.proofs.CostLaws.{passes_few}
 use Rattle.aggregation_cost.proofs.Keys.{same_key_itself, same_key-is, distinct-apart}
 use Rattle.aggregation_cost.proofs.Lists.{any-filter, each_gives, each_both, each_of_filter}
 use Rattle.hash_agg.specs.Runs.{Entry, packed_keys}
-use Rattle.hash_agg.specs.Standing.{AreGroups}
 use Rattle.hash_agg.specs.Inputs.{Brought, Packed, Counted, AllBring, IsAggregate, on_end}
 use Rattle.hash_agg.specs.Adding.{Given, Of_rows, Of_groups, AllGive}
-use Rattle.hash_agg.specs.Passes.{Piece, Of_row, Of_group, cost_records, records_of, given_pieces, all_pieces}
+use Rattle.hash_agg.specs.Passes.{Piece, Of_row, Of_group, records_of, all_pieces}
 use Rattle.hash_agg.proofs.InputLaws.{keys_packed, keys_of_kinds}
 use Rattle.hash_agg.proofs.SpillLaws.{records_more}
 

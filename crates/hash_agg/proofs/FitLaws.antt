@@ -1,5 +1,5 @@
 -- Each group of what is given fits into the table by itself.
-use Rattle.std.specs.Prelude.{refl, ℕ, ◌≤◌, ◌<◌, true, false, cond, List, [], ◌∷◌, map, length}
+use Rattle.std.specs.Prelude.{refl, ℕ, ◌≤◌, true, false, cond, List, [], ◌∷◌, map, length}
 use Rattle.std.specs.List.{AllByRecursion}
 use Rattle.std.proofs.lemmas.List.Elements.{All-from_recursion}
 use Rattle.grouping_model.specs.Condition.{is_met}

@@ -1,14 +1,14 @@
 -- What a pass takes and spills of the records that it reads, as the cost has it.
-use Rattle.std.specs.Prelude.{◌≡◌, ◌≢◌, refl, ℕ, zero, suc, ◌+◌, Bool, true, false, cond, not, ◌&&◌, ◌||◌, List, [], ◌∷◌, ◌++◌, map, flat_map, length, slice_get, slice_set, Some}
+use Rattle.std.specs.Prelude.{◌≡◌, refl, ℕ, zero, suc, ◌+◌, Bool, true, false, cond, not, ◌&&◌, ◌||◌, List, [], ◌∷◌, ◌++◌, length, slice_get, Some}
 use Rattle.std.proofs.Common.{sym, ◌∙◌, ap, subst, arith, append-nil}
 use Rattle.std.proofs.lemmas.List.Concat.{flat_map-append}
 use Rattle.std.proofs.lemmas.Bool.{or_right}
 use Rattle.std.specs.Int.{w16, to_be_bytes}
 use Rattle.std.proofs.lemmas.List.{map-append, length-append}
-use Rattle.grouping_model.specs.Datum.{Row, HasKinds}
+use Rattle.grouping_model.specs.Datum.{Row}
 use Rattle.grouping_model.specs.Condition.{is_met}
 use Rattle.grouping_model.specs.Query.{Query}
-use Rattle.grouping_model.specs.Grouping.{Group, column_of, key_of}
+use Rattle.grouping_model.specs.Grouping.{column_of, key_of}
 use Rattle.packed_rows.specs.Packing.{packing}
 use Rattle.aggregation_cost.specs.Passes as cost
 use Rattle.aggregation_cost.specs.Space.{Key, Setting, fits}
@@ -17,7 +17,7 @@ use Rattle.aggregation_cost.proofs.Steps.{taken_from-push, spilled_from-push}
 use Rattle.spill_tapes.specs.Records.{Record}
 use Rattle.spill_lists.specs.declared.lists.OnTape.{OnTape}
 use Rattle.hash_agg.specs.Runs.{Entry, packed_keys}
-use Rattle.hash_agg.specs.Passes.{Piece, Of_row, Of_group, IsPiece, piece_key, HasNoKey, states_width, cost_records, records_of, IsCosted, AreCosted, Spills}
+use Rattle.hash_agg.specs.Passes.{Piece, Of_row, Of_group, IsPiece, piece_key, HasNoKey, states_width, cost_records, records_of, AreCosted, Spills}
 use Rattle.hash_agg.proofs.PassLaws.{IsKept}
 use Rattle.hash_agg.proofs.StateLaws.{states_long}
 

@@ -1,5 +1,5 @@
 -- What the passes that were made took, and what those that are to be made will take, is what the cost says.
-use Rattle.std.specs.Prelude.{◌≡◌, refl, ℕ, zero, suc, ◌+◌, ◌<◌, ◌≤◌, ◌-◌, ◌/◌, ◌%◌, ◌^◌, ◌==◌, nat_lt, max, Bool, true, false, cond, not, List, [], ◌∷◌, ◌++◌, map, filter, flat_map, length, IsPermutation}
+use Rattle.std.specs.Prelude.{◌≡◌, refl, ℕ, zero, suc, ◌+◌, ◌≤◌, ◌-◌, ◌/◌, ◌%◌, ◌^◌, ◌==◌, nat_lt, max, true, false, cond, not, List, [], ◌∷◌, ◌++◌, map, filter, flat_map, length}
 use Rattle.std.specs.List.{AllByRecursion, sum_by, range_with_len}
 use Rattle.std.proofs.Common.{sym, ◌∙◌, ap, subst, arith, append-nil}
 use Rattle.std.proofs.lemmas.Bool.Decides.{nat_tests}
@@ -20,14 +20,14 @@ use Rattle.spill_tapes.specs.Records.{Record, header_of, record_bytes, tape_byte
 use Rattle.spill_lists.specs.Lists.{LeftList, list_of, on_list, deeper, is_none, lists, left_by}
 use Rattle.spill_lists.specs.Standing.{list_pages, pages_of}
 use Rattle.spill_lists.specs.declared.lists.OnTape.{OnTape}
-use Rattle.having_filter.specs.Kept.{IsWellFormed, key_kinds}
+use Rattle.having_filter.specs.Kept.{IsWellFormed}
 use Rattle.hash_agg.specs.Runs.{Entry, packed_keys}
-use Rattle.hash_agg.specs.Passes.{Piece, Of_row, Of_group, IsPiece, ArePieces, group_record, cost_records, records_of, IsCosted, AreCosted, Spills}
+use Rattle.hash_agg.specs.Passes.{Piece, Of_row, Of_group, IsPiece, ArePieces, cost_records, records_of, IsCosted, AreCosted, Spills}
 use Rattle.hash_agg.specs.Waiting.{capped, IsLeft, AreLeft, Costs, AddsUp, pass_cost, IsWork}
 use Rattle.hash_agg.specs.declared.work.Work.{Work}
 use Rattle.hash_agg.proofs.InputLaws.{packed_once}
 use Rattle.hash_agg.proofs.StepLaws.{key_short, group_apart}
-use Rattle.hash_agg.proofs.SpillLaws.{as_empty, as_long}
+use Rattle.hash_agg.proofs.SpillLaws.{as_long}
 
 -- ---- the pieces of records are told by their bytes
 

@@ -1,9 +1,7 @@
-use Rattle.std.specs.Prelude.{◌≡◌, max, ◌++◌, ◌∷◌, [], List, ℕ, map}
-use Rattle.std.proofs.Common.{sym, ◌∙◌, ap, subst}
-use Rattle.aggregation_cost.specs.Cost.{greatest}
-use Rattle.aggregation_cost.specs.Space.{need, fronts}
-use Rattle.group_table.specs.Space.{keys_in}
-use Rattle.hash_agg.specs.Runs.{Entry, packed_keys}
+use Rattle.std.specs.Prelude.{◌++◌, ◌∷◌, []}
+use Rattle.std.proofs.Common.{sym, ◌∙◌, ap}
+use Rattle.aggregation_cost.specs.Space.{need}
+use Rattle.hash_agg.specs.Runs.{packed_keys}
 use Rattle.hash_agg.specs.Passes.{GroupsState, entries_of}
 use Rattle.hash_agg.proofs.NeedLaws.{most_entered, none_needed}
 use Rattle.hash_agg.proofs.TableLaws.{held_alone}
