@@ -1,6 +1,6 @@
 //! What a replica knows and answers, as text.
 
-ghost use Rattle.std.specs.Prelude.{◌≡◌, ◌≢◌, All, IfErr, IfOk, OnOk, IsTrue, length};
+ghost use Rattle.std.specs.Prelude.{◌≡◌, ◌≢◌, All, IfErr, IfOk, OnOk, OnErr, IsTrue, length};
 ghost use Rattle.grouping_model.specs.Answer.{answer};
 ghost use Rattle.grouping_model.specs.Replies.{known_list};
 ghost use Rattle.grouping_model.specs.World.{World, IsWorld};
@@ -59,7 +59,7 @@ fn print(
 ///
 /// # Errors
 ///
-/// Those of [`Replica::answer`].
+/// Those of [`Replica::answer`]. An error adds nothing to `work`.
 pub fn table<H: KeyHash + Copy, D: TapeDisk>(
     alloc: Global,
     replica: &Replica,
@@ -74,12 +74,16 @@ pub fn table<H: KeyHash + Copy, D: TapeDisk>(
     ensures counted { OnOk result (IsTrue (D.honest disk.old) →
         AreCounted (meaning replica.now.query) (setting_by H.hash_of (meaning replica.now.query) means.now)
         (aggregations_asked replica.now.parts) work.old (D.writes disk.old) work.new (D.writes disk.new)) }
+    ensures uncounted { OnErr result (work.new ≡ work.old) }
     ensures undamaged { IfErr result (λ error. IsTrue (D.honest disk.old) → error ≢ TapeDamaged) }
     ensures refused { IfErr result (IsReadRefusal (D.failures disk.old) (D.failures disk.new)) }
     ensures disk { Moves (D.failures disk.old) (D.failures disk.new) (D.writes disk.old) (D.writes disk.new) (D.honest disk.old) (D.honest disk.new) }
 {
-    let answer = replica.answer(means, disk, work)?;
+    let mut counted = *work;
+    let answer = replica.answer(means, disk, &mut counted)?;
     let text = print(alloc, replica.query(), &answer, format);
     drop(answer);
-    Ok(text?)
+    let text = text?;
+    *work = counted;
+    Ok(text)
 }

@@ -35,6 +35,7 @@ pub fn feed<H: KeyHash + Copy, D: TapeDisk>(
         FeedIsCounted (setting_by H.hash_of (meaning replica.old.query) means.now) (read_file file.now)
         replica.old work.old (D.writes disk.old) work.new (D.writes disk.new)) }
     ensures same { OnErr result (replica.new ≡ replica.old) }
+    ensures uncounted { OnErr result (work.new ≡ work.old) }
     ensures why { IfErr result (λ why. IsOfBatch why →
         IsNoBatchFile (kinds replica.old.query.columns) (read_file file.now) why) }
     ensures other { IfErr result (λ why. why ≡ OriginDisagrees →

@@ -30,6 +30,7 @@ fn take_in<H: KeyHash + Copy, D: TapeDisk>(
         MergeIsCounted (meaning replica.old.query) (setting_by H.hash_of (meaning replica.old.query) means.now) replica.old.parts
         other.now.parts work.old (D.writes disk.old) work.new (D.writes disk.new)) }
     ensures same { OnErr result (replica.new ≡ replica.old) }
+    ensures uncounted { OnErr result (work.new ≡ work.old) }
     ensures why { IfErr result (IsApart replica.old other.now) }
     ensures agree { IfErr result (λ why. why ≡ OriginDisagrees → (world : World) →
         Fits world replica.old → ¬ (Fits world other.now)) }
@@ -63,6 +64,7 @@ pub fn merge<H: KeyHash + Copy, D: TapeDisk>(
         FileMergeIsCounted (setting_by H.hash_of (meaning replica.old.query) means.now) file.now
         replica.old work.old (D.writes disk.old) work.new (D.writes disk.new)) }
     ensures same { OnErr result (replica.new ≡ replica.old) }
+    ensures uncounted { OnErr result (work.new ≡ work.old) }
     ensures why { IfErr result (IsNotMerged file.now replica.old) }
     // Replicas that fit one world never disagree.
     ensures agree { IfErr result (λ why. why ≡ OriginDisagrees → (world : World) →

@@ -178,7 +178,8 @@ fn fill(parts: &mut BTreeMap<u16, OriginPart>, old: BTreeMap<u16, OriginPart>)
 
 impl Replica {
     /// What this replica and another hold together, aside from both: `commit` moves it in. `OriginDisagrees` is told where the parts of an
-    /// origin disagree. What the aggregations of early batches that follow now took is added to `work`.
+    /// origin disagree. What the aggregations of early batches that follow now took is added to `work`,
+    /// and nothing at an error.
     pub fn join<H: KeyHash + Copy, D: TapeDisk>(
         &self,
         other: &Replica,
@@ -192,6 +193,7 @@ impl Replica {
             MergeIsCounted (meaning self.now.query) (setting_by H.hash_of (meaning self.now.query) means.now)
             self.now.parts other.now.parts
             work.old (D.writes disk.old) work.new (D.writes disk.new)) }
+        ensures uncounted { OnErr result (work.new ≡ work.old) }
         ensures held { IfOk result (λ _. AreHeldParts self.now.query other.now.parts) }
         ensures query { IfOk result (λ _. other.now.query ≡ self.now.query) }
         ensures different { IfErr result (λ e. e ≡ DifferentQuery →
@@ -212,6 +214,7 @@ impl Replica {
         }
         let _own = self.query.schema();
         let _theirs = other.query.schema();
+        let mut counted = *work;
         let parts = join_all(
             self.alloc,
             &self.query,
@@ -219,8 +222,9 @@ impl Replica {
             &other.parts,
             means,
             disk,
-            work,
+            &mut counted,
         )?;
+        *work = counted;
         Ok(Joined { parts })
     }
 
@@ -264,6 +268,7 @@ impl Replica {
             MergeIsCounted (meaning self.old.query) (setting_by H.hash_of (meaning self.old.query) means.now)
             self.old.parts other.now.parts
             work.old (D.writes disk.old) work.new (D.writes disk.new)) }
+        ensures uncounted { OnErr result (work.new ≡ work.old) }
         ensures told { OnOk result (told self.new.parts
             ≡ union (told self.old.parts) (told other.now.parts)) }
         ensures fits { OnOk result (IsTrue (D.honest disk.old) → (world : World) → IsWorld (kinds self.old.query.columns) world →

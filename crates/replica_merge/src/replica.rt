@@ -342,7 +342,8 @@ impl Replica {
     ///
     /// # Errors
     ///
-    /// `NoMemory`; `TapeFault` where the disk failed; `TapeDamaged` where it gave back what was not written to it.
+    /// `NoMemory`; `TapeFault` where the disk failed; `TapeDamaged` where it gave back what was not written to it. An error adds
+    /// nothing to `work`.
     pub fn answer<H: KeyHash + Copy, D: TapeDisk>(
         &self,
         means: &Means<H>,
@@ -357,6 +358,7 @@ impl Replica {
         ensures counted { OnOk result (IsTrue (D.honest disk.old) →
             AreCounted (meaning self.now.query) (setting_by H.hash_of (meaning self.now.query) means.now)
             (aggregations_asked self.now.parts) work.old (D.writes disk.old) work.new (D.writes disk.new)) }
+        ensures uncounted { OnErr result (work.new ≡ work.old) }
         ensures undamaged { IfErr result (λ error. IsTrue (D.honest disk.old) → error ≢ TapeDamaged) }
         ensures refused { IfErr result (IsReadRefusal (D.failures disk.old) (D.failures disk.new)) }
         ensures disk { Moves (D.failures disk.old) (D.failures disk.new) (D.writes disk.old) (D.writes disk.new) (D.honest disk.old) (D.honest disk.new) }
@@ -369,6 +371,7 @@ impl Replica {
             return Ok(show(self.alloc, &self.query, first.run())?);
         }
         let rows = most_rows(first.prefix());
+        let mut counted = *work;
         let run = with_others(
             self.alloc,
             &self.query,
@@ -377,9 +380,10 @@ impl Replica {
             &others,
             means,
             disk,
-            work,
+            &mut counted,
         )?;
         let answer = show(self.alloc, &self.query, &run)?;
+        *work = counted;
         Ok(answer)
     }
 }
