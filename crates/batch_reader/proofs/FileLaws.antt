@@ -1,17 +1,11 @@
 -- The head of a batch file, and the records after it.
-use Rattle.std.proofs.Common.{◌≡◌, ◌≢◌, ◌≤◌, ℕ, List, [], ◌∷◌, length, get_or, take, drop, Option, Some, None, IsSomeAnd, is_some, false, true, MatchOption, option_map, refl, sym, ap, arith, ◌∙◌}
+use Rattle.std.proofs.Common.{◌≡◌, ◌≢◌, ℕ, List, [], ◌∷◌, length, get_or, take, drop, Option, Some, None, is_some, false, true, MatchOption, option_map, refl, sym, ap, arith, ◌∙◌}
 use Rattle.std.proofs.lemmas.List.{length-drop, take_all}
 use Rattle.std.proofs.lemmas.Bool.{false≢true}
 use Rattle.csv.specs.Records.{fields_of}
 use Rattle.csv.specs.declared.record.ByteRecord.{ByteRecord}
-use Rattle.grouping_model.specs.Datum.{Kind, Row}
-use Rattle.grouping_model.specs.Replies.{InLimits}
-use Rattle.grouping_model.specs.declared.limits.TheConstants.{MOST_ROWS}
-use Rattle.batch_reader.specs.Head.{ReadsBatchNumber, ReadsOrigin}
 use Rattle.script_io.specs.Records.{Record}
-use Rattle.batch_reader.specs.File.{BatchFile, FileHead, batch_file, file_head, told_by}
-use Rattle.batch_reader.specs.Rows.{ArePackedRows, ReadsRows, packings}
-use Rattle.batch_reader.proofs.RecordLaws.{built_rows}
+use Rattle.batch_reader.specs.File.{FileHead, batch_file, file_head, told_by}
 
 pub head_of_four : (fields : Record) → length fields ≡ 4
     → file_head fields ≡ told_by (get_or fields 0 []) (get_or fields 1 []) (get_or fields 2 []) (get_or fields 3 [])
@@ -55,15 +49,3 @@ no_value (Some x) h = absurd (false≢true (sym h))
 pub file_of : (records rest : List Record) (first : Record) (head : FileHead) → records ≡ first ∷ rest → Some head ≡ file_head first
     → batch_file records ≡ Some (record { head = head; records = rest })
 file_of records rest first head is tells = ap batch_file is ∙ ap (option_map (λ h. record { head = h; records = rest })) (sym tells)
-
--- the rows of a batch file are packed rows of the columns
-pub file_rows : (kinds : List Kind) (file : Option BatchFile) (packed : List (List ℕ)) → length packed ≤ MOST_ROWS
-    → IsSomeAnd file (λ read. (rows : List Row) × ReadsRows kinds read.records rows × (packed ≡ packings rows)) → ArePackedRows kinds packed
-file_rows kinds None packed few reads = absurd reads
-file_rows kinds (Some read) packed few reads = built_rows kinds read.records reads.0 packed reads.1 reads.2 few
-
--- and its origin and number are within the limits
-pub file_limits : (file : Option BatchFile) (origin number : ℕ) → IsSomeAnd file (λ read. ReadsOrigin read.head.origin origin)
-    → IsSomeAnd file (λ read. ReadsBatchNumber read.head.number number) → InLimits (origin, number)
-file_limits None origin number one two = absurd one
-file_limits (Some read) origin number one two = (one.within, two.above, two.within)

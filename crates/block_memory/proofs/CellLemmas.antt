@@ -186,10 +186,6 @@ with_bytes-append cells at xs ys room =
     ∙ ap (λ (t : Cells). before ++ t) (sym (append_assoc first (map Some ys) (drop (end + length ys) cells)) ∙ (λ i. sym (map-append Some xs ys) i ++ drop (both i) cells))
     ∙ sym (with_bytes_is cells at (xs ++ ys) (omega (arith, both)))
 
--- to write no byte changes nothing
-pub with_bytes-nil : (cells : Cells) (at : ℕ) → at ≤ length cells → with_bytes cells at [] ≡ cells
-with_bytes-nil cells at room = with_bytes_same cells at [] (record { within = omega (arith, room); values = refl })
-
 -- one more byte is written after others
 pub set-with_bytes : (cells : Cells) (at : ℕ) (xs : List ℕ) (k x : ℕ) → k ≡ at + length xs → k < length cells → set (with_bytes cells at xs) k (Some x) ≡ with_bytes cells at (xs ++ x ∷ [])
 set-with_bytes cells at xs k x place inside =
@@ -249,11 +245,6 @@ written_of_holds cells at n bytes long h =
 -- a write leaves written cells
 pub written_by_write : (cells : Cells) (at : ℕ) (bytes : List ℕ) → at + length bytes ≤ length cells → IsWritten (with_bytes cells at bytes) at (length bytes)
 written_by_write cells at bytes room = written_of_holds (with_bytes cells at bytes) at (length bytes) bytes refl (holds_by_write cells at bytes room)
-
--- zeros are bytes that were written
-pub written_by_zeros : (cells : Cells) (at n : ℕ) → at + n ≤ length cells → IsWritten (with_bytes cells at (zeros n)) at n
-written_by_zeros cells at n room =
-    written_of_holds (with_bytes cells at (zeros n)) at n (zeros n) (length-zeros n) (holds_by_write cells at (zeros n) (omega (arith, length-zeros n)))
 
 -- a part of what was written was written
 pub written_part : (cells : Cells) (at n i k : ℕ) → i + k ≤ n → IsWritten cells at n → IsWritten cells (at + i) k

@@ -22,9 +22,6 @@ growth-over n low = ap is_some (cond-false (nat_lt most n) _ _ (le-ltb most n lo
 pub room-classed : (n : ℕ) → n ≤ largest → set_room n ≡ room_of (class_of n)
 room-classed n low = cond-true (nat_le n largest) (room_of (class_of n)) (rounded n) (le-leb n largest low)
 
-pub room-own : (n : ℕ) → largest < n → set_room n ≡ rounded n
-room-own n high = cond-false (nat_le n largest) (room_of (class_of n)) (rounded n) (lt-leb n largest high)
-
 -- a request of a class, for which nothing is free and nothing is left
 pub growth-new : (s : SetState) (n : ℕ) → n ≤ largest → is_in (room_of (class_of n)) s.free ≡ false → s.left < room_of (class_of n) + 8 → set_growth s n ≡ block_size s.next (room_of (class_of n))
 growth-new s n low none full =
@@ -32,12 +29,6 @@ growth-new s n low none full =
     let classed = le-leb n largest low in
     let fits : nat_le (set_room n + 8) s.left ≡ false = ap (λ (r : ℕ). nat_le (r + 8) s.left) room ∙ lt-leb (room_of (class_of n) + 8) s.left full in
     (λ i. growth_by (over i) (classed i) ((ap (λ (r : ℕ). is_in r s.free) room ∙ none) i) (fits i) s (room i))
-
-pub growth-own : (s : SetState) (n : ℕ) → n ≤ most → largest < n → set_growth s n ≡ rounded n + 8
-growth-own s n low high =
-    let room = room-own n high in let over = growth-over n low in
-    let classed = lt-leb n largest high in
-    (λ i. growth_by (over i) (classed i) (is_in (set_room n) s.free) (nat_le (set_room n + 8) s.left) s (room i))
 
 -- ---- chunks that lie one after the other
 pub if_ok : {T E : Type 0} {P Q : T → Type 0} (r : Result T E) → ((x : T) → P x → Q x) → IfOk r P → IfOk r Q

@@ -8,7 +8,7 @@ use Rattle.chunk_layout.specs.Pieces.{Piece, same_place, is_at, place_of, has, p
 use Rattle.chunk_layout.specs.declared.place.Place.{Place}
 use Rattle.chunk_layout.specs.declared.place.ChunkName.{ChunkName}
 use Rattle.chunk_layout.proofs.Finding.{same-place, place-same}
-use Rattle.chunk_layout.proofs.PieceLaws.{same_place-sym, has-first, piece_at-first, without-first, has-later, piece_at-later, without-later, without-none, without-twice, has-without, piece_at-without, has_not-without}
+use Rattle.chunk_layout.proofs.PieceLaws.{same_place-sym, has-first, piece_at-first, without-first, has-later, piece_at-later, without-later, without-none, has-without, piece_at-without, has_not-without}
 use Rattle.chunk_contexts.specs.Chunks.{bytes_of, IsResized}
 use Rattle.chunk_contexts.proofs.Content.{lives-first, apart-places}
 use Rattle.chunk_contexts.specs.Set.{SetState, set_taken, taken_by, set_put}
@@ -22,9 +22,6 @@ chunks-by true false false s p = refl
 
 pub taken-chunks : (s : SetState) (n : ℕ) (p : Piece) → (set_taken s n p).chunks ≡ p ∷ s.chunks
 taken-chunks s n p = chunks-by _ _ _ s p
-
-with-chunks : SetState → List Piece → SetState
-with-chunks s cs = record { chunks = cs; blocks = s.blocks; free = s.free; left = s.left; next = s.next; first = s.first }
 
 other-bytes : (a b c : Bool) (s : SetState) (place : Place) (room : ℕ) (xs ys : List ℕ)
     → let t = taken_by a b c s (record { place = place; room = room; is_live = true; bytes = xs }) in
@@ -46,14 +43,6 @@ put-taken s n place room xs ys none =
     let rest : without t.chunks place ≡ s.chunks = ap (λ (z : List Piece). without z place) cs ∙ without-first p s.chunks place (place-same place) ∙ without-none s.chunks place none in
     (λ i. record { chunks = (record { place = place; room = (first i).room; is_live = true; bytes = ys }) ∷ rest i; blocks = t.blocks; free = t.free; left = t.left; next = t.next; first = t.first })
     ∙ other-bytes _ _ _ s place room xs ys
-
--- ---- bytes are written twice
-pub put-put : (s : SetState) (place : Place) (xs ys : List ℕ) → set_put (set_put s place xs) place ys ≡ set_put s place ys
-put-put s place xs ys =
-    let p : Piece = record { place = place; room = (piece_at s.chunks place).room; is_live = true; bytes = xs } in
-    let first = piece_at-first p (without s.chunks place) place (place-same place) in
-    let rest = without-first p (without s.chunks place) place (place-same place) ∙ without-twice s.chunks place in
-    λ i. record { chunks = (record { place = place; room = (first i).room; is_live = true; bytes = ys }) ∷ rest i; blocks = s.blocks; free = s.free; left = s.left; next = s.next; first = s.first }
 
 -- ---- bytes of another length
 pub length-resized : (bytes : List ℕ) (n : ℕ) → length (resized bytes n) ≡ n

@@ -26,10 +26,6 @@ use Rattle.chunk_contexts.proofs.OverLaws.{rewritten-map, links-over, first_free
 use Rattle.chunk_contexts.proofs.SlabLaws.{slab-put, per-some}
 use Rattle.chunk_contexts.proofs.LinkLaws as Link
 
--- ---- whether a block has a free chunk
-abbrev spare-at : ℕ → List Piece → List (Option ℕ) → ℕ → ℕ → Bool
-spare-at per chunks bs block j = is_some (get_or bs j None) && nat_lt (in_block chunks (block + j)) per
-
 pub spare-none : (per : ℕ) (chunks : List Piece) (block : ℕ) (bs : List (Option ℕ)) → ((j : ℕ) → (is_some (get_or bs j None) && nat_lt (in_block chunks (block + j)) per) ≡ false) → spare_from per chunks block bs ≡ false
 spare-none per chunks block [] none = refl
 spare-none per chunks block (b ∷ bs) none =

@@ -1,10 +1,10 @@
 -- Laws of chunks by their places.
-use Rattle.std.proofs.Common.{◌≡◌, ℕ, ◌+◌, ◌-◌, min, ◌<◌, ◌≤◌, Bool, true, false, not, List, [], ◌∷◌, ◌++◌, Option, Some, None, length, get_or, set, take, drop, replicate, cond, refl, sym, ap, ◌∙◌, inl, inr, arith}
-use Rattle.std.specs.Prelude.{◌||◌, ◌==◌}
-use Rattle.std.proofs.lemmas.Bool.{false≢true, cases_Bool, cases_lt, cond-true, cond-false, not_from_true, not_from_false, or_parts, cases_eq, eq-eqb, ne_eqb}
-use Rattle.std.proofs.lemmas.List.{get_or-replicate, get_or-set_same, get_or-set_other, length-replicate, length-set, length-take-le, take_all, take-take, drop-take, take-append-drop}
+use Rattle.std.proofs.Common.{◌≡◌, ℕ, ◌+◌, ◌-◌, min, ◌<◌, ◌≤◌, Bool, true, false, not, List, [], ◌∷◌, ◌++◌, Option, Some, None, length, get_or, take, drop, replicate, cond, refl, sym, ap, ◌∙◌, inl, inr, arith}
+use Rattle.std.specs.Prelude.{◌||◌}
+use Rattle.std.proofs.lemmas.Bool.{false≢true, cases_Bool, cases_lt, cond-true, cond-false, not_from_true, not_from_false, or_parts}
+use Rattle.std.proofs.lemmas.List.{length-replicate, length-set, length-take-le, take_all, take-take, drop-take, take-append-drop}
 use Rattle.block_memory.specs.Cells.{zeros}
-use Rattle.chunk_layout.specs.Pieces.{Layout, Piece, same_place, is_at, has, piece_at, without, put_at, only, is_kept, resized}
+use Rattle.chunk_layout.specs.Pieces.{Layout, Piece, same_place, is_at, has, piece_at, without, put_at, only, resized}
 use Rattle.chunk_layout.specs.declared.place.Place.{Place}
 use Rattle.chunk_layout.proofs.Finding.{same-place, place-same}
 
@@ -135,15 +135,3 @@ put-resized l t m from to len n kept long is copied zeroed =
 pub length-only : (xs : List (Option ℕ)) (keep : Option ℕ) → length (only xs keep) ≡ length xs
 length-only xs None = length-replicate (length xs) None
 length-only xs (Some b) = length-set (replicate (length xs) None) b (get_or xs b None) ∙ length-replicate (length xs) None
-
-pub only-at : (xs : List (Option ℕ)) (keep : Option ℕ) (k : ℕ) → k < length xs → get_or (only xs keep) k None ≡ cond (is_kept keep k) (get_or xs k None) None
-only-at xs None k low = get_or-replicate (length xs) k None None low
-only-at xs (Some b) k low = elim (cases_eq k b) [
-  | inl same ↦
-      ap (λ (j : ℕ). get_or (set (replicate (length xs) None) j (get_or xs b None)) k None) (sym same)
-      ∙ get_or-set_same (replicate (length xs) None) k (get_or xs b None) None (omega (arith, low, length-replicate {A = Option ℕ} (length xs) None))
-      ∙ ap (λ (j : ℕ). get_or xs j None) (sym same) ∙ sym (cond-true (b == k) (get_or xs k None) None (eq-eqb b k (sym same)))
-  | inr ne ↦
-      get_or-set_other (replicate (length xs) None) b k (get_or xs b None) None ne ∙ get_or-replicate (length xs) k None None low
-      ∙ sym (cond-false (b == k) (get_or xs k None) None (ne_eqb b k (λ e. ne (sym e))))
-]

@@ -6,7 +6,7 @@ use Rattle.std.proofs.lemmas.List.{length-take-le, length-drop, take_all, drop_a
 use Rattle.std.proofs.Common.{add-zero, zero-add}
 use Rattle.std.proofs.lemmas.Bool.{cases_lt}
 use Rattle.block_memory.specs.Cells.{Cells, Holds, IsWritten, with_bytes}
-use Rattle.block_memory.proofs.CellLemmas.{bytes_of_written, written_of_holds, holds_kept, holds_by_write, holds_over, length_over}
+use Rattle.block_memory.proofs.CellLemmas.{bytes_of_written, written_of_holds, holds_kept, holds_over, length_over}
 use Rattle.chunk_layout.specs.Spots.{read}
 
 unmap : (xs : List ℕ) → map (λ (c : Option ℕ). unwrap_or c 0) (map Some xs) ≡ xs
@@ -36,10 +36,6 @@ pub written-kept_apart : (cells : Cells) (at n i : ℕ) (new : List ℕ) → i +
 written-kept_apart cells at n i new room apart w =
     let xs = read cells at n in let long = length-read cells at n w in
     written_of_holds (with_bytes cells i new) at n xs long (holds_kept cells at xs i new room (subst (λ (k : ℕ). (at + k ≤ i) ⊎ (i + length new ≤ at)) (sym long) apart) (holds-read cells at n w))
-
--- what was written is read
-pub read-written : (cells : Cells) (at : ℕ) (bytes : List ℕ) → at + length bytes ≤ length cells → read (with_bytes cells at bytes) at (length bytes) ≡ bytes
-read-written cells at bytes room = read-holds (with_bytes cells at bytes) at (length bytes) bytes refl (holds_by_write cells at bytes room)
 
 -- at most n bytes over n that were written
 pub refill-is : (xs ws : List ℕ) (n : ℕ) → length xs ≡ n → refill n xs ws ≡ take n ws ++ drop (length (take n ws)) xs

@@ -101,8 +101,3 @@ element_is elements rows p from to k x at low is =
     ap (λ row. slice_get row k) (get_or_from_slice_get rows p (slice_range elements from to) [] at.there)
     ∙ slice_get-get_or (slice_range elements from to) k x (subst (λ n. k < n) (sym (length-between elements from to at.high)) (omega (arith, low, long)))
     ∙ ap Some (get_or-between elements from to k x (omega (arith, low, long)) ∙ get_or_from_slice_get elements (from + k) x x is)
-
--- equal rows lie equally
-pub same_lie : {X : Type 0} (elements : List X) (ends : List ℕ) (elements' : List X) (ends' : List ℕ) (rows rows' : List (List X)) → LieAs elements ends rows → LieAs elements' ends' rows' → rows ≡ rows' → (elements ≡ elements') × (ends ≡ ends')
-same_lie elements ends elements' ends' rows rows' lie lie' same =
-    (lie.elements_are ∙ ap on_end same ∙ sym lie'.elements_are, lie.ends_are ∙ ap (ends_of 0) same ∙ sym lie'.ends_are)

@@ -245,15 +245,6 @@ first_settled s name n is = record {
   held = is.held ∙ subst (λ m. bucket_blocks (buckets m) (buckets (m + 1)) ≡ bucket_blocks (buckets (m + 1)) (buckets (m + 1))) (sym is.older) refl;
 }
 
--- the bytes alone of some chunks are others
-pub blocks_alone : (array : Option ChunkName) (n : ℕ) (s after : SetState) → after.blocks ≡ s.blocks → HoldsArray array n s → HoldsArray array n after
-blocks_alone None n s after same is = is
-blocks_alone (Some name) n s after same is = record {
-  some = is.some;
-  size = record { len = is.size.len; own = λ long. ap (λ bs. size_at bs name.block) same ∙ is.size.own long };
-  held = ap total same ∙ is.held;
-}
-
 module _ (s m : SetState) (old name : ChunkName) (n : ℕ) (is : AreArraysHeld s (Some old) name n) (same : m.blocks ≡ s.blocks) (room : (piece_at m.chunks (place_of old)).room ≡ set_room old.len) where
   abbrev r : ℕ
   r = (piece_at m.chunks (place_of old)).room

@@ -1,9 +1,9 @@
 -- A group is taken, step by step.
-use Rattle.std.specs.Prelude.{◌≡◌, ◌≢◌, refl, ℕ, zero, suc, ◌+◌, ◌-◌, ◌/◌, ◌<◌, ◌≤◌, true, List, [], ◌∷◌, ◌++◌, Option, Some, None, option_map, map, length, get_or, slice_get, Result, Ok, Err, OnErr}
+use Rattle.std.specs.Prelude.{◌≡◌, refl, ℕ, zero, suc, ◌+◌, ◌/◌, ◌≤◌, List, [], ◌∷◌, ◌++◌, Option, Some, None, option_map, map, slice_get, Result, Ok, Err, OnErr}
 use Rattle.std.proofs.Common.{sym, ◌∙◌, ap, subst, arith}
 use Rattle.std.proofs.lemmas.List.{map_push}
 use Rattle.chunk_layout.specs.declared.place.ChunkName.{ChunkName}
-use Rattle.context_tree.specs.Contexts.{no_context, chunk_bytes, growth_of, held_by}
+use Rattle.context_tree.specs.Contexts.{chunk_bytes, growth_of, held_by}
 use Rattle.context_tree.specs.Tree.{TreeState, context_at, held_below}
 use Rattle.context_tree.specs.declared.context.Context.{Context}
 use Rattle.group_table.specs.Table.{TableState, group_in, groups, HasNo, IsSameBut, array_growth, group_growth}

@@ -3,7 +3,7 @@ use Rattle.std.specs.Prelude.{◌≡◌, refl, ℕ, zero, suc, ◌+◌, ◌*◌,
 use Rattle.std.proofs.Common.{inl, inr, sym, ◌∙◌, ap, subst, arith}
 use Rattle.std.proofs.lemmas.Bool.{cases_eq, false≢true}
 use Rattle.std.proofs.lemmas.List.{length_push}
-use Rattle.chunk_layout.specs.Pieces.{Piece, same_place, place_of, piece_at}
+use Rattle.chunk_layout.specs.Pieces.{same_place, place_of, piece_at}
 use Rattle.chunk_layout.specs.declared.place.ChunkName.{ChunkName}
 use Rattle.chunk_contexts.specs.Set.{SetState}
 use Rattle.context_tree.specs.Contexts.{has_chunk, chunk_bytes}

@@ -5,7 +5,7 @@ use Rattle.grouping_model.specs.Datum.{Datum, Kind, Row, IsText, HasKind, HasKin
 use Rattle.packed_rows.specs.Field.{IsTextField}
 use Rattle.std.proofs.lemmas.List.Elements.{Contains-append_right}
 use Rattle.std.proofs.lemmas.List.Concat.{flat_map-append}
-use Rattle.packed_rows.specs.Packing.{value_packing, packing, IsNoPacking}
+use Rattle.packed_rows.specs.Packing.{value_packing, packing}
 use Rattle.std.proofs.lemmas.List.{map_push, take_more, take_all, drop_more, get_or-map, length-map}
 use Rattle.packed_rows.specs.Field.{Reads, ReadsRow, IsBadField, IsLeftmostBad}
 use Rattle.packed_rows.specs.declared.value.Value.{Value}
@@ -62,17 +62,6 @@ ended row whole rest more (v ∷ tail, is, q, same) = q
 missing : (row whole : Row) (kind : Kind) (left : List Kind) (rest : List ℕ) → ((value : Datum) (after : List ℕ) → HasKind kind value → rest ≢ value_packing value ++ after) → (tail : Row) × (whole ≡ row ++ tail) × HasKinds (kind ∷ left) tail × (rest ≡ packing tail) → ⊥
 missing row whole kind left rest none ([], is, q, same) = q
 missing row whole kind left rest none (v ∷ tail, is, q, same) = none v (packing tail) q.0 same
-
--- after the last kind the rest is empty, or the bytes are no row's
-pub found_all : (kinds : List Kind) (bytes : List ℕ) (row : Row) → Unpacked kinds [] bytes row [] → HasKinds kinds row × (bytes ≡ packing row)
-found_all kinds bytes row u = (subst (λ (w : List Kind). HasKinds w row) (sym (u.parts ∙ append-nil u.front)) u.packable, u.spelled ∙ append-nil (packing row))
-
-pub found_more : (kinds : List Kind) (bytes : List ℕ) (row : Row) (rest : List ℕ) → Unpacked kinds [] bytes row rest → rest ≢ [] → IsNoPacking kinds bytes
-found_more kinds bytes row rest u more = λ whole p e. ended row whole rest more (u.only whole p e)
-
--- where the next value isn't there, the bytes are no row's
-pub found_none : (kinds left : List Kind) (kind : Kind) (bytes : List ℕ) (row : Row) (rest : List ℕ) → Unpacked kinds (kind ∷ left) bytes row rest → ((value : Datum) (after : List ℕ) → HasKind kind value → rest ≢ value_packing value ++ after) → IsNoPacking kinds bytes
-found_none kinds left kind bytes row rest u none = λ whole p e. missing row whole kind left rest none (u.only whole p e)
 
 -- ---- a text before a zero
 

@@ -12,7 +12,7 @@ use Rattle.query_grammar.specs.Terminals.{function_named, is_word, is_sign, symb
 use Rattle.query_grammar.specs.Reading.{Read, after, name_at, prim_at, conditions}
 use Rattle.query_grammar.specs.Whole.{item_value_at, alias_or_none, alias_at, item_at, list_at, clause_at, keys_at, end_at, query_at}
 use Rattle.query_grammar.specs.Grammar as conditions
-use Rattle.query_grammar.specs.Grammar.{word, IsCondition, IsCall}
+use Rattle.query_grammar.specs.Grammar.{word, IsCall}
 use Rattle.query_grammar.specs.Queries as grammar
 use Rattle.query_grammar.specs.Queries.{IsItemValue, IsAlias, IsItem, IsName, IsListOf, IsClause, IsKeys, IsEnd, IsQuery}
 use Rattle.query_grammar.proofs.Complete.{sign_rank, rank, Stops, column_reads, not_this, word_free, condition_reads, function_call_reads}

@@ -1,5 +1,5 @@
 -- How many records a pass spilled.
-use Rattle.std.specs.Prelude.{◌≡◌, refl, ℕ, zero, suc, ◌+◌, ◌<◌, ◌≤◌, ◌==◌, ◌-◌, ◌/◌, ◌%◌, ◌^◌, nat_lt, Bool, true, false, cond, List, [], ◌∷◌, map, take, length, sum_by, slice_index_or}
+use Rattle.std.specs.Prelude.{◌≡◌, refl, ℕ, zero, suc, ◌+◌, ◌<◌, ◌≤◌, ◌==◌, ◌-◌, ◌/◌, ◌%◌, ◌^◌, nat_lt, Bool, true, false, cond, List, [], ◌∷◌, map, length, sum_by}
 use Rattle.std.specs.List.{range_with_len}
 use Rattle.std.proofs.Common.{sym, ◌∙◌, ap, arith}
 use Rattle.std.proofs.lemmas.Bool.Decides.{nat_tests}
@@ -7,7 +7,7 @@ use Rattle.std.proofs.lemmas.List.Sums.{sum_by-cons}
 use Rattle.spill_tapes.specs.Records.{Record}
 use Rattle.spill_tapes.specs.Tapes.{TapesState}
 use Rattle.spill_lists.specs.Lists.{LeftList, list_of, on_list, deeper, lists}
-use Rattle.spill_lists.specs.Standing.{ListsState, count_of, spilled_number, AreOn, AreSpilled}
+use Rattle.spill_lists.specs.Standing.{count_of, AreOn, AreSpilled}
 use Rattle.spill_lists.specs.declared.lists.OnTape.{OnTape}
 
 -- how many are on n lists, from one on

@@ -6,7 +6,7 @@ use Rattle.std.proofs.Common.{refl, sym, ◌∙◌, ap, subst, arith, length-app
 use Rattle.std.proofs.lemmas.Bool.Decides.{nat_tests}
 use Rattle.std.proofs.lemmas.List.{append-nil}
 use Rattle.std.proofs.lemmas.List.Elements.{filter-append}
-use Rattle.std.proofs.lemmas.List.Sums.{sum_by-set, sum_by-append, sum_by-cons}
+use Rattle.std.proofs.lemmas.List.Sums.{sum_by-append, sum_by-cons}
 use Rattle.spill_tapes.specs.Records.{Record}
 use Rattle.spill_tapes.specs.Tape.{is_in}
 use Rattle.spill_tapes.specs.Tapes.{TapesState, IsTape, KeepsOthers}
@@ -127,7 +127,3 @@ new_spilled last t level (x ∷ tapes) spilled long none had = subst (λ rs. Are
 -- counts
 pub count-append : (xs ys : List OnTape) → count_of (xs ++ ys) ≡ count_of xs + count_of ys
 count-append xs ys = sum_by-append (λ (x : OnTape). x.records) xs ys
-
-pub count-set : (tapes : List OnTape) (i : ℕ) (x y : OnTape) → i < length tapes → x ≡ get_or tapes i x → y.records ≡ x.records + 1 → count_of (set tapes i y) ≡ count_of tapes + 1
-count-set tapes i x y less is more =
-    omega (arith, more, ap (λ (z : OnTape). z.records) is, sum_by-set (λ (z : OnTape). z.records) tapes i y x less)

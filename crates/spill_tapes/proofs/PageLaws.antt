@@ -16,10 +16,6 @@ keeps_pages before after pool page n fresh is keeps other given out k byte small
     let differ : other ≢ page = λ e. absurd (omega (arith, e, given, fresh (subst (λ x. times x pool.free ≡ 0) e out))) in
     keeps (other * 8192 + k) byte (subst (λ m. (other * 8192 + k < page * 8192) ⊎ (page * 8192 + m ≤ other * 8192 + k)) (sym is) (beside page other k small differ)) here
 
-pub keeps_twice : (a b : PoolState) (first second third : ℕ → ℕ → Type 0) → a.count ≤ b.count → ((page : ℕ) → times page b.free ≤ times page a.free) → KeepsPages a first second → KeepsPages b second third → KeepsPages a first third
-keeps_twice a b first second third grows frees before after page given out k byte small here =
-    after page (omega (arith, given, grows)) (omega (arith, out, frees page)) k byte small (before page given out k byte small here)
-
 -- what is on pages stays there
 pub kept_on : (before after : ℕ → ℕ → Type 0) (pool : PoolState) (pages : List ℕ) (contents : List (List ℕ)) → ((page : ℕ) → 0 < times page pages → (page < pool.count) × (times page pool.free ≡ 0)) → KeepsPages pool before after → AreOn before pages contents → AreOn after pages contents
 kept_on before after pool [] [] apart keeps on = on
@@ -116,9 +112,6 @@ on_len last (p ∷ ps) (c ∷ cs) on = omega (arith, length-append c (join cs), 
 
 pub written_len : (last : ℕ → ℕ → Type 0) (t : TapeState) (bytes : List ℕ) → HasWritten last t bytes → length bytes ≡ 8192 * length t.pages + length t.buffer
 written_len last t bytes had = omega (arith, ap length had.whole, length-append (join had.contents) t.buffer, on_len last t.pages had.contents had.on)
-
-pub ahead_len : (last : ℕ → ℕ → Type 0) (t : TapeState) (bytes : List ℕ) → HasAhead last t bytes → length bytes ≡ (length t.buffer - t.read) + 8192 * length t.pages
-ahead_len last t bytes had = omega (arith, ap length had.whole, length-append (drop t.read t.buffer) (join had.contents), length-drop t.read t.buffer, on_len last t.pages had.contents had.on)
 
 -- tapes with the same pages and the same bytes in the buffer
 pub same_written : (last : ℕ → ℕ → Type 0) (t t' : TapeState) → t'.pages ≡ t.pages → t'.buffer ≡ t.buffer → (bytes : List ℕ) → HasWritten last t bytes → HasWritten last t' bytes

@@ -2,7 +2,7 @@
 use Rattle.std.specs.Prelude.{◌≡◌, ℕ, ◌+◌, ◌^◌, ◌<◌, ◌≤◌, List, [], ◌∷◌, ◌++◌, length}
 use Rattle.std.proofs.Common.{◌∙◌, ap, arith, length-append}
 use Rattle.std.proofs.lemmas.Bool.Decides.{nat_tests}
-use Rattle.spill_tapes.specs.Pages.{PoolState, IsPool, given_back, once, times, below, IsApart, IsBalanced, FreesNone, IsFresh}
+use Rattle.spill_tapes.specs.Pages.{PoolState, IsPool, given_back, once, times, below, IsApart, IsBalanced, IsFresh}
 
 pub times-append : (page : ℕ) (xs ys : List ℕ) → times page (xs ++ ys) ≡ times page xs + times page ys
 times-append page [] ys = omega arith
@@ -17,9 +17,6 @@ below_one page count = grind (arith, nat_tests)
 
 pub below_less : (page count : ℕ) → 0 < below page count → page < count
 below_less page count h = grind (arith, nat_tests)
-
-pub less_below : (page count : ℕ) → page < count → below page count ≡ 1
-less_below page count h = grind (arith, nat_tests)
 
 pub same_one : (page : ℕ) → once page page ≡ 1
 same_one page = grind (arith, nat_tests)
@@ -79,19 +76,6 @@ balanced_twice a b c xs ys zs first second = record {
   all = omega (arith, first.all, second.all);
   grows = omega (arith, first.grows, second.grows);
 }
-
-pub frees_twice : (a b c : PoolState) → FreesNone a b → FreesNone b c → FreesNone a c
-frees_twice a b c first second p = omega (arith, first p, second p)
-
-pub frees_same : (a b : PoolState) → b.free ≡ a.free → FreesNone a b
-frees_same a b same p = omega (arith, ap (times p) same)
-
-pub frees_first : (a b : PoolState) (page : ℕ) → a.free ≡ page ∷ b.free → FreesNone a b
-frees_first a b page free p = omega (arith, (let e : times p a.free ≡ once p page + times p b.free = ap (times p) free in e))
-
--- the pages of a tape are apart afterwards, too
-pub apart_after : (a b : PoolState) (xs ys : List ℕ) → IsApart a xs → IsBalanced a xs b ys → IsApart b ys
-apart_after a b xs ys apart moved p = omega (arith, apart p, moved.each p)
 
 -- a page of the tape is given out, and not free
 pub apart_page : (pool : PoolState) (pages : List ℕ) (page : ℕ) → IsApart pool pages → 0 < times page pages → (page < pool.count) × (times page pool.free ≡ 0)

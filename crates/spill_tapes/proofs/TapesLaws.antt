@@ -8,8 +8,8 @@ use Rattle.std.proofs.lemmas.List.Sums.{sum_by-cons}
 use Rattle.spill_tapes.specs.Disk.{Keeps}
 use Rattle.spill_tapes.specs.Records.{Record, tape_bytes}
 use Rattle.spill_tapes.specs.Pages.{times, IsApart, AreOn, KeepsPages}
-use Rattle.spill_tapes.specs.Tape.{TapeState, no_tape, new_tape, tape_len, is_in, AreWritten, AreAhead, HasIn, Has, Gives}
-use Rattle.spill_tapes.specs.Tapes.{TapesState, tape_at, phase_of, is_written, is_read, IsTape, KeepsOthers, AreTapes}
+use Rattle.spill_tapes.specs.Tape.{TapeState, no_tape, tape_len, is_in, AreWritten, AreAhead, HasIn, Has, Gives}
+use Rattle.spill_tapes.specs.Tapes.{TapesState, tape_at, is_written, is_read, IsTape, KeepsOthers, AreTapes}
 use Rattle.spill_tapes.specs.declared.tape.Phase.{Phase}
 use Rattle.spill_tapes.specs.declared.tape.Phase.TheVariants.{Closed, Written, Read}
 use Rattle.spill_tapes.specs.declared.tape_id.TapeId.{TapeId}
@@ -80,10 +80,6 @@ others_same last t t' tape same = record {
   records = λ id differ rs had. subst (λ (y : TapeState). Has last y rs) (sym (same id differ)) had;
 }
 
--- a new tape has no record
-pub new_has : (last : ℕ → ℕ → Type 0) (t : TapesState) (tape : TapeId) → tape_at t tape ≡ new_tape → IsTape last t tape []
-new_has last t tape new = subst (λ (y : TapeState). Has last y []) (sym new) (record { good = tt; number = refl; bytes = record { contents = []; on = tt; whole = refl } })
-
 -- one tape more
 pub get_push : (ts : List TapeState) (x : TapeState) (i : ℕ) → i ≢ length ts → get_or (ts ++ x ∷ []) i no_tape ≡ get_or ts i no_tape
 get_push [] x zero differ = absurd (differ refl)
@@ -141,12 +137,6 @@ same_phases (t ∷ ts) zero zero x same = same
 same_phases (t ∷ ts) zero (suc j) x same = refl
 same_phases (t ∷ ts) (suc i) zero x same = refl
 same_phases (t ∷ ts) (suc i) (suc j) x same = same_phases ts i j x same
-
-pub phases_same : (t s t' : TapesState) (tape : TapeId) (x : TapeState) → t ≡ s → t'.tapes ≡ set t.tapes tape.index x → x.phase ≡ phase_of s tape → (id : TapeId) → phase_of t' id ≡ phase_of s id
-phases_same t s t' tape x same put phase id =
-    ap (λ ts. (get_or ts id.index no_tape).phase) put
-    ∙ same_phases t.tapes tape.index id.index x (phase ∙ ap (λ (y : TapesState). phase_of y tape) (sym same))
-    ∙ ap (λ (y : TapesState). phase_of y id) same
 
 -- how many bytes were written
 pub bytes_written : (last : ℕ → ℕ → Type 0) (t : TapesState) (tape : TapeId) (rs : List Record) → is_written t tape ≡ true → IsTape last t tape rs → tape_len (tape_at t tape) ≡ length (tape_bytes rs)

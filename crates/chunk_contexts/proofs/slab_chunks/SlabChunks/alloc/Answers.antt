@@ -1,4 +1,4 @@
-use Rattle.std.proofs.Common.{◌≡◌, ◌≤◌, ℕ, length, sym, ap, ◌∙◌, subst, arith}
+use Rattle.std.proofs.Common.{arith}
 use Rattle.chunk_contexts.specs.Slab.{slab_of}
 use Rattle.chunk_contexts.proofs.SlabMoves.{slab-written}
 use Rattle.chunk_contexts.proofs.SlabStates.{made-here, made-there, made-size, made-room, written-state, written-added}
