@@ -1,30 +1,16 @@
 -- What one more argument makes of a state, where the function takes it.
-use Rattle.std.proofs.Common.{◌≡◌, refl, ℕ, zero, suc, ◌<◌, ◌≤◌, List, sym, ap, subst, ◌∙◌, arith, Bool, ℤ, Option, Some}
-use Rattle.grouping_model.specs.Datum.{Bigint, Boolean, Text}
-use Rattle.grouping_model.specs.Aggregates.{Function, Sum, Partial, Summed, Number, Truth_value, outcome, Numeric}
+use Rattle.std.proofs.Common.{◌≡◌, refl, ℕ, zero, suc, ◌<◌, ◌≤◌, List, sym, ap, subst, ◌∙◌, arith, ℤ, Option, Some}
+use Rattle.grouping_model.specs.Aggregates.{Function, Sum, Partial, Summed, outcome, Numeric}
 use Rattle.grouping_model.specs.Combining.{transition}
 use Rattle.packed_rows.specs.View.{datum_of}
 use Rattle.packed_rows.specs.declared.Value.{Value}
 use Rattle.packed_rows.specs.declared.Value.TheVariants as value
 use Rattle.agg_protocol.specs.Arguments.{Takes}
-use Rattle.agg_protocol.specs.States.{Denotes, shape_of, rows_of, most_rows, A_number, A_truth}
+use Rattle.agg_protocol.specs.States.{Denotes, shape_of, rows_of, most_rows}
 use Rattle.agg_protocol.proofs.Denoting.{within}
-use Rattle.agg_protocol.proofs.ArgumentLaws.{takes_number, takes_truth, number_passes, truth_passes}
 use Rattle.agg_library.specs.StateRows.{partial_after}
 
--- a value that is no number, and one that is no truth value, is null where the function takes it
-pub number_kept : (f : Function) (o : Option ℤ) (v : Value) → shape_of f ≡ A_number → Takes f (datum_of v) → ((z : ℤ) → v ≡ value.Bigint z → ⊥) → Number o ≡ transition f (Number o) (datum_of v)
-number_kept f o value.Null shape takes none = sym (number_passes f o)
-number_kept f o (value.Bigint z) shape takes none = absurd (none z refl)
-number_kept f o (value.Boolean b) shape takes none = absurd (takes_number f (Boolean b) shape takes)
-number_kept f o (value.Text text) shape takes none = absurd (takes_number f (Text text.now) shape takes)
-
-pub truth_kept : (f : Function) (o : Option Bool) (v : Value) → shape_of f ≡ A_truth → Takes f (datum_of v) → ((b : Bool) → v ≡ value.Boolean b → ⊥) → Truth_value o ≡ transition f (Truth_value o) (datum_of v)
-truth_kept f o value.Null shape takes none = sym (truth_passes f o)
-truth_kept f o (value.Boolean b) shape takes none = absurd (none b refl)
-truth_kept f o (value.Bigint z) shape takes none = absurd (takes_truth f (Bigint z) shape takes)
-truth_kept f o (value.Text text) shape takes none = absurd (takes_truth f (Text text.now) shape takes)
-
+-- a value that is no number is null where sum takes it
 pub sum_kept : (n : ℕ) (y : ℤ) (v : Value) → Takes Sum (datum_of v) → ((z : ℤ) → v ≡ value.Bigint z → ⊥) → Summed n y ≡ transition Sum (Summed n y) (datum_of v)
 sum_kept n y value.Null takes none = refl
 sum_kept n y (value.Bigint z) takes none = absurd (none z refl)

@@ -7,20 +7,17 @@ mod codec;
 mod counting;
 mod kind;
 mod numbers;
+mod operands;
 mod parts;
+mod reduction;
 mod state_row;
 mod sums;
 mod truths;
 
 pub use crate::codec::MOST_ROWS;
-pub use crate::counting::{
-    CountOperation, CountRows, CountValues, EachRow, EachValue, OfRows, Rows,
-};
+pub use crate::counting::{CountRows, CountValues};
 pub use crate::kind::{AggKind, Argument, Signature};
-pub use crate::numbers::{
-    BitAnd, BitOr, BitXor, BothBits, DifferentBits, EitherBits, Greater, Lesser, Max, Min,
-    NumberOperation, OfNumbers,
-};
+pub use crate::numbers::{BitAnd, BitOr, BitXor, Max, Min};
 pub use crate::state_row::{StateRow, parts_of_rows};
-pub use crate::sums::{Sum, Total};
-pub use crate::truths::{BoolAnd, BoolOr, Both, EachOne, Either, Every, OfTruths, TruthOperation};
+pub use crate::sums::Sum;
+pub use crate::truths::{BoolAnd, BoolOr, Every};

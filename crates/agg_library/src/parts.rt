@@ -69,8 +69,7 @@ pub fn finish_part<A: Aggregate>(part: &[u8]) -> ResultValue<'static>
 {
     match A::deserialize(part) {
         Ok(state) => A::finish(&state),
-        // Not reached: the bytes are those of a state.
-        Err(BadState) => ResultValue::Null,
+        Err(BadState) => unreachable!(),
     }
 }
 

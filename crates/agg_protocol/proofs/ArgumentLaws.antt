@@ -8,7 +8,7 @@ use Rattle.grouping_model.proofs.CombiningLaws.{partial_append}
 use Rattle.grouping_model.proofs.TransitionLaws.{one_more_argument}
 use Rattle.packed_rows.specs.View.{datum_of, row_of}
 use Rattle.packed_rows.specs.declared.Value.{Value}
-use Rattle.agg_protocol.specs.Arguments.{Takes}
+use Rattle.agg_protocol.specs.Arguments.{Takes, number_in, truth_in}
 use Rattle.agg_protocol.specs.States.{IsState, shape_of, rows_of, most_rows, A_count, A_sum, A_number, A_truth}
 use Rattle.agg_protocol.proofs.Denoting.{shape_is, shape_known, shape_partial, rows_add, one_row, no_row}
 
@@ -84,7 +84,20 @@ pub truth_moves : (f : Function) (o : Option Bool) (b : Bool) → transition f (
 truth_moves Count_rows o b = refl
 truth_moves f o b = refl
 
-number_first : (f : Function) → shape_of f ≡ A_number → partial f [] ≡ Number None
+-- the state after one more argument, whatever that is
+pub number_moved : (f : Function) (o : Option ℤ) (v : Datum) → shape_of f ≡ A_number → Takes f v → transition f (Number o) v ≡ Number (joined (of_numbers f) o (number_in v))
+number_moved f o Null shape takes = number_passes f o ∙ ap Number (sym (joined-none (of_numbers f) o))
+number_moved f o (Bigint z) shape takes = number_moves f o z
+number_moved f o (Boolean b) shape takes = absurd (takes_number f (Boolean b) shape takes)
+number_moved f o (Text text) shape takes = absurd (takes_number f (Text text) shape takes)
+
+pub truth_moved : (f : Function) (o : Option Bool) (v : Datum) → shape_of f ≡ A_truth → Takes f v → transition f (Truth_value o) v ≡ Truth_value (joined (of_truths f) o (truth_in v))
+truth_moved f o Null shape takes = truth_passes f o ∙ ap Truth_value (sym (joined-none (of_truths f) o))
+truth_moved f o (Boolean b) shape takes = truth_moves f o b
+truth_moved f o (Bigint z) shape takes = absurd (takes_truth f (Bigint z) shape takes)
+truth_moved f o (Text text) shape takes = absurd (takes_truth f (Text text) shape takes)
+
+pub number_first : (f : Function) → shape_of f ≡ A_number → partial f [] ≡ Number None
 number_first Min shape = refl
 number_first Max shape = refl
 number_first Bit_and shape = refl
@@ -97,7 +110,7 @@ number_first Bool_and shape = cc
 number_first Bool_or shape = cc
 number_first Every shape = cc
 
-truth_first : (f : Function) → shape_of f ≡ A_truth → partial f [] ≡ Truth_value None
+pub truth_first : (f : Function) → shape_of f ≡ A_truth → partial f [] ≡ Truth_value None
 truth_first Bool_and shape = refl
 truth_first Bool_or shape = refl
 truth_first Every shape = refl
@@ -163,10 +176,6 @@ one_alone f (Number o) v shape takes =
     ap (λ r. combine f (Number o) (transition f r v)) (number_first f (sym shape)) ∙ alone_number f o v (takes_number f v (sym shape) takes)
 one_alone f (Truth_value o) v shape takes =
     ap (λ r. combine f (Truth_value o) (transition f r v)) (truth_first f (sym shape)) ∙ alone_truth f o v (takes_truth f v (sym shape) takes)
-
-pub one_alone_moves : (f : Function) (p first one q : Partial) (v : Datum) → shape_is p ≡ shape_of f → Takes f v → first ≡ partial f [] → one ≡ transition f first v → q ≡ combine f p one → q ≡ transition f p v
-one_alone_moves f p first one q v shape takes is moved both =
-    both ∙ ap (combine f p) (moved ∙ ap (λ r. transition f r v) is) ∙ one_alone f p v shape takes
 
 pub alone : (f : Function) (m : ℕ) (p : Partial) (v : Datum) → IsState m (shape_of f) p → Takes f v → transition f p v ≡ combine f p (partial f (v ∷ []))
 alone f m p v known takes =

@@ -1,6 +1,6 @@
 -- The answer of a query over what is known of a world (PostgreSQL 17, 7.2.3 and 7.3 Select Lists).
 use Rattle.std.specs.Prelude.{ℕ, List, [], ◌∷◌, map, filter, slice_index_or}
-use Rattle.grouping_model.specs.Datum.{Null, Row, at_place}
+use Rattle.grouping_model.specs.Datum.{Null, Row}
 use Rattle.grouping_model.specs.Aggregates.{Outcome, Plain, outcome}
 use Rattle.grouping_model.specs.Condition.{is_met}
 use Rattle.grouping_model.specs.Query.{Query, Source, Key, Call}
@@ -11,14 +11,14 @@ use Rattle.grouping_model.specs.World.{World, Knowledge, known_rows}
 abbrev pub outcomes : Query → List Row → List Outcome
 outcomes query rows = map outcome (partials query rows)
 
--- the value of a key or of an aggregate
-abbrev pub source_of : Row → List Outcome → Source → Outcome
-source_of key results (Key place) = Plain (at_place key place)
-source_of key results (Call place) = slice_index_or results place (Plain Null)
+-- the value of a key or of an aggregate, given both as a group has them; null beyond the last
+abbrev pub outcome_at : List Outcome → List Outcome → Source → Outcome
+outcome_at key results (Key place) = slice_index_or key place (Plain Null)
+outcome_at key results (Call place) = slice_index_or results place (Plain Null)
 
 -- a group, as HAVING and the items read it
 abbrev pub group_source : Query → List Row → Row → Source → Outcome
-group_source query rows key = source_of key (outcomes query (group query rows key))
+group_source query rows key = outcome_at (map Plain key) (outcomes query (group query rows key))
 
 -- the keys of the groups. Without GROUP BY there is one group, over no rows too
 -- (PostgreSQL 17, 7.2.3; 9.21 has what functions answer when no rows are selected)

@@ -3,12 +3,12 @@ use Rattle.std.specs.Prelude.{ℕ, List, [], ◌∷◌, ◌++◌, map, filter, f
 use Rattle.std.specs.BTreeMap.{insert_entry}
 use Rattle.grouping_model.specs.Datum.{Row, row_cmp, same_row}
 use Rattle.grouping_model.specs.Rising.{distinct}
-use Rattle.grouping_model.specs.Aggregates.{Function, Partial, Outcome, outcome}
+use Rattle.grouping_model.specs.Aggregates.{Function, Partial, Outcome, Plain, outcome}
 use Rattle.grouping_model.specs.Combining.{combine_all, transition}
 use Rattle.grouping_model.specs.Condition.{is_met}
 use Rattle.grouping_model.specs.Query.{Query, Aggregate, Source}
 use Rattle.grouping_model.specs.Grouping.{Group, partials, argument, column_of, key_of}
-use Rattle.grouping_model.specs.Answer.{source_of}
+use Rattle.grouping_model.specs.Answer.{outcome_at}
 
 -- the functions of a query's aggregates
 abbrev pub functions : Query → List Function
@@ -52,7 +52,7 @@ answered query (place ∷ places) groups = groups
 
 -- what HAVING and the items read of a group
 abbrev pub source_in : Group → Source → Outcome
-source_in group = source_of group.0 (map outcome group.1)
+source_in group = outcome_at (map Plain group.0) (map outcome group.1)
 
 -- the answer that groups give
 abbrev pub answer_of : Query → List Group → List (List Outcome)

@@ -1,5 +1,5 @@
 -- The batches of rows that there are, and what is known of them. All of this is our own.
-use Rattle.std.specs.Prelude.{◌≡◌, ℕ, zero, suc, ◌+◌, ◌≤◌, ◌==◌, Bool, List, [], ◌∷◌, ◌++◌, map, filter, length, flat_map, nat_lt, Option, Some, All, unwrap_or, IsSome, IsTrue}
+use Rattle.std.specs.Prelude.{◌≡◌, ℕ, zero, suc, ◌+◌, ◌≤◌, ◌==◌, Bool, List, [], ◌∷◌, ◌++◌, map, filter, length, flat_map, nat_lt, Option, Some, All, unwrap_or, IsTrue}
 use Rattle.std.specs.declared.cmp.Ordering.{Ordering}
 use Rattle.std.specs.Ordering.{nat_cmp, then_cmp, on}
 use Rattle.std.specs.List.{prefix_len}
@@ -93,7 +93,3 @@ origin_rows world knowledge origin = flat_map (batch_rows world origin) (count_u
 -- the rows of all unbroken prefixes, by rising origin
 abbrev pub known_rows : World → Knowledge → List Row
 known_rows world knowledge = flat_map (origin_rows world knowledge) (origins knowledge)
-
--- all that is known are batches of the world
-abbrev pub IsOf : World → Knowledge → Type 0
-IsOf world knowledge = (origin number : ℕ) → IsTrue (knows knowledge (origin, number)) → IsSome (world origin number)

@@ -1,8 +1,7 @@
 -- What a query keeps, and what HAVING reads.
 use Rattle.std.specs.Prelude.{◌≡◌, ℕ, ◌<◌, ◌≤◌, List, [], map, length, slice_get, slice_index_or, Option, Ok, option_map, unwrap_or}
 use Rattle.std.specs.List.{AllByRecursion}
-use Rattle.grouping_model.specs.Datum.{Null, Kind, Bigint_kind, Row, HasKinds}
-use Rattle.grouping_model.specs.Aggregates.{Outcome, Plain}
+use Rattle.grouping_model.specs.Datum.{Kind, Bigint_kind, Row, HasKinds}
 use Rattle.grouping_model.specs.Query as query
 use Rattle.grouping_model.specs.Query.{Aggregate}
 use Rattle.grouping_model.specs.Grouping.{argument}
@@ -59,9 +58,3 @@ pub record IsQuery (q : Checked) : Type 0 where
   pub writable : IsWritable (by_names q)
   pub passed : checked q.columns (by_names q) ≡ Ok q
   pub well_formed : IsWellFormed (meaning q)
-
--- the value of a key or of an aggregate, given both as a group has them; null beyond the last
--- (PostgreSQL 17, 7.2.3 The GROUP BY and HAVING Clauses)
-abbrev pub outcome_at : List Outcome → List Outcome → query.Source → Outcome
-outcome_at keys results (query.Key place) = slice_index_or keys place (Plain Null)
-outcome_at keys results (query.Call place) = slice_index_or results place (Plain Null)

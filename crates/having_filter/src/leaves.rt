@@ -3,12 +3,12 @@
 ghost use Rattle.std.specs.Prelude.{◌≡◌, map, option_map};
 ghost use Rattle.grouping_model.specs.Condition.{At, value_of, is_met, is_true};
 ghost use Rattle.grouping_model.specs.Grouping.{column_of};
+ghost use Rattle.grouping_model.specs.Answer.{outcome_at};
 ghost use Rattle.packed_rows.specs.View.{row_of};
 ghost use Rattle.agg_protocol.specs.Results.{outcome_of};
 ghost use Rattle.having_filter.specs.Forms.{Column, form_of, call_form};
 ghost use Rattle.having_filter.specs.Truths.{truth_of};
 ghost use Rattle.having_filter.specs.Meaning.{condition_by, column_leaf};
-ghost use Rattle.having_filter.specs.Kept.{outcome_at};
 ghost use Rattle.having_filter.specs.Plans.{source_leaf};
 
 use crate::condition::{AggCall, Cond};

@@ -3,13 +3,13 @@
 ghost use Rattle.std.specs.Prelude.{◌≡◌, ◌==◌, map, option_map, position, slice_index_or, IfOk};
 ghost use Rattle.grouping_model.specs.Datum.{Null, Bigint_kind};
 ghost use Rattle.grouping_model.specs.Aggregates.{Plain};
+ghost use Rattle.grouping_model.specs.Answer.{outcome_at};
 ghost use Rattle.packed_rows.specs.View.{kind_of, kinds_of};
 ghost use Rattle.agg_protocol.specs.Results.{outcome_of};
 ghost use Rattle.agg_library.specs.Kinds.{function_of};
 ghost use Rattle.having_filter.specs.Forms.{call_form, form_of, item_form};
 ghost use Rattle.having_filter.specs.Sameness.{form_eq};
 ghost use Rattle.having_filter.specs.Meaning.{place_in, source_of_form, group_condition};
-ghost use Rattle.having_filter.specs.Kept.{outcome_at};
 ghost use Rattle.having_filter.specs.Parts.{written_of_parts};
 ghost use Rattle.having_filter.specs.Plans.{PlansFor, source_of, by_sources};
 

@@ -4,6 +4,7 @@ ghost use Rattle.std.specs.Prelude.{◌≡◌, ◌≢◌, ◌==◌, ◌<◌, ◌
 ghost use Rattle.grouping_model.specs.Query.{Aggregate};
 ghost use Rattle.grouping_model.specs.Condition.{is_met};
 ghost use Rattle.grouping_model.specs.Grouping.{column_of};
+ghost use Rattle.grouping_model.specs.Answer.{outcome_at};
 ghost use Rattle.packed_rows.specs.Columns.{kinds, printed};
 ghost use Rattle.packed_rows.specs.View.{row_of, kinds_of};
 ghost use Rattle.agg_protocol.specs.Results.{outcome_of};
@@ -14,7 +15,7 @@ ghost use Rattle.having_filter.specs.Meaning.{Checked, meaning, distinct_calls};
 ghost use Rattle.having_filter.specs.Checks.{PassesFirst, placed, checked, checked_places, kinds_fit};
 ghost use Rattle.having_filter.specs.Spelling.{spelling};
 ghost use Rattle.having_filter.specs.Writable.{IsWritable};
-ghost use Rattle.having_filter.specs.Kept.{IsQuery, by_names, headers, key_kinds, label_of, outcome_at};
+ghost use Rattle.having_filter.specs.Kept.{IsQuery, by_names, headers, key_kinds, label_of};
 ghost use Rattle.having_filter.specs.Plans.{PlansFor, source_of};
 ghost use Rattle.having_filter.specs.Parts.{written_of_parts, checked_of};
 

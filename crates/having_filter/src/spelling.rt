@@ -245,15 +245,15 @@ fn push_items(text: &mut String, items: &[(Item<String>, Option<String>)]) -> Re
     ensures { OnOk result (string_bytes text.new
         ≡ string_bytes text.old ++ parted (map item_text (items_of items.now))) }
 {
-    match items {
-        [] => Ok(()),
-        [last] => push_item(text, last),
-        [first, rest @ ..] => {
-            push_item(text, first)?;
-            text.push_str(", ")?;
-            push_items(text, rest)
-        }
+    let Some((first, rest)) = items.split_first() else {
+        return Ok(());
+    };
+    push_item(text, first)?;
+    for item in rest {
+        text.push_str(", ")?;
+        push_item(text, item)?;
     }
+    Ok(())
 }
 
 /// Appends a condition behind a word, if there is one.
@@ -277,15 +277,15 @@ fn push_names(text: &mut String, names: &[&str]) -> Result<(), AllocError>
     ensures { OnOk result (string_bytes text.new
         ≡ string_bytes text.old ++ parted (texts_of names.now)) }
 {
-    match names {
-        [] => Ok(()),
-        [last] => text.push_str(last),
-        [first, rest @ ..] => {
-            text.push_str(first)?;
-            text.push_str(", ")?;
-            push_names(text, rest)
-        }
+    let Some((first, rest)) = names.split_first() else {
+        return Ok(());
+    };
+    text.push_str(first)?;
+    for name in rest {
+        text.push_str(", ")?;
+        text.push_str(name)?;
     }
+    Ok(())
 }
 
 /// Appends GROUP BY and the names of its columns, if there are some.
