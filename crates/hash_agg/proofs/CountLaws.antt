@@ -157,10 +157,6 @@ front_few q k (x ∷ inputs) (g ∷ givens) (suc n) =
     let b = rows_append q k (given_pieces x g) (all_pieces (take n inputs) (take n givens)) in
     omega (arith, rest, a, b)
 
--- all of them count few enough rows
-pub all_count : (q : Query) (most : ℕ) (inputs : List Brought) (givens : List Given) → AllByRecursion (IsInput q) inputs → AllGive q inputs givens → all_rows inputs ≤ most → CountUpTo q most (all_pieces inputs givens)
-all_count q most inputs givens all give low k = let few = all_few q k inputs givens all give in omega (arith, few, low)
-
 module _ (plan : Plan) (hf : List ℕ → ℕ) (inputs : List Brought) (givens : List Given) (i : ℕ) (input : Brought) (at : slice_get inputs i ≡ Some input) (found : GivenAt (meaning plan.query.now) givens i input) (all : AllByRecursion (IsInput (meaning plan.query.now)) inputs) (give : AllGive (meaning plan.query.now) inputs givens) (low : all_rows inputs ≤ plan.most) where
   front_count : CountUpTo (meaning plan.query.now) plan.most (all_pieces (take i inputs) (take i givens) ++ given_pieces input found.given)
   front_count k =

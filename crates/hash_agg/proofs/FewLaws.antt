@@ -65,10 +65,10 @@ fewer_distinct (x ∷ xs) ys (here, apart) (among, all) =
     let less = fewer_without x ys among in
     omega (arith, rest, less)
 
-each_distinct : (P : Key → Type 0) (keys : List Key) → AllByRecursion P keys → AllByRecursion P (cost.distinct keys)
+each_distinct : (P : Key → Type 0) (keys : List Key) → AllByRecursion P keys → AllByRecursion P (cost.first_of_each keys)
 each_distinct P [] all = tt
 each_distinct P (key ∷ keys) (first, all) =
-    (first, each_gives (λ x. P x × (not (cost.same_key key x) ≡ true)) P (λ x has. has.0) (Others key (cost.distinct keys)) (each_of_filter P (λ x. not (cost.same_key key x)) (cost.distinct keys) (each_distinct P keys all)))
+    (first, each_gives (λ x. P x × (not (cost.same_key key x) ≡ true)) P (λ x has. has.0) (Others key (cost.first_of_each keys)) (each_of_filter P (λ x. not (cost.same_key key x)) (cost.first_of_each keys) (each_distinct P keys all)))
 
 -- ---- the keys of what is given
 
@@ -144,5 +144,5 @@ few_passes q s inputs givens run is give fit = by (records_of q s.width (all_pie
         let named : cost.keys_of (one ∷ more) ≡ map packing (on_end keys.lists) = ap cost.keys_of (sym are) ∙ keys.keys in
         let all : AllByRecursion (λ x. cost.is_one_of (map packing (distinct row_cmp (on_end keys.lists))) x ≡ true) (cost.keys_of (one ∷ more)) =
         subst (AllByRecursion (λ x. cost.is_one_of (map packing (distinct row_cmp (on_end keys.lists))) x ≡ true)) (sym named) (each_among (on_end keys.lists) (on_end keys.lists) (λ k m. m)) in
-        let fewer = fewer_distinct (cost.distinct (cost.keys_of (one ∷ more))) (map packing (distinct row_cmp (on_end keys.lists))) (distinct-apart (cost.keys_of (one ∷ more))) (each_distinct (λ x. cost.is_one_of (map packing (distinct row_cmp (on_end keys.lists))) x ≡ true) (cost.keys_of (one ∷ more)) all) in
+        let fewer = fewer_distinct (cost.first_of_each (cost.keys_of (one ∷ more))) (map packing (distinct row_cmp (on_end keys.lists))) (distinct-apart (cost.keys_of (one ∷ more))) (each_distinct (λ x. cost.is_one_of (map packing (distinct row_cmp (on_end keys.lists))) x ≡ true) (cost.keys_of (one ∷ more)) all) in
         omega (arith, few, fewer, long)

@@ -111,7 +111,3 @@ spent_next number old new before between after spent parts counted source goes =
     cases : IsSpent number old before → IsSpent number new after
     cases (inl (empty, clear, all)) = let zero = none (goes.first empty (parts ∙ clear)) in let e = same in inr (omega (arith, zero, e, counted, all))
     cases (inr low) = let slow = goes.slow in let e = same in let s = spilled in inr (omega (arith, low, slow, e, s, counted))
-
-pub spent_end : (number : ℕ) (entries : List Entry) (lists : ListsState) → IsSpent number entries lists → ahead_number lists ≡ 0 → 0 < number → spilled_number lists < number
-spent_end number entries lists (inl (empty, clear, all)) zero some = absurd (omega (arith, all, zero, some))
-spent_end number entries lists (inr low) zero some = omega (arith, low)

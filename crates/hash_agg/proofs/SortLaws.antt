@@ -1,11 +1,10 @@
 -- Entries in the order of their keys.
-use Rattle.std.specs.Prelude.{◌≡◌, ◌≢◌, refl, ℕ, zero, suc, ◌+◌, ◌-◌, ◌*◌, ◌^◌, ◌<◌, ◌≤◌, true, false, List, [], ◌∷◌, ◌++◌, length, take, drop, slice_get, slice_index, slice_index_or, Some}
+use Rattle.std.specs.Prelude.{◌≡◌, ◌≢◌, refl, ℕ, zero, suc, ◌+◌, ◌-◌, ◌*◌, ◌^◌, ◌<◌, ◌≤◌, true, false, List, [], ◌∷◌, ◌++◌, length, take, slice_get, slice_index, slice_index_or, Some}
 use Rattle.std.proofs.Common.{sym, ◌∙◌, ap, subst, arith, add-one, inl, inr}
 use Rattle.std.proofs.Math.Nat.{mul-le-mul_right, zero-mul}
 use Rattle.std.proofs.lemmas.Bool.{cases_lt}
-use Rattle.std.proofs.lemmas.List.{map-append, append-nil, length-map, length-take, take_all, take-append-drop}
-use Rattle.std.proofs.lemmas.List.Elements.{recursion_from_All}
-use Rattle.std.proofs.lemmas.List.Sorted.{IsPermutation-map, All-permutation}
+use Rattle.std.proofs.lemmas.List.{map-append, append-nil, length-map, length-take, take_all}
+use Rattle.std.proofs.lemmas.List.Sorted.{IsPermutation-map}
 use Rattle.std.proofs.lemmas.Map.Keys.{IsDistinct-IsPermutation, IsDistinct-from_sorted}
 use Rattle.std.specs.declared.cmp.Ordering.{Ordering}
 use Rattle.std.specs.declared.cmp.Ordering.TheVariants.{Less, Equal, Greater}
@@ -22,7 +21,7 @@ use Rattle.packed_rows.proofs.PackingOrder.{less, tied}
 use Rattle.hash_agg.specs.Runs.{Entry, packed_keys, Rises}
 use Rattle.hash_agg.specs.Places.{AllBelow}
 use Rattle.hash_agg.specs.Passes.{AreOnce, HasNoKey, Led, IsLed, pairs}
-use Rattle.hash_agg.proofs.InputLaws.{take_found, run_front_rises}
+use Rattle.hash_agg.proofs.InputLaws.{take_found}
 use Rattle.hash_agg.proofs.PlaceLaws.{key_total, below_to, rises_between}
 
 -- ---- keys that differ
@@ -162,17 +161,8 @@ pair_at [] i d low = absurd (omega (arith, low))
 pair_at (p ∷ ps) zero d low = refl
 pair_at (p ∷ ps) (suc i) d low = pair_at ps i d (omega (arith, low))
 
-pub next_rises : (es run : List Entry) (i : ℕ) (key states : List ℕ) → Rises es → slice_get es i ≡ Some (key, states) → run ≡ take i es → Rises (run ++ (key, states) ∷ [])
-next_rises es run i key states rises at is =
-    subst (λ front. Rises (front ++ (key, states) ∷ [])) (sym is)
-    (subst Rises (take_next es i key states at) (run_front_rises (take (i + 1) es) (drop (i + 1) es) (subst Rises (sym (take-append-drop (i + 1) es)) rises)))
-
 pub pairs_moved : (ps qs : List Led) → IsPermutation ps qs → IsPermutation (pairs ps) (pairs qs)
 pairs_moved ps qs moved = IsPermutation-map (λ (e : Led). (e.1.0.now, e.1.1.now)) ps qs moved
-
--- a sort keeps what stands before each
-pub led_moved : (ps qs : List Led) → IsPermutation ps qs → All IsLed ps → AllByRecursion IsLed qs
-led_moved ps qs moved led = recursion_from_All IsLed qs (All-permutation IsLed ps qs moved led)
 
 pub all_taken : (ps : List Led) (run : List Entry) (i : ℕ) → run ≡ take i (pairs ps) → length ps ≤ i → run ≡ pairs ps
 all_taken ps run i is past =

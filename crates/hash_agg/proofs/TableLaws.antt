@@ -1,8 +1,7 @@
 -- The table of a pass.
-use Rattle.std.specs.Prelude.{◌≡◌, refl, ℕ, zero, suc, ◌+◌, ◌≤◌, true, false, cond, List, [], ◌∷◌, length, map, slice_get, Option, Some, None, get_or}
+use Rattle.std.specs.Prelude.{◌≡◌, refl, ℕ, zero, suc, ◌+◌, ◌≤◌, true, false, cond, List, [], ◌∷◌, map, slice_get, Option, Some, None, get_or}
 use Rattle.std.proofs.Common.{sym, ◌∙◌, ap, arith}
 use Rattle.std.proofs.lemmas.Bool.{eq-eqb}
-use Rattle.std.proofs.lemmas.List.{length-map}
 use Rattle.std.specs.List.{AllByRecursion}
 use Rattle.context_tree.specs.Contexts.{held_by}
 use Rattle.context_tree.specs.Links.{is_below}
@@ -72,9 +71,6 @@ no_key g key none i x at same =
 
 pub named_at : {Hash : Type 0} (g : GroupsState Hash) (slot : Slot) (key : List ℕ) (place : ℕ) → slice_get g.table.slots place ≡ Some slot → key_in g.table g.tree slot ≡ key → slice_get (entries_of g) place ≡ Some (key, state_in g.table g.tree slot)
 named_at g slot key place at named = get_mapped (group_in g.table g.tree) g.table.slots place slot at ∙ (λ i. Some (named i, state_in g.table g.tree slot))
-
-pub none_entered : {Hash : Type 0} (g : GroupsState Hash) → entries_of g ≡ [] → length g.table.slots ≡ 0
-none_entered g none = sym (length-map g.table.slots (group_in g.table g.tree)) ∙ ap length none
 
 -- where no more was held below the parent than in the table, no more is
 pub held_alone : {Hash : Type 0} (t u : TableState Hash) (before after : TreeState) → IsSameBut t u → held_below before t.parent ≡ held_in t before → held_below after t.parent + held_in t before ≡ held_below before t.parent + held_in t after → held_below after u.parent ≡ held_in u after

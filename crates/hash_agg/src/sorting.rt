@@ -48,13 +48,11 @@ pub(crate) fn sorted(alloc: Global, entries: &mut [Led<'_>]) -> Result<Run, Allo
     ensures sorted { IfOk result (IsPermutation (pairs entries.old)) }
     ensures rises { IfOk result Rises }
 {
-    entries.sort_unstable();
-    let mut run = Run::with_capacity(alloc, entries.len(), 0, 0)?;
-    for place in 0..entries.len() {
-        let (_, (key, states)) = entries[place];
-        run.push(key, states)?;
+    match told_apart(alloc, entries) {
+        Ok(run) => Ok(run),
+        Err(SpillError::NoMemory) => Err(AllocError),
+        Err(_) => unreachable!(),
     }
-    Ok(run)
 }
 
 /// Adds references to the groups of a run behind others.
