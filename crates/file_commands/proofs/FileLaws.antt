@@ -18,40 +18,29 @@ use Rattle.batch_reader.specs.Head.{ReadsOrigin, ReadsBatchNumber}
 use Rattle.batch_reader.specs.Rows.{ReadsRows, ArePackedRows, packings}
 use Rattle.batch_reader.proofs.RecordLaws.{built_rows}
 use Rattle.replica_merge.specs.Replicas.{Held, part_of, told, Fits, SameQuery, DisagreeSomewhere}
+use Rattle.packed_rows.specs.Refusal.{ParseFault}
+use Rattle.packed_rows.specs.declared.error.RowError.{RowError}
+use Rattle.packed_rows.specs.declared.error.RowError.TheVariants as row
+use Rattle.spill_lists.specs.declared.error.SpillError.TheVariants as spill
+use Rattle.origin_prefix.specs.declared.error.JoinError.TheVariants as join
 use Rattle.replica_merge.specs.declared.error.MergeError.{MergeError}
 use Rattle.replica_merge.specs.declared.error.MergeError.TheVariants as merge
-use Rattle.summary_codec.specs.Reading.{HasFault}
-use Rattle.summary_codec.specs.declared.error.SummaryError.{SummaryError}
-use Rattle.summary_codec.specs.declared.error.SummaryError.TheVariants as summary
-use Rattle.script_machine.specs.FileRefusals.{summary_refusal, merge_refusal}
+use Rattle.script_machine.specs.Refusals.{origin_disagrees, row_refusal, merge_refusal}
 use Rattle.script_machine.specs.Machine.{IsBatch}
 use Rattle.script_machine.specs.declared.refusal.Refusal.{Refusal}
 use Rattle.script_machine.specs.declared.refusal.Refusal.TheVariants as refuse
 use Rattle.script_machine.proofs.FeedLaws.{built_batch}
 use Rattle.script_machine.proofs.QueryLaws.{read_over}
-use Rattle.file_commands.specs.Commands.{IsNew, IsNoSummary, IsApart, TakesFile, IsOtherFile, FeedIsCounted}
-
--- bytes are no summary file, by the refusal of their first fault
-pub no_summary : (file : List ℕ) (e : SummaryError) → (e ≢ summary.NoMemory → HasFault file e) → IsNoSummary file (summary_refusal e)
-no_summary file summary.NoMemory fault = tt
-no_summary file summary.NotASummary fault = fault (λ is. cc is)
-no_summary file summary.Truncated fault = fault (λ is. cc is)
-no_summary file summary.Trailing fault = fault (λ is. cc is)
-no_summary file summary.NotCanonical fault = fault (λ is. cc is)
-no_summary file summary.OutOfRange fault = fault (λ is. cc is)
-no_summary file summary.BadSchema fault = fault (λ is. cc is)
-no_summary file summary.BadPacked fault = fault (λ is. cc is)
-no_summary file summary.BadState fault = fault (λ is. cc is)
-no_summary file (summary.Query error) fault = fault (λ is. cc is)
+use Rattle.file_commands.specs.Commands.{IsNew, IsNotNew, IsApart, TakesFile, IsOtherFile, FeedIsCounted}
 
 -- a replica is not merged, by why it is not
 pub apart : (old other : Held) (e : MergeError) → (e ≡ merge.DifferentQuery → ¬ (SameQuery old.query other.query))
-    → (e ≡ merge.OriginDisagrees → DisagreeSomewhere old.parts other.parts) → IsApart old other (merge_refusal e)
-apart old other merge.NoMemory different disagrees = tt
+    → (e ≡ merge.Join join.OriginDisagrees → DisagreeSomewhere old.parts other.parts) → IsApart old other (merge_refusal e)
 apart old other merge.DifferentQuery different disagrees = different refl
-apart old other merge.OriginDisagrees different disagrees = disagrees refl
-apart old other merge.TapeFault different disagrees = tt
-apart old other merge.TapeDamaged different disagrees = tt
+apart old other (merge.Join join.OriginDisagrees) different disagrees = disagrees refl
+apart old other (merge.Join (join.Spill spill.NoMemory)) different disagrees = tt
+apart old other (merge.Join (join.Spill spill.TapeFault)) different disagrees = tt
+apart old other (merge.Join (join.Spill spill.TapeDamaged)) different disagrees = tt
 
 -- what follows from why a call failed
 pub if_err : {T : Type 0} (result : Result T Refusal) (P Q : Refusal → Type 0) → ((why : Refusal) → P why → Q why) → IfErr result P → IfErr result Q
@@ -64,12 +53,12 @@ on_ok (Ok x) P Q follows done = follows done
 on_ok (Err why) P Q follows done = done
 
 -- disagreement is told where a merge tells it
-pub told_disagreement : (e : MergeError) → merge_refusal e ≡ refuse.OriginDisagrees → e ≡ merge.OriginDisagrees
-told_disagreement merge.NoMemory is = cc is
+pub told_disagreement : (e : MergeError) → merge_refusal e ≡ origin_disagrees → e ≡ merge.Join join.OriginDisagrees
 told_disagreement merge.DifferentQuery is = cc is
-told_disagreement merge.OriginDisagrees is = refl
-told_disagreement merge.TapeFault is = cc is
-told_disagreement merge.TapeDamaged is = cc is
+told_disagreement (merge.Join join.OriginDisagrees) is = refl
+told_disagreement (merge.Join (join.Spill spill.NoMemory)) is = cc is
+told_disagreement (merge.Join (join.Spill spill.TapeFault)) is = cc is
+told_disagreement (merge.Join (join.Spill spill.TapeDamaged)) is = cc is
 
 -- the batch of a file, and the rows that its packed rows are of
 abbrev pub FileBatch : List Kind → Option BatchFile → (origin number : ℕ) → (packed : List (List ℕ)) → Type 0
@@ -142,6 +131,14 @@ other_file (Some read) held origin number packed found never =
       is_batch = found.1;
       never = λ world fit there. never world found.0 fit there found.3;
     }
+
+-- a text tells no columns, by the refusal
+pub no_columns : (text query : List ℕ) (e : RowError) → ParseFault text e → row_refusal e ≢ refuse.NoMemory → IsNotNew text query (row_refusal e)
+no_columns text query row.NoMemory fault other = absurd (other refl)
+no_columns text query row.BadSchema fault other = fault
+no_columns text query (row.BadField column) fault other = absurd fault
+no_columns text query row.WrongWidth fault other = absurd fault
+no_columns text query row.BadPacked fault other = absurd fault
 
 -- the replica of a query that a text says over the columns of another
 pub new_replica : (text query : List ℕ) (columns : List Column) (q : Checked) → IsSchemaText text columns → Accepts columns query q

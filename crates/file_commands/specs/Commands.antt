@@ -21,13 +21,16 @@ use Rattle.batch_reader.specs.declared.error.BatchError.TheVariants as batch
 use Rattle.summary_codec.specs.Reading.{IsSummary, HasFault}
 use Rattle.replica_merge.specs.Replicas.{Held, part_of, told, Fits, SameQuery, DisagreeSomewhere}
 use Rattle.replica_merge.specs.Counting.{MergeIsCounted}
+use Rattle.replica_merge.specs.declared.error.MergeError.TheVariants as merge
+use Rattle.origin_prefix.specs.declared.error.JoinError.TheVariants as join
+use Rattle.spill_lists.specs.declared.error.SpillError.TheVariants as spill
 use Rattle.table_print.specs.Aligned.{aligned_text, sides}
 use Rattle.table_print.specs.Table.{table_text}
 use Rattle.script_machine.specs.Machine.{IsNoQuery, IsNoBatch}
 use Rattle.script_machine.specs.Views.{Takes, IsOtherBatch}
 use Rattle.script_machine.specs.declared.error.RunError.TheVariants.{InputTooLong}
 use Rattle.script_machine.specs.declared.refusal.Refusal.{Refusal}
-use Rattle.script_machine.specs.declared.refusal.Refusal.TheVariants.{NoMemory, BadSchema, Batch, Summary, DifferentQuery, OriginDisagrees, TapeFault, TapeDamaged, Run}
+use Rattle.script_machine.specs.declared.refusal.Refusal.TheVariants.{NoMemory, BadSchema, Batch, Summary, Merge, Run}
 use Rattle.file_commands.specs.declared.asking.Format.{Format}
 use Rattle.file_commands.specs.declared.asking.Format.TheVariants.{Csv, Aligned}
 
@@ -94,10 +97,10 @@ FileMergeIsCounted setting file held old writes new written =
 -- number of an origin has two batches
 abbrev pub IsApart : (old other : Held) → Refusal → Type 0
 IsApart old other NoMemory = Unit {0}
-IsApart old other TapeFault = Unit {0}
-IsApart old other TapeDamaged = Unit {0}
-IsApart old other DifferentQuery = ¬ (SameQuery old.query other.query)
-IsApart old other OriginDisagrees = DisagreeSomewhere old.parts other.parts
+IsApart old other (Merge (merge.Join (join.Spill spill.TapeFault))) = Unit {0}
+IsApart old other (Merge (merge.Join (join.Spill spill.TapeDamaged))) = Unit {0}
+IsApart old other (Merge (merge.Join join.OriginDisagrees)) = DisagreeSomewhere old.parts other.parts
+IsApart old other (Merge merge.DifferentQuery) = ¬ (SameQuery old.query other.query)
 IsApart old other why = ⊥
 
 -- why a file is not merged into a replica: it is no summary file, or its replica is not merged

@@ -5,7 +5,7 @@ ghost use Rattle.packed_rows.specs.Columns.{kinds};
 ghost use Rattle.batch_reader.specs.File.{read_file};
 ghost use Rattle.having_filter.specs.Meaning.{meaning};
 ghost use Rattle.hash_agg.specs.Counting.{setting_by};
-ghost use Rattle.script_machine.specs.declared.refusal.Refusal.TheVariants.{OriginDisagrees, TapeFault, TapeDamaged};
+ghost use Rattle.script_machine.specs.Refusals.{origin_disagrees, tape_fault, tape_damaged};
 ghost use Rattle.script_machine.specs.Views.{IsOfBatch};
 ghost use Rattle.spill_lists.specs.Standing.{Moves};
 ghost use Rattle.file_commands.specs.Commands.{TakesFile, FeedIsCounted, IsNoBatchFile, IsOtherFile};
@@ -38,10 +38,10 @@ pub fn feed<H: KeyHash + Copy, D: TapeDisk>(
     ensures uncounted { OnErr result (work.new ≡ work.old) }
     ensures why { IfErr result (λ why. IsOfBatch why →
         IsNoBatchFile (kinds replica.old.query.columns) (read_file file.now) why) }
-    ensures other { IfErr result (λ why. why ≡ OriginDisagrees →
+    ensures other { IfErr result (λ why. why ≡ origin_disagrees →
         IsOtherFile (read_file file.now) replica.old) }
-    ensures fault { IfErr result (λ why. why ≡ TapeFault → D.failures disk.old < D.failures disk.new) }
-    ensures undamaged { IfErr result (λ why. IsTrue (D.honest disk.old) → why ≢ TapeDamaged) }
+    ensures fault { IfErr result (λ why. why ≡ tape_fault → D.failures disk.old < D.failures disk.new) }
+    ensures undamaged { IfErr result (λ why. IsTrue (D.honest disk.old) → why ≢ tape_damaged) }
     ensures disk { Moves (D.failures disk.old) (D.failures disk.new) (D.writes disk.old) (D.writes disk.new) (D.honest disk.old) (D.honest disk.new) }
 {
     let schema = replica.query().schema();

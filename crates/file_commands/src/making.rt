@@ -1,35 +1,20 @@
 //! New replicas, and replicas as summary files.
 
-ghost use Rattle.std.specs.Prelude.{◌≡◌, ◌≢◌, ◌≤◌, IfOk, IfErr, length, List};
+ghost use Rattle.std.specs.Prelude.{◌≡◌, ◌≢◌, ◌≤◌, IfOk, IfErr, length};
 ghost use Rattle.grouping_model.specs.World.{World};
 ghost use Rattle.grouping_model.specs.declared.limits.TheConstants.{LONGEST_SCRIPT};
-ghost use Rattle.packed_rows.specs.Columns.{Column, IsSchemaText};
 ghost use Rattle.summary_codec.specs.Reading.{IsSummary};
 ghost use Rattle.summary_codec.specs.WorldFile.{world_file};
 ghost use Rattle.replica_merge.specs.Replicas.{Held, told, Fits};
-ghost use Rattle.script_machine.specs.declared.refusal.Refusal.TheVariants.{NoMemory, BadSchema};
+ghost use Rattle.script_machine.specs.declared.refusal.Refusal.TheVariants.{NoMemory};
 ghost use Rattle.file_commands.specs.Commands.{IsNew, IsNotNew, IsNoSummary, IsTooLong};
 
 use group_parser::parse;
 use grouping_model::limits::LONGEST_SCRIPT;
-use packed_rows::{RowError, Schema};
+use packed_rows::Schema;
 use replica_merge::Replica;
 use script_machine::{Refusal, RunError};
 use std::alloc::Global;
-
-/// The columns that a text tells.
-fn read_schema(alloc: Global, text: &str) -> Result<Schema, Refusal>
-    ensures schema { IfOk result (λ schema. IsSchemaText text.now schema) }
-    ensures why { IfErr result (λ why. why ≢ NoMemory → (why ≡ BadSchema)
-        × ((columns : List Column) → ¬ (IsSchemaText text.now columns))) }
-{
-    match Schema::parse(alloc, text) {
-        Ok(schema) => Ok(schema),
-        Err(RowError::BadSchema) => Err(Refusal::BadSchema),
-        // The only other error is that memory ran out.
-        Err(_) => Err(Refusal::NoMemory),
-    }
-}
 
 /// A replica that knows nothing, of the query that one text says over the columns that another tells, as `columns` and
 /// `query` do in a script.
@@ -41,7 +26,7 @@ pub fn create(alloc: Global, columns: &str, query: &str) -> Result<Replica, Refu
     ensures made { IfOk result (IsNew columns.now query.now) }
     ensures why { IfErr result (λ why. why ≢ NoMemory → IsNotNew columns.now query.now why) }
 {
-    let schema = read_schema(alloc, columns)?;
+    let schema = Schema::parse(alloc, columns)?;
     let query = parse(alloc, &schema, query)?;
     Ok(Replica::new(alloc, query))
 }

@@ -7,7 +7,7 @@ ghost use Rattle.hash_agg.specs.Counting.{setting_by};
 ghost use Rattle.replica_merge.specs.Replicas.{Held, Fits};
 ghost use Rattle.replica_merge.specs.Counting.{MergeIsCounted};
 ghost use Rattle.summary_codec.specs.Reading.{IsSummary};
-ghost use Rattle.script_machine.specs.declared.refusal.Refusal.TheVariants.{OriginDisagrees, TapeFault, TapeDamaged};
+ghost use Rattle.script_machine.specs.Refusals.{origin_disagrees, tape_fault, tape_damaged};
 ghost use Rattle.spill_lists.specs.Standing.{Moves};
 ghost use Rattle.file_commands.specs.Commands.{MergesHeld, IsApart, MergesFile, FileMergeIsCounted, IsNotMerged};
 
@@ -32,10 +32,10 @@ fn take_in<H: KeyHash + Copy, D: TapeDisk>(
     ensures same { OnErr result (replica.new ≡ replica.old) }
     ensures uncounted { OnErr result (work.new ≡ work.old) }
     ensures why { IfErr result (IsApart replica.old other.now) }
-    ensures agree { IfErr result (λ why. why ≡ OriginDisagrees → (world : World) →
+    ensures agree { IfErr result (λ why. why ≡ origin_disagrees → (world : World) →
         Fits world replica.old → ¬ (Fits world other.now)) }
-    ensures fault { IfErr result (λ why. why ≡ TapeFault → D.failures disk.old < D.failures disk.new) }
-    ensures undamaged { IfErr result (λ why. IsTrue (D.honest disk.old) → why ≢ TapeDamaged) }
+    ensures fault { IfErr result (λ why. why ≡ tape_fault → D.failures disk.old < D.failures disk.new) }
+    ensures undamaged { IfErr result (λ why. IsTrue (D.honest disk.old) → why ≢ tape_damaged) }
     ensures disk { Moves (D.failures disk.old) (D.failures disk.new) (D.writes disk.old) (D.writes disk.new) (D.honest disk.old) (D.honest disk.new) }
 {
     match replica.merge(other, means, disk, work) {
@@ -67,11 +67,11 @@ pub fn merge<H: KeyHash + Copy, D: TapeDisk>(
     ensures uncounted { OnErr result (work.new ≡ work.old) }
     ensures why { IfErr result (IsNotMerged file.now replica.old) }
     // Replicas that fit one world never disagree.
-    ensures agree { IfErr result (λ why. why ≡ OriginDisagrees → (world : World) →
+    ensures agree { IfErr result (λ why. why ≡ origin_disagrees → (world : World) →
         Fits world replica.old → (other : Held) → IsSummary file.now other.query other.parts →
         ¬ (Fits world other)) }
-    ensures fault { IfErr result (λ why. why ≡ TapeFault → D.failures disk.old < D.failures disk.new) }
-    ensures undamaged { IfErr result (λ why. IsTrue (D.honest disk.old) → why ≢ TapeDamaged) }
+    ensures fault { IfErr result (λ why. why ≡ tape_fault → D.failures disk.old < D.failures disk.new) }
+    ensures undamaged { IfErr result (λ why. IsTrue (D.honest disk.old) → why ≢ tape_damaged) }
     ensures disk { Moves (D.failures disk.old) (D.failures disk.new) (D.writes disk.old) (D.writes disk.new) (D.honest disk.old) (D.honest disk.new) }
 {
     let other = load(alloc, file)?;

@@ -1,5 +1,5 @@
 -- What becomes of a part to which a batch is delivered.
-use Rattle.std.specs.Prelude.{◌≡◌, ◌≢◌, refl, ℕ, ◌+◌, ◌-◌, ◌<◌, ◌≤◌, ◌||◌, ◌⊎◌, nat_le, Bool, true, false, List, [], ◌∷◌, Some, None, Result, Ok, Err, IfOk, IfErr, OnOk, OnErr, IsTrue}
+use Rattle.std.specs.Prelude.{◌≡◌, ◌≢◌, refl, ℕ, ◌+◌, ◌-◌, ◌<◌, ◌≤◌, ◌||◌, nat_le, Bool, true, false, List, [], ◌∷◌, Some, None, Result, Ok, Err, IfOk, IfErr, OnOk, OnErr}
 use Rattle.std.proofs.Common.{◌∙◌, sym, ap, subst, inl, inr, arith}
 use Rattle.std.proofs.lemmas.Bool.{cases_lt}
 use Rattle.std.specs.Option.{is_some}
@@ -21,12 +21,8 @@ use Rattle.having_filter.specs.Meaning.{Checked, meaning}
 use Rattle.origin_prefix.specs.Parts.{Batches, Part, rows_at, knows_number, IsEarly, IsBehind, IsOpen, IsPartOf, Delivers, Disagrees, Settles, behind}
 use Rattle.batch_reader.specs.declared.batch.Batch.{Batch}
 use Rattle.origin_prefix.specs.declared.error.RefusedBatch.{RefusedBatch}
-use Rattle.spill_lists.specs.Standing.{IsReadRefusal}
-use Rattle.spill_lists.specs.declared.error.SpillError.{SpillError}
-use Rattle.spill_lists.specs.declared.error.SpillError.TheVariants as spill
-use Rattle.origin_prefix.specs.declared.error.JoinError.{JoinError}
-use Rattle.origin_prefix.specs.declared.error.JoinError.TheVariants.{NoMemory, OriginDisagrees}
-use Rattle.origin_prefix.specs.Errors.{join_error, IsErrorOver}
+use Rattle.origin_prefix.specs.declared.error.JoinError.TheVariants.{OriginDisagrees}
+use Rattle.origin_prefix.specs.Errors.{no_memory}
 use Rattle.origin_prefix.proofs.ByNumber.{numbers, some_is, found_holds, all_put}
 use Rattle.origin_prefix.proofs.PartLaws.{all_weaker, settled_part}
 
@@ -127,7 +123,7 @@ unknown_refused (Err e) part number above none = λ _. unknown part number above
 -- a batch was kept early, or handed back
 pub part_kept : (r : Result Delivered RefusedBatch) (query : Checked) (old new : Part) (batch : Batch) → IsPartOf query old → old.prefix + 1 < batch.number → batch.number ≤ LAST_NUMBER
     → ArePackedRows (kinds query.columns) batch.rows → IfOk r (λ reply. (reply ≡ Early) × (new ≡ record old { early = insert_entry nat_cmp old.early batch.number batch.rows }))
-    → IfErr r (λ e. (e.batch ≡ batch) × (e.why ≡ NoMemory) × (new ≡ old)) → IsStrictlySortedBy nat_cmp (numbers new.early) → IsPartOf query new
+    → IfErr r (λ e. (e.batch ≡ batch) × (e.why ≡ no_memory) × (new ≡ old)) → IsStrictlySortedBy nat_cmp (numbers new.early) → IsPartOf query new
 part_kept (Ok x) query old new batch is behind within are kept same rising = early_kept query old new batch.number batch.rows is behind within are kept.1 rising
 part_kept (Err e) query old new batch is behind within are kept same rising = subst (IsPartOf query) (sym same.2) is
 
@@ -146,25 +142,3 @@ pub kept_delivers : {E : Type 0} (honest : Bool) (q : Query) (old new : Part) (n
 kept_delivers honest q old new number rows r unknown apart kept =
     IfOk-weaker r (λ reply. (reply ≡ Early) × (new ≡ record old { early = insert_entry nat_cmp old.early number rows })) (Delivers honest q old number rows new)
     (λ reply e. subst (Delivers honest q old number rows new) (sym e.0) (unknown, apart, e.1)) kept
-
--- ---- refusals
-
-pub never_disagrees : (error : SpillError) → join_error error ≡ OriginDisagrees → ⊥
-never_disagrees spill.NoMemory e = cc
-never_disagrees spill.TapeFault e = cc
-never_disagrees spill.TapeDamaged e = cc
-
--- the error of an aggregation, to a part
-pub told_over : (honest : Bool) (before after : ℕ) (error : SpillError) (why : JoinError) → why ≡ join_error error → (IsTrue honest → error ≢ spill.TapeDamaged) → IsReadRefusal before after error → IsErrorOver honest before after why
-told_over honest before after error why is undamaged refused = subst (IsErrorOver honest before after) (sym is) (go error undamaged refused)
-  where
-    go : (error : SpillError) → (IsTrue honest → error ≢ spill.TapeDamaged) → IsReadRefusal before after error → IsErrorOver honest before after (join_error error)
-    go spill.NoMemory undamaged refused = tt
-    go spill.TapeFault undamaged refused = refused
-    go spill.TapeDamaged undamaged refused = λ is. undamaged is refl
-
--- a batch that was handed back without the disk
-pub told_alone : {T : Type 0} (r : Result T RefusedBatch) (honest : Bool) (before after : ℕ) (why : JoinError) → (why ≡ NoMemory) ⊎ (why ≡ OriginDisagrees) → IfErr r (λ e. e.why ≡ why) → IfErr r (λ e. IsErrorOver honest before after e.why)
-told_alone (Ok x) honest before after why one is = tt
-told_alone (Err e) honest before after why (inl same) is = subst (IsErrorOver honest before after) (sym (is ∙ same)) tt
-told_alone (Err e) honest before after why (inr same) is = subst (IsErrorOver honest before after) (sym (is ∙ same)) tt

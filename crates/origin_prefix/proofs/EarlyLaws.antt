@@ -1,13 +1,18 @@
 -- Early batches by their numbers.
 use Rattle.std.specs.Option.{is_some}
-use Rattle.std.proofs.lemmas.Bool.{true≢false}
-use Rattle.std.specs.Prelude.{◌≡◌, ◌≢◌, ◌↔◌, refl, ℕ, ◌<◌, ◌⊎◌, nat_lt, Bool, true, false, not, cond, IsTrue, if◌then◌else◌, List, [], ◌∷◌, Option, Some, None, unwrap_or}
+use Rattle.std.proofs.lemmas.Bool.{true≢false, cases_lt}
+use Rattle.std.proofs.lemmas.Map.Entries.{lookup-filter-keys}
+use Rattle.std.proofs.lemmas.List.Elements.{All-filter, All-from_recursion, recursion_from_All}
+use Rattle.std.specs.List.{AllByRecursion}
+use Rattle.std.specs.BTreeMap.Range.{entries_between, range_contains}
+use Rattle.std.specs.declared.ops.Bound.TheVariants.{Excluded, Unbounded}
+use Rattle.std.specs.Prelude.{◌≡◌, ◌≢◌, ◌↔◌, refl, ℕ, ◌<◌, ◌≤◌, ◌⊎◌, nat_lt, Bool, true, false, not, cond, IsTrue, if◌then◌else◌, List, [], ◌∷◌, Option, Some, None, unwrap_or}
 use Rattle.std.proofs.Common.{◌∙◌, sym, ap, subst, inl, inr, arith}
 use Rattle.std.specs.Ordering.{eq_by_cmp, nat_cmp}
 use Rattle.origin_prefix.specs.Parts.{Batches, rows_at}
 use Rattle.origin_prefix.specs.Joins.{either, DiffersBehind}
 use Rattle.origin_prefix.proofs.ByNumber.{at_head, behind_head}
-use Rattle.origin_prefix.proofs.Lists.{is_itself, is_other, same_or_other}
+use Rattle.origin_prefix.proofs.Lists.{is_itself, is_same, is_other, same_or_other}
 
 -- a batch that was put under its number
 abbrev pub AtNumber : Batches → ℕ → List (List ℕ) → Batches → Type 0
@@ -20,20 +25,16 @@ pub put_elsewhere : (old new : Batches) (number : ℕ) (rows : List (List ℕ)) 
 put_elsewhere old new number rows put n other = put n ∙ ap (λ b. cond b (Some rows) (rows_at old n)) (is_other number n (λ e. other (sym e)))
 
 -- one batch more was copied, whose number was not there
-pub copied : (above number : ℕ) (rows : List (List ℕ)) (old new rest : Batches) → above < number → rows_at old number ≡ None → AtNumber old number rows new
-    → (n : ℕ) → either (rows_at new n) (if nat_lt above n then rows_at rest n else None) ≡ either (rows_at old n) (if nat_lt above n then rows_at ((number, rows) ∷ rest) n else None)
-copied above number rows old new rest low none put n = go (same_or_other n number)
+pub copied : (number : ℕ) (rows : List (List ℕ)) (old new rest : Batches) → rows_at old number ≡ None → AtNumber old number rows new
+    → (n : ℕ) → either (rows_at new n) (rows_at rest n) ≡ either (rows_at old n) (rows_at ((number, rows) ∷ rest) n)
+copied number rows old new rest none put n = go (same_or_other n number)
   where
-    go : (n ≡ number) ⊎ (n ≢ number) → either (rows_at new n) (if nat_lt above n then rows_at rest n else None) ≡ either (rows_at old n) (if nat_lt above n then rows_at ((number, rows) ∷ rest) n else None)
+    go : (n ≡ number) ⊎ (n ≢ number) → either (rows_at new n) (rows_at rest n) ≡ either (rows_at old n) (rows_at ((number, rows) ∷ rest) n)
     go (inl same) =
-        subst (λ m. either (rows_at new m) (if nat_lt above m then rows_at rest m else None) ≡ either (rows_at old m) (if nat_lt above m then rows_at ((number, rows) ∷ rest) m else None)) (sym same)
-        (ap (λ o. either o (if nat_lt above number then rows_at rest number else None)) (put_there old new number rows put)
-        ∙ sym (ap (λ o. either o (if nat_lt above number then rows_at ((number, rows) ∷ rest) number else None)) none
-        ∙ ap (λ b. if b then rows_at ((number, rows) ∷ rest) number else None) (let e : nat_lt above number ≡ true = grind arith in e)
-        ∙ at_head number rows rest))
-    go (inr other) =
-        ap (λ o. either o (if nat_lt above n then rows_at rest n else None)) (put_elsewhere old new number rows put n other)
-        ∙ ap (λ o. either (rows_at old n) (if nat_lt above n then o else None)) (sym (behind_head n number rows rest other))
+        subst (λ m. either (rows_at new m) (rows_at rest m) ≡ either (rows_at old m) (rows_at ((number, rows) ∷ rest) m)) (sym same)
+        (ap (λ o. either o (rows_at rest number)) (put_there old new number rows put)
+        ∙ sym (ap (λ o. either o (rows_at ((number, rows) ∷ rest) number)) none ∙ at_head number rows rest))
+    go (inr other) = ap (λ o. either o (rows_at rest n)) (put_elsewhere old new number rows put n other) ∙ ap (either (rows_at old n)) (sym (behind_head n number rows rest other))
 
 -- ---- batches that differ
 
@@ -93,20 +94,69 @@ differ_from same rows those found is test = (to, back)
 
 -- ---- copies
 
--- a batch was passed over, which isn't behind the number or is there already
-pub passed_over : (above number : ℕ) (rows : List (List ℕ)) (old rest : Batches) → (above < number → is_some (rows_at old number) ≡ true)
-    → (n : ℕ) → either (rows_at old n) (if nat_lt above n then rows_at rest n else None) ≡ either (rows_at old n) (if nat_lt above n then rows_at ((number, rows) ∷ rest) n else None)
-passed_over above number rows old rest there n = go (same_or_other n number)
+-- a batch was passed over, which is there already
+pub passed_over : (number : ℕ) (rows : List (List ℕ)) (old rest : Batches) → is_some (rows_at old number) ≡ true
+    → (n : ℕ) → either (rows_at old n) (rows_at rest n) ≡ either (rows_at old n) (rows_at ((number, rows) ∷ rest) n)
+passed_over number rows old rest there n = go (same_or_other n number)
   where
     of_some : {X : Type 0} (o x y : Option X) → is_some o ≡ true → either o x ≡ either o y
     of_some (Some z) x y e = refl
     of_some None x y e = absurd (true≢false (sym e))
 
-    go : (n ≡ number) ⊎ (n ≢ number) → either (rows_at old n) (if nat_lt above n then rows_at rest n else None) ≡ either (rows_at old n) (if nat_lt above n then rows_at ((number, rows) ∷ rest) n else None)
-    go (inr other) = ap (λ o. either (rows_at old n) (if nat_lt above n then o else None)) (sym (behind_head n number rows rest other))
-    go (inl same) =
-        subst (λ m. either (rows_at old m) (if nat_lt above m then rows_at rest m else None) ≡ either (rows_at old m) (if nat_lt above m then rows_at ((number, rows) ∷ rest) m else None)) (sym same)
-        (elim (nat_lt above number) as (λ b. nat_lt above number ≡ b → either (rows_at old number) (if b then rows_at rest number else None) ≡ either (rows_at old number) (if b then rows_at ((number, rows) ∷ rest) number else None)) [
-          | true ↦ λ e. of_some (rows_at old number) (rows_at rest number) (rows_at ((number, rows) ∷ rest) number) (there (let low : above < number = grind arith in low))
-          | false ↦ λ e. refl
-        ] refl)
+    go : (n ≡ number) ⊎ (n ≢ number) → either (rows_at old n) (rows_at rest n) ≡ either (rows_at old n) (rows_at ((number, rows) ∷ rest) n)
+    go (inr other) = ap (either (rows_at old n)) (sym (behind_head n number rows rest other))
+    go (inl same) = of_some (rows_at old n) (rows_at rest n) (rows_at ((number, rows) ∷ rest) n) (ap (λ m. is_some (rows_at old m)) same ∙ there)
+
+-- ---- batches behind a number
+
+-- those of some batches whose numbers are above it
+abbrev pub behind_number : ℕ → Batches → Batches
+behind_number above batches = entries_between nat_cmp (Excluded above) Unbounded batches
+
+pub found_behind : (above : ℕ) (batches : Batches) (n : ℕ) → rows_at (behind_number above batches) n ≡ (if nat_lt above n then rows_at batches n else None)
+found_behind above batches n =
+    lookup-filter-keys (eq_by_cmp nat_cmp n) (λ k. range_contains nat_cmp (Excluded above) Unbounded k) (nat_lt above n)
+    (λ k same. ap (λ m. range_contains nat_cmp (Excluded above) Unbounded m) (sym (is_same n k same)) ∙ below) batches
+  where
+    below : range_contains nat_cmp (Excluded above) Unbounded n ≡ nat_lt above n
+    below = go (cases_lt above n)
+      where
+        go : (above < n) ⊎ (n ≤ above) → range_contains nat_cmp (Excluded above) Unbounded n ≡ nat_lt above n
+        go (inl low) = grind (arith, low)
+        go (inr high) = grind (arith, high)
+
+-- what holds of each batch holds of each behind a number
+pub all_behind : (P : ℕ × List (List ℕ) → Type 0) (above : ℕ) (batches : Batches) → AllByRecursion P batches → AllByRecursion P (behind_number above batches)
+all_behind P above batches all =
+    recursion_from_All P (behind_number above batches)
+    (All-filter (λ (e : ℕ × List (List ℕ)). range_contains nat_cmp (Excluded above) Unbounded e.0) P batches (All-from_recursion P batches all))
+
+-- each of them is behind it
+pub are_behind : (above : ℕ) (batches : Batches) → AllByRecursion (λ (e : ℕ × List (List ℕ)). above < e.0) (behind_number above batches)
+are_behind above [] = tt
+are_behind above (batch ∷ batches) =
+    elim (range_contains nat_cmp (Excluded above) Unbounded batch.0) as (λ b. range_contains nat_cmp (Excluded above) Unbounded batch.0 ≡ b
+    → AllByRecursion (λ (e : ℕ × List (List ℕ)). above < e.0) (cond b (batch ∷ behind_number above batches) (behind_number above batches))) [
+      | true ↦ λ e. (low e, are_behind above batches)
+      | false ↦ λ e. are_behind above batches
+    ] refl
+  where
+    low : range_contains nat_cmp (Excluded above) Unbounded batch.0 ≡ true → above < batch.0
+    low e = grind arith
+
+-- the same rows are behind it
+pub differs_behind : (above : ℕ) (one other : Batches) → DiffersBehind above one other → DiffersBehind above (behind_number above one) other
+differs_behind above one other d =
+    record {
+      number = d.number;
+      behind = d.behind;
+      rows = d.rows;
+      those = d.those;
+      there = found_behind above one d.number ∙ ap (λ b. if b then rows_at one d.number else None) (let low = d.behind in let e : nat_lt above d.number ≡ true = grind (arith, low) in e) ∙ d.there;
+      there_too = d.there_too;
+      differ = d.differ;
+    }
+
+pub either_none : {X : Type 0} (o : Option X) → either o None ≡ o
+either_none None = refl
+either_none (Some x) = refl

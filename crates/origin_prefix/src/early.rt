@@ -15,6 +15,7 @@ use batch_reader::PackedRows;
 use hash_agg::Input;
 use std::alloc::{AllocError, Global};
 use std::collections::BTreeMap;
+use std::ops::Bound::{Excluded, Unbounded};
 
 /// Adds the rows of the early batches that follow a number without a gap to the inputs. Answers the last of these numbers.
 pub(crate) fn add_following<'a>(
@@ -69,8 +70,8 @@ pub(crate) fn copy_above(
         (rows_at into.old.entries n)
         (if nat_lt number n then rows_at from.now.entries n else None)) }
 {
-    for (next, rows) in from {
-        if *next > number && !into.contains_key(next) {
+    for (next, rows) in from.range((Excluded(number), Unbounded)) {
+        if !into.contains_key(next) {
             into.insert(*next, rows.try_clone(alloc)?)?;
         }
     }
@@ -85,8 +86,8 @@ pub(crate) fn differ_behind(
 ) -> bool
     ensures { IsTrue result ↔ DiffersBehind number one.now.entries other.now.entries }
 {
-    for (next, rows) in one {
-        if *next > number && differs_from(rows, other.get(next)) {
+    for (next, rows) in one.range((Excluded(number), Unbounded)) {
+        if differs_from(rows, other.get(next)) {
             return true;
         }
     }

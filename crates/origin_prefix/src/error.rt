@@ -1,8 +1,8 @@
 //! Why a batch or a part is refused.
 
 ghost use Rattle.std.specs.Prelude.{◌≡◌};
-ghost use Rattle.origin_prefix.specs.Errors.{join_error};
-ghost use Rattle.origin_prefix.specs.declared.error.JoinError.TheVariants.{NoMemory};
+ghost use Rattle.origin_prefix.specs.Errors.{no_memory};
+ghost use Rattle.origin_prefix.specs.declared.error.JoinError.TheVariants.{Spill};
 
 use batch_reader::Batch;
 use hash_agg::SpillError;
@@ -12,37 +12,27 @@ use thiserror::Error;
 /// Why a batch is not taken, or parts are not joined.
 #[derive(Clone, Copy, Debug, PartialEq, Eq, Error)]
 pub enum JoinError {
-    /// An allocation failed.
-    #[error("out of memory")]
-    NoMemory,
     /// One number of the origin has two different batches, or equal prefixes have different groups.
     #[error("one number of an origin has two different batches")]
     OriginDisagrees,
-    /// The disk of tapes failed.
-    #[error("the tape disk failed")]
-    TapeFault,
-    /// The disk of tapes gave back what was not written to it.
-    #[error("the tape is damaged")]
-    TapeDamaged,
+    /// Memory was wanting, or the disk of tapes failed while batches were folded.
+    #[error(transparent)]
+    Spill(SpillError),
 }
 
 impl From<AllocError> for JoinError {
-    ghost from_gives = { λ _ e. e ≡ NoMemory };
+    ghost from_gives = { λ _ e. e ≡ no_memory };
 
     fn from(_error: AllocError) -> JoinError {
-        JoinError::NoMemory
+        JoinError::Spill(SpillError::NoMemory)
     }
 }
 
 impl From<SpillError> for JoinError {
-    ghost from_gives = { λ error e. e ≡ join_error error };
+    ghost from_gives = { λ error e. e ≡ Spill error };
 
     fn from(error: SpillError) -> JoinError {
-        match error {
-            SpillError::NoMemory => JoinError::NoMemory,
-            SpillError::TapeFault => JoinError::TapeFault,
-            SpillError::TapeDamaged => JoinError::TapeDamaged,
-        }
+        JoinError::Spill(error)
     }
 }
 

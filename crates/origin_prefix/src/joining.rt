@@ -1,14 +1,15 @@
 //! Joining two parts of one origin.
 
-ghost use Rattle.std.specs.Prelude.{◌≡◌, ◌≢◌, ◌≤◌, ◌↔◌, IsTrue, IfOk, IfErr, OnOk};
+ghost use Rattle.std.specs.Prelude.{◌≡◌, ◌≢◌, ◌≤◌, ◌↔◌, IsTrue, IfOk, IfErr, OnOk, OnErr};
 ghost use Rattle.having_filter.specs.Meaning.{meaning};
 ghost use Rattle.hash_agg.specs.Counting.{AreCounted, setting_by};
 ghost use Rattle.origin_prefix.specs.Parts.{Batches, IsPartOf, Settles, aggregations_behind};
 ghost use Rattle.origin_prefix.specs.Joins.{PartsDisagree, Joins, Unites, JoinIsCounted};
 ghost use Rattle.origin_prefix.specs.Errors.{IsErrorOver};
 ghost use Rattle.spill_lists.specs.Standing.{Moves, IsReadRefusal};
+ghost use Rattle.spill_lists.specs.declared.error.SpillError.{SpillError};
 ghost use Rattle.spill_lists.specs.declared.error.SpillError.TheVariants.{TapeDamaged};
-ghost use Rattle.origin_prefix.specs.declared.error.JoinError.TheVariants.{OriginDisagrees};
+ghost use Rattle.origin_prefix.specs.declared.error.JoinError.TheVariants.{OriginDisagrees, Spill};
 
 use crate::early::{copy_above, differ_behind};
 use crate::error::JoinError;
@@ -20,7 +21,8 @@ use std::collections::BTreeMap;
 impl OriginPart {
     /// The longer prefix of two parts of one origin with its groups, and the early batches of both, of which those are folded that
     /// follow it without a gap. Parts disagree whose prefixes are equal with different groups, or that have different rows of one
-    /// number behind both prefixes. What the aggregation of those that are folded took is added to `work`.
+    /// number behind both prefixes. What the aggregation of those that are folded took is added to `work`; a
+    /// refusal adds nothing to it.
     pub fn join<H: KeyHash + Copy, D: TapeDisk>(
         &self,
         other: &OriginPart,
@@ -35,14 +37,15 @@ impl OriginPart {
         ensures counted { OnOk result (IsTrue (D.honest disk.old) →
             JoinIsCounted (meaning query.now) (setting_by H.hash_of (meaning query.now) means.now) self.now other.now
             work.old (D.writes disk.old) work.new (D.writes disk.new)) }
+        ensures uncounted { OnErr result (work.new ≡ work.old) }
         ensures part { IfOk result (IsPartOf query.now) }
         ensures agree { IfOk result (λ _. ¬ (PartsDisagree self.now other.now)) }
         ensures disagree { IfErr result (λ e. e ≡ OriginDisagrees →
             PartsDisagree self.now other.now) }
         ensures agree_else { IfErr result (λ e. e ≢ OriginDisagrees →
             ¬ (PartsDisagree self.now other.now)) }
-        ensures over { IfErr result
-            (IsErrorOver (D.honest disk.old) (D.failures disk.old) (D.failures disk.new)) }
+        ensures over { IfErr result (λ e. (error : SpillError) → e ≡ Spill error →
+            IsErrorOver (D.honest disk.old) (D.failures disk.old) (D.failures disk.new) error) }
         ensures disk { Moves (D.failures disk.old) (D.failures disk.new) (D.writes disk.old) (D.writes disk.new) (D.honest disk.old) (D.honest disk.new) }
     {
         if self.disagrees(other) {
@@ -66,6 +69,7 @@ impl OriginPart {
         ensures counted { OnOk result (IsTrue (D.honest disk.old) →
             JoinIsCounted (meaning query.now) (setting_by H.hash_of (meaning query.now) means.now) self.now other.now
             work.old (D.writes disk.old) work.new (D.writes disk.new)) }
+        ensures uncounted { OnErr result (work.new ≡ work.old) }
         ensures part { IfOk result (IsPartOf query.now) }
         ensures undamaged { IfErr result (λ error. IsTrue (D.honest disk.old) → error ≢ TapeDamaged) }
         ensures refused { IfErr result (IsReadRefusal (D.failures disk.old) (D.failures disk.new)) }
@@ -107,6 +111,7 @@ impl OriginPart {
             × AreCounted (meaning query.now) (setting_by H.hash_of (meaning query.now) means.now)
             (aggregations_behind self.now.prefix behind)
             work.old (D.writes disk.old) work.new (D.writes disk.new)) }
+        ensures uncounted { OnErr result (work.new ≡ work.old) }
         ensures part { IfOk result (IsPartOf query.now) }
         ensures undamaged { IfErr result (λ error. IsTrue (D.honest disk.old) → error ≢ TapeDamaged) }
         ensures refused { IfErr result (IsReadRefusal (D.failures disk.old) (D.failures disk.new)) }

@@ -11,9 +11,10 @@ ghost use Rattle.packed_rows.specs.Columns.{kinds};
 ghost use Rattle.batch_reader.specs.Rows.{ArePackedRows};
 ghost use Rattle.origin_prefix.specs.Parts.{Part, empty, is_nothing, knows_number, IsOpen, IsPartOf, behind, following, rows_following, aggregations_behind, aggregations_on, Folds, Settles, Delivers, Disagrees};
 ghost use Rattle.spill_lists.specs.Standing.{Moves, IsReadRefusal};
+ghost use Rattle.spill_lists.specs.declared.error.SpillError.{SpillError};
 ghost use Rattle.spill_lists.specs.declared.error.SpillError.TheVariants.{TapeDamaged};
-ghost use Rattle.origin_prefix.specs.Errors.{IsErrorOver};
-ghost use Rattle.origin_prefix.specs.declared.error.JoinError.TheVariants.{NoMemory, OriginDisagrees};
+ghost use Rattle.origin_prefix.specs.Errors.{no_memory, IsErrorOver};
+ghost use Rattle.origin_prefix.specs.declared.error.JoinError.TheVariants.{OriginDisagrees, Spill};
 ghost use Rattle.grouping_model.specs.declared.delivered.Delivered.TheVariants.{Early, Known};
 ghost use Rattle.std.specs.BTreeMap.{insert_entry};
 ghost use Rattle.std.specs.Ordering.{nat_cmp};
@@ -268,7 +269,7 @@ impl OriginPart {
         })) }
         ensures rising { IsStrictlySortedBy nat_cmp
             (map (λ (kept : ℕ × List (List ℕ)). kept.0) self.new.early) }
-        ensures refused { IfErr result (λ e. (e.batch ≡ batch) × (e.why ≡ NoMemory)
+        ensures refused { IfErr result (λ e. (e.batch ≡ batch) × (e.why ≡ no_memory)
             × (self.new ≡ self.old)) }
     {
         let Batch {
@@ -285,7 +286,7 @@ impl OriginPart {
                     number,
                     rows,
                 };
-                Err(refused(batch, JoinError::NoMemory))
+                Err(refused(batch, JoinError::from(AllocError)))
             }
         }
     }
@@ -318,8 +319,8 @@ impl OriginPart {
             Disagrees self.old batch.number batch.rows) }
         ensures unknown { IfErr result (λ e. e.why ≢ OriginDisagrees →
             knows_number self.old batch.number ≡ false) }
-        ensures over { IfErr result (λ e. IsErrorOver (D.honest disk.old) (D.failures disk.old)
-            (D.failures disk.new) e.why) }
+        ensures over { IfErr result (λ e. (error : SpillError) → e.why ≡ Spill error →
+            IsErrorOver (D.honest disk.old) (D.failures disk.old) (D.failures disk.new) error) }
         ensures disk { Moves (D.failures disk.old) (D.failures disk.new) (D.writes disk.old) (D.writes disk.new) (D.honest disk.old) (D.honest disk.new) }
     {
         if batch.number <= self.prefix {

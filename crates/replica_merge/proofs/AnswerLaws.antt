@@ -317,10 +317,6 @@ pub shown_answer : (honest : Bool) (held : Held) (run : List Entry) (rows : List
 shown_answer honest held run rows of shown so world fits =
     shown of.most (part (meaning held.query) (known_rows world (told held.parts))) of.few (of.known so world fits) ∙ answer_shown (meaning held.query) world held.parts
 
--- what it shows of no part
-pub none_wide : (q : Query) (rows : List (List Outcome)) → rows ≡ flat_map (answer_rows q) (groups_shown q []) → All (λ (row : List Outcome). length row ≡ length q.items) rows
-none_wide q rows shown = subst (All (λ (row : List Outcome). length row ≡ length q.items)) (sym shown) (rows_wide q (groups_shown q []))
-
 pub none_answer : (held : Held) (rows : List (List Outcome)) (world : World) → AreHeldParts held.query held.parts → held.parts ≡ [] → rows ≡ flat_map (answer_rows (meaning held.query)) (groups_shown (meaning held.query) [])
     → rows ≡ answer (meaning held.query) world (told held.parts)
 none_answer held rows world is none shown =

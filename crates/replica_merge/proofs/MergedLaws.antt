@@ -1,5 +1,5 @@
 -- What a replica holds and tells after a merge.
-use Rattle.std.specs.Prelude.{◌≡◌, ◌≢◌, refl, ℕ, ◌<◌, ◌≤◌, ◌⊎◌, ◌||◌, ◌&&◌, nat_eq, Bool, true, false, cond, List, [], ◌∷◌, length, Option, Some, None, option_map, unwrap_or, if◌then◌else◌, IsTrue}
+use Rattle.std.specs.Prelude.{◌≡◌, ◌≤◌, ◌≢◌, refl, ℕ, ◌<◌, ◌⊎◌, ◌||◌, ◌&&◌, nat_eq, Bool, true, false, cond, List, [], ◌∷◌, length, Option, Some, None, option_map, unwrap_or, if◌then◌else◌, IsTrue}
 use Rattle.std.proofs.Common.{◌∙◌, sym, ap, subst, inl, inr, arith}
 use Rattle.std.proofs.lemmas.Bool.{true≢false}
 use Rattle.std.specs.Option.{is_some}
@@ -17,11 +17,9 @@ use Rattle.origin_prefix.proofs.Lists.{is_itself, is_other, same_or_other}
 use Rattle.origin_prefix.proofs.ByNumber.{numbers, at, at_head, behind_head, all_found, put_same, put_else, first_alone, some_is}
 use Rattle.origin_prefix.proofs.TellingLaws.{joined_tells}
 use Rattle.origin_prefix.proofs.FittingLaws.{fits_joined, agrees_joined}
-use Rattle.origin_prefix.specs.declared.error.JoinError.{JoinError}
-use Rattle.origin_prefix.specs.declared.error.JoinError.TheVariants as join
+use Rattle.spill_lists.specs.declared.error.SpillError.{SpillError}
+use Rattle.spill_lists.specs.declared.error.SpillError.TheVariants as spill
 use Rattle.origin_prefix.specs.Errors.{IsErrorOver}
-use Rattle.replica_merge.specs.Errors.{merge_error, IsMergeErrorOver}
-use Rattle.replica_merge.specs.declared.error.MergeError.TheVariants as merge
 use Rattle.replica_merge.specs.Replicas.{Parts, part_at, part_of, told, Fits, IsHeldPart, AreHeldParts, AsideAt, JoinedAside, JoinsAt, Merges, DisagreeSomewhere, filled}
 use Rattle.replica_merge.proofs.ToldLaws.{told_is, some_told, empty_tells, part_here}
 use Rattle.replica_merge.proofs.HeldLaws.{held_part}
@@ -84,15 +82,6 @@ joined_more honest query own old_parts all old rest n p new rising joins is agre
     go (inr other) =
         subst (λ found. JoinedSoFar honest query (part_of own o) (part_at own o) (part_at all o) (part_at rest o) found) (sym (put_else old n new o other))
         (subst (λ left. JoinedSoFar honest query (part_of own o) (part_at own o) (part_at all o) left (part_at old o)) (behind_head o n p rest other) before)
-
--- before the first
-pub joined_none : (honest : Bool) (query : Checked) (own all places : Parts) → ((o : ℕ) → part_at places o ≡ option_map (λ (_ : Part). empty) (part_at own o))
-    → (o : ℕ) → JoinedSoFar honest query (part_of own o) (part_at own o) (part_at all o) (part_at all o) (part_at places o)
-joined_none honest query own all places at o = go (part_at all o)
-  where
-    go : (found : Option Part) → JoinedSoFar honest query (part_of own o) (part_at own o) found found (part_at places o)
-    go None = at o
-    go (Some p) = (refl, at o)
 
 -- the parts of an origin disagree
 pub found_disagreement : (honest : Bool) (query : Checked) (own all old : Parts) (n : ℕ) (p : Part) (rest : Parts) → JoinedSoFar honest query (part_of own n) (part_at own n) (part_at all n) (part_at ((n, p) ∷ rest) n) (part_at old n)
@@ -260,22 +249,8 @@ never_somewhere query old other d world fits fits_other =
     absurd (agrees_joined (meaning query) world d.origin (part_of old d.origin) d.theirs (fits d.origin)
     (subst (FitsOrigin (meaning query) world d.origin) (part_here other d.origin d.theirs d.there) (fits_other d.origin)) d.parts)
 
--- the error of a join, as that of a merge
-pub join_error : (error : JoinError) → merge_error error ≡ merge.OriginDisagrees → error ≡ join.OriginDisagrees
-join_error join.NoMemory e = cc
-join_error join.OriginDisagrees e = refl
-join_error join.TapeFault e = cc
-join_error join.TapeDamaged e = cc
-
-pub not_another_query : (error : JoinError) → merge_error error ≡ merge.DifferentQuery → ⊥
-not_another_query join.NoMemory e = cc
-not_another_query join.OriginDisagrees e = cc
-not_another_query join.TapeFault e = cc
-not_another_query join.TapeDamaged e = cc
-
--- what it tells of the disk, where calls were made before it
-pub told_later : (honest honest_now : Bool) (before now after : ℕ) (error : JoinError) → honest_now ≡ honest → before ≤ now → IsErrorOver honest_now now after error → IsMergeErrorOver honest before after (merge_error error)
-told_later honest honest_now before now after join.NoMemory same low told = tt
-told_later honest honest_now before now after join.OriginDisagrees same low told = tt
-told_later honest honest_now before now after join.TapeFault same low told = omega (arith, low, told)
-told_later honest honest_now before now after join.TapeDamaged same low told = λ is. told (subst IsTrue (sym same) is)
+-- what the error of an aggregation tells of the disk, where calls were made before it
+pub told_later : (honest honest_now : Bool) (before now after : ℕ) (error : SpillError) → honest_now ≡ honest → before ≤ now → IsErrorOver honest_now now after error → IsErrorOver honest before after error
+told_later honest honest_now before now after spill.NoMemory same low told = tt
+told_later honest honest_now before now after spill.TapeFault same low told = omega (arith, low, told)
+told_later honest honest_now before now after spill.TapeDamaged same low told = λ is. told (subst IsTrue (sym same) is)

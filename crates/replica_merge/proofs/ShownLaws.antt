@@ -1,30 +1,27 @@
 -- The row of an answer that a group gives.
-use Rattle.std.specs.Prelude.{◌≡◌, ◌≢◌, refl, ℕ, zero, suc, ◌+◌, ◌<◌, ◌≤◌, true, false, cond, List, [], ◌∷◌, ◌++◌, map, flat_map, length, take, drop, slice_get, slice_index_or, Some}
+use Rattle.std.specs.Prelude.{◌≡◌, ◌≢◌, refl, ℕ, zero, suc, ◌+◌, ◌<◌, true, false, cond, List, [], ◌∷◌, ◌++◌, map, flat_map, length, take, drop, slice_get, slice_index_or, Some}
 use Rattle.std.proofs.Common.{sym, ◌∙◌, ap, subst, arith, add-one, append-nil, append_assoc}
 use Rattle.std.proofs.lemmas.List.Concat.{flat_map-cons}
-use Rattle.std.proofs.lemmas.List.{length-take}
-use Rattle.grouping_model.specs.Datum.{Null, Row, Bigint_kind, HasKinds, at_place}
+use Rattle.grouping_model.specs.Datum.{Bigint_kind, HasKinds}
 use Rattle.grouping_model.specs.Aggregates.{Partial, Outcome, Plain, outcome}
 use Rattle.grouping_model.specs.Condition.{is_met}
-use Rattle.grouping_model.specs.Query as query
 use Rattle.grouping_model.specs.Query.{Query}
 use Rattle.grouping_model.specs.Grouping.{Group, partials}
 use Rattle.grouping_model.specs.Parts.{functions, source_in}
+use Rattle.grouping_model.specs.Answer.{outcome_at}
 use Rattle.packed_rows.specs.Packing.{packing}
 use Rattle.packed_rows.specs.View.{row_of}
 use Rattle.packed_rows.specs.declared.value.Value.{Value}
 use Rattle.agg_protocol.specs.States as states
-use Rattle.agg_protocol.specs.States.{most_rows}
-use Rattle.agg_protocol.proofs.Denoting.{width_known}
 use Rattle.agg_library.specs.declared.kind.AggKind.{AggKind}
 use Rattle.agg_library.specs.Kinds.{kind_shape, kind_width}
 use Rattle.agg_library.specs.StateRows.{Denotes}
-use Rattle.having_filter.specs.Kept.{key_kinds, outcome_at}
+use Rattle.having_filter.specs.Kept.{key_kinds}
 use Rattle.hash_agg.specs.Runs.{Entry}
 use Rattle.hash_agg.specs.Standing.{AreStates, StandsFor, AreGroups}
 use Rattle.hash_agg.proofs.StateLaws.{first_and_rest, dropped}
 use Rattle.hash_agg.proofs.InputLaws.{packed_once}
-use Rattle.replica_merge.specs.Groups.{answer_rows, shown_of_none, groups_shown}
+use Rattle.replica_merge.specs.Groups.{answer_rows, groups_shown}
 
 -- ---- the states of a group
 
@@ -59,25 +56,10 @@ next_state m kinds i default rest ps low d =
       others = subst (Denotes m (drop (i + 1) kinds) (drop (kind_width kind) rest)) (sym at.1) parts.4;
     }
 
--- there are as many bytes as the next state has
-pub wide_enough : (m : ℕ) (kind : AggKind) (rest : List ℕ) (p : Partial) → states.Denotes m (kind_shape kind) (take (kind_width kind) rest) p → kind_width kind ≤ length rest
-wide_enough m kind rest p d =
-    let wide : length (take (kind_width kind) rest) ≡ kind_width kind = width_known m (kind_shape kind) (take (kind_width kind) rest) p d in
-    omega (arith, wide, length-take (kind_width kind) rest)
-
 -- ---- the values that HAVING and the items read
 
-plain_at : (key : Row) (place : ℕ) → slice_index_or (map Plain key) place (Plain Null) ≡ Plain (at_place key place)
-plain_at [] place = refl
-plain_at (d ∷ key) zero = refl
-plain_at (d ∷ key) (suc place) = plain_at key place
-
 pub sources_are : (keys results : List Outcome) (group : Group) → keys ≡ map Plain group.0 → results ≡ map outcome group.1 → outcome_at keys results ≡ source_in group
-sources_are keys results group are_keys are_results = λ i. λ s. each s i
-  where
-    each : (s : query.Source) → outcome_at keys results s ≡ source_in group s
-    each (query.Key place) = ap (λ ks. slice_index_or ks place (Plain Null)) are_keys ∙ plain_at group.0 place
-    each (query.Call place) = ap (λ rs. slice_index_or rs place (Plain Null)) are_results
+sources_are keys results group are_keys are_results = λ i. outcome_at (are_keys i) (are_results i)
 
 -- a key is that of the group
 pub key_is : (q : Query) (most : ℕ) (key states : List ℕ) (values : List Value) (group : Group) → HasKinds (key_kinds q) (row_of values) → key ≡ packing (row_of values) → StandsFor q most (key, states) group → row_of values ≡ group.0
@@ -139,17 +121,9 @@ none_left q most [] answer groups none over = at over.others over.are over.whole
 pub all_left : (q : Query) (most : ℕ) (run : List Entry) (answer : List (List Outcome)) (groups : List Group) → answer ≡ [] → AreGroups q most run groups → LeftOver q most run answer groups
 all_left q most run answer groups none are = record { others = groups; are = are; whole = ap (λ rows. rows ++ flat_map (answer_rows q) groups) none }
 
--- there are groups, or there is GROUP BY
-pub shown_all : (q : Query) (groups : List Group) (place : ℕ) (places : List ℕ) → q.keys ≡ place ∷ places → groups_shown q groups ≡ groups
-shown_all q [] place places is = ap (shown_of_none q) is
-shown_all q (g ∷ groups) place places is = refl
-
 pub shown_some : (q : Query) (groups : List Group) → length groups ≢ 0 → groups_shown q groups ≡ groups
 shown_some q [] some = absurd (some refl)
 shown_some q (g ∷ groups) some = refl
-
-pub shown_none : (q : Query) (groups : List Group) → q.keys ≡ [] → groups ≡ [] → groups_shown q groups ≡ ([], partials q []) ∷ []
-shown_none q groups none is = ap (groups_shown q) is ∙ ap (shown_of_none q) none
 
 -- the group of no rows, without GROUP BY
 pub empty_stands : (q : Query) (bytes : List ℕ) → q.keys ≡ [] → AreStates (functions q) 0 bytes (partials q []) → StandsFor q 0 ([], bytes) ([], partials q [])

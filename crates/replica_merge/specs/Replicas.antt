@@ -19,7 +19,7 @@ use Rattle.origin_prefix.specs.declared.error.RefusedBatch.{RefusedBatch}
 use Rattle.origin_prefix.specs.Joins.{Joins, PartsDisagree}
 use Rattle.origin_prefix.specs.Fitting.{FitsOrigin}
 pub use Rattle.origin_prefix.specs.Held.{Parts, IsHeldPart, AreHeldParts}
-use Rattle.replica_merge.specs.declared.known.Known.{Known}
+use Rattle.replica_merge.specs.declared.known_origin.KnownOrigin as code
 
 -- the part of an origin, if there is one
 abbrev pub part_at : Parts → ℕ → Option Part
@@ -112,5 +112,5 @@ abbrev pub counted_part : ℕ × Part → Brought
 counted_part held = Counted held.1.run (held.1.prefix * MOST_ROWS)
 
 -- what the code says of an origin
-abbrev pub known_of : Known → KnownOrigin
+abbrev pub known_of : code.KnownOrigin → KnownOrigin
 known_of k = record { origin = k.origin; upto = k.upto; early = k.early.items }

@@ -2,7 +2,7 @@
 #![tactic(auto)]
 
 mod error;
-mod known;
+mod known_origin;
 mod laws;
 mod merging;
 mod replica;
@@ -10,7 +10,7 @@ mod saving;
 mod showing;
 
 pub use error::MergeError;
-pub use known::Known;
+pub use known_origin::KnownOrigin;
 pub use laws::merged_knowledge;
 pub use merging::Joined;
 pub use origin_prefix::{Delivered, JoinError, RefusedBatch};

@@ -16,8 +16,9 @@ ghost use Rattle.replica_merge.specs.Counting.{MergeIsCounted};
 ghost use Rattle.replica_merge.specs.Replicas.{Parts, part_at, part_of, told, Fits, SameQuery, AreHeldParts, JoinedAside, Merges, DisagreeSomewhere, filled};
 ghost use Rattle.origin_prefix.specs.Errors.{IsErrorOver};
 ghost use Rattle.spill_lists.specs.Standing.{Moves};
-ghost use Rattle.replica_merge.specs.Errors.{IsMergeErrorOver};
-ghost use Rattle.replica_merge.specs.declared.error.MergeError.TheVariants.{DifferentQuery, OriginDisagrees};
+ghost use Rattle.spill_lists.specs.declared.error.SpillError.{SpillError};
+ghost use Rattle.replica_merge.specs.Errors.{origin_disagrees};
+ghost use Rattle.replica_merge.specs.declared.error.MergeError.TheVariants.{DifferentQuery, Join};
 
 use crate::error::MergeError;
 use crate::replica::Replica;
@@ -105,8 +106,8 @@ fn join_part<H: KeyHash + Copy, D: TapeDisk>(
         theirs.now)) }
     ensures disagree { IfErr result (λ e. e ≡ joins.OriginDisagrees →
         PartsDisagree (unwrap_or (option_copied own.entry) empty) theirs.now) }
-    ensures over { IfErr result
-        (IsErrorOver (D.honest disk.old) (D.failures disk.old) (D.failures disk.new)) }
+    ensures over { IfErr result (λ e. (error : SpillError) → e ≡ joins.Spill error →
+        IsErrorOver (D.honest disk.old) (D.failures disk.old) (D.failures disk.new) error) }
     ensures disk { Moves (D.failures disk.old) (D.failures disk.new) (D.writes disk.old) (D.writes disk.new) (D.honest disk.old) (D.honest disk.new) }
 {
     match own {
@@ -133,11 +134,11 @@ fn join_all<H: KeyHash + Copy, D: TapeDisk>(
         MergeIsCounted (meaning query.now) (setting_by H.hash_of (meaning query.now) means.now)
         own.now.entries theirs.now.entries
         work.old (D.writes disk.old) work.new (D.writes disk.new)) }
-    ensures disagree { IfErr result (λ e. e ≡ OriginDisagrees →
+    ensures disagree { IfErr result (λ e. e ≡ origin_disagrees →
         DisagreeSomewhere own.now.entries theirs.now.entries) }
     ensures same { IfErr result (λ e. e ≢ DifferentQuery) }
-    ensures over { IfErr result
-        (IsMergeErrorOver (D.honest disk.old) (D.failures disk.old) (D.failures disk.new)) }
+    ensures over { IfErr result (λ e. (error : SpillError) → e ≡ Join (joins.Spill error) →
+        IsErrorOver (D.honest disk.old) (D.failures disk.old) (D.failures disk.new) error) }
     ensures disk { Moves (D.failures disk.old) (D.failures disk.new) (D.writes disk.old) (D.writes disk.new) (D.honest disk.old) (D.honest disk.new) }
 {
     let mut joined = places(alloc, own)?;
@@ -200,13 +201,13 @@ impl Replica {
             ¬ (SameQuery self.now.query other.now.query)) }
         ensures same { IfErr result (λ e. e ≢ DifferentQuery →
             other.now.query ≡ self.now.query) }
-        ensures disagree { IfErr result (λ e. e ≡ OriginDisagrees →
+        ensures disagree { IfErr result (λ e. e ≡ origin_disagrees →
             DisagreeSomewhere self.now.parts other.now.parts) }
         // Replicas that fit one world never disagree.
-        ensures agree { IfErr result (λ e. e ≡ OriginDisagrees → (world : World) →
+        ensures agree { IfErr result (λ e. e ≡ origin_disagrees → (world : World) →
             Fits world self.now → Fits world other.now → ⊥) }
-        ensures over { IfErr result
-            (IsMergeErrorOver (D.honest disk.old) (D.failures disk.old) (D.failures disk.new)) }
+        ensures over { IfErr result (λ e. (error : SpillError) → e ≡ Join (joins.Spill error) →
+            IsErrorOver (D.honest disk.old) (D.failures disk.old) (D.failures disk.new) error) }
         ensures disk { Moves (D.failures disk.old) (D.failures disk.new) (D.writes disk.old) (D.writes disk.new) (D.honest disk.old) (D.honest disk.new) }
     {
         if !self.query.same_query(&other.query) {
@@ -280,12 +281,12 @@ impl Replica {
         ensures same_else { IfErr result (λ e. e ≢ DifferentQuery →
             other.now.query ≡ self.old.query) }
         ensures agreed { OnOk result (¬ (DisagreeSomewhere self.old.parts other.now.parts)) }
-        ensures disagree { IfErr result (λ e. e ≡ OriginDisagrees →
+        ensures disagree { IfErr result (λ e. e ≡ origin_disagrees →
             DisagreeSomewhere self.old.parts other.now.parts) }
-        ensures agree { IfErr result (λ e. e ≡ OriginDisagrees → (world : World) →
+        ensures agree { IfErr result (λ e. e ≡ origin_disagrees → (world : World) →
             Fits world self.old → Fits world other.now → ⊥) }
-        ensures over { IfErr result
-            (IsMergeErrorOver (D.honest disk.old) (D.failures disk.old) (D.failures disk.new)) }
+        ensures over { IfErr result (λ e. (error : SpillError) → e ≡ Join (joins.Spill error) →
+            IsErrorOver (D.honest disk.old) (D.failures disk.old) (D.failures disk.new) error) }
         ensures disk { Moves (D.failures disk.old) (D.failures disk.new) (D.writes disk.old) (D.writes disk.new) (D.honest disk.old) (D.honest disk.new) }
     {
         let joined = self.join(other, means, disk, work)?;

@@ -17,13 +17,14 @@ ghost use Rattle.hash_agg.specs.Standing.{IsRun};
 ghost use Rattle.hash_agg.specs.Counting.{IsCounted, AreCounted, setting_by};
 ghost use Rattle.origin_prefix.specs.Parts.{IsPartOf, Disagrees, aggregations_on};
 ghost use Rattle.origin_prefix.specs.Errors.{IsErrorOver};
-ghost use Rattle.origin_prefix.specs.declared.error.JoinError.TheVariants.{OriginDisagrees};
+ghost use Rattle.origin_prefix.specs.declared.error.JoinError.TheVariants.{OriginDisagrees, Spill};
 ghost use Rattle.spill_lists.specs.Standing.{Moves, IsReadRefusal};
+ghost use Rattle.spill_lists.specs.declared.error.SpillError.{SpillError};
 ghost use Rattle.spill_lists.specs.declared.error.SpillError.TheVariants.{TapeDamaged};
 ghost use Rattle.replica_merge.specs.Counting.{aggregations_asked};
 ghost use Rattle.replica_merge.specs.Replicas.{part_at, part_of, told, Fits, AreHeldParts, DeliveredTo, known_of, known_part, counted_part};
 
-use crate::known::Known;
+use crate::known_origin::KnownOrigin;
 use crate::showing::{show, show_none};
 use batch_reader::{Batch, PackedRows};
 use hash_agg::{Input, KeyHash, Means, Run, SpillError, TapeDisk, Work, fold};
@@ -67,13 +68,16 @@ fn early_numbers(alloc: Global, early: &BTreeMap<u32, PackedRows>) -> Result<Vec
 }
 
 /// What is known of origins.
-fn known_parts(alloc: Global, parts: &BTreeMap<u16, OriginPart>) -> Result<Vec<Known>, AllocError>
+fn known_parts(
+    alloc: Global,
+    parts: &BTreeMap<u16, OriginPart>,
+) -> Result<Vec<KnownOrigin>, AllocError>
     ensures { IfOk result (λ list. map known_of list.items ≡ map known_part parts.now.entries) }
 {
     let mut list = Vec::with_capacity(alloc, parts.len())?;
     for (origin, part) in parts {
         let early = early_numbers(alloc, part.early())?;
-        list.push(Known {
+        list.push(KnownOrigin {
             origin: *origin,
             upto: part.prefix(),
             early,
@@ -151,8 +155,8 @@ fn deliver_to<H: KeyHash + Copy, D: TapeDisk>(
         (aggregations_on (part_of parts.old.entries batch.origin) batch.number batch.rows)
         work.old (D.writes disk.old) work.new (D.writes disk.new)) }
     ensures uncounted { OnErr result (work.new ≡ work.old) }
-    ensures over { IfErr result (λ e. IsErrorOver (D.honest disk.old) (D.failures disk.old)
-        (D.failures disk.new) e.why) }
+    ensures over { IfErr result (λ e. (error : SpillError) → e.why ≡ Spill error →
+        IsErrorOver (D.honest disk.old) (D.failures disk.old) (D.failures disk.new) error) }
     ensures disk { Moves (D.failures disk.old) (D.failures disk.new) (D.writes disk.old) (D.writes disk.new) (D.honest disk.old) (D.honest disk.new) }
 {
     match parts.get_mut(&batch.origin) {
@@ -181,14 +185,14 @@ fn deliver_first<H: KeyHash + Copy, D: TapeDisk>(
         (aggregations_on (part_of parts.old.entries batch.origin) batch.number batch.rows)
         work.old (D.writes disk.old) work.new (D.writes disk.new)) }
     ensures uncounted { OnErr result (work.new ≡ work.old) }
-    ensures over { IfErr result (λ e. IsErrorOver (D.honest disk.old) (D.failures disk.old)
-        (D.failures disk.new) e.why) }
+    ensures over { IfErr result (λ e. (error : SpillError) → e.why ≡ Spill error →
+        IsErrorOver (D.honest disk.old) (D.failures disk.old) (D.failures disk.new) error) }
     ensures disk { Moves (D.failures disk.old) (D.failures disk.new) (D.writes disk.old) (D.writes disk.new) (D.honest disk.old) (D.honest disk.new) }
 {
     let origin = batch.origin;
     // The part has its place before the batch is taken, so that a batch is never lost.
     if parts.insert(origin, OriginPart::empty(alloc)).is_err() {
-        let why = JoinError::NoMemory;
+        let why = JoinError::from(AllocError);
         return Err(RefusedBatch { batch, why });
     }
     match deliver_to(query, parts, batch, means, disk, work) {
@@ -220,8 +224,8 @@ fn deliver_in<H: KeyHash + Copy, D: TapeDisk>(
         (aggregations_on (part_of parts.old.entries batch.origin) batch.number batch.rows)
         work.old (D.writes disk.old) work.new (D.writes disk.new)) }
     ensures uncounted { OnErr result (work.new ≡ work.old) }
-    ensures over { IfErr result (λ e. IsErrorOver (D.honest disk.old) (D.failures disk.old)
-        (D.failures disk.new) e.why) }
+    ensures over { IfErr result (λ e. (error : SpillError) → e.why ≡ Spill error →
+        IsErrorOver (D.honest disk.old) (D.failures disk.old) (D.failures disk.new) error) }
     ensures disk { Moves (D.failures disk.old) (D.failures disk.new) (D.writes disk.old) (D.writes disk.new) (D.honest disk.old) (D.honest disk.new) }
 {
     if parts.contains_key(&batch.origin) {
@@ -272,7 +276,7 @@ impl Replica {
     }
 
     /// What is known, by rising origin.
-    pub fn known(&self) -> Result<Vec<Known>, AllocError>
+    pub fn known(&self) -> Result<Vec<KnownOrigin>, AllocError>
         ensures { IfOk result (λ list. map known_of list.items ≡ known_list (told self.now.parts)) }
     {
         known_parts(self.alloc, &self.parts)
@@ -321,8 +325,8 @@ impl Replica {
         ensures agrees { IfErr result (λ e. e.why ≡ OriginDisagrees →
             (world : World) (those : List Row) → Fits world self.old →
             world batch.origin batch.number ≡ Some those → batch.rows ≢ packings those) }
-        ensures over { IfErr result (λ e. IsErrorOver (D.honest disk.old) (D.failures disk.old)
-            (D.failures disk.new) e.why) }
+        ensures over { IfErr result (λ e. (error : SpillError) → e.why ≡ Spill error →
+            IsErrorOver (D.honest disk.old) (D.failures disk.old) (D.failures disk.new) error) }
         ensures disk { Moves (D.failures disk.old) (D.failures disk.new) (D.writes disk.old) (D.writes disk.new) (D.honest disk.old) (D.honest disk.new) }
     {
         deliver_in(

@@ -4,12 +4,13 @@ ghost use Rattle.std.specs.Prelude.{◌≡◌, ◌≤◌, ◌++◌, ℕ, List, [
 ghost use Rattle.grouping_model.specs.Datum.{Row, HasKinds};
 ghost use Rattle.grouping_model.specs.Aggregates.{Partial, Plain, outcome};
 ghost use Rattle.grouping_model.specs.Grouping.{Group};
+ghost use Rattle.grouping_model.specs.Answer.{outcome_at};
 ghost use Rattle.packed_rows.specs.Packing.{packing};
 ghost use Rattle.packed_rows.specs.View.{row_of};
 ghost use Rattle.agg_protocol.specs.Results.{outcome_of};
 ghost use Rattle.agg_protocol.specs.States.{most_rows};
 ghost use Rattle.agg_library.specs.StateRows.{Denotes};
-ghost use Rattle.having_filter.specs.Kept.{key_kinds, outcome_at};
+ghost use Rattle.having_filter.specs.Kept.{key_kinds};
 ghost use Rattle.having_filter.specs.Meaning.{meaning};
 ghost use Rattle.having_filter.specs.Plans.{source_of};
 ghost use Rattle.hash_agg.specs.Standing.{StandsFor, AreGroups};

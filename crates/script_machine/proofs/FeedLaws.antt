@@ -14,8 +14,12 @@ use Rattle.origin_prefix.specs.Errors.{IsErrorOver}
 use Rattle.spill_lists.specs.Standing.{IsReadRefusal}
 use Rattle.spill_lists.specs.declared.error.SpillError.{SpillError}
 use Rattle.spill_lists.specs.declared.error.SpillError.TheVariants as spill
-use Rattle.script_machine.specs.FileRefusals.{spill_refusal}
-use Rattle.script_machine.specs.Machine.{IsBatch, delivery_refusal}
+use Rattle.replica_merge.specs.declared.error.MergeError.{MergeError}
+use Rattle.replica_merge.specs.declared.error.MergeError.TheVariants as merge
+use Rattle.packed_rows.specs.declared.error.RowError.{RowError}
+use Rattle.packed_rows.specs.declared.error.RowError.TheVariants as row
+use Rattle.script_machine.specs.Refusals.{origin_disagrees, tape_fault, tape_damaged, row_refusal, merge_refusal}
+use Rattle.script_machine.specs.Machine.{IsBatch}
 use Rattle.script_machine.specs.Views.{IsOfBatch, is_tape_fault, faults_in}
 use Rattle.script_machine.specs.declared.refusal.Refusal.{Refusal}
 use Rattle.script_machine.specs.declared.reply.Reply.{Reply}
@@ -44,31 +48,41 @@ built_batch ks origin number told records o n packed rows reads_o reads_n few co
     }
 
 -- why a batch was not taken, from the refusal
-pub other_why : (why : JoinError) → delivery_refusal why ≡ refuse.OriginDisagrees → why ≡ join.OriginDisagrees
-other_why join.NoMemory e = cc
+pub other_why : (why : JoinError) → merge_refusal (merge.Join why) ≡ origin_disagrees → why ≡ join.OriginDisagrees
 other_why join.OriginDisagrees e = refl
-other_why join.TapeFault e = cc
-other_why join.TapeDamaged e = cc
+other_why (join.Spill spill.NoMemory) e = cc
+other_why (join.Spill spill.TapeFault) e = cc
+other_why (join.Spill spill.TapeDamaged) e = cc
 
--- what a refusal tells of the disk of tapes, from why a batch was not taken
-pub fault_told : (honest : Bool) (before after : ℕ) (why : JoinError) → IsErrorOver honest before after why → delivery_refusal why ≡ refuse.TapeFault → before < after
-fault_told honest before after join.NoMemory told e = cc
-fault_told honest before after join.OriginDisagrees told e = cc
-fault_told honest before after join.TapeFault told e = told
-fault_told honest before after join.TapeDamaged told e = cc
+-- what an error tells of the disk of tapes
+abbrev pub TellsOver : (honest : Bool) (before after : ℕ) → MergeError → Type 0
+TellsOver honest before after error = (given : SpillError) → error ≡ merge.Join (join.Spill given) → IsErrorOver honest before after given
 
-pub never_damaged : (honest : Bool) (before after : ℕ) (why : JoinError) → IsErrorOver honest before after why → IsTrue honest → delivery_refusal why ≡ refuse.TapeDamaged → ⊥
-never_damaged honest before after join.NoMemory told so e = cc
-never_damaged honest before after join.OriginDisagrees told so e = cc
-never_damaged honest before after join.TapeFault told so e = cc
-never_damaged honest before after join.TapeDamaged told so e = told so
+-- that of a batch which was not taken
+pub delivery_tells : (honest : Bool) (before after : ℕ) (why : JoinError) → ((given : SpillError) → why ≡ join.Spill given → IsErrorOver honest before after given) → TellsOver honest before after (merge.Join why)
+delivery_tells honest before after why told given same = told given cc
+
+-- what a refusal tells of the disk of tapes, from the error
+pub fault_told : (honest : Bool) (before after : ℕ) (error : MergeError) → TellsOver honest before after error → merge_refusal error ≡ tape_fault → before < after
+fault_told honest before after merge.DifferentQuery told e = cc
+fault_told honest before after (merge.Join join.OriginDisagrees) told e = cc
+fault_told honest before after (merge.Join (join.Spill spill.NoMemory)) told e = cc
+fault_told honest before after (merge.Join (join.Spill spill.TapeFault)) told e = told spill.TapeFault refl
+fault_told honest before after (merge.Join (join.Spill spill.TapeDamaged)) told e = cc
+
+pub never_damaged : (honest : Bool) (before after : ℕ) (error : MergeError) → TellsOver honest before after error → IsTrue honest → merge_refusal error ≡ tape_damaged → ⊥
+never_damaged honest before after merge.DifferentQuery told so e = cc
+never_damaged honest before after (merge.Join join.OriginDisagrees) told so e = cc
+never_damaged honest before after (merge.Join (join.Spill spill.NoMemory)) told so e = cc
+never_damaged honest before after (merge.Join (join.Spill spill.TapeFault)) told so e = cc
+never_damaged honest before after (merge.Join (join.Spill spill.TapeDamaged)) told so e = told spill.TapeDamaged refl so
 
 -- one that is of the batch isn't one of these
-pub not_of_batch : (why : JoinError) → IsOfBatch (delivery_refusal why) → ⊥
-not_of_batch join.NoMemory of = of
+pub not_of_batch : (why : JoinError) → IsOfBatch (merge_refusal (merge.Join why)) → ⊥
 not_of_batch join.OriginDisagrees of = of
-not_of_batch join.TapeFault of = of
-not_of_batch join.TapeDamaged of = of
+not_of_batch (join.Spill spill.NoMemory) of = of
+not_of_batch (join.Spill spill.TapeFault) of = of
+not_of_batch (join.Spill spill.TapeDamaged) of = of
 
 -- ---- replies that tell a fault of the disk
 
@@ -79,24 +93,20 @@ no_fault_in before after reply none low =
     omega (arith, zero, low)
 
 -- a refusal that tells one only where the disk failed
-pub fault_refused : (before after : ℕ) (refusal : Refusal) → before ≤ after → (refusal ≡ refuse.TapeFault → before < after) → before + faults_in (says.Refused refusal) ≤ after
-fault_refused before after refuse.TapeFault low fault = let high : before < after = fault refl in omega (arith, high)
-fault_refused before after refuse.NoMemory low fault = omega (arith, low)
-fault_refused before after refuse.BadSchema low fault = omega (arith, low)
-fault_refused before after refuse.LimitOutOfRange low fault = omega (arith, low)
-fault_refused before after (refuse.Query error) low fault = omega (arith, low)
-fault_refused before after (refuse.Batch error) low fault = omega (arith, low)
-fault_refused before after (refuse.Summary error) low fault = omega (arith, low)
-fault_refused before after refuse.DifferentQuery low fault = omega (arith, low)
-fault_refused before after refuse.OriginDisagrees low fault = omega (arith, low)
-fault_refused before after refuse.TapeDamaged low fault = omega (arith, low)
-fault_refused before after (refuse.Run error) low fault = omega (arith, low)
-fault_refused before after refuse.BadCommand low fault = omega (arith, low)
-fault_refused before after refuse.NoSuchName low fault = omega (arith, low)
-fault_refused before after refuse.NameTaken low fault = omega (arith, low)
+pub fault_refused : (before after : ℕ) (refusal : Refusal) → before ≤ after → (refusal ≡ tape_fault → before < after) → before + faults_in (says.Refused refusal) ≤ after
+fault_refused before after (refuse.Merge (merge.Join (join.Spill spill.TapeFault))) low fault = let high : before < after = fault refl in omega (arith, high)
+fault_refused before after refusal low fault = omega (arith, low)
 
 -- an answer that is refused
-pub spill_fault : (before after : ℕ) (error : SpillError) (refusal : Refusal) → refusal ≡ spill_refusal error → IsReadRefusal before after error → refusal ≡ refuse.TapeFault → before < after
+pub spill_fault : (before after : ℕ) (error : SpillError) (refusal : Refusal) → refusal ≡ merge_refusal (merge.Join (join.Spill error)) → IsReadRefusal before after error → refusal ≡ tape_fault → before < after
 spill_fault before after spill.NoMemory refusal is refused e = absurd (let f = sym is ∙ e in cc)
 spill_fault before after spill.TapeFault refusal is refused e = refused
 spill_fault before after spill.TapeDamaged refusal is refused e = absurd (let f = sym is ∙ e in cc)
+
+-- columns that are refused tell none
+pub row_tells : (error : RowError) → is_tape_fault (says.Refused (row_refusal error)) ≡ false
+row_tells row.NoMemory = refl
+row_tells row.BadSchema = refl
+row_tells (row.BadField column) = refl
+row_tells row.WrongWidth = refl
+row_tells row.BadPacked = refl

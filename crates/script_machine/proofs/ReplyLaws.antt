@@ -23,7 +23,8 @@ use Rattle.script_io.specs.Records.{Record}
 use Rattle.script_commands.specs.Commands as ask
 use Rattle.script_commands.specs.Commands.{Request}
 use Rattle.script_machine.specs.Machine as machine
-use Rattle.script_machine.specs.Machine.{State, Fed, IsBatch, IsNoBatch, batch_refusal, query_refusal, ColumnsReply, QueryReply, FeedReply, Replies}
+use Rattle.script_machine.specs.Machine.{State, Fed, IsBatch, ColumnsReply, QueryReply, FeedReply, Replies}
+use Rattle.script_machine.specs.Refusals.{batch_refusal, query_refusal}
 
 -- ---- batches
 

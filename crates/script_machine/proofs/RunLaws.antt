@@ -1,5 +1,5 @@
 -- How a run goes on from one command to the next.
-use Rattle.std.specs.Prelude.{◌≡◌, ◌≤◌, ◌+◌, refl, ℕ, if◌then◌else◌, List, [], ◌∷◌, ◌++◌, length, map, count_by, Option, Some, None, IfSome, IfErr, IsTrue, Result, Ok, Err, MatchResult}
+use Rattle.std.specs.Prelude.{◌≡◌, ◌≤◌, ◌+◌, refl, ℕ, if◌then◌else◌, List, [], ◌∷◌, ◌++◌, length, map, count_by, Option, Some, None, IfSome, IfErr, Result, Ok, Err, MatchResult}
 use Rattle.std.proofs.Common.{◌∙◌, ap, sym, subst, arith, append_assoc, inl}
 use Rattle.std.proofs.lemmas.List.{append-nil}
 use Rattle.std.proofs.lemmas.List.Sums.{sum_by-append}
@@ -16,7 +16,7 @@ use Rattle.script_io.proofs.OutputFacts.{front-first, front-second}
 use Rattle.script_commands.specs.Commands.{Command, request_of}
 use Rattle.script_machine.specs.Machine.{State, Reply, Refused, Run, StrictRun, MayReply, IsReply, Agrees, AgreesAt, start, after, is_refused, is_fault}
 use Rattle.script_machine.specs.Text.{reply_text, replies_text}
-use Rattle.script_machine.specs.Output.{Disk, AreFaultsOf, WritesAll, WritesFront, WritesBefore, WritesSome, StopsAt, commands_in, run_error}
+use Rattle.script_machine.specs.Output.{Disk, AreFaultsOf, WritesFront, WritesBefore, WritesSome, StopsAt, commands_in, run_error}
 use Rattle.script_machine.specs.Views.{Store, empty, Represents, FitsWorld, Steps, said_text, is_refusal, faults_in}
 use Rattle.script_machine.specs.declared.refusal.Refusal.TheVariants.{NoMemory}
 use Rattle.script_machine.specs.declared.error.RunError.{RunError}
@@ -169,17 +169,6 @@ ran_more disk later commands left old mid new refused more store next c reply ra
           (Appends-trans old mid new _ _ (ran.writes world front) (subst (Appends mid new) text wrote));
     }
 
-pub ran_all : (disk : Disk) (commands : List Command) (old new : Option (List ℕ)) (refused : ℕ) (store : Store) → Ran disk commands old new refused [] store → WritesAll disk commands old new refused
-ran_all disk commands old new refused store ran =
-    record {
-      replies = ran.replies;
-      runs = subst (λ cs. Run start cs ran.replies) (sym (ran.all ∙ append-nil ran.before)) ran.runs;
-      counts = ran.counts;
-      faults = ran.faults;
-      strict = λ world agrees. subst (λ cs. StrictRun start cs ran.replies) (sym (ran.all ∙ append-nil ran.before)) (ran.strict world (subst (λ cs. Agrees world start cs ran.replies) (ran.all ∙ append-nil ran.before) agrees));
-      writes = λ world agrees. ran.writes world (subst (λ cs. Agrees world start cs ran.replies) (ran.all ∙ append-nil ran.before) agrees);
-    }
-
 -- it stops with commands left
 pub ran_stop : (disk : Disk) (later : ℕ) → disk.failed_now ≤ later → (commands left : List Command) (old new : Option (List ℕ)) (refused : ℕ) (store : Store) → Ran disk commands old new refused left store → WritesBefore (record disk { failed_now = later }) commands old new
 ran_stop disk later low commands left old new refused store ran =
@@ -256,9 +245,3 @@ stops_read disk (Ok x) P a b old new script most short took ended h = tt
 stops_read disk (Err e) P None b old new script most short took ended h = tt
 stops_read disk (Err e) P (Some all) b old new script most short took ended h =
     subst (λ xs. StopsAt disk most xs old new e) (sym (consumes-all (Some all) b script took ended)) (stops_so disk most script old new e short h)
-
-pub done_read : {T : Type 0} (result : Result T RunError) (P : List ℕ → T → Type 0) (Q : RunError → Type 0) (a b : Option (List ℕ)) (script : List ℕ)
-    → Consumes a b script → IsAtEnd b → MatchResult result (P script) Q → (x : T) → result ≡ Ok x → IfSome a (λ xs. P xs x)
-done_read result P Q None b script took ended h x is = tt
-done_read result P Q (Some all) b script took ended h x is =
-    subst (λ xs. P xs x) (sym (consumes-all (Some all) b script took ended)) (subst (λ r. MatchResult r (P script) Q) is h)

@@ -29,13 +29,19 @@ use Rattle.script_commands.specs.Commands as ask
 use Rattle.script_commands.specs.Commands.{Request}
 use Rattle.table_print.specs.Table.{table_text}
 use Rattle.script_machine.specs.Machine as machine
-use Rattle.script_machine.specs.Machine.{State, Fed, IsBatch, IsNoBatch, ColumnsReply, IsNoQuery, QueryReply, limit_reply, replica_reply, FeedReply, known_reply, answer_reply, merge_reply, save_reply, load_reply, Replies, IsReply, IsDisagreement, AgreesAt, FeedAgrees, after, with_replica}
+use Rattle.script_machine.specs.Machine.{State, Fed, IsBatch, IsNoBatch, ColumnsReply, IsNoQuery, QueryReply, limit_reply, replica_reply, FeedReply, known_reply, answer_reply, merge_reply, save_reply, load_reply, Replies, IsReply, FeedAgrees, with_replica}
 use Rattle.script_machine.specs.Text.{line, known_text, answer_text}
 use Rattle.script_machine.specs.Views.{Store, IsStore, IsFileOf, AreSaved, IsFitting, Represents, FitsWorld, Answers, Steps, Takes, IsOfBatch, IsOtherBatch, JoinRefused, Updates, Files, replica_at, saved_at, knowledge_of, said_text}
 use Rattle.spill_lists.specs.declared.error.SpillError.{SpillError}
 use Rattle.spill_lists.specs.declared.error.SpillError.TheVariants as spill
 use Rattle.hash_agg.specs.declared.means.TheConstants.{LEAST_LIMIT, GREATEST_LIMIT}
-use Rattle.script_machine.specs.FileRefusals.{spill_refusal}
+use Rattle.packed_rows.specs.Refusal.{ParseFault}
+use Rattle.packed_rows.specs.declared.error.RowError.{RowError}
+use Rattle.packed_rows.specs.declared.error.RowError.TheVariants as row
+use Rattle.origin_prefix.specs.declared.error.JoinError.TheVariants as join
+use Rattle.replica_merge.specs.declared.error.MergeError.{MergeError}
+use Rattle.replica_merge.specs.declared.error.MergeError.TheVariants as merge
+use Rattle.script_machine.specs.Refusals.{limit_out_of_range, origin_disagrees, tape_fault, tape_damaged, row_refusal, merge_refusal}
 use Rattle.script_machine.specs.declared.refusal.Refusal.{Refusal}
 use Rattle.script_machine.specs.declared.refusal.Refusal.TheVariants as why
 use Rattle.script_machine.specs.declared.reply.Reply.TheVariants as says
@@ -195,19 +201,7 @@ refused request owned store refusal replies = refused_for request owned store st
 -- no memory, or another refusal
 memory_or : (refusal : Refusal) → (refusal ≡ why.NoMemory) ⊎ (refusal ≢ why.NoMemory)
 memory_or why.NoMemory = inl refl
-memory_or why.OriginDisagrees = inr (λ e. cc)
-memory_or why.BadSchema = inr (λ e. cc)
-memory_or why.LimitOutOfRange = inr (λ e. cc)
-memory_or why.TapeFault = inr (λ e. cc)
-memory_or why.TapeDamaged = inr (λ e. cc)
-memory_or (why.Query error) = inr (λ e. cc)
-memory_or (why.Batch error) = inr (λ e. cc)
-memory_or (why.Summary error) = inr (λ e. cc)
-memory_or why.DifferentQuery = inr (λ e. cc)
-memory_or (why.Run error) = inr (λ e. cc)
-memory_or why.BadCommand = inr (λ e. cc)
-memory_or why.NoSuchName = inr (λ e. cc)
-memory_or why.NameTaken = inr (λ e. cc)
+memory_or refusal = inr (λ e. cc)
 
 -- a refusal that may be for want of memory
 pub refused_or_memory : (request : Request) (owned : List Record) (old new : Store) (refusal : Refusal) → Same old new
@@ -234,11 +228,18 @@ columns_there store text owned there =
     go (Some columns) e = refl
     go None e = absurd (true≢false (sym e))
 
-pub no_schema : (store : Store) (text : List ℕ) (owned : List Record) → is_some store.columns ≡ false → ((columns : List Column) → ¬ (IsSchemaText text columns))
-    → Steps (ask.Columns text) owned store (says.Refused why.BadSchema) store
-no_schema store text owned none bad =
-    refused (ask.Columns text) owned store why.BadSchema
-    (λ state r. subst (λ cs. ColumnsReply cs text (machine.Refused why.BadSchema)) (sym (r.columns ∙ none_there store.columns none)) (refl, bad))
+pub no_schema : (store : Store) (text : List ℕ) (owned : List Record) (error : RowError) (refusal : Refusal) → is_some store.columns ≡ false → ParseFault text error → refusal ≡ row_refusal error
+    → Steps (ask.Columns text) owned store (says.Refused refusal) store
+no_schema store text owned error refusal none bad is = subst (λ w. Steps (ask.Columns text) owned store (says.Refused w) store) (sym is) (go error bad)
+  where
+    go : (error : RowError) → ParseFault text error → Steps (ask.Columns text) owned store (says.Refused (row_refusal error)) store
+    go row.NoMemory bad = out_of_memory (ask.Columns text) owned store
+    go row.BadSchema bad =
+        refused (ask.Columns text) owned store why.BadSchema
+        (λ state r. subst (λ cs. ColumnsReply cs text (machine.Refused why.BadSchema)) (sym (r.columns ∙ none_there store.columns none)) (refl, bad))
+    go (row.BadField column) bad = absurd bad
+    go row.WrongWidth bad = absurd bad
+    go row.BadPacked bad = absurd bad
 
 pub columns_told : (store : Store) (text : List ℕ) (owned : List Record) (columns : List Column) (count : ℕ) → is_some store.columns ≡ false
     → IsSchemaText text columns → count ≡ length columns → Steps (ask.Columns text) owned store (says.Columns count) (record store { columns = Some columns })
@@ -322,7 +323,7 @@ store_asked store columns query is told none over =
 pub limit_told : (store : Store) (bytes : ℕ) (owned : List Record) → LEAST_LIMIT ≤ bytes → bytes ≤ GREATEST_LIMIT
     → Steps (ask.Limit bytes) owned store (says.Limit bytes) (record store { limit = bytes })
 limit_told store bytes owned low high =
-    let reply : machine.Has_limit bytes ≡ limit_reply bytes = sym (ap (λ b. if b then machine.Has_limit bytes else machine.Refused why.LimitOutOfRange) within) in
+    let reply : machine.Has_limit bytes ≡ limit_reply bytes = sym (ap (λ b. if b then machine.Has_limit bytes else machine.Refused limit_out_of_range) within) in
     record {
       steps = λ state r. record {
         said = machine.Has_limit bytes;
@@ -340,10 +341,10 @@ limit_told store bytes owned low high =
     within = grind (arith, low, high)
 
 pub limit_refused : (store : Store) (bytes : ℕ) (owned : List Record) → (bytes < LEAST_LIMIT) ⊎ (GREATEST_LIMIT < bytes)
-    → Steps (ask.Limit bytes) owned store (says.Refused why.LimitOutOfRange) store
+    → Steps (ask.Limit bytes) owned store (says.Refused limit_out_of_range) store
 limit_refused store bytes owned beyond =
-    refused (ask.Limit bytes) owned store why.LimitOutOfRange
-    (λ state r. sym (ap (λ b. if b then machine.Has_limit bytes else machine.Refused why.LimitOutOfRange) (outside beyond)))
+    refused (ask.Limit bytes) owned store limit_out_of_range
+    (λ state r. sym (ap (λ b. if b then machine.Has_limit bytes else machine.Refused limit_out_of_range) (outside beyond)))
   where
     outside : (bytes < LEAST_LIMIT) ⊎ (GREATEST_LIMIT < bytes) → (nat_le LEAST_LIMIT bytes && nat_le bytes GREATEST_LIMIT) ≡ false
     outside (inl low) = grind (arith, low)
@@ -436,11 +437,11 @@ fed_of_world world state store name origin number told_rows owned held is there 
 
 -- a batch of another world
 pub feed_disagrees : (old new : Store) (name origin number : List ℕ) (told_rows : ℕ) (owned : List Record) (held : Held) → IsStore old → replica_at old name ≡ Some held → Same old new
-    → IsOtherBatch origin number told_rows owned held → Steps (ask.Feed name origin number told_rows) owned old (says.Refused why.OriginDisagrees) new
+    → IsOtherBatch origin number told_rows owned held → Steps (ask.Feed name origin number told_rows) owned old (says.Refused origin_disagrees) new
 feed_disagrees old new name origin number told_rows owned held is there s other =
     record {
       steps = λ state r. record {
-        said = machine.Refused why.OriginDisagrees;
+        said = machine.Refused origin_disagrees;
         may = inr (record {
           instead = machine.Took name other.fed (reply_of (told held.parts) (other.fed.origin, other.fed.number));
           would = subst (λ known. FeedReply (unwrap_or state.columns []) known name origin number told_rows owned (machine.Took name other.fed (reply_of (told held.parts) (other.fed.origin, other.fed.number)))) (sym (known_there state old name held r there))
@@ -458,21 +459,9 @@ feed_disagrees old new name origin number told_rows owned held is there s other 
       };
     }
 
-pub disagrees_or : (refusal : Refusal) → (refusal ≡ why.OriginDisagrees) ⊎ (refusal ≢ why.OriginDisagrees)
-disagrees_or why.OriginDisagrees = inl refl
-disagrees_or why.NoMemory = inr (λ e. cc)
-disagrees_or why.BadSchema = inr (λ e. cc)
-disagrees_or why.LimitOutOfRange = inr (λ e. cc)
-disagrees_or why.TapeFault = inr (λ e. cc)
-disagrees_or why.TapeDamaged = inr (λ e. cc)
-disagrees_or (why.Query error) = inr (λ e. cc)
-disagrees_or (why.Batch error) = inr (λ e. cc)
-disagrees_or (why.Summary error) = inr (λ e. cc)
-disagrees_or why.DifferentQuery = inr (λ e. cc)
-disagrees_or (why.Run error) = inr (λ e. cc)
-disagrees_or why.BadCommand = inr (λ e. cc)
-disagrees_or why.NoSuchName = inr (λ e. cc)
-disagrees_or why.NameTaken = inr (λ e. cc)
+pub disagrees_or : (refusal : Refusal) → (refusal ≡ origin_disagrees) ⊎ (refusal ≢ origin_disagrees)
+disagrees_or (why.Merge (merge.Join join.OriginDisagrees)) = inl refl
+disagrees_or refusal = inr (λ e. cc)
 
 pub feed_nowhere : (store : Store) (name origin number : List ℕ) (told_rows : ℕ) (owned : List Record) → replica_at store name ≡ None
     → Steps (ask.Feed name origin number told_rows) owned store (says.Refused why.NoSuchName) store
@@ -482,7 +471,7 @@ feed_nowhere store name origin number told_rows owned none =
     (sym (known_nowhere state store name r none)) refl)
 
 pub feed_refused : (old new : Store) (name origin number : List ℕ) (told_rows : ℕ) (owned : List Record) (held : Held) (refusal : Refusal) → IsStore old
-    → replica_at old name ≡ Some held → Same old new → refusal ≢ why.OriginDisagrees → refusal ≢ why.TapeDamaged → (IsOfBatch refusal → IsNoBatch (kinds held.query.columns) origin number told_rows owned refusal)
+    → replica_at old name ≡ Some held → Same old new → refusal ≢ origin_disagrees → refusal ≢ tape_damaged → (IsOfBatch refusal → IsNoBatch (kinds held.query.columns) origin number told_rows owned refusal)
     → Steps (ask.Feed name origin number told_rows) owned old (says.Refused refusal) new
 feed_refused old new name origin number told_rows owned held refusal is there s agreed undamaged bad =
     refused_for (ask.Feed name origin number told_rows) owned old new refusal s (λ state r. go state r refusal agreed undamaged bad)
@@ -493,22 +482,13 @@ feed_refused old new name origin number told_rows owned held refusal is there s 
         inr (subst (λ known. FeedReply (unwrap_or state.columns []) known name origin number told_rows owned (machine.Refused refusal)) (sym (known_there state old name held r there))
         (subst (λ cs. IsNoBatch (kinds cs) origin number told_rows owned refusal) (sym (feed_columns state old name held r is there)) bad))
 
-    go : (state : State) → Represents state old → (refusal : Refusal) → refusal ≢ why.OriginDisagrees → refusal ≢ why.TapeDamaged → (IsOfBatch refusal → IsNoBatch (kinds held.query.columns) origin number told_rows owned refusal)
+    go : (state : State) → Represents state old → (refusal : Refusal) → refusal ≢ origin_disagrees → refusal ≢ tape_damaged → (IsOfBatch refusal → IsNoBatch (kinds held.query.columns) origin number told_rows owned refusal)
         → IsReply state (ask.Feed name origin number told_rows) owned (machine.Refused refusal)
     go state r why.NoMemory agreed undamaged bad = inl (inl refl)
-    go state r why.TapeFault agreed undamaged bad = inl (inr (refl, refl))
-    go state r why.OriginDisagrees agreed undamaged bad = absurd (agreed refl)
-    go state r why.TapeDamaged agreed undamaged bad = absurd (undamaged refl)
-    go state r why.BadSchema agreed undamaged bad = of_batch state r why.BadSchema (bad tt)
-    go state r why.LimitOutOfRange agreed undamaged bad = of_batch state r why.LimitOutOfRange (bad tt)
-    go state r (why.Query error) agreed undamaged bad = of_batch state r (why.Query error) (bad tt)
-    go state r (why.Batch error) agreed undamaged bad = of_batch state r (why.Batch error) (bad tt)
-    go state r (why.Summary error) agreed undamaged bad = of_batch state r (why.Summary error) (bad tt)
-    go state r why.DifferentQuery agreed undamaged bad = of_batch state r why.DifferentQuery (bad tt)
-    go state r (why.Run error) agreed undamaged bad = of_batch state r (why.Run error) (bad tt)
-    go state r why.BadCommand agreed undamaged bad = of_batch state r why.BadCommand (bad tt)
-    go state r why.NoSuchName agreed undamaged bad = of_batch state r why.NoSuchName (bad tt)
-    go state r why.NameTaken agreed undamaged bad = of_batch state r why.NameTaken (bad tt)
+    go state r (why.Merge (merge.Join (join.Spill spill.TapeFault))) agreed undamaged bad = inl (inr (refl, refl))
+    go state r (why.Merge (merge.Join join.OriginDisagrees)) agreed undamaged bad = absurd (agreed refl)
+    go state r (why.Merge (merge.Join (join.Spill spill.TapeDamaged))) agreed undamaged bad = absurd (undamaged refl)
+    go state r refusal agreed undamaged bad = of_batch state r refusal (bad tt)
 
 pub feed_took : (old new : Store) (name origin number : List ℕ) (told_rows : ℕ) (owned : List Record) (held later : Held) (delivered : Delivered) → IsStore old
     → replica_at old name ≡ Some held → Takes true origin number told_rows owned held later delivered → Updates old new name later
@@ -545,7 +525,7 @@ known_nowhere_at store name owned none =
     refused (ask.Known name) owned store why.NoSuchName (λ state r. sym (ap known_reply (known_nowhere state store name r none)))
 
 pub known_listed : (store : Store) (name : List ℕ) (owned : List Record) (held : Held) (lines : Vec ℕ Global) → replica_at store name ≡ Some held
-    → lines.items ≡ known_text (known_list (told held.parts)) → Steps (ask.Known name) owned store (says.Known lines) store
+    → lines.items ≡ known_text (known_list (told held.parts)) → Steps (ask.Known name) owned store (says.Listed lines) store
 known_listed store name owned held lines there shown =
     record {
       steps = λ state r. record {
@@ -592,12 +572,13 @@ answered store name owned held rows table is there shown =
     }
 
 -- an answer for which memory was wanting, or the disk of tapes failed
-pub answer_refused : (store : Store) (name : List ℕ) (owned : List Record) (error : SpillError) (refusal : Refusal) → refusal ≡ spill_refusal error → error ≢ spill.TapeDamaged → Steps (ask.Answer name) owned store (says.Refused refusal) store
+pub answer_refused : (store : Store) (name : List ℕ) (owned : List Record) (error : SpillError) (refusal : Refusal) → refusal ≡ merge_refusal (merge.Join (join.Spill error)) → error ≢ spill.TapeDamaged
+    → Steps (ask.Answer name) owned store (says.Refused refusal) store
 answer_refused store name owned error refusal is undamaged = subst (λ w. Steps (ask.Answer name) owned store (says.Refused w) store) (sym is) (go error undamaged)
   where
-    go : (error : SpillError) → error ≢ spill.TapeDamaged → Steps (ask.Answer name) owned store (says.Refused (spill_refusal error)) store
+    go : (error : SpillError) → error ≢ spill.TapeDamaged → Steps (ask.Answer name) owned store (says.Refused (merge_refusal (merge.Join (join.Spill error)))) store
     go spill.NoMemory undamaged = out_of_memory (ask.Answer name) owned store
-    go spill.TapeFault undamaged = refused_for (ask.Answer name) owned store store why.TapeFault (same store) (λ state r. inl (inr (refl, refl)))
+    go spill.TapeFault undamaged = refused_for (ask.Answer name) owned store store tape_fault (same store) (λ state r. inl (inr (refl, refl)))
     go spill.TapeDamaged undamaged = absurd (undamaged refl)
 
 -- ---- merging
@@ -615,7 +596,7 @@ merge_nowhere store into from owned none =
     go state r (inl e) = sym (ap (λ known. merge_reply known (state.replicas from) into from) (known_nowhere state store into r e))
     go state r (inr e) = second (state.replicas into) ∙ sym (ap (λ known. merge_reply (state.replicas into) known into from) (known_nowhere state store from r e))
 
-pub merge_refused : (store : Store) (into from : List ℕ) (owned : List Record) (refusal : Refusal) → JoinRefused (replica_at store into) (replica_at store from) refusal → refusal ≢ why.TapeDamaged
+pub merge_refused : (store : Store) (into from : List ℕ) (owned : List Record) (refusal : Refusal) → JoinRefused (replica_at store into) (replica_at store from) refusal → refusal ≢ tape_damaged
     → Steps (ask.Merge into from) owned store (says.Refused refusal) store
 merge_refused store into from owned refusal refused_is undamaged = go (replica_at store into) (replica_at store from) refl refl refusal undamaged refused_is
   where
@@ -623,17 +604,16 @@ merge_refused store into from owned refusal refused_is undamaged = go (replica_a
         → machine.Merged into from ≡ merge_reply (state.replicas into) (state.replicas from) into from
     both own theirs one two state r = sym (λ i. merge_reply (known_there state store into own r one i) (known_there state store from theirs r two i) into from)
 
-    go : (own theirs : Option Held) → replica_at store into ≡ own → replica_at store from ≡ theirs → (refusal : Refusal) → refusal ≢ why.TapeDamaged → JoinRefused own theirs refusal → Steps (ask.Merge into from) owned store (says.Refused refusal) store
+    go : (own theirs : Option Held) → replica_at store into ≡ own → replica_at store from ≡ theirs → (refusal : Refusal) → refusal ≢ tape_damaged → JoinRefused own theirs refusal → Steps (ask.Merge into from) owned store (says.Refused refusal) store
     go None theirs one two refusal undamaged is = subst (λ w. Steps (ask.Merge into from) owned store (says.Refused w) store) (sym is) (merge_nowhere store into from owned (inl one))
     go (Some own) None one two refusal undamaged is = subst (λ w. Steps (ask.Merge into from) owned store (says.Refused w) store) (sym is) (merge_nowhere store into from owned (inr two))
     go (Some own) (Some theirs) one two why.NoMemory undamaged is = out_of_memory (ask.Merge into from) owned store
-    go (Some own) (Some theirs) one two why.TapeFault undamaged is = refused_for (ask.Merge into from) owned store store why.TapeFault (same store) (λ state r. inl (inr (refl, refl)))
-    go (Some own) (Some theirs) one two why.TapeDamaged undamaged is = absurd (undamaged refl)
-    go (Some own) (Some theirs) one two why.LimitOutOfRange undamaged is = absurd is
-    go (Some own) (Some theirs) one two why.OriginDisagrees undamaged never =
+    go (Some own) (Some theirs) one two (why.Merge (merge.Join (join.Spill spill.TapeFault))) undamaged is = refused_for (ask.Merge into from) owned store store tape_fault (same store) (λ state r. inl (inr (refl, refl)))
+    go (Some own) (Some theirs) one two (why.Merge (merge.Join (join.Spill spill.TapeDamaged))) undamaged is = absurd (undamaged refl)
+    go (Some own) (Some theirs) one two (why.Merge (merge.Join join.OriginDisagrees)) undamaged never =
         record {
           steps = λ state r. record {
-            said = machine.Refused why.OriginDisagrees;
+            said = machine.Refused origin_disagrees;
             may = inr (record { instead = machine.Merged into from; would = both own theirs one two state r; takes = refl; refused = refl });
             strict = λ world f agrees.
                 absurd (never world (subst (λ o. IfSome o (Fits world)) one (f.fit into)) (subst (λ o. IfSome o (Fits world)) two (f.fit from)));
@@ -644,15 +624,7 @@ merge_refused store into from owned refusal refused_is undamaged = go (replica_a
             text = λ world f agrees. refl;
           };
         }
-    go (Some own) (Some theirs) one two why.BadSchema undamaged is = absurd is
-    go (Some own) (Some theirs) one two (why.Query error) undamaged is = absurd is
-    go (Some own) (Some theirs) one two (why.Batch error) undamaged is = absurd is
-    go (Some own) (Some theirs) one two (why.Summary error) undamaged is = absurd is
-    go (Some own) (Some theirs) one two why.DifferentQuery undamaged is = absurd is
-    go (Some own) (Some theirs) one two (why.Run error) undamaged is = absurd is
-    go (Some own) (Some theirs) one two why.BadCommand undamaged is = absurd is
-    go (Some own) (Some theirs) one two why.NoSuchName undamaged is = absurd is
-    go (Some own) (Some theirs) one two why.NameTaken undamaged is = absurd is
+    go (Some own) (Some theirs) one two refusal undamaged is = absurd is
 
 pub merged : (old new : Store) (into from : List ℕ) (owned : List Record) (own theirs later : Held) → IsStore old → replica_at old into ≡ Some own → replica_at old from ≡ Some theirs
     → told later.parts ≡ union (told own.parts) (told theirs.parts)
@@ -691,6 +663,23 @@ one_query store into from own theirs is one two =
 
 pub same_texts : (a b : Checked) → a ≡ b → SameQuery a b
 same_texts a b same = (ap (λ (q : Checked). printed q.columns) same, ap (λ (q : Checked). spelling (by_names q)) same)
+
+-- why two replicas are not joined, from the error
+pub join_refused : (store : Store) (into from : List ℕ) (own theirs : Held) (error : MergeError) (refusal : Refusal) → IsStore store → replica_at store into ≡ Some own → replica_at store from ≡ Some theirs
+    → (error ≡ merge.DifferentQuery → ¬ (SameQuery own.query theirs.query)) → (error ≡ merge.Join join.OriginDisagrees → (world : World) → Fits world own → ¬ (Fits world theirs)) → refusal ≡ merge_refusal error
+    → JoinRefused (replica_at store into) (replica_at store from) refusal
+join_refused store into from own theirs error refusal is one two different never told =
+    subst (λ o. JoinRefused o (replica_at store from) refusal) (sym one)
+    (subst (λ o. JoinRefused (Some own) o refusal) (sym two)
+    (subst (JoinRefused (Some own) (Some theirs)) (sym told) (go error different never)))
+  where
+    go : (error : MergeError) → (error ≡ merge.DifferentQuery → ¬ (SameQuery own.query theirs.query)) → (error ≡ merge.Join join.OriginDisagrees → (world : World) → Fits world own → ¬ (Fits world theirs))
+        → JoinRefused (Some own) (Some theirs) (merge_refusal error)
+    go merge.DifferentQuery different never = absurd (different refl (same_texts own.query theirs.query (one_query store into from own theirs is one two)))
+    go (merge.Join join.OriginDisagrees) different never = never refl
+    go (merge.Join (join.Spill spill.NoMemory)) different never = tt
+    go (merge.Join (join.Spill spill.TapeFault)) different never = tt
+    go (merge.Join (join.Spill spill.TapeDamaged)) different never = tt
 
 -- what is there is one
 pub one_there : {o : Option Held} (a b : Held) → o ≡ Some a → o ≡ Some b → a ≡ b

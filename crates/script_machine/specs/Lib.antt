@@ -1,5 +1,5 @@
+pub mod Refusals
 pub mod Machine
-pub mod FileRefusals
 pub mod Text
 pub mod Output
 pub mod Views

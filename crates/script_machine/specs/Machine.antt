@@ -10,21 +10,17 @@ use Rattle.packed_rows.specs.Columns.{Column, kinds, IsSchemaText}
 use Rattle.having_filter.specs.Meaning.{Checked}
 use Rattle.group_parser.specs.Parsing.{Accepts, Refuses}
 use Rattle.group_parser.specs.declared.error.ParseError.{ParseError}
-use Rattle.group_parser.specs.declared.error.ParseError.TheVariants as parse
 use Rattle.batch_reader.specs.Head.{ReadsOrigin, ReadsBatchNumber}
 use Rattle.batch_reader.specs.Rows.{ReadsRows}
 use Rattle.batch_reader.specs.Refusal.{BuildFault}
 use Rattle.batch_reader.specs.declared.error.BatchError.{BatchError}
 use Rattle.batch_reader.specs.declared.error.BatchError.TheVariants as batch
-use Rattle.origin_prefix.specs.declared.error.JoinError.{JoinError}
-use Rattle.origin_prefix.specs.declared.error.JoinError.TheVariants as join
 use Rattle.hash_agg.specs.declared.means.TheConstants.{LEAST_LIMIT, GREATEST_LIMIT, USUAL_LIMIT}
 use Rattle.script_io.specs.Records.{Record}
 use Rattle.script_commands.specs.Commands.{Command, Request, Columns, Query, Limit, Replica, Feed, Known, Answer, Merge, Save, Load, Unknown, request_of}
 use Rattle.script_machine.specs.declared.refusal.Refusal.{Refusal}
-use Rattle.having_filter.specs.declared.error.QueryError.TheVariants as checks
-use Rattle.script_machine.specs.declared.refusal.Refusal.TheVariants as refuse
-use Rattle.script_machine.specs.declared.refusal.Refusal.TheVariants.{NoMemory, BadSchema, LimitOutOfRange, Batch, OriginDisagrees, TapeFault, TapeDamaged, BadCommand, NoSuchName, NameTaken}
+use Rattle.script_machine.specs.declared.refusal.Refusal.TheVariants.{NoMemory, BadSchema, BadCommand, NoSuchName, NameTaken}
+use Rattle.script_machine.specs.Refusals.{limit_out_of_range, origin_disagrees, tape_fault, tells_fault, batch_refusal, query_refusal}
 
 -- what is there: the columns and the query, once they were told, what each replica knows, by its name, what was saved, by the name
 -- that it was given, and the limit of aggregations
@@ -78,11 +74,6 @@ pub record IsBatch (kinds : List Kind) (origin number : List ℕ) (told : ℕ) (
   pub whole : length owned ≡ told
   pub rows_are : ReadsRows kinds owned fed.rows
 
--- the refusal of a batch
-abbrev pub batch_refusal : BatchError → Refusal
-batch_refusal batch.NoMemory = NoMemory
-batch_refusal error = Batch error
-
 -- why a feed is no batch of these columns: the first refusal of a batch that applies
 pub record IsNoBatch (kinds : List Kind) (origin number : List ℕ) (told : ℕ) (owned : List Record) (why : Refusal) : Type 0 where
   pub error : BatchError
@@ -90,24 +81,12 @@ pub record IsNoBatch (kinds : List Kind) (origin number : List ℕ) (told : ℕ)
   pub fault : BuildFault kinds origin number told owned error
   pub named : why ≡ batch_refusal error
 
--- the refusal of a batch that a replica does not take
-abbrev pub delivery_refusal : JoinError → Refusal
-delivery_refusal join.NoMemory = NoMemory
-delivery_refusal join.OriginDisagrees = OriginDisagrees
-delivery_refusal join.TapeFault = TapeFault
-delivery_refusal join.TapeDamaged = TapeDamaged
-
 -- the reply to a schema's text: columns are told once
 abbrev pub ColumnsReply : Option (List Column) → List ℕ → Reply → Type 0
 ColumnsReply (Some columns) text reply = reply ≡ Refused BadCommand
 ColumnsReply None text (Has_columns columns) = IsSchemaText text columns
 ColumnsReply None text (Refused why) = (why ≡ BadSchema) × ((columns : List Column) → ¬ (IsSchemaText text columns))
 ColumnsReply None text reply = ⊥
-
--- the refusal of a query's text
-abbrev pub query_refusal : ParseError → Refusal
-query_refusal (parse.Query checks.NoMemory) = NoMemory
-query_refusal error = refuse.Query error
 
 -- why a text is no query over these columns: its first fault
 pub record IsNoQuery (columns : List Column) (text : List ℕ) (why : Refusal) : Type 0 where
@@ -125,7 +104,7 @@ QueryReply (Some columns) None text reply = ⊥
 
 -- the reply to a limit
 abbrev pub limit_reply : ℕ → Reply
-limit_reply bytes = if nat_le LEAST_LIMIT bytes && nat_le bytes GREATEST_LIMIT then Has_limit bytes else Refused LimitOutOfRange
+limit_reply bytes = if nat_le LEAST_LIMIT bytes && nat_le bytes GREATEST_LIMIT then Has_limit bytes else Refused limit_out_of_range
 
 -- the reply to a new name: replicas come after the query
 abbrev pub replica_reply : Option Checked → Option Knowledge → List ℕ → Reply
@@ -189,7 +168,7 @@ uses_tapes request = false
 
 -- a command is refused for want of memory, or since the disk of tapes failed
 abbrev pub IsRefusedStep : Request → Reply → Type 0
-IsRefusedStep request reply = (reply ≡ Refused NoMemory) ⊎ (IsTrue (uses_tapes request) × (reply ≡ Refused TapeFault))
+IsRefusedStep request reply = (reply ≡ Refused NoMemory) ⊎ (IsTrue (uses_tapes request) × (reply ≡ Refused tape_fault))
 
 -- how a command may be answered: in its one way, or by such a refusal
 abbrev pub IsReply : State → Request → List Record → Reply → Type 0
@@ -206,7 +185,7 @@ pub record IsDisagreement (old : State) (request : Request) (owned : List Record
   pub instead : Reply
   pub would : Replies old request owned instead
   pub takes : takes_batches instead ≡ true
-  pub refused : reply ≡ Refused OriginDisagrees
+  pub refused : reply ≡ Refused origin_disagrees
 
 -- the same where origins need not keep to one batch a number
 abbrev pub MayReply : State → Command → Reply → Type 0
@@ -242,7 +221,7 @@ is_refused reply = false
 
 -- whether a reply tells that the disk of tapes failed
 abbrev pub is_fault : Reply → Bool
-is_fault (Refused TapeFault) = true
+is_fault (Refused why) = tells_fault why
 is_fault reply = false
 
 -- the same, each in its one way, or refused for want of memory or by the disk of tapes

@@ -15,9 +15,13 @@ use Rattle.summary_codec.specs.Reading.{IsSummary}
 use Rattle.script_io.specs.Records.{Record}
 use Rattle.script_commands.specs.Commands.{Request}
 use Rattle.script_machine.specs.Machine as machine
-use Rattle.script_machine.specs.Machine.{State, Fed, IsBatch, IsNoBatch, IsReply, IsDisagreement, AgreesAt, after}
+use Rattle.script_machine.specs.Machine.{State, Fed, IsBatch, IsReply, IsDisagreement, AgreesAt, after}
 use Rattle.script_machine.specs.Text.{line, delivered_text, refusal_name, answer_text, reply_text}
-use Rattle.script_machine.specs.declared.refusal.Refusal.TheVariants.{NoMemory, OriginDisagrees, TapeFault, TapeDamaged, NoSuchName}
+use Rattle.spill_lists.specs.declared.error.SpillError.TheVariants as spill
+use Rattle.origin_prefix.specs.declared.error.JoinError.TheVariants as join
+use Rattle.replica_merge.specs.declared.error.MergeError.TheVariants as merge
+use Rattle.script_machine.specs.declared.refusal.Refusal.TheVariants.{NoMemory, Merge, NoSuchName}
+use Rattle.script_machine.specs.Refusals.{tells_fault}
 use Rattle.script_machine.specs.declared.refusal.Refusal.{Refusal}
 use Rattle.script_machine.specs.declared.reply.Reply.{Reply}
 use Rattle.script_machine.specs.declared.reply.Reply.TheVariants as says
@@ -32,7 +36,7 @@ said_text (says.Delivered delivered) = delivered_text delivered
 said_text says.Merged = line (codes "merged") []
 said_text (says.Saved count) = line (codes "saved ") (decimal count)
 said_text says.Loaded = line (codes "loaded") []
-said_text (says.Known lines) = lines.items
+said_text (says.Listed lines) = lines.items
 said_text (says.Answer rows table) = answer_text rows table.items
 said_text (says.Refused why) = line (codes "refused ") (refusal_name why)
 
@@ -42,7 +46,7 @@ is_refusal reply = false
 
 -- whether a reply tells that the disk of tapes failed, and how often it does
 abbrev pub is_tape_fault : Reply → Bool
-is_tape_fault (says.Refused TapeFault) = true
+is_tape_fault (says.Refused why) = tells_fault why
 is_tape_fault reply = false
 
 abbrev pub faults_in : Reply → ℕ
@@ -161,9 +165,9 @@ pub record Takes (honest : Bool) (origin number : List ℕ) (told_rows : ℕ) (o
 -- a refusal that is of the batch itself
 abbrev pub IsOfBatch : Refusal → Type 0
 IsOfBatch NoMemory = ⊥
-IsOfBatch OriginDisagrees = ⊥
-IsOfBatch TapeFault = ⊥
-IsOfBatch TapeDamaged = ⊥
+IsOfBatch (Merge (merge.Join join.OriginDisagrees)) = ⊥
+IsOfBatch (Merge (merge.Join (join.Spill spill.TapeFault))) = ⊥
+IsOfBatch (Merge (merge.Join (join.Spill spill.TapeDamaged))) = ⊥
 IsOfBatch why = Unit {0}
 
 -- a batch that was fed disagrees with what a replica holds: no world that this fits has the batch
@@ -179,9 +183,9 @@ pub record JoinsHeld (honest : Bool) (own theirs : Held) (joined : Parts) : Type
 
 abbrev pub JoinRefused : Option Held → Option Held → Refusal → Type 0
 JoinRefused (Some own) (Some theirs) NoMemory = Unit {0}
-JoinRefused (Some own) (Some theirs) TapeFault = Unit {0}
-JoinRefused (Some own) (Some theirs) TapeDamaged = Unit {0}
-JoinRefused (Some own) (Some theirs) OriginDisagrees = (world : World) → Fits world own → ¬ (Fits world theirs)
+JoinRefused (Some own) (Some theirs) (Merge (merge.Join (join.Spill spill.TapeFault))) = Unit {0}
+JoinRefused (Some own) (Some theirs) (Merge (merge.Join (join.Spill spill.TapeDamaged))) = Unit {0}
+JoinRefused (Some own) (Some theirs) (Merge (merge.Join join.OriginDisagrees)) = (world : World) → Fits world own → ¬ (Fits world theirs)
 JoinRefused (Some own) (Some theirs) why = ⊥
 JoinRefused own theirs why = why ≡ NoSuchName
 

@@ -88,7 +88,7 @@ pub fn put_reply<W: Write>(writer: &mut W, reply: &Reply<'_>) -> Result<(), Writ
         Reply::Merged => put_line(writer, b"merged", b""),
         Reply::Saved(count) => put_count(writer, b"saved ", *count),
         Reply::Loaded => put_line(writer, b"loaded", b""),
-        Reply::Known(lines) => put_all(writer, lines),
+        Reply::Listed(lines) => put_all(writer, lines),
         Reply::Answer { rows, table } => put_answer(writer, *rows, table),
         Reply::Refused(why) => put_line(writer, b"refused ", name(*why).as_bytes()),
     }

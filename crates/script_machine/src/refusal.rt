@@ -1,16 +1,18 @@
 //! Why a command, or a whole script, is refused.
 
 ghost use Rattle.std.specs.Prelude.{◌≡◌};
-ghost use Rattle.script_machine.specs.Machine.{batch_refusal, delivery_refusal, query_refusal};
-ghost use Rattle.script_machine.specs.FileRefusals.{summary_refusal, merge_refusal, spill_refusal};
-ghost use Rattle.script_machine.specs.Text.{refusal_name, query_name, parse_name, batch_name, summary_name, run_name};
-ghost use Rattle.script_machine.specs.declared.refusal.Refusal.TheVariants.{NoMemory, LimitOutOfRange};
+ghost use Rattle.origin_prefix.specs.declared.error.JoinError.TheVariants as join;
+ghost use Rattle.replica_merge.specs.declared.error.MergeError.TheVariants as merge;
+ghost use Rattle.script_machine.specs.Refusals.{row_refusal, batch_refusal, query_refusal, summary_refusal, merge_refusal};
+ghost use Rattle.script_machine.specs.Text.{refusal_name, query_name, parse_name, batch_name, summary_name, spill_name, join_name, merge_name, run_name};
+ghost use Rattle.script_machine.specs.declared.refusal.Refusal.TheVariants.{NoMemory, Limit};
 
 use crate::error::RunError;
 use batch_reader::BatchError;
 use group_parser::ParseError;
 use hash_agg::{LimitOutOfRange, SpillError};
 use having_filter::QueryError;
+use packed_rows::RowError;
 use replica_merge::{JoinError, MergeError, SummaryError};
 use std::alloc::AllocError;
 use thiserror::Error;
@@ -26,8 +28,8 @@ pub enum Refusal {
     #[error("the text describes no columns")]
     BadSchema,
     /// A limit is less than 65,536 bytes, or more than 1,099,511,627,776.
-    #[error("a limit is 65,536 to 1,099,511,627,776 bytes")]
-    LimitOutOfRange,
+    #[error(transparent)]
+    Limit(LimitOutOfRange),
     /// The text is that of no query over the columns.
     #[error(transparent)]
     Query(ParseError),
@@ -37,18 +39,10 @@ pub enum Refusal {
     /// The bytes are those of no summary file.
     #[error(transparent)]
     Summary(SummaryError),
-    /// A replica answers another query, or has another schema.
-    #[error("the replicas answer different queries")]
-    DifferentQuery,
-    /// One number of an origin has two different batches, or equal prefixes of an origin have different groups.
-    #[error("one number of an origin has two different batches")]
-    OriginDisagrees,
-    /// The disk of tapes failed.
-    #[error("the tape disk failed")]
-    TapeFault,
-    /// The disk of tapes gave back what was not written to it.
-    #[error("the tape is damaged")]
-    TapeDamaged,
+    /// A replica does not take in another or a batch, or does not answer: it has another query, one number of an origin has two
+    /// different batches, or the disk of tapes failed.
+    #[error(transparent)]
+    Merge(MergeError),
     /// The run stopped before the end of its script.
     #[error(transparent)]
     Run(RunError),
@@ -122,6 +116,37 @@ fn summary_name(error: SummaryError) -> &'static str
     }
 }
 
+/// The name of why an aggregation stopped.
+fn spill_name(error: SpillError) -> &'static str
+    ensures { result.now ≡ spill_name error }
+{
+    match error {
+        SpillError::NoMemory => "NoMemory",
+        SpillError::TapeFault => "TapeFault",
+        SpillError::TapeDamaged => "TapeDamaged",
+    }
+}
+
+/// The name of why a batch or what is held of an origin is not taken.
+fn join_name(error: JoinError) -> &'static str
+    ensures { result.now ≡ join_name error }
+{
+    match error {
+        JoinError::OriginDisagrees => "OriginDisagrees",
+        JoinError::Spill(error) => spill_name(error),
+    }
+}
+
+/// The name of why a replica is not taken in.
+fn merge_name(error: MergeError) -> &'static str
+    ensures { result.now ≡ merge_name error }
+{
+    match error {
+        MergeError::DifferentQuery => "DifferentQuery",
+        MergeError::Join(error) => join_name(error),
+    }
+}
+
 /// The name of what stopped a run.
 fn run_name(error: RunError) -> &'static str
     ensures { result.now ≡ run_name error }
@@ -141,14 +166,11 @@ pub fn name(refusal: Refusal) -> &'static str
     match refusal {
         Refusal::NoMemory => "NoMemory",
         Refusal::BadSchema => "BadSchema",
-        Refusal::LimitOutOfRange => "LimitOutOfRange",
+        Refusal::Limit(_) => "LimitOutOfRange",
         Refusal::Query(error) => parse_name(error),
         Refusal::Batch(error) => batch_name(error),
         Refusal::Summary(error) => summary_name(error),
-        Refusal::DifferentQuery => "DifferentQuery",
-        Refusal::OriginDisagrees => "OriginDisagrees",
-        Refusal::TapeFault => "TapeFault",
-        Refusal::TapeDamaged => "TapeDamaged",
+        Refusal::Merge(error) => merge_name(error),
         Refusal::Run(error) => run_name(error),
         Refusal::BadCommand => "BadCommand",
         Refusal::NoSuchName => "NoSuchName",
@@ -161,6 +183,20 @@ impl From<AllocError> for Refusal {
 
     fn from(_error: AllocError) -> Refusal {
         Refusal::NoMemory
+    }
+}
+
+impl From<RowError> for Refusal {
+    ghost from_gives = { λ error refusal. refusal ≡ row_refusal error };
+
+    fn from(error: RowError) -> Refusal {
+        match error {
+            RowError::NoMemory => Refusal::NoMemory,
+            RowError::BadSchema => Refusal::BadSchema,
+            RowError::BadField { column } => Refusal::Batch(BatchError::BadField { column }),
+            RowError::WrongWidth => Refusal::Batch(BatchError::WrongWidth),
+            RowError::BadPacked => Refusal::Summary(SummaryError::BadPacked),
+        }
     }
 }
 
@@ -186,19 +222,6 @@ impl From<ParseError> for Refusal {
     }
 }
 
-impl From<JoinError> for Refusal {
-    ghost from_gives = { λ error refusal. refusal ≡ delivery_refusal error };
-
-    fn from(error: JoinError) -> Refusal {
-        match error {
-            JoinError::NoMemory => Refusal::NoMemory,
-            JoinError::OriginDisagrees => Refusal::OriginDisagrees,
-            JoinError::TapeFault => Refusal::TapeFault,
-            JoinError::TapeDamaged => Refusal::TapeDamaged,
-        }
-    }
-}
-
 impl From<SummaryError> for Refusal {
     ghost from_gives = { λ error refusal. refusal ≡ summary_refusal error };
 
@@ -215,31 +238,32 @@ impl From<MergeError> for Refusal {
 
     fn from(error: MergeError) -> Refusal {
         match error {
-            MergeError::NoMemory => Refusal::NoMemory,
-            MergeError::DifferentQuery => Refusal::DifferentQuery,
-            MergeError::OriginDisagrees => Refusal::OriginDisagrees,
-            MergeError::TapeFault => Refusal::TapeFault,
-            MergeError::TapeDamaged => Refusal::TapeDamaged,
+            MergeError::Join(JoinError::Spill(SpillError::NoMemory)) => Refusal::NoMemory,
+            error => Refusal::Merge(error),
         }
+    }
+}
+
+impl From<JoinError> for Refusal {
+    ghost from_gives = { λ error refusal. refusal ≡ merge_refusal (merge.Join error) };
+
+    fn from(error: JoinError) -> Refusal {
+        Refusal::from(MergeError::Join(error))
     }
 }
 
 impl From<SpillError> for Refusal {
-    ghost from_gives = { λ error refusal. refusal ≡ spill_refusal error };
+    ghost from_gives = { λ error refusal. refusal ≡ merge_refusal (merge.Join (join.Spill error)) };
 
     fn from(error: SpillError) -> Refusal {
-        match error {
-            SpillError::NoMemory => Refusal::NoMemory,
-            SpillError::TapeFault => Refusal::TapeFault,
-            SpillError::TapeDamaged => Refusal::TapeDamaged,
-        }
+        Refusal::from(JoinError::Spill(error))
     }
 }
 
 impl From<LimitOutOfRange> for Refusal {
-    ghost from_gives = { λ _ refusal. refusal ≡ LimitOutOfRange };
+    ghost from_gives = { λ error refusal. refusal ≡ Limit error };
 
-    fn from(_error: LimitOutOfRange) -> Refusal {
-        Refusal::LimitOutOfRange
+    fn from(error: LimitOutOfRange) -> Refusal {
+        Refusal::Limit(error)
     }
 }

@@ -26,7 +26,7 @@ pub enum Reply<'c> {
     /// A replica knows what was saved.
     Loaded,
     /// What a replica knows, in its lines.
-    Known(Vec<u8>),
+    Listed(Vec<u8>),
     /// An answer: how many rows it has, and its table.
     Answer { rows: usize, table: Vec<u8> },
     /// The command changed nothing.

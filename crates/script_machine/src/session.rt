@@ -23,7 +23,8 @@ ghost use Rattle.script_commands.specs.Commands.{owned_by, request_of};
 ghost use Rattle.script_machine.specs.Machine.{IsNoBatch, IsNoQuery};
 ghost use Rattle.script_machine.specs.Views.{Store, IsStore, empty, faults_in, is_tape_fault, Steps, Takes, IsOfBatch, IsOtherBatch, JoinsNames};
 ghost use Rattle.script_machine.specs.declared.reply.Reply.TheVariants as says;
-ghost use Rattle.script_machine.specs.declared.refusal.Refusal.TheVariants.{NoMemory, OriginDisagrees, TapeFault, TapeDamaged};
+ghost use Rattle.script_machine.specs.declared.refusal.Refusal.TheVariants.{NoMemory};
+ghost use Rattle.script_machine.specs.Refusals.{origin_disagrees, tape_fault, tape_damaged};
 ghost use Rattle.spill_lists.specs.Standing.{Moves, IsReadRefusal};
 ghost use Rattle.spill_lists.specs.declared.error.SpillError.TheVariants as spill;
 
@@ -35,8 +36,8 @@ use group_parser::{parse, print};
 use hash_agg::{Fnv1a, Means, SpillError, TapeDisk, Work};
 use having_filter::Query;
 use indexmap::IndexMap;
-use packed_rows::{RowError, Schema};
-use replica_merge::{Delivered, Joined, MergeError, Replica};
+use packed_rows::Schema;
+use replica_merge::{Delivered, Joined, Replica};
 use script_commands::{Command, Request};
 use script_io::Records;
 use std::alloc::{AllocError, Global};
@@ -103,12 +104,12 @@ fn deliver<D: TapeDisk>(
     ensures why { IfOk result (λ done. IfErr done (λ why. IsOfBatch why
         → IsNoBatch (kinds replica.old.query.columns) origin.now number.now told (take told
         records.old) why)) }
-    ensures other { IfOk result (λ done. IfErr done (λ why. why ≡ OriginDisagrees → IsOtherBatch
+    ensures other { IfOk result (λ done. IfErr done (λ why. why ≡ origin_disagrees → IsOtherBatch
         origin.now number.now told (take told records.old) replica.old)) }
-    ensures fault { IfOk result (λ done. IfErr done (λ why. why ≡ TapeFault
+    ensures fault { IfOk result (λ done. IfErr done (λ why. why ≡ tape_fault
         → D.failures disk.old < D.failures disk.new)) }
     ensures undamaged { IfOk result (λ done. IfErr done (λ why. IsTrue (D.honest disk.old)
-        → why ≢ TapeDamaged)) }
+        → why ≢ tape_damaged)) }
     ensures left { OnOk result (records.new ≡ drop told records.old) }
     ensures disk { Moves (D.failures disk.old) (D.failures disk.new) (D.writes disk.old) (D.writes disk.new) (D.honest disk.old) (D.honest disk.new) }
 {
@@ -259,9 +260,7 @@ impl Session {
                 self.columns = Some(schema);
                 Reply::Columns(count)
             }
-            Err(RowError::BadSchema) => Reply::Refused(Refusal::BadSchema),
-            // The only other error is that memory ran out.
-            Err(_) => Reply::Refused(Refusal::NoMemory),
+            Err(error) => Reply::Refused(Refusal::from(error)),
         }
     }
 
@@ -356,7 +355,7 @@ impl Session {
         match self.replicas.get(name) {
             None => Reply::Refused(Refusal::NoSuchName),
             Some(replica) => match known_of_replica(self.alloc, replica) {
-                Ok(lines) => Reply::Known(lines),
+                Ok(lines) => Reply::Listed(lines),
                 Err(_) => Reply::Refused(Refusal::NoMemory),
             },
         }
@@ -380,8 +379,8 @@ impl Session {
     /// What two replicas hold together, aside from both.
     fn join<D: TapeDisk>(&self, into: &[u8], from: &[u8], disk: &mut D) -> Result<Joined, Refusal>
         ensures joins { JoinsNames (D.honest disk.old) self.now into.now from.now result }
-        ensures fault { IfErr result (λ why. why ≡ TapeFault → D.failures disk.old < D.failures disk.new) }
-        ensures undamaged { IfErr result (λ why. IsTrue (D.honest disk.old) → why ≢ TapeDamaged) }
+        ensures fault { IfErr result (λ why. why ≡ tape_fault → D.failures disk.old < D.failures disk.new) }
+        ensures undamaged { IfErr result (λ why. IsTrue (D.honest disk.old) → why ≢ tape_damaged) }
         ensures disk { Moves (D.failures disk.old) (D.failures disk.new) (D.writes disk.old) (D.writes disk.new) (D.honest disk.old) (D.honest disk.new) }
     {
         let Some(own) = self.replicas.get(into) else {
@@ -392,12 +391,8 @@ impl Session {
         };
         match own.join(theirs, &self.means, disk, &mut Work::none()) {
             Ok(joined) => Ok(joined),
-            Err(MergeError::NoMemory) => Err(Refusal::NoMemory),
-            Err(MergeError::OriginDisagrees) => Err(Refusal::OriginDisagrees),
-            Err(MergeError::TapeFault) => Err(Refusal::TapeFault),
-            Err(MergeError::TapeDamaged) => Err(Refusal::TapeDamaged),
-            // All replicas have the query that was told.
-            Err(MergeError::DifferentQuery) => unreachable!(),
+            // Since all replicas have the query that was told, it is never `DifferentQuery`.
+            Err(error) => Err(Refusal::from(error)),
         }
     }
 

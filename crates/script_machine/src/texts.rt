@@ -5,7 +5,7 @@ ghost use Rattle.replica_merge.specs.Replicas.{known_of};
 ghost use Rattle.script_machine.specs.Text.{early_text, number_text, origin_text, origins_text, known_text};
 
 use itoa::Buffer;
-use replica_merge::Known;
+use replica_merge::KnownOrigin;
 use std::alloc::{AllocError, Global};
 
 /// Appends a number in decimal.
@@ -38,7 +38,7 @@ fn push_early(text: &mut Vec<u8>, early: &[u32]) -> Result<(), AllocError>
 }
 
 /// Appends the line of an origin.
-fn push_origin(text: &mut Vec<u8>, known: &Known) -> Result<(), AllocError>
+fn push_origin(text: &mut Vec<u8>, known: &KnownOrigin) -> Result<(), AllocError>
     ensures { OnOk result (text.new.items ≡ text.old.items ++ origin_text (known_of known.now)) }
 {
     text.extend_from_slice(b"origin ")?;
@@ -51,7 +51,7 @@ fn push_origin(text: &mut Vec<u8>, known: &Known) -> Result<(), AllocError>
 }
 
 /// Appends a line for each origin.
-fn push_origins(text: &mut Vec<u8>, list: &[Known]) -> Result<(), AllocError>
+fn push_origins(text: &mut Vec<u8>, list: &[KnownOrigin]) -> Result<(), AllocError>
     ensures { OnOk result (text.new.items
         ≡ text.old.items ++ origins_text (map known_of list.now)) }
 {
@@ -62,7 +62,7 @@ fn push_origins(text: &mut Vec<u8>, list: &[Known]) -> Result<(), AllocError>
 }
 
 /// The lines of what is known, one for each origin: `origin O upto P`, and the numbers that came early behind it.
-pub fn origin_lines(alloc: Global, list: &[Known]) -> Result<Vec<u8>, AllocError>
+pub fn origin_lines(alloc: Global, list: &[KnownOrigin]) -> Result<Vec<u8>, AllocError>
     ensures { IfOk result (λ text. text.items ≡ origins_text (map known_of list.now)) }
 {
     let mut text = Vec::new(alloc);
@@ -71,7 +71,7 @@ pub fn origin_lines(alloc: Global, list: &[Known]) -> Result<Vec<u8>, AllocError
 }
 
 /// The lines of what is known, behind one that counts the origins.
-pub(crate) fn known_lines(alloc: Global, list: &[Known]) -> Result<Vec<u8>, AllocError>
+pub(crate) fn known_lines(alloc: Global, list: &[KnownOrigin]) -> Result<Vec<u8>, AllocError>
     ensures { IfOk result (λ text. text.items ≡ known_text (map known_of list.now)) }
 {
     let mut text = Vec::new(alloc);

@@ -20,7 +20,7 @@ use Rattle.summary_codec.specs.File.{opening}
 use Rattle.summary_codec.specs.Reading.{IsSummary, HasFault, Outcome, Reader, done, both, must, taken, number, number_within, sized, each, IsNext, IsPacking, AreStateBytes, states_width, MayFollow, IsCutShort, group, row, batch, batches, contents, part, columns_in, query_in, text, schema, query, opened, ended, parts, heading, rest, summary}
 use Rattle.summary_codec.specs.declared.error.SummaryError.{SummaryError}
 use Rattle.summary_codec.specs.declared.error.SummaryError.TheVariants as fault
-use Rattle.summary_codec.specs.declared.error.SummaryError.TheVariants.{NotASummary, Truncated, Trailing, NotCanonical, OutOfRange, BadPacked, BadState}
+use Rattle.summary_codec.specs.declared.error.SummaryError.TheVariants.{NotASummary, Truncated, NotCanonical, OutOfRange, BadPacked, BadState}
 use Rattle.summary_codec.proofs.TotalLaws.{AreBytes, LeavesBytes, HasOutcome, some_done, some_both, some_must, some_taken, some_number, some_each, some_columns, some_query_in, some_opened, some_ended}
 use Rattle.summary_codec.proofs.ReaderLaws.{IsOne, error_of, is_ok, one_both, one_done, one_must, one_taken, one_number, one_each}
 

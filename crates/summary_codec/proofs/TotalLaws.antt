@@ -15,7 +15,7 @@ use Rattle.summary_codec.specs.File.{opening}
 use Rattle.summary_codec.specs.Reading.{Outcome, Reader, done, both, must, taken, number, each, columns_in, query_in, opened, ended}
 use Rattle.summary_codec.specs.declared.error.SummaryError.{SummaryError}
 use Rattle.summary_codec.specs.declared.error.SummaryError.TheVariants as fault
-use Rattle.summary_codec.specs.declared.error.SummaryError.TheVariants.{NotASummary, Truncated, Trailing, OutOfRange, BadSchema}
+use Rattle.summary_codec.specs.declared.error.SummaryError.TheVariants.{NotASummary, Truncated, Trailing, BadSchema}
 use Rattle.summary_codec.proofs.LoopLaws.{goes_on}
 
 -- bytes are numbers below 256

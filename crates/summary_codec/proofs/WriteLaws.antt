@@ -1,5 +1,5 @@
 -- Writing one thing after another.
-use Rattle.std.proofs.Common.{◌≡◌, ℕ, ◌≤◌, List, [], ◌∷◌, ◌++◌, drop, length, flat_map, Result, OnOk, Ok, Err, sym, ap, subst, ◌∙◌, append-nil, append_assoc}
+use Rattle.std.proofs.Common.{◌≡◌, ℕ, ◌≤◌, List, [], ◌∷◌, ◌++◌, drop, length, flat_map, Result, OnOk, Ok, Err, sym, ap, subst, ◌∙◌, append_assoc}
 use Rattle.std.proofs.lemmas.List.{drop_all}
 use Rattle.std.specs.List.{AllByRecursion}
 
@@ -7,14 +7,6 @@ use Rattle.std.specs.List.{AllByRecursion}
 pub pushed : {X : Type 0} (f : X → List ℕ) (old new start : List ℕ) (left rest : List X) (x : X) → left ≡ x ∷ rest → new ≡ old ++ f x → old ++ flat_map f left ≡ start → new ++ flat_map f rest ≡ start
 pushed f old new start left rest x next is so_far =
     ap (λ o. o ++ flat_map f rest) is ∙ append_assoc old (f x) (flat_map f rest) ∙ ap (λ l. old ++ flat_map f l) (sym next) ∙ so_far
-
--- all is written
-pub pushed_all : {X : Type 0} (f : X → List ℕ) (old start : List ℕ) (left : List X) → left ≡ [] → old ++ flat_map f left ≡ start → old ≡ start
-pushed_all f old start left none so_far = sym (append-nil old) ∙ ap (λ l. old ++ flat_map f l) (sym none) ∙ so_far
-
--- what holds of all holds of the first, and of the others
-pub of_first : {X : Type 0} (P : X → Type 0) (left rest : List X) (x : X) → left ≡ x ∷ rest → AllByRecursion P left → P x
-of_first P left rest x next all = (subst (AllByRecursion P) next all).0
 
 pub of_others : {X : Type 0} (P : X → Type 0) (left rest : List X) (x : X) → left ≡ x ∷ rest → AllByRecursion P left → AllByRecursion P rest
 of_others P left rest x next all = (subst (AllByRecursion P) next all).1

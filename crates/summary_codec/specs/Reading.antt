@@ -1,6 +1,6 @@
 -- What bytes read as, from the left: a query and what is held of some origins, or the first fault. The bounds and the order of the
 -- faults are our own.
-use Rattle.std.specs.Prelude.{◌≡◌, ◌≢◌, ℕ, zero, suc, ◌+◌, ◌-◌, ◌*◌, ◌^◌, ◌<◌, ◌≤◌, ◌⊎◌, List, [], ◌∷◌, ◌++◌, map, length, sum_by, slice_get, IfSome, Result, Ok, Err, IsUtf8}
+use Rattle.std.specs.Prelude.{◌≡◌, ◌≢◌, ℕ, zero, suc, ◌+◌, ◌-◌, ◌*◌, ◌^◌, ◌<◌, ◌≤◌, ◌⊎◌, List, [], ◌∷◌, ◌++◌, map, length, slice_get, IfSome, Result, Ok, Err, IsUtf8}
 use Rattle.std.specs.Int.{bytes_high_first}
 use Rattle.std.specs.Cmp.Lexicographic.{slice_cmp}
 use Rattle.std.specs.Ordering.{nat_cmp}
@@ -13,13 +13,13 @@ use Rattle.grouping_model.specs.Query.{Query}
 use Rattle.grouping_model.specs.declared.limits.TheConstants.{LAST_NUMBER, LAST_ORIGIN, MOST_ROWS}
 use Rattle.packed_rows.specs.Columns.{Column, kinds, printed, IsSchemaText}
 use Rattle.packed_rows.specs.Packing.{packing}
-use Rattle.agg_protocol.specs.States.{shape_of, width_of}
 use Rattle.having_filter.specs.Kept.{by_names, key_kinds}
 use Rattle.having_filter.specs.Meaning.{Checked, meaning}
 use Rattle.having_filter.specs.Spelling.{spelling}
 use Rattle.group_parser.specs.Parsing.{Accepts, Refuses}
 use Rattle.group_parser.specs.declared.error.ParseError.{ParseError}
 use Rattle.hash_agg.specs.Runs.{Entry, packed_keys}
+pub use Rattle.hash_agg.specs.Passes.{states_width}
 use Rattle.hash_agg.specs.Standing.{AreStates}
 use Rattle.origin_prefix.specs.Parts.{Part}
 use Rattle.origin_prefix.specs.Held.{Parts}
@@ -85,10 +85,6 @@ IsPacking kinds bytes = (values : Row) × HasKinds kinds values × (bytes ≡ pa
 -- bytes are the states of a query's aggregates, which count at most so many rows
 abbrev pub AreStateBytes : Query → ℕ → List ℕ → Type 0
 AreStateBytes query most bytes = (partials : List Partial) × AreStates (functions query) most bytes partials
-
--- how many bytes these states have
-abbrev pub states_width : Query → ℕ
-states_width query = sum_by (λ function. width_of (shape_of function)) (functions query)
 
 -- a member may follow others: it is above the last of them
 abbrev pub IsNext : {K : Type 0} → (K → K → Ordering) → List K → K → Type 0

@@ -5,7 +5,9 @@ use Rattle.grouping_model.specs.Datum.{Row}
 use Rattle.batch_reader.specs.File.{read_file}
 use Rattle.batch_reader.specs.Rows.{ReadsRows, packings}
 use Rattle.having_filter.specs.Meaning.{Checked}
-use Rattle.script_machine.proofs.FeedLaws.{other_why}
+use Rattle.replica_merge.specs.declared.error.MergeError.TheVariants as merge
+use Rattle.script_machine.specs.Views.{IsOfBatch}
+use Rattle.script_machine.proofs.FeedLaws.{other_why, delivery_tells, fault_told, never_damaged, not_of_batch}
 use Rattle.file_commands.proofs.FileLaws.{FileBatch, read_of_file, packed_of_file, takes_file, file_counted, other_file}
 use Rattle.file_commands.proofs.feeding.feed.Goals as goal
 
@@ -39,3 +41,12 @@ returns-in-Ok-clause-counted g c = λ honest.
     file_counted _ _ _ _ _ _ _ _ _ _ batch.origin batch.number
     (subst (λ columns. IsSomeAnd (read_file c.args.file.now) (λ read. (rows : List Row) × ReadsRows (kinds columns) read.records rows × (c.in_ok-batch.batch.rows ≡ packings rows))) same batch.rows)
     (c.in-Ok.ensures.counted honest)
+
+pub returns-in-Err-clause-why : goal.returns-in-Err-clause-why
+returns-in-Err-clause-why g c = λ of. absurd (not_of_batch c.in-Err.refused.why (subst IsOfBatch c.from.ensures of))
+
+pub returns-in-Err-clause-fault : goal.returns-in-Err-clause-fault
+returns-in-Err-clause-fault g c = λ is. fault_told _ _ _ (merge.Join c.in-Err.refused.why) (delivery_tells _ _ _ c.in-Err.refused.why c.in-Err.ensures.over) (sym c.from.ensures ∙ is)
+
+pub returns-in-Err-clause-undamaged : goal.returns-in-Err-clause-undamaged
+returns-in-Err-clause-undamaged g c = λ honest is. never_damaged _ _ _ (merge.Join c.in-Err.refused.why) (delivery_tells _ _ _ c.in-Err.refused.why c.in-Err.ensures.over) honest (sym c.from.ensures ∙ is)

@@ -2,7 +2,7 @@ use Rattle.std.specs.Prelude.{◌≡◌}
 use Rattle.std.proofs.Common.{inr, sym, subst}
 use Rattle.grouping_model.specs.World.{World}
 use Rattle.replica_merge.specs.Replicas.{Held, Fits}
-use Rattle.script_machine.specs.declared.refusal.Refusal.TheVariants.{OriginDisagrees}
+use Rattle.script_machine.specs.Refusals.{origin_disagrees}
 use Rattle.file_commands.specs.Commands.{MergesHeld, IsApart, MergesFile, FileMergeIsCounted, IsNotMerged}
 use Rattle.file_commands.proofs.FileLaws.{if_err, on_ok}
 use Rattle.file_commands.proofs.merging.merge.Goals as goal
@@ -19,8 +19,8 @@ returns-clause-why g c =
 
 pub returns-clause-agree : goal.returns-clause-agree
 returns-clause-agree g c =
-    if_err c.take_in.result (λ why. why ≡ OriginDisagrees → (world : World) → Fits world c.args.replica.now → ¬ (Fits world c.in_ok-other.other))
-    (λ why. why ≡ OriginDisagrees → (world : World) → Fits world c.args.replica.now → (other : Held) → _ → ¬ (Fits world other))
+    if_err c.take_in.result (λ why. why ≡ origin_disagrees → (world : World) → Fits world c.args.replica.now → ¬ (Fits world c.in_ok-other.other))
+    (λ why. why ≡ origin_disagrees → (world : World) → Fits world c.args.replica.now → (other : Held) → _ → ¬ (Fits world other))
     (λ why agree is world own other is_file theirs. agree is world own (subst (Fits world) (sym (c.in_ok-other.ensures.saved other is_file)) theirs))
     c.take_in.ensures.agree
 

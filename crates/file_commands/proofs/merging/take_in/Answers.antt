@@ -1,5 +1,6 @@
 use Rattle.std.proofs.Common.{◌∙◌, sym, subst}
 use Rattle.file_commands.specs.Commands.{IsApart}
+use Rattle.script_machine.proofs.FeedLaws.{fault_told, never_damaged}
 use Rattle.file_commands.proofs.FileLaws.{apart, told_disagreement}
 use Rattle.file_commands.proofs.merging.take_in.Goals as goal
 
@@ -11,3 +12,9 @@ returns-in-Err-clause-why g c =
 pub returns-in-Err-clause-agree : goal.returns-in-Err-clause-agree
 returns-in-Err-clause-agree g c =
     λ is world own theirs. c.in-Err.ensures.agree (told_disagreement c.in-Err.error (sym c.from.ensures ∙ is)) world own theirs
+
+pub returns-in-Err-clause-fault : goal.returns-in-Err-clause-fault
+returns-in-Err-clause-fault g c = λ is. fault_told _ _ _ c.in-Err.error c.in-Err.ensures.over (sym c.from.ensures ∙ is)
+
+pub returns-in-Err-clause-undamaged : goal.returns-in-Err-clause-undamaged
+returns-in-Err-clause-undamaged g c = λ honest is. never_damaged _ _ _ c.in-Err.error c.in-Err.ensures.over honest (sym c.from.ensures ∙ is)

@@ -1,17 +1,16 @@
-use Rattle.std.specs.Prelude.{◌≡◌, ◌<◌, ℕ, true, cond, nat_lt, List, Some, None, if◌then◌else◌}
-use Rattle.std.proofs.Common.{◌∙◌, sym, ap, subst, rules, arith}
+use Rattle.std.specs.Prelude.{◌≡◌, ◌<◌, ℕ, true, cond, List, [], Some, None}
+use Rattle.std.proofs.Common.{◌∙◌, sym, ap, subst, rules}
 use Rattle.std.specs.List.{AllByRecursion}
 use Rattle.std.specs.Option.{is_some}
 use Rattle.std.specs.Ordering.{eq_by_cmp, nat_cmp}
 use Rattle.origin_prefix.specs.Parts.{Batches, rows_at, IsBehind}
 use Rattle.origin_prefix.specs.Joins.{either}
 use Rattle.origin_prefix.proofs.ByNumber.{none_there, all_put}
-use Rattle.origin_prefix.proofs.EarlyLaws.{AtNumber, copied, passed_over}
+use Rattle.origin_prefix.proofs.EarlyLaws.{AtNumber, behind_number, copied, passed_over, found_behind, all_behind, either_none}
 use Rattle.origin_prefix.proofs.early.copy_above.Goals as goal
-use Rattle.origin_prefix.proofs.early.copy_above.Goals.{else-next-number-via-then-next-number+else-not-contains_key, else-next-number-via-else-next-number}
 
-pub loop-next-preserved-then-not-contains_key : goal.loop-next-preserved-then-not-contains_key
-loop-next-preserved-then-not-contains_key c =
+pub loop-next-preserved-in_ok-insert-2 : goal.loop-next-preserved-in_ok-insert-2
+loop-next-preserved-in_ok-insert-2 c =
     let old : Batches = c.loop-next.into.entries in
     let new : Batches = c.insert.new.self.entries in
     let number : ℕ = c.in-Some.next.now in
@@ -19,16 +18,16 @@ loop-next-preserved-then-not-contains_key c =
     let none : rows_at old number ≡ None = none_there (rows_at old number) (sym c.contains_key.ensures ∙ search rules) in
     let put : AtNumber old number rows new = λ n. c.in_ok-insert.ensures.updates.0 n ∙ ap (λ (r : List (List ℕ)). cond (eq_by_cmp nat_cmp number n) (Some r) (rows_at old n)) c.in_ok-try_clone.ensures in
     let packed : c.in_ok-try_clone.field-0 ≡ rows = c.in_ok-try_clone.ensures in
+    let above = subst (AllByRecursion (λ (b : ℕ × List (List ℕ)). c.args.number < b.0)) c.in-Some.ensures.steps c.loop-next.invariant.above in
     record {
-      rows = λ n. copied c.args.number number rows old new c.next.new.self c.if-next-number.true none put n
-          ∙ ap (λ rest. either (rows_at old n) (if nat_lt c.args.number n then rows_at rest n else None)) (sym c.in-Some.ensures.steps)
-          ∙ c.loop-next.invariant.rows n;
+      rows = λ n. copied number rows old new c.next.new.self none put n ∙ ap (λ rest. either (rows_at old n) (rows_at rest n)) (sym c.in-Some.ensures.steps) ∙ c.loop-next.invariant.rows n;
       rising = c.in_ok-insert.ensures.ordered;
+      above = above.1;
       behind = λ ks all had.
           let before = c.loop-next.invariant.behind ks all had in
           let rest = subst (AllByRecursion (λ (b : ℕ × List (List ℕ)). c.args.number < b.0 → IsBehind ks c.args.number b)) c.in-Some.ensures.steps before.1 in (
             subst (AllByRecursion (IsBehind ks c.args.number)) (sym c.in_ok-insert.ensures.entries)
-                (all_put (IsBehind ks c.args.number) number c.in_ok-try_clone.field-0 old (subst (λ (r : List (List ℕ)). IsBehind ks c.args.number (number, r)) (sym packed) (rest.0 c.if-next-number.true)) before.0),
+                (all_put (IsBehind ks c.args.number) number c.in_ok-try_clone.field-0 old (subst (λ (r : List (List ℕ)). IsBehind ks c.args.number (number, r)) (sym packed) (rest.0 above.0)) before.0),
             rest.1,
           );
       can = tt;
@@ -40,15 +39,11 @@ loop-next-preserved c =
     let old : Batches = c.loop-next.into.entries in
     let number : ℕ = c.in-Some.next.now in
     let rows : List (List ℕ) = c.in-Some.rows.now in
-    let there : c.args.number < number → is_some (rows_at old number) ≡ true = λ low. elim c.else-next-number.branch [
-      | else-next-number-via-then-next-number+else-not-contains_key w ↦ sym w.contains_key.ensures ∙ search rules
-      | else-next-number-via-else-next-number w ↦ let high = w.if-next-number.false in absurd (omega (arith, low, high))
-    ] in
+    let there : is_some (rows_at old number) ≡ true = sym c.contains_key.ensures ∙ search rules in
     record {
-      rows = λ n. passed_over c.args.number number rows old c.next.new.self there n
-          ∙ ap (λ rest. either (rows_at old n) (if nat_lt c.args.number n then rows_at rest n else None)) (sym c.in-Some.ensures.steps)
-          ∙ c.loop-next.invariant.rows n;
+      rows = λ n. passed_over number rows old c.next.new.self there n ∙ ap (λ rest. either (rows_at old n) (rows_at rest n)) (sym c.in-Some.ensures.steps) ∙ c.loop-next.invariant.rows n;
       rising = c.loop-next.invariant.rising;
+      above = (subst (AllByRecursion (λ (b : ℕ × List (List ℕ)). c.args.number < b.0)) c.in-Some.ensures.steps c.loop-next.invariant.above).1;
       behind = λ ks all had.
           let before = c.loop-next.invariant.behind ks all had in
           let rest = subst (AllByRecursion (λ (b : ℕ × List (List ℕ)). c.args.number < b.0 → IsBehind ks c.args.number b)) c.in-Some.ensures.steps before.1 in
@@ -57,6 +52,18 @@ loop-next-preserved c =
       finite = tt;
     }
 
+pub returns-clause-rows : goal.returns-clause-rows
+returns-clause-rows c = λ n.
+    let between : c.range-next-items.result ≡ behind_number c.args.number c.args.from.now.entries = c.range-next-items.ensures.between tt in
+    let all : c.into_iter-next-iterator.result ≡ behind_number c.args.number c.args.from.now.entries = cc in
+    let done : c.loop-next.next-iterator ≡ [] = c.in-None.ensures.steps.0 in
+    sym (either_none (rows_at c.loop-next.into.entries n)) ∙ ap (λ es. either (rows_at c.loop-next.into.entries n) (rows_at es n)) (sym done) ∙ c.loop-next.invariant.rows n
+    ∙ ap (λ es. either (rows_at c.args.into.now.entries n) (rows_at es n)) all ∙ ap (either (rows_at c.args.into.now.entries n)) (found_behind c.args.number c.args.from.now.entries n)
+
 pub returns-clause-behind : goal.returns-clause-behind
-returns-clause-behind c =
-    λ ks all had. (c.loop-next.invariant.behind ks (subst (AllByRecursion (λ (b : ℕ × List (List ℕ)). c.args.number < b.0 → IsBehind ks c.args.number b)) (sym c.into_iter-next-iterator.ensures.into_iter_gives.0) all) had).0
+returns-clause-behind c = λ ks holds had.
+    let between : c.range-next-items.result ≡ behind_number c.args.number c.args.from.now.entries = c.range-next-items.ensures.between tt in
+    let all : c.into_iter-next-iterator.result ≡ behind_number c.args.number c.args.from.now.entries = cc in
+    (c.loop-next.invariant.behind ks
+    (subst (AllByRecursion (λ (b : ℕ × List (List ℕ)). c.args.number < b.0 → IsBehind ks c.args.number b)) (sym all)
+    (all_behind (λ (b : ℕ × List (List ℕ)). c.args.number < b.0 → IsBehind ks c.args.number b) c.args.number c.args.from.now.entries holds)) had).0

@@ -1,4 +1,4 @@
-use Rattle.std.specs.Prelude.{◌≡◌, Some}
+use Rattle.std.specs.Prelude.{◌≡◌, ℕ, ◌<◌, List, Some}
 use Rattle.std.specs.List.{AllByRecursion}
 use Rattle.origin_prefix.specs.Parts.{rows_at}
 use Rattle.origin_prefix.specs.Joins.{DiffersBehind}
@@ -8,7 +8,8 @@ abbrev pub invariant-loop-next : goal.invariant-loop-next
 invariant-loop-next l =
     record {
       left : DiffersBehind l.number l.one.entries l.other.entries → DiffersBehind l.number l.next-iterator l.other.entries;
-      found : AllByRecursion (λ e. rows_at l.one.entries e.0 ≡ Some e.1) l.next-iterator;
+      found : AllByRecursion (λ (e : ℕ × List (List ℕ)). rows_at l.one.entries e.0 ≡ Some e.1) l.next-iterator;
+      above : AllByRecursion (λ (e : ℕ × List (List ℕ)). l.number < e.0) l.next-iterator;
       can : (goal.iterator-loop-next).can_next l.next-iterator;
       finite : (goal.iterator-loop-next).is_finite l.next-iterator;
     }

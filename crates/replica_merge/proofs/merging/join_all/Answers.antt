@@ -13,9 +13,13 @@ use Rattle.replica_merge.specs.Counting.{MergeIsCounted}
 use Rattle.origin_prefix.specs.Parts.{Part, empty, IsPartOf}
 use Rattle.origin_prefix.proofs.ByNumber.{numbers, rising_rest}
 use Rattle.replica_merge.specs.Replicas.{Parts, part_at, part_of, IsHeldPart, DisagreeSomewhere}
-use Rattle.replica_merge.specs.declared.error.MergeError.TheVariants.{OriginDisagrees}
+use Rattle.origin_prefix.specs.declared.error.JoinError.TheVariants as join
+use Rattle.origin_prefix.specs.Errors.{IsErrorOver}
+use Rattle.spill_lists.specs.declared.error.SpillError.{SpillError}
+use Rattle.replica_merge.specs.Errors.{origin_disagrees}
+use Rattle.replica_merge.specs.declared.error.MergeError.TheVariants.{Join}
 use Rattle.replica_merge.proofs.DeliveredLaws.{part_is}
-use Rattle.replica_merge.proofs.MergedLaws.{JoinedSoFar, joined_more, found_disagreement, join_error}
+use Rattle.replica_merge.proofs.MergedLaws.{JoinedSoFar, joined_more, found_disagreement, told_later}
 use Rattle.hash_agg.proofs.DiskLaws.{moves_twice}
 use Rattle.replica_merge.proofs.merging.join_all.Goals as goal
 
@@ -31,10 +35,10 @@ returns-in_err-part-clause-disagree g c =
     let p = err_from_is_err_and c.from_residual-in_err-part.result c.from_residual-in_err-part.ensures.1 in
     let had = subst (λ rest. JoinedSoFar (g.D.TapeDisk.honest c.args.disk.now) c.args.query.now (part_of own c.in-Some.origin.now) (part_at own c.in-Some.origin.now) (part_at all c.in-Some.origin.now) (part_at rest c.in-Some.origin.now) (part_at c.loop-origin.joined.entries c.in-Some.origin.now))
     c.in-Some.ensures.steps (c.loop-origin.invariant.at c.in-Some.origin.now) in
-    subst (λ r. IfErr r (λ e. e ≡ OriginDisagrees → DisagreeSomewhere own c.args.theirs.now.entries)) (sym p.1)
+    subst (λ r. IfErr r (λ e. e ≡ origin_disagrees → DisagreeSomewhere own c.args.theirs.now.entries)) (sym p.1)
     (λ is. subst (DisagreeSomewhere own) theirs
     (found_disagreement (g.D.TapeDisk.honest c.args.disk.now) c.args.query.now own all c.loop-origin.joined.entries c.in-Some.origin.now c.in-Some.part.now c.next.new.self had
-    (subst (λ o. PartsDisagree (unwrap_or o empty) c.in-Some.part.now) c.get.ensures.value (c.in_err-part.ensures.disagree (join_error c.in_err-part.field-0.0 (sym p.2 ∙ is))))))
+    (subst (λ o. PartsDisagree (unwrap_or o empty) c.in-Some.part.now) c.get.ensures.value (c.in_err-part.ensures.disagree (let given = sym p.2 ∙ is in cc)))))
 
 pub loop-origin-preserved : goal.loop-origin-preserved
 loop-origin-preserved g c =
@@ -80,3 +84,13 @@ returns-clause-counted g c = λ so.
     subst (λ all. MergeIsCounted q setting c.args.own.now.entries all c.args.work.now (g.D.TapeDisk.writes c.args.disk.now) c.loop-origin.work (g.D.TapeDisk.writes c.loop-origin.disk)) theirs
     (c.loop-origin.invariant.counted so c.loop-origin.work (g.D.TapeDisk.writes c.loop-origin.disk)
     (subst (λ rest. MergeIsCounted q setting c.args.own.now.entries rest c.loop-origin.work (g.D.TapeDisk.writes c.loop-origin.disk) c.loop-origin.work (g.D.TapeDisk.writes c.loop-origin.disk)) (sym done) (refl, refl)))
+
+pub returns-in_err-part-clause-over : goal.returns-in_err-part-clause-over
+returns-in_err-part-clause-over g c =
+    let p = err_from_is_err_and c.from_residual-in_err-part.result c.from_residual-in_err-part.ensures.1 in
+    let before : ℕ = g.D.TapeDisk.failures c.args.disk.now in
+    let now : ℕ = g.D.TapeDisk.failures c.loop-origin.disk in
+    let after : ℕ = g.D.TapeDisk.failures c.join_part.new.disk in
+    subst (λ r. IfErr r (λ e. (error : SpillError) → e ≡ Join (join.Spill error) → IsErrorOver (g.D.TapeDisk.honest c.args.disk.now) before after error)) (sym p.1)
+    (λ error is. told_later (g.D.TapeDisk.honest c.args.disk.now) (g.D.TapeDisk.honest c.loop-origin.disk) before now after error c.loop-origin.invariant.disk.honesty c.loop-origin.invariant.disk.failures
+    (c.in_err-part.ensures.over error (let given = sym p.2 ∙ is in cc)))

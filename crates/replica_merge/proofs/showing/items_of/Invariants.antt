@@ -1,6 +1,6 @@
 use Rattle.std.specs.Prelude.{◌≡◌, map, take}
 use Rattle.agg_protocol.specs.Results.{outcome_of}
-use Rattle.having_filter.specs.Kept.{outcome_at}
+use Rattle.grouping_model.specs.Answer.{outcome_at}
 use Rattle.having_filter.specs.Plans.{source_of}
 use Rattle.replica_merge.proofs.showing.items_of.Given as goal
 

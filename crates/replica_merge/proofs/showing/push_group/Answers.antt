@@ -4,10 +4,10 @@ use Rattle.grouping_model.specs.Aggregates.{Plain, outcome}
 use Rattle.grouping_model.specs.Condition.{is_met}
 use Rattle.grouping_model.specs.Query.{Query}
 use Rattle.grouping_model.specs.Parts.{functions, source_in}
+use Rattle.grouping_model.specs.Answer.{outcome_at}
 use Rattle.packed_rows.specs.View.{row_of}
 use Rattle.agg_protocol.specs.Results.{outcome_of}
 use Rattle.agg_library.proofs.RowLaws.{on_ok}
-use Rattle.having_filter.specs.Kept.{outcome_at}
 use Rattle.having_filter.specs.Meaning.{meaning}
 use Rattle.hash_agg.proofs.StateLaws.{states_by}
 use Rattle.replica_merge.proofs.ShownLaws.{sources_are, key_is, shown, not_shown}

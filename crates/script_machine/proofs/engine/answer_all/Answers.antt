@@ -7,7 +7,7 @@ use Rattle.hash_agg.proofs.DiskLaws.{moves_none, moves_twice}
 use Rattle.script_machine.specs.Views.{is_refusal}
 use Rattle.script_machine.specs.declared.error.RunError.TheVariants as stop
 use Rattle.script_machine.proofs.OutputLaws.{passed_as}
-use Rattle.script_machine.proofs.RunLaws.{ran_all, ran_front, ran_more, ran_start, ran_stop}
+use Rattle.script_machine.proofs.RunLaws.{ran_front, ran_more, ran_start, ran_stop}
 use Rattle.script_machine.proofs.engine.answer_all.Goals as goal
 use Rattle.script_machine.proofs.engine.answer_all.Goals.{then-is_refused, else-is_refused}
 

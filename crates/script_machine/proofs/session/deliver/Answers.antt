@@ -5,7 +5,8 @@ use Rattle.batch_reader.specs.Rows.{ReadsRows}
 use Rattle.batch_reader.proofs.RecordLaws.{built_rows}
 use Rattle.having_filter.specs.Meaning.{Checked}
 use Rattle.script_machine.specs.Views.{IsOfBatch}
-use Rattle.script_machine.proofs.FeedLaws.{built_batch, other_why, fault_told, never_damaged, not_of_batch}
+use Rattle.replica_merge.specs.declared.error.MergeError.TheVariants as merge
+use Rattle.script_machine.proofs.FeedLaws.{built_batch, other_why, delivery_tells, fault_told, never_damaged, not_of_batch}
 use Rattle.script_machine.proofs.session.deliver.Goals as goal
 
 pub deliver-requires-clause-rows : goal.deliver-requires-clause-rows
@@ -54,7 +55,7 @@ pub returns-in-Err-deliver-clause-why : goal.returns-in-Err-deliver-clause-why
 returns-in-Err-deliver-clause-why g c = λ of. absurd (not_of_batch c.in-Err-deliver.refused.why (subst IsOfBatch c.from-in-Err-deliver.ensures of))
 
 pub returns-in-Err-deliver-clause-fault : goal.returns-in-Err-deliver-clause-fault
-returns-in-Err-deliver-clause-fault g c = λ is. fault_told _ _ _ c.in-Err-deliver.refused.why c.in-Err-deliver.ensures.over (sym c.from-in-Err-deliver.ensures ∙ is)
+returns-in-Err-deliver-clause-fault g c = λ is. fault_told _ _ _ (merge.Join c.in-Err-deliver.refused.why) (delivery_tells _ _ _ c.in-Err-deliver.refused.why c.in-Err-deliver.ensures.over) (sym c.from-in-Err-deliver.ensures ∙ is)
 
 pub returns-in-Err-deliver-clause-undamaged : goal.returns-in-Err-deliver-clause-undamaged
-returns-in-Err-deliver-clause-undamaged g c = λ honest is. never_damaged _ _ _ c.in-Err-deliver.refused.why c.in-Err-deliver.ensures.over honest (sym c.from-in-Err-deliver.ensures ∙ is)
+returns-in-Err-deliver-clause-undamaged g c = λ honest is. never_damaged _ _ _ (merge.Join c.in-Err-deliver.refused.why) (delivery_tells _ _ _ c.in-Err-deliver.refused.why c.in-Err-deliver.ensures.over) honest (sym c.from-in-Err-deliver.ensures ∙ is)

@@ -1,9 +1,7 @@
 use Rattle.std.specs.Prelude.{◌≡◌, ◌≢◌, ◌==◌, true, ℕ, ◌+◌, ◌*◌, ◌<◌, ◌^◌, List, [], map, All, length}
 use Rattle.std.proofs.Common.{rules, sym, ◌∙◌, ap, subst, arith}
 use Rattle.grouping_model.specs.Aggregates.{Outcome}
-use Rattle.grouping_model.specs.Query.{Query}
 use Rattle.grouping_model.specs.Answer.{answer}
-use Rattle.grouping_model.specs.World.{World, IsWorld}
 use Rattle.grouping_model.specs.declared.limits.TheConstants.{MOST_ROWS}
 use Rattle.having_filter.specs.Meaning.{meaning}
 use Rattle.hash_agg.specs.Inputs.{brought, all_rows}
@@ -11,7 +9,7 @@ use Rattle.hash_agg.specs.Counting.{AreCounted, setting_by}
 use Rattle.origin_prefix.specs.Parts.{Part}
 use Rattle.replica_merge.specs.Counting.{aggregations_asked}
 use Rattle.replica_merge.specs.Replicas.{Held, Fits, told}
-use Rattle.replica_merge.proofs.AnswerLaws.{IsOfParts, shows, alone, together, first_inputs, first_few, alone_counted, together_counted, no_inputs, no_first, none_answer, shown_wide, shown_answer}
+use Rattle.replica_merge.proofs.AnswerLaws.{shows, alone, together, first_inputs, first_few, alone_counted, together_counted, no_inputs, no_first, none_answer, shown_wide, shown_answer}
 use Rattle.replica_merge.proofs.replica.Replica.answer.Goals as goal
 
 pub returns-in_default-clause-answer : goal.returns-in_default-clause-answer

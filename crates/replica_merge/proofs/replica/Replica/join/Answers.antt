@@ -5,7 +5,8 @@ use Rattle.grouping_model.specs.World.{World}
 use Rattle.having_filter.specs.Meaning.{Checked}
 use Rattle.query_grammar.proofs.OneText.{one_text}
 use Rattle.replica_merge.specs.Replicas.{Held, Fits, AreHeldParts}
-use Rattle.replica_merge.specs.declared.error.MergeError.TheVariants.{DifferentQuery, OriginDisagrees}
+use Rattle.replica_merge.specs.declared.error.MergeError.TheVariants.{DifferentQuery}
+use Rattle.replica_merge.specs.Errors.{origin_disagrees}
 use Rattle.replica_merge.proofs.MergedLaws.{never_somewhere}
 use Rattle.replica_merge.proofs.replica.Replica.join.Goals as goal
 
@@ -30,7 +31,7 @@ returns-in_err-parts-clause-agree g c =
     let p = err_from_is_err_and c.from_residual.result c.from_residual.ensures.1 in
     let own : Held = record { query = c.self.inside.query; parts = c.self.inside.parts.entries } in
     let theirs : Held = record { query = c.other.inside.query; parts = c.other.inside.parts.entries } in
-    subst (λ r. IfErr r (λ e. e ≡ OriginDisagrees → (world : World) → Fits world c.args.self.now → Fits world c.args.other.now → ⊥)) (sym p.1)
+    subst (λ r. IfErr r (λ e. e ≡ origin_disagrees → (world : World) → Fits world c.args.self.now → Fits world c.args.other.now → ⊥)) (sym p.1)
     (λ is world fits fits_other.
     never_somewhere c.self.inside.query c.self.inside.parts.entries c.other.inside.parts.entries (c.in_err-parts.ensures.disagree (sym p.2 ∙ is)) world
     (subst (Fits world) (sym c.self.view_is) fits)

@@ -13,7 +13,7 @@ returns-in-None-clause-answers c = λ owned.
 
 pub returns-in-Ok-clause-answers : goal.returns-in-Ok-clause-answers
 returns-in-Ok-clause-answers c = λ owned.
-    subst (λ s. Steps (ask.Known c.args.name.now) owned s (says.Known c.in-Ok.lines) s) c.self.view_is
+    subst (λ s. Steps (ask.Known c.args.name.now) owned s (says.Listed c.in-Ok.lines) s) c.self.view_is
     (known_listed _ c.args.name.now owned c.in-Some.replica.now c.in-Ok.lines (sym c.in-Some.ensures.value) c.in-Ok.ensures)
 
 pub returns-in-Err-clause-answers : goal.returns-in-Err-clause-answers

@@ -1,11 +1,11 @@
-use Rattle.std.specs.Prelude.{Some}
+use Rattle.std.specs.Prelude.{◌≡◌, Some, false}
 use Rattle.std.proofs.Common.{◌∙◌, ap, sym, subst}
 use Rattle.std.specs.Option.{is_some}
 use Rattle.script_commands.specs.Commands as ask
-use Rattle.packed_rows.specs.Refusal.{ParseFault}
-use Rattle.script_machine.specs.Views.{Store, Steps}
+use Rattle.script_machine.specs.Views.{Store, Steps, is_tape_fault}
 use Rattle.script_machine.specs.declared.reply.Reply.TheVariants as says
-use Rattle.script_machine.proofs.StoreLaws.{columns_there, no_schema, columns_told, out_of_memory}
+use Rattle.script_machine.proofs.FeedLaws.{row_tells}
+use Rattle.script_machine.proofs.StoreLaws.{columns_there, no_schema, columns_told}
 use Rattle.script_machine.proofs.session.Session.tell_columns.Goals as goal
 
 pub returns-then-is_some-clause-answers : goal.returns-then-is_some-clause-answers
@@ -18,10 +18,10 @@ returns-in-Ok-clause-answers c = λ owned.
     subst (λ s. Steps (ask.Columns c.args.text.now) owned s (says.Columns c.width-count.result) new) c.self.view_is
     (columns_told _ c.args.text.now owned c.in-Ok.schema c.width-count.result (sym c.is_some.ensures ∙ c.if-is_some.false) c.in-Ok.ensures.parsed c.width-count.ensures.width)
 
-pub returns-in-Err-BadSchema-clause-answers : goal.returns-in-Err-BadSchema-clause-answers
-returns-in-Err-BadSchema-clause-answers c = λ owned. no_schema c.args.self.now c.args.text.now owned
-    (ap (λ (s : Store). is_some s.columns) (sym c.self.view_is) ∙ sym c.is_some.ensures ∙ c.if-is_some.false)
-    (subst (ParseFault c.args.text.now) c.in-Err-BadSchema.field-0-is c.in-Err-BadSchema.ensures.refused)
-
 pub returns-in-Err-clause-answers : goal.returns-in-Err-clause-answers
-returns-in-Err-clause-answers c = λ owned. out_of_memory (ask.Columns c.args.text.now) owned c.args.self.now
+returns-in-Err-clause-answers c = λ owned. no_schema c.args.self.now c.args.text.now owned c.in-Err.error c.from.result
+    (ap (λ (s : Store). is_some s.columns) (sym c.self.view_is) ∙ sym c.is_some.ensures ∙ c.if-is_some.false)
+    c.in-Err.ensures.refused c.from.ensures
+
+pub returns-in-Err-clause-faultless : goal.returns-in-Err-clause-faultless
+returns-in-Err-clause-faultless c = subst (λ w. is_tape_fault (says.Refused w) ≡ false) (sym c.from.ensures) (row_tells c.in-Err.error)

@@ -1,4 +1,3 @@
-use Rattle.std.specs.Prelude.{◌≡◌}
 use Rattle.std.proofs.Common.{sym, ap, subst}
 use Rattle.hash_agg.specs.Means.{MeansState}
 use Rattle.script_commands.specs.Commands as ask

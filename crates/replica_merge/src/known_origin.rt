@@ -2,7 +2,7 @@
 
 /// What a replica knows of an origin.
 #[derive(Debug, Drop)]
-pub struct Known {
+pub struct KnownOrigin {
     /// The origin.
     pub origin: u16,
     /// Its unbroken prefix: the batches 1 to this number are known.
