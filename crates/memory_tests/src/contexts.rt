@@ -363,6 +363,30 @@ fn chunks_of_a_bump(rt: HostRuntime) -> Result<(), Fail> {
     Ok(())
 }
 
+/// Takes a chunk, makes it too long, and takes another that is too long: why each is refused, and whether the first has its bytes.
+fn take_too_much<C: ChunkContext>(
+    context: &mut C,
+) -> Result<([Option<ContextError>; 2], bool), ContextError> {
+    let name = context.alloc(b"abc")?;
+    let Err(resized) = context.resize(name, TOO_LONG) else {
+        return Ok(([None, None], false));
+    };
+    let same = context.get(name) == b"abc".as_slice();
+    Ok(([Some(resized), refusal(context, TOO_LONG)], same))
+}
+
+#[test]
+fn no_chunk_is_too_long(rt: HostRuntime) -> Result<(), Fail> {
+    let large = Some(ContextError::TooLarge);
+    let refused = ([large, large], true);
+    assert_eq!(rt; with_alloc_set(rt, take_too_much)?, refused);
+    assert_eq!(rt; with_generation(rt, take_too_much)?, refused);
+    assert_eq!(rt; with_slab(rt, 3, take_too_much)?, refused);
+    let kept = ([Some(ContextError::NotSupported), large], true);
+    assert_eq!(rt; with_bump(rt, take_too_much)?, kept);
+    Ok(())
+}
+
 #[test]
 fn names_as_bytes(rt: HostRuntime) {
     let name = ChunkName {

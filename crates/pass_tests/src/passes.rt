@@ -1,62 +1,19 @@
-ghost use Rattle.std.specs.Prelude.{◌≡◌, ◌<◌, ◌^◌, List, length, IfOk};
+ghost use Rattle.std.specs.Prelude.{◌<◌, ◌^◌, List, length};
 ghost use Rattle.grouping_model.specs.Datum.{Row};
 ghost use Rattle.having_filter.specs.Meaning.{meaning};
 ghost use Rattle.hash_agg.specs.Inputs.{ArePackings};
 
-use batch_reader::{PackedRows, build_batch};
-use csv::ByteRecord;
-use group_parser::parse;
-use hash_agg::{Fnv1a, Input, KeyHash, Means, MemDisk, Run, Work, aggregate};
+use batch_reader::PackedRows;
+use hash_agg::{Fnv1a, Input, KeyHash, Means, MemDisk, Run, TapeDisk, Work, aggregate};
 use having_filter::Query;
-use packed_rows::Schema;
 use std::test::*;
-
-/// The count and the sum of each town.
-fn query(rt: HostRuntime) -> Result<Query, Fail> {
-    let schema = Schema::parse(rt.alloc(), "town text, amount bigint")?;
-    let parsed = parse(
-        rt.alloc(),
-        &schema,
-        "SELECT town, count(*), sum(amount) FROM batches GROUP BY town",
-    );
-    drop(schema);
-    match parsed {
-        Ok(query) => Ok(query),
-        Err(error) => Err(Fail::from(error)),
-    }
-}
-
-/// A record of each of so many towns, `k0000` to `k9999`, or `k00000` and on where there are more, with its number for its amount.
-fn records(rt: HostRuntime, towns: u32) -> Result<Vec<ByteRecord>, Fail> {
-    let mut records = Vec::new(rt.alloc());
-    for town in 0..towns {
-        let mut fields = ByteRecord::new(rt.alloc());
-        let name = if towns > 10_000 {
-            format!(in rt.alloc(); "k{town:05}")?
-        } else {
-            format!(in rt.alloc(); "k{town:04}")?
-        };
-        fields.push_field(name.as_bytes())?;
-        fields.push_field(format!(in rt.alloc(); "{town}")?.as_bytes())?;
-        records.push(fields)?;
-    }
-    Ok(records)
-}
-
-/// A row of each of so many towns.
-fn packed(rt: HostRuntime, query: &Query, towns: u32) -> Result<PackedRows, Fail>
-    ensures { IfOk result (λ packed. (rows : List Row)
-        × ArePackings (meaning query.now).kinds packed rows
-        × (length packed ≡ towns)) }
-{
-    let records = records(rt, towns)?;
-    let batch = build_batch(rt.alloc(), query.schema(), b"0", b"1", towns, &records)?;
-    Ok(batch.rows)
-}
+use test_disks::{FailsFirst, FailsReads, Flips};
+use test_tables::differing;
+use test_towns::{COLUMNS, TOWNS, lines, packed, query};
 
 /// A hash function by which all keys have the same hash.
 #[derive(Clone, Copy)]
-struct Constant;
+pub(crate) struct Constant;
 
 impl KeyHash for Constant {
     ghost hash_of = { λ _ key. 0 };
@@ -93,7 +50,7 @@ fn compared<H: KeyHash + Copy>(
     limit: u64,
     hash: H,
 ) -> Result<String, Fail> {
-    let rows = packed(rt, query, towns)?;
+    let rows = packed(rt, query, towns, &lines(rt, towns, ";")?)?;
     let (whole, _, _) = counted(rt, query, &rows, 1_099_511_627_776, Fnv1a)?;
     let (parts, work, pages) = counted(rt, query, &rows, limit, hash)?;
     let (many, same) = (whole.len(), whole.same_groups(&parts));
@@ -104,13 +61,13 @@ fn compared<H: KeyHash + Copy>(
 }
 
 /// The same of the groups of the query.
-fn limited<H: KeyHash + Copy>(
+pub(crate) fn limited<H: KeyHash + Copy>(
     rt: HostRuntime,
     towns: u32,
     limit: u64,
     hash: H,
 ) -> Result<String, Fail> {
-    let query = query(rt)?;
+    let query = query(rt, COLUMNS, TOWNS)?;
     let told = compared(rt, &query, towns, limit, hash);
     drop(query);
     told
@@ -124,17 +81,6 @@ fn a_limit_changes_nothing(rt: HostRuntime) -> Result<(), Fail> {
     assert_eq!(rt;
         told.as_str(),
         "20000 true: passes 273, spilled 33088, pages 322, held 57352"
-    );
-    Ok(())
-}
-
-#[test]
-fn a_hash_function_changes_nothing(rt: HostRuntime) -> Result<(), Fail> {
-    // All that is spilled falls on one list: 4,616 rows, then 4,232 and so on.
-    let told = limited(rt, 5_000, 65_536, Constant)?;
-    assert_eq!(rt;
-        told.as_str(),
-        "5000 true: passes 14, spilled 30056, pages 99, held 57352"
     );
     Ok(())
 }
@@ -167,5 +113,44 @@ fn limits_have_a_range(rt: HostRuntime) -> Result<(), Fail> {
     ] {
         assert_eq!(rt; Means::new(limit, Fnv1a).is_ok(), is_one);
     }
+    Ok(())
+}
+
+/// Why the groups of 385 towns, one of which is spilled, are refused over a disk.
+fn refused<D: TapeDisk>(rt: HostRuntime, query: &Query, disk: &mut D) -> Result<String, Fail> {
+    let rows = packed(rt, query, 385, &lines(rt, 385, ";")?)?;
+    let means = Means::new(65_536, Fnv1a)?;
+    let inputs = [Input::Flat(&rows)];
+    let refused = aggregate(rt.alloc(), query, &inputs, &means, disk).err();
+    Ok(format!(in rt.alloc(); "{refused:?}")?)
+}
+
+/// The same over a disk whose first write fails, over one whose first read fails, or over one that gives back other bytes.
+fn refused_over(rt: HostRuntime, query: &Query, disk: &str) -> Result<String, Fail> {
+    let (inner, has_failed) = (MemDisk::new(rt.alloc()), false);
+    match disk {
+        "write" => refused(rt, query, &mut FailsFirst { inner, has_failed }),
+        "read" => refused(rt, query, &mut FailsReads { inner, has_failed }),
+        _ => refused(rt, query, &mut Flips { inner }),
+    }
+}
+
+/// The same of the groups of the query.
+fn refusal(rt: HostRuntime, disk: &str) -> Result<String, Fail> {
+    let query = query(rt, COLUMNS, TOWNS)?;
+    let told = refused_over(rt, &query, disk);
+    drop(query);
+    told
+}
+
+/// Disks, and why the groups are refused over each.
+const REFUSALS: &str = "\
+write => Some(TapeFault)
+read => Some(TapeFault)
+flip => Some(TapeDamaged)";
+
+#[test]
+fn faults_of_disks_are_told(rt: HostRuntime) -> Result<(), Fail> {
+    assert_eq!(rt; differing(rt, REFUSALS, refusal)?, None);
     Ok(())
 }

@@ -97,6 +97,12 @@ merge|@x.sum|@b.csv|@e.sum => refused NotASummary/ => 1 => b.csv: refused NotASu
 known|@b.csv => refused NotASummary/ => 1 => b.csv: refused NotASummary
 answer|@none.sum => refused ReadFault/ => 3 => none.sum: refused ReadFault
 answer|@ => refused ReadFault/ => 3 => refused ReadFault
+feed|@x.sum|@none.sum|@b.csv|--limit|65535 => refused LimitOutOfRange/ => 1 => --limit: refused LimitOutOfRange
+merge|@x.sum|@none.sum|--limit|9999999999999999999 => refused LimitOutOfRange/ => 1 => --limit: refused LimitOutOfRange
+answer|@none.sum|--limit|1099511627777 => refused LimitOutOfRange/ => 1 => --limit: refused LimitOutOfRange
+feed|@x.sum|@none.sum|@b.csv|--limit|x => - => 2 => --limit: refused BadCommand
+merge|@x.sum|@none.sum|--limit|00000000000000065536 => - => 2 => --limit: refused BadCommand
+answer|@none.sum|--limit| => - => 2 => --limit: refused BadCommand
 feed|@x.sum|@e.sum => - => 2 => BATCH
 merge|@x.sum => - => 2 => IN
 answer|@e.sum|--format|xml => - => 2 => xml

@@ -4,6 +4,7 @@ use command_line::command;
 use std::os::unix::fs::symlink;
 use std::test::*;
 use std::{fs, process};
+use test_towns::lines;
 
 /// What a command did: its status, and the texts of standard output and standard error.
 #[derive(Drop)]
@@ -52,11 +53,8 @@ fn are_same(rt: &HostRuntime, one: &str, other: &str) -> Result<bool, Fail> {
 fn write_rows(rt: &HostRuntime, file: &str, told: &str) -> Result<bool, Fail> {
     let (origin, told) = told.split_once('|').ok_or("no number")?;
     let (number, rows) = told.split_once('|').ok_or("no rows")?;
-    let count: u32 = rows.parse().ok().ok_or("no rows")?;
-    let mut text = format!(in rt.alloc(); "batch,{origin},{number},{rows}\n")?;
-    for town in 0..count {
-        text.push_str(&format!(in rt.alloc(); "k{town:04},{town}\n")?)?;
-    }
+    let lines = lines(*rt, rows.parse().ok().ok_or("no rows")?, "\n")?;
+    let text = format!(in rt.alloc(); "batch,{origin},{number},{rows}\n{lines}")?;
     Ok(fs::write(rt, file, text.as_bytes()).is_ok())
 }
 

@@ -2,29 +2,9 @@
 
 use crate::folder::run;
 use command_line::command;
-use std::io::{Error, ErrorKind, Write};
 use std::test::*;
-use std::{fs, io, process};
-
-/// A standard output that takes so many bytes, and then fails.
-#[derive(Drop)]
-struct FailingWriter {
-    left: usize,
-}
-
-impl Write for FailingWriter {
-    fn write(&mut self, bytes: &[u8]) -> io::Result<usize> {
-        if bytes.len() > self.left {
-            return Err(Error::from(ErrorKind::BrokenPipe));
-        }
-        self.left -= bytes.len();
-        Ok(bytes.len())
-    }
-
-    fn flush(&mut self) -> io::Result<()> {
-        Ok(())
-    }
-}
+use std::{fs, process};
+use test_disks::FailingWriter;
 
 /// Words that ask for help, and whether help comes.
 fn is_helped(rt: &HostRuntime, words: &str) -> Result<bool, Fail> {
@@ -79,7 +59,10 @@ fn scripts_run(rt: HostRuntime) -> Result<(), Fail> {
 /// The status and the sentences of a command whose standard output takes 3 bytes.
 fn with_short_output(rt: &HostRuntime, words: &[&str]) -> Result<String, Fail> {
     let mut errors = Vec::new(rt.alloc());
-    let mut writer = FailingWriter { left: 3 };
+    let mut writer = FailingWriter {
+        taken: Vec::new(rt.alloc()),
+        room: 3,
+    };
     let mut input: &[u8] = b"columns,c text\n";
     let status = command(rt, words, &mut input, &mut writer, &mut errors);
     let errors = String::from_utf8(errors).ok().ok_or("not UTF-8")?;

@@ -1,8 +1,9 @@
-use crate::fixtures::{records, shown_batch};
+use crate::fixtures::shown_batch;
 use batch_reader::{Batch, BatchError, build_batch};
 use packed_rows::Schema;
 use std::test::*;
 use test_tables::{differing, halves};
+use test_towns::records;
 
 /// What becomes of a batch.
 fn build(

@@ -4,31 +4,12 @@ ghost use Rattle.packed_rows.specs.Columns.{kinds};
 ghost use Rattle.batch_reader.specs.Rows.{ArePackedRows};
 
 use batch_reader::{Batch, build_batch};
-use csv::ByteRecord;
-use group_parser::parse;
 use having_filter::Query;
 use hex::encode;
 use origin_prefix::RefusedBatch;
-use packed_rows::Schema;
 use std::test::*;
 use test_tables::halves;
-
-/// The columns of most batches.
-pub(crate) const COLUMNS: &str = "c text, d bigint";
-
-/// The count and the sum of each town.
-pub(crate) const TOWNS: &str = "SELECT c, count(*), sum(d) FROM batches GROUP BY c";
-
-/// A query over some columns.
-pub(crate) fn query(rt: HostRuntime, columns: &str, text: &str) -> Result<Query, Fail> {
-    let schema = Schema::parse(rt.alloc(), columns)?;
-    let parsed = parse(rt.alloc(), &schema, text);
-    drop(schema);
-    match parsed {
-        Ok(query) => Ok(query),
-        Err(error) => Err(Fail::from(error)),
-    }
-}
+use test_towns::{COLUMNS, TOWNS, query, records};
 
 /// What is told of a case by the query of towns. Tests let go of what is large by `drop`, and hold it at no `?`: at the end
 /// of its block it costs ten times as much proof.
@@ -47,24 +28,6 @@ pub(crate) fn of_towns<F: FnOnce(HostRuntime, &Query, &str) -> Result<String, Fa
         }
         Err(fail) => Err(fail),
     }
-}
-
-/// A record of fields that a comma parts.
-fn csv_record(rt: HostRuntime, line: &str) -> Result<ByteRecord, Fail> {
-    let mut fields = ByteRecord::new(rt.alloc());
-    for field in line.split(',') {
-        fields.push_field(field.as_bytes())?;
-    }
-    Ok(fields)
-}
-
-/// Records with a `;` between them.
-pub(crate) fn records(rt: HostRuntime, lines: &str) -> Result<Vec<ByteRecord>, Fail> {
-    let mut records = Vec::new(rt.alloc());
-    for line in lines.split_terminator(';') {
-        records.push(csv_record(rt, line)?)?;
-    }
-    Ok(records)
 }
 
 /// The batch `ORIGIN/NUMBER:ROWS`.

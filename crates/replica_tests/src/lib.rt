@@ -1,4 +1,4 @@
-//! Tests of batches, of aggregation, of parts of an origin, of summary files, of replicas and of tables, by their crates' public calls alone.
+//! Tests of batches, of aggregation, of parts of an origin, of summary files, of replicas, of disks that fail and of tables, by their crates' public calls alone.
 #![tactic(auto)]
 
 #[cfg(test)]
@@ -13,6 +13,8 @@ mod replicas;
 mod runs;
 #[cfg(test)]
 mod saving;
+#[cfg(test)]
+mod spilling;
 #[cfg(test)]
 mod summaries;
 #[cfg(test)]

@@ -1,9 +1,10 @@
-use crate::fixtures::{COLUMNS, TOWNS, batch, query, shown_refusal};
+use crate::fixtures::{batch, shown_refusal};
 use hash_agg::{Fnv1a, Means, MemDisk, Work};
 use having_filter::Answer;
 use replica_merge::Replica;
 use std::test::*;
 use test_tables::{differing, halves};
+use test_towns::{COLUMNS, TOWNS, query};
 
 /// What is told of a case by a replica that knows nothing, of a query over some columns.
 pub(crate) fn of_replica<F: FnOnce(HostRuntime, &mut Replica, &str) -> Result<String, Fail>>(
@@ -178,8 +179,8 @@ SELECT c, count(*), sum(d) FROM batches GROUP BY c~0/6:oslo,6 0/8:oslo,8|SELECT 
 SELECT c, count(*), sum(d) FROM batches GROUP BY c~0/1:oslo,1 0/2:oslo,2 0/3:oslo,3 0/4:oslo,4 0/5:oslo,5|SELECT c, count(*), sum(d) FROM batches GROUP BY c~0/1:oslo,1 0/2:oslo,2 0/3:oslo,3 0/4:oslo,4 0/5:oslo,5 0/6:oslo,6 0/7:oslo,7 => Ok(()); 0 upto 7 early []; Text("oslo") Bigint(7) Numeric(28)
 SELECT c, count(*), sum(d) FROM batches GROUP BY c~0/1:oslo,1 0/2:oslo,2 0/3:oslo,3 0/4:oslo,4 0/5:oslo,5 0/6:oslo,6 0/7:oslo,7|SELECT c, count(*), sum(d) FROM batches GROUP BY c~0/1:oslo,1 0/2:oslo,2 0/3:oslo,3 0/4:oslo,4 0/5:oslo,5 => Ok(()); 0 upto 7 early []; Text("oslo") Bigint(7) Numeric(28)
 SELECT c, count(*), sum(d) FROM batches GROUP BY c~0/1:oslo,1 5/4:oslo,4|SELECT c, count(*), sum(d) FROM batches GROUP BY c~3/1:oslo,1 5/1:oslo,1 => Ok(()); 0 upto 1 early []; 3 upto 1 early []; 5 upto 1 early [4]; Text("oslo") Bigint(3) Numeric(3)
-SELECT c, count(*), sum(d) FROM batches GROUP BY c~0/1:oslo,1|SELECT c, count(*), sum(d) FROM batches GROUP BY c~0/1:oslo,100 => Err(OriginDisagrees); 0 upto 1 early []; Text("oslo") Bigint(1) Numeric(1)
-SELECT c, count(*), sum(d) FROM batches GROUP BY c~0/1:oslo,1 3/4:oslo,4|SELECT c, count(*), sum(d) FROM batches GROUP BY c~0/1:oslo,1 0/2:oslo,2 3/4:oslo,100 => Err(OriginDisagrees); 0 upto 1 early []; 3 upto 0 early [4]; Text("oslo") Bigint(1) Numeric(1)"#;
+SELECT c, count(*), sum(d) FROM batches GROUP BY c~0/1:oslo,1|SELECT c, count(*), sum(d) FROM batches GROUP BY c~0/1:oslo,100 => Err(Join(OriginDisagrees)); 0 upto 1 early []; Text("oslo") Bigint(1) Numeric(1)
+SELECT c, count(*), sum(d) FROM batches GROUP BY c~0/1:oslo,1 3/4:oslo,4|SELECT c, count(*), sum(d) FROM batches GROUP BY c~0/1:oslo,1 0/2:oslo,2 3/4:oslo,100 => Err(Join(OriginDisagrees)); 0 upto 1 early []; 3 upto 0 early [4]; Text("oslo") Bigint(1) Numeric(1)"#;
 
 /// The same where the first one's query is told in front.
 fn merged_as_told(rt: HostRuntime, case: &str) -> Result<String, Fail> {

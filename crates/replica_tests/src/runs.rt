@@ -1,30 +1,18 @@
-ghost use Rattle.std.specs.Prelude.{◌≡◌, ◌+◌, List, length, IfOk, OnOk};
-ghost use Rattle.grouping_model.specs.Datum.{Row};
+ghost use Rattle.std.specs.Prelude.{◌≡◌, ◌+◌, IfOk, OnOk};
 ghost use Rattle.having_filter.specs.Meaning.{meaning};
-ghost use Rattle.hash_agg.specs.Inputs.{ArePackings};
 ghost use Rattle.hash_agg.specs.Standing.{IsRun};
 ghost use Rattle.packed_rows.specs.View.{bytes_of};
 
-use crate::fixtures::{of_towns, records};
-use batch_reader::{PackedRows, build_batch};
+use crate::fixtures::of_towns;
+use batch_reader::PackedRows;
 use hash_agg::{Fnv1a, Input, Means, MemDisk, Run, Work, aggregate, first_states, fold};
 use having_filter::Query;
 use hex::encode;
 use std::test::*;
 use test_tables::halves;
+use test_towns::packed;
 
-/// So many rows of the query's table, packed.
-fn packed(rt: HostRuntime, query: &Query, told: u32, lines: &str) -> Result<PackedRows, Fail>
-    ensures { IfOk result (λ packed. (rows : List Row)
-        × ArePackings (meaning query.now).kinds packed rows
-        × (length packed ≡ told)) }
-{
-    let records = records(rt, lines)?;
-    let batch = build_batch(rt.alloc(), query.schema(), b"0", b"1", told, &records)?;
-    Ok(batch.rows)
-}
-
-/// The same rows, each in a vector of its own.
+/// Packed rows, each in a vector of its own.
 fn apart(rt: HostRuntime, rows: &PackedRows) -> Result<Vec<Vec<u8>>, Fail>
     ensures { IfOk result (λ apart. bytes_of apart.items ≡ rows.now) }
 {

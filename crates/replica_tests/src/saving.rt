@@ -1,4 +1,3 @@
-use crate::fixtures::{COLUMNS, TOWNS};
 use crate::replicas::{of_replica, replies, shown};
 use crate::summaries::{FILE, bytes_of, digits_of};
 use hash_agg::{Fnv1a, Means, MemDisk, Work};
@@ -6,6 +5,7 @@ use hex::encode;
 use replica_merge::Replica;
 use std::test::*;
 use test_tables::halves;
+use test_towns::{COLUMNS, TOWNS};
 
 /// What a replica saves, in hexadecimal digits.
 fn file(rt: HostRuntime, replica: &Replica) -> Result<String, Fail> {

@@ -14,6 +14,8 @@ mod queries;
 #[cfg(test)]
 mod saves;
 #[cfg(test)]
+mod spilling;
+#[cfg(test)]
 mod streams;
 #[cfg(test)]
 mod tables;

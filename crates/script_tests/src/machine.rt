@@ -3,10 +3,9 @@ use batch_reader::BatchError;
 use hash_agg::MemDisk;
 use script_machine::{Observer, Outcome, Refusal, RunError, name, run, run_observed};
 use std::io;
-use std::io::{Error, ErrorKind, Read, Write};
+use std::io::{Error, ErrorKind, Read};
 use std::test::*;
-use test_disks::FailsFirst;
-use test_tables::halves;
+use test_disks::FailingWriter;
 
 /// The commands that each example begins with, and their replies.
 const HEAD: &str = "columns,\"c text, d bigint\"\n\
@@ -163,29 +162,6 @@ const QUERIES: Scenario = Scenario {
         refused NumberTooLarge\n\
         query SELECT count(*) FROM batches WHERE NOT (d = 1 OR d = 2) AND c <> 'x' IS TRUE\n",
 };
-
-/// A writer that takes so many bytes, and then fails.
-#[derive(Drop)]
-struct FailingWriter {
-    taken: Vec<u8>,
-    room: usize,
-}
-
-impl Write for FailingWriter {
-    fn write(&mut self, buf: &[u8]) -> io::Result<usize> {
-        let count = buf.len().min(self.room);
-        if count == 0 {
-            return Err(Error::from(ErrorKind::Other));
-        }
-        self.taken.extend_from_slice(&buf[..count])?;
-        self.room -= count;
-        Ok(count)
-    }
-
-    fn flush(&mut self) -> io::Result<()> {
-        Ok(())
-    }
-}
 
 /// A reader that fails at once.
 #[derive(Drop)]
@@ -393,66 +369,5 @@ fn refusals_have_names(rt: HostRuntime) -> Result<(), Fail> {
         "BadField"
     );
     assert_eq!(rt; name(Refusal::from(RunError::InputTooLong)), "InputTooLong");
-    Ok(())
-}
-
-/// A script that feeds a row of each of so many towns, as a batch of either of two origins, behind a limit, and answers.
-fn counting(rt: HostRuntime, limit: u64, towns: u32) -> Result<String, Fail> {
-    let mut script = format!(in rt.alloc(); "{HEAD}limit,{limit}\n")?;
-    for origin in 0..2_u32 {
-        script.push_str(&format!(in rt.alloc(); "feed,a,{origin},1,{towns}\n")?)?;
-        for town in 0..towns {
-            script.push_str(&format!(in rt.alloc(); "k{town:05},{town}\n")?)?;
-        }
-    }
-    script.push_str("answer,a\n")?;
-    Ok(script)
-}
-
-/// What it replies behind the limit.
-fn counted(rt: HostRuntime, limit: u64, towns: u32) -> Result<String, Fail> {
-    let replies = accepted(rt, &counting(rt, limit, towns)?)?;
-    let (_, counted) = halves(&replies, "folded")?;
-    Ok(String::from_str(rt.alloc(), counted)?)
-}
-
-#[test]
-fn a_limit_changes_no_answer(rt: HostRuntime) -> Result<(), Fail> {
-    // A table of 65,536 bytes holds some 380 of the groups.
-    let (spilled, whole) = (
-        counted(rt, 65_536, 1_500)?,
-        counted(rt, 1_099_511_627_776, 1_500)?,
-    );
-    assert!(rt; spilled == whole);
-    assert!(rt;
-        spilled.as_str().starts_with(
-            " upto 1\nfolded upto 1\nanswer 1500\nc,count,sum\nk00000,2,0\nk00001,2,2\n"
-        )
-    );
-    Ok(())
-}
-
-#[test]
-fn a_fault_of_the_disk_is_told_once(rt: HostRuntime) -> Result<(), Fail> {
-    let mut script = counting(rt, 65_536, 500)?;
-    script.push_str("feed,a,0,1,0\nanswer,a\n")?;
-    let mut disk = FailsFirst {
-        inner: MemDisk::new(rt.alloc()),
-        has_failed: false,
-    };
-    let mut written = Vec::new(rt.alloc());
-    let outcome = run(rt.alloc(), &mut script.as_bytes(), &mut written, &mut disk)?;
-    assert_eq!(rt; outcome, Outcome { refused: 1 });
-    let replies = str::from_utf8(&written)?;
-    let (_, faulty) = halves(replies, "limit 65536\n")?;
-    // The first batch is refused, and then fed again without a row.
-    assert!(rt;
-        faulty.starts_with(
-            "refused TapeFault\nfolded upto 1\nanswer 500\nc,count,sum\nk00000,1,0\n"
-        )
-    );
-    assert!(rt;
-        faulty.contains("\nfolded upto 1\nanswer 500\nc,count,sum\nk00000,1,0\nk00001,1,1\n")
-    );
     Ok(())
 }

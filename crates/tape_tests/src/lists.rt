@@ -5,7 +5,7 @@ use spill_lists::{SpillError, SpillLists};
 use spill_tapes::{MemDisk, TapeDisk};
 use std::alloc::Global;
 use std::test::*;
-use test_disks::{FailsFirst, Flips, Marks};
+use test_disks::{FailsFirst, FailsReads, Flips, Marks};
 
 /// Spills a record: its hash, its tag and its bytes.
 fn spill<D: TapeDisk>(
@@ -326,16 +326,48 @@ fn a_fault_is_told(rt: HostRuntime) -> Result<(), Fail> {
 }
 
 #[test]
+fn a_fault_of_a_full_page_is_told(rt: HostRuntime) -> Result<(), Fail> {
+    let mut disk = FailsFirst {
+        inner: MemDisk::new(rt.alloc()),
+        has_failed: false,
+    };
+    let mut lists = SpillLists::new(rt.alloc(), &disk);
+    let long = [b'x'; 9000];
+    assert!(rt; lists.spill(&mut disk, 7, 0, &long) == Err(SpillError::TapeFault));
+    Ok(())
+}
+
+/// What becomes of the one record of a list that is read again.
+fn read_again<D: TapeDisk>(
+    alloc: Global,
+    disk: &mut D,
+) -> Result<Result<Option<(u32, u8)>, SpillError>, Fail> {
+    let mut lists = SpillLists::new(alloc, disk);
+    spill(&mut lists, disk, 7, 0, b"ab")?;
+    lists.end_pass(disk)?;
+    if !lists.begin_pass(disk) {
+        return Err(Fail::from("there is no list"));
+    }
+    let mut bytes = Vec::new(alloc);
+    Ok(lists.next(disk, &mut bytes))
+}
+
+#[test]
 fn damage_is_told(rt: HostRuntime) -> Result<(), Fail> {
     let mut disk = Flips {
         inner: MemDisk::new(rt.alloc()),
     };
-    let mut lists = SpillLists::new(rt.alloc(), &disk);
-    spill(&mut lists, &mut disk, 7, 0, b"ab")?;
-    lists.end_pass(&mut disk)?;
-    assert!(rt; lists.begin_pass(&disk));
-    let mut bytes = Vec::new(rt.alloc());
-    assert!(rt; lists.next(&mut disk, &mut bytes) == Err(SpillError::TapeDamaged));
+    assert!(rt; read_again(rt.alloc(), &mut disk)? == Err(SpillError::TapeDamaged));
+    Ok(())
+}
+
+#[test]
+fn a_fault_of_reading_is_told(rt: HostRuntime) -> Result<(), Fail> {
+    let mut disk = FailsReads {
+        inner: MemDisk::new(rt.alloc()),
+        has_failed: false,
+    };
+    assert!(rt; read_again(rt.alloc(), &mut disk)? == Err(SpillError::TapeFault));
     Ok(())
 }
 

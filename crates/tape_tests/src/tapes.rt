@@ -4,7 +4,7 @@ use crate::calls::{append, close, next, rewind};
 use spill_tapes::{MemDisk, TapeDisk, TapeId, Tapes};
 use std::alloc::Global;
 use std::test::Fail;
-use test_disks::{FailsFirst, Flips, Marks};
+use test_disks::{FailsFirst, FailsReads, Flips, Marks};
 
 /// How many tapes there are at once, and how many records each has.
 const TAPES: u32 = 16;
@@ -72,6 +72,43 @@ fn damage_is_found(rt: HostRuntime) -> Result<(), Fail> {
     assert_eq!(rt;
         two_records(&rt, &mut disk)?.as_str(),
         "Ok(()), Err(TapeDamaged) , Err(TapesDead) , Err(TapesDead) , false"
+    );
+    Ok(())
+}
+
+#[test]
+fn a_fault_of_reading_kills_the_tapes(rt: HostRuntime) -> Result<(), Fail> {
+    let mut disk = FailsReads {
+        inner: MemDisk::new(rt.alloc()),
+        has_failed: false,
+    };
+    assert_eq!(rt;
+        two_records(&rt, &mut disk)?.as_str(),
+        "Ok(()), Err(TapeFault) , Err(TapesDead) , Err(TapesDead) , false"
+    );
+    Ok(())
+}
+
+/// What is told of a tape whose first record is longer than a page, by its append and the calls after it.
+fn long_record<D: TapeDisk>(rt: &HostRuntime, disk: &mut D) -> Result<String, Fail> {
+    let mut tapes = Tapes::new(rt.alloc());
+    let tape = tapes.open(disk)?;
+    let appended = append(&mut tapes, disk, tape, 7, 0, &[b'x'; 9000]);
+    let again = append(&mut tapes, disk, tape, 7, 0, b"ab");
+    let rewound = rewind(&mut tapes, disk, tape);
+    let opened = tapes.open(disk).err();
+    Ok(format!(in rt.alloc(); "{appended:?}, {again:?}, {rewound:?}, {opened:?}")?)
+}
+
+#[test]
+fn dead_tapes_take_no_record(rt: HostRuntime) -> Result<(), Fail> {
+    let mut disk = FailsFirst {
+        inner: MemDisk::new(rt.alloc()),
+        has_failed: false,
+    };
+    assert_eq!(rt;
+        long_record(&rt, &mut disk)?.as_str(),
+        "Err(TapeFault), Err(TapesDead), Err(TapesDead), Some(TapesDead)"
     );
     Ok(())
 }

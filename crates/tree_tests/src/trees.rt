@@ -56,6 +56,45 @@ fn refusals(rt: HostRuntime, tree: &mut Tree, gone: ContextId) -> Result<String,
     Ok(format!(in rt.alloc(); "{held:?} {below:?} {reset:?} {deleted:?} {created:?} {taken:?}")?)
 }
 
+/// Frees a chunk of a context, if that is gone.
+fn free(tree: &mut Tree, gone: ContextId, name: ChunkName) -> Result<(), TreeError> {
+    if tree.is_live(gone) {
+        return Ok(());
+    }
+    tree.free(gone, name)
+}
+
+/// Makes a chunk of a context longer, if that is gone.
+fn resize(tree: &mut Tree, gone: ContextId, name: ChunkName) -> Result<(), TreeError> {
+    if tree.is_live(gone) {
+        return Ok(());
+    }
+    tree.resize(gone, name, 5)?;
+    Ok(())
+}
+
+/// Changes a chunk of a context, if that is gone.
+fn change(tree: &mut Tree, gone: ContextId, name: ChunkName) -> Result<(), TreeError> {
+    if tree.is_live(gone) {
+        return Ok(());
+    }
+    tree.get_mut(gone, name)?.fill(0);
+    Ok(())
+}
+
+/// What other calls by that id answer, and by the name of a chunk.
+fn chunk_refusals(
+    rt: HostRuntime,
+    tree: &mut Tree,
+    gone: ContextId,
+    name: ChunkName,
+) -> Result<String, Fail> {
+    let (parent, growth) = (tree.parent(gone), tree.growth_for(gone, 8));
+    let (freed, resized) = (free(tree, gone, name), resize(tree, gone, name));
+    let changed = change(tree, gone, name);
+    Ok(format!(in rt.alloc(); "{parent:?} {growth:?} {freed:?} {resized:?} {changed:?}")?)
+}
+
 /// Whether the id of a context that is gone reaches a chunk.
 fn reaches(tree: &Tree, gone: ContextId, name: ChunkName) -> bool {
     tree.is_live(gone) || tree.get(gone, name).is_ok()
@@ -72,7 +111,8 @@ fn stale(rt: HostRuntime, tree: &mut Tree, root: ContextId) -> Result<String, Fa
     let (same, stamp) = (next.slot == child.slot, next.stamp);
     let kept = tree.delete(root);
     let told = refusals(rt, tree, child)?;
-    Ok(format!(in rt.alloc(); "{before} {after} {same} {stamp} {kept:?} {told}")?)
+    let chunks = chunk_refusals(rt, tree, child, name)?;
+    Ok(format!(in rt.alloc(); "{before} {after} {same} {stamp} {kept:?} {told} {chunks}")?)
 }
 
 #[test]
@@ -80,6 +120,7 @@ fn an_id_names_one_context(rt: HostRuntime) -> Result<(), Fail> {
     assert_eq!(rt;
         of_tree(rt, 0, stale)?.as_str(),
         "false false true 2 Err(RootKept) Err(NoSuchContext) Err(NoSuchContext) Err(NoSuchContext) \
+         Err(NoSuchContext) Err(NoSuchContext) Err(NoSuchContext) Err(NoSuchContext) Err(NoSuchContext) \
          Err(NoSuchContext) Err(NoSuchContext) Err(NoSuchContext)"
     );
     Ok(())

@@ -157,8 +157,8 @@ fn keys_are_packed_and_unpacked(rt: HostRuntime) -> Result<(), Fail> {
     Ok(())
 }
 
-/// Bytes, and what a vector holds that serves for each of them in turn.
-const IN_TURN: [(&[u8], &str); 5] = [
+/// Bytes, and the key of a text and a number whose packing they are.
+const KEYS: [(&[u8], &str); 5] = [
     (b"\x02\x02", "[Null, Null]"),
     (b"\x02\x01", "BadPacked"),
     (
@@ -168,6 +168,22 @@ const IN_TURN: [(&[u8], &str); 5] = [
     (b"\x02\x02\x02", "BadPacked"),
     (b"\x01\x00\x02", "[Text(\"\"), Null]"),
 ];
+
+/// The key of these bytes, or why there is none.
+fn unpacked_key(rt: HostRuntime, bytes: &[u8]) -> Result<String, Fail> {
+    match unpack_key(rt.alloc(), &[ValueKind::Text, ValueKind::Bigint], bytes) {
+        Ok(key) => Ok(format!(in rt.alloc(); "{key:?}")?),
+        Err(error) => Ok(format!(in rt.alloc(); "{error:?}")?),
+    }
+}
+
+#[test]
+fn keys_are_unpacked(rt: HostRuntime) -> Result<(), Fail> {
+    for (bytes, want) in KEYS {
+        assert!(rt; unpacked_key(rt, bytes)?.as_str() == want, "{want}");
+    }
+    Ok(())
+}
 
 /// What a vector holds that serves for a key, or why it holds none.
 fn unpacked_into(
@@ -184,7 +200,7 @@ fn unpacked_into(
 #[test]
 fn one_vector_serves_for_many_keys(rt: HostRuntime) -> Result<(), Fail> {
     let mut found = Vec::new(rt.alloc());
-    for (bytes, want) in IN_TURN {
+    for (bytes, want) in KEYS {
         assert!(rt;
             unpacked_into(rt, bytes, &mut found)?.as_str() == want,
             "{want}"

@@ -1,8 +1,6 @@
-use Rattle.std.specs.Prelude.{◌≡◌, ◌+◌, [], ◌∷◌, length}
-use Rattle.std.proofs.Common.{ap, arith, subst}
-use Rattle.std.proofs.lemmas.List.{length-map}
+use Rattle.std.specs.Prelude.{◌≡◌, ◌+◌, [], ◌∷◌}
+use Rattle.std.proofs.Common.{arith, subst}
 use Rattle.having_filter.specs.Meaning.{meaning}
-use Rattle.packed_rows.specs.View.{bytes_of}
 use Rattle.hash_agg.specs.Standing.{IsRun}
 use Rattle.hash_agg.specs.Inputs.{Packed, Counted, all_rows}
 use Rattle.replica_tests.proofs.runs.give.Goals as goal

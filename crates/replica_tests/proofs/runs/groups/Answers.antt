@@ -1,7 +1,5 @@
-use Rattle.std.specs.Prelude.{◌≡◌, [], ◌∷◌, length}
-use Rattle.std.proofs.Common.{◌∙◌, ap, arith, subst}
-use Rattle.std.proofs.lemmas.List.{length-map}
-use Rattle.packed_rows.specs.View.{bytes_of}
+use Rattle.std.specs.Prelude.{◌≡◌, [], ◌∷◌}
+use Rattle.std.proofs.Common.{arith, subst}
 use Rattle.having_filter.specs.Meaning.{meaning}
 use Rattle.hash_agg.specs.Standing.{IsRun}
 use Rattle.hash_agg.specs.Inputs.{Packed, all_rows}

@@ -1,4 +1,3 @@
-use Rattle.std.specs.Prelude.{[], ◌∷◌}
 use Rattle.std.proofs.Common.{sym, ◌∙◌, ap, subst}
 use Rattle.packed_rows.specs.Columns.{kinds}
 use Rattle.packed_rows.specs.View.{bytes_of}

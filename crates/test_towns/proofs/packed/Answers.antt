@@ -3,7 +3,7 @@ use Rattle.packed_rows.specs.Columns.{kinds}
 use Rattle.batch_reader.specs.Rows.{ReadsRows, records_of}
 use Rattle.batch_reader.proofs.RecordLaws.{built_rows}
 use Rattle.origin_prefix.proofs.PartLaws.{packed_input}
-use Rattle.pass_tests.proofs.passes.packed.Goals as goal
+use Rattle.test_towns.proofs.packed.Goals as goal
 
 pub returns : goal.returns
 returns c =

@@ -1,0 +1,13 @@
+use crate::passes::{Constant, limited};
+use std::test::*;
+
+#[test]
+fn a_hash_function_changes_nothing(rt: HostRuntime) -> Result<(), Fail> {
+    // All that is spilled falls on one list: 4,616 rows, then 4,232 and so on.
+    let told = limited(rt, 5_000, 65_536, Constant)?;
+    assert_eq!(rt;
+        told.as_str(),
+        "5000 true: passes 14, spilled 30056, pages 99, held 57352"
+    );
+    Ok(())
+}
