@@ -80,11 +80,10 @@ impl Operand for i64 {
     ghost use Rattle.std.specs.Prelude.{refl, ◌≡◌, length};
     ghost use Rattle.agg_protocol.specs.States.{Denotes, most_rows};
     ghost use Rattle.std.proofs.Common.{sym};
-    ghost use Rattle.grouping_model.specs.Aggregates.{Number};
+    ghost use Rattle.grouping_model.specs.Aggregates.{Number, as_number};
     ghost use Rattle.grouping_model.specs.Combining.{of_numbers};
     ghost use Rattle.agg_protocol.specs.States.{A_number};
     ghost use Rattle.agg_protocol.proofs.ArgumentLaws.{number_first};
-    ghost use Rattle.agg_protocol.specs.Arguments.{number_in};
     ghost use Rattle.agg_protocol.proofs.ArgumentLaws.{number_moved};
 
     ghost shape = { A_number };
@@ -93,7 +92,7 @@ impl Operand for i64 {
 
     ghost both_of = { of_numbers };
 
-    ghost operand = { number_in };
+    ghost operand = { as_number };
 
     ghost WIDTH = { 9 };
 
@@ -138,11 +137,10 @@ impl Operand for bool {
     ghost use Rattle.std.specs.Prelude.{refl, ◌≡◌, length};
     ghost use Rattle.agg_protocol.specs.States.{Denotes, most_rows};
     ghost use Rattle.std.proofs.Common.{sym};
-    ghost use Rattle.grouping_model.specs.Aggregates.{Truth_value};
+    ghost use Rattle.grouping_model.specs.Aggregates.{Truth_value, as_boolean};
     ghost use Rattle.grouping_model.specs.Combining.{of_truths};
     ghost use Rattle.agg_protocol.specs.States.{A_truth};
     ghost use Rattle.agg_protocol.proofs.ArgumentLaws.{truth_first};
-    ghost use Rattle.agg_protocol.specs.Arguments.{truth_in};
     ghost use Rattle.agg_protocol.proofs.ArgumentLaws.{truth_moved};
 
     ghost shape = { A_truth };
@@ -151,7 +149,7 @@ impl Operand for bool {
 
     ghost both_of = { of_truths };
 
-    ghost operand = { truth_in };
+    ghost operand = { as_boolean };
 
     ghost WIDTH = { 1 };
 

@@ -2,13 +2,13 @@
 use Rattle.std.proofs.Common.{◌≡◌, refl, ℕ, zero, suc, ◌+◌, ◌≤◌, ◌<◌, List, [], ◌∷◌, ◌++◌, length, All, slice_index_or, sym, ap, ◌∙◌, arith, length-append, Option, Some, None, Bool, ℤ, ◌+ℤ◌}
 use Rattle.std.proofs.Math.IntN.{+ℤ_idl, +ℤ_idr}
 use Rattle.grouping_model.specs.Datum.{Datum, Null, Bigint, Boolean, Text, Bigint_kind, Boolean_kind, Text_kind, HasKind}
-use Rattle.grouping_model.specs.Aggregates.{Function, Count_rows, Count, Sum, Min, Max, Bit_and, Bit_or, Bit_xor, Bool_and, Bool_or, Every, Partial, Counted, Summed, Number, Truth_value, partial}
+use Rattle.grouping_model.specs.Aggregates.{Function, Count_rows, Count, Sum, Min, Max, Bit_and, Bit_or, Bit_xor, Bool_and, Bool_or, Every, Partial, Counted, Summed, Number, Truth_value, partial, as_number, as_boolean}
 use Rattle.grouping_model.specs.Combining.{combine, transition, joined, of_numbers, of_truths}
 use Rattle.grouping_model.proofs.CombiningLaws.{partial_append}
 use Rattle.grouping_model.proofs.TransitionLaws.{one_more_argument}
 use Rattle.packed_rows.specs.View.{datum_of, row_of}
 use Rattle.packed_rows.specs.declared.Value.{Value}
-use Rattle.agg_protocol.specs.Arguments.{Takes, number_in, truth_in}
+use Rattle.agg_protocol.specs.Arguments.{Takes}
 use Rattle.agg_protocol.specs.States.{IsState, shape_of, rows_of, most_rows, A_count, A_sum, A_number, A_truth}
 use Rattle.agg_protocol.proofs.Denoting.{shape_is, shape_known, shape_partial, rows_add, one_row, no_row}
 
@@ -85,13 +85,13 @@ truth_moves Count_rows o b = refl
 truth_moves f o b = refl
 
 -- the state after one more argument, whatever that is
-pub number_moved : (f : Function) (o : Option ℤ) (v : Datum) → shape_of f ≡ A_number → Takes f v → transition f (Number o) v ≡ Number (joined (of_numbers f) o (number_in v))
+pub number_moved : (f : Function) (o : Option ℤ) (v : Datum) → shape_of f ≡ A_number → Takes f v → transition f (Number o) v ≡ Number (joined (of_numbers f) o (as_number v))
 number_moved f o Null shape takes = number_passes f o ∙ ap Number (sym (joined-none (of_numbers f) o))
 number_moved f o (Bigint z) shape takes = number_moves f o z
 number_moved f o (Boolean b) shape takes = absurd (takes_number f (Boolean b) shape takes)
 number_moved f o (Text text) shape takes = absurd (takes_number f (Text text) shape takes)
 
-pub truth_moved : (f : Function) (o : Option Bool) (v : Datum) → shape_of f ≡ A_truth → Takes f v → transition f (Truth_value o) v ≡ Truth_value (joined (of_truths f) o (truth_in v))
+pub truth_moved : (f : Function) (o : Option Bool) (v : Datum) → shape_of f ≡ A_truth → Takes f v → transition f (Truth_value o) v ≡ Truth_value (joined (of_truths f) o (as_boolean v))
 truth_moved f o Null shape takes = truth_passes f o ∙ ap Truth_value (sym (joined-none (of_truths f) o))
 truth_moved f o (Boolean b) shape takes = truth_moves f o b
 truth_moved f o (Bigint z) shape takes = absurd (takes_truth f (Bigint z) shape takes)

@@ -1,6 +1,5 @@
 -- The arguments of the aggregate functions (PostgreSQL 17, 9.21 Aggregate Functions).
-use Rattle.std.specs.Prelude.{Bool, ℤ, Option, Some, None}
-use Rattle.grouping_model.specs.Datum.{Datum, Bigint, Boolean, HasKind}
+use Rattle.grouping_model.specs.Datum.{Datum, HasKind}
 use Rattle.grouping_model.specs.Aggregates.{Function}
 use Rattle.agg_protocol.specs.Signatures.{Argument, Each_row, Any_value, Values_of, signature}
 
@@ -13,12 +12,3 @@ IsArgument (Values_of kind) value = HasKind kind value
 -- a value that may be a function's argument
 abbrev pub Takes : Function → Datum → Type 0
 Takes function value = IsArgument (signature function).argument value
-
--- the number that an argument is, and the truth value, if it is one
-abbrev pub number_in : Datum → Option ℤ
-number_in (Bigint z) = Some z
-number_in other = None
-
-abbrev pub truth_in : Datum → Option Bool
-truth_in (Boolean b) = Some b
-truth_in other = None
