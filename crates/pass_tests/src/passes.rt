@@ -4,10 +4,10 @@ ghost use Rattle.having_filter.specs.Meaning.{meaning};
 ghost use Rattle.hash_agg.specs.Inputs.{ArePackings};
 
 use batch_reader::PackedRows;
-use hash_agg::{Fnv1a, Input, KeyHash, Means, MemDisk, Run, TapeDisk, Work, aggregate};
+use hash_agg::{Fnv1a, Input, KeyHash, Means, MemDisk, Run, Work, aggregate};
 use having_filter::Query;
 use std::test::*;
-use test_disks::{FailsFirst, FailsReads, Flips};
+use test_disks::FaultyDisk;
 use test_tables::differing;
 use test_towns::{COLUMNS, TOWNS, lines, packed, query};
 
@@ -116,34 +116,25 @@ fn limits_have_a_range(rt: HostRuntime) -> Result<(), Fail> {
     Ok(())
 }
 
-/// Why the groups of 385 towns, one of which is spilled, are refused over a disk.
-fn refused<D: TapeDisk>(rt: HostRuntime, query: &Query, disk: &mut D) -> Result<String, Fail> {
+/// Why the groups of 385 towns, one of which is spilled, are refused over a disk with a fault.
+fn refused(rt: HostRuntime, query: &Query, fault: &str) -> Result<String, Fail> {
     let rows = packed(rt, query, 385, &lines(rt, 385, ";")?)?;
     let means = Means::new(65_536, Fnv1a)?;
     let inputs = [Input::Flat(&rows)];
-    let refused = aggregate(rt.alloc(), query, &inputs, &means, disk).err();
+    let mut disk = FaultyDisk::new(rt.alloc(), fault);
+    let refused = aggregate(rt.alloc(), query, &inputs, &means, &mut disk).err();
     Ok(format!(in rt.alloc(); "{refused:?}")?)
 }
 
-/// The same over a disk whose first write fails, over one whose first read fails, or over one that gives back other bytes.
-fn refused_over(rt: HostRuntime, query: &Query, disk: &str) -> Result<String, Fail> {
-    let (inner, has_failed) = (MemDisk::new(rt.alloc()), false);
-    match disk {
-        "write" => refused(rt, query, &mut FailsFirst { inner, has_failed }),
-        "read" => refused(rt, query, &mut FailsReads { inner, has_failed }),
-        _ => refused(rt, query, &mut Flips { inner }),
-    }
-}
-
 /// The same of the groups of the query.
-fn refusal(rt: HostRuntime, disk: &str) -> Result<String, Fail> {
+fn refusal(rt: HostRuntime, fault: &str) -> Result<String, Fail> {
     let query = query(rt, COLUMNS, TOWNS)?;
-    let told = refused_over(rt, &query, disk);
+    let told = refused(rt, &query, fault);
     drop(query);
     told
 }
 
-/// Disks, and why the groups are refused over each.
+/// What is wrong with a disk, and why the groups are refused over it.
 const REFUSALS: &str = "\
 write => Some(TapeFault)
 read => Some(TapeFault)

@@ -1,10 +1,9 @@
 //! Groups that a limit has spilled, to disks some of which fail.
 
 use crate::tables::{accepted, on_one_line};
-use hash_agg::{MemDisk, TapeDisk};
 use script_machine::{Outcome, run};
 use std::test::*;
-use test_disks::{FailsFirst, FailsReads, Flips};
+use test_disks::FaultyDisk;
 use test_tables::{differing, halves};
 use test_towns::lines;
 
@@ -52,33 +51,20 @@ const HEAD: &str = "columns,\"c text, d bigint\";\
     query,\"select c, count(*), sum(d) from batches group by c having c = 'k0384'\";\
     replica,a;replica,b;feed,a,0,1,385;feed,a,1,1,385;feed,b,0,2,385;limit,65536;";
 
-/// The replies to commands behind the head over a disk, on one line, with how many are refused.
-fn replies_over<D: TapeDisk>(
-    rt: HostRuntime,
-    commands: &str,
-    disk: &mut D,
-) -> Result<String, Fail> {
+/// The replies to commands behind the head over a disk with a fault, on one line, with how many are refused.
+fn told(rt: HostRuntime, case: &str) -> Result<String, Fail> {
+    let (fault, commands) = halves(case, ": ")?;
     let commands = format!(in rt.alloc(); "{HEAD}{commands}")?;
     let script = script(rt, &commands, 385)?;
     let mut written = Vec::new(rt.alloc());
-    let Outcome { refused } = run(rt.alloc(), &mut script.as_bytes(), &mut written, disk)?;
+    let mut disk = FaultyDisk::new(rt.alloc(), fault);
+    let Outcome { refused } = run(rt.alloc(), &mut script.as_bytes(), &mut written, &mut disk)?;
     let (_, replies) = halves(str::from_utf8(&written)?, "limit 65536\n")?;
     let replies = on_one_line(rt, replies)?;
     Ok(format!(in rt.alloc(); "{refused} {replies}")?)
 }
 
-/// The same over a disk whose first write fails, over one whose first read fails, or over one that gives back other bytes.
-fn told(rt: HostRuntime, case: &str) -> Result<String, Fail> {
-    let (disk, commands) = halves(case, ": ")?;
-    let (inner, has_failed) = (MemDisk::new(rt.alloc()), false);
-    match disk {
-        "write" => replies_over(rt, commands, &mut FailsFirst { inner, has_failed }),
-        "read" => replies_over(rt, commands, &mut FailsReads { inner, has_failed }),
-        _ => replies_over(rt, commands, &mut Flips { inner }),
-    }
-}
-
-/// Commands over a disk, and their replies. A command that is refused can be told again, and the others go on.
+/// What is wrong with a disk, commands over it, and their replies. A command that is refused can be told again, and the others go on.
 const FAULTS: &str = "\
 write: answer,a;answer,a;known,a => 1 refused TapeFault/answer 1/c,count,sum/k0384,2,768/known 2/origin 0 upto 1/origin 1 upto 1
 write: merge,a,b;known,a;merge,a,b;answer,a => 1 refused TapeFault/known 2/origin 0 upto 1/origin 1 upto 1/merged/answer 1/c,count,sum/k0384,3,1152

@@ -5,7 +5,7 @@ use spill_lists::{SpillError, SpillLists};
 use spill_tapes::{MemDisk, TapeDisk};
 use std::alloc::Global;
 use std::test::*;
-use test_disks::{FailsFirst, FailsReads, Flips, Marks};
+use test_disks::{FaultyDisk, Marks};
 
 /// Spills a record: its hash, its tag and its bytes.
 fn spill<D: TapeDisk>(
@@ -315,10 +315,7 @@ fn many_records_are_read_again_and_their_pages_used_again(rt: HostRuntime) -> Re
 
 #[test]
 fn a_fault_is_told(rt: HostRuntime) -> Result<(), Fail> {
-    let mut disk = FailsFirst {
-        inner: MemDisk::new(rt.alloc()),
-        has_failed: false,
-    };
+    let mut disk = FaultyDisk::new(rt.alloc(), "write");
     let mut lists = SpillLists::new(rt.alloc(), &disk);
     spill(&mut lists, &mut disk, 7, 0, b"ab")?;
     assert!(rt; lists.end_pass(&mut disk) == Err(SpillError::TapeFault));
@@ -327,10 +324,7 @@ fn a_fault_is_told(rt: HostRuntime) -> Result<(), Fail> {
 
 #[test]
 fn a_fault_of_a_full_page_is_told(rt: HostRuntime) -> Result<(), Fail> {
-    let mut disk = FailsFirst {
-        inner: MemDisk::new(rt.alloc()),
-        has_failed: false,
-    };
+    let mut disk = FaultyDisk::new(rt.alloc(), "write");
     let mut lists = SpillLists::new(rt.alloc(), &disk);
     let long = [b'x'; 9000];
     assert!(rt; lists.spill(&mut disk, 7, 0, &long) == Err(SpillError::TapeFault));
@@ -354,19 +348,14 @@ fn read_again<D: TapeDisk>(
 
 #[test]
 fn damage_is_told(rt: HostRuntime) -> Result<(), Fail> {
-    let mut disk = Flips {
-        inner: MemDisk::new(rt.alloc()),
-    };
+    let mut disk = FaultyDisk::new(rt.alloc(), "flip");
     assert!(rt; read_again(rt.alloc(), &mut disk)? == Err(SpillError::TapeDamaged));
     Ok(())
 }
 
 #[test]
 fn a_fault_of_reading_is_told(rt: HostRuntime) -> Result<(), Fail> {
-    let mut disk = FailsReads {
-        inner: MemDisk::new(rt.alloc()),
-        has_failed: false,
-    };
+    let mut disk = FaultyDisk::new(rt.alloc(), "read");
     assert!(rt; read_again(rt.alloc(), &mut disk)? == Err(SpillError::TapeFault));
     Ok(())
 }

@@ -4,7 +4,7 @@ use crate::calls::{append, close, next, rewind};
 use spill_tapes::{MemDisk, TapeDisk, TapeId, Tapes};
 use std::alloc::Global;
 use std::test::Fail;
-use test_disks::{FailsFirst, FailsReads, Flips, Marks};
+use test_disks::{FaultyDisk, Marks};
 
 /// How many tapes there are at once, and how many records each has.
 const TAPES: u32 = 16;
@@ -52,23 +52,18 @@ fn records_come_in_order(rt: HostRuntime) -> Result<(), Fail> {
 
 #[test]
 fn a_fault_kills_the_tapes(rt: HostRuntime) -> Result<(), Fail> {
-    let mut disk = FailsFirst {
-        inner: MemDisk::new(rt.alloc()),
-        has_failed: false,
-    };
+    let mut disk = FaultyDisk::new(rt.alloc(), "write");
     assert_eq!(rt;
         two_records(&rt, &mut disk)?.as_str(),
         "Err(TapeFault), Err(TapesDead) , Err(TapesDead) , Err(TapesDead) , false"
     );
-    assert_eq!(rt; disk.inner.writes(), 0);
+    assert_eq!(rt; disk.writes(), 0);
     Ok(())
 }
 
 #[test]
 fn damage_is_found(rt: HostRuntime) -> Result<(), Fail> {
-    let mut disk = Flips {
-        inner: MemDisk::new(rt.alloc()),
-    };
+    let mut disk = FaultyDisk::new(rt.alloc(), "flip");
     assert_eq!(rt;
         two_records(&rt, &mut disk)?.as_str(),
         "Ok(()), Err(TapeDamaged) , Err(TapesDead) , Err(TapesDead) , false"
@@ -78,10 +73,7 @@ fn damage_is_found(rt: HostRuntime) -> Result<(), Fail> {
 
 #[test]
 fn a_fault_of_reading_kills_the_tapes(rt: HostRuntime) -> Result<(), Fail> {
-    let mut disk = FailsReads {
-        inner: MemDisk::new(rt.alloc()),
-        has_failed: false,
-    };
+    let mut disk = FaultyDisk::new(rt.alloc(), "read");
     assert_eq!(rt;
         two_records(&rt, &mut disk)?.as_str(),
         "Ok(()), Err(TapeFault) , Err(TapesDead) , Err(TapesDead) , false"
@@ -102,10 +94,7 @@ fn long_record<D: TapeDisk>(rt: &HostRuntime, disk: &mut D) -> Result<String, Fa
 
 #[test]
 fn dead_tapes_take_no_record(rt: HostRuntime) -> Result<(), Fail> {
-    let mut disk = FailsFirst {
-        inner: MemDisk::new(rt.alloc()),
-        has_failed: false,
-    };
+    let mut disk = FaultyDisk::new(rt.alloc(), "write");
     assert_eq!(rt;
         long_record(&rt, &mut disk)?.as_str(),
         "Err(TapeFault), Err(TapesDead), Err(TapesDead), Some(TapesDead)"

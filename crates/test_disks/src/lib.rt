@@ -1,67 +1,67 @@
-//! Disks for tests, over one in memory: they fail, mark or flip. And a writer that fails.
+//! Disks for tests, over one in memory: one of which something is wrong, and one that keeps how far it was written. And a writer that fails.
 #![tactic(auto)]
 
-ghost use Rattle.std.specs.Prelude.{◌≡◌, cond, true, false};
+ghost use Rattle.std.specs.Prelude.{◌≡◌, ◌+◌, cond, not, true};
 ghost use Rattle.spill_tapes.specs.Memory.{byte_at};
 
 use spill_tapes::{DiskError, MemDisk, TapeDisk};
+use std::alloc::Global;
 use std::io;
 use std::io::{Error, ErrorKind, Write};
 
-/// A disk whose first write fails.
+/// A disk of which one thing is wrong: its first write or its first read fails, or one bit of the fifth byte of all that is read is
+/// flipped.
 #[derive(Drop)]
-pub struct FailsFirst {
-    pub inner: MemDisk,
-    pub has_failed: bool,
+pub struct FaultyDisk {
+    inner: MemDisk,
+    fails_write: bool,
+    fails_read: bool,
+    flips: bool,
 }
 
-impl TapeDisk for FailsFirst {
-    ghost failures = { λ d. cond d.has_failed 1 0 };
+impl FaultyDisk {
+    /// A disk of which a `write` or a `read` fails, or which flips a bit where it is called by another name.
+    pub fn new(alloc: Global, fault: &str) -> FaultyDisk {
+        FaultyDisk {
+            inner: MemDisk::new(alloc),
+            fails_write: fault == "write",
+            fails_read: fault == "read",
+            flips: fault != "write" && fault != "read",
+        }
+    }
+
+    /// How many writes succeeded.
+    pub fn writes(&self) -> u64 {
+        self.inner.writes()
+    }
+}
+
+impl TapeDisk for FaultyDisk {
+    ghost failures = { λ d. cond d.fails_write 0 1 + cond d.fails_read 0 1 };
 
     ghost writes = { λ d. d.inner.count };
 
-    ghost honest = { λ _. true };
+    ghost honest = { λ d. not d.flips };
 
     ghost last = { λ d place byte. byte_at d.inner place ≡ byte };
 
     fn read_at(&mut self, at: u64, bytes: &mut [u8]) -> Result<(), DiskError> {
-        self.inner.read_at(at, bytes)
+        if self.fails_read {
+            self.fails_read = false;
+            return Err(DiskError::TapeFault);
+        }
+        self.inner.read_at(at, bytes)?;
+        if self.flips && bytes.len() > 4 {
+            bytes[4] ^= 4;
+        }
+        Ok(())
     }
 
     fn write_at(&mut self, at: u64, bytes: &[u8]) -> Result<(), DiskError> {
-        if !self.has_failed {
-            self.has_failed = true;
+        if self.fails_write {
+            self.fails_write = false;
             return Err(DiskError::TapeFault);
         }
-        self.inner.write_at(at, bytes)
-    }
-}
-
-/// A disk whose first read fails.
-#[derive(Drop)]
-pub struct FailsReads {
-    pub inner: MemDisk,
-    pub has_failed: bool,
-}
-
-impl TapeDisk for FailsReads {
-    ghost failures = { λ d. cond d.has_failed 1 0 };
-
-    ghost writes = { λ d. d.inner.count };
-
-    ghost honest = { λ _. true };
-
-    ghost last = { λ d place byte. byte_at d.inner place ≡ byte };
-
-    fn read_at(&mut self, at: u64, bytes: &mut [u8]) -> Result<(), DiskError> {
-        if !self.has_failed {
-            self.has_failed = true;
-            return Err(DiskError::TapeFault);
-        }
-        self.inner.read_at(at, bytes)
-    }
-
-    fn write_at(&mut self, at: u64, bytes: &[u8]) -> Result<(), DiskError> {
         self.inner.write_at(at, bytes)
     }
 }
@@ -88,34 +88,6 @@ impl TapeDisk for Marks {
 
     fn write_at(&mut self, at: u64, bytes: &[u8]) -> Result<(), DiskError> {
         self.end = self.end.max(at + bytes.len() as u64);
-        self.inner.write_at(at, bytes)
-    }
-}
-
-/// A disk that flips one bit of the fifth byte of all that is read.
-#[derive(Drop)]
-pub struct Flips {
-    pub inner: MemDisk,
-}
-
-impl TapeDisk for Flips {
-    ghost failures = { λ _. 0 };
-
-    ghost writes = { λ d. d.inner.count };
-
-    ghost honest = { λ _. false };
-
-    ghost last = { λ d place byte. byte_at d.inner place ≡ byte };
-
-    fn read_at(&mut self, at: u64, bytes: &mut [u8]) -> Result<(), DiskError> {
-        self.inner.read_at(at, bytes)?;
-        if bytes.len() > 4 {
-            bytes[4] ^= 4;
-        }
-        Ok(())
-    }
-
-    fn write_at(&mut self, at: u64, bytes: &[u8]) -> Result<(), DiskError> {
         self.inner.write_at(at, bytes)
     }
 }
