@@ -92,8 +92,9 @@ tells what became of it:
   known          its number was known, nothing changed
   refused NAME   it is passed over, nothing changed
 
-Then OUT is written and 'saved BYTES' printed. OUT may be IN. Where IN itself is
-refused, OUT isn't written.
+Then OUT is written and 'saved BYTES' printed. OUT may be IN. Where IN itself is refused, a
+file can't be read or OUT would be longer than 67,108,864 bytes, the command ends, and OUT
+isn't written.
 
 The groups of a batch take at most --limit bytes of blocks while they are counted; what
 doesn't keep within is spilled, and counted in later passes. The reply is the same.
@@ -113,7 +114,8 @@ const MERGE_AFTER: &str = "\
 OUT knows what any IN knew. For each IN after the first, 'merged' is printed, or
 'refused NAME' where it is passed over: another query, no summary file, or another batch
 under a number that is known. Then OUT is written and 'saved BYTES' printed. OUT may be
-one of the INs. Where the first IN is refused, OUT isn't written.
+one of the INs. Where the first IN is refused, a file can't be read or OUT would be longer
+than 67,108,864 bytes, the command ends, and OUT isn't written.
 
 Groups of early batches that follow now take at most --limit bytes of blocks while they
 are counted; what doesn't keep within is spilled, and counted in later passes. --explain

@@ -11,9 +11,9 @@ mod tasks;
 use crate::arguments::parse_words;
 use crate::problem::output_fault;
 use crate::script::run_script;
-use crate::tasks::Session;
-use clap::Error;
+use crate::tasks::{Session, Task};
 use clap::error::ErrorKind;
+use clap::{ArgMatches, Error};
 use exit_status::{Ending, status};
 use std::convert::AsStr;
 use std::io::{BufWriter, Read, Write};
@@ -40,6 +40,21 @@ fn end_without_command<W: Write, E: Write>(
     }
 }
 
+/// Runs a command on files, by its name.
+fn run_task<R: Files + AllocGlobal, W: Write, E: Write>(
+    rt: &R,
+    name: &str,
+    matches: &ArgMatches<'_>,
+    writer: &mut W,
+    errors: &mut E,
+) -> Ending {
+    match Task::named(name) {
+        Some(task) => Session::new(rt, writer, errors).run(task, matches),
+        // The parser knows no other.
+        None => Ending::BadUsage,
+    }
+}
+
 /// Runs the command that words ask for.
 fn run_words<R: Files + AllocGlobal, S: AsStr, I: Read, W: Write, E: Write>(
     rt: &R,
@@ -51,7 +66,7 @@ fn run_words<R: Files + AllocGlobal, S: AsStr, I: Read, W: Write, E: Write>(
     match parse_words(rt.alloc(), words) {
         Ok(matches) => match matches.subcommand() {
             Some(("script", _)) => run_script(rt.alloc(), reader, writer, errors),
-            Some((command, matches)) => Session::new(rt, writer, errors).run(command, matches),
+            Some((name, matches)) => run_task(rt, name, matches, writer, errors),
             // The parser wants a command.
             None => Ending::BadUsage,
         },

@@ -9,10 +9,42 @@ use file_commands::Format;
 use hash_agg::{Fnv1a, Means, MemDisk, Work};
 use replica_merge::{Delivered, Replica};
 use script_io::{put_all, read_limit};
-use script_machine::{Refusal, Reply, put_reply};
+use script_machine::{Refusal, Reply, name, put_reply};
 use std::alloc::Global;
 use std::io::Write;
 use std::rt::Files;
+
+/// A command on files.
+#[derive(Clone, Copy)]
+pub(crate) enum Task {
+    New,
+    Feed,
+    Merge,
+    Known,
+    Answer,
+}
+
+impl Task {
+    /// The command of a name.
+    pub(crate) fn named(name: &str) -> Option<Task> {
+        match name {
+            "new" => Some(Task::New),
+            "feed" => Some(Task::Feed),
+            "merge" => Some(Task::Merge),
+            "known" => Some(Task::Known),
+            "answer" => Some(Task::Answer),
+            _ => None,
+        }
+    }
+
+    /// Whether it groups rows, and so has a limit and can tell what that took.
+    fn groups_rows(self) -> bool {
+        match self {
+            Task::Feed | Task::Merge | Task::Answer => true,
+            Task::New | Task::Known => false,
+        }
+    }
+}
 
 /// The value of an argument. The parser has seen to it that there is one.
 fn value<'a>(matches: &ArgMatches<'a>, id: &str) -> &'a str {
@@ -49,13 +81,14 @@ fn new_replica<'p>(alloc: Global, matches: &ArgMatches<'p>) -> Result<Replica, P
 /// The replica that a command begins with.
 fn first_replica<'p, R: Files + AllocGlobal>(
     rt: &R,
-    command: &str,
+    task: Task,
     matches: &ArgMatches<'p>,
 ) -> Result<Replica, Problem<'p>> {
-    if command == "new" {
-        new_replica(rt.alloc(), matches)
-    } else {
-        open_replica(rt, value(matches, IN))
+    match task {
+        Task::New => new_replica(rt.alloc(), matches),
+        Task::Feed | Task::Merge | Task::Known | Task::Answer => {
+            open_replica(rt, value(matches, IN))
+        }
     }
 }
 
@@ -67,14 +100,9 @@ fn means_told(text: &str) -> Result<Means<Fnv1a>, Refusal> {
     }
 }
 
-/// Whether a command groups rows, and so has a limit and can tell what it took.
-fn groups_rows(command: &str) -> bool {
-    matches!(command, "feed" | "merge" | "answer")
-}
-
 /// The means that a command tells, or the usual ones.
-fn means_of(command: &str, matches: &ArgMatches<'_>) -> Result<Means<Fnv1a>, Refusal> {
-    if !groups_rows(command) {
+fn means_of(task: Task, matches: &ArgMatches<'_>) -> Result<Means<Fnv1a>, Refusal> {
+    if !task.groups_rows() {
         return Ok(Means::usual(Fnv1a));
     }
     match matches.get_str(LIMIT) {
@@ -267,16 +295,16 @@ impl<'c, R: Files + AllocGlobal, W: Write, E: Write> Session<'c, R, W, E> {
     fn perform<'p>(
         &mut self,
         replica: &mut Replica,
-        command: &str,
+        task: Task,
         matches: &ArgMatches<'p>,
         means: &Means<Fnv1a>,
     ) -> Result<(), Problem<'p>> {
-        match command {
-            "known" => return self.list(replica, value(matches, IN)),
-            "answer" => return self.answer(replica, matches, means),
-            "feed" => self.feed_files(replica, matches, means)?,
-            "merge" => self.merge_files(replica, matches, means)?,
-            _ => {}
+        match task {
+            Task::Known => return self.list(replica, value(matches, IN)),
+            Task::Answer => return self.answer(replica, matches, means),
+            Task::Feed => self.feed_files(replica, matches, means)?,
+            Task::Merge => self.merge_files(replica, matches, means)?,
+            Task::New => {}
         }
         self.save(replica, value(matches, OUT))
     }
@@ -284,12 +312,12 @@ impl<'c, R: Files + AllocGlobal, W: Write, E: Write> Session<'c, R, W, E> {
     /// Runs a command on files: each begins with one replica.
     fn run_command<'p>(
         &mut self,
-        command: &str,
+        task: Task,
         matches: &ArgMatches<'p>,
         means: &Means<Fnv1a>,
     ) -> Result<(), Problem<'p>> {
-        let mut replica = first_replica(self.rt, command, matches)?;
-        let done = self.perform(&mut replica, command, matches, means);
+        let mut replica = first_replica(self.rt, task, matches)?;
+        let done = self.perform(&mut replica, task, matches, means);
         drop(replica);
         done
     }
@@ -318,22 +346,26 @@ impl<'c, R: Files + AllocGlobal, W: Write, E: Write> Session<'c, R, W, E> {
 
     /// Ends a command whose limit was refused. A text that is no number of bytes is no command line.
     fn refuse_limit(&mut self, why: Refusal) -> Ending {
-        let problem = Problem::refused("--limit", why);
         if matches!(why, Refusal::BadCommand) {
-            self.complain(&problem);
+            // Nothing is left to do where the sentence can't be written.
+            let _ = writeln!(
+                self.errors,
+                "--limit: refused {}: a number of bytes has 1 to 19 digits",
+                name(why)
+            );
             return Ending::BadUsage;
         }
-        self.stop(problem)
+        self.stop(Problem::refused("--limit", why))
     }
 
     /// Runs a command on files, and tells how it ended.
-    pub(crate) fn run(mut self, command: &str, matches: &ArgMatches<'_>) -> Ending {
-        let means = match means_of(command, matches) {
+    pub(crate) fn run(mut self, task: Task, matches: &ArgMatches<'_>) -> Ending {
+        let means = match means_of(task, matches) {
             Ok(means) => means,
             Err(why) => return self.refuse_limit(why),
         };
-        let done = self.run_command(command, matches, &means);
-        if done.is_ok() && groups_rows(command) && matches.get_flag(EXPLAIN) {
+        let done = self.run_command(task, matches, &means);
+        if done.is_ok() && task.groups_rows() && matches.get_flag(EXPLAIN) {
             self.explain(means.limit());
         }
         match done {

@@ -100,7 +100,7 @@ answer|@ => refused ReadFault/ => 3 => refused ReadFault
 feed|@x.sum|@none.sum|@b.csv|--limit|65535 => refused LimitOutOfRange/ => 1 => --limit: refused LimitOutOfRange
 merge|@x.sum|@none.sum|--limit|9999999999999999999 => refused LimitOutOfRange/ => 1 => --limit: refused LimitOutOfRange
 answer|@none.sum|--limit|1099511627777 => refused LimitOutOfRange/ => 1 => --limit: refused LimitOutOfRange
-feed|@x.sum|@none.sum|@b.csv|--limit|x => - => 2 => --limit: refused BadCommand
+feed|@x.sum|@none.sum|@b.csv|--limit|x => - => 2 => --limit: refused BadCommand: a number of bytes has 1 to 19 digits
 merge|@x.sum|@none.sum|--limit|00000000000000065536 => - => 2 => --limit: refused BadCommand
 answer|@none.sum|--limit| => - => 2 => --limit: refused BadCommand
 feed|@x.sum|@e.sum => - => 2 => BATCH
@@ -114,6 +114,37 @@ group|@x.sum => - => 2 => group
 #[test]
 fn refused_commands_write_no_file(rt: HostRuntime) -> Result<(), Fail> {
     assert_eq!(rt; play(&rt, "refused", &BATCHES, REFUSED)?.as_str(), "");
+    Ok(())
+}
+
+/// Files that stand in the place of OUT, or beside it: a link that leads to no file yet, a file with permissions of its own, the name of the
+/// part that is written first, and a device, which is written to.
+const PLACES: &str = "\
+?link|@link.sum|made.sum => - => 0
+new|@link.sum|--columns|c text, d bigint|--query|SELECT count(*) FROM batches => saved 58/ => 0
+?private|@made.sum => - => 0
+feed|@made.sum|@link.sum|@b.csv => folded upto 1/saved 86/ => 0
+?is_private|@made.sum => - => 0
+known|@link.sum => origin 0 upto 1/ => 0
+new|@taken.sum|--columns|c text|--query|SELECT c FROM batches GROUP BY c => saved 52/ => 0
+?same|@taken.sum.part0|@b.csv => - => 0
+?there|@taken.sum.part1 => - => 1
+new|/dev/full|--columns|c text|--query|SELECT c FROM batches GROUP BY c => refused WriteFault/ => 3 => No space left on device
+?there|/dev/full.part0 => - => 1
+";
+
+/// The batch file, and a file that is there before.
+const BESIDE: [File; 2] = [
+    ("b.csv", b"batch,0,1,3\noslo,5\nbergen,7\noslo,-2\n"),
+    (
+        "taken.sum.part0",
+        b"batch,0,1,3\noslo,5\nbergen,7\noslo,-2\n",
+    ),
+];
+
+#[test]
+fn what_stands_there_keeps_its_kind(rt: HostRuntime) -> Result<(), Fail> {
+    assert_eq!(rt; play(&rt, "places", &BESIDE, PLACES)?.as_str(), "");
     Ok(())
 }
 
@@ -160,7 +191,7 @@ fn a_file_over_the_limit_is_refused(rt: HostRuntime) -> Result<(), Fail> {
 const TOO_LONG: &str = "\
 ?long|@long.csv|67108865 => - => 0
 new|@e.sum|--columns|c text, d bigint|--query|SELECT count(*) FROM batches => saved 58/ => 0
-feed|@f.sum|@e.sum|@long.csv|@b.csv => refused InputTooLong/folded upto 1/saved 86/ => 1 => long.csv: refused InputTooLong
+feed|@f.sum|@e.sum|@long.csv|@b.csv => refused InputTooLong/folded upto 1/saved 86/ => 1 => long.csv: refused InputTooLong: more than 67,108,864 bytes
 merge|@g.sum|@f.sum|@long.csv => refused InputTooLong/saved 86/ => 1 => long.csv: refused InputTooLong
 known|@long.csv => refused InputTooLong/ => 1 => long.csv: refused InputTooLong
 ";

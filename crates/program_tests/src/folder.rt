@@ -1,7 +1,8 @@
 //! A folder of files in which commands run, and what they print there.
 
 use command_line::command;
-use std::os::unix::fs::symlink;
+use std::fs::Permissions;
+use std::os::unix::fs::{PermissionsExt, symlink};
 use std::test::*;
 use std::{fs, process};
 use test_towns::lines;
@@ -58,13 +59,20 @@ fn write_rows(rt: &HostRuntime, file: &str, told: &str) -> Result<bool, Fail> {
     Ok(fs::write(rt, file, text.as_bytes()).is_ok())
 }
 
-/// What a test does beside commands: whether files are the same, whether one is there, a link, a file of a length, and a
-/// batch file of many rows.
+/// Whether only its owner may read and write a file.
+fn is_private(rt: &HostRuntime, file: &str) -> Result<bool, Fail> {
+    Ok(fs::metadata(rt, file)?.permissions().mode() & 0o777 == 0o600)
+}
+
+/// What a test does beside commands: whether files are the same, whether one is there, a link, a file that only its owner may read
+/// and write, whether one is so, a file of a length, and a batch file of many rows.
 fn aside(rt: &HostRuntime, word: &str, file: &str, rest: &str) -> Result<bool, Fail> {
     match word {
         "same" => are_same(rt, file, rest),
         "there" => Ok(fs::exists(rt, file)?),
         "link" => Ok(symlink(rt, rest, file).is_ok()),
+        "private" => Ok(fs::set_permissions(rt, file, Permissions::from_mode(0o600)).is_ok()),
+        "is_private" => is_private(rt, file),
         "long" => Ok(
             fs::File::create(rt, file)?
                 .set_len(rest.parse().ok().ok_or("no length")?)

@@ -2,9 +2,10 @@
 
 use crate::folder::run;
 use command_line::command;
+use std::io::{Read, Write};
 use std::test::*;
 use std::{fs, process};
-use test_disks::FailingWriter;
+use test_disks::{FailingReader, FailingWriter};
 
 /// Words that ask for help, and whether help comes.
 fn is_helped(rt: &HostRuntime, words: &str) -> Result<bool, Fail> {
@@ -56,28 +57,70 @@ fn scripts_run(rt: HostRuntime) -> Result<(), Fail> {
     Ok(())
 }
 
-/// The status and the sentences of a command whose standard output takes 3 bytes.
-fn with_short_output(rt: &HostRuntime, words: &[&str]) -> Result<String, Fail> {
+/// The status and the sentences of a command.
+fn ended<I: Read, W: Write>(
+    rt: &HostRuntime,
+    words: &[&str],
+    input: &mut I,
+    output: &mut W,
+) -> Result<String, Fail> {
     let mut errors = Vec::new(rt.alloc());
-    let mut writer = FailingWriter {
-        taken: Vec::new(rt.alloc()),
-        room: 3,
-    };
-    let mut input: &[u8] = b"columns,c text\n";
-    let status = command(rt, words, &mut input, &mut writer, &mut errors);
+    let status = command(rt, words, input, output, &mut errors);
     let errors = String::from_utf8(errors).ok().ok_or("not UTF-8")?;
     Ok(format!(in rt.alloc(); "{status}|{errors}")?)
 }
 
+/// The same where standard output takes 3 bytes.
+fn with_short_output(rt: &HostRuntime, words: &[&str], input: &str) -> Result<String, Fail> {
+    let mut output = FailingWriter {
+        taken: Vec::new(rt.alloc()),
+        room: 3,
+    };
+    ended(rt, words, &mut input.as_bytes(), &mut output)
+}
+
 #[test]
 fn an_output_that_fails_is_told(rt: HostRuntime) -> Result<(), Fail> {
-    let script = with_short_output(&rt, &["agg_tool", "script"])?;
+    let script = with_short_output(&rt, &["agg_tool", "script"], "columns,c text\n")?;
     assert_eq!(rt;
         script.as_str(),
         "3|standard output: refused WriteFault: the output could not be written\n"
     );
-    let help = with_short_output(&rt, &["agg_tool", "--help"])?;
+    let help = with_short_output(&rt, &["agg_tool", "--help"], "")?;
     assert_eq!(rt; help.as_str(), script.as_str());
+    Ok(())
+}
+
+#[test]
+fn a_script_that_stops_is_told_once(rt: HostRuntime) -> Result<(), Fail> {
+    let words = ["agg_tool", "script"];
+    let unread = ended(&rt, &words, &mut FailingReader, &mut Vec::new(rt.alloc()))?;
+    assert_eq!(rt;
+        unread.as_str(),
+        "3|refused ReadFault: the input could not be read\n"
+    );
+    // Its replies are more than are gathered before some go out.
+    let mut script = String::from_str(
+        rt.alloc(),
+        "columns,c text\nquery,SELECT count(*) FROM batches\n",
+    )?;
+    for _ in 0..1_000 {
+        script.push_str("limit,65536\n")?;
+    }
+    let unwritten = with_short_output(&rt, &words, &script)?;
+    assert_eq!(rt;
+        unwritten.as_str(),
+        "3|refused WriteFault: the output could not be written\n"
+    );
+    Ok(())
+}
+
+#[test]
+fn a_command_that_stops_tells_no_work(rt: HostRuntime) -> Result<(), Fail> {
+    assert_eq!(rt;
+        said(&rt, "answer|/none.sum|--explain", "")?.as_str(),
+        "3|refused ReadFault\n|/none.sum: refused ReadFault: the input could not be read (No such file or directory (os error 2))\n"
+    );
     Ok(())
 }
 
@@ -95,7 +138,7 @@ fn a_file_is_there_though_its_reply_fails(rt: HostRuntime) -> Result<(), Fail> {
         "--query",
         query,
     ];
-    let told = with_short_output(&rt, &words)?;
+    let told = with_short_output(&rt, &words, "")?;
     assert_eq!(rt;
         told.as_str(),
         "3|standard output: refused WriteFault: the output could not be written\n"

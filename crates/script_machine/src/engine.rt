@@ -7,11 +7,11 @@ ghost use Rattle.script_machine.specs.Views.{empty};
 ghost use Rattle.script_machine.specs.Output.{AnswersAll, AnswersSome, KeepsUnread, WritesAll, WritesSome, commands_in};
 
 use crate::error::RunError;
+use crate::lines::Lines;
 use crate::output::put_reply;
 use crate::refusal::Refusal;
 use crate::reply::Reply;
 use crate::session::Session;
-use csv::ByteRecord;
 use grouping_model::limits::LONGEST_SCRIPT;
 use hash_agg::TapeDisk;
 use script_commands::{Command, next_command};
@@ -40,18 +40,15 @@ impl Observer for Unobserved {
     fn refused(&mut self, _line: u64, _why: Refusal) {}
 }
 
-/// The line of a script at which a record begins, or 0 where the record was not read from one.
-fn line_of(record: &ByteRecord) -> u64 {
-    match record.position() {
-        Some(position) => position.line(),
-        None => 0,
-    }
-}
-
 /// Tells of a reply, if it is a refusal.
-fn tell<O: Observer>(observer: &mut O, command: &Command, reply: &Reply<'_>) {
+fn tell<O: Observer>(
+    observer: &mut O,
+    lines: &mut Lines<'_>,
+    command: &Command,
+    reply: &Reply<'_>,
+) {
     if let Reply::Refused(why) = reply {
-        observer.refused(line_of(&command.head), *why);
+        observer.refused(lines.line_of(&command.head), *why);
     }
 }
 
@@ -61,6 +58,7 @@ fn answer_all<W: Write, O: Observer, D: TapeDisk>(
     session: &mut Session,
     writer: &mut W,
     observer: &mut O,
+    lines: &mut Lines<'_>,
     disk: &mut D,
 ) -> Result<Outcome, RunError>
     requires few { length records.old ≤ LONGEST_SCRIPT + 1 }
@@ -77,7 +75,7 @@ fn answer_all<W: Write, O: Observer, D: TapeDisk>(
         if reply.is_refused() {
             refused += 1;
         }
-        tell(observer, &command, &reply);
+        tell(observer, lines, &command, &reply);
         put_reply(writer, &reply)?;
     }
     Ok(Outcome { refused })
@@ -100,7 +98,15 @@ fn run_script<W: Write, O: Observer, D: TapeDisk>(
 {
     let mut records = Records::new(alloc, script);
     let mut session = Session::new(alloc);
-    let outcome = answer_all(&mut records, &mut session, writer, observer, disk);
+    let mut lines = Lines::new(script);
+    let outcome = answer_all(
+        &mut records,
+        &mut session,
+        writer,
+        observer,
+        &mut lines,
+        disk,
+    );
     drop(session);
     outcome
 }
@@ -130,7 +136,8 @@ pub fn run<R: Read, W: Write, D: TapeDisk>(
     run_observed(alloc, reader, writer, &mut Unobserved, disk)
 }
 
-/// The same as `run`, whose observer is told of each command that is refused, and where it stands in the script.
+/// The same as `run`, whose observer is told of each command that is refused, in order, and where it stands in the script. No clause
+/// speaks of what it is told.
 pub fn run_observed<R: Read, W: Write, O: Observer, D: TapeDisk>(
     alloc: Global,
     reader: &mut R,

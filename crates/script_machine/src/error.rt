@@ -1,4 +1,4 @@
-//! Why a run stopped before the end of its script.
+//! Why a script, or another file, could not be read whole or be written.
 
 ghost use Rattle.std.specs.Prelude.{◌≡◌};
 ghost use Rattle.script_machine.specs.Output.{run_error, run_refusal};
@@ -9,14 +9,14 @@ use script_io::{InputError, WriteFault};
 use std::alloc::AllocError;
 use thiserror::Error;
 
-/// Why a run stopped before the end of its script.
+/// Why a run stopped before the end of its script; of a file that is read or written whole, why it was not.
 #[derive(Clone, Copy, Debug, PartialEq, Eq, Error)]
 pub enum RunError {
     /// Memory ran out for the script or for its next command. The commands before were answered.
     #[error("out of memory")]
     NoMemory,
-    /// The script has more than 67,108,864 bytes. Nothing was written.
-    #[error("the input has more than 67,108,864 bytes")]
+    /// The script, or the file, has more than 67,108,864 bytes. Nothing was written.
+    #[error("more than 67,108,864 bytes")]
     InputTooLong,
     /// The reader failed, or was interrupted. Nothing was written.
     #[error("the input could not be read")]

@@ -5,6 +5,7 @@
 mod engine;
 mod error;
 mod laws;
+mod lines;
 mod output;
 mod refusal;
 mod reply;

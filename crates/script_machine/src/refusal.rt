@@ -46,8 +46,8 @@ pub enum Refusal {
     /// The run stopped before the end of its script.
     #[error(transparent)]
     Run(RunError),
-    /// No command: another word, a wrong number of fields, a text that isn't UTF-8, a bad name or number of rows, or a
-    /// command that comes too early or a second time.
+    /// No command: another word, a wrong number of fields, a text that isn't UTF-8, a bad name, number of rows or limit, or
+    /// a command that comes too early or a second time.
     #[error("no command, or not at this place")]
     BadCommand,
     /// There is no replica of this name.

@@ -5,7 +5,7 @@ use script_machine::{Observer, Outcome, Refusal, RunError, name, run, run_observ
 use std::io;
 use std::io::{Error, ErrorKind, Read};
 use std::test::*;
-use test_disks::FailingWriter;
+use test_disks::{FailingReader, FailingWriter};
 
 /// The commands that each example begins with, and their replies.
 const HEAD: &str = "columns,\"c text, d bigint\"\n\
@@ -162,16 +162,6 @@ const QUERIES: Scenario = Scenario {
         refused NumberTooLarge\n\
         query SELECT count(*) FROM batches WHERE NOT (d = 1 OR d = 2) AND c <> 'x' IS TRUE\n",
 };
-
-/// A reader that fails at once.
-#[derive(Drop)]
-struct FailingReader;
-
-impl Read for FailingReader {
-    fn read(&mut self, _buf: &mut [u8]) -> io::Result<usize> {
-        Err(Error::from(ErrorKind::Other))
-    }
-}
 
 /// A reader without an end, which counts the bytes that were taken.
 #[derive(Drop)]
@@ -359,6 +349,39 @@ fn refused_commands_are_told_with_their_lines(rt: HostRuntime) -> Result<(), Fai
         (8, Refusal::NoSuchName),
     ];
     assert!(rt; refusals.lines.as_slice() == wanted.as_slice());
+    Ok(())
+}
+
+/// The lines of the commands of a script that are refused.
+fn refused_lines(rt: HostRuntime, script: &str) -> Result<String, Fail> {
+    let mut refusals = Refusals {
+        lines: Vec::new(rt.alloc()),
+    };
+    run_observed(
+        rt.alloc(),
+        &mut script.as_bytes(),
+        &mut Vec::new(rt.alloc()),
+        &mut refusals,
+        &mut MemDisk::new(rt.alloc()),
+    )?;
+    let mut lines = String::new(rt.alloc());
+    for (line, _) in &refusals.lines {
+        lines.push_str(&format!(in rt.alloc(); "{line} ")?)?;
+    }
+    Ok(lines)
+}
+
+#[test]
+fn lines_end_in_three_ways(rt: HostRuntime) -> Result<(), Fail> {
+    for (script, wanted) in [
+        ("x\nx\nx\n", "1 2 3 "),
+        ("x\r\nx\r\nx", "1 2 3 "),
+        ("x\rx\rx\r", "1 2 3 "),
+        ("\n\r\n\rx\n\n\nx", "4 7 "),
+        ("\u{feff}\nx\n\"x\ny\",z\nx", "2 3 5 "),
+    ] {
+        assert_eq!(rt; refused_lines(rt, script)?.as_str(), wanted);
+    }
     Ok(())
 }
 

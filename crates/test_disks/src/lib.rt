@@ -1,4 +1,4 @@
-//! Disks for tests, over one in memory: one of which something is wrong, and one that keeps how far it was written. And a writer that fails.
+//! Disks for tests, over one in memory: one of which something is wrong, and one that keeps how far it was written. And a reader and a writer that fail.
 #![tactic(auto)]
 
 ghost use Rattle.std.specs.Prelude.{◌≡◌, ◌+◌, cond, not, true};
@@ -7,7 +7,7 @@ ghost use Rattle.spill_tapes.specs.Memory.{byte_at};
 use spill_tapes::{DiskError, MemDisk, TapeDisk};
 use std::alloc::Global;
 use std::io;
-use std::io::{Error, ErrorKind, Write};
+use std::io::{Error, ErrorKind, Read, Write};
 
 /// A disk of which one thing is wrong: its first write or its first read fails, or one bit of the fifth byte of all that is read is
 /// flipped.
@@ -89,6 +89,16 @@ impl TapeDisk for Marks {
     fn write_at(&mut self, at: u64, bytes: &[u8]) -> Result<(), DiskError> {
         self.end = self.end.max(at + bytes.len() as u64);
         self.inner.write_at(at, bytes)
+    }
+}
+
+/// A reader that fails at once.
+#[derive(Drop)]
+pub struct FailingReader;
+
+impl Read for FailingReader {
+    fn read(&mut self, _buf: &mut [u8]) -> io::Result<usize> {
+        Err(Error::from(ErrorKind::Other))
     }
 }
 
