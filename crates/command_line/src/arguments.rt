@@ -190,6 +190,7 @@ fn limit_option<'a>(alloc: Global) -> Arg<'a> {
         "BYTES",
         "What a table of groups may take, 65536 to 1099511627776 [default: 4194304]",
     )
+    .allow_negative_numbers(true)
 }
 
 /// The option that asks what the work took.

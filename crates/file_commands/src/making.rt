@@ -31,7 +31,8 @@ pub fn create(alloc: Global, columns: &str, query: &str) -> Result<Replica, Refu
     Ok(Replica::new(alloc, query))
 }
 
-/// The replica that a summary file is of. Any bytes are read: those that are no summary file are refused by their first fault.
+/// The replica that a summary file is of. Any bytes are read: those that are no summary file are refused by their first fault. Want of memory
+/// is `NoMemory`.
 pub fn load(alloc: Global, file: &[u8]) -> Result<Replica, Refusal>
     ensures loaded { IfOk result (λ replica.
         IsSummary file.now replica.query replica.parts) }
@@ -44,7 +45,7 @@ pub fn load(alloc: Global, file: &[u8]) -> Result<Replica, Refusal>
 }
 
 /// The summary file of a replica: the one spelling of its query and of what it knows. A file that would be longer than the
-/// 67,108,864 bytes that are read is `InputTooLong`.
+/// 67,108,864 bytes that are read is `InputTooLong`, want of memory `NoMemory`.
 pub fn save(replica: &Replica) -> Result<Vec<u8>, Refusal>
     ensures file { IfOk result (λ bytes.
         IsSummary bytes.items replica.now.query replica.now.parts) }

@@ -103,6 +103,7 @@ answer|@none.sum|--limit|1099511627777 => refused LimitOutOfRange/ => 1 => --lim
 feed|@x.sum|@none.sum|@b.csv|--limit|x => - => 2 => --limit: refused BadCommand: a number of bytes has 1 to 19 digits
 merge|@x.sum|@none.sum|--limit|00000000000000065536 => - => 2 => --limit: refused BadCommand
 answer|@none.sum|--limit| => - => 2 => --limit: refused BadCommand
+answer|@none.sum|--limit|-5 => - => 2 => --limit: refused BadCommand
 feed|@x.sum|@e.sum => - => 2 => BATCH
 merge|@x.sum => - => 2 => IN
 answer|@e.sum|--format|xml => - => 2 => xml

@@ -9,7 +9,8 @@ use origin_prefix::JoinError;
 use std::alloc::{AllocError, AllocFailed};
 use thiserror::Error;
 
-/// Why replicas are not merged. The first that applies is told, in this order, want of memory aside.
+/// Why replicas are not merged: their queries differ, or else what is told of the first origin, by rising number, whose parts are not joined.
+/// Want of memory beside the origins is told as one of theirs.
 #[derive(Clone, Copy, Debug, PartialEq, Eq, Error)]
 pub enum MergeError {
     /// The replicas answer different queries, or have different schemas.

@@ -178,9 +178,13 @@ fn fill(parts: &mut BTreeMap<u16, OriginPart>, old: BTreeMap<u16, OriginPart>)
 }
 
 impl Replica {
-    /// What this replica and another hold together, aside from both: `commit` moves it in. `OriginDisagrees` is told where the parts of an
-    /// origin disagree. What the aggregations of early batches that follow now took is added to `work`,
-    /// and nothing at an error.
+    /// What this replica and another hold together, aside from both: `commit` moves it in. What the aggregations of early batches that
+    /// follow now took is added to `work`, and nothing at an error.
+    ///
+    /// # Errors
+    ///
+    /// `DifferentQuery`, and then by rising origin `OriginDisagrees` where its parts disagree, and want of memory or the error of the
+    /// disk of tapes over which its batches are aggregated.
     pub fn join<H: KeyHash + Copy, D: TapeDisk>(
         &self,
         other: &Replica,
@@ -252,9 +256,12 @@ impl Replica {
     }
 
     /// Takes what another replica holds beside what this one does: afterwards it knows what either knew. The other must answer the same
-    /// query over the same schema, else `DifferentQuery` is told, and hold no other batch of a number, as far as that can still be
-    /// seen, else `OriginDisagrees`. A refused merge changes nothing. What the aggregations of early batches that follow now took is
-    /// added to `work`.
+    /// query over the same schema, and hold no other batch of a number, as far as that can still be seen. What the aggregations of early
+    /// batches that follow now took is added to `work`.
+    ///
+    /// # Errors
+    ///
+    /// Those of [`join`](Replica::join). An error changes nothing, and adds nothing to `work`.
     pub fn merge<H: KeyHash + Copy, D: TapeDisk>(
         &mut self,
         other: &Replica,
