@@ -7,7 +7,7 @@ fn a_hash_function_changes_nothing(rt: HostRuntime) -> Result<(), Fail> {
     let told = limited(rt, 5_000, 65_536, Constant)?;
     assert_eq!(rt;
         told.as_str(),
-        "5000 true: passes 14, spilled 30056, pages 99, held 57352"
+        "5000 true 016b3439393900 0000000000000001000000000000000100000000000000000000000000001387: passes 14, spilled 30056, pages 99, held 57352"
     );
     Ok(())
 }

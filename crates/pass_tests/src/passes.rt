@@ -6,6 +6,7 @@ ghost use Rattle.hash_agg.specs.Inputs.{ArePackings};
 use batch_reader::PackedRows;
 use hash_agg::{Fnv1a, Input, KeyHash, Means, MemDisk, Run, Work, aggregate};
 use having_filter::Query;
+use hex::encode;
 use std::test::*;
 use test_disks::FaultyDisk;
 use test_tables::differing;
@@ -41,8 +42,16 @@ fn counted<H: KeyHash + Copy>(
     Ok((run, work, disk.writes()))
 }
 
-/// How many groups there are of a row of each of so many towns, whether they are the same within a limit by a hash function, and what
-/// that takes.
+/// The bytes of the last group's key and states.
+fn last_group(rt: HostRuntime, run: &Run) -> Result<String, Fail> {
+    let last = run.len().checked_sub(1).ok_or("no group")?;
+    let (key, states) = run.group(last);
+    let (key, states) = (encode(rt.alloc(), key)?, encode(rt.alloc(), states)?);
+    Ok(format!(in rt.alloc(); "{key} {states}")?)
+}
+
+/// How many groups there are of a row of each of so many towns, whether they are the same within a limit by a hash function, the last of
+/// them, and what that takes.
 fn compared<H: KeyHash + Copy>(
     rt: HostRuntime,
     query: &Query,
@@ -54,9 +63,10 @@ fn compared<H: KeyHash + Copy>(
     let (whole, _, _) = counted(rt, query, &rows, 1_099_511_627_776, Fnv1a)?;
     let (parts, work, pages) = counted(rt, query, &rows, limit, hash)?;
     let (many, same) = (whole.len(), whole.same_groups(&parts));
+    let last = last_group(rt, &parts)?;
     let (passes, spilled, held) = (work.passes, work.spilled, work.most_held);
     Ok(format!(in rt.alloc();
-        "{many} {same}: passes {passes}, spilled {spilled}, pages {pages}, held {held}"
+        "{many} {same} {last}: passes {passes}, spilled {spilled}, pages {pages}, held {held}"
     )?)
 }
 
@@ -80,7 +90,7 @@ fn a_limit_changes_nothing(rt: HostRuntime) -> Result<(), Fail> {
     let told = limited(rt, 20_000, 65_536, Fnv1a)?;
     assert_eq!(rt;
         told.as_str(),
-        "20000 true: passes 273, spilled 33088, pages 322, held 57352"
+        "20000 true 016b313939393900 0000000000000001000000000000000100000000000000000000000000004e1f: passes 273, spilled 33088, pages 322, held 57352"
     );
     Ok(())
 }
@@ -96,7 +106,9 @@ fn a_group_too_many_is_spilled(rt: HostRuntime) -> Result<(), Fail> {
         let told = limited(rt, 385, limit, Constant)?;
         assert_eq!(rt;
             told.as_str(),
-            format!(in rt.alloc(); "385 true: {wanted}")?.as_str()
+            format!(in rt.alloc();
+                "385 true 016b3033383400 0000000000000001000000000000000100000000000000000000000000000180: {wanted}"
+            )?.as_str()
         );
     }
     Ok(())
