@@ -1,20 +1,21 @@
 -- Reading columns from the front of lexemes that describe them.
-use Rattle.std.specs.Prelude.{◌≡◌, ◌≢◌, refl, ℕ, ◌+◌, ◌<◌, ◌≤◌, ◌==◌, true, false, ◌||◌, List, [], ◌∷◌, ◌++◌, length, Contains, Option, Some, None}
+use Rattle.std.specs.Prelude.{◌≡◌, ◌≢◌, refl, ℕ, ◌+◌, ◌*◌, ◌<◌, ◌≤◌, ◌==◌, true, false, ◌||◌, List, [], ◌∷◌, ◌++◌, length, Contains, Option, Some, None, Ok}
 use Rattle.std.proofs.Common.{sym, ◌∙◌, ap, subst, inl, inr, arith, append_assoc, suc}
 use Rattle.std.proofs.lemmas.Option.{same_Some}
-use Rattle.std.proofs.lemmas.List.{length-append}
+use Rattle.std.proofs.lemmas.List.{length-append, length-map}
 use Rattle.std.specs.List.{AllByRecursion, IsDistinct, list_any}
 use Rattle.std.specs.Str.{bytes_eq}
 use Rattle.std.proofs.lemmas.Slice.Eq.{bytes_eq-Decides}
 use Rattle.query_tokens.specs.declared.word.Symbol.TheVariants.{Comma}
 use Rattle.query_tokens.specs.declared.word.Token.{Token}
-use Rattle.query_tokens.specs.Words.{Lexeme, Name, Sign, all_placed}
+use Rattle.query_tokens.specs.Words.{Lexeme, Name, Sign, Placed, all_placed}
 use Rattle.query_tokens.specs.Spelling.{IsLexeme, lexemes_of}
+use Rattle.query_tokens.specs.Tokens.{tokens_in}
 use Rattle.std.proofs.lemmas.Bool.{eqb-true}
 use Rattle.grouping_model.specs.declared.limits.TheConstants.{MOST_COLUMNS}
 use Rattle.query_tokens.specs.Reserved.{is_reserved}
 use Rattle.grouping_model.specs.Datum.{Kind}
-use Rattle.packed_rows.specs.Columns.{Column, names, IsColumnName, AreColumns, kind_named, DescribesColumn, Describes, BeginsWithColumn}
+use Rattle.packed_rows.specs.Columns.{Column, names, IsSchemaText, IsColumnName, AreColumns, kind_named, DescribesColumn, Describes, BeginsWithColumn}
 use Rattle.packed_rows.specs.Refusal.{AddFault, ReadFault}
 use Rattle.packed_rows.specs.declared.error.RowError.{RowError}
 use Rattle.packed_rows.specs.declared.error.RowError.TheVariants.{NoMemory, BadSchema}
@@ -226,3 +227,18 @@ some_lexemes [] e = λ _. clash (sym e)
     clash : true ≡ false → ⊥
     clash e = cc
 some_lexemes (t ∷ ts) e = λ empty. cc
+
+-- a column is told by a name and a kind, and a comma parts it from the next one
+lexemes_of_columns : (lexemes : List Lexeme) (columns : List Column) → Describes lexemes columns → length lexemes + 1 ≡ 3 * length columns
+unfolding Describes
+lexemes_of_columns (Name name ∷ Name word ∷ []) (column ∷ []) d = refl
+lexemes_of_columns (Name name ∷ Name word ∷ Sign Comma ∷ lexemes) (column ∷ columns) d = let more = lexemes_of_columns lexemes columns d.1 in omega (arith, more)
+lexemes_of_columns lexemes columns d = absurd d
+
+-- a text of more tokens than the most columns are told by is that of no schema
+pub too_many_tokens : (text : List ℕ) → ((ts : List Placed) → tokens_in text ≡ Ok ts → 3 * MOST_COLUMNS < length ts) → (columns : List Column) → ¬ (IsSchemaText text columns)
+too_many_tokens text more columns is =
+    let count = lexemes_of_columns (lexemes_of is.tokens) columns is.described in
+    let same = length-map is.tokens (λ t. t.lexeme) in
+    let over = more is.tokens is.read in
+    omega (arith, count, same, over, is.columns_are.most)

@@ -1,4 +1,4 @@
--- When a row or a key is refused.
+-- When a row or a key is refused. All of this is our own.
 use Rattle.std.specs.Prelude.{◌≡◌, ◌≢◌, ℕ, List, length, IsTrue, ◌⊎◌}
 use Rattle.std.specs.List.{list_any}
 use Rattle.std.specs.Str.{bytes_eq}

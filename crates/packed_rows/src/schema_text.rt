@@ -15,19 +15,23 @@ use crate::error::RowError;
 use crate::value::ValueKind;
 use grouping_model::limits::MOST_COLUMNS;
 use indexmap::IndexMap;
-use query_tokens::{Symbol, Token, TokenError, Word, is_reserved, tokens};
+use query_tokens::{Symbol, Token, TokenError, Word, is_reserved, tokens_up_to};
 use std::alloc::Global;
 
 /// The kinds of columns by their names, in the columns' order.
 pub(crate) type Columns = IndexMap<String, ValueKind>;
 
-/// The tokens of a text.
+/// The most tokens that the text of a schema has: for each column a name, a kind and a comma.
+const MOST_TOKENS: usize = 3 * MOST_COLUMNS;
+
+/// The tokens of a text. One with more tokens than a schema has is read no further.
 pub(crate) fn read_tokens(alloc: Global, text: &str) -> Result<Vec<Token>, RowError>
     ensures read { IfOk result (λ found. tokens_in text.now ≡ Ok (all_placed found.items)) }
     ensures refused { IfErr result (ParseFault text.now) }
 {
-    match tokens(alloc, text) {
-        Ok(found) => Ok(found),
+    match tokens_up_to(alloc, text, MOST_TOKENS) {
+        Ok(Some(found)) => Ok(found),
+        Ok(None) => Err(RowError::BadSchema),
         Err(TokenError::NoMemory) => Err(RowError::NoMemory),
         Err(TokenError::Fault(_)) => Err(RowError::BadSchema),
     }

@@ -13,6 +13,6 @@ pub use laws::{
     ends_of_lexemes, joined_pieces, places_in_text, spelling_is_read, texts_are_made_of_tokens,
     what_is_read,
 };
-pub use reading::tokens;
+pub use reading::{tokens, tokens_up_to};
 pub use reserved::is_reserved;
 pub use word::{Symbol, Token, Word};

@@ -1,14 +1,14 @@
 //! Reading a text from the left.
 
-ghost use Rattle.std.specs.Prelude.{◌≡◌, ◌<◌, ◌≤◌, ◌-◌, length, take, drop, slice_index, true, false, IfOk, IsTrue, option_map};
+ghost use Rattle.std.specs.Prelude.{◌≡◌, ◌<◌, ◌≤◌, ◌-◌, List, length, take, drop, slice_index, true, false, Ok, IfOk, IfErr, IfSome, IfNone, IsTrue, option_map};
 ghost use Rattle.std.specs.Char.{to_ascii_lowercase, is_ascii_digit};
 ghost use Rattle.std.specs.String.{string_bytes};
 ghost use Rattle.std.specs.List.{All};
 ghost use Rattle.std.specs.Str.{all_ascii_digits};
 ghost use Rattle.query_tokens.specs.Bytes.{begins_name, first_is};
 ghost use Rattle.query_tokens.specs.Spelling.{IsLexeme};
-ghost use Rattle.query_tokens.specs.Tokens.{tokens_in, word_at, name_at, integer_at, text_at, symbol_at, string_content, integer_of, number_after, Gives};
-ghost use Rattle.query_tokens.specs.Words.{lexeme_of, all_placed};
+ghost use Rattle.query_tokens.specs.Tokens.{tokens_in, word_at, name_at, integer_at, text_at, symbol_at, string_content, integer_of, number_after, Fails, Gives};
+ghost use Rattle.query_tokens.specs.Words.{Placed, lexeme_of, all_placed};
 
 use crate::fault::{Fault, TokenError};
 use crate::word::{Symbol, Token, Word};
@@ -178,11 +178,36 @@ pub fn tokens(alloc: Global, text: &str) -> Result<Vec<Token>, TokenError>
     ensures exact { Gives (λ v. all_placed v.items) result (tokens_in text.now) }
     ensures legal { IfOk result (λ v. All (λ t. IsLexeme (lexeme_of t.word)) v.items) }
 {
+    match tokens_up_to(alloc, text, text.len())? {
+        Some(found) => Ok(found),
+        None => unreachable!(),
+    }
+}
+
+/// The tokens of a text as [`tokens`] gives them, or `None` where it has more than `most` of them: then nothing behind the
+/// first `most` is read, so that no more memory is taken than for these.
+///
+/// # Errors
+///
+/// Those of [`tokens`], but for a fault behind the first `most` tokens.
+pub fn tokens_up_to(
+    alloc: Global,
+    text: &str,
+    most: usize,
+) -> Result<Option<Vec<Token>>, TokenError>
+    ensures exact { IfOk result (λ found. IfSome found (λ v. tokens_in text.now ≡ Ok (all_placed v.items))) }
+    ensures legal { IfOk result (λ found. IfSome found (λ v. All (λ t. IsLexeme (lexeme_of t.word)) v.items)) }
+    ensures more { IfOk result (λ found. IfNone found ((ts : List Placed) → tokens_in text.now ≡ Ok ts → most < length ts)) }
+    ensures longer { IfOk result (λ found. IfNone found (most < length text.now)) }
+    ensures refused { IfErr result (λ error. Fails error (tokens_in text.now)) }
+{
     let mut found = Vec::new(alloc);
     let mut rest = text;
     while let [first, ..] = rest.as_bytes() {
         if is_space(*first) {
             rest = cut(rest, 1).1;
+        } else if found.len() == most {
+            return Ok(None);
         } else {
             let at = text.len() - rest.len();
             let (word, after) = word_at(alloc, at, rest)?;
@@ -190,5 +215,5 @@ pub fn tokens(alloc: Global, text: &str) -> Result<Vec<Token>, TokenError>
             rest = after;
         }
     }
-    Ok(found)
+    Ok(Some(found))
 }
