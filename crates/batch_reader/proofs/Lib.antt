@@ -1,4 +1,2 @@
-pub mod HeadLaws
 pub mod RecordLaws
-pub mod SameRows
 pub mod FileLaws

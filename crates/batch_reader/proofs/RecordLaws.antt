@@ -29,11 +29,11 @@ same_width : (ks : List ValueKind) (kinds : List Kind) → kinds_of ks ≡ kinds
 same_width ks kinds e = sym (length-map ks kind_of) ∙ ap length e
 
 -- the leftmost bad field of a record
-pub bad_field : (ks : List ValueKind) (kinds : List Kind) (fields : List (List ℕ)) (i : ℕ) (bytes : List ℕ) → kinds_of ks ≡ kinds → length fields ≡ length ks → i < length ks
-    → PackedSoFar kinds fields i bytes → IsBadField (kind_of (slice_index_or ks i kind.Bigint)) (slice_index_or fields i []) → RecordFault kinds fields (BadField i)
-bad_field ks kinds fields i bytes e width within so_far bad =
+pub bad_field : (ks : List ValueKind) (kinds : List Kind) (row : ℕ) (fields : List (List ℕ)) (i : ℕ) (bytes : List ℕ) → kinds_of ks ≡ kinds → length fields ≡ length ks → i < length ks
+    → PackedSoFar kinds fields i bytes → IsBadField (kind_of (slice_index_or ks i kind.Bigint)) (slice_index_or fields i []) → RecordFault kinds row fields (BadField row i)
+bad_field ks kinds row fields i bytes e width within so_far bad =
     let w = same_width ks kinds e in
-    (width ∙ w, (omega (arith, w), rw (kind_at ks kinds i e within) bad, so_far.0, so_far.1))
+    (refl, width ∙ w, (omega (arith, w), rw (kind_at ks kinds i e within) bad, so_far.0, so_far.1))
 
 -- a field more
 pub next_field : (ks : List ValueKind) (kinds : List Kind) (fields : List (List ℕ)) (i : ℕ) (bytes : List ℕ) (value : Datum) → kinds_of ks ≡ kinds → length fields ≡ length ks → i < length ks
@@ -70,10 +70,10 @@ pub rows_all : (kinds : List Kind) (records : List (List (List ℕ))) (i : ℕ) 
 rows_all kinds records i bytes e s = (s.0, subst (λ w. ReadsRows kinds w s.0) (take_all i records (omega (arith, e))) s.1, s.2)
 
 -- the first record that stands for no row
-pub first_fault : (kinds : List Kind) (records : List (List (List ℕ))) (i : ℕ) (bytes : List (List ℕ)) (fields : List (List ℕ)) (error : BatchError) → i < length records → slice_index_or records i [] ≡ fields → RowsSoFar kinds records i bytes → RecordFault kinds fields error → RowsFault kinds records error
+pub first_fault : (kinds : List Kind) (records : List (List (List ℕ))) (i : ℕ) (bytes : List (List ℕ)) (fields : List (List ℕ)) (error : BatchError) → i < length records → slice_index_or records i [] ≡ fields → RowsSoFar kinds records i bytes → RecordFault kinds i fields error → RowsFault kinds records error
 first_fault kinds records i bytes fields NoMemory within at s fault = tt
-first_fault kinds records i bytes fields WrongWidth within at s fault = record { place = i; within = within; before = (s.0, s.1); fault = subst (λ f. RecordFault kinds f WrongWidth) (sym at) fault }
-first_fault kinds records i bytes fields (BadField column) within at s fault = record { place = i; within = within; before = (s.0, s.1); fault = subst (λ f. RecordFault kinds f (BadField column)) (sym at) fault }
+first_fault kinds records i bytes fields (WrongWidth row) within at s fault = record { place = i; within = within; before = (s.0, s.1); fault = subst (λ f. RecordFault kinds i f (WrongWidth row)) (sym at) fault }
+first_fault kinds records i bytes fields (BadField row column) within at s fault = record { place = i; within = within; before = (s.0, s.1); fault = subst (λ f. RecordFault kinds i f (BadField row column)) (sym at) fault }
 first_fault kinds records i bytes fields error within at s fault = absurd fault
 
 -- what is kept of records that are packed one by one: the rows of the first ones, or the first fault
@@ -92,7 +92,7 @@ kept_fault kinds records i j (Some error) bytes some kept = kept
 
 pub kept_more : {X : Type 0} (kinds : List Kind) (records : List (List (List ℕ))) (i : ℕ) (result : Result X BatchError) (bytes more : List (List ℕ)) (fields : List (List ℕ))
     → i < length records → slice_index_or records i [] ≡ fields → RowsSoFar kinds records i bytes
-    → OnOk result ((row : Row) × ReadsRow kinds fields row × (more ≡ bytes ++ packing row ∷ [])) → IfErr result (RecordFault kinds fields)
+    → OnOk result ((row : Row) × ReadsRow kinds fields row × (more ≡ bytes ++ packing row ∷ [])) → IfErr result (RecordFault kinds i fields)
     → KeptSoFar kinds records (i + 1) (result_err result) more
 kept_more kinds records i (Ok x) bytes more fields within at s pushed refused =
     subst (RowsSoFar kinds records (i + 1)) (sym pushed.2) (rows_more kinds records i bytes fields pushed.0 (packing pushed.0) within at pushed.1 refl s)

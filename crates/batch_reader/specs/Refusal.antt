@@ -8,19 +8,19 @@ use Rattle.batch_reader.specs.Rows.{ReadsRows}
 use Rattle.batch_reader.specs.declared.error.BatchError.{BatchError}
 use Rattle.batch_reader.specs.declared.error.BatchError.TheVariants.{NoMemory, BadBatchHead, TooManyRows, RowCount, WrongWidth, BadField}
 
--- the error of one record, unless memory ran out: a wrong number of fields, and else the leftmost bad field
-abbrev pub RecordFault : List Kind → List (List ℕ) → BatchError → Type 0
-RecordFault kinds fields NoMemory = Unit {0}
-RecordFault kinds fields WrongWidth = length fields ≢ length kinds
-RecordFault kinds fields (BadField column) = (length fields ≡ length kinds) × IsLeftmostBad kinds fields column
-RecordFault kinds fields error = ⊥
+-- the error of the record in a place, unless memory ran out: a wrong number of fields, and else the leftmost bad field
+abbrev pub RecordFault : List Kind → ℕ → List (List ℕ) → BatchError → Type 0
+RecordFault kinds place fields NoMemory = Unit {0}
+RecordFault kinds place fields (WrongWidth row) = (row ≡ place) × (length fields ≢ length kinds)
+RecordFault kinds place fields (BadField row column) = (row ≡ place) × (length fields ≡ length kinds) × IsLeftmostBad kinds fields column
+RecordFault kinds place fields error = ⊥
 
 -- the error of records, unless memory ran out: that of the first record that stands for no row
 pub record FirstFault (kinds : List Kind) (records : List (List (List ℕ))) (error : BatchError) : Type 0 where
   pub place : ℕ
   pub within : place < length records
   pub before : (rows : List Row) × ReadsRows kinds (take place records) rows
-  pub fault : RecordFault kinds (slice_index_or records place []) error
+  pub fault : RecordFault kinds place (slice_index_or records place []) error
 
 abbrev pub RowsFault : List Kind → List (List (List ℕ)) → BatchError → Type 0
 RowsFault kinds records NoMemory = Unit {0}

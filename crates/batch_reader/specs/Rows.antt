@@ -1,4 +1,4 @@
--- The rows of records, and their packings.
+-- The rows of records, and their packings. All of this is our own.
 use Rattle.std.specs.Prelude.{◌≡◌, ℕ, ◌≤◌, List, [], ◌∷◌, map, length, All}
 use Rattle.csv.specs.Records.{fields_of}
 use Rattle.csv.specs.declared.record.ByteRecord.{ByteRecord}

@@ -7,7 +7,7 @@ use std::alloc::{AllocError, AllocFailed};
 use thiserror::Error;
 
 /// Why a batch is refused. The first that applies is told, in this order, `NoMemory` aside; `WrongWidth` and
-/// `BadField` are those of the first row that is no row of the schema.
+/// `BadField` are those of the first row that is no row of the schema. Rows and columns are counted from 0.
 #[derive(Clone, Copy, Debug, PartialEq, Eq, Error)]
 pub enum BatchError {
     /// An allocation failed.
@@ -23,11 +23,11 @@ pub enum BatchError {
     #[error("more or fewer rows than told")]
     RowCount,
     /// A row has more or fewer fields than the schema has columns.
-    #[error("a row has more or fewer fields than there are columns")]
-    WrongWidth,
-    /// A row's field stands for no value of its column, the first being column 0.
-    #[error("a field stands for no value of column {column}, the first being column 0")]
-    BadField { column: usize },
+    #[error("row {row} has more or fewer fields than there are columns, the first being row 0")]
+    WrongWidth { row: usize },
+    /// A row's field stands for no value of its column.
+    #[error("in row {row} a field stands for no value of column {column}, both counted from 0")]
+    BadField { row: usize, column: usize },
 }
 
 impl From<AllocError> for BatchError {

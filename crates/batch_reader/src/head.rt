@@ -1,13 +1,13 @@
 //! The head of a batch: its origin and its number.
 
-ghost use Rattle.std.specs.Prelude.{◌≡◌, ◌<◌, ◌≤◌, ◌^◌, IfSome, IfNone, IfOk, IfErr, OnOk, ℕ};
-ghost use Rattle.std.specs.Str.Parse.{IsNumeral, digits_value};
-ghost use Rattle.batch_reader.specs.Head.{ReadsNumber, ReadsOrigin, ReadsBatchNumber};
+ghost use Rattle.std.specs.Prelude.{◌≡◌, ◌≤◌, Some, IfSome, IfNone, IfOk, IfErr, OnOk, ℕ};
+ghost use Rattle.script_io.specs.Digits.{number_of};
+ghost use Rattle.batch_reader.specs.Head.{ReadsOrigin, ReadsBatchNumber};
 ghost use Rattle.batch_reader.specs.Refusal.{HeadFault};
 
 use crate::error::BatchError;
 use grouping_model::limits::{LAST_NUMBER, LAST_ORIGIN, MOST_ROWS};
-use std::str;
+use script_io::read_digits;
 
 /// The most digits of an origin or a number, leading zeros included.
 const MOST_DIGITS: usize = 10;
@@ -15,26 +15,12 @@ const MOST_DIGITS: usize = 10;
 /// The least number of a batch.
 const FIRST_NUMBER: u64 = 1;
 
-/// The number that digits stand for, if it has 64 bits.
-fn parse_digits(field: &[u8]) -> Option<u64>
-    ensures found { IfSome result (λ n. IsNumeral 10 field.now × (digits_value 10 field.now ≡ n)) }
-    ensures none { IfNone result (IsNumeral 10 field.now → 2 ^ 64 ≤ digits_value 10 field.now) }
-{
-    if field.starts_with(b"+") {
-        return None;
-    }
-    str::from_utf8(field).ok()?.parse().ok()
-}
-
 /// The number that 1 to 10 digits stand for, if it lies in a range.
 fn read_number(field: &[u8], least: u64, most: u64) -> Option<u64>
-    ensures found { IfSome result (λ n. ReadsNumber field.now n × (least ≤ n) × (n ≤ most)) }
-    ensures none { IfNone result ((n : ℕ) → ReadsNumber field.now n → least ≤ n → n ≤ most → ⊥) }
+    ensures found { IfSome result (λ n. (number_of 10 field.now ≡ Some n) × (least ≤ n) × (n ≤ most)) }
+    ensures none { IfNone result ((n : ℕ) → number_of 10 field.now ≡ Some n → least ≤ n → n ≤ most → ⊥) }
 {
-    if field.len() > MOST_DIGITS {
-        return None;
-    }
-    let number = parse_digits(field)?;
+    let number = read_digits(field, MOST_DIGITS)?;
     if number < least || number > most {
         return None;
     }

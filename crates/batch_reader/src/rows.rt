@@ -17,24 +17,26 @@ use packed_rows::{Schema, pack_value, read_value};
 use script_io::{Records, field};
 use std::alloc::{AllocError, Global};
 
-/// Puts the packing of the row that a record's fields stand for into a buffer, in place of what it held.
+/// Puts the packing of the row that a record's fields stand for into a buffer, in place of what it held. The record is that of
+/// a row, counted from 0, which an error tells.
 fn pack_record(
     schema: &Schema,
+    row: usize,
     csv_record: &ByteRecord,
     packed: &mut Vec<u8>,
 ) -> Result<(), BatchError>
-    ensures packed { OnOk result ((row : Row) × ReadsRow (kinds schema.now) (fields_of csv_record.now) row
-        × (packed.new.items ≡ packing row)) }
-    ensures refused { IfErr result (RecordFault (kinds schema.now) (fields_of csv_record.now)) }
+    ensures packed { OnOk result ((values : Row) × ReadsRow (kinds schema.now) (fields_of csv_record.now) values
+        × (packed.new.items ≡ packing values)) }
+    ensures refused { IfErr result (RecordFault (kinds schema.now) row (fields_of csv_record.now)) }
 {
     packed.clear();
     let kinds = schema.kinds();
     if csv_record.len() != kinds.len() {
-        return Err(BatchError::WrongWidth);
+        return Err(BatchError::WrongWidth { row });
     }
     for (column, kind) in kinds.iter().enumerate() {
         let Some(value) = read_value(field(csv_record, column), *kind) else {
-            return Err(BatchError::BadField { column });
+            return Err(BatchError::BadField { row, column });
         };
         pack_value(packed, value)?;
     }
@@ -45,16 +47,17 @@ fn pack_record(
 /// other. After an error the rows are as they were.
 fn push_record(
     schema: &Schema,
+    row: usize,
     csv_record: &ByteRecord,
     packed: &mut Vec<u8>,
     rows: &mut PackedRows,
 ) -> Result<(), BatchError>
-    ensures pushed { OnOk result ((row : Row) × ReadsRow (kinds schema.now) (fields_of csv_record.now) row
-        × (rows.new ≡ rows.old ++ packing row ∷ [])) }
+    ensures pushed { OnOk result ((values : Row) × ReadsRow (kinds schema.now) (fields_of csv_record.now) values
+        × (rows.new ≡ rows.old ++ packing values ∷ [])) }
     ensures same { OnErr result (rows.new ≡ rows.old) }
-    ensures refused { IfErr result (RecordFault (kinds schema.now) (fields_of csv_record.now)) }
+    ensures refused { IfErr result (RecordFault (kinds schema.now) row (fields_of csv_record.now)) }
 {
-    pack_record(schema, csv_record, packed)?;
+    pack_record(schema, row, csv_record, packed)?;
     rows.push(packed)?;
     Ok(())
 }
@@ -71,8 +74,8 @@ pub(crate) fn pack_records(
 {
     let mut rows = PackedRows::new(alloc);
     let mut packed = Vec::new(alloc);
-    for record in records {
-        push_record(schema, record, &mut packed, &mut rows)?;
+    for (row, record) in records.iter().enumerate() {
+        push_record(schema, row, record, &mut packed, &mut rows)?;
     }
     Ok(rows)
 }
@@ -102,12 +105,12 @@ pub(crate) fn pack_next(
     let mut packed = Vec::new(alloc);
     let mut record = ByteRecord::new(alloc);
     let mut fault = None;
-    for _ in 0..told {
+    for row in 0..told {
         if !records.read(&mut record)? {
             return Ok(Err(BatchError::RowCount));
         }
         if fault.is_none() {
-            fault = push_record(schema, &record, &mut packed, &mut rows).err();
+            fault = push_record(schema, row as usize, &record, &mut packed, &mut rows).err();
         }
     }
     match fault {

@@ -40,8 +40,8 @@ fn value_of(digits: &[u8]) -> u64
     value
 }
 
-/// The number that 1 to `most` digits stand for, leading zeros included.
-fn read_number(field: &[u8], most: usize) -> Option<u64>
+/// The number that 1 to `most` digits stand for, leading zeros included; `most` is 19 or less.
+pub fn read_digits(field: &[u8], most: usize) -> Option<u64>
     requires { most ≤ 19 }
     ensures number { result ≡ number_of most field.now }
     ensures low { IfSome result (λ number. number < 10 ^ most) }
@@ -57,7 +57,7 @@ fn read_number(field: &[u8], most: usize) -> Option<u64>
 pub fn read_row_count(field: &[u8]) -> Option<u32>
     ensures { result ≡ row_count field.now }
 {
-    match read_number(field, MOST_COUNT_DIGITS) {
+    match read_digits(field, MOST_COUNT_DIGITS) {
         Some(count) => Some(count as u32),
         None => None,
     }
@@ -67,5 +67,5 @@ pub fn read_row_count(field: &[u8]) -> Option<u32>
 pub fn read_limit(field: &[u8]) -> Option<u64>
     ensures { result ≡ limit_told field.now }
 {
-    read_number(field, MOST_LIMIT_DIGITS)
+    read_digits(field, MOST_LIMIT_DIGITS)
 }

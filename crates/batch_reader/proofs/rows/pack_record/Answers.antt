@@ -7,7 +7,7 @@ use Rattle.batch_reader.proofs.rows.pack_record.Goals as goal
 pub returns-in_default-clause-refused : goal.returns-in_default-clause-refused
 returns-in_default-clause-refused c =
     let bad = rw c.field.ensures at c.in_default.ensures.bad in
-    bad_field c.kinds-kinds.result.now (kinds c.args.schema.now) (fields_of c.args.csv_record.now) c.loop-column.column c.loop-column.packed.items
+    bad_field c.kinds-kinds.result.now (kinds c.args.schema.now) c.args.row (fields_of c.args.csv_record.now) c.loop-column.column c.loop-column.packed.items
     c.kinds-kinds.ensures (sym c.len.ensures ∙ c.if-len-kinds.false) c.loop-column-test.true c.loop-column.invariant bad
 
 pub loop-column-preserved : goal.loop-column-preserved

@@ -3,5 +3,5 @@ use Rattle.batch_reader.specs.Rows.{records_of}
 use Rattle.batch_reader.proofs.RecordLaws.{RowsSoFar}
 use Rattle.batch_reader.proofs.rows.pack_records.Given as goal
 
-abbrev pub invariant-loop-record : goal.invariant-loop-record
-invariant-loop-record l = RowsSoFar (kinds l.schema) (records_of l.records) l.record-index l.rows
+abbrev pub invariant-loop-row : goal.invariant-loop-row
+invariant-loop-row l = RowsSoFar (kinds l.schema) (records_of l.records) l.row l.rows

@@ -2,7 +2,7 @@ use Rattle.std.specs.Prelude.{◌≡◌, ◌≤◌, length, true}
 use Rattle.std.proofs.Common.{arith, sym, ◌∙◌}
 use Rattle.script_io.specs.Digits.{are_digits}
 use Rattle.script_io.proofs.DigitFacts.{digits_within}
-use Rattle.script_io.proofs.digits.read_number.Goals as goal
+use Rattle.script_io.proofs.digits.read_digits.Goals as goal
 
 pub returns-then-are_digits-clause-low : goal.returns-then-are_digits-clause-low
 returns-then-are_digits-clause-low c =
