@@ -9,11 +9,10 @@ use Rattle.query_tokens.specs.Spelling.{IsLexeme, lexemes_of}
 use Rattle.query_tokens.proofs.Legal.{read_legal}
 use Rattle.packed_rows.specs.Columns.{Column}
 use Rattle.packed_rows.proofs.DescribedColumns.{all_members}
-use Rattle.having_filter.specs.declared.error.QueryError.{QueryError}
-use Rattle.having_filter.specs.Forms.{Written}
-use Rattle.having_filter.specs.Meaning.{Checked}
-use Rattle.having_filter.specs.Checks.{checked}
-use Rattle.having_filter.specs.Writable.{IsWritable}
+use Rattle.query_checks.specs.declared.error.QueryError.{QueryError}
+use Rattle.query_checks.specs.Forms.{Written}
+use Rattle.query_checks.specs.Checks.{Checked, checked}
+use Rattle.query_checks.specs.Writable.{IsWritable}
 use Rattle.query_grammar.specs.Queries.{most_open, IsQuery}
 use Rattle.query_grammar.specs.Reading.{Read, Unexpected, Too_deep}
 use Rattle.query_grammar.specs.Whole.{query_at}
@@ -24,7 +23,7 @@ use Rattle.query_grammar.proofs.Writables.{query_writable}
 use Rattle.group_parser.specs.declared.error.ParseError.{ParseError}
 use Rattle.group_parser.specs.Parsing as parsing
 use Rattle.group_parser.specs.declared.error.ParseError.TheVariants.{Syntax, Query}
-use Rattle.having_filter.specs.declared.error.QueryError.TheVariants.{TooMany, TooDeep}
+use Rattle.query_checks.specs.declared.error.QueryError.TheVariants.{TooMany, TooDeep}
 use Rattle.group_parser.specs.Parsing.{most_bytes, of_fault, place_of_left, Accepts, Refuses, query_read, tokens_read, written_in, query_checked, written_checked}
 
 -- the tokens of a query, where one is written in a text

@@ -1,31 +1,22 @@
 -- The canonical text of a checked query is parsed as the query.
-use Rattle.std.proofs.Common.{◌≡◌, ℕ, ◌≤◌, false, List, length, Ok, sym, ap, subst, ◌∙◌}
+use Rattle.std.proofs.Common.{◌≡◌, ℕ, ◌≤◌, false, List, length, sym, subst}
 use Rattle.std.specs.Prelude.{nat_lt, ◌||◌}
 use Rattle.std.specs.Str.{bytes_eq}
 use Rattle.std.proofs.lemmas.Bool.{ltb-false, or_parts}
 use Rattle.query_tokens.specs.Spelling.{lexemes_of}
 use Rattle.grouping_model.specs.declared.limits.TheConstants.{MOST_ITEMS, MOST_KEYS, MOST_CALLS, LONGEST_QUERY}
-use Rattle.having_filter.specs.Forms.{Written}
-use Rattle.having_filter.specs.Sameness.{first_of_each}
-use Rattle.having_filter.specs.Meaning.{Checked, distinct_calls}
-use Rattle.having_filter.specs.Spelling.{spelling}
-use Rattle.having_filter.specs.Checks.{has_too_many, checked}
+use Rattle.query_checks.specs.Forms.{Written}
+use Rattle.query_checks.specs.Sameness.{first_of_each}
+use Rattle.query_checks.specs.Checks.{Checked, has_too_many}
+use Rattle.query_checks.specs.Calls.{distinct_calls}
+use Rattle.query_checks.specs.Spelling.{spelling}
 use Rattle.having_filter.specs.Kept as kept
 use Rattle.having_filter.specs.Kept.{by_names}
-use Rattle.having_filter.proofs.PassedLaws.{passes_first, passes_places}
-use Rattle.having_filter.proofs.NormalLaws.{columns_of_query, named_again}
+use Rattle.having_filter.proofs.PassedLaws.{passes_first}
 use Rattle.query_grammar.specs.Queries.{most_open, IsQuery}
-use Rattle.query_grammar.specs.Canonical.{canonical}
+use Rattle.query_grammar.proofs.OneText.{is_canonical}
 use Rattle.query_grammar.proofs.PrintedQuery.{text_says}
 use Rattle.group_parser.specs.Parsing.{Accepts}
-
--- the query by names is the one that its canonical text says
-is_canonical : (q : Checked) → checked q.columns (by_names q) ≡ Ok q → canonical (by_names q) ≡ by_names q
-is_canonical q passed =
-    let w = by_names q in
-    let first = passes_first q.columns w q passed in
-    let same = (passes_places q passed).same in
-    sym (ap by_names same ∙ named_again q.columns w (columns_of_query q.columns w first.columns_there))
 
 short_of : (w : Written (List ℕ)) → has_too_many w ≡ false → length (spelling w) ≤ LONGEST_QUERY
 short_of w few =

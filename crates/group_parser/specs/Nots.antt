@@ -1,6 +1,6 @@
 -- Conditions behind any number of NOTs (own).
 use Rattle.std.specs.Prelude.{ℕ, zero, suc, Ok}
-use Rattle.having_filter.specs.Forms as form
+use Rattle.query_checks.specs.Forms as form
 use Rattle.query_grammar.specs.Grammar.{Named}
 use Rattle.query_grammar.specs.Reading.{Read, ◌>>=◌}
 

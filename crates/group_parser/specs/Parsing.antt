@@ -10,11 +10,10 @@ use Rattle.query_tokens.specs.Tokens.{tokens_in}
 use Rattle.query_tokens.specs.Spelling.{lexemes_of}
 use Rattle.grouping_model.specs.declared.limits.TheConstants.{LONGEST_QUERY}
 use Rattle.packed_rows.specs.Columns.{Column}
-use Rattle.having_filter.specs.declared.error.QueryError.{QueryError}
-use Rattle.having_filter.specs.declared.error.QueryError.TheVariants as checks
-use Rattle.having_filter.specs.Forms.{Written}
-use Rattle.having_filter.specs.Meaning.{Checked}
-use Rattle.having_filter.specs.Checks.{checked}
+use Rattle.query_checks.specs.declared.error.QueryError.{QueryError}
+use Rattle.query_checks.specs.declared.error.QueryError.TheVariants as checks
+use Rattle.query_checks.specs.Forms.{Written}
+use Rattle.query_checks.specs.Checks.{Checked, checked}
 use Rattle.query_grammar.specs.Queries.{most_open, IsQuery}
 use Rattle.query_grammar.specs.Reading.{Read, Unexpected, Too_deep}
 use Rattle.query_grammar.specs.Whole.{query_at}

@@ -6,11 +6,11 @@ use Rattle.query_tokens.specs.declared.word.Token.{Token}
 use Rattle.query_tokens.specs.Words.{Lexeme, all_placed}
 use Rattle.query_tokens.specs.Spelling.{lexemes_of}
 use Rattle.grouping_model.specs.Condition as model
-use Rattle.having_filter.specs.declared.condition.Cond.{Cond}
-use Rattle.having_filter.specs.declared.condition.AggCall.{AggCall}
-use Rattle.having_filter.specs.declared.condition.Item.{Item}
-use Rattle.having_filter.specs.Forms as form
-use Rattle.having_filter.specs.Forms.{form_of, call_form, item_form, names_of}
+use Rattle.query_checks.specs.declared.condition.Cond.{Cond}
+use Rattle.query_checks.specs.declared.condition.AggCall.{AggCall}
+use Rattle.query_checks.specs.declared.condition.Item.{Item}
+use Rattle.query_checks.specs.Forms as form
+use Rattle.query_checks.specs.Forms.{form_of, call_form, item_form, names_of}
 use Rattle.query_grammar.specs.Grammar.{Named}
 use Rattle.query_grammar.specs.Reading.{Read, Unexpected, Too_deep}
 use Rattle.group_parser.specs.declared.fault.ReadError.{ReadError}

@@ -3,7 +3,7 @@
 ghost use Rattle.std.specs.Prelude.{◌≡◌, ◌<◌, ◌==◌, option_map, IfSome, IfOk, length, string_bytes};
 ghost use Rattle.grouping_model.specs.Condition as model;
 ghost use Rattle.query_tokens.specs.Words.{lexeme_of};
-ghost use Rattle.having_filter.specs.Forms.{comparison_of, test_of};
+ghost use Rattle.query_checks.specs.Forms.{comparison_of, test_of};
 ghost use Rattle.query_grammar.specs.Terminals.{is_word, is_sign, symbol_number, comparison_named};
 ghost use Rattle.query_grammar.specs.Reading.{after, after_comparison, expect, name_at, looked_for, tested};
 ghost use Rattle.query_grammar.specs.Grammar.{Named};

@@ -2,7 +2,7 @@
 
 ghost use Rattle.std.specs.Prelude.{◌≡◌, ℕ, List, Ok, Err};
 ghost use Rattle.packed_rows.specs.Columns.{Column};
-ghost use Rattle.having_filter.specs.Meaning.{Checked};
+ghost use Rattle.query_checks.specs.Checks.{Checked};
 ghost use Rattle.group_parser.specs.Parsing.{Accepts, Refuses, parsing};
 ghost use Rattle.group_parser.specs.declared.error.ParseError.{ParseError};
 

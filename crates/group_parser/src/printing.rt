@@ -1,7 +1,7 @@
 //! Writing a query again.
 
 ghost use Rattle.std.specs.Prelude.{◌≡◌, IfOk, string_bytes};
-ghost use Rattle.having_filter.specs.Spelling.{spelling};
+ghost use Rattle.query_checks.specs.Spelling.{spelling};
 ghost use Rattle.having_filter.specs.Kept.{by_names};
 ghost use Rattle.group_parser.specs.Parsing.{Accepts};
 

@@ -1,7 +1,7 @@
 //! Reading a whole query.
 
 ghost use Rattle.std.specs.Prelude.{◌≡◌, ◌<◌, ◌≤◌, [], map, option_map, IfOk, length, string_bytes, codes};
-ghost use Rattle.having_filter.specs.Forms.{written_of, items_of};
+ghost use Rattle.query_checks.specs.Forms.{written_of, items_of};
 ghost use Rattle.query_grammar.specs.Queries.{most_open};
 ghost use Rattle.query_grammar.specs.Reading.{name_at};
 ghost use Rattle.query_grammar.specs.Whole.{item_value_at, alias_or_none, alias_at, item_at, list_at, clause_at, keys_at, end_at, query_at};

@@ -1,15 +1,8 @@
-pub mod DistinctLaws
-pub mod FormLaws
-pub mod ReadLaws
-pub mod SameLaws
+pub mod ValueLaws
 pub mod PlaceLaws
 pub mod PlanLaws
-pub mod QuoteLaws
-pub mod SpellingLaws
 pub mod NormalLaws
 pub mod WellLaws
-pub mod CountLaws
-pub mod WholeLaws
 pub mod CheckedLaws
 pub mod AnswerLaws
 pub mod PassedLaws

@@ -9,16 +9,17 @@ use Rattle.std.proofs.lemmas.List.{length-map}
 use Rattle.std.proofs.lemmas.List.Folds.{list_all-map}
 use Rattle.grouping_model.specs.declared.limits.TheConstants.{MOST_ITEMS, MOST_KEYS, MOST_CALLS, LONGEST_QUERY}
 use Rattle.packed_rows.specs.Columns.{Column, IsColumnName}
-use Rattle.having_filter.specs.Forms.{Form, Written, map_form}
-use Rattle.having_filter.specs.Checks.{all_of, has_too_many, is_shallow, are_shallow, is_column, has_columns, place, placed, checked_places, checked, PassesFirst}
-use Rattle.having_filter.specs.Sameness.{first_of_each}
-use Rattle.having_filter.specs.Spelling.{own_name, kept_alias, item_text, spelling, canonical_item, canonical}
-use Rattle.having_filter.specs.Reads.{calls_in, columns_pass, filters_pass}
-use Rattle.having_filter.specs.Meaning.{distinct_calls}
-use Rattle.having_filter.specs.Writable.{IsItem, IsWritable}
+use Rattle.query_checks.specs.Forms.{Form, Written, map_form}
+use Rattle.query_checks.specs.Checks.{all_of, has_too_many, is_shallow, are_shallow, is_column, has_columns, place, placed, checked_places, checked, PassesFirst}
+use Rattle.query_checks.specs.Sameness.{first_of_each}
+use Rattle.query_checks.specs.Spelling.{own_name, kept_alias, item_text, spelling, canonical_item, canonical}
+use Rattle.query_checks.specs.Reads.{calls_in, columns_pass, filters_pass}
+use Rattle.query_checks.specs.Calls.{distinct_calls}
+use Rattle.query_checks.specs.Writable.{IsItem, IsWritable}
+use Rattle.query_checks.proofs.DistinctLaws.{all_pass, pass_all, all_distinct, distinct_again}
+use Rattle.query_checks.proofs.FormLaws.{form_back}
+use Rattle.query_checks.proofs.CheckedLaws.{reaches_places}
 use Rattle.having_filter.specs.Kept.{name_at, by_names, label_of}
-use Rattle.having_filter.proofs.DistinctLaws.{all_pass, pass_all, all_distinct, distinct_again}
-use Rattle.having_filter.proofs.FormLaws.{form_back}
 use Rattle.having_filter.proofs.PlaceLaws.{names_back, list_back, distinct_places}
 
 -- an item over the names of columns again, and over their places
@@ -122,11 +123,6 @@ columns_alike columns q e =
     let whole = and_parts (all_of (columns_pass (is_column columns)) (columns_pass (is_column columns)) q) (list_all (is_column columns) q.keys) e in
     and_from _ _ (all_alike (columns_pass (is_column columns)) (columns_pass (is_column columns)) q ∙ whole.0)
     (pass_all (is_column columns) (first_of_each bytes_eq q.keys) (all_distinct (λ name. is_column columns name ≡ true) bytes_eq q.keys (all_pass (is_column columns) q.keys whole.1)))
-
--- a query that passes the first checks goes on to the others
-pub reaches_places : (columns : List Column) (q : Written (List ℕ)) → PassesFirst columns q → checked columns q ≡ checked_places columns (placed columns q)
-unfolding checked
-reaches_places columns q first = rw (first.few, first.shallow, first.columns_there) refl
 
 passes_alike : (columns : List Column) (q : Written (List ℕ)) → PassesFirst columns q → PassesFirst columns (canonical q)
 passes_alike columns q first =

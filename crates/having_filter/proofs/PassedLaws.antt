@@ -1,13 +1,11 @@
 -- What a query that passed all checks has.
 use Rattle.std.proofs.Common.{◌≡◌, ℕ, Bool, true, false, List, Ok, refl, sym, ◌∙◌}
 use Rattle.packed_rows.specs.Columns.{Column, kinds}
-use Rattle.having_filter.specs.Forms.{Written}
-use Rattle.having_filter.specs.Reads.{filters_pass}
-use Rattle.having_filter.specs.Meaning.{Checked}
-use Rattle.having_filter.specs.Checks.{all_of, has_too_many, is_shallow, are_shallow, has_columns, placed, are_plain, kinds_fit, is_grouped, checked_places, checked, PassesFirst}
+use Rattle.query_checks.specs.Forms.{Written}
+use Rattle.query_checks.specs.Reads.{filters_pass}
+use Rattle.query_checks.specs.Checks.{Checked, all_of, has_too_many, is_shallow, are_shallow, has_columns, placed, are_plain, kinds_fit, is_grouped, checked_places, checked, PassesFirst}
+use Rattle.query_checks.proofs.CheckedLaws.{reaches_places, gives_too_many, gives_too_deep, gives_no_column}
 use Rattle.having_filter.specs.Kept.{by_names}
-use Rattle.having_filter.proofs.NormalLaws.{reaches_places}
-use Rattle.having_filter.proofs.CheckedLaws.{gives_too_many, gives_too_deep, gives_no_column}
 
 -- it passes the first checks
 few_of : (columns : List Column) (w : Written (List ℕ)) (q : Checked) (b : Bool) → has_too_many w ≡ b → checked columns w ≡ Ok q → has_too_many w ≡ false

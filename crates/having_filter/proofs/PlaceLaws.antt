@@ -9,11 +9,11 @@ use Rattle.std.proofs.lemmas.Option.{slice_get-get_or}
 use Rattle.std.proofs.lemmas.Slice.Eq.{bytes_eq-Decides}
 use Rattle.grouping_model.specs.Datum.{Bigint_kind}
 use Rattle.packed_rows.specs.Columns.{Column, place_of}
-use Rattle.having_filter.specs.Checks.{is_column, place}
-use Rattle.having_filter.specs.Sameness.{first_of_each}
+use Rattle.query_checks.specs.Checks.{is_column, place}
+use Rattle.query_checks.specs.Sameness.{first_of_each}
+use Rattle.query_checks.proofs.DistinctLaws.{Agrees, distinct_image}
+use Rattle.query_checks.proofs.FormLaws.{TakenBack}
 use Rattle.having_filter.specs.Kept.{name_at}
-use Rattle.having_filter.proofs.DistinctLaws.{Agrees, distinct_image}
-use Rattle.having_filter.proofs.FormLaws.{TakenBack}
 
 -- a place that a name has is a column's, of this name
 pub record IsPlaced (columns : List Column) (name : List ℕ) (at : ℕ) : Type 0 where

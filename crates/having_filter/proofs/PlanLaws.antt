@@ -7,24 +7,25 @@ use Rattle.grouping_model.specs.Query as query
 use Rattle.grouping_model.specs.Query.{Aggregate}
 use Rattle.grouping_model.specs.Aggregates.{Function, Outcome}
 use Rattle.grouping_model.specs.Condition.{At, is_met, value_of}
-use Rattle.having_filter.specs.declared.condition.Cond.{Cond, back-AggCall-filter}
-use Rattle.having_filter.specs.declared.condition.AggCall.{AggCall}
+use Rattle.query_checks.specs.declared.condition.Cond.{Cond, back-AggCall-filter}
+use Rattle.query_checks.specs.declared.condition.AggCall.{AggCall}
 use Rattle.grouping_model.specs.Datum.{Bigint_kind}
 use Rattle.agg_library.specs.Kinds.{function_of}
 use Rattle.packed_rows.specs.Columns as packed
 use Rattle.packed_rows.specs.Columns.{kinds}
 use Rattle.packed_rows.specs.View.{kinds_of}
-use Rattle.having_filter.specs.declared.condition.Item.{Item}
+use Rattle.query_checks.specs.declared.condition.Item.{Item}
+use Rattle.query_checks.specs.declared.parts.Parts.{Parts}
+use Rattle.query_checks.specs.Forms.{Form, Column, Call, Call_where, Literal, Unary, Binary, map_reads, form_of, call_form, item_form, places_of, with_filter}
+use Rattle.query_checks.specs.Sameness.{form_eq}
+use Rattle.query_checks.specs.Calls.{distinct_calls}
+use Rattle.query_checks.specs.Parts.{written_of_parts, checked_of}
 use Rattle.having_filter.specs.declared.plan.Plan.{Plan}
-use Rattle.having_filter.specs.declared.parts.Parts.{Parts}
-use Rattle.having_filter.specs.Forms.{Form, Column, Call, Call_where, Literal, Unary, Binary, map_reads, form_of, call_form, item_form, places_of, with_filter}
-use Rattle.having_filter.specs.Sameness.{form_eq}
-use Rattle.having_filter.specs.Meaning.{aggregate_of, unary_of, binary_of, condition_by, row_condition, place_in, source_of_form, group_condition, distinct_calls}
-use Rattle.having_filter.specs.Parts.{written_of_parts, checked_of}
+use Rattle.having_filter.specs.Meaning.{aggregate_of, unary_of, binary_of, condition_by, row_condition, place_in, source_of_form, group_condition}
 use Rattle.having_filter.specs.declared.plan.Source.TheVariants as source
 use Rattle.having_filter.specs.declared.plan.Source.{Source}
 use Rattle.having_filter.specs.Plans.{PlansFor, source_of, source_leaf, by_sources}
-use Rattle.having_filter.proofs.FormLaws.{met_in_steps}
+use Rattle.having_filter.proofs.ValueLaws.{met_in_steps}
 
 -- the column and the FILTER of the aggregate that a call names
 pub column_of_call : (function : Function) (column : Option ℕ) (filter : Option (Cond ℕ)) → (aggregate_of (with_filter function column (back-AggCall-filter ℕ filter))).column ≡ column
@@ -60,6 +61,15 @@ found_condition keys calls (Call_where function column filter) = refl
 found_condition keys calls (Literal x) = refl
 found_condition keys calls (Unary operator x) = ap (unary_of operator) (found_condition keys calls x)
 found_condition keys calls (Binary operator x y) = λ i. binary_of operator (found_condition keys calls x i) (found_condition keys calls y i)
+
+pub found_clause : (keys : List ℕ) (calls : List (Form ℕ)) (found : Option (Cond Source)) (clause : Option (Form ℕ))
+    → option_map form_of found ≡ option_map (map_reads (λ c. source.Key (place_in ◌==◌ keys c)) (λ call. Some (source.Call (place_in (form_eq ◌==◌) calls call)))) clause
+    → option_map by_sources found ≡ option_map (group_condition keys calls) clause
+found_clause keys calls None None e = refl
+found_clause keys calls None (Some x) e = absurd cc
+found_clause keys calls (Some c) None e = absurd cc
+found_clause keys calls (Some c) (Some x) e =
+    ap (λ (o : Option (Form Source)). option_map (condition_by source_leaf) o) e ∙ ap (λ y. Some y) (found_condition keys calls x)
 
 -- the functions of calls, and the sources of items
 functions_of_calls : (calls : List (AggCall ℕ)) → map (λ (call : AggCall ℕ). function_of call.kind) calls ≡ map (λ (a : Aggregate). a.function) (map aggregate_of (map call_form calls))

@@ -14,18 +14,19 @@ use Rattle.grouping_model.specs.declared.limits.TheConstants.{MOST_ITEMS, MOST_K
 use Rattle.agg_protocol.specs.Signatures.{Argument, Each_row, Any_value, Values_of, signature}
 use Rattle.agg_protocol.specs.Arguments.{IsArgument, Takes}
 use Rattle.packed_rows.specs.Columns.{Column, AreColumns, kinds}
-use Rattle.having_filter.specs.Forms.{Form, Call, Call_where, Literal, Unary, Binary, Written, map_form}
-use Rattle.having_filter.specs.Forms as form
-use Rattle.having_filter.specs.Reads.{calls_in, columns_pass}
-use Rattle.having_filter.specs.Checks.{kinds_agree, kind_asked, kind_of_form, is_boolean, takes_column, takes_one, takes_two, operands_fit, condition_fits, kinds_fit, has_too_many, is_column, place, placed, checked_places, PassesFirst}
-use Rattle.having_filter.specs.Sameness.{form_eq, first_of_each}
-use Rattle.having_filter.specs.Spelling.{spelling}
-use Rattle.having_filter.specs.Meaning.{meaning, aggregate_of, calls_of, distinct_calls, source_of_form}
-use Rattle.having_filter.specs.Writable.{IsWritable}
+use Rattle.query_checks.specs.Forms.{Form, Call, Call_where, Literal, Unary, Binary, Written, map_form}
+use Rattle.query_checks.specs.Forms as form
+use Rattle.query_checks.specs.Reads.{calls_in, columns_pass}
+use Rattle.query_checks.specs.Checks.{kinds_agree, kind_asked, kind_of_form, is_boolean, takes_column, takes_one, takes_two, operands_fit, condition_fits, kinds_fit, has_too_many, is_column, place, placed, checked_places, PassesFirst}
+use Rattle.query_checks.specs.Sameness.{form_eq, first_of_each}
+use Rattle.query_checks.specs.Spelling.{spelling}
+use Rattle.query_checks.specs.Calls.{calls_of, distinct_calls}
+use Rattle.query_checks.specs.Writable.{IsWritable}
+use Rattle.query_checks.proofs.DistinctLaws.{Agrees, all_append, all_distinct, distinct_image}
+use Rattle.query_checks.proofs.ReadLaws.{Passes, calls_in_two, calls_mapped, calls_pass}
+use Rattle.query_checks.proofs.SameLaws.{form_image}
+use Rattle.having_filter.specs.Meaning.{meaning, aggregate_of, source_of_form}
 use Rattle.having_filter.specs.Kept.{TakesRows, IsWellFormed, IsQuery}
-use Rattle.having_filter.proofs.DistinctLaws.{Agrees, all_append, all_distinct, distinct_image}
-use Rattle.having_filter.proofs.ReadLaws.{Passes, calls_in_two, calls_mapped, calls_pass}
-use Rattle.having_filter.proofs.SameLaws.{form_image}
 use Rattle.having_filter.proofs.PlaceLaws.{same_places, distinct_places, places_in_range}
 use Rattle.having_filter.proofs.NormalLaws.{HasColumns, placed_item, columns_of_query, named_again, normal_writable, passes_again}
 

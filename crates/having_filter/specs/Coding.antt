@@ -11,10 +11,9 @@ use Rattle.grouping_model.specs.Aggregates as function
 use Rattle.grouping_model.specs.Aggregates.{Function}
 use Rattle.grouping_model.specs.Condition as model
 use Rattle.agg_protocol.specs.Signatures.{functions}
-use Rattle.having_filter.specs.Forms.{Unary_operator, Negation, Testing, Binary_operator, Conjunction, Disjunction, Comparing, Form, Column, Call, Call_where, Literal, Unary, Binary, Written}
-use Rattle.having_filter.specs.Checks.{kind_number}
-use Rattle.having_filter.specs.Meaning.{Checked}
-use Rattle.having_filter.specs.Sameness.{function_number, comparison_number, test_number}
+use Rattle.query_checks.specs.Forms.{Unary_operator, Negation, Testing, Binary_operator, Conjunction, Disjunction, Comparing, Form, Column, Call, Call_where, Literal, Unary, Binary, Written}
+use Rattle.query_checks.specs.Checks.{kind_number, Checked}
+use Rattle.query_checks.specs.Sameness.{function_number, comparison_number, test_number}
 
 -- what a number stands for
 abbrev pub function_at : ℕ → Function

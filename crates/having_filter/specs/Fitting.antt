@@ -6,11 +6,11 @@ use Rattle.std.specs.Option.{ForSome}
 use Rattle.grouping_model.specs.Datum.{Kind, Boolean_kind}
 use Rattle.grouping_model.specs.Condition.{Is_null}
 use Rattle.packed_rows.specs.Columns.{kinds}
-use Rattle.having_filter.specs.Forms.{Unary_operator, Testing, Binary_operator, Comparing, Form, Column, Literal, Unary, Binary}
-use Rattle.having_filter.specs.Reads.{reads, filter_of}
-use Rattle.having_filter.specs.Sameness.{form_eq}
-use Rattle.having_filter.specs.Meaning.{Checked, distinct_calls}
-use Rattle.having_filter.specs.Checks.{kind_of_form}
+use Rattle.query_checks.specs.Forms.{Unary_operator, Testing, Binary_operator, Comparing, Form, Column, Literal, Unary, Binary}
+use Rattle.query_checks.specs.Reads.{reads, filter_of}
+use Rattle.query_checks.specs.Sameness.{form_eq}
+use Rattle.query_checks.specs.Checks.{Checked, kind_of_form}
+use Rattle.query_checks.specs.Calls.{distinct_calls}
 
 -- two operands of one kind, or null on a side, which is of every kind
 abbrev pub OfOneKind : Option Kind → Option Kind → Type 0

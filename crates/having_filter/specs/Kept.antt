@@ -8,11 +8,11 @@ use Rattle.grouping_model.specs.Grouping.{argument}
 use Rattle.grouping_model.specs.declared.limits.TheConstants.{MOST_ITEMS, MOST_KEYS, MOST_CALLS}
 use Rattle.agg_protocol.specs.Arguments.{Takes}
 use Rattle.packed_rows.specs.Columns.{Column, AreColumns}
-use Rattle.having_filter.specs.Forms.{Form, Written, map_form}
-use Rattle.having_filter.specs.Meaning.{Checked, meaning}
-use Rattle.having_filter.specs.Checks.{checked}
-use Rattle.having_filter.specs.Spelling.{own_name, kept_alias}
-use Rattle.having_filter.specs.Writable.{IsWritable}
+use Rattle.query_checks.specs.Forms.{Form, Written, map_form}
+use Rattle.query_checks.specs.Checks.{Checked, checked}
+use Rattle.query_checks.specs.Spelling.{own_name, kept_alias}
+use Rattle.query_checks.specs.Writable.{IsWritable}
+use Rattle.having_filter.specs.Meaning.{meaning}
 
 -- the name of the column at a place (own)
 abbrev pub name_at : List Column → ℕ → List ℕ

@@ -1,14 +1,7 @@
-pub mod Forms
 pub mod Truths
-pub mod Sameness
-pub mod Reads
 pub mod Meaning
-pub mod Spelling
-pub mod Checks
 pub mod Kept
 pub mod Coding
-pub mod Writable
 pub mod Plans
-pub mod Parts
 pub mod Answers
 pub mod Fitting

@@ -1,23 +1,17 @@
 -- What a checked query means.
-use Rattle.std.specs.Prelude.{ℕ, ◌==◌, Bool, true, false, List, [], ◌++◌, map, Some, None, option_map, unwrap_or, position}
-use Rattle.std.specs.List.{flat_map}
-use Rattle.std.specs.Option.{option_map_or}
+use Rattle.std.specs.Prelude.{ℕ, ◌==◌, Bool, true, false, List, map, Some, None, option_map, unwrap_or, position}
 use Rattle.grouping_model.specs.Datum.{Null}
 use Rattle.grouping_model.specs.Aggregates.{Count_rows}
 use Rattle.grouping_model.specs.Condition as model
 use Rattle.grouping_model.specs.Condition.{Condition}
 use Rattle.grouping_model.specs.Query.{Query, Aggregate, Source}
 use Rattle.grouping_model.specs.Query as query
-use Rattle.packed_rows.specs.Columns.{Column, kinds}
-use Rattle.having_filter.specs.Forms as form
-use Rattle.having_filter.specs.Forms.{Unary_operator, Negation, Testing, Binary_operator, Conjunction, Disjunction, Comparing, Form, Call, Call_where, Literal, Unary, Binary, Written}
-use Rattle.having_filter.specs.Reads.{calls_in}
-use Rattle.having_filter.specs.Sameness.{form_eq, first_of_each}
-
--- a query over the columns of a schema, by their places (own)
-pub record Checked : Type 0 where
-  pub columns : List Column
-  pub written : Written ℕ
+use Rattle.packed_rows.specs.Columns.{kinds}
+use Rattle.query_checks.specs.Forms as form
+use Rattle.query_checks.specs.Forms.{Unary_operator, Negation, Testing, Binary_operator, Conjunction, Disjunction, Comparing, Form, Call, Call_where, Literal, Unary, Binary}
+use Rattle.query_checks.specs.Sameness.{form_eq}
+use Rattle.query_checks.specs.Calls.{distinct_calls}
+use Rattle.query_checks.specs.Checks.{Checked}
 
 -- what operators mean (PostgreSQL 17, 9.1 and 9.2)
 abbrev pub unary_of : {Leaf : Type 0} → Unary_operator → Condition Leaf → Condition Leaf
@@ -44,14 +38,6 @@ column_leaf other = model.Literal Null
 
 abbrev pub row_condition : Form ℕ → Condition ℕ
 row_condition c = condition_by column_leaf c
-
--- the calls of the items, then those of HAVING
-abbrev pub calls_of : {C : Type 0} → Written C → List (Form C)
-calls_of q = flat_map (λ item. calls_in item.0) q.items ++ option_map_or calls_in q.having []
-
--- the distinct calls, by the first of each
-abbrev pub distinct_calls : {C : Type 0} → (C → C → Bool) → Written C → List (Form C)
-distinct_calls same q = first_of_each (form_eq same) (calls_of q)
 
 -- the aggregate that a call names (PostgreSQL 17, 4.2.7 Aggregate Expressions)
 abbrev pub aggregate_of : Form ℕ → Aggregate

@@ -1,17 +1,21 @@
--- What is worked out of a query once, for its evaluation. All of this is our own.
-use Rattle.std.specs.Prelude.{◌≡◌, ◌==◌, map, option_map}
+-- What is worked out of a query once, for its evaluation, and what is kept of it. All of this is our own.
+use Rattle.std.specs.Prelude.{◌≡◌, ℕ, ◌==◌, List, map, option_map}
 use Rattle.grouping_model.specs.Datum.{Null}
 use Rattle.grouping_model.specs.Condition as model
 use Rattle.grouping_model.specs.Query as query
 use Rattle.agg_library.specs.Kinds.{function_of}
+use Rattle.packed_rows.specs.Columns.{printed}
 use Rattle.packed_rows.specs.View.{kinds_of}
-use Rattle.having_filter.specs.declared.condition.Cond.{Cond}
+use Rattle.query_checks.specs.declared.condition.Cond.{Cond}
+use Rattle.query_checks.specs.Forms.{Form, Column, form_of, call_form}
+use Rattle.query_checks.specs.Checks.{Checked}
+use Rattle.query_checks.specs.Calls.{distinct_calls}
+use Rattle.query_checks.specs.Spelling.{spelling}
 use Rattle.having_filter.specs.declared.plan.Source.{Source}
 use Rattle.having_filter.specs.declared.plan.Source.TheVariants as source
 use Rattle.having_filter.specs.declared.plan.Plan.{Plan}
-use Rattle.having_filter.specs.Forms.{Form, Column, form_of, call_form}
-use Rattle.having_filter.specs.Meaning.{Checked, meaning, condition_by, distinct_calls}
-use Rattle.having_filter.specs.Kept.{key_kinds}
+use Rattle.having_filter.specs.Meaning.{meaning, condition_by}
+use Rattle.having_filter.specs.Kept.{IsQuery, by_names, headers, key_kinds}
 
 -- a key or an aggregate by its place
 abbrev pub source_of : Source → query.Source
@@ -33,3 +37,11 @@ pub record PlansFor (q : Checked) (plan : Plan) : Type 0 where
   pub key_kinds : kinds_of plan.key_kinds.items ≡ key_kinds (meaning q)
   pub items : map source_of plan.items.items ≡ (meaning q).items
   pub having : option_map by_sources plan.having ≡ (meaning q).having
+
+-- what is kept of a query: its plan, its canonical text, the names of its answer's columns, and the text of its schema
+pub record IsKept (q : Checked) (plan : Plan) (text : List ℕ) (labels : List (List ℕ)) (schema_text : List ℕ) : Type 0 where
+  pub query : IsQuery q
+  pub plans : PlansFor q plan
+  pub spelled : text ≡ spelling (by_names q)
+  pub labelled : labels ≡ headers q
+  pub shown : schema_text ≡ printed q.columns

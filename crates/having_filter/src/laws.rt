@@ -1,6 +1,6 @@
 //! Laws of checked queries.
 
-ghost use Rattle.having_filter.specs.Meaning.{Checked};
+ghost use Rattle.query_checks.specs.Checks.{Checked};
 ghost use Rattle.having_filter.specs.Kept.{IsQuery};
 ghost use Rattle.having_filter.specs.Fitting.{HasFittingConditions};
 

@@ -6,17 +6,17 @@ ghost use Rattle.grouping_model.specs.Grouping.{column_of};
 ghost use Rattle.grouping_model.specs.Answer.{outcome_at};
 ghost use Rattle.packed_rows.specs.View.{row_of};
 ghost use Rattle.agg_protocol.specs.Results.{outcome_of};
-ghost use Rattle.having_filter.specs.Forms.{Column, form_of, call_form};
+ghost use Rattle.query_checks.specs.Forms.{form_of};
 ghost use Rattle.having_filter.specs.Truths.{truth_of};
 ghost use Rattle.having_filter.specs.Meaning.{condition_by, column_leaf};
 ghost use Rattle.having_filter.specs.Plans.{source_leaf};
 
-use crate::condition::{AggCall, Cond};
 use crate::plan::Source;
 use crate::truth::truth;
 use crate::value::{Leaves, value};
 use agg_protocol::ResultValue;
 use packed_rows::Value;
+use query_checks::{AggCall, Cond};
 
 /// The columns of a row. No aggregate has a value there.
 #[derive(Drop)]
@@ -31,7 +31,7 @@ impl<'a> Leaves<usize> for RowLeaves<'a> {
         column_value(self.row, *column)
     }
 
-    #[tactic(auto, using(crate::proofs::FormLaws::call_is_no_column))]
+    #[tactic(auto, using(crate::proofs::ValueLaws::call_is_no_column))]
     fn call(&self, _call: &AggCall<usize>) -> ResultValue<'_> {
         ResultValue::Null
     }
@@ -62,7 +62,7 @@ impl<'a> Leaves<Source> for GroupLeaves<'a> {
         source.value(self.key, self.results)
     }
 
-    #[tactic(auto, using(crate::proofs::FormLaws::call_is_no_source))]
+    #[tactic(auto, using(crate::proofs::ValueLaws::call_is_no_source))]
     fn call(&self, _call: &AggCall<Source>) -> ResultValue<'_> {
         ResultValue::Null
     }

@@ -2,29 +2,18 @@
 #![tactic(auto)]
 
 mod answer;
-mod calls;
 mod cells;
-mod checks;
-mod condition;
-mod error;
+mod copying;
 mod laws;
 mod leaves;
-mod limits;
-mod mapping;
-mod parts;
 mod plan;
 mod query;
-mod reads;
-mod same;
-mod spelling;
 mod texts;
 mod truth;
 mod value;
-mod whole;
 
 pub use answer::Answer;
-pub use condition::{AggCall, Comparison, Cond, IsTest, Item, RawQuery};
-pub use error::QueryError;
 pub use laws::conditions_of_checked_queries;
 pub use plan::Source;
 pub use query::Query;
+pub use query_checks::{AggCall, Comparison, Cond, IsTest, Item, QueryError, RawQuery};

@@ -7,20 +7,17 @@ ghost use Rattle.grouping_model.specs.Answer.{outcome_at};
 ghost use Rattle.packed_rows.specs.View.{kind_of, kinds_of};
 ghost use Rattle.agg_protocol.specs.Results.{outcome_of};
 ghost use Rattle.agg_library.specs.Kinds.{function_of};
-ghost use Rattle.having_filter.specs.Forms.{call_form, form_of, item_form};
-ghost use Rattle.having_filter.specs.Sameness.{form_eq};
+ghost use Rattle.query_checks.specs.Forms.{call_form, form_of, item_form};
+ghost use Rattle.query_checks.specs.Sameness.{form_eq};
+ghost use Rattle.query_checks.specs.Parts.{written_of_parts};
 ghost use Rattle.having_filter.specs.Meaning.{place_in, source_of_form, group_condition};
-ghost use Rattle.having_filter.specs.Parts.{written_of_parts};
 ghost use Rattle.having_filter.specs.Plans.{PlansFor, source_of, by_sources};
 
-use crate::calls::calls_of;
-use crate::condition::{AggCall, Cond, Item};
-use crate::mapping::{Mapping, mapped};
-use crate::parts::Parts;
-use crate::same::is_same_call;
+use crate::copying::calls_of;
 use agg_library::AggKind;
 use agg_protocol::ResultValue;
 use packed_rows::{Schema, ValueKind};
+use query_checks::{AggCall, Cond, Item, Mapping, Parts, is_same_call, mapped_clause};
 use std::alloc::{AllocError, Global};
 
 /// Where a value of a group is found: its keys or the results of its aggregates, the first of either being 0.
@@ -85,7 +82,7 @@ fn find_column(columns: &[usize], column: usize) -> Option<usize>
 }
 
 /// The place of a call among others.
-#[tactic(auto, using(crate::proofs::FormLaws::position_mapped))]
+#[tactic(auto, using(crate::proofs::ValueLaws::position_mapped))]
 fn place_of_call(calls: &[AggCall<usize>], call: &AggCall<usize>) -> usize
     ensures { result ≡ place_in (form_eq ◌==◌) (map call_form calls.now) (call_form call.now) }
 {
@@ -143,9 +140,9 @@ struct Sources<'a> {
 
 impl<'a> Mapping<usize, Source> for Sources<'a> {
     ghost use Rattle.std.specs.Prelude.{◌==◌, map, Some};
+    ghost use Rattle.query_checks.specs.Forms.{call_form};
+    ghost use Rattle.query_checks.specs.Sameness.{form_eq};
     ghost use Rattle.having_filter.specs.declared.plan.Source.TheVariants.{Key, Call};
-    ghost use Rattle.having_filter.specs.Forms.{call_form};
-    ghost use Rattle.having_filter.specs.Sameness.{form_eq};
     ghost use Rattle.having_filter.specs.Meaning.{place_in};
 
     ghost column_as = { λ s column. Key (place_in ◌==◌ s.keys.now column) };
@@ -190,7 +187,7 @@ fn sources_of_items(
 }
 
 /// HAVING that reads its columns and calls where they are found, if there is one.
-#[tactic(auto, using(crate::proofs::PlanLaws::found_condition))]
+#[tactic(auto, using(crate::proofs::PlanLaws::found_clause))]
 fn having_with_sources(
     alloc: Global,
     keys: &[usize],
@@ -200,10 +197,7 @@ fn having_with_sources(
     ensures { IfOk result (λ c. option_map by_sources c
         ≡ option_map (group_condition keys.now (map call_form calls.now)) (option_map form_of having.now)) }
 {
-    match having {
-        Some(condition) => Ok(Some(mapped(alloc, &Sources { keys, calls }, condition)?)),
-        None => Ok(None),
-    }
+    mapped_clause(alloc, &Sources { keys, calls }, having)
 }
 
 impl Plan {

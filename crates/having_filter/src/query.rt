@@ -1,7 +1,6 @@
 //! Queries that were checked.
 
-ghost use Rattle.std.specs.Prelude.{◌≡◌, ◌≢◌, ◌==◌, ◌<◌, ◌↔◌, true, OnOk, IsTrue, List, map, length, option_map, IfOk, IfErr, Ok, Err, Some, slice_get, string_bytes};
-ghost use Rattle.grouping_model.specs.Query.{Aggregate};
+ghost use Rattle.std.specs.Prelude.{◌≡◌, ◌≢◌, ◌==◌, ◌<◌, ◌↔◌, true, OnOk, IsTrue, map, length, option_map, IfOk, IfErr, Ok, Err, Some, slice_get, string_bytes};
 ghost use Rattle.grouping_model.specs.Condition.{is_met};
 ghost use Rattle.grouping_model.specs.Grouping.{column_of};
 ghost use Rattle.grouping_model.specs.Answer.{outcome_at};
@@ -9,27 +8,25 @@ ghost use Rattle.packed_rows.specs.Columns.{kinds, printed};
 ghost use Rattle.packed_rows.specs.View.{row_of, kinds_of};
 ghost use Rattle.agg_protocol.specs.Results.{outcome_of};
 ghost use Rattle.agg_library.specs.Kinds.{function_of};
-ghost use Rattle.having_filter.specs.declared.error.QueryError.TheVariants.{NoMemory};
-ghost use Rattle.having_filter.specs.Forms.{form_of, call_form, items_of, places_of, written_of};
-ghost use Rattle.having_filter.specs.Meaning.{Checked, meaning, distinct_calls};
-ghost use Rattle.having_filter.specs.Checks.{PassesFirst, placed, checked, checked_places, kinds_fit};
-ghost use Rattle.having_filter.specs.Spelling.{spelling};
-ghost use Rattle.having_filter.specs.Writable.{IsWritable};
+ghost use Rattle.query_checks.specs.declared.error.QueryError.TheVariants.{NoMemory};
+ghost use Rattle.query_checks.specs.Forms.{form_of, call_form, items_of, places_of, written_of};
+ghost use Rattle.query_checks.specs.Checks.{Checked, PassesFirst, placed, checked, checked_places, kinds_fit};
+ghost use Rattle.query_checks.specs.Calls.{distinct_calls};
+ghost use Rattle.query_checks.specs.Spelling.{spelling};
+ghost use Rattle.query_checks.specs.Writable.{IsWritable};
+ghost use Rattle.query_checks.specs.Parts.{written_of_parts, checked_of};
+ghost use Rattle.having_filter.specs.Meaning.{meaning};
 ghost use Rattle.having_filter.specs.Kept.{IsQuery, by_names, headers, key_kinds, label_of};
 ghost use Rattle.having_filter.specs.Plans.{PlansFor, source_of};
-ghost use Rattle.having_filter.specs.Parts.{written_of_parts, checked_of};
 
-use crate::condition::{AggCall, Cond, Item, RawQuery};
-use crate::error::QueryError;
+use crate::copying::copied_parts;
 use crate::leaves::{GroupLeaves, RowLeaves, is_met};
-use crate::limits::text_within;
-use crate::parts::Parts;
 use crate::plan::{Plan, Source};
 use crate::texts::{Texts, labels_of};
-use crate::whole::{are_plain, has_columns, is_grouped, is_shallow_query, kinds_fit_in};
 use agg_library::AggKind;
 use agg_protocol::ResultValue;
 use packed_rows::{Schema, Value, ValueKind};
+use query_checks::{AggCall, Cond, Item, Parts, QueryError, RawQuery, check_parts, text_of_known};
 use std::alloc::{AllocError, Global};
 use std::marker::Model;
 
@@ -45,8 +42,9 @@ pub struct Query {
 
 impl Model for Query {
     ghost use Rattle.std.specs.Prelude.{map, string_bytes};
-    ghost use Rattle.having_filter.specs.Meaning.{Checked};
-    ghost use Rattle.having_filter.specs.Parts.{IsKept, checked_of};
+    ghost use Rattle.query_checks.specs.Checks.{Checked};
+    ghost use Rattle.query_checks.specs.Parts.{checked_of};
+    ghost use Rattle.having_filter.specs.Plans.{IsKept};
     ghost use Rattle.having_filter.specs.Coding.{coded_checked};
 
     ghost Value = { Checked };
@@ -57,46 +55,6 @@ impl Model for Query {
 
     ghost invariant = { λ q. IsKept (checked_of q.schema q.parts) q.plan
         (string_bytes q.texts.query) (map string_bytes q.texts.labels.items) (string_bytes q.texts.schema) };
-}
-
-/// Whether the parts of a query pass the checks over places: the first that they fail is told.
-#[tactic(auto, unfolding(crate::specs::Checks::checked_places), using(crate::proofs::CheckedLaws::gives_mismatch, crate::proofs::CheckedLaws::gives_ungrouped, crate::proofs::CheckedLaws::gives_checked))]
-fn check_parts(schema: &Schema, parts: &Parts) -> Result<(), QueryError>
-    ensures passed { OnOk result (checked_places schema.now (written_of_parts parts.now)
-        ≡ Ok (checked_of schema.now parts.now)) }
-    ensures fit { OnOk result (kinds_fit (kinds schema.now) (written_of_parts parts.now) ≡ true) }
-    ensures refused { IfErr result (λ e.
-        checked_places schema.now (written_of_parts parts.now) ≡ Err e) }
-{
-    if !are_plain(parts) {
-        return Err(QueryError::AggregateHere);
-    }
-    if !kinds_fit_in(schema, parts) {
-        return Err(QueryError::TypeMismatch);
-    }
-    if !is_grouped(parts) {
-        return Err(QueryError::NotGrouped);
-    }
-    Ok(())
-}
-
-/// The canonical text of a query that keeps within the limits and whose columns are there: the first of these that it
-/// fails is told.
-#[tactic(auto, using(crate::proofs::CheckedLaws::gives_too_deep, crate::proofs::CheckedLaws::gives_no_column))]
-fn text_of_known(alloc: Global, schema: &Schema, raw: &RawQuery) -> Result<String, QueryError>
-    ensures text { IfOk result (λ text. string_bytes text ≡ spelling (written_of raw.now)) }
-    ensures first { OnOk result (PassesFirst schema.now (written_of raw.now)) }
-    ensures refused { IfErr result (λ e. e ≢ NoMemory →
-        checked schema.now (written_of raw.now) ≡ Err e) }
-{
-    let canonical = text_within(alloc, raw)?;
-    if !is_shallow_query(raw) {
-        return Err(QueryError::TooDeep);
-    }
-    if !has_columns(schema, raw) {
-        return Err(QueryError::NoSuchColumn);
-    }
-    Ok(canonical)
 }
 
 /// The texts of a query that passes the first checks: the first of these that it fails is told.
@@ -168,7 +126,7 @@ fn copied_with_plan(
     ensures same { IfOk result (λ made. written_of_parts made.0 ≡ written_of_parts parts.now) }
     ensures plans { IfOk result (λ made. PlansFor (checked_of schema.now made.0) made.1) }
 {
-    let parts = parts.try_clone(alloc)?;
+    let parts = copied_parts(alloc, parts)?;
     match Plan::new(alloc, schema, &parts) {
         Ok(plan) => Ok((parts, plan)),
         Err(error) => {
@@ -300,7 +258,7 @@ impl Query {
     }
 
     /// Whether WHERE is true of a row, and not false or unknown. Where there is none, it is.
-    #[tactic(auto, using(crate::proofs::FormLaws::met_in_steps))]
+    #[tactic(auto, using(crate::proofs::ValueLaws::met_in_steps))]
     pub fn where_true(&self, row: &[Value<'_>]) -> bool
         ensures { result ≡ is_met (column_of (row_of row.now)) (meaning self.now).condition }
     {

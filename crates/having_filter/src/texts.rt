@@ -1,11 +1,10 @@
 //! The texts that are kept of a query.
 
 ghost use Rattle.std.specs.Prelude.{◌≡◌, map, option_map, IfOk, string_bytes};
-ghost use Rattle.having_filter.specs.Forms.{names_of, item_form, items_of};
+ghost use Rattle.query_checks.specs.Forms.{names_of, item_form, items_of};
 ghost use Rattle.having_filter.specs.Kept.{label_of};
 
-use crate::condition::Item;
-use crate::spelling::{kept_alias, own_name};
+use query_checks::{Item, kept_alias, own_name};
 use std::alloc::{AllocError, Global};
 
 /// The texts that are kept of a query.

@@ -1,13 +1,13 @@
 //! Three-valued logic, and comparisons of values.
 
 ghost use Rattle.std.specs.Prelude.{◌≡◌};
-ghost use Rattle.grouping_model.specs.Condition.{truth, as_outcome, truth_not, truth_and, truth_or, outcome_cmp, compared, holds_of, passes, is_true};
+ghost use Rattle.grouping_model.specs.Condition.{truth, as_outcome, truth_not, truth_and, truth_or, outcome_cmp, compared, holds_of, passes};
 ghost use Rattle.agg_protocol.specs.Results.{outcome_of};
-ghost use Rattle.having_filter.specs.Forms.{comparison_of, test_of};
+ghost use Rattle.query_checks.specs.Forms.{comparison_of, test_of};
 ghost use Rattle.having_filter.specs.Truths.{truth_of};
 
-use crate::condition::{Comparison, IsTest};
 use agg_protocol::ResultValue;
+use query_checks::{Comparison, IsTest};
 use std::cmp::Ordering;
 
 /// A truth value as an operand has it: null is unknown.

@@ -4,12 +4,12 @@ ghost use Rattle.std.specs.Prelude.{◌≡◌};
 ghost use Rattle.grouping_model.specs.Aggregates.{Outcome};
 ghost use Rattle.grouping_model.specs.Condition.{At, value_of};
 ghost use Rattle.agg_protocol.specs.Results.{outcome_of};
-ghost use Rattle.having_filter.specs.Forms.{Form, Column, form_of, call_form};
+ghost use Rattle.query_checks.specs.Forms.{Form, Column, form_of, call_form};
 ghost use Rattle.having_filter.specs.Meaning.{condition_by};
 
-use crate::condition::{AggCall, Cond};
 use crate::truth::{and, as_value, compare, not, or, passes, truth};
 use agg_protocol::ResultValue;
+use query_checks::{AggCall, Cond};
 
 /// The values that the columns and calls of a condition have.
 pub(crate) trait Leaves<C> {

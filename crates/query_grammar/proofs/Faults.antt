@@ -4,7 +4,7 @@ use Rattle.std.specs.Prelude.{codes}
 use Rattle.std.proofs.lemmas.List.{append-nil}
 use Rattle.query_tokens.specs.declared.word.Symbol.TheVariants as symbols
 use Rattle.query_tokens.specs.Words.{Lexeme}
-use Rattle.having_filter.specs.Forms.{Written}
+use Rattle.query_checks.specs.Forms.{Written}
 use Rattle.query_grammar.specs.Terminals.{is_word, is_sign}
 use Rattle.query_grammar.specs.Grammar.{Named, opening}
 use Rattle.query_grammar.specs.Queries.{IsQuery, Begins}

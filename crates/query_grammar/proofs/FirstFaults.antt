@@ -2,7 +2,7 @@
 use Rattle.std.proofs.Common.{◌≡◌, ℕ, suc, List, [], ◌∷◌, ◌++◌, ◌+◌, length, Ok, Err, refl, sym, ap, subst, ◌∙◌, arith, append_assoc}
 use Rattle.std.proofs.lemmas.List.{append-nil, length-append}
 use Rattle.query_tokens.specs.Words.{Lexeme}
-use Rattle.having_filter.specs.Forms.{Written}
+use Rattle.query_checks.specs.Forms.{Written}
 use Rattle.query_grammar.specs.Grammar.{opening}
 use Rattle.query_grammar.specs.Queries.{IsQuery, Begins}
 use Rattle.query_grammar.specs.Reading.{Read, Unexpected, Too_deep}

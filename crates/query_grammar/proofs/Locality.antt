@@ -11,7 +11,7 @@ use Rattle.grouping_model.specs.Datum as datum
 use Rattle.grouping_model.specs.Aggregates as function
 use Rattle.grouping_model.specs.Aggregates.{Function}
 use Rattle.grouping_model.specs.Condition.{Comparison, Test, Is_null, Is_true, Is_false, Is_unknown}
-use Rattle.having_filter.specs.Forms as form
+use Rattle.query_checks.specs.Forms as form
 use Rattle.query_grammar.specs.Terminals.{function_named, comparison_named, is_word, is_sign}
 use Rattle.query_grammar.specs.Grammar.{Named, opening}
 use Rattle.query_grammar.specs.Reading.{Read, Unexpected, Too_deep, Inner, ◌>>=◌, unexpected, after, choose, expect, name_at, filter_at, argument_at, call_at, function_or_column, word_at, enclosed_at, prim_at, with_rest, after_comparison, right_side, cmp_at, looked_for, tested, chain_at, test_at, not_at, joined, and_at, or_at, nested_at, condition_at, conditions}

@@ -5,11 +5,10 @@ use Rattle.query_tokens.specs.Tokens.{tokens_in}
 use Rattle.query_tokens.specs.Spelling.{lexemes_of}
 use Rattle.packed_rows.specs.Columns.{IsSchemaText, printed}
 use Rattle.packed_rows.proofs.PrintedColumns.{printed_again, one_schema}
-use Rattle.having_filter.specs.Checks.{checked}
+use Rattle.query_checks.specs.Checks.{checked, Checked}
 use Rattle.having_filter.specs.Kept as kept
 use Rattle.having_filter.specs.Kept.{by_names}
-use Rattle.having_filter.specs.Meaning.{Checked}
-use Rattle.having_filter.specs.Spelling.{spelling}
+use Rattle.query_checks.specs.Spelling.{spelling}
 use Rattle.having_filter.proofs.PassedLaws.{passes_first, passes_places}
 use Rattle.having_filter.proofs.NormalLaws.{columns_of_query, named_again}
 use Rattle.query_grammar.specs.Canonical.{canonical}

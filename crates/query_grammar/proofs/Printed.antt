@@ -13,10 +13,10 @@ use Rattle.grouping_model.specs.Datum.{Datum}
 use Rattle.grouping_model.specs.Aggregates as function
 use Rattle.grouping_model.specs.Aggregates.{Function}
 use Rattle.grouping_model.specs.Condition as model
-use Rattle.having_filter.specs.Forms as form
-use Rattle.having_filter.specs.Spelling.{function_name, comparison_text, test_text, call_text, level, operand, spelled}
-use Rattle.having_filter.specs.Checks.{depth, filters_pass}
-use Rattle.having_filter.specs.Writable.{IsArgument, IsLiteral, IsForm}
+use Rattle.query_checks.specs.Forms as form
+use Rattle.query_checks.specs.Spelling.{function_name, comparison_text, test_text, call_text, level, operand, spelled}
+use Rattle.query_checks.specs.Checks.{depth, filters_pass}
+use Rattle.query_checks.specs.Writable.{IsArgument, IsLiteral, IsForm}
 use Rattle.query_grammar.specs.Terminals.{function_named, comparison_named}
 use Rattle.query_grammar.specs.Grammar as grammar
 use Rattle.query_grammar.specs.Grammar.{Named, opening, closing, word, IsTest, IsCondition, IsAnd, IsNot, IsTested, IsCompared, IsOperand, IsCall}

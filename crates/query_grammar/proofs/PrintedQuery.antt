@@ -9,20 +9,20 @@ use Rattle.std.proofs.lemmas.List.{append-nil}
 use Rattle.query_tokens.specs.declared.word.Symbol.TheVariants as symbols
 use Rattle.query_tokens.specs.Words.{Lexeme, Name, Sign}
 use Rattle.packed_rows.specs.Columns.{IsColumnName}
-use Rattle.having_filter.specs.Forms as form
-use Rattle.having_filter.specs.Forms.{Written}
+use Rattle.query_checks.specs.Forms as form
+use Rattle.query_checks.specs.Forms.{Written}
 use Rattle.grouping_model.specs.declared.limits.TheConstants.{DEEPEST_CONDITION}
-use Rattle.having_filter.specs.Sameness.{first_of_each}
-use Rattle.having_filter.specs.Spelling.{function_name, spelled, own_name, kept_alias, alias_text, item_text, parted, clause_text, keys_text, spelling}
-use Rattle.having_filter.specs.Checks.{depth, is_shallow, are_shallow, filters_pass, all_of}
-use Rattle.having_filter.specs.Writable as writable
-use Rattle.having_filter.specs.Writable.{IsForm, IsColumnOrCall, IsWritable}
+use Rattle.query_checks.specs.Sameness.{first_of_each}
+use Rattle.query_checks.specs.Spelling.{function_name, spelled, own_name, kept_alias, alias_text, item_text, parted, clause_text, keys_text, spelling}
+use Rattle.query_checks.specs.Checks.{depth, is_shallow, are_shallow, filters_pass, all_of}
+use Rattle.query_checks.specs.Writable as writable
+use Rattle.query_checks.specs.Writable.{IsForm, IsColumnOrCall, IsWritable}
 use Rattle.query_grammar.specs.Grammar.{Named, opening, closing, word}
 use Rattle.query_grammar.specs.Queries as grammar
 use Rattle.query_grammar.specs.Queries.{most_open, IsItemValue, IsAlias, IsItem, IsName, IsListOf, IsClause, IsKeys, IsQuery}
 use Rattle.query_tokens.specs.Tokens.{tokens_in}
 use Rattle.packed_rows.proofs.PrintedColumns.{read_ok}
-use Rattle.having_filter.proofs.DistinctLaws.{all_distinct}
+use Rattle.query_checks.proofs.DistinctLaws.{all_distinct}
 use Rattle.query_grammar.specs.Laws.{IsSpelled}
 use Rattle.query_grammar.specs.Canonical.{canonical}
 use Rattle.query_grammar.proofs.Texts.{Reads, reads_nothing, reads_space, reads_spelled, Quiet, Spells, Opens, spells_lexeme, spells_two, opens_then, opens_two, opens_word, opens_between, spells_between, select_word, from_word, where_word, group_word, by_word, having_word, as_word}

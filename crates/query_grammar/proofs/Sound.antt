@@ -11,7 +11,7 @@ use Rattle.grouping_model.specs.Datum as datum
 use Rattle.grouping_model.specs.Aggregates as function
 use Rattle.grouping_model.specs.Aggregates.{Function}
 use Rattle.grouping_model.specs.Condition.{Comparison, Test, Is_null, Is_true, Is_false, Is_unknown}
-use Rattle.having_filter.specs.Forms as form
+use Rattle.query_checks.specs.Forms as form
 use Rattle.query_grammar.specs.Terminals.{function_named, comparison_named, is_word, is_sign}
 use Rattle.query_grammar.specs.Grammar as grammar
 use Rattle.query_grammar.specs.Grammar.{Named, opening, closing, word, IsTest, IsArgument, IsCondition, IsAnd, IsNot, IsTested, IsCompared, IsOperand, IsCall}

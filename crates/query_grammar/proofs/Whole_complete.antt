@@ -6,7 +6,7 @@ use Rattle.std.proofs.lemmas.List.{length-append}
 use Rattle.query_tokens.specs.declared.word.Symbol.TheVariants as symbols
 use Rattle.query_tokens.specs.Words.{Lexeme, Name, Sign}
 use Rattle.query_grammar.specs.Grammar.{Named}
-use Rattle.having_filter.specs.Forms.{Written}
+use Rattle.query_checks.specs.Forms.{Written}
 use Rattle.query_tokens.specs.Reserved.{is_reserved}
 use Rattle.query_grammar.specs.Terminals.{function_named, is_word, is_sign, symbol_number}
 use Rattle.query_grammar.specs.Reading.{Read, after, name_at, prim_at, conditions}

@@ -5,7 +5,7 @@ use Rattle.std.proofs.lemmas.List.{length-append, append-nil}
 use Rattle.query_tokens.specs.declared.word.Symbol.TheVariants as symbols
 use Rattle.query_tokens.specs.Words.{Lexeme, Name, Integer, Text, Sign}
 use Rattle.query_tokens.specs.Reserved.{is_reserved}
-use Rattle.having_filter.specs.Forms.{Written}
+use Rattle.query_checks.specs.Forms.{Written}
 use Rattle.query_grammar.specs.Terminals.{is_word, is_sign}
 use Rattle.query_grammar.specs.Grammar.{Named}
 use Rattle.query_grammar.specs.Queries.{Begins}

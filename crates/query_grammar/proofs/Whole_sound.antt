@@ -6,8 +6,8 @@ use Rattle.query_tokens.specs.declared.word.Symbol.TheVariants as symbols
 use Rattle.query_tokens.specs.Words.{Lexeme, Name, Integer, Text, Sign}
 use Rattle.query_tokens.specs.Reserved.{is_reserved}
 use Rattle.grouping_model.specs.Aggregates.{Function}
-use Rattle.having_filter.specs.Forms as form
-use Rattle.having_filter.specs.Forms.{Written}
+use Rattle.query_checks.specs.Forms as form
+use Rattle.query_checks.specs.Forms.{Written}
 use Rattle.query_grammar.specs.Terminals.{function_named, is_word, is_sign}
 use Rattle.query_grammar.specs.Grammar.{Named, opening, word}
 use Rattle.query_grammar.specs.Queries as grammar

@@ -9,11 +9,11 @@ use Rattle.query_tokens.specs.declared.word.Symbol.TheVariants as symbols
 use Rattle.query_tokens.specs.Words.{Lexeme, Sign}
 use Rattle.query_tokens.specs.Spelling.{IsLexeme}
 use Rattle.grouping_model.specs.Aggregates.{Function}
-use Rattle.having_filter.specs.Spelling.{Argument, Each_row, Any_value, Values_of, signature, functions, is_value, is_named}
+use Rattle.query_checks.specs.Spelling.{Argument, Each_row, Any_value, Values_of, signature, functions, is_value, is_named}
 use Rattle.packed_rows.specs.Columns.{IsColumnName}
-use Rattle.having_filter.specs.Forms.{Written}
-use Rattle.having_filter.specs.Writable as writable
-use Rattle.having_filter.specs.Writable.{IsForm, IsColumnOrCall, IsWritable}
+use Rattle.query_checks.specs.Forms.{Written}
+use Rattle.query_checks.specs.Writable as writable
+use Rattle.query_checks.specs.Writable.{IsForm, IsColumnOrCall, IsWritable}
 use Rattle.query_grammar.specs.Terminals.{function_named}
 use Rattle.query_grammar.specs.Grammar as grammar
 use Rattle.query_grammar.specs.Grammar.{Named, opening, closing, word, IsArgument, IsCondition, IsAnd, IsNot, IsTested, IsCompared, IsOperand, IsCall}

@@ -1,2 +1,2 @@
--- What the canonical text of a query says.
-pub use Rattle.having_filter.specs.Spelling.{canonical}
+-- What the canonical text of a query says. All of this is our own.
+pub use Rattle.query_checks.specs.Spelling.{canonical}

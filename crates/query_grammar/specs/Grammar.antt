@@ -10,8 +10,8 @@ use Rattle.grouping_model.specs.Datum as datum
 use Rattle.grouping_model.specs.Aggregates as function
 use Rattle.grouping_model.specs.Aggregates.{Function}
 use Rattle.grouping_model.specs.Condition.{Comparison, Test, Is_null, Is_true, Is_false, Is_unknown}
-use Rattle.having_filter.specs.Forms as form
-use Rattle.having_filter.specs.Forms.{Form}
+use Rattle.query_checks.specs.Forms as form
+use Rattle.query_checks.specs.Forms.{Form}
 use Rattle.query_grammar.specs.Terminals.{function_named, comparison_named}
 
 -- a condition over the names of columns

@@ -3,7 +3,7 @@ use Rattle.std.specs.Prelude.{◌≡◌, ℕ, suc, Bool, true, List, [], ◌∷�
 use Rattle.query_tokens.specs.Words.{Lexeme, Placed}
 use Rattle.query_tokens.specs.Tokens.{tokens_in}
 use Rattle.query_tokens.specs.Spelling.{lexemes_of}
-use Rattle.having_filter.specs.Forms.{Written}
+use Rattle.query_checks.specs.Forms.{Written}
 use Rattle.query_grammar.specs.Grammar.{opening}
 use Rattle.query_grammar.specs.Queries.{IsQuery, Begins, most_open}
 use Rattle.query_grammar.specs.Reading.{Read, Unexpected, Too_deep}

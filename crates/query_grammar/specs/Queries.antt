@@ -5,8 +5,8 @@ use Rattle.grouping_model.specs.declared.limits.TheConstants.{MOST_OPEN}
 use Rattle.query_tokens.specs.declared.word.Symbol.TheVariants as symbols
 use Rattle.query_tokens.specs.Words.{Lexeme, Name, Sign}
 use Rattle.query_tokens.specs.Reserved.{is_reserved}
-use Rattle.having_filter.specs.Forms as form
-use Rattle.having_filter.specs.Forms.{Written}
+use Rattle.query_checks.specs.Forms as form
+use Rattle.query_checks.specs.Forms.{Written}
 use Rattle.query_grammar.specs.Grammar.{Named, word, IsCondition, IsCall}
 
 -- name | call

@@ -5,7 +5,7 @@ use Rattle.query_tokens.specs.declared.word.Symbol.{Symbol}
 use Rattle.query_tokens.specs.declared.word.Symbol.TheVariants as symbols
 use Rattle.query_tokens.specs.Words.{Lexeme, Name, Sign}
 -- the function that a name calls (PostgreSQL 17, 9.21 Aggregate Functions)
-unfoldable pub use Rattle.having_filter.specs.Spelling.{function_named}
+unfoldable pub use Rattle.query_checks.specs.Spelling.{function_named}
 use Rattle.grouping_model.specs.Condition.{Comparison, Same, Different, Below, At_most, Above, At_least}
 
 -- the comparison that a symbol stands for (PostgreSQL 17, Table 9.1)

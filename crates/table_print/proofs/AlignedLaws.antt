@@ -12,11 +12,12 @@ use Rattle.std.specs.List.{enumerate_from, join_by, zip}
 use Rattle.grouping_model.specs.Aggregates.{Outcome, Plain}
 use Rattle.grouping_model.specs.Datum.{Null}
 use Rattle.packed_rows.specs.Columns.{kinds}
-use Rattle.having_filter.specs.Checks.{kind_of_form}
-use Rattle.having_filter.specs.Forms.{Form, item_form, map_form, places_of}
-use Rattle.having_filter.specs.declared.condition.Item.{Item}
+use Rattle.query_checks.specs.Checks.{kind_of_form, Checked}
+use Rattle.query_checks.specs.Forms.{Form, item_form, map_form, places_of}
+use Rattle.query_checks.specs.declared.condition.Item.{Item}
 use Rattle.having_filter.specs.Kept.{by_names, headers, label_of, name_at}
-use Rattle.having_filter.specs.Meaning.{Checked, distinct_calls, meaning, source_of_form}
+use Rattle.query_checks.specs.Calls.{distinct_calls}
+use Rattle.having_filter.specs.Meaning.{meaning, source_of_form}
 use Rattle.table_print.specs.Table.{cell_text}
 use Rattle.table_print.specs.Aligned.{aligned_line, column_cells, columns_of, header_cells, longest, padded, row_cells, shown, side_of, sides}
 use Rattle.table_print.specs.declared.aligned_table.Column.{Column}

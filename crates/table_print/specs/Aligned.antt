@@ -7,8 +7,7 @@ use Rattle.std.specs.List.{enumerate_from, join_by, zip}
 use Rattle.grouping_model.specs.Datum.{Kind, Bigint_kind}
 use Rattle.grouping_model.specs.Aggregates.{Outcome}
 use Rattle.packed_rows.specs.Columns.{kinds}
-use Rattle.having_filter.specs.Checks.{kind_of_form}
-use Rattle.having_filter.specs.Meaning.{Checked}
+use Rattle.query_checks.specs.Checks.{kind_of_form, Checked}
 use Rattle.table_print.specs.Table.{cell_text}
 use Rattle.table_print.specs.declared.aligned_table.Column.{Column}
 use Rattle.table_print.specs.declared.aligned_table.Side.{Side}

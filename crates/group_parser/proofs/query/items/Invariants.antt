@@ -1,5 +1,5 @@
 use Rattle.std.proofs.Common.{◌<◌, length}
-use Rattle.having_filter.specs.Forms.{items_of}
+use Rattle.query_checks.specs.Forms.{items_of}
 use Rattle.query_grammar.specs.Queries.{most_open}
 use Rattle.query_grammar.specs.Whole.{item_at, list_at}
 use Rattle.query_grammar.proofs.Chains.{Lists}

@@ -1,7 +1,7 @@
 use Rattle.std.proofs.Common.{◌∙◌, Some, ap, get_or, sym}
 use Rattle.packed_rows.specs.Columns.{kinds}
-use Rattle.having_filter.specs.Checks.{kind_of_form}
-use Rattle.having_filter.specs.Forms.{item_form}
+use Rattle.query_checks.specs.Checks.{kind_of_form}
+use Rattle.query_checks.specs.Forms.{item_form}
 use Rattle.table_print.specs.Aligned.{side_of}
 use Rattle.table_print.proofs.AlignedLaws.{side_at}
 use Rattle.table_print.proofs.aligned_table.side_of_item.Goals as goal

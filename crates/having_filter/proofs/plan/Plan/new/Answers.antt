@@ -1,8 +1,8 @@
 use Rattle.std.proofs.Common.{ℕ, ap, ◌∙◌, map, get_or, List, option_map}
 use Rattle.grouping_model.specs.Datum.{Bigint_kind}
 use Rattle.agg_library.specs.Kinds.{function_of}
-use Rattle.having_filter.specs.declared.condition.AggCall.{AggCall}
-use Rattle.having_filter.specs.Forms.{call_form, item_form, form_of}
+use Rattle.query_checks.specs.declared.condition.AggCall.{AggCall}
+use Rattle.query_checks.specs.Forms.{call_form, item_form, form_of}
 use Rattle.having_filter.specs.Meaning.{source_of_form, group_condition}
 use Rattle.having_filter.proofs.PlanLaws.{plans}
 use Rattle.having_filter.proofs.plan.Plan.new.Goals as goal

@@ -1,7 +1,8 @@
 use Rattle.std.proofs.Common.{ap, ◌∙◌, ◌==◌, Option, Some, option_map}
 use Rattle.grouping_model.specs.Query.{Aggregate}
 use Rattle.agg_library.specs.Kinds.{function_of}
-use Rattle.having_filter.specs.Meaning.{Checked, distinct_calls}
+use Rattle.query_checks.specs.Checks.{Checked}
+use Rattle.query_checks.specs.Calls.{distinct_calls}
 use Rattle.having_filter.proofs.PlanLaws.{aggregate_at, column_of_call}
 use Rattle.having_filter.proofs.query.Query.column.Goals as goal
 

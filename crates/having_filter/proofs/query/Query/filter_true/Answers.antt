@@ -4,8 +4,10 @@ use Rattle.grouping_model.specs.Condition.{is_met}
 use Rattle.grouping_model.specs.Grouping.{column_of}
 use Rattle.packed_rows.specs.View.{row_of}
 use Rattle.agg_library.specs.Kinds.{function_of}
-use Rattle.having_filter.specs.Meaning.{Checked, distinct_calls, column_leaf}
-use Rattle.having_filter.proofs.FormLaws.{met_in_steps}
+use Rattle.query_checks.specs.Checks.{Checked}
+use Rattle.query_checks.specs.Calls.{distinct_calls}
+use Rattle.having_filter.specs.Meaning.{column_leaf}
+use Rattle.having_filter.proofs.ValueLaws.{met_in_steps}
 use Rattle.having_filter.proofs.PlanLaws.{aggregate_at, filter_of_call}
 use Rattle.having_filter.proofs.query.Query.filter_true.Goals as goal
 

@@ -3,7 +3,8 @@ use Rattle.grouping_model.specs.Query.{Source}
 use Rattle.grouping_model.specs.Condition.{Condition, is_met}
 use Rattle.grouping_model.specs.Answer.{outcome_at}
 use Rattle.agg_protocol.specs.Results.{outcome_of}
-use Rattle.having_filter.specs.Meaning.{Checked, meaning}
+use Rattle.query_checks.specs.Checks.{Checked}
+use Rattle.having_filter.specs.Meaning.{meaning}
 use Rattle.having_filter.proofs.PlanLaws.{having_in_steps}
 use Rattle.having_filter.proofs.query.Query.having_true.Goals as goal
 

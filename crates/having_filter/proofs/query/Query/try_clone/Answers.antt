@@ -1,8 +1,8 @@
 use Rattle.std.proofs.Common.{◌≡◌, ap, sym, ◌∙◌, map}
 use Rattle.std.specs.String.{string_bytes}
 use Rattle.packed_rows.specs.Columns.{printed}
-use Rattle.having_filter.specs.Meaning.{Checked}
-use Rattle.having_filter.specs.Parts.{checked_of}
+use Rattle.query_checks.specs.Checks.{Checked}
+use Rattle.query_checks.specs.Parts.{checked_of}
 use Rattle.having_filter.proofs.CheckedLaws.{kept_copy}
 use Rattle.having_filter.proofs.query.Query.try_clone.Goals as goal
 

@@ -2,8 +2,9 @@ use Rattle.std.proofs.Common.{ap, ◌∙◌, option_map}
 use Rattle.grouping_model.specs.Condition.{is_met}
 use Rattle.grouping_model.specs.Grouping.{column_of}
 use Rattle.packed_rows.specs.View.{row_of}
-use Rattle.having_filter.specs.Meaning.{Checked, column_leaf, row_condition}
-use Rattle.having_filter.proofs.FormLaws.{met_in_steps}
+use Rattle.query_checks.specs.Checks.{Checked}
+use Rattle.having_filter.specs.Meaning.{column_leaf, row_condition}
+use Rattle.having_filter.proofs.ValueLaws.{met_in_steps}
 use Rattle.having_filter.proofs.query.Query.where_true.Goals as goal
 
 pub returns : goal.returns

@@ -1,6 +1,0 @@
-use Rattle.std.specs.Prelude.{◌≡◌, map, take}
-use Rattle.having_filter.specs.Forms.{call_form, call_forms}
-use Rattle.having_filter.proofs.calls.copied_calls.Given as goal
-
-abbrev pub invariant-loop-call : goal.invariant-loop-call
-invariant-loop-call l = map call_form l.copies.items ≡ call_forms (take l.call-index l.calls)

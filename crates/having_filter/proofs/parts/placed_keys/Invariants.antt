@@ -1,7 +1,0 @@
-use Rattle.std.specs.Prelude.{◌≡◌, ◌==◌, map, take, string_bytes}
-use Rattle.having_filter.specs.Checks.{place}
-use Rattle.having_filter.specs.Sameness.{first_of_each}
-use Rattle.having_filter.proofs.parts.placed_keys.Given as goal
-
-abbrev pub invariant-loop-name : goal.invariant-loop-name
-invariant-loop-name l = l.places.items ≡ first_of_each ◌==◌ (map (λ name. place l.schema (string_bytes name)) (take l.name-index l.names))

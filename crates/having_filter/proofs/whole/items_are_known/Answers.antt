@@ -1,6 +1,0 @@
-use Rattle.std.proofs.Common.{sym, ◌∙◌}
-use Rattle.having_filter.proofs.WholeLaws.{items_known}
-use Rattle.having_filter.proofs.whole.items_are_known.Goals as goal
-
-pub returns : goal.returns
-returns c = c.items_everywhere.ensures ∙ sym (items_known c.args.schema.now c.args.items.now)

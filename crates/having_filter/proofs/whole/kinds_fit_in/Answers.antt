@@ -1,7 +1,0 @@
-use Rattle.std.proofs.Common.{ap, ◌∙◌}
-use Rattle.having_filter.specs.Checks.{kinds_fit}
-use Rattle.having_filter.specs.Parts.{written_of_parts}
-use Rattle.having_filter.proofs.whole.kinds_fit_in.Goals as goal
-
-pub returns : goal.returns
-returns c = c.kinds_fit.ensures ∙ ap (λ kinds. kinds_fit kinds (written_of_parts c.args.parts.now)) c.kinds.ensures

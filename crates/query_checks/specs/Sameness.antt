@@ -1,0 +1,92 @@
+-- When two conditions or calls are the same, and the distinct members of a list. All of this is our own.
+use Rattle.std.specs.Prelude.{ℕ, ◌==◌, ◌&&◌, Bool, true, false, if◌then◌else◌, List, [], ◌∷◌, ◌++◌, Option, Some, None}
+use Rattle.std.proofs.Math.Bool.{beq}
+use Rattle.std.specs.List.{list_any}
+use Rattle.std.specs.Ordering.{int_eq}
+use Rattle.std.specs.Str.{bytes_eq}
+use Rattle.grouping_model.specs.Datum as datum
+use Rattle.grouping_model.specs.Datum.{Datum}
+use Rattle.grouping_model.specs.Aggregates as function
+use Rattle.grouping_model.specs.Aggregates.{Function}
+use Rattle.grouping_model.specs.Condition.{Comparison, Same, Different, Below, At_most, Above, At_least, Test, Is_null, Is_true, Is_false, Is_unknown}
+use Rattle.query_checks.specs.Forms.{Unary_operator, Negation, Testing, Binary_operator, Conjunction, Disjunction, Comparing, Form, Column, Call, Call_where, Literal, Unary, Binary}
+
+-- numbers that tell functions, comparisons and tests apart
+abbrev pub function_number : Function → ℕ
+function_number function.Count_rows = 0
+function_number function.Count = 1
+function_number function.Sum = 2
+function_number function.Min = 3
+function_number function.Max = 4
+function_number function.Bit_and = 5
+function_number function.Bit_or = 6
+function_number function.Bit_xor = 7
+function_number function.Bool_and = 8
+function_number function.Bool_or = 9
+function_number function.Every = 10
+
+abbrev pub comparison_number : Comparison → ℕ
+comparison_number Same = 0
+comparison_number Different = 1
+comparison_number Below = 2
+comparison_number At_most = 3
+comparison_number Above = 4
+comparison_number At_least = 5
+
+abbrev pub test_number : Test → ℕ
+test_number Is_null = 0
+test_number Is_true = 1
+test_number Is_false = 2
+test_number Is_unknown = 3
+
+abbrev pub function_eq : Function → Function → Bool
+function_eq f g = function_number f == function_number g
+
+-- whether two operators are the same
+abbrev pub unary_eq : Unary_operator → Unary_operator → Bool
+unary_eq Negation Negation = true
+unary_eq (Testing a negated) (Testing b also) = test_number a == test_number b && beq negated also
+unary_eq a b = false
+
+abbrev pub binary_eq : Binary_operator → Binary_operator → Bool
+binary_eq Conjunction Conjunction = true
+binary_eq Disjunction Disjunction = true
+binary_eq (Comparing a) (Comparing b) = comparison_number a == comparison_number b
+binary_eq a b = false
+
+-- whether two literals are the same, null being the same as itself
+abbrev pub literal_eq : Datum → Datum → Bool
+literal_eq datum.Null datum.Null = true
+literal_eq (datum.Bigint x) (datum.Bigint y) = int_eq x y
+literal_eq (datum.Boolean x) (datum.Boolean y) = beq x y
+literal_eq (datum.Text x) (datum.Text y) = bytes_eq x y
+literal_eq x y = false
+
+-- whether both are there and the same, or both are not
+abbrev pub option_same : {A : Type 0} → (A → A → Bool) → Option A → Option A → Bool
+option_same same None None = true
+option_same same (Some x) (Some y) = same x y
+option_same same x y = false
+
+-- whether two conditions are the same, part by part, given when two columns are
+abbrev pub form_eq : {C : Type 0} → (C → C → Bool) → Form C → Form C → Bool
+form_eq same (Column c) (Column d) = same c d
+form_eq same (Call f c) (Call g d) = function_eq f g && option_same same c d
+form_eq same (Call_where f c x) (Call_where g d y) = function_eq f g && (option_same same c d && form_eq same x y)
+form_eq same (Literal x) (Literal y) = literal_eq x y
+form_eq same (Unary a x) (Unary b y) = unary_eq a b && form_eq same x y
+form_eq same (Binary a x y) (Binary b z w) = binary_eq a b && (form_eq same x z && form_eq same y w)
+form_eq same x y = false
+
+-- a member more, unless one that is the same is there
+abbrev pub with_one : {A : Type 0} → (A → A → Bool) → List A → A → List A
+with_one same members x = if list_any (same x) members then members else members ++ x ∷ []
+
+-- the members of a list one after the other, each unless one that is the same is there
+abbrev pub with_each : {A : Type 0} → (A → A → Bool) → List A → List A → List A
+with_each same members [] = members
+with_each same members (x ∷ xs) = with_each same (with_one same members x) xs
+
+-- the distinct members of a list, by the first of each
+abbrev pub first_of_each : {A : Type 0} → (A → A → Bool) → List A → List A
+first_of_each same xs = with_each same [] xs

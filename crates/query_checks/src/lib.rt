@@ -1,0 +1,24 @@
+//! Queries as they are written: their parts, their canonical text, and the checks that they pass before they are evaluated.
+#![tactic(auto)]
+
+mod calls;
+mod checking;
+mod checks;
+mod condition;
+mod distinct;
+mod error;
+mod limits;
+mod mapping;
+mod parts;
+mod reads;
+mod same;
+mod spelling;
+mod whole;
+
+pub use checking::{check_parts, text_of_known};
+pub use condition::{AggCall, Comparison, Cond, IsTest, Item, RawQuery};
+pub use error::QueryError;
+pub use mapping::{Mapping, mapped_call, mapped_clause, mapped_item};
+pub use parts::Parts;
+pub use same::is_same_call;
+pub use spelling::{kept_alias, own_name};

@@ -1,0 +1,315 @@
+//! The canonical text of queries.
+
+ghost use Rattle.std.specs.Prelude.{◌≡◌, ◌++◌, map, option_map, IfOk, OnOk, string_bytes};
+ghost use Rattle.std.specs.List.{flat_map};
+ghost use Rattle.std.specs.Str.{bytes_eq};
+ghost use Rattle.query_tokens.specs.Words as words;
+ghost use Rattle.query_tokens.specs.Spelling.{spell, spell_byte};
+ghost use Rattle.agg_library.specs.Kinds.{function_of};
+ghost use Rattle.packed_rows.specs.View.{texts_of};
+ghost use Rattle.query_checks.specs.Forms.{form_of, call_form, item_form, names_of, items_of, comparison_of, test_of, written_of};
+ghost use Rattle.query_checks.specs.Sameness.{first_of_each};
+ghost use Rattle.query_checks.specs.Spelling.{comparison_text, test_text, call_text, level, operand, spelled, own_name, kept_alias, item_text, parted, clause_text, keys_text, spelling};
+
+use crate::condition::{AggCall, Comparison, Cond, IsTest, Item, RawQuery};
+use agg_library::AggKind;
+use itoa::Buffer;
+use std::alloc::{AllocError, Global};
+
+/// A comparison, between its operands.
+fn comparison_text(comparison: Comparison) -> &'static str
+    ensures { result.now ≡ comparison_text (comparison_of comparison) }
+{
+    match comparison {
+        Comparison::Equal => " = ",
+        Comparison::Unequal => " <> ",
+        Comparison::Less => " < ",
+        Comparison::AtMost => " <= ",
+        Comparison::More => " > ",
+        Comparison::AtLeast => " >= ",
+    }
+}
+
+/// What an IS test looks for.
+fn test_text(test: IsTest) -> &'static str
+    ensures { result.now ≡ test_text (test_of test) }
+{
+    match test {
+        IsTest::IsNull => "NULL",
+        IsTest::IsTrue => "TRUE",
+        IsTest::IsFalse => "FALSE",
+        IsTest::IsUnknown => "UNKNOWN",
+    }
+}
+
+/// How tightly a condition binds.
+fn level(condition: &Cond<String>) -> u64
+    ensures { result ≡ level (names_of (form_of condition.now)) }
+{
+    match condition {
+        Cond::Or(..) => 1,
+        Cond::And(..) => 2,
+        Cond::Not(_) => 3,
+        Cond::Is { .. } => 4,
+        Cond::Compare(..) => 5,
+        _ => 6,
+    }
+}
+
+/// Appends what stands between a string's quotes.
+fn push_quoted(text: &mut String, literal: &str) -> Result<(), AllocError>
+    ensures { OnOk result (string_bytes text.new
+        ≡ string_bytes text.old ++ flat_map spell_byte literal.now) }
+{
+    let mut rest = literal;
+    while let Some((piece, behind)) = rest.split_once('\'') {
+        text.push_str(piece)?;
+        text.push_str("''")?;
+        rest = behind;
+    }
+    text.push_str(rest)?;
+    Ok(())
+}
+
+/// Appends a string in its quotes.
+fn push_string(text: &mut String, literal: &str) -> Result<(), AllocError>
+    ensures { OnOk result (string_bytes text.new
+        ≡ string_bytes text.old ++ spell (words.Text literal.now)) }
+{
+    text.push_str("'")?;
+    push_quoted(text, literal)?;
+    text.push_str("'")
+}
+
+/// Appends a number in plain decimal.
+fn push_number(text: &mut String, number: i64) -> Result<(), AllocError>
+    ensures { OnOk result (string_bytes text.new
+        ≡ string_bytes text.old ++ spell (words.Integer number)) }
+{
+    text.push_str(Buffer::new().format(number))
+}
+
+/// Appends a call without its FILTER.
+fn push_function(
+    text: &mut String,
+    function: AggKind,
+    column: &Option<String>,
+) -> Result<(), AllocError>
+    ensures { OnOk result (string_bytes text.new ≡ string_bytes text.old
+        ++ call_text (function_of function) (option_map string_bytes column.now)) }
+{
+    text.push_str(function.name())?;
+    match column {
+        Some(name) => {
+            text.push_str("(")?;
+            text.push_str(name)?;
+            text.push_str(")")
+        }
+        None => text.push_str("(*)"),
+    }
+}
+
+/// Appends a call.
+#[cycle(push)]
+#[tactic(auto, using(crate::proofs::SpellingLaws::filtered_call))]
+fn push_call(text: &mut String, call: &AggCall<String>) -> Result<(), AllocError>
+    ensures { OnOk result (string_bytes text.new
+        ≡ string_bytes text.old ++ spelled (names_of (call_form call.now))) }
+{
+    push_function(text, call.kind, &call.column)?;
+    if let Some(filter) = &call.filter {
+        text.push_str(" FILTER (WHERE ")?;
+        push_condition(text, filter)?;
+        text.push_str(")")?;
+    }
+    Ok(())
+}
+
+/// Appends an operand, in parentheses where it binds less tightly than its place asks.
+#[cycle(push)]
+fn push_operand(text: &mut String, asked: u64, condition: &Cond<String>) -> Result<(), AllocError>
+    ensures { OnOk result (string_bytes text.new ≡ string_bytes text.old
+        ++ operand asked (names_of (form_of condition.now))
+        (spelled (names_of (form_of condition.now)))) }
+{
+    if level(condition) >= asked {
+        return push_condition(text, condition);
+    }
+    text.push_str("(")?;
+    push_condition(text, condition)?;
+    text.push_str(")")
+}
+
+/// Appends an operator and the operand behind it.
+#[cycle(push)]
+fn push_behind(
+    text: &mut String,
+    operator: &str,
+    asked: u64,
+    condition: &Cond<String>,
+) -> Result<(), AllocError>
+    ensures { OnOk result (string_bytes text.new ≡ string_bytes text.old ++ operator.now
+        ++ operand asked (names_of (form_of condition.now))
+        (spelled (names_of (form_of condition.now)))) }
+{
+    text.push_str(operator)?;
+    push_operand(text, asked, condition)
+}
+
+/// Appends a condition.
+#[cycle(push)]
+fn push_condition(text: &mut String, condition: &Cond<String>) -> Result<(), AllocError>
+    ensures { OnOk result (string_bytes text.new
+        ≡ string_bytes text.old ++ spelled (names_of (form_of condition.now))) }
+{
+    match condition {
+        Cond::Column(name) => text.push_str(name),
+        Cond::Call(call) => push_call(text, call),
+        Cond::Bigint(number) => push_number(text, *number),
+        Cond::Text(literal) => push_string(text, literal),
+        Cond::Boolean(true) => text.push_str("TRUE"),
+        Cond::Boolean(false) => text.push_str("FALSE"),
+        Cond::Null => text.push_str("NULL"),
+        Cond::Not(c) => push_behind(text, "NOT ", 3, c),
+        Cond::Or(c, d) => {
+            push_operand(text, 1, c)?;
+            push_behind(text, " OR ", 2, d)
+        }
+        Cond::And(c, d) => {
+            push_operand(text, 2, c)?;
+            push_behind(text, " AND ", 3, d)
+        }
+        Cond::Compare(comparison, c, d) => {
+            push_operand(text, 6, c)?;
+            push_behind(text, comparison_text(*comparison), 6, d)
+        }
+        Cond::Is {
+            test,
+            negated,
+            operand,
+        } => {
+            push_operand(text, 4, operand)?;
+            text.push_str(if *negated { " IS NOT " } else { " IS " })?;
+            text.push_str(test_text(*test))
+        }
+    }
+}
+
+/// An item's own name: that of its column or function (PostgreSQL 17, 7.3.2).
+pub fn own_name(item: &Item<String>) -> &str
+    ensures { result.now ≡ own_name (names_of (item_form item.now)) }
+{
+    match item {
+        Item::Column(name) => name.as_str(),
+        Item::Call(call) => call.kind.name(),
+    }
+}
+
+/// An alias, which is none where it is the item's own name.
+pub fn kept_alias<'a>(own: &str, alias: &'a Option<String>) -> Option<&'a str>
+    ensures { option_map (λ alias. alias.now) result
+        ≡ kept_alias own.now (option_map string_bytes alias.now) }
+{
+    match alias {
+        Some(alias) if alias.as_str() != own => Some(alias.as_str()),
+        _ => None,
+    }
+}
+
+/// Appends an item without its alias.
+fn push_value(text: &mut String, item: &Item<String>) -> Result<(), AllocError>
+    ensures { OnOk result (string_bytes text.new
+        ≡ string_bytes text.old ++ spelled (names_of (item_form item.now))) }
+{
+    match item {
+        Item::Column(name) => text.push_str(name),
+        Item::Call(call) => push_call(text, call),
+    }
+}
+
+/// Appends an item.
+fn push_item(text: &mut String, item: &(Item<String>, Option<String>)) -> Result<(), AllocError>
+    ensures { OnOk result (string_bytes text.new ≡ string_bytes text.old
+        ++ item_text (names_of (item_form item.now.0), option_map string_bytes item.now.1)) }
+{
+    push_value(text, &item.0)?;
+    if let Some(alias) = kept_alias(own_name(&item.0), &item.1) {
+        text.push_str(" AS ")?;
+        text.push_str(alias)?;
+    }
+    Ok(())
+}
+
+/// Appends items, parted by commas.
+fn push_items(text: &mut String, items: &[(Item<String>, Option<String>)]) -> Result<(), AllocError>
+    ensures { OnOk result (string_bytes text.new
+        ≡ string_bytes text.old ++ parted (map item_text (items_of items.now))) }
+{
+    let Some((first, rest)) = items.split_first() else {
+        return Ok(());
+    };
+    push_item(text, first)?;
+    for item in rest {
+        text.push_str(", ")?;
+        push_item(text, item)?;
+    }
+    Ok(())
+}
+
+/// Appends a condition behind a word, if there is one.
+fn push_clause(
+    text: &mut String,
+    word: &str,
+    clause: &Option<Cond<String>>,
+) -> Result<(), AllocError>
+    ensures { OnOk result (string_bytes text.new ≡ string_bytes text.old
+        ++ clause_text word.now (option_map (λ c. names_of (form_of c)) clause.now)) }
+{
+    if let Some(condition) = clause {
+        text.push_str(word)?;
+        push_condition(text, condition)?;
+    }
+    Ok(())
+}
+
+/// Appends names, parted by commas.
+fn push_names(text: &mut String, names: &[&str]) -> Result<(), AllocError>
+    ensures { OnOk result (string_bytes text.new
+        ≡ string_bytes text.old ++ parted (texts_of names.now)) }
+{
+    let Some((first, rest)) = names.split_first() else {
+        return Ok(());
+    };
+    text.push_str(first)?;
+    for name in rest {
+        text.push_str(", ")?;
+        text.push_str(name)?;
+    }
+    Ok(())
+}
+
+/// Appends GROUP BY and the names of its columns, if there are some.
+fn push_keys(text: &mut String, keys: &[&str]) -> Result<(), AllocError>
+    ensures { OnOk result (string_bytes text.new
+        ≡ string_bytes text.old ++ keys_text (texts_of keys.now)) }
+{
+    if keys.is_empty() {
+        return Ok(());
+    }
+    text.push_str(" GROUP BY ")?;
+    push_names(text, keys)
+}
+
+/// The canonical text of a query, the distinct names of its columns of GROUP BY being given.
+pub(crate) fn spelled(alloc: Global, raw: &RawQuery, keys: &[&str]) -> Result<String, AllocError>
+    requires { texts_of keys.now ≡ first_of_each bytes_eq (written_of raw.now).keys }
+    ensures { IfOk result (λ text. string_bytes text ≡ spelling (written_of raw.now)) }
+{
+    let mut text = String::from_str(alloc, "SELECT ")?;
+    push_items(&mut text, &raw.items)?;
+    text.push_str(" FROM batches")?;
+    push_clause(&mut text, " WHERE ", &raw.condition)?;
+    push_keys(&mut text, keys)?;
+    push_clause(&mut text, " HAVING ", &raw.having)?;
+    Ok(text)
+}
