@@ -14,9 +14,9 @@ use Rattle.agg_library.specs.declared.kind.AggKind.TheVariants as kind
 use Rattle.agg_library.specs.Kinds.{function_of, functions_of, kind_width}
 use Rattle.agg_library.specs.StateRows.{Denotes}
 use Rattle.hash_agg.specs.Bytes.{state_bytes, group_bytes, run_bytes, ArePartials, IsGroupOf}
-use Rattle.hash_agg.specs.Runs.{Entry}
-use Rattle.hash_agg.specs.Standing.{StandsFor, AreGroups}
-use Rattle.hash_agg.proofs.StateLaws.{joined}
+use Rattle.group_runs.specs.Runs.{Entry}
+use Rattle.group_runs.specs.Standing.{StandsFor, AreGroups}
+use Rattle.group_runs.proofs.StateLaws.{joined}
 
 -- states are the bytes of their partial results
 states_bytes : (m : ℕ) (kinds : List AggKind) (bytes : List ℕ) (ps : List Partial) → Denotes m kinds bytes ps → (bytes ≡ state_bytes ps) × ArePartials m (functions_of kinds) ps

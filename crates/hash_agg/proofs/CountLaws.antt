@@ -19,12 +19,13 @@ use Rattle.spill_lists.specs.Lists.{LeftList}
 use Rattle.spill_lists.specs.Standing.{ListsState}
 use Rattle.having_filter.specs.Meaning.{meaning}
 use Rattle.hash_agg.specs.declared.plan.Plan.{Plan}
-use Rattle.hash_agg.specs.Runs.{Entry}
+use Rattle.group_runs.specs.Runs.{Entry}
 use Rattle.hash_agg.specs.Inputs.{Brought, Packed, Counted, on_end, rows_in, all_rows, IsInput, AllBring}
-use Rattle.hash_agg.specs.Adding.{row_added, rows_added, group_added, groups_added, Given, Of_rows, Of_groups, Gives, AllGive, given_added, all_added}
+use Rattle.group_runs.specs.Adding.{row_added, rows_added, group_added, groups_added}
+use Rattle.hash_agg.specs.Adding.{Given, Of_rows, Of_groups, Gives, AllGive, given_added, all_added}
 use Rattle.hash_agg.specs.Passes.{Of_row, Of_group, pieces_added, made_of, piece_key, weight, rows_at, CountUpTo, AreOf, given_pieces, all_pieces, PassState, setting_of, Holds, CanRead, Reads, total, brings, brought_by, Brings}
-use Rattle.hash_agg.proofs.InputLaws.{run_apart, groups_long}
-use Rattle.hash_agg.proofs.MergeLaws.{AreApart, puts_rise, nothing_rises, keys_of-rows_added, keys_of-groups_added}
+use Rattle.group_runs.proofs.RunLaws.{run_apart, groups_long}
+use Rattle.group_runs.proofs.MergeLaws.{AreApart, puts_rise, nothing_rises, keys_of-rows_added, keys_of-groups_added}
 use Rattle.hash_agg.proofs.PassLaws.{rows_append, pieces_append}
 use Rattle.hash_agg.proofs.WholeLaws.{GivenAt}
 

@@ -19,11 +19,11 @@ use Rattle.aggregation_cost.specs.Space.{Key, Setting}
 use Rattle.aggregation_cost.proofs.CostLaws.{passes_few}
 use Rattle.aggregation_cost.proofs.Keys.{same_key_itself, same_key-is, distinct-apart}
 use Rattle.aggregation_cost.proofs.Lists.{any-filter, each_gives, each_both, each_of_filter}
-use Rattle.hash_agg.specs.Runs.{Entry, packed_keys}
+use Rattle.group_runs.specs.Runs.{Entry, packed_keys}
 use Rattle.hash_agg.specs.Inputs.{Brought, Packed, Counted, AllBring, IsAggregate, on_end}
 use Rattle.hash_agg.specs.Adding.{Given, Of_rows, Of_groups, AllGive}
 use Rattle.hash_agg.specs.Passes.{Piece, Of_row, Of_group, records_of, all_pieces}
-use Rattle.hash_agg.proofs.InputLaws.{keys_packed, keys_of_kinds}
+use Rattle.group_runs.proofs.RunLaws.{keys_packed, keys_of_kinds}
 use Rattle.hash_agg.proofs.SpillLaws.{records_more}
 
 -- ---- lists of which each member is in another

@@ -12,7 +12,7 @@ use Rattle.aggregation_cost.specs.Space.{Setting}
 use Rattle.spill_tapes.specs.Records.{Record}
 use Rattle.spill_lists.specs.Lists.{LeftList, lists, left_by}
 use Rattle.spill_lists.specs.Standing.{ListsState, HasLists, count_of, spilled_number, waiting_number, pages_of, written_pages}
-use Rattle.hash_agg.specs.Runs.{Entry, Rises}
+use Rattle.group_runs.specs.Runs.{Entry, Rises}
 use Rattle.hash_agg.specs.Inputs.{Brought, rows_in, all_rows}
 use Rattle.hash_agg.specs.Passes.{Piece, PassState, Holds, records_of, total}
 use Rattle.hash_agg.specs.Waiting.{Waits, Costs, AddsUp, pass_cost}

@@ -12,9 +12,9 @@ use Rattle.aggregation_cost.specs.Space.{Setting}
 use Rattle.aggregation_cost.proofs.CostLaws.{each_fits}
 use Rattle.aggregation_cost.proofs.Lists.{each_gives, each_of_flat_map}
 use Rattle.having_filter.specs.Kept.{IsWellFormed, key_kinds}
-use Rattle.having_filter.proofs.DistinctLaws.{all_append}
-use Rattle.hash_agg.specs.Runs.{Entry}
-use Rattle.hash_agg.specs.Standing.{AreGroups}
+use Rattle.query_checks.proofs.DistinctLaws.{all_append}
+use Rattle.group_runs.specs.Runs.{Entry}
+use Rattle.group_runs.specs.Standing.{AreGroups}
 use Rattle.hash_agg.specs.Inputs.{Brought, Packed, Counted}
 use Rattle.hash_agg.specs.Adding.{Given, Of_rows, Of_groups, Gives, AllGive}
 use Rattle.hash_agg.specs.Passes.{Piece, Of_row, Of_group, piece_key, cost_records, records_of, given_pieces, all_pieces}

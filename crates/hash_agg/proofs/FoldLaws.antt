@@ -18,16 +18,16 @@ use Rattle.grouping_model.proofs.DatumOrder.{row_cmp_total, row_cmp_ties}
 use Rattle.packed_rows.specs.Packing.{packing}
 use Rattle.agg_protocol.specs.States.{most_rows}
 use Rattle.having_filter.specs.Kept.{key_kinds}
-use Rattle.hash_agg.specs.Runs.{Entry, packed_keys, Rises}
-use Rattle.hash_agg.specs.Standing.{AreGroups, IsRun}
+use Rattle.group_runs.specs.Runs.{Entry, packed_keys, Rises}
+use Rattle.group_runs.specs.Standing.{AreGroups, IsRun}
 use Rattle.hash_agg.specs.Inputs.{Brought, Packed, Counted, rows_in, all_rows, on_end, AreInputsOf, AllBring, IsAggregate, IsRunOver}
-use Rattle.hash_agg.specs.Adding.{groups_added}
-use Rattle.hash_agg.specs.Steps.{AddsRun}
+use Rattle.group_runs.specs.Adding.{groups_added}
+use Rattle.group_runs.specs.Steps.{AddsRun}
 use Rattle.hash_agg.proofs.KeyLaws.{key_has}
-use Rattle.hash_agg.proofs.MergeLaws.{puts, puts_rise, puts_long, among-puts, keys_of-groups_added, groups_added_part}
-use Rattle.hash_agg.proofs.InputLaws.{keys_packed, keys_of_kinds, rises_keys}
+use Rattle.group_runs.proofs.MergeLaws.{puts, puts_rise, puts_long, among-puts, keys_of-groups_added, groups_added_part}
+use Rattle.group_runs.proofs.RunLaws.{keys_packed, keys_of_kinds, rises_keys}
 use Rattle.hash_agg.proofs.WholeLaws.{packings_once, keys_few}
-use Rattle.hash_agg.proofs.SpliceLaws.{packed_rise}
+use Rattle.group_runs.proofs.SpliceLaws.{packed_rise}
 
 pub run_keys_rise : (q : Query) (most : ℕ) (run : List Entry) (groups : List Group) → AreGroups q most run groups → Rises run → IsStrictlySortedBy row_cmp (keys_of groups)
 run_keys_rise q most run groups are rises = rises_keys (key_kinds q) (keys_of groups) (keys_of_kinds q most run groups are) (subst (IsStrictlySortedBy _) (keys_packed q most run groups are) rises)

@@ -11,7 +11,7 @@ use Rattle.spill_lists.specs.Lists.{LeftList, lists, left_by}
 use Rattle.spill_lists.specs.Standing.{ListsState, HasLists, BeginsLast, AreOn, pages_of, written_pages}
 use Rattle.having_filter.specs.Meaning.{meaning}
 use Rattle.hash_agg.specs.declared.plan.Plan.{Plan}
-use Rattle.hash_agg.specs.Runs.{Entry, Rises}
+use Rattle.group_runs.specs.Runs.{Entry, Rises}
 use Rattle.hash_agg.specs.Passes.{Piece, AreOnce, CountUpTo, Stands, setting_of, records_of, ReadsList, CanReadList}
 use Rattle.hash_agg.specs.Waiting.{Waits, Costs, AddsUp, pass_cost}
 use Rattle.hash_agg.specs.declared.work.Work.{Work}

@@ -4,10 +4,10 @@ use Rattle.std.proofs.Common.{sym, ◌∙◌, ap, subst, arith}
 use Rattle.grouping_model.specs.Query.{Query}
 use Rattle.spill_lists.specs.Standing.{ListsState}
 use Rattle.hash_agg.specs.declared.plan.Plan.{Plan}
-use Rattle.hash_agg.specs.Runs.{Entry}
-use Rattle.hash_agg.specs.Standing.{IsRun}
+use Rattle.group_runs.specs.Runs.{Entry}
+use Rattle.group_runs.specs.Standing.{IsRun}
 use Rattle.hash_agg.specs.Passes.{Piece, GroupsState, entries_of, IsSameTable, AreSafe, PassState, Reads, CanRead, AreOfRun, brought_by, Proceeds, Brings, KeepsLists}
-use Rattle.hash_agg.proofs.EntryLaws.{groups_raised}
+use Rattle.group_runs.proofs.EntryLaws.{groups_raised}
 use Rattle.hash_agg.proofs.StepLaws.{one_group}
 
 -- a run whose states count at most as many rows as are allowed

@@ -10,7 +10,7 @@ use Rattle.aggregation_cost.proofs.CostLaws.{one_fits}
 use Rattle.context_tree.specs.Tree.{TreeState}
 use Rattle.group_table.specs.Space.{key_of, keys_in}
 use Rattle.group_table.specs.Table.{TableState, IsSameBut, group_in, groups}
-use Rattle.hash_agg.specs.Runs.{Entry, packed_keys}
+use Rattle.group_runs.specs.Runs.{Entry, packed_keys}
 
 -- one key more has one front more
 fronts_more : {X : Type 0} (xs : List X) (x : X) → fronts (xs ++ x ∷ []) ≡ fronts xs ++ (xs ++ x ∷ []) ∷ []

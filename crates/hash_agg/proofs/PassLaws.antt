@@ -19,13 +19,13 @@ use Rattle.grouping_model.proofs.Members.{false_is_not_true}
 use Rattle.packed_rows.specs.Packing.{packing}
 use Rattle.having_filter.specs.Kept.{key_kinds}
 use Rattle.spill_tapes.specs.Records.{Record}
-use Rattle.hash_agg.specs.Runs.{Entry}
-use Rattle.hash_agg.specs.Standing.{AreStates, StandsFor, AreGroups}
-use Rattle.hash_agg.specs.Adding.{merged}
+use Rattle.group_runs.specs.Runs.{Entry}
+use Rattle.group_runs.specs.Standing.{AreStates, StandsFor, AreGroups}
+use Rattle.group_runs.specs.Adding.{merged}
 use Rattle.hash_agg.specs.Passes.{Piece, Of_row, Of_group, IsPiece, ArePieces, piece_key, piece_added, pieces_added, made_of, weight, rows_at, AreOnce, HasNoKey, IsParted, AreGroupsBy, Stands}
-use Rattle.hash_agg.proofs.MergeLaws.{AreApart, apart_from, found_among, found_others}
-use Rattle.hash_agg.proofs.InputLaws.{packed_once}
-use Rattle.hash_agg.proofs.StateLaws.{states_raised}
+use Rattle.group_runs.proofs.MergeLaws.{AreApart, apart_from, found_among, found_others}
+use Rattle.group_runs.proofs.RunLaws.{packed_once}
+use Rattle.group_runs.proofs.StateLaws.{states_raised}
 
 -- ---- what is found at a key
 

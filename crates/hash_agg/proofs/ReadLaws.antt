@@ -8,7 +8,7 @@ use Rattle.spill_lists.specs.Lists.{LeftList}
 use Rattle.spill_lists.specs.Standing.{ListsState, HasLists, spilled_number, ahead_number}
 use Rattle.having_filter.specs.Meaning.{meaning}
 use Rattle.hash_agg.specs.declared.plan.Plan.{Plan}
-use Rattle.hash_agg.specs.Runs.{Entry}
+use Rattle.group_runs.specs.Runs.{Entry}
 use Rattle.hash_agg.specs.Passes.{Piece, ArePieces, CountUpTo, Stands, Spills, setting_of, PassState, Holds, CanRead, Reads, Proceeds}
 use Rattle.hash_agg.proofs.PassLaws.{rows_append}
 use Rattle.hash_agg.proofs.SpillLaws.{nothing_spills}

@@ -18,11 +18,11 @@ use Rattle.byteorder.specs.Endian.{big_from}
 use Rattle.byteorder.specs.Numbers.{big_from-cons, big_from-lt}
 use Rattle.grouping_model.proofs.Members.{false_is_not_true}
 use Rattle.packed_rows.proofs.PackingOrder.{less, tied}
-use Rattle.hash_agg.specs.Runs.{Entry, packed_keys, Rises}
-use Rattle.hash_agg.specs.Places.{AllBelow}
+use Rattle.group_runs.specs.Runs.{Entry, packed_keys, Rises}
+use Rattle.group_runs.specs.Places.{AllBelow}
 use Rattle.hash_agg.specs.Passes.{AreOnce, HasNoKey, Led, IsLed, pairs}
-use Rattle.hash_agg.proofs.InputLaws.{take_found}
-use Rattle.hash_agg.proofs.PlaceLaws.{key_total, below_to, rises_between}
+use Rattle.group_runs.proofs.RunLaws.{take_found}
+use Rattle.group_runs.proofs.PlaceLaws.{key_total, below_to, rises_between}
 
 -- ---- keys that differ
 

@@ -16,10 +16,11 @@ use Rattle.aggregation_cost.proofs.Keys.{same_key_itself, same_key-is}
 use Rattle.aggregation_cost.proofs.Steps.{taken_from-push, spilled_from-push}
 use Rattle.spill_tapes.specs.Records.{Record}
 use Rattle.spill_lists.specs.declared.lists.OnTape.{OnTape}
-use Rattle.hash_agg.specs.Runs.{Entry, packed_keys}
-use Rattle.hash_agg.specs.Passes.{Piece, Of_row, Of_group, IsPiece, piece_key, HasNoKey, states_width, cost_records, records_of, AreCosted, Spills}
+use Rattle.group_runs.specs.Runs.{Entry, packed_keys}
+use Rattle.group_runs.specs.Standing.{states_width}
+use Rattle.hash_agg.specs.Passes.{Piece, Of_row, Of_group, IsPiece, piece_key, HasNoKey, cost_records, records_of, AreCosted, Spills}
 use Rattle.hash_agg.proofs.PassLaws.{IsKept}
-use Rattle.hash_agg.proofs.StateLaws.{states_long}
+use Rattle.group_runs.proofs.StateLaws.{states_long}
 
 -- ---- keys
 

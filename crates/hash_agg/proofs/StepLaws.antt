@@ -31,15 +31,17 @@ use Rattle.group_table.specs.declared.table.Slot.{Slot}
 use Rattle.having_filter.specs.Kept.{key_kinds, IsWellFormed}
 use Rattle.having_filter.specs.Meaning.{meaning}
 use Rattle.hash_agg.specs.declared.plan.Plan.{Plan}
-use Rattle.hash_agg.specs.Runs.{Entry, packed_keys}
-use Rattle.hash_agg.specs.Standing.{AreStates, StandsFor}
-use Rattle.hash_agg.specs.Steps.{AreWithin, AreAdvanced, AreCombined}
-use Rattle.hash_agg.specs.Passes.{Piece, Of_row, Of_group, group_record, IsGroupRecord, IsPiece, piece_key, piece_added, weight, rows_at, CountUpTo, AreOnce, AreGroupsBy, GroupsState, entries_of, WritesAt, Stands, states_width, Spills, AreSafe, PassState, standing, setting_of, Holds, CanRead, Reads, ReadsSome, IsAt, AreRows, AreOfRun, total, brings, brought_by, Brings, Proceeds}
+use Rattle.group_runs.specs.Runs.{Entry, packed_keys}
+use Rattle.group_runs.specs.Standing.{AreStates, StandsFor}
+use Rattle.group_runs.specs.Steps.{AreWithin, AreAdvanced, AreCombined}
+use Rattle.group_runs.specs.Standing.{states_width}
+use Rattle.hash_agg.specs.Passes.{Piece, Of_row, Of_group, group_record, IsGroupRecord, IsPiece, piece_key, piece_added, weight, rows_at, CountUpTo, AreOnce, AreGroupsBy, GroupsState, entries_of, WritesAt, Stands, Spills, AreSafe, PassState, standing, setting_of, Holds, CanRead, Reads, ReadsSome, IsAt, AreRows, AreOfRun, total, brings, brought_by, Brings, Proceeds}
 use Rattle.hash_agg.proofs.KeyLaws.{key_has}
 use Rattle.hash_agg.proofs.NeedLaws.{keys_set}
 use Rattle.hash_agg.proofs.SpillLaws.{among_entries, none_of, spills_there, spills_new, spills_left}
-use Rattle.hash_agg.proofs.InputLaws.{packed_once, take_found, row_at, flat_row_at, rows_long, group_at, groups_long}
-use Rattle.hash_agg.proofs.StateLaws.{states_by, states_wide, narrow}
+use Rattle.group_runs.proofs.RunLaws.{packed_once, take_found, group_at, groups_long}
+use Rattle.hash_agg.proofs.InputLaws.{row_at, flat_row_at, rows_long}
+use Rattle.group_runs.proofs.StateLaws.{states_by, states_wide, narrow}
 use Rattle.hash_agg.proofs.TableLaws.{no_key, named_at, get_mapped}
 use Rattle.hash_agg.proofs.PassLaws.{IsKept, after, by_at, by_set, by_append, rows_append, rows_one, reads_there, reads_new, reads_left}
 

@@ -14,7 +14,7 @@ use Rattle.context_tree.specs.declared.links.ContextId.{ContextId}
 use Rattle.group_table.specs.Standing.{IsTableIn}
 use Rattle.group_table.specs.Table.{TableState, IsSameBut, held_in, HasNo, key_in, state_in, group_in, groups}
 use Rattle.group_table.specs.declared.table.Slot.{Slot}
-use Rattle.hash_agg.specs.Runs.{Entry}
+use Rattle.group_runs.specs.Runs.{Entry}
 use Rattle.hash_agg.specs.Passes.{GroupsState, entries_of, AreOnce, HasNoKey}
 
 -- the context of a pass is there once it was made

@@ -16,13 +16,13 @@ use Rattle.grouping_model.proofs.DatumOrder.{row_cmp_total, row_cmp_ties, same_r
 use Rattle.grouping_model.proofs.Members.{Member, from_contains, to_contains}
 use Rattle.grouping_model.proofs.PartLaws.{same_row-swap}
 use Rattle.spill_tapes.specs.Records.{Record}
-use Rattle.hash_agg.specs.Runs.{Entry, Rises}
-use Rattle.hash_agg.specs.Standing.{StandsFor, AreGroups, IsRun}
+use Rattle.group_runs.specs.Runs.{Entry, Rises}
+use Rattle.group_runs.specs.Standing.{StandsFor, AreGroups, IsRun}
 use Rattle.hash_agg.specs.Passes.{Piece, made_of, rows_at, CountUpTo, AreOnce, IsParted, AreGroupsBy, AreSafe, Stands, all_in}
 use Rattle.hash_agg.proofs.FoldLaws.{run_keys_rise}
 use Rattle.having_filter.specs.Kept.{key_kinds}
-use Rattle.hash_agg.proofs.InputLaws.{packed_once}
-use Rattle.hash_agg.proofs.MergeLaws.{AreApart, apart_from, rising_apart}
+use Rattle.group_runs.proofs.RunLaws.{packed_once}
+use Rattle.group_runs.proofs.MergeLaws.{AreApart, apart_from, rising_apart}
 use Rattle.hash_agg.proofs.PassLaws.{set_with, at_cons, at_append, or_else, or_none, missing, by_raised, by_uniform, by_append, by_set, by_at, once_apart, no_pieces, same_itself}
 use Rattle.hash_agg.proofs.SortLaws.{once_permuted, rises_once}
 

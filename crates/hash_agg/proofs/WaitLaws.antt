@@ -13,15 +13,15 @@ use Rattle.grouping_model.specs.Grouping.{Group, column_of}
 use Rattle.grouping_model.specs.Parts.{partials_at, with_row}
 use Rattle.grouping_model.proofs.DatumOrder.{same_row-is}
 use Rattle.packed_rows.specs.Packing.{packing}
-use Rattle.having_filter.proofs.DistinctLaws.{all_append}
+use Rattle.query_checks.proofs.DistinctLaws.{all_append}
 use Rattle.spill_tapes.specs.Records.{Record}
 use Rattle.spill_lists.specs.Lists.{LeftList, list_of, on_list, deeper, is_none, lists, left_by}
-use Rattle.hash_agg.specs.Runs.{Entry}
+use Rattle.group_runs.specs.Runs.{Entry}
 use Rattle.hash_agg.specs.Passes.{Piece, Of_row, Of_group, IsPiece, ArePieces, piece_key, piece_added, pieces_added, made_of, weight, rows_at, CountUpTo, AreOnce, Stands}
 use Rattle.hash_agg.specs.Waiting.{AreListed, AreNone, IsOneOf, each_at, Waits}
 use Rattle.hash_agg.proofs.PassLaws.{after, added_with, IsKept, or_else, or_none, at_append, set_with, found_in, by_append, by_raised, by_at, once_apart}
 use Rattle.hash_agg.proofs.UnionLaws.{once_append}
-use Rattle.hash_agg.proofs.InputLaws.{packed_once}
+use Rattle.group_runs.proofs.RunLaws.{packed_once}
 use Rattle.having_filter.specs.Kept.{key_kinds}
 
 -- ---- one of some

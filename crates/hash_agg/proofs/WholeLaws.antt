@@ -11,12 +11,13 @@ use Rattle.grouping_model.specs.Parts.{keys_of}
 use Rattle.packed_rows.specs.Packing.{packing}
 use Rattle.having_filter.specs.Kept.{key_kinds}
 use Rattle.hash_agg.specs.declared.input.Input.{Input}
-use Rattle.hash_agg.specs.Runs.{Entry, packed_keys}
-use Rattle.hash_agg.specs.Standing.{AreGroups}
+use Rattle.group_runs.specs.Runs.{Entry, packed_keys}
+use Rattle.group_runs.specs.Standing.{AreGroups}
 use Rattle.hash_agg.specs.Inputs.{Brought, Packed, Counted, brought, on_end, IsInput, AreInputsOf, AllBring}
-use Rattle.hash_agg.specs.Adding.{rows_added, groups_added, Given, Of_rows, Of_groups, Gives, AllGive, all_added}
-use Rattle.hash_agg.proofs.MergeLaws.{rows_added_part, groups_added_part, puts, puts-append, puts_all, keys_of-rows_added, keys_of-groups_added, distinct_few}
-use Rattle.hash_agg.proofs.InputLaws.{packed_once, keys_packed, keys_of_kinds}
+use Rattle.group_runs.specs.Adding.{rows_added, groups_added}
+use Rattle.hash_agg.specs.Adding.{Given, Of_rows, Of_groups, Gives, AllGive, all_added}
+use Rattle.group_runs.proofs.MergeLaws.{rows_added_part, groups_added_part, puts, puts-append, puts_all, keys_of-rows_added, keys_of-groups_added, distinct_few}
+use Rattle.group_runs.proofs.RunLaws.{packed_once, keys_packed, keys_of_kinds}
 
 -- what may be aggregated gives something
 one_given : (q : Query) (input : Brought) → IsInput q input → (given : Given) × Gives q input given

@@ -7,7 +7,7 @@ use Rattle.std.proofs.lemmas.List.Elements.{recursion_from_All}
 use Rattle.std.proofs.lemmas.List.{length-append}
 use Rattle.std.proofs.lemmas.List.Sums.{sum_by-cons}
 use Rattle.std.proofs.lemmas.List.Sorted.{IsPermutation-append_comm}
-use Rattle.having_filter.proofs.DistinctLaws.{all_append}
+use Rattle.query_checks.proofs.DistinctLaws.{all_append}
 use Rattle.grouping_model.specs.Query.{Query}
 use Rattle.grouping_model.specs.Datum.{Row}
 use Rattle.packed_rows.specs.Packing.{packing}
@@ -21,11 +21,11 @@ use Rattle.spill_lists.specs.Lists.{LeftList, list_of, on_list, deeper, is_none,
 use Rattle.spill_lists.specs.Standing.{list_pages, pages_of}
 use Rattle.spill_lists.specs.declared.lists.OnTape.{OnTape}
 use Rattle.having_filter.specs.Kept.{IsWellFormed}
-use Rattle.hash_agg.specs.Runs.{Entry, packed_keys}
+use Rattle.group_runs.specs.Runs.{Entry, packed_keys}
 use Rattle.hash_agg.specs.Passes.{Piece, Of_row, Of_group, IsPiece, ArePieces, cost_records, records_of, IsCosted, AreCosted, Spills}
 use Rattle.hash_agg.specs.Waiting.{capped, IsLeft, AreLeft, Costs, AddsUp, pass_cost, IsWork}
 use Rattle.hash_agg.specs.declared.work.Work.{Work}
-use Rattle.hash_agg.proofs.InputLaws.{packed_once}
+use Rattle.group_runs.proofs.RunLaws.{packed_once}
 use Rattle.hash_agg.proofs.StepLaws.{key_short, group_apart}
 use Rattle.hash_agg.proofs.SpillLaws.{as_long}
 

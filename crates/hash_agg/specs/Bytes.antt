@@ -9,7 +9,7 @@ use Rattle.grouping_model.specs.Parts.{functions}
 use Rattle.packed_rows.specs.Packing.{packing}
 use Rattle.agg_protocol.specs.States.{IsState, shape_of, bytes_of}
 use Rattle.having_filter.specs.Kept.{key_kinds}
-use Rattle.hash_agg.specs.Runs.{Entry}
+use Rattle.group_runs.specs.Runs.{Entry}
 
 -- the states of partial results, one after the other
 abbrev pub state_bytes : List Partial → List ℕ

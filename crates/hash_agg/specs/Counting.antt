@@ -6,7 +6,8 @@ use Rattle.aggregation_cost.specs.Cost.{Cost, cost}
 use Rattle.hash_agg.specs.Adding.{Given, AllGive}
 use Rattle.hash_agg.specs.Inputs.{Brought}
 use Rattle.hash_agg.specs.Means.{MeansState}
-use Rattle.hash_agg.specs.Passes.{setting_for, states_width, records_of, all_pieces}
+use Rattle.group_runs.specs.Standing.{states_width}
+use Rattle.hash_agg.specs.Passes.{setting_for, records_of, all_pieces}
 use Rattle.hash_agg.specs.Waiting.{AddsUp}
 use Rattle.hash_agg.specs.declared.work.Work.{Work}
 

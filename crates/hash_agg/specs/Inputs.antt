@@ -10,8 +10,8 @@ use Rattle.packed_rows.specs.View.{bytes_of}
 use Rattle.having_filter.specs.Kept.{key_kinds}
 use Rattle.hash_agg.specs.declared.input.Input.{Input}
 use Rattle.hash_agg.specs.declared.input.Input.TheVariants.{Rows, Flat, Groups}
-use Rattle.hash_agg.specs.Runs.{Entry, packed_keys}
-use Rattle.hash_agg.specs.Standing.{AreGroups, IsRun}
+use Rattle.group_runs.specs.Runs.{Entry, packed_keys}
+use Rattle.group_runs.specs.Standing.{AreGroups, IsRun}
 
 -- what an input brings: packed rows, or the groups of a run and how many rows its states count at most
 pub data Brought : Type 0 where

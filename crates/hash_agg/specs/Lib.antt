@@ -1,10 +1,6 @@
-pub mod Runs
-pub mod Standing
 pub mod Inputs
 pub mod Adding
-pub mod Steps
 pub mod Bytes
-pub mod Places
 pub mod Passes
 pub mod Waiting
 pub mod Means

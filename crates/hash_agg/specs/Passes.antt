@@ -22,14 +22,15 @@ use Rattle.spill_tapes.specs.Records.{Record}
 use Rattle.spill_lists.specs.Lists.{LeftList}
 use Rattle.spill_lists.specs.Standing.{ListsState, HasLists, spilled_number, written_pages}
 use Rattle.spill_lists.specs.declared.lists.OnTape.{OnTape}
-use Rattle.agg_protocol.specs.States.{most_rows, shape_of, width_of}
+use Rattle.agg_protocol.specs.States.{most_rows}
 use Rattle.having_filter.specs.Kept.{IsWellFormed}
 use Rattle.having_filter.specs.Meaning.{meaning}
 use Rattle.hash_agg.specs.declared.plan.Plan.{Plan}
-use Rattle.hash_agg.specs.Runs.{Entry, packed_keys}
-use Rattle.hash_agg.specs.Standing.{AreStates, StandsFor, AreGroups}
+use Rattle.group_runs.specs.Runs.{Entry, packed_keys}
+use Rattle.group_runs.specs.Standing.{AreStates, StandsFor, AreGroups, states_width}
 use Rattle.hash_agg.specs.Inputs.{Brought, Packed, Counted, ArePackings, rows_in}
-use Rattle.hash_agg.specs.Adding.{row_added, group_added, Given, Of_rows, Of_groups}
+use Rattle.group_runs.specs.Adding.{row_added, group_added}
+use Rattle.hash_agg.specs.Adding.{Given, Of_rows, Of_groups}
 
 -- ---- what is read
 
@@ -159,10 +160,6 @@ pub record Stands (query : Query) (hash : List ℕ → ℕ) (pieces : List Piece
   pub fewer : (key : Row) → rows_at query key rest ≤ rows_at query key pieces
 
 -- ---- what it costs
-
--- how many bytes the states of a group have
-abbrev pub states_width : Query → ℕ
-states_width query = sum_by (λ function. width_of (shape_of function)) (functions query)
 
 -- a limit and a hash function for the groups of a query, as the cost has them
 abbrev pub setting_for : Query → ℕ → (List ℕ → ℕ) → Setting

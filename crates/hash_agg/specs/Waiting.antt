@@ -10,7 +10,7 @@ use Rattle.aggregation_cost.specs.Cost.{Cost, greatest, cost_of, both, cost_from
 use Rattle.aggregation_cost.specs.Passes as cost
 use Rattle.aggregation_cost.specs.Space.{Setting, need, fronts}
 use Rattle.spill_lists.specs.Lists.{LeftList}
-use Rattle.hash_agg.specs.Runs.{Entry, packed_keys}
+use Rattle.group_runs.specs.Runs.{Entry, packed_keys}
 use Rattle.hash_agg.specs.Passes.{Piece, ArePieces, made_of, rows_at, AreGroupsBy, records_of, AreCosted}
 use Rattle.hash_agg.specs.declared.work.Work.{Work}
 

@@ -9,8 +9,9 @@ ghost use Rattle.spill_lists.specs.declared.error.SpillError.TheVariants.{TapeDa
 ghost use Rattle.having_filter.specs.Meaning.{meaning};
 ghost use Rattle.hash_agg.specs.Adding.{Given, AllGive};
 ghost use Rattle.hash_agg.specs.Inputs.{brought, rows_in, all_rows, IsInput, IsAggregate, IsRunOver};
-ghost use Rattle.hash_agg.specs.Runs.{Rises};
-ghost use Rattle.hash_agg.specs.Passes.{Piece, IsPlan, IsSameTable, AreSafe, CountUpTo, Stands, entries_of, setting_of, setting_for, states_width, records_of, all_pieces, brought_by};
+ghost use Rattle.group_runs.specs.Runs.{Rises};
+ghost use Rattle.group_runs.specs.Standing.{states_width};
+ghost use Rattle.hash_agg.specs.Passes.{Piece, IsPlan, IsSameTable, AreSafe, CountUpTo, Stands, entries_of, setting_of, setting_for, records_of, all_pieces, brought_by};
 ghost use Rattle.hash_agg.specs.Waiting.{Waits, Costs, AddsUp, IsWork};
 ghost use Rattle.hash_agg.specs.declared.work.Work.{Work};
 
@@ -18,9 +19,9 @@ use crate::input::Input;
 use crate::means::Means;
 use crate::pass::{Buffers, Pass};
 use crate::plan::Plan;
-use crate::run::Run;
 use crate::sorting::united;
 use crate::work::Work;
+use group_runs::Run;
 use group_table::KeyHash;
 use having_filter::Query;
 use spill_lists::SpillError;
@@ -202,13 +203,15 @@ fn later_passes<H: KeyHash + Drop, D: TapeDisk>(
     ensures refused { IfErr result (IsReadRefusal (D.failures disk.old) (D.failures disk.new)) }
     ensures disk { Moves (D.failures disk.old) (D.failures disk.new) (D.writes disk.old) (D.writes disk.new) (D.honest disk.old) (D.honest disk.new) }
 {
-    let mut runs = Vec::new(alloc);
-    runs.push(run)?;
+    let mut others = Vec::new(alloc);
     let mut bytes = Vec::new(alloc);
     while pass.lists.begin_pass(disk) {
         pass.add_list(alloc, disk, plan, &mut bytes, buffers)?;
-        let run = pass.finish(alloc, disk, work)?;
-        runs.push(run)?;
+        let more = pass.finish(alloc, disk, work)?;
+        others.push(more)?;
     }
-    united(alloc, &runs)
+    if others.is_empty() {
+        return Ok(run); // Nothing was spilled.
+    }
+    united(alloc, &run, &others)
 }

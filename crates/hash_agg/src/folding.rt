@@ -5,15 +5,15 @@ ghost use Rattle.std.specs.List.{AllByRecursion};
 ghost use Rattle.spill_lists.specs.Standing.{Moves, IsReadRefusal};
 ghost use Rattle.spill_lists.specs.declared.error.SpillError.TheVariants.{TapeDamaged};
 ghost use Rattle.having_filter.specs.Meaning.{meaning};
-ghost use Rattle.hash_agg.specs.Standing.{IsRun};
+ghost use Rattle.group_runs.specs.Standing.{IsRun};
 ghost use Rattle.hash_agg.specs.Counting.{IsCounted, setting_by};
 ghost use Rattle.hash_agg.specs.Inputs.{Counted, brought, all_rows, IsInput, IsAggregate, IsRunOver};
 
 use crate::aggregation::aggregated;
 use crate::input::Input;
 use crate::means::Means;
-use crate::run::Run;
 use crate::work::Work;
+use group_runs::Run;
 use group_table::KeyHash;
 use having_filter::Query;
 use spill_lists::SpillError;

@@ -13,15 +13,14 @@ ghost use Rattle.group_table.specs.Standing.{IsTableIn};
 ghost use Rattle.group_table.specs.Table.{IsSlot, Names, HasNo, state_in};
 ghost use Rattle.having_filter.specs.Kept.{IsWellFormed};
 ghost use Rattle.having_filter.specs.Meaning.{meaning};
-ghost use Rattle.hash_agg.specs.Runs.{Rises, packed_keys};
+ghost use Rattle.group_runs.specs.Runs.{Rises, packed_keys};
 ghost use Rattle.hash_agg.specs.Passes.{AreOnce, entries_of, HasPlace, WritesAt, IsSameTable};
-ghost use Rattle.hash_agg.specs.Steps.{HaveRoomForRow, AreAdvanced, HaveRoomWithin, AreCombined};
+ghost use Rattle.group_runs.specs.Steps.{HaveRoomForRow, AreAdvanced, HaveRoomWithin, AreCombined};
 
-use crate::run::Run;
 use crate::sorting::{led, sorted};
-use crate::states::{advance_slice, combine_within};
 use agg_protocol::BadState;
 use context_tree::{ContextId, Kind, Tree};
+use group_runs::{Run, advance_slice, combine_within};
 use group_table::{GroupTable, KeyHash, Slot};
 use having_filter::Query;
 use packed_rows::Value;

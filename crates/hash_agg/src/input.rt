@@ -3,8 +3,8 @@
 ghost use Rattle.std.specs.Prelude.{◌≡◌};
 ghost use Rattle.hash_agg.specs.Inputs.{brought, rows_in};
 
-use crate::run::Run;
 use flat_rows::PackedRows;
+use group_runs::Run;
 
 /// Rows, or the partial results of rows.
 #[derive(Clone, Copy)]

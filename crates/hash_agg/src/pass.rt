@@ -15,8 +15,8 @@ ghost use Rattle.packed_rows.specs.Packing.{packing};
 ghost use Rattle.packed_rows.specs.View.{bytes_of, row_of};
 ghost use Rattle.having_filter.specs.Meaning.{meaning};
 ghost use Rattle.hash_agg.specs.Inputs.{brought, IsInput, rows_in};
-ghost use Rattle.hash_agg.specs.Runs.{Rises, packed_keys};
-ghost use Rattle.hash_agg.specs.Standing.{StandsFor, IsRun};
+ghost use Rattle.group_runs.specs.Runs.{Rises, packed_keys};
+ghost use Rattle.group_runs.specs.Standing.{StandsFor, IsRun};
 ghost use Rattle.hash_agg.specs.Passes.{Piece, entries_of, HasPlace, IsPlan, IsSameTable, standing, setting_of, Holds, Reads, CanRead, AreSafe, Proceeds, Brings, WritesPages, KeepsLists, CountUpTo, Stands, ArePieces, AreRows, AreOfRun, AreOf, total, ReadsList, CanReadList};
 ghost use Rattle.hash_agg.specs.Waiting.{AddsUp, pass_cost};
 
@@ -24,10 +24,10 @@ use crate::groups::Groups;
 use crate::input::Input;
 use crate::plan::Plan;
 use crate::record::{GROUP, ROW, split_group, write_group};
-use crate::run::Run;
 use crate::work::Work;
 use agg_protocol::BadState;
 use flat_rows::PackedRows;
+use group_runs::Run;
 use group_table::KeyHash;
 use packed_rows::Value;
 use spill_lists::{SpillError, SpillLists};
@@ -241,6 +241,7 @@ impl<H: KeyHash + Drop> Pass<H> {
         ensures disk { Moves (D.failures disk.old) (D.failures disk.new) (D.writes disk.old) (D.writes disk.new) (D.honest disk.old) (D.honest disk.new) }
     {
         let Buffers { key, states, .. } = buffers;
+        // Values borrow from the bytes of their record, which the next record takes the place of. So each has a `Vec` of its own.
         let mut row = Vec::with_capacity(alloc, plan.query.schema().width())?;
         if !plan.select(packed, &mut row, key)? {
             return Ok(()); // It is passed over.

@@ -12,13 +12,13 @@ ghost use Rattle.spill_lists.specs.Standing.{IsReadRefusal};
 ghost use Rattle.spill_lists.specs.declared.error.SpillError.TheVariants.{TapeDamaged};
 ghost use Rattle.having_filter.specs.Kept.{IsWellFormed};
 ghost use Rattle.having_filter.specs.Meaning.{meaning};
-ghost use Rattle.hash_agg.specs.Standing.{StandsFor};
-ghost use Rattle.hash_agg.specs.Steps.{HaveRoomForRow, AreAdvanced};
+ghost use Rattle.group_runs.specs.Standing.{StandsFor};
+ghost use Rattle.group_runs.specs.Steps.{HaveRoomForRow, AreAdvanced};
 ghost use Rattle.hash_agg.specs.Passes.{IsPlan};
 
-use crate::states::{advance_slice, first_states};
 use agg_library::StateRow;
 use agg_protocol::BadState;
+use group_runs::{advance_slice, first_states};
 use having_filter::Query;
 use packed_rows::{RowError, Value, pack_value, unpack_into};
 use spill_lists::SpillError;
@@ -154,6 +154,7 @@ impl<'a> Plan<'a> {
             StandsFor (meaning self.now.query.now) most (key.now, states.now) group → error ≢ TapeDamaged) }
         ensures refused { IfErr result (IsReadRefusal 0 0) }
     {
+        // The values borrow from the key, whose bytes the next record takes the place of.
         let mut values = Vec::with_capacity(alloc, self.query.key_kinds().len())?;
         match unpack_into(self.query.key_kinds(), key, &mut values) {
             Ok(()) => {}

@@ -1,14 +1,14 @@
 //! Groups in the order of their keys.
 
-ghost use Rattle.std.specs.Prelude.{◌≡◌, ◌≢◌, ◌++◌, IfOk, IfErr, OnOk, slice_index};
+ghost use Rattle.std.specs.Prelude.{◌≡◌, ◌≢◌, ◌++◌, ◌∷◌, IfOk, IfErr, OnOk, slice_index};
 ghost use Rattle.std.specs.List.{All};
 ghost use Rattle.std.specs.List.Sorted.{IsPermutation};
 ghost use Rattle.spill_lists.specs.Standing.{IsReadRefusal};
 ghost use Rattle.spill_lists.specs.declared.error.SpillError.TheVariants.{TapeDamaged};
-ghost use Rattle.hash_agg.specs.Runs.{Rises};
+ghost use Rattle.group_runs.specs.Runs.{Rises};
 ghost use Rattle.hash_agg.specs.Passes.{AreOnce, IsLed, pairs, all_in};
 
-use crate::run::Run;
+use group_runs::Run;
 use spill_lists::SpillError;
 use std::alloc::{AllocError, Global};
 
@@ -67,15 +67,16 @@ fn push_all<'a>(entries: &mut Vec<Led<'a>>, run: &'a Run) -> Result<(), AllocErr
     Ok(())
 }
 
-/// The groups of all these runs as one run. `TapeDamaged` if two of them have the same key.
-pub(crate) fn united(alloc: Global, runs: &[Run]) -> Result<Run, SpillError>
-    ensures sorted { IfOk result (IsPermutation (all_in runs.now)) }
+/// The groups of a run and of others as one run. `TapeDamaged` if two of them have the same key.
+pub(crate) fn united(alloc: Global, first: &Run, others: &[Run]) -> Result<Run, SpillError>
+    ensures sorted { IfOk result (IsPermutation (all_in (first.now ∷ others.now))) }
     ensures rises { IfOk result Rises }
-    ensures undamaged { IfErr result (λ error. AreOnce (all_in runs.now) → error ≢ TapeDamaged) }
+    ensures undamaged { IfErr result (λ error. AreOnce (all_in (first.now ∷ others.now)) → error ≢ TapeDamaged) }
     ensures refused { IfErr result (IsReadRefusal 0 0) }
 {
     let mut entries = Vec::new(alloc);
-    for run in runs {
+    push_all(&mut entries, first)?;
+    for run in others {
         push_all(&mut entries, run)?;
     }
     told_apart(alloc, entries.as_mut_slice())

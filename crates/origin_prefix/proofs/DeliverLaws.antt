@@ -17,7 +17,8 @@ use Rattle.grouping_model.specs.declared.delivered.Delivered.TheVariants.{Known,
 use Rattle.packed_rows.specs.Columns.{kinds}
 use Rattle.packed_rows.proofs.PackingOrder.{less}
 use Rattle.batch_reader.specs.Rows.{ArePackedRows}
-use Rattle.having_filter.specs.Meaning.{Checked, meaning}
+use Rattle.query_checks.specs.Checks.{Checked}
+use Rattle.having_filter.specs.Meaning.{meaning}
 use Rattle.origin_prefix.specs.Parts.{Batches, Part, rows_at, knows_number, IsEarly, IsBehind, IsOpen, IsPartOf, Delivers, Disagrees, Settles, behind}
 use Rattle.batch_reader.specs.declared.batch.Batch.{Batch}
 use Rattle.origin_prefix.specs.declared.error.RefusedBatch.{RefusedBatch}

@@ -21,12 +21,13 @@ use Rattle.grouping_model.proofs.UnionLaws.{counted_on}
 use Rattle.packed_rows.specs.Columns.{kinds}
 use Rattle.packed_rows.specs.Packing.{packing}
 use Rattle.batch_reader.specs.Rows.{packings}
-use Rattle.having_filter.specs.Meaning.{Checked, meaning}
-use Rattle.hash_agg.specs.Runs.{Entry}
+use Rattle.query_checks.specs.Checks.{Checked}
+use Rattle.having_filter.specs.Meaning.{meaning}
+use Rattle.group_runs.specs.Runs.{Entry}
 use Rattle.hash_agg.specs.Bytes.{run_bytes}
-use Rattle.hash_agg.specs.Standing.{AreGroups}
+use Rattle.group_runs.specs.Standing.{AreGroups}
 use Rattle.hash_agg.specs.Inputs.{Packed, Counted, AreInputsOf, on_end, all_rows, rows_in}
-use Rattle.hash_agg.proofs.EntryLaws.{groups_raised}
+use Rattle.group_runs.proofs.EntryLaws.{groups_raised}
 use Rattle.hash_agg.proofs.BytesLaws.{stands_spelled}
 use Rattle.origin_prefix.specs.Parts.{Batches, Part, rows_at, IsPartOf, following, rows_following, Folds, Settles, Disagrees, Delivers}
 use Rattle.origin_prefix.specs.Joins.{either, longer, shorter, PartsDisagree, Joins}

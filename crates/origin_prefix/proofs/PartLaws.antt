@@ -17,12 +17,13 @@ use Rattle.packed_rows.specs.Packing.{packing}
 use Rattle.grouping_model.specs.declared.limits.TheConstants.{LAST_NUMBER, MOST_ROWS}
 use Rattle.packed_rows.specs.Columns.{kinds}
 use Rattle.batch_reader.specs.Rows.{ArePackedRows}
-use Rattle.having_filter.specs.Meaning.{Checked, meaning}
+use Rattle.query_checks.specs.Checks.{Checked}
+use Rattle.having_filter.specs.Meaning.{meaning}
 use Rattle.hash_agg.specs.Inputs.{Packed, Counted, IsInput, AllBring, on_end, all_rows, rows_in}
-use Rattle.hash_agg.specs.Runs.{Entry, packed_keys}
-use Rattle.hash_agg.specs.Standing.{IsRun}
-use Rattle.hash_agg.proofs.EntryLaws.{groups_raised}
-use Rattle.hash_agg.proofs.InputLaws.{keys_packed, keys_of_kinds}
+use Rattle.group_runs.specs.Runs.{Entry, packed_keys}
+use Rattle.group_runs.specs.Standing.{IsRun}
+use Rattle.group_runs.proofs.EntryLaws.{groups_raised}
+use Rattle.group_runs.proofs.RunLaws.{keys_packed, keys_of_kinds}
 use Rattle.origin_prefix.proofs.ByNumber.{numbers, above_first, rising_rest}
 use Rattle.origin_prefix.specs.Parts.{Batches, Part, IsEarly, IsBehind, IsOpen, IsPartOf, following, rows_following, Folds, Settles}
 

@@ -9,7 +9,7 @@ use Rattle.grouping_model.specs.Query.{Query}
 use Rattle.grouping_model.specs.declared.delivered.Delivered.{Delivered}
 use Rattle.grouping_model.specs.declared.delivered.Delivered.TheVariants.{Folded, Early, Known}
 use Rattle.packed_rows.specs.Columns.{kinds}
-use Rattle.having_filter.specs.Meaning.{Checked}
+use Rattle.query_checks.specs.Checks.{Checked}
 use Rattle.origin_prefix.specs.Parts.{Batches, Part, rows_at, IsEarly, IsPartOf, following, Settles, Delivers}
 use Rattle.origin_prefix.specs.Joins.{either, longer, Unites, Joins}
 use Rattle.origin_prefix.specs.Fitting.{tells}

@@ -3,7 +3,7 @@ use Rattle.std.specs.Prelude.{ℕ, List}
 use mathlib.Core.Path.{refl}
 use base.Stored.{Coded}
 use Rattle.std.specs.Coded.{code_by, coded×, coded_list, coded_ℕ}
-use Rattle.hash_agg.specs.Runs.{Entry}
+use Rattle.group_runs.specs.Runs.{Entry}
 use Rattle.origin_prefix.specs.Parts.{Batches, Part}
 
 abbrev coded_bytes : Coded (List ℕ)

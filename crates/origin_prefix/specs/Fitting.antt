@@ -7,7 +7,7 @@ use Rattle.grouping_model.specs.Grouping.{part}
 use Rattle.grouping_model.specs.World.{World, count_up, batch_rows}
 use Rattle.grouping_model.specs.declared.limits.TheConstants.{MOST_ROWS}
 use Rattle.batch_reader.specs.Rows.{packings}
-use Rattle.hash_agg.specs.Standing.{AreGroups}
+use Rattle.group_runs.specs.Standing.{AreGroups}
 use Rattle.origin_prefix.specs.Parts.{Part, rows_at}
 
 -- whether a part tells a number: it is 1 to the prefix, or early

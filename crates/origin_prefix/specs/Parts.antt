@@ -13,9 +13,10 @@ use Rattle.grouping_model.specs.declared.delivered.Delivered.{Delivered}
 use Rattle.grouping_model.specs.declared.delivered.Delivered.TheVariants as reply
 use Rattle.packed_rows.specs.Columns.{kinds}
 use Rattle.batch_reader.specs.Rows.{ArePackedRows}
-use Rattle.having_filter.specs.Meaning.{Checked, meaning}
-use Rattle.hash_agg.specs.Runs.{Entry}
-use Rattle.hash_agg.specs.Standing.{IsRun}
+use Rattle.query_checks.specs.Checks.{Checked}
+use Rattle.having_filter.specs.Meaning.{meaning}
+use Rattle.group_runs.specs.Runs.{Entry}
+use Rattle.group_runs.specs.Standing.{IsRun}
 use Rattle.hash_agg.specs.Inputs.{Brought, Packed, Counted, IsAggregate, IsRunOver}
 
 -- batches by their numbers, each with its packed rows

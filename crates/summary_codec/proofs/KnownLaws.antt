@@ -8,7 +8,8 @@ use Rattle.grouping_model.proofs.AnswerLaws.{flat_map_members, counted_within}
 use Rattle.grouping_model.proofs.EarlyLaws.{early_are}
 use Rattle.grouping_model.proofs.PrefixLaws.{prefix_unbroken}
 use Rattle.batch_reader.specs.Rows.{packings}
-use Rattle.having_filter.specs.Meaning.{Checked, meaning}
+use Rattle.query_checks.specs.Checks.{Checked}
+use Rattle.having_filter.specs.Meaning.{meaning}
 use Rattle.hash_agg.specs.Bytes.{run_bytes}
 use Rattle.summary_codec.specs.File.{file_bytes}
 use Rattle.summary_codec.specs.WorldFile.{world_part, world_file}

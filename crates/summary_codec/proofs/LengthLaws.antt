@@ -15,9 +15,10 @@ use Rattle.packed_rows.specs.Columns.{Column, kinds, names, printed, column_text
 use Rattle.packed_rows.specs.Packing.{packing, value_packing}
 use Rattle.batch_reader.specs.Rows.{packings}
 use Rattle.having_filter.specs.Kept.{IsQuery, key_kinds}
-use Rattle.having_filter.specs.Meaning.{Checked, meaning}
-use Rattle.hash_agg.specs.Runs.{Entry}
-use Rattle.hash_agg.specs.Standing.{AreGroups}
+use Rattle.query_checks.specs.Checks.{Checked}
+use Rattle.having_filter.specs.Meaning.{meaning}
+use Rattle.group_runs.specs.Runs.{Entry}
+use Rattle.group_runs.specs.Standing.{AreGroups}
 use Rattle.origin_prefix.specs.Parts.{Part, IsEarly, IsPartOf}
 use Rattle.origin_prefix.specs.Held.{Parts, IsHeldPart, AreHeldParts}
 use Rattle.summary_codec.specs.Short.{IsShort, HaveShortKeys, IsShortBatch, IsShortPart}

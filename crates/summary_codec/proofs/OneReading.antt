@@ -10,10 +10,11 @@ use Rattle.grouping_model.specs.declared.limits.TheConstants.{LAST_NUMBER, LAST_
 use Rattle.packed_rows.specs.Columns.{Column, kinds, printed}
 use Rattle.packed_rows.proofs.PrintedColumns.{one_schema}
 use Rattle.having_filter.specs.Kept.{by_names, key_kinds}
-use Rattle.having_filter.specs.Meaning.{Checked, meaning}
-use Rattle.having_filter.specs.Spelling.{spelling}
+use Rattle.query_checks.specs.Checks.{Checked}
+use Rattle.having_filter.specs.Meaning.{meaning}
+use Rattle.query_checks.specs.Spelling.{spelling}
 use Rattle.group_parser.proofs.ParseLaws.{one_accepted, one_refused, not_both}
-use Rattle.hash_agg.specs.Runs.{Entry, packed_keys}
+use Rattle.group_runs.specs.Runs.{Entry, packed_keys}
 use Rattle.origin_prefix.specs.Parts.{Part}
 use Rattle.origin_prefix.specs.Held.{Parts}
 use Rattle.summary_codec.specs.File.{opening}

@@ -5,8 +5,8 @@ use Rattle.std.proofs.lemmas.List.Elements.{All-from_recursion}
 use Rattle.std.specs.Int.{bytes_high_first}
 use Rattle.std.specs.List.{AllByRecursion}
 use Rattle.std.specs.List.Sorted.{IsStrictlySortedBy}
-use Rattle.having_filter.specs.Reads.{filters_pass}
-use Rattle.hash_agg.proofs.PlaceLaws.{key_total}
+use Rattle.query_checks.specs.Reads.{filters_pass}
+use Rattle.group_runs.proofs.PlaceLaws.{key_total}
 use Rattle.std.specs.Ordering.{nat_cmp}
 use Rattle.std.specs.Cmp.{IsTotalOrder, nat_cmp_total}
 use Rattle.std.specs.Cmp.Lexicographic.{slice_cmp}
@@ -17,14 +17,14 @@ use Rattle.grouping_model.specs.Query.{Query}
 use Rattle.grouping_model.specs.declared.limits.TheConstants.{LAST_NUMBER, LAST_ORIGIN, MOST_ROWS}
 use Rattle.packed_rows.specs.Columns.{Column, kinds, printed}
 use Rattle.batch_reader.specs.Rows.{packings}
-use Rattle.having_filter.specs.Checks.{checked, checked_places, all_of, has_too_many, is_shallow, are_shallow, has_columns, placed, are_plain, kinds_fit, is_grouped}
-use Rattle.having_filter.specs.Forms.{Written}
+use Rattle.query_checks.specs.Checks.{checked, checked_places, all_of, has_too_many, is_shallow, are_shallow, has_columns, placed, are_plain, kinds_fit, is_grouped, Checked}
+use Rattle.query_checks.specs.Forms.{Written}
 use Rattle.having_filter.specs.Kept.{by_names, key_kinds}
-use Rattle.having_filter.specs.Meaning.{Checked, meaning}
-use Rattle.having_filter.specs.Spelling.{spelling}
-use Rattle.having_filter.specs.declared.error.QueryError.{QueryError}
-use Rattle.hash_agg.specs.Runs.{Entry, packed_keys}
-use Rattle.hash_agg.specs.Standing.{AreGroups}
+use Rattle.having_filter.specs.Meaning.{meaning}
+use Rattle.query_checks.specs.Spelling.{spelling}
+use Rattle.query_checks.specs.declared.error.QueryError.{QueryError}
+use Rattle.group_runs.specs.Runs.{Entry, packed_keys}
+use Rattle.group_runs.specs.Standing.{AreGroups}
 use Rattle.origin_prefix.specs.Parts.{Part, IsEarly, IsPartOf}
 use Rattle.origin_prefix.specs.Held.{Parts, IsHeldPart, AreHeldParts}
 use Rattle.summary_codec.specs.File.{opening, sized_bytes, group_bytes, batch_bytes, part_bytes, file_bytes}

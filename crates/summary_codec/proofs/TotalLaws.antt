@@ -7,7 +7,7 @@ use Rattle.byteorder.specs.Endian.{big_from}
 use Rattle.byteorder.specs.Numbers.{big_from-lt}
 use Rattle.agg_protocol.proofs.Bytes.{own_bytes}
 use Rattle.packed_rows.specs.Columns.{Column}
-use Rattle.having_filter.specs.Meaning.{Checked}
+use Rattle.query_checks.specs.Checks.{Checked}
 use Rattle.group_parser.specs.Parsing.{parsing}
 use Rattle.group_parser.specs.declared.error.ParseError.{ParseError}
 use Rattle.group_parser.proofs.ParseLaws.{parses_accepts, parses_refuses}

@@ -22,8 +22,3 @@ says (Err e) P Q all gives = tt
 -- a thing that is appended behind others
 pub behind : (old before between new b a : List ℕ) → between ≡ old ++ before → new ≡ between ++ b → b ≡ a → new ≡ old ++ (before ++ a)
 behind old before between new b a first second is = second ∙ ap (λ o. o ++ b) first ∙ ap (λ l. old ++ before ++ l) is ∙ append_assoc old before a
-
--- what holds holds of a success
-pub on_ok : {T E : Type 0} (result : Result T E) (P : Type 0) → P → OnOk result P
-on_ok (Ok x) P holds = holds
-on_ok (Err e) P holds = tt

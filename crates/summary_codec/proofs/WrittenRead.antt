@@ -24,12 +24,13 @@ use Rattle.agg_library.specs.declared.kind.AggKind.{AggKind}
 use Rattle.agg_library.specs.Kinds.{kind_shape, kind_width, row_width}
 use Rattle.agg_library.specs.StateRows.{Denotes}
 use Rattle.having_filter.specs.Kept.{IsQuery, by_names, key_kinds}
-use Rattle.having_filter.specs.Meaning.{Checked, meaning}
-use Rattle.having_filter.specs.Spelling.{spelling}
+use Rattle.query_checks.specs.Checks.{Checked}
+use Rattle.having_filter.specs.Meaning.{meaning}
+use Rattle.query_checks.specs.Spelling.{spelling}
 use Rattle.group_parser.specs.Parsing.{Accepts}
 use Rattle.group_parser.proofs.PrintLaws.{parsed_again}
-use Rattle.hash_agg.specs.Runs.{Entry, Rises, packed_keys}
-use Rattle.hash_agg.specs.Standing.{AreGroups}
+use Rattle.group_runs.specs.Runs.{Entry, Rises, packed_keys}
+use Rattle.group_runs.specs.Standing.{AreGroups}
 use Rattle.origin_prefix.specs.Parts.{Part, IsEarly, IsPartOf}
 use Rattle.origin_prefix.specs.Held.{Parts, IsHeldPart, AreHeldParts}
 use Rattle.summary_codec.specs.File.{opening, sized_bytes, group_bytes, batch_bytes, part_bytes, file_bytes}

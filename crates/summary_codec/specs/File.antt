@@ -4,9 +4,9 @@ use Rattle.std.specs.Prelude.{ℕ, List, ◌++◌, length, flat_map, codes}
 use Rattle.std.specs.Int.{bytes_high_first}
 use Rattle.packed_rows.specs.Columns.{printed}
 use Rattle.having_filter.specs.Kept.{by_names}
-use Rattle.having_filter.specs.Meaning.{Checked}
-use Rattle.having_filter.specs.Spelling.{spelling}
-use Rattle.hash_agg.specs.Runs.{Entry}
+use Rattle.query_checks.specs.Checks.{Checked}
+use Rattle.query_checks.specs.Spelling.{spelling}
+use Rattle.group_runs.specs.Runs.{Entry}
 use Rattle.origin_prefix.specs.Parts.{Part}
 use Rattle.origin_prefix.specs.Held.{Parts}
 

@@ -14,13 +14,14 @@ use Rattle.grouping_model.specs.declared.limits.TheConstants.{LAST_NUMBER, LAST_
 use Rattle.packed_rows.specs.Columns.{Column, kinds, printed, IsSchemaText}
 use Rattle.packed_rows.specs.Packing.{packing}
 use Rattle.having_filter.specs.Kept.{by_names, key_kinds}
-use Rattle.having_filter.specs.Meaning.{Checked, meaning}
-use Rattle.having_filter.specs.Spelling.{spelling}
+use Rattle.query_checks.specs.Checks.{Checked}
+use Rattle.having_filter.specs.Meaning.{meaning}
+use Rattle.query_checks.specs.Spelling.{spelling}
 use Rattle.group_parser.specs.Parsing.{Accepts, Refuses}
 use Rattle.group_parser.specs.declared.error.ParseError.{ParseError}
-use Rattle.hash_agg.specs.Runs.{Entry, packed_keys}
-pub use Rattle.hash_agg.specs.Passes.{states_width}
-use Rattle.hash_agg.specs.Standing.{AreStates}
+use Rattle.group_runs.specs.Runs.{Entry, packed_keys}
+pub use Rattle.group_runs.specs.Standing.{states_width}
+use Rattle.group_runs.specs.Standing.{AreStates}
 use Rattle.origin_prefix.specs.Parts.{Part}
 use Rattle.origin_prefix.specs.Held.{Parts}
 use Rattle.summary_codec.specs.File.{opening}

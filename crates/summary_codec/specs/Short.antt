@@ -1,7 +1,7 @@
 -- What the fields of a file can tell. All of this is our own.
 use Rattle.std.specs.Prelude.{ℕ, ◌^◌, ◌<◌, List, length}
 use Rattle.std.specs.List.{AllByRecursion}
-use Rattle.hash_agg.specs.Runs.{Entry}
+use Rattle.group_runs.specs.Runs.{Entry}
 use Rattle.origin_prefix.specs.Parts.{Part}
 
 -- bytes whose length two bytes can tell

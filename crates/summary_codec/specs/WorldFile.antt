@@ -4,7 +4,8 @@ use Rattle.std.specs.Prelude.{ℕ, List, map}
 use Rattle.grouping_model.specs.Grouping.{part}
 use Rattle.grouping_model.specs.World.{World, Knowledge, origins, prefix, early, batch_rows, origin_rows}
 use Rattle.batch_reader.specs.Rows.{packings}
-use Rattle.having_filter.specs.Meaning.{Checked, meaning}
+use Rattle.query_checks.specs.Checks.{Checked}
+use Rattle.having_filter.specs.Meaning.{meaning}
 use Rattle.hash_agg.specs.Bytes.{run_bytes}
 use Rattle.origin_prefix.specs.Parts.{Part}
 use Rattle.summary_codec.specs.File.{file_bytes}

@@ -3,8 +3,8 @@
 ghost use Rattle.std.specs.Prelude.{◌≡◌, ◌<◌, ℕ, List, slice_index, IsUtf8, IsTrue};
 ghost use Rattle.packed_rows.specs.Columns.{printed};
 ghost use Rattle.having_filter.specs.Kept.{IsQuery, by_names};
-ghost use Rattle.having_filter.specs.Meaning.{Checked};
-ghost use Rattle.having_filter.specs.Spelling.{spelling};
+ghost use Rattle.query_checks.specs.Checks.{Checked};
+ghost use Rattle.query_checks.specs.Spelling.{spelling};
 ghost use Rattle.origin_prefix.specs.Held.{Parts, AreHeldParts};
 ghost use Rattle.summary_codec.specs.File.{file_bytes};
 ghost use Rattle.grouping_model.specs.World.{World, Knowledge, knows};

@@ -13,7 +13,7 @@ ghost use Rattle.std.specs.Cmp.Lexicographic.{slice_cmp};
 ghost use Rattle.std.specs.Ordering.{nat_cmp};
 ghost use Rattle.std.specs.declared.cmp.Ordering.TheVariants.{Less};
 ghost use Rattle.agg_protocol.specs.States.{most_rows};
-ghost use Rattle.hash_agg.specs.Runs.{Entry, Rises, packed_keys};
+ghost use Rattle.group_runs.specs.Runs.{Entry, Rises, packed_keys};
 ghost use Rattle.origin_prefix.specs.Parts.{Part, IsPartOf};
 ghost use Rattle.origin_prefix.specs.Held.{AreHeldParts};
 ghost use Rattle.summary_codec.specs.Reading.{IsNext, MayFollow, IsPacking, AreStateBytes, states_width, each, group, row, batch, batches, contents, part, parts, text, heading, rest, schema, query, columns_in, query_in, IsSummary, HasFault};

@@ -4,7 +4,7 @@ ghost use Rattle.std.specs.Prelude.{◌≡◌, ◌≤◌, ◌<◌, ◌^◌, ◌+
 ghost use Rattle.std.specs.Int.{bytes_high_first};
 ghost use Rattle.std.specs.List.{AllByRecursion};
 ghost use Rattle.having_filter.specs.Kept.{IsQuery, by_names};
-ghost use Rattle.having_filter.specs.Spelling.{spelling};
+ghost use Rattle.query_checks.specs.Spelling.{spelling};
 ghost use Rattle.origin_prefix.specs.Held.{AreHeldParts};
 ghost use Rattle.origin_prefix.specs.Parts.{Part};
 ghost use Rattle.packed_rows.specs.Columns.{printed};

@@ -4,12 +4,14 @@ use Rattle.std.specs.List.{AllByRecursion}
 use Rattle.aggregation_cost.specs.Cost.{Cost, cost}
 use Rattle.aggregation_cost.specs.Space.{Setting}
 use Rattle.grouping_model.specs.Query.{Query}
-use Rattle.having_filter.specs.Meaning.{Checked, meaning}
-use Rattle.hash_agg.specs.Runs.{Entry, Rises}
-use Rattle.hash_agg.specs.Standing.{AreGroups}
+use Rattle.query_checks.specs.Checks.{Checked}
+use Rattle.having_filter.specs.Meaning.{meaning}
+use Rattle.group_runs.specs.Runs.{Entry, Rises}
+use Rattle.group_runs.specs.Standing.{AreGroups}
 use Rattle.hash_agg.specs.Inputs.{Brought, brought, all_rows, on_end, IsInput, IsAggregate, IsRunOver}
 use Rattle.hash_agg.specs.Adding.{Given, AllGive, all_added}
-use Rattle.hash_agg.specs.Passes.{Piece, AreSafe, Stands, setting_of, setting_for, states_width, records_of, all_pieces}
+use Rattle.group_runs.specs.Standing.{states_width}
+use Rattle.hash_agg.specs.Passes.{Piece, AreSafe, Stands, setting_of, setting_for, records_of, all_pieces}
 use Rattle.hash_agg.specs.Waiting.{Waits, Costs, AddsUp}
 use Rattle.hash_agg.proofs.KeyLaws.{if_ok, if_ok_both}
 use Rattle.hash_agg.proofs.FewLaws.{few_passes}

@@ -6,13 +6,13 @@ use Rattle.aggregation_cost.specs.Space.{Setting}
 use Rattle.grouping_model.specs.Query.{Query}
 use Rattle.having_filter.specs.Meaning.{meaning}
 use Rattle.spill_lists.specs.Standing.{full_pages, written_pages}
-use Rattle.hash_agg.specs.Runs.{Rises}
+use Rattle.group_runs.specs.Runs.{Rises}
 use Rattle.hash_agg.specs.Inputs.{Brought, brought, IsInput}
 use Rattle.hash_agg.specs.Passes.{PassState, standing, setting_of, entries_of, AreOf, AreSafe, Holds, total, all_pieces, brought_by}
 use Rattle.hash_agg.specs.Waiting.{AddsUp, pass_cost}
 use Rattle.hash_agg.proofs.FitLaws.{all_fit}
 use Rattle.hash_agg.proofs.KeyLaws.{if_ok, if_ok_both}
-use Rattle.hash_agg.proofs.StateLaws.{all_at}
+use Rattle.group_runs.proofs.StateLaws.{all_at}
 use Rattle.hash_agg.proofs.StepLaws.{on_ok, ok_both, err_out, get_in}
 use Rattle.hash_agg.proofs.NeedLaws.{none_held, held_by_both}
 use Rattle.hash_agg.proofs.UnionLaws.{none_safe, safe_moved}

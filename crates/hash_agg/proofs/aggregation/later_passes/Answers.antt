@@ -1,13 +1,14 @@
 use Rattle.std.specs.Prelude.{◌≡◌, refl, ◌++◌, ◌∷◌, ℕ, List, [], length, IsTrue}
 use Rattle.std.proofs.Common.{sym, ◌∙◌, ap, subst, arith, append-nil}
+use Rattle.std.proofs.lemmas.Grind.{common_steps}
 use Rattle.std.proofs.lemmas.List.{length-append}
 use Rattle.std.proofs.lemmas.List.Sorted.{length_permutation}
 use Rattle.std.specs.List.Sorted.{IsPermutation}
 use Rattle.grouping_model.specs.Query.{Query}
 use Rattle.spill_lists.specs.Standing.{count_of, waiting_number, full_pages, written_pages}
 use Rattle.having_filter.specs.Meaning.{meaning}
-use Rattle.hash_agg.specs.Runs.{Entry}
-use Rattle.hash_agg.specs.Passes.{AreOnce, AreSafe, setting_of, ReadsList, CanReadList, entries_of, standing, all_in}
+use Rattle.group_runs.specs.Runs.{Entry}
+use Rattle.hash_agg.specs.Passes.{AreOnce, AreSafe, setting_of, ReadsList, CanReadList, entries_of, standing, Stands, all_in}
 use Rattle.hash_agg.specs.Waiting.{AddsUp, pass_cost}
 use Rattle.hash_agg.proofs.DiskLaws.{moves_none, moves_twice}
 use Rattle.hash_agg.proofs.SortLaws.{rises_once}
@@ -22,7 +23,7 @@ pub loop-pass-init : goal.loop-pass-init
 loop-pass-init g c =
     let q : Query = meaning c.args.plan.now.query.now in
     let hf : List ℕ → ℕ = g.H.KeyHash.hash_of c.args.pass.now.groups.table.hash in
-    let one : all_in c.push.new.self.items ≡ c.args.run = ap all_in (c.in_ok-push.ensures.items ∙ ap (λ rs. rs ++ c.args.run ∷ []) c.new-runs.ensures.items) ∙ append-nil c.args.run in
+    let one : all_in (c.args.run ∷ c.new-others.result.items) ≡ c.args.run = ap (λ rs. all_in (c.args.run ∷ rs)) c.new-others.ensures.items ∙ append-nil c.args.run in
     let long = ap length one in
     record {
       width = c.requires.width;
@@ -46,11 +47,11 @@ pub returns-in_err-add_list-clause-undamaged : goal.returns-in_err-add_list-clau
 returns-in_err-add_list-clause-undamaged g c =
     let hf : List ℕ → ℕ = g.H.KeyHash.hash_of c.args.pass.now.groups.table.hash in
     let i = c.loop-pass.invariant in
-    err_out c.from_residual-in_err-add_list.result c.in_err-add_list.field-0.0 _ c.from_residual-in_err-add_list.ensures.1
+    err_out c.from_residual.result c.in_err-add_list.field-0.0 _ c.from_residual.ensures.1
     (λ honest pieces todo made has waits count costs.
     c.in_err-add_list.ensures.undamaged (subst IsTrue (sym i.moves.honesty) honest)
     (subst (λ hash. CanReadList c.args.plan.now (g.H.KeyHash.hash_of hash) (standing c.loop-pass.pass.groups c.begin_pass.new.self (g.D.TapeDisk.last c.loop-pass.disk))) (sym i.hash)
-    (pass_can c.args.plan.now hf pieces (all_in c.loop-pass.runs.items) (entries_of c.loop-pass.pass.groups) c.loop-pass.pass.lists c.begin_pass.new.self (g.D.TapeDisk.last c.loop-pass.disk) made c.args.work.now c.loop-pass.work (g.D.TapeDisk.writes c.args.disk.now) (g.D.TapeDisk.writes c.loop-pass.disk) (i.waits honest pieces todo made has waits count costs) count
+    (pass_can c.args.plan.now hf pieces (all_in (c.args.run ∷ c.loop-pass.others.items)) (entries_of c.loop-pass.pass.groups) c.loop-pass.pass.lists c.begin_pass.new.self (g.D.TapeDisk.last c.loop-pass.disk) made c.args.work.now c.loop-pass.work (g.D.TapeDisk.writes c.args.disk.now) (g.D.TapeDisk.writes c.loop-pass.disk) (i.waits honest pieces todo made has waits count costs) count
     (c.begin_pass.ensures.begins c.loop-pass-test.true))))
 
 pub loop-pass-preserved : goal.loop-pass-preserved
@@ -58,11 +59,11 @@ loop-pass-preserved g c =
     let q : Query = meaning c.args.plan.now.query.now in
     let hf : List ℕ → ℕ = g.H.KeyHash.hash_of c.args.pass.now.groups.table.hash in
     let i = c.loop-pass.invariant in
-    let f = c.in_ok-run.ensures in
+    let f = c.in_ok-more.ensures in
     let a = c.in_ok-add_list.ensures in
-    let run : List Entry = c.in_ok-run.run' in
-    let more : all_in c.push-in-loop-pass.new.self.items ≡ all_in c.loop-pass.runs.items ++ run = ap all_in (c.in_ok-push-2.ensures.items) ∙ one_run_more c.loop-pass.runs.items run in
-    let both = ap length more ∙ length-append (all_in c.loop-pass.runs.items) run in
+    let run : List Entry = c.in_ok-more.more in
+    let more : all_in (c.args.run ∷ c.push.new.self.items) ≡ all_in (c.args.run ∷ c.loop-pass.others.items) ++ run = ap (λ rs. all_in (c.args.run ∷ rs)) c.in_ok-push.ensures.items ∙ one_run_more (c.args.run ∷ c.loop-pass.others.items) run in
+    let both = ap length more ∙ length-append (all_in (c.args.run ∷ c.loop-pass.others.items)) run in
     let many = length_permutation (entries_of c.add_list.new.self.groups) run f.run in
     let made = a.few in
     let left = f.waiting in
@@ -84,11 +85,11 @@ loop-pass-preserved g c =
       moves = moves_twice (g.D.TapeDisk.failures c.args.disk.now) (g.D.TapeDisk.failures c.add_list.new.disk) (g.D.TapeDisk.failures c.finish.new.disk) (g.D.TapeDisk.writes c.args.disk.now) (g.D.TapeDisk.writes c.add_list.new.disk) (g.D.TapeDisk.writes c.finish.new.disk) (g.D.TapeDisk.honest c.args.disk.now) (g.D.TapeDisk.honest c.add_list.new.disk) (g.D.TapeDisk.honest c.finish.new.disk)
           (moves_twice (g.D.TapeDisk.failures c.args.disk.now) (g.D.TapeDisk.failures c.loop-pass.disk) (g.D.TapeDisk.failures c.add_list.new.disk) (g.D.TapeDisk.writes c.args.disk.now) (g.D.TapeDisk.writes c.loop-pass.disk) (g.D.TapeDisk.writes c.add_list.new.disk) (g.D.TapeDisk.honest c.args.disk.now) (g.D.TapeDisk.honest c.loop-pass.disk) (g.D.TapeDisk.honest c.add_list.new.disk) i.moves c.add_list.ensures.disk)
           c.finish.ensures.disk;
-      safe = subst (AreSafe q c.args.plan.now.most) (sym more) (safe_append q c.args.plan.now.most (all_in c.loop-pass.runs.items) run i.safe (safe_moved q c.args.plan.now.most (entries_of c.add_list.new.self.groups) run a.safe f.run));
+      safe = subst (AreSafe q c.args.plan.now.most) (sym more) (safe_append q c.args.plan.now.most (all_in (c.args.run ∷ c.loop-pass.others.items)) run i.safe (safe_moved q c.args.plan.now.most (entries_of c.add_list.new.self.groups) run a.safe f.run));
       few = omega (arith, both, many, made, left, same, counted, before);
       waits = λ honest pieces todo made has waits count costs.
           subst (λ es. IsWaiting q (setting_of c.args.plan.now hf) pieces es c.finish.new.self.lists (g.D.TapeDisk.last c.finish.new.disk) made c.args.work.now c.finish.new.work (g.D.TapeDisk.writes c.args.disk.now) (g.D.TapeDisk.writes c.finish.new.disk)) (sym more)
-          (pass_made c.args.plan.now hf pieces (all_in c.loop-pass.runs.items) (entries_of c.loop-pass.pass.groups) c.loop-pass.pass.lists c.begin_pass.new.self (g.D.TapeDisk.last c.loop-pass.disk) made c.args.work.now c.loop-pass.work (g.D.TapeDisk.writes c.args.disk.now) (g.D.TapeDisk.writes c.loop-pass.disk) (i.waits honest pieces todo made has waits count costs) count
+          (pass_made c.args.plan.now hf pieces (all_in (c.args.run ∷ c.loop-pass.others.items)) (entries_of c.loop-pass.pass.groups) c.loop-pass.pass.lists c.begin_pass.new.self (g.D.TapeDisk.last c.loop-pass.disk) made c.args.work.now c.loop-pass.work (g.D.TapeDisk.writes c.args.disk.now) (g.D.TapeDisk.writes c.loop-pass.disk) (i.waits honest pieces todo made has waits count costs) count
           (c.begin_pass.ensures.begins c.loop-pass-test.true)
           c.add_list.new.self.lists c.finish.new.self.lists (g.D.TapeDisk.last c.add_list.new.disk) (g.D.TapeDisk.last c.finish.new.disk) (entries_of c.add_list.new.self.groups) run c.finish.new.work (g.D.TapeDisk.writes c.add_list.new.disk) (g.D.TapeDisk.writes c.finish.new.disk) c.requires.plan.formed a.level
           (subst (λ hash. ReadsList c.args.plan.now (g.H.KeyHash.hash_of hash) (standing c.loop-pass.pass.groups c.begin_pass.new.self (g.D.TapeDisk.last c.loop-pass.disk)) (standing c.add_list.new.self.groups c.add_list.new.self.lists (g.D.TapeDisk.last c.add_list.new.disk))) i.hash
@@ -103,25 +104,25 @@ returns-clause-stands g c =
     let q : Query = meaning c.args.plan.now.query.now in
     let hf : List ℕ → ℕ = g.H.KeyHash.hash_of c.args.pass.now.groups.table.hash in
     let i = c.loop-pass.invariant in
-    if_ok c.united.result (IsPermutation (all_in c.deref.result.now)) _
+    if_ok c.united.result (IsPermutation (all_in (c.args.run ∷ c.deref.result.now))) _
     (λ all moved honest pieces todo made has waits count costs.
     let w = i.waits honest pieces todo made has waits count costs in
-    let e = waiting_ends q (setting_of c.args.plan.now hf) pieces (all_in c.loop-pass.runs.items) c.loop-pass.pass.lists (g.D.TapeDisk.last c.loop-pass.disk) made c.args.work.now c.loop-pass.work (g.D.TapeDisk.writes c.args.disk.now) (g.D.TapeDisk.writes c.loop-pass.disk) (c.begin_pass.ensures.none c.loop-pass-test.false) w in
-    (moved_stands q hf pieces (all_in c.loop-pass.runs.items) all [] (subst (λ (rs : List (List Entry)). IsPermutation (all_in rs) all) c.deref.ensures.value moved) w.once e.0, e.1, e.2, e.3, e.4))
+    let e = waiting_ends q (setting_of c.args.plan.now hf) pieces (all_in (c.args.run ∷ c.loop-pass.others.items)) c.loop-pass.pass.lists (g.D.TapeDisk.last c.loop-pass.disk) made c.args.work.now c.loop-pass.work (g.D.TapeDisk.writes c.args.disk.now) (g.D.TapeDisk.writes c.loop-pass.disk) (c.begin_pass.ensures.none c.loop-pass-test.false) w in
+    (moved_stands q hf pieces (all_in (c.args.run ∷ c.loop-pass.others.items)) all [] (subst (λ (rs : List (List Entry)). IsPermutation (all_in (c.args.run ∷ rs)) all) c.deref.ensures.value moved) w.once e.0, e.1, e.2, e.3, e.4))
     c.united.ensures.sorted
 
 pub returns-clause-safe : goal.returns-clause-safe
 returns-clause-safe g c =
     let q : Query = meaning c.args.plan.now.query.now in
-    if_ok c.united.result (IsPermutation (all_in c.deref.result.now)) _
-    (λ all moved. safe_moved q c.args.plan.now.most (all_in c.loop-pass.runs.items) all c.loop-pass.invariant.safe (subst (λ (rs : List (List Entry)). IsPermutation (all_in rs) all) c.deref.ensures.value moved))
+    if_ok c.united.result (IsPermutation (all_in (c.args.run ∷ c.deref.result.now))) _
+    (λ all moved. safe_moved q c.args.plan.now.most (all_in (c.args.run ∷ c.loop-pass.others.items)) all c.loop-pass.invariant.safe (subst (λ (rs : List (List Entry)). IsPermutation (all_in (c.args.run ∷ rs)) all) c.deref.ensures.value moved))
     c.united.ensures.sorted
 
 pub returns-clause-few : goal.returns-clause-few
 returns-clause-few g c =
-    if_ok c.united.result (IsPermutation (all_in c.deref.result.now)) _
+    if_ok c.united.result (IsPermutation (all_in (c.args.run ∷ c.deref.result.now))) _
     (λ all moved.
-    let many = length_permutation (all_in c.loop-pass.runs.items) all (subst (λ (rs : List (List Entry)). IsPermutation (all_in rs) all) c.deref.ensures.value moved) in
+    let many = length_permutation (all_in (c.args.run ∷ c.loop-pass.others.items)) all (subst (λ (rs : List (List Entry)). IsPermutation (all_in (c.args.run ∷ rs)) all) c.deref.ensures.value moved) in
     let few = c.loop-pass.invariant.few in
     omega (arith, many, few))
     c.united.ensures.sorted
@@ -131,5 +132,32 @@ returns-clause-undamaged g c =
     let i = c.loop-pass.invariant in
     on_error c.united.result
     (λ error right honest pieces todo made has waits count costs.
-    right (subst (λ (rs : List (List Entry)). AreOnce (all_in rs)) (sym c.deref.ensures.value) (i.waits honest pieces todo made has waits count costs).once))
+    right (subst (λ (rs : List (List Entry)). AreOnce (all_in (c.args.run ∷ rs))) (sym c.deref.ensures.value) (i.waits honest pieces todo made has waits count costs).once))
     c.united.ensures.undamaged
+
+-- where nothing was spilled, the groups are those of the first pass
+none_there : {X : Type 0} (xs : List X) → length xs ≡ 0 → xs ≡ []
+none_there [] none = refl
+none_there (x ∷ xs) none = absurd (omega (arith, none))
+
+alone : (run : List Entry) (others : List (List Entry)) → length others ≡ 0 → all_in (run ∷ others) ≡ run
+alone run others none = ap (λ runs. all_in (run ∷ runs)) (none_there others none) ∙ append-nil run
+
+pub returns-then-is_empty-clause-stands : goal.returns-then-is_empty-clause-stands
+returns-then-is_empty-clause-stands g c =
+    let q : Query = meaning c.args.plan.now.query.now in
+    let hf : List ℕ → ℕ = g.H.KeyHash.hash_of c.args.pass.now.groups.table.hash in
+    let i = c.loop-pass.invariant in
+    let counted = c.loop-pass.others.ok in
+    let none : length c.loop-pass.others.items ≡ 0 = grind (arith, common_steps, c.is_empty.ensures, c.if-is_empty.true) in
+    let one = alone c.args.run c.loop-pass.others.items none in
+    λ honest pieces todo made has waits count costs.
+    let w = i.waits honest pieces todo made has waits count costs in
+    let e = waiting_ends q (setting_of c.args.plan.now hf) pieces (all_in (c.args.run ∷ c.loop-pass.others.items)) c.loop-pass.pass.lists (g.D.TapeDisk.last c.loop-pass.disk) made c.args.work.now c.loop-pass.work (g.D.TapeDisk.writes c.args.disk.now) (g.D.TapeDisk.writes c.loop-pass.disk) (c.begin_pass.ensures.none c.loop-pass-test.false) w in
+    (subst (λ all. Stands q hf pieces all []) one e.0, e.1, e.2, e.3, e.4)
+
+pub returns-then-is_empty-clause-safe : goal.returns-then-is_empty-clause-safe
+returns-then-is_empty-clause-safe g c = c.requires.safe
+
+pub returns-then-is_empty-clause-few : goal.returns-then-is_empty-clause-few
+returns-then-is_empty-clause-few g c = omega arith

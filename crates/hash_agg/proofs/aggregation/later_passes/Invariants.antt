@@ -1,4 +1,4 @@
-use Rattle.std.specs.Prelude.{◌≡◌, ◌+◌, ◌≤◌, List, [], false, length, IsTrue}
+use Rattle.std.specs.Prelude.{◌≡◌, ◌+◌, ◌≤◌, List, [], ◌∷◌, false, length, IsTrue}
 use Rattle.aggregation_cost.specs.Cost.{Cost}
 use Rattle.spill_lists.specs.Lists.{LeftList}
 use Rattle.spill_lists.specs.Standing.{HasLists, Moves, waiting_number}
@@ -21,15 +21,15 @@ invariant-loop-pass g l =
       parts : l.pass.lists.parts ≡ [];
       source : l.pass.lists.source ≡ [];
       moves : Moves (g.D.TapeDisk.failures l.fn.disk) (g.D.TapeDisk.failures l.disk) (g.D.TapeDisk.writes l.fn.disk) (g.D.TapeDisk.writes l.disk) (g.D.TapeDisk.honest l.fn.disk) (g.D.TapeDisk.honest l.disk);
-      safe : AreSafe (meaning l.plan.query.now) l.plan.most (all_in l.runs.items);
-      few : length (all_in l.runs.items) + waiting_number l.pass.lists ≤ length l.fn.run + waiting_number l.fn.pass.lists;
+      safe : AreSafe (meaning l.plan.query.now) l.plan.most (all_in (l.fn.run ∷ l.others.items));
+      few : length (all_in (l.fn.run ∷ l.others.items)) + waiting_number l.pass.lists ≤ length l.fn.run + waiting_number l.fn.pass.lists;
       waits :
           IsTrue (g.D.TapeDisk.honest l.fn.disk) → (pieces : List Piece) (todo : List LeftList) (made : Cost)
           → HasLists (g.D.TapeDisk.last l.fn.disk) l.fn.pass.lists [] [] todo
           → Waits (meaning l.plan.query.now) (g.H.KeyHash.hash_of l.fn.pass.groups.table.hash) pieces l.fn.run todo
           → CountUpTo (meaning l.plan.query.now) l.plan.most pieces
           → Costs (meaning l.plan.query.now) (setting_of l.plan (g.H.KeyHash.hash_of l.fn.pass.groups.table.hash)) pieces made todo
-          → IsWaiting (meaning l.plan.query.now) (setting_of l.plan (g.H.KeyHash.hash_of l.fn.pass.groups.table.hash)) pieces (all_in l.runs.items) l.pass.lists (g.D.TapeDisk.last l.disk) made l.fn.work l.work (g.D.TapeDisk.writes l.fn.disk) (g.D.TapeDisk.writes l.disk);
+          → IsWaiting (meaning l.plan.query.now) (setting_of l.plan (g.H.KeyHash.hash_of l.fn.pass.groups.table.hash)) pieces (all_in (l.fn.run ∷ l.others.items)) l.pass.lists (g.D.TapeDisk.last l.disk) made l.fn.work l.work (g.D.TapeDisk.writes l.fn.disk) (g.D.TapeDisk.writes l.disk);
     }
 
 abbrev pub decreases-loop-pass : goal.decreases-loop-pass

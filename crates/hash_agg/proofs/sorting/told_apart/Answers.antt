@@ -4,7 +4,7 @@ use Rattle.std.specs.List.Sorted.{IsPermutation}
 use Rattle.std.specs.Prelude.{◌≢◌, ℕ, ◌-◌, ◌<◌, List, [], ◌∷◌, ◌++◌, slice_index_or}
 use Rattle.std.proofs.Common.{sym, ◌∙◌, ap, subst, arith}
 use Rattle.std.proofs.lemmas.List.Sorted.{All-permutation}
-use Rattle.hash_agg.specs.Runs.{Rises}
+use Rattle.group_runs.specs.Runs.{Rises}
 use Rattle.hash_agg.specs.Passes.{Led, IsLed, pairs}
 use Rattle.hash_agg.proofs.SortLaws.{once_permuted, pair_at, take_next, pairs_moved, all_taken, told_rises, told_twice}
 use Rattle.hash_agg.proofs.sorting.told_apart.Goals as goal
@@ -29,11 +29,17 @@ push-requires c =
 
 pub loop-place-preserved : goal.loop-place-preserved
 loop-place-preserved c =
-    let ps : List Led = c.sort_unstable.new.self in (
+    let ps : List Led = c.sort_unstable.new.self in
+    let i : ℕ = c.loop-place.place in
+    let other : 0 < i → (slice_index_or ps (i - 1) no_entry).1.0.now ≢ (slice_index_or ps i no_entry).1.0.now = λ some. elim c.else-place-gt0.branch [
+      | else-place-gt0-via-then-place-gt0+else-eq w ↦ other_text (slice_index_or ps (i - 1) no_entry).1.0.now (slice_index_or ps i no_entry).1.0.now (sym w.if-eq.false ∙ w.eq.ensures)
+      | else-place-gt0-via-else-place-gt0 w ↦ absurd (let none = w.if-place-gt0.false in omega (arith, none, some))
+    ] in (
       c.in_ok-push.ensures.pushed
           ∙ ap (λ run. run ++ ((slice_index_or ps c.loop-place.place no_entry).1.0.now, (slice_index_or ps c.loop-place.place no_entry).1.1.now) ∷ []) c.loop-place.invariant.0
           ∙ sym (take_next (pairs ps) c.loop-place.place _ _ (pair_at ps c.loop-place.place no_entry c.loop-place-test.true)),
-      subst Rises c.run-in-loop-place.view_is c.run-in-loop-place.invariant.rises,
+      subst Rises (sym c.in_ok-push.ensures.pushed)
+          (told_rises ps c.loop-place.run i no_entry c.sort_unstable.ensures.sorted (All-permutation IsLed c.args.entries.now ps c.sort_unstable.ensures.permutation c.requires.led) c.loop-place.invariant.1 c.loop-place.invariant.0 c.loop-place-test.true other),
     )
 
 pub returns-then-eq-clause-undamaged : goal.returns-then-eq-clause-undamaged

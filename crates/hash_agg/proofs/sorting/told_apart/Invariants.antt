@@ -1,5 +1,5 @@
 use Rattle.std.specs.Prelude.{◌≡◌, take}
-use Rattle.hash_agg.specs.Runs.{Rises}
+use Rattle.group_runs.specs.Runs.{Rises}
 use Rattle.hash_agg.specs.Passes.{pairs}
 use Rattle.hash_agg.proofs.sorting.told_apart.Given as goal
 

@@ -1,7 +1,7 @@
 use Rattle.std.proofs.Common.{ap, ◌∙◌, ◌-◌}
 use Rattle.std.specs.Ordering.{nat_cmp}
 use Rattle.std.specs.Cmp.Lexicographic.{slice_cmp}
-use Rattle.hash_agg.specs.Runs.{packed_keys}
+use Rattle.group_runs.specs.Runs.{packed_keys}
 use Rattle.summary_codec.proofs.GroupLaws.{last_key}
 use Rattle.summary_codec.proofs.RisingLaws.{is_next, next_is}
 use Rattle.summary_codec.proofs.reading.is_key_above.Goals as goal

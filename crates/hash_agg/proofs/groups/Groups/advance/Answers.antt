@@ -7,7 +7,7 @@ use Rattle.packed_rows.specs.View.{row_of}
 use Rattle.grouping_model.specs.Parts.{functions}
 use Rattle.having_filter.specs.Meaning.{meaning}
 use Rattle.hash_agg.specs.Passes.{GroupsState, WritesAt}
-use Rattle.hash_agg.specs.Steps.{HaveRoomForRow, AreAdvanced}
+use Rattle.group_runs.specs.Steps.{HaveRoomForRow, AreAdvanced}
 use Rattle.hash_agg.proofs.NeedLaws.{same_needed}
 use Rattle.hash_agg.proofs.TableLaws.{get_mapped}
 use Rattle.hash_agg.proofs.groups.Groups.advance.Goals as goal

@@ -6,7 +6,7 @@ use Rattle.group_table.specs.Table.{key_in, state_in, group_in}
 use Rattle.grouping_model.specs.Parts.{functions}
 use Rattle.having_filter.specs.Meaning.{meaning}
 use Rattle.hash_agg.specs.Passes.{GroupsState, WritesAt}
-use Rattle.hash_agg.specs.Steps.{HaveRoomWithin, AreCombined}
+use Rattle.group_runs.specs.Steps.{HaveRoomWithin, AreCombined}
 use Rattle.hash_agg.proofs.NeedLaws.{same_needed}
 use Rattle.hash_agg.proofs.TableLaws.{get_mapped}
 use Rattle.hash_agg.proofs.groups.Groups.combine.Goals as goal

@@ -1,7 +1,7 @@
 use Rattle.std.specs.Prelude.{◌++◌, ◌∷◌, []}
 use Rattle.std.proofs.Common.{sym, ◌∙◌, ap}
 use Rattle.aggregation_cost.specs.Space.{need}
-use Rattle.hash_agg.specs.Runs.{packed_keys}
+use Rattle.group_runs.specs.Runs.{packed_keys}
 use Rattle.hash_agg.specs.Passes.{GroupsState, entries_of}
 use Rattle.hash_agg.proofs.NeedLaws.{most_entered, none_needed}
 use Rattle.hash_agg.proofs.TableLaws.{held_alone}

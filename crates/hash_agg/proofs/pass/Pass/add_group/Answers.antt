@@ -6,7 +6,7 @@ use Rattle.grouping_model.specs.Grouping.{partials}
 use Rattle.grouping_model.specs.Parts.{functions}
 use Rattle.group_table.specs.Table.{state_in}
 use Rattle.having_filter.specs.Meaning.{meaning}
-use Rattle.hash_agg.specs.Steps.{AreCombined}
+use Rattle.group_runs.specs.Steps.{AreCombined}
 use Rattle.hash_agg.specs.Passes.{AreOfRun, group_record}
 use Rattle.hash_agg.proofs.StepLaws.{on_ok, key_brief, key_short, group_short, same_wide, group_told, one_there, there_room, one_new, one_left, safe_there, safe_new, one_group, is_group_record, fit_told}
 use Rattle.hash_agg.proofs.pass.Pass.add_group.Goals as goal

@@ -3,7 +3,7 @@ use Rattle.std.proofs.Common.{ap, arith}
 use Rattle.grouping_model.specs.Query.{Query}
 use Rattle.having_filter.specs.Meaning.{meaning}
 use Rattle.hash_agg.specs.Passes.{Piece, PassState, standing, entries_of, AreOfRun, IsAt}
-use Rattle.hash_agg.proofs.InputLaws.{group_at}
+use Rattle.group_runs.proofs.RunLaws.{group_at}
 use Rattle.hash_agg.proofs.StepLaws.{err_out, next_room, next_read, all_read, group_is_at, run_short, next_brings, all_brings}
 use Rattle.hash_agg.proofs.LoopLaws.{keeps_next, room_by, reads_by, group_brings}
 use Rattle.hash_agg.proofs.DiskLaws.{moves_twice}

@@ -6,7 +6,7 @@ use Rattle.grouping_model.specs.Grouping.{key_of, partials}
 use Rattle.group_table.specs.Table.{state_in}
 use Rattle.packed_rows.specs.View.{row_of}
 use Rattle.having_filter.specs.Meaning.{meaning}
-use Rattle.hash_agg.specs.Steps.{AreAdvanced}
+use Rattle.group_runs.specs.Steps.{AreAdvanced}
 use Rattle.hash_agg.specs.Passes.{AreRows, entries_of}
 use Rattle.hash_agg.proofs.KeyLaws.{key_has}
 use Rattle.hash_agg.proofs.StepLaws.{on_ok, err_out, key_brief, key_short, packed_short, IsSelected, row_told, one_there, there_room, one_new, new_room, one_left, safe_there, safe_new, fit_told, proceeds_new}

@@ -2,7 +2,7 @@ use Rattle.std.specs.Prelude.{◌≡◌, ◌++◌, ◌∷◌, ◌&&◌, [], ℕ,
 use Rattle.std.proofs.Common.{sym, ◌∙◌, ap}
 use Rattle.aggregation_cost.specs.Passes.{is_empty}
 use Rattle.aggregation_cost.specs.Space.{fits}
-use Rattle.hash_agg.specs.Runs.{Entry, packed_keys}
+use Rattle.group_runs.specs.Runs.{Entry, packed_keys}
 use Rattle.hash_agg.specs.Passes.{entries_of, setting_of}
 use Rattle.hash_agg.proofs.NeedLaws.{first_fits}
 use Rattle.hash_agg.proofs.pass.Pass.room_for.Goals as goal

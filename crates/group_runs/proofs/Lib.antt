@@ -1,0 +1,11 @@
+pub mod StateLaws
+pub mod EntryLaws
+pub mod MergeLaws
+pub mod RunLaws
+pub mod FlatLaws
+pub mod PlaceLaws
+pub mod SpliceLaws
+pub mod JoinLaws
+pub mod ChunkLaws
+pub mod PartLaws
+pub mod ComeLaws

@@ -1,0 +1,21 @@
+use Rattle.std.specs.Prelude.{◌≡◌, ℕ, ◌+◌, ◌≤◌, ◌++◌, List, length, take, drop, slice_get, slice_range, Some}
+use Rattle.grouping_model.specs.Grouping.{Group}
+use Rattle.agg_protocol.specs.States.{most_rows}
+use Rattle.having_filter.specs.Meaning.{meaning}
+use Rattle.group_runs.specs.Runs.{Entry, Rises}
+use Rattle.group_runs.specs.Chunks.{on_end}
+use Rattle.group_runs.specs.Places.{AllBelow}
+use Rattle.group_runs.specs.Standing.{AreGroups}
+use Rattle.group_runs.specs.Adding.{groups_added}
+use Rattle.group_runs.proofs.chunk.Chunk.merged.Given as goal
+
+abbrev pub invariant-loop-place : goal.invariant-loop-place
+invariant-loop-place l =
+    record {
+      within : l.left ≤ length l.self;
+      rises : Rises (l.merged ++ drop l.left l.self);
+      below : (e : Entry) → slice_get (slice_range (on_end l.more) l.from l.to) l.place ≡ Some e → AllBelow e.0 l.merged;
+      added :
+          (m n : ℕ) (groups more : List Group) → m + n ≤ most_rows → AreGroups (meaning l.query) m l.self groups → AreGroups (meaning l.query) n (slice_range (on_end l.more) l.from l.to) more
+          → AreGroups (meaning l.query) (m + n) (l.merged ++ drop l.left l.self) (groups_added (meaning l.query) groups (take l.place more));
+    }

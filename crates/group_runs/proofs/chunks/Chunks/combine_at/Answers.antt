@@ -1,0 +1,67 @@
+use Rattle.std.specs.Prelude.{◌≡◌, ℕ, ◌-◌, ◌<◌, ◌+◌, ◌∷◌, List, length, take, slice_get, slice_set, Some}
+use Rattle.std.proofs.Common.{sym, ◌∙◌, ap, subst, arith}
+use Rattle.std.proofs.lemmas.List.{length-append}
+use Rattle.grouping_model.specs.Aggregates.{Function}
+use Rattle.grouping_model.specs.Parts.{functions}
+use Rattle.having_filter.specs.Meaning.{meaning}
+use Rattle.group_runs.specs.Runs.{Entry, Rises}
+use Rattle.group_runs.specs.Places.{HasStatesFor, CombinesAt}
+use Rattle.group_runs.specs.Chunks.{on_end, IsAmong, AreChunks}
+use Rattle.group_runs.proofs.ChunkLaws.{got_by, got_low, got_same, states_in, combined_in, set_counts}
+use Rattle.group_runs.proofs.FlatLaws.{same_keys_rise}
+use Rattle.group_runs.proofs.chunks.Chunks.combine_at.Goals as goal
+
+-- where the chunk of a group stands
+record Here (chunks : List (List Entry)) (place at start : ℕ) (chunk : List Entry) : Type 0 where
+  is : slice_get chunks at ≡ Some chunk
+  long : length (on_end (take at chunks)) + (place - start) ≡ place
+  low : place - start < length chunk
+
+here : (chunks : List (List Entry)) (place at start : ℕ) (chunk : List Entry) → IsAmong chunks place at → start ≡ length (on_end (take at chunks)) → (at < length chunks → slice_get chunks at ≡ Some chunk) → Here chunks place at start chunk
+here chunks place at start chunk among started read =
+    let is = read (got_low chunks at among.chunk among.is) in
+    let long = ap length (got_same chunks at among.chunk chunk among.is is) in
+    let behind = among.behind in
+    let within = among.within in
+    record { is = is; long = omega (arith, started, behind); low = omega (arith, started, behind, within, long) }
+
+-- the run keeps its form
+combined_are : (these : List Function) (chunks : List (List Entry)) (ends : List ℕ) (place at start : ℕ) (chunk new : List Entry) (more : List ℕ) → AreChunks chunks ends → Here chunks place at start chunk → HasStatesFor these (on_end chunks) place more → CombinesAt these chunk (place - start) more new → AreChunks (slice_set chunks at new) ends
+combined_are these chunks ends place at start chunk new more are h has combines =
+    let inner = states_in these chunks place at chunk (place - start) more h.is h.long h.low has in
+    let given = combines inner.front inner.entry inner.back inner.is inner.long in
+    let one = ap length given.1 ∙ length-append inner.front ((inner.entry.0, given.0) ∷ inner.back) in
+    let other = ap length inner.is ∙ length-append inner.front (inner.entry ∷ inner.back) in
+    let whole = combined_in these chunks place at chunk new (place - start) more h.is h.long h.low combines has.front has.entry has.back has.is has.long in
+    record {
+      ends_are = are.ends_are ∙ sym (set_counts chunks at chunk new h.is (omega (arith, one, other)));
+      rises = subst Rises (sym whole.1) (same_keys_rise has.front has.entry.0 has.entry.1 whole.0 has.back (subst Rises has.is are.rises));
+    }
+
+pub combine_at-requires : goal.combine_at-requires
+combine_at-requires c =
+    let chunks = c.self.inside.chunks.items in
+    let place = c.args.place in
+    let at = c.chunk_of-at.result in
+    let these : List Function = functions (meaning c.args.query.now) in
+    let h = here chunks place at c.start-start.result c.index_mut.result.now (subst (λ cs. IsAmong cs place at) (sym c.self.view_is) c.chunk_of-at.ensures) (c.start-start.ensures ∙ ap (λ cs. length (on_end (take at cs))) (sym c.self.view_is)) (λ low. got_by chunks at c.index_mut.result.now low c.index_mut.ensures.value) in
+    states_in these chunks place at c.index_mut.result.now (place - c.start-start.result) c.args.more.now h.is h.long h.low (subst (λ cs. HasStatesFor these (on_end cs) place c.args.more.now) (sym c.self.view_is) c.requires)
+
+pub invariant_of-self : goal.invariant_of-self
+invariant_of-self c =
+    let chunks = c.self.inside.chunks.items in
+    let place = c.args.place in
+    let at = c.chunk_of-at.result in
+    let these : List Function = functions (meaning c.args.query.now) in
+    let h = here chunks place at c.start-start.result c.index_mut.result.now (subst (λ cs. IsAmong cs place at) (sym c.self.view_is) c.chunk_of-at.ensures) (c.start-start.ensures ∙ ap (λ cs. length (on_end (take at cs))) (sym c.self.view_is)) (λ low. got_by chunks at c.index_mut.result.now low c.index_mut.ensures.value) in
+    combined_are these chunks c.self.inside.ends.items place at c.start-start.result c.index_mut.result.now c.combine_at.new.self c.args.more.now c.self.invariant h (subst (λ cs. HasStatesFor these (on_end cs) place c.args.more.now) (sym c.self.view_is) c.requires) c.combine_at.ensures
+
+pub returns : goal.returns
+returns c =
+    let chunks = c.self.inside.chunks.items in
+    let place = c.args.place in
+    let at = c.chunk_of-at.result in
+    let these : List Function = functions (meaning c.args.query.now) in
+    let h = here chunks place at c.start-start.result c.index_mut.result.now (subst (λ cs. IsAmong cs place at) (sym c.self.view_is) c.chunk_of-at.ensures) (c.start-start.ensures ∙ ap (λ cs. length (on_end (take at cs))) (sym c.self.view_is)) (λ low. got_by chunks at c.index_mut.result.now low c.index_mut.ensures.value) in
+    subst (λ cs. CombinesAt these (on_end cs) place c.args.more.now (on_end (slice_set chunks at c.combine_at.new.self))) c.self.view_is
+    (combined_in these chunks place at c.index_mut.result.now c.combine_at.new.self (place - c.start-start.result) c.args.more.now h.is h.long h.low c.combine_at.ensures)

@@ -1,0 +1,79 @@
+use Rattle.std.specs.Prelude.{◌+◌, ◌∷◌, ◌++◌, List, take, drop}
+use Rattle.std.proofs.Common.{sym, ◌∙◌, ap, subst}
+use Rattle.grouping_model.specs.Query.{Query}
+use Rattle.having_filter.specs.Meaning.{meaning}
+use Rattle.group_runs.specs.Runs.{Entry, packed_keys}
+use Rattle.group_runs.specs.Steps.{HasRoomForGroup, AddsGroup}
+use Rattle.group_runs.proofs.FlatLaws.{same_keys}
+use Rattle.std.proofs.Common.{arith}
+use Rattle.std.specs.Prelude.{length}
+use Rattle.std.proofs.lemmas.List.{length-append}
+use Rattle.group_runs.specs.Places.{AreUpTo}
+use Rattle.group_runs.proofs.PlaceLaws.{up_to_here, key_stands, found_place, below_front}
+use Rattle.group_runs.proofs.SpliceLaws.{present_room, present_added}
+use Rattle.group_runs.specs.Chunks.{on_end}
+use Rattle.group_runs.proofs.chunks.Chunks.combine_group.Goals as goal
+
+pub combine_at-requires : goal.combine_at-requires
+combine_at-requires c =
+    let q : Query = meaning c.args.query.now in
+    let run : List Entry = (on_end c.args.self.now) in
+    let place = c.seek-place.result in
+    let here = key_stands run place c.args.key.now (found_place run c.args.from c.args.key.now place c.seek-place.ensures.rises c.requires.below c.seek-place.ensures.place c.requires.there) in
+    record {
+      front = take place run;
+      entry = (c.args.key.now, here.states);
+      back = drop (place + 1) run;
+      is = here.is;
+      long = here.long;
+      room = present_room q c.args.key.now here.states c.args.states.now (take place run) (drop (place + 1) run) (below_front run c.args.from c.args.key.now place c.requires.below c.seek-place.ensures.place)
+          (subst (λ run. HasRoomForGroup q run (c.args.key.now, c.args.states.now)) here.is c.requires.room);
+    }
+
+pub returns-clause-added : goal.returns-clause-added
+returns-clause-added c =
+    let q : Query = meaning c.args.query.now in
+    let run : List Entry = (on_end c.args.self.now) in
+    let place = c.seek-place.result in
+    let here = key_stands run place c.args.key.now (found_place run c.args.from c.args.key.now place c.seek-place.ensures.rises c.requires.below c.seek-place.ensures.place c.requires.there) in
+    let given = c.combine_at.ensures (take place run) (c.args.key.now, here.states) (drop (place + 1) run) here.is here.long in
+    subst (AddsGroup q run (c.args.key.now, c.args.states.now)) (sym given.1)
+    (subst (λ run. AddsGroup q run (c.args.key.now, c.args.states.now) (take place (on_end c.args.self.now) ++ (c.args.key.now, given.0) ∷ drop (place + 1) (on_end c.args.self.now))) (sym here.is)
+    (present_added q c.args.key.now here.states c.args.states.now given.0 (take place run) (drop (place + 1) run) (below_front run c.args.from c.args.key.now place c.requires.below c.seek-place.ensures.place) given.2))
+
+pub returns-clause-keys : goal.returns-clause-keys
+returns-clause-keys c =
+    let run : List Entry = (on_end c.args.self.now) in
+    let place = c.seek-place.result in
+    let here = key_stands run place c.args.key.now (found_place run c.args.from c.args.key.now place c.seek-place.ensures.rises c.requires.below c.seek-place.ensures.place c.requires.there) in
+    let given = c.combine_at.ensures (take place run) (c.args.key.now, here.states) (drop (place + 1) run) here.is here.long in
+    ap packed_keys given.1 ∙ same_keys (take place run) c.args.key.now given.0 here.states (drop (place + 1) run) ∙ ap packed_keys (sym here.is)
+
+pub overflow_add-result : goal.overflow_add-result
+overflow_add-result c =
+    let run : List Entry = (on_end c.args.self.now) in
+    let place = c.seek-place.result in
+    let here = key_stands run place c.args.key.now (found_place run c.args.from c.args.key.now place c.seek-place.ensures.rises c.requires.below c.seek-place.ensures.place c.requires.there) in
+    let low = here.low in
+    let few = c.seek-place.ensures.few in
+    omega (arith, low, few)
+
+pub returns-clause-within : goal.returns-clause-within
+returns-clause-within c =
+    let run : List Entry = (on_end c.args.self.now) in
+    let place = c.seek-place.result in
+    let here = key_stands run place c.args.key.now (found_place run c.args.from c.args.key.now place c.seek-place.ensures.rises c.requires.below c.seek-place.ensures.place c.requires.there) in
+    let given = c.combine_at.ensures (take place run) (c.args.key.now, here.states) (drop (place + 1) run) here.is here.long in
+    let all = ap length given.1 ∙ length-append (take place run) ((c.args.key.now, given.0) ∷ drop (place + 1) run) in
+    let long = here.long in
+    omega (arith, all, long)
+
+pub returns-clause-up_to : goal.returns-clause-up_to
+returns-clause-up_to c =
+    let run : List Entry = (on_end c.args.self.now) in
+    let place = c.seek-place.result in
+    let key = c.args.key.now in
+    let here = key_stands run place key (found_place run c.args.from key place c.seek-place.ensures.rises c.requires.below c.seek-place.ensures.place c.requires.there) in
+    let given = c.combine_at.ensures (take place run) (key, here.states) (drop (place + 1) run) here.is here.long in
+    subst (λ new. AreUpTo key (take (place + 1) new)) (sym given.1)
+    (up_to_here (take place run) (drop (place + 1) run) key given.0 place here.long (below_front run c.args.from key place c.requires.below c.seek-place.ensures.place))

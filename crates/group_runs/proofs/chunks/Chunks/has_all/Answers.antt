@@ -1,0 +1,32 @@
+use Rattle.std.specs.Prelude.{◌≡◌, ◌<◌, [], ◌∷◌, length, take}
+use Rattle.std.proofs.Common.{sym, subst, arith}
+use Rattle.std.proofs.lemmas.List.{take_all, length-map}
+use Rattle.std.specs.List.{AllByRecursion}
+use Rattle.group_runs.specs.Runs.{Entry, packed_keys}
+use Rattle.group_runs.specs.Places.{HasKey, HasKeyAt}
+use Rattle.group_runs.proofs.ChunkLaws.{got_low}
+use Rattle.group_runs.proofs.RunLaws.{take_found}
+use Rattle.group_runs.proofs.PlaceLaws.{key_at, all_both}
+use Rattle.group_runs.specs.Chunks.{on_end}
+use Rattle.group_runs.proofs.chunks.Chunks.has_all.Goals as goal
+
+pub loop-place-preserved : goal.loop-place-preserved
+loop-place-preserved c =
+    let key = c.group.result.0.now in
+    let at = key_at (on_end c.args.more.now) c.loop-place.place (key, c.group.result.1.now) c.group.ensures in
+    let here : HasKeyAt (on_end c.args.self.now) c.seek-from.result key = c.has_at.ensures.0 c.if-not-has_at.false in
+    let low : c.seek-from.result < length (packed_keys (on_end c.args.self.now)) = got_low (packed_keys (on_end c.args.self.now)) c.seek-from.result key here in
+    record {
+      within = omega (arith, low, length-map (on_end c.args.self.now) (λ (e : Entry). e.0));
+      there =
+          subst (AllByRecursion (HasKey (on_end c.args.self.now))) (sym (take_found (packed_keys (on_end c.args.more.now)) c.loop-place.place key at))
+          (all_both (HasKey (on_end c.args.self.now)) (take c.loop-place.place (packed_keys (on_end c.args.more.now))) (key ∷ []) c.loop-place.invariant.there ((c.seek-from.result, here), tt));
+    }
+
+pub returns : goal.returns
+returns c =
+    λ _.
+    let past = c.loop-place-test.false in
+    let counted = c.len-place-end.ensures.length in
+    let long : length (packed_keys (on_end c.args.more.now)) ≡ length (on_end c.args.more.now) = length-map (on_end c.args.more.now) (λ (e : Entry). e.0) in
+    subst (AllByRecursion (HasKey (on_end c.args.self.now))) (take_all c.loop-place.place (packed_keys (on_end c.args.more.now)) (omega (arith, past, counted, long))) c.loop-place.invariant.there

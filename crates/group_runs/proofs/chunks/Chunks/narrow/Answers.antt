@@ -1,0 +1,51 @@
+use Rattle.std.specs.Prelude.{◌≡◌, ◌+◌, ◌-◌, ℕ, slice_range}
+use Rattle.std.proofs.Common.{subst, arith, rules}
+use Rattle.group_runs.specs.Runs.{Entry}
+use Rattle.group_runs.specs.Places.{IsBelow, IsNotBelow, AllBelow}
+use Rattle.group_runs.specs.Chunks.{on_end}
+use Rattle.group_runs.proofs.PlaceLaws.{below_to, not_below_from}
+use Rattle.group_runs.proofs.chunks.Chunks.narrow.Goals as goal
+
+pub loop-first-preserved-then-is_lt : goal.loop-first-preserved-then-is_lt
+loop-first-preserved-then-is_lt c =
+    let i = c.loop-first.invariant in
+    let end : ℕ = c.start-end.result in
+    let entry : Entry = (c.group.result.0.now, c.group.result.1.now) in
+    let below : IsBelow c.args.key.now entry = search rules in
+    let behind = i.between.behind in
+    let low = c.if-end-low.false in
+    let high = c.if-end-high.false in
+    let same : end - 1 + 1 ≡ end = omega (arith, low) in
+    record {
+      between = record {
+        behind = omega (arith, behind, low);
+        order = omega (arith, high);
+        within = i.between.within;
+        below = subst (λ n. AllBelow c.args.key.now (slice_range (on_end c.args.self.now) c.args.from n)) same (below_to (on_end c.args.self.now) c.args.from (end - 1) entry c.args.key.now c.len-high.ensures.rises (omega (arith, behind, low)) c.group.ensures below);
+        not_below = i.between.not_below;
+      };
+      many = i.many;
+    }
+
+pub loop-first-preserved : goal.loop-first-preserved
+loop-first-preserved c =
+    let i = c.loop-first.invariant in
+    let end : ℕ = c.start-end.result in
+    let entry : Entry = (c.group.result.0.now, c.group.result.1.now) in
+    let not_below : IsNotBelow c.args.key.now entry = search rules in
+    let within = i.between.within in
+    let low = c.if-end-low.false in
+    let high = c.if-end-high.false in
+    let many = i.many in
+    let some = c.loop-first-test.true in
+    let step = c.min.ensures in
+    record {
+      between = record {
+        behind = i.between.behind;
+        order = omega (arith, low);
+        within = omega (arith, high, within);
+        below = i.between.below;
+        not_below = not_below_from (on_end c.args.self.now) (end - 1) entry c.args.key.now c.len-high.ensures.rises c.group.ensures not_below;
+      };
+      many = omega (arith, many, some, step);
+    }

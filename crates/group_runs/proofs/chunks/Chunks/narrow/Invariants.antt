@@ -1,0 +1,14 @@
+use Rattle.std.specs.Prelude.{◌≤◌, ◌-◌, length}
+use Rattle.group_runs.specs.Chunks.{on_end}
+use Rattle.group_runs.specs.Places.{IsBetween}
+use Rattle.group_runs.proofs.chunks.Chunks.narrow.Given as goal
+
+abbrev pub invariant-loop-first : goal.invariant-loop-first
+invariant-loop-first l =
+    record {
+      between : IsBetween (on_end l.self) l.from l.low l.high l.key;
+      many : l.last ≤ length l.self;
+    }
+
+abbrev pub decreases-loop-first : goal.decreases-loop-first
+decreases-loop-first l = l.last - l.first

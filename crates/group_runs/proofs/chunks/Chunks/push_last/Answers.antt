@@ -1,0 +1,59 @@
+use Rattle.std.specs.Prelude.{◌≡◌, ◌+◌, ◌-◌, ◌++◌, ◌∷◌, List, [], length, take, slice_get, slice_set, Some}
+use Rattle.std.proofs.Common.{sym, ◌∙◌, ap, subst, arith, append_assoc, rules}
+use Rattle.group_runs.specs.Runs.{Entry, Rises}
+use Rattle.group_runs.specs.Chunks.{on_end, counts}
+use Rattle.group_runs.proofs.ChunkLaws.{got_by, ends_many, last_whole, last_more, rises_back}
+use Rattle.group_runs.proofs.chunks.Chunks.push_last.Goals as goal
+
+pub push-requires : goal.push-requires
+push-requires c =
+    let chunks = c.self.inside.chunks.items in
+    let last = c.len-last.result - 1 in
+    let one : List Entry = (c.args.key.now, c.args.states.now) ∷ [] in
+    let counted : c.len-last.result ≡ length chunks = search rules in
+    let view = ap length c.self.view_is in
+    let some = c.requires.some in
+    let is : slice_get chunks last ≡ Some c.index_mut.result.now = got_by chunks last c.index_mut.result.now (omega (arith, counted, view, some)) c.index_mut.ensures.value in
+    let whole = last_whole chunks last c.index_mut.result.now (omega (arith, counted, view, some)) is in
+    rises_back (on_end (take last chunks)) (c.index_mut.result.now ++ one)
+    (subst Rises (append_assoc (on_end (take last chunks)) c.index_mut.result.now one)
+    (subst (λ es. Rises (es ++ one)) whole (subst (λ cs. Rises (on_end cs ++ one)) (sym c.self.view_is) c.requires.rises)))
+
+pub index_mut-requires-2 : goal.index_mut-requires-2
+index_mut-requires-2 c =
+    let counted : c.len-last.result ≡ length c.self.inside.chunks.items = search rules in
+    let many = ends_many c.self.inside.chunks.items c.self.inside.ends.items c.self.invariant.ends_are in
+    let view = ap length c.self.view_is in
+    let some = c.requires.some in
+    let long = c.self.inside.ends.ok in
+    omega (arith, counted, many, view, some, long)
+
+pub invariant_of-self-2 : goal.invariant_of-self-2
+invariant_of-self-2 c =
+    let chunks = c.self.inside.chunks.items in
+    let last = c.len-last.result - 1 in
+    let one : List Entry = (c.args.key.now, c.args.states.now) ∷ [] in
+    let counted : c.len-last.result ≡ length chunks = search rules in
+    let view = ap length c.self.view_is in
+    let some = c.requires.some in
+    let is : slice_get chunks last ≡ Some c.index_mut.result.now = got_by chunks last c.index_mut.result.now (omega (arith, counted, view, some)) c.index_mut.ensures.value in
+    let before = c.len-end.ensures.length ∙ ap (λ cs. length (on_end cs)) (sym c.self.view_is) in
+    let m = last_more chunks c.self.inside.ends.items last c.index_mut.result.now one (c.len-end.result + 1) c.self.invariant.ends_are (omega (arith, counted, view, some)) is (omega (arith, before)) in
+    let pushed = c.in_ok-push.ensures.pushed in
+    record {
+      ends_are = m.ends_are ∙ ap (λ chunk. counts 0 (slice_set chunks last chunk)) (sym pushed);
+      rises = subst (λ chunk. Rises (on_end (slice_set chunks last chunk))) (sym pushed) (subst Rises (sym m.is) (subst (λ cs. Rises (on_end cs ++ one)) (sym c.self.view_is) c.requires.rises));
+    }
+
+pub returns-clause-pushed : goal.returns-clause-pushed
+returns-clause-pushed c =
+    let chunks = c.self.inside.chunks.items in
+    let last = c.len-last.result - 1 in
+    let one : List Entry = (c.args.key.now, c.args.states.now) ∷ [] in
+    let counted : c.len-last.result ≡ length chunks = search rules in
+    let view = ap length c.self.view_is in
+    let some = c.requires.some in
+    let is : slice_get chunks last ≡ Some c.index_mut.result.now = got_by chunks last c.index_mut.result.now (omega (arith, counted, view, some)) c.index_mut.ensures.value in
+    let before = c.len-end.ensures.length ∙ ap (λ cs. length (on_end cs)) (sym c.self.view_is) in
+    let m = last_more chunks c.self.inside.ends.items last c.index_mut.result.now one (c.len-end.result + 1) c.self.invariant.ends_are (omega (arith, counted, view, some)) is (omega (arith, before)) in
+    ap (λ chunk. on_end (slice_set chunks last chunk)) c.in_ok-push.ensures.pushed ∙ m.is ∙ ap (λ cs. on_end cs ++ one) c.self.view_is

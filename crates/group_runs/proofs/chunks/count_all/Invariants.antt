@@ -1,0 +1,11 @@
+use Rattle.std.specs.Prelude.{◌≡◌, length, take}
+use Rattle.group_runs.specs.Chunks.{on_end, counts}
+use Rattle.group_runs.proofs.chunks.count_all.Given as goal
+
+abbrev pub invariant-loop-at : goal.invariant-loop-at
+invariant-loop-at l =
+    record {
+      many : length l.ends.items ≡ length l.chunks;
+      counted : l.count ≡ length (on_end (take l.at l.chunks));
+      done : take l.at l.ends.items ≡ counts 0 (take l.at l.chunks);
+    }

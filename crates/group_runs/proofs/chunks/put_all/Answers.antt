@@ -1,0 +1,23 @@
+use Rattle.std.specs.Prelude.{◌≡◌, ℕ, ◌++◌, ◌∷◌, ◌<◌, List, [], length}
+use Rattle.std.specs.List.{AllByRecursion}
+use Rattle.std.proofs.Common.{sym, ◌∙◌, ap, subst}
+use Rattle.std.proofs.lemmas.List.{length-set}
+use Rattle.group_runs.specs.Runs.{Entry}
+use Rattle.group_runs.specs.Chunks.{replaced}
+use Rattle.group_runs.proofs.ChunkLaws.{replaced_more}
+use Rattle.group_runs.proofs.PlaceLaws.{all_front}
+use Rattle.group_runs.proofs.chunks.put_all.Goals as goal
+
+pub loop-at-preserved : goal.loop-at-preserved
+loop-at-preserved c =
+    let items : c.loop-at.fresh.items ≡ c.pop.new.self.items ++ (c.in-Some.at, c.in-Some.chunk) ∷ [] = c.in-Some.ensures.items in
+    record {
+      left =
+          sym (replaced_more c.pop.new.self.items (c.in-Some.at, c.in-Some.chunk) c.loop-at.chunks.items)
+          ∙ ap (λ fresh. replaced fresh c.loop-at.chunks.items) (sym items)
+          ∙ c.loop-at.invariant.left;
+      there =
+          subst (λ n. AllByRecursion (λ (one : ℕ × List Entry). one.0 < n) c.pop.new.self.items) (sym (length-set c.loop-at.chunks.items c.in-Some.at c.in-Some.chunk))
+          (all_front (λ (one : ℕ × List Entry). one.0 < length c.loop-at.chunks.items) c.pop.new.self.items ((c.in-Some.at, c.in-Some.chunk) ∷ [])
+          (subst (AllByRecursion (λ (one : ℕ × List Entry). one.0 < length c.loop-at.chunks.items)) items c.loop-at.invariant.there));
+    }

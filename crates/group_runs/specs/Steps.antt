@@ -1,0 +1,103 @@
+-- What the steps of an aggregation ask of the groups that stand in bytes, and what they make of them. A step asks that there
+-- are such groups, and speaks of all that the bytes stand for. All of this is our own.
+use Rattle.std.specs.Prelude.{ℕ, ◌+◌, ◌<◌, ◌≤◌, List, IfSome}
+use Rattle.grouping_model.specs.Aggregates.{Function, Partial}
+use Rattle.grouping_model.specs.Combining.{combine_all}
+use Rattle.grouping_model.specs.Datum.{Row}
+use Rattle.grouping_model.specs.Grouping.{Group}
+use Rattle.grouping_model.specs.Parts.{functions, advanced, partials_at}
+use Rattle.grouping_model.specs.Query.{Query, Aggregate}
+use Rattle.agg_protocol.specs.States.{most_rows}
+use Rattle.agg_library.specs.StateRows.{Denotes, AllWithin}
+use Rattle.agg_library.specs.declared.kind.AggKind.{AggKind}
+use Rattle.group_runs.specs.Runs.{Entry, Rises}
+use Rattle.group_runs.specs.Standing.{AreStates, StandsFor, AreGroups}
+use Rattle.group_runs.specs.Adding.{group_added, groups_added}
+
+-- a group comes to those of its key, which count few enough rows
+abbrev pub HasRoomForGroup : Query → List Entry → Entry → Type 0
+HasRoomForGroup query old entry =
+    (m n : ℕ) × (groups : List Group) × (group : Group)
+    × AreGroups query (m + n) old groups
+    × IfSome (partials_at group.0 groups) (AllWithin m)
+    × StandsFor query n entry group
+    × (m + n ≤ most_rows)
+
+abbrev pub AddsGroup : Query → List Entry → Entry → List Entry → Type 0
+AddsGroup query old entry new =
+    (m n : ℕ) (groups : List Group) (group : Group)
+    → m + n ≤ most_rows
+    → AreGroups query (m + n) old groups
+    → IfSome (partials_at group.0 groups) (AllWithin m)
+    → StandsFor query n entry group
+    → AreGroups query (m + n) new (group_added query groups group)
+
+-- the same of a run
+abbrev pub HasRoomForRun : Query → List Entry → List Entry → Type 0
+HasRoomForRun query old run =
+    (m n : ℕ) × (groups more : List Group) × AreGroups query m old groups × AreGroups query n run more × Rises run × (m + n ≤ most_rows)
+
+abbrev pub AddsRun : Query → List Entry → List Entry → List Entry → Type 0
+AddsRun query old run new =
+    (m n : ℕ) (groups more : List Group)
+    → m + n ≤ most_rows
+    → AreGroups query m old groups
+    → AreGroups query n run more
+    → AreGroups query (m + n) new (groups_added query groups more)
+
+-- states of these functions that count at most so many rows
+abbrev pub AreWithin : List Function → ℕ → List ℕ → Type 0
+AreWithin these bound bytes = (partials : List Partial) × AreStates these bound bytes partials
+
+-- the states of one group can count one more row, within a bound
+abbrev pub HaveRoomForRow : List Function → ℕ → List ℕ → Type 0
+HaveRoomForRow these bound old = (most : ℕ) × (partials : List Partial) × AreStates these most old partials × (most < bound)
+
+-- they are moved on by a row
+abbrev pub AdvanceBy : Query → ℕ → List ℕ → Row → List ℕ → Type 0
+AdvanceBy query bound old row new =
+    (most : ℕ) (partials : List Partial)
+    → most < bound
+    → AreStates (functions query) most old partials
+    → AreStates (functions query) (most + 1) new (advanced query.aggregates partials row)
+
+pub record AreAdvanced (query : Query) (bound : ℕ) (old : List ℕ) (row : Row) (new : List ℕ) : Type 0 where
+  pub moved : AdvanceBy query bound old row new
+  pub within : AreWithin (functions query) bound new
+
+-- the same of the states of some of the aggregates
+abbrev pub SomeAreWithin : List AggKind → ℕ → List ℕ → Type 0
+SomeAreWithin kinds bound bytes = (partials : List Partial) × Denotes bound kinds bytes partials
+
+abbrev pub SomeHaveRoomForRow : List AggKind → ℕ → List ℕ → Type 0
+SomeHaveRoomForRow kinds bound old = (most : ℕ) × (partials : List Partial) × Denotes most kinds old partials × (most < bound)
+
+abbrev pub SomeAdvanceBy : List Aggregate → List AggKind → ℕ → List ℕ → Row → List ℕ → Type 0
+SomeAdvanceBy aggregates kinds bound old row new =
+    (most : ℕ) (partials : List Partial)
+    → most < bound
+    → Denotes most kinds old partials
+    → Denotes (most + 1) kinds new (advanced aggregates partials row)
+
+-- the states of one group and others of its key can count the rows of both, within a bound, and are combined
+abbrev pub HaveRoomWithin : List Function → ℕ → List ℕ → List ℕ → Type 0
+HaveRoomWithin these bound old more =
+    (m n : ℕ) × (partials others : List Partial) × AreStates these m old partials × AreStates these n more others × (m + n ≤ bound)
+
+abbrev pub CombineWithin : List Function → ℕ → List ℕ → List ℕ → List ℕ → Type 0
+CombineWithin these bound old more new =
+    (m n : ℕ) (partials others : List Partial)
+    → m + n ≤ bound
+    → AreStates these m old partials
+    → AreStates these n more others
+    → AreStates these (m + n) new (combine_all these partials others)
+
+pub record AreCombined (these : List Function) (bound : ℕ) (old more new : List ℕ) : Type 0 where
+  pub moved : CombineWithin these bound old more new
+  pub within : AreWithin these bound new
+
+abbrev pub HaveRoomForMore : List Function → List ℕ → List ℕ → Type 0
+HaveRoomForMore these old more = HaveRoomWithin these most_rows old more
+
+abbrev pub CombineWith : List Function → List ℕ → List ℕ → List ℕ → Type 0
+CombineWith these old more new = CombineWithin these most_rows old more new

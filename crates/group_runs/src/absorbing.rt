@@ -1,0 +1,118 @@
+//! Absorbing one run into another.
+
+ghost use Rattle.std.specs.Prelude.{◌≡◌, ◌+◌, ◌<◌, ◌≤◌, IfOk, IsTrue, OnOk, OnErr, length, take};
+ghost use Rattle.std.specs.List.{AllByRecursion};
+ghost use Rattle.having_filter.specs.Meaning.{meaning};
+ghost use Rattle.group_runs.specs.Runs.{packed_keys};
+ghost use Rattle.group_runs.specs.Places.{AllBelow, AreUpTo, HasKey};
+ghost use Rattle.group_runs.specs.Steps.{HasRoomForGroup, AddsGroup, HasRoomForRun, AddsRun};
+ghost use Rattle.group_runs.specs.Chunks.{on_end, AddChunks};
+
+use crate::chunk::Chunk;
+use crate::chunks::Chunks;
+use having_filter::Query;
+use std::alloc::{AllocError, Global};
+
+impl Chunks {
+    /// Whether each key of another run is one of this one. It may be false where this is so.
+    fn has_all(&self, more: &Chunks) -> bool
+        ensures { IsTrue result → AllByRecursion (HasKey (on_end self.now)) (packed_keys (on_end more.now)) }
+    {
+        let mut from = 0;
+        for place in 0..more.len() {
+            let (key, _) = more.group(place);
+            from = self.seek(from, key);
+            if !self.has_at(from, key) {
+                return false;
+            }
+            from += 1;
+        }
+        true
+    }
+
+    /// Combines the states of a key that is there with others. It stands behind `from` groups at least, and the result is how many
+    /// there are up to it.
+    fn combine_group(&mut self, query: &Query, from: usize, key: &[u8], states: &[u8]) -> usize
+        requires there { HasKey (on_end self.old) key.now }
+        requires within { from ≤ length (on_end self.old) }
+        requires below { AllBelow key.now (take from (on_end self.old)) }
+        requires room { HasRoomForGroup (meaning query.now) (on_end self.old) (key.now, states.now) }
+        ensures added { AddsGroup (meaning query.now) (on_end self.old) (key.now, states.now) (on_end self.new) }
+        ensures keys { packed_keys (on_end self.new) ≡ packed_keys (on_end self.old) }
+        ensures within { result ≤ length (on_end self.new) }
+        ensures up_to { AreUpTo key.now (take result (on_end self.new)) }
+    {
+        let place = self.seek(from, key);
+        self.combine_at(query, place, states);
+        place + 1
+    }
+
+    /// Combines the groups with those of another run, all of whose keys are there.
+    fn combine_all(&mut self, query: &Query, more: &Chunks)
+        requires there { AllByRecursion (HasKey (on_end self.old)) (packed_keys (on_end more.now)) }
+        requires room { HasRoomForRun (meaning query.now) (on_end self.old) (on_end more.now) }
+        ensures { AddsRun (meaning query.now) (on_end self.old) (on_end more.now) (on_end self.new) }
+    {
+        let mut from = 0;
+        for place in 0..more.len() {
+            let (key, states) = more.group(place);
+            from = self.combine_group(query, from, key, states);
+        }
+    }
+
+    /// The chunks that the groups of another run come into, with these, and the places of these chunks.
+    fn merged(
+        &self,
+        alloc: Global,
+        query: &Query,
+        more: &Chunks,
+    ) -> Result<Vec<(usize, Chunk)>, AllocError>
+        requires some { 0 < length (on_end self.now) }
+        requires room { HasRoomForRun (meaning query.now) (on_end self.now) (on_end more.now) }
+        ensures { IfOk result (λ fresh. AddChunks (meaning query.now) self.now (on_end more.now) fresh.items) }
+    {
+        let _count = self.count();
+        let mut fresh = Vec::new(alloc);
+        let mut first = 0;
+        let mut from = 0;
+        while from < more.len() {
+            let (at, to) = self.part(first, more, from);
+            let chunk = self.chunk(at).merged(alloc, query, more, from, to)?;
+            fresh.push((at, chunk))?;
+            first = at + 1;
+            from = to;
+        }
+        Ok(fresh)
+    }
+
+    /// Adds the groups of another run. Where all its keys are there, this takes no memory. The only error is a failed
+    /// allocation, which leaves the groups as they were.
+    ///
+    /// A chunk that no group comes into stays where it is.
+    pub(crate) fn absorb(
+        &mut self,
+        alloc: Global,
+        query: &Query,
+        more: &Chunks,
+    ) -> Result<(), AllocError>
+        requires { HasRoomForRun (meaning query.now) (on_end self.old) (on_end more.now) }
+        ensures added { OnOk result (AddsRun (meaning query.now) (on_end self.old) (on_end more.now) (on_end self.new)) }
+        ensures refused { OnErr result (on_end self.new ≡ on_end self.old) }
+    {
+        if self.has_all(more) {
+            self.combine_all(query, more);
+            return Ok(());
+        }
+        if self.len() == 0 {
+            *self = more.try_clone(alloc)?;
+            return Ok(());
+        }
+        if more.len() > usize::MAX - self.len() {
+            return Err(AllocError); // No memory has so many groups.
+        }
+        self.cut_large()?;
+        let fresh = self.merged(alloc, query, more)?;
+        self.replace(fresh);
+        Ok(())
+    }
+}

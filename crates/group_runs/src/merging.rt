@@ -1,0 +1,112 @@
+//! Merging groups into a chunk.
+
+ghost use Rattle.std.specs.Prelude.{◌≡◌, ◌+◌, ◌^◌, ◌<◌, ◌≤◌, ◌++◌, ◌↔◌, IfOk, IsTrue, OnOk, length, drop, slice_range};
+ghost use Rattle.having_filter.specs.Meaning.{meaning};
+ghost use Rattle.group_runs.specs.Runs.{Rises};
+ghost use Rattle.group_runs.specs.Places.{AllBelow, AreUpTo, HasKeyAt, IsPlaceOf};
+ghost use Rattle.group_runs.specs.Steps.{HasRoomForGroup, AddsGroup, HasRoomForRun, AddsRun};
+ghost use Rattle.group_runs.specs.Chunks.{on_end};
+
+use crate::chunk::Chunk;
+use crate::chunks::Chunks;
+use having_filter::Query;
+use std::alloc::{AllocError, Global};
+
+impl Chunk {
+    /// The place of a key among the groups from a place on: that of the first one whose key is not below it. A chunk has few
+    /// groups, so they are gone over one by one.
+    fn seek(&self, from: usize, key: &[u8]) -> usize
+        requires { from ≤ length self.now }
+        ensures place { IsPlaceOf self.now from key.now result }
+        ensures rises { Rises self.now }
+        ensures few { length self.now < 2 ^ 64 }
+    {
+        let count = self.len();
+        for place in from..count {
+            if !self.group(place).0.cmp(key).is_lt() {
+                return place;
+            }
+        }
+        count
+    }
+
+    /// Whether the group at a place is there and has a key.
+    fn has_at(&self, place: usize, key: &[u8]) -> bool
+        ensures { IsTrue result ↔ HasKeyAt self.now place key.now }
+    {
+        place < self.len() && self.group(place).0 == key
+    }
+
+    /// Moves on, in the merge of `old` and other groups, of which this is what is done: the groups of `old` from a place on come
+    /// here up to a key, and then the group of that key, its states behind those of `old`. The result is the place from
+    /// which on the groups of `old` are left.
+    fn merge_group(
+        &mut self,
+        query: &Query,
+        old: &Chunk,
+        from: usize,
+        key: &[u8],
+        states: &[u8],
+    ) -> Result<usize, AllocError>
+        requires below { AllBelow key.now self.old }
+        requires within { from ≤ length old.now }
+        requires rises { Rises (self.old ++ drop from old.now) }
+        requires room { HasRoomForGroup (meaning query.now) (self.old ++ drop from old.now)
+            (key.now, states.now) }
+        ensures within { IfOk result (λ next. next ≤ length old.now) }
+        ensures rises { IfOk result (λ next. Rises (self.new ++ drop next old.now)) }
+        ensures up_to { OnOk result (AreUpTo key.now self.new) }
+        ensures added { IfOk result (λ next. AddsGroup (meaning query.now)
+            (self.old ++ drop from old.now) (key.now, states.now) (self.new ++ drop next old.now)) }
+    {
+        let place = old.seek(from, key);
+        if old.has_at(place, key) {
+            self.push_range(old, from, place + 1)?;
+            self.combine_at(query, self.len() - 1, states);
+            return Ok(place + 1);
+        }
+        self.push_range(old, from, place)?;
+        self.push(key, states)?;
+        Ok(place)
+    }
+
+    /// A chunk of the groups of this one, and of those of a run from a place up to another.
+    pub(crate) fn merged(
+        &self,
+        alloc: Global,
+        query: &Query,
+        more: &Chunks,
+        from: usize,
+        to: usize,
+    ) -> Result<Chunk, AllocError>
+        requires order { from ≤ to }
+        requires within { to ≤ length (on_end more.now) }
+        requires room { HasRoomForRun (meaning query.now) self.now
+            (slice_range (on_end more.now) from to) }
+        ensures { IfOk result (AddsRun (meaning query.now) self.now
+            (slice_range (on_end more.now) from to)) }
+    {
+        let count = self.len();
+        let mut merged = Chunk::with_room_of(alloc, self, to - from)?;
+        let mut left = 0;
+        for place in 0..to - from {
+            let (key, states) = more.group(from + place);
+            left = merged.merge_group(query, self, left, key, states)?;
+        }
+        merged.push_range(self, left, count)?;
+        Ok(merged)
+    }
+
+    /// The first half of the groups, and the second. The only error is a failed allocation.
+    pub(crate) fn halves(&self, alloc: Global) -> Result<(Chunk, Chunk), AllocError>
+        ensures { IfOk result (λ both. both.0 ++ both.1 ≡ self.now) }
+    {
+        let count = self.len();
+        let middle = count / 2;
+        let mut first = Chunk::with_capacity(alloc, 0, 0, 0)?;
+        first.push_range(self, 0, middle)?;
+        let mut second = Chunk::with_capacity(alloc, 0, 0, 0)?;
+        second.push_range(self, middle, count)?;
+        Ok((first, second))
+    }
+}

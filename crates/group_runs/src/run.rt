@@ -1,0 +1,124 @@
+//! Runs of groups.
+
+ghost use Rattle.std.specs.Prelude.{◌≡◌, ◌<◌, ◌++◌, ◌∷◌, [], length, slice_get, Some, IsTrue, ◌↔◌, IfOk, OnOk, OnErr};
+ghost use Rattle.having_filter.specs.Meaning.{meaning};
+ghost use Rattle.group_runs.specs.Runs.{Rises};
+ghost use Rattle.group_runs.specs.Steps.{HasRoomForRun, AddsRun};
+
+use crate::chunks::Chunks;
+use having_filter::Query;
+use std::alloc::{AllocError, Global};
+use std::marker::Model;
+
+/// Groups in the order of their keys, each with the bytes of its key and of its states. No two have the same key.
+///
+/// They lie in chunks, so that a group which enters moves those of one chunk alone.
+#[derive(Drop)]
+pub struct Run {
+    chunks: Chunks,
+}
+
+impl Model for Run {
+    ghost use Rattle.std.specs.Prelude.{List};
+    ghost use Rattle.group_runs.specs.Runs.{Entry};
+    ghost use Rattle.group_runs.specs.Chunks.{on_end};
+
+    ghost Value = { List Entry };
+
+    ghost view = { λ r. on_end r.chunks };
+}
+
+impl Run {
+    /// A run of no groups.
+    pub fn new(alloc: Global) -> Run
+        ensures { result ≡ [] }
+    {
+        Run {
+            chunks: Chunks::new(alloc),
+        }
+    }
+
+    /// A run of no groups that has room for so many, with keys and states of so many bytes. The only error is a failed
+    /// allocation.
+    pub fn with_capacity(
+        alloc: Global,
+        groups: usize,
+        keys: usize,
+        states: usize,
+    ) -> Result<Run, AllocError>
+        ensures { IfOk result (λ run. run ≡ []) }
+    {
+        Ok(Run {
+            chunks: Chunks::with_capacity(alloc, groups, keys, states)?,
+        })
+    }
+
+    /// Adds a group at the end. Its key is above the last one. The only error is a failed allocation, which changes
+    /// nothing.
+    pub fn push(&mut self, key: &[u8], states: &[u8]) -> Result<(), AllocError>
+        requires { Rises (self.old ++ (key.now, states.now) ∷ []) }
+        ensures pushed { OnOk result (self.new ≡ self.old ++ (key.now, states.now) ∷ []) }
+        ensures refused { OnErr result (self.new ≡ self.old) }
+    {
+        self.chunks.push(key, states)
+    }
+
+    /// How many groups there are.
+    pub fn len(&self) -> usize
+        ensures length { result ≡ length self.now }
+        ensures rises { Rises self.now }
+    {
+        self.chunks.len()
+    }
+
+    /// Whether there are no groups.
+    pub fn is_empty(&self) -> bool
+        ensures { IsTrue result ↔ (self.now ≡ []) }
+    {
+        self.len() == 0
+    }
+
+    /// The bytes of the key and of the states of a group, the first group being 0.
+    pub fn group(&self, place: usize) -> (&[u8], &[u8])
+        requires { place < length self.now }
+        ensures { slice_get self.now place ≡ Some (result.0.now, result.1.now) }
+    {
+        self.chunks.group(place)
+    }
+
+    /// The same groups again. The only error is a failed allocation.
+    pub fn try_clone(&self, alloc: Global) -> Result<Run, AllocError>
+        ensures { IfOk result (λ copy. copy ≡ self.now) }
+    {
+        Ok(Run {
+            chunks: self.chunks.try_clone(alloc)?,
+        })
+    }
+
+    /// Whether these are the same groups, byte by byte.
+    pub fn same_groups(&self, other: &Run) -> bool
+        ensures { IsTrue result ↔ (self.now ≡ other.now) }
+    {
+        if self.len() != other.len() {
+            return false;
+        }
+        for place in 0..self.len() {
+            let (key, states) = self.group(place);
+            let (other_key, other_states) = other.group(place);
+            if key != other_key || states != other_states {
+                return false;
+            }
+        }
+        true
+    }
+
+    /// Adds the groups of another run. Where all its keys are there, this takes no memory. The only error is a failed
+    /// allocation, which leaves the run as it was.
+    pub fn absorb(&mut self, alloc: Global, query: &Query, more: &Run) -> Result<(), AllocError>
+        requires { HasRoomForRun (meaning query.now) self.old more.now }
+        ensures added { OnOk result (AddsRun (meaning query.now) self.old more.now self.new) }
+        ensures refused { OnErr result (self.new ≡ self.old) }
+    {
+        self.chunks.absorb(alloc, query, &more.chunks)
+    }
+}

@@ -1,0 +1,149 @@
+//! Seeking keys in a run.
+
+ghost use Rattle.std.specs.Prelude.{◌≡◌, ◌+◌, ◌^◌, ◌<◌, ◌≤◌, ◌↔◌, IsTrue, length, take, drop};
+ghost use Rattle.group_runs.specs.Runs.{Rises};
+ghost use Rattle.group_runs.specs.Places.{HasKeyAt, IsBetween, IsPlaceOf};
+ghost use Rattle.group_runs.specs.Chunks.{on_end, AreBefore, ComeInto};
+
+use crate::chunks::Chunks;
+
+impl Chunks {
+    /// The place of a key among the groups from one place to another, from where on none is below the key.
+    fn bisect(&self, from: usize, to: usize, key: &[u8]) -> usize
+        requires { IsBetween (on_end self.now) from from to key.now }
+        ensures place { IsPlaceOf (on_end self.now) from key.now result }
+        ensures rises { Rises (on_end self.now) }
+        ensures few { length (on_end self.now) < 2 ^ 64 }
+    {
+        let _count = self.len();
+        let mut low = from;
+        let mut high = to;
+        while low < high {
+            let middle = low + (high - low) / 2;
+            if self.group(middle).0.cmp(key).is_lt() {
+                low = middle + 1;
+            } else {
+                high = middle;
+            }
+        }
+        low
+    }
+
+    /// Two places between which the place of a key lies, of two that it lies between, found by steps that double, so that what is
+    /// near is found soon.
+    fn reach(&self, from: usize, to: usize, key: &[u8]) -> (usize, usize)
+        requires { IsBetween (on_end self.now) from from to key.now }
+        ensures { IsBetween (on_end self.now) from result.0 result.1 key.now }
+    {
+        let _count = self.len();
+        let mut low = from;
+        let mut step: usize = 1;
+        while step <= to - low {
+            let last = low + (step - 1);
+            if !self.group(last).0.cmp(key).is_lt() {
+                return (low, last);
+            }
+            low = last + 1;
+            step = step.saturating_mul(2);
+        }
+        (low, to)
+    }
+
+    /// Two places in one chunk between which the place of a key lies. The last groups of chunks tell, by steps that double and
+    /// then halve.
+    fn narrow(&self, from: usize, key: &[u8]) -> (usize, usize)
+        requires { from ≤ length (on_end self.now) }
+        ensures { IsBetween (on_end self.now) from result.0 result.1 key.now }
+    {
+        let mut low = from;
+        let mut high = self.len();
+        let mut last = self.count();
+        let mut first = if low < high { self.chunk_of(low) } else { last };
+        let mut step: usize = 0;
+        while first < last {
+            let middle = first + step.min((last - first) / 2);
+            let end = self.start(middle + 1);
+            if end <= low {
+                first = middle + 1; // There is nothing left of this chunk.
+                continue;
+            }
+            if end > high {
+                last = middle;
+                continue;
+            }
+            if self.group(end - 1).0.cmp(key).is_lt() {
+                low = end;
+                first = middle + 1;
+                step = step.saturating_mul(2).saturating_add(1);
+            } else {
+                high = end - 1;
+                last = middle;
+            }
+        }
+        (low, high)
+    }
+
+    /// Whether a place is that of a key among the groups from it on, since the group there is not below the key. So keys that
+    /// follow one another as the groups do are found at once.
+    fn is_next(&self, from: usize, key: &[u8]) -> bool
+        requires { from ≤ length (on_end self.now) }
+        ensures { IsTrue result → IsPlaceOf (on_end self.now) from key.now from }
+    {
+        if from >= self.len() {
+            return false;
+        }
+        let (first, _) = self.group(from);
+        if first.cmp(key).is_lt() {
+            return false;
+        }
+        true
+    }
+
+    /// The place of a key among the groups from a place on: that of the first one whose key is not below it.
+    pub(crate) fn seek(&self, from: usize, key: &[u8]) -> usize
+        requires { from ≤ length (on_end self.now) }
+        ensures place { IsPlaceOf (on_end self.now) from key.now result }
+        ensures rises { Rises (on_end self.now) }
+        ensures few { length (on_end self.now) < 2 ^ 64 }
+    {
+        let _count = self.len();
+        if self.is_next(from, key) {
+            return from;
+        }
+        let (first, last) = self.narrow(from, key);
+        let (low, high) = self.reach(first, last, key);
+        self.bisect(low, high, key)
+    }
+
+    /// Whether the group at a place is there and has a key.
+    pub(crate) fn has_at(&self, place: usize, key: &[u8]) -> bool
+        ensures { IsTrue result ↔ HasKeyAt (on_end self.now) place key.now }
+    {
+        place < self.len() && self.group(place).0 == key
+    }
+
+    /// Which chunk the groups of another run from a place on begin to come into, and up to which place they do. None of them comes
+    /// into one of the first chunks, so many of them.
+    pub(crate) fn part(&self, first: usize, more: &Chunks, from: usize) -> (usize, usize)
+        requires there { first < length self.now }
+        requires within { from < length (on_end more.now) }
+        requires above { AreBefore (on_end (take first self.now)) (drop from (on_end more.now)) }
+        ensures { ComeInto self.now first (on_end more.now) from result.0 result.1 }
+    {
+        let (key, _) = more.group(from);
+        let count = self.len();
+        let last = self.count() - 1;
+        let place = self.seek(self.start(first), key);
+        let at = if place < count {
+            self.chunk_of(place)
+        } else {
+            last
+        };
+        let end = self.start(at + 1);
+        if end < count {
+            (at, more.seek(0, self.group(end).0))
+        } else {
+            (at, more.len())
+        }
+    }
+}

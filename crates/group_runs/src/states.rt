@@ -1,0 +1,159 @@
+//! The states of one group.
+
+ghost use Rattle.std.specs.Prelude.{◌≡◌, ◌+◌, ◌<◌, ◌≤◌, ℕ, List, [], map, length, drop, option_map, Some, None, slice_get, if◌then◌else◌, IfOk, OnOk, OnErr};
+ghost use Rattle.grouping_model.specs.Datum.{HasKinds};
+ghost use Rattle.grouping_model.specs.Aggregates.{Partial};
+ghost use Rattle.grouping_model.specs.Combining.{combine_all};
+ghost use Rattle.grouping_model.specs.Condition.{is_met};
+ghost use Rattle.grouping_model.specs.Query.{Aggregate};
+ghost use Rattle.grouping_model.specs.Grouping.{argument, column_of, partials};
+ghost use Rattle.grouping_model.specs.Parts.{functions, advanced};
+ghost use Rattle.packed_rows.specs.View.{datum_of, row_of};
+ghost use Rattle.agg_protocol.specs.States as states;
+ghost use Rattle.agg_protocol.specs.States.{most_rows};
+ghost use Rattle.agg_library.specs.Kinds.{function_of, functions_of, kind_shape};
+ghost use Rattle.agg_library.specs.StateRows.{Denotes};
+ghost use Rattle.having_filter.specs.Kept.{IsWellFormed};
+ghost use Rattle.having_filter.specs.Meaning.{meaning};
+ghost use Rattle.group_runs.specs.Standing.{AreStates};
+ghost use Rattle.group_runs.specs.Adding.{partial_after_row};
+ghost use Rattle.group_runs.specs.Steps.{SomeAreWithin, SomeHaveRoomForRow, SomeAdvanceBy, HaveRoomForRow, AreAdvanced, HaveRoomWithin, AreCombined, HaveRoomForMore, CombineWith};
+
+use agg_library::{AggKind, MOST_COUNTED, StateRow};
+use agg_protocol::BadState;
+use having_filter::Query;
+use packed_rows::Value;
+use std::alloc::{AllocError, Global};
+
+/// What an aggregate takes from a row, or nothing where its FILTER leaves the row out.
+fn reach<'a>(query: &Query, place: usize, row: &[Value<'a>]) -> Option<Value<'a>>
+    requires { place < length (meaning query.now).aggregates }
+    ensures { (a : Aggregate) → slice_get (meaning query.now).aggregates place ≡ Some a →
+        option_map datum_of result ≡ (if is_met (column_of (row_of row.now)) a.filter
+        then Some (argument a.column (row_of row.now)) else None) }
+{
+    if !query.filter_true(place, row) {
+        return None;
+    }
+    let Some(column) = query.column(place) else {
+        return Some(Value::Null);
+    };
+    match row.get(column) {
+        Some(value) => Some(*value),
+        None => Some(Value::Null),
+    }
+}
+
+/// Moves the state of one aggregate on by a row, if it counts at most so many rows then.
+fn advance_one(
+    query: &Query,
+    place: usize,
+    kind: AggKind,
+    part: &mut [u8],
+    row: &[Value<'_>],
+    most: u64,
+) -> Result<(), BadState>
+    requires formed { IsWellFormed (meaning query.now) }
+    requires row { HasKinds (meaning query.now).kinds (row_of row.now) }
+    requires kind { option_map (λ a. a.function) (slice_get (meaning query.now).aggregates place)
+        ≡ Some (function_of kind) }
+    requires most { most ≤ most_rows }
+    ensures moved { OnOk result ((m : ℕ) (p : Partial) (a : Aggregate) →
+        slice_get (meaning query.now).aggregates place ≡ Some a → m < most →
+        states.Denotes m (kind_shape kind) part.old p →
+        states.Denotes (m + 1) (kind_shape kind) part.new
+        (partial_after_row a p (row_of row.now))) }
+    ensures within { OnOk result ((p : Partial) × states.Denotes most (kind_shape kind) part.new p) }
+    ensures refused { OnErr result ((m : ℕ) (p : Partial) → m < most →
+        ¬ states.Denotes m (kind_shape kind) part.old p) }
+{
+    let reach = reach(query, place, row);
+    StateRow::advance(kind, part, reach, most)
+}
+
+/// Moves the states of the aggregates from a place on by a row, if they count at most so many rows then.
+fn advance_from(
+    query: &Query,
+    place: usize,
+    kinds: &[AggKind],
+    states: &mut [u8],
+    row: &[Value<'_>],
+    most: u64,
+) -> Result<(), BadState>
+    requires formed { IsWellFormed (meaning query.now) }
+    requires row { HasKinds (meaning query.now).kinds (row_of row.now) }
+    requires kinds { functions_of kinds.now
+        ≡ map (λ a. a.function) (drop place (meaning query.now).aggregates) }
+    requires most { most ≤ most_rows }
+    ensures moved { OnOk result (SomeAdvanceBy (drop place (meaning query.now).aggregates) kinds.now most
+        states.old (row_of row.now) states.new) }
+    ensures within { OnOk result (SomeAreWithin kinds.now most states.new) }
+    ensures refused { OnErr result (¬ SomeHaveRoomForRow kinds.now most states.old) }
+{
+    let Some((kind, kinds)) = kinds.split_first() else {
+        return if states.is_empty() {
+            Ok(())
+        } else {
+            Err(BadState)
+        };
+    };
+    if states.len() < kind.width() {
+        return Err(BadState);
+    }
+    let (part, rest) = states.split_at_mut(kind.width());
+    advance_one(query, place, *kind, part, row, most)?;
+    advance_from(query, place + 1, kinds, rest, row, most)
+}
+
+/// Moves the states of a group on by a row. They are refused if they are none of the query, or would count more than `most` rows
+/// then; what is left of them doesn't matter.
+pub fn advance_slice(
+    query: &Query,
+    states: &mut [u8],
+    row: &[Value<'_>],
+    most: u64,
+) -> Result<(), BadState>
+    requires formed { IsWellFormed (meaning query.now) }
+    requires row { HasKinds (meaning query.now).kinds (row_of row.now) }
+    requires most { most ≤ most_rows }
+    ensures advanced { OnOk result (AreAdvanced (meaning query.now) most states.old (row_of row.now) states.new) }
+    ensures refused { OnErr result (¬ HaveRoomForRow (functions (meaning query.now)) most states.old) }
+{
+    advance_from(query, 0, query.agg_kinds(), states, row, most)
+}
+
+/// The bytes of a group's states before any row. The only error is a failed allocation.
+pub fn first_states(alloc: Global, query: &Query) -> Result<Vec<u8>, AllocError>
+    ensures { IfOk result (λ states. AreStates (functions (meaning query.now)) 0 states.items
+        (partials (meaning query.now) [])) }
+{
+    let kinds = query.agg_kinds();
+    let mut states = vec![in alloc; 0; StateRow::width(kinds)]?;
+    StateRow::init_into(kinds, states.as_mut_slice());
+    Ok(states)
+}
+
+/// Combines the states of a group with others of its key, which come behind, if they count at most so many rows then.
+pub fn combine_within(
+    query: &Query,
+    states: &mut [u8],
+    more: &[u8],
+    most: u64,
+) -> Result<(), BadState>
+    requires most { most ≤ most_rows }
+    ensures combined { OnOk result (AreCombined (functions (meaning query.now)) most states.old more.now states.new) }
+    ensures refused { OnErr result (¬ HaveRoomWithin (functions (meaning query.now)) most states.old more.now) }
+{
+    StateRow::combine_into(query.agg_kinds(), states, more, most)
+}
+
+/// Combines the states of a group with others of its key, which come behind.
+pub(crate) fn combine_slice(query: &Query, states: &mut [u8], more: &[u8])
+    requires { HaveRoomForMore (functions (meaning query.now)) states.old more.now }
+    ensures { CombineWith (functions (meaning query.now)) states.old more.now states.new }
+{
+    match combine_within(query, states, more, MOST_COUNTED) {
+        Ok(()) => {}
+        Err(BadState) => unreachable!(),
+    }
+}
