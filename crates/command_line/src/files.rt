@@ -1,7 +1,7 @@
 //! Reading and writing whole files.
 
 use crate::problem::Problem;
-use grouping_model::limits::LONGEST_SCRIPT;
+use grouping_model::limits::LONGEST_INPUT;
 use script_io::read_input;
 use script_machine::{Refusal, RunError};
 use std::fs::{File, OpenFile};
@@ -21,7 +21,7 @@ pub(crate) fn read_file<'p, R: Files + AllocGlobal>(
         Ok(file) => file,
         Err(cause) => return Err(Problem::failed(path, RunError::ReadFault, cause)),
     };
-    match read_input(rt.alloc(), &mut file, LONGEST_SCRIPT) {
+    match read_input(rt.alloc(), &mut file, LONGEST_INPUT) {
         Ok(bytes) => Ok(bytes),
         Err(error) => {
             let why = Refusal::from(RunError::from(error));

@@ -7,17 +7,13 @@ use Rattle.grouping_model.specs.Replies.{reply_of}
 use Rattle.grouping_model.specs.declared.delivered.Delivered.{Delivered}
 use Rattle.grouping_model.specs.declared.limits.TheConstants.{MOST_ROWS}
 use Rattle.packed_rows.specs.Columns.{Column, kinds, IsSchemaText}
-use Rattle.having_filter.specs.Meaning.{Checked, meaning}
-use Rattle.aggregation_cost.specs.Space.{Setting}
-use Rattle.hash_agg.specs.Counting.{AreCounted}
-use Rattle.hash_agg.specs.declared.work.Work.{Work}
-use Rattle.origin_prefix.specs.Parts.{aggregations_on}
+use Rattle.query_checks.specs.Checks.{Checked}
 use Rattle.group_parser.specs.Parsing.{Accepts}
 use Rattle.batch_reader.specs.File.{BatchFile}
 use Rattle.batch_reader.specs.Head.{ReadsOrigin, ReadsBatchNumber}
 use Rattle.batch_reader.specs.Rows.{ReadsRows, ArePackedRows, packings}
 use Rattle.batch_reader.proofs.RecordLaws.{built_rows}
-use Rattle.replica_merge.specs.Replicas.{Held, part_of, told, Fits, SameQuery, DisagreeSomewhere}
+use Rattle.replica_merge.specs.Replicas.{Held, told, Fits, SameQuery, DisagreeSomewhere}
 use Rattle.packed_rows.specs.Refusal.{ParseFault}
 use Rattle.packed_rows.specs.declared.error.RowError.{RowError}
 use Rattle.packed_rows.specs.declared.error.RowError.TheVariants as row
@@ -25,13 +21,13 @@ use Rattle.spill_lists.specs.declared.error.SpillError.TheVariants as spill
 use Rattle.origin_prefix.specs.declared.error.JoinError.TheVariants as join
 use Rattle.replica_merge.specs.declared.error.MergeError.{MergeError}
 use Rattle.replica_merge.specs.declared.error.MergeError.TheVariants as merge
-use Rattle.script_machine.specs.Refusals.{origin_disagrees, row_refusal, merge_refusal}
+use Rattle.script_machine.specs.Refusals.{origin_disagrees, columns_refusal, merge_refusal}
 use Rattle.script_machine.specs.Machine.{IsBatch}
 use Rattle.script_machine.specs.declared.refusal.Refusal.{Refusal}
 use Rattle.script_machine.specs.declared.refusal.Refusal.TheVariants as refuse
 use Rattle.script_machine.proofs.FeedLaws.{built_batch}
 use Rattle.script_machine.proofs.QueryLaws.{read_over}
-use Rattle.file_commands.specs.Commands.{IsNew, IsNotNew, IsApart, TakesFile, IsOtherFile, FeedIsCounted}
+use Rattle.file_commands.specs.Commands.{IsNew, IsNotNew, IsApart, TakesFile, IsOtherFile, OfBatchFile}
 
 -- a replica is not merged, by why it is not
 pub apart : (old other : Held) (e : MergeError) → (e ≡ merge.DifferentQuery → ¬ (SameQuery old.query other.query))
@@ -102,23 +98,14 @@ takes_file honest (Some read) old new delivered origin number packed found repli
       asked = asked;
     }
 
--- what delivering it takes was counted of the file
-pub file_counted : (setting : Setting) (file : Option BatchFile) (held : Held) (origin number : ℕ) (packed : List (List ℕ)) (old : Work) (writes : ℕ) (new : Work) (written : ℕ)
+-- what holds of the batch that was read holds of the file
+pub of_batch_file : (file : Option BatchFile) (held : Held) (holds : ℕ → ℕ → List (List ℕ) → Type 0) (origin number : ℕ) (packed : List (List ℕ))
     → IsSomeAnd file (λ read. ReadsOrigin read.head.origin origin) → IsSomeAnd file (λ read. ReadsBatchNumber read.head.number number)
     → IsSomeAnd file (λ read. (rows : List Row) × ReadsRows (kinds held.query.columns) read.records rows × (packed ≡ packings rows))
-    → AreCounted (meaning held.query) setting (aggregations_on (part_of held.parts origin) number packed) old writes new written
-    → FeedIsCounted setting file held old writes new written
-file_counted setting None held origin number packed old writes new written from numbered rows counted = absurd from
-file_counted setting (Some read) held origin number packed old writes new written from numbered rows counted =
-    record {
-      origin = origin;
-      number = number;
-      rows = rows.0;
-      from = from;
-      numbered = numbered;
-      read_are = rows.1;
-      counted = subst (λ those. AreCounted (meaning held.query) setting (aggregations_on (part_of held.parts origin) number those) old writes new written) rows.2 counted;
-    }
+    → holds origin number packed → OfBatchFile held file holds
+of_batch_file None held holds origin number packed from numbered rows so = absurd from
+of_batch_file (Some read) held holds origin number packed from numbered rows so =
+    record { origin = origin; number = number; rows = rows.0; from = from; numbered = numbered; read_are = rows.1; is_so = subst (holds origin number) rows.2 so }
 
 -- one that disagrees with it disagrees with the file
 pub other_file : (file : Option BatchFile) (held : Held) (origin number : ℕ) (packed : List (List ℕ))
@@ -133,7 +120,7 @@ other_file (Some read) held origin number packed found never =
     }
 
 -- a text tells no columns, by the refusal
-pub no_columns : (text query : List ℕ) (e : RowError) → ParseFault text e → row_refusal e ≢ refuse.NoMemory → IsNotNew text query (row_refusal e)
+pub no_columns : (text query : List ℕ) (e : RowError) → ParseFault text e → columns_refusal e ≢ refuse.NoMemory → IsNotNew text query (columns_refusal e)
 no_columns text query row.NoMemory fault other = absurd (other refl)
 no_columns text query row.BadSchema fault other = fault
 no_columns text query (row.BadField column) fault other = absurd fault

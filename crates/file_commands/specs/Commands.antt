@@ -5,14 +5,15 @@ use Rattle.grouping_model.specs.Aggregates.{Outcome}
 use Rattle.grouping_model.specs.Datum.{Kind, Row}
 use Rattle.grouping_model.specs.World.{World, IsWorld, union}
 use Rattle.grouping_model.specs.declared.delivered.Delivered.{Delivered}
-use Rattle.grouping_model.specs.declared.limits.TheConstants.{LONGEST_SCRIPT}
+use Rattle.grouping_model.specs.declared.limits.TheConstants.{LONGEST_INPUT}
 use Rattle.packed_rows.specs.Columns.{Column, kinds, IsSchemaText}
 use Rattle.having_filter.specs.Kept.{headers}
-use Rattle.having_filter.specs.Meaning.{Checked, meaning}
+use Rattle.query_checks.specs.Checks.{Checked}
+use Rattle.having_filter.specs.Meaning.{meaning}
 use Rattle.aggregation_cost.specs.Space.{Setting}
 use Rattle.hash_agg.specs.Counting.{AreCounted}
 use Rattle.hash_agg.specs.declared.work.Work.{Work}
-use Rattle.origin_prefix.specs.Parts.{aggregations_on}
+use Rattle.origin_prefix.specs.Parts.{Disagrees, aggregations_on}
 use Rattle.group_parser.specs.Parsing.{Accepts}
 use Rattle.batch_reader.specs.File.{BatchFile}
 use Rattle.batch_reader.specs.Head.{ReadsOrigin, ReadsBatchNumber}
@@ -49,18 +50,30 @@ IsNotNew columns query why = (found : List Column) × IsSchemaText columns found
 abbrev pub TakesFile : (honest : Bool) → Option BatchFile → (old new : Held) → Delivered → Type 0
 TakesFile honest file old new delivered = IsSomeAnd file (λ read. Takes honest read.head.origin read.head.number read.head.told read.records old new delivered)
 
--- what feeding a batch file takes was counted: the aggregation of its batch and of the early ones that follow it
-pub record BatchIsCounted (setting : Setting) (read : BatchFile) (held : Held) (old : Work) (writes : ℕ) (new : Work) (written : ℕ) : Type 0 where
+-- something holds of the origin, the number and the packed rows of a batch file's batch
+pub record OfBatch (kinds : List Kind) (read : BatchFile) (holds : ℕ → ℕ → List (List ℕ) → Type 0) : Type 0 where
   pub origin : ℕ
   pub number : ℕ
   pub rows : List Row
   pub from : ReadsOrigin read.head.origin origin
   pub numbered : ReadsBatchNumber read.head.number number
-  pub read_are : ReadsRows (kinds held.query.columns) read.records rows
-  pub counted : AreCounted (meaning held.query) setting (aggregations_on (part_of held.parts origin) number (packings rows)) old writes new written
+  pub read_are : ReadsRows kinds read.records rows
+  pub is_so : holds origin number (packings rows)
 
+abbrev pub OfBatchFile : Held → Option BatchFile → (ℕ → ℕ → List (List ℕ) → Type 0) → Type 0
+OfBatchFile held file holds = IsSomeAnd file (λ read. OfBatch (kinds held.query.columns) read holds)
+
+-- what feeding a batch file takes was counted: the aggregation of its batch and of the early ones that follow it
 abbrev pub FeedIsCounted : Setting → Option BatchFile → Held → Work → ℕ → Work → ℕ → Type 0
-FeedIsCounted setting file held old writes new written = IsSomeAnd file (λ read. BatchIsCounted setting read held old writes new written)
+FeedIsCounted setting file held old writes new written =
+    OfBatchFile held file (λ origin number packed. AreCounted (meaning held.query) setting (aggregations_on (part_of held.parts origin) number packed) old writes new written)
+
+-- the batch of a file and the early one of its number have different rows; they have not
+abbrev pub FileDisagrees : Option BatchFile → Held → Type 0
+FileDisagrees file held = OfBatchFile held file (λ origin number packed. Disagrees (part_of held.parts origin) number packed)
+
+abbrev pub FileAgrees : Option BatchFile → Held → Type 0
+FileAgrees file held = OfBatchFile held file (λ origin number packed. ¬ (Disagrees (part_of held.parts origin) number packed))
 
 -- why a file is no batch file of these columns: its head is bad, or else it is refused as a feed is
 abbrev pub IsNoBatchFile : List Kind → Option BatchFile → Refusal → Type 0
@@ -110,7 +123,7 @@ IsNotMerged file old why = IsNoSummary file why ⊎ ((other : Held) × IsSummary
 -- why a replica is not saved, unless memory ran out: its file would be longer than what is read
 abbrev pub IsTooLong : Held → Refusal → Type 0
 IsTooLong held NoMemory = Unit {0}
-IsTooLong held (Run InputTooLong) = (file : List ℕ) × IsSummary file held.query held.parts × (LONGEST_SCRIPT < length file)
+IsTooLong held (Run InputTooLong) = (file : List ℕ) × IsSummary file held.query held.parts × (LONGEST_INPUT < length file)
 IsTooLong held why = ⊥
 
 -- the text of an answer in a format

@@ -8,7 +8,7 @@ ghost use Rattle.hash_agg.specs.Counting.{setting_by};
 ghost use Rattle.script_machine.specs.Refusals.{origin_disagrees, tape_fault, tape_damaged};
 ghost use Rattle.script_machine.specs.Views.{IsOfBatch};
 ghost use Rattle.spill_lists.specs.Standing.{Moves};
-ghost use Rattle.file_commands.specs.Commands.{TakesFile, FeedIsCounted, IsNoBatchFile, IsOtherFile};
+ghost use Rattle.file_commands.specs.Commands.{TakesFile, FeedIsCounted, FileAgrees, FileDisagrees, IsNoBatchFile, IsOtherFile};
 
 use batch_reader::read_batch;
 use hash_agg::{KeyHash, Means, TapeDisk, Work};
@@ -38,6 +38,10 @@ pub fn feed<H: KeyHash + Copy, D: TapeDisk>(
     ensures uncounted { OnErr result (work.new ≡ work.old) }
     ensures why { IfErr result (λ why. IsOfBatch why →
         IsNoBatchFile (kinds replica.old.query.columns) (read_file file.now) why) }
+    // Disagreement is told wherever there is one.
+    ensures agreed { OnOk result (FileAgrees (read_file file.now) replica.old) }
+    ensures disagree { IfErr result (λ why. why ≡ origin_disagrees →
+        FileDisagrees (read_file file.now) replica.old) }
     ensures other { IfErr result (λ why. why ≡ origin_disagrees →
         IsOtherFile (read_file file.now) replica.old) }
     ensures fault { IfErr result (λ why. why ≡ tape_fault → D.failures disk.old < D.failures disk.new) }

@@ -2,7 +2,7 @@
 
 ghost use Rattle.std.specs.Prelude.{◌≡◌, ◌≢◌, ◌≤◌, IfOk, IfErr, length};
 ghost use Rattle.grouping_model.specs.World.{World};
-ghost use Rattle.grouping_model.specs.declared.limits.TheConstants.{LONGEST_SCRIPT};
+ghost use Rattle.grouping_model.specs.declared.limits.TheConstants.{LONGEST_INPUT};
 ghost use Rattle.summary_codec.specs.Reading.{IsSummary};
 ghost use Rattle.summary_codec.specs.WorldFile.{world_file};
 ghost use Rattle.replica_merge.specs.Replicas.{Held, told, Fits};
@@ -10,7 +10,7 @@ ghost use Rattle.script_machine.specs.declared.refusal.Refusal.TheVariants.{NoMe
 ghost use Rattle.file_commands.specs.Commands.{IsNew, IsNotNew, IsNoSummary, IsTooLong};
 
 use group_parser::parse;
-use grouping_model::limits::LONGEST_SCRIPT;
+use grouping_model::limits::LONGEST_INPUT;
 use packed_rows::Schema;
 use replica_merge::Replica;
 use script_machine::{Refusal, RunError};
@@ -49,14 +49,14 @@ pub fn load(alloc: Global, file: &[u8]) -> Result<Replica, Refusal>
 pub fn save(replica: &Replica) -> Result<Vec<u8>, Refusal>
     ensures file { IfOk result (λ bytes.
         IsSummary bytes.items replica.now.query replica.now.parts) }
-    ensures short { IfOk result (λ bytes. length bytes.items ≤ LONGEST_SCRIPT) }
+    ensures short { IfOk result (λ bytes. length bytes.items ≤ LONGEST_INPUT) }
     // So replicas that tell the same batches of a world are saved as equal bytes.
     ensures world { IfOk result (λ bytes. (world : World) → Fits world replica.now →
         bytes.items ≡ world_file replica.now.query world (told replica.now.parts)) }
     ensures why { IfErr result (IsTooLong replica.now) }
 {
     let file = replica.save()?;
-    if file.len() > LONGEST_SCRIPT {
+    if file.len() > LONGEST_INPUT {
         return Err(Refusal::Run(RunError::InputTooLong));
     }
     Ok(file)

@@ -20,9 +20,10 @@ use Rattle.grouping_model.specs.World.{World, origin_rows, known_rows}
 use Rattle.grouping_model.specs.Answer.{answer}
 use Rattle.grouping_model.proofs.GroupLaws.{answer_of_part}
 use Rattle.agg_protocol.specs.States.{most_rows}
-use Rattle.having_filter.specs.Meaning.{Checked, meaning}
-use Rattle.hash_agg.specs.Runs.{Entry}
-use Rattle.hash_agg.specs.Standing.{AreGroups, IsRun}
+use Rattle.query_checks.specs.Checks.{Checked}
+use Rattle.having_filter.specs.Meaning.{meaning}
+use Rattle.group_runs.specs.Runs.{Entry}
+use Rattle.group_runs.specs.Standing.{AreGroups, IsRun}
 use Rattle.hash_agg.specs.declared.input.Input.{Input}
 use Rattle.hash_agg.specs.declared.work.Work.{Work}
 use Rattle.aggregation_cost.specs.Space.{Setting}
@@ -34,7 +35,7 @@ use Rattle.origin_prefix.proofs.ByNumber.{numbers, above_first, rising_rest}
 use Rattle.replica_merge.specs.Counting.{aggregations_asked}
 use Rattle.replica_merge.specs.Groups.{answer_rows, shown_of_none, groups_shown}
 use Rattle.replica_merge.specs.Replicas.{Parts, part_at, part_of, told, Held, Fits, IsHeldPart, AreHeldParts, counted_part}
-use Rattle.replica_merge.proofs.ShownLaws.{drop_at}
+use Rattle.group_runs.proofs.PlaceLaws.{drop_at}
 use Rattle.replica_merge.proofs.ToldLaws.{HasGap, part_gap, prefix_told, origins_told, each_at, part_here}
 
 -- ---- inputs

@@ -21,7 +21,8 @@ use Rattle.grouping_model.proofs.KnowledgeLaws.{same_knowledge, knows_learn}
 use Rattle.packed_rows.specs.Columns.{kinds}
 use Rattle.batch_reader.specs.Rows.{packings}
 use Rattle.batch_reader.specs.declared.batch.Batch.{Batch}
-use Rattle.having_filter.specs.Meaning.{Checked, meaning}
+use Rattle.query_checks.specs.Checks.{Checked}
+use Rattle.having_filter.specs.Meaning.{meaning}
 use Rattle.origin_prefix.specs.Parts.{Part, empty, rows_at, knows_number, IsEarly, IsPartOf, Delivers, Disagrees}
 use Rattle.origin_prefix.specs.declared.error.JoinError.TheVariants.{OriginDisagrees}
 use Rattle.origin_prefix.specs.declared.error.RefusedBatch.{RefusedBatch}

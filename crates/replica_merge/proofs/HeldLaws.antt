@@ -7,7 +7,7 @@ use Rattle.grouping_model.specs.declared.limits.TheConstants.{LAST_NUMBER}
 use Rattle.grouping_model.specs.Replies.{InLimits}
 use Rattle.grouping_model.specs.World.{knows, prefix}
 use Rattle.packed_rows.specs.Columns.{kinds}
-use Rattle.having_filter.specs.Meaning.{Checked}
+use Rattle.query_checks.specs.Checks.{Checked}
 use Rattle.origin_prefix.specs.Parts.{Part, empty, rows_at, knows_number, IsEarly, IsPartOf}
 use Rattle.origin_prefix.specs.Fitting.{tells}
 use Rattle.origin_prefix.proofs.ByNumber.{found_holds, none_found}

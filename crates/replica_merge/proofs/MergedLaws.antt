@@ -9,7 +9,8 @@ use Rattle.std.specs.Ordering.{eq_by_cmp, nat_cmp}
 use Rattle.grouping_model.specs.World.{World, IsWorld, union}
 use Rattle.grouping_model.proofs.KnowledgeLaws.{same_knowledge, knows_union}
 use Rattle.packed_rows.specs.Columns.{kinds}
-use Rattle.having_filter.specs.Meaning.{Checked, meaning}
+use Rattle.query_checks.specs.Checks.{Checked}
+use Rattle.having_filter.specs.Meaning.{meaning}
 use Rattle.origin_prefix.specs.Parts.{Part, empty, is_nothing, IsPartOf}
 use Rattle.origin_prefix.specs.Joins.{either, Joins, PartsDisagree}
 use Rattle.origin_prefix.specs.Fitting.{tells, FitsOrigin}

@@ -5,7 +5,8 @@ use Rattle.grouping_model.specs.World.{World, origins, prefix, early, batch_rows
 use Rattle.grouping_model.specs.Grouping.{part}
 use Rattle.grouping_model.specs.declared.limits.TheConstants.{MOST_ROWS}
 use Rattle.batch_reader.specs.Rows.{packings}
-use Rattle.having_filter.specs.Meaning.{Checked, meaning}
+use Rattle.query_checks.specs.Checks.{Checked}
+use Rattle.having_filter.specs.Meaning.{meaning}
 use Rattle.hash_agg.specs.Bytes.{run_bytes}
 use Rattle.hash_agg.proofs.BytesLaws.{stands_spelled}
 use Rattle.origin_prefix.specs.Parts.{Part}

@@ -17,10 +17,10 @@ use Rattle.agg_library.specs.declared.kind.AggKind.{AggKind}
 use Rattle.agg_library.specs.Kinds.{kind_shape, kind_width}
 use Rattle.agg_library.specs.StateRows.{Denotes}
 use Rattle.having_filter.specs.Kept.{key_kinds}
-use Rattle.hash_agg.specs.Runs.{Entry}
-use Rattle.hash_agg.specs.Standing.{AreStates, StandsFor, AreGroups}
-use Rattle.hash_agg.proofs.StateLaws.{first_and_rest, dropped}
-use Rattle.hash_agg.proofs.InputLaws.{packed_once}
+use Rattle.group_runs.specs.Runs.{Entry}
+use Rattle.group_runs.specs.Standing.{AreStates, StandsFor, AreGroups}
+use Rattle.group_runs.proofs.StateLaws.{first_and_rest, dropped}
+use Rattle.group_runs.proofs.RunLaws.{packed_once}
 use Rattle.replica_merge.specs.Groups.{answer_rows, groups_shown}
 
 -- ---- the states of a group
@@ -133,9 +133,3 @@ empty_stands q bytes none states =
       of_kinds = subst (λ keys. HasKinds (map (λ place. slice_index_or q.kinds place Bigint_kind) keys) []) (sym none) tt;
       states = states;
     }
-
--- a list from a place on, with the member there
-pub drop_at : {X : Type 0} (xs : List X) (n : ℕ) (x : X) → slice_get xs n ≡ Some x → drop n xs ≡ x ∷ drop (n + 1) xs
-drop_at [] n x e = absurd cc
-drop_at (y ∷ xs) zero x e = let same : y ≡ x = cc in ap (λ y. y ∷ xs) same
-drop_at (y ∷ xs) (suc n) x e = drop_at xs n x e ∙ ap (λ k. x ∷ drop k xs) (add-one n) ∙ ap (λ k. x ∷ drop k (y ∷ xs)) (sym (add-one (suc n)))

@@ -20,7 +20,7 @@ use Rattle.grouping_model.proofs.KnowledgeLaws.{knows_knowing}
 use Rattle.grouping_model.proofs.EarlyLaws.{early_are, early_rise, origins_are, origins_rise}
 use Rattle.grouping_model.proofs.LearningLaws.{prefix_is}
 use Rattle.packed_rows.specs.Columns.{kinds}
-use Rattle.having_filter.specs.Meaning.{Checked}
+use Rattle.query_checks.specs.Checks.{Checked}
 use Rattle.std.specs.Map.{lookup}
 use Rattle.origin_prefix.specs.Parts.{Part, empty, rows_at, IsEarly, IsPartOf}
 use Rattle.origin_prefix.specs.Fitting.{tells}

@@ -2,7 +2,7 @@
 use mathlib.Core.Path.{refl}
 use base.Stored.{Coded}
 use Rattle.std.specs.Coded.{code_by, coded×, coded_list, coded_ℕ}
-use Rattle.having_filter.specs.Meaning.{Checked}
+use Rattle.query_checks.specs.Checks.{Checked}
 use Rattle.having_filter.specs.Coding.{coded_checked}
 use Rattle.origin_prefix.specs.Coding.{coded_part}
 use Rattle.replica_merge.specs.Replicas.{Parts, Held}

@@ -10,8 +10,9 @@ use Rattle.grouping_model.specs.Replies.{KnownOrigin}
 use Rattle.grouping_model.specs.World.{World, Batch, Knowledge, knowing, count_up}
 use Rattle.packed_rows.specs.Columns.{printed}
 use Rattle.having_filter.specs.Kept.{by_names}
-use Rattle.having_filter.specs.Meaning.{Checked, meaning}
-use Rattle.having_filter.specs.Spelling.{spelling}
+use Rattle.query_checks.specs.Checks.{Checked}
+use Rattle.having_filter.specs.Meaning.{meaning}
+use Rattle.query_checks.specs.Spelling.{spelling}
 use Rattle.batch_reader.specs.declared.batch.Batch as packed
 use Rattle.origin_prefix.specs.Parts.{Part, empty, knows_number, is_nothing, IsPartOf, Delivers, Disagrees}
 use Rattle.origin_prefix.specs.declared.error.JoinError.TheVariants.{OriginDisagrees}

@@ -1,7 +1,7 @@
 //! Laws of merging.
 
 ghost use Rattle.std.specs.Prelude.{◌≡◌, Bool};
-ghost use Rattle.having_filter.specs.Meaning.{Checked};
+ghost use Rattle.query_checks.specs.Checks.{Checked};
 ghost use Rattle.replica_merge.specs.Replicas.{Parts, told, AreHeldParts, Merges};
 
 /// In what is told, merging depends neither on which replica takes the other, nor on how several are grouped, and once more

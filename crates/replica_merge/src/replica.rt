@@ -13,7 +13,7 @@ ghost use Rattle.packed_rows.specs.Columns.{kinds};
 ghost use Rattle.batch_reader.specs.Rows.{ArePackedRows, packings};
 ghost use Rattle.having_filter.specs.Meaning.{meaning};
 ghost use Rattle.hash_agg.specs.Inputs.{Counted, brought, all_rows, IsInput, IsAggregate, IsRunOver};
-ghost use Rattle.hash_agg.specs.Standing.{IsRun};
+ghost use Rattle.group_runs.specs.Standing.{IsRun};
 ghost use Rattle.hash_agg.specs.Counting.{IsCounted, AreCounted, setting_by};
 ghost use Rattle.origin_prefix.specs.Parts.{IsPartOf, Disagrees, aggregations_on};
 ghost use Rattle.origin_prefix.specs.Errors.{IsErrorOver};

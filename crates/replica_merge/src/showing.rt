@@ -13,86 +13,107 @@ ghost use Rattle.agg_library.specs.StateRows.{Denotes};
 ghost use Rattle.having_filter.specs.Kept.{key_kinds};
 ghost use Rattle.having_filter.specs.Meaning.{meaning};
 ghost use Rattle.having_filter.specs.Plans.{source_of};
-ghost use Rattle.hash_agg.specs.Standing.{StandsFor, AreGroups};
+ghost use Rattle.group_runs.specs.Standing.{StandsFor, AreGroups};
 ghost use Rattle.replica_merge.specs.Groups.{answer_rows, groups_shown};
 
 use agg_library::{AggKind, StateRow};
 use agg_protocol::ResultValue;
 use hash_agg::{Run, first_states};
 use having_filter::{Answer, Query, Source};
-use packed_rows::{RowError, Value, unpack_key};
+use packed_rows::{RowError, Value, unpack_into};
 use std::alloc::{AllocError, Global};
 
-/// The values of a key, as an answer has them.
-fn key_values<'a>(alloc: Global, key: &[Value<'a>]) -> Result<Vec<ResultValue<'a>>, AllocError>
-    ensures { IfOk result (λ values. map outcome_of values.items ≡ map Plain (row_of key.now)) }
+/// What serves for one group after the other, so that none takes memory of its own.
+#[derive(Drop)]
+struct Scratch<'r> {
+    values: Vec<Value<'r>>,
+    key: Vec<ResultValue<'r>>,
+    results: Vec<ResultValue<'static>>,
+    items: Vec<ResultValue<'r>>,
+}
+
+impl<'r> Scratch<'r> {
+    /// With no group yet.
+    fn new(alloc: Global) -> Scratch<'r> {
+        Scratch {
+            values: Vec::new(alloc),
+            key: Vec::new(alloc),
+            results: Vec::new(alloc),
+            items: Vec::new(alloc),
+        }
+    }
+}
+
+/// The values of a key, as an answer has them, in the place of what `values` held.
+fn key_values<'r>(key: &[Value<'r>], values: &mut Vec<ResultValue<'r>>) -> Result<(), AllocError>
+    ensures { OnOk result (map outcome_of values.new.items ≡ map Plain (row_of key.now)) }
 {
-    let mut values = Vec::with_capacity(alloc, key.len())?;
+    values.clear();
     for value in key {
         values.push(ResultValue::from(*value))?;
     }
-    Ok(values)
+    Ok(())
 }
 
-/// The values of a packed key.
-fn unpack<'a>(alloc: Global, query: &Query, packed: &'a [u8]) -> Result<Vec<Value<'a>>, AllocError>
+/// The values of a packed key, in the place of what `key` held.
+fn unpack<'r>(query: &Query, packed: &'r [u8], key: &mut Vec<Value<'r>>) -> Result<(), AllocError>
     requires { (key : Row) × HasKinds (key_kinds (meaning query.now)) key
         × (packed.now ≡ packing key) }
-    ensures { IfOk result (λ key. HasKinds (key_kinds (meaning query.now)) (row_of key.items)
-        × (packed.now ≡ packing (row_of key.items))) }
+    ensures { OnOk result (HasKinds (key_kinds (meaning query.now)) (row_of key.new.items)
+        × (packed.now ≡ packing (row_of key.new.items))) }
 {
-    match unpack_key(alloc, query.key_kinds(), packed) {
-        Ok(key) => Ok(key),
+    match unpack_into(query.key_kinds(), packed, key) {
+        Ok(()) => Ok(()),
         Err(RowError::NoMemory) => Err(AllocError),
         Err(_) => unreachable!(),
     }
 }
 
-/// The results of a group's states.
+/// The results of a group's states, in the place of what `values` held.
 fn finish_states(
-    alloc: Global,
     kinds: &[AggKind],
     states: &[u8],
-) -> Result<Vec<ResultValue<'static>>, AllocError>
+    values: &mut Vec<ResultValue<'static>>,
+) -> Result<(), AllocError>
     requires { (most : ℕ) × (ps : List Partial) × Denotes most kinds.now states.now ps
         × (most ≤ most_rows) }
-    ensures { IfOk result (λ values. (most : ℕ) (ps : List Partial) → most ≤ most_rows →
-        Denotes most kinds.now states.now ps → map outcome_of values.items ≡ map outcome ps) }
+    ensures { OnOk result ((most : ℕ) (ps : List Partial) → most ≤ most_rows →
+        Denotes most kinds.now states.now ps → map outcome_of values.new.items ≡ map outcome ps) }
 {
-    let mut values = Vec::with_capacity(alloc, kinds.len())?;
+    values.clear();
     let mut rest = states;
     for kind in kinds {
         let (part, after) = rest.split_at(kind.width());
         values.push(StateRow::finish(*kind, part))?;
         rest = after;
     }
-    Ok(values)
+    Ok(())
 }
 
-/// The items of a group.
-fn items_of<'a>(
-    alloc: Global,
+/// The items of a group, in the place of what `items` held.
+fn items_of<'r>(
     sources: &[Source],
-    key: &[ResultValue<'a>],
-    results: &[ResultValue<'a>],
-) -> Result<Vec<ResultValue<'a>>, AllocError>
-    ensures { IfOk result (λ items. map outcome_of items.items ≡
+    key: &[ResultValue<'r>],
+    results: &[ResultValue<'r>],
+    items: &mut Vec<ResultValue<'r>>,
+) -> Result<(), AllocError>
+    ensures { OnOk result (map outcome_of items.new.items ≡
         map (outcome_at (map outcome_of key.now) (map outcome_of results.now))
         (map source_of sources.now)) }
 {
-    let mut items = Vec::with_capacity(alloc, sources.len())?;
+    items.clear();
     for source in sources {
         items.push(source.value(key, results))?;
     }
-    Ok(items)
+    Ok(())
 }
 
-/// Adds the row that a group gives to an answer, if HAVING is true of the group.
-fn push_group(
-    alloc: Global,
+/// Adds the row that a group gives to an answer, if HAVING is true of the group. What `scratch` holds doesn't matter.
+fn push_group<'r>(
     query: &Query,
-    key: &[u8],
+    key: &'r [u8],
     states: &[u8],
+    scratch: &mut Scratch<'r>,
     answer: &mut Answer,
 ) -> Result<(), AllocError>
     requires { (most : ℕ) × (group : Group)
@@ -101,14 +122,19 @@ fn push_group(
         StandsFor (meaning query.now) most (key.now, states.now) group →
         answer.new ≡ answer.old ++ answer_rows (meaning query.now) group) }
 {
-    let values = unpack(alloc, query, key)?;
-    let key = key_values(alloc, &values)?;
-    let results = finish_states(alloc, query.agg_kinds(), states)?;
-    if !query.having_true(&key, &results) {
+    unpack(query, key, &mut scratch.values)?;
+    key_values(&scratch.values, &mut scratch.key)?;
+    finish_states(query.agg_kinds(), states, &mut scratch.results)?;
+    if !query.having_true(&scratch.key, &scratch.results) {
         return Ok(());
     }
-    let items = items_of(alloc, query.sources(), &key, &results)?;
-    answer.push(&items)
+    items_of(
+        query.sources(),
+        &scratch.key,
+        &scratch.results,
+        &mut scratch.items,
+    )?;
+    answer.push(&scratch.items)
 }
 
 /// The answer of no groups. Without GROUP BY there is one all the same, that of no rows.
@@ -121,7 +147,7 @@ pub(crate) fn show_none(alloc: Global, query: &Query) -> Result<Answer, AllocErr
         return Ok(answer);
     }
     let states = first_states(alloc, query)?;
-    push_group(alloc, query, &[], &states, &mut answer)?;
+    push_group(query, &[], &states, &mut Scratch::new(alloc), &mut answer)?;
     Ok(answer)
 }
 
@@ -138,9 +164,10 @@ pub(crate) fn show(alloc: Global, query: &Query, run: &Run) -> Result<Answer, Al
         return show_none(alloc, query);
     }
     let mut answer = Answer::new(alloc);
+    let mut scratch = Scratch::new(alloc);
     for place in 0..run.len() {
         let (key, states) = run.group(place);
-        push_group(alloc, query, key, states, &mut answer)?;
+        push_group(query, key, states, &mut scratch, &mut answer)?;
     }
     Ok(answer)
 }

@@ -18,7 +18,7 @@ use Rattle.replica_merge.specs.declared.error.MergeError.{MergeError}
 use Rattle.replica_merge.specs.declared.error.MergeError.TheVariants as merge
 use Rattle.packed_rows.specs.declared.error.RowError.{RowError}
 use Rattle.packed_rows.specs.declared.error.RowError.TheVariants as row
-use Rattle.script_machine.specs.Refusals.{origin_disagrees, tape_fault, tape_damaged, row_refusal, merge_refusal}
+use Rattle.script_machine.specs.Refusals.{origin_disagrees, tape_fault, tape_damaged, columns_refusal, merge_refusal}
 use Rattle.script_machine.specs.Machine.{IsBatch}
 use Rattle.script_machine.specs.Views.{IsOfBatch, is_tape_fault, faults_in}
 use Rattle.script_machine.specs.declared.refusal.Refusal.{Refusal}
@@ -104,7 +104,7 @@ spill_fault before after spill.TapeFault refusal is refused e = refused
 spill_fault before after spill.TapeDamaged refusal is refused e = absurd (let f = sym is ∙ e in cc)
 
 -- columns that are refused tell none
-pub row_tells : (error : RowError) → is_tape_fault (says.Refused (row_refusal error)) ≡ false
+pub row_tells : (error : RowError) → is_tape_fault (says.Refused (columns_refusal error)) ≡ false
 row_tells row.NoMemory = refl
 row_tells row.BadSchema = refl
 row_tells (row.BadField column) = refl

@@ -2,11 +2,10 @@
 use Rattle.std.specs.Prelude.{◌≡◌, ℕ, Bool, true, false, not, if◌then◌else◌, List, Result, Ok, Err}
 use Rattle.std.proofs.Common.{ap, sym}
 use Rattle.packed_rows.specs.Columns.{Column, kinds}
-use Rattle.having_filter.specs.declared.error.QueryError.{QueryError}
-use Rattle.having_filter.specs.declared.error.QueryError.TheVariants.{NotGrouped, TypeMismatch, AggregateHere, NoSuchColumn, TooMany, TooDeep}
-use Rattle.having_filter.specs.Forms.{Written}
-use Rattle.having_filter.specs.Meaning.{Checked}
-use Rattle.having_filter.specs.Checks.{checked, checked_places, placed, has_too_many, all_of, filters_pass, is_shallow, are_shallow, has_columns, are_plain, kinds_fit, is_grouped}
+use Rattle.query_checks.specs.declared.error.QueryError.{QueryError}
+use Rattle.query_checks.specs.declared.error.QueryError.TheVariants.{NotGrouped, TypeMismatch, AggregateHere, NoSuchColumn, TooMany, TooDeep}
+use Rattle.query_checks.specs.Forms.{Written}
+use Rattle.query_checks.specs.Checks.{Checked, checked, checked_places, placed, has_too_many, all_of, filters_pass, is_shallow, are_shallow, has_columns, are_plain, kinds_fit, is_grouped}
 use Rattle.group_parser.specs.Parsing.{Accepts}
 
 -- what is accepted was not refused before

@@ -3,6 +3,7 @@ use Rattle.std.specs.Prelude.{◌≡◌, ◌≢◌, ◌≤◌, ◌<◌, refl, �
 use Rattle.std.proofs.Common.{◌∙◌, ap, sym, subst, arith, inl, inr}
 use Rattle.std.proofs.lemmas.List.{length-take, get_or-take}
 use Rattle.std.proofs.lemmas.Bool.{cases_order}
+use Rattle.std.proofs.lemmas.Option.{same_Some}
 use Rattle.grouping_model.specs.declared.limits.TheConstants.{MOST_ROWS}
 use Rattle.grouping_model.specs.Datum.{Datum, Kind, Row, Bigint_kind}
 use Rattle.grouping_model.specs.World.{Knowledge}
@@ -10,9 +11,9 @@ use Rattle.packed_rows.specs.Columns.{Column, kinds}
 use Rattle.packed_rows.specs.Field.{Reads, ReadsRow, IsLeftmostBad}
 use Rattle.packed_rows.proofs.FieldLaws.{one_row}
 use Rattle.packed_rows.proofs.PrintedColumns.{one_schema}
-use Rattle.having_filter.specs.Meaning.{Checked}
+use Rattle.query_checks.specs.Checks.{Checked}
 use Rattle.group_parser.proofs.ParseLaws.{one_accepted, one_refused, not_both}
-use Rattle.batch_reader.specs.Head.{ReadsNumber}
+use Rattle.script_io.specs.Digits.{number_of}
 use Rattle.batch_reader.specs.Rows.{ReadsRows}
 use Rattle.batch_reader.specs.Refusal.{RecordFault, FirstFault, BuildFault}
 use Rattle.batch_reader.specs.declared.error.BatchError.{BatchError}
@@ -28,8 +29,8 @@ use Rattle.script_machine.specs.Refusals.{batch_refusal, query_refusal}
 
 -- ---- batches
 
-one_number : (field : List ℕ) (m n : ℕ) → ReadsNumber field m → ReadsNumber field n → m ≡ n
-one_number field m n a b = sym a.value ∙ b.value
+one_number : (field : List ℕ) (m n : ℕ) → number_of 10 field ≡ Some m → number_of 10 field ≡ Some n → m ≡ n
+one_number field m n a b = same_Some m n (sym a ∙ b)
 
 one_rows : (ks : List Kind) (records : List (List (List ℕ))) (xs ys : List Row) → ReadsRows ks records xs → ReadsRows ks records ys → xs ≡ ys
 one_rows ks [] [] [] a b = refl
@@ -76,18 +77,18 @@ as_wide (k ∷ ks) (f ∷ fs) [] reads = absurd reads
 as_wide (k ∷ ks) (f ∷ fs) (v ∷ row) reads = ap suc (as_wide ks fs row reads.1)
 
 -- what was read has no fault
-no_record_fault : (ks : List Kind) (fields : List (List ℕ)) (row : Row) (e : BatchError) → e ≢ batch.NoMemory → ReadsRow ks fields row → RecordFault ks fields e → ⊥
-no_record_fault ks fields row batch.NoMemory p reads x = p refl
-no_record_fault ks fields row batch.BadBatchHead p reads x = x
-no_record_fault ks fields row batch.TooManyRows p reads x = x
-no_record_fault ks fields row batch.RowCount p reads x = x
-no_record_fault ks fields row batch.WrongWidth p reads x = x (as_wide ks fields row reads)
-no_record_fault ks fields row (batch.BadField c) p reads x = let v = value_at ks fields row c reads x.1.0 in x.1.1 v.0 v.1
+no_record_fault : (ks : List Kind) (place : ℕ) (fields : List (List ℕ)) (row : Row) (e : BatchError) → e ≢ batch.NoMemory → ReadsRow ks fields row → RecordFault ks place fields e → ⊥
+no_record_fault ks place fields row batch.NoMemory p reads x = p refl
+no_record_fault ks place fields row batch.BadBatchHead p reads x = x
+no_record_fault ks place fields row batch.TooManyRows p reads x = x
+no_record_fault ks place fields row batch.RowCount p reads x = x
+no_record_fault ks place fields row (batch.WrongWidth r) p reads x = x.1 (as_wide ks fields row reads)
+no_record_fault ks place fields row (batch.BadField r c) p reads x = let v = value_at ks fields row c reads x.2.0 in x.2.1 v.0 v.1
 
 no_first_fault : (ks : List Kind) (records : List (List (List ℕ))) (rows : List Row) (e : BatchError) → e ≢ batch.NoMemory → ReadsRows ks records rows → FirstFault ks records e → ⊥
 no_first_fault ks records rows e p reads x =
     let r = row_at ks records rows x.place reads x.within in
-    no_record_fault ks (slice_index_or records x.place []) r.0 e p r.1 x.fault
+    no_record_fault ks x.place (slice_index_or records x.place []) r.0 e p r.1 x.fault
 
 over : (told : ℕ) → MOST_ROWS < told → told ≤ MOST_ROWS → ⊥
 over told more few = omega arith
@@ -99,8 +100,8 @@ no_fault ks origin number told records f batch.BadBatchHead is p x =
     x (record { origin_value = f.origin; number_value = f.number; reads_origin = is.origin_is; reads_number = is.number_is })
 no_fault ks origin number told records f batch.TooManyRows is p x = over told x.1 is.few
 no_fault ks origin number told records f batch.RowCount is p x = x.2 is.whole
-no_fault ks origin number told records f batch.WrongWidth is p x = no_first_fault ks records f.rows batch.WrongWidth p is.rows_are x.3
-no_fault ks origin number told records f (batch.BadField c) is p x = no_first_fault ks records f.rows (batch.BadField c) p is.rows_are x.3
+no_fault ks origin number told records f (batch.WrongWidth r) is p x = no_first_fault ks records f.rows (batch.WrongWidth r) p is.rows_are x.3
+no_fault ks origin number told records f (batch.BadField r c) is p x = no_first_fault ks records f.rows (batch.BadField r c) p is.rows_are x.3
 
 -- ---- one fault
 
@@ -120,36 +121,39 @@ one_column ks fields c k x y = go (cases_order c k)
     go (inr (inl low)) = absurd (not_before ks fields c k x y low)
     go (inr (inr low)) = absurd (not_before ks fields k c y x low)
 
-one_record_fault : (ks : List Kind) (fields : List (List ℕ)) (d e : BatchError) → d ≢ batch.NoMemory → e ≢ batch.NoMemory → RecordFault ks fields d → RecordFault ks fields e → d ≡ e
-one_record_fault ks fields batch.NoMemory e p q x y = absurd (p refl)
-one_record_fault ks fields batch.BadBatchHead e p q x y = absurd x
-one_record_fault ks fields batch.TooManyRows e p q x y = absurd x
-one_record_fault ks fields batch.RowCount e p q x y = absurd x
-one_record_fault ks fields batch.WrongWidth batch.NoMemory p q x y = absurd (q refl)
-one_record_fault ks fields batch.WrongWidth batch.BadBatchHead p q x y = absurd y
-one_record_fault ks fields batch.WrongWidth batch.TooManyRows p q x y = absurd y
-one_record_fault ks fields batch.WrongWidth batch.RowCount p q x y = absurd y
-one_record_fault ks fields batch.WrongWidth batch.WrongWidth p q x y = refl
-one_record_fault ks fields batch.WrongWidth (batch.BadField k) p q x y = absurd (x y.0)
-one_record_fault ks fields (batch.BadField c) batch.NoMemory p q x y = absurd (q refl)
-one_record_fault ks fields (batch.BadField c) batch.BadBatchHead p q x y = absurd y
-one_record_fault ks fields (batch.BadField c) batch.TooManyRows p q x y = absurd y
-one_record_fault ks fields (batch.BadField c) batch.RowCount p q x y = absurd y
-one_record_fault ks fields (batch.BadField c) batch.WrongWidth p q x y = absurd (y x.0)
-one_record_fault ks fields (batch.BadField c) (batch.BadField k) p q x y = ap batch.BadField (one_column ks fields c k x.1 y.1)
+one_record_fault : (ks : List Kind) (place : ℕ) (fields : List (List ℕ)) (d e : BatchError) → d ≢ batch.NoMemory → e ≢ batch.NoMemory → RecordFault ks place fields d → RecordFault ks place fields e → d ≡ e
+one_record_fault ks place fields batch.NoMemory e p q x y = absurd (p refl)
+one_record_fault ks place fields batch.BadBatchHead e p q x y = absurd x
+one_record_fault ks place fields batch.TooManyRows e p q x y = absurd x
+one_record_fault ks place fields batch.RowCount e p q x y = absurd x
+one_record_fault ks place fields (batch.WrongWidth r) batch.NoMemory p q x y = absurd (q refl)
+one_record_fault ks place fields (batch.WrongWidth r) batch.BadBatchHead p q x y = absurd y
+one_record_fault ks place fields (batch.WrongWidth r) batch.TooManyRows p q x y = absurd y
+one_record_fault ks place fields (batch.WrongWidth r) batch.RowCount p q x y = absurd y
+one_record_fault ks place fields (batch.WrongWidth r) (batch.WrongWidth s) p q x y = ap batch.WrongWidth (x.0 ∙ sym y.0)
+one_record_fault ks place fields (batch.WrongWidth r) (batch.BadField s k) p q x y = absurd (x.1 y.1)
+one_record_fault ks place fields (batch.BadField r c) batch.NoMemory p q x y = absurd (q refl)
+one_record_fault ks place fields (batch.BadField r c) batch.BadBatchHead p q x y = absurd y
+one_record_fault ks place fields (batch.BadField r c) batch.TooManyRows p q x y = absurd y
+one_record_fault ks place fields (batch.BadField r c) batch.RowCount p q x y = absurd y
+one_record_fault ks place fields (batch.BadField r c) (batch.WrongWidth s) p q x y = absurd (y.1 x.1)
+one_record_fault ks place fields (batch.BadField r c) (batch.BadField s k) p q x y =
+    let row : r ≡ s = x.0 ∙ sym y.0 in
+    let column : c ≡ k = one_column ks fields c k x.2 y.2 in
+    λ i. batch.BadField (row i) (column i)
 
 -- a record before the first that has a fault was read
 not_earlier : (ks : List Kind) (records : List (List (List ℕ))) (d e : BatchError) → d ≢ batch.NoMemory → (x : FirstFault ks records d) (y : FirstFault ks records e) → x.place < y.place → ⊥
 not_earlier ks records d e p x y low =
     let within : x.place < length (take y.place records) = subst (λ n. x.place < n) (sym (length-take y.place records)) (omega (arith, x.within)) in
     let r = row_at ks (take y.place records) y.before.0 x.place y.before.1 within in
-    no_record_fault ks (slice_index_or records x.place []) r.0 d p (subst (λ f. ReadsRow ks f r.0) (get_or-take y.place records x.place [] low) r.1) x.fault
+    no_record_fault ks x.place (slice_index_or records x.place []) r.0 d p (subst (λ f. ReadsRow ks f r.0) (get_or-take y.place records x.place [] low) r.1) x.fault
 
 one_first_fault : (ks : List Kind) (records : List (List (List ℕ))) (d e : BatchError) → d ≢ batch.NoMemory → e ≢ batch.NoMemory → FirstFault ks records d → FirstFault ks records e → d ≡ e
 one_first_fault ks records d e p q x y = go (cases_order x.place y.place)
   where
     go : (x.place ≡ y.place) ⊎ ((x.place < y.place) ⊎ (y.place < x.place)) → d ≡ e
-    go (inl same) = one_record_fault ks (slice_index_or records y.place []) d e p q (subst (λ n. RecordFault ks (slice_index_or records n []) d) same x.fault) y.fault
+    go (inl same) = one_record_fault ks y.place (slice_index_or records y.place []) d e p q (subst (λ n. RecordFault ks n (slice_index_or records n []) d) same x.fault) y.fault
     go (inr (inl low)) = absurd (not_earlier ks records d e p x y low)
     go (inr (inr low)) = absurd (not_earlier ks records e d q y x low)
 
@@ -160,32 +164,32 @@ one_build_fault ks origin number told records batch.BadBatchHead batch.NoMemory 
 one_build_fault ks origin number told records batch.BadBatchHead batch.BadBatchHead p q x y = refl
 one_build_fault ks origin number told records batch.BadBatchHead batch.TooManyRows p q x y = absurd (x y.0)
 one_build_fault ks origin number told records batch.BadBatchHead batch.RowCount p q x y = absurd (x y.0)
-one_build_fault ks origin number told records batch.BadBatchHead batch.WrongWidth p q x y = absurd (x y.0)
-one_build_fault ks origin number told records batch.BadBatchHead (batch.BadField k) p q x y = absurd (x y.0)
+one_build_fault ks origin number told records batch.BadBatchHead (batch.WrongWidth s) p q x y = absurd (x y.0)
+one_build_fault ks origin number told records batch.BadBatchHead (batch.BadField s k) p q x y = absurd (x y.0)
 one_build_fault ks origin number told records batch.TooManyRows batch.NoMemory p q x y = absurd (q refl)
 one_build_fault ks origin number told records batch.TooManyRows batch.BadBatchHead p q x y = absurd (y x.0)
 one_build_fault ks origin number told records batch.TooManyRows batch.TooManyRows p q x y = refl
 one_build_fault ks origin number told records batch.TooManyRows batch.RowCount p q x y = absurd (over told x.1 y.1)
-one_build_fault ks origin number told records batch.TooManyRows batch.WrongWidth p q x y = absurd (over told x.1 y.1)
-one_build_fault ks origin number told records batch.TooManyRows (batch.BadField k) p q x y = absurd (over told x.1 y.1)
+one_build_fault ks origin number told records batch.TooManyRows (batch.WrongWidth s) p q x y = absurd (over told x.1 y.1)
+one_build_fault ks origin number told records batch.TooManyRows (batch.BadField s k) p q x y = absurd (over told x.1 y.1)
 one_build_fault ks origin number told records batch.RowCount batch.NoMemory p q x y = absurd (q refl)
 one_build_fault ks origin number told records batch.RowCount batch.BadBatchHead p q x y = absurd (y x.0)
 one_build_fault ks origin number told records batch.RowCount batch.TooManyRows p q x y = absurd (over told y.1 x.1)
 one_build_fault ks origin number told records batch.RowCount batch.RowCount p q x y = refl
-one_build_fault ks origin number told records batch.RowCount batch.WrongWidth p q x y = absurd (x.2 y.2)
-one_build_fault ks origin number told records batch.RowCount (batch.BadField k) p q x y = absurd (x.2 y.2)
-one_build_fault ks origin number told records batch.WrongWidth batch.NoMemory p q x y = absurd (q refl)
-one_build_fault ks origin number told records batch.WrongWidth batch.BadBatchHead p q x y = absurd (y x.0)
-one_build_fault ks origin number told records batch.WrongWidth batch.TooManyRows p q x y = absurd (over told y.1 x.1)
-one_build_fault ks origin number told records batch.WrongWidth batch.RowCount p q x y = absurd (y.2 x.2)
-one_build_fault ks origin number told records batch.WrongWidth batch.WrongWidth p q x y = one_first_fault ks records batch.WrongWidth batch.WrongWidth p q x.3 y.3
-one_build_fault ks origin number told records batch.WrongWidth (batch.BadField k) p q x y = one_first_fault ks records batch.WrongWidth (batch.BadField k) p q x.3 y.3
-one_build_fault ks origin number told records (batch.BadField c) batch.NoMemory p q x y = absurd (q refl)
-one_build_fault ks origin number told records (batch.BadField c) batch.BadBatchHead p q x y = absurd (y x.0)
-one_build_fault ks origin number told records (batch.BadField c) batch.TooManyRows p q x y = absurd (over told y.1 x.1)
-one_build_fault ks origin number told records (batch.BadField c) batch.RowCount p q x y = absurd (y.2 x.2)
-one_build_fault ks origin number told records (batch.BadField c) batch.WrongWidth p q x y = one_first_fault ks records (batch.BadField c) batch.WrongWidth p q x.3 y.3
-one_build_fault ks origin number told records (batch.BadField c) (batch.BadField k) p q x y = one_first_fault ks records (batch.BadField c) (batch.BadField k) p q x.3 y.3
+one_build_fault ks origin number told records batch.RowCount (batch.WrongWidth s) p q x y = absurd (x.2 y.2)
+one_build_fault ks origin number told records batch.RowCount (batch.BadField s k) p q x y = absurd (x.2 y.2)
+one_build_fault ks origin number told records (batch.WrongWidth r) batch.NoMemory p q x y = absurd (q refl)
+one_build_fault ks origin number told records (batch.WrongWidth r) batch.BadBatchHead p q x y = absurd (y x.0)
+one_build_fault ks origin number told records (batch.WrongWidth r) batch.TooManyRows p q x y = absurd (over told y.1 x.1)
+one_build_fault ks origin number told records (batch.WrongWidth r) batch.RowCount p q x y = absurd (y.2 x.2)
+one_build_fault ks origin number told records (batch.WrongWidth r) (batch.WrongWidth s) p q x y = one_first_fault ks records (batch.WrongWidth r) (batch.WrongWidth s) p q x.3 y.3
+one_build_fault ks origin number told records (batch.WrongWidth r) (batch.BadField s k) p q x y = one_first_fault ks records (batch.WrongWidth r) (batch.BadField s k) p q x.3 y.3
+one_build_fault ks origin number told records (batch.BadField r c) batch.NoMemory p q x y = absurd (q refl)
+one_build_fault ks origin number told records (batch.BadField r c) batch.BadBatchHead p q x y = absurd (y x.0)
+one_build_fault ks origin number told records (batch.BadField r c) batch.TooManyRows p q x y = absurd (over told y.1 x.1)
+one_build_fault ks origin number told records (batch.BadField r c) batch.RowCount p q x y = absurd (y.2 x.2)
+one_build_fault ks origin number told records (batch.BadField r c) (batch.WrongWidth s) p q x y = one_first_fault ks records (batch.BadField r c) (batch.WrongWidth s) p q x.3 y.3
+one_build_fault ks origin number told records (batch.BadField r c) (batch.BadField s k) p q x y = one_first_fault ks records (batch.BadField r c) (batch.BadField s k) p q x.3 y.3
 
 -- ---- one reply
 

@@ -15,8 +15,9 @@ use Rattle.std.proofs.lemmas.Bool.{true≢false, false_from_ne_true}
 use Rattle.grouping_model.specs.World.{World, IsWorld, Knowledge, nothing, learn, union}
 use Rattle.grouping_model.specs.Answer.{answer}
 use Rattle.packed_rows.specs.Columns.{Column, kinds, IsSchemaText, printed}
-use Rattle.having_filter.specs.Meaning.{Checked, meaning}
-use Rattle.having_filter.specs.Spelling.{spelling}
+use Rattle.query_checks.specs.Checks.{Checked}
+use Rattle.having_filter.specs.Meaning.{meaning}
+use Rattle.query_checks.specs.Spelling.{spelling}
 use Rattle.having_filter.specs.Kept.{by_names, headers}
 use Rattle.group_parser.specs.Parsing.{Accepts}
 use Rattle.grouping_model.specs.Replies.{known_list, reply_of}
@@ -41,7 +42,7 @@ use Rattle.packed_rows.specs.declared.error.RowError.TheVariants as row
 use Rattle.origin_prefix.specs.declared.error.JoinError.TheVariants as join
 use Rattle.replica_merge.specs.declared.error.MergeError.{MergeError}
 use Rattle.replica_merge.specs.declared.error.MergeError.TheVariants as merge
-use Rattle.script_machine.specs.Refusals.{limit_out_of_range, origin_disagrees, tape_fault, tape_damaged, row_refusal, merge_refusal}
+use Rattle.script_machine.specs.Refusals.{limit_out_of_range, origin_disagrees, tape_fault, tape_damaged, columns_refusal, merge_refusal}
 use Rattle.script_machine.specs.declared.refusal.Refusal.{Refusal}
 use Rattle.script_machine.specs.declared.refusal.Refusal.TheVariants as why
 use Rattle.script_machine.specs.declared.reply.Reply.TheVariants as says
@@ -228,11 +229,11 @@ columns_there store text owned there =
     go (Some columns) e = refl
     go None e = absurd (true≢false (sym e))
 
-pub no_schema : (store : Store) (text : List ℕ) (owned : List Record) (error : RowError) (refusal : Refusal) → is_some store.columns ≡ false → ParseFault text error → refusal ≡ row_refusal error
+pub no_schema : (store : Store) (text : List ℕ) (owned : List Record) (error : RowError) (refusal : Refusal) → is_some store.columns ≡ false → ParseFault text error → refusal ≡ columns_refusal error
     → Steps (ask.Columns text) owned store (says.Refused refusal) store
 no_schema store text owned error refusal none bad is = subst (λ w. Steps (ask.Columns text) owned store (says.Refused w) store) (sym is) (go error bad)
   where
-    go : (error : RowError) → ParseFault text error → Steps (ask.Columns text) owned store (says.Refused (row_refusal error)) store
+    go : (error : RowError) → ParseFault text error → Steps (ask.Columns text) owned store (says.Refused (columns_refusal error)) store
     go row.NoMemory bad = out_of_memory (ask.Columns text) owned store
     go row.BadSchema bad =
         refused (ask.Columns text) owned store why.BadSchema

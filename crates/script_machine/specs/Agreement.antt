@@ -6,7 +6,7 @@ use Rattle.packed_rows.specs.Columns.{Column, kinds}
 use Rattle.script_io.specs.Records.{Record}
 use Rattle.script_commands.specs.Commands.{Command, Request, Feed, request_of}
 use Rattle.grouping_model.specs.World.{World, Batch, Knowledge, knows}
-use Rattle.having_filter.specs.Meaning.{Checked}
+use Rattle.query_checks.specs.Checks.{Checked}
 use Rattle.script_machine.specs.Machine.{State, Reply, Has_columns, Fed, IsBatch, after}
 
 -- what is there after replies, one after the other

@@ -8,7 +8,7 @@ use Rattle.std.specs.declared.vec.Vec.{Vec}
 use Rattle.grouping_model.specs.Datum.{Kind}
 use Rattle.packed_rows.specs.Columns.{Column}
 use Rattle.having_filter.specs.Coding.{coded_kind, coded_checked}
-use Rattle.having_filter.specs.Meaning.{Checked}
+use Rattle.query_checks.specs.Checks.{Checked}
 use Rattle.replica_merge.specs.Coding.{coded_held}
 use Rattle.replica_merge.specs.Replicas.{Held}
 use Rattle.script_machine.specs.Views.{Store}

@@ -7,7 +7,7 @@ use Rattle.grouping_model.specs.Replies.{KnownOrigin, known_list, reply_of}
 use Rattle.grouping_model.specs.World.{World, IsWorld, Knowledge, nothing, learn, union}
 use Rattle.grouping_model.specs.declared.delivered.Delivered.{Delivered}
 use Rattle.packed_rows.specs.Columns.{Column, kinds, IsSchemaText}
-use Rattle.having_filter.specs.Meaning.{Checked}
+use Rattle.query_checks.specs.Checks.{Checked}
 use Rattle.group_parser.specs.Parsing.{Accepts, Refuses}
 use Rattle.group_parser.specs.declared.error.ParseError.{ParseError}
 use Rattle.batch_reader.specs.Head.{ReadsOrigin, ReadsBatchNumber}

@@ -4,7 +4,7 @@ use Rattle.packed_rows.specs.declared.error.RowError.{RowError}
 use Rattle.packed_rows.specs.declared.error.RowError.TheVariants as row
 use Rattle.batch_reader.specs.declared.error.BatchError.{BatchError}
 use Rattle.batch_reader.specs.declared.error.BatchError.TheVariants as batch
-use Rattle.having_filter.specs.declared.error.QueryError.TheVariants as checks
+use Rattle.query_checks.specs.declared.error.QueryError.TheVariants as checks
 use Rattle.group_parser.specs.declared.error.ParseError.{ParseError}
 use Rattle.group_parser.specs.declared.error.ParseError.TheVariants as parse
 use Rattle.summary_codec.specs.declared.error.SummaryError.{SummaryError}
@@ -35,13 +35,10 @@ abbrev pub tells_fault : Refusal → Bool
 tells_fault (Merge (merge.Join (join.Spill spill.TapeFault))) = true
 tells_fault refusal = false
 
--- the refusal of columns, or of a row of them
-abbrev pub row_refusal : RowError → Refusal
-row_refusal row.NoMemory = NoMemory
-row_refusal row.BadSchema = BadSchema
-row_refusal (row.BadField column) = Batch (batch.BadField column)
-row_refusal row.WrongWidth = Batch batch.WrongWidth
-row_refusal row.BadPacked = Summary summary.BadPacked
+-- the refusal of columns
+abbrev pub columns_refusal : RowError → Refusal
+columns_refusal row.NoMemory = NoMemory
+columns_refusal error = BadSchema
 
 -- the refusal of a batch
 abbrev pub batch_refusal : BatchError → Refusal

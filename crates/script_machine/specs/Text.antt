@@ -3,10 +3,10 @@ use Rattle.std.specs.Prelude.{ℕ, List, [], ◌∷◌, ◌++◌, flat_map, leng
 use Rattle.grouping_model.specs.Answer.{answer}
 use Rattle.grouping_model.specs.World.{World}
 use Rattle.having_filter.specs.Meaning.{meaning}
-use Rattle.having_filter.specs.Spelling.{spelling}
+use Rattle.query_checks.specs.Spelling.{spelling}
 use Rattle.having_filter.specs.Kept.{by_names, headers}
-use Rattle.having_filter.specs.declared.error.QueryError.{QueryError}
-use Rattle.having_filter.specs.declared.error.QueryError.TheVariants as checks
+use Rattle.query_checks.specs.declared.error.QueryError.{QueryError}
+use Rattle.query_checks.specs.declared.error.QueryError.TheVariants as checks
 use Rattle.group_parser.specs.declared.error.ParseError.{ParseError}
 use Rattle.group_parser.specs.declared.error.ParseError.TheVariants as parse
 use Rattle.batch_reader.specs.declared.error.BatchError.{BatchError}
@@ -51,8 +51,8 @@ batch_name batch.NoMemory = codes "NoMemory"
 batch_name batch.BadBatchHead = codes "BadBatchHead"
 batch_name batch.TooManyRows = codes "TooManyRows"
 batch_name batch.RowCount = codes "RowCount"
-batch_name batch.WrongWidth = codes "WrongWidth"
-batch_name (batch.BadField column) = codes "BadField"
+batch_name (batch.WrongWidth row) = codes "WrongWidth"
+batch_name (batch.BadField row column) = codes "BadField"
 
 abbrev pub summary_name : SummaryError → List ℕ
 summary_name summary.NoMemory = codes "NoMemory"

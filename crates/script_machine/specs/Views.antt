@@ -7,7 +7,7 @@ use Rattle.std.specs.Str.{bytes_eq}
 use Rattle.hash_agg.specs.declared.means.TheConstants.{USUAL_LIMIT}
 use Rattle.grouping_model.specs.World.{World, IsWorld, Knowledge, learn}
 use Rattle.packed_rows.specs.Columns.{Column, kinds}
-use Rattle.having_filter.specs.Meaning.{Checked}
+use Rattle.query_checks.specs.Checks.{Checked}
 use Rattle.grouping_model.specs.Replies.{reply_of}
 use Rattle.grouping_model.specs.declared.delivered.Delivered.{Delivered}
 use Rattle.replica_merge.specs.Replicas.{Parts, Held, told, Fits, AreHeldParts, JoinedAside}

@@ -12,7 +12,7 @@ use crate::output::put_reply;
 use crate::refusal::Refusal;
 use crate::reply::Reply;
 use crate::session::Session;
-use grouping_model::limits::LONGEST_SCRIPT;
+use grouping_model::limits::LONGEST_INPUT;
 use hash_agg::TapeDisk;
 use script_commands::{Command, next_command};
 use script_io::{Records, read_input};
@@ -61,7 +61,7 @@ fn answer_all<W: Write, O: Observer, D: TapeDisk>(
     lines: &mut Lines<'_>,
     disk: &mut D,
 ) -> Result<Outcome, RunError>
-    requires few { length records.old ≤ LONGEST_SCRIPT + 1 }
+    requires few { length records.old ≤ LONGEST_INPUT + 1 }
     requires none { session.old ≡ empty }
     ensures { MatchResult result
         (λ outcome. IsTrue (D.honest disk.old) → WritesAll (record { honest = D.honest disk.old; failed = D.failures disk.old; failed_now = D.failures disk.new }) (commands_of records.old) (W.contents writer.old)
@@ -89,7 +89,7 @@ fn run_script<W: Write, O: Observer, D: TapeDisk>(
     observer: &mut O,
     disk: &mut D,
 ) -> Result<Outcome, RunError>
-    requires { length script.now ≤ LONGEST_SCRIPT }
+    requires { length script.now ≤ LONGEST_INPUT }
     ensures { MatchResult result
         (λ outcome. IsTrue (D.honest disk.old) → WritesAll (record { honest = D.honest disk.old; failed = D.failures disk.old; failed_now = D.failures disk.new }) (commands_in script.now) (W.contents writer.old)
         (W.contents writer.new) outcome.refused)
@@ -123,7 +123,7 @@ pub fn run<R: Read, W: Write, D: TapeDisk>(
 ) -> Result<Outcome, RunError>
     // No more is read than the longest script and one byte.
     ensures reads { ConsumesAtMost (R.remaining reader.old) (R.remaining reader.new)
-        (LONGEST_SCRIPT + 1) }
+        (LONGEST_INPUT + 1) }
     // A script within the limit is answered, over an honest disk, as the machine does, with so many refusals.
     ensures done { IfOk result (λ outcome. AnswersAll (record { honest = D.honest disk.old; failed = D.failures disk.old; failed_now = D.failures disk.new }) (R.remaining reader.old)
         (W.contents writer.old) (W.contents writer.new) outcome.refused) }
@@ -146,13 +146,13 @@ pub fn run_observed<R: Read, W: Write, O: Observer, D: TapeDisk>(
     disk: &mut D,
 ) -> Result<Outcome, RunError>
     ensures reads { ConsumesAtMost (R.remaining reader.old) (R.remaining reader.new)
-        (LONGEST_SCRIPT + 1) }
+        (LONGEST_INPUT + 1) }
     ensures done { IfOk result (λ outcome. AnswersAll (record { honest = D.honest disk.old; failed = D.failures disk.old; failed_now = D.failures disk.new }) (R.remaining reader.old)
         (W.contents writer.old) (W.contents writer.new) outcome.refused) }
     ensures stopped { IfErr result (AnswersSome (record { honest = D.honest disk.old; failed = D.failures disk.old; failed_now = D.failures disk.new }) (R.remaining reader.old) (W.contents writer.old)
         (W.contents writer.new)) }
     ensures silent { IfErr result (KeepsUnread (W.contents writer.old) (W.contents writer.new)) }
 {
-    let script = read_input(alloc, reader, LONGEST_SCRIPT)?;
+    let script = read_input(alloc, reader, LONGEST_INPUT)?;
     run_script(alloc, &script, writer, observer, disk)
 }

@@ -3,7 +3,7 @@
 ghost use Rattle.std.specs.Prelude.{◌≡◌};
 ghost use Rattle.origin_prefix.specs.declared.error.JoinError.TheVariants as join;
 ghost use Rattle.replica_merge.specs.declared.error.MergeError.TheVariants as merge;
-ghost use Rattle.script_machine.specs.Refusals.{row_refusal, batch_refusal, query_refusal, summary_refusal, merge_refusal};
+ghost use Rattle.script_machine.specs.Refusals.{columns_refusal, batch_refusal, query_refusal, summary_refusal, merge_refusal};
 ghost use Rattle.script_machine.specs.Text.{refusal_name, query_name, parse_name, batch_name, summary_name, spill_name, join_name, merge_name, run_name};
 ghost use Rattle.script_machine.specs.declared.refusal.Refusal.TheVariants.{NoMemory, Limit};
 
@@ -93,7 +93,7 @@ fn batch_name(error: BatchError) -> &'static str
         BatchError::BadBatchHead => "BadBatchHead",
         BatchError::TooManyRows => "TooManyRows",
         BatchError::RowCount => "RowCount",
-        BatchError::WrongWidth => "WrongWidth",
+        BatchError::WrongWidth { .. } => "WrongWidth",
         BatchError::BadField { .. } => "BadField",
     }
 }
@@ -187,15 +187,12 @@ impl From<AllocError> for Refusal {
 }
 
 impl From<RowError> for Refusal {
-    ghost from_gives = { λ error refusal. refusal ≡ row_refusal error };
+    ghost from_gives = { λ error refusal. refusal ≡ columns_refusal error };
 
     fn from(error: RowError) -> Refusal {
         match error {
             RowError::NoMemory => Refusal::NoMemory,
-            RowError::BadSchema => Refusal::BadSchema,
-            RowError::BadField { column } => Refusal::Batch(BatchError::BadField { column }),
-            RowError::WrongWidth => Refusal::Batch(BatchError::WrongWidth),
-            RowError::BadPacked => Refusal::Summary(SummaryError::BadPacked),
+            _ => Refusal::BadSchema,
         }
     }
 }

@@ -7,7 +7,7 @@ ghost use Rattle.csv.specs.Records.{fields_of};
 ghost use Rattle.grouping_model.specs.Answer.{answer};
 ghost use Rattle.grouping_model.specs.World.{World, IsWorld};
 ghost use Rattle.having_filter.specs.Meaning.{meaning};
-ghost use Rattle.having_filter.specs.Spelling.{spelling};
+ghost use Rattle.query_checks.specs.Spelling.{spelling};
 ghost use Rattle.having_filter.specs.Kept.{by_names, headers};
 ghost use Rattle.group_parser.specs.Parsing.{Accepts};
 ghost use Rattle.grouping_model.specs.Replies.{known_list};

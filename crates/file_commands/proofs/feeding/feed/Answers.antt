@@ -4,11 +4,11 @@ use Rattle.packed_rows.specs.Columns.{kinds}
 use Rattle.grouping_model.specs.Datum.{Row}
 use Rattle.batch_reader.specs.File.{read_file}
 use Rattle.batch_reader.specs.Rows.{ReadsRows, packings}
-use Rattle.having_filter.specs.Meaning.{Checked}
+use Rattle.query_checks.specs.Checks.{Checked}
 use Rattle.replica_merge.specs.declared.error.MergeError.TheVariants as merge
 use Rattle.script_machine.specs.Views.{IsOfBatch}
 use Rattle.script_machine.proofs.FeedLaws.{other_why, delivery_tells, fault_told, never_damaged, not_of_batch}
-use Rattle.file_commands.proofs.FileLaws.{FileBatch, read_of_file, packed_of_file, takes_file, file_counted, other_file}
+use Rattle.file_commands.proofs.FileLaws.{FileBatch, read_of_file, packed_of_file, takes_file, of_batch_file, other_file}
 use Rattle.file_commands.proofs.feeding.feed.Goals as goal
 
 pub deliver-requires-clause-rows : goal.deliver-requires-clause-rows
@@ -38,7 +38,7 @@ pub returns-in-Ok-clause-counted : goal.returns-in-Ok-clause-counted
 returns-in-Ok-clause-counted g c = λ honest.
     let batch = c.in_ok-batch.ensures in
     let same : c.schema-schema.result.now ≡ c.args.replica.now.query.columns = c.schema-schema.ensures.columns ∙ ap (λ (q : Checked). q.columns) c.query.ensures in
-    file_counted _ _ _ _ _ _ _ _ _ _ batch.origin batch.number
+    of_batch_file _ c.args.replica.now _ _ _ _ batch.origin batch.number
     (subst (λ columns. IsSomeAnd (read_file c.args.file.now) (λ read. (rows : List Row) × ReadsRows (kinds columns) read.records rows × (c.in_ok-batch.batch.rows ≡ packings rows))) same batch.rows)
     (c.in-Ok.ensures.counted honest)
 
@@ -50,3 +50,19 @@ returns-in-Err-clause-fault g c = λ is. fault_told _ _ _ (merge.Join c.in-Err.r
 
 pub returns-in-Err-clause-undamaged : goal.returns-in-Err-clause-undamaged
 returns-in-Err-clause-undamaged g c = λ honest is. never_damaged _ _ _ (merge.Join c.in-Err.refused.why) (delivery_tells _ _ _ c.in-Err.refused.why c.in-Err.ensures.over) honest (sym c.from.ensures ∙ is)
+
+pub returns-in-Ok-clause-agreed : goal.returns-in-Ok-clause-agreed
+returns-in-Ok-clause-agreed g c =
+    let batch = c.in_ok-batch.ensures in
+    let same : c.schema-schema.result.now ≡ c.args.replica.now.query.columns = c.schema-schema.ensures.columns ∙ ap (λ (q : Checked). q.columns) c.query.ensures in
+    of_batch_file _ c.args.replica.now _ _ _ _ batch.origin batch.number
+    (subst (λ columns. IsSomeAnd (read_file c.args.file.now) (λ read. (rows : List Row) × ReadsRows (kinds columns) read.records rows × (c.in_ok-batch.batch.rows ≡ packings rows))) same batch.rows)
+    c.in-Ok.ensures.agreed
+
+pub returns-in-Err-clause-disagree : goal.returns-in-Err-clause-disagree
+returns-in-Err-clause-disagree g c = λ is.
+    let batch = c.in_ok-batch.ensures in
+    let same : c.schema-schema.result.now ≡ c.args.replica.now.query.columns = c.schema-schema.ensures.columns ∙ ap (λ (q : Checked). q.columns) c.query.ensures in
+    of_batch_file _ c.args.replica.now _ _ _ _ batch.origin batch.number
+    (subst (λ columns. IsSomeAnd (read_file c.args.file.now) (λ read. (rows : List Row) × ReadsRows (kinds columns) read.records rows × (c.in_ok-batch.batch.rows ≡ packings rows))) same batch.rows)
+    (c.in-Err.ensures.why (other_why c.in-Err.refused.why (sym c.from.ensures ∙ is)))

@@ -9,7 +9,7 @@ use Rattle.packed_rows.specs.View.{row_of}
 use Rattle.agg_protocol.specs.Results.{outcome_of}
 use Rattle.agg_library.proofs.RowLaws.{on_ok}
 use Rattle.having_filter.specs.Meaning.{meaning}
-use Rattle.hash_agg.proofs.StateLaws.{states_by}
+use Rattle.group_runs.proofs.StateLaws.{states_by}
 use Rattle.replica_merge.proofs.ShownLaws.{sources_are, key_is, shown, not_shown}
 use Rattle.replica_merge.proofs.showing.push_group.Goals as goal
 
@@ -26,10 +26,10 @@ pub returns-then-not-having_true : goal.returns-then-not-having_true
 returns-then-not-having_true c =
     λ most group low stands.
     let q : Query = meaning c.args.query.now in
-    let same = key_is q most c.args.key.now c.args.states.now c.in_ok-values.values.items group c.in_ok-values.ensures.0 c.in_ok-values.ensures.1 stands in
-    let keys : map outcome_of c.in_ok-key.key.items ≡ map Plain group.0 = c.in_ok-key.ensures ∙ ap (λ vs. map Plain (row_of vs)) c.deref.ensures.value ∙ ap (map Plain) same in
-    let results : map outcome_of c.in_ok-results.results.items ≡ map outcome group.1 =
-    c.in_ok-results.ensures most group.1 low (states_by (functions q) most c.agg_kinds.result.now c.args.states.now group.1 c.agg_kinds.ensures.functions stands.states) in
+    let same = key_is q most c.args.key.now c.args.states.now c.unpack.new.key.items group c.in_ok-unpack.ensures.0 c.in_ok-unpack.ensures.1 stands in
+    let keys : map outcome_of c.key_values.new.values.items ≡ map Plain group.0 = c.in_ok-key_values.ensures ∙ ap (λ vs. map Plain (row_of vs)) c.deref.ensures.value ∙ ap (map Plain) same in
+    let results : map outcome_of c.finish_states.new.values.items ≡ map outcome group.1 =
+    c.in_ok-finish_states.ensures most group.1 low (states_by (functions q) most c.agg_kinds.result.now c.args.states.now group.1 c.agg_kinds.ensures.functions stands.states) in
     let read : outcome_at (map outcome_of c.deref-2.result.now) (map outcome_of c.deref-3.result.now) ≡ source_in group =
     sources_are _ _ group (ap (map outcome_of) c.deref-2.ensures.value ∙ keys) (ap (map outcome_of) c.deref-3.ensures.value ∙ results) in
     let met : is_met (outcome_at (map outcome_of c.deref-2.result.now) (map outcome_of c.deref-3.result.now)) q.having ≡ false = search rules in
@@ -40,16 +40,16 @@ returns c =
     on_ok c.push.result
     (λ pushed most group low stands.
     let q : Query = meaning c.args.query.now in
-    let same = key_is q most c.args.key.now c.args.states.now c.in_ok-values.values.items group c.in_ok-values.ensures.0 c.in_ok-values.ensures.1 stands in
-    let keys : map outcome_of c.in_ok-key.key.items ≡ map Plain group.0 = c.in_ok-key.ensures ∙ ap (λ vs. map Plain (row_of vs)) c.deref.ensures.value ∙ ap (map Plain) same in
-    let results : map outcome_of c.in_ok-results.results.items ≡ map outcome group.1 =
-    c.in_ok-results.ensures most group.1 low (states_by (functions q) most c.agg_kinds.result.now c.args.states.now group.1 c.agg_kinds.ensures.functions stands.states) in
+    let same = key_is q most c.args.key.now c.args.states.now c.unpack.new.key.items group c.in_ok-unpack.ensures.0 c.in_ok-unpack.ensures.1 stands in
+    let keys : map outcome_of c.key_values.new.values.items ≡ map Plain group.0 = c.in_ok-key_values.ensures ∙ ap (λ vs. map Plain (row_of vs)) c.deref.ensures.value ∙ ap (map Plain) same in
+    let results : map outcome_of c.finish_states.new.values.items ≡ map outcome group.1 =
+    c.in_ok-finish_states.ensures most group.1 low (states_by (functions q) most c.agg_kinds.result.now c.args.states.now group.1 c.agg_kinds.ensures.functions stands.states) in
     let read : outcome_at (map outcome_of c.deref-2.result.now) (map outcome_of c.deref-3.result.now) ≡ source_in group =
     sources_are _ _ group (ap (map outcome_of) c.deref-2.ensures.value ∙ keys) (ap (map outcome_of) c.deref-3.ensures.value ∙ results) in
     let met : is_met (outcome_at (map outcome_of c.deref-2.result.now) (map outcome_of c.deref-3.result.now)) q.having ≡ true = search rules in
     let again : outcome_at (map outcome_of c.deref-4.result.now) (map outcome_of c.deref-5.result.now) ≡ source_in group =
     sources_are _ _ group (ap (map outcome_of) c.deref-4.ensures.value ∙ keys) (ap (map outcome_of) c.deref-5.ensures.value ∙ results) in
     let items : map outcome_of c.deref-6.result.now ≡ map (source_in group) q.items =
-    ap (map outcome_of) c.deref-6.ensures.value ∙ c.in_ok-items.ensures ∙ (λ i. map (again i) (c.sources.ensures i)) in
+    ap (map outcome_of) c.deref-6.ensures.value ∙ c.in_ok-items_of.ensures ∙ (λ i. map (again i) (c.sources.ensures i)) in
     pushed ∙ ap (λ rows. c.args.answer.now ++ rows) (shown q group (map outcome_of c.deref-6.result.now) (ap (λ read. is_met read q.having) (sym read) ∙ met) items))
     c.push.ensures.pushed

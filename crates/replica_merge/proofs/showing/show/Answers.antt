@@ -4,10 +4,11 @@ use Rattle.std.proofs.lemmas.List.{drop_all}
 use Rattle.grouping_model.specs.Query.{Query}
 use Rattle.agg_library.proofs.RowLaws.{no_members}
 use Rattle.having_filter.specs.Meaning.{meaning}
-use Rattle.hash_agg.specs.Runs.{Entry}
-use Rattle.hash_agg.proofs.InputLaws.{groups_long}
+use Rattle.group_runs.specs.Runs.{Entry}
+use Rattle.group_runs.proofs.RunLaws.{groups_long}
 use Rattle.replica_merge.specs.Groups.{answer_rows}
-use Rattle.replica_merge.proofs.ShownLaws.{LeftOver, first_left, none_left, all_left, shown_some, drop_at}
+use Rattle.group_runs.proofs.PlaceLaws.{drop_at}
+use Rattle.replica_merge.proofs.ShownLaws.{LeftOver, first_left, none_left, all_left, shown_some}
 use Rattle.replica_merge.proofs.showing.show.Goals as goal
 
 pub loop-place-init : goal.loop-place-init

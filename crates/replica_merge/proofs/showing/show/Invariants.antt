@@ -2,7 +2,7 @@ use Rattle.std.specs.Prelude.{ℕ, ◌≤◌, List, drop}
 use Rattle.grouping_model.specs.Grouping.{Group}
 use Rattle.agg_protocol.specs.States.{most_rows}
 use Rattle.having_filter.specs.Meaning.{meaning}
-use Rattle.hash_agg.specs.Standing.{AreGroups}
+use Rattle.group_runs.specs.Standing.{AreGroups}
 use Rattle.replica_merge.proofs.ShownLaws.{LeftOver}
 use Rattle.replica_merge.proofs.showing.show.Given as goal
 

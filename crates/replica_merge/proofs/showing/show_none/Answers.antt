@@ -5,7 +5,7 @@ use Rattle.grouping_model.specs.Grouping.{Group, partials}
 use Rattle.grouping_model.specs.Parts.{functions}
 use Rattle.agg_library.proofs.RowLaws.{no_members}
 use Rattle.having_filter.specs.Meaning.{meaning}
-use Rattle.hash_agg.specs.Standing.{AreStates}
+use Rattle.group_runs.specs.Standing.{AreStates}
 use Rattle.replica_merge.specs.Groups.{answer_rows, shown_of_none}
 use Rattle.replica_merge.proofs.ShownLaws.{empty_stands}
 use Rattle.replica_merge.proofs.showing.show_none.Goals as goal

@@ -3,7 +3,7 @@ use Rattle.std.proofs.Common.{◌∙◌, ap, sym, subst}
 use Rattle.packed_rows.specs.Columns.{kinds}
 use Rattle.batch_reader.specs.Rows.{ReadsRows}
 use Rattle.batch_reader.proofs.RecordLaws.{built_rows}
-use Rattle.having_filter.specs.Meaning.{Checked}
+use Rattle.query_checks.specs.Checks.{Checked}
 use Rattle.script_machine.specs.Views.{IsOfBatch}
 use Rattle.replica_merge.specs.declared.error.MergeError.TheVariants as merge
 use Rattle.script_machine.proofs.FeedLaws.{built_batch, other_why, delivery_tells, fault_told, never_damaged, not_of_batch}

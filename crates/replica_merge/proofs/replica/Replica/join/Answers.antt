@@ -2,7 +2,7 @@ use Rattle.std.specs.Prelude.{◌≡◌, ◌≢◌, IfErr}
 use Rattle.std.proofs.Common.{◌∙◌, sym, ap, subst}
 use Rattle.std.proofs.lemmas.Result.{err_from_is_err_and}
 use Rattle.grouping_model.specs.World.{World}
-use Rattle.having_filter.specs.Meaning.{Checked}
+use Rattle.query_checks.specs.Checks.{Checked}
 use Rattle.query_grammar.proofs.OneText.{one_text}
 use Rattle.replica_merge.specs.Replicas.{Held, Fits, AreHeldParts}
 use Rattle.replica_merge.specs.declared.error.MergeError.TheVariants.{DifferentQuery}

@@ -1,5 +1,5 @@
 use Rattle.std.proofs.Common.{subst}
-use Rattle.having_filter.specs.Meaning.{Checked}
+use Rattle.query_checks.specs.Checks.{Checked}
 use Rattle.replica_merge.specs.Replicas.{Fits}
 use Rattle.replica_merge.proofs.MergedLaws.{aside_agree}
 use Rattle.replica_merge.proofs.replica.Replica.merge.Goals as goal
