@@ -46,7 +46,7 @@ fn write_byte<C: ChunkContext>(context: &mut C, byte: u8) -> Result<u8, ContextE
     Ok(context.get(name)[1])
 }
 
-/// Makes one of two chunks longer, and gives both up. The other one keeps its bytes.
+/// Makes one of two chunks longer. It keeps its bytes, and so does the other one.
 fn lengthen<C: ChunkContext>(
     context: &mut C,
     bytes: &[u8],
@@ -61,42 +61,56 @@ fn lengthen<C: ChunkContext>(
     let second = context.alloc(bytes)?;
     let longer = context.resize(first, n)?;
     let byte = context.get(longer)[0];
-    let before = context.get(second) == bytes;
-    context.free(longer)?;
-    let after = context.get(second) == bytes;
-    context.free(second)?;
-    Ok((byte, before & after))
+    Ok((byte, context.get(second) == bytes))
 }
 
-type Answers = (bool, (bool, bool), u8, (u8, bool));
+/// Makes one of two chunks longer, and gives both up. The other one keeps its bytes as long as it is there.
+fn lengthen_and_free<C: ChunkContext>(
+    context: &mut C,
+    bytes: &[u8],
+    n: u32,
+) -> Result<bool, ContextError>
+    requires longer { length bytes.now ≤ n }
+    ensures kept { IfOk result (λ same. same ≡ true) }
+{
+    let first = context.alloc(bytes)?;
+    let second = context.alloc(bytes)?;
+    let longer = context.resize(first, n)?;
+    context.free(longer)?;
+    let same = context.get(second) == bytes;
+    context.free(second)?;
+    Ok(same)
+}
 
-/// What the calls above answer, where the chunk that is made longer gets `n` bytes.
-fn answers<C: ChunkContext>(context: &mut C, n: u32) -> Result<Answers, ContextError>
+/// Whether the calls above answer what they should, where the chunk that is made longer gets `n` bytes.
+fn answers<C: ChunkContext>(context: &mut C, n: u32) -> Result<[bool; 5], ContextError>
     requires { 3 ≤ n }
 {
     let freed = take_and_free(context, b"abc")?;
-    let written = write_over(context, b"abc", b"xyz")?;
-    let byte = write_byte(context, 7)?;
-    Ok((freed, written, byte, lengthen(context, b"abc", n)?))
+    let written = write_over(context, b"abc", b"xyz")? == (true, true);
+    let byte = write_byte(context, 7)? == 7;
+    let longer = lengthen(context, b"abc", n)? == (b'a', true);
+    let kept = lengthen_and_free(context, b"abc", n)?;
+    Ok([freed, written, byte, longer, kept])
 }
 
-fn answers_of_any_size<C: ChunkContext>(context: &mut C) -> Result<Answers, ContextError> {
+fn answers_of_any_size<C: ChunkContext>(context: &mut C) -> Result<[bool; 5], ContextError> {
     answers(context, 100)
 }
 
-const RIGHT: Answers = (true, (true, true), 7, (b'a', true));
+const RIGHT: [bool; 5] = [true; 5];
 
 #[test]
 fn chunks_keep_their_bytes(rt: HostRuntime) -> Result<(), Fail> {
-    assert_eq!(rt; with_alloc_set(rt, answers_of_any_size)?, RIGHT);
-    assert_eq!(rt; with_generation(rt, answers_of_any_size)?, RIGHT);
+    assert!(rt; with_alloc_set(rt, answers_of_any_size)? == RIGHT);
+    assert!(rt; with_generation(rt, answers_of_any_size)? == RIGHT);
     Ok(())
 }
 
 /// What the calls above answer where a chunk is not made longer: all of them, and why the last is refused.
 fn answers_of_one_size<C: ChunkContext>(
     context: &mut C,
-) -> Result<(Answers, Option<ContextError>), ContextError> {
+) -> Result<([bool; 5], Option<ContextError>), ContextError> {
     let right = answers(context, 3)?;
     Ok((right, lengthen(context, b"abc", 4).err()))
 }
@@ -113,8 +127,8 @@ fn answers_of_kept_chunks<C: ChunkContext>(
 #[test]
 fn chunks_of_one_size_keep_their_bytes(rt: HostRuntime) -> Result<(), Fail> {
     let slab = with_slab(rt, 3, answers_of_one_size)?;
-    assert_eq!(rt; slab, (RIGHT, Some(ContextError::WrongSize)));
+    assert!(rt; slab == (RIGHT, Some(ContextError::WrongSize)));
     let bump = with_bump(rt, answers_of_kept_chunks)?;
-    assert_eq!(rt; bump, (Some(ContextError::NotSupported), (true, true), 7));
+    assert!(rt; bump == (Some(ContextError::NotSupported), (true, true), 7));
     Ok(())
 }

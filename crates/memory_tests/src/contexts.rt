@@ -88,7 +88,7 @@ fn small_chunks<C: ChunkContext>(
 #[test]
 fn chunks_of_an_alloc_set(rt: HostRuntime) -> Result<(), Fail> {
     let counts = with_alloc_set(rt, small_chunks)?;
-    assert_eq!(rt; counts, (0, (0, 8192), 16_384, (8192, 24_576), 0));
+    assert!(rt; counts == (0, (0, 8192), 16_384, (8192, 24_576), 0));
     Ok(())
 }
 
@@ -108,7 +108,7 @@ fn large_chunk<C: ChunkContext>(context: &mut C) -> Result<Large, ContextError> 
 fn large_chunks_go_back(rt: HostRuntime) -> Result<(), Fail> {
     let counts = with_alloc_set(rt, large_chunk)?;
     let refused = Some(ContextError::TooLarge);
-    assert_eq!(rt; counts, ((32_784, 24_576), refused, 0, 8192, 16_384));
+    assert!(rt; counts == ((32_784, 24_576), refused, 0, 8192, 16_384));
     Ok(())
 }
 
@@ -130,7 +130,7 @@ fn resize_twice<C: ChunkContext>(context: &mut C) -> Result<([bool; 2], [u64; 3]
 #[test]
 fn a_chunk_is_resized(rt: HostRuntime) -> Result<(), Fail> {
     let counts = with_alloc_set(rt, resize_twice)?;
-    assert_eq!(rt; counts, ([true, true], [8192, 8192, 8192]));
+    assert!(rt; counts == ([true, true], [8192, 8192, 8192]));
     Ok(())
 }
 
@@ -145,7 +145,7 @@ fn change_first<C: ChunkContext>(context: &mut C) -> Result<[bool; 2], ContextEr
 
 #[test]
 fn a_chunk_is_changed(rt: HostRuntime) -> Result<(), Fail> {
-    assert_eq!(rt; with_alloc_set(rt, change_first)?, [true, true]);
+    assert!(rt; with_alloc_set(rt, change_first)? == [true, true]);
     Ok(())
 }
 
@@ -168,7 +168,7 @@ fn large_and_longer<C: ChunkContext>(context: &mut C) -> Result<Counts, ContextE
 fn chunks_of_a_generation(rt: HostRuntime) -> Result<(), Fail> {
     let counts = with_generation(rt, large_and_longer)?;
     let refused = Some(ContextError::TooLarge);
-    assert_eq!(rt; counts, ((8200, 0), (true, 8192), refused));
+    assert!(rt; counts == ((8200, 0), (true, 8192), refused));
     Ok(())
 }
 
@@ -185,7 +185,7 @@ fn free_both<C: ChunkContext>(context: &mut C) -> Result<[u64; 3], ContextError>
 
 #[test]
 fn a_block_goes_with_its_last_chunk(rt: HostRuntime) -> Result<(), Fail> {
-    assert_eq!(rt; with_generation(rt, free_both)?, [8192, 8192, 0]);
+    assert!(rt; with_generation(rt, free_both)? == [8192, 8192, 0]);
     Ok(())
 }
 
@@ -199,7 +199,7 @@ fn resize_and_free<C: ChunkContext>(context: &mut C) -> Result<u64, ContextError
 
 #[test]
 fn a_resized_chunk_is_given_up(rt: HostRuntime) -> Result<(), Fail> {
-    assert_eq!(rt; with_generation(rt, resize_and_free)?, 0);
+    assert!(rt; with_generation(rt, resize_and_free)? == 0);
     Ok(())
 }
 
@@ -211,7 +211,7 @@ fn fill_and_reset<C: ChunkContext>(context: &mut C) -> Result<[u64; 3], ContextE
 
 #[test]
 fn a_generation_is_reset(rt: HostRuntime) -> Result<(), Fail> {
-    assert_eq!(rt; with_generation(rt, fill_and_reset)?, [42_776, 0, 8192]);
+    assert!(rt; with_generation(rt, fill_and_reset)? == [42_776, 0, 8192]);
     Ok(())
 }
 
@@ -235,7 +235,7 @@ fn fill_block<C: ChunkContext>(context: &mut C) -> Result<([u64; 3], [u64; 3]), 
 #[test]
 fn chunks_of_a_slab(rt: HostRuntime) -> Result<(), Fail> {
     let counts = with_slab(rt, 40, fill_block)?;
-    assert_eq!(rt; counts, ([0, 8192, 8192], [16_384, 0, 8192]));
+    assert!(rt; counts == ([0, 8192, 8192], [16_384, 0, 8192]));
     Ok(())
 }
 
@@ -271,14 +271,11 @@ fn other_sizes<C: ChunkContext>(context: &mut C) -> Result<Refusals, ContextErro
 
 #[test]
 fn sizes_of_a_slab(rt: HostRuntime) -> Result<(), Fail> {
-    assert_eq!(rt;
-        with_slab(rt, TOO_LONG, |_| Ok(())),
-        Err(ContextError::TooLarge)
-    );
+    assert!(rt; with_slab(rt, TOO_LONG, |_| Ok(())) == Err(ContextError::TooLarge));
     let counts = with_slab(rt, 40, other_sizes)?;
     let wrong = Some(ContextError::WrongSize);
     let refused = [wrong, Some(ContextError::TooLarge)];
-    assert_eq!(rt; counts, (refused, 0, wrong, [true, true]));
+    assert!(rt; counts == (refused, 0, wrong, [true, true]));
     Ok(())
 }
 
@@ -291,7 +288,7 @@ fn use_again<C: ChunkContext>(context: &mut C) -> Result<(bool, [u64; 2]), Conte
 
 #[test]
 fn a_slab_takes_free_chunks_again(rt: HostRuntime) -> Result<(), Fail> {
-    assert_eq!(rt; with_slab(rt, 3, use_again)?, (true, [8192, 0]));
+    assert!(rt; with_slab(rt, 3, use_again)? == (true, [8192, 0]));
     Ok(())
 }
 
@@ -309,7 +306,7 @@ fn free_first<C: ChunkContext>(context: &mut C) -> Result<([u64; 3], usize), Con
 #[test]
 fn a_slab_of_large_chunks(rt: HostRuntime) -> Result<(), Fail> {
     let counts = with_slab(rt, 10_000, free_first)?;
-    assert_eq!(rt; counts, ([20_016, 10_008, 10_008], 10_000));
+    assert!(rt; counts == ([20_016, 10_008, 10_008], 10_000));
     Ok(())
 }
 
@@ -325,7 +322,7 @@ fn each_kind_is_reset(rt: HostRuntime) -> Result<(), Fail> {
     let slab = with_slab(rt, 10, take_and_reset)?;
     let generation = with_generation(rt, take_and_reset)?;
     let bump = with_bump(rt, take_and_reset)?;
-    assert_eq!(rt; [set, slab, generation, bump], [8192, 0, 0, 0]);
+    assert!(rt; [set, slab, generation, bump] == [8192, 0, 0, 0]);
     Ok(())
 }
 
@@ -356,10 +353,7 @@ fn fill_and_keep<C: ChunkContext>(context: &mut C) -> Result<Kept, ContextError>
 fn chunks_of_a_bump(rt: HostRuntime) -> Result<(), Fail> {
     let counts = with_bump(rt, fill_and_keep)?;
     let refused = Some(ContextError::NotSupported);
-    assert_eq!(rt;
-        counts,
-        ([8192, 8192, 16_384, 0], (true, [refused, refused]))
-    );
+    assert!(rt; counts == ([8192, 8192, 16_384, 0], (true, [refused, refused])));
     Ok(())
 }
 
@@ -379,11 +373,11 @@ fn take_too_much<C: ChunkContext>(
 fn no_chunk_is_too_long(rt: HostRuntime) -> Result<(), Fail> {
     let large = Some(ContextError::TooLarge);
     let refused = ([large, large], true);
-    assert_eq!(rt; with_alloc_set(rt, take_too_much)?, refused);
-    assert_eq!(rt; with_generation(rt, take_too_much)?, refused);
-    assert_eq!(rt; with_slab(rt, 3, take_too_much)?, refused);
+    assert!(rt; with_alloc_set(rt, take_too_much)? == refused);
+    assert!(rt; with_generation(rt, take_too_much)? == refused);
+    assert!(rt; with_slab(rt, 3, take_too_much)? == refused);
     let kept = ([Some(ContextError::NotSupported), large], true);
-    assert_eq!(rt; with_bump(rt, take_too_much)?, kept);
+    assert!(rt; with_bump(rt, take_too_much)? == kept);
     Ok(())
 }
 

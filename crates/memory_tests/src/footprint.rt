@@ -1,6 +1,8 @@
 //! What contexts take goes back to the system, so that the process does not grow: no contract can say so.
 //!
-//! `rt try` keeps memory that was given back, to see whether it is used again. There these tests say nothing.
+//! `rt try` keeps memory that was given back, to see whether it is used again. There, and on any system that keeps it, a block that was
+//! given back looks the same as one that was not, so these tests say nothing; that the blocks of a process go back at all is then told by
+//! `blocks_are_given_back` alone, which takes more than a process can have.
 
 use crate::contexts::{reset, take_all};
 use crate::kinds::{with_alloc_set, with_bump, with_generation, with_slab};
@@ -119,7 +121,7 @@ fn an_alloc_set_goes_back(rt: HostRuntime) -> Result<(), Fail> {
         |rt| with_alloc_set(rt, take_both),
         |rt, before| with_alloc_set(rt, |set| use_alloc_set(rt, set, before)),
     )?;
-    assert_eq!(rt; even, EVEN);
+    assert!(rt; even == EVEN);
     Ok(())
 }
 
@@ -141,7 +143,7 @@ fn a_slab_goes_back(rt: HostRuntime) -> Result<(), Fail> {
         |rt| with_slab(rt, SMALL, take_small),
         |rt, before| with_slab(rt, SMALL, |slab| Ok(use_slab(rt, slab, before)))?,
     )?;
-    assert_eq!(rt; even, EVEN);
+    assert!(rt; even == EVEN);
     Ok(())
 }
 
@@ -164,7 +166,7 @@ fn a_generation_goes_back(rt: HostRuntime) -> Result<(), Fail> {
         |rt| with_generation(rt, take_both),
         |rt, before| with_generation(rt, |generation| use_generation(rt, generation, before)),
     )?;
-    assert_eq!(rt; even, EVEN);
+    assert!(rt; even == EVEN);
     Ok(())
 }
 
@@ -186,6 +188,6 @@ fn a_bump_goes_back(rt: HostRuntime) -> Result<(), Fail> {
         |rt| with_bump(rt, take_both),
         |rt, before| with_bump(rt, |bump| use_bump(rt, bump, before)),
     )?;
-    assert_eq!(rt; even, EVEN);
+    assert!(rt; even == EVEN);
     Ok(())
 }

@@ -1,4 +1,4 @@
-ghost use Rattle.std.specs.Prelude.{◌<◌, ◌^◌, List, length};
+ghost use Rattle.std.specs.Prelude.{◌≡◌, ◌<◌, ◌^◌, IfOk, List, length};
 ghost use Rattle.grouping_model.specs.Datum.{Row};
 ghost use Rattle.having_filter.specs.Meaning.{meaning};
 ghost use Rattle.hash_agg.specs.Inputs.{ArePackings};
@@ -9,7 +9,7 @@ use having_filter::Query;
 use hex::encode;
 use std::test::*;
 use test_disks::FaultyDisk;
-use test_tables::differing;
+use test_tables::{expect, expect_lines};
 use test_towns::{COLUMNS, TOWNS, lines, packed, query};
 
 /// A hash function by which all keys have the same hash.
@@ -24,6 +24,18 @@ impl KeyHash for Constant {
     }
 }
 
+/// So many rows of towns, packed.
+fn rows_of(rt: HostRuntime, query: &Query, towns: u32) -> Result<PackedRows, Fail>
+    ensures { IfOk result (λ packed. (rows : List Row)
+        × ArePackings (meaning query.now).kinds packed rows
+        × (length packed ≡ towns)) }
+{
+    let lines = lines(rt, towns, ";")?;
+    let rows = packed(rt, query, towns, &lines);
+    drop(lines);
+    rows
+}
+
 /// The groups of a row of each of some towns within a limit, by a hash function, what these took, and how many pages of tape.
 fn counted<H: KeyHash + Copy>(
     rt: HostRuntime,
@@ -36,10 +48,12 @@ fn counted<H: KeyHash + Copy>(
     requires few { length rows.now < 2 ^ 57 }
 {
     let means = Means::new(limit, hash)?;
-    let inputs = [Input::Flat(rows)];
     let mut disk = MemDisk::new(rt.alloc());
-    let (run, work) = aggregate(rt.alloc(), query, &inputs, &means, &mut disk)?;
-    Ok((run, work, disk.writes()))
+    let aggregated = aggregate(rt.alloc(), query, &[Input::Flat(rows)], &means, &mut disk);
+    let pages = disk.writes();
+    drop(disk);
+    let (run, work) = aggregated?;
+    Ok((run, work, pages))
 }
 
 /// The bytes of the last group's key and states.
@@ -48,6 +62,55 @@ fn last_group(rt: HostRuntime, run: &Run) -> Result<String, Fail> {
     let (key, states) = run.group(last);
     let (key, states) = (encode(rt.alloc(), key)?, encode(rt.alloc(), states)?);
     Ok(format!(in rt.alloc(); "{key} {states}")?)
+}
+
+/// How many groups there are of some towns, whether they are the same as others, and the last of these.
+fn told_of_runs(rt: HostRuntime, whole: &Run, parts: &Run) -> Result<String, Fail> {
+    let last = last_group(rt, parts)?;
+    Ok(format!(in rt.alloc(); "{} {} {last}", whole.len(), whole.same_groups(parts))?)
+}
+
+/// Behind what is told of groups, what they took.
+fn with_work(rt: HostRuntime, told: &str, work: &Work, pages: u64) -> Result<String, Fail> {
+    let (passes, spilled, held) = (work.passes, work.spilled, work.most_held);
+    Ok(format!(in rt.alloc();
+        "{told}: passes {passes}, spilled {spilled}, pages {pages}, held {held}"
+    )?)
+}
+
+/// What is told of the groups of rows within a limit, beside the whole.
+fn compared_with<H: KeyHash + Copy>(
+    rt: HostRuntime,
+    query: &Query,
+    rows: &PackedRows,
+    whole: &Run,
+    limit: u64,
+    hash: H,
+) -> Result<String, Fail>
+    requires rows { (those : List Row) × ArePackings (meaning query.now).kinds rows.now those }
+    requires few { length rows.now < 2 ^ 57 }
+{
+    let (parts, work, pages) = counted(rt, query, rows, limit, hash)?;
+    let told = told_of_runs(rt, whole, &parts);
+    drop(parts);
+    with_work(rt, &told?, &work, pages)
+}
+
+/// The same beside their groups within the greatest limit.
+fn compared_rows<H: KeyHash + Copy>(
+    rt: HostRuntime,
+    query: &Query,
+    rows: &PackedRows,
+    limit: u64,
+    hash: H,
+) -> Result<String, Fail>
+    requires rows { (those : List Row) × ArePackings (meaning query.now).kinds rows.now those }
+    requires few { length rows.now < 2 ^ 57 }
+{
+    let (whole, _, _) = counted(rt, query, rows, 1_099_511_627_776, Fnv1a)?;
+    let told = compared_with(rt, query, rows, &whole, limit, hash);
+    drop(whole);
+    told
 }
 
 /// How many groups there are of a row of each of so many towns, whether they are the same within a limit by a hash function, the last of
@@ -59,15 +122,10 @@ fn compared<H: KeyHash + Copy>(
     limit: u64,
     hash: H,
 ) -> Result<String, Fail> {
-    let rows = packed(rt, query, towns, &lines(rt, towns, ";")?)?;
-    let (whole, _, _) = counted(rt, query, &rows, 1_099_511_627_776, Fnv1a)?;
-    let (parts, work, pages) = counted(rt, query, &rows, limit, hash)?;
-    let (many, same) = (whole.len(), whole.same_groups(&parts));
-    let last = last_group(rt, &parts)?;
-    let (passes, spilled, held) = (work.passes, work.spilled, work.most_held);
-    Ok(format!(in rt.alloc();
-        "{many} {same} {last}: passes {passes}, spilled {spilled}, pages {pages}, held {held}"
-    )?)
+    let rows = rows_of(rt, query, towns)?;
+    let told = compared_rows(rt, query, &rows, limit, hash);
+    drop(rows);
+    told
 }
 
 /// The same of the groups of the query.
@@ -87,55 +145,63 @@ pub(crate) fn limited<H: KeyHash + Copy>(
 fn a_limit_changes_nothing(rt: HostRuntime) -> Result<(), Fail> {
     // The first pass leaves 16 lists of some 1,200 rows, and the passes over these 256 of some 50. A table holds 384 groups, so 53
     // passes are the fewest that there can be.
-    let told = limited(rt, 20_000, 65_536, Fnv1a)?;
-    assert_eq!(rt;
-        told.as_str(),
-        "20000 true 016b313939393900 0000000000000001000000000000000100000000000000000000000000004e1f: passes 273, spilled 33088, pages 322, held 57352"
-    );
-    Ok(())
+    expect(
+        limited(rt, 20_000, 65_536, Fnv1a),
+        "20000 true 016b313939393900 0000000000000001000000000000000100000000000000000000000000004e1f: passes 273, spilled 33088, pages 322, held 57352",
+    )
+}
+
+/// Limits, and what is told of the groups of 385 towns within them, all of which have one hash. At the 385th group the buckets are
+/// doubled, to 1,024 beside the old 512.
+const LIMITS: &str = "\
+65536 => 385 true 016b3033383400 0000000000000001000000000000000100000000000000000000000000000180: passes 2, spilled 1, pages 1, held 57352
+90127 => 385 true 016b3033383400 0000000000000001000000000000000100000000000000000000000000000180: passes 2, spilled 1, pages 1, held 57352
+90128 => 385 true 016b3033383400 0000000000000001000000000000000100000000000000000000000000000180: passes 1, spilled 0, pages 0, held 90128";
+
+/// What is told of the groups of 385 towns within a limit.
+fn within(rt: HostRuntime, limit: &str) -> Result<String, Fail> {
+    limited(rt, 385, limit.parse()?, Constant)
 }
 
 #[test]
 fn a_group_too_many_is_spilled(rt: HostRuntime) -> Result<(), Fail> {
-    // At the 385th group the buckets are doubled, to 1,024 beside the old 512.
-    for (limit, wanted) in [
-        (65_536, "passes 2, spilled 1, pages 1, held 57352"),
-        (90_127, "passes 2, spilled 1, pages 1, held 57352"),
-        (90_128, "passes 1, spilled 0, pages 0, held 90128"),
-    ] {
-        let told = limited(rt, 385, limit, Constant)?;
-        assert_eq!(rt;
-            told.as_str(),
-            format!(in rt.alloc();
-                "385 true 016b3033383400 0000000000000001000000000000000100000000000000000000000000000180: {wanted}"
-            )?.as_str()
-        );
-    }
-    Ok(())
+    expect_lines(rt, LIMITS, within)
+}
+
+/// Whether a number is a limit.
+fn is_limit(number: u64) -> bool {
+    Means::new(number, Fnv1a).is_ok()
 }
 
 #[test]
-fn limits_have_a_range(rt: HostRuntime) -> Result<(), Fail> {
-    for (limit, is_one) in [
-        (0, false),
-        (65_535, false),
-        (65_536, true),
-        (1_099_511_627_776, true),
-        (1_099_511_627_777, false),
-    ] {
-        assert_eq!(rt; Means::new(limit, Fnv1a).is_ok(), is_one);
-    }
-    Ok(())
+fn limits_have_a_range(rt: HostRuntime) {
+    assert!(rt; !is_limit(0) && !is_limit(65_535) && is_limit(65_536));
+    assert!(rt; is_limit(1_099_511_627_776) && !is_limit(1_099_511_627_777));
+}
+
+/// Why the groups of rows are refused over a disk with a fault.
+fn refused_rows(
+    rt: HostRuntime,
+    query: &Query,
+    rows: &PackedRows,
+    fault: &str,
+) -> Result<String, Fail>
+    requires rows { (those : List Row) × ArePackings (meaning query.now).kinds rows.now those }
+    requires few { length rows.now < 2 ^ 57 }
+{
+    let means = Means::new(65_536, Fnv1a)?;
+    let mut disk = FaultyDisk::new(rt.alloc(), fault);
+    let refused = aggregate(rt.alloc(), query, &[Input::Flat(rows)], &means, &mut disk).err();
+    drop(disk);
+    Ok(format!(in rt.alloc(); "{refused:?}")?)
 }
 
 /// Why the groups of 385 towns, one of which is spilled, are refused over a disk with a fault.
 fn refused(rt: HostRuntime, query: &Query, fault: &str) -> Result<String, Fail> {
-    let rows = packed(rt, query, 385, &lines(rt, 385, ";")?)?;
-    let means = Means::new(65_536, Fnv1a)?;
-    let inputs = [Input::Flat(&rows)];
-    let mut disk = FaultyDisk::new(rt.alloc(), fault);
-    let refused = aggregate(rt.alloc(), query, &inputs, &means, &mut disk).err();
-    Ok(format!(in rt.alloc(); "{refused:?}")?)
+    let rows = rows_of(rt, query, 385)?;
+    let told = refused_rows(rt, query, &rows, fault);
+    drop(rows);
+    told
 }
 
 /// The same of the groups of the query.
@@ -154,6 +220,5 @@ flip => Some(TapeDamaged)";
 
 #[test]
 fn faults_of_disks_are_told(rt: HostRuntime) -> Result<(), Fail> {
-    assert_eq!(rt; differing(rt, REFUSALS, refusal)?, None);
-    Ok(())
+    expect_lines(rt, REFUSALS, refusal)
 }

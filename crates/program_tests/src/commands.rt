@@ -13,7 +13,7 @@ const BATCHES: [File; 9] = [
     ("count.csv", b"batch,0,1,2\noslo,5\n"),
     ("more.csv", b"batch,0,1,1\noslo,5\noslo,6\n"),
     ("wide.csv", b"batch,0,1,1\noslo,5,6\n"),
-    ("field.csv", b"batch,0,1,1\noslo,x\n"),
+    ("field.csv", b"batch,0,1,2\noslo,5\noslo,x\n"),
 ];
 
 /// Commands, each with what it prints on standard output, where `/` stands for the end of a line, its status, and, behind that,
@@ -46,8 +46,8 @@ new|@e.sum|--columns|c text, d bigint|--query|SELECT count(*) FROM batches => sa
 new|@o.sum|--columns|c text, d bigint|--query|SELECT sum(d) FROM batches => saved 56/ => 0
 feed|@f.sum|@e.sum|@empty.csv|@b.csv => refused BadBatchHead/folded upto 1/saved 86/ => 1 => empty.csv: refused BadBatchHead
 feed|@g.sum|@e.sum|@head.csv|@width.csv|@many.csv => refused BadBatchHead/refused BadBatchHead/refused TooManyRows/saved 58/ => 1 => many.csv: refused TooManyRows
-feed|@g.sum|@e.sum|@count.csv|@more.csv|@wide.csv => refused RowCount/refused RowCount/refused WrongWidth/saved 58/ => 1 => wide.csv: refused WrongWidth
-feed|@g.sum|@e.sum|@field.csv => refused BadField/saved 58/ => 1 => field.csv: refused BadField: a field stands for no value of column 1, the first being column 0
+feed|@g.sum|@e.sum|@count.csv|@more.csv|@wide.csv => refused RowCount/refused RowCount/refused WrongWidth/saved 58/ => 1 => wide.csv: refused WrongWidth: row 0 has
+feed|@g.sum|@e.sum|@field.csv => refused BadField/saved 58/ => 1 => field.csv: refused BadField: in row 1 a field stands for no value of column 1, both counted from 0
 merge|@g.sum|@f.sum|@o.sum|@b.csv|@e.sum => refused DifferentQuery/refused NotASummary/merged/saved 86/ => 1 => b.csv: refused NotASummary
 feed|@g.sum|@e.sum|@b.csv|@none.csv|@b.csv => folded upto 1/refused ReadFault/ => 3 => none.csv: refused ReadFault
 ";

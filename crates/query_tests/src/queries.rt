@@ -3,8 +3,9 @@ ghost use Rattle.std.specs.Prelude.{◌<◌, length};
 use group_parser::{parse, print};
 use having_filter::Query;
 use packed_rows::Schema;
+use std::alloc::{AllocError, Global};
 use std::test::*;
-use test_tables::{differing, halves};
+use test_tables::{expect_lines, halves};
 
 /// A query over some columns.
 fn query(rt: HostRuntime, case: &str) -> Result<Query, Fail> {
@@ -22,56 +23,61 @@ fn header(query: &Query, item: usize) -> &str
     query.header(item)
 }
 
-/// The names of the columns of the answer.
-fn headers(rt: HostRuntime, query: &Query) -> Result<String, Fail> {
-    let mut headers = String::new(rt.alloc());
+/// Tells the names of the columns of the answer.
+fn tell_headers(query: &Query, told: &mut String) -> Result<(), AllocError> {
     for item in 0..query.items().len() {
-        headers.push_str(header(query, item))?;
-        headers.push(' ')?;
+        told.push_str(header(query, item))?;
+        told.push_str(" ")?;
     }
-    Ok(headers)
+    Ok(())
 }
 
-/// The columns of GROUP BY and their kinds.
-fn keys(rt: HostRuntime, query: &Query) -> Result<String, Fail> {
+/// Tells the columns of GROUP BY and their kinds.
+fn tell_keys(alloc: Global, query: &Query, told: &mut String) -> Result<(), AllocError> {
     let (keys, kinds) = (query.keys(), query.key_kinds());
-    Ok(format!(in rt.alloc(); "{keys:?} {kinds:?}")?)
+    let part = format!(in alloc; " / {keys:?} {kinds:?}")?;
+    told.push_str(&part)
 }
 
-/// The functions of the aggregates, and where the items are found.
-fn sources(rt: HostRuntime, query: &Query) -> Result<String, Fail> {
+/// Tells the functions of the aggregates, and where the items are found.
+fn tell_sources(alloc: Global, query: &Query, told: &mut String) -> Result<(), AllocError> {
     let (kinds, sources) = (query.agg_kinds(), query.sources());
-    Ok(format!(in rt.alloc(); "{kinds:?} {sources:?}")?)
+    let part = format!(in alloc; " / {kinds:?} {sources:?}")?;
+    told.push_str(&part)
 }
 
-/// Whether there are WHERE and HAVING, and how many distinct aggregates.
-fn clauses(rt: HostRuntime, query: &Query) -> Result<String, Fail> {
+/// Tells whether there are WHERE and HAVING, and how many distinct aggregates.
+fn tell_clauses(alloc: Global, query: &Query, told: &mut String) -> Result<(), AllocError> {
     let (condition, having) = (query.condition().is_some(), query.having().is_some());
     let calls = query.aggregates().len();
-    Ok(format!(in rt.alloc(); "{condition} {having} {calls}")?)
+    let part = format!(in alloc; " / {condition} {having} {calls}")?;
+    told.push_str(&part)
 }
 
-/// A query's columns and its canonical text.
-fn texts(rt: HostRuntime, query: &Query) -> Result<String, Fail> {
+/// Tells a query's columns and its canonical text.
+fn tell_texts(alloc: Global, query: &Query, told: &mut String) -> Result<(), AllocError> {
     let columns = query.schema().print()?;
-    let text = print(rt.alloc(), query)?;
-    Ok(format!(in rt.alloc(); "{columns}|{text}")?)
+    told.push_str(&columns)?;
+    drop(columns);
+    let text = print(alloc, query)?;
+    told.push_str("|")?;
+    told.push_str(&text)
 }
 
-/// Appends a part behind what was told.
-fn push_part(told: &mut String, part: &str) -> Result<(), Fail> {
+/// Tells a query by its parts.
+fn tell_parts(alloc: Global, query: &Query, told: &mut String) -> Result<(), AllocError> {
+    tell_texts(alloc, query, told)?;
     told.push_str(" / ")?;
-    told.push_str(part)?;
-    Ok(())
+    tell_headers(query, told)?;
+    tell_clauses(alloc, query, told)?;
+    tell_keys(alloc, query, told)?;
+    tell_sources(alloc, query, told)
 }
 
 /// A query by its parts.
 fn parts(rt: HostRuntime, query: &Query) -> Result<String, Fail> {
-    let mut told = texts(rt, query)?;
-    push_part(&mut told, &headers(rt, query)?)?;
-    push_part(&mut told, &clauses(rt, query)?)?;
-    push_part(&mut told, &keys(rt, query)?)?;
-    push_part(&mut told, &sources(rt, query)?)?;
+    let mut told = String::new(rt.alloc());
+    tell_parts(rt.alloc(), query, &mut told)?;
     Ok(told)
 }
 
@@ -119,8 +125,7 @@ c text, d bigint|SELECT sum(d) FROM batches / sum  / false false 1 / [] [] / [Su
 
 #[test]
 fn queries_have_their_parts(rt: HostRuntime) -> Result<(), Fail> {
-    assert_eq!(rt; differing(rt, PARTS, told)?, None);
-    Ok(())
+    expect_lines(rt, PARTS, told)
 }
 
 /// Whether a query is the same as that of `c`'s sums.
@@ -169,6 +174,5 @@ c text, d bigint|SELECT c, sum(d) FROM batches GROUP BY c HAVING TRUE => false";
 
 #[test]
 fn same_queries_are_told(rt: HostRuntime) -> Result<(), Fail> {
-    assert_eq!(rt; differing(rt, OTHERS, told_if_same)?, None);
-    Ok(())
+    expect_lines(rt, OTHERS, told_if_same)
 }

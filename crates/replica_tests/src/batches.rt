@@ -2,7 +2,7 @@ use crate::fixtures::shown_batch;
 use batch_reader::{Batch, BatchError, build_batch};
 use packed_rows::Schema;
 use std::test::*;
-use test_tables::{differing, halves};
+use test_tables::{expect_lines, halves};
 use test_towns::records;
 
 /// What becomes of a batch.
@@ -41,11 +41,11 @@ const BATCHES: &str = "\
 0 1 0 oslo => RowCount
 0 1 2 oslo => RowCount
 0 1 1 oslo;oslo => RowCount
-0 1 1 oslo => WrongWidth
-0 1 3 oslo,1,t;oslo,x,y;oslo => BadField { column: 1 }
-0 1 3 oslo,1,t;oslo,x;oslo,1,y => WrongWidth
-0 1 3 oslo,1,t;oslo,1,y;oslo => BadField { column: 2 }
-0 1 3 oslo,1,t;oslo,1,t;oslo,1,t,t => WrongWidth
+0 1 1 oslo => WrongWidth { row: 0 }
+0 1 3 oslo,1,t;oslo,x,y;oslo => BadField { row: 1, column: 1 }
+0 1 3 oslo,1,t;oslo,x;oslo,1,y => WrongWidth { row: 1 }
+0 1 3 oslo,1,t;oslo,1,y;oslo => BadField { row: 1, column: 2 }
+0 1 3 oslo,1,t;oslo,1,t;oslo,1,t,t => WrongWidth { row: 2 }
 0 1 0  => 0/1
 0 1 2 oslo,5,t;\\N,-2,F => 0/1 016f736c6f000180000000000000050101 02017ffffffffffffffe0100
 1023 2147483647 1 oslo,1,t => 1023/2147483647 016f736c6f000180000000000000010101";
@@ -67,8 +67,7 @@ fn told(rt: HostRuntime, case: &str) -> Result<String, Fail> {
 
 #[test]
 fn batches_are_built_or_refused_in_order(rt: HostRuntime) -> Result<(), Fail> {
-    assert_eq!(rt; differing(rt, BATCHES, told)?, None);
-    Ok(())
+    expect_lines(rt, BATCHES, told)
 }
 
 /// As many rows as a batch may have.

@@ -7,7 +7,7 @@ use having_filter::Query;
 use origin_prefix::OriginPart;
 use std::collections::BTreeMap;
 use std::test::*;
-use test_tables::{differing, halves};
+use test_tables::{expect, expect_lines, halves};
 
 /// What is replied to a batch, and where it is refused, the batch that is handed back.
 fn reply(rt: HostRuntime, query: &Query, part: &mut OriginPart, told: &str) -> Result<String, Fail>
@@ -130,8 +130,7 @@ fn delivered(rt: HostRuntime, batches: &str) -> Result<String, Fail> {
 
 #[test]
 fn parts_take_batches(rt: HostRuntime) -> Result<(), Fail> {
-    assert_eq!(rt; differing(rt, DELIVERIES, delivered)?, None);
-    Ok(())
+    expect_lines(rt, DELIVERIES, delivered)
 }
 
 /// What becomes of two parts that are joined.
@@ -229,8 +228,7 @@ fn joined_of_towns(rt: HostRuntime, case: &str) -> Result<String, Fail> {
 
 #[test]
 fn parts_join(rt: HostRuntime) -> Result<(), Fail> {
-    assert_eq!(rt; differing(rt, JOINS, joined_of_towns)?, None);
-    Ok(())
+    expect_lines(rt, JOINS, joined_of_towns)
 }
 
 /// What a part holds that has the prefix and the groups of another, and nothing early.
@@ -252,9 +250,8 @@ fn rebuilt_of(rt: HostRuntime, query: &Query, batches: &str) -> Result<String, F
 
 #[test]
 fn parts_have_their_fields(rt: HostRuntime) -> Result<(), Fail> {
-    assert!(rt;
-        of_towns(rt, "0/1:oslo,1 0/2:oslo,2 0/4:oslo,4", rebuilt_of)?.as_str()
-            == "upto 2 knows 1 2 early 0 count Some(2) sum Some(3)"
-    );
-    Ok(())
+    expect(
+        of_towns(rt, "0/1:oslo,1 0/2:oslo,2 0/4:oslo,4", rebuilt_of),
+        "upto 2 knows 1 2 early 0 count Some(2) sum Some(3)",
+    )
 }

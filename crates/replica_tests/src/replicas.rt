@@ -3,7 +3,7 @@ use hash_agg::{Fnv1a, Means, MemDisk, Work};
 use having_filter::Answer;
 use replica_merge::Replica;
 use std::test::*;
-use test_tables::{differing, halves};
+use test_tables::{expect, expect_lines, halves};
 use test_towns::{COLUMNS, TOWNS, query};
 
 /// What is told of a case by a replica that knows nothing, of a query over some columns.
@@ -116,8 +116,7 @@ fn taken_of_towns(rt: HostRuntime, batches: &str) -> Result<String, Fail> {
 
 #[test]
 fn deliveries_are_replied_to(rt: HostRuntime) -> Result<(), Fail> {
-    assert_eq!(rt; differing(rt, DELIVERIES, taken_of_towns)?, None);
-    Ok(())
+    expect_lines(rt, DELIVERIES, taken_of_towns)
 }
 
 /// What a replica tells of two origins, of two numbers and of its query, once it has taken batches.
@@ -132,11 +131,10 @@ fn told(rt: HostRuntime, replica: &mut Replica, batches: &str) -> Result<String,
 #[test]
 fn replicas_tell_what_they_know(rt: HostRuntime) -> Result<(), Fail> {
     let batches = "0/1:oslo,1 0/3:oslo,3 0/5:oslo,5 0/2:oslo,2";
-    assert!(rt;
-        of_replica(rt, COLUMNS, TOWNS, batches, told)?.as_str()
-            == "3 0 true false SELECT c, count(*), sum(d) FROM batches GROUP BY c"
-    );
-    Ok(())
+    expect(
+        of_replica(rt, COLUMNS, TOWNS, batches, told),
+        "3 0 true false SELECT c, count(*), sum(d) FROM batches GROUP BY c",
+    )
 }
 
 /// What becomes of merging a replica that has taken batches into another, and what that one knows and answers then.
@@ -190,8 +188,7 @@ fn merged_as_told(rt: HostRuntime, case: &str) -> Result<String, Fail> {
 
 #[test]
 fn replicas_merge(rt: HostRuntime) -> Result<(), Fail> {
-    assert_eq!(rt; differing(rt, MERGES, merged_as_told)?, None);
-    Ok(())
+    expect_lines(rt, MERGES, merged_as_told)
 }
 
 /// Whether a merge with itself changes nothing of a replica that has taken batches.

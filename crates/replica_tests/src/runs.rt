@@ -1,6 +1,6 @@
 ghost use Rattle.std.specs.Prelude.{◌≡◌, ◌+◌, IfOk, OnOk};
 ghost use Rattle.having_filter.specs.Meaning.{meaning};
-ghost use Rattle.hash_agg.specs.Standing.{IsRun};
+ghost use Rattle.group_runs.specs.Standing.{IsRun};
 ghost use Rattle.packed_rows.specs.View.{bytes_of};
 
 use crate::fixtures::of_towns;
@@ -9,7 +9,7 @@ use hash_agg::{Fnv1a, Input, Means, MemDisk, Run, Work, aggregate, first_states,
 use having_filter::Query;
 use hex::encode;
 use std::test::*;
-use test_tables::halves;
+use test_tables::{expect, halves};
 use test_towns::packed;
 
 /// Packed rows, each in a vector of its own.
@@ -84,11 +84,10 @@ fn pushed(rt: HostRuntime, query: &Query, key: &str) -> Result<String, Fail> {
 
 #[test]
 fn a_run_takes_groups(rt: HostRuntime) -> Result<(), Fail> {
-    assert!(rt;
-        of_towns(rt, "\u{2}", pushed)?.as_str()
-            == "true false 02 0000000000000000000000000000000000000000000000000000000000000000; "
-    );
-    Ok(())
+    expect(
+        of_towns(rt, "\u{2}", pushed),
+        "true false 02 0000000000000000000000000000000000000000000000000000000000000000; ",
+    )
 }
 
 /// Gives more rows to a run of so many rows at most.

@@ -4,7 +4,7 @@ use hash_agg::{Fnv1a, Means, MemDisk, Work};
 use hex::encode;
 use replica_merge::Replica;
 use std::test::*;
-use test_tables::halves;
+use test_tables::{expect, halves};
 use test_towns::{COLUMNS, TOWNS};
 
 /// What a replica saves, in hexadecimal digits.
@@ -66,11 +66,10 @@ fn loaded(rt: HostRuntime, digits: &str) -> Result<String, Fail> {
 fn a_replica_saves_its_file(rt: HostRuntime) -> Result<(), Fail> {
     let file = digits_of(rt, FILE)?;
     assert!(rt; saved(rt, "0/1:oslo,5;bergen,7;oslo,-2")? == file);
-    assert!(rt;
-        loaded(rt, &file)?.as_str()
-            == r#"0 upto 1 early []; Text("bergen") Bigint(1) Numeric(7) Text("oslo") Bigint(2) Numeric(3)"#
-    );
-    Ok(())
+    expect(
+        loaded(rt, &file),
+        r#"0 upto 1 early []; Text("bergen") Bigint(1) Numeric(7) Text("oslo") Bigint(2) Numeric(3)"#,
+    )
 }
 
 /// Batches of two replicas that know the same once they are merged.
@@ -105,9 +104,8 @@ fn replicas_that_know_the_same_save_the_same(rt: HostRuntime) -> Result<(), Fail
 
 #[test]
 fn a_loaded_replica_knows_what_was_saved(rt: HostRuntime) -> Result<(), Fail> {
-    assert!(rt;
-        loaded(rt, &saved_of_all(rt)?)?.as_str()
-            == r#"0 upto 6 early [8]; Text("oslo") Bigint(6) Numeric(21)"#
-    );
-    Ok(())
+    expect(
+        loaded(rt, &saved_of_all(rt)?),
+        r#"0 upto 6 early [8]; Text("oslo") Bigint(6) Numeric(21)"#,
+    )
 }

@@ -6,7 +6,7 @@ use hash_agg::{Fnv1a, Means, Work};
 use replica_merge::Replica;
 use std::test::*;
 use test_disks::FaultyDisk;
-use test_tables::{differing, halves};
+use test_tables::{expect_lines, halves};
 use test_towns::{COLUMNS, TOWNS, lines};
 
 /// Batches of a row of each of 385 towns: one more than a table of 65,536 bytes holds.
@@ -103,6 +103,5 @@ fn refusal(rt: HostRuntime, case: &str) -> Result<String, Fail> {
 
 #[test]
 fn faults_of_disks_are_told(rt: HostRuntime) -> Result<(), Fail> {
-    assert_eq!(rt; differing(rt, REFUSALS, refusal)?, None);
-    Ok(())
+    expect_lines(rt, REFUSALS, refusal)
 }

@@ -2,7 +2,7 @@ use hex::decode as read_hex;
 use std::alloc::Global;
 use std::test::*;
 use summary_codec::{SummaryError, decode, encode};
-use test_tables::{differing, halves};
+use test_tables::{expect, expect_lines, halves};
 
 /// The bytes of what was read from a file.
 fn read_and_written(alloc: Global, bytes: &[u8]) -> Result<Vec<u8>, SummaryError> {
@@ -118,10 +118,9 @@ pub(crate) fn bytes_of(rt: HostRuntime, words: &str) -> Result<Vec<u8>, Fail> {
 fn a_file_is_read_and_written(rt: HostRuntime) -> Result<(), Fail> {
     let mut bytes = bytes_of(rt, FILE)?;
     assert!(rt; bytes.len() == 180);
-    assert!(rt; told(rt, &bytes)?.as_str() == "true");
+    expect(told(rt, &bytes), "true")?;
     bytes.push(0)?;
-    assert!(rt; told(rt, &bytes)?.as_str() == "Trailing");
-    Ok(())
+    expect(told(rt, &bytes), "Trailing")
 }
 
 #[test]
@@ -245,8 +244,7 @@ opening 0006 632074657874 0001 ff => NotCanonical";
 
 #[test]
 fn files_are_read_to_their_first_fault(rt: HostRuntime) -> Result<(), Fail> {
-    assert_eq!(rt; differing(rt, FILES, told_of_words)?, None);
-    Ok(())
+    expect_lines(rt, FILES, told_of_words)
 }
 
 /// Columns and queries, and what becomes of a file of them with no origin.
@@ -299,6 +297,5 @@ fn told_of_texts(rt: HostRuntime, texts: &str) -> Result<String, Fail> {
 
 #[test]
 fn texts_are_canonical(rt: HostRuntime) -> Result<(), Fail> {
-    assert_eq!(rt; differing(rt, TEXTS, told_of_texts)?, None);
-    Ok(())
+    expect_lines(rt, TEXTS, told_of_texts)
 }

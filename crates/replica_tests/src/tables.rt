@@ -3,7 +3,7 @@ use hash_agg::{Fnv1a, Means, MemDisk, Work};
 use replica_merge::Replica;
 use std::test::*;
 use table_print::{print_aligned, print_csv};
-use test_tables::{differing, halves};
+use test_tables::{expect_lines, halves};
 
 /// A replica's answer in columns.
 fn aligned(rt: HostRuntime, replica: &Replica) -> Result<String, Fail> {
@@ -55,6 +55,5 @@ fn printed(rt: HostRuntime, case: &str) -> Result<String, Fail> {
 
 #[test]
 fn answers_are_printed(rt: HostRuntime) -> Result<(), Fail> {
-    assert_eq!(rt; differing(rt, TABLES, printed)?, None);
-    Ok(())
+    expect_lines(rt, TABLES, printed)
 }

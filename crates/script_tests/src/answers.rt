@@ -1,6 +1,8 @@
 use crate::tables::last_replies;
+use script_machine::RunError;
+use std::alloc::{AllocError, Global};
 use std::test::*;
-use test_tables::{differing, halves};
+use test_tables::{cut, expect_told, expect_told_lines};
 
 /// The commands in front of a query over `c text, d bigint, b boolean`.
 const COLUMNS: &str = "columns,\"c text, d bigint, b boolean\"\nquery,\"";
@@ -25,15 +27,14 @@ SELECT count(*) FROM batches HAVING count(*) > 6 => answer 0/count
 SELECT max(d), max(d) FROM batches GROUP BY b HAVING b IS NULL => answer 1/max,max/-2,-2";
 
 /// A query's answer.
-fn answered(rt: HostRuntime, query: &str) -> Result<String, Fail> {
-    let script = format!(in rt.alloc(); "{COLUMNS}{query}{BATCHES}")?;
-    last_replies(rt, &script, "answer ")
+fn answered(alloc: Global, query: &str) -> Result<String, RunError> {
+    let script = format!(in alloc; "{COLUMNS}{query}{BATCHES}")?;
+    last_replies(alloc, &script, "answer ")
 }
 
 #[test]
 fn queries_are_answered(rt: HostRuntime) -> Result<(), Fail> {
-    assert_eq!(rt; differing(rt, ANSWERS, answered)?, None);
-    Ok(())
+    expect_told_lines(rt.alloc(), ANSWERS, answered)
 }
 
 /// The commands in front of batches, and their replies.
@@ -50,49 +51,62 @@ const KNOWN: &str = "\
 1023-2147483647 1023-2147483646 => known 1/origin 1023 upto 0 early 2147483646 2147483647/answer 0/c,count,sum
 0-0000000001 0-1 0-02 => known 1/origin 0 upto 2/answer 1/c,count,sum/oslo,2,3";
 
-/// Commands that feed batches, and a question.
-fn fed(rt: HostRuntime, batches: &str) -> Result<String, Fail> {
-    let mut script = String::from_str(rt.alloc(), HEAD)?;
+/// Appends the command that feeds a batch.
+fn push_batch(alloc: Global, batch: &str, script: &mut String) -> Result<(), AllocError> {
+    let (origin, number) = cut(batch, "-");
+    let command = format!(in alloc; "feed,a,{origin},{number},1\noslo,{number}\n")?;
+    script.push_str(&command)
+}
+
+/// Appends commands that feed batches.
+fn push_batches(alloc: Global, batches: &str, script: &mut String) -> Result<(), AllocError> {
     for batch in batches.split_terminator(' ') {
-        let (origin, number) = halves(batch, "-")?;
-        script.push_str(&format!(in rt.alloc(); "feed,a,{origin},{number},1\noslo,{number}\n")?)?;
+        push_batch(alloc, batch, script)?;
     }
-    script.push_str("known,a\nanswer,a\n")?;
-    Ok(script)
+    Ok(())
 }
 
 /// What is known of batches, and the answer.
-fn known(rt: HostRuntime, batches: &str) -> Result<String, Fail> {
-    let script = fed(rt, batches)?;
-    last_replies(rt, &script, "known ")
+fn known(alloc: Global, batches: &str) -> Result<String, RunError> {
+    let mut script = String::from_str(alloc, HEAD)?;
+    push_batches(alloc, batches, &mut script)?;
+    script.push_str("known,a\nanswer,a\n")?;
+    last_replies(alloc, &script, "known ")
 }
 
 #[test]
 fn replicas_know_what_they_were_given(rt: HostRuntime) -> Result<(), Fail> {
-    assert_eq!(rt; differing(rt, KNOWN, known)?, None);
+    expect_told_lines(rt.alloc(), KNOWN, known)
+}
+
+/// Appends a text so many times.
+pub(crate) fn push_repeated(
+    script: &mut String,
+    text: &str,
+    count: usize,
+) -> Result<(), AllocError> {
+    for _ in 0..count {
+        script.push_str(text)?;
+    }
     Ok(())
 }
 
-/// Commands that feed 65,536 of the greatest numbers and two of the least, and a question.
-fn wide_sums(rt: HostRuntime) -> Result<String, Fail> {
-    let mut script = String::from_str(rt.alloc(), HEAD)?;
-    script.push_str("feed,a,9,1,65536\n")?;
-    for _ in 0..65_536 {
-        script.push_str("x,9223372036854775807\n")?;
-    }
+/// What is known and answered of 65,536 of the greatest numbers and two of the least.
+fn wide_sums(alloc: Global) -> Result<String, RunError> {
+    let mut script = format!(in alloc; "{HEAD}feed,a,9,1,65536\n")?;
+    push_repeated(&mut script, "x,9223372036854775807\n", 65_536)?;
     script.push_str(
-        "feed,a,9,2,0\nfeed,a,2,1,2\ny,-9223372036854775808\ny,-9223372036854775808\n",
+        "feed,a,9,2,0\nfeed,a,2,1,2\ny,-9223372036854775808\ny,-9223372036854775808\n\
+        known,a\nanswer,a\n",
     )?;
-    script.push_str("known,a\nanswer,a\n")?;
-    Ok(script)
+    last_replies(alloc, &script, "known ")
 }
 
 #[test]
 fn sums_are_wide(rt: HostRuntime) -> Result<(), Fail> {
-    assert_eq!(rt;
-        last_replies(rt, &wide_sums(rt)?, "known ")?.as_str(),
+    expect_told(
+        wide_sums(rt.alloc()),
         "known 2/origin 2 upto 1/origin 9 upto 2/answer 2/c,count,sum/\
-        x,65536,604462909807314587287552/y,2,-18446744073709551616"
-    );
-    Ok(())
+        x,65536,604462909807314587287552/y,2,-18446744073709551616",
+    )
 }

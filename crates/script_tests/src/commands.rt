@@ -1,56 +1,57 @@
-use crate::tables::written;
+use crate::answers::push_repeated;
+use crate::tables::told;
 use csv::ByteRecord;
 use script_commands::{Command, Request, next_command};
 use script_io::Records;
+use script_machine::RunError;
+use std::alloc::{AllocError, Global};
 use std::test::*;
+use test_tables::{cut, expect_told};
 
-/// What is asked by a word, and with one name, two or none.
-fn named(rt: HostRuntime, word: &str, one: &[u8], other: &[u8]) -> Result<String, Fail> {
-    let (one, other) = (str::from_utf8(one)?, str::from_utf8(other)?);
-    Ok(format!(in rt.alloc(); "{word}|{one}|{other}")?)
+/// Bytes that are a text.
+fn text(bytes: &[u8]) -> &str {
+    str::from_utf8(bytes).unwrap_or("not UTF-8")
 }
 
-/// What is asked by a `feed`.
-fn fed(
-    rt: HostRuntime,
-    name: &[u8],
-    origin: &[u8],
-    number: &[u8],
-    told: u32,
-) -> Result<String, Fail> {
-    let batch = named(rt, "feed", name, origin)?;
-    let number = str::from_utf8(number)?;
-    Ok(format!(in rt.alloc(); "{batch}|{number}|{told}")?)
+/// What is asked by a word, and with one name, two or none.
+fn named(alloc: Global, word: &str, one: &str, other: &str) -> Result<String, AllocError> {
+    format!(in alloc; "{word}|{one}|{other}")
 }
 
 /// What is asked.
-fn asked(rt: HostRuntime, request: Request<'_>) -> Result<String, Fail> {
+fn asked(alloc: Global, request: Request<'_>) -> Result<String, AllocError> {
     match request {
-        Request::Columns(schema) => named(rt, "columns", schema.as_bytes(), b""),
-        Request::Query(text) => named(rt, "query", text.as_bytes(), b""),
-        Request::Limit(bytes) => Ok(format!(in rt.alloc(); "limit|{bytes}|")?),
-        Request::Replica(name) => named(rt, "replica", name, b""),
-        Request::Known(name) => named(rt, "known", name, b""),
-        Request::Answer(name) => named(rt, "answer", name, b""),
-        Request::Merge { into, from } => named(rt, "merge", into, from),
-        Request::Save { name, saved } => named(rt, "save", name, saved),
-        Request::Load { name, saved } => named(rt, "load", name, saved),
+        Request::Columns(schema) => named(alloc, "columns", schema, ""),
+        Request::Query(text) => named(alloc, "query", text, ""),
+        Request::Limit(bytes) => format!(in alloc; "limit|{bytes}|"),
+        Request::Replica(name) => named(alloc, "replica", text(name), ""),
+        Request::Known(name) => named(alloc, "known", text(name), ""),
+        Request::Answer(name) => named(alloc, "answer", text(name), ""),
+        Request::Merge { into, from } => named(alloc, "merge", text(into), text(from)),
+        Request::Save { name, saved } => named(alloc, "save", text(name), text(saved)),
+        Request::Load { name, saved } => named(alloc, "load", text(name), text(saved)),
         Request::Feed {
             name,
             origin,
             number,
             told,
-        } => fed(rt, name, origin, number, told),
-        Request::Unknown => named(rt, "unknown", b"", b""),
+        } => {
+            let (name, origin, number) = (text(name), text(origin), text(number));
+            format!(in alloc; "feed|{name}|{origin}|{number}|{told}")
+        }
+        Request::Unknown => named(alloc, "unknown", "", ""),
     }
 }
 
-/// How many records come of those that belong to a command.
-fn owned(rt: HostRuntime, records: &mut Records<'_>, command: &Command) -> Result<usize, Fail> {
-    let mut row = ByteRecord::new(rt.alloc());
+/// How many records come of so many.
+fn counted(
+    records: &mut Records<'_>,
+    row: &mut ByteRecord,
+    most: usize,
+) -> Result<usize, AllocError> {
     let mut count: usize = 0;
-    for _ in 0..command.owned() {
-        if !records.read(&mut row)? {
+    for _ in 0..most {
+        if !records.read(row)? {
             break;
         }
         count = count.wrapping_add(1);
@@ -58,30 +59,66 @@ fn owned(rt: HostRuntime, records: &mut Records<'_>, command: &Command) -> Resul
     Ok(count)
 }
 
-/// What the next command asks, if there is one, and how many records belong to it.
-fn next_told(rt: HostRuntime, records: &mut Records<'_>) -> Result<String, Fail> {
-    let Some(command) = next_command(records)? else {
-        return Ok(String::from_str(rt.alloc(), "none")?);
-    };
-    let owned = owned(rt, records, &command)?;
-    let asked = asked(rt, command.request())?.replace(rt.alloc(), "\n", "/")?;
-    Ok(format!(in rt.alloc(); "{asked} {owned}")?)
+/// How many records come of those that belong to a command.
+fn owned(alloc: Global, records: &mut Records<'_>, command: &Command) -> Result<usize, AllocError> {
+    let mut row = ByteRecord::new(alloc);
+    let count = counted(records, &mut row, command.owned());
+    drop(row);
+    count
 }
 
-/// The same of so many commands, one behind the other.
-fn several_told(rt: HostRuntime, records: &mut Records<'_>, count: usize) -> Result<String, Fail> {
-    let mut several = String::new(rt.alloc());
+/// What a command asks, on one line.
+fn line(alloc: Global, command: &Command) -> Result<String, AllocError> {
+    let asked = asked(alloc, command.request())?;
+    asked.replace(alloc, "\n", "/")
+}
+
+/// What a command asks, and how many records belong to it.
+fn command_told(
+    alloc: Global,
+    records: &mut Records<'_>,
+    command: &Command,
+) -> Result<String, AllocError> {
+    let owned = owned(alloc, records, command)?;
+    let asked = line(alloc, command)?;
+    format!(in alloc; "{asked} {owned}")
+}
+
+/// What the next command asks, if there is one, and how many records belong to it.
+fn next_told(alloc: Global, records: &mut Records<'_>) -> Result<String, AllocError> {
+    match next_command(records)? {
+        Some(command) => {
+            let told = command_told(alloc, records, &command);
+            drop(command);
+            told
+        }
+        None => String::from_str(alloc, "none"),
+    }
+}
+
+/// Tells the same of so many commands, one behind the other, each behind a mark.
+fn tell_several(
+    alloc: Global,
+    records: &mut Records<'_>,
+    count: usize,
+    several: &mut String,
+) -> Result<(), AllocError> {
     for _ in 0..count {
-        several.push_str(&next_told(rt, records)?)?;
+        let told = next_told(alloc, records)?;
+        several.push_str(&told)?;
         several.push(';')?;
     }
-    Ok(several)
+    Ok(())
 }
 
 /// The same of the first commands of a script.
-fn first_told(rt: HostRuntime, script: &[u8], count: usize) -> Result<String, Fail> {
-    let mut records = Records::new(rt.alloc(), script);
-    several_told(rt, &mut records, count)
+fn first_told(alloc: Global, script: &[u8], count: usize) -> Result<String, AllocError> {
+    let mut records = Records::new(alloc, script);
+    let mut several = String::new(alloc);
+    let told = tell_several(alloc, &mut records, count, &mut several);
+    drop(records);
+    told?;
+    Ok(several)
 }
 
 /// Commands of one script with the records behind them, and what each asks and how many records belong to it. `/` stands
@@ -138,76 +175,102 @@ feeds,a,0,1,1 => unknown|| 0
 feed,a,0,1,999999999/last => feed|a|0|1|999999999 1";
 
 /// The script of a table of commands.
-fn script_of(rt: HostRuntime, table: &str) -> Result<String, Fail> {
-    let mut script = String::new(rt.alloc());
+fn script_of(alloc: Global, table: &str) -> Result<String, AllocError> {
+    let mut script = String::new(alloc);
     for line in table.lines() {
-        let (records, _) = line.split_once(" => ").ok_or("no command")?;
+        let (records, _) = cut(line, " => ");
         script.push_str(records)?;
         script.push('/')?;
     }
-    Ok(script.replace(rt.alloc(), "/", "\n")?)
+    script.replace(alloc, "/", "\n")
 }
 
-/// The first line of a table whose command asks something else than the line tells.
-fn differing_command<'t>(
-    rt: HostRuntime,
+/// Tells the lines of a table whose commands ask something else than the lines tell.
+fn tell_differing(
+    alloc: Global,
     records: &mut Records<'_>,
-    table: &'t str,
-) -> Result<Option<&'t str>, Fail> {
+    table: &str,
+    differing: &mut String,
+) -> Result<(), AllocError> {
     for line in table.lines() {
-        let (_, want) = line.split_once(" => ").ok_or("no command")?;
-        if next_told(rt, records)?.as_str() != want {
-            return Ok(Some(line));
+        let (_, wanted) = cut(line, " => ");
+        let told = next_told(alloc, records)?;
+        if told.as_str() != wanted {
+            differing.push_str(line)?;
         }
     }
-    Ok(None)
+    Ok(())
+}
+
+/// The lines of a table whose commands ask something else in a script than the lines tell, and what two more commands ask.
+fn differing(alloc: Global, script: &str, table: &str) -> Result<String, AllocError> {
+    let mut records = Records::new(alloc, script.as_bytes());
+    let mut text = String::new(alloc);
+    let told = tell_differing(alloc, &mut records, table, &mut text);
+    let behind = tell_several(alloc, &mut records, 2, &mut text);
+    drop(records);
+    told?;
+    behind?;
+    Ok(text)
+}
+
+/// The same in the script of the table.
+fn differing_in_own(alloc: Global, table: &str) -> Result<String, AllocError> {
+    let script = script_of(alloc, table)?;
+    differing(alloc, &script, table)
 }
 
 #[test]
 fn records_ask(rt: HostRuntime) -> Result<(), Fail> {
-    let script = script_of(rt, COMMANDS)?;
-    let mut records = Records::new(rt.alloc(), script.as_bytes());
-    assert_eq!(rt; differing_command(rt, &mut records, COMMANDS)?, None);
-    assert_eq!(rt; several_told(rt, &mut records, 2)?.as_str(), "none;none;");
-    Ok(())
+    expect_told(differing_in_own(rt.alloc(), COMMANDS), "none;none;")
 }
 
 #[test]
 fn scripts_begin_and_end(rt: HostRuntime) -> Result<(), Fail> {
-    assert_eq!(rt; first_told(rt, b"\n\r\n", 1)?.as_str(), "none;");
+    expect_told(first_told(rt.alloc(), b"\n\r\n", 1), "none;")?;
     // What is no text asks nothing.
-    assert_eq!(rt;
-        first_told(rt, b"\xef\xbb\xbfanswer,a\ncolumns,\xff", 3)?.as_str(),
-        "answer|a| 0;unknown|| 0;none;"
-    );
-    Ok(())
+    expect_told(
+        first_told(rt.alloc(), b"\xef\xbb\xbfanswer,a\ncolumns,\xff", 3),
+        "answer|a| 0;unknown|| 0;none;",
+    )
 }
 
-/// A command that tells 65,540 records, with as many behind it, and a question.
-fn too_many(rt: HostRuntime) -> Result<String, Fail> {
-    let mut script = String::from_str(rt.alloc(), "feed,a,0,1,65540\n")?;
-    for _ in 0..65_540 {
-        script.push_str("known,a\n")?;
-    }
+/// Commands, one that tells 65,540 records, with as many behind it, and a question.
+fn too_many(alloc: Global, before: &str) -> Result<String, AllocError> {
+    let mut script = format!(in alloc; "{before}feed,a,0,1,65540\n")?;
+    push_repeated(&mut script, "known,a\n", 65_540)?;
     script.push_str("known,b\n")?;
     Ok(script)
 }
 
+/// What two commands ask that are such.
+fn too_many_told(alloc: Global) -> Result<String, AllocError> {
+    let script = too_many(alloc, "")?;
+    first_told(alloc, script.as_bytes(), 2)
+}
+
 #[test]
 fn commands_own_more_records_than_a_batch_has(rt: HostRuntime) -> Result<(), Fail> {
-    assert_eq!(rt;
-        first_told(rt, too_many(rt)?.as_bytes(), 2)?.as_str(),
-        "feed|a|0|1|65540 65540;known|b| 0;"
-    );
-    Ok(())
+    expect_told(
+        too_many_told(rt.alloc()),
+        "feed|a|0|1|65540 65540;known|b| 0;",
+    )
+}
+
+/// How many are refused of such commands behind others, and the last replies.
+fn too_many_replied(alloc: Global) -> Result<String, RunError> {
+    let before = "columns,d bigint\nquery,SELECT count(*) FROM batches\nreplica,a\n";
+    let script = too_many(alloc, before)?;
+    let told = told(alloc, &script)?;
+    let (refused, _) = cut(&told, " ");
+    let (_, last) = cut(&told, "replica a/");
+    Ok(format!(in alloc; "{refused} replica a/{last}")?)
 }
 
 #[test]
 fn more_records_than_a_batch_has_are_passed_over(rt: HostRuntime) -> Result<(), Fail> {
-    let begin = "columns,d bigint\nquery,SELECT count(*) FROM batches\nreplica,a\n";
-    let script = format!(in rt.alloc(); "{begin}{}", too_many(rt)?)?;
-    let (replies, refused) = written(rt, &script)?;
-    assert!(rt; replies.ends_with("replica a\nrefused TooManyRows\nrefused NoSuchName\n"));
-    assert_eq!(rt; refused, 2);
-    Ok(())
+    expect_told(
+        too_many_replied(rt.alloc()),
+        "2 replica a/refused TooManyRows/refused NoSuchName/",
+    )
 }

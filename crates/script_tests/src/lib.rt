@@ -8,6 +8,8 @@ mod commands;
 #[cfg(test)]
 mod machine;
 #[cfg(test)]
+mod many_batches;
+#[cfg(test)]
 mod merges;
 #[cfg(test)]
 mod queries;

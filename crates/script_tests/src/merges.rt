@@ -1,12 +1,14 @@
-use crate::tables::{last_replies, on_one_line, written};
+use crate::tables::{last_replies, told};
+use script_machine::RunError;
+use std::alloc::{AllocError, Global};
 use std::test::*;
-use test_tables::{differing, halves};
+use test_tables::{cut, expect_told, expect_told_lines};
 
-/// How many of the replies are refusals.
+/// How many of the replies on one line are refusals.
 fn refusals(replies: &str) -> u64 {
     let mut count = 0u64;
-    for line in replies.lines() {
-        if line.starts_with("refused ") {
+    for reply in replies.split('/') {
+        if reply.starts_with("refused ") {
             count = count.saturating_add(1);
         }
     }
@@ -19,26 +21,36 @@ const HEAD: &str =
     replica,a\nreplica,b\nreplica,c\n";
 
 const HEAD_REPLIES: &str =
-    "columns 2\nquery SELECT c, count(*), sum(d) FROM batches GROUP BY c\nreplica a\nreplica b\nreplica c\n";
+    "columns 2/query SELECT c, count(*), sum(d) FROM batches GROUP BY c/replica a/replica b/replica c/";
 
-/// Appends the commands of steps. `a<b` merges b into a, `a>x` saves a as x, `a:x` loads x as a, `a?` asks a for what it knows and for
+/// The command that feeds a replica a batch, as `a=0.3` or `a=0.3.9`.
+fn feed(alloc: Global, step: &str) -> Result<String, AllocError> {
+    let (name, batch) = cut(step, "=");
+    let (origin, batch) = cut(batch, ".");
+    let (number, amount) = batch.split_once('.').unwrap_or((batch, batch));
+    format!(in alloc; "feed,{name},{origin},{number},1\noslo,{amount}\n")
+}
+
+/// The commands of a step. `a<b` merges b into a, `a>x` saves a as x, `a:x` loads x as a, `a?` asks a for what it knows and for
 /// its answer, `a=0.3` feeds a the batch 3 of origin 0, whose row is `oslo,3`, and `a=0.3.9` feeds it with the row `oslo,9`.
-fn push_steps(rt: HostRuntime, script: &mut String, steps: &str) -> Result<(), Fail> {
+fn commands(alloc: Global, step: &str) -> Result<String, AllocError> {
+    if let Some((into, from)) = step.split_once('<') {
+        format!(in alloc; "merge,{into},{from}\n")
+    } else if let Some((name, saved)) = step.split_once('>') {
+        format!(in alloc; "save,{name},{saved}\n")
+    } else if let Some((name, saved)) = step.split_once(':') {
+        format!(in alloc; "load,{name},{saved}\n")
+    } else if let Some(name) = step.strip_suffix('?') {
+        format!(in alloc; "known,{name}\nanswer,{name}\n")
+    } else {
+        feed(alloc, step)
+    }
+}
+
+/// Appends the commands of steps.
+fn push_steps(alloc: Global, script: &mut String, steps: &str) -> Result<(), AllocError> {
     for step in steps.split(' ') {
-        let commands = if let Some((into, from)) = step.split_once('<') {
-            format!(in rt.alloc(); "merge,{into},{from}\n")?
-        } else if let Some((name, saved)) = step.split_once('>') {
-            format!(in rt.alloc(); "save,{name},{saved}\n")?
-        } else if let Some((name, saved)) = step.split_once(':') {
-            format!(in rt.alloc(); "load,{name},{saved}\n")?
-        } else if let Some(name) = step.strip_suffix('?') {
-            format!(in rt.alloc(); "known,{name}\nanswer,{name}\n")?
-        } else {
-            let (name, batch) = halves(step, "=")?;
-            let (origin, batch) = halves(batch, ".")?;
-            let (number, amount) = batch.split_once('.').unwrap_or((batch, batch));
-            format!(in rt.alloc(); "feed,{name},{origin},{number},1\noslo,{amount}\n")?
-        };
+        let commands = commands(alloc, step)?;
         script.push_str(&commands)?;
     }
     Ok(())
@@ -65,26 +77,27 @@ a=0.1 a=5.4 b=3.1 b=5.1 a<b a? => folded upto 1/early/folded upto 1/folded upto 
 a=0.1 a=3.4 b=0.1 b=0.2 b=3.4.100 a<b a? => folded upto 1/early/folded upto 1/folded upto 2/early/refused OriginDisagrees/known 2/origin 0 upto 1/origin 3 upto 0 early 4/answer 1/c,count,sum/oslo,1,1
 a=1023.2147483647 b=1023.2147483646 b=0.1 a<b a? => early/early/folded upto 1/merged/known 2/origin 0 upto 1/origin 1023 upto 0 early 2147483646 2147483647/answer 1/c,count,sum/oslo,1,1";
 
-/// The replies to a script behind those of the head, on one line, if they are as many refusals as are counted.
-fn counted_replies(rt: HostRuntime, script: &str) -> Result<String, Fail> {
-    let (replies, refused) = written(rt, script)?;
-    if refused != refusals(&replies) {
-        return Err("refusals are counted otherwise")?;
+/// Replies behind those of the head, without the mark behind the last line, if they are as many refusals as are counted.
+fn behind_head(told: &str) -> &str {
+    let (refused, replies) = cut(told, " ");
+    if refused.parse::<u64>().ok() != Some(refusals(replies)) {
+        return "refusals are counted otherwise";
     }
-    on_one_line(rt, replies.strip_prefix(HEAD_REPLIES).ok_or("no head")?)
+    let replies = replies.strip_prefix(HEAD_REPLIES).unwrap_or("no head");
+    replies.strip_suffix('/').unwrap_or("no end")
 }
 
 /// All replies to steps.
-pub(crate) fn replies_to_steps(rt: HostRuntime, steps: &str) -> Result<String, Fail> {
-    let mut script = String::from_str(rt.alloc(), HEAD)?;
-    push_steps(rt, &mut script, steps)?;
-    counted_replies(rt, &script)
+pub(crate) fn replies_to_steps(alloc: Global, steps: &str) -> Result<String, RunError> {
+    let mut script = String::from_str(alloc, HEAD)?;
+    push_steps(alloc, &mut script, steps)?;
+    let told = told(alloc, &script)?;
+    Ok(String::from_str(alloc, behind_head(&told))?)
 }
 
 #[test]
 fn replicas_merge(rt: HostRuntime) -> Result<(), Fail> {
-    assert_eq!(rt; differing(rt, MERGES, replies_to_steps)?, None);
-    Ok(())
+    expect_told_lines(rt.alloc(), MERGES, replies_to_steps)
 }
 
 /// What three replicas are fed: together they miss batch 4 of origin 0 and batch 1 of origin 7.
@@ -110,19 +123,33 @@ const KNOWN: &str =
     "known 3/origin 0 upto 3 early 5/origin 1 upto 3/origin 7 upto 0 early 2/answer 1/c,count,sum/oslo,6,12";
 
 /// What is known and answered behind an order of merges.
-fn known_behind(rt: HostRuntime, order: &str) -> Result<String, Fail> {
-    let mut script = String::from_str(rt.alloc(), HEAD)?;
-    push_steps(rt, &mut script, FED)?;
-    push_steps(rt, &mut script, order)?;
-    last_replies(rt, &script, "known ")
+fn known_behind(alloc: Global, order: &str) -> Result<String, RunError> {
+    let mut script = String::from_str(alloc, HEAD)?;
+    push_steps(alloc, &mut script, FED)?;
+    push_steps(alloc, &mut script, order)?;
+    last_replies(alloc, &script, "known ")
+}
+
+/// Tells the orders of merges behind which something else is known and answered.
+fn tell_differing(alloc: Global, differing: &mut String) -> Result<(), RunError> {
+    for order in ORDERS.lines() {
+        if known_behind(alloc, order)?.as_str() != KNOWN {
+            differing.push_str(order)?;
+        }
+    }
+    Ok(())
+}
+
+/// The orders of merges behind which something else is known and answered.
+fn differing(alloc: Global) -> Result<String, RunError> {
+    let mut differing = String::new(alloc);
+    tell_differing(alloc, &mut differing)?;
+    Ok(differing)
 }
 
 #[test]
 fn replicas_merge_in_any_order(rt: HostRuntime) -> Result<(), Fail> {
-    for order in ORDERS.lines() {
-        assert!(rt; known_behind(rt, order)?.as_str() == KNOWN, "{order}");
-    }
-    Ok(())
+    expect_told(differing(rt.alloc()), "")
 }
 
 /// Merges that name no two replicas, behind one that does, and savings and loadings that name nothing.
@@ -164,28 +191,31 @@ const BEHIND: &str = "/known 1/origin 0 upto 1 early 3/answer 1/c,count,sum/oslo
     /known 1/origin 0 upto 1 early 3/answer 1/c,count,sum/oslo,1,1";
 
 /// A command between steps that feed two replicas and merge them, and questions.
-fn between_steps(rt: HostRuntime, command: &str) -> Result<String, Fail> {
-    let mut script = String::from_str(rt.alloc(), HEAD)?;
-    push_steps(rt, &mut script, "a=0.1 b=0.3 a<b b<a")?;
+fn between_steps(alloc: Global, command: &str) -> Result<String, AllocError> {
+    let mut script = String::from_str(alloc, HEAD)?;
+    push_steps(alloc, &mut script, "a=0.1 b=0.3 a<b b<a")?;
     script.push_str(command)?;
     script.push('\n')?;
-    push_steps(rt, &mut script, "a? b?")?;
+    push_steps(alloc, &mut script, "a? b?")?;
     Ok(script)
 }
 
-/// The reply to such a command, if all others are as ever.
-fn reply_to_command(rt: HostRuntime, command: &str) -> Result<String, Fail> {
-    let script = between_steps(rt, command)?;
-    let replies = counted_replies(rt, &script)?;
-    let reply = replies.strip_prefix(BEFORE).ok_or("others in front")?;
-    let reply = reply.strip_suffix(BEHIND).ok_or("others behind")?;
-    Ok(String::from_str(rt.alloc(), reply)?)
+/// The reply to a command, if all others are as ever.
+fn between(replies: &str) -> &str {
+    let reply = replies.strip_prefix(BEFORE).unwrap_or("others in front");
+    reply.strip_suffix(BEHIND).unwrap_or("others behind")
+}
+
+/// The reply to a command between such steps.
+fn reply_to_command(alloc: Global, command: &str) -> Result<String, RunError> {
+    let script = between_steps(alloc, command)?;
+    let told = told(alloc, &script)?;
+    Ok(String::from_str(alloc, between(behind_head(&told)))?)
 }
 
 #[test]
 fn commands_that_name_nothing_are_refused(rt: HostRuntime) -> Result<(), Fail> {
-    assert_eq!(rt; differing(rt, REFUSED, reply_to_command)?, None);
-    Ok(())
+    expect_told_lines(rt.alloc(), REFUSED, reply_to_command)
 }
 
 #[test]
@@ -193,11 +223,9 @@ fn merges_before_replicas_name_none(rt: HostRuntime) -> Result<(), Fail> {
     let script =
         "merge,a,b\ncolumns,c text\nmerge,a,a\nquery,select c from batches group by c\nmerge,a,b\n\
         replica,a\nmerge,a,b\nmerge,b,a\nmerge,a,a\n";
-    let want =
-        "refused NoSuchName/columns 1/refused NoSuchName/query SELECT c FROM batches GROUP BY c/\
-        refused NoSuchName/replica a/refused NoSuchName/refused NoSuchName/merged";
-    let (replies, refused) = written(rt, script)?;
-    assert_eq!(rt; on_one_line(rt, &replies)?.as_str(), want);
-    assert_eq!(rt; refused, 5);
-    Ok(())
+    expect_told(
+        told(rt.alloc(), script),
+        "5 refused NoSuchName/columns 1/refused NoSuchName/query SELECT c FROM batches GROUP BY c/\
+        refused NoSuchName/replica a/refused NoSuchName/refused NoSuchName/merged/",
+    )
 }

@@ -1,8 +1,10 @@
-use crate::tables::accepted;
+use crate::answers::push_repeated;
+use crate::tables::{accepted, told};
 use hash_agg::MemDisk;
-use script_machine::{Observer, Refusal, run_observed};
+use script_machine::{Observer, Refusal, RunError, run_observed};
+use std::alloc::{AllocError, Global};
 use std::test::*;
-use test_tables::{differing, halves};
+use test_tables::{cut, expect_told_lines};
 
 /// Keeps why the last of the commands that were refused was.
 #[derive(Drop)]
@@ -17,33 +19,63 @@ impl Observer for LastRefusal {
 }
 
 /// The columns `c text, d bigint, b boolean` and `k00 bigint` up to `k28`, and a query over them.
-fn asked(rt: HostRuntime, query: &str) -> Result<String, Fail> {
-    let mut script = String::from_str(rt.alloc(), "columns,\"c text, d bigint, b boolean")?;
-    for number in 0..29u32 {
-        script.push_str(&format!(in rt.alloc(); ", k{number:02} bigint")?)?;
-    }
-    script.push_str(&format!(in rt.alloc(); "\"\nquery,\"{query}\"\n")?)?;
+fn asked(alloc: Global, query: &str) -> Result<String, AllocError> {
+    let mut script = String::from_str(alloc, "columns,\"c text, d bigint, b boolean")?;
+    push_listed(alloc, &mut script, 29, ", k", " bigint")?;
+    let rest = format!(in alloc; "\"\nquery,\"{query}\"\n")?;
+    script.push_str(&rest)?;
     Ok(script)
 }
 
-/// The canonical text of a query, or why it is refused.
-fn told(rt: HostRuntime, query: &str) -> Result<String, Fail> {
-    let script = asked(rt, query)?;
-    let mut last = LastRefusal { why: None };
-    let mut written = Vec::new(rt.alloc());
-    run_observed(
-        rt.alloc(),
-        &mut script.as_bytes(),
-        &mut written,
-        &mut last,
-        &mut MemDisk::new(rt.alloc()),
-    )?;
-    if let Some(why) = last.why {
-        return Ok(format!(in rt.alloc(); "{why}")?);
+/// Appends so many names: each has two digits of its number, from 0 on, between these.
+fn push_listed(
+    alloc: Global,
+    text: &mut String,
+    count: u32,
+    before: &str,
+    after: &str,
+) -> Result<(), AllocError> {
+    for number in 0..count {
+        let name = format!(in alloc; "{before}{number:02}{after}")?;
+        text.push_str(&name)?;
     }
-    let replies = str::from_utf8(&written)?;
-    let canonical = replies.strip_prefix("columns 32\nquery ");
-    Ok(String::from_str(rt.alloc(), canonical.ok_or("no query")?.trim_end())?)
+    Ok(())
+}
+
+/// Runs a script, and answers why the last of the commands that were refused was.
+fn last_refusal(
+    alloc: Global,
+    script: &str,
+    replies: &mut Vec<u8>,
+) -> Result<Option<Refusal>, RunError> {
+    let mut last = LastRefusal { why: None };
+    let mut disk = MemDisk::new(alloc);
+    let outcome = run_observed(alloc, &mut script.as_bytes(), replies, &mut last, &mut disk);
+    drop(disk);
+    match outcome {
+        Ok(_) => Ok(last.why),
+        Err(error) => Err(error),
+    }
+}
+
+/// The canonical text that a run replied.
+fn canonical(replies: &[u8]) -> &str {
+    let replies = str::from_utf8(replies).unwrap_or("not UTF-8");
+    replies
+        .strip_prefix("columns 32\nquery ")
+        .unwrap_or("no query")
+        .trim_end()
+}
+
+/// The canonical text of a query, or why it is refused.
+fn printed(alloc: Global, query: &str) -> Result<String, RunError> {
+    let script = asked(alloc, query)?;
+    let mut replies = Vec::new(alloc);
+    let refused = last_refusal(alloc, &script, &mut replies)?;
+    Ok(match refused {
+        Some(why) => format!(in alloc; "{why}"),
+        None => String::from_str(alloc, canonical(&replies)),
+    }?)
 }
 
 /// Texts, and the canonical ones that say the same.
@@ -99,9 +131,8 @@ select d from batches where d => an operand or an argument is of the wrong kind"
 
 #[test]
 fn queries_are_printed_or_refused(rt: HostRuntime) -> Result<(), Fail> {
-    assert_eq!(rt; differing(rt, CANONICAL, told)?, None);
-    assert_eq!(rt; differing(rt, FAULTS, told)?, None);
-    Ok(())
+    expect_told_lines(rt.alloc(), CANONICAL, printed)?;
+    expect_told_lines(rt.alloc(), FAULTS, printed)
 }
 
 /// Texts of great size, and why they are refused or how long their canonical forms are. A text has a part that is
@@ -131,15 +162,13 @@ const GREAT: &str = "\
 670|SELECT count(*)| FILTER (WHERE count(*)| FILTER (WHERE b)|)| FROM batches => an aggregate stands in WHERE or FILTER
 690|SELECT count(*)| FILTER (WHERE count(*)| FILTER (WHERE b)|)| FROM batches => too many items, keys or calls, or too long a text";
 
-/// A text that repeats two parts.
-fn great(rt: HostRuntime, case: &str) -> Result<String, Fail> {
-    let (count, rest) = halves(case, "|")?;
-    let (before, rest) = halves(rest, "|")?;
-    let (left, rest) = halves(rest, "|")?;
-    let (between, rest) = halves(rest, "|")?;
-    let (right, after) = halves(rest, "|")?;
-    let count = count.parse::<usize>()?;
-    let mut text = String::from_str(rt.alloc(), before)?;
+/// A text that repeats two parts so many times.
+fn repeated(alloc: Global, count: usize, parts: &str) -> Result<String, AllocError> {
+    let (before, rest) = cut(parts, "|");
+    let (left, rest) = cut(rest, "|");
+    let (between, rest) = cut(rest, "|");
+    let (right, after) = cut(rest, "|");
+    let mut text = String::from_str(alloc, before)?;
     push_repeated(&mut text, left, count)?;
     text.push_str(between)?;
     push_repeated(&mut text, right, count)?;
@@ -147,60 +176,50 @@ fn great(rt: HostRuntime, case: &str) -> Result<String, Fail> {
     Ok(text)
 }
 
-/// Appends a part so many times.
-fn push_repeated(text: &mut String, part: &str, count: usize) -> Result<(), Fail> {
-    for _ in 0..count {
-        text.push_str(part)?;
-    }
-    Ok(())
-}
-
 /// Why a query is refused, or how long its canonical text is.
-fn measured(rt: HostRuntime, query: &str) -> Result<String, Fail> {
-    let told = told(rt, query)?;
+fn measured(alloc: Global, query: &str) -> Result<String, RunError> {
+    let told = printed(alloc, query)?;
     if !told.starts_with("SELECT") {
         return Ok(told);
     }
-    Ok(format!(in rt.alloc(); "{} bytes", told.len())?)
+    Ok(format!(in alloc; "{} bytes", told.len())?)
 }
 
 /// The same of a text that repeats two parts.
-fn measured_great(rt: HostRuntime, case: &str) -> Result<String, Fail> {
-    let text = great(rt, case)?;
-    measured(rt, &text)
+fn measured_great(alloc: Global, case: &str) -> Result<String, RunError> {
+    let (count, parts) = cut(case, "|");
+    let text = repeated(alloc, count.parse().unwrap_or(0), parts)?;
+    measured(alloc, &text)
 }
 
 #[test]
 fn great_queries_are_measured(rt: HostRuntime) -> Result<(), Fail> {
-    assert_eq!(rt; differing(rt, GREAT, measured_great)?, None);
-    Ok(())
+    expect_told_lines(rt.alloc(), GREAT, measured_great)
 }
 
-/// So many names between commas: each has two digits of its number, from 0 on, between these.
-fn push_listed(
-    rt: HostRuntime,
+/// Appends items, of a number that is told: the first has the number 0 and stands behind no comma.
+fn push_items(
+    alloc: Global,
     text: &mut String,
-    count: u32,
+    told: &str,
     before: &str,
     after: &str,
-) -> Result<(), Fail> {
-    for number in 0..count {
-        let comma = if number == 0 { "" } else { ", " };
-        text.push_str(&format!(in rt.alloc(); "{comma}{before}{number:02}{after}")?)?;
-    }
-    Ok(())
+) -> Result<(), AllocError> {
+    let mut items = String::new(alloc);
+    push_listed(alloc, &mut items, told.parse().unwrap_or(0), before, after)?;
+    text.push_str(items.strip_prefix(", ").unwrap_or("no items"))
 }
 
 /// A query of so many sums and greatest numbers and so many keys, of which the first is repeated.
-fn of_many(rt: HostRuntime, case: &str) -> Result<String, Fail> {
-    let (sums, rest) = halves(case, " ")?;
-    let (greatest, keys) = halves(rest, " ")?;
-    let mut text = String::from_str(rt.alloc(), "SELECT ")?;
-    push_listed(rt, &mut text, sums.parse()?, "sum(k", ")")?;
+fn of_many(alloc: Global, case: &str) -> Result<String, AllocError> {
+    let (sums, rest) = cut(case, " ");
+    let (greatest, keys) = cut(rest, " ");
+    let mut text = String::from_str(alloc, "SELECT ")?;
+    push_items(alloc, &mut text, sums, ", sum(k", ")")?;
     text.push_str(", ")?;
-    push_listed(rt, &mut text, greatest.parse()?, "max(k", ")")?;
+    push_items(alloc, &mut text, greatest, ", max(k", ")")?;
     text.push_str(" FROM batches GROUP BY k00, ")?;
-    push_listed(rt, &mut text, keys.parse()?, "k", "")?;
+    push_items(alloc, &mut text, keys, ", k", "")?;
     Ok(text)
 }
 
@@ -214,22 +233,21 @@ const MANY: &str = "\
 29 29 1 => too many items, keys or calls, or too long a text";
 
 /// Why such a query is refused, or how long its canonical text is.
-fn measured_many(rt: HostRuntime, case: &str) -> Result<String, Fail> {
-    let text = of_many(rt, case)?;
-    measured(rt, &text)
+fn measured_many(alloc: Global, case: &str) -> Result<String, RunError> {
+    let text = of_many(alloc, case)?;
+    measured(alloc, &text)
 }
 
 #[test]
 fn calls_and_keys_are_counted(rt: HostRuntime) -> Result<(), Fail> {
-    assert_eq!(rt; differing(rt, MANY, measured_many)?, None);
-    Ok(())
+    expect_told_lines(rt.alloc(), MANY, measured_many)
 }
 
 /// The last line of what a script's run writes, where no command is refused.
-fn last_line(rt: HostRuntime, script: &str) -> Result<String, Fail> {
-    let replies = accepted(rt, script)?;
-    let last = replies.lines().last().ok_or("no line")?;
-    Ok(String::from_str(rt.alloc(), last)?)
+fn last_line(alloc: Global, script: &str) -> Result<String, RunError> {
+    let told = told(alloc, script)?;
+    let last = accepted(&told).split('/').last().unwrap_or("no line");
+    Ok(String::from_str(alloc, last)?)
 }
 
 /// The commands behind a query: a row, of which the last two columns are null, and a question.
@@ -282,17 +300,16 @@ count(*) FROM batches WHERE b OR b AND u => 1
 count(*) FROM batches WHERE (b OR b) AND u => 0";
 
 /// The answer over the row.
-fn answered(rt: HostRuntime, query: &str) -> Result<String, Fail> {
-    let script = format!(in rt.alloc();
+fn answered(alloc: Global, query: &str) -> Result<String, RunError> {
+    let script = format!(in alloc;
         "columns,\"c text, d bigint, b boolean, n bigint, u boolean\"\nquery,\"SELECT {query}{ROW}"
     )?;
-    last_line(rt, &script)
+    last_line(alloc, &script)
 }
 
 #[test]
 fn conditions_hold_of_a_row(rt: HostRuntime) -> Result<(), Fail> {
-    assert_eq!(rt; differing(rt, CONDITIONS, answered)?, None);
-    Ok(())
+    expect_told_lines(rt.alloc(), CONDITIONS, answered)
 }
 
 /// The commands in front of the rows of a batch.
@@ -311,15 +328,14 @@ oslo,9223372036854775807/oslo,1 => 2
 oslo,-9223372036854775808/oslo,-9223372036854775808 => count";
 
 /// The last line of the answer over rows.
-fn kept(rt: HostRuntime, rows: &str) -> Result<String, Fail> {
+fn kept(alloc: Global, rows: &str) -> Result<String, RunError> {
     let count = rows.split('/').count();
-    let rows = rows.replace(rt.alloc(), "/", "\n")?;
-    let script = format!(in rt.alloc(); "{TOWNS_HEAD}{count}\n{rows}\nanswer,a\n")?;
-    last_line(rt, &script)
+    let rows = rows.replace(alloc, "/", "\n")?;
+    let script = format!(in alloc; "{TOWNS_HEAD}{count}\n{rows}\nanswer,a\n")?;
+    last_line(alloc, &script)
 }
 
 #[test]
 fn having_keeps_what_is_true(rt: HostRuntime) -> Result<(), Fail> {
-    assert_eq!(rt; differing(rt, TOWNS, kept)?, None);
-    Ok(())
+    expect_told_lines(rt.alloc(), TOWNS, kept)
 }

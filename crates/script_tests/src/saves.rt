@@ -1,6 +1,6 @@
 use crate::merges::replies_to_steps;
 use std::test::*;
-use test_tables::differing;
+use test_tables::expect_told_lines;
 
 /// Steps that save and load, and all replies to them. A file of this query has 80 bytes where nothing is known.
 const SAVES: &str = "\
@@ -16,6 +16,5 @@ a=0.1.5 a>x b=0.1.6 d:x b<d d<b b? d? => folded upto 1/saved 138/folded upto 1/l
 
 #[test]
 fn replicas_are_saved_and_loaded(rt: HostRuntime) -> Result<(), Fail> {
-    assert_eq!(rt; differing(rt, SAVES, replies_to_steps)?, None);
-    Ok(())
+    expect_told_lines(rt.alloc(), SAVES, replies_to_steps)
 }

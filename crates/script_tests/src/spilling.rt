@@ -1,48 +1,73 @@
 //! Groups that a limit has spilled, to disks some of which fail.
 
-use crate::tables::{accepted, on_one_line};
-use script_machine::{Outcome, run};
+use crate::tables::{last_replies, on_one_line};
+use script_machine::{Outcome, RunError, run};
+use std::alloc::{AllocError, Global};
 use std::test::*;
 use test_disks::FaultyDisk;
-use test_tables::{differing, halves};
-use test_towns::lines;
+use test_tables::{cut, expect_told, expect_told_lines};
+
+/// Appends a row of each of so many towns, `k0000` and on.
+fn push_rows(alloc: Global, rows: &mut String, towns: u32) -> Result<(), AllocError> {
+    for town in 0..towns {
+        let row = format!(in alloc; "k{town:04},{town}\n")?;
+        rows.push_str(&row)?;
+    }
+    Ok(())
+}
+
+/// Appends a command, and behind a `feed` rows.
+fn push_command(script: &mut String, command: &str, rows: &str) -> Result<(), AllocError> {
+    script.push_str(command)?;
+    script.push('\n')?;
+    if command.starts_with("feed,") {
+        return script.push_str(rows);
+    }
+    Ok(())
+}
+
+/// Appends commands, with a `;` between them. Behind each `feed` come rows.
+fn push_commands(script: &mut String, commands: &str, rows: &str) -> Result<(), AllocError> {
+    for command in commands.split(';') {
+        push_command(script, command, rows)?;
+    }
+    Ok(())
+}
 
 /// A script of commands, with a `;` between them. Behind each `feed` comes a row of each of so many towns.
-fn script(rt: HostRuntime, commands: &str, towns: u32) -> Result<String, Fail> {
-    let rows = lines(rt, towns, "\n")?;
-    let mut script = String::new(rt.alloc());
-    for command in commands.split(';') {
-        script.push_str(command)?;
-        script.push('\n')?;
-        if command.starts_with("feed,") {
-            script.push_str(&rows)?;
-        }
-    }
+fn script(alloc: Global, commands: &str, towns: u32) -> Result<String, AllocError> {
+    let mut rows = String::new(alloc);
+    push_rows(alloc, &mut rows, towns)?;
+    let mut script = String::new(alloc);
+    push_commands(&mut script, commands, &rows)?;
     Ok(script)
 }
 
 /// What two batches of 1,500 towns count, within a limit.
-fn counted(rt: HostRuntime, limit: u64) -> Result<String, Fail> {
-    let commands = format!(in rt.alloc();
+fn counted(alloc: Global, limit: u64) -> Result<String, RunError> {
+    let commands = format!(in alloc;
         "columns,\"c text, d bigint\";query,\"select c, count(*), sum(d) from batches group by c\";replica,a;\
         limit,{limit};feed,a,0,1,1500;feed,a,1,1,1500;answer,a"
     )?;
-    let replies = accepted(rt, &script(rt, &commands, 1_500)?)?;
-    let (_, counted) = halves(&replies, "folded")?;
-    Ok(String::from_str(rt.alloc(), counted)?)
+    let script = script(alloc, &commands, 1_500)?;
+    last_replies(alloc, &script, "folded")
+}
+
+/// How the replies within a limit begin.
+const FRONT: &str = "folded upto 1/folded upto 1/answer 1500/c,count,sum/k0000,2,0/k0001,2,2/";
+
+/// Whether what is counted within a small limit is the same as within the greatest, and whether that begins so.
+fn compared(alloc: Global) -> Result<String, RunError> {
+    // A table of 65,536 bytes holds 384 of the groups.
+    let spilled = counted(alloc, 65_536)?;
+    let whole = counted(alloc, 1_099_511_627_776)?;
+    let (same, begins) = (spilled == whole, spilled.starts_with(FRONT));
+    Ok(format!(in alloc; "same {same}, begins so {begins}")?)
 }
 
 #[test]
 fn a_limit_changes_no_answer(rt: HostRuntime) -> Result<(), Fail> {
-    // A table of 65,536 bytes holds 384 of the groups.
-    let (spilled, whole) = (counted(rt, 65_536)?, counted(rt, 1_099_511_627_776)?);
-    assert!(rt; spilled == whole);
-    assert!(rt;
-        spilled.as_str().starts_with(
-            " upto 1\nfolded upto 1\nanswer 1500\nc,count,sum\nk0000,2,0\nk0001,2,2\n"
-        )
-    );
-    Ok(())
+    expect_told(compared(rt.alloc()), "same true, begins so true")
 }
 
 /// The commands in front of those of a table: two replicas know batches of 385 towns, one more than a table of 65,536 bytes holds,
@@ -51,17 +76,39 @@ const HEAD: &str = "columns,\"c text, d bigint\";\
     query,\"select c, count(*), sum(d) from batches group by c having c = 'k0384'\";\
     replica,a;replica,b;feed,a,0,1,385;feed,a,1,1,385;feed,b,0,2,385;limit,65536;";
 
+/// Runs a script over a disk with a fault, and answers how many of its commands are refused.
+fn run_over(
+    alloc: Global,
+    script: &str,
+    fault: &str,
+    replies: &mut Vec<u8>,
+) -> Result<u64, RunError> {
+    let mut disk = FaultyDisk::new(alloc, fault);
+    let outcome = run(alloc, &mut script.as_bytes(), replies, &mut disk);
+    drop(disk);
+    match outcome {
+        Ok(Outcome { refused }) => Ok(refused),
+        Err(error) => Err(error),
+    }
+}
+
+/// The replies to a script over a disk with a fault, on one line, behind how many are refused.
+fn replies_over(alloc: Global, script: &str, fault: &str) -> Result<String, RunError> {
+    let mut replies = Vec::new(alloc);
+    let refused = run_over(alloc, script, fault, &mut replies)?;
+    Ok(on_one_line(alloc, refused, &replies)?)
+}
+
 /// The replies to commands behind the head over a disk with a fault, on one line, with how many are refused.
-fn told(rt: HostRuntime, case: &str) -> Result<String, Fail> {
-    let (fault, commands) = halves(case, ": ")?;
-    let commands = format!(in rt.alloc(); "{HEAD}{commands}")?;
-    let script = script(rt, &commands, 385)?;
-    let mut written = Vec::new(rt.alloc());
-    let mut disk = FaultyDisk::new(rt.alloc(), fault);
-    let Outcome { refused } = run(rt.alloc(), &mut script.as_bytes(), &mut written, &mut disk)?;
-    let (_, replies) = halves(str::from_utf8(&written)?, "limit 65536\n")?;
-    let replies = on_one_line(rt, replies)?;
-    Ok(format!(in rt.alloc(); "{refused} {replies}")?)
+fn told(alloc: Global, case: &str) -> Result<String, RunError> {
+    let (fault, commands) = cut(case, ": ");
+    let commands = format!(in alloc; "{HEAD}{commands}")?;
+    let script = script(alloc, &commands, 385)?;
+    let told = replies_over(alloc, &script, fault)?;
+    let (refused, _) = cut(&told, " ");
+    let (_, replies) = cut(&told, "limit 65536/");
+    let replies = replies.strip_suffix('/').unwrap_or("no end");
+    Ok(format!(in alloc; "{refused} {replies}")?)
 }
 
 /// What is wrong with a disk, commands over it, and their replies. A command that is refused can be told again, and the others go on.
@@ -78,6 +125,5 @@ flip: feed,b,0,1,385;known,b;limit,90128;feed,b,0,1,385;answer,b => 1 refused Ta
 
 #[test]
 fn faults_of_disks_are_told(rt: HostRuntime) -> Result<(), Fail> {
-    assert_eq!(rt; differing(rt, FAULTS, told)?, None);
-    Ok(())
+    expect_told_lines(rt.alloc(), FAULTS, told)
 }

@@ -1,9 +1,10 @@
 use csv::ByteRecord;
 use script_io::{InputError, Records, put_all, read_input};
+use std::alloc::{AllocError, Global};
 use std::io;
 use std::io::{Error, ErrorKind, Read, Write};
 use std::test::*;
-use test_tables::differing;
+use test_tables::{cut, expect_told_lines};
 
 // A reader that gives a byte a call, up to a number of bytes, and then answers an error of this kind, once.
 #[derive(Drop)]
@@ -70,100 +71,133 @@ impl Write for ShortWriter {
     }
 }
 
-/// How many bytes are taken of so many, up to a limit, where they are over it, or else none, if they came as they are.
-fn taken_of(rt: HostRuntime, size: u32, most: u32) -> Result<Option<usize>, Fail> {
+/// How many bytes are taken of so many, up to a limit, where they are over it, or else whether they came as they are.
+fn taken_of(alloc: Global, size: u32, most: u32) -> Result<String, AllocError> {
     let script = [b'x'; 20001];
-    let script = script.get(..size as usize).ok_or("too long a script")?;
+    let script = script.get(..size as usize).unwrap_or(b"too long");
     let mut reader = script;
-    match read_input(rt.alloc(), &mut reader, most as usize) {
-        Ok(text) if text.as_slice() == script => Ok(None),
-        Ok(_) => Err("other bytes")?,
-        Err(InputError::TooLong) => Ok(Some(script.len().saturating_sub(reader.len()))),
-        Err(_) => Err("no such fault")?,
+    let read = read_input(alloc, &mut reader, most as usize);
+    let taken = script.len().saturating_sub(reader.len());
+    match read {
+        Ok(text) => format!(in alloc; "{}", text.as_slice() == script),
+        Err(InputError::TooLong) => format!(in alloc; "{taken}"),
+        Err(error) => format!(in alloc; "{error:?}"),
     }
+}
+
+/// The bytes that a reader has, the limit, and how many are taken where they are over it, or that all come as they are.
+const SIZES: &str = "\
+0 0 => true
+1 0 => 1
+5 5 => true
+6 5 => 6
+8191 8192 => true
+8192 8192 => true
+8193 8192 => 8193
+20000 20000 => true
+20001 20000 => 20001";
+
+/// The same of a size and a limit.
+fn taken(alloc: Global, case: &str) -> Result<String, AllocError> {
+    let (size, most) = cut(case, " ");
+    taken_of(alloc, size.parse().unwrap_or(0), most.parse().unwrap_or(0))
 }
 
 #[test]
 fn reads_up_to_the_limit(rt: HostRuntime) -> Result<(), Fail> {
-    // The bytes that a reader has, the limit, and how many are taken where they are over it.
-    let cases = [
-        (0, 0, None),
-        (1, 0, Some(1)),
-        (5, 5, None),
-        (6, 5, Some(6)),
-        (8191, 8192, None),
-        (8192, 8192, None),
-        (8193, 8192, Some(8193)),
-        (20000, 20000, None),
-        (20001, 20000, Some(20001)),
-    ];
-    for (size, most, taken) in cases {
-        assert_eq!(rt; taken_of(rt, size, most)?, taken, "at {size}");
-    }
-    Ok(())
+    expect_told_lines(rt.alloc(), SIZES, taken)
+}
+
+/// Whether a reader without an end is refused.
+fn is_refused(alloc: Global, most: u32) -> bool {
+    let result = read_input(alloc, &mut io::repeat(b'x'), most as usize);
+    matches!(&result, Err(InputError::TooLong))
 }
 
 #[test]
 fn refuses_a_reader_without_an_end(rt: HostRuntime) {
-    for most in [0usize, 1, 8191, 8192, 100_000] {
-        let result = read_input(rt.alloc(), &mut io::repeat(b'x'), most);
-        assert!(rt; matches!(&result, Err(InputError::TooLong)), "at {most}");
+    for most in [0u32, 1, 8191, 8192, 100_000] {
+        assert!(rt; is_refused(rt.alloc(), most), "at {most}");
     }
+}
+
+/// Whether reading ends at the fault of a reader that gives so many bytes, and behind it no more is asked.
+fn stops(alloc: Global, sound: usize, kind: ErrorKind) -> bool {
+    let mut reader = StutteringReader {
+        given: 0,
+        sound,
+        kind,
+    };
+    let result = read_input(alloc, &mut reader, 10);
+    matches!(&result, Err(InputError::ReadFault)) && reader.given == sound.wrapping_add(1)
+}
+
+/// The same of each kind of fault.
+fn stops_at_each(alloc: Global, sound: usize) -> bool {
+    stops(alloc, sound, ErrorKind::Other)
+        && stops(alloc, sound, ErrorKind::Interrupted)
+        && stops(alloc, sound, ErrorKind::UnexpectedEof)
 }
 
 #[test]
 fn stops_at_a_fault_of_the_reader(rt: HostRuntime) {
-    for kind in [
-        ErrorKind::Other,
-        ErrorKind::Interrupted,
-        ErrorKind::UnexpectedEof,
-    ] {
-        for sound in [0usize, 1, 5] {
-            let mut reader = StutteringReader {
-                given: 0,
-                sound,
-                kind,
-            };
-            let result = read_input(rt.alloc(), &mut reader, 10);
-            assert!(rt; matches!(&result, Err(InputError::ReadFault)), "at {sound}");
-            assert_eq!(rt; reader.given, sound.wrapping_add(1));
-        }
+    for sound in [0usize, 1, 5] {
+        assert!(rt; stops_at_each(rt.alloc(), sound), "at {sound}");
     }
 }
 
-/// The fields of a record, with `|` after each.
-fn shown(rt: HostRuntime, record: &ByteRecord) -> Result<String, Fail> {
-    let mut shown = String::new(rt.alloc());
+/// Tells the fields of a record, with `|` after each.
+fn tell_record(record: &ByteRecord, text: &mut String) -> Result<(), AllocError> {
     for place in 0..record.len() {
-        let field = record.get(place).ok_or("no field")?;
-        shown.push_str(str::from_utf8(field)?)?;
-        shown.push('|')?;
+        let field = record.get(place).unwrap_or(b"no field");
+        text.push_str(str::from_utf8(field).unwrap_or("not UTF-8"))?;
+        text.push('|')?;
     }
-    Ok(shown)
+    Ok(())
 }
 
-/// The records that are left, up to nine, with `;` after each, if none comes behind the last. They are read into one place.
-fn all_shown(rt: HostRuntime, records: &mut Records<'_>) -> Result<String, Fail> {
-    let mut all = String::new(rt.alloc());
-    let mut record = ByteRecord::new(rt.alloc());
+/// Tells the records that are left, up to nine, with `;` after each. They are read into one place.
+fn tell_records(
+    records: &mut Records<'_>,
+    record: &mut ByteRecord,
+    text: &mut String,
+) -> Result<(), AllocError> {
     for _ in 0..9 {
-        if !records.read(&mut record)? {
+        if !records.read(record)? {
             break;
         }
-        all.push_str(&shown(rt, &record)?)?;
-        all.push(';')?;
+        tell_record(record, text)?;
+        text.push(';')?;
     }
+    Ok(())
+}
+
+/// Tells the records that are left, up to nine, and whether one comes behind the last.
+fn tell_all(alloc: Global, records: &mut Records<'_>, text: &mut String) -> Result<(), AllocError> {
+    let mut record = ByteRecord::new(alloc);
+    let told = tell_records(records, &mut record, text);
+    drop(record);
+    told?;
     if records.next()?.is_some() {
-        return Err("a record behind the last")?;
+        return text.push_str("a record behind the last");
     }
-    Ok(all)
+    Ok(())
+}
+
+/// The records of a script.
+fn records_told(alloc: Global, script: &str) -> Result<String, AllocError> {
+    let mut records = Records::new(alloc, script.as_bytes());
+    let mut text = String::new(alloc);
+    let told = tell_all(alloc, &mut records, &mut text);
+    drop(records);
+    told?;
+    text.replace(alloc, "\n", "/")
 }
 
 /// The records of a script, in which `/` stands for the end of a line.
-fn records_of(rt: HostRuntime, script: &str) -> Result<String, Fail> {
-    let script = script.replace(rt.alloc(), "/", "\n")?;
-    let mut records = Records::new(rt.alloc(), script.as_bytes());
-    Ok(all_shown(rt, &mut records)?.replace(rt.alloc(), "\n", "/")?)
+fn records_of(alloc: Global, script: &str) -> Result<String, AllocError> {
+    let script = script.replace(alloc, "/", "\n")?;
+    records_told(alloc, &script)
 }
 
 /// Scripts and their records.
@@ -183,33 +217,46 @@ a/\u{feff}b/ => a|;\u{feff}b|;";
 
 #[test]
 fn reads_the_records(rt: HostRuntime) -> Result<(), Fail> {
-    assert_eq!(rt; differing(rt, RECORDS, records_of)?, None);
-    Ok(())
+    expect_told_lines(rt.alloc(), RECORDS, records_of)
 }
 
-/// The records that are left of five where so many are passed over, and then so many again.
-fn left(rt: HostRuntime, first: usize, second: usize) -> Result<String, Fail> {
-    let mut records = Records::new(rt.alloc(), b"a\nb\n\nc\nd\ne");
+/// How many of five records are passed over in turn, and which are left.
+const PASSED: &str = "\
+0 0 => a|;b|;c|;d|;e|;
+2 0 => c|;d|;e|;
+2 2 => e|;
+2 9 => 
+5 1 => 
+18446744073709551615 18446744073709551615 => ";
+
+/// Tells the records that are left where so many are passed over, and then so many again.
+fn tell_left(
+    alloc: Global,
+    records: &mut Records<'_>,
+    first: usize,
+    second: usize,
+    text: &mut String,
+) -> Result<(), AllocError> {
     records.skip(first)?;
     records.skip(second)?;
-    all_shown(rt, &mut records)
+    tell_all(alloc, records, text)
+}
+
+/// The records that are left of five.
+fn left(alloc: Global, case: &str) -> Result<String, AllocError> {
+    let (first, second) = cut(case, " ");
+    let (first, second) = (first.parse().unwrap_or(7), second.parse().unwrap_or(7));
+    let mut records = Records::new(alloc, b"a\nb\n\nc\nd\ne");
+    let mut text = String::new(alloc);
+    let told = tell_left(alloc, &mut records, first, second, &mut text);
+    drop(records);
+    told?;
+    Ok(text)
 }
 
 #[test]
 fn passes_over_records_past_the_end(rt: HostRuntime) -> Result<(), Fail> {
-    // How many records are passed over in turn, and which are left.
-    let cases: [(usize, usize, &str); 6] = [
-        (0, 0, "a|;b|;c|;d|;e|;"),
-        (2, 0, "c|;d|;e|;"),
-        (2, 2, "e|;"),
-        (2, 9, ""),
-        (5, 1, ""),
-        (usize::MAX, usize::MAX, ""),
-    ];
-    for (first, second, behind) in cases {
-        assert!(rt; left(rt, first, second)?.as_str() == behind, "at {first}");
-    }
-    Ok(())
+    expect_told_lines(rt.alloc(), PASSED, left)
 }
 
 /// Whether a text is written to a writer with so much room, or else its front.
@@ -227,20 +274,27 @@ fn fills(rt: HostRuntime, text: &[u8], room: usize, a_call: usize, at_room: AtRo
         && text.starts_with(writer.taken.as_slice())
 }
 
+/// Whether the same holds of a text whatever the room.
+fn fills_any(rt: HostRuntime, a_call: usize, at_room: AtRoom) -> bool {
+    for room in 0..16usize {
+        if !fills(rt, b"new a\ncount 0\n", room, a_call, at_room) {
+            return false;
+        }
+    }
+    true
+}
+
+/// The same whatever the writer does once it has as many bytes as it takes.
+fn fills_at_each_end(rt: HostRuntime, a_call: usize) -> bool {
+    fills_any(rt, a_call, AtRoom::TakeNone)
+        && fills_any(rt, a_call, AtRoom::Fail(ErrorKind::StorageFull))
+        && fills_any(rt, a_call, AtRoom::Fail(ErrorKind::Interrupted))
+}
+
 #[test]
 fn writes_all_or_the_front(rt: HostRuntime) {
-    let text = b"new a\ncount 0\n";
-    let ends = [
-        AtRoom::TakeNone,
-        AtRoom::Fail(ErrorKind::StorageFull),
-        AtRoom::Fail(ErrorKind::Interrupted),
-    ];
-    for at_room in ends {
-        for a_call in [1usize, 3, 100] {
-            for room in 0..16usize {
-                assert!(rt; fills(rt, text, room, a_call, at_room), "at {room}");
-            }
-        }
+    for a_call in [1usize, 3, 100] {
+        assert!(rt; fills_at_each_end(rt, a_call), "at {a_call}");
     }
 }
 

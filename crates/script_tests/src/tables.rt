@@ -1,34 +1,46 @@
 use hash_agg::MemDisk;
-use script_machine::{Outcome, run};
-use std::test::*;
-use test_tables::halves;
+use script_machine::{Outcome, RunError, run};
+use std::alloc::{AllocError, Global};
+use test_tables::cut;
 
-/// What a script's run writes, and how many of its commands are refused.
-pub(crate) fn written(rt: HostRuntime, script: &str) -> Result<(String, u64), Fail> {
-    let mut written = Vec::new(rt.alloc());
-    let mut disk = MemDisk::new(rt.alloc());
-    let Outcome { refused } = run(rt.alloc(), &mut script.as_bytes(), &mut written, &mut disk)?;
-    Ok((String::from_utf8(written).ok().ok_or("not UTF-8")?, refused))
-}
-
-/// What a script's run writes, where no command is refused.
-pub(crate) fn accepted(rt: HostRuntime, script: &str) -> Result<String, Fail> {
-    let (replies, refused) = written(rt, script)?;
-    if refused != 0 {
-        return Err("a command was refused")?;
+/// Runs a script, and answers how many of its commands are refused.
+fn run_script(alloc: Global, script: &str, replies: &mut Vec<u8>) -> Result<u64, RunError> {
+    let mut disk = MemDisk::new(alloc);
+    let outcome = run(alloc, &mut script.as_bytes(), replies, &mut disk);
+    drop(disk);
+    match outcome {
+        Ok(Outcome { refused }) => Ok(refused),
+        Err(error) => Err(error),
     }
-    Ok(replies)
 }
 
-/// Replies on one line, with a `/` between each and the next.
-pub(crate) fn on_one_line(rt: HostRuntime, replies: &str) -> Result<String, Fail> {
-    Ok(replies.trim_end().replace(rt.alloc(), "\n", "/")?)
+/// Replies with a `/` for the end of each line, behind how many commands are refused.
+pub(crate) fn on_one_line(
+    alloc: Global,
+    refused: u64,
+    replies: &[u8],
+) -> Result<String, AllocError> {
+    let replies = str::from_utf8(replies).unwrap_or("not UTF-8");
+    let replies = replies.replace(alloc, "\n", "/")?;
+    format!(in alloc; "{refused} {replies}")
+}
+
+/// What a script's run writes, with a `/` for the end of each line, behind how many of its commands are refused.
+pub(crate) fn told(alloc: Global, script: &str) -> Result<String, RunError> {
+    let mut replies = Vec::new(alloc);
+    let refused = run_script(alloc, script, &mut replies)?;
+    Ok(on_one_line(alloc, refused, &replies)?)
+}
+
+/// What a script's run writes, without the mark behind the last line, or that commands are refused.
+pub(crate) fn accepted(told: &str) -> &str {
+    let replies = told.strip_prefix("0 ").unwrap_or("a command was refused");
+    replies.strip_suffix('/').unwrap_or(replies)
 }
 
 /// The last replies of a script of which no command is refused, from the first on that begins with a word, on one line.
-pub(crate) fn last_replies(rt: HostRuntime, script: &str, word: &str) -> Result<String, Fail> {
-    let replies = accepted(rt, script)?;
-    let (_, last) = halves(&replies, word)?;
-    let last = format!(in rt.alloc(); "{word}{last}")?;
-    on_one_line(rt, &last)
+pub(crate) fn last_replies(alloc: Global, script: &str, word: &str) -> Result<String, RunError> {
+    let told = told(alloc, script)?;
+    let (_, last) = cut(accepted(&told), word);
+    Ok(format!(in alloc; "{word}{last}")?)
 }

@@ -108,14 +108,17 @@ impl<H: KeyHash + Drop> Groups<H> {
 }
 
 /// What is told of a new table.
-pub(crate) fn of_groups<F: FnOnce(HostRuntime, &mut Groups<Fnv1a>) -> Result<String, Fail>>(
-    rt: HostRuntime,
-    told: F,
-) -> Result<String, Fail>
-    requires { F.IsAlwaysCallable told }
+pub(crate) fn of_groups<
+    F: FnOnce(Global, &mut Groups<Fnv1a>, &mut String) -> Result<(), AllocError>,
+>(rt: HostRuntime, tell: F) -> Result<String, TreeError>
+    requires { F.IsAlwaysCallable tell }
 {
     let mut groups = Groups::new(rt.alloc(), Fnv1a)?;
-    told(rt, &mut groups)
+    let mut text = String::new(rt.alloc());
+    let told = tell(rt.alloc(), &mut groups, &mut text);
+    drop(groups);
+    told?;
+    Ok(text)
 }
 
 /// The key and the state of a number.

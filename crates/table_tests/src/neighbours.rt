@@ -1,10 +1,13 @@
 //! Two tables in one tree.
-ghost use Rattle.std.specs.Prelude.{◌≡◌};
+ghost use Rattle.std.specs.Prelude.{◌≡◌, Some, None, true, IfOk, get_or};
+ghost use Rattle.context_tree.specs.Links.{parent_of};
+ghost use Rattle.context_tree.specs.Tree.{is_there};
 ghost use Rattle.group_table.specs.Table.{IsSameBut};
 ghost use Rattle.group_table.specs.Standing.{IsTableIn, KeepsOthers};
+ghost use Rattle.table_tests.specs.Neighbours.{AreNeighbours};
 
 use crate::groups::{WIDTH, key, state};
-use context_tree::{Kind, Tree, TreeError};
+use context_tree::{ContextId, Kind, Tree, TreeError};
 use group_table::{Fnv1a, GroupTable, KeyHash};
 use std::alloc::{AllocError, Global};
 use std::marker::Model;
@@ -65,23 +68,58 @@ fn has_numbers<H: KeyHash + Drop>(tree: &Tree, table: &GroupTable<H>, numbers: &
     table.len() == numbers.len()
 }
 
+/// Makes two contexts below the root. Each is found where it was made.
+fn two_children(tree: &mut Tree) -> Result<(ContextId, ContextId), TreeError>
+    ensures { IfOk result (λ ids. (is_there tree.new ids.0 ≡ true) × (is_there tree.new ids.1 ≡ true)) }
+{
+    let root = tree.root();
+    let first = tree.create(root, Kind::Bump)?;
+    let second = tree.create(root, Kind::Generation)?;
+    if !tree.is_live(first) || !tree.is_live(second) {
+        return Err(TreeError::NoSuchContext);
+    }
+    Ok((first, second))
+}
+
+/// Whether a context is a child of the root.
+#[tactic(auto, using(crate::proofs::NeighbourLaws::parent_told))]
+fn is_below_root(tree: &Tree, id: ContextId) -> bool
+    ensures { result ≡ true → parent_of (get_or tree.now.links id.slot None) ≡ Some 0 }
+{
+    match tree.parent(id) {
+        Ok(Some(parent)) => parent.slot == 0,
+        _ => false,
+    }
+}
+
+/// Makes two tables of no group, below two children of the root.
+fn two_tables<H: KeyHash + Drop>(
+    alloc: Global,
+    tree: &mut Tree,
+    hash: H,
+    other: H,
+) -> Result<(GroupTable<H>, GroupTable<H>), TreeError>
+    ensures { IfOk result (λ both. AreNeighbours H.hash_of tree.new both.0 both.1) }
+{
+    let (first, second) = two_children(tree)?;
+    let left = GroupTable::new(alloc, tree, first, WIDTH, hash)?;
+    left.stays(tree);
+    let right = GroupTable::new(alloc, tree, second, WIDTH, other)?;
+    tree.is_whole();
+    if is_below_root(tree, second) {
+        Ok((left, right))
+    } else {
+        Err(TreeError::NoSuchContext)
+    }
+}
+
 impl<H: KeyHash + Drop> Neighbours<H> {
-    /// Makes two tables of no group. Each context is found where it was made.
+    /// Makes two tables of no group in a tree of their own.
     fn new(alloc: Global, hash: H, other: H) -> Result<Neighbours<H>, TreeError> {
         let mut tree = Tree::new(alloc);
-        let root = tree.root();
-        let first = tree.create(root, Kind::Bump)?;
-        let second = tree.create(root, Kind::Generation)?;
-        if !tree.is_live(first) || !tree.is_live(second) {
-            return Err(TreeError::NoSuchContext);
-        }
-        let left = GroupTable::new(alloc, &mut tree, first, WIDTH, hash)?;
-        left.stays(&tree);
-        let right = GroupTable::new(alloc, &mut tree, second, WIDTH, other)?;
-        tree.is_whole();
-        match tree.parent(second)? {
-            Some(parent) if parent.slot == root.slot => Ok(Neighbours { tree, left, right }),
-            _ => Err(TreeError::NoSuchContext),
+        match two_tables(alloc, &mut tree, hash, other) {
+            Ok((left, right)) => Ok(Neighbours { tree, left, right }),
+            Err(error) => Err(error),
         }
     }
 
@@ -112,20 +150,52 @@ impl<H: KeyHash + Drop> Neighbours<H> {
     }
 }
 
-/// What two tables hold, turn by turn.
-fn turns<H: KeyHash + Drop>(tables: &mut Neighbours<H>) -> Result<[bool; 5], AllocError> {
-    let first = tables.put_left(1)? && tables.has(&[1], &[]);
-    let second = tables.put_right(1)? && tables.put_right(2)? && tables.has(&[1], &[1, 2]);
-    let third = tables.put_left(3)? && tables.has(&[1, 3], &[1, 2]);
+/// Puts the group of a number into the left table, and tells whether it did and the tables have those of some numbers then.
+fn left<H: KeyHash + Drop>(
+    tables: &mut Neighbours<H>,
+    number: u32,
+    left: &[u32],
+    right: &[u32],
+) -> Result<bool, AllocError> {
+    Ok(tables.put_left(number)? && tables.has(left, right))
+}
+
+/// Puts the group of a number into the right table, and tells the same.
+fn right<H: KeyHash + Drop>(
+    tables: &mut Neighbours<H>,
+    number: u32,
+    left: &[u32],
+    right: &[u32],
+) -> Result<bool, AllocError> {
+    Ok(tables.put_right(number)? && tables.has(left, right))
+}
+
+/// What two new tables hold, turn by turn.
+fn turns<H: KeyHash + Drop>(tables: &mut Neighbours<H>) -> Result<[bool; 4], AllocError> {
+    let first = left(tables, 1, &[1], &[])?;
+    let second = right(tables, 1, &[1], &[1])?;
+    let third = right(tables, 2, &[1], &[1, 2])?;
+    Ok([first, second, third, left(tables, 3, &[1, 3], &[1, 2])?])
+}
+
+/// What they hold once the left one is cleared, turn by turn.
+fn turns_again<H: KeyHash + Drop>(tables: &mut Neighbours<H>) -> Result<[bool; 3], AllocError> {
     tables.clear_left();
     let cleared = tables.has(&[], &[1, 2]);
-    let again = tables.put_left(4)? && tables.put_right(4)? && tables.has(&[4], &[1, 2, 4]);
-    Ok([first, second, third, cleared, again])
+    let first = left(tables, 4, &[4], &[1, 2])?;
+    Ok([cleared, first, right(tables, 4, &[4], &[1, 2, 4])?])
+}
+
+/// Whether two tables hold what they should, turn by turn.
+fn all_turns<H: KeyHash + Drop>(tables: &mut Neighbours<H>) -> Result<bool, AllocError> {
+    Ok(turns(tables)? == [true; 4] && turns_again(tables)? == [true; 3])
 }
 
 #[test]
 fn tables_stand_beside_one_another(rt: HostRuntime) -> Result<(), Fail> {
     let mut tables = Neighbours::new(rt.alloc(), Fnv1a, Fnv1a)?;
-    assert_eq!(rt; turns(&mut tables)?, [true, true, true, true, true]);
+    let right = all_turns(&mut tables);
+    drop(tables);
+    assert!(rt; right?);
     Ok(())
 }

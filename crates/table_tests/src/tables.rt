@@ -1,9 +1,11 @@
 //! A table by itself.
 
 use crate::groups::{Groups, WIDTH, has_numbers, key, of_groups, put_numbers, state};
-use context_tree::{ContextId, Tree};
+use context_tree::{ContextId, Tree, TreeError};
 use group_table::{Fnv1a, GroupTable, KeyHash};
+use std::alloc::{AllocError, Global};
 use std::test::Fail;
+use test_tables::{expect_told, tell};
 
 /// A hash function by which all keys are alike.
 #[derive(Drop)]
@@ -26,101 +28,178 @@ fn hashes(keys: &[&[u8]; 3]) -> [u32; 3] {
 
 #[test]
 fn hashes_are_those_of_fnv_1a(rt: HostRuntime) {
-    assert_eq!(rt;
-        hashes(&[b"a", b"", b"foobar"]),
-        [3826002220, 2166136261, 3214735720]
-    );
+    assert!(rt; hashes(&[b"a", b"", b"foobar"]) == [3826002220, 2166136261, 3214735720]);
 }
 
-/// One group in a table, before and after it is given up.
-fn one_group(rt: HostRuntime, groups: &mut Groups<Fnv1a>) -> Result<String, Fail> {
-    let rooms = (groups.room_for(b"k", 32767), groups.room_for(b"k", 32768));
-    let put = groups.put(b"k", b"a state!")?;
-    let held = (groups.held(), groups.len());
-    let found = groups.finds(b"k", b"a state!") && groups.is_entry(0, b"k", b"a state!");
+/// Tells whether there is room for one group within each of two limits.
+fn tell_room(alloc: Global, groups: &Groups<Fnv1a>, text: &mut String) -> Result<(), AllocError> {
+    tell(alloc, text, groups.room_for(b"k", 32767))?;
+    tell(alloc, text, groups.room_for(b"k", 32768))
+}
+
+/// Tells what is held, and how many groups there are.
+fn tell_held(alloc: Global, groups: &Groups<Fnv1a>, text: &mut String) -> Result<(), AllocError> {
+    tell(alloc, text, groups.held())?;
+    tell(alloc, text, groups.len())
+}
+
+/// Tells one group in a table, before and after it is given up.
+fn tell_one_group(
+    alloc: Global,
+    groups: &mut Groups<Fnv1a>,
+    text: &mut String,
+) -> Result<(), AllocError> {
+    tell_room(alloc, groups, text)?;
+    tell(alloc, text, groups.put(b"k", b"a state!")?)?;
+    tell_held(alloc, groups, text)?;
+    tell(alloc, text, groups.finds(b"k", b"a state!"))?;
+    tell(alloc, text, groups.is_entry(0, b"k", b"a state!"))?;
     groups.clear();
-    let cleared = (groups.held(), groups.len(), groups.has(b"k"));
-    let again = (groups.room_for(b"k", 32767), groups.room_for(b"k", 32768));
-    Ok(format!(in rt.alloc(); "{rooms:?} {put} {held:?} {found} {cleared:?} {again:?}")?)
+    tell_held(alloc, groups, text)?;
+    tell(alloc, text, groups.has(b"k"))?;
+    tell_room(alloc, groups, text)
 }
 
 #[test]
 fn one_group_is_put_and_given_up(rt: HostRuntime) -> Result<(), Fail> {
-    assert_eq!(rt;
-        of_groups(rt, one_group)?.as_str(),
-        "(false, true) true (Some(32768), 1) true (Some(16384), 0, false) (false, true)"
-    );
-    Ok(())
+    expect_told(
+        of_groups(rt, tell_one_group),
+        "false true true Some(32768) 1 true true Some(16384) 0 false false true ",
+    )
 }
 
-/// Groups of numbers, again behind a clearing.
-fn numbers<H: KeyHash + Drop>(
-    rt: HostRuntime,
+/// Puts the groups of numbers, and tells whether each is a new one and is found.
+fn tell_put<H: KeyHash + Drop>(
+    alloc: Global,
     groups: &mut Groups<H>,
     count: u32,
-) -> Result<String, Fail> {
-    let first = put_numbers(groups, count)? && has_numbers(groups, count);
+    text: &mut String,
+) -> Result<(), AllocError> {
+    tell(alloc, text, put_numbers(groups, count)?)?;
+    tell(alloc, text, has_numbers(groups, count))
+}
+
+/// Tells groups of numbers, again behind a clearing.
+fn tell_numbers<H: KeyHash + Drop>(
+    alloc: Global,
+    groups: &mut Groups<H>,
+    count: u32,
+    text: &mut String,
+) -> Result<(), AllocError> {
+    tell_put(alloc, groups, count, text)?;
     groups.clear();
-    let cleared = has_numbers(groups, 0) && !groups.has(&key(0));
-    let again = put_numbers(groups, count)? && has_numbers(groups, count);
-    Ok(format!(in rt.alloc(); "{first} {cleared} {again}")?)
+    tell(alloc, text, has_numbers(groups, 0))?;
+    tell(alloc, text, groups.has(&key(0)))?;
+    tell_put(alloc, groups, count, text)
+}
+
+/// What is told of groups of numbers that were found, and found again behind a clearing.
+const FOUND: &str = "true true true false true true ";
+
+/// Tells many groups of numbers.
+fn tell_many(
+    alloc: Global,
+    groups: &mut Groups<Fnv1a>,
+    text: &mut String,
+) -> Result<(), AllocError> {
+    tell_numbers(alloc, groups, 2000, text)
 }
 
 #[test]
 fn many_groups_are_found(rt: HostRuntime) -> Result<(), Fail> {
-    let told = of_groups(rt, |rt, groups| numbers(rt, groups, 2000))?;
-    assert_eq!(rt; told.as_str(), "true true true");
-    Ok(())
+    expect_told(of_groups(rt, tell_many), FOUND)
 }
 
-/// Groups of numbers in a table by whose hash function all keys are alike.
-fn of_one_hash(rt: HostRuntime, hash: u32) -> Result<String, Fail> {
-    let mut groups = Groups::new(rt.alloc(), Alike { hash })?;
-    numbers(rt, &mut groups, 300)
+/// What is told of groups of numbers in a table by whose hash function all keys are alike.
+fn of_one_hash(alloc: Global, hash: u32) -> Result<String, TreeError> {
+    let mut groups = Groups::new(alloc, Alike { hash })?;
+    let mut text = String::new(alloc);
+    let told = tell_numbers(alloc, &mut groups, 300, &mut text);
+    drop(groups);
+    told?;
+    Ok(text)
 }
 
 #[test]
 fn groups_of_one_hash_are_found(rt: HostRuntime) -> Result<(), Fail> {
-    assert_eq!(rt; of_one_hash(rt, 0)?.as_str(), "true true true");
-    assert_eq!(rt; of_one_hash(rt, u32::MAX)?.as_str(), "true true true");
-    Ok(())
+    expect_told(of_one_hash(rt.alloc(), 0), FOUND)?;
+    expect_told(of_one_hash(rt.alloc(), u32::MAX), FOUND)
 }
 
-/// Keys that begin alike, the empty one among them.
-fn keys_alike(rt: HostRuntime, groups: &mut Groups<Fnv1a>) -> Result<String, Fail> {
-    let put = groups.put(b"", b"nothing.")? && groups.put(b"a", b"a letter")?;
-    let longer = groups.put(b"a\0", b"a zero..")?;
-    let twice = groups.put(b"", b"nothing!")?;
-    let first = groups.finds(b"", b"nothing.") && groups.finds(b"a", b"a letter");
-    let last = groups.finds(b"a\0", b"a zero..") && groups.is_entry(2, b"a\0", b"a zero..");
-    let others = groups.has(b"\0") || groups.has(b"aa");
-    Ok(format!(in rt.alloc(); "{put} {longer} {twice} {first} {last} {others}")?)
+/// Tells whether keys that begin alike are new ones, the empty one among them, which is put twice.
+fn tell_alike_put(
+    alloc: Global,
+    groups: &mut Groups<Fnv1a>,
+    text: &mut String,
+) -> Result<(), AllocError> {
+    tell(alloc, text, groups.put(b"", b"nothing.")?)?;
+    tell(alloc, text, groups.put(b"a", b"a letter")?)?;
+    tell(alloc, text, groups.put(b"a\0", b"a zero..")?)?;
+    tell(alloc, text, groups.put(b"", b"nothing!")?)
+}
+
+/// Tells whether keys that begin alike are found with their states, and two others are.
+fn tell_alike_found(
+    alloc: Global,
+    groups: &Groups<Fnv1a>,
+    text: &mut String,
+) -> Result<(), AllocError> {
+    tell(alloc, text, groups.finds(b"", b"nothing."))?;
+    tell(alloc, text, groups.finds(b"a", b"a letter"))?;
+    tell(alloc, text, groups.finds(b"a\0", b"a zero.."))?;
+    tell(alloc, text, groups.is_entry(2, b"a\0", b"a zero.."))?;
+    tell(alloc, text, groups.has(b"\0"))?;
+    tell(alloc, text, groups.has(b"aa"))
+}
+
+/// Tells keys that begin alike.
+fn tell_alike(
+    alloc: Global,
+    groups: &mut Groups<Fnv1a>,
+    text: &mut String,
+) -> Result<(), AllocError> {
+    tell_alike_put(alloc, groups, text)?;
+    tell_alike_found(alloc, groups, text)
 }
 
 #[test]
 fn equal_bytes_alone_are_one_key(rt: HostRuntime) -> Result<(), Fail> {
-    let told = of_groups(rt, keys_alike)?;
-    assert_eq!(rt; told.as_str(), "true true false true true false");
-    Ok(())
+    expect_told(
+        of_groups(rt, tell_alike),
+        "true true true false true true true true false false ",
+    )
 }
 
-/// One state of many is written over, and then written back.
-fn written(rt: HostRuntime, groups: &mut Groups<Fnv1a>) -> Result<String, Fail> {
-    let put = put_numbers(groups, 200)?;
-    let wrote = groups.write(&key(77), b"changed!") && groups.finds(&key(77), b"changed!");
-    let entry = groups.is_entry(77, &key(77), b"changed!");
-    let back = groups.write(&key(77), &state(77)) && has_numbers(groups, 200);
-    let absent = groups.write(&key(200), b"changed!");
-    Ok(format!(in rt.alloc(); "{put} {wrote} {entry} {back} {absent}")?)
+/// Tells a state that is written over: whether there is one, and whether the new one is found by its key and at its place.
+fn tell_changed(
+    alloc: Global,
+    groups: &mut Groups<Fnv1a>,
+    text: &mut String,
+) -> Result<(), AllocError> {
+    tell(alloc, text, groups.write(&key(77), b"changed!"))?;
+    tell(alloc, text, groups.finds(&key(77), b"changed!"))?;
+    tell(alloc, text, groups.is_entry(77, &key(77), b"changed!"))
+}
+
+/// Tells one state of many that is written over, and then written back, and one that there is not.
+fn tell_written(
+    alloc: Global,
+    groups: &mut Groups<Fnv1a>,
+    text: &mut String,
+) -> Result<(), AllocError> {
+    tell(alloc, text, put_numbers(groups, 200)?)?;
+    tell_changed(alloc, groups, text)?;
+    tell(alloc, text, groups.write(&key(77), &state(77)))?;
+    tell(alloc, text, has_numbers(groups, 200))?;
+    tell(alloc, text, groups.write(&key(200), b"changed!"))
 }
 
 #[test]
 fn a_state_is_written(rt: HostRuntime) -> Result<(), Fail> {
-    assert_eq!(rt;
-        of_groups(rt, written)?.as_str(),
-        "true true true true false"
-    );
-    Ok(())
+    expect_told(
+        of_groups(rt, tell_written),
+        "true true true true true true false ",
+    )
 }
 
 /// The least limit within which one more group with a key keeps.
@@ -149,92 +228,111 @@ fn given_back(number: u32) -> u128 {
     }
 }
 
+/// Whether room was told for what was held on the way, of the group of a number that is put.
+fn is_told(groups: &mut Groups<Fnv1a>, number: u32) -> Result<bool, AllocError> {
+    let least = least_limit(groups, &key(number));
+    let put = groups.put(&key(number), &state(number))?;
+    let Some(held) = groups.held() else {
+        return Ok(false);
+    };
+    Ok(put && held.saturating_add(given_back(number)) == least)
+}
+
 /// The first of the numbers at which room was told for more or for less than was held on the way.
-fn first_untold(groups: &mut Groups<Fnv1a>, count: u32) -> Result<Option<u32>, Fail> {
+fn first_untold(groups: &mut Groups<Fnv1a>, count: u32) -> Result<Option<u32>, AllocError> {
     for number in 0..count {
-        let least = least_limit(groups, &key(number));
-        let put = groups.put(&key(number), &state(number))?;
-        let held = groups
-            .held()
-            .map(|held| held.saturating_add(given_back(number)));
-        if !put || held != Some(least) {
+        if !is_told(groups, number)? {
             return Ok(Some(number));
         }
     }
     Ok(None)
 }
 
-/// What room is told for, of each of the groups of numbers.
-fn rooms(rt: HostRuntime, groups: &mut Groups<Fnv1a>) -> Result<String, Fail> {
-    let first = first_untold(groups, 2000)?;
+/// Tells what room is told for, of each of the groups of numbers.
+fn tell_rooms(
+    alloc: Global,
+    groups: &mut Groups<Fnv1a>,
+    text: &mut String,
+) -> Result<(), AllocError> {
+    tell(alloc, text, first_untold(groups, 2000)?)?;
     groups.clear();
-    let again = first_untold(groups, 200)?;
-    Ok(format!(in rt.alloc(); "{first:?} {again:?}")?)
+    tell(alloc, text, first_untold(groups, 200)?)
 }
 
 #[test]
 fn room_is_what_is_held_on_the_way(rt: HostRuntime) -> Result<(), Fail> {
-    assert_eq!(rt; of_groups(rt, rooms)?.as_str(), "None None");
-    Ok(())
+    expect_told(of_groups(rt, tell_rooms), "None None ")
 }
 
-/// What one more group needs where there are those of so many numbers, and what is held then.
-fn need_behind(
+/// Tells what one more group needs where there are those of so many numbers, and what is held then.
+fn tell_need(
+    alloc: Global,
     groups: &mut Groups<Fnv1a>,
     count: u32,
-) -> Result<(Option<u128>, Option<u128>), Fail> {
+    text: &mut String,
+) -> Result<(), AllocError> {
     groups.clear();
-    if !put_numbers(groups, count)? {
-        return Ok((None, None));
-    }
-    Ok((groups.need_for(&key(count)), groups.held()))
+    tell(alloc, text, put_numbers(groups, count)?)?;
+    tell(alloc, text, groups.need_for(&key(count)))?;
+    tell(alloc, text, groups.held())
 }
 
 /// A block of 8,192 bytes has room for 1,024 of these keys and for 512 states, each in a chunk of 16 bytes. The array that is held
 /// from the first group on has 256 buckets. It is doubled by the 193rd group, to 16,392 bytes, and by the 385th, to 32,776.
-fn needs(rt: HostRuntime, groups: &mut Groups<Fnv1a>) -> Result<String, Fail> {
-    let first = need_behind(groups, 0)?;
-    let (full, half) = (need_behind(groups, 191)?, need_behind(groups, 192)?);
-    let (again, states) = (need_behind(groups, 384)?, need_behind(groups, 512)?);
-    Ok(format!(in rt.alloc(); "{first:?} {full:?} {half:?} {again:?} {states:?}")?)
+fn tell_needs(
+    alloc: Global,
+    groups: &mut Groups<Fnv1a>,
+    text: &mut String,
+) -> Result<(), AllocError> {
+    tell_need(alloc, groups, 0, text)?;
+    tell_need(alloc, groups, 191, text)?;
+    tell_need(alloc, groups, 192, text)?;
+    tell_need(alloc, groups, 384, text)?;
+    tell_need(alloc, groups, 512, text)
 }
 
 #[test]
 fn a_group_needs_what_is_counted(rt: HostRuntime) -> Result<(), Fail> {
-    let told = of_groups(rt, needs)?;
-    assert_eq!(rt;
-        told.as_str(),
-        "(Some(32768), Some(0)) (Some(32768), Some(32768)) (Some(49160), Some(32768)) (Some(81936), Some(49160)) (Some(73736), Some(65544))"
-    );
-    Ok(())
+    expect_told(
+        of_groups(rt, tell_needs),
+        "true Some(32768) Some(0) true Some(32768) Some(32768) true Some(49160) Some(32768) \
+         true Some(81936) Some(49160) true Some(73736) Some(65544) ",
+    )
 }
 
-/// Puts the groups of the first numbers, each again if memory is refused for it: whether each is a new one, and the others were
-/// those from before after each refusal.
-fn put_again(groups: &mut Groups<Fnv1a>, count: u32) -> Result<bool, Fail> {
+/// Puts the group of a number, again if memory is refused for it: whether it is a new one, and the others were those from before
+/// after the refusal.
+fn put_again(groups: &mut Groups<Fnv1a>, number: u32) -> Result<bool, AllocError> {
+    let (key, state) = (key(number), state(number));
+    match groups.put(&key, &state) {
+        Ok(put) => Ok(put),
+        Err(_) => Ok(has_numbers(groups, number) && groups.put(&key, &state)?),
+    }
+}
+
+/// Puts the groups of the first numbers, each again if memory is refused for it.
+fn put_all_again(groups: &mut Groups<Fnv1a>, count: u32) -> Result<bool, AllocError> {
     for number in 0..count {
-        let (key, state) = (key(number), state(number));
-        let put = match groups.put(&key, &state) {
-            Ok(put) => put,
-            Err(_) => has_numbers(groups, number) && groups.put(&key, &state)?,
-        };
-        if !put {
+        if !put_again(groups, number)? {
             return Ok(false);
         }
     }
-    Ok(has_numbers(groups, count))
+    Ok(true)
 }
 
 /// Under `rt try --test --fail-alloc N` one of these groups is refused its memory, from the first N at which the table was made.
-fn put_again_told(rt: HostRuntime, groups: &mut Groups<Fnv1a>) -> Result<String, Fail> {
-    let put = put_again(groups, 200)?;
-    Ok(format!(in rt.alloc(); "{put}")?)
+fn tell_put_again(
+    alloc: Global,
+    groups: &mut Groups<Fnv1a>,
+    text: &mut String,
+) -> Result<(), AllocError> {
+    tell(alloc, text, put_all_again(groups, 200)?)?;
+    tell(alloc, text, has_numbers(groups, 200))
 }
 
 #[test]
 fn a_refused_group_changes_none(rt: HostRuntime) -> Result<(), Fail> {
-    assert_eq!(rt; of_groups(rt, put_again_told)?.as_str(), "true");
-    Ok(())
+    expect_told(of_groups(rt, tell_put_again), "true true ")
 }
 
 /// The stamps of the contexts that there are beside a root with a stamp: looked for in the slots that three can have.
@@ -251,18 +349,21 @@ fn stamps_behind(tree: &Tree, first: u64) -> u32 {
     number
 }
 
-/// Why no table is made in a tree whose root has a stamp, and how many contexts there are below it then.
-fn made(rt: HostRuntime, first: u64) -> Result<String, Fail> {
-    let mut tree = Tree::with_stamp(rt.alloc(), first);
+/// Why no table is made below the root of a tree, if none is.
+fn refusal(alloc: Global, tree: &mut Tree) -> Option<TreeError> {
     let root = tree.root();
-    let refused = GroupTable::new(rt.alloc(), &mut tree, root, WIDTH, Fnv1a).err();
-    let left = stamps_behind(&tree, first);
-    Ok(format!(in rt.alloc(); "{refused:?} {left}")?)
+    GroupTable::new(alloc, tree, root, WIDTH, Fnv1a).err()
+}
+
+/// Why no table is made in a tree whose root has a stamp, and how many contexts there are below it then.
+fn made(alloc: Global, first: u64) -> (Option<TreeError>, u32) {
+    let mut tree = Tree::with_stamp(alloc, first);
+    let refused = refusal(alloc, &mut tree);
+    (refused, stamps_behind(&tree, first))
 }
 
 #[test]
-fn a_table_takes_three_stamps(rt: HostRuntime) -> Result<(), Fail> {
-    assert_eq!(rt; made(rt, u64::MAX - 2)?.as_str(), "Some(StampsSpent) 0");
-    assert_eq!(rt; made(rt, u64::MAX - 3)?.as_str(), "None 3");
-    Ok(())
+fn a_table_takes_three_stamps(rt: HostRuntime) {
+    assert!(rt; made(rt.alloc(), u64::MAX - 2) == (Some(TreeError::StampsSpent), 0));
+    assert!(rt; made(rt.alloc(), u64::MAX - 3) == (None, 3));
 }

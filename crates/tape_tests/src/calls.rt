@@ -1,6 +1,7 @@
 //! Calls of tapes, each where its condition holds; else they answer `NoMemory`, which no test wants.
 
 use spill_tapes::{TapeDisk, TapeError, TapeId, Tapes};
+use std::test::*;
 
 /// Appends a record.
 pub(crate) fn append<D: TapeDisk>(

@@ -6,6 +6,7 @@ use spill_tapes::{MemDisk, TapeDisk};
 use std::alloc::Global;
 use std::test::*;
 use test_disks::{FaultyDisk, Marks};
+use test_tables::expect;
 
 /// Spills a record: its hash, its tag and its bytes.
 fn spill<D: TapeDisk>(
@@ -42,51 +43,96 @@ fn spill_all<D: TapeDisk>(
     Ok(())
 }
 
-/// What is told of the records that the pass has to read.
-fn told<D: TapeDisk>(alloc: Global, lists: &mut SpillLists, disk: &mut D) -> Result<String, Fail>
+/// Tells a record.
+fn tell_record(
+    alloc: Global,
+    hash: u32,
+    tag: u8,
+    bytes: &[u8],
+    text: &mut String,
+) -> Result<(), Fail> {
+    let shown = str::from_utf8(bytes)?;
+    let told = format!(in alloc; " {hash:x}/{tag}/{shown}")?;
+    Ok(text.push_str(&told)?)
+}
+
+/// Tells the records that the pass has to read.
+fn tell_list<D: TapeDisk>(
+    alloc: Global,
+    lists: &mut SpillLists,
+    disk: &mut D,
+    bytes: &mut Vec<u8>,
+    text: &mut String,
+) -> Result<(), Fail>
     requires alive { lists.old.tapes.is_dead ≡ false }
     ensures alive { OnOk result (lists.new.tapes.is_dead ≡ false) }
     ensures parts { lists.new.parts ≡ lists.old.parts }
     ensures source { OnOk result (lists.new.source ≡ []) }
     ensures todo { lists.new.todo ≡ lists.old.todo }
 {
-    let mut told = String::new(alloc);
-    let mut bytes = Vec::new(alloc);
-    while let Some((hash, tag)) = lists.next(disk, &mut bytes)? {
-        let text = str::from_utf8(&bytes)?;
-        told.push_str(&format!(in alloc; " {hash:x}/{tag}/{text}")?)?;
+    while let Some((hash, tag)) = lists.next(disk, bytes)? {
+        tell_record(alloc, hash, tag, bytes, text)?;
     }
-    Ok(told)
+    Ok(())
 }
 
-/// What is told of the records of each list that was left, the last list first.
-fn lists_told<D: TapeDisk>(
+/// Tells the records of each list that was left, the last list first.
+fn tell_lists<D: TapeDisk>(
     alloc: Global,
     lists: &mut SpillLists,
     disk: &mut D,
-) -> Result<String, Fail>
+    bytes: &mut Vec<u8>,
+    text: &mut String,
+) -> Result<(), Fail>
     requires alive { lists.old.tapes.is_dead ≡ false }
     requires parts { lists.old.parts ≡ [] }
     requires source { lists.old.source ≡ [] }
 {
-    let mut text = String::new(alloc);
     while lists.begin_pass(disk) {
-        let list = told(alloc, lists, disk)?;
-        text.push_str(&format!(in alloc; "[{list} ]")?)?;
+        text.push('[')?;
+        tell_list(alloc, lists, disk, bytes, text)?;
+        text.push_str(" ]")?;
     }
-    Ok(text)
+    Ok(())
 }
 
-/// What is told of records once a pass has spilled them.
-fn spilled<D: TapeDisk>(
+/// Tells records once a pass has spilled them.
+fn tell_spilled<D: TapeDisk>(
     alloc: Global,
+    lists: &mut SpillLists,
     disk: &mut D,
     records: &[(u32, u8, &[u8])],
-) -> Result<String, Fail> {
-    let mut lists = SpillLists::new(alloc, disk);
-    spill_all(&mut lists, disk, records)?;
+    text: &mut String,
+) -> Result<(), Fail>
+    requires alive { lists.old.tapes.is_dead ≡ false }
+    requires source { lists.old.source ≡ [] }
+{
+    spill_all(lists, disk, records)?;
     lists.end_pass(disk)?;
-    lists_told(alloc, &mut lists, disk)
+    let mut bytes = Vec::new(alloc);
+    let told = tell_lists(alloc, lists, disk, &mut bytes, text);
+    drop(bytes);
+    told
+}
+
+/// Tells how many writes there were.
+fn tell_writes(alloc: Global, writes: u64, text: &mut String) -> Result<(), Fail> {
+    let told = format!(in alloc; " {writes} written")?;
+    Ok(text.push_str(&told)?)
+}
+
+/// What is told of records once a pass has spilled them, and how many writes there were.
+fn spilled(alloc: Global, records: &[(u32, u8, &[u8])]) -> Result<String, Fail> {
+    let mut disk = MemDisk::new(alloc);
+    let mut lists = SpillLists::new(alloc, &disk);
+    let mut text = String::new(alloc);
+    let told = tell_spilled(alloc, &mut lists, &mut disk, records, &mut text);
+    drop(lists);
+    let writes = disk.writes();
+    drop(disk);
+    told?;
+    tell_writes(alloc, writes, &mut text)?;
+    Ok(text)
 }
 
 /// Records on three lists: their hashes, tags and bytes.
@@ -102,37 +148,70 @@ const RECORDS: [(u32, u8, &[u8]); 7] = [
 
 #[test]
 fn records_fall_on_lists_by_the_first_digit(rt: HostRuntime) -> Result<(), Fail> {
-    let mut disk = MemDisk::new(rt.alloc());
-    assert_eq!(rt;
-        spilled(rt.alloc(), &mut disk, &RECORDS)?.as_str(),
-        "[ f0000001/1/b f0000001/0/d ][ 10000000/0/a 1fffffff/1/ 10000000/0/a ][ 0/0/c abcdef0/0/e ]"
-    );
-    assert_eq!(rt; disk.writes(), 3);
-    Ok(())
+    expect(
+        spilled(rt.alloc(), &RECORDS),
+        "[ f0000001/1/b f0000001/0/d ][ 10000000/0/a 1fffffff/1/ 10000000/0/a ][ 0/0/c abcdef0/0/e ] 3 written",
+    )
+}
+
+/// Whether there is no record, before one is spilled, behind it and behind the end of the pass.
+fn emptiness<D: TapeDisk>(lists: &mut SpillLists, disk: &mut D) -> Result<[bool; 3], Fail>
+    requires alive { lists.old.tapes.is_dead ≡ false }
+{
+    let before = lists.is_empty();
+    spill(lists, disk, 7, 0, b"")?;
+    let behind = lists.is_empty();
+    lists.end_pass(disk)?;
+    Ok([before, behind, lists.is_empty()])
+}
+
+/// Whether new lists have no record, before one is spilled, behind it and behind the end of the pass.
+fn emptiness_in_memory(alloc: Global) -> Result<[bool; 3], Fail> {
+    let mut disk = MemDisk::new(alloc);
+    let mut lists = SpillLists::new(alloc, &disk);
+    let told = emptiness(&mut lists, &mut disk);
+    drop(lists);
+    drop(disk);
+    told
 }
 
 #[test]
 fn without_records_there_is_no_list(rt: HostRuntime) -> Result<(), Fail> {
-    let mut disk = MemDisk::new(rt.alloc());
-    assert_eq!(rt; spilled(rt.alloc(), &mut disk, &[])?.as_str(), "");
-    assert_eq!(rt; disk.writes(), 0);
-    let mut lists = SpillLists::new(rt.alloc(), &disk);
-    assert!(rt; lists.is_empty());
-    spill(&mut lists, &mut disk, 7, 0, b"")?;
-    assert!(rt; !lists.is_empty());
-    lists.end_pass(&mut disk)?;
-    assert!(rt; lists.is_empty());
+    expect(spilled(rt.alloc(), &[]), " 0 written")?;
+    assert!(rt; emptiness_in_memory(rt.alloc())? == [true, false, true]);
     Ok(())
 }
 
 /// How often a record is spilled before it is told.
 const TIMES: u8 = 10;
 
-/// A pass that spills again what was not spilled so often, and tells the numbers of the other records.
-fn pass<D: TapeDisk>(
-    alloc: Global,
+/// Spills a record again if it was not spilled so often, or else tells its number.
+fn spill_again<D: TapeDisk>(
     lists: &mut SpillLists,
     disk: &mut D,
+    hash: u32,
+    tag: u8,
+    bytes: &[u8],
+    numbers: &mut Vec<u8>,
+) -> Result<(), Fail>
+    requires alive { lists.old.tapes.is_dead ≡ false }
+    ensures alive { OnOk result (lists.new.tapes.is_dead ≡ false) }
+    ensures source { lists.new.source ≡ lists.old.source }
+{
+    let [times, number] = *bytes else {
+        return Err(Fail::from("no such record"));
+    };
+    if times < TIMES {
+        return spill(lists, disk, hash, tag, &[times + 1, number]);
+    }
+    Ok(numbers.push(number)?)
+}
+
+/// A pass that spills again what was not spilled so often, and tells the numbers of the other records.
+fn pass<D: TapeDisk>(
+    lists: &mut SpillLists,
+    disk: &mut D,
+    bytes: &mut Vec<u8>,
     numbers: &mut Vec<u8>,
 ) -> Result<(), Fail>
     requires alive { lists.old.tapes.is_dead ≡ false }
@@ -140,33 +219,29 @@ fn pass<D: TapeDisk>(
     ensures parts { OnOk result (lists.new.parts ≡ []) }
     ensures source { OnOk result (lists.new.source ≡ []) }
 {
-    let mut bytes = Vec::new(alloc);
-    while let Some((hash, tag)) = lists.next(disk, &mut bytes)? {
-        let [times, number] = *bytes.as_slice() else {
-            return Err(Fail::from("no such record"));
-        };
-        if times < TIMES {
-            spill(lists, disk, hash, tag, &[times + 1, number])?;
-        } else {
-            numbers.push(number)?;
-        }
+    while let Some((hash, tag)) = lists.next(disk, bytes)? {
+        spill_again(lists, disk, hash, tag, bytes, numbers)?;
     }
     lists.end_pass(disk)?;
     Ok(())
 }
 
 /// The numbers of all records that were left, in the order in which passes tell them.
-fn passes<D: TapeDisk>(alloc: Global, lists: &mut SpillLists, disk: &mut D) -> Result<Vec<u8>, Fail>
+fn passes<D: TapeDisk>(
+    lists: &mut SpillLists,
+    disk: &mut D,
+    bytes: &mut Vec<u8>,
+    numbers: &mut Vec<u8>,
+) -> Result<(), Fail>
     requires alive { lists.old.tapes.is_dead ≡ false }
     requires parts { lists.old.parts ≡ [] }
     requires source { lists.old.source ≡ [] }
 {
-    let mut numbers = Vec::new(alloc);
     for _pass in 0..1000 {
         if !lists.begin_pass(disk) {
-            return Ok(numbers);
+            return Ok(());
         }
-        pass(alloc, lists, disk, &mut numbers)?;
+        pass(lists, disk, bytes, numbers)?;
     }
     Err(Fail::from("there is no last pass"))
 }
@@ -187,17 +262,41 @@ const HASHES: [(u32, u8, &[u8]); 12] = [
     (0x1234_5678, 1, &[1, 11]),
 ];
 
+/// The numbers of these records, in the order in which passes tell them.
+fn told_apart<D: TapeDisk>(
+    alloc: Global,
+    lists: &mut SpillLists,
+    disk: &mut D,
+    numbers: &mut Vec<u8>,
+) -> Result<(), Fail>
+    requires alive { lists.old.tapes.is_dead ≡ false }
+    requires source { lists.old.source ≡ [] }
+{
+    spill_all(lists, disk, &HASHES)?;
+    lists.end_pass(disk)?;
+    let mut bytes = Vec::new(alloc);
+    let told = passes(lists, disk, &mut bytes, numbers);
+    drop(bytes);
+    told
+}
+
+/// The numbers of these records over a disk in memory.
+fn told_apart_in_memory(alloc: Global) -> Result<Vec<u8>, Fail> {
+    let mut disk = MemDisk::new(alloc);
+    let mut lists = SpillLists::new(alloc, &disk);
+    let mut numbers = Vec::new(alloc);
+    let told = told_apart(alloc, &mut lists, &mut disk, &mut numbers);
+    drop(lists);
+    drop(disk);
+    told?;
+    Ok(numbers)
+}
+
 /// Since the last list comes first, what eight passes tell apart comes by falling hashes; what they do not comes as it was spilled.
 #[test]
 fn eight_passes_tell_all_hashes_apart(rt: HostRuntime) -> Result<(), Fail> {
-    let mut disk = MemDisk::new(rt.alloc());
-    let mut lists = SpillLists::new(rt.alloc(), &disk);
-    spill_all(&mut lists, &mut disk, &HASHES)?;
-    lists.end_pass(&mut disk)?;
-    assert_eq!(rt;
-        passes(rt.alloc(), &mut lists, &mut disk)?.as_slice(),
-        [3, 7, 9, 10, 6, 2, 5, 11, 4, 1, 0, 8].as_slice()
-    );
+    let numbers = told_apart_in_memory(rt.alloc())?;
+    assert!(rt; numbers.as_slice() == [3, 7, 9, 10, 6, 2, 5, 11, 4, 1, 0, 8].as_slice());
     Ok(())
 }
 
@@ -230,6 +329,23 @@ fn bytes_of(alloc: Global, number: u32) -> Result<Vec<u8>, Fail> {
     Ok(bytes)
 }
 
+/// Spills one of these records.
+fn spill_one<D: TapeDisk>(
+    alloc: Global,
+    lists: &mut SpillLists,
+    disk: &mut D,
+    number: u32,
+) -> Result<(), Fail>
+    requires alive { lists.old.tapes.is_dead ≡ false }
+    ensures alive { OnOk result (lists.new.tapes.is_dead ≡ false) }
+    ensures source { lists.new.source ≡ lists.old.source }
+{
+    let bytes = bytes_of(alloc, number)?;
+    let spilled = spill(lists, disk, hash_of(number), (number % 2) as u8, &bytes);
+    drop(bytes);
+    spilled
+}
+
 /// Spills these records.
 fn spill_many<D: TapeDisk>(alloc: Global, lists: &mut SpillLists, disk: &mut D) -> Result<(), Fail>
     requires alive { lists.old.tapes.is_dead ≡ false }
@@ -237,10 +353,32 @@ fn spill_many<D: TapeDisk>(alloc: Global, lists: &mut SpillLists, disk: &mut D) 
     ensures source { lists.new.source ≡ lists.old.source }
 {
     for number in 0..MANY {
-        let bytes = bytes_of(alloc, number)?;
-        spill(lists, disk, hash_of(number), (number % 2) as u8, &bytes)?;
+        spill_one(alloc, lists, disk, number)?;
     }
     Ok(())
+}
+
+/// Whether bytes are those of one of these records.
+fn is_record(alloc: Global, bytes: &[u8], number: u32) -> Result<bool, Fail> {
+    let wanted = bytes_of(alloc, number)?;
+    Ok(bytes == wanted.as_slice())
+}
+
+/// Whether the next record is one of these records.
+fn is_next<D: TapeDisk>(
+    alloc: Global,
+    lists: &mut SpillLists,
+    disk: &mut D,
+    bytes: &mut Vec<u8>,
+    number: u32,
+) -> Result<bool, Fail>
+    requires alive { lists.old.tapes.is_dead ≡ false }
+    ensures alive { OnOk result (lists.new.tapes.is_dead ≡ false) }
+    ensures parts { lists.new.parts ≡ lists.old.parts }
+{
+    let found = lists.next(disk, bytes)?;
+    let same = is_record(alloc, bytes, number)?;
+    Ok(same && found == Some((hash_of(number), (number % 2) as u8)))
 }
 
 /// How many records of a list are not those of these records that have a digit.
@@ -248,29 +386,66 @@ fn wrong_of_list<D: TapeDisk>(
     alloc: Global,
     lists: &mut SpillLists,
     disk: &mut D,
+    bytes: &mut Vec<u8>,
     is_second: bool,
     digit: u32,
 ) -> Result<u32, Fail>
     requires alive { lists.old.tapes.is_dead ≡ false }
     ensures alive { OnOk result (lists.new.tapes.is_dead ≡ false) }
     ensures parts { lists.new.parts ≡ lists.old.parts }
+{
+    let mut wrong: u32 = 0;
+    for number in 0..MANY {
+        if digit_of(hash_of(number), is_second) == digit
+            && !is_next(alloc, lists, disk, bytes, number)?
+        {
+            wrong = wrong.saturating_add(1);
+        }
+    }
+    Ok(wrong)
+}
+
+/// Fails if the list has one more record.
+fn end_list<D: TapeDisk>(
+    lists: &mut SpillLists,
+    disk: &mut D,
+    bytes: &mut Vec<u8>,
+) -> Result<(), Fail>
+    requires alive { lists.old.tapes.is_dead ≡ false }
+    ensures alive { OnOk result (lists.new.tapes.is_dead ≡ false) }
+    ensures parts { lists.new.parts ≡ lists.old.parts }
+    ensures source { OnOk result (lists.new.source ≡ []) }
+{
+    match lists.next(disk, bytes)? {
+        None => Ok(()),
+        Some(_) => Err(Fail::from("there is one record too many")),
+    }
+}
+
+/// How many of these records come wrong from the lists that were left, by their first digit or by their second.
+fn wrong_of_lists<D: TapeDisk>(
+    alloc: Global,
+    lists: &mut SpillLists,
+    disk: &mut D,
+    bytes: &mut Vec<u8>,
+    is_second: bool,
+) -> Result<u32, Fail>
+    requires alive { lists.old.tapes.is_dead ≡ false }
+    requires parts { lists.old.parts ≡ [] }
+    requires source { lists.old.source ≡ [] }
+    ensures alive { OnOk result (lists.new.tapes.is_dead ≡ false) }
     ensures source { OnOk result (lists.new.source ≡ []) }
 {
     let mut wrong: u32 = 0;
-    let mut bytes = Vec::new(alloc);
-    for number in 0..MANY {
-        if digit_of(hash_of(number), is_second) == digit {
-            let found = lists.next(disk, &mut bytes)?;
-            let same = bytes.as_slice() == bytes_of(alloc, number)?.as_slice();
-            if found != Some((hash_of(number), (number % 2) as u8)) || !same {
-                wrong = wrong.saturating_add(1);
-            }
+    for place in 0..16 {
+        if !lists.begin_pass(disk) {
+            return Err(Fail::from("a list is missing"));
         }
+        let more = wrong_of_list(alloc, lists, disk, bytes, is_second, 15 - place)?;
+        wrong = wrong.saturating_add(more);
+        end_list(lists, disk, bytes)?;
     }
-    match lists.next(disk, &mut bytes)? {
-        None => Ok(wrong),
-        Some(_) => Err(Fail::from("there is one record too many")),
-    }
+    Ok(wrong)
 }
 
 /// How many of these records come wrong from 16 lists, by their first digit or by their second.
@@ -287,87 +462,123 @@ fn wrong_of_many<D: TapeDisk>(
 {
     spill_many(alloc, lists, disk)?;
     lists.end_pass(disk)?;
-    let mut wrong: u32 = 0;
-    for place in 0..16 {
-        if !lists.begin_pass(disk) {
-            return Err(Fail::from("a list is missing"));
-        }
-        let more = wrong_of_list(alloc, lists, disk, is_second, 15 - place)?;
-        wrong = wrong.saturating_add(more);
-    }
-    Ok(wrong)
+    let mut bytes = Vec::new(alloc);
+    let wrong = wrong_of_lists(alloc, lists, disk, &mut bytes, is_second);
+    drop(bytes);
+    wrong
+}
+
+/// How many of these records come wrong, twice, and how far the disk was written each time.
+fn two_turns(
+    alloc: Global,
+    lists: &mut SpillLists,
+    disk: &mut Marks,
+) -> Result<([u32; 2], [u64; 2]), Fail>
+    requires alive { lists.old.tapes.is_dead ≡ false }
+    requires source { lists.old.source ≡ [] }
+{
+    let first = wrong_of_many(alloc, lists, disk, false)?;
+    let end = disk.end;
+    let second = wrong_of_many(alloc, lists, disk, true)?;
+    Ok(([first, second], [end, disk.end]))
+}
+
+/// How many of these records come wrong of new lists, twice, and how far the disk was written each time.
+fn two_turns_of_new_lists(alloc: Global) -> Result<([u32; 2], [u64; 2]), Fail> {
+    let mut disk = Marks {
+        inner: MemDisk::new(alloc),
+        end: 0,
+    };
+    let mut lists = SpillLists::new(alloc, &disk);
+    let told = two_turns(alloc, &mut lists, &mut disk);
+    drop(lists);
+    drop(disk);
+    told
 }
 
 #[test]
 fn many_records_are_read_again_and_their_pages_used_again(rt: HostRuntime) -> Result<(), Fail> {
-    let mut disk = Marks {
-        inner: MemDisk::new(rt.alloc()),
-        end: 0,
-    };
-    let mut lists = SpillLists::new(rt.alloc(), &disk);
-    let first = wrong_of_many(rt.alloc(), &mut lists, &mut disk, false)?;
-    let end = disk.end;
-    let second = wrong_of_many(rt.alloc(), &mut lists, &mut disk, true)?;
-    assert_eq!(rt; (first, second), (0, 0));
-    assert_eq!(rt; disk.end, end);
+    let (wrong, ends) = two_turns_of_new_lists(rt.alloc())?;
+    assert!(rt; wrong == [0, 0] && ends[1] == ends[0]);
     Ok(())
+}
+
+/// Whether a record is spilled over a disk that fails to write, and why it or the end of the pass is refused.
+fn write_fault(alloc: Global, bytes: &[u8]) -> Result<(bool, Option<SpillError>), Fail> {
+    if bytes.len() > 65535 {
+        return Err(Fail::from("no record"));
+    }
+    let mut disk = FaultyDisk::new(alloc, "write");
+    let mut lists = SpillLists::new(alloc, &disk);
+    match lists.spill(&mut disk, 7, 0, bytes) {
+        Ok(()) => Ok((true, lists.end_pass(&mut disk).err())),
+        Err(error) => Ok((false, Some(error))),
+    }
 }
 
 #[test]
 fn a_fault_is_told(rt: HostRuntime) -> Result<(), Fail> {
-    let mut disk = FaultyDisk::new(rt.alloc(), "write");
-    let mut lists = SpillLists::new(rt.alloc(), &disk);
-    spill(&mut lists, &mut disk, 7, 0, b"ab")?;
-    assert!(rt; lists.end_pass(&mut disk) == Err(SpillError::TapeFault));
+    let told = write_fault(rt.alloc(), b"ab")?;
+    assert!(rt; told == (true, Some(SpillError::TapeFault)));
     Ok(())
 }
 
 #[test]
 fn a_fault_of_a_full_page_is_told(rt: HostRuntime) -> Result<(), Fail> {
-    let mut disk = FaultyDisk::new(rt.alloc(), "write");
-    let mut lists = SpillLists::new(rt.alloc(), &disk);
-    let long = [b'x'; 9000];
-    assert!(rt; lists.spill(&mut disk, 7, 0, &long) == Err(SpillError::TapeFault));
+    let told = write_fault(rt.alloc(), &[b'x'; 9000])?;
+    assert!(rt; told == (false, Some(SpillError::TapeFault)));
     Ok(())
 }
 
+type Found = Result<Option<(u32, u8)>, SpillError>;
+
 /// What becomes of the one record of a list that is read again.
 fn read_again<D: TapeDisk>(
-    alloc: Global,
+    lists: &mut SpillLists,
     disk: &mut D,
-) -> Result<Result<Option<(u32, u8)>, SpillError>, Fail> {
-    let mut lists = SpillLists::new(alloc, disk);
-    spill(&mut lists, disk, 7, 0, b"ab")?;
+    bytes: &mut Vec<u8>,
+) -> Result<Found, Fail>
+    requires alive { lists.old.tapes.is_dead ≡ false }
+    requires source { lists.old.source ≡ [] }
+{
+    spill(lists, disk, 7, 0, b"ab")?;
     lists.end_pass(disk)?;
     if !lists.begin_pass(disk) {
         return Err(Fail::from("there is no list"));
     }
+    Ok(lists.next(disk, bytes))
+}
+
+/// What becomes of the one record of a list that is read again over a disk that has a fault.
+fn read_over_faulty(alloc: Global, fault: &str) -> Result<Found, Fail> {
+    let mut disk = FaultyDisk::new(alloc, fault);
+    let mut lists = SpillLists::new(alloc, &disk);
     let mut bytes = Vec::new(alloc);
-    Ok(lists.next(disk, &mut bytes))
+    read_again(&mut lists, &mut disk, &mut bytes)
 }
 
 #[test]
 fn damage_is_told(rt: HostRuntime) -> Result<(), Fail> {
-    let mut disk = FaultyDisk::new(rt.alloc(), "flip");
-    assert!(rt; read_again(rt.alloc(), &mut disk)? == Err(SpillError::TapeDamaged));
+    assert!(rt; read_over_faulty(rt.alloc(), "flip")? == Err(SpillError::TapeDamaged));
     Ok(())
 }
 
 #[test]
 fn a_fault_of_reading_is_told(rt: HostRuntime) -> Result<(), Fail> {
-    let mut disk = FaultyDisk::new(rt.alloc(), "read");
-    assert!(rt; read_again(rt.alloc(), &mut disk)? == Err(SpillError::TapeFault));
+    assert!(rt; read_over_faulty(rt.alloc(), "read")? == Err(SpillError::TapeFault));
     Ok(())
+}
+
+/// The messages of all errors.
+fn all_messages(alloc: Global) -> Result<String, Fail> {
+    use SpillError::{NoMemory, TapeDamaged, TapeFault};
+    Ok(format!(in alloc; "{NoMemory}, {TapeFault}, {TapeDamaged}")?)
 }
 
 #[test]
 fn messages(rt: HostRuntime) -> Result<(), Fail> {
-    for (error, want) in [
-        (SpillError::NoMemory, "out of memory"),
-        (SpillError::TapeFault, "the tape disk failed"),
-        (SpillError::TapeDamaged, "the tape is damaged"),
-    ] {
-        assert_eq!(rt; format!(in rt.alloc(); "{error}")?.as_str(), want);
-    }
-    Ok(())
+    expect(
+        all_messages(rt.alloc()),
+        "out of memory, the tape disk failed, the tape is damaged",
+    )
 }

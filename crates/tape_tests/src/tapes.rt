@@ -1,124 +1,235 @@
 //! Tapes that are written, read and closed.
 
+ghost use Rattle.std.specs.Prelude.{◌+◌, ◌<◌, ◌^◌};
+
 use crate::calls::{append, close, next, rewind};
-use spill_tapes::{MemDisk, TapeDisk, TapeId, Tapes};
-use std::alloc::Global;
+use spill_tapes::{DiskError, MemDisk, TapeDisk, TapeError, TapeId, Tapes};
+use std::alloc::{AllocError, Global};
 use std::test::Fail;
 use test_disks::{FaultyDisk, Marks};
+use test_tables::expect;
 
 /// How many tapes there are at once, and how many records each has.
 const TAPES: u32 = 16;
 
 const RECORDS: u32 = 120;
 
-/// What is told of the next record of a tape.
-fn told<D: TapeDisk>(
-    rt: &HostRuntime,
+/// What is told of a record, or of the end of a tape, and of the bytes that came with it.
+fn record_told(
+    alloc: Global,
+    found: Result<Option<(u32, u8)>, TapeError>,
+    bytes: &[u8],
+) -> Result<String, Fail> {
+    let text = str::from_utf8(bytes)?;
+    Ok(format!(in alloc; "{found:?} {text}, ")?)
+}
+
+/// Tells the next record of a tape.
+fn tell_next<D: TapeDisk>(
+    alloc: Global,
     tapes: &mut Tapes,
     disk: &mut D,
     tape: TapeId,
-) -> Result<String, Fail> {
-    let mut bytes = Vec::new(rt.alloc());
+    text: &mut String,
+) -> Result<(), Fail> {
+    let mut bytes = Vec::new(alloc);
     let found = next(tapes, disk, tape, &mut bytes);
-    let text = str::from_utf8(&bytes)?;
-    Ok(format!(in rt.alloc(); "{found:?} {text}")?)
+    let told = record_told(alloc, found, &bytes);
+    drop(bytes);
+    Ok(text.push_str(&told?)?)
 }
 
-/// What is told of a tape with two records, by its rewind and the calls after it.
-fn two_records<D: TapeDisk>(rt: &HostRuntime, disk: &mut D) -> Result<String, Fail> {
-    let mut tapes = Tapes::new(rt.alloc());
+/// Tells what became of a call.
+fn tell_outcome(
+    alloc: Global,
+    outcome: Result<(), TapeError>,
+    text: &mut String,
+) -> Result<(), AllocError> {
+    let told = format!(in alloc; "{outcome:?}, ")?;
+    text.push_str(&told)
+}
+
+/// Tells whether one more tape can be opened, or why not.
+fn tell_opened<D: TapeDisk>(
+    alloc: Global,
+    tapes: &mut Tapes,
+    disk: &D,
+    text: &mut String,
+) -> Result<(), AllocError> {
+    let refused = tapes.open(disk).err();
+    let told = format!(in alloc; "{refused:?}")?;
+    text.push_str(&told)
+}
+
+/// Tells how many writes there were.
+fn tell_writes(alloc: Global, writes: u64, text: &mut String) -> Result<(), AllocError> {
+    let told = format!(in alloc; ", {writes} written")?;
+    text.push_str(&told)
+}
+
+/// Opens a tape and appends two records to it.
+fn append_two<D: TapeDisk>(tapes: &mut Tapes, disk: &mut D) -> Result<TapeId, TapeError> {
     let tape = tapes.open(disk)?;
-    append(&mut tapes, disk, tape, 7, 0, b"ab")?;
-    append(&mut tapes, disk, tape, 9, 1, b"")?;
-    let rewound = rewind(&mut tapes, disk, tape);
-    let first = told(rt, &mut tapes, disk, tape)?;
-    let second = told(rt, &mut tapes, disk, tape)?;
-    let third = told(rt, &mut tapes, disk, tape)?;
-    close(&mut tapes, disk, tape);
-    let opened = tapes.open(disk).is_ok();
-    Ok(format!(in rt.alloc(); "{rewound:?}, {first}, {second}, {third}, {opened}")?)
+    append(tapes, disk, tape, 7, 0, b"ab")?;
+    append(tapes, disk, tape, 9, 1, b"")?;
+    Ok(tape)
+}
+
+/// Tells three records of a tape, or their absence, and closes it.
+fn tell_three<D: TapeDisk>(
+    alloc: Global,
+    tapes: &mut Tapes,
+    disk: &mut D,
+    tape: TapeId,
+    text: &mut String,
+) -> Result<(), Fail> {
+    tell_next(alloc, tapes, disk, tape, text)?;
+    tell_next(alloc, tapes, disk, tape, text)?;
+    tell_next(alloc, tapes, disk, tape, text)?;
+    close(tapes, disk, tape);
+    Ok(())
+}
+
+/// Tells a tape with two records: its rewind and the calls after it.
+fn two_records<D: TapeDisk>(
+    alloc: Global,
+    tapes: &mut Tapes,
+    disk: &mut D,
+    text: &mut String,
+) -> Result<(), Fail> {
+    let tape = append_two(tapes, disk)?;
+    let rewound = rewind(tapes, disk, tape);
+    tell_outcome(alloc, rewound, text)?;
+    tell_three(alloc, tapes, disk, tape, text)?;
+    Ok(tell_opened(alloc, tapes, disk, text)?)
+}
+
+/// Tells a tape whose first record is longer than a page: its append and the calls after it.
+fn long_record<D: TapeDisk>(
+    alloc: Global,
+    tapes: &mut Tapes,
+    disk: &mut D,
+    text: &mut String,
+) -> Result<(), Fail> {
+    let tape = tapes.open(disk)?;
+    let appended = append(tapes, disk, tape, 7, 0, &[b'x'; 9000]);
+    tell_outcome(alloc, appended, text)?;
+    let again = append(tapes, disk, tape, 7, 0, b"ab");
+    tell_outcome(alloc, again, text)?;
+    let rewound = rewind(tapes, disk, tape);
+    tell_outcome(alloc, rewound, text)?;
+    Ok(tell_opened(alloc, tapes, disk, text)?)
+}
+
+/// Tells a tape without a record.
+fn no_record<D: TapeDisk>(
+    alloc: Global,
+    tapes: &mut Tapes,
+    disk: &mut D,
+    text: &mut String,
+) -> Result<(), Fail> {
+    let tape = tapes.open(disk)?;
+    rewind(tapes, disk, tape)?;
+    tell_next(alloc, tapes, disk, tape, text)?;
+    close(tapes, disk, tape);
+    Ok(())
+}
+
+/// Tells what a case names of tapes over a disk: a tape of two records, of a long one or of none.
+fn tell_case<D: TapeDisk>(
+    alloc: Global,
+    disk: &mut D,
+    case: &str,
+    text: &mut String,
+) -> Result<(), Fail> {
+    let mut tapes = Tapes::new(alloc);
+    let told = match case {
+        "two" => two_records(alloc, &mut tapes, disk, text),
+        "long" => long_record(alloc, &mut tapes, disk, text),
+        _ => no_record(alloc, &mut tapes, disk, text),
+    };
+    drop(tapes);
+    told
+}
+
+/// Tells a case over a disk that has a fault, and how many writes succeeded.
+fn tell_over_faulty(alloc: Global, fault: &str, case: &str, text: &mut String) -> Result<(), Fail> {
+    let mut disk = FaultyDisk::new(alloc, fault);
+    let told = tell_case(alloc, &mut disk, case, text);
+    let writes = disk.writes();
+    drop(disk);
+    told?;
+    Ok(tell_writes(alloc, writes, text)?)
+}
+
+/// Tells a case over a disk in memory, and how many writes there were.
+fn tell_over_memory(alloc: Global, case: &str, text: &mut String) -> Result<(), Fail> {
+    let mut disk = MemDisk::new(alloc);
+    let told = tell_case(alloc, &mut disk, case, text);
+    let writes = disk.writes();
+    drop(disk);
+    told?;
+    Ok(tell_writes(alloc, writes, text)?)
+}
+
+/// What is told of a case over a disk with a fault, or in memory where it has none.
+fn told(alloc: Global, fault: &str, case: &str) -> Result<String, Fail> {
+    let mut text = String::new(alloc);
+    if fault.is_empty() {
+        tell_over_memory(alloc, case, &mut text)?;
+    } else {
+        tell_over_faulty(alloc, fault, case, &mut text)?;
+    }
+    Ok(text)
 }
 
 #[test]
 fn records_come_in_order(rt: HostRuntime) -> Result<(), Fail> {
-    let mut disk = MemDisk::new(rt.alloc());
-    assert_eq!(rt;
-        two_records(&rt, &mut disk)?.as_str(),
-        "Ok(()), Ok(Some((7, 0))) ab, Ok(Some((9, 1))) , Ok(None) , true"
-    );
-    assert_eq!(rt; disk.writes(), 1);
-    Ok(())
+    expect(
+        told(rt.alloc(), "", "two"),
+        "Ok(()), Ok(Some((7, 0))) ab, Ok(Some((9, 1))) , Ok(None) , None, 1 written",
+    )
 }
 
 #[test]
 fn a_fault_kills_the_tapes(rt: HostRuntime) -> Result<(), Fail> {
-    let mut disk = FaultyDisk::new(rt.alloc(), "write");
-    assert_eq!(rt;
-        two_records(&rt, &mut disk)?.as_str(),
-        "Err(TapeFault), Err(TapesDead) , Err(TapesDead) , Err(TapesDead) , false"
-    );
-    assert_eq!(rt; disk.writes(), 0);
-    Ok(())
+    expect(
+        told(rt.alloc(), "write", "two"),
+        "Err(TapeFault), Err(TapesDead) , Err(TapesDead) , Err(TapesDead) , Some(TapesDead), 0 written",
+    )
 }
 
 #[test]
 fn damage_is_found(rt: HostRuntime) -> Result<(), Fail> {
-    let mut disk = FaultyDisk::new(rt.alloc(), "flip");
-    assert_eq!(rt;
-        two_records(&rt, &mut disk)?.as_str(),
-        "Ok(()), Err(TapeDamaged) , Err(TapesDead) , Err(TapesDead) , false"
-    );
-    Ok(())
+    expect(
+        told(rt.alloc(), "flip", "two"),
+        "Ok(()), Err(TapeDamaged) , Err(TapesDead) , Err(TapesDead) , Some(TapesDead), 1 written",
+    )
 }
 
 #[test]
 fn a_fault_of_reading_kills_the_tapes(rt: HostRuntime) -> Result<(), Fail> {
-    let mut disk = FaultyDisk::new(rt.alloc(), "read");
-    assert_eq!(rt;
-        two_records(&rt, &mut disk)?.as_str(),
-        "Ok(()), Err(TapeFault) , Err(TapesDead) , Err(TapesDead) , false"
-    );
-    Ok(())
-}
-
-/// What is told of a tape whose first record is longer than a page, by its append and the calls after it.
-fn long_record<D: TapeDisk>(rt: &HostRuntime, disk: &mut D) -> Result<String, Fail> {
-    let mut tapes = Tapes::new(rt.alloc());
-    let tape = tapes.open(disk)?;
-    let appended = append(&mut tapes, disk, tape, 7, 0, &[b'x'; 9000]);
-    let again = append(&mut tapes, disk, tape, 7, 0, b"ab");
-    let rewound = rewind(&mut tapes, disk, tape);
-    let opened = tapes.open(disk).err();
-    Ok(format!(in rt.alloc(); "{appended:?}, {again:?}, {rewound:?}, {opened:?}")?)
+    expect(
+        told(rt.alloc(), "read", "two"),
+        "Ok(()), Err(TapeFault) , Err(TapesDead) , Err(TapesDead) , Some(TapesDead), 1 written",
+    )
 }
 
 #[test]
 fn dead_tapes_take_no_record(rt: HostRuntime) -> Result<(), Fail> {
-    let mut disk = FaultyDisk::new(rt.alloc(), "write");
-    assert_eq!(rt;
-        long_record(&rt, &mut disk)?.as_str(),
-        "Err(TapeFault), Err(TapesDead), Err(TapesDead), Some(TapesDead)"
-    );
-    Ok(())
+    expect(
+        told(rt.alloc(), "write", "long"),
+        "Err(TapeFault), Err(TapesDead), Err(TapesDead), Some(TapesDead), 0 written",
+    )
 }
 
 #[test]
 fn an_empty_tape_has_no_page(rt: HostRuntime) -> Result<(), Fail> {
-    let mut disk = MemDisk::new(rt.alloc());
-    let mut tapes = Tapes::new(rt.alloc());
-    let tape = tapes.open(&disk)?;
-    rewind(&mut tapes, &mut disk, tape)?;
-    assert_eq!(rt;
-        told(&rt, &mut tapes, &mut disk, tape)?.as_str(),
-        "Ok(None) "
-    );
-    close(&mut tapes, &disk, tape);
-    assert_eq!(rt; disk.writes(), 0);
-    Ok(())
+    expect(told(rt.alloc(), "", "none"), "Ok(None) , , 0 written")
 }
 
 /// The bytes of a record: of one length in a hundred and twenty, so that some records are longer than a page.
-fn record(alloc: Global, tape: u32, number: u32) -> Result<Vec<u8>, Fail> {
+fn record(alloc: Global, tape: u32, number: u32) -> Result<Vec<u8>, AllocError> {
     let len = (tape % 16 * 31 + number % 120 * 113) as usize;
     let mut bytes = Vec::new(alloc);
     bytes.resize(len, (tape % 16 * 16 + number % 16) as u8)?;
@@ -126,12 +237,31 @@ fn record(alloc: Global, tape: u32, number: u32) -> Result<Vec<u8>, Fail> {
 }
 
 /// Opens tapes.
-fn opened<D: TapeDisk>(alloc: Global, tapes: &mut Tapes, disk: &D) -> Result<Vec<TapeId>, Fail> {
-    let mut ids = Vec::new(alloc);
+fn open_all<D: TapeDisk>(
+    tapes: &mut Tapes,
+    disk: &D,
+    ids: &mut Vec<TapeId>,
+) -> Result<(), TapeError> {
     for _ in 0..TAPES {
-        ids.push(tapes.open(disk)?)?;
+        let id = tapes.open(disk)?;
+        ids.push(id).map_err(|_| TapeError::NoMemory)?;
     }
-    Ok(ids)
+    Ok(())
+}
+
+/// Appends one of these records to a tape.
+fn append_one<D: TapeDisk>(
+    alloc: Global,
+    tapes: &mut Tapes,
+    disk: &mut D,
+    id: TapeId,
+    tape: u32,
+    number: u32,
+) -> Result<(), Fail> {
+    let bytes = record(alloc, tape, number)?;
+    let appended = append(tapes, disk, id, number, (number % 2) as u8, &bytes);
+    drop(bytes);
+    Ok(appended?)
 }
 
 /// Appends one record to each of some tapes.
@@ -144,11 +274,32 @@ fn append_round<D: TapeDisk>(
 ) -> Result<(), Fail> {
     let mut tape = 0;
     for id in ids {
-        let bytes = record(alloc, tape, number)?;
-        append(tapes, disk, *id, number, (number % 2) as u8, &bytes)?;
+        append_one(alloc, tapes, disk, *id, tape, number)?;
         tape = tape.saturating_add(1);
     }
     Ok(())
+}
+
+/// Whether bytes are those of one of these records.
+fn is_record(alloc: Global, bytes: &[u8], tape: u32, number: u32) -> Result<bool, AllocError> {
+    let wanted = record(alloc, tape, number)?;
+    Ok(bytes == wanted.as_slice())
+}
+
+/// Whether the next record of a tape is the one that was appended.
+fn is_next<D: TapeDisk>(
+    alloc: Global,
+    tapes: &mut Tapes,
+    disk: &mut D,
+    id: TapeId,
+    tape: u32,
+    number: u32,
+) -> Result<bool, Fail> {
+    let mut bytes = Vec::new(alloc);
+    let found = next(tapes, disk, id, &mut bytes);
+    let same = is_record(alloc, &bytes, tape, number);
+    drop(bytes);
+    Ok(found? == Some((number, (number % 2) as u8)) && same?)
 }
 
 /// Reads one record of each of some tapes, and tells how many are not the ones that were appended.
@@ -159,13 +310,10 @@ fn wrong_in_round<D: TapeDisk>(
     ids: &[TapeId],
     number: u32,
 ) -> Result<u32, Fail> {
-    let mut bytes = Vec::new(alloc);
     let mut tape = 0;
     let mut wrong: u32 = 0;
     for id in ids {
-        let found = next(tapes, disk, *id, &mut bytes)?;
-        let same = bytes.as_slice() == record(alloc, tape, number)?.as_slice();
-        if found != Some((number, (number % 2) as u8)) || !same {
+        if !is_next(alloc, tapes, disk, *id, tape, number)? {
             wrong = wrong.saturating_add(1);
         }
         tape = tape.saturating_add(1);
@@ -173,28 +321,76 @@ fn wrong_in_round<D: TapeDisk>(
     Ok(wrong)
 }
 
-/// How many records of many tapes at once come wrong.
-fn wrong_of_many<D: TapeDisk>(alloc: Global, tapes: &mut Tapes, disk: &mut D) -> Result<u32, Fail> {
-    let ids = opened(alloc, tapes, disk)?;
+/// Appends the records of some tapes, and rewinds these.
+fn append_all<D: TapeDisk>(
+    alloc: Global,
+    tapes: &mut Tapes,
+    disk: &mut D,
+    ids: &[TapeId],
+) -> Result<(), Fail> {
     for number in 0..RECORDS {
-        append_round(alloc, tapes, disk, &ids, number)?;
+        append_round(alloc, tapes, disk, ids, number)?;
     }
-    for id in &ids {
+    for id in ids {
         rewind(tapes, disk, *id)?;
     }
-    let mut wrong: u32 = 0;
-    for number in 0..RECORDS {
-        let more = wrong_in_round(alloc, tapes, disk, &ids, number)?;
-        wrong = wrong.saturating_add(more);
-    }
+    Ok(())
+}
+
+/// Whether a tape has one more record.
+fn has_more<D: TapeDisk>(
+    alloc: Global,
+    tapes: &mut Tapes,
+    disk: &mut D,
+    id: TapeId,
+) -> Result<bool, TapeError> {
     let mut bytes = Vec::new(alloc);
-    for id in &ids {
-        if next(tapes, disk, *id, &mut bytes)?.is_some() {
-            wrong = wrong.saturating_add(1);
+    let found = next(tapes, disk, id, &mut bytes);
+    drop(bytes);
+    Ok(found?.is_some())
+}
+
+/// Closes tapes, and tells how many have one more record.
+fn close_all<D: TapeDisk>(
+    alloc: Global,
+    tapes: &mut Tapes,
+    disk: &mut D,
+    ids: &[TapeId],
+) -> Result<u32, TapeError> {
+    let mut more: u32 = 0;
+    for id in ids {
+        if has_more(alloc, tapes, disk, *id)? {
+            more = more.saturating_add(1);
         }
         close(tapes, disk, *id);
     }
-    Ok(wrong)
+    Ok(more)
+}
+
+/// How many records of some tapes come wrong.
+fn wrong_of_ids<D: TapeDisk>(
+    alloc: Global,
+    tapes: &mut Tapes,
+    disk: &mut D,
+    ids: &[TapeId],
+) -> Result<u32, Fail> {
+    append_all(alloc, tapes, disk, ids)?;
+    let mut wrong: u32 = 0;
+    for number in 0..RECORDS {
+        let more = wrong_in_round(alloc, tapes, disk, ids, number)?;
+        wrong = wrong.saturating_add(more);
+    }
+    let more = close_all(alloc, tapes, disk, ids)?;
+    Ok(wrong.saturating_add(more))
+}
+
+/// How many records of many tapes at once come wrong.
+fn wrong_of_many<D: TapeDisk>(alloc: Global, tapes: &mut Tapes, disk: &mut D) -> Result<u32, Fail> {
+    let mut ids = Vec::new(alloc);
+    open_all(tapes, disk, &mut ids)?;
+    let wrong = wrong_of_ids(alloc, tapes, disk, &ids);
+    drop(ids);
+    wrong
 }
 
 /// How many pages many tapes have: each as many as its bytes fill, and one more if some are left.
@@ -210,57 +406,102 @@ fn pages_of_many() -> u64 {
     pages
 }
 
+/// How many records of many tapes come wrong over a disk in memory, and how many writes there were.
+fn many_over_memory(alloc: Global) -> Result<(u32, u64), Fail> {
+    let mut disk = MemDisk::new(alloc);
+    let mut tapes = Tapes::new(alloc);
+    let wrong = wrong_of_many(alloc, &mut tapes, &mut disk);
+    let writes = disk.writes();
+    drop(tapes);
+    drop(disk);
+    Ok((wrong?, writes))
+}
+
 #[test]
 fn many_tapes_at_once(rt: HostRuntime) -> Result<(), Fail> {
-    let mut disk = MemDisk::new(rt.alloc());
-    let mut tapes = Tapes::new(rt.alloc());
-    assert_eq!(rt; wrong_of_many(rt.alloc(), &mut tapes, &mut disk)?, 0);
-    assert_eq!(rt; disk.writes(), pages_of_many());
+    assert!(rt; many_over_memory(rt.alloc())? == (0, pages_of_many()));
     Ok(())
+}
+
+/// How many records of many tapes come wrong, and how far the disk was written.
+fn turn(alloc: Global, tapes: &mut Tapes, disk: &mut Marks) -> Result<(u32, u64), Fail> {
+    let wrong = wrong_of_many(alloc, tapes, disk)?;
+    Ok((wrong, disk.end))
+}
+
+/// The outcomes of two turns, one after the other.
+fn two_turns(alloc: Global, tapes: &mut Tapes, disk: &mut Marks) -> Result<[(u32, u64); 2], Fail> {
+    let first = turn(alloc, tapes, disk)?;
+    let second = turn(alloc, tapes, disk)?;
+    Ok([first, second])
+}
+
+/// How far a disk is written by tapes that are closed, nine times: each has a record that is longer than a page.
+fn closed_tapes(alloc: Global, tapes: &mut Tapes, disk: &mut Marks) -> Result<u64, Fail> {
+    for _ in 0..9 {
+        let tape = tapes.open(disk)?;
+        append_one(alloc, tapes, disk, tape, 0, 119)?;
+        close(tapes, disk, tape);
+    }
+    Ok(disk.end)
+}
+
+/// What a function tells of new tapes over a disk that keeps how far it was written.
+fn over_marks<R, F: FnOnce(Global, &mut Tapes, &mut Marks) -> R>(alloc: Global, told: F) -> R
+    requires { F.IsAlwaysCallable told }
+{
+    let mut disk = Marks {
+        inner: MemDisk::new(alloc),
+        end: 0,
+    };
+    let mut tapes = Tapes::new(alloc);
+    told(alloc, &mut tapes, &mut disk)
 }
 
 #[test]
 fn pages_are_used_again(rt: HostRuntime) -> Result<(), Fail> {
-    let mut disk = Marks {
-        inner: MemDisk::new(rt.alloc()),
-        end: 0,
-    };
-    let mut tapes = Tapes::new(rt.alloc());
-    assert_eq!(rt; wrong_of_many(rt.alloc(), &mut tapes, &mut disk)?, 0);
-    let end = disk.end;
-    assert_eq!(rt; end, pages_of_many().saturating_mul(8192));
-    assert_eq!(rt; wrong_of_many(rt.alloc(), &mut tapes, &mut disk)?, 0);
-    assert_eq!(rt; disk.end, end);
+    let end = pages_of_many().saturating_mul(8192);
+    assert!(rt; over_marks(rt.alloc(), two_turns)? == [(0, end), (0, end)]);
     Ok(())
 }
 
 #[test]
 fn pages_of_closed_tapes_are_used_again(rt: HostRuntime) -> Result<(), Fail> {
-    let mut disk = Marks {
-        inner: MemDisk::new(rt.alloc()),
-        end: 0,
-    };
-    let mut tapes = Tapes::new(rt.alloc());
-    let long = record(rt.alloc(), 0, 119)?;
-    for _ in 0..9 {
-        let tape = tapes.open(&disk)?;
-        append(&mut tapes, &mut disk, tape, 1, 0, &long)?;
-        close(&mut tapes, &disk, tape);
-    }
-    assert_eq!(rt; disk.end, 8192);
+    assert!(rt; over_marks(rt.alloc(), closed_tapes)? == 8192);
     Ok(())
 }
 
-#[test]
-fn a_place_that_was_never_written_is_zero(rt: HostRuntime) -> Result<(), Fail> {
-    let mut disk = MemDisk::new(rt.alloc());
+/// The eight bytes of a disk from a place on.
+fn bytes_at(disk: &mut MemDisk, at: u64) -> Result<[u8; 8], DiskError>
+    requires { at + 8 < 2 ^ 63 }
+{
+    let mut bytes = [1; 8];
+    disk.read_at(at, &mut bytes)?;
+    Ok(bytes)
+}
+
+/// Writes at two places of a disk, and reads around each.
+fn two_places(disk: &mut MemDisk) -> Result<[[u8; 8]; 2], DiskError> {
     disk.write_at(9_223_372_036_854_775_000, b"end")?;
     disk.write_at(8190, b"abcd")?;
-    let mut bytes = [1; 8];
-    disk.read_at(8188, &mut bytes)?;
-    assert_eq!(rt; bytes.as_slice(), b"\0\0abcd\0\0".as_slice());
-    disk.read_at(9_223_372_036_854_774_998, &mut bytes)?;
-    assert_eq!(rt; bytes.as_slice(), b"\0\0end\0\0\0".as_slice());
-    assert_eq!(rt; disk.writes(), 2);
+    let first = bytes_at(disk, 8188)?;
+    let second = bytes_at(disk, 9_223_372_036_854_774_998)?;
+    Ok([first, second])
+}
+
+/// Writes at two places of a new disk in memory: the bytes around each, and how many writes there were.
+fn two_places_in_memory(alloc: Global) -> Result<([[u8; 8]; 2], u64), DiskError> {
+    let mut disk = MemDisk::new(alloc);
+    let places = two_places(&mut disk);
+    let writes = disk.writes();
+    drop(disk);
+    Ok((places?, writes))
+}
+
+#[test]
+fn a_place_that_was_never_written_is_zero(rt: HostRuntime) -> Result<(), DiskError> {
+    let (places, writes) = two_places_in_memory(rt.alloc())?;
+    assert!(rt; places == [*b"\0\0abcd\0\0", *b"\0\0end\0\0\0"]);
+    assert!(rt; writes == 2);
     Ok(())
 }

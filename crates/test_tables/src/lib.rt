@@ -3,6 +3,8 @@
 
 ghost use Rattle.std.specs.Prelude.{◌≡◌, ◌++◌, IfOk};
 
+use std::alloc::{AllocError, Global};
+use std::fmt::Debug;
 use std::test::*;
 
 /// What stands in front of a mark and behind it.
@@ -12,19 +14,72 @@ pub fn halves<'t>(text: &'t str, mark: &str) -> Result<(&'t str, &'t str), Fail>
     Ok(text.split_once(mark).ok_or("no such mark")?)
 }
 
-/// The first line of a table whose case, in front of ` => `, has another outcome than the line tells.
-pub fn differing<'t, F: Fn(HostRuntime, &'t str) -> Result<String, Fail>>(
+/// What stands in front of a mark and behind it. Where there is no mark, the whole text stands in front of it.
+pub fn cut<'t>(text: &'t str, mark: &str) -> (&'t str, &'t str) {
+    match text.split_once(mark) {
+        Some(halves) => halves,
+        None => (text, ""),
+    }
+}
+
+/// Fails, with what is told, where that is not what is wanted.
+pub fn expect(told: Result<String, Fail>, wanted: &str) -> Result<(), Fail> {
+    let told = told?;
+    if told.as_str() == wanted {
+        return Ok(());
+    }
+    Err(Fail::new(told))
+}
+
+/// The same of what a library may refuse by an error of its own.
+pub fn expect_told<E: Debug + Drop>(told: Result<String, E>, wanted: &str) -> Result<(), Fail> {
+    let told = told?;
+    expect(Ok(told), wanted)
+}
+
+/// Tells what a call answered, behind what was told before.
+pub fn tell<T: Debug + Copy>(
+    alloc: Global,
+    text: &mut String,
+    answer: T,
+) -> Result<(), AllocError> {
+    let told = format!(in alloc; "{answer:?} ")?;
+    text.push_str(&told)
+}
+
+/// Fails, with the line and what is told, at the first line of a table whose case, in front of ` => `, has another outcome
+/// than the line tells.
+pub fn expect_lines<'t, F: Fn(HostRuntime, &'t str) -> Result<String, Fail>>(
     rt: HostRuntime,
     table: &'t str,
     outcome: F,
-) -> Result<Option<&'t str>, Fail>
+) -> Result<(), Fail>
     requires { F.IsAlwaysCallable outcome }
 {
     for line in table.lines() {
-        let (case, want) = halves(line, " => ")?;
-        if outcome(rt, case)?.as_str() != want {
-            return Ok(Some(line));
+        let (case, wanted) = halves(line, " => ")?;
+        let told = outcome(rt, case)?;
+        if told.as_str() != wanted {
+            return Err(Fail::new(format_args!("{line}: {told}")));
         }
     }
-    Ok(None)
+    Ok(())
+}
+
+/// The same of outcomes that a library may refuse by an error of its own.
+pub fn expect_told_lines<'t, E: Debug + Drop, F: Fn(Global, &'t str) -> Result<String, E>>(
+    alloc: Global,
+    table: &'t str,
+    outcome: F,
+) -> Result<(), Fail>
+    requires { F.IsAlwaysCallable outcome }
+{
+    for line in table.lines() {
+        let (case, wanted) = halves(line, " => ")?;
+        let told = outcome(alloc, case)?;
+        if told.as_str() != wanted {
+            return Err(Fail::new(format_args!("{line}: {told}")));
+        }
+    }
+    Ok(())
 }

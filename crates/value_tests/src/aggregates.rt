@@ -5,12 +5,12 @@ ghost use Rattle.agg_protocol.specs.Arguments.{Takes};
 ghost use Rattle.agg_protocol.specs.States.{most_rows};
 ghost use Rattle.agg_library.specs.Kinds.{function_of};
 
-use agg_library::{AggKind, BoolOr, CountRows, CountValues, MOST_ROWS, Min, StateRow, Sum};
+use agg_library::{AggKind, BoolOr, CountRows, CountValues, MOST_COUNTED, Min, StateRow, Sum};
 use agg_protocol::{Aggregate, BadState, ResultValue, aggregate_in_parts, aggregate_values};
 use hex::{decode, encode};
 use packed_rows::{Value, ValueKind, read_value};
 use std::test::*;
-use test_tables::{differing, halves};
+use test_tables::{expect, expect_lines, halves};
 
 /// The function of a name.
 fn kind_named(name: &str) -> Result<AggKind, Fail> {
@@ -56,9 +56,9 @@ fn answer(
     let mut row = [0u8; 24];
     let part = &mut row[..kind.width()];
     StateRow::init_into(&[kind], part);
-    StateRow::advance(kind, part, Some(first), MOST_ROWS)?;
-    StateRow::advance(kind, part, Some(second), MOST_ROWS)?;
-    StateRow::advance(kind, part, Some(third), MOST_ROWS)?;
+    StateRow::advance(kind, part, Some(first), MOST_COUNTED)?;
+    StateRow::advance(kind, part, Some(second), MOST_COUNTED)?;
+    StateRow::advance(kind, part, Some(third), MOST_COUNTED)?;
     Ok(StateRow::finish(kind, part))
 }
 
@@ -106,20 +106,25 @@ fn value(field: &str) -> Result<Value<'_>, Fail> {
     }
 }
 
-/// What a function answers over three arguments.
-fn answered(rt: HostRuntime, case: &str) -> Result<String, Fail> {
-    let (name, values) = halves(case, " ")?;
+/// The answer of the function of a name over three arguments.
+fn answer_of(name: &str, values: &str) -> Result<ResultValue<'static>, Fail> {
+    let kind = kind_named(name)?;
     let (first, values) = halves(values, " ")?;
     let (second, third) = halves(values, " ")?;
     let (first, second, third) = (value(first)?, value(second)?, value(third)?);
-    let answer = answer(kind_named(name)?, first, second, third)?;
+    Ok(answer(kind, first, second, third)?)
+}
+
+/// What a function answers over three arguments.
+fn answered(rt: HostRuntime, case: &str) -> Result<String, Fail> {
+    let (name, values) = halves(case, " ")?;
+    let answer = answer_of(name, values)?;
     Ok(format!(in rt.alloc(); "{answer:?}")?)
 }
 
 #[test]
 fn functions_answer(rt: HostRuntime) -> Result<(), Fail> {
-    assert_eq!(rt; differing(rt, ANSWERS, answered)?, None);
-    Ok(())
+    expect_lines(rt, ANSWERS, answered)
 }
 
 /// Functions, the most rows that a state may count, bytes, and whether they are those of states.
@@ -168,53 +173,76 @@ fn rows_named(number: &str) -> Result<u64, Fail>
     ensures { IfOk result (λ most. most ≤ most_rows) }
 {
     let most = number.parse::<u64>()?;
-    if most > MOST_ROWS {
+    if most > MOST_COUNTED {
         return Err("too many rows")?;
     }
     Ok(most)
 }
 
 /// Whether bytes are those of a row of states.
+fn is_row(rt: HostRuntime, kinds: &[AggKind], most: u64, bytes: &str) -> Result<bool, Fail>
+    requires { most ≤ most_rows }
+{
+    let bytes = decode(rt.alloc(), bytes)?;
+    Ok(StateRow::check(kinds, &bytes, most).is_ok())
+}
+
+/// The same of functions of some names.
 fn checked(rt: HostRuntime, case: &str) -> Result<String, Fail> {
     let (names, rest) = halves(case, " ")?;
     let (most, bytes) = halves(rest, " ")?;
     let most = rows_named(most)?;
     let kinds = kinds_named(rt, names)?;
-    let bytes = decode(rt.alloc(), bytes)?;
-    let is_row = StateRow::check(&kinds, &bytes, most).is_ok();
-    Ok(format!(in rt.alloc(); "{is_row}")?)
+    let is_row = is_row(rt, &kinds, most, bytes);
+    drop(kinds);
+    Ok(format!(in rt.alloc(); "{}", is_row?)?)
 }
 
 #[test]
 fn states_are_checked(rt: HostRuntime) -> Result<(), Fail> {
-    assert_eq!(rt; differing(rt, STATES, checked)?, None);
-    Ok(())
+    expect_lines(rt, STATES, checked)
+}
+
+/// Whether a number's state is read from its bytes, and not from others.
+fn least_is_read() -> bool {
+    let minus_one = [1, 255, 255, 255, 255, 255, 255, 255, 255];
+    Min::deserialize(&minus_one) == Ok(Some(-1)) && Min::deserialize(&[3; 9]) == Err(BadState)
+}
+
+/// Whether a truth value's state is.
+fn any_is_read() -> bool {
+    BoolOr::deserialize(&[2]) == Ok(Some(true)) && BoolOr::deserialize(&[3]) == Err(BadState)
 }
 
 #[test]
 fn states_are_read(rt: HostRuntime) {
-    let minus_one = [1, 255, 255, 255, 255, 255, 255, 255, 255];
-    assert!(rt; Min::deserialize(&minus_one) == Ok(Some(-1)));
-    assert!(rt; Min::deserialize(&[3; 9]) == Err(BadState));
-    assert!(rt; BoolOr::deserialize(&[2]) == Ok(Some(true)));
-    assert!(rt; BoolOr::deserialize(&[3]) == Err(BadState));
+    assert!(rt; least_is_read());
+    assert!(rt; any_is_read());
     assert!(rt; Sum::deserialize(&[0; 24]).is_ok() && Sum::deserialize(&[1; 24]).is_err());
     assert!(rt;
         CountRows::deserialize(&[0; 8]).is_ok() && CountRows::deserialize(&[99; 8]).is_err()
     );
 }
 
-#[test]
-fn lists_are_aggregated(rt: HostRuntime) -> Result<(), Fail> {
-    let first = [Value::Bigint(5), Value::Null];
-    let state = aggregate_in_parts::<Sum>(&first, &[Value::Bigint(-2)]);
+/// The bytes of the sum of two lists, combined with empty ones, and what it answers.
+fn sum_in_parts(rt: HostRuntime) -> Result<String, Fail> {
+    let state = aggregate_in_parts::<Sum>(&FIRST, &[Value::Bigint(-2)]);
     let state = Sum::combine(Sum::init(), Sum::combine(state, Sum::init()));
     let mut bytes = [7u8; 24];
     Sum::serialize(&state, &mut bytes);
-    let text = encode(rt.alloc(), bytes.as_slice())?;
-    assert!(rt; text.as_str() == "000000000000000200000000000000000000000000000003");
-    assert!(rt; Sum::finish(&state) == ResultValue::Numeric(3));
-    let count = aggregate_values::<CountValues>(&first);
+    shown(rt, &bytes, Sum::finish(&state) == ResultValue::Numeric(3))
+}
+
+/// A list of a number and a null.
+const FIRST: [Value<'static>; 2] = [Value::Bigint(5), Value::Null];
+
+#[test]
+fn lists_are_aggregated(rt: HostRuntime) -> Result<(), Fail> {
+    expect(
+        sum_in_parts(rt),
+        "000000000000000200000000000000000000000000000003 true",
+    )?;
+    let count = aggregate_values::<CountValues>(&FIRST);
     assert!(rt; CountValues::finish(&count) == ResultValue::Bigint(1));
     let least = aggregate_values::<Min>(&[]);
     assert!(rt; Min::finish(&least) == ResultValue::Null);
@@ -270,22 +298,38 @@ fn shown(rt: HostRuntime, states: &[u8], done: bool) -> Result<String, Fail> {
     Ok(format!(in rt.alloc(); "{text} {done}")?)
 }
 
+/// What becomes of the bytes of a state that an argument moves, or `-`.
+fn moved_by(
+    rt: HostRuntime,
+    kind: AggKind,
+    most: u64,
+    bytes: &str,
+    reach: Option<Value<'_>>,
+) -> Result<String, Fail>
+    requires most { most ≤ most_rows }
+    requires takes { ForSome reach (λ value. Takes (function_of kind) (datum_of value)) }
+{
+    let mut part = decode(rt.alloc(), bytes)?;
+    let done = StateRow::advance(kind, &mut part, reach, most).is_ok();
+    let shown = shown(rt, &part, done);
+    drop(part);
+    shown
+}
+
 /// What becomes of the bytes of a state.
 fn moved(rt: HostRuntime, case: &str) -> Result<String, Fail> {
     let (name, rest) = halves(case, " ")?;
+    let kind = kind_named(name)?;
     let (most, rest) = halves(rest, " ")?;
+    let most = rows_named(most)?;
     let (bytes, field) = halves(rest, " ")?;
-    let (kind, most) = (kind_named(name)?, rows_named(most)?);
     let reach = argument(kind, field)?;
-    let mut part = decode(rt.alloc(), bytes)?;
-    let done = StateRow::advance(kind, &mut part, reach, most).is_ok();
-    shown(rt, &part, done)
+    moved_by(rt, kind, most, bytes, reach)
 }
 
 #[test]
 fn states_are_moved(rt: HostRuntime) -> Result<(), Fail> {
-    assert_eq!(rt; differing(rt, MOVES, moved)?, None);
-    Ok(())
+    expect_lines(rt, MOVES, moved)
 }
 
 /// The most rows, the bytes of two rows of states, and what becomes of the first.
@@ -298,19 +342,29 @@ const COMBINED: &str = "\
 2 000000000000000101ffffffffffffffff03 000000000000000101800000000000000002 => 000000000000000101ffffffffffffffff03 false
 2 000000000000000101ffffffffffffffff02 000000000000000100000000000000000001 => 000000000000000201ffffffffffffffff01 true";
 
-/// What becomes of a row of states into which another is combined.
+/// What becomes of a row of states into which others are combined.
+fn combined_with(rt: HostRuntime, most: u64, into: &str, from: &[u8]) -> Result<String, Fail>
+    requires { most ≤ most_rows }
+{
+    let mut into = decode(rt.alloc(), into)?;
+    let done = StateRow::combine_into(&KINDS, &mut into, from, most).is_ok();
+    let shown = shown(rt, &into, done);
+    drop(into);
+    shown
+}
+
+/// The same of the bytes of both.
 fn combined(rt: HostRuntime, case: &str) -> Result<String, Fail> {
     let (most, rows) = halves(case, " ")?;
-    let (into, from) = halves(rows, " ")?;
     let most = rows_named(most)?;
-    let mut into = decode(rt.alloc(), into)?;
+    let (into, from) = halves(rows, " ")?;
     let from = decode(rt.alloc(), from)?;
-    let done = StateRow::combine_into(&KINDS, &mut into, &from, most).is_ok();
-    shown(rt, &into, done)
+    let combined = combined_with(rt, most, into, &from);
+    drop(from);
+    combined
 }
 
 #[test]
 fn rows_are_combined(rt: HostRuntime) -> Result<(), Fail> {
-    assert_eq!(rt; differing(rt, COMBINED, combined)?, None);
-    Ok(())
+    expect_lines(rt, COMBINED, combined)
 }

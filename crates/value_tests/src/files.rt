@@ -1,13 +1,16 @@
-use batch_reader::{Batch, BatchError, read_batch};
+use batch_reader::{Batch, BatchError, PackedRows, read_batch};
 use hex::encode;
 use packed_rows::Schema;
+use std::alloc::AllocError;
 use std::test::*;
-use test_tables::differing;
+use test_tables::expect_lines;
 
 /// What becomes of a file of these rows.
 fn read(rt: HostRuntime, file: &str) -> Result<Result<Batch, BatchError>, Fail> {
     let schema = Schema::parse(rt.alloc(), "c text, d bigint")?;
-    Ok(read_batch(rt.alloc(), &schema, file.as_bytes()))
+    let batch = read_batch(rt.alloc(), &schema, file.as_bytes());
+    drop(schema);
+    Ok(batch)
 }
 
 /// Files, a `/` for the end of each line, and what becomes of them: an origin, a number and the bytes of the rows.
@@ -29,37 +32,54 @@ batch,0,1,65536/oslo => RowCount
 batch,0,1,0/oslo,5 => RowCount
 batch,0,1,2/oslo,x => RowCount
 batch,0,1,1/oslo,5/oslo,x => RowCount
-batch,0,1,2/oslo,5/oslo => WrongWidth
-batch,0,1,2/oslo,x/oslo => BadField { column: 1 }
+batch,0,1,2/oslo,5/oslo => WrongWidth { row: 1 }
+batch,0,1,2/oslo,x/oslo => BadField { row: 0, column: 1 }
 batch,0,1,0 => 0 1
 batch,0,1,0/ => 0 1
 batch,0,1,2\r/oslo,5\r/\"a/b\",\\N\r/ => 0 1 016f736c6f00018000000000000005 01610a620002
 batch,1023,2147483647,000000002/oslo,5/\"a,\"\"b\",\\N/ => 1023 2147483647 016f736c6f00018000000000000005 01612c22620002
 \u{feff}batch,0000000007,0000000001,1//oslo,5 => 7 1 016f736c6f00018000000000000005";
 
+/// Tells the bytes of rows.
+fn tell_rows(rt: HostRuntime, rows: &PackedRows, shown: &mut String) -> Result<(), AllocError> {
+    for place in 0..rows.len() {
+        shown.push(' ')?;
+        let digits = encode(rt.alloc(), rows.row(place))?;
+        shown.push_str(&digits)?;
+    }
+    Ok(())
+}
+
 /// A batch's origin and number, and the bytes of its rows.
 fn shown(rt: HostRuntime, batch: &Batch) -> Result<String, Fail> {
     let mut shown = format!(in rt.alloc(); "{} {}", batch.origin, batch.number)?;
-    for place in 0..batch.rows.len() {
-        shown.push(' ')?;
-        shown.push_str(&encode(rt.alloc(), batch.rows.row(place))?)?;
-    }
+    tell_rows(rt, &batch.rows, &mut shown)?;
     Ok(shown)
+}
+
+/// A batch, or why there is none.
+fn outcome(rt: HostRuntime, read: Result<Batch, BatchError>) -> Result<String, Fail> {
+    match read {
+        Ok(batch) => {
+            let shown = shown(rt, &batch);
+            drop(batch);
+            shown
+        }
+        Err(error) => Ok(format!(in rt.alloc(); "{error:?}")?),
+    }
 }
 
 /// What becomes of a file.
 fn told(rt: HostRuntime, case: &str) -> Result<String, Fail> {
     let file = case.replace(rt.alloc(), "/", "\n")?;
-    match read(rt, file.as_str())? {
-        Ok(batch) => shown(rt, &batch),
-        Err(error) => Ok(format!(in rt.alloc(); "{error:?}")?),
-    }
+    let read = read(rt, file.as_str());
+    drop(file);
+    outcome(rt, read?)
 }
 
 #[test]
 fn files_are_read_or_refused_in_order(rt: HostRuntime) -> Result<(), Fail> {
-    assert_eq!(rt; differing(rt, FILES, told)?, None);
-    Ok(())
+    expect_lines(rt, FILES, told)
 }
 
 /// A file of 65,536 rows.
@@ -73,11 +93,21 @@ fn longest(rt: HostRuntime) -> Result<String, Fail> {
 
 /// How many rows are read.
 fn rows_read(rt: HostRuntime, file: &str) -> Result<usize, Fail> {
-    Ok(read(rt, file)??.rows.len())
+    match read(rt, file)? {
+        Ok(batch) => {
+            let rows = batch.rows.len();
+            drop(batch);
+            Ok(rows)
+        }
+        Err(error) => Err(Fail::from(error)),
+    }
 }
 
 #[test]
 fn files_have_65536_rows(rt: HostRuntime) -> Result<(), Fail> {
-    assert_eq!(rt; rows_read(rt, &longest(rt)?)?, 65_536);
+    let file = longest(rt)?;
+    let rows = rows_read(rt, &file);
+    drop(file);
+    assert!(rt; rows? == 65_536);
     Ok(())
 }

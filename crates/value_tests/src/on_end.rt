@@ -1,34 +1,56 @@
 use flat_rows::PackedRows;
-use std::test::*;
+use std::alloc::{AllocError, Global};
 
-/// These rows, one behind the other.
-fn on_end(rt: HostRuntime, rows: &[&[u8]]) -> Result<PackedRows, Fail> {
-    let mut packed = PackedRows::new(rt.alloc());
+/// Puts rows behind one another.
+fn push_all(packed: &mut PackedRows, rows: &[&[u8]]) -> Result<(), AllocError> {
     for row in rows {
         packed.push(row)?;
     }
+    Ok(())
+}
+
+/// These rows, one behind the other.
+fn on_end(alloc: Global, rows: &[&[u8]]) -> Result<PackedRows, AllocError> {
+    let mut packed = PackedRows::new(alloc);
+    push_all(&mut packed, rows)?;
     Ok(packed)
 }
 
 /// Rows of which some are empty, one is there twice, and one begins as another does.
 const ROWS: [&[u8]; 6] = [b"", b"\x01ab\x00", b"\x01a", b"\x01ab\x00", b"", b""];
 
-#[test]
-fn rows_lie_in_order(rt: HostRuntime) -> Result<(), Fail> {
-    let rows = on_end(rt, &ROWS)?;
-    assert_eq!(rt; rows.len(), 6);
-    for place in 0..rows.len() {
-        assert!(rt; ROWS.get(place) == Some(&rows.row(place)), "{place}");
+/// Whether packed rows are these.
+fn are_rows(packed: &PackedRows, rows: &[&[u8]]) -> bool {
+    for (place, row) in rows.iter().enumerate() {
+        if place >= packed.len() || packed.row(place) != *row {
+            return false;
+        }
     }
-    Ok(())
+    packed.len() == rows.len()
 }
 
 #[test]
-fn an_empty_row_is_a_row(rt: HostRuntime) -> Result<(), Fail> {
-    let mut rows = PackedRows::new(rt.alloc());
-    assert!(rt; rows.is_empty() && rows.len() == 0);
-    rows.push(b"")?;
-    assert!(rt; !rows.is_empty() && rows.len() == 1 && rows.row(0).is_empty());
+fn rows_lie_in_order(rt: HostRuntime) -> Result<(), AllocError> {
+    let packed = on_end(rt.alloc(), &ROWS)?;
+    let right = are_rows(&packed, &ROWS);
+    drop(packed);
+    assert!(rt; right);
+    Ok(())
+}
+
+/// Whether packed rows are empty, and an empty row is one that they have then.
+fn takes_empty_row(packed: &mut PackedRows) -> Result<bool, AllocError> {
+    let empty = packed.is_empty() && packed.len() == 0;
+    packed.push(b"")?;
+    Ok(empty && !packed.is_empty() && are_rows(packed, &[b""]))
+}
+
+#[test]
+fn an_empty_row_is_a_row(rt: HostRuntime) -> Result<(), AllocError> {
+    let mut packed = PackedRows::new(rt.alloc());
+    let right = takes_empty_row(&mut packed);
+    drop(packed);
+    assert!(rt; right?);
     Ok(())
 }
 
@@ -44,44 +66,103 @@ const PAIRS: [(&[&[u8]], &[&[u8]], bool); 8] = [
     (&[b""], &[], false),
 ];
 
+/// Whether packed rows are the same as these, if they are whichever is compared with the other.
+fn has_same_rows(
+    alloc: Global,
+    packed: &PackedRows,
+    rows: &[&[u8]],
+) -> Result<Option<bool>, AllocError> {
+    let others = on_end(alloc, rows)?;
+    let (there, back) = (packed.same_rows(&others), others.same_rows(packed));
+    drop(others);
+    Ok((there == back).then_some(there))
+}
+
+/// The same of two lists of rows.
+fn are_same_rows(
+    alloc: Global,
+    some: &[&[u8]],
+    others: &[&[u8]],
+) -> Result<Option<bool>, AllocError> {
+    let packed = on_end(alloc, some)?;
+    let same = has_same_rows(alloc, &packed, others);
+    drop(packed);
+    same
+}
+
 #[test]
-fn the_same_rows_are_told(rt: HostRuntime) -> Result<(), Fail> {
+fn the_same_rows_are_told(rt: HostRuntime) -> Result<(), AllocError> {
     for (some, others, want) in PAIRS {
-        let (some, others) = (on_end(rt, some)?, on_end(rt, others)?);
-        assert!(rt; some.same_rows(&others) == want && others.same_rows(&some) == want);
+        assert!(rt; are_same_rows(rt.alloc(), some, others)? == Some(want));
     }
     Ok(())
 }
 
-#[test]
-fn a_copy_goes_its_own_way(rt: HostRuntime) -> Result<(), Fail> {
-    let rows = on_end(rt, &ROWS)?;
-    let mut copy = rows.try_clone(rt.alloc())?;
-    assert!(rt; copy.same_rows(&rows));
+/// Whether a copy has the rows of which it is one, and other rows once it takes one more.
+fn goes_its_own_way(packed: &PackedRows, copy: &mut PackedRows) -> Result<bool, AllocError> {
+    let same = copy.same_rows(packed);
     copy.push(b"\x02")?;
-    assert!(rt; !copy.same_rows(&rows) && rows.len() == 6 && copy.len() == 7);
-    assert!(rt; copy.len() == 7 && copy.row(6) == b"\x02".as_slice());
+    let differs = !copy.same_rows(packed) && packed.len() == 6;
+    Ok(same && differs && copy.len() == 7 && copy.row(6) == b"\x02".as_slice())
+}
+
+/// Whether a copy of packed rows goes its own way.
+fn has_own_copy(alloc: Global, packed: &PackedRows) -> Result<bool, AllocError> {
+    let mut copy = packed.try_clone(alloc)?;
+    let right = goes_its_own_way(packed, &mut copy);
+    drop(copy);
+    right
+}
+
+#[test]
+fn a_copy_goes_its_own_way(rt: HostRuntime) -> Result<(), AllocError> {
+    let packed = on_end(rt.alloc(), &ROWS)?;
+    let right = has_own_copy(rt.alloc(), &packed);
+    drop(packed);
+    assert!(rt; right?);
     Ok(())
 }
 
 /// So many bytes.
-fn row_of(rt: HostRuntime, bytes: usize) -> Result<Vec<u8>, Fail> {
-    let mut row = Vec::new(rt.alloc());
+fn row_of(alloc: Global, bytes: usize) -> Result<Vec<u8>, AllocError> {
+    let mut row = Vec::new(alloc);
     for place in 0..bytes {
         row.push((place % 251) as u8)?;
     }
     Ok(row)
 }
 
-#[test]
-fn many_rows_lie_on_end(rt: HostRuntime) -> Result<(), Fail> {
-    let mut rows = PackedRows::new(rt.alloc());
+/// Puts 600 rows behind one another, each longer than the one before.
+fn push_many(alloc: Global, packed: &mut PackedRows) -> Result<(), AllocError> {
     for bytes in 0..600 {
-        rows.push(&row_of(rt, bytes)?)?;
+        let row = row_of(alloc, bytes)?;
+        packed.push(&row)?;
     }
-    assert_eq!(rt; rows.len(), 600);
-    for place in 0..rows.len() {
-        assert!(rt; rows.row(place) == row_of(rt, place)?.as_slice(), "{place}");
+    Ok(())
+}
+
+/// Whether each row has as many bytes as there are rows before it.
+fn has_many(alloc: Global, packed: &PackedRows) -> Result<bool, AllocError> {
+    for place in 0..packed.len() {
+        let row = row_of(alloc, place)?;
+        if packed.row(place) != row.as_slice() {
+            return Ok(false);
+        }
     }
+    Ok(packed.len() == 600)
+}
+
+/// Whether these rows are found behind one another.
+fn takes_many(alloc: Global, packed: &mut PackedRows) -> Result<bool, AllocError> {
+    push_many(alloc, packed)?;
+    has_many(alloc, packed)
+}
+
+#[test]
+fn many_rows_lie_on_end(rt: HostRuntime) -> Result<(), AllocError> {
+    let mut packed = PackedRows::new(rt.alloc());
+    let right = takes_many(rt.alloc(), &mut packed);
+    drop(packed);
+    assert!(rt; right?);
     Ok(())
 }

@@ -3,9 +3,10 @@ use packed_rows::{
     Schema, Value, ValueKind, compare, pack_key, pack_row, pack_value, read_value, same,
     unpack_into, unpack_key, unpack_row,
 };
+use std::alloc::Global;
 use std::cmp::Ordering;
 use std::test::*;
-use test_tables::{differing, halves};
+use test_tables::{expect, expect_lines, halves};
 
 /// Kinds and fields, and what they stand for.
 const FIELDS: &str = "\
@@ -45,16 +46,18 @@ fn field(rt: HostRuntime, case: &str) -> Result<String, Fail> {
 
 #[test]
 fn fields_are_read(rt: HostRuntime) -> Result<(), Fail> {
-    assert_eq!(rt; differing(rt, FIELDS, field)?, None);
-    Ok(())
+    expect_lines(rt, FIELDS, field)
+}
+
+/// Whether bytes are those of a text.
+fn is_text(bytes: &[u8]) -> bool {
+    read_value(bytes, ValueKind::Text).is_some()
 }
 
 #[test]
 fn texts_are_utf8_of_255_bytes(rt: HostRuntime) {
     let long = [b'x'; 256];
-    assert!(rt; read_value(&long[..255], ValueKind::Text).is_some());
-    assert!(rt; read_value(&long, ValueKind::Text).is_none());
-    assert!(rt; read_value(b"\xc3", ValueKind::Text).is_none());
+    assert!(rt; is_text(&long[..255]) && !is_text(&long) && !is_text(b"\xc3"));
     assert!(rt; read_value(b"\xc3\xa9", ValueKind::Text) == Some(Value::Text("\u{e9}")));
 }
 
@@ -84,21 +87,33 @@ fn fields(rt: HostRuntime, row: &str) -> Result<Vec<&[u8]>, Fail> {
     Ok(fields)
 }
 
-/// The bytes of a row, or why there are none.
-fn packed(rt: HostRuntime, case: &str) -> Result<String, Fail> {
-    let (columns, row) = halves(case, "|")?;
-    let fields = fields(rt, row)?;
+/// The bytes of the row of some fields, or why there are none.
+fn packed_fields(rt: HostRuntime, columns: &str, fields: &[&[u8]]) -> Result<String, Fail> {
     let schema = Schema::parse(rt.alloc(), columns)?;
-    match pack_row(rt.alloc(), &schema, &fields) {
-        Ok(bytes) => Ok(encode(rt.alloc(), bytes.as_slice())?),
+    let packed = pack_row(rt.alloc(), &schema, fields);
+    drop(schema);
+    match packed {
+        Ok(bytes) => {
+            let digits = encode(rt.alloc(), bytes.as_slice());
+            drop(bytes);
+            Ok(digits?)
+        }
         Err(error) => Ok(format!(in rt.alloc(); "{error:?}")?),
     }
 }
 
+/// The bytes of a row, or why there are none.
+fn packed(rt: HostRuntime, case: &str) -> Result<String, Fail> {
+    let (columns, row) = halves(case, "|")?;
+    let fields = fields(rt, row)?;
+    let packed = packed_fields(rt, columns, &fields);
+    drop(fields);
+    packed
+}
+
 #[test]
 fn rows_are_packed(rt: HostRuntime) -> Result<(), Fail> {
-    assert_eq!(rt; differing(rt, ROWS, packed)?, None);
-    Ok(())
+    expect_lines(rt, ROWS, packed)
 }
 
 /// Columns and bytes, and the values of the row whose packing they are.
@@ -139,21 +154,59 @@ fn unpacked(rt: HostRuntime, case: &str) -> Result<String, Fail> {
 
 #[test]
 fn rows_are_unpacked(rt: HostRuntime) -> Result<(), Fail> {
-    assert_eq!(rt; differing(rt, PACKINGS, unpacked)?, None);
-    Ok(())
+    expect_lines(rt, PACKINGS, unpacked)
+}
+
+/// A key of values of all kinds, and the kinds.
+const KEY: [Value<'static>; 6] = [
+    Value::Text("ab"),
+    Value::Null,
+    Value::Bigint(7),
+    Value::Bigint(-1),
+    Value::Boolean(false),
+    Value::Boolean(true),
+];
+
+const KINDS: [ValueKind; 6] = [
+    ValueKind::Text,
+    ValueKind::Bigint,
+    ValueKind::Bigint,
+    ValueKind::Bigint,
+    ValueKind::Boolean,
+    ValueKind::Boolean,
+];
+
+/// Its bytes: a null is `02`, and else `01` stands in front: of a text's bytes and `00`, of the eight bytes of a number, the highest
+/// bit of which is turned, and of `00` or `01`.
+const PACKED: &str = "0161620002018000000000000007017fffffffffffffff01000101";
+
+/// The bytes of this key.
+fn packed_key(alloc: Global) -> Result<String, Fail> {
+    let bytes = pack_key(alloc, &KEY)?;
+    Ok(encode(alloc, bytes.as_slice())?)
+}
+
+/// The bytes of its values, one behind the other.
+fn packed_values(alloc: Global) -> Result<String, Fail> {
+    let mut bytes = Vec::new(alloc);
+    for value in KEY {
+        pack_value(&mut bytes, value)?;
+    }
+    Ok(encode(alloc, bytes.as_slice())?)
+}
+
+/// Whether these bytes are unpacked to the key.
+fn is_unpacked(alloc: Global) -> Result<bool, Fail> {
+    let bytes = decode(alloc, PACKED)?;
+    let key = unpack_key(alloc, &KINDS, &bytes)?;
+    Ok(key.as_slice() == KEY.as_slice())
 }
 
 #[test]
 fn keys_are_packed_and_unpacked(rt: HostRuntime) -> Result<(), Fail> {
-    let key = [Value::Text("ab"), Value::Null];
-    let bytes = pack_key(rt.alloc(), &key)?;
-    let mut together = Vec::new(rt.alloc());
-    for value in key {
-        pack_value(&mut together, value)?;
-    }
-    assert!(rt; bytes.as_slice() == together.as_slice());
-    let kinds = [ValueKind::Text, ValueKind::Bigint];
-    assert!(rt; unpack_key(rt.alloc(), &kinds, &bytes)?.as_slice() == key.as_slice());
+    expect(packed_key(rt.alloc()), PACKED)?;
+    expect(packed_values(rt.alloc()), PACKED)?;
+    assert!(rt; is_unpacked(rt.alloc())?);
     Ok(())
 }
 
@@ -180,7 +233,7 @@ fn unpacked_key(rt: HostRuntime, bytes: &[u8]) -> Result<String, Fail> {
 #[test]
 fn keys_are_unpacked(rt: HostRuntime) -> Result<(), Fail> {
     for (bytes, want) in KEYS {
-        assert!(rt; unpacked_key(rt, bytes)?.as_str() == want, "{want}");
+        expect(unpacked_key(rt, bytes), want)?;
     }
     Ok(())
 }
@@ -197,16 +250,20 @@ fn unpacked_into(
     }
 }
 
+/// Unpacks all these keys into one vector.
+fn unpack_all(rt: HostRuntime, found: &mut Vec<Value<'static>>) -> Result<(), Fail> {
+    for (bytes, want) in KEYS {
+        expect(unpacked_into(rt, bytes, found), want)?;
+    }
+    Ok(())
+}
+
 #[test]
 fn one_vector_serves_for_many_keys(rt: HostRuntime) -> Result<(), Fail> {
     let mut found = Vec::new(rt.alloc());
-    for (bytes, want) in KEYS {
-        assert!(rt;
-            unpacked_into(rt, bytes, &mut found)?.as_str() == want,
-            "{want}"
-        );
-    }
-    Ok(())
+    let unpacked = unpack_all(rt, &mut found);
+    drop(found);
+    unpacked
 }
 
 /// Values of all kinds, from the least on.
@@ -221,13 +278,28 @@ const RISING: [Value<'static>; 8] = [
     Value::Null,
 ];
 
+/// Whether a value is in order with those of all kinds, and is the same as one alone.
+fn stands(place: usize, value: Value<'_>) -> bool {
+    for (other_place, other) in RISING.iter().enumerate() {
+        if compare(&[value], &[*other]) != place.cmp(&other_place) {
+            return false;
+        }
+        if same(&[value], &[*other]) != (place == other_place) {
+            return false;
+        }
+    }
+    true
+}
+
+/// Whether a value comes before a longer list, and a null behind it comes last.
+fn is_front(value: Value<'_>) -> bool {
+    compare(&[value], &[value, Value::Null]) == Ordering::Less
+        && compare(&[value, Value::Null], &[value, Value::Bigint(0)]) == Ordering::Greater
+}
+
 #[test]
 fn values_are_in_order(rt: HostRuntime) {
-    for (i, x) in RISING.iter().enumerate() {
-        for (j, y) in RISING.iter().enumerate() {
-            assert!(rt; compare(&[*x], &[*y]) == i.cmp(&j) && same(&[*x], &[*y]) == (i == j));
-        }
-        assert!(rt; compare(&[*x], &[*x, Value::Null]) == Ordering::Less);
-        assert!(rt; compare(&[*x, Value::Null], &[*x, Value::Bigint(0)]) == Ordering::Greater);
+    for (place, value) in RISING.iter().enumerate() {
+        assert!(rt; stands(place, *value) && is_front(*value));
     }
 }

@@ -1,7 +1,7 @@
 use query_tokens::{Fault, Token, TokenError, Word, is_reserved, tokens};
 use std::alloc::AllocError;
 use std::test::*;
-use test_tables::differing;
+use test_tables::{expect, expect_lines};
 
 /// A token as short text, behind its place.
 fn shown(rt: HostRuntime, token: &Token) -> Result<String, AllocError> {
@@ -81,37 +81,37 @@ a!b => Fault(Syntax { at: 1 })
 
 #[test]
 fn texts_have_tokens_or_a_first_fault(rt: HostRuntime) -> Result<(), Fail> {
-    assert_eq!(rt; differing(rt, TEXTS, told_of_lines)?, None);
-    Ok(())
+    expect_lines(rt, TEXTS, told_of_lines)
 }
 
-/// Errors, and what is said of them.
-const MESSAGES: [(TokenError, &str); 3] = [
-    (TokenError::NoMemory, "out of memory"),
-    (
-        TokenError::Fault(Fault::Syntax { at: 7 }),
-        "syntax error at byte 7",
-    ),
-    (
-        TokenError::Fault(Fault::NumberTooLarge),
-        "integer out of the range of 64 bits",
-    ),
-];
+/// What is said of all errors.
+fn all_messages(rt: HostRuntime) -> Result<String, Fail> {
+    let memory = TokenError::NoMemory;
+    let syntax = TokenError::Fault(Fault::Syntax { at: 7 });
+    let number = TokenError::Fault(Fault::NumberTooLarge);
+    Ok(format!(in rt.alloc(); "{memory}, {syntax}, {number}")?)
+}
 
 #[test]
 fn messages(rt: HostRuntime) -> Result<(), Fail> {
-    for (error, want) in MESSAGES {
-        assert_eq!(rt; format!(in rt.alloc(); "{error}")?.as_str(), want);
+    expect(
+        all_messages(rt),
+        "out of memory, syntax error at byte 7, integer out of the range of 64 bits",
+    )
+}
+
+/// Whether all of some words are reserved, or none is.
+fn are_reserved(words: &[&str], wanted: bool) -> bool {
+    for word in words {
+        if is_reserved(word) != wanted {
+            return false;
+        }
     }
-    Ok(())
+    true
 }
 
 #[test]
 fn reserved_words(rt: HostRuntime) {
-    for word in ["and", "select", "unknown", "nulls", "where"] {
-        assert!(rt; is_reserved(word), "{word}");
-    }
-    for word in ["", "count", "batches", "wher", "SELECT", "first"] {
-        assert!(rt; !is_reserved(word), "{word}");
-    }
+    assert!(rt; are_reserved(&["and", "select", "unknown", "nulls", "where"], true));
+    assert!(rt; are_reserved(&["", "count", "batches", "wher", "SELECT", "first"], false));
 }

@@ -1,7 +1,7 @@
 use Rattle.std.specs.Prelude.{◌≡◌, ◌+◌, [], ◌∷◌}
 use Rattle.std.proofs.Common.{arith, subst}
 use Rattle.having_filter.specs.Meaning.{meaning}
-use Rattle.hash_agg.specs.Standing.{IsRun}
+use Rattle.group_runs.specs.Standing.{IsRun}
 use Rattle.hash_agg.specs.Inputs.{Packed, Counted, all_rows}
 use Rattle.replica_tests.proofs.runs.give.Goals as goal
 

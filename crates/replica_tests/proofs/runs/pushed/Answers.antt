@@ -1,7 +1,7 @@
 use Rattle.std.specs.Prelude.{[], ◌∷◌, ◌++◌}
 use Rattle.std.proofs.Common.{sym, subst}
 use Rattle.std.specs.List.Sorted.{IsStrictlySortedBy}
-use Rattle.hash_agg.specs.Runs.{Rises}
+use Rattle.group_runs.specs.Runs.{Rises}
 use Rattle.replica_tests.proofs.runs.pushed.Goals as goal
 
 pub push-requires : goal.push-requires

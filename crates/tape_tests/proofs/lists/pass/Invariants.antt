@@ -2,8 +2,8 @@ use Rattle.std.proofs.Common.{◌≡◌, false}
 use Rattle.spill_lists.specs.Standing.{ahead_number}
 use Rattle.tape_tests.proofs.lists.pass.Given as goal
 
-abbrev pub invariant-loop-bytes : goal.invariant-loop-bytes
-invariant-loop-bytes g l = l.lists.tapes.is_dead ≡ false
+abbrev pub invariant-loop-hash : goal.invariant-loop-hash
+invariant-loop-hash g l = l.lists.tapes.is_dead ≡ false
 
-abbrev pub decreases-loop-bytes : goal.decreases-loop-bytes
-decreases-loop-bytes g l = ahead_number l.lists
+abbrev pub decreases-loop-hash : goal.decreases-loop-hash
+decreases-loop-hash g l = ahead_number l.lists

@@ -1,6 +1,6 @@
 use Rattle.std.proofs.Common.{◌≡◌, false, []}
 use Rattle.spill_lists.specs.Standing.{waiting_number}
-use Rattle.tape_tests.proofs.lists.lists_told.Given as goal
+use Rattle.tape_tests.proofs.lists.tell_lists.Given as goal
 
 abbrev pub invariant-loop-alloc : goal.invariant-loop-alloc
 invariant-loop-alloc g l = (l.lists.tapes.is_dead ≡ false) × (l.lists.parts ≡ []) × (l.lists.source ≡ [])
