@@ -14,7 +14,7 @@ mod state_row;
 mod sums;
 mod truths;
 
-pub use crate::codec::MOST_ROWS;
+pub use crate::codec::MOST_COUNTED;
 pub use crate::counting::{CountRows, CountValues};
 pub use crate::kind::{AggKind, Argument, Signature};
 pub use crate::numbers::{BitAnd, BitOr, BitXor, Max, Min};

@@ -1,4 +1,4 @@
--- What a block of memory holds: a cell for each byte, `Some` of the byte once it was written, and `None` before.
+-- What a block of memory holds: a cell for each byte, `Some` of the byte once it was written, and `None` before. All of this is our own.
 use Rattle.std.specs.Prelude.{◌≡◌, ℕ, ◌+◌, ◌≤◌, List, Option, Some, None, map, replicate, length, take, drop, IsTrue, is_some}
 use Rattle.std.specs.List.{list_all, splice}
 

@@ -1,4 +1,4 @@
--- A word is a number below 2^64, which stands in eight cells with its highest byte first.
+-- A word is a number below 2^64, which stands in eight cells with its highest byte first. All of this is our own.
 use Rattle.std.specs.Prelude.{ℕ, List}
 use Rattle.std.specs.Int.{w64, to_be_bytes}
 

@@ -1,4 +1,5 @@
 -- The content of a context: a finite map from the names of its live chunks to their bytes, as the list of these chunks.
+-- (PostgreSQL 17, src/backend/utils/mmgr/README: what memory contexts are for; that a name tells a place and a length: own)
 use Rattle.std.specs.Prelude.{◌≡◌, ℕ, ◌<◌, ◌==◌, ◌&&◌, Bool, true, false, List, ◌∷◌, Option, Some, None, length, IsTrue}
 use Rattle.std.specs.List.{filter}
 use Rattle.chunk_layout.specs.Pieces.{Piece, place_of, same_place, has, piece_at, resized}

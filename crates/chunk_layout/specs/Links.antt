@@ -1,4 +1,4 @@
--- How a free chunk names the next one of its list.
+-- How a free chunk names the next one of its list. All of this is our own.
 use Rattle.std.specs.Prelude.{ℕ, ◌<◌, ◌^◌, List, ◌++◌, Option, Some, None}
 use Rattle.std.specs.Int.{w32, to_be_bytes}
 use Rattle.chunk_layout.specs.declared.place.Place.{Place}

@@ -1,4 +1,4 @@
--- Marks on the numbers below a bound.
+-- Marks on the numbers below a bound. All of this is our own.
 use Rattle.std.specs.Prelude.{◌≡◌, ℕ, ◌<◌, ◌^◌, List, length, get_or}
 
 -- each number stands once in a list of all, at the place that is kept for it

@@ -1,4 +1,4 @@
--- A layout as its users see it: the sizes of its blocks, and the chunks that lie in them.
+-- A layout as its users see it: the sizes of its blocks, and the chunks that lie in them. All of this is our own.
 use Rattle.std.specs.Prelude.{◌≢◌, ℕ, zero, suc, ◌+◌, ◌≤◌, ◌==◌, ◌&&◌, ◌⊎◌, Bool, false, not, List, [], ◌∷◌, ◌++◌, Option, Some, None}
 use Rattle.std.specs.Prelude.{if◌then◌else◌, ◌-◌, length, get_or, slice_set, replicate, unwrap_or, take}
 use Rattle.std.specs.Int.{w32, to_be_bytes}

@@ -1,4 +1,4 @@
--- The chunks that the notes tell of, and what the blocks hold for them.
+-- The chunks that the notes tell of, and what the blocks hold for them. All of this is our own.
 use Rattle.std.specs.Prelude.{◌≡◌, ◌≢◌, if◌then◌else◌, false, ℕ, ◌+◌, ◌-◌, ◌≤◌, ◌==◌, ◌⊎◌, Bool, not, List, [], ◌∷◌, Option, Some, None}
 use Rattle.std.specs.Prelude.{length, get_or, slice_set, map, unwrap_or, option_map, is_some, take, drop, IsTrue}
 use Rattle.std.specs.List.{filter, list_any}

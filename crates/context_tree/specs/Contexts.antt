@@ -1,4 +1,5 @@
 -- A context of any kind: what is said of the four kinds, by its kind.
+-- (PostgreSQL 17, src/backend/utils/mmgr/README: contexts of several kinds with the same calls; all else is our own)
 use Rattle.std.specs.Prelude.{◌≡◌, ℕ, ◌*◌, nat_lt, Bool, true, false, List, Option, None, length}
 use Rattle.chunk_layout.specs.Pieces.{Piece, total}
 use Rattle.chunk_layout.specs.declared.place.Place.{Place}

@@ -1,4 +1,4 @@
--- The bytes of the bucket array: 32 for each bucket.
+-- The bytes of the bucket array: 32 for each bucket. All of this is our own.
 use Rattle.std.specs.Prelude.{ℕ, ◌+◌, ◌*◌, ◌==◌, cond, List, [], ◌∷◌, Option, Some, None, get_or, slice_range}
 use Rattle.std.specs.Int.{w32, from_be_bytes}
 use Rattle.chunk_layout.specs.declared.place.ChunkName.{ChunkName}

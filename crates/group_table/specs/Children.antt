@@ -1,4 +1,4 @@
--- The three contexts of a table in their tree: that they were made, and that they were not.
+-- The three contexts of a table in their tree: that they were made, and that they were not. All of this is our own.
 use Rattle.std.specs.Prelude.{◌≡◌, ◌≢◌, ℕ, ◌+◌, ◌<◌, ◌≤◌, ◌⊎◌, true, [], None, length, get_or}
 use Rattle.chunk_contexts.specs.Set.{new_set}
 use Rattle.chunk_contexts.specs.Slab.{new_slab}

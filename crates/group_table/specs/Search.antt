@@ -1,4 +1,4 @@
--- What a search among buckets finds.
+-- What a search among buckets finds. All of this is our own.
 use Rattle.std.specs.Prelude.{◌≡◌, ◌≢◌, ℕ, ◌<◌, ◌≤◌, List, Option, Some, None}
 use Rattle.context_tree.specs.Contexts.{chunk_bytes}
 use Rattle.context_tree.specs.declared.context.Context.{Context}

@@ -36,5 +36,5 @@ pub const LONGEST_NAME: usize = 63;
 /// The most bytes of a text value.
 pub const LONGEST_TEXT: usize = 255;
 
-/// The most bytes of a script.
-pub const LONGEST_SCRIPT: usize = 67_108_864;
+/// The most bytes of one input: a script, a batch file or a summary file.
+pub const LONGEST_INPUT: usize = 67_108_864;

@@ -1,4 +1,4 @@
--- What a call does to the bytes of a disk. `last place byte` is that the byte is the one last written at the place.
+-- What a call does to the bytes of a disk. `last place byte` is that the byte is the one last written at the place. All of this is our own.
 use Rattle.std.specs.Prelude.{◌≡◌, ℕ, ◌+◌, ◌<◌, ◌≤◌, ◌⊎◌, List, length, get_or}
 
 -- these bytes are the ones last written at the places from `at` on

@@ -1,4 +1,4 @@
--- The pages of tapes, by their numbers. Page n of a disk are the 8,192 bytes from the place 8,192 n on.
+-- The pages of tapes, by their numbers. Page n of a disk are the 8,192 bytes from the place 8,192 n on. All of this is our own.
 use Rattle.std.specs.Prelude.{◌≡◌, ℕ, ◌+◌, ◌*◌, ◌^◌, ◌<◌, ◌≤◌, ◌==◌, nat_lt, cond, List, [], ◌∷◌, ◌++◌, length, get_or}
 
 -- the numbers of the pages that are free, how many page numbers were ever given out, and how many there is room for in the

@@ -1,4 +1,4 @@
--- One tape.
+-- One tape. All of this is our own.
 use Rattle.std.specs.Prelude.{Bool, true, false, ◌≡◌, ℕ, ◌+◌, ◌-◌, ◌*◌, ◌<◌, ◌≤◌, ◌==◌, List, [], ◌∷◌, ◌++◌, length, drop, Option, Some, None}
 use Rattle.std.specs.List.{flat_map}
 use Rattle.spill_tapes.specs.Records.{Record, IsRecord, AreRecords, tape_bytes}
