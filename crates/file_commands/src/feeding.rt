@@ -38,7 +38,7 @@ pub fn feed<H: KeyHash + Copy, D: TapeDisk>(
     ensures uncounted { OnErr result (work.new ≡ work.old) }
     ensures why { IfErr result (λ why. IsOfBatch why →
         IsNoBatchFile (kinds replica.old.query.columns) (read_file file.now) why) }
-    // Disagreement is told wherever there is one.
+    // A batch that disagrees is never taken, and disagreement is told of no other.
     ensures agreed { OnOk result (FileAgrees (read_file file.now) replica.old) }
     ensures disagree { IfErr result (λ why. why ≡ origin_disagrees →
         FileDisagrees (read_file file.now) replica.old) }
