@@ -2,12 +2,16 @@
 use Rattle.std.proofs.Common.{◌≡◌, ℕ, zero, suc, ◌+◌, ◌<◌, ◌≤◌, inl, inr, Bool, true, false, List, [], ◌∷◌, Option, Some, None, length, get_or, cond, set, drop, refl, sym, ap, ◌∙◌, subst, arith}
 use Rattle.std.specs.Prelude.{is_some, unwrap_or}
 use Rattle.std.proofs.lemmas.Bool.{cases_Bool, cases_eq, cases_lt, cond-true, cond-false, false≢true}
+use Rattle.chunk_contexts.specs.declared.error.ContextError.{ContextError}
 use Rattle.context_tree.specs.Contexts.{no_context, held_by}
 use Rattle.context_tree.specs.Links.{is_below, cleared, placed}
 use Rattle.std.specs.List.{refill}
-use Rattle.std.proofs.lemmas.List.{get_or-set_same, get_or-set_other, get_or_default, length-set}
-use Rattle.context_tree.specs.Tree.{TreeState, Stamped, Emptied, has_stamp, is_there, context_at, with_context, without_slots, held_from}
+use Rattle.std.proofs.lemmas.List.{get_or-set_same, get_or-set_other, get_or_default, length-set, set-get_or}
+use Rattle.context_tree.specs.Tree.{TreeState, Stamped, Emptied, IsRefusedBy, IsNotMade, has_stamp, is_there, context_at, with_context, without_slots, held_from}
 use Rattle.context_tree.specs.TreeFields.{tree_of, AreFields}
+use Rattle.context_tree.specs.declared.error.TreeError.{TreeError}
+use Rattle.context_tree.specs.declared.error.TreeError.TheVariants as error
+use Rattle.context_tree.specs.declared.error.TreeError.TheVariants.{NoSuchContext}
 use Rattle.context_tree.specs.declared.links.ContextId.{ContextId}
 use Rattle.context_tree.specs.declared.tree.Tree.TheInside.{Inside}
 use Rattle.context_tree.proofs.Clearing.{length-cleared, get_or-cleared, is-cleared, low-there}
@@ -79,11 +83,43 @@ module _ (x : Inside) (are : AreFields x) (now : TreeState) (view : tree_of x �
     new-is = ap (λ (l : List Context). get_or l id.slot no_context) whole ∙ get_or-set_same cs id.slot c no_context slot-low
 
   -- one that is there may be any context
-  pub empty-written : (c : Context) → Emptied x.links (set cs id.slot c)
+  empty-written : (c : Context) → Emptied x.links (set cs id.slot c)
   empty-written c k free = elim (cases_eq k id.slot) [
     | inl same ↦ absurd (false≢true (sym (ap (λ (j : ℕ). is_some (get_or x.links j None)) (sym same) ∙ ap is_some free) ∙ slot-some))
     | inr ne ↦ get_or-set_other cs id.slot k c no_context ne ∙ are.empty k free
   ]
+
+  module _ (d : List Context) (same : d ≡ cs) (c : Context) where
+    pub fields-written : AreFields (record { alloc = x.alloc; links = x.links; contexts = record { items = refill (length cs) cs (set d id.slot c); capacity = x.contexts.capacity }; last = x.last })
+    fields-written = record {
+      long = ap length (whole d same c) ∙ length-set cs id.slot c ∙ are.long;
+      stamps = are.stamps;
+      empty = subst (Emptied x.links) (sym (whole d same c)) (empty-written c);
+    }
+
+    -- what was lent, and what it became, are the contexts before and after; and one that stays as it was changes nothing
+    module _ (other : Context) where
+      pub said : (P : Context → Context → Type 0) → P (get_or d id.slot other) c → P (context_at now id) (get_or (refill (length cs) cs (set d id.slot c)) id.slot no_context)
+      said P so = subst (P (context_at now id)) (sym (new-is d same c)) (subst (λ (a : Context). P a c) (old-is d other same) so)
+
+      pub new-by : (f : Context → Context) → c ≡ f (get_or d id.slot other) → (record { links = x.links; contexts = refill (length cs) cs (set d id.slot c); last = x.last }) ≡ with_context now id (f (context_at now id))
+      new-by f by = new-tree d same c ∙ ap (with_context now id) (by ∙ ap f (old-is d other same))
+
+      pub unchanged : c ≡ get_or d id.slot other → (record { links = x.links; contexts = refill (length cs) cs (set d id.slot c); last = x.last }) ≡ now
+      unchanged stays = new-by (λ a. a) stays ∙ ap (λ (l : List Context). record { links = now.links; contexts = l; last = now.last }) (set-get_or now.contexts id.slot no_context)
+
+-- why a call is refused
+module _ (P : ContextError → Type 0) (there : Bool) (e : TreeError) where
+  pub refused-gone : there ≡ false → e ≡ NoSuchContext → IsRefusedBy there P e
+  refused-gone gone is = subst (λ (b : Bool). IsRefusedBy b P e) (sym gone) is
+
+  pub refused-own : there ≡ true → (own : ContextError) → e ≡ error.Context own → P own → IsRefusedBy there P e
+  refused-own here own is so = subst (λ (b : Bool). IsRefusedBy b P e) (sym here) (own, is, so)
+
+-- why no context is made
+pub not-made : {there spent here none : Bool} {refusal why : Option ContextError} (e : TreeError) → there ≡ here → spent ≡ none → refusal ≡ why → IsNotMade here none why e → IsNotMade there spent refusal e
+not-made {there = there} {spent = spent} {here = here} {none = none} {refusal = refusal} {why = why} e is last own so =
+    subst (λ (b : Bool). IsNotMade b spent refusal e) (sym is) (subst (λ (b : Bool). IsNotMade here b refusal e) (sym last) (subst (λ (o : Option ContextError). IsNotMade here none o e) (sym own) so))
 
 -- contexts are given up: those in the slots that are emptied
 module _ (x : Inside) (are : AreFields x) (gone : ℕ → Bool) (from : ℕ) (none : (k : ℕ) → k < from → gone k ≡ false) (ls : List (Option Link)) (links : ls ≡ cleared gone None 0 x.links)

@@ -1,21 +1,66 @@
-use Rattle.std.proofs.Common.{length, get_or, set, sym, subst}
-use Rattle.std.specs.Prelude.{IsTrue}
-use Rattle.std.specs.List.{refill}
-use Rattle.chunk_contexts.specs.Chunks.{Keeps}
-use Rattle.context_tree.specs.Contexts.{chunks_of, has_chunk, no_context}
-use Rattle.context_tree.specs.declared.context.Context.{Context}
-use Rattle.context_tree.proofs.TreeLaws.{old-is, new-is}
+use Rattle.std.proofs.Common.{◌≡◌, ◌+◌, None, length, get_or, refl, ◌∙◌}
+use Rattle.std.specs.Prelude.{IsTrue, is_some}
+use Rattle.std.proofs.lemmas.Result.{err_from_is_err_and}
+use Rattle.chunk_contexts.specs.Chunks.{chunk_of, Adds, Keeps, IsRefused}
+use Rattle.context_tree.specs.Contexts.{chunks_of, blocks_of, room_in, refusal_of, growth_of, with_chunk, has_chunk, chunk_bytes, held_by}
+use Rattle.context_tree.specs.Tree.{is_there}
+use Rattle.context_tree.proofs.TreeLaws.{said, new-by, unchanged, fields-written, refused-gone, refused-own}
 use Rattle.context_tree.proofs.tree.Tree.alloc.Goals as goal
 
-pub returns-clause-lives : goal.returns-clause-lives
-returns-clause-lives c =
-    let new = new-is c.self.inside c.self.invariant c.args.self.now c.self.view_is c.args.id c.in_ok-check.ensures c.deref_mut.result.now c.deref_mut.ensures.value c.alloc.new.self in
-    subst (λ (b : Context). IsTrue (has_chunk b c.in_ok-alloc.field-0)) (sym new) c.in_ok-alloc.ensures.lives
+pub invariant_of-self : goal.invariant_of-self
+invariant_of-self c =
+    fields-written c.self.inside c.self.invariant c.args.self.now c.self.view_is c.args.id c.in_ok-check.ensures c.deref_mut.result.now c.deref_mut.ensures.value c.alloc.new.self
 
-pub returns-clause-keeps : goal.returns-clause-keeps
-returns-clause-keeps c =
-    let x = c.self.inside in let d = c.deref_mut.result.now in let id = c.args.id in
-    let old = old-is x c.self.invariant c.args.self.now c.self.view_is id c.in_ok-check.ensures d c.index-deref_mut-id.result c.deref_mut.ensures.value in
-    let new = new-is x c.self.invariant c.args.self.now c.self.view_is id c.in_ok-check.ensures d c.deref_mut.ensures.value c.alloc.new.self in
-    subst (λ (a : Context). Keeps (chunks_of a) (chunks_of (get_or (refill (length x.contexts.items) x.contexts.items (set d id.slot c.alloc.new.self)) id.slot no_context)) c.in_ok-alloc.field-0) old
-    (subst (λ (b : Context). Keeps (chunks_of (get_or d id.slot c.index-deref_mut-id.result)) (chunks_of b) c.in_ok-alloc.field-0) (sym new) c.in_ok-alloc.ensures.keeps)
+pub returns-in_err-check : goal.returns-in_err-check
+returns-in_err-check c =
+    let e = err_from_is_err_and c.from_residual.result c.from_residual.ensures.1 in
+    rw e.1 (record {
+      there = tt;
+      added = tt;
+      lives = tt;
+      holds = tt;
+      block = tt;
+      keeps = tt;
+      space = tt;
+      grown = tt;
+      refused = refused-gone _ (is_there c.args.self.now c.args.id) e.0 c.in_err-check.ensures.0 (e.2 ∙ c.in_err-check.ensures.1);
+      unchanged = refl;
+    })
+
+pub returns-in_err-alloc : goal.returns-in_err-alloc
+returns-in_err-alloc c =
+    let x = c.self.inside in let are = c.self.invariant in let now = c.args.self.now in let view = c.self.view_is in let id = c.args.id in let there = c.in_ok-check.ensures in
+    let d = c.deref_mut.result.now in let same = c.deref_mut.ensures.value in let new = c.alloc.new.self in let other = c.index-deref_mut-id.result in
+    let n = length c.args.bytes.now in let own = c.in_err-alloc.field-0.0 in let told = c.in_err-alloc.ensures in
+    let e = err_from_is_err_and c.from_residual-in_err-alloc.result c.from_residual-in_err-alloc.ensures.1 in
+    rw e.1 (record {
+      there = tt;
+      added = tt;
+      lives = tt;
+      holds = tt;
+      block = tt;
+      keeps = tt;
+      space = tt;
+      grown = tt;
+      refused = refused-own _ (is_there now id) e.0 there own e.2 (said x are now view id there d same new other (λ a _. IsRefused (refusal_of a n) (growth_of a n) own) told.refused);
+      unchanged = unchanged x are now view id there d same new other told.unchanged;
+    })
+
+pub returns : goal.returns
+returns c =
+    let x = c.self.inside in let are = c.self.invariant in let now = c.args.self.now in let view = c.self.view_is in let id = c.args.id in let there = c.in_ok-check.ensures in
+    let d = c.deref_mut.result.now in let same = c.deref_mut.ensures.value in let new = c.alloc.new.self in let other = c.index-deref_mut-id.result in
+    let bytes = c.args.bytes.now in let n = length bytes in let name = c.in_ok-alloc.field-0 in let told = c.in_ok-alloc.ensures in
+    let said = said x are now view id there d same new other in
+    record {
+      there = (there, said (λ a _. refusal_of a n ≡ None) told.admitted);
+      added = said (λ a b. Adds (chunks_of a) (chunks_of b) name (room_in a n) bytes) told.added;
+      lives = said (λ _ b. IsTrue (has_chunk b name)) told.lives;
+      holds = said (λ _ b. chunk_bytes b name ≡ bytes) told.holds;
+      block = said (λ _ b. IsTrue (is_some (get_or (blocks_of b) name.block None))) told.block;
+      keeps = said (λ a b. Keeps (chunks_of a) (chunks_of b) name) told.keeps;
+      space = new-by x are now view id there d same new other (λ a. with_chunk a n (chunk_of name (room_in a n) bytes)) told.space;
+      grown = said (λ a b. held_by b ≡ held_by a + growth_of a n) told.grown;
+      refused = tt;
+      unchanged = tt;
+    }

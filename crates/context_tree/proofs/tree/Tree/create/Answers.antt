@@ -1,9 +1,14 @@
-use Rattle.std.proofs.Common.{◌≡◌, ◌+◌, List, Option, Some, length, refl, sym, ap, ◌∙◌, subst}
+use Rattle.std.proofs.Common.{◌≡◌, ◌+◌, ◌≤◌, true, false, List, Option, Some, None, length, get_or, refl, sym, ap, ◌∙◌, subst}
+use Rattle.std.specs.Prelude.{◌==◌}
+use Rattle.std.proofs.lemmas.Bool.{eq-eqb, ne_eqb}
+use Rattle.std.proofs.lemmas.Result.{err_from_is_err_and}
+use Rattle.context_tree.specs.Contexts.{new_context}
 use Rattle.context_tree.specs.Links.{placed}
-use Rattle.context_tree.specs.Tree.{Stamped, Emptied}
+use Rattle.context_tree.specs.Tree.{TreeState, Stamped, Emptied, with_new}
+use Rattle.context_tree.specs.declared.error.TreeError.TheVariants.{StampsSpent}
 use Rattle.context_tree.specs.declared.context.Context.{Context}
 use Rattle.context_tree.specs.declared.links.Link.{Link}
-use Rattle.context_tree.proofs.TreeLaws.{stamps-made, empty-made, long-made}
+use Rattle.context_tree.proofs.TreeLaws.{stamps-made, empty-made, long-made, not-made}
 use Rattle.context_tree.proofs.tree.Tree.create.Goals as goal
 
 pub invariant_of-self-2 : goal.invariant_of-self-2
@@ -17,4 +22,95 @@ invariant_of-self-2 c =
       stamps = subst (λ (ls : List (Option Link)). Stamped ls (t.last + 1)) (sym links) (stamps-made t.links t.contexts.items t.last slot was.low c.self.invariant.long link it refl c.self.invariant.stamps);
       empty = subst (λ (ls : List (Option Link)). Emptied ls c.put_context.new.contexts.items) (sym links)
           (subst (λ (cs : List Context). Emptied (placed t.links slot (Some link)) cs) (sym contexts) (empty-made t.links t.contexts.items t.last slot was.low c.self.invariant.long link it c.self.invariant.empty));
+    }
+
+pub returns-in_err-check : goal.returns-in_err-check
+returns-in_err-check c =
+    let e = err_from_is_err_and c.from_residual.result c.from_residual.ensures.1 in
+    rw e.1 (record {
+      there = tt;
+      stamp = tt;
+      fresh = tt;
+      low = tt;
+      made = tt;
+      allowed = tt;
+      refused = not-made e.0 c.in_err-check.ensures.0 refl refl (e.2 ∙ c.in_err-check.ensures.1);
+      unchanged = refl;
+    })
+
+pub returns-then-self : goal.returns-then-self
+returns-then-self c =
+    let spent = subst (λ (t : TreeState). (t.last == 18446744073709551615) ≡ true) c.self.view_is (eq-eqb c.self.inside.last 18446744073709551615 c.if-self.true) in
+    record {
+      there = tt;
+      stamp = tt;
+      fresh = tt;
+      low = tt;
+      made = tt;
+      allowed = tt;
+      refused = not-made StampsSpent c.in_ok-check.ensures spent refl refl;
+      unchanged = refl;
+    }
+
+pub returns-in_err-context : goal.returns-in_err-context
+returns-in_err-context c =
+    let e = err_from_is_err_and c.from_residual-in_err-context.result c.from_residual-in_err-context.ensures.1 in
+    let left = subst (λ (t : TreeState). (t.last == 18446744073709551615) ≡ false) c.self.view_is (ne_eqb c.self.inside.last 18446744073709551615 c.if-self.false) in
+    rw e.1 (record {
+      there = tt;
+      stamp = tt;
+      fresh = tt;
+      low = tt;
+      made = tt;
+      allowed = tt;
+      refused = not-made e.0 c.in_ok-check.ensures left c.in_err-context.ensures e.2;
+      unchanged = refl;
+    })
+
+pub returns-in_err-reserve : goal.returns-in_err-reserve
+returns-in_err-reserve c =
+    let e = err_from_is_err_and c.from_residual-in_err-reserve.result c.from_residual-in_err-reserve.ensures.1 in
+    let left = subst (λ (t : TreeState). (t.last == 18446744073709551615) ≡ false) c.self.view_is (ne_eqb c.self.inside.last 18446744073709551615 c.if-self.false) in
+    rw e.1 (record {
+      there = tt;
+      stamp = tt;
+      fresh = tt;
+      low = tt;
+      made = tt;
+      allowed = tt;
+      refused = not-made e.0 c.in_ok-check.ensures left c.in_ok-context.ensures.0 e.2;
+      unchanged = (λ i. record { links = c.self.inside.links; contexts = c.reserve.ensures.items i; last = c.self.inside.last }) ∙ c.self.view_is;
+    })
+
+pub returns-in_err-slot : goal.returns-in_err-slot
+returns-in_err-slot c =
+    let e = err_from_is_err_and c.from_residual-in_err-slot.result c.from_residual-in_err-slot.ensures.1 in
+    let left = subst (λ (t : TreeState). (t.last == 18446744073709551615) ≡ false) c.self.view_is (ne_eqb c.self.inside.last 18446744073709551615 c.if-self.false) in
+    rw e.1 (record {
+      there = tt;
+      stamp = tt;
+      fresh = tt;
+      low = tt;
+      made = tt;
+      allowed = tt;
+      refused = not-made e.0 c.in_ok-check.ensures left c.in_ok-context.ensures.0 e.2;
+      unchanged = (λ i. record { links = c.in_err-slot.ensures.unchanged i; contexts = c.reserve.ensures.items i; last = c.self.inside.last }) ∙ c.self.view_is;
+    })
+
+pub returns : goal.returns
+returns c =
+    let x = c.self.inside in let view = c.self.view_is in let slot = c.in_ok-slot.slot in let was = c.in_ok-slot.ensures in
+    let contexts : c.put_context.new.contexts.items ≡ placed x.contexts.items slot (new_context c.args.kind) =
+    c.put_context.ensures ∙ ap (λ (cs : List Context). placed cs slot c.in_ok-context.context) c.reserve.ensures.items ∙ ap (placed x.contexts.items slot) c.in_ok-context.ensures.1 in
+    record {
+      there = c.in_ok-check.ensures;
+      stamp = ap (λ (t : TreeState). t.last + 1) view;
+      fresh = subst (λ (t : TreeState). get_or t.links slot None ≡ None) view was.fresh;
+      low = subst (λ (t : TreeState). slot ≤ length t.links) view was.low;
+      made =
+          (λ i. record { links = was.added i; contexts = contexts i; last = x.last + 1 })
+          ∙ ap (λ (t : TreeState). with_new t c.args.parent c.args.kind (record { slot = slot; stamp = x.last + 1 })) view;
+      allowed = c.in_ok-context.ensures.0;
+      refused = tt;
+      unchanged = tt;
     }

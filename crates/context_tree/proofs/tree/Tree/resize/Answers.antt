@@ -1,43 +1,70 @@
-use Rattle.std.proofs.Common.{◌≡◌, ◌<◌, ◌≤◌, length, get_or, set, sym, ap, ◌∙◌, subst}
-use Rattle.std.specs.List.{refill}
+use Rattle.std.proofs.Common.{◌≡◌, ◌<◌, ◌≤◌, true, None, refl, sym, subst, ◌∙◌}
+use Rattle.std.specs.Prelude.{IsTrue}
+use Rattle.std.proofs.lemmas.Result.{err_from_is_err_and}
 use Rattle.chunk_layout.specs.Pieces.{piece_at, place_of, resized}
-use Rattle.chunk_contexts.specs.Chunks.{chunk_of, IsResized, KeepsOthers}
-use Rattle.context_tree.specs.Contexts.{chunks_of, chunk_bytes, room_in, with_resized, with_chunk, without_chunk, no_context}
-use Rattle.context_tree.specs.Tree.{context_at, with_context}
+use Rattle.chunk_contexts.specs.Chunks.{chunk_of, IsResized, IsResizeRefused, KeepsOthers}
+use Rattle.context_tree.specs.Contexts.{chunks_of, chunk_bytes, room_in, refusal_of, growth_of, can_free, with_resized, with_chunk, without_chunk, has_chunk}
+use Rattle.context_tree.specs.Tree.{is_there}
 use Rattle.context_tree.specs.declared.context.Context.{Context}
-use Rattle.context_tree.proofs.TreeLaws.{old-is, new-tree, new-is}
+use Rattle.context_tree.proofs.TreeLaws.{old-is, said, new-by, unchanged, fields-written, refused-gone, refused-own}
 use Rattle.context_tree.proofs.tree.Tree.resize.Goals as goal
 
-pub returns-clause-resized : goal.returns-clause-resized
-returns-clause-resized c =
-    let x = c.self.inside in let d = c.deref_mut.result.now in let id = c.args.id in let name = c.args.name in let to = c.in_ok-resize.field-0 in
-    let old = old-is x c.self.invariant c.args.self.now c.self.view_is id c.in_ok-check.ensures d c.index-deref_mut-id.result c.deref_mut.ensures.value in
-    let new = new-is x c.self.invariant c.args.self.now c.self.view_is id c.in_ok-check.ensures d c.deref_mut.ensures.value c.resize.new.self in
-    subst (λ (a : Context). IsResized (chunks_of a) (chunks_of (get_or (refill (length x.contexts.items) x.contexts.items (set d id.slot c.resize.new.self)) id.slot no_context)) name to c.args.n) old
-    (subst (λ (b : Context). IsResized (chunks_of (get_or d id.slot c.index-deref_mut-id.result)) (chunks_of b) name to c.args.n) (sym new) c.in_ok-resize.ensures.resized)
+pub resize-requires : goal.resize-requires
+resize-requires c =
+    let old = old-is c.self.inside c.self.invariant c.args.self.now c.self.view_is c.args.id c.in_ok-check.ensures c.deref_mut.result.now c.index-deref_mut-id.result c.deref_mut.ensures.value in
+    subst (λ (a : Context). IsTrue (has_chunk a c.args.name)) (sym old) (c.requires c.in_ok-check.ensures)
 
-pub returns-clause-stays : goal.returns-clause-stays
-returns-clause-stays c = λ room.
-    let x = c.self.inside in let d = c.deref_mut.result.now in let id = c.args.id in let now = c.args.self.now in let name = c.args.name in let n = c.args.n in
-    let old : get_or d id.slot c.index-deref_mut-id.result ≡ context_at now id = old-is x c.self.invariant now c.self.view_is id c.in_ok-check.ensures d c.index-deref_mut-id.result c.deref_mut.ensures.value in
-    new-tree x c.self.invariant now c.self.view_is id c.in_ok-check.ensures d c.deref_mut.ensures.value c.resize.new.self
-    ∙ ap (with_context now id)
-    (c.in_ok-resize.ensures.stays (subst (λ (a : Context). n ≤ (piece_at (chunks_of a) (place_of name)).room) (sym old) room)
-    ∙ ap (λ (a : Context). with_resized a (place_of name) (resized (chunk_bytes a name) n)) old)
+pub invariant_of-self : goal.invariant_of-self
+invariant_of-self c =
+    fields-written c.self.inside c.self.invariant c.args.self.now c.self.view_is c.args.id c.in_ok-check.ensures c.deref_mut.result.now c.deref_mut.ensures.value c.resize.new.self
 
-pub returns-clause-moved : goal.returns-clause-moved
-returns-clause-moved c = λ room.
-    let x = c.self.inside in let d = c.deref_mut.result.now in let id = c.args.id in let now = c.args.self.now in let name = c.args.name in let n = c.args.n in let to = c.in_ok-resize.field-0 in
-    let old : get_or d id.slot c.index-deref_mut-id.result ≡ context_at now id = old-is x c.self.invariant now c.self.view_is id c.in_ok-check.ensures d c.index-deref_mut-id.result c.deref_mut.ensures.value in
-    new-tree x c.self.invariant now c.self.view_is id c.in_ok-check.ensures d c.deref_mut.ensures.value c.resize.new.self
-    ∙ ap (with_context now id)
-    (c.in_ok-resize.ensures.moved (subst (λ (a : Context). (piece_at (chunks_of a) (place_of name)).room < n) (sym old) room)
-    ∙ ap (λ (a : Context). without_chunk (with_chunk a n (chunk_of to (room_in a n) (resized (chunk_bytes a name) n))) (place_of name)) old)
+pub returns-in_err-check : goal.returns-in_err-check
+returns-in_err-check c =
+    let e = err_from_is_err_and c.from_residual.result c.from_residual.ensures.1 in
+    rw e.1 (record {
+      there = tt;
+      resized = tt;
+      keeps = tt;
+      stays = tt;
+      moved = tt;
+      refused = refused-gone _ (is_there c.args.self.now c.args.id) e.0 c.in_err-check.ensures.0 (e.2 ∙ c.in_err-check.ensures.1);
+      unchanged = refl;
+    })
 
-pub returns-clause-keeps : goal.returns-clause-keeps
-returns-clause-keeps c =
-    let x = c.self.inside in let d = c.deref_mut.result.now in let id = c.args.id in let name = c.args.name in let to = c.in_ok-resize.field-0 in
-    let old = old-is x c.self.invariant c.args.self.now c.self.view_is id c.in_ok-check.ensures d c.index-deref_mut-id.result c.deref_mut.ensures.value in
-    let new = new-is x c.self.invariant c.args.self.now c.self.view_is id c.in_ok-check.ensures d c.deref_mut.ensures.value c.resize.new.self in
-    subst (λ (a : Context). KeepsOthers (chunks_of a) (chunks_of (get_or (refill (length x.contexts.items) x.contexts.items (set d id.slot c.resize.new.self)) id.slot no_context)) name to) old
-    (subst (λ (b : Context). KeepsOthers (chunks_of (get_or d id.slot c.index-deref_mut-id.result)) (chunks_of b) name to) (sym new) c.in_ok-resize.ensures.keeps)
+pub returns-in_err-resize : goal.returns-in_err-resize
+returns-in_err-resize c =
+    let x = c.self.inside in let are = c.self.invariant in let now = c.args.self.now in let view = c.self.view_is in let id = c.args.id in let there = c.in_ok-check.ensures in
+    let d = c.deref_mut.result.now in let same = c.deref_mut.ensures.value in let new = c.resize.new.self in let other = c.index-deref_mut-id.result in
+    let own = c.in_err-resize.field-0.0 in let told = c.in_err-resize.ensures in let n = c.args.n in
+    let refused = said x are now view id there d same new other (λ a _. IsResizeRefused (can_free a) (refusal_of a n) (growth_of a n) (piece_at (chunks_of a) (place_of c.args.name)).room n own) told.refused in
+    let e = err_from_is_err_and c.from_residual-in_err-resize.result c.from_residual-in_err-resize.ensures.1 in
+    rw e.1 (record {
+      there = tt;
+      resized = tt;
+      keeps = tt;
+      stays = tt;
+      moved = tt;
+      refused = refused-own _ (is_there now id) e.0 there own e.2 refused;
+      unchanged = unchanged x are now view id there d same new other told.unchanged;
+    })
+
+pub returns : goal.returns
+returns c =
+    let x = c.self.inside in let are = c.self.invariant in let now = c.args.self.now in let view = c.self.view_is in let id = c.args.id in let there = c.in_ok-check.ensures in
+    let d = c.deref_mut.result.now in let same = c.deref_mut.ensures.value in let new = c.resize.new.self in let other = c.index-deref_mut-id.result in
+    let name = c.args.name in let n = c.args.n in let to = c.in_ok-resize.field-0 in let told = c.in_ok-resize.ensures in
+    let old = old-is x are now view id there d other same in
+    let said = said x are now view id there d same new other in
+    record {
+      there = (there, said (λ a _. can_free a ≡ true) told.admitted.0, said (λ a _. refusal_of a n ≡ None) told.admitted.1);
+      resized = said (λ a b. IsResized (chunks_of a) (chunks_of b) name to n) told.resized;
+      keeps = said (λ a b. KeepsOthers (chunks_of a) (chunks_of b) name to) told.keeps;
+      stays = λ room.
+          new-by x are now view id there d same new other (λ a. with_resized a (place_of name) (resized (chunk_bytes a name) n))
+          (told.stays (subst (λ (a : Context). n ≤ (piece_at (chunks_of a) (place_of name)).room) (sym old) room));
+      moved = λ room.
+          new-by x are now view id there d same new other (λ a. without_chunk (with_chunk a n (chunk_of to (room_in a n) (resized (chunk_bytes a name) n))) (place_of name))
+          (told.moved (subst (λ (a : Context). (piece_at (chunks_of a) (place_of name)).room < n) (sym old) room));
+      refused = tt;
+      unchanged = tt;
+    }
