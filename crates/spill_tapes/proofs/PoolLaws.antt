@@ -2,7 +2,7 @@
 use Rattle.std.specs.Prelude.{◌≡◌, ℕ, ◌+◌, ◌^◌, ◌<◌, ◌≤◌, List, [], ◌∷◌, ◌++◌, length}
 use Rattle.std.proofs.Common.{◌∙◌, ap, arith, length-append}
 use Rattle.std.proofs.lemmas.Bool.Decides.{nat_tests}
-use Rattle.spill_tapes.specs.Pages.{PoolState, IsPool, given_back, once, times, below, IsApart, IsBalanced, IsFresh}
+use Rattle.spill_tapes.specs.Pages.{PoolState, IsPool, given_back, once, times, below, IsApart, IsBalanced, IsFresh, FreesNone}
 
 pub times-append : (page : ℕ) (xs ys : List ℕ) → times page (xs ++ ys) ≡ times page xs + times page ys
 times-append page [] ys = omega arith
@@ -76,6 +76,12 @@ balanced_twice a b c xs ys zs first second = record {
   all = omega (arith, first.all, second.all);
   grows = omega (arith, first.grows, second.grows);
 }
+
+pub frees_twice : (a b c : PoolState) → FreesNone a b → FreesNone b c → FreesNone a c
+frees_twice a b c first second = λ page. omega (arith, first page, second page)
+
+pub apart_after : (a b : PoolState) (xs ys : List ℕ) → IsApart a xs → IsBalanced a xs b ys → IsApart b ys
+apart_after a b xs ys apart moved = λ page. omega (arith, apart page, moved.each page)
 
 -- a page of the tape is given out, and not free
 pub apart_page : (pool : PoolState) (pages : List ℕ) (page : ℕ) → IsApart pool pages → 0 < times page pages → (page < pool.count) × (times page pool.free ≡ 0)

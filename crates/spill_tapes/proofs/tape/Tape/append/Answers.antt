@@ -1,8 +1,11 @@
-use Rattle.std.proofs.Common.{◌+◌, ◌++◌, ap, ◌∙◌, subst}
+use Rattle.std.proofs.Common.{◌+◌, ◌++◌, length, refl, sym, ap, ◌∙◌, subst, arith}
+use Rattle.std.proofs.lemmas.Result.{err_from_is_err_and}
+use Rattle.spill_tapes.specs.Pages.{IsApart, IsBalanced}
 use Rattle.spill_tapes.specs.Records.{header_of}
-use Rattle.spill_tapes.specs.Tape.{TapeState, HasWritten}
+use Rattle.spill_tapes.specs.Tape.{TapeState, IsGoodIn, HasWritten}
 use Rattle.spill_tapes.proofs.TapeLaws.{appended}
 use Rattle.spill_tapes.proofs.PageLaws.{same_written}
+use Rattle.spill_tapes.proofs.PoolLaws.{balanced_none}
 use Rattle.spill_tapes.proofs.tape.Tape.append.Goals as goal
 
 pub returns-clause-appended : goal.returns-clause-appended
@@ -14,3 +17,52 @@ returns-clause-appended g c =
     (ap (λ (t : TapeState). t.pages) c.self-2.view_is)
     (ap (λ (t : TapeState). t.buffer) c.self-2.view_is)
     (ap (λ (t : TapeState). t.records + 1) c.self-2.view_is ∙ ap (λ n. n + 1) (c.put_record.ensures.same.records ∙ ap (λ (t : TapeState). t.records) c.self.view_is))
+
+pub put_record-requires : goal.put_record-requires
+put_record-requires g c =
+    let good = subst (λ p. IsGoodIn p c.args.self.now) c.requires.phase c.requires.good in
+    record {
+      pool = c.requires.pool;
+      apart = subst (λ (t : TapeState). IsApart c.args.pool.now t.pages) (sym c.self.view_is) c.requires.apart;
+      small = omega (arith, good.0, ap length c.in_ok-reserve_exact.ensures.items, ap (λ (t : TapeState). length t.buffer) c.self.view_is);
+    }
+
+pub returns-in_err-reserve_exact : goal.returns-in_err-reserve_exact
+returns-in_err-reserve_exact g c =
+    let e = err_from_is_err_and c.from_residual.result c.from_residual.ensures.1 in
+    let pool = c.args.pool.now in let view = c.self.view_is in
+    rw e.1 (record {
+      pool = c.requires.pool;
+      balanced = balanced_none pool pool c.args.self.now.pages c.self.inside.pages.items refl refl (ap (λ (t : TapeState). t.pages) view);
+      frees = λ _. omega arith;
+      keeps = λ _ _ _ _ _ _ had. had;
+      phase = ap (λ (t : TapeState). t.phase) view ∙ c.requires.phase;
+      good = tt;
+      longer = tt;
+      appended = tt;
+      counted = tt;
+      writes = omega arith;
+      failures = omega arith;
+      fault = λ is. absurd (cc (is, e.2));
+      honesty = refl;
+    })
+
+pub returns-in_err-put_record : goal.returns-in_err-put_record
+returns-in_err-put_record g c =
+    let e = err_from_is_err_and c.from_residual-in_err-put_record.result c.from_residual-in_err-put_record.ensures.1 in
+    let told = c.in_err-put_record.ensures in let view = c.self.view_is in
+    rw e.1 (record {
+      pool = told.pool;
+      balanced = subst (λ (t : TapeState). IsBalanced c.args.pool.now t.pages c.put_record.new.pool c.put_record.new.self.pages) view told.balanced;
+      frees = told.frees;
+      keeps = told.keeps;
+      phase = told.same.phase ∙ ap (λ (t : TapeState). t.phase) view ∙ c.requires.phase;
+      good = tt;
+      longer = tt;
+      appended = tt;
+      counted = tt;
+      writes = told.writes;
+      failures = told.failures;
+      fault = λ is. told.fault (sym e.2 ∙ is);
+      honesty = told.honesty;
+    })

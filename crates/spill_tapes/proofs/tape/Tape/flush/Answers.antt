@@ -1,16 +1,82 @@
-use Rattle.std.proofs.Common.{◌≡◌, ◌*◌, ◌++◌, ◌∷◌, [], length, ap, ◌∙◌, subst}
+use Rattle.std.proofs.Common.{◌≡◌, ◌*◌, ◌++◌, ◌∷◌, [], length, length-append, refl, sym, ap, ◌∙◌, subst, arith}
+use Rattle.std.proofs.lemmas.Result.{err_from_is_err_and}
 use Rattle.spill_tapes.specs.Disk.{AreLast}
+use Rattle.spill_tapes.specs.Pages.{IsBalanced, KeepsPages}
 use Rattle.spill_tapes.specs.Tape.{TapeState}
 use Rattle.spill_tapes.proofs.PageLaws.{flushed, keeps_pages}
+use Rattle.spill_tapes.proofs.TapeLaws.{same_now}
 use Rattle.spill_tapes.proofs.tape.Tape.flush.Goals as goal
 
-pub returns-clause-written : goal.returns-clause-written
-returns-clause-written g c =
-    let same : c.deref.result.now ≡ c.args.self.now.buffer = c.deref.ensures.value ∙ ap (λ (t : TapeState). t.buffer) c.self.view_is in
+pub returns-in_err-page : goal.returns-in_err-page
+returns-in_err-page g c =
+    let e = err_from_is_err_and c.from_residual.result c.from_residual.ensures.1 in
+    let pool = c.args.pool.now in let now = c.args.self.now in let view = c.self.view_is in let taken = c.in_err-page.ensures in
+    rw e.1 (record {
+      pool = taken.pool;
+      balanced = subst (λ (t : TapeState). IsBalanced pool t.pages c.take.new.self c.take.new.pages.items) view taken.balanced;
+      frees = taken.frees;
+      same = same_now _ now _ view refl refl refl;
+      read = ap (λ (t : TapeState). t.read) view;
+      keeps = λ _ _ _ _ _ _ had. had;
+      empty = tt;
+      longer = tt;
+      written = tt;
+      counted = tt;
+      writes = omega arith;
+      failures = omega arith;
+      fault = λ is. absurd (cc (is, e.2));
+      honesty = refl;
+    })
+
+pub returns-in_err-write_at : goal.returns-in_err-write_at
+returns-in_err-write_at g c =
+    let e = err_from_is_err_and c.from_residual-in_err-write_at.result c.from_residual-in_err-write_at.ensures.1 in let told = c.in_err-write_at.ensures in
+    let pool = c.args.pool.now in let now = c.args.self.now in let view = c.self.view_is in let page = c.in_ok-page.page in let taken = c.in_ok-page.ensures in
+    let last = g.D.TapeDisk.last c.args.disk.now in let last' = g.D.TapeDisk.last c.write_at.new.self in
+    let same : c.deref.result.now ≡ now.buffer = c.deref.ensures.value ∙ ap (λ (t : TapeState). t.buffer) view in
     let full : length c.deref.result.now ≡ 8192 = ap length same ∙ c.requires.full in
-    flushed (g.D.TapeDisk.last c.args.disk.now) (g.D.TapeDisk.last c.write_at.new.self) c.args.pool.now c.args.self.now _ c.in_ok-page.page c.requires.apart
-    (keeps_pages (g.D.TapeDisk.last c.args.disk.now) (g.D.TapeDisk.last c.write_at.new.self) c.args.pool.now c.in_ok-page.page (length c.deref.result.now) c.in_ok-page.ensures.fresh full c.in_ok-write_at.ensures.keeps)
-    c.requires.full
-    (subst (λ bs. AreLast (g.D.TapeDisk.last c.write_at.new.self) (c.in_ok-page.page * 8192) bs) same c.in_ok-write_at.ensures.written)
-    (c.in_ok-page.ensures.taken ∙ ap (λ (t : TapeState). t.pages ++ c.in_ok-page.page ∷ []) c.self.view_is)
-    c.clear.ensures.items
+    rw e.1 (record {
+      pool = taken.pool;
+      balanced = subst (λ (t : TapeState). IsBalanced pool t.pages c.take.new.self c.take.new.pages.items) view taken.balanced;
+      frees = taken.frees;
+      same = same_now _ now _ view refl refl refl;
+      read = ap (λ (t : TapeState). t.read) view;
+      keeps = keeps_pages last last' pool page (length c.deref.result.now) taken.fresh full told.keeps;
+      empty = tt;
+      longer = tt;
+      written = tt;
+      counted = tt;
+      writes = omega (arith, told.uncounted);
+      failures = told.failures;
+      fault = λ is. told.fault (sym e.2 ∙ is);
+      honesty = told.honesty;
+    })
+
+pub returns : goal.returns
+returns g c =
+    let told = c.in_ok-write_at.ensures in
+    let pool = c.args.pool.now in let now = c.args.self.now in let view = c.self.view_is in let page = c.in_ok-page.page in let taken = c.in_ok-page.ensures in
+    let last = g.D.TapeDisk.last c.args.disk.now in let last' = g.D.TapeDisk.last c.write_at.new.self in
+    let same : c.deref.result.now ≡ now.buffer = c.deref.ensures.value ∙ ap (λ (t : TapeState). t.buffer) view in
+    let full : length c.deref.result.now ≡ 8192 = ap length same ∙ c.requires.full in
+    let keeps : KeepsPages pool last last' = keeps_pages last last' pool page (length c.deref.result.now) taken.fresh full told.keeps in
+    record {
+      pool = taken.pool;
+      balanced = subst (λ (t : TapeState). IsBalanced pool t.pages c.take.new.self c.take.new.pages.items) view taken.balanced;
+      frees = taken.frees;
+      same = same_now _ now _ view refl refl refl;
+      read = ap (λ (t : TapeState). t.read) view;
+      keeps = keeps;
+      empty = c.clear.ensures.items;
+      longer = omega (arith, ap length taken.taken, length-append c.self.inside.pages.items (page ∷ []), ap (λ (t : TapeState). length t.pages) view);
+      written =
+          flushed last last' pool now _ page c.requires.apart keeps c.requires.full
+          (subst (λ bs. AreLast last' (page * 8192) bs) same told.written)
+          (taken.taken ∙ ap (λ (t : TapeState). t.pages ++ page ∷ []) view)
+          c.clear.ensures.items;
+      counted = told.counted;
+      writes = omega (arith, told.counted);
+      failures = told.failures;
+      fault = tt;
+      honesty = told.honesty;
+    }

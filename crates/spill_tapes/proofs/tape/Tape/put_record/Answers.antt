@@ -1,0 +1,58 @@
+use Rattle.std.proofs.Common.{◌++◌, length, sym, ap, ◌∙◌, arith}
+use Rattle.std.proofs.lemmas.Result.{err_from_is_err_and, IfErr-weaker}
+use Rattle.spill_tapes.specs.Records.{header_of}
+use Rattle.spill_tapes.proofs.HeaderLaws.{header_len}
+use Rattle.spill_tapes.proofs.PageLaws.{keeps_twice, written_parts}
+use Rattle.spill_tapes.proofs.PoolLaws.{balanced_twice, frees_twice, apart_after}
+use Rattle.spill_tapes.proofs.Results.{ok_with}
+use Rattle.spill_tapes.proofs.TapeLaws.{same_twice}
+use Rattle.spill_tapes.proofs.tape.Tape.put_record.Goals as goal
+
+pub put-requires-2 : goal.put-requires-2
+put-requires-2 g c = record {
+  pool = c.in_ok-put.ensures.pool;
+  apart = apart_after c.args.pool.now c.put.new.pool c.args.self.now.pages c.put.new.self.pages c.requires.apart c.in_ok-put.ensures.balanced;
+  small = c.in_ok-put.ensures.small;
+}
+
+pub returns-in_err-put : goal.returns-in_err-put
+returns-in_err-put g c =
+    let e = err_from_is_err_and c.from_residual.result c.from_residual.ensures.1 in let told = c.in_err-put.ensures in
+    rw e.1 (record {
+      pool = told.pool;
+      balanced = told.balanced;
+      frees = told.frees;
+      keeps = told.keeps;
+      same = told.same;
+      small = tt;
+      longer = tt;
+      written = tt;
+      counted = tt;
+      writes = told.writes;
+      failures = told.failures;
+      fault = λ is. told.fault (sym e.2 ∙ is);
+      honesty = told.honesty;
+    })
+
+pub returns : goal.returns
+returns g c =
+    let r = c.put-2.result in let first = c.in_ok-put.ensures in let told = c.put-2.ensures in
+    let pool = c.args.pool.now in let between = c.put.new.pool in let now = c.args.self.now in let tape = c.put.new.self in let after = c.put-2.new.self in
+    let bytes = c.args.bytes.now in let header = header_of c.args.header.hash c.args.header.tag c.args.header.len in
+    record {
+      pool = told.pool;
+      balanced = balanced_twice pool between c.put-2.new.pool now.pages tape.pages after.pages first.balanced told.balanced;
+      frees = frees_twice pool between c.put-2.new.pool first.frees told.frees;
+      keeps = keeps_twice (g.D.TapeDisk.last c.args.disk.now) (g.D.TapeDisk.last c.put.new.disk) (g.D.TapeDisk.last c.put-2.new.disk) pool between first.balanced.grows first.frees first.keeps told.keeps;
+      same = same_twice now tape after first.same told.same;
+      small = told.small;
+      longer = ok_with r (λ e. omega (arith, e, first.longer, ap length c.to_bytes.ensures, header_len c.args.header.hash c.args.header.tag c.args.header.len)) told.longer;
+      written = ok_with r
+          (λ f before had. written_parts (g.D.TapeDisk.last c.put-2.new.disk) after before c.to_bytes.result bytes (header ++ bytes) (ap (λ bs. bs ++ bytes) c.to_bytes.ensures) (f (before ++ c.to_bytes.result) (first.written before had)))
+          told.written;
+      counted = ok_with r (λ e. omega (arith, e, first.counted)) told.counted;
+      writes = omega (arith, first.writes, told.writes);
+      failures = omega (arith, first.failures, told.failures);
+      fault = IfErr-weaker r _ _ (λ error f is. omega (arith, f is, first.failures)) told.fault;
+      honesty = told.honesty ∙ first.honesty;
+    }
