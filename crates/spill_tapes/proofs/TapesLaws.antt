@@ -1,15 +1,18 @@
 -- All tapes.
-use Rattle.std.specs.Prelude.{◌≡◌, ◌≢◌, ℕ, ◌<◌, ◌≤◌, suc, zero, true, Option, List, [], ◌∷◌, ◌++◌, length, get_or}
+use Rattle.std.specs.Prelude.{◌≡◌, ◌≢◌, ℕ, ◌+◌, ◌<◌, ◌≤◌, suc, zero, Bool, true, false, Option, List, [], ◌∷◌, ◌++◌, length, get_or}
 use Rattle.std.specs.List.{sum_by}
 use Rattle.std.proofs.Math.ListN.{set}
 use Rattle.std.proofs.Common.{refl, sym, ◌∙◌, ap, subst, arith}
 use Rattle.std.proofs.lemmas.List.{get_or-set_same, get_or-set_other, get_or_past, get_or_default}
-use Rattle.std.proofs.lemmas.List.Sums.{sum_by-cons}
+use Rattle.std.proofs.lemmas.List.Sums.{sum_by-cons, sum_by-set}
 use Rattle.spill_tapes.specs.Disk.{Keeps}
 use Rattle.spill_tapes.specs.Records.{Record, tape_bytes}
-use Rattle.spill_tapes.specs.Pages.{times, IsApart, AreOn, KeepsPages}
-use Rattle.spill_tapes.specs.Tape.{TapeState, no_tape, tape_len, is_in, AreWritten, AreAhead, HasIn, Has, Gives}
-use Rattle.spill_tapes.specs.Tapes.{TapesState, tape_at, is_written, is_read, IsTape, KeepsOthers, AreTapes}
+use Rattle.spill_tapes.specs.Errors.{tape_error}
+use Rattle.spill_tapes.specs.Pages.{IsPool, times, IsApart, IsBalanced, AreOn, KeepsPages}
+use Rattle.spill_tapes.specs.Tape.{TapeState, no_tape, tape_len, is_in, IsGood, AreWritten, AreAhead, HasIn, Has, Gives}
+use Rattle.spill_tapes.specs.Tapes.{TapesState, tape_at, phase_of, is_written, is_read, IsTape, KeepsOthers, IsRefusal, AreTapes}
+use Rattle.spill_tapes.specs.declared.disk.DiskError.{DiskError}
+use Rattle.spill_tapes.specs.declared.disk.DiskError.TheVariants as disk
 use Rattle.spill_tapes.specs.declared.tape.Phase.{Phase}
 use Rattle.spill_tapes.specs.declared.tape.Phase.TheVariants.{Closed, Written, Read}
 use Rattle.spill_tapes.specs.declared.tape_id.TapeId.{TapeId}
@@ -102,16 +105,29 @@ is_reading Closed h = cc
 is_reading Written h = cc
 is_reading Read h = refl
 
-has_read : (last : ℕ → ℕ → Type 0) (t : TapeState) (rs : List Record) → t.phase ≡ Read → AreAhead last t rs → Has last t rs
+pub has_read : (last : ℕ → ℕ → Type 0) (t : TapeState) (rs : List Record) → t.phase ≡ Read → AreAhead last t rs → Has last t rs
 has_read last t rs phase had = subst (λ (ph : Phase). HasIn ph last t rs) (sym phase) had
 
-read_index : (ts : List TapeState) (i : ℕ) → is_in Read (get_or ts i no_tape).phase ≡ true → i < length ts
-read_index [] i h = cc
-read_index (t ∷ ts) zero h = omega arith
-read_index (t ∷ ts) (suc i) h = omega (arith, read_index ts i h)
+open_index : (ts : List TapeState) (i : ℕ) → (get_or ts i no_tape).phase ≢ Closed → i < length ts
+open_index [] i h = absurd (h refl)
+open_index (t ∷ ts) zero h = omega arith
+open_index (t ∷ ts) (suc i) h = omega (arith, open_index ts i h)
+
+pub open_within : (t s : TapesState) (tape : TapeId) → t ≡ s → phase_of s tape ≢ Closed → tape.index < length t.tapes
+open_within t s tape same is = open_index t.tapes tape.index (subst (λ (y : TapesState). phase_of y tape ≢ Closed) (sym same) is)
+
+-- the tape in a place
+pub slot_is : (t s : TapesState) (tape : TapeId) (y : TapeState) → t ≡ s → phase_of s tape ≢ Closed → y ≡ get_or t.tapes tape.index y → y ≡ tape_at t tape
+slot_is t s tape y same is at = at ∙ get_or_default t.tapes tape.index y no_tape (open_within t s tape same is)
+
+pub written_open : (phase : Phase) → phase ≡ Written → phase ≢ Closed
+written_open phase is e = cc (is, e)
+
+pub read_open : (phase : Phase) → phase ≡ Read → phase ≢ Closed
+read_open phase is e = cc (is, e)
 
 within : (t s : TapesState) (tape : TapeId) → t ≡ s → is_read s tape ≡ true → tape.index < length t.tapes
-within t s tape same read = read_index t.tapes tape.index (ap (λ (y : TapesState). is_in Read (tape_at y tape).phase) same ∙ read)
+within t s tape same read = open_within t s tape same (read_open (phase_of s tape) (is_reading (phase_of s tape) read))
 
 -- the tape that is read, and what is told of it
 pub read_ahead : (last : ℕ → ℕ → Type 0) (t s : TapesState) (tape : TapeId) (y : TapeState) (rs : List Record) → t ≡ s → is_read s tape ≡ true → y ≡ get_or t.tapes tape.index y → IsTape last s tape rs → AreAhead last y rs
@@ -143,3 +159,47 @@ pub bytes_written : (last : ℕ → ℕ → Type 0) (t : TapesState) (tape : Tap
 bytes_written last t tape rs written had =
     let here : AreWritten last (tape_at t tape) rs = subst (λ (ph : Phase). HasIn ph last (tape_at t tape) rs) (is_writing (tape_at t tape).phase written) had in
     sym (written_len last (tape_at t tape) (tape_bytes rs) here.bytes)
+
+-- the pages of a tape and the free ones
+pub fits_at : (t : TapesState) (i : ℕ) → AreTapes t → length t.pool.free + length (get_or t.tapes i no_tape).pages ≤ t.pool.count
+fits_at t i are = omega (arith, are.all, part_of (λ x. length x.pages) t.tapes i refl)
+
+-- what is true of each tape, with one in the place of another
+set_with : (P : TapeState → Type 0) (ts : List TapeState) (i j : ℕ) (x : TapeState) → P (get_or ts j no_tape) → P x → P (get_or (set ts i x) j no_tape)
+set_with P [] i j x there here = there
+set_with P (t ∷ ts) zero zero x there here = here
+set_with P (t ∷ ts) zero (suc j) x there here = there
+set_with P (t ∷ ts) (suc i) zero x there here = there
+set_with P (t ∷ ts) (suc i) (suc j) x there here = set_with P ts i j x there here
+
+pub tapes_put : (t s t' : TapesState) (tape : TapeId) (y x : TapeState) → t ≡ s → AreTapes t → phase_of s tape ≢ Closed → y ≡ tape_at t tape → t'.tapes ≡ set t.tapes tape.index x → IsPool t'.pool → IsBalanced t.pool y.pages t'.pool x.pages → x.phase ≢ Closed → (t'.is_dead ≡ false → (t.is_dead ≡ false) × IsGood x) → AreTapes t'
+tapes_put t s t' tape y x same are is slot put pool moved differ good =
+    let less : tape.index < length t.tapes = open_within t s tape same is in
+    let now : IsBalanced t.pool (tape_at t tape).pages t'.pool x.pages = subst (λ (z : TapeState). IsBalanced t.pool z.pages t'.pool x.pages) slot moved in
+    record {
+      pool = pool;
+      each = λ page. omega (arith, are.each page, now.each page, sum_by-set (λ z. times page z.pages) t.tapes tape.index x no_tape less, ap (sum_by (λ z. times page z.pages)) put);
+      all = omega (arith, are.all, now.all, sum_by-set (λ z. length z.pages) t.tapes tape.index x no_tape less, ap (sum_by (λ z. length z.pages)) put);
+      closed = λ j. subst (λ ts. (get_or ts j no_tape).phase ≡ Closed → (get_or ts j no_tape).pages ≡ []) (sym put)
+          (set_with (λ z. z.phase ≡ Closed → z.pages ≡ []) t.tapes tape.index j x (are.closed j) (λ e. absurd (differ e)));
+      good = λ alive j. subst (λ ts. IsGood (get_or ts j no_tape)) (sym put) (set_with IsGood t.tapes tape.index j x (are.good (good alive).0 j) (good alive).1);
+    }
+
+-- the phases of all tapes, where the phase of the one in the place is the same
+pub phases_kept : (t s t' : TapesState) (tape id : TapeId) (x : TapeState) → t ≡ s → t'.tapes ≡ set t.tapes tape.index x → x.phase ≡ phase_of s tape → phase_of t' id ≡ phase_of s id
+phases_kept t s t' tape id x same put phase =
+    ap (λ ts. (get_or ts id.index no_tape).phase) put ∙ same_phases t.tapes tape.index id.index x (phase ∙ sym (ap (λ (y : TapesState). phase_of y tape) same)) ∙ ap (λ (y : TapesState). phase_of y id) same
+
+pub put_at : (t s t' : TapesState) (tape : TapeId) (x : TapeState) → t ≡ s → phase_of s tape ≢ Closed → t'.tapes ≡ set t.tapes tape.index x → tape_at t' tape ≡ x
+put_at t s t' tape x same is put = ap (λ ts. get_or ts tape.index no_tape) put ∙ get_or-set_same t.tapes tape.index x no_tape (open_within t s tape same is)
+
+pub has_written : (last : ℕ → ℕ → Type 0) (t : TapeState) (rs : List Record) → t.phase ≡ Written → AreWritten last t rs → Has last t rs
+has_written last t rs phase had = subst (λ (ph : Phase). HasIn ph last t rs) (sym phase) had
+
+pub written_has : (last : ℕ → ℕ → Type 0) (t : TapeState) (rs : List Record) → t.phase ≡ Written → Has last t rs → AreWritten last t rs
+written_has last t rs phase had = subst (λ (ph : Phase). HasIn ph last t rs) phase had
+
+-- why a call was refused
+pub disk_refusal : (error : DiskError) (dead : Bool) (before after : ℕ) → dead ≡ false → (error ≡ disk.TapeFault → before < after) → IsRefusal dead before after (tape_error error)
+disk_refusal disk.NoMemory dead before after alive fault = alive
+disk_refusal disk.TapeFault dead before after alive fault = (alive, fault refl)
