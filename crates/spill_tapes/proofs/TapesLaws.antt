@@ -10,9 +10,11 @@ use Rattle.spill_tapes.specs.Records.{Record, tape_bytes}
 use Rattle.spill_tapes.specs.Errors.{tape_error}
 use Rattle.spill_tapes.specs.Pages.{IsPool, times, IsApart, IsBalanced, AreOn, KeepsPages}
 use Rattle.spill_tapes.specs.Tape.{TapeState, no_tape, tape_len, is_in, IsGood, AreWritten, AreAhead, HasIn, Has, Gives}
-use Rattle.spill_tapes.specs.Tapes.{TapesState, tape_at, phase_of, is_written, is_read, IsTape, KeepsOthers, IsRefusal, AreTapes}
+use Rattle.spill_tapes.specs.Tapes.{TapesState, tape_at, phase_of, is_written, is_read, IsTape, KeepsOthers, IsRefusal, IsReadRefusal, AreTapes}
 use Rattle.spill_tapes.specs.declared.disk.DiskError.{DiskError}
 use Rattle.spill_tapes.specs.declared.disk.DiskError.TheVariants as disk
+use Rattle.spill_tapes.specs.declared.error.TapeError.{TapeError}
+use Rattle.spill_tapes.specs.declared.error.TapeError.TheVariants as error
 use Rattle.spill_tapes.specs.declared.tape.Phase.{Phase}
 use Rattle.spill_tapes.specs.declared.tape.Phase.TheVariants.{Closed, Written, Read}
 use Rattle.spill_tapes.specs.declared.tape_id.TapeId.{TapeId}
@@ -203,3 +205,9 @@ written_has last t rs phase had = subst (λ (ph : Phase). HasIn ph last t rs) ph
 pub disk_refusal : (error : DiskError) (dead : Bool) (before after : ℕ) → dead ≡ false → (error ≡ disk.TapeFault → before < after) → IsRefusal dead before after (tape_error error)
 disk_refusal disk.NoMemory dead before after alive fault = alive
 disk_refusal disk.TapeFault dead before after alive fault = (alive, fault refl)
+
+pub read_refusal : (e : TapeError) (dead : Bool) (before after : ℕ) → dead ≡ false → e ≢ error.TapesDead → (e ≡ error.TapeFault → before < after) → IsReadRefusal dead before after e
+read_refusal error.NoMemory dead before after alive differ fault = alive
+read_refusal error.TapeFault dead before after alive differ fault = (alive, fault refl)
+read_refusal error.TapeDamaged dead before after alive differ fault = alive
+read_refusal error.TapesDead dead before after alive differ fault = absurd (differ refl)
