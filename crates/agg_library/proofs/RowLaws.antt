@@ -1,21 +1,28 @@
 -- Rows of states, part by part.
-use Rattle.std.proofs.Common.{◌≡◌, refl, ℕ, zero, suc, ◌+◌, Some, slice_get, slice_set, unwrap_or, append_assoc, List, [], ◌∷◌, ◌++◌, length, take, drop, sym, ap, subst, ◌∙◌, arith}
+use Rattle.std.proofs.Common.{◌≡◌, refl, ℕ, zero, suc, ◌+◌, Some, ◌≤◌, ◌<◌, slice_get, slice_set, unwrap_or, append_assoc, List, [], ◌∷◌, ◌++◌, length, take, drop, sym, ap, subst, ◌∙◌, arith}
 use Rattle.std.proofs.Math.Seq.{take-append_seam, drop-append_seam, take-add}
-use Rattle.std.proofs.lemmas.List.{drop-drop}
+use Rattle.std.proofs.lemmas.List.{drop-drop, length-take}
 use Rattle.std.proofs.lemmas.List.Sums.{sum_by-cons}
-use Rattle.std.specs.Prelude.{Result, Ok, Err, OnOk}
+use Rattle.std.specs.Prelude.{Result, Ok, Err, OnOk, OnErr}
 use Rattle.grouping_model.specs.Aggregates.{Partial}
 use Rattle.grouping_model.specs.Combining.{combine, combine_all}
 use Rattle.agg_protocol.specs.States as states
+use Rattle.agg_protocol.specs.States.{rows_of}
 use Rattle.agg_library.specs.declared.kind.AggKind.{AggKind}
+use Rattle.agg_library.specs.declared.kind.AggKind.TheVariants.{CountRows, Count, Sum, Min, Max, BitAnd, BitOr, BitXor, BoolAnd, BoolOr, Every}
 use Rattle.agg_library.specs.Kinds.{function_of, functions_of, kind_shape, kind_width, row_width}
-use Rattle.agg_library.specs.StateRows.{Denotes, with_part}
+use Rattle.agg_library.specs.StateRows.{Denotes, AllWithin, with_part}
 use Rattle.agg_protocol.proofs.Denoting.{width_known}
 
 -- a fact on success, from another
 pub on_ok : {X E P Q : Type 0} (r : Result X E) → (P → Q) → OnOk r P → OnOk r Q
 on_ok (Ok x) f h = f h
 on_ok (Err e) f h = tt
+
+-- a fact on an error, from another
+pub on_error : {X E P Q : Type 0} (r : Result X E) → (P → Q) → OnErr r P → OnErr r Q
+on_error (Ok x) f h = tt
+on_error (Err e) f h = f h
 
 -- no states at all
 pub denotes_end : (m : ℕ) (kinds : List AggKind) (row : List ℕ) → kinds ≡ [] → row ≡ [] → Denotes m kinds row []
@@ -26,6 +33,64 @@ pub denotes_cons : (m : ℕ) (kind : AggKind) (kinds ks : List AggKind) (row fro
     → states.Denotes m (kind_shape kind) front p → Denotes m ks back ps → Denotes m kinds row (p ∷ ps)
 denotes_cons m kind kinds ks row front back p ps e ef eb d ds =
     subst (λ k. Denotes m k row (p ∷ ps)) (sym e) (subst (λ b. states.Denotes m (kind_shape kind) b p) ef d, subst (λ b. Denotes m ks b ps) eb ds)
+
+-- of no states there are no bytes
+pub denotes_nothing : (m : ℕ) (kinds : List AggKind) (row : List ℕ) → kinds ≡ [] → (ps : List Partial) → Denotes m kinds row ps → row ≡ []
+denotes_nothing m kinds row e [] d = subst (λ ks. Denotes m ks row []) e d
+denotes_nothing m kinds row e (p ∷ ps) d = absurd (subst (λ ks. Denotes m ks row (p ∷ ps)) e d)
+
+-- what is denoted has a first part and a rest
+pub denotes_split : (m : ℕ) (kind : AggKind) (kinds ks : List AggKind) (row front back : List ℕ) → kinds ≡ kind ∷ ks → front ≡ take (kind_width kind) row → back ≡ drop (kind_width kind) row → (ps : List Partial) → Denotes m kinds row ps
+    → (p : Partial) × (rest : List Partial) × states.Denotes m (kind_shape kind) front p × Denotes m ks back rest
+denotes_split m kind kinds ks row front back e ef eb [] d = absurd (subst (λ k. Denotes m k row []) e d)
+denotes_split m kind kinds ks row front back e ef eb (p ∷ ps) d =
+    let parts = subst (λ k. Denotes m k row (p ∷ ps)) e d in
+    (p, ps, subst (λ b. states.Denotes m (kind_shape kind) b p) (sym ef) parts.0, subst (λ b. Denotes m ks b ps) (sym eb) parts.1)
+
+-- a row that is too short denotes nothing
+pub short_row : (m : ℕ) (kind : AggKind) (kinds ks : List AggKind) (row : List ℕ) → kinds ≡ kind ∷ ks → length row < kind_width kind → (ps : List Partial) → Denotes m kinds row ps → ⊥
+short_row m kind kinds ks row e short ps d =
+    let parts = denotes_split m kind kinds ks row (take (kind_width kind) row) (drop (kind_width kind) row) e refl refl ps d in
+    let wide = width_known m (kind_shape kind) (take (kind_width kind) row) parts.0 parts.2 in
+    omega (arith, length-take (kind_width kind) row)
+
+-- the same of two rows, where no state of both counts too many rows
+pub both_split : (m : ℕ) (kind : AggKind) (kinds ks : List AggKind) (into into_front into_back from from_front from_back : List ℕ) → kinds ≡ kind ∷ ks
+    → into_front ≡ take (kind_width kind) into → into_back ≡ drop (kind_width kind) into → from_front ≡ take (kind_width kind) from → from_back ≡ drop (kind_width kind) from
+    → (ps qs : List Partial) → Denotes m kinds into ps → Denotes m kinds from qs → AllWithin m (combine_all (functions_of kinds) ps qs)
+    → (p q : Partial) × (ps qs : List Partial) × states.Denotes m (kind_shape kind) into_front p × states.Denotes m (kind_shape kind) from_front q × (rows_of (combine (function_of kind) p q) ≤ m)
+    × Denotes m ks into_back ps × Denotes m ks from_back qs × AllWithin m (combine_all (functions_of ks) ps qs)
+both_split m kind kinds ks into a b from x y e ea eb ex ey [] qs d ds few = absurd (subst (λ k. Denotes m k into []) e d)
+both_split m kind kinds ks into a b from x y e ea eb ex ey (p ∷ ps) [] d ds few = absurd (subst (λ k. Denotes m k from []) e ds)
+both_split m kind kinds ks into a b from x y e ea eb ex ey (p ∷ ps) (q ∷ qs) d ds few =
+    let dp = subst (λ k. Denotes m k into (p ∷ ps)) e d in
+    let dq = subst (λ k. Denotes m k from (q ∷ qs)) e ds in
+    let all = subst (λ k. AllWithin m (combine_all (functions_of k) (p ∷ ps) (q ∷ qs))) e few in (
+      p,
+      q,
+      ps,
+      qs,
+      subst (λ t. states.Denotes m (kind_shape kind) t p) (sym ea) dp.0,
+      subst (λ t. states.Denotes m (kind_shape kind) t q) (sym ex) dq.0,
+      all.0,
+      subst (λ t. Denotes m ks t ps) (sym eb) dp.1,
+      subst (λ t. Denotes m ks t qs) (sym ey) dq.1,
+      all.1,
+    )
+
+-- no state of a kind is wider than a sum's
+pub widest : (kind : AggKind) → kind_width kind ≤ 24
+widest CountRows = omega arith
+widest Count = omega arith
+widest Sum = omega arith
+widest Min = omega arith
+widest Max = omega arith
+widest BitAnd = omega arith
+widest BitOr = omega arith
+widest BitXor = omega arith
+widest BoolAnd = omega arith
+widest BoolOr = omega arith
+widest Every = omega arith
 
 -- the same of a first part and a rest that were written
 pub combined_cons : (m : ℕ) (kind : AggKind) (kinds ks : List AggKind) (front back : List ℕ) (p q : Partial) (ps qs : List Partial) → kinds ≡ kind ∷ ks
