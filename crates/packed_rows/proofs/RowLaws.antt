@@ -1,12 +1,12 @@
 -- Rows that are read or unpacked value by value.
-use Rattle.std.specs.Prelude.{◌≡◌, ◌≢◌, ℕ, ◌+◌, ◌<◌, List, [], ◌∷◌, ◌++◌, length, take, drop, Contains, slice_index_or, Result, Ok, Err, IsErr, OnErr, MatchResult}
+use Rattle.std.specs.Prelude.{◌≡◌, ◌≢◌, ℕ, ◌+◌, ◌<◌, ◌≤◌, List, [], ◌∷◌, ◌++◌, length, take, drop, Contains, slice_index_or, Result, Ok, Err, IsErr, OnErr, MatchResult}
 use Rattle.std.proofs.Common.{refl, sym, ◌∙◌, ap, subst, arith, append_assoc, append-nil}
 use Rattle.grouping_model.specs.Datum.{Datum, Kind, Row, IsText, HasKind, HasKinds, null_field, Bigint_kind}
 use Rattle.packed_rows.specs.Field.{IsTextField}
 use Rattle.std.proofs.lemmas.List.Elements.{Contains-append_right}
 use Rattle.std.proofs.lemmas.List.Concat.{flat_map-append}
 use Rattle.packed_rows.specs.Packing.{value_packing, packing}
-use Rattle.std.proofs.lemmas.List.{map_push, take_more, take_all, drop_more, get_or-map, length-map}
+use Rattle.std.proofs.lemmas.List.{map_push, take_more, take_all, drop_more, drop_all, get_or-map, length-map}
 use Rattle.packed_rows.specs.Field.{Reads, ReadsRow, IsBadField, IsLeftmostBad}
 use Rattle.packed_rows.specs.declared.value.Value.{Value}
 use Rattle.packed_rows.specs.declared.value.ValueKind.{ValueKind}
@@ -85,6 +85,25 @@ pub kind_unpacked : (ks : List ValueKind) (i : ℕ) (d : ValueKind) (bytes : Lis
 kind_unpacked ks i d bytes values value rest after h u p e =
     let u' = subst (λ (left : List Kind). Unpacked (kinds_of ks) left bytes (row_of values) rest) (kinds_left ks i d h) u in
     subst (λ (row : Row). Unpacked (kinds_of ks) (kinds_of (drop (i + 1) ks)) bytes row after) (sym (map_push datum_of values value)) (goes_on (kinds_of ks) (kinds_of (drop (i + 1) ks)) (kind_of (slice_index_or ks i d)) bytes (row_of values) (datum_of value) rest after u' p e)
+
+-- rows that are refused: no value of the next kind is in front of what is left, or more is left when no kind is
+pub kind_missing : (ks : List ValueKind) (i : ℕ) (d : ValueKind) (bytes : List ℕ) (row : Row) (rest : List ℕ) → i < length ks → Unpacked (kinds_of ks) (kinds_of (drop i ks)) bytes row rest
+    → ((value : Datum) (after : List ℕ) → HasKind (kind_of (slice_index_or ks i d)) value → rest ≢ value_packing value ++ after) → (whole : Row) → HasKinds (kinds_of ks) whole → bytes ≢ packing whole
+kind_missing ks i d bytes row rest h u none whole p = λ e.
+    let u' = subst (λ (left : List Kind). Unpacked (kinds_of ks) left bytes row rest) (kinds_left ks i d h) u in
+    missing row whole (kind_of (slice_index_or ks i d)) (kinds_of (drop (i + 1) ks)) rest none (u'.only whole p e)
+
+pub rest_known : (ks : List ValueKind) (i : ℕ) (bytes : List ℕ) (row : Row) (rest : List ℕ) → length ks ≤ i → Unpacked (kinds_of ks) (kinds_of (drop i ks)) bytes row rest → Unpacked (kinds_of ks) [] bytes row rest
+rest_known ks i bytes row rest h u = subst (λ (left : List ValueKind). Unpacked (kinds_of ks) (kinds_of left) bytes row rest) (drop_all i ks h) u
+
+pub more_left : (kinds : List Kind) (bytes : List ℕ) (row : Row) (rest : List ℕ) → Unpacked kinds [] bytes row rest → rest ≢ [] → (whole : Row) → HasKinds kinds whole → bytes ≢ packing whole
+more_left kinds bytes row rest u more whole p = λ e. ended row whole rest more (u.only whole p e)
+
+pub none_left : (kinds : List Kind) (bytes : List ℕ) (row : Row) (rest : List ℕ) → Unpacked kinds [] bytes row rest → rest ≡ [] → HasKinds kinds row × (bytes ≡ packing row)
+none_left kinds bytes row rest u none = (
+  subst (λ (front : List Kind). HasKinds front row) (sym (u.parts ∙ append-nil u.front)) u.packable,
+  u.spelled ∙ ap (λ (w : List ℕ). packing row ++ w) none ∙ append-nil (packing row),
+)
 
 -- ---- fields that are read one after another
 
