@@ -1,13 +1,41 @@
-use Rattle.std.specs.Prelude.{◌≡◌, ◌+◌, ◌∷◌, ◌++◌, map, take, drop, Some, option_map}
-use Rattle.std.proofs.Common.{sym, ◌∙◌, ap, subst, rules}
-use Rattle.std.proofs.lemmas.Result.{on_ok_weaker, on_err_weaker}
+use Rattle.std.specs.Prelude.{◌≡◌, ℕ, ◌+◌, List, [], ◌∷◌, ◌++◌, length, map, take, drop, Some, option_map, ◌==◌, Result, Ok, Err, OnErr}
+use Rattle.std.proofs.Common.{sym, ◌∙◌, ap, subst, arith, rules}
+use Rattle.std.proofs.lemmas.Bool.{eqb-true}
+use Rattle.std.proofs.lemmas.List.{length-take}
+use Rattle.std.proofs.lemmas.Result.{on_ok_weaker, on_err_weaker, IfOk-from_err}
 use Rattle.packed_rows.specs.View.{row_of}
+use Rattle.grouping_model.specs.Datum.{Row}
+use Rattle.grouping_model.specs.Aggregates.{Partial}
 use Rattle.grouping_model.specs.Query.{Aggregate, Query}
 use Rattle.grouping_model.specs.Parts.{advanced}
+use Rattle.agg_protocol.proofs.Denoting.{width_known}
+use Rattle.agg_library.specs.declared.kind.AggKind.{AggKind}
+use Rattle.agg_library.specs.Kinds.{kind_shape, kind_width}
 use Rattle.agg_library.specs.StateRows.{Denotes}
 use Rattle.having_filter.specs.Meaning.{meaning}
-use Rattle.group_runs.proofs.StateLaws.{parted, first_named, dropped, joined}
+use Rattle.group_runs.proofs.StateLaws.{first_and_rest, parted, first_named, dropped, joined}
+use Rattle.group_runs.proofs.ChunkLaws.{none_there}
 use Rattle.group_runs.proofs.states.+advance_from.Goals as goal
+
+-- the states of no aggregates are no bytes
+none_left : (m : ℕ) (kinds : List AggKind) (bytes : List ℕ) (ps : List Partial) → length kinds ≡ 0 → Denotes m kinds bytes ps → bytes ≡ []
+none_left m [] bytes [] none d = d
+none_left m [] bytes (p ∷ ps) none d = absurd d
+none_left m (kind ∷ kinds) bytes ps none d = absurd (omega (arith, none))
+
+none_moved : (calls : List Aggregate) (kinds : List AggKind) (bytes : List ℕ) (row : Row) (m : ℕ) (ps : List Partial) → length kinds ≡ 0 → Denotes m kinds bytes ps → Denotes (m + 1) kinds bytes (advanced calls ps row)
+none_moved [] [] bytes row m [] none d = d
+none_moved (call ∷ calls) [] bytes row m [] none d = d
+none_moved calls [] bytes row m (p ∷ ps) none d = absurd d
+none_moved calls (kind ∷ kinds) bytes row m ps none d = absurd (omega (arith, none))
+
+none_within : (m : ℕ) (kinds : List AggKind) (bytes : List ℕ) → length kinds ≡ 0 → bytes ≡ [] → Denotes m kinds bytes []
+none_within m [] bytes none e = e
+none_within m (kind ∷ kinds) bytes none e = absurd (omega (arith, none))
+
+refused_by : {T E P : Type 0} (r : Result T E) → P → OnErr r P
+refused_by (Ok x) p = tt
+refused_by (Err e) p = p
 
 pub advance_one-requires-clause-kind : goal.advance_one-requires-clause-kind
 advance_one-requires-clause-kind t c =
@@ -55,3 +83,48 @@ returns-clause-refused t c =
     (c.split_at_mut-part.ensures.front ∙ ap (λ n. take n c.args.states.now) c.width-2.ensures) (c.split_at_mut-part.ensures.back ∙ ap (λ n. drop n c.args.states.now) c.width-2.ensures) room.2 in
     refused (room.0, parts.1, parts.4, room.3))
     c.advance_from.ensures.refused
+
+pub returns-then-is_empty : goal.returns-then-is_empty
+returns-then-is_empty t c =
+    let none = c.in_default.ensures.cases in
+    record {
+      moved = λ most ps low denoted. none_moved (drop c.args.place (meaning c.args.query.now).aggregates) c.args.kinds.now c.args.states.now (row_of c.args.row.now) most ps none denoted;
+      within = ([], none_within c.args.most c.args.kinds.now c.args.states.now none (none_there c.args.states.now (eqb-true (length c.args.states.now) 0 (sym c.is_empty.ensures ∙ c.if-is_empty.true))));
+      refused = tt;
+    }
+
+pub returns-else-is_empty : goal.returns-else-is_empty
+returns-else-is_empty t c =
+    record {
+      moved = tt;
+      within = tt;
+      refused = λ room.
+          let none = none_left room.0 c.args.kinds.now c.args.states.now room.1 c.in_default.ensures.cases room.2 in
+          let empty = c.is_empty.ensures ∙ ap (λ (bytes : List ℕ). length bytes == 0) none in
+          let other = c.if-is_empty.false in
+          cc;
+    }
+
+pub returns-then-states-width : goal.returns-then-states-width
+returns-then-states-width t c =
+    record {
+      moved = tt;
+      within = tt;
+      refused = λ room.
+          let kind = c.in-Some.kind.now in let bytes = c.args.states.now in
+          let parts = first_and_rest room.0 kind c.in-Some.kinds.now bytes room.1 (subst (λ kinds. Denotes room.0 kinds bytes room.1) c.in-Some.ensures.cases.0 room.2) in
+          let wide = width_known room.0 (kind_shape kind) (take (kind_width kind) bytes) parts.0 parts.3 in
+          let taken = length-take (kind_width kind) bytes in
+          omega (arith, wide, taken);
+    }
+
+pub returns-in_err-advance_one : goal.returns-in_err-advance_one
+returns-in_err-advance_one t c =
+    record {
+      moved = IfOk-from_err c.from_residual.result _ c.from_residual.ensures.0;
+      within = IfOk-from_err c.from_residual.result _ c.from_residual.ensures.0;
+      refused = refused_by c.from_residual.result (λ room.
+          let parts = parted room.0 c.in-Some.kind.now c.in-Some.kinds.now c.args.kinds.now c.args.states.now c.split_at_mut-part.result.0.now c.split_at_mut-part.result.1.now room.1 c.in-Some.ensures.cases.0
+          (c.split_at_mut-part.ensures.front ∙ ap (λ n. take n c.args.states.now) c.width-2.ensures) (c.split_at_mut-part.ensures.back ∙ ap (λ n. drop n c.args.states.now) c.width-2.ensures) room.2 in
+          c.in_err-advance_one.ensures.refused room.0 parts.0 room.3 parts.3);
+    }
