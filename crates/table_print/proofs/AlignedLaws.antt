@@ -66,6 +66,12 @@ longer_line f separator xs n d old line new within is more =
     more ∙ append_assoc line (if n == 0 then [] else separator) (f (get_or xs n d)) ∙ ap (λ l. l ++ piece) is ∙ append_assoc old (join_by f separator (take n xs)) piece
     ∙ ap (λ l. old ++ l) (sym (one_more_piece f separator xs n d within))
 
+-- a line of all its pieces
+pub whole_line : {A : Type 0} (f : A → List ℕ) (separator : List ℕ) (xs : List A) (n : ℕ) (old line new : List ℕ) → length xs ≤ n
+    → line ≡ old ++ join_by f separator (take n xs) → new ≡ line ++ codes "\n" → new ≡ old ++ (join_by f separator xs ++ codes "\n")
+whole_line f separator xs n old line new all is ends =
+    ends ∙ ap (λ l. l ++ codes "\n") (is ∙ ap (λ ys. old ++ join_by f separator ys) (take_all n xs all)) ∙ append_assoc old (join_by f separator xs) (codes "\n")
+
 -- what a column is where there is none
 abbrev pub no_column : Column
 no_column = record { side = Left; width = 0 }
@@ -89,8 +95,8 @@ longer_row columns cells n cell old line new within same here is more =
 pub whole_row : (columns : List Column) (cells : List (List ℕ)) (n : ℕ) (old line new : List ℕ) → length columns ≤ n
     → line ≡ old ++ joined_cells (take n (zip columns cells)) → new ≡ line ++ codes "\n" → new ≡ old ++ aligned_line columns cells
 whole_row columns cells n old line new all is ends =
-    let every : take n (zip columns cells) ≡ zip columns cells = take_all n (zip columns cells) (omega (arith, length-zip columns cells)) in
-    ends ∙ ap (λ l. l ++ codes "\n") (is ∙ ap (λ pairs. old ++ joined_cells pairs) every) ∙ append_assoc old (joined_cells (zip columns cells)) (codes "\n")
+    let every : length (zip columns cells) ≤ n = omega (arith, length-zip columns cells) in
+    whole_line (λ (pair : Column × List ℕ). padded pair.0 pair.1) (codes " | ") (zip columns cells) n old line new every is ends
 
 -- the longest of one cell more
 longer_cells : (cells : List (List ℕ)) (cell : List ℕ) → longest (cells ++ cell ∷ []) ≡ max (longest cells) (char_count cell)
@@ -161,11 +167,14 @@ CodeItem = Item ℕ × Option (String Global)
 abbrev pub written_item : CodeItem → Form ℕ × Option (List ℕ)
 written_item item = (item_form item.0, option_map string_bytes item.1)
 
+pub length-written : (q : Checked) (items : List CodeItem) → places_of items ≡ q.written.items → length items ≡ length q.written.items
+length-written q items places = sym (length-map items written_item) ∙ ap length places
+
 pub side_at : (q : Checked) (items : List CodeItem) (n : ℕ) (d : CodeItem) → places_of items ≡ q.written.items → n < length q.written.items
     → slice_get (sides q) n ≡ Some (side_of (kind_of_form (kinds q.columns) (item_form (get_or items n d).0)))
 side_at q items n d places within =
     let f = λ (item : Form ℕ × Option (List ℕ)). side_of (kind_of_form (kinds q.columns) item.0) in
-    let there : n < length items = omega (arith, ap length places, length-map items written_item) in
+    let there : n < length items = omega (arith, length-written q items places) in
     let at : get_or q.written.items n (written_item d) ≡ written_item (get_or items n d)
     = ap (λ (is : List (Form ℕ × Option (List ℕ))). get_or is n (written_item d)) (sym places) ∙ get_or-map written_item items n d (written_item d) there in
     slice_get-get_or (sides q) n Left (omega (arith, length-sides q))

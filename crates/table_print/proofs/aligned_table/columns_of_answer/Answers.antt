@@ -1,10 +1,26 @@
-use Rattle.std.proofs.Common.{ℕ, List, ◌≡◌, ◌≤◌, ◌∙◌, [], ◌∷◌, ◌++◌, ap, arith, length, map, sym, take}
-use Rattle.std.proofs.lemmas.List.{length-map, take_all}
+use Rattle.std.proofs.Common.{ℕ, List, ◌<◌, ◌≤◌, ◌∙◌, [], ◌∷◌, ◌++◌, ap, arith, length, map, subst, sym, take}
+use Rattle.std.proofs.lemmas.List.{take_all}
 use Rattle.having_filter.specs.Kept.{headers}
 use Rattle.table_print.specs.Aligned.{columns_of, header_cells, row_cells, sides}
 use Rattle.table_print.specs.declared.aligned_table.Column.{Column}
-use Rattle.table_print.proofs.AlignedLaws.{length-columns_of, length-sides, one_more_column, written_item}
+use Rattle.table_print.proofs.AlignedLaws.{length-columns_of, length-items, length-sides, length-written, one_more_column}
 use Rattle.table_print.proofs.aligned_table.columns_of_answer.Goals as goal
+
+pub side_of_item-side-requires : goal.side_of_item-side-requires
+side_of_item-side-requires c =
+    subst (λ (n : ℕ). c.loop-item.item < n) (length-written c.args.query.now c.items-item-end.result.now c.items-item-end.ensures) c.loop-item-test.true
+
+pub header-requires : goal.header-requires
+header-requires c =
+    subst (λ (n : ℕ). c.loop-item.item < n) (length-written c.args.query.now c.items-item-end.result.now c.items-item-end.ensures) c.loop-item-test.true
+
+pub width_of_column-requires : goal.width_of_column-requires
+width_of_column-requires c = λ k d within.
+    let items = length-written c.args.query.now c.items-item-end.result.now c.items-item-end.ensures in
+    subst (λ (n : ℕ). c.loop-item.item < n) (items ∙ sym (c.requires k d within ∙ length-items c.args.query.now)) c.loop-item-test.true
+
+pub loop-item-init : goal.loop-item-init
+loop-item-init c = c.new-columns.ensures.items
 
 pub loop-item-preserved : goal.loop-item-preserved
 loop-item-preserved c =
@@ -21,7 +37,6 @@ pub returns : goal.returns
 returns c =
     let q = c.args.query.now in
     let lines = header_cells (headers q) ∷ map row_cells c.args.answer.now in
-    let items = c.items-item-end.result.now in
-    let many : length items ≡ length q.written.items = sym (length-map items written_item) ∙ ap length c.items-item-end.ensures in
+    let many = length-written q c.items-item-end.result.now c.items-item-end.ensures in
     let all : length (columns_of (sides q) lines) ≤ c.loop-item.item = omega (arith, length-columns_of (sides q) lines, length-sides q, many, c.loop-item-test.false) in
     c.loop-item.invariant ∙ take_all c.loop-item.item (columns_of (sides q) lines) all

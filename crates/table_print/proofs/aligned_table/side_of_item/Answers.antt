@@ -1,10 +1,13 @@
-use Rattle.std.proofs.Common.{◌∙◌, Some, ap, get_or, sym}
+use Rattle.std.proofs.Common.{ℕ, ◌<◌, ◌∙◌, Some, ap, get_or, subst, sym}
 use Rattle.packed_rows.specs.Columns.{kinds}
 use Rattle.query_checks.specs.Checks.{kind_of_form}
 use Rattle.query_checks.specs.Forms.{item_form}
 use Rattle.table_print.specs.Aligned.{side_of}
-use Rattle.table_print.proofs.AlignedLaws.{side_at}
+use Rattle.table_print.proofs.AlignedLaws.{length-written, side_at}
 use Rattle.table_print.proofs.aligned_table.side_of_item.Goals as goal
+
+pub bounds-items-item : goal.bounds-items-item
+bounds-items-item c = subst (λ (n : ℕ). c.args.item < n) (sym (length-written c.args.query.now c.items.result.now c.items.ensures)) c.requires
 
 pub returns : goal.returns
 returns c =
