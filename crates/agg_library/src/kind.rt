@@ -35,7 +35,7 @@ pub enum AggKind {
 }
 
 /// What a function's parentheses take.
-#[derive(Clone, Copy, Debug, PartialEq, Eq)]
+#[derive(Clone, Copy, PartialEq, Eq)]
 pub enum Argument {
     /// `*`: each row.
     EachRow,
@@ -46,7 +46,7 @@ pub enum Argument {
 }
 
 /// A function by its name, its argument, its result and the width of its states.
-#[derive(Clone, Copy, Debug)]
+#[derive(Clone, Copy)]
 pub struct Signature {
     /// Its name in a query, and the name of its result's column.
     pub name: &'static str,

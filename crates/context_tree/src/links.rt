@@ -17,7 +17,7 @@ pub struct ContextId {
 }
 
 /// What a tree keeps of a context beside the context itself.
-#[derive(Clone, Copy, Debug, PartialEq, Eq)]
+#[derive(Clone, Copy)]
 pub struct Link {
     /// The stamp that it was made with.
     pub stamp: u64,

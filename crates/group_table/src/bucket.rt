@@ -9,7 +9,7 @@ use chunk_layout::ChunkName;
 pub(crate) const BUCKET: usize = 32;
 
 /// What a bucket in use tells of a group: where its key and its state lie, and the hash of its key.
-#[derive(Clone, Copy, Debug, PartialEq, Eq)]
+#[derive(Clone, Copy)]
 pub(crate) struct Bucket {
     pub(crate) key: ChunkName,
     pub(crate) state: ChunkName,

@@ -21,7 +21,7 @@ use query_checks::{AggCall, Cond, Item, Mapping, Parts, is_same_call, mapped_cla
 use std::alloc::{AllocError, Global};
 
 /// Where a value of a group is found: its keys or the results of its aggregates, the first of either being 0.
-#[derive(Clone, Copy, Debug, PartialEq, Eq)]
+#[derive(Clone, Copy)]
 pub enum Source {
     /// A column of GROUP BY, by its place there.
     Key(usize),

@@ -28,7 +28,7 @@ pub enum Symbol {
 }
 
 /// What a token says.
-#[derive(Debug, Drop)]
+#[derive(Drop)]
 pub enum Word {
     /// A name or a key word, in lower case: 1 to 63 bytes of ASCII, a letter or `_` and then letters, digits and `_`.
     Name(String),
@@ -41,7 +41,7 @@ pub enum Word {
 }
 
 /// A token and where it stands.
-#[derive(Debug, Drop)]
+#[derive(Drop)]
 pub struct Token {
     /// The place of its first byte, counted in bytes from 0. An integer begins at its minus sign, a string at its
     /// quote.

@@ -13,7 +13,7 @@ use script_io::{field, read_limit, read_row_count};
 use std::str;
 
 /// What a command asks. Names are 1 to 63 ASCII letters, digits or `_`.
-#[derive(Clone, Copy, Debug, PartialEq, Eq)]
+#[derive(Clone, Copy)]
 pub enum Request<'c> {
     /// `columns,SCHEMA`: the columns of the rows.
     Columns(&'c str),

@@ -23,7 +23,7 @@ const LISTS: usize = 16;
 const LAST_LEVEL: u32 = 8;
 
 /// A list: its tape, how many records there are on it, and how deep the pass is that is to read them.
-#[derive(Clone, Copy, Debug, PartialEq, Eq)]
+#[derive(Clone, Copy)]
 struct OnTape {
     tape: TapeId,
     records: u64,

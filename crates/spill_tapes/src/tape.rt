@@ -20,7 +20,7 @@ use std::marker::Model;
 const PAGE: usize = 8192;
 
 /// What is done with a tape.
-#[derive(Clone, Copy, Debug, PartialEq, Eq)]
+#[derive(Clone, Copy, PartialEq, Eq)]
 pub(crate) enum Phase {
     /// Nothing: it is not open.
     Closed,
