@@ -35,11 +35,20 @@ impl Model for Chunk {
     ghost invariant = { λ r. AreRun r.keys.items r.states.items r.ends.items };
 }
 
-/// Room for so many and so many. It is rounded up, so that chunks which grow little by little ask for blocks of few sizes, and
-/// an allocator can give them those that they gave back.
+/// Room for so many and so many. It is rounded up by a quarter at most, so that chunks which grow little by little ask for blocks of few
+/// sizes, four between a power of two and the next, and an allocator can give them those that they gave back.
 fn room_for(one: usize, other: usize) -> usize {
     let both = one.saturating_add(other);
-    both.checked_next_power_of_two().unwrap_or(both)
+    let step = both.checked_next_power_of_two().unwrap_or(0) / 8;
+    both.checked_next_multiple_of(step).unwrap_or(both) // A step of 0 has no multiple that is more.
+}
+
+/// How many bytes more groups take that are as long as some are on average.
+fn bytes_of(more: usize, bytes: usize, groups: usize) -> usize {
+    if groups == 0 {
+        return 0;
+    }
+    more.saturating_mul(bytes.div_ceil(groups))
 }
 
 /// Where the first groups, so many of them, end.
@@ -163,7 +172,8 @@ impl Chunk {
         Ok(Chunk { keys, states, ends })
     }
 
-    /// A chunk of no groups that has room for those of another and for so many more. The only error is a failed allocation.
+    /// A chunk of no groups that has room for those of another and for so many more of their length. The only error is a failed
+    /// allocation.
     pub(crate) fn with_room_of(
         alloc: Global,
         other: &Chunk,
@@ -171,11 +181,15 @@ impl Chunk {
     ) -> Result<Chunk, AllocError>
         ensures { IfOk result (λ chunk. chunk ≡ []) }
     {
+        let groups = other.ends.len();
         Chunk::with_capacity(
             alloc,
-            room_for(other.ends.len(), more),
-            room_for(other.keys.len(), more),
-            room_for(other.states.len(), more),
+            room_for(groups, more),
+            room_for(other.keys.len(), bytes_of(more, other.keys.len(), groups)),
+            room_for(
+                other.states.len(),
+                bytes_of(more, other.states.len(), groups),
+            ),
         )
     }
 
