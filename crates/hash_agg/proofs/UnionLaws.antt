@@ -18,7 +18,8 @@ use Rattle.grouping_model.proofs.PartLaws.{same_row-swap}
 use Rattle.spill_tapes.specs.Records.{Record}
 use Rattle.group_runs.specs.Runs.{Entry, Rises}
 use Rattle.group_runs.specs.Standing.{StandsFor, AreGroups, IsRun}
-use Rattle.hash_agg.specs.Passes.{Piece, made_of, rows_at, CountUpTo, AreOnce, IsParted, AreGroupsBy, AreSafe, Stands, all_in}
+use Rattle.group_runs.specs.Chunks.{on_end}
+use Rattle.hash_agg.specs.Passes.{Piece, made_of, rows_at, CountUpTo, AreOnce, IsParted, AreGroupsBy, AreSafe, Stands}
 use Rattle.hash_agg.proofs.FoldLaws.{run_keys_rise}
 use Rattle.having_filter.specs.Kept.{key_kinds}
 use Rattle.group_runs.proofs.RunLaws.{packed_once}
@@ -258,8 +259,8 @@ nothing_stands q hf es left none empty =
     subst (λ es. Stands q hf [] es left) (sym none)
     (subst (λ left. Stands q hf [] [] left) (sym empty) (record { entered = []; rest = []; are = tt; read = tt; parted = λ k. inl (refl, refl); fewer = λ k. omega arith }))
 
-pub one_run_more : (runs : List (List Entry)) (run : List Entry) → all_in (runs ++ run ∷ []) ≡ all_in runs ++ run
-one_run_more runs run = flat_map-append (λ (run : List Entry). run) runs (run ∷ []) ∙ ap (λ es. all_in runs ++ es) (append-nil run)
+pub one_run_more : (runs : List (List Entry)) (run : List Entry) → on_end (runs ++ run ∷ []) ≡ on_end runs ++ run
+one_run_more runs run = flat_map-append (λ (run : List Entry). run) runs (run ∷ []) ∙ ap (λ es. on_end runs ++ es) (append-nil run)
 
 -- ---- over any disk
 

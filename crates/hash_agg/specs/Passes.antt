@@ -352,7 +352,3 @@ pairs entries = map (λ (e : Led). (e.1.0.now, e.1.1.now)) entries
 pub record IsLed (e : Led) : Type 0 where
   pub number : e.0 ≡ big_from 0 8 e.1.0.now
   pub bytes : (i : ℕ) → slice_index e.1.0.now i < 256
-
--- the entries of some runs, one after the other
-abbrev pub all_in : List (List Entry) → List Entry
-all_in runs = flat_map (λ run. run) runs

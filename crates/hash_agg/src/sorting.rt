@@ -6,7 +6,8 @@ ghost use Rattle.std.specs.List.Sorted.{IsPermutation};
 ghost use Rattle.spill_lists.specs.Standing.{IsReadRefusal};
 ghost use Rattle.spill_lists.specs.declared.error.SpillError.TheVariants.{TapeDamaged};
 ghost use Rattle.group_runs.specs.Runs.{Rises};
-ghost use Rattle.hash_agg.specs.Passes.{AreOnce, IsLed, pairs, all_in};
+ghost use Rattle.group_runs.specs.Chunks.{on_end};
+ghost use Rattle.hash_agg.specs.Passes.{AreOnce, IsLed, pairs};
 
 use group_runs::Run;
 use spill_lists::SpillError;
@@ -69,9 +70,9 @@ fn push_all<'a>(entries: &mut Vec<Led<'a>>, run: &'a Run) -> Result<(), AllocErr
 
 /// The groups of a run and of others as one run. `TapeDamaged` if two of them have the same key.
 pub(crate) fn united(alloc: Global, first: &Run, others: &[Run]) -> Result<Run, SpillError>
-    ensures sorted { IfOk result (IsPermutation (all_in (first.now ∷ others.now))) }
+    ensures sorted { IfOk result (IsPermutation (on_end (first.now ∷ others.now))) }
     ensures rises { IfOk result Rises }
-    ensures undamaged { IfErr result (λ error. AreOnce (all_in (first.now ∷ others.now)) → error ≢ TapeDamaged) }
+    ensures undamaged { IfErr result (λ error. AreOnce (on_end (first.now ∷ others.now)) → error ≢ TapeDamaged) }
     ensures refused { IfErr result (IsReadRefusal 0 0) }
 {
     let mut entries = Vec::new(alloc);

@@ -8,7 +8,8 @@ use Rattle.grouping_model.specs.Query.{Query}
 use Rattle.spill_lists.specs.Standing.{count_of, waiting_number, full_pages, written_pages}
 use Rattle.having_filter.specs.Meaning.{meaning}
 use Rattle.group_runs.specs.Runs.{Entry}
-use Rattle.hash_agg.specs.Passes.{AreOnce, AreSafe, setting_of, ReadsList, CanReadList, entries_of, standing, Stands, all_in}
+use Rattle.group_runs.specs.Chunks.{on_end}
+use Rattle.hash_agg.specs.Passes.{AreOnce, AreSafe, setting_of, ReadsList, CanReadList, entries_of, standing, Stands}
 use Rattle.hash_agg.specs.Waiting.{AddsUp, pass_cost}
 use Rattle.hash_agg.proofs.DiskLaws.{moves_none, moves_twice}
 use Rattle.hash_agg.proofs.SortLaws.{rises_once}
@@ -23,7 +24,7 @@ pub loop-pass-init : goal.loop-pass-init
 loop-pass-init g c =
     let q : Query = meaning c.args.plan.now.query.now in
     let hf : List ℕ → ℕ = g.H.KeyHash.hash_of c.args.pass.now.groups.table.hash in
-    let one : all_in (c.args.run ∷ c.new-others.result.items) ≡ c.args.run = ap (λ rs. all_in (c.args.run ∷ rs)) c.new-others.ensures.items ∙ append-nil c.args.run in
+    let one : on_end (c.args.run ∷ c.new-others.result.items) ≡ c.args.run = ap (λ rs. on_end (c.args.run ∷ rs)) c.new-others.ensures.items ∙ append-nil c.args.run in
     let long = ap length one in
     record {
       width = c.requires.width;
@@ -51,7 +52,7 @@ returns-in_err-add_list-clause-undamaged g c =
     (λ honest pieces todo made has waits count costs.
     c.in_err-add_list.ensures.undamaged (subst IsTrue (sym i.moves.honesty) honest)
     (subst (λ hash. CanReadList c.args.plan.now (g.H.KeyHash.hash_of hash) (standing c.loop-pass.pass.groups c.begin_pass.new.self (g.D.TapeDisk.last c.loop-pass.disk))) (sym i.hash)
-    (pass_can c.args.plan.now hf pieces (all_in (c.args.run ∷ c.loop-pass.others.items)) (entries_of c.loop-pass.pass.groups) c.loop-pass.pass.lists c.begin_pass.new.self (g.D.TapeDisk.last c.loop-pass.disk) made c.args.work.now c.loop-pass.work (g.D.TapeDisk.writes c.args.disk.now) (g.D.TapeDisk.writes c.loop-pass.disk) (i.waits honest pieces todo made has waits count costs) count
+    (pass_can c.args.plan.now hf pieces (on_end (c.args.run ∷ c.loop-pass.others.items)) (entries_of c.loop-pass.pass.groups) c.loop-pass.pass.lists c.begin_pass.new.self (g.D.TapeDisk.last c.loop-pass.disk) made c.args.work.now c.loop-pass.work (g.D.TapeDisk.writes c.args.disk.now) (g.D.TapeDisk.writes c.loop-pass.disk) (i.waits honest pieces todo made has waits count costs) count
     (c.begin_pass.ensures.begins c.loop-pass-test.true))))
 
 pub loop-pass-preserved : goal.loop-pass-preserved
@@ -62,8 +63,8 @@ loop-pass-preserved g c =
     let f = c.in_ok-more.ensures in
     let a = c.in_ok-add_list.ensures in
     let run : List Entry = c.in_ok-more.more in
-    let more : all_in (c.args.run ∷ c.push.new.self.items) ≡ all_in (c.args.run ∷ c.loop-pass.others.items) ++ run = ap (λ rs. all_in (c.args.run ∷ rs)) c.in_ok-push.ensures.items ∙ one_run_more (c.args.run ∷ c.loop-pass.others.items) run in
-    let both = ap length more ∙ length-append (all_in (c.args.run ∷ c.loop-pass.others.items)) run in
+    let more : on_end (c.args.run ∷ c.push.new.self.items) ≡ on_end (c.args.run ∷ c.loop-pass.others.items) ++ run = ap (λ rs. on_end (c.args.run ∷ rs)) c.in_ok-push.ensures.items ∙ one_run_more (c.args.run ∷ c.loop-pass.others.items) run in
+    let both = ap length more ∙ length-append (on_end (c.args.run ∷ c.loop-pass.others.items)) run in
     let many = length_permutation (entries_of c.add_list.new.self.groups) run f.run in
     let made = a.few in
     let left = f.waiting in
@@ -85,11 +86,11 @@ loop-pass-preserved g c =
       moves = moves_twice (g.D.TapeDisk.failures c.args.disk.now) (g.D.TapeDisk.failures c.add_list.new.disk) (g.D.TapeDisk.failures c.finish.new.disk) (g.D.TapeDisk.writes c.args.disk.now) (g.D.TapeDisk.writes c.add_list.new.disk) (g.D.TapeDisk.writes c.finish.new.disk) (g.D.TapeDisk.honest c.args.disk.now) (g.D.TapeDisk.honest c.add_list.new.disk) (g.D.TapeDisk.honest c.finish.new.disk)
           (moves_twice (g.D.TapeDisk.failures c.args.disk.now) (g.D.TapeDisk.failures c.loop-pass.disk) (g.D.TapeDisk.failures c.add_list.new.disk) (g.D.TapeDisk.writes c.args.disk.now) (g.D.TapeDisk.writes c.loop-pass.disk) (g.D.TapeDisk.writes c.add_list.new.disk) (g.D.TapeDisk.honest c.args.disk.now) (g.D.TapeDisk.honest c.loop-pass.disk) (g.D.TapeDisk.honest c.add_list.new.disk) i.moves c.add_list.ensures.disk)
           c.finish.ensures.disk;
-      safe = subst (AreSafe q c.args.plan.now.most) (sym more) (safe_append q c.args.plan.now.most (all_in (c.args.run ∷ c.loop-pass.others.items)) run i.safe (safe_moved q c.args.plan.now.most (entries_of c.add_list.new.self.groups) run a.safe f.run));
+      safe = subst (AreSafe q c.args.plan.now.most) (sym more) (safe_append q c.args.plan.now.most (on_end (c.args.run ∷ c.loop-pass.others.items)) run i.safe (safe_moved q c.args.plan.now.most (entries_of c.add_list.new.self.groups) run a.safe f.run));
       few = omega (arith, both, many, made, left, same, counted, before);
       waits = λ honest pieces todo made has waits count costs.
           subst (λ es. IsWaiting q (setting_of c.args.plan.now hf) pieces es c.finish.new.self.lists (g.D.TapeDisk.last c.finish.new.disk) made c.args.work.now c.finish.new.work (g.D.TapeDisk.writes c.args.disk.now) (g.D.TapeDisk.writes c.finish.new.disk)) (sym more)
-          (pass_made c.args.plan.now hf pieces (all_in (c.args.run ∷ c.loop-pass.others.items)) (entries_of c.loop-pass.pass.groups) c.loop-pass.pass.lists c.begin_pass.new.self (g.D.TapeDisk.last c.loop-pass.disk) made c.args.work.now c.loop-pass.work (g.D.TapeDisk.writes c.args.disk.now) (g.D.TapeDisk.writes c.loop-pass.disk) (i.waits honest pieces todo made has waits count costs) count
+          (pass_made c.args.plan.now hf pieces (on_end (c.args.run ∷ c.loop-pass.others.items)) (entries_of c.loop-pass.pass.groups) c.loop-pass.pass.lists c.begin_pass.new.self (g.D.TapeDisk.last c.loop-pass.disk) made c.args.work.now c.loop-pass.work (g.D.TapeDisk.writes c.args.disk.now) (g.D.TapeDisk.writes c.loop-pass.disk) (i.waits honest pieces todo made has waits count costs) count
           (c.begin_pass.ensures.begins c.loop-pass-test.true)
           c.add_list.new.self.lists c.finish.new.self.lists (g.D.TapeDisk.last c.add_list.new.disk) (g.D.TapeDisk.last c.finish.new.disk) (entries_of c.add_list.new.self.groups) run c.finish.new.work (g.D.TapeDisk.writes c.add_list.new.disk) (g.D.TapeDisk.writes c.finish.new.disk) c.requires.plan.formed a.level
           (subst (λ hash. ReadsList c.args.plan.now (g.H.KeyHash.hash_of hash) (standing c.loop-pass.pass.groups c.begin_pass.new.self (g.D.TapeDisk.last c.loop-pass.disk)) (standing c.add_list.new.self.groups c.add_list.new.self.lists (g.D.TapeDisk.last c.add_list.new.disk))) i.hash
@@ -104,25 +105,25 @@ returns-clause-stands g c =
     let q : Query = meaning c.args.plan.now.query.now in
     let hf : List ℕ → ℕ = g.H.KeyHash.hash_of c.args.pass.now.groups.table.hash in
     let i = c.loop-pass.invariant in
-    if_ok c.united.result (IsPermutation (all_in (c.args.run ∷ c.deref.result.now))) _
+    if_ok c.united.result (IsPermutation (on_end (c.args.run ∷ c.deref.result.now))) _
     (λ all moved honest pieces todo made has waits count costs.
     let w = i.waits honest pieces todo made has waits count costs in
-    let e = waiting_ends q (setting_of c.args.plan.now hf) pieces (all_in (c.args.run ∷ c.loop-pass.others.items)) c.loop-pass.pass.lists (g.D.TapeDisk.last c.loop-pass.disk) made c.args.work.now c.loop-pass.work (g.D.TapeDisk.writes c.args.disk.now) (g.D.TapeDisk.writes c.loop-pass.disk) (c.begin_pass.ensures.none c.loop-pass-test.false) w in
-    (moved_stands q hf pieces (all_in (c.args.run ∷ c.loop-pass.others.items)) all [] (subst (λ (rs : List (List Entry)). IsPermutation (all_in (c.args.run ∷ rs)) all) c.deref.ensures.value moved) w.once e.0, e.1, e.2, e.3, e.4))
+    let e = waiting_ends q (setting_of c.args.plan.now hf) pieces (on_end (c.args.run ∷ c.loop-pass.others.items)) c.loop-pass.pass.lists (g.D.TapeDisk.last c.loop-pass.disk) made c.args.work.now c.loop-pass.work (g.D.TapeDisk.writes c.args.disk.now) (g.D.TapeDisk.writes c.loop-pass.disk) (c.begin_pass.ensures.none c.loop-pass-test.false) w in
+    (moved_stands q hf pieces (on_end (c.args.run ∷ c.loop-pass.others.items)) all [] (subst (λ (rs : List (List Entry)). IsPermutation (on_end (c.args.run ∷ rs)) all) c.deref.ensures.value moved) w.once e.0, e.1, e.2, e.3, e.4))
     c.united.ensures.sorted
 
 pub returns-clause-safe : goal.returns-clause-safe
 returns-clause-safe g c =
     let q : Query = meaning c.args.plan.now.query.now in
-    if_ok c.united.result (IsPermutation (all_in (c.args.run ∷ c.deref.result.now))) _
-    (λ all moved. safe_moved q c.args.plan.now.most (all_in (c.args.run ∷ c.loop-pass.others.items)) all c.loop-pass.invariant.safe (subst (λ (rs : List (List Entry)). IsPermutation (all_in (c.args.run ∷ rs)) all) c.deref.ensures.value moved))
+    if_ok c.united.result (IsPermutation (on_end (c.args.run ∷ c.deref.result.now))) _
+    (λ all moved. safe_moved q c.args.plan.now.most (on_end (c.args.run ∷ c.loop-pass.others.items)) all c.loop-pass.invariant.safe (subst (λ (rs : List (List Entry)). IsPermutation (on_end (c.args.run ∷ rs)) all) c.deref.ensures.value moved))
     c.united.ensures.sorted
 
 pub returns-clause-few : goal.returns-clause-few
 returns-clause-few g c =
-    if_ok c.united.result (IsPermutation (all_in (c.args.run ∷ c.deref.result.now))) _
+    if_ok c.united.result (IsPermutation (on_end (c.args.run ∷ c.deref.result.now))) _
     (λ all moved.
-    let many = length_permutation (all_in (c.args.run ∷ c.loop-pass.others.items)) all (subst (λ (rs : List (List Entry)). IsPermutation (all_in (c.args.run ∷ rs)) all) c.deref.ensures.value moved) in
+    let many = length_permutation (on_end (c.args.run ∷ c.loop-pass.others.items)) all (subst (λ (rs : List (List Entry)). IsPermutation (on_end (c.args.run ∷ rs)) all) c.deref.ensures.value moved) in
     let few = c.loop-pass.invariant.few in
     omega (arith, many, few))
     c.united.ensures.sorted
@@ -132,7 +133,7 @@ returns-clause-undamaged g c =
     let i = c.loop-pass.invariant in
     on_error c.united.result
     (λ error right honest pieces todo made has waits count costs.
-    right (subst (λ (rs : List (List Entry)). AreOnce (all_in (c.args.run ∷ rs))) (sym c.deref.ensures.value) (i.waits honest pieces todo made has waits count costs).once))
+    right (subst (λ (rs : List (List Entry)). AreOnce (on_end (c.args.run ∷ rs))) (sym c.deref.ensures.value) (i.waits honest pieces todo made has waits count costs).once))
     c.united.ensures.undamaged
 
 -- where nothing was spilled, the groups are those of the first pass
@@ -140,8 +141,8 @@ none_there : {X : Type 0} (xs : List X) → length xs ≡ 0 → xs ≡ []
 none_there [] none = refl
 none_there (x ∷ xs) none = absurd (omega (arith, none))
 
-alone : (run : List Entry) (others : List (List Entry)) → length others ≡ 0 → all_in (run ∷ others) ≡ run
-alone run others none = ap (λ runs. all_in (run ∷ runs)) (none_there others none) ∙ append-nil run
+alone : (run : List Entry) (others : List (List Entry)) → length others ≡ 0 → on_end (run ∷ others) ≡ run
+alone run others none = ap (λ runs. on_end (run ∷ runs)) (none_there others none) ∙ append-nil run
 
 pub returns-then-is_empty-clause-stands : goal.returns-then-is_empty-clause-stands
 returns-then-is_empty-clause-stands g c =
@@ -153,7 +154,7 @@ returns-then-is_empty-clause-stands g c =
     let one = alone c.args.run c.loop-pass.others.items none in
     λ honest pieces todo made has waits count costs.
     let w = i.waits honest pieces todo made has waits count costs in
-    let e = waiting_ends q (setting_of c.args.plan.now hf) pieces (all_in (c.args.run ∷ c.loop-pass.others.items)) c.loop-pass.pass.lists (g.D.TapeDisk.last c.loop-pass.disk) made c.args.work.now c.loop-pass.work (g.D.TapeDisk.writes c.args.disk.now) (g.D.TapeDisk.writes c.loop-pass.disk) (c.begin_pass.ensures.none c.loop-pass-test.false) w in
+    let e = waiting_ends q (setting_of c.args.plan.now hf) pieces (on_end (c.args.run ∷ c.loop-pass.others.items)) c.loop-pass.pass.lists (g.D.TapeDisk.last c.loop-pass.disk) made c.args.work.now c.loop-pass.work (g.D.TapeDisk.writes c.args.disk.now) (g.D.TapeDisk.writes c.loop-pass.disk) (c.begin_pass.ensures.none c.loop-pass-test.false) w in
     (subst (λ all. Stands q hf pieces all []) one e.0, e.1, e.2, e.3, e.4)
 
 pub returns-then-is_empty-clause-safe : goal.returns-then-is_empty-clause-safe

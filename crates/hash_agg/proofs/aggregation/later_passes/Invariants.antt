@@ -3,7 +3,8 @@ use Rattle.aggregation_cost.specs.Cost.{Cost}
 use Rattle.spill_lists.specs.Lists.{LeftList}
 use Rattle.spill_lists.specs.Standing.{HasLists, Moves, waiting_number}
 use Rattle.having_filter.specs.Meaning.{meaning}
-use Rattle.hash_agg.specs.Passes.{Piece, AreSafe, CountUpTo, setting_of, entries_of, all_in}
+use Rattle.group_runs.specs.Chunks.{on_end}
+use Rattle.hash_agg.specs.Passes.{Piece, AreSafe, CountUpTo, setting_of, entries_of}
 use Rattle.hash_agg.specs.Waiting.{Waits, Costs}
 use Rattle.hash_agg.proofs.LaterLaws.{IsWaiting}
 use Rattle.hash_agg.proofs.aggregation.later_passes.Given as goal
@@ -21,15 +22,15 @@ invariant-loop-pass g l =
       parts : l.pass.lists.parts ≡ [];
       source : l.pass.lists.source ≡ [];
       moves : Moves (g.D.TapeDisk.failures l.fn.disk) (g.D.TapeDisk.failures l.disk) (g.D.TapeDisk.writes l.fn.disk) (g.D.TapeDisk.writes l.disk) (g.D.TapeDisk.honest l.fn.disk) (g.D.TapeDisk.honest l.disk);
-      safe : AreSafe (meaning l.plan.query.now) l.plan.most (all_in (l.fn.run ∷ l.others.items));
-      few : length (all_in (l.fn.run ∷ l.others.items)) + waiting_number l.pass.lists ≤ length l.fn.run + waiting_number l.fn.pass.lists;
+      safe : AreSafe (meaning l.plan.query.now) l.plan.most (on_end (l.fn.run ∷ l.others.items));
+      few : length (on_end (l.fn.run ∷ l.others.items)) + waiting_number l.pass.lists ≤ length l.fn.run + waiting_number l.fn.pass.lists;
       waits :
           IsTrue (g.D.TapeDisk.honest l.fn.disk) → (pieces : List Piece) (todo : List LeftList) (made : Cost)
           → HasLists (g.D.TapeDisk.last l.fn.disk) l.fn.pass.lists [] [] todo
           → Waits (meaning l.plan.query.now) (g.H.KeyHash.hash_of l.fn.pass.groups.table.hash) pieces l.fn.run todo
           → CountUpTo (meaning l.plan.query.now) l.plan.most pieces
           → Costs (meaning l.plan.query.now) (setting_of l.plan (g.H.KeyHash.hash_of l.fn.pass.groups.table.hash)) pieces made todo
-          → IsWaiting (meaning l.plan.query.now) (setting_of l.plan (g.H.KeyHash.hash_of l.fn.pass.groups.table.hash)) pieces (all_in (l.fn.run ∷ l.others.items)) l.pass.lists (g.D.TapeDisk.last l.disk) made l.fn.work l.work (g.D.TapeDisk.writes l.fn.disk) (g.D.TapeDisk.writes l.disk);
+          → IsWaiting (meaning l.plan.query.now) (setting_of l.plan (g.H.KeyHash.hash_of l.fn.pass.groups.table.hash)) pieces (on_end (l.fn.run ∷ l.others.items)) l.pass.lists (g.D.TapeDisk.last l.disk) made l.fn.work l.work (g.D.TapeDisk.writes l.fn.disk) (g.D.TapeDisk.writes l.disk);
     }
 
 abbrev pub decreases-loop-pass : goal.decreases-loop-pass

@@ -3,12 +3,13 @@ use Rattle.std.proofs.Common.{sym, ◌∙◌, ap, subst}
 use Rattle.std.proofs.lemmas.List.{take_all}
 use Rattle.std.proofs.lemmas.Result.{IfErr-weaker}
 use Rattle.spill_lists.specs.declared.error.SpillError.TheVariants.{TapeDamaged}
-use Rattle.hash_agg.specs.Passes.{AreOnce, pairs, all_in}
+use Rattle.group_runs.specs.Chunks.{on_end}
+use Rattle.hash_agg.specs.Passes.{AreOnce, pairs}
 use Rattle.hash_agg.proofs.sorting.united.Goals as goal
 
 pub returns-clause-undamaged : goal.returns-clause-undamaged
 returns-clause-undamaged c =
-    let whole : all_in (c.args.first.now ∷ c.args.others.now) ≡ pairs c.as_mut_slice.result.now =
-    sym (ap pairs c.as_mut_slice.ensures.value ∙ c.loop-run.invariant.0 ∙ ap (λ runs. all_in (c.args.first.now ∷ runs)) (take_all c.loop-run.run-index c.args.others.now c.loop-run-test.false)) in
-    IfErr-weaker c.told_apart.result (λ error. AreOnce (pairs c.as_mut_slice.result.now) → error ≢ TapeDamaged) (λ error. AreOnce (all_in (c.args.first.now ∷ c.args.others.now)) → error ≢ TapeDamaged)
+    let whole : on_end (c.args.first.now ∷ c.args.others.now) ≡ pairs c.as_mut_slice.result.now =
+    sym (ap pairs c.as_mut_slice.ensures.value ∙ c.loop-run.invariant.0 ∙ ap (λ runs. on_end (c.args.first.now ∷ runs)) (take_all c.loop-run.run-index c.args.others.now c.loop-run-test.false)) in
+    IfErr-weaker c.told_apart.result (λ error. AreOnce (pairs c.as_mut_slice.result.now) → error ≢ TapeDamaged) (λ error. AreOnce (on_end (c.args.first.now ∷ c.args.others.now)) → error ≢ TapeDamaged)
     (λ error undamaged once. undamaged (subst AreOnce whole once)) c.told_apart.ensures.undamaged
