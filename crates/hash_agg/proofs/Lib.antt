@@ -21,3 +21,4 @@ pub mod SpillLaws
 pub mod WorkLaws
 pub mod FitLaws
 pub mod FewLaws
+pub mod ReturnLaws
