@@ -4,25 +4,38 @@ use Rattle.grouping_model.specs.Query.{Query}
 use Rattle.having_filter.specs.Meaning.{meaning}
 use Rattle.hash_agg.specs.Passes.{PassState, standing, entries_of, AreRows, IsAt}
 use Rattle.hash_agg.proofs.StepLaws.{err_out, next_room, next_read, all_read, flat_is_at, flat_short, next_brings, all_brings}
-use Rattle.hash_agg.proofs.DiskLaws.{moves_twice}
-use Rattle.hash_agg.proofs.LoopLaws.{keeps_next, room_by, reads_by}
+use Rattle.hash_agg.proofs.DiskLaws.{moves_twice, refused_longer}
+use Rattle.hash_agg.proofs.LoopLaws.{same_table_twice, keeps_lists_twice, keeps_next, room_by, reads_by}
+use Rattle.hash_agg.proofs.ReturnLaws.{no_ok}
 use Rattle.hash_agg.proofs.pass.Pass.add_flat.Goals as goal
 
-pub returns-in_err-add_row-clause-undamaged : goal.returns-in_err-add_row-clause-undamaged
-returns-in_err-add_row-clause-undamaged g c =
-    let q : Query = meaning c.args.plan.now.query.now in
-    let hf : List ℕ → ℕ = g.H.KeyHash.hash_of c.args.self.now.groups.table.hash in
-    let here : List ℕ → ℕ = g.H.KeyHash.hash_of c.loop-place.self.groups.table.hash in
-    let i : ℕ = c.loop-place.place in
-    let old : PassState = standing c.args.self.now.groups c.args.self.now.lists (g.D.TapeDisk.last c.args.disk.now) in
-    let now : PassState = standing c.loop-place.self.groups c.loop-place.self.lists (g.D.TapeDisk.last c.loop-place.disk) in
-    let at : IsAt (AreRows q c.args.rows.now) i (AreRows q (c.row.result.now ∷ [])) =
-    flat_is_at q c.args.rows.now i c.row.result.now c.row.ensures in
-    err_out c.from_residual.result c.in_err-add_row.field-0.0 _ c.from_residual.ensures.1
-    (λ can.
-    c.in_err-add_row.ensures.undamaged
-    (room_by c.args.plan.now hf here (AreRows q (c.row.result.now ∷ [])) (ap g.H.KeyHash.hash_of c.loop-place.invariant.keeps.table.hash) now
-    (next_room c.args.plan.now hf (AreRows q c.args.rows.now) (AreRows q (c.row.result.now ∷ [])) old i now c.loop-place.invariant.reads at can)))
+pub returns-in_err-add_row : goal.returns-in_err-add_row
+returns-in_err-add_row g c =
+    record {
+      reads = no_ok c.from_residual.result _ c.from_residual.ensures.0;
+      pages = no_ok c.from_residual.result _ c.from_residual.ensures.0;
+      undamaged =
+          let q : Query = meaning c.args.plan.now.query.now in
+          let hf : List ℕ → ℕ = g.H.KeyHash.hash_of c.args.self.now.groups.table.hash in
+          let here : List ℕ → ℕ = g.H.KeyHash.hash_of c.loop-place.self.groups.table.hash in
+          let i : ℕ = c.loop-place.place in
+          let old : PassState = standing c.args.self.now.groups c.args.self.now.lists (g.D.TapeDisk.last c.args.disk.now) in
+          let now : PassState = standing c.loop-place.self.groups c.loop-place.self.lists (g.D.TapeDisk.last c.loop-place.disk) in
+          let at : IsAt (AreRows q c.args.rows.now) i (AreRows q (c.row.result.now ∷ [])) =
+          flat_is_at q c.args.rows.now i c.row.result.now c.row.ensures in
+          err_out c.from_residual.result c.in_err-add_row.field-0.0 _ c.from_residual.ensures.1
+          (λ can.
+          c.in_err-add_row.ensures.undamaged
+          (room_by c.args.plan.now hf here (AreRows q (c.row.result.now ∷ [])) (ap g.H.KeyHash.hash_of c.loop-place.invariant.keeps.table.hash) now
+          (next_room c.args.plan.now hf (AreRows q c.args.rows.now) (AreRows q (c.row.result.now ∷ [])) old i now c.loop-place.invariant.reads at can)));
+      safe = no_ok c.from_residual.result _ c.from_residual.ensures.0;
+      brings = no_ok c.from_residual.result _ c.from_residual.ensures.0;
+      table = same_table_twice c.args.self.now.groups c.loop-place.self.groups c.add_row.new.self.groups c.loop-place.invariant.keeps.table c.add_row.ensures.table;
+      lists = keeps_lists_twice c.args.self.now.lists c.loop-place.self.lists c.add_row.new.self.lists c.loop-place.invariant.keeps.lists c.add_row.ensures.lists;
+      alive = no_ok c.from_residual.result _ c.from_residual.ensures.0;
+      refused = err_out c.from_residual.result c.in_err-add_row.field-0.0 _ c.from_residual.ensures.1 (refused_longer _ _ _ _ _ c.loop-place.invariant.disk.failures (omega arith) c.in_err-add_row.ensures.refused);
+      disk = moves_twice _ _ _ _ _ _ _ _ _ c.loop-place.invariant.disk c.add_row.ensures.disk;
+    }
 
 pub loop-place-preserved : goal.loop-place-preserved
 loop-place-preserved g c =
@@ -46,18 +59,27 @@ loop-place-preserved g c =
           (g.D.TapeDisk.honest c.args.disk.now) (g.D.TapeDisk.honest c.loop-place.disk) (g.D.TapeDisk.honest c.add_row.new.disk) c.loop-place.invariant.disk c.add_row.ensures.disk;
     }
 
-pub returns-clause-reads : goal.returns-clause-reads
-returns-clause-reads g c =
-    let q : Query = meaning c.args.plan.now.query.now in
-    let past = c.loop-place-test.false in
-    all_read c.args.plan.now (g.H.KeyHash.hash_of c.args.self.now.groups.table.hash) (AreRows q c.args.rows.now)
-    (standing c.args.self.now.groups c.args.self.now.lists (g.D.TapeDisk.last c.args.disk.now)) c.loop-place.place
-    (standing c.loop-place.self.groups c.loop-place.self.lists (g.D.TapeDisk.last c.loop-place.disk)) c.loop-place.invariant.reads
-    (λ more are. let short = flat_short q c.args.rows.now more are in omega (arith, past, short))
-
-pub returns-clause-brings : goal.returns-clause-brings
-returns-clause-brings g c =
-    let q : Query = meaning c.args.plan.now.query.now in
-    let past = c.loop-place-test.false in
-    all_brings q (AreRows q c.args.rows.now) c.loop-place.place (entries_of c.args.self.now.groups) (entries_of c.loop-place.self.groups) c.args.self.now.lists c.loop-place.self.lists c.loop-place.invariant.brings
-    (λ more are. let short = flat_short q c.args.rows.now more are in omega (arith, past, short))
+pub returns : goal.returns
+returns g c =
+    record {
+      reads =
+          let q : Query = meaning c.args.plan.now.query.now in
+          let past = c.loop-place-test.false in
+          all_read c.args.plan.now (g.H.KeyHash.hash_of c.args.self.now.groups.table.hash) (AreRows q c.args.rows.now)
+          (standing c.args.self.now.groups c.args.self.now.lists (g.D.TapeDisk.last c.args.disk.now)) c.loop-place.place
+          (standing c.loop-place.self.groups c.loop-place.self.lists (g.D.TapeDisk.last c.loop-place.disk)) c.loop-place.invariant.reads
+          (λ more are. let short = flat_short q c.args.rows.now more are in omega (arith, past, short));
+      pages = c.loop-place.invariant.pages;
+      undamaged = tt;
+      safe = c.loop-place.invariant.keeps.safe;
+      brings =
+          let q : Query = meaning c.args.plan.now.query.now in
+          let past = c.loop-place-test.false in
+          all_brings q (AreRows q c.args.rows.now) c.loop-place.place (entries_of c.args.self.now.groups) (entries_of c.loop-place.self.groups) c.args.self.now.lists c.loop-place.self.lists c.loop-place.invariant.brings
+          (λ more are. let short = flat_short q c.args.rows.now more are in omega (arith, past, short));
+      table = c.loop-place.invariant.keeps.table;
+      lists = c.loop-place.invariant.keeps.lists;
+      alive = c.loop-place.invariant.keeps.alive;
+      refused = tt;
+      disk = c.loop-place.invariant.disk;
+    }
