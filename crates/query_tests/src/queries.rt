@@ -1,7 +1,7 @@
 ghost use Rattle.std.specs.Prelude.{◌<◌, length};
 
 use group_parser::{parse, print};
-use having_filter::Query;
+use having_filter::{Query, Source};
 use packed_rows::Schema;
 use std::alloc::{AllocError, Global};
 use std::test::*;
@@ -39,11 +39,24 @@ fn tell_keys(alloc: Global, query: &Query, told: &mut String) -> Result<(), Allo
     told.push_str(&part)
 }
 
-/// Tells the functions of the aggregates, and where the items are found.
-fn tell_sources(alloc: Global, query: &Query, told: &mut String) -> Result<(), AllocError> {
-    let (kinds, sources) = (query.agg_kinds(), query.sources());
-    let part = format!(in alloc; " / {kinds:?} {sources:?}")?;
+/// Tells the functions of the aggregates.
+fn tell_kinds(alloc: Global, query: &Query, told: &mut String) -> Result<(), AllocError> {
+    let kinds = query.agg_kinds();
+    let part = format!(in alloc; " / {kinds:?}")?;
     told.push_str(&part)
+}
+
+/// Tells where the items are found.
+fn tell_sources(alloc: Global, query: &Query, told: &mut String) -> Result<(), AllocError> {
+    for source in query.sources() {
+        let (kind, place) = match *source {
+            Source::Key(place) => ("key", place),
+            Source::Call(place) => ("call", place),
+        };
+        let part = format!(in alloc; " {kind} {place}")?;
+        told.push_str(&part)?;
+    }
+    Ok(())
 }
 
 /// Tells whether there are WHERE and HAVING, and how many distinct aggregates.
@@ -71,6 +84,7 @@ fn tell_parts(alloc: Global, query: &Query, told: &mut String) -> Result<(), All
     tell_headers(query, told)?;
     tell_clauses(alloc, query, told)?;
     tell_keys(alloc, query, told)?;
+    tell_kinds(alloc, query, told)?;
     tell_sources(alloc, query, told)
 }
 
@@ -119,9 +133,9 @@ fn told(rt: HostRuntime, case: &str) -> Result<String, Fail> {
 const PARTS: &str = "\
 c text, d bigint, b boolean|select b, sum(d) as total, c, count(*) from batches where d>0 group by c, b having max(d)>1 and sum(d)>2; => \
 c text, d bigint, b boolean|SELECT b, sum(d) AS total, c, count(*) FROM batches WHERE d > 0 GROUP BY c, b HAVING max(d) > 1 AND sum(d) > 2 \
-/ b total c count  / true true 3 / [0, 2] [Text, Boolean] / [Sum, CountRows, Max] [Key(1), Call(0), Key(0), Call(1)]
+/ b total c count  / true true 3 / [0, 2] [Text, Boolean] / [Sum, CountRows, Max] key 1 call 0 key 0 call 1
 c text, d int8|SELECT sum(d) FROM batches; => \
-c text, d bigint|SELECT sum(d) FROM batches / sum  / false false 1 / [] [] / [Sum] [Call(0)]";
+c text, d bigint|SELECT sum(d) FROM batches / sum  / false false 1 / [] [] / [Sum] call 0";
 
 #[test]
 fn queries_have_their_parts(rt: HostRuntime) -> Result<(), Fail> {
