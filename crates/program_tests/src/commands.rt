@@ -3,9 +3,19 @@
 use crate::folder::{File, play};
 use std::test::*;
 
-/// Batch files: one of a first batch of three rows, and others that are refused.
-const BATCHES: [File; 9] = [
+/// Batch files: one of a first batch of three rows, and others that are refused. And what is saved of the first one.
+const BATCHES: [File; 10] = [
     ("b.csv", b"batch,0,1,3\noslo,5\nbergen,7\noslo,-2\n"),
+    (
+        "told.sum",
+        b"AGGSUM01\x00\x10c text, d bigint\x00\x32SELECT c, count(*), sum(d) FROM batches GROUP BY c\
+        \x00\x01\x00\x00\x00\x00\x00\x01\x00\x00\x00\x00\x00\x00\x00\x02\
+        \x00\x08\x01bergen\x00\x00\x00\x00\x00\x00\x00\x00\x01\
+        \x00\x00\x00\x00\x00\x00\x00\x01\x00\x00\x00\x00\x00\x00\x00\x00\x00\x00\x00\x00\x00\x00\x00\x07\
+        \x00\x06\x01oslo\x00\x00\x00\x00\x00\x00\x00\x00\x02\
+        \x00\x00\x00\x00\x00\x00\x00\x02\x00\x00\x00\x00\x00\x00\x00\x00\x00\x00\x00\x00\x00\x00\x00\x03\
+        \x00\x00\x00\x00",
+    ),
     ("empty.csv", b""),
     ("head.csv", b"batch,1024,1,0\n"),
     ("width.csv", b"batch,0,1\n"),
@@ -21,6 +31,9 @@ const BATCHES: [File; 9] = [
 const PROGRAM: &str = "\
 new|@e.sum|--columns|c text, d bigint|--query|SELECT c, count(*), sum(d) FROM batches GROUP BY c => saved 80/ => 0
 feed|@f.sum|@e.sum|@b.csv => folded upto 1/saved 180/ => 0
+?same|@f.sum|@told.sum => - => 0
+new|@s.sum|--columns|C text , d BIGINT|--query|select C,count( * ),SUM(d) from BATCHES group by c; => saved 80/ => 0
+?same|@s.sum|@e.sum => - => 0
 answer|@f.sum|--format|aligned => c      | count | sum/-------+-------+----/bergen |     1 |   7/oslo   |     2 |   3/ => 0
 answer|@f.sum => c,count,sum/bergen,1,7/oslo,2,3/ => 0
 answer|@f.sum|--format=csv => c,count,sum/bergen,1,7/oslo,2,3/ => 0
@@ -32,6 +45,7 @@ merge|@g.sum|@f.sum => saved 180/ => 0
 merge|@h.sum|@e.sum|@f.sum|@g.sum => merged/merged/saved 180/ => 0
 ?same|@f.sum|@h.sum => - => 0
 ?there|@f.sum.part0 => - => 1
+answer|@told.sum => c,count,sum/bergen,1,7/oslo,2,3/ => 0
 ";
 
 #[test]
@@ -156,6 +170,8 @@ new|@e.sum|--columns|c text, d bigint|--query|SELECT c, sum(d) FROM batches GROU
 feed|@a.sum|@e.sum|@1.csv|@3.csv => folded upto 1/early/saved 145/ => 0
 feed|@b.sum|@e.sum|@4.csv|@2.csv => folded upto 1/early/saved 163/ => 0
 known|@a.sum => origin 0 upto 1 early 3/ => 0
+feed|@c.sum|@e.sum|@3.csv|@1.csv => early/folded upto 1/saved 145/ => 0
+?same|@c.sum|@a.sum => - => 0
 merge|@ab.sum|@a.sum|@b.sum => merged/saved 170/ => 0
 merge|@ba.sum|@b.sum|@a.sum => merged/saved 170/ => 0
 known|@ab.sum => origin 0 upto 3/origin 1 upto 1/ => 0
@@ -179,6 +195,40 @@ const STREAMS: [File; 6] = [
 #[test]
 fn sites_that_exchange_files_agree(rt: HostRuntime) -> Result<(), Fail> {
     assert_eq!(rt; play(&rt, "sites", &STREAMS, SITES)?.as_str(), "");
+    Ok(())
+}
+
+/// Batches of texts and of nulls.
+const PRINTED: [File; 2] = [
+    (
+        "a.csv",
+        b"batch,0,1,3\nbl\xc3\xa5b\xc3\xa6r,5,t\na\tb\x7f,-12,f\n\\N,\\N,\\N\n",
+    ),
+    (
+        "b.csv",
+        b"batch,0,1,2\n\\N,100,f\n\x1f\xc2\x80\xe6\x97\xa5|,-7,f\n",
+    ),
+];
+
+/// Answers as tables in columns and in CSV: texts are as wide as their characters are many, and those that don't show are told; numbers
+/// stand on the right; of no group the header is left.
+const TABLES: &str = "\
+new|@e.sum|--columns|c text, d bigint, b boolean|--query|SELECT c, bool_and(b), sum(d) FROM batches GROUP BY c => saved 94/ => 0
+feed|@a.sum|@e.sum|@a.csv => folded upto 1/saved 210/ => 0
+answer|@a.sum|--format|aligned => c          | bool_and | sum/-----------+----------+----/a\\x09b\\x7f | f        | -12/bl\u{e5}b\u{e6}r     | t        |   5/\\N         | \\N       |  \\N/ => 0
+answer|@a.sum => c,bool_and,sum/a\tb\u{7f},f,-12/bl\u{e5}b\u{e6}r,t,5/\\N,\\N,\\N/ => 0
+new|@e.sum|--columns|c text, d bigint, b boolean|--query|SELECT d, b, c FROM batches GROUP BY c, b, d => saved 85/ => 0
+feed|@b.sum|@e.sum|@b.csv => folded upto 1/saved 139/ => 0
+answer|@b.sum|--format|aligned =>   d | b | c      /----+---+--------/ -7 | f | \\x1f\u{80}\u{65e5}|/100 | f | \\N     / => 0
+answer|@b.sum => d,b,c/-7,f,\u{1f}\u{80}\u{65e5}|/100,f,\\N/ => 0
+new|@e.sum|--columns|c text, d bigint, b boolean|--query|SELECT max(d) AS most FROM batches HAVING count(*) > 9 => saved 95/ => 0
+answer|@e.sum|--format|aligned => most/----/ => 0
+answer|@e.sum => most/ => 0
+";
+
+#[test]
+fn answers_are_printed(rt: HostRuntime) -> Result<(), Fail> {
+    assert_eq!(rt; play(&rt, "printed", &PRINTED, TABLES)?.as_str(), "");
     Ok(())
 }
 

@@ -1,4 +1,4 @@
-//! Tests of batches, of aggregation, of parts of an origin, of summary files, of replicas, of disks that fail and of tables, by their crates' public calls alone.
+//! Tests of batches, of the runs of groups that aggregation gives, and of summary files, by their crates' public calls alone.
 #![tactic(auto)]
 
 #[cfg(test)]
@@ -6,16 +6,6 @@ mod batches;
 #[cfg(test)]
 mod fixtures;
 #[cfg(test)]
-mod parts;
-#[cfg(test)]
-mod replicas;
-#[cfg(test)]
 mod runs;
 #[cfg(test)]
-mod saving;
-#[cfg(test)]
-mod spilling;
-#[cfg(test)]
 mod summaries;
-#[cfg(test)]
-mod tables;

@@ -35,7 +35,7 @@ fn told_of_words(rt: HostRuntime, words: &str) -> Result<String, Fail> {
 }
 
 /// A file: columns and a query, one origin with prefix 1, and two groups of a key, a count and a sum.
-pub(crate) const FILE: &str = "\
+const FILE: &str = "\
 41474753554d3031
 0010 6320746578742c206420626967696e74
 0032 53454c45435420632c20636f756e74282a292c2073756d2864292046524f4d20626174636865732047524f55502042592063
@@ -100,7 +100,7 @@ fn digits(word: &str) -> &str {
 }
 
 /// The hexadecimal digits of some words.
-pub(crate) fn digits_of(rt: HostRuntime, words: &str) -> Result<String, Fail> {
+fn digits_of(rt: HostRuntime, words: &str) -> Result<String, Fail> {
     let mut text = String::new(rt.alloc());
     for word in words.split_whitespace() {
         text.push_str(digits(word))?;
@@ -109,7 +109,7 @@ pub(crate) fn digits_of(rt: HostRuntime, words: &str) -> Result<String, Fail> {
 }
 
 /// The bytes of some words.
-pub(crate) fn bytes_of(rt: HostRuntime, words: &str) -> Result<Vec<u8>, Fail> {
+fn bytes_of(rt: HostRuntime, words: &str) -> Result<Vec<u8>, Fail> {
     let text = digits_of(rt, words)?;
     Ok(read_hex(rt.alloc(), text.as_str())?)
 }

@@ -1,9 +1,6 @@
-use crate::answers::push_repeated;
-use crate::tables::told;
 use csv::ByteRecord;
 use script_commands::{Command, Request, next_command};
 use script_io::Records;
-use script_machine::RunError;
 use std::alloc::{AllocError, Global};
 use std::test::*;
 use test_tables::{cut, expect_told};
@@ -232,45 +229,5 @@ fn scripts_begin_and_end(rt: HostRuntime) -> Result<(), Fail> {
     expect_told(
         first_told(rt.alloc(), b"\xef\xbb\xbfanswer,a\ncolumns,\xff", 3),
         "answer|a| 0;unknown|| 0;none;",
-    )
-}
-
-/// Commands, one that tells 65,540 records, with as many behind it, and a question.
-fn too_many(alloc: Global, before: &str) -> Result<String, AllocError> {
-    let mut script = format!(in alloc; "{before}feed,a,0,1,65540\n")?;
-    push_repeated(&mut script, "known,a\n", 65_540)?;
-    script.push_str("known,b\n")?;
-    Ok(script)
-}
-
-/// What two commands ask that are such.
-fn too_many_told(alloc: Global) -> Result<String, AllocError> {
-    let script = too_many(alloc, "")?;
-    first_told(alloc, script.as_bytes(), 2)
-}
-
-#[test]
-fn commands_own_more_records_than_a_batch_has(rt: HostRuntime) -> Result<(), Fail> {
-    expect_told(
-        too_many_told(rt.alloc()),
-        "feed|a|0|1|65540 65540;known|b| 0;",
-    )
-}
-
-/// How many are refused of such commands behind others, and the last replies.
-fn too_many_replied(alloc: Global) -> Result<String, RunError> {
-    let before = "columns,d bigint\nquery,SELECT count(*) FROM batches\nreplica,a\n";
-    let script = too_many(alloc, before)?;
-    let told = told(alloc, &script)?;
-    let (refused, _) = cut(&told, " ");
-    let (_, last) = cut(&told, "replica a/");
-    Ok(format!(in alloc; "{refused} replica a/{last}")?)
-}
-
-#[test]
-fn more_records_than_a_batch_has_are_passed_over(rt: HostRuntime) -> Result<(), Fail> {
-    expect_told(
-        too_many_replied(rt.alloc()),
-        "2 replica a/refused TooManyRows/refused NoSuchName/",
     )
 }

@@ -1,11 +1,10 @@
 //! Groups that a limit has spilled, to disks some of which fail.
 
-use crate::tables::{last_replies, on_one_line};
 use script_machine::{Outcome, RunError, run};
 use std::alloc::{AllocError, Global};
 use std::test::*;
 use test_disks::FaultyDisk;
-use test_tables::{cut, expect_told, expect_told_lines};
+use test_tables::{cut, expect_told_lines};
 
 /// Appends a row of each of so many towns, `k0000` and on.
 fn push_rows(alloc: Global, rows: &mut String, towns: u32) -> Result<(), AllocError> {
@@ -43,33 +42,6 @@ fn script(alloc: Global, commands: &str, towns: u32) -> Result<String, AllocErro
     Ok(script)
 }
 
-/// What two batches of 1,500 towns count, within a limit.
-fn counted(alloc: Global, limit: u64) -> Result<String, RunError> {
-    let commands = format!(in alloc;
-        "columns,\"c text, d bigint\";query,\"select c, count(*), sum(d) from batches group by c\";replica,a;\
-        limit,{limit};feed,a,0,1,1500;feed,a,1,1,1500;answer,a"
-    )?;
-    let script = script(alloc, &commands, 1_500)?;
-    last_replies(alloc, &script, "folded")
-}
-
-/// How the replies within a limit begin.
-const FRONT: &str = "folded upto 1/folded upto 1/answer 1500/c,count,sum/k0000,2,0/k0001,2,2/";
-
-/// Whether what is counted within a small limit is the same as within the greatest, and whether that begins so.
-fn compared(alloc: Global) -> Result<String, RunError> {
-    // A table of 65,536 bytes holds 384 of the groups.
-    let spilled = counted(alloc, 65_536)?;
-    let whole = counted(alloc, 1_099_511_627_776)?;
-    let (same, begins) = (spilled == whole, spilled.starts_with(FRONT));
-    Ok(format!(in alloc; "same {same}, begins so {begins}")?)
-}
-
-#[test]
-fn a_limit_changes_no_answer(rt: HostRuntime) -> Result<(), Fail> {
-    expect_told(compared(rt.alloc()), "same true, begins so true")
-}
-
 /// The commands in front of those of a table: two replicas know batches of 385 towns, one more than a table of 65,536 bytes holds,
 /// and the query shows one of them.
 const HEAD: &str = "columns,\"c text, d bigint\";\
@@ -96,7 +68,9 @@ fn run_over(
 fn replies_over(alloc: Global, script: &str, fault: &str) -> Result<String, RunError> {
     let mut replies = Vec::new(alloc);
     let refused = run_over(alloc, script, fault, &mut replies)?;
-    Ok(on_one_line(alloc, refused, &replies)?)
+    let replies = str::from_utf8(&replies).unwrap_or("not UTF-8");
+    let replies = replies.replace(alloc, "\n", "/")?;
+    Ok(format!(in alloc; "{refused} {replies}")?)
 }
 
 /// The replies to commands behind the head over a disk with a fault, on one line, with how many are refused.
