@@ -10,15 +10,11 @@ use command_line::command;
 use std::alloc::{AllocError, Global};
 use std::io;
 use std::io::{Read, Write};
+use test_tables::cut;
 
 /// A line of more bytes is told by so many of its bytes.
 const LONG: usize = 600;
 const FRONT: usize = 80;
-
-/// What stands in front of a mark and behind it. Where there is no mark, the whole text stands in front of it.
-fn cut<'t>(text: &'t str, mark: &str) -> (&'t str, &'t str) {
-    text.split_once(mark).unwrap_or((text, ""))
-}
 
 /// Appends a text so many times, with the number of the turn for each `#`.
 fn push_turns(
