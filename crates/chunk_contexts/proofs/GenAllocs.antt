@@ -1,14 +1,16 @@
--- A `Generation` after a request was served.
-use Rattle.std.proofs.Common.{◌≡◌, ℕ, ◌+◌, ◌-◌, ◌<◌, ◌≤◌, Bool, false, List, Option, None, length, get_or, set, sym, ap, ◌∙◌, subst, arith}
-use Rattle.std.specs.Prelude.{is_some, nat_le}
+-- A `Generation` after a request was served, or refused.
+use Rattle.std.proofs.Common.{◌≡◌, refl, ℕ, ◌+◌, ◌-◌, ◌<◌, ◌≤◌, Bool, false, List, Option, Some, None, length, get_or, set, sym, ap, ◌∙◌, subst, arith}
+use Rattle.std.specs.Prelude.{is_some, nat_le, IsTrue}
 use Rattle.std.proofs.lemmas.Bool.{leb-true}
+use Rattle.chunk_layout.specs.Every.{Every}
 use Rattle.chunk_layout.specs.Pieces.{Piece}
 use Rattle.chunk_layout.specs.declared.place.ChunkName.{ChunkName}
 use Rattle.chunk_contexts.specs.declared.error.ContextError.{ContextError}
+use Rattle.chunk_contexts.specs.declared.error.ContextError.TheVariants.{NoMemory}
 use Rattle.chunk_contexts.specs.declared.runs.Runs.{Runs}
-use Rattle.chunk_contexts.specs.Chunks.{Adds, chunk_of}
+use Rattle.chunk_contexts.specs.Chunks.{Adds, IsRefused, chunk_of}
 use Rattle.chunk_contexts.specs.Rooms.{rounded, over_most}
-use Rattle.chunk_contexts.specs.Run.{run_block, run_of, run_growth, run_growth_by, run_taken, IsBlockOf, IsRun}
+use Rattle.chunk_contexts.specs.Run.{run_block, run_of, run_growth, run_growth_by, run_taken, RunState, IsBlockOf, IsRun}
 use Rattle.chunk_contexts.specs.Generation.{IsCounted}
 use Rattle.chunk_contexts.proofs.GenLaws.{made-low, counted-made}
 
@@ -38,3 +40,22 @@ module _ (r t : Runs) (cs ds : List ℕ) (is : IsCounted r cs) (run : IsRun 8 t)
   pub made-counted : IsCounted t (set ds name.block (get_or ds name.block 0 + 1))
   made-counted = counted-made r t cs ds is run p a b (8 + rounded n) some space added.fresh (λ _ fits. leb-true (8 + rounded n) (r.active.size - r.active.used) fits) (λ small. leb-true (8 + rounded n) run_block small)
       (λ none. block.0 (grows ∙ none)) (λ more. block.1 (subst (λ (g : ℕ). 0 < g) (sym grows) more)) same longer (λ more. enough (subst (λ (g : ℕ). 0 < g) (sym grows) more))
+
+-- the block of a chunk that was made is there
+pub made-block : (width : ℕ) (t : Runs) (before : List Piece) (name : ChunkName) (room : ℕ) (bytes : List ℕ) → IsRun width t → Adds before t.layout.pieces name room bytes → IsTrue (is_some (get_or t.layout.blocks name.block None))
+made-block width t before name room bytes run added = (subst (Every (λ (p : Piece). IsTrue (is_some (get_or t.layout.blocks p.place.block None)))) added.chunks run.there).0
+
+-- room for more counts changes none
+pub counted-longer : (r : Runs) (cs ds : List ℕ) → IsCounted r cs → ((block : ℕ) → get_or ds block 0 ≡ get_or cs block 0) → length cs ≤ length ds → IsCounted r ds
+counted-longer r cs ds is same longer = record { run = is.run; places = is.places; counts = λ block. same block ∙ is.counts block; long = omega (arith, is.long, longer); few = is.few; left = is.left }
+
+-- where a chunk is not counted for want of memory, blocks were to grow
+pub refused-count : (s t : RunState) (n : ℕ) (e : ContextError) → s ≡ t → 0 < run_growth 8 s n → e ≡ NoMemory → IsRefused (over_most n) (run_growth 8 t n) e
+refused-count s t n e same grows is = subst (λ (s : RunState). IsRefused (over_most n) (run_growth 8 s n) e) same (by (over_most n) refl)
+  where
+    by : (o : Option ContextError) → over_most n ≡ o → IsRefused o (run_growth 8 s n) e
+    by None none = (is, grows)
+    by (Some refusal) over = absurd (omega (arith, grows, ap (λ (o : Option ContextError). run_growth_by (is_some o) (nat_le (8 + rounded n) run_block) (nat_le (8 + rounded n) s.left) (8 + rounded n)) over))
+
+pub refused-as : (s t : RunState) (n : ℕ) (e f : ContextError) → s ≡ t → e ≡ f → IsRefused (over_most n) (run_growth 8 s n) f → IsRefused (over_most n) (run_growth 8 t n) e
+refused-as s t n e f same is refused = subst (λ (s : RunState). IsRefused (over_most n) (run_growth 8 s n) e) same (subst (IsRefused (over_most n) (run_growth 8 s n)) (sym is) refused)

@@ -1,10 +1,13 @@
--- What an `AllocSet` takes of blocks.
-use Rattle.std.proofs.Common.{◌≡◌, ℕ, ◌+◌, ◌<◌, ◌≤◌, false, ap, ◌∙◌, arith}
+-- What a context takes of blocks, and why it refuses a request.
+use Rattle.std.proofs.Common.{◌≡◌, ℕ, ◌+◌, ◌<◌, ◌≤◌, false, sym, ap, subst, ◌∙◌, arith}
 use Rattle.std.specs.Prelude.{nat_le, nat_lt, is_some, OnErr, Result, Ok, Err}
 use Rattle.std.proofs.lemmas.Bool.{le-leb, lt-leb, le-ltb, cond-false, cond-true}
 use Rattle.chunk_contexts.specs.Rooms.{most, over_most, room_of, class_of, rounded, largest}
 use Rattle.chunk_contexts.specs.Free.{is_in}
-use Rattle.std.specs.Prelude.{IfOk}
+use Rattle.std.specs.Prelude.{IfOk, Option, Some, None, true}
+use Rattle.chunk_contexts.specs.Chunks.{IsRefused, IsResizeRefused}
+use Rattle.chunk_contexts.specs.declared.error.ContextError.{ContextError}
+use Rattle.chunk_contexts.specs.declared.error.ContextError.TheVariants.{NoMemory}
 use Rattle.chunk_contexts.specs.Run.{RunState, run_block, run_growth, run_growth_by}
 use Rattle.chunk_contexts.specs.Set.{SetState, set_growth, growth_by, set_room, block_size}
 
@@ -15,6 +18,20 @@ always_err (Err e) p = p
 pub on_err : {T E P Q : Type 0} (r : Result T E) → (P → Q) → OnErr r P → OnErr r Q
 on_err (Ok x) f h = h
 on_err (Err e) f h = f h
+
+-- why a request is refused, and why a chunk is not resized
+pub refused-some : (o : Option ContextError) (growth : ℕ) (e f : ContextError) → o ≡ Some f → e ≡ f → IsRefused o growth e
+refused-some o growth e f over is = subst (λ (o : Option ContextError). IsRefused o growth e) (sym over) is
+
+pub refused-none : (o : Option ContextError) (growth : ℕ) (e : ContextError) → o ≡ None → e ≡ NoMemory → 0 < growth → IsRefused o growth e
+refused-none o growth e none is grows = subst (λ (o : Option ContextError). IsRefused o growth e) (sym none) (is, grows)
+
+pub resize-some : (o : Option ContextError) (growth room n : ℕ) (e f : ContextError) → o ≡ Some f → e ≡ f → IsResizeRefused true o growth room n e
+resize-some o growth room n e f over is = subst (λ (o : Option ContextError). IsResizeRefused true o growth room n e) (sym over) is
+
+pub resize-refused : (o : Option ContextError) (growth room n : ℕ) (e f : ContextError) → IsRefused o growth f → e ≡ f → room < n → IsResizeRefused true o growth room n e
+resize-refused None growth room n e f refused is more = (is ∙ refused.0, refused.1, more)
+resize-refused (Some refusal) growth room n e f refused is more = is ∙ refused
 
 pub growth-over : (n : ℕ) → n ≤ most → is_some (over_most n) ≡ false
 growth-over n low = ap is_some (cond-false (nat_lt most n) _ _ (le-ltb most n low))

@@ -1,5 +1,5 @@
 -- What the state of a `Slab` says of its fields at a live chunk.
-use Rattle.std.proofs.Common.{◌≡◌, ℕ, ◌-◌, Bool, true, false, List, [], ◌∷◌, ◌++◌, Option, Some, None, append-nil, length, get_or, refl, sym, ap, ◌∙◌, subst, arith}
+use Rattle.std.proofs.Common.{◌≡◌, ℕ, ◌-◌, Bool, true, false, List, [], ◌∷◌, ◌++◌, Option, Some, None, append-nil, cond, length, get_or, refl, sym, ap, ◌∙◌, subst, arith}
 use Rattle.std.specs.Prelude.{IsTrue, ◌==◌, is_some}
 use Rattle.std.proofs.lemmas.Bool.{eqb-true, true≢false}
 use Rattle.std.specs.List.{length_refill}
@@ -13,7 +13,7 @@ use Rattle.chunk_layout.proofs.Lists.{by_cond, first_has, every_filter}
 use Rattle.chunk_layout.proofs.Finding.{place-same}
 use Rattle.chunk_contexts.specs.Chunks.{live, is_live, bytes_of, Adds, IsResized}
 use Rattle.chunk_contexts.specs.Rooms.{rounded}
-use Rattle.chunk_contexts.specs.Slab.{SlabState, slab_refusal_by, slab_of, AreChunks}
+use Rattle.chunk_contexts.specs.Slab.{SlabState, slab_refusal, slab_refusal_by, slab_grows, slab_growth, slab_of, AreChunks}
 use Rattle.chunk_contexts.specs.SlabFields.{slab_state, AreFields}
 use Rattle.chunk_contexts.specs.declared.error.ContextError.{ContextError}
 use Rattle.chunk_contexts.specs.declared.slab_chunks.SlabChunks.{SlabChunks}
@@ -30,6 +30,10 @@ admitted-size o n size none = eqb-true n size (by-cases o (n == size) none)
     by-cases (Some e) b none = absurd (cc)
     by-cases None true none = refl
     by-cases None false none = absurd (cc)
+
+-- and takes what one more chunk takes
+pub slab-grown : (s : SlabState) (n : ℕ) → slab_refusal s n ≡ None → slab_growth s n ≡ slab_grows s
+slab-grown s n none = ap (λ (o : Option ContextError). cond (is_some o) 0 (slab_grows s)) none
 
 -- as many bytes as there are
 pub resized-same : (bytes : List ℕ) (n : ℕ) → length bytes ≡ n → bytes ≡ resized bytes n

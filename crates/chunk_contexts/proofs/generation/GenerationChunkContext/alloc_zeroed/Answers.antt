@@ -1,9 +1,15 @@
-use Rattle.std.proofs.Common.{sym, subst, arith}
+use Rattle.std.proofs.Common.{◌+◌, sym, ap, ◌∙◌, subst, arith}
+use Rattle.std.proofs.lemmas.Result.{err_from_is_err_and}
 use Rattle.block_memory.specs.Cells.{zeros}
-use Rattle.chunk_contexts.specs.Generation.{IsCounted}
-use Rattle.chunk_contexts.proofs.GenAllocs.{made-there, made-counted}
-use Rattle.std.proofs.Common.{◌∙◌}
 use Rattle.block_memory.proofs.CellLemmas.{length-zeros}
+use Rattle.chunk_layout.specs.Pieces.{total}
+use Rattle.chunk_contexts.specs.declared.runs.Runs.{Runs}
+use Rattle.chunk_contexts.specs.Chunks.{chunk_of, Adds}
+use Rattle.chunk_contexts.specs.Rooms.{rounded}
+use Rattle.chunk_contexts.specs.Run.{RunState, run_of, run_growth, run_taken}
+use Rattle.chunk_contexts.specs.Generation.{IsCounted}
+use Rattle.chunk_contexts.proofs.Content.{added-lives, added-holds, added-keeps}
+use Rattle.chunk_contexts.proofs.GenAllocs.{made-there, made-counted, made-block, counted-longer, refused-count, refused-as}
 use Rattle.chunk_contexts.proofs.generation.GenerationChunkContext.alloc_zeroed.Goals as goal
 
 pub count_one-requires-clause-there : goal.count_one-requires-clause-there
@@ -17,5 +23,61 @@ invariant_of-self-2 c =
     (made-counted c.self.inside.runs c.alloc_zeroed.new.self c.self.inside.counts.items c.make_count.new.counts.items c.self.invariant c.in_ok-name.ensures.run (c.args.n) (zeros c.args.n) c.in_ok-name.name c.in_ok-name.ensures.admitted c.in_ok-name.ensures.space c.in_ok-name.ensures.added c.in_ok-name.ensures.block
     c.in_ok-make_count.ensures.same c.in_ok-make_count.ensures.long (λ grows. omega (arith, c.in_ok-make_count.ensures.room (omega (arith, c.growth-growth.ensures, grows)), c.numbers.ensures)))
 
-pub returns-clause-len : goal.returns-clause-len
-returns-clause-len c = c.in_ok-name.ensures.added.len ∙ length-zeros c.args.n
+pub returns-in_err-make_count : goal.returns-in_err-make_count
+returns-in_err-make_count c =
+    let e = err_from_is_err_and c.from_residual.result c.from_residual.ensures.1 in
+    rw e.1 (record {
+      admitted = tt;
+      added = tt;
+      len = tt;
+      lives = tt;
+      holds = tt;
+      block = tt;
+      keeps = tt;
+      space = tt;
+      grown = tt;
+      refused = refused-count _ _ c.args.n e.0 c.self.view_is (omega (arith, c.in_err-make_count.ensures.refused, c.growth-growth.ensures)) e.2;
+      unchanged = c.self.view_is;
+    })
+
+pub returns-in_err-name : goal.returns-in_err-name
+returns-in_err-name c =
+    let e = err_from_is_err_and c.from_residual-in_err-name.result c.from_residual-in_err-name.ensures.1 in
+    rw e.1 (record {
+      admitted = tt;
+      added = tt;
+      len = tt;
+      lives = tt;
+      holds = tt;
+      block = tt;
+      keeps = tt;
+      space = tt;
+      grown = tt;
+      refused = refused-as _ _ c.args.n e.0 _ c.self.view_is e.2 c.in_err-name.ensures.refused;
+      unchanged = ap run_of c.in_err-name.ensures.unchanged ∙ c.self.view_is;
+    })
+
+pub returns : goal.returns
+returns c =
+    let told = c.in_ok-name.ensures in let n = c.args.n in let bytes = zeros c.args.n in let name = c.in_ok-name.name in let after = c.alloc_zeroed.new.self in
+    let added : Adds c.args.self.now.chunks after.layout.pieces name (rounded n) bytes = subst (λ (s : RunState). Adds s.chunks after.layout.pieces name (rounded n) bytes) c.self.view_is told.added in
+    record {
+      admitted = told.admitted;
+      added = added;
+      len = added.len ∙ length-zeros n;
+      lives = added-lives _ _ name (rounded n) bytes added;
+      holds = added-holds _ _ name (rounded n) bytes added;
+      block = made-block 8 after _ name (rounded n) bytes told.run added;
+      keeps = added-keeps _ _ name (rounded n) bytes added;
+      space = told.space ∙ ap (λ (s : RunState). run_taken 8 s (chunk_of name (rounded n) bytes)) c.self.view_is;
+      grown = told.grown ∙ ap (λ (s : RunState). total s.blocks + run_growth 8 s n) c.self.view_is;
+      refused = tt;
+      unchanged = tt;
+    }
+
+pub invariant_of-self : goal.invariant_of-self
+invariant_of-self c = counted-longer _ _ _ c.self.invariant c.in_err-make_count.ensures.same c.in_err-make_count.ensures.long
+
+pub invariant_of-self-in_err-name : goal.invariant_of-self-in_err-name
+invariant_of-self-in_err-name c =
+    subst (λ (r : Runs). IsCounted r c.make_count.new.counts.items) (sym c.in_err-name.ensures.unchanged) (counted-longer c.self.inside.runs _ _ c.self.invariant c.in_ok-make_count.ensures.same c.in_ok-make_count.ensures.long)

@@ -1,9 +1,68 @@
-use Rattle.chunk_contexts.specs.Chunks.{live}
-use Rattle.chunk_contexts.specs.Rooms.{rounded}
-use Rattle.chunk_contexts.proofs.SlabViews.{added-housed}
+use Rattle.std.proofs.Common.{◌≡◌, ◌+◌, None, refl, length, sym, ap, ◌∙◌, subst, arith}
+use Rattle.std.proofs.lemmas.Result.{err_from_is_err_and}
+use Rattle.chunk_layout.specs.Pieces.{total}
+use Rattle.chunk_contexts.specs.Chunks.{live, chunk_of, Adds}
+use Rattle.chunk_contexts.specs.Rooms.{over_most, rounded}
+use Rattle.chunk_contexts.specs.Slab.{SlabState, slab_of, slab_refusal, slab_grows, slab_growth, slab_taken}
+use Rattle.chunk_contexts.proofs.Content.{added-lives, added-holds, added-keeps}
+use Rattle.chunk_contexts.proofs.Growth.{refused-some, refused-none}
+use Rattle.chunk_contexts.proofs.SlabViews.{admitted-size, added-housed, slab-grown}
 use Rattle.chunk_contexts.proofs.slab.SlabChunkContext.alloc.Goals as goal
 
-pub returns-clause-block : goal.returns-clause-block
-returns-clause-block c =
-    let e = c.in_ok-name.ensures in let inner = c.self.inside.inner in
-    added-housed c.alloc.new.self e.chunks (live inner.layout.pieces) c.in_ok-name.name (rounded inner.size) c.args.bytes.now e.added
+pub returns-in_err-check_size : goal.returns-in_err-check_size
+returns-in_err-check_size c =
+    let n = length c.args.bytes.now in
+    let e = err_from_is_err_and c.from_residual.result c.from_residual.ensures.1 in
+    rw e.1 (record {
+      admitted = tt;
+      added = tt;
+      lives = tt;
+      holds = tt;
+      block = tt;
+      keeps = tt;
+      space = tt;
+      grown = tt;
+      refused = refused-some (slab_refusal c.args.self.now n) _ e.0 _ (ap (λ (s : SlabState). slab_refusal s n) (sym c.self.view_is) ∙ c.in_err-check_size.ensures) e.2;
+      unchanged = refl;
+    })
+
+pub returns-in_err-name : goal.returns-in_err-name
+returns-in_err-name c =
+    let n = length c.args.bytes.now in let now = c.args.self.now in let told = c.in_err-name.ensures.refused in
+    let none : slab_refusal now n ≡ None = ap (λ (s : SlabState). slab_refusal s n) (sym c.self.view_is) ∙ c.in_ok-check_size.ensures in
+    let grows = slab-grown now n none in let same = ap slab_grows c.self.view_is in
+    let e = err_from_is_err_and c.from_residual-in_err-name.result c.from_residual-in_err-name.ensures.1 in
+    rw e.1 (record {
+      admitted = tt;
+      added = tt;
+      lives = tt;
+      holds = tt;
+      block = tt;
+      keeps = tt;
+      space = tt;
+      grown = tt;
+      refused = refused-none (slab_refusal now n) (slab_growth now n) e.0 none e.2 (omega (arith, told.1, grows, same));
+      unchanged = told.0 ∙ c.self.view_is;
+    })
+
+pub returns : goal.returns
+returns c =
+    let told = c.in_ok-name.ensures in let n = length c.args.bytes.now in let bytes = c.args.bytes.now in let name = c.in_ok-name.name in let after = c.alloc.new.self in
+    let now = c.args.self.now in let size = c.self.inside.inner.size in
+    let none : slab_refusal now n ≡ None = ap (λ (s : SlabState). slab_refusal s n) (sym c.self.view_is) ∙ c.in_ok-check_size.ensures in
+    let same : n ≡ size = admitted-size (over_most n) n size c.in_ok-check_size.ensures in
+    let added : Adds now.chunks (live after.layout.pieces) name (rounded n) bytes =
+    subst (λ (s : SlabState). Adds s.chunks (live after.layout.pieces) name (rounded n) bytes) c.self.view_is
+    (subst (λ m. Adds (live c.self.inside.inner.layout.pieces) (live after.layout.pieces) name (rounded m) bytes) (sym same) told.added) in
+    record {
+      admitted = none;
+      added = added;
+      lives = added-lives _ _ name (rounded n) bytes added;
+      holds = added-holds _ _ name (rounded n) bytes added;
+      block = added-housed after told.chunks _ name (rounded n) bytes added;
+      keeps = added-keeps _ _ name (rounded n) bytes added;
+      space = told.taken ∙ ap (λ m. slab_taken (slab_of c.self.inside.inner) (chunk_of name (rounded m) bytes)) (sym same) ∙ ap (λ (s : SlabState). slab_taken s (chunk_of name (rounded n) bytes)) c.self.view_is;
+      grown = told.grown ∙ ap (λ (s : SlabState). total s.blocks + slab_grows s) c.self.view_is ∙ ap (λ g. total now.blocks + g) (sym (slab-grown now n none));
+      refused = tt;
+      unchanged = tt;
+    }

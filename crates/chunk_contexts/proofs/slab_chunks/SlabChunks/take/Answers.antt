@@ -33,6 +33,37 @@ module _ (size count : ℕ) (l : Layout) (kept : List SlabBlock) (marked : List 
       (marks k ∙ cond-true (k == k) false (get_or marked k false) (eq-eqb k k refl) ∙ sym (ap (λ (b : Bool). b && nat_lt e.live count) there-still ∙ le-ltb e.live count full))
       (λ j ne. marks j ∙ cond-false (j == k) false (get_or marked j false) (ne_eqb j k ne))
 
+-- a block with a free chunk has its place
+block-low : (size count : ℕ) (l : Layout) (kept : List SlabBlock) (marked : List Bool) → IsSlab size count l kept marked → (k : ℕ) → get_or marked k false ≡ true → k < length kept
+block-low size count l kept marked is k spare = omega (arith, there-low size count l kept marked is k (marked-there size count l kept marked is k spare), is.long)
+
+pub index-requires : goal.index-requires
+index-requires c =
+    let s = c.args.self.now in
+    omega (arith, block-low s.size s.per s.layout s.blocks.items s.spare c.requires.chunks c.args.block c.requires.spare, s.blocks.ok.0)
+
+pub take_chunk-place-requires : goal.take_chunk-place-requires
+take_chunk-place-requires c =
+    let s = c.args.self.now in let is = c.requires.chunks in let block = c.args.block in
+    let was = get_or_read s.blocks.items block c.index.result.now (block-low s.size s.per s.layout s.blocks.items s.spare is block c.requires.spare) c.index.ensures no_block in
+    record {
+      layout = is.layout;
+      small = is.small;
+      there = marked-there s.size s.per s.layout s.blocks.items s.spare is block c.requires.spare;
+      entry = subst (IsEntry s.layout.pieces block) (sym was) (is.entries block);
+      spare = omega (arith, marked-few s.size s.per s.layout s.blocks.items s.spare is block c.requires.spare, is.per, ap (λ (b : SlabBlock). b.live) was);
+    }
+
+pub index_mut-requires : goal.index_mut-requires
+index_mut-requires c =
+    let s = c.args.self.now in
+    omega (arith, block-low s.size s.per s.layout s.blocks.items s.spare c.requires.chunks c.args.block c.requires.spare, s.blocks.ok.0)
+
+pub unmark-requires : goal.unmark-requires
+unmark-requires c =
+    let s = c.args.self.now in let is = c.requires.chunks in
+    omega (arith, there-low s.size s.per s.layout s.blocks.items s.spare is c.args.block (marked-there s.size s.per s.layout s.blocks.items s.spare is c.args.block c.requires.spare), is.long_marks)
+
 pub returns-then-entry-self-clause-chunks : goal.returns-then-entry-self-clause-chunks
 returns-then-entry-self-clause-chunks c =
     let s = c.args.self.now in let t = c.take_chunk-place.ensures in
@@ -45,3 +76,21 @@ returns-clause-chunks c =
     let was = get_or_read s.blocks.items c.args.block c.index.result.now k-low c.index.ensures no_block in
     none-left s.size s.per s.layout s.blocks.items s.spare c.requires.chunks c.args.block c.requires.spare c.take_chunk-place.new.layout c.take_chunk-place.new.entry t.layout t.entry t.others t.blocks c.if-entry-self.false
     (t.count ∙ ap (λ (b : SlabBlock). b.live + 1) was) c.unmark.new.self c.unmark.ensures.long c.unmark.ensures.marked
+
+pub returns-then-entry-self-clause-taken : goal.returns-then-entry-self-clause-taken
+returns-then-entry-self-clause-taken c = λ i. record { size = c.args.self.now.size; chunks = c.take_chunk-place.ensures.taken i; blocks = c.take_chunk-place.ensures.blocks i }
+
+pub returns-then-entry-self-clause-fresh : goal.returns-then-entry-self-clause-fresh
+returns-then-entry-self-clause-fresh c = c.take_chunk-place.ensures.fresh
+
+pub returns-then-entry-self-clause-block : goal.returns-then-entry-self-clause-block
+returns-then-entry-self-clause-block c = c.take_chunk-place.ensures.block
+
+pub returns-clause-taken : goal.returns-clause-taken
+returns-clause-taken c = λ i. record { size = c.args.self.now.size; chunks = c.take_chunk-place.ensures.taken i; blocks = c.take_chunk-place.ensures.blocks i }
+
+pub returns-clause-fresh : goal.returns-clause-fresh
+returns-clause-fresh c = c.take_chunk-place.ensures.fresh
+
+pub returns-clause-block : goal.returns-clause-block
+returns-clause-block c = c.take_chunk-place.ensures.block
