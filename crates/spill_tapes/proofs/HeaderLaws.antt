@@ -1,11 +1,13 @@
 -- The front of a record, as it is read.
-use Rattle.std.specs.Prelude.{◌≡◌, ℕ, ◌+◌, ◌^◌, ◌<◌, ◌≤◌, List, [], ◌∷◌, ◌++◌, length, get_or, nat_lt, nat_le, ◌&&◌, Bool, true, false, ◌==◌, Option, Some, None}
+use Rattle.std.specs.Prelude.{◌≡◌, ℕ, suc, ◌+◌, ◌^◌, ◌<◌, ◌≤◌, List, [], ◌∷◌, ◌++◌, length, get_or, nat_lt, nat_le, ◌&&◌, Bool, true, false, ◌==◌, Option, Some, None}
 use Rattle.std.proofs.Common.{refl, sym, ◌∙◌, ap, subst, arith, length-append}
 use Rattle.std.proofs.lemmas.List.{append_assoc}
+use Rattle.std.proofs.lemmas.Bool.{and_parts, leb-true}
 use Rattle.std.proofs.lemmas.Bool.Decides.{nat_tests}
 use Rattle.std.proofs.lemmas.Nat.{from_be_bytes-to_be_bytes_4}
 use Rattle.spill_tapes.specs.Records.{Record, header_of, tape_bytes, number_at}
-use Rattle.spill_tapes.specs.Tape.{TapeState, HasAhead, AreAhead, IsAfterHeader, Gives, ended, ended_by, join}
+use Rattle.spill_tapes.specs.Tape.{TapeState, HasAhead, AreAhead, IsAfterHeader, Gives, IsGood, IsGoodIn, ended, ended_by, join}
+use Rattle.spill_tapes.specs.declared.tape.Phase.TheVariants.{Read}
 use Rattle.spill_tapes.specs.declared.header.Header.{Header}
 
 pub header_len : (hash tag len : ℕ) → length (header_of hash tag len) ≡ 9
@@ -61,6 +63,16 @@ can_stand last t h rs had =
     let left : h.len ≤ t.left = omega (arith, had.len, had.left) in
     grind (arith, nat_tests)
 
+-- the bytes of a record were read, of which the front was read before
+pub bytes_given : (before after : ℕ → ℕ → Type 0) (t t' : TapeState) (h : Header) (bytes : List ℕ) → ((front rest : List ℕ) → length front ≡ h.len → HasAhead before t (front ++ rest) → (bytes ≡ front) × HasAhead after t' rest)
+    → t'.left + h.len ≡ t.left → t'.records + 1 ≡ t.records → (rs : List Record) → IsAfterHeader before t h rs → Gives (AreAhead after t') rs bytes (Some (h.hash, h.tag))
+bytes_given before after t t' h bytes fill left records rs had =
+    let told : (bytes ≡ had.first.bytes) × HasAhead after t' (tape_bytes had.others ++ had.rest) = fill had.first.bytes (tape_bytes had.others ++ had.rest) (sym had.len) had.bytes in (
+      had.others,
+      had.is ∙ (λ i. record { hash = sym had.hash i; tag = sym had.tag i; bytes = sym told.0 i } ∷ had.others),
+      record { good = had.goods; number = omega (arith, records, had.number); left = omega (arith, left, had.left, had.len); rest = had.rest; bytes = told.1 },
+    )
+
 -- without its buffer a tape has the same records, if it has none
 ended_none : (last : ℕ → ℕ → Type 0) (t : TapeState) (rs : List Record) → length rs ≡ 0 → AreAhead last t rs → AreAhead last (ended_by true t) rs
 ended_none last t [] none had = record {
@@ -79,9 +91,25 @@ ended_at last t rs false none had = had
 pub ended_ahead : (last : ℕ → ℕ → Type 0) (t : TapeState) (rs : List Record) → AreAhead last t rs → AreAhead last (ended t) rs
 ended_ahead last t rs had = ended_at last t rs (t.records == 0) (λ h. grind (arith, nat_tests)) had
 
+pub ended_as : (t : TapeState) (done : Bool) → t.phase ≡ Read → IsGood t → ((ended_by done t).pages ≡ t.pages) × ((ended_by done t).phase ≡ Read) × IsGood (ended_by done t)
+ended_as t true phase good = (refl, phase, subst (λ ph. IsGoodIn ph (ended_by true t)) (sym phase) (omega arith, omega arith))
+ended_as t false phase good = (refl, phase, good)
+
 pub gives_with : (P Q : List Record → Type 0) (rs : List Record) (bytes : List ℕ) (found : Option (ℕ × ℕ)) → ((xs : List Record) → P xs → Q xs) → Gives P rs bytes found → Gives Q rs bytes found
 gives_with P Q rs bytes None f told = (told.0, f [] told.1)
 gives_with P Q rs bytes (Some x) f told = (told.0, told.1, f told.0 told.2)
 
 pub ended_gives : (last : ℕ → ℕ → Type 0) (t t' : TapeState) (rs : List Record) (bytes : List ℕ) (found : Option (ℕ × ℕ)) → t' ≡ ended t → Gives (AreAhead last t) rs bytes found → Gives (AreAhead last t') rs bytes found
 ended_gives last t t' rs bytes found is told = gives_with (AreAhead last t) (AreAhead last t') rs bytes found (λ xs had. subst (λ (y : TapeState). AreAhead last y xs) (sym is) (ended_ahead last t xs had)) told
+
+-- what a record that can stand there has
+pub stands : (tag len left : ℕ) → (nat_lt tag 2 && nat_le len 65535 && nat_le len left) ≡ true → (tag < 2) × (len ≤ 65535) × (len ≤ left)
+stands tag len left is =
+    let last = and_parts (nat_lt tag 2 && nat_le len 65535) (nat_le len left) is in
+    let first = and_parts (nat_lt tag 2) (nat_le len 65535) last.0 in
+    (leb-true (suc tag) 2 first.0, leb-true len 65535 first.1, leb-true len left last.1)
+
+-- where no records are left, there are none
+pub none_left : (last : ℕ → ℕ → Type 0) (t : TapeState) (rs : List Record) → t.records ≡ 0 → AreAhead last t rs → (rs ≡ []) × AreAhead last t []
+none_left last t [] none had = (refl, had)
+none_left last t (r ∷ rs) none had = absurd (omega (arith, none, had.number))

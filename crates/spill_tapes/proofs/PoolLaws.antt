@@ -84,6 +84,9 @@ pub apart_after : (a b : PoolState) (xs ys : List ℕ) → IsApart a xs → IsBa
 apart_after a b xs ys apart moved = λ page. omega (arith, apart page, moved.each page)
 
 -- a page of the tape is given out, and not free
+pub fits_after : (a b : PoolState) (xs ys : List ℕ) → length a.free + length xs ≤ a.count → IsBalanced a xs b ys → length b.free + length ys ≤ b.count
+fits_after a b xs ys fits is = omega (arith, fits, is.all)
+
 pub apart_page : (pool : PoolState) (pages : List ℕ) (page : ℕ) → IsApart pool pages → 0 < times page pages → (page < pool.count) × (times page pool.free ≡ 0)
 apart_page pool pages page apart there =
     let one : below page pool.count ≤ 1 = below_one page pool.count in

@@ -1,15 +1,15 @@
 -- All tapes.
-use Rattle.std.specs.Prelude.{◌≡◌, ◌≢◌, ℕ, ◌+◌, ◌<◌, ◌≤◌, suc, zero, Bool, true, false, Option, List, [], ◌∷◌, ◌++◌, length, get_or}
+use Rattle.std.specs.Prelude.{◌≡◌, ◌≢◌, ℕ, ◌+◌, ◌<◌, ◌≤◌, suc, zero, Bool, true, false, not, Option, List, [], ◌∷◌, ◌++◌, length, get_or}
 use Rattle.std.specs.List.{sum_by}
 use Rattle.std.proofs.Math.ListN.{set}
 use Rattle.std.proofs.Common.{refl, sym, ◌∙◌, ap, subst, arith}
-use Rattle.std.proofs.lemmas.List.{get_or-set_same, get_or-set_other, get_or_past, get_or_default}
+use Rattle.std.proofs.lemmas.List.{get_or-set_same, get_or-set_other, get_or_past, get_or_push, get_or_default}
 use Rattle.std.proofs.lemmas.List.Sums.{sum_by-cons, sum_by-set}
 use Rattle.spill_tapes.specs.Disk.{Keeps}
 use Rattle.spill_tapes.specs.Records.{Record, tape_bytes}
 use Rattle.spill_tapes.specs.Errors.{tape_error}
 use Rattle.spill_tapes.specs.Pages.{IsPool, times, IsApart, IsBalanced, AreOn, KeepsPages}
-use Rattle.spill_tapes.specs.Tape.{TapeState, no_tape, tape_len, is_in, IsGood, AreWritten, AreAhead, HasIn, Has, Gives}
+use Rattle.spill_tapes.specs.Tape.{TapeState, no_tape, new_tape, tape_len, is_in, IsGood, AreWritten, AreAhead, HasIn, Has, Gives}
 use Rattle.spill_tapes.specs.Tapes.{TapesState, tape_at, phase_of, is_written, is_read, IsTape, KeepsOthers, IsRefusal, IsReadRefusal, AreTapes}
 use Rattle.spill_tapes.specs.declared.disk.DiskError.{DiskError}
 use Rattle.spill_tapes.specs.declared.disk.DiskError.TheVariants as disk
@@ -98,6 +98,13 @@ same_at_push t t' tape x is end id differ = ap (λ ts. get_or ts id.index no_tap
 pub none_past : (t : TapesState) (tape : TapeId) → tape.index ≡ length t.tapes → tape_at t tape ≡ no_tape
 none_past t tape end = get_or_past t.tapes tape.index no_tape (omega (arith, end))
 
+-- the one more, which has no record
+pub at_push : (t t' : TapesState) (tape : TapeId) (x : TapeState) → t'.tapes ≡ t.tapes ++ x ∷ [] → tape.index ≡ length t.tapes → tape_at t' tape ≡ x
+at_push t t' tape x is end = ap (λ ts. get_or ts tape.index no_tape) is ∙ get_or_push t.tapes x no_tape tape.index (sym end)
+
+pub new_has : (last : ℕ → ℕ → Type 0) (t : TapeState) → t ≡ new_tape → Has last t []
+new_has last t is = subst (λ (x : TapeState). Has last x []) (sym is) (record { good = tt; number = refl; bytes = record { contents = []; on = tt; whole = refl } })
+
 -- a tape that is read
 pub read_has : (last : ℕ → ℕ → Type 0) (t : TapeState) (rs : List Record) → t.phase ≡ Read → Has last t rs → AreAhead last t rs
 read_has last t rs phase had = subst (λ (ph : Phase). HasIn ph last t rs) phase had
@@ -121,6 +128,11 @@ open_within t s tape same is = open_index t.tapes tape.index (subst (λ (y : Tap
 -- the tape in a place
 pub slot_is : (t s : TapesState) (tape : TapeId) (y : TapeState) → t ≡ s → phase_of s tape ≢ Closed → y ≡ get_or t.tapes tape.index y → y ≡ tape_at t tape
 slot_is t s tape y same is at = at ∙ get_or_default t.tapes tape.index y no_tape (open_within t s tape same is)
+
+pub open_phase : (phase : Phase) → not (is_in Closed phase) ≡ true → phase ≢ Closed
+open_phase Closed is = λ same. cc
+open_phase Written is = λ same. cc
+open_phase Read is = λ same. cc
 
 pub written_open : (phase : Phase) → phase ≡ Written → phase ≢ Closed
 written_open phase is e = cc (is, e)

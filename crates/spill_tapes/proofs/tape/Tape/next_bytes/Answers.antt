@@ -1,0 +1,82 @@
+use Rattle.std.proofs.Common.{◌≡◌, ◌++◌, [], length, refl, sym, ap, subst, ◌∙◌, arith}
+use Rattle.std.proofs.lemmas.Result.{err_from_is_err_and}
+use Rattle.spill_tapes.specs.Pages.{IsBalanced}
+use Rattle.spill_tapes.specs.Tape.{TapeState, ahead, HasAhead}
+use Rattle.spill_tapes.proofs.PoolLaws.{balanced_none}
+use Rattle.spill_tapes.proofs.PageLaws.{same_ahead}
+use Rattle.spill_tapes.proofs.HeaderLaws.{bytes_given}
+use Rattle.spill_tapes.proofs.tape.Tape.next_bytes.Goals as goal
+
+pub returns-in_err-reserve : goal.returns-in_err-reserve
+returns-in_err-reserve g c =
+    let t = c.args.self.now in let pool = c.args.pool.now in
+    let e = err_from_is_err_and c.from_residual.result c.from_residual.ensures.1 in
+    rw e.1 (record {
+      pool = c.requires.pool;
+      balanced = balanced_none pool pool t.pages t.pages refl refl refl;
+      keeps = λ place byte had. had;
+      phase = refl;
+      read = tt;
+      ahead = tt;
+      len = tt;
+      gives = tt;
+      writes = refl;
+      failures = omega arith;
+      fault = λ is. absurd (cc (is, e.2));
+      honesty = refl;
+    })
+
+pub fill-requires : goal.fill-requires
+fill-requires g c = record {
+  pool = c.requires.pool;
+  apart = c.requires.apart;
+  fits = c.requires.fits;
+  read = c.requires.read;
+  ahead = omega (arith, c.requires.left, c.requires.ahead);
+}
+
+pub returns-in_err-fill : goal.returns-in_err-fill
+returns-in_err-fill g c =
+    let told = c.in_err-fill.ensures in
+    let e = err_from_is_err_and c.from_residual-in_err-fill.result c.from_residual-in_err-fill.ensures.1 in
+    rw e.1 (record {
+      pool = told.pool;
+      balanced = told.balanced;
+      keeps = told.keeps;
+      phase = told.same.phase;
+      read = tt;
+      ahead = tt;
+      len = tt;
+      gives = tt;
+      writes = told.writes;
+      failures = told.failures;
+      fault = λ is. told.fault (sym e.2 ∙ is);
+      honesty = told.honesty;
+    })
+
+pub returns : goal.returns
+returns g c =
+    let told = c.in_ok-fill.ensures in let view = c.self.view_is in let after = c.fill.new.self in
+    let none : c.reserve.new.self.items ≡ [] = c.in_ok-reserve.ensures.items ∙ c.clear.ensures.items in
+    let left = ap (λ (t : TapeState). t.left) view in
+    record {
+      pool = told.pool;
+      balanced = subst (λ (t : TapeState). IsBalanced c.args.pool.now c.args.self.now.pages c.fill.new.pool t.pages) (sym view) told.balanced;
+      keeps = told.keeps;
+      phase = ap (λ (t : TapeState). t.phase) view ∙ told.same.phase;
+      read = omega (arith, told.read, ap (λ (t : TapeState). t.read) view, ap (λ (t : TapeState). length t.buffer) view);
+      ahead = omega (arith, told.ahead, c.requires.ahead, told.same.left, left, c.from.ensures, ap ahead view);
+      len = omega (arith, told.len, ap length none);
+      gives = λ honest.
+          bytes_given (g.D.TapeDisk.last c.args.disk.now) (g.D.TapeDisk.last c.fill.new.disk) c.args.self.now _ c.args.header c.fill.new.bytes.items
+          (λ front rest long had.
+          let filled : (c.fill.new.bytes.items ≡ c.reserve.new.self.items ++ front) × HasAhead (g.D.TapeDisk.last c.fill.new.disk) after rest = told.filled honest front rest long had in (
+            filled.0 ∙ ap (λ bs. bs ++ front) none,
+            same_ahead (g.D.TapeDisk.last c.fill.new.disk) after _ (ap (λ (t : TapeState). t.pages) view) (ap (λ (t : TapeState). t.buffer) view) (ap (λ (t : TapeState). t.read) view) rest filled.1,
+          ))
+          (omega (arith, left, told.same.left, c.requires.left, c.from.ensures)) (omega (arith, ap (λ (t : TapeState). t.records) view, told.same.records, c.requires.some));
+      writes = told.writes;
+      failures = told.failures;
+      fault = tt;
+      honesty = told.honesty;
+    }
