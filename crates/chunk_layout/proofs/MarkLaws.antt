@@ -1,8 +1,8 @@
--- Marks after two numbers are exchanged.
-use Rattle.std.proofs.Common.{◌≡◌, ◌≢◌, ℕ, ◌+◌, ◌<◌, ◌≤◌, inl, inr, Bool, true, false, List, map, length, get_or, cond, sym, ap, ◌∙◌, arith}
+-- Marks after a number is added, and after two numbers are exchanged.
+use Rattle.std.proofs.Common.{◌≡◌, ◌≢◌, refl, ℕ, zero, suc, ◌+◌, ◌-◌, ◌^◌, ◌<◌, ◌≤◌, inl, inr, Bool, true, false, List, [], ◌∷◌, ◌++◌, map, length, get_or, set, cond, sym, ap, ◌∙◌, arith}
 use Rattle.std.specs.Prelude.{◌==◌, nat_lt}
 use Rattle.std.proofs.lemmas.Bool.{cases_eq, cases_lt, cond-true, cond-false, eq-eqb, ne_eqb, lt-ltb, le-ltb}
-use Rattle.std.proofs.lemmas.List.{get_or-map, get_or_past, length-map}
+use Rattle.std.proofs.lemmas.List.{get_or-map, get_or_past, get_or_append_left, get_or_push, get_or-set_same, get_or-set_other, length-map, length-set, length_push, map_push}
 use Rattle.chunk_layout.specs.Marks.{IsArranged}
 
 abbrev pub marked : ℕ → List ℕ → List Bool
@@ -24,6 +24,127 @@ other : (q d : ℕ) → q ≢ d → nat_lt q d ≡ nat_lt q (d + 1)
 other q d ne = elim (cases_lt q d) [
   | inl less ↦ lt-ltb q d less ∙ sym (lt-ltb q (d + 1) (omega (arith, less)))
   | inr past ↦ le-ltb q d past ∙ sym (le-ltb q (d + 1) (omega (arith, past, ne)))
+]
+
+-- what is added at the end is what was read past it
+push_default : {X : Type 0} → (xs : List X) (d : X) (k : ℕ) → get_or (xs ++ d ∷ []) k d ≡ get_or xs k d
+push_default [] d zero = refl
+push_default [] d (suc k) = refl
+push_default (x ∷ xs) d zero = refl
+push_default (x ∷ xs) d (suc k) = push_default xs d k
+
+-- a number is added to two lists, each of which tells where a number stands in the other
+each-more : (a b : List ℕ) (n : ℕ) → length a ≡ n → length b ≡ n → ((i : ℕ) → i < n → (get_or a i 0 < n) × (get_or b (get_or a i 0) 0 ≡ i))
+    → (i : ℕ) → i < n + 1 → (get_or (a ++ n ∷ []) i 0 < n + 1) × (get_or (b ++ n ∷ []) (get_or (a ++ n ∷ []) i 0) 0 ≡ i)
+each-more a b n a-long b-long each i low = elim (cases_lt i n) [
+  | inl less ↦
+      let v = each i less in
+      let at : get_or (a ++ n ∷ []) i 0 ≡ get_or a i 0 = get_or_append_left a (n ∷ []) 0 i (omega (arith, less, a-long)) in (
+        omega (arith, at, v.0),
+        ap (λ (j : ℕ). get_or (b ++ n ∷ []) j 0) at ∙ get_or_append_left b (n ∷ []) 0 (get_or a i 0) (omega (arith, v.0, b-long)) ∙ v.1,
+      )
+  | inr past ↦
+      let here : i ≡ n = omega (arith, low, past) in
+      let at : get_or (a ++ n ∷ []) i 0 ≡ n = get_or_push a n 0 i (omega (arith, a-long, here)) in
+      (omega (arith, at), ap (λ (j : ℕ). get_or (b ++ n ∷ []) j 0) at ∙ get_or_push b n 0 n b-long ∙ sym here)
+]
+
+-- the numbers are added to those that are arranged, without a mark
+module _ (order places : List ℕ) (is : IsArranged order places) (n : ℕ) (next : n ≡ length order) where
+  pub arranged-push : n < 2 ^ 32 - 1 → IsArranged (order ++ n ∷ []) (places ++ n ∷ [])
+  arranged-push few =
+      let order-long = length_push order n in let places-long = length_push places n in
+      record {
+        long = omega (arith, is.long, order-long, places-long);
+        few = omega (arith, few, next, order-long);
+        there = λ i low.
+            let v = each-more order places n (sym next) (is.long ∙ sym next) (λ j less. let w = is.there j (omega (arith, less, next)) in (omega (arith, w.0, next), w.1)) i (omega (arith, low, next, order-long)) in
+            (omega (arith, v.0, next, order-long), v.1);
+        back = λ k low.
+            let v = each-more places order n (is.long ∙ sym next) (sym next) (λ j less. let w = is.back j (omega (arith, less, next)) in (omega (arith, w.0, next), w.1)) k (omega (arith, low, next, order-long)) in
+            (omega (arith, v.0, next, order-long), v.1);
+      }
+
+  pub marked-push : (count : ℕ) → count ≤ length order → (k : ℕ) → get_or (marked count (places ++ n ∷ [])) k false ≡ get_or (marked count places) k false
+  marked-push count within k =
+      ap (λ (bs : List Bool). get_or bs k false) (map_push (λ (place : ℕ). nat_lt place count) places n)
+      ∙ ap (λ (b : Bool). get_or (marked count places ++ b ∷ []) k false) (le-ltb n count (omega (arith, within, next)))
+      ∙ push_default (marked count places) false k
+
+-- a list after two writes
+module _ (xs : List ℕ) (p u q v : ℕ) (p-low : p < length xs) (q-low : q < length xs) where
+  last-set : (i : ℕ) → i ≡ q → get_or (set (set xs p u) q v) i 0 ≡ v
+  last-set i e = ap (λ (j : ℕ). get_or (set (set xs p u) q v) j 0) e ∙ get_or-set_same (set xs p u) q v 0 (omega (arith, q-low, length-set xs p u))
+
+  first-set : (i : ℕ) → i ≢ q → i ≡ p → get_or (set (set xs p u) q v) i 0 ≡ u
+  first-set i ne e = get_or-set_other (set xs p u) q i v 0 ne ∙ ap (λ (j : ℕ). get_or (set xs p u) j 0) e ∙ get_or-set_same xs p u 0 p-low
+
+  none-set : (i : ℕ) → i ≢ q → i ≢ p → get_or (set (set xs p u) q v) i 0 ≡ get_or xs i 0
+  none-set i nq np = get_or-set_other (set xs p u) q i v 0 nq ∙ get_or-set_other xs p i u 0 np
+
+-- two numbers are exchanged in a list, and in another that tells where a number stands in the first
+each-exchanged : (xs ys : List ℕ) (n p u q v : ℕ) → length xs ≡ n → length ys ≡ n → p < n → u < n → q < n → v < n
+    → get_or ys u 0 ≡ q → get_or ys v 0 ≡ p → ((i : ℕ) → i < n → (get_or xs i 0 < n) × (get_or ys (get_or xs i 0) 0 ≡ i))
+    → (i : ℕ) → i < n → (get_or (set (set xs p u) q v) i 0 < n) × (get_or (set (set ys u p) v q) (get_or (set (set xs p u) q v) i 0) 0 ≡ i)
+each-exchanged xs ys n p u q v xs-long ys-long p-low u-low q-low v-low at-u at-v each i low =
+    let p-in : p < length xs = omega (arith, p-low, xs-long) in let q-in : q < length xs = omega (arith, q-low, xs-long) in
+    let u-in : u < length ys = omega (arith, u-low, ys-long) in let v-in : v < length ys = omega (arith, v-low, ys-long) in
+    elim (cases_eq i q) [
+      | inl e ↦ let at = last-set xs p u q v p-in q-in i e in (omega (arith, at, v-low), last-set ys u p v q u-in v-in (get_or (set (set xs p u) q v) i 0) at ∙ sym e)
+      | inr nq ↦ elim (cases_eq i p) [
+        | inl e ↦
+            let at = first-set xs p u q v p-in q-in i nq e in (
+              omega (arith, at, u-low),
+              first-set ys u p v q u-in v-in (get_or (set (set xs p u) q v) i 0) (λ same. nq (e ∙ sym at-v ∙ ap (λ (j : ℕ). get_or ys j 0) (sym same ∙ at) ∙ at-u)) at ∙ sym e,
+            )
+        | inr np ↦
+            let at = none-set xs p u q v p-in q-in i nq np in let was = each i low in (
+              omega (arith, at, was.0),
+              ap (λ (j : ℕ). get_or (set (set ys u p) v q) j 0) at
+                  ∙ none-set ys u p v q u-in v-in (get_or xs i 0) (λ same. np (sym was.1 ∙ ap (λ (j : ℕ). get_or ys j 0) same ∙ at-v)) (λ same. nq (sym was.1 ∙ ap (λ (j : ℕ). get_or ys j 0) same ∙ at-u)) ∙ was.1,
+            )
+      ]
+    ]
+
+-- the numbers at two places are exchanged
+module _ (order places : List ℕ) (is : IsArranged order places) (a b one two : ℕ) (a-low : a < length order) (b-low : b < length order) (one-is : one ≡ get_or order a 0) (two-is : two ≡ get_or order b 0) where
+  one-there : (one < length order) × (get_or places one 0 ≡ a)
+  one-there = let v = is.there a a-low in (omega (arith, v.0, one-is), ap (λ (j : ℕ). get_or places j 0) one-is ∙ v.1)
+
+  two-there : (two < length order) × (get_or places two 0 ≡ b)
+  two-there = let v = is.there b b-low in (omega (arith, v.0, two-is), ap (λ (j : ℕ). get_or places j 0) two-is ∙ v.1)
+
+  pub arranged-exchange : IsArranged (set (set order a two) b one) (set (set places two a) one b)
+  arranged-exchange =
+      let order-long = length-set (set order a two) b one ∙ length-set order a two in
+      let places-long = length-set (set places two a) one b ∙ length-set places two a in
+      record {
+        long = places-long ∙ is.long ∙ sym order-long;
+        few = omega (arith, is.few, order-long);
+        there = λ i low.
+            let v = each-exchanged order places (length order) a two b one refl is.long a-low two-there.0 b-low one-there.0 two-there.1 one-there.1 is.there i (omega (arith, low, order-long)) in
+            (omega (arith, v.0, order-long), v.1);
+        back = λ k low.
+            let v = each-exchanged places order (length order) two a one b is.long refl two-there.0 a-low one-there.0 b-low (sym one-is) (sym two-is) is.back k (omega (arith, low, order-long)) in
+            (omega (arith, v.0, order-long), v.1);
+      }
+
+  pub places-exchange : (k : ℕ) → get_or (set (set places two a) one b) k 0 ≡ cond (k == get_or order a 0) b (cond (k == get_or order b 0) a (get_or places k 0))
+  places-exchange k =
+      let one-in : one < length places = omega (arith, one-there.0, is.long) in let two-in : two < length places = omega (arith, two-there.0, is.long) in
+      elim (cases_eq k one) [
+        | inl e ↦ last-set places two a one b two-in one-in k e ∙ sym (cond-true (k == get_or order a 0) b (cond (k == get_or order b 0) a (get_or places k 0)) (eq-eqb k (get_or order a 0) (e ∙ one-is)))
+        | inr ne ↦ elim (cases_eq k two) [
+          | inl e ↦ first-set places two a one b two-in one-in k ne e ∙ sym (cond-true (k == get_or order b 0) a (get_or places k 0) (eq-eqb k (get_or order b 0) (e ∙ two-is)))
+          | inr nt ↦ none-set places two a one b two-in one-in k ne nt ∙ sym (cond-false (k == get_or order b 0) a (get_or places k 0) (ne_eqb k (get_or order b 0) (λ e. nt (e ∙ sym two-is))))
+        ] ∙ sym (cond-false (k == get_or order a 0) b (cond (k == get_or order b 0) a (get_or places k 0)) (ne_eqb k (get_or order a 0) (λ e. ne (e ∙ sym one-is))))
+      ]
+
+-- a mark that is as wanted stays
+pub marked-already : (bs : List Bool) (n : ℕ) (v : Bool) → get_or bs n false ≡ v → (k : ℕ) → get_or bs k false ≡ cond (k == n) v (get_or bs k false)
+marked-already bs n v is k = elim (cases_eq k n) [
+  | inl e ↦ ap (λ (j : ℕ). get_or bs j false) e ∙ is ∙ sym (cond-true (k == n) v (get_or bs k false) (eq-eqb k n e))
+  | inr ne ↦ sym (cond-false (k == n) v (get_or bs k false) (ne_eqb k n ne))
 ]
 
 -- the number n and the one at d are exchanged
