@@ -1,6 +1,7 @@
 use Rattle.std.proofs.Common.{◌≡◌, ◌+◌, None, refl, length, sym, ap, ◌∙◌, subst, arith}
 use Rattle.std.proofs.lemmas.Result.{err_from_is_err_and}
-use Rattle.chunk_layout.specs.Pieces.{total}
+use Rattle.chunk_layout.specs.Every.{Every}
+use Rattle.chunk_layout.specs.Pieces.{Piece, total}
 use Rattle.chunk_contexts.specs.Chunks.{live, chunk_of, Adds}
 use Rattle.chunk_contexts.specs.Rooms.{over_most, rounded}
 use Rattle.chunk_contexts.specs.Slab.{SlabState, slab_of, slab_refusal, slab_grows, slab_growth, slab_taken}
@@ -66,3 +67,20 @@ returns c =
       refused = tt;
       unchanged = tt;
     }
+
+pub invariant_of-self-2 : goal.invariant_of-self-2
+invariant_of-self-2 c = record {
+  chunks = c.in_ok-name.ensures.chunks;
+  sizes = subst (λ (s : SlabState). Every (λ (p : Piece). length p.bytes ≡ s.size) s.chunks) (sym c.in_ok-name.ensures.taken) (admitted-size (over_most (length c.args.bytes.now)) (length c.args.bytes.now) c.self.inside.inner.size c.in_ok-check_size.ensures, c.self.invariant.sizes);
+}
+
+pub invariant_of-self : goal.invariant_of-self
+invariant_of-self c =
+    let told = c.in_err-name.ensures in
+    record { chunks = told.chunks; sizes = subst (λ (s : SlabState). Every (λ (p : Piece). length p.bytes ≡ s.size) s.chunks) (sym told.refused.0) c.self.invariant.sizes }
+
+pub alloc-requires : goal.alloc-requires
+alloc-requires c = record {
+  chunks = c.self.invariant.chunks;
+  size = admitted-size (over_most (length c.args.bytes.now)) (length c.args.bytes.now) c.self.inside.inner.size c.in_ok-check_size.ensures;
+}

@@ -78,3 +78,8 @@ returns c =
       refused = tt;
       unchanged = tt;
     }
+
+pub invariant_of-self : goal.invariant_of-self
+invariant_of-self c =
+    let told = c.in_err-name.ensures in
+    record { chunks = told.chunks; sizes = subst (λ (s : SlabState). Every (λ (p : Piece). length p.bytes ≡ s.size) s.chunks) (sym told.refused.0) c.self.invariant.sizes }
