@@ -1,12 +1,19 @@
--- The lists of a pass while they are left to later ones.
-use Rattle.std.specs.Prelude.{◌≡◌, ℕ, ◌+◌, ◌<◌, ◌≤◌, true, false, Bool, List, [], ◌∷◌, ◌++◌}
+-- The lists of a pass while they are left to later ones, and what a refused call says.
+use Rattle.std.specs.Prelude.{◌≡◌, ◌≢◌, ℕ, ◌+◌, ◌<◌, ◌≤◌, ◌/◌, true, false, Bool, List, [], ◌∷◌, ◌++◌, length}
 use Rattle.std.proofs.Common.{refl, sym, ◌∙◌, ap, subst, arith, inl}
+use Rattle.std.proofs.lemmas.Bool.{true≢false}
 use Rattle.std.proofs.lemmas.List.Sums.{sum_by-cons}
 use Rattle.spill_tapes.specs.Records.{Record}
-use Rattle.spill_tapes.specs.Tapes.{TapesState, IsTape, is_written, KeepsOthers}
+use Rattle.spill_tapes.specs.Tapes.{TapesState, IsTape, is_written, written_len, KeepsOthers, IsRefusal, IsReadRefusal as IsTapeReadRefusal}
+use Rattle.spill_tapes.specs.Records.{tape_bytes}
+use Rattle.spill_tapes.specs.declared.tape_id.TapeId.{TapeId}
+use Rattle.spill_tapes.specs.declared.error.TapeError.{TapeError}
+use Rattle.spill_tapes.specs.declared.error.TapeError.TheVariants as tape
+use Rattle.spill_lists.specs.declared.error.SpillError.TheVariants as spill
+use Rattle.spill_lists.specs.Errors.{spill_error}
 use Rattle.spill_lists.specs.declared.lists.OnTape.{OnTape}
 use Rattle.spill_lists.specs.Lists.{LeftList, left_by}
-use Rattle.spill_lists.specs.Standing.{ListsState, once, times, count_of, AreApart, AreSpilled, AreWritten, HasLists, AreLists, Moves, those_with_records}
+use Rattle.spill_lists.specs.Standing.{ListsState, once, times, count_of, AreApart, AreSpilled, AreWritten, HasLists, AreLists, Moves, IsSpillRefusal, IsReadRefusal, list_pages, AreAhead, those_with_records}
 use Rattle.spill_lists.proofs.ApartLaws.{times-append, once_here, kept_written}
 use Rattle.spill_lists.proofs.ListLaws.{count-append}
 use Rattle.spill_lists.proofs.EndLaws.{AreLeft, left_start, left_step, left_end, those_count, those_times}
@@ -104,3 +111,45 @@ moves_twice f f' f'' w w' w'' h h' h'' first second = record {
   writes = omega (arith, first.writes, second.writes);
   honesty = second.honesty ∙ first.honesty;
 }
+
+-- why tapes that live refuse a call, and what that is to lists
+pub refused_alive : (dead : Bool) (before after : ℕ) (e : TapeError) → dead ≡ false → IsRefusal dead before after e → e ≢ tape.TapesDead
+refused_alive dead before after tape.NoMemory alive refused = λ same. cc
+refused_alive dead before after tape.TapeFault alive refused = λ same. cc
+refused_alive dead before after tape.TapeDamaged alive refused = λ same. cc
+refused_alive dead before after tape.TapesDead alive refused = λ same. true≢false (sym refused ∙ alive)
+
+pub refused_spill : (dead : Bool) (before after : ℕ) (e : TapeError) → IsRefusal dead before after e → IsSpillRefusal before after (spill_error e)
+refused_spill dead before after tape.NoMemory refused = tt
+refused_spill dead before after tape.TapeFault refused = refused.1
+refused_spill dead before after tape.TapeDamaged refused = absurd refused
+refused_spill dead before after tape.TapesDead refused = tt
+
+pub refused_read_alive : (dead : Bool) (before after : ℕ) (e : TapeError) → dead ≡ false → IsTapeReadRefusal dead before after e → e ≢ tape.TapesDead
+refused_read_alive dead before after tape.NoMemory alive refused = λ same. cc
+refused_read_alive dead before after tape.TapeFault alive refused = λ same. cc
+refused_read_alive dead before after tape.TapeDamaged alive refused = λ same. cc
+refused_read_alive dead before after tape.TapesDead alive refused = λ same. true≢false (sym refused ∙ alive)
+
+pub refused_read : (dead : Bool) (before after : ℕ) (e : TapeError) → IsTapeReadRefusal dead before after e → IsReadRefusal before after (spill_error e)
+refused_read dead before after tape.NoMemory refused = tt
+refused_read dead before after tape.TapeFault refused = refused.1
+refused_read dead before after tape.TapeDamaged refused = tt
+refused_read dead before after tape.TapesDead refused = tt
+
+pub undamaged_as : (e : TapeError) → e ≢ tape.TapeDamaged → spill_error e ≢ spill.TapeDamaged
+undamaged_as tape.NoMemory not_it = λ same. cc
+undamaged_as tape.TapeFault not_it = λ same. cc
+undamaged_as tape.TapeDamaged not_it = absurd (not_it refl)
+undamaged_as tape.TapesDead not_it = λ same. cc
+
+-- a list of no record takes no page
+pub none_paged : (t : TapesState) (id : TapeId) (records : List Record) (writes : ℕ) → length records ≡ 0 → written_len t id ≡ length (tape_bytes records) → writes + written_len t id / 8192 ≡ writes + list_pages records
+none_paged t id [] writes none len = ap (λ n. writes + n / 8192) len
+none_paged t id (r ∷ rs) writes none len = absurd (omega (arith, none))
+
+-- where no list is read, none of its records are left
+pub none_ahead : (last : ℕ → ℕ → Type 0) (s : ListsState) (spilled ahead : List Record) (todo : List LeftList) → s.source ≡ [] → HasLists last s spilled ahead todo → (ahead ≡ []) × HasLists last s spilled [] todo
+none_ahead last s spilled ahead todo none had =
+    let empty : ahead ≡ [] = subst (λ xs. AreAhead last s.tapes xs ahead) none had.ahead_are in
+    (empty, subst (λ xs. HasLists last s spilled xs todo) empty had)

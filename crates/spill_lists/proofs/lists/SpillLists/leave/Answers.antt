@@ -1,6 +1,11 @@
-use Rattle.std.proofs.Common.{List, ◌≡◌, ◌++◌, [], false, arith, ap, sym, subst, ◌∙◌}
+use Rattle.std.proofs.Common.{List, ◌≡◌, ◌+◌, ◌/◌, ◌++◌, ◌∷◌, [], false, length, arith, ap, sym, subst, ◌∙◌, append-nil}
+use Rattle.std.proofs.lemmas.Result.{err_from_is_err_and}
+use Rattle.spill_tapes.specs.Records.{tape_bytes}
+use Rattle.spill_tapes.specs.Tapes.{IsTape, KeepsOthers, written_len}
 use Rattle.spill_lists.specs.Fields.{lists_of, one_or_none}
-use Rattle.spill_lists.specs.Standing.{ListsState, AreLists, times}
+use Rattle.spill_lists.specs.Standing.{ListsState, AreLists, IsSpillRefusal, list_pages, times}
+use Rattle.spill_lists.proofs.EndLaws.{those_none, those_some}
+use Rattle.spill_lists.proofs.PassLaws.{moves_none, none_paged, refused_alive, refused_spill}
 use Rattle.spill_tapes.specs.declared.tape_id.TapeId.{TapeId}
 use Rattle.spill_lists.specs.declared.lists.OnTape.{OnTape}
 use Rattle.spill_lists.specs.declared.lists.SpillLists.TheInside.{Inside}
@@ -31,3 +36,84 @@ invariant_of-self-in-Ok g c =
     let are : AreLists (state c.rewind.new.self c.self.inside.level c.self.inside.parts.items (one_or_none c.self.inside.source) c.self.inside.todo.items) = lists_beside (g.D.TapeDisk.last c.args.disk.now) (g.D.TapeDisk.last c.rewind.new.disk) c.self.inside.tapes c.rewind.new.self c.self.inside.level c.self.inside.parts.items (one_or_none c.self.inside.source) c.self.inside.todo.items c.args.list.tape c.rewind.ensures.others none (λ _. alive) c.self.invariant in
     subst (λ xs. AreLists (state c.rewind.new.self c.self.inside.level c.self.inside.parts.items (one_or_none c.self.inside.source) xs)) (sym {A = List OnTape} c.in_ok-push-in-Ok.ensures.items)
     (lists_pushed c.rewind.new.self c.self.inside.level c.self.inside.parts.items (one_or_none c.self.inside.source) c.self.inside.todo.items c.args.list c.in-Ok.ensures.read (omega (arith, c.if-list-eq0.false)) none are)
+
+pub returns-then-list-eq0 : goal.returns-then-list-eq0
+returns-then-list-eq0 g c =
+    let now = c.args.self.now in let list = c.args.list in let view = c.self.view_is in let none = c.if-list-eq0.true in
+    record {
+      left = ap (λ (s : ListsState). s.todo) view ∙ sym (append-nil now.todo) ∙ ap (λ xs. now.todo ++ xs) (sym (those_none list none));
+      paged = λ records had many.
+          none_paged now.tapes list.tape records (g.D.TapeDisk.writes c.args.disk.now) (sym many ∙ none)
+          (subst (λ (s : ListsState). IsTape (g.D.TapeDisk.last c.args.disk.now) s.tapes list.tape records → written_len s.tapes list.tape ≡ length (tape_bytes records)) view (c.bytes_written.ensures records) had);
+      kept = λ some. absurd (omega (arith, some, none));
+      others = subst (λ (s : ListsState). KeepsOthers (g.D.TapeDisk.last c.args.disk.now) (g.D.TapeDisk.last c.args.disk.now) s.tapes c.close.new.self list.tape) view c.close.ensures.others;
+      alive = c.close.ensures.alive ∙ ap (λ (s : ListsState). s.tapes.is_dead) view ∙ c.requires.alive;
+      parts = ap (λ (s : ListsState). s.parts) view ∙ c.requires.parts;
+      source = ap (λ (s : ListsState). s.source) view;
+      level = ap (λ (s : ListsState). s.level) view;
+      refused = tt;
+      disk = moves_none (g.D.TapeDisk.failures c.args.disk.now) (g.D.TapeDisk.writes c.args.disk.now) (g.D.TapeDisk.honest c.args.disk.now);
+    }
+
+pub returns-in_ok-push-in-Ok : goal.returns-in_ok-push-in-Ok
+returns-in_ok-push-in-Ok g c =
+    let now = c.args.self.now in let list = c.args.list in let view = c.self.view_is in let told = c.in-Ok.ensures in
+    let alive : c.self.inside.tapes.is_dead ≡ false = ap (λ (s : ListsState). s.tapes.is_dead) view ∙ c.requires.alive in
+    let writes = g.D.TapeDisk.writes c.args.disk.now in
+    record {
+      left = c.in_ok-push-in-Ok.ensures.items ∙ ap (λ (s : ListsState). s.todo ++ list ∷ []) view ∙ ap (λ xs. now.todo ++ xs) (sym (those_some list (omega (arith, c.if-list-eq0.false))));
+      paged = λ records had many.
+          subst (λ (s : ListsState). IsTape (g.D.TapeDisk.last c.args.disk.now) s.tapes list.tape records → g.D.TapeDisk.writes c.rewind.new.disk + written_len s.tapes list.tape / 8192 ≡ writes + list_pages records) view
+          (λ here. told.counted ∙ ap (λ n. writes + (n + 8191) / 8192) (told.bytes alive records here)) had;
+      kept = λ some records had. told.rewound records (subst (λ (s : ListsState). IsTape (g.D.TapeDisk.last c.args.disk.now) s.tapes list.tape records) (sym view) had);
+      others = subst (λ (s : ListsState). KeepsOthers (g.D.TapeDisk.last c.args.disk.now) (g.D.TapeDisk.last c.rewind.new.disk) s.tapes c.rewind.new.self list.tape) view c.rewind.ensures.others;
+      alive = told.alive;
+      parts = ap (λ (s : ListsState). s.parts) view ∙ c.requires.parts;
+      source = ap (λ (s : ListsState). s.source) view;
+      level = ap (λ (s : ListsState). s.level) view;
+      refused = tt;
+      disk = record { failures = told.failures; writes = told.writes; honesty = told.honesty };
+    }
+
+pub returns-in_err-push-in-Ok : goal.returns-in_err-push-in-Ok
+returns-in_err-push-in-Ok g c =
+    let view = c.self.view_is in let told = c.in-Ok.ensures in
+    let e = err_from_is_err_and c.from_residual.result c.from_residual.ensures.1 in
+    rw e.1 (record {
+      left = tt;
+      paged = tt;
+      kept = tt;
+      others = subst (λ (s : ListsState). KeepsOthers (g.D.TapeDisk.last c.args.disk.now) (g.D.TapeDisk.last c.rewind.new.disk) s.tapes c.rewind.new.self c.args.list.tape) view c.rewind.ensures.others;
+      alive = tt;
+      parts = ap (λ (s : ListsState). s.parts) view ∙ c.requires.parts;
+      source = ap (λ (s : ListsState). s.source) view;
+      level = ap (λ (s : ListsState). s.level) view;
+      refused = subst (IsSpillRefusal (g.D.TapeDisk.failures c.args.disk.now) (g.D.TapeDisk.failures c.rewind.new.disk)) (sym e.2) tt;
+      disk = record { failures = told.failures; writes = told.writes; honesty = told.honesty };
+    })
+
+pub refusal-requires : goal.refusal-requires
+refusal-requires g c =
+    refused_alive c.self.inside.tapes.is_dead (g.D.TapeDisk.failures c.args.disk.now) (g.D.TapeDisk.failures c.rewind.new.disk) c.in-Err.error (ap (λ (s : ListsState). s.tapes.is_dead) c.self.view_is ∙ c.requires.alive) c.in-Err.ensures.refused
+
+pub returns-in-Err : goal.returns-in-Err
+returns-in-Err g c =
+    let view = c.self.view_is in let told = c.in-Err.ensures in let failures = g.D.TapeDisk.failures c.args.disk.now in let more = g.D.TapeDisk.failures c.rewind.new.disk in
+    record {
+      left = tt;
+      paged = tt;
+      kept = tt;
+      others = subst (λ (s : ListsState). KeepsOthers (g.D.TapeDisk.last c.args.disk.now) (g.D.TapeDisk.last c.rewind.new.disk) s.tapes c.rewind.new.self c.args.list.tape) view c.rewind.ensures.others;
+      alive = tt;
+      parts = ap (λ (s : ListsState). s.parts) view ∙ c.requires.parts;
+      source = ap (λ (s : ListsState). s.source) view;
+      level = ap (λ (s : ListsState). s.level) view;
+      refused = subst (IsSpillRefusal failures more) c.refusal.ensures (refused_spill c.self.inside.tapes.is_dead failures more c.in-Err.error told.refused);
+      disk = record { failures = told.failures; writes = told.writes; honesty = told.honesty };
+    }
+
+pub invariant_of-self-in-Err : goal.invariant_of-self-in-Err
+invariant_of-self-in-Err g c =
+    let alive : c.self.inside.tapes.is_dead ≡ false = ap (λ (s : ListsState). s.tapes.is_dead) c.self.view_is ∙ c.requires.alive in
+    let none : times c.args.list.tape.index (c.self.inside.parts.items ++ (one_or_none c.self.inside.source ++ c.self.inside.todo.items)) ≡ 0 = beside c.self.inside c.args.self.now c.args.list.tape c.self.view_is c.requires.parts c.requires.apart in
+    lists_beside (g.D.TapeDisk.last c.args.disk.now) (g.D.TapeDisk.last c.rewind.new.disk) c.self.inside.tapes c.rewind.new.self c.self.inside.level c.self.inside.parts.items (one_or_none c.self.inside.source) c.self.inside.todo.items c.args.list.tape c.rewind.ensures.others none (λ _. alive) c.self.invariant
