@@ -8,11 +8,11 @@ use Rattle.context_tree.specs.Contexts.{chunks_of, has_chunk, chunk_bytes, with_
 use Rattle.context_tree.specs.Tree.{TreeState, context_at, with_context, held_below}
 use Rattle.context_tree.specs.declared.context.Context.{Context}
 use Rattle.group_table.specs.Table.{TableState, IsSlot, group_in, groups}
-use Rattle.group_table.specs.Standing.{IsSetWith, IsBump, IsSlabOf, IsFirst, HasArray, AreGroups, IsStanding}
+use Rattle.group_table.specs.Standing.{IsSetWith, KeepsOthers, IsBump, IsSlabOf, IsFirst, HasArray, AreGroups, IsStanding}
 use Rattle.group_table.specs.Arrays.{OnlyIn}
 use Rattle.group_table.specs.declared.table.Slot.{Slot}
 use Rattle.group_table.proofs.StandLaws.{bump_with, slab_with, set_by}
-use Rattle.group_table.proofs.TreeFacts.{at_same, at_other, placed_kept, same_links, same_number, held_changed}
+use Rattle.group_table.proofs.TreeFacts.{at_same, at_other, placed_kept, same_links, same_last, same_number, same_others, held_changed}
 
 -- functions that are the same at each member
 map_same : {X Y : Type 0} → (f g : X → Y) → (xs : List X) → ((i : ℕ) → (x : X) → slice_get xs i ≡ Some x → f x ≡ g x) → map f xs ≡ map g xs
@@ -50,6 +50,14 @@ module _ {H : Type 0} (hash_of : H → List ℕ → ℕ) (t : TableState H) wher
 
     kept : (slot : Slot) → IsSlot t slot → IsTrue (has_chunk (context_at after t.keys) slot.key) × (chunk_bytes (context_at after t.keys) slot.key ≡ chunk_bytes (context_at tree t.keys) slot.key)
     kept slot there = let told = keeps slot.key (is.stands.groups.keys_live slot there) in (told.1, told.2)
+
+    pub others_by_key : KeepsOthers t tree after
+    others_by_key = record {
+      links = same_links t.keys tree after only_keys;
+      last = same_last t.keys tree after only_keys;
+      number = same_number t.keys tree after only_keys;
+      others = λ slot not_buckets not_keys not_states. same_others t.keys tree after only_keys slot not_keys;
+    }
 
     pub key_taken : IsStanding hash_of t after
     key_taken = record {
@@ -89,6 +97,14 @@ module _ {H : Type 0} (hash_of : H → List ℕ → ℕ) (t : TableState H) wher
 
     state_kept : (slot : Slot) → IsSlot t slot → IsTrue (has_chunk (context_at after t.states) slot.state) × (chunk_bytes (context_at after t.states) slot.state ≡ chunk_bytes (context_at tree t.states) slot.state)
     state_kept slot there = let told = keeps slot.state (is.stands.groups.states_live slot there) in (told.1, told.2)
+
+    pub others_by_state : KeepsOthers t tree after
+    others_by_state = record {
+      links = same_links t.states tree after only_states;
+      last = same_last t.states tree after only_states;
+      number = same_number t.states tree after only_states;
+      others = λ slot not_buckets not_keys not_states. same_others t.states tree after only_states slot not_states;
+    }
 
     pub state_taken : IsStanding hash_of t after
     state_taken = record {

@@ -1,14 +1,15 @@
 -- A group is taken, step by step.
-use Rattle.std.specs.Prelude.{◌≡◌, refl, ℕ, zero, suc, ◌+◌, ◌/◌, ◌≤◌, List, [], ◌∷◌, ◌++◌, Option, Some, None, option_map, map, slice_get, Result, Ok, Err, OnErr}
+use Rattle.std.specs.Prelude.{◌≡◌, refl, ℕ, zero, suc, ◌+◌, ◌/◌, ◌≤◌, List, [], ◌∷◌, ◌++◌, Option, Some, None, option_map, map, slice_get, Result, Ok, Err, OnErr, is_some, true, length, get_or}
 use Rattle.std.proofs.Common.{sym, ◌∙◌, ap, subst, arith}
 use Rattle.std.proofs.lemmas.List.{map_push}
 use Rattle.chunk_layout.specs.declared.place.ChunkName.{ChunkName}
-use Rattle.context_tree.specs.Contexts.{chunk_bytes, growth_of, held_by}
+use Rattle.context_tree.specs.Contexts.{no_context, chunk_bytes, growth_of, held_by}
 use Rattle.context_tree.specs.Tree.{TreeState, context_at, held_below}
 use Rattle.context_tree.specs.declared.context.Context.{Context}
+use Rattle.group_table.specs.Buckets.{bucket_at}
 use Rattle.group_table.specs.Table.{TableState, group_in, groups, HasNo, IsSameBut, array_growth, group_growth}
-use Rattle.group_table.specs.Standing.{IsSetWith, HasSpace, IsArrayOf, HasArray, IsFirst, IsPlaced, IsTableIn, KeepsOthers}
-use Rattle.group_table.specs.Arrays.{OnlyIn, IsNext, with_next, with_slot, with_spare}
+use Rattle.group_table.specs.Standing.{IsSetWith, IsBesideFirst, HasSpace, IsArrayOf, HasArray, IsFirst, IsPlaced, IsTableIn, KeepsOthers}
+use Rattle.group_table.specs.Arrays.{OnlyIn, HasNext, IsNext, with_next, with_slot, with_spare}
 use Rattle.group_table.specs.declared.table.Slot.{Slot}
 use Rattle.group_table.proofs.StandLaws.{set_of, set_with}
 use Rattle.group_table.proofs.TreeFacts.{at_other, same_links, same_last, same_number, same_others, held_changed}
@@ -43,6 +44,10 @@ module _ {H : Type 0} (t : TableState H) where
   pub next_next : (next : Option ChunkName) (tree : TreeState) (key state : List ℕ) (slot : Slot) → IsNext t tree key state slot → IsNext (with_next t next) tree key state slot
   next_next None tree key state slot is = is
   next_next (Some name) tree key state slot is = record { key_live = is.key_live; key_is = is.key_is; state_live = is.state_live; state_is = is.state_is; width = is.width; own = is.own }
+
+  pub next_but : (next : Option ChunkName) → IsSameBut t (with_next t next)
+  next_but None = record { parent = refl; buckets = refl; keys = refl; states = refl; width = refl; hash = refl }
+  next_but (Some name) = record { parent = refl; buckets = refl; keys = refl; states = refl; width = refl; hash = refl }
 
   pub next_same : (next : Option ChunkName) (slot : Slot) → IsSameBut t (with_slot (with_next t next) slot)
   next_same None slot = record { parent = refl; buckets = refl; keys = refl; states = refl; width = refl; hash = refl }
@@ -81,6 +86,14 @@ module _ {H : Type 0} (t : TableState H) where
 
     pub held_left : held_below b t.parent + held_by (context_at a t.buckets) ≡ held_below a t.parent + held_by (context_at b t.buckets)
     held_left = held_changed a b t.parent t.buckets only placed.buckets.below placed.buckets.within
+
+  pub others_none : (a b : TreeState) → b ≡ a → KeepsOthers t a b
+  others_none a b same = record {
+    links = ap (λ (x : TreeState). x.links) same;
+    last = ap (λ (x : TreeState). x.last) same;
+    number = ap (λ (x : TreeState). length x.contexts) same;
+    others = λ slot not_buckets not_keys not_states. ap (λ (x : TreeState). get_or x.contexts slot no_context) same;
+  }
 
   pub others_twice : (a b c : TreeState) → KeepsOthers t a b → KeepsOthers t b c → KeepsOthers t a c
   others_twice a b c first second = record {
@@ -125,6 +138,27 @@ module _ {H : Type 0} (t : TableState H) where
           };
           space = is.space;
         }
+
+-- where the buckets are as they were, so is the next array
+pub next_kept : {H : Type 0} (t : TableState H) (a b : TreeState) (next : Option ChunkName) → context_at b t.buckets ≡ context_at a t.buckets → IsPlaced t b → HasNext t a next → HasNext t b next
+next_kept t a b None same placed is = is
+next_kept t a b (Some name) same placed is = record {
+  array = record {
+    there = placed.buckets.there;
+    within = placed.buckets.within;
+    set = is.array.set;
+    is_set = same ∙ is.array.is_set;
+    lives = subst (λ (c : Context). Rattle.std.specs.Prelude.IsTrue (Rattle.context_tree.specs.Contexts.has_chunk c name)) (sym same) is.array.lives;
+    whole = is.array.whole;
+  };
+  some = is.some;
+  most = is.most;
+  room = is.room;
+  empty = λ place low. ap (λ (c : Context). bucket_at (chunk_bytes c name) place) same ∙ is.empty place low;
+  apart = is.apart;
+  longer = is.longer;
+  beside = subst (IsSetWith (λ s. (is_some s.first ≡ true) × IsBesideFirst s name)) (sym same) is.beside;
+}
 
 pub always_err : {T E P : Type 0} (r : Result T E) → P → OnErr r P
 always_err (Ok x) p = tt

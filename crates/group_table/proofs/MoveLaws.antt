@@ -17,7 +17,7 @@ use Rattle.group_table.specs.Buckets.{bucket_at}
 use Rattle.group_table.specs.Index.{in_use, HasAll}
 use Rattle.group_table.specs.Table.{TableState}
 use Rattle.group_table.specs.Standing.{IsSetWith, IsBump, IsSlabOf, IsFirst, IsBesideFirst, HasArray, AreGroups, IsPlaced, IsStanding, IsArrayIn, IsArrayOf, bucket_of}
-use Rattle.group_table.specs.Arrays.{IsRewritten, OnlyIn, IsSpare, bytes_at, count_of, with_array}
+use Rattle.group_table.specs.Arrays.{IsRewritten, IsArrayAt, OnlyIn, IsSpare, bytes_at, count_of, with_array}
 use Rattle.group_table.specs.Space.{HoldsArray, AreArraysHeld, HoldsNext}
 use Rattle.group_table.proofs.ArrayLaws.{as_named, one_set}
 use Rattle.group_table.proofs.BlockLaws.{short_room, first_settled, larger_settled}
@@ -277,3 +277,26 @@ module _ {H : Type 0} (hash_of : H → List ℕ → ℕ) (t : TableState H) (nam
           let all : AreArraysHeld s t.array name number = subst (IsSetWith (HoldsNext t.array (Some name) number)) set.is holds in
           set_with (HoldsArray (Some name) (number + 1)) (context_at after t.buckets) freed is_freed
           (larger_settled s m old name number (subst (λ a. AreArraysHeld s a name number) array all) blocks_same (room_at (place_of old) ∙ was.beside.room))
+
+-- the array of a table is one in its tree, and still is when another was written over
+module _ {H : Type 0} (hash_of : H → List ℕ → ℕ) (t : TableState H) (tree : TreeState) (is : IsStanding hash_of t tree) (old : ChunkName) (array : t.array ≡ Some old) where
+  abbrev its_set : SetOf (λ s. IsFirst s × HasArray hash_of t (context_at tree t.keys) t.array s) (context_at tree t.buckets)
+  its_set = set_of (λ s. IsFirst s × HasArray hash_of t (context_at tree t.keys) t.array s) (context_at tree t.buckets) is.stands.set
+
+  its_array : IsArrayIn hash_of t (context_at tree t.keys) its_set.set old
+  its_array = subst (λ a. HasArray hash_of t (context_at tree t.keys) a its_set.set) array its_set.with.1
+
+  pub array_there : IsArrayAt tree t.buckets old
+  array_there = record {
+    there = is.placed.buckets.there;
+    within = is.placed.buckets.within;
+    set = its_set.set;
+    is_set = its_set.is;
+    lives = subst (λ (c : Context). IsTrue (has_chunk c old)) (sym its_set.is) its_array.lives;
+    whole = its_array.whole;
+  }
+
+  pub array_after : (after : TreeState) (name : ChunkName) → OnlyIn t.buckets tree after → IsRewritten (context_at tree t.buckets) (context_at after t.buckets) name → same_place (place_of name) (place_of old) ≡ false → IsArrayAt after t.buckets old
+  array_after after name only written apart =
+      let placed = placed_kept t tree after (same_links t.buckets tree after only) (same_number t.buckets tree after only) is.placed in
+      record { there = placed.buckets.there; within = placed.buckets.within; set = written.new; is_set = written.after_is; lives = (written.keeps old apart array_there.lives).1; whole = its_array.whole }

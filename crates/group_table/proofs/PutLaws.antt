@@ -1,5 +1,5 @@
 -- A group comes into the table.
-use Rattle.std.specs.Prelude.{◌≡◌, refl, ℕ, zero, suc, ◌+◌, ◌*◌, ◌/◌, ◌≤◌, ◌⊎◌, true, false, List, [], ◌∷◌, ◌++◌, Some, None, length, slice_get, is_some, unwrap_or, IsTrue}
+use Rattle.std.specs.Prelude.{◌≡◌, refl, ℕ, zero, suc, ◌+◌, ◌*◌, ◌/◌, ◌<◌, ◌≤◌, ◌⊎◌, true, false, List, [], ◌∷◌, ◌++◌, Some, None, length, slice_get, is_some, unwrap_or, IsTrue}
 use Rattle.std.proofs.Common.{inl, inr, sym, ◌∙◌, ap, subst, arith}
 use Rattle.std.proofs.lemmas.Bool.{cases_eq, false≢true}
 use Rattle.std.proofs.lemmas.List.{length_push}
@@ -145,6 +145,14 @@ module _ {H : Type 0} (hash_of : H → List ℕ → ℕ) (t : TableState H) (slo
 
       pub array_at : IsArrayAt tree t.buckets name
       array_at = record { there = is.placed.buckets.there; within = is.placed.buckets.within; set = s; is_set = set.is; lives = subst (λ (c : Context). IsTrue (has_chunk c name)) (sym set.is) was.lives; whole = was.whole }
+
+      pub index_at : IsIndex (bytes_at tree t.buckets name) (count_of name)
+      index_at = subst (λ (c : Context). IsIndex (chunk_bytes c name) (count_of name)) (sym set.is) was.array.index
+
+      pub room_at : in_use (bytes_at tree t.buckets name) (count_of name) < count_of name
+      room_at =
+          let same : room.0 ≡ name = ap (λ o. unwrap_or o name) (sym room.1 ∙ array) in
+          omega (arith, ap (λ (c : Context). in_use (chunk_bytes c name) (count_of name)) set.is, was.array.number, room.2, ap count_of same)
 
       module _ (after : TreeState) (only : OnlyIn t.buckets tree after) (written : IsRewritten b (context_at after t.buckets) name) (index : IsIndex (bytes_at after t.buckets name) (count_of name))
           (number : in_use (bytes_at after t.buckets name) (count_of name) ≡ in_use (bytes_at tree t.buckets name) (count_of name) + 1) (hash : ℕ) (hashed : hash ≡ hash_of t.hash key)

@@ -2,7 +2,7 @@
 use Rattle.std.specs.Prelude.{◌≡◌, ◌≢◌, refl, ℕ, suc, ◌+◌, ◌-◌, ◌*◌, ◌/◌, ◌<◌, ◌≤◌, ◌⊎◌, ◌==◌, max, nat_le, nat_lt, Bool, true, false, cond, if◌then◌else◌, List, [], ◌∷◌, Option, Some, None, length, get_or, drop, slice_range, is_some, unwrap_or, IsTrue}
 use Rattle.std.specs.Int.{w32, from_be_bytes}
 use Rattle.std.proofs.Common.{inl, inr, sym, ◌∙◌, ap, subst, arith}
-use Rattle.std.proofs.lemmas.Bool.{cases_lt, leb-true, false≢true, false_from_ne_true}
+use Rattle.std.proofs.lemmas.Bool.{cases_lt, leb-true, false≢true, false_from_ne_true, cond-false, ne_eqb}
 use Rattle.std.proofs.lemmas.List.{get_or-take, get_or-drop, get_or_past, length-take}
 use Rattle.block_memory.specs.Cells.{zeros}
 use Rattle.chunk_layout.specs.Pieces.{total}
@@ -16,7 +16,7 @@ use Rattle.context_tree.specs.Tree.{TreeState, context_at, with_context}
 use Rattle.context_tree.specs.declared.context.Context.{Context}
 use Rattle.context_tree.specs.declared.context.Context.TheVariants.{AllocSet}
 use Rattle.group_table.specs.Buckets.{number_at, name_at, bucket_in, bucket_at}
-use Rattle.group_table.specs.Table.{TableState, buckets_in, buckets_for, most_buckets}
+use Rattle.group_table.specs.Table.{TableState, buckets_in, buckets_for, most_buckets, array_growth}
 use Rattle.group_table.specs.Standing.{IsSetWith, IsFirst, IsBesideFirst, HasArray, HasSpace, IsBump, IsSlabOf, AreGroups, IsPlaced, IsStanding, IsTableIn, IsArrayIn}
 use Rattle.group_table.specs.Arrays.{OnlyIn, IsSpare, count_of}
 use Rattle.group_table.proofs.SetFacts.{large_first, large_some, large_chunks, large_same, large_beside, first_first, first_some, first_beside, taken_first}
@@ -37,6 +37,21 @@ module _ (count number : ℕ) (full : 4 * number ≤ 3 * count) where
 
   pub roomy : 256 ≤ count → wanted ≢ count → 4 * (number + 1) ≤ 3 * wanted
   roomy some differ = omega (arith, some, full, larger differ)
+
+-- where no more are wanted, there is room for one more group
+room_by : (b : Bool) (count number : ℕ) → nat_le (4 * (number + 1)) (3 * count) ≡ b → (if b then count else max 256 (2 * count)) ≡ count → 4 * (number + 1) ≤ 3 * count
+room_by true count number is same = leb-true (4 * (number + 1)) (3 * count) is
+room_by false count number is same = absurd (omega (arith, same))
+
+pub room_left : (a : Option ChunkName) (number : ℕ) → buckets_for (buckets_in a) number ≡ buckets_in a → (name : ChunkName) × (a ≡ Some name) × (4 * (number + 1) ≤ 3 * count_of name)
+room_left None number same = absurd (omega (arith, room_by (nat_le (4 * (number + 1)) (3 * 0)) 0 number refl same))
+room_left (Some name) number same = (name, refl, room_by (nat_le (4 * (number + 1)) (3 * (name.len / 32))) (name.len / 32) number refl same)
+
+-- and else the next array grows by what it takes
+pub array_grown : {H : Type 0} (t : TableState H) (tree : TreeState) → buckets_for (buckets_in t.array) (length t.slots) ≢ buckets_in t.array → array_growth t tree ≡ growth_of (context_at tree t.buckets) (buckets_for (buckets_in t.array) (length t.slots) * 32)
+array_grown t tree differ =
+    let w : ℕ = buckets_for (buckets_in t.array) (length t.slots) in
+    cond-false (w == buckets_in t.array) 0 (growth_of (context_at tree t.buckets) (w * 32)) (ne_eqb w (buckets_in t.array) differ)
 
 -- zeros are free buckets
 zero_at : (n i : ℕ) → get_or (zeros n) i 0 ≡ 0

@@ -23,6 +23,10 @@ module _ (t : TreeState) (id : ContextId) (c : Context) where
   as_many = length-set t.contexts id.slot c
 
 -- one context is changed, or not, or twice
+-- with another context of this id
+pub only_with : (id : ContextId) (a b : TreeState) (c : Context) → b ≡ with_context a id c → id.slot < length a.contexts → OnlyIn id a b
+only_with id a b c is within = is ∙ ap (λ (x : Context). with_context a id x) (sym (ap (λ (t : TreeState). context_at t id) is ∙ at_same a id c within))
+
 pub only_once : (id : ContextId) (t : TreeState) → id.slot < length t.contexts → OnlyIn id t t
 only_once id t within = ap (λ (cs : List Context). record { links = t.links; contexts = cs; last = t.last }) (sym (set-get_or t.contexts id.slot no_context))
 

@@ -1,8 +1,8 @@
 use Rattle.std.specs.Prelude.{◌≡◌, ◌<◌, ℕ, Some, length, true, option_map, slice_get, IsTrue}
 use Rattle.std.proofs.Common.{refl, sym, subst, ap, ◌∙◌, get_or}
 use Rattle.std.proofs.lemmas.Option.{slice_get-map, slice_get_read}
-use Rattle.context_tree.specs.Contexts.{has_chunk, chunk_bytes}
-use Rattle.context_tree.specs.Tree.{TreeState, context_at, is_there}
+use Rattle.context_tree.specs.Contexts.{has_chunk}
+use Rattle.context_tree.specs.Tree.{context_at, is_there}
 use Rattle.context_tree.specs.declared.links.ContextId.{ContextId}
 use Rattle.group_table.specs.Table.{TableState, group_in, key_in, state_in}
 use Rattle.group_table.specs.declared.table.Slot.{Slot}

@@ -1,6 +1,7 @@
-use Rattle.std.proofs.Common.{◌≡◌, ◌+◌, ◌-◌, ◌++◌, ◌∷◌, [], length, sym, subst, ◌∙◌, ap, arith}
+use Rattle.std.proofs.Common.{◌≡◌, refl, ◌+◌, ◌-◌, ◌++◌, ◌∷◌, [], length, sym, subst, ◌∙◌, ap, arith}
+use Rattle.std.proofs.lemmas.Result.{err_from_is_err_and}
 use Rattle.std.specs.Vec.{vec_capacity, vec_len}
-use Rattle.context_tree.specs.Tree.{context_at, held_below}
+use Rattle.context_tree.specs.Tree.{TreeState, context_at, held_below}
 use Rattle.context_tree.specs.declared.links.ContextId.{ContextId}
 use Rattle.group_table.specs.Table.{TableState, groups, held_in, HasNo, IsSameBut}
 use Rattle.group_table.specs.Standing.{IsSetWith, IsTableIn, IsFirst, HasArray, KeepsOthers}
@@ -8,40 +9,73 @@ use Rattle.group_table.specs.Arrays.{IsNext, with_slot}
 use Rattle.group_table.specs.Space.{keys_in, IsRunWith, IsSlabWith, HoldsArray, HoldsNext, HoldsKeyBlocks, HoldsStates}
 use Rattle.group_table.proofs.HeldLaws.{others_held}
 use Rattle.group_table.proofs.SpaceLaws.{holds_more, buckets_at, keys_after, states_after}
-use Rattle.group_table.proofs.InsertLaws.{always_err, keys_left, states_left, next_slots, next_same, others_twice, others_left, next_others, next_parent, any_space, groups_left, groups_pushed, held_left, next_left, settled_groups, settled_others, settled_next, settled_absent, settled_held}
+use Rattle.group_table.proofs.InsertLaws.{next_but, next_kept, keys_left, states_left, next_slots, next_same, others_twice, others_left, next_others, next_parent, any_space, groups_left, groups_pushed, held_left, next_left, settled_groups, settled_others, settled_next, settled_absent, settled_held}
 use Rattle.group_table.proofs.table.GroupTable.insert_noted.Goals as goal
 
-pub returns-in_err-slot-clause-refused : goal.returns-in_err-slot-clause-refused
-returns-in_err-slot-clause-refused g c =
+pub take_array-requires : goal.take_array-requires
+take_array-requires g c = record { table = c.requires.table; few = c.requires.few }
+
+pub returns-in_err-next : goal.returns-in_err-next
+returns-in_err-next g c =
+    let t = c.args.self.now in let same = c.in_err-next.ensures.unchanged in
+    let e = err_from_is_err_and c.from_residual.result c.from_residual.ensures.1 in
+    rw e.1 (record {
+      table = subst (λ (x : TreeState). IsTableIn g.H.KeyHash.hash_of t x) (sym same) c.requires.table;
+      same = record { parent = refl; buckets = refl; keys = refl; states = refl; width = refl; hash = refl };
+      slot = tt;
+      groups = tt;
+      refused = (refl, ap (λ (x : TreeState). groups t x) same);
+      others = others_left t c.args.tree.now c.take_array.new.tree c.take_array.ensures.only c.requires.table.standing.placed;
+      held = omega (arith, ap (λ (x : TreeState). held_below x t.parent) same);
+      holds = tt;
+    })
+
+pub take_group-taken-requires : goal.take_group-taken-requires
+take_group-taken-requires g c = record { standing = c.take_array.ensures.standing; state = c.requires.state; key = c.requires.key }
+
+pub settle-requires : goal.settle-requires
+settle-requires g c =
+    let two = c.take_group-taken.ensures in record {
+      standing = two.standing;
+      next = next_kept c.args.self.now c.take_array.new.tree c.take_group-taken.new.tree c.in_ok-next.next two.buckets two.standing.placed c.in_ok-next.ensures.next;
+    }
+
+pub returns-in_err-slot : goal.returns-in_err-slot
+returns-in_err-slot g c =
     let hash = g.H.KeyHash.hash_of in let t = c.args.self.now in let tree = c.args.tree.now in let a = c.take_array.new.tree in let b = c.take_group-taken.new.tree in let e = c.settle.new.tree in
     let one = c.in_ok-next.ensures in let two = c.take_group-taken.ensures in let three = c.settle.ensures in
-    always_err c.from_residual-in_err-slot.result (
-      ap (λ (x : TableState g.row.H.Denot). x.slots) three.array ∙ next_slots t c.in_ok-next.next,
-      ap (λ (x : TableState g.row.H.Denot). groups x e) three.array
-          ∙ settled_groups t c.in_ok-next.next tree a b e c.requires.table.standing.placed one.only two.others two.buckets two.groups two.standing.placed three.only,
-    )
+    let s1 = c.settle.new.self in let next = c.in_ok-next.next in let placed = c.requires.table.standing.placed in
+    let error = err_from_is_err_and c.from_residual-in_err-slot.result c.from_residual-in_err-slot.ensures.1 in
+    rw error.1 (record {
+      table = record { standing = three.standing; space = any_space (λ s. IsFirst s × HasArray hash s1 (context_at e s1.keys) s1.array s) (context_at e s1.buckets) s1.array three.room.0 three.room.1 three.standing.stands.set };
+      same = subst (λ (x : TableState g.row.H.Denot). IsSameBut t x) (sym three.array) (next_but t next);
+      slot = tt;
+      groups = tt;
+      refused = (
+        ap (λ (x : TableState g.row.H.Denot). x.slots) three.array ∙ next_slots t next,
+        ap (λ (x : TableState g.row.H.Denot). groups x e) three.array ∙ settled_groups t next tree a b e placed one.only two.others two.buckets two.groups two.standing.placed three.only,
+      );
+      others = settled_others t next tree a b e placed one.only two.others two.buckets two.groups two.standing.placed three.only;
+      held = settled_held t next tree a b e placed one.only two.others two.buckets two.groups two.standing.placed three.only (length c.args.key.now) one.held two.held three.held;
+      holds = tt;
+    })
 
-pub returns-in_err-slot-clause-held : goal.returns-in_err-slot-clause-held
-returns-in_err-slot-clause-held g c =
+pub put_slot-requires : goal.put_slot-requires
+put_slot-requires g c =
     let hash = g.H.KeyHash.hash_of in let t = c.args.self.now in let tree = c.args.tree.now in let a = c.take_array.new.tree in let b = c.take_group-taken.new.tree in let e = c.settle.new.tree in
     let one = c.in_ok-next.ensures in let two = c.take_group-taken.ensures in let three = c.settle.ensures in
-    settled_held t c.in_ok-next.next tree a b e c.requires.table.standing.placed one.only two.others two.buckets two.groups two.standing.placed three.only (length c.args.key.now) one.held two.held three.held
-
-pub put_slot-requires-clause-next : goal.put_slot-requires-clause-next
-put_slot-requires-clause-next g c =
-    let hash = g.H.KeyHash.hash_of in let t = c.args.self.now in let tree = c.args.tree.now in let a = c.take_array.new.tree in let b = c.take_group-taken.new.tree in let e = c.settle.new.tree in
-    let one = c.in_ok-next.ensures in let two = c.take_group-taken.ensures in let three = c.settle.ensures in (
-      c.args.state.now,
-      subst (λ (x : TableState g.row.H.Denot). IsNext x e c.args.key.now c.args.state.now c.in_ok-slot.slot) (sym three.array)
-          (settled_next t c.in_ok-next.next tree a b e c.requires.table.standing.placed one.only two.others two.buckets two.groups two.standing.placed three.only c.args.key.now c.args.state.now c.in_ok-slot.slot c.in_ok-slot.ensures.next),
-    )
-
-pub put_slot-requires-clause-absent : goal.put_slot-requires-clause-absent
-put_slot-requires-clause-absent g c =
-    let hash = g.H.KeyHash.hash_of in let t = c.args.self.now in let tree = c.args.tree.now in let a = c.take_array.new.tree in let b = c.take_group-taken.new.tree in let e = c.settle.new.tree in
-    let one = c.in_ok-next.ensures in let two = c.take_group-taken.ensures in let three = c.settle.ensures in
-    subst (λ (x : TableState g.row.H.Denot). HasNo x e c.args.key.now) (sym three.array)
-    (settled_absent t c.in_ok-next.next tree a b e c.requires.table.standing.placed one.only two.others two.buckets two.groups two.standing.placed three.only c.args.key.now c.requires.absent)
+    let next = c.in_ok-next.next in let placed = c.requires.table.standing.placed in
+    record {
+      standing = three.standing;
+      room = three.room;
+      next = (
+        c.args.state.now,
+        subst (λ (x : TableState g.row.H.Denot). IsNext x e c.args.key.now c.args.state.now c.in_ok-slot.slot) (sym three.array)
+            (settled_next t next tree a b e placed one.only two.others two.buckets two.groups two.standing.placed three.only c.args.key.now c.args.state.now c.in_ok-slot.slot c.in_ok-slot.ensures.next),
+      );
+      absent = subst (λ (x : TableState g.row.H.Denot). HasNo x e c.args.key.now) (sym three.array)
+          (settled_absent t next tree a b e placed one.only two.others two.buckets two.groups two.standing.placed three.only c.args.key.now c.requires.absent);
+    }
 
 pub returns-clause-table : goal.returns-clause-table
 returns-clause-table g c =
@@ -135,3 +169,11 @@ returns-clause-holds g c holds =
     holds_more t tree fin d (returns-clause-same g c) key c.args.state.now slot slots (returns-clause-groups g c) alone
     (subst (λ o. IsSetWith (HoldsArray o (length t.slots + 1)) (context_at d t.buckets)) (sym (ap (λ (y : TableState g.row.H.Denot). y.array) c.self.view_is)) put)
     keys states
+
+pub returns-clause-slot : goal.returns-clause-slot
+returns-clause-slot g c =
+    c.push_reserved.ensures.items ∙ ap (λ (y : TableState g.row.H.Denot). y.slots ++ c.in_ok-slot.slot ∷ []) (c.self.view_is ∙ c.settle.ensures.array)
+    ∙ ap (λ ys. ys ++ c.in_ok-slot.slot ∷ []) (next_slots c.args.self.now c.in_ok-next.next)
+
+pub returns-clause-refused : goal.returns-clause-refused
+returns-clause-refused g c = tt

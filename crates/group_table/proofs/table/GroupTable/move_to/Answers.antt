@@ -1,15 +1,38 @@
-use Rattle.std.proofs.Common.{◌≤◌, ◌+◌, ◌-◌, Some, sym, subst, arith}
+use Rattle.std.proofs.Common.{◌≤◌, ◌+◌, ◌-◌, Some, sym, ap, subst, arith}
 use Rattle.std.specs.Vec.{vec_capacity, vec_len}
 use Rattle.context_tree.specs.Contexts.{held_by}
 use Rattle.context_tree.specs.Tree.{TreeState, context_at}
 use Rattle.group_table.specs.Table.{TableState}
 use Rattle.group_table.specs.Standing.{IsSetWith, IsStanding}
-use Rattle.group_table.specs.Arrays.{IsSpare, OnlyIn}
+use Rattle.group_table.specs.Arrays.{IsSpare, OnlyIn, with_array}
 use Rattle.group_table.specs.Space.{HoldsArray, HoldsNext}
-use Rattle.group_table.proofs.MoveLaws.{first_moved, larger_moved, only_moved, less_held, first_holds, larger_holds}
+use Rattle.group_table.proofs.MoveLaws.{array_there, array_after, first_moved, larger_moved, only_moved, less_held, first_holds, larger_holds}
 use Rattle.group_table.proofs.TreeFacts.{only_once}
 use Rattle.group_table.proofs.table.GroupTable.move_to.Goals as goal
 use Rattle.group_table.proofs.table.GroupTable.move_to.Goals.{in-Some, in_default}
+
+pub refill-requires : goal.refill-requires
+refill-requires g c =
+    let tree = c.args.tree.now in
+    let is = subst (λ (x : TableState g.row.H.Denot). IsStanding g.H.KeyHash.hash_of x tree) (sym c.self.view_is) c.requires.standing in
+    let spare = subst (λ (x : TableState g.row.H.Denot). IsSpare x tree c.args.name) (sym c.self.view_is) c.requires.spare in
+    record {
+      from = array_there g.H.KeyHash.hash_of _ tree is c.in-Some.old c.in-Some.is;
+      to = spare.array;
+      apart = spare.apart c.in-Some.old c.in-Some.is;
+      longer = spare.longer c.in-Some.old c.in-Some.is;
+      empty = spare.empty;
+    }
+
+pub give_up-requires : goal.give_up-requires
+give_up-requires g c =
+    let tree = c.args.tree.now in
+    let is = subst (λ (x : TableState g.row.H.Denot). IsStanding g.H.KeyHash.hash_of x tree) (sym c.self.view_is) c.requires.standing in
+    let spare = subst (λ (x : TableState g.row.H.Denot). IsSpare x tree c.args.name) (sym c.self.view_is) c.requires.spare in
+    array_after g.H.KeyHash.hash_of _ tree is c.in-Some.old c.in-Some.is c.refill.new.tree c.args.name c.refill.ensures.only c.refill.ensures.rewritten (spare.apart c.in-Some.old c.in-Some.is)
+
+pub returns-clause-array : goal.returns-clause-array
+returns-clause-array g c = ap (λ (x : TableState g.row.H.Denot). with_array x c.args.name) c.self.view_is
 
 pub returns-clause-only : goal.returns-clause-only
 returns-clause-only g c =

@@ -1,18 +1,22 @@
 use Rattle.std.proofs.Common.{None, sym, subst}
 use Rattle.group_table.specs.Table.{TableState, HasNo}
 use Rattle.group_table.specs.Standing.{IsStanding}
-use Rattle.group_table.specs.Arrays.{HasNext, IsNext, with_slot}
-use Rattle.group_table.proofs.PutLaws.{array_at, stands_more}
+use Rattle.group_table.specs.Arrays.{OnlyIn, HasNext, IsNext, with_slot}
+use Rattle.group_table.proofs.PutLaws.{array_at, index_at, room_at, stands_more}
 use Rattle.group_table.proofs.table.GroupTable.put_slot.Goals as goal
 
-pub put_into-requires-clause-array : goal.put_into-requires-clause-array
-put_into-requires-clause-array g c =
+pub put_into-requires : goal.put_into-requires
+put_into-requires g c =
     let hash = g.H.KeyHash.hash_of in let tree = c.args.tree.now in let key = c.args.key.now in let slot = c.args.slot in let state = c.requires.next.0 in
     let is = subst (λ (x : TableState g.row.H.Denot). IsStanding hash x tree) (sym c.self.view_is) c.requires.standing in
     let next = subst (λ (x : TableState g.row.H.Denot). IsNext x tree key state slot) (sym c.self.view_is) c.requires.next.1 in
     let absent = subst (λ (x : TableState g.row.H.Denot). HasNo x tree key) (sym c.self.view_is) c.requires.absent in
     let room = subst (λ (x : TableState g.row.H.Denot). HasNext x tree None) (sym c.self.view_is) c.requires.room in
-    array_at hash _ slot tree is key state next absent c.in-Some.name c.in-Some.is room
+    record {
+      array = array_at hash _ slot tree is key state next absent c.in-Some.name c.in-Some.is room;
+      index = index_at hash _ slot tree is key state next absent c.in-Some.name c.in-Some.is room;
+      room = room_at hash _ slot tree is key state next absent c.in-Some.name c.in-Some.is room;
+    }
 
 pub returns-clause-standing : goal.returns-clause-standing
 returns-clause-standing g c =
@@ -24,3 +28,6 @@ returns-clause-standing g c =
     subst (λ (x : TableState g.row.H.Denot). IsStanding hash (with_slot x slot) c.put_into.new.tree) c.self.view_is
     (stands_more hash _ slot tree is key state next absent c.in-Some.name c.in-Some.is room c.put_into.new.tree c.put_into.ensures.only c.put_into.ensures.rewritten c.put_into.ensures.index c.put_into.ensures.more
     c.key_hash-hash.result c.key_hash-hash.ensures c.put_into.ensures.put)
+
+pub returns-clause-only : goal.returns-clause-only
+returns-clause-only g c = subst (λ (x : TableState g.row.H.Denot). OnlyIn x.buckets c.args.tree.now c.put_into.new.tree) c.self.view_is c.put_into.ensures.only

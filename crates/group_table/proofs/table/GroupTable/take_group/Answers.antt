@@ -1,90 +1,90 @@
 use Rattle.std.proofs.Common.{◌≡◌, ◌+◌, ◌≤◌, ◌++◌, ◌∷◌, [], length, sym, subst, ◌∙◌, ap, arith}
-use Rattle.context_tree.specs.Contexts.{growth_of, IsCounted}
+use Rattle.context_tree.specs.Contexts.{growth_of, has_chunk, chunk_bytes, IsCounted}
+use Rattle.std.specs.Prelude.{IsTrue}
 use Rattle.context_tree.specs.Tree.{TreeState, context_at, held_below}
 use Rattle.context_tree.specs.declared.context.Context.{Context}
 use Rattle.group_table.specs.Table.{TableState, groups}
-use Rattle.group_table.specs.Standing.{IsStanding}
+use Rattle.group_table.specs.Standing.{IsStanding, KeepsOthers}
+use Rattle.group_table.specs.Arrays.{IsNext}
 use Rattle.group_table.specs.Space.{IsRunWith, IsSlabWith, HoldsKeyBlocks, HoldsStates}
-use Rattle.group_table.proofs.GroupLaws.{keys_is, key_taken, groups_by_key, held_by_key, states_same, states_is, state_taken, keys_same, groups_by_state, held_by_state}
+use Rattle.group_table.proofs.GroupLaws.{buckets_same, others_by_key, buckets_same_by_state, others_by_state, keys_is, key_taken, groups_by_key, held_by_key, states_same, states_is, state_taken, keys_same, groups_by_state, held_by_state}
+use Rattle.group_table.proofs.InsertLaws.{others_none, others_twice}
 use Rattle.group_table.proofs.SpaceLaws.{run_more, slab_more}
 use Rattle.group_table.proofs.table.GroupTable.take_group.Goals as goal
 
-pub returns-in-Ok-alloc-clause-standing : goal.returns-in-Ok-alloc-clause-standing
-returns-in-Ok-alloc-clause-standing g c =
-    let hash = g.H.KeyHash.hash_of in let tree = c.args.tree.now in let mid = c.alloc.new.self in let after = c.alloc-2.new.self in
-    let is = subst (λ (x : TableState g.row.H.Denot). IsStanding hash x tree) (sym c.self.view_is) c.requires.standing in
-    let key = c.in-Ok.ensures in let state = c.in-Ok-alloc.ensures in
-    subst (λ (x : TableState g.row.H.Denot). IsStanding hash x after) c.self.view_is
-    (state_taken hash _ mid after (key_taken hash _ tree mid is _ _ c.in-Ok.key key.space key.keeps) _ _ c.in-Ok-alloc.state state.space state.keeps)
+pub returns-in_default : goal.returns-in_default
+returns-in_default g c =
+    let t = c.args.self.now in let tree = c.args.tree.now in let same = c.in_default.ensures.unchanged in
+    record {
+      standing = subst (λ (x : TreeState). IsStanding g.H.KeyHash.hash_of t x) (sym same) c.requires.standing;
+      buckets = ap (λ (x : TreeState). context_at x t.buckets) same;
+      others = others_none t tree c.alloc.new.self same;
+      groups = ap (λ (x : TreeState). groups t x) same;
+      next = tt;
+      held = omega (arith, ap (λ (x : TreeState). held_below x t.parent) same);
+      keys = tt;
+      states = tt;
+    }
 
-pub returns-in-Ok-alloc-clause-groups : goal.returns-in-Ok-alloc-clause-groups
-returns-in-Ok-alloc-clause-groups g c =
-    let hash = g.H.KeyHash.hash_of in let tree = c.args.tree.now in let mid = c.alloc.new.self in let after = c.alloc-2.new.self in
+pub returns-in-Err : goal.returns-in-Err
+returns-in-Err g c =
+    let hash = g.H.KeyHash.hash_of in let t = c.args.self.now in let tree = c.args.tree.now in let mid = c.alloc.new.self in
     let is = subst (λ (x : TableState g.row.H.Denot). IsStanding hash x tree) (sym c.self.view_is) c.requires.standing in
-    let key = c.in-Ok.ensures in let state = c.in-Ok-alloc.ensures in
-    let first = key_taken hash _ tree mid is _ _ c.in-Ok.key key.space key.keeps in
-    subst (λ (x : TableState g.row.H.Denot). groups x after ≡ groups x tree) c.self.view_is
-    (groups_by_state hash _ mid after first _ _ c.in-Ok-alloc.state state.space state.keeps ∙ groups_by_key hash _ tree mid is _ _ c.in-Ok.key key.space key.keeps)
+    let key = c.in-Ok.ensures in let same = c.in-Err.ensures.unchanged in
+    record {
+      standing = subst (λ (x : TreeState). IsStanding hash t x) (sym same) (subst (λ (x : TableState g.row.H.Denot). IsStanding hash x mid) c.self.view_is (key_taken hash _ tree mid is _ _ c.in-Ok.key key.space key.keeps));
+      buckets = ap (λ (x : TreeState). context_at x t.buckets) same ∙ subst (λ (x : TableState g.row.H.Denot). context_at mid x.buckets ≡ context_at tree x.buckets) c.self.view_is (buckets_same hash _ tree mid is _ _ c.in-Ok.key key.space key.keeps);
+      others = others_twice t tree mid c.alloc-2.new.self (subst (λ (x : TableState g.row.H.Denot). KeepsOthers x tree mid) c.self.view_is (others_by_key hash _ tree mid is _ _ c.in-Ok.key key.space key.keeps)) (others_none t mid c.alloc-2.new.self same);
+      groups = ap (λ (x : TreeState). groups t x) same ∙ subst (λ (x : TableState g.row.H.Denot). groups x mid ≡ groups x tree) c.self.view_is (groups_by_key hash _ tree mid is _ _ c.in-Ok.key key.space key.keeps);
+      next = tt;
+      held =
+          let one = held_by_key hash _ tree mid is _ _ c.in-Ok.key key.space key.keeps _ key.grown in
+          let here = ap (λ (x : TreeState). held_below x c.self.inside.parent) same in
+          subst (λ (x : TableState g.row.H.Denot). held_below c.alloc-2.new.self x.parent ≤ held_below tree x.parent + growth_of (context_at tree x.keys) (length c.args.key.now) + growth_of (context_at tree x.states) x.width) c.self.view_is
+          (omega (arith, one, here));
+      keys = tt;
+      states = tt;
+    }
 
-pub returns-in-Ok-alloc-clause-held : goal.returns-in-Ok-alloc-clause-held
-returns-in-Ok-alloc-clause-held g c =
-    let hash = g.H.KeyHash.hash_of in let tree = c.args.tree.now in let mid = c.alloc.new.self in let after = c.alloc-2.new.self in
-    let is = subst (λ (x : TableState g.row.H.Denot). IsStanding hash x tree) (sym c.self.view_is) c.requires.standing in
-    let width = subst (λ (x : TableState g.row.H.Denot). length c.args.state.now ≡ x.width) (sym c.self.view_is) c.requires.state in
-    let key = c.in-Ok.ensures in let state = c.in-Ok-alloc.ensures in
-    let first = key_taken hash _ tree mid is _ _ c.in-Ok.key key.space key.keeps in
-    let one = held_by_key hash _ tree mid is _ _ c.in-Ok.key key.space key.keeps _ key.grown in
-    let two = held_by_state hash _ mid after first _ _ c.in-Ok-alloc.state state.space state.keeps _ state.grown in
-    let same = ap (λ (x : Context). growth_of x (length c.args.state.now)) (states_same hash _ tree mid is _ _ c.in-Ok.key key.space key.keeps) in
-    let asked = ap (λ n. growth_of (context_at tree c.self.inside.states) n) width in
-    subst (λ (x : TableState g.row.H.Denot). held_below after x.parent ≤ held_below tree x.parent + growth_of (context_at tree x.keys) (length c.args.key.now) + growth_of (context_at tree x.states) x.width) c.self.view_is
-    (omega (arith, one, two, same, asked))
-
-pub returns-in-Err-clause-standing : goal.returns-in-Err-clause-standing
-returns-in-Err-clause-standing g c =
-    let hash = g.H.KeyHash.hash_of in let tree = c.args.tree.now in let mid = c.alloc.new.self in
-    let is = subst (λ (x : TableState g.row.H.Denot). IsStanding hash x tree) (sym c.self.view_is) c.requires.standing in
-    let key = c.in-Ok.ensures in
-    subst (λ (x : TreeState). IsStanding hash c.args.self.now x) (sym c.in-Err.ensures.unchanged)
-    (subst (λ (x : TableState g.row.H.Denot). IsStanding hash x mid) c.self.view_is (key_taken hash _ tree mid is _ _ c.in-Ok.key key.space key.keeps))
-
-pub returns-in-Err-clause-groups : goal.returns-in-Err-clause-groups
-returns-in-Err-clause-groups g c =
-    let hash = g.H.KeyHash.hash_of in let tree = c.args.tree.now in let mid = c.alloc.new.self in
-    let is = subst (λ (x : TableState g.row.H.Denot). IsStanding hash x tree) (sym c.self.view_is) c.requires.standing in
-    let key = c.in-Ok.ensures in
-    ap (λ (x : TreeState). groups c.args.self.now x) c.in-Err.ensures.unchanged
-    ∙ subst (λ (x : TableState g.row.H.Denot). groups x mid ≡ groups x tree) c.self.view_is (groups_by_key hash _ tree mid is _ _ c.in-Ok.key key.space key.keeps)
-
-pub returns-in-Err-clause-held : goal.returns-in-Err-clause-held
-returns-in-Err-clause-held g c =
-    let hash = g.H.KeyHash.hash_of in let tree = c.args.tree.now in let mid = c.alloc.new.self in
-    let is = subst (λ (x : TableState g.row.H.Denot). IsStanding hash x tree) (sym c.self.view_is) c.requires.standing in
-    let key = c.in-Ok.ensures in
-    let one = held_by_key hash _ tree mid is _ _ c.in-Ok.key key.space key.keeps _ key.grown in
-    let same = ap (λ (x : TreeState). held_below x c.self.inside.parent) c.in-Err.ensures.unchanged in
-    subst (λ (x : TableState g.row.H.Denot). held_below c.alloc-2.new.self x.parent ≤ held_below tree x.parent + growth_of (context_at tree x.keys) (length c.args.key.now) + growth_of (context_at tree x.states) x.width) c.self.view_is
-    (omega (arith, one, same))
-
-pub returns-in-Ok-alloc-clause-keys : goal.returns-in-Ok-alloc-clause-keys
-returns-in-Ok-alloc-clause-keys g c keys =
-    let hash = g.H.KeyHash.hash_of in let tree = c.args.tree.now in let mid = c.alloc.new.self in let after = c.alloc-2.new.self in
-    let is = subst (λ (x : TableState g.row.H.Denot). IsStanding hash x tree) (sym c.self.view_is) c.requires.standing in
-    let key = c.in-Ok.ensures in let state = c.in-Ok-alloc.ensures in
-    let first = key_taken hash _ tree mid is _ _ c.in-Ok.key key.space key.keeps in
-    subst (λ (x : TableState g.row.H.Denot). IsRunWith (HoldsKeyBlocks keys) (context_at tree x.keys) → IsRunWith (HoldsKeyBlocks (keys ++ c.args.key.now ∷ [])) (context_at after x.keys)) c.self.view_is
-    (λ holds. subst (IsRunWith (HoldsKeyBlocks (keys ++ c.args.key.now ∷ []))) (sym (keys_same hash _ mid after first _ _ c.in-Ok-alloc.state state.space state.keeps))
-    (run_more (context_at tree c.self.inside.keys) (context_at mid c.self.inside.keys) c.args.key.now c.in-Ok.key (keys_is hash _ tree mid is _ _ c.in-Ok.key key.space key.keeps) key.grown c.requires.key keys holds))
-
-pub returns-in-Ok-alloc-clause-states : goal.returns-in-Ok-alloc-clause-states
-returns-in-Ok-alloc-clause-states g c number =
+pub returns-in-Ok-alloc : goal.returns-in-Ok-alloc
+returns-in-Ok-alloc g c =
     let hash = g.H.KeyHash.hash_of in let tree = c.args.tree.now in let mid = c.alloc.new.self in let after = c.alloc-2.new.self in
     let is = subst (λ (x : TableState g.row.H.Denot). IsStanding hash x tree) (sym c.self.view_is) c.requires.standing in
     let width = subst (λ (x : TableState g.row.H.Denot). length c.args.state.now ≡ x.width) (sym c.self.view_is) c.requires.state in
     let key = c.in-Ok.ensures in let state = c.in-Ok-alloc.ensures in
     let first = key_taken hash _ tree mid is _ _ c.in-Ok.key key.space key.keeps in
     let same = states_same hash _ tree mid is _ _ c.in-Ok.key key.space key.keeps in
-    let counted = subst IsCounted (sym same) c.spare_by_count.ensures in
-    subst (λ (x : TableState g.row.H.Denot). IsSlabWith (HoldsStates x.width number) (context_at tree x.states) → IsSlabWith (HoldsStates x.width (number + 1)) (context_at after x.states)) c.self.view_is
-    (λ holds. slab_more (context_at mid c.self.inside.states) (context_at after c.self.inside.states) c.self.inside.width c.args.state.now c.in-Ok-alloc.state (states_is hash _ mid after first _ _ c.in-Ok-alloc.state state.space state.keeps) state.grown width is.stands.width counted number
-    (subst (IsSlabWith (HoldsStates c.self.inside.width number)) (sym same) holds))
+    let kept = keys_same hash _ mid after first _ _ c.in-Ok-alloc.state state.space state.keeps in
+    record {
+      standing = subst (λ (x : TableState g.row.H.Denot). IsStanding hash x after) c.self.view_is (state_taken hash _ mid after first _ _ c.in-Ok-alloc.state state.space state.keeps);
+      buckets = subst (λ (x : TableState g.row.H.Denot). context_at after x.buckets ≡ context_at tree x.buckets) c.self.view_is
+          (buckets_same_by_state hash _ mid after first _ _ c.in-Ok-alloc.state state.space state.keeps ∙ buckets_same hash _ tree mid is _ _ c.in-Ok.key key.space key.keeps);
+      others = subst (λ (x : TableState g.row.H.Denot). KeepsOthers x tree after) c.self.view_is
+          (others_twice _ tree mid after (others_by_key hash _ tree mid is _ _ c.in-Ok.key key.space key.keeps) (others_by_state hash _ mid after first _ _ c.in-Ok-alloc.state state.space state.keeps));
+      groups = subst (λ (x : TableState g.row.H.Denot). groups x after ≡ groups x tree) c.self.view_is
+          (groups_by_state hash _ mid after first _ _ c.in-Ok-alloc.state state.space state.keeps ∙ groups_by_key hash _ tree mid is _ _ c.in-Ok.key key.space key.keeps);
+      next = subst (λ (x : TableState g.row.H.Denot). IsNext x after c.args.key.now c.args.state.now (record { key = c.in-Ok.key; state = c.in-Ok-alloc.state })) c.self.view_is (record {
+        key_live = subst (λ (k : Context). IsTrue (has_chunk k c.in-Ok.key)) (sym kept) key.lives;
+        key_is = ap (λ (k : Context). chunk_bytes k c.in-Ok.key) kept ∙ key.holds;
+        state_live = state.lives;
+        state_is = state.holds;
+        width = state.added.len ∙ width;
+        own = λ other there. (state.keeps other.state (first.stands.groups.states_live other there)).0;
+      });
+      held =
+          let one = held_by_key hash _ tree mid is _ _ c.in-Ok.key key.space key.keeps _ key.grown in
+          let two = held_by_state hash _ mid after first _ _ c.in-Ok-alloc.state state.space state.keeps _ state.grown in
+          let alike = ap (λ (x : Context). growth_of x (length c.args.state.now)) same in
+          let asked = ap (λ n. growth_of (context_at tree c.self.inside.states) n) width in
+          subst (λ (x : TableState g.row.H.Denot). held_below after x.parent ≤ held_below tree x.parent + growth_of (context_at tree x.keys) (length c.args.key.now) + growth_of (context_at tree x.states) x.width) c.self.view_is
+          (omega (arith, one, two, alike, asked));
+      keys = λ keys.
+          subst (λ (x : TableState g.row.H.Denot). IsRunWith (HoldsKeyBlocks keys) (context_at tree x.keys) → IsRunWith (HoldsKeyBlocks (keys ++ c.args.key.now ∷ [])) (context_at after x.keys)) c.self.view_is
+          (λ holds. subst (IsRunWith (HoldsKeyBlocks (keys ++ c.args.key.now ∷ []))) (sym (keys_same hash _ mid after first _ _ c.in-Ok-alloc.state state.space state.keeps))
+          (run_more (context_at tree c.self.inside.keys) (context_at mid c.self.inside.keys) c.args.key.now c.in-Ok.key (keys_is hash _ tree mid is _ _ c.in-Ok.key key.space key.keeps) key.grown c.requires.key keys holds));
+      states = λ number.
+          let counted = subst IsCounted (sym same) c.spare_by_count.ensures in
+          subst (λ (x : TableState g.row.H.Denot). IsSlabWith (HoldsStates x.width number) (context_at tree x.states) → IsSlabWith (HoldsStates x.width (number + 1)) (context_at after x.states)) c.self.view_is
+          (λ holds. slab_more (context_at mid c.self.inside.states) (context_at after c.self.inside.states) c.self.inside.width c.args.state.now c.in-Ok-alloc.state (states_is hash _ mid after first _ _ c.in-Ok-alloc.state state.space state.keeps) state.grown width is.stands.width counted number
+          (subst (IsSlabWith (HoldsStates c.self.inside.width number)) (sym same) holds));
+    }
