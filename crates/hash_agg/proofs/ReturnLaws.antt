@@ -1,5 +1,5 @@
 -- What is the same at most returns of a pass.
-use Rattle.std.specs.Prelude.{◌≡◌, ◌≢◌, refl, ℕ, ◌+◌, ◌≤◌, true, false, List, [], OnOk, Ok, Err}
+use Rattle.std.specs.Prelude.{◌≡◌, ◌≢◌, refl, ℕ, ◌+◌, ◌≤◌, true, false, List, [], IfOk, OnOk, Ok, Err}
 use Rattle.std.specs.Result.{IsErr}
 use Rattle.std.specs.declared.result.Result.{Result}
 use Rattle.std.proofs.Common.{sym, ap, subst, arith}
@@ -15,6 +15,10 @@ use Rattle.hash_agg.proofs.StepLaws.{as_many}
 pub no_ok : {T E : Type 0} (r : Result T E) (P : Type 0) → IsErr r → OnOk r P
 no_ok (Ok x) P is = absurd cc
 no_ok (Err e) P is = tt
+
+pub no_if_ok : {T E : Type 0} (r : Result T E) (P : T → Type 0) → IsErr r → IfOk r P
+no_if_ok (Ok x) P is = absurd cc
+no_if_ok (Err e) P is = tt
 
 pub ok_any : {T E : Type 0} (r : Result T E) (P : Type 0) → P → OnOk r P
 ok_any (Ok x) P holds = holds

@@ -16,7 +16,9 @@ use Rattle.hash_agg.specs.Waiting.{Waits, Costs, AddsUp}
 use Rattle.hash_agg.proofs.KeyLaws.{if_ok, if_ok_both}
 use Rattle.hash_agg.proofs.FewLaws.{few_passes}
 use Rattle.hash_agg.proofs.FitLaws.{all_fit}
-use Rattle.hash_agg.proofs.DiskLaws.{refused_longer}
+use Rattle.hash_agg.proofs.DiskLaws.{refused_longer, moves_none}
+use Rattle.hash_agg.proofs.ReturnLaws.{no_ok, no_if_ok}
+use Rattle.spill_lists.specs.declared.error.SpillError.TheVariants.{NoMemory}
 use Rattle.hash_agg.proofs.StepLaws.{err_out, on_ok, on_error}
 use Rattle.hash_agg.proofs.NeedLaws.{ok_from}
 use Rattle.hash_agg.proofs.CountLaws.{all_made, made_rise, all_few, few_keys}
@@ -47,8 +49,53 @@ is_aggregate q hf inputs run all rises stands =
 pub first_pass-requires-clause-inputs : goal.first_pass-requires-clause-inputs
 first_pass-requires-clause-inputs g c = subst (λ (query : Checked). AllByRecursion (IsInput (meaning query)) (map brought c.args.inputs.now)) (sym c.in_ok-plan.ensures.query) c.requires.inputs
 
-pub returns-in_err-run-clause-undamaged : goal.returns-in_err-run-clause-undamaged
-returns-in_err-run-clause-undamaged g c = err_out c.from_residual-in_err-run.result c.in_err-run.field-0.0 _ c.from_residual-in_err-run.ensures.1 (λ honest. c.in_err-run.ensures.undamaged)
+pub returns-in_err-plan : goal.returns-in_err-plan
+returns-in_err-plan g c =
+    let none = c.from_residual.ensures.0 in
+    record {
+      aggregate = no_if_ok c.from_residual.result _ none;
+      run = no_if_ok c.from_residual.result _ none;
+      few = no_if_ok c.from_residual.result _ none;
+      work = no_ok c.from_residual.result _ none;
+      pages = no_ok c.from_residual.result _ none;
+      passes = no_ok c.from_residual.result _ none;
+      held = no_ok c.from_residual.result _ none;
+      undamaged = err_out c.from_residual.result NoMemory _ c.from_residual.ensures.1 (λ honest same. cc);
+      refused = err_out c.from_residual.result NoMemory _ c.from_residual.ensures.1 tt;
+      disk = moves_none _ _ _;
+    }
+
+pub returns-in_err-pass : goal.returns-in_err-pass
+returns-in_err-pass g c =
+    let none = c.from_residual-in_err-pass.ensures.0 in
+    record {
+      aggregate = no_if_ok c.from_residual-in_err-pass.result _ none;
+      run = no_if_ok c.from_residual-in_err-pass.result _ none;
+      few = no_if_ok c.from_residual-in_err-pass.result _ none;
+      work = no_ok c.from_residual-in_err-pass.result _ none;
+      pages = no_ok c.from_residual-in_err-pass.result _ none;
+      passes = no_ok c.from_residual-in_err-pass.result _ none;
+      held = no_ok c.from_residual-in_err-pass.result _ none;
+      undamaged = err_out c.from_residual-in_err-pass.result NoMemory _ c.from_residual-in_err-pass.ensures.1 (λ honest same. cc);
+      refused = err_out c.from_residual-in_err-pass.result NoMemory _ c.from_residual-in_err-pass.ensures.1 tt;
+      disk = moves_none _ _ _;
+    }
+
+pub returns-in_err-run : goal.returns-in_err-run
+returns-in_err-run g c =
+    let none = c.from_residual-in_err-run.ensures.0 in
+    record {
+      aggregate = no_if_ok c.from_residual-in_err-run.result _ none;
+      run = no_if_ok c.from_residual-in_err-run.result _ none;
+      few = no_if_ok c.from_residual-in_err-run.result _ none;
+      work = no_ok c.from_residual-in_err-run.result _ none;
+      pages = no_ok c.from_residual-in_err-run.result _ none;
+      passes = no_ok c.from_residual-in_err-run.result _ none;
+      held = no_ok c.from_residual-in_err-run.result _ none;
+      undamaged = err_out c.from_residual-in_err-run.result c.in_err-run.field-0.0 _ c.from_residual-in_err-run.ensures.1 (λ honest. c.in_err-run.ensures.undamaged);
+      refused = err_out c.from_residual-in_err-run.result c.in_err-run.field-0.0 _ c.from_residual-in_err-run.ensures.1 c.in_err-run.ensures.refused;
+      disk = c.first_pass.ensures.disk;
+    }
 
 pub returns-clause-aggregate : goal.returns-clause-aggregate
 returns-clause-aggregate g c =

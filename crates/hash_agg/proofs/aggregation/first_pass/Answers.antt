@@ -17,7 +17,9 @@ use Rattle.hash_agg.proofs.StepLaws.{on_ok, ok_both, err_out, get_in}
 use Rattle.hash_agg.proofs.NeedLaws.{none_held, held_by_both}
 use Rattle.hash_agg.proofs.UnionLaws.{none_safe, safe_moved}
 use Rattle.hash_agg.proofs.WholeLaws.{all_given, given_at, given_long, brought_at}
-use Rattle.hash_agg.proofs.DiskLaws.{moves_none, moves_twice}
+use Rattle.hash_agg.proofs.DiskLaws.{moves_none, moves_twice, refused_longer}
+use Rattle.hash_agg.proofs.ReturnLaws.{no_ok, no_if_ok, same_table}
+use Rattle.spill_lists.specs.declared.error.SpillError.TheVariants.{NoMemory}
 use Rattle.hash_agg.proofs.LoopLaws.{same_table_twice, keeps_none, keeps_next, room_by, reads_by}
 use Rattle.hash_agg.proofs.CountLaws.{can_read_input, input_read, input_brings}
 use Rattle.hash_agg.proofs.FirstLaws.{if_ok_on, input_few, first_holds, first_total, first_waits, first_few}
@@ -52,23 +54,62 @@ add_input-requires-clause-few g c =
     let all = c.requires.few in
     omega (arith, few, all)
 
-pub returns-in_err-add_input-clause-undamaged : goal.returns-in_err-add_input-clause-undamaged
-returns-in_err-add_input-clause-undamaged g c =
-    let q : Query = meaning c.args.plan.now.query.now in
-    let hf : List ℕ → ℕ = g.H.KeyHash.hash_of c.args.pass.now.groups.table.hash in
-    let at_loop : List ℕ → ℕ = g.H.KeyHash.hash_of c.loop-input.pass.groups.table.hash in
-    let inputs : List Brought = map brought c.args.inputs.now in
-    let i : ℕ = c.loop-input.input-index in
-    let input : Brought = brought c.input-item.result in
-    let here = brought_at c.args.inputs.now i c.input-item.result c.loop-input-test.true c.input-item.is in
-    let at : slice_get inputs i ≡ Some input = get_in inputs i input here.1 ∙ ap Some (sym here.0) in
-    let given = all_given q inputs c.requires.inputs in
-    let found = given_at q inputs given.0 i input given.1 here.1 here.0 in
-    let now : PassState = standing c.loop-input.pass.groups c.loop-input.pass.lists (g.D.TapeDisk.last c.loop-input.disk) in
-    err_out c.from_residual-in_err-add_input.result c.in_err-add_input.field-0.0 _ c.from_residual-in_err-add_input.ensures.1
-    (c.in_err-add_input.ensures.undamaged
-    (room_by c.args.plan.now hf at_loop (AreOf q input) (ap g.H.KeyHash.hash_of c.loop-input.invariant.keeps.table.hash) now
-    (can_read_input c.args.plan.now hf inputs given.0 i input at found c.requires.inputs given.1 c.requires.few now [] [] (c.loop-input.invariant.reads given.0 given.1))))
+pub returns-in_err-row : goal.returns-in_err-row
+returns-in_err-row g c =
+    let none = c.from_residual.ensures.0 in
+    record {
+      waits = no_if_ok c.from_residual.result _ none;
+      safe = no_if_ok c.from_residual.result _ none;
+      rises = no_if_ok c.from_residual.result _ none;
+      few = no_if_ok c.from_residual.result _ none;
+      empty = no_ok c.from_residual.result _ none;
+      counted = no_ok c.from_residual.result _ none;
+      held = no_ok c.from_residual.result _ none;
+      parts = no_ok c.from_residual.result _ none;
+      source = no_ok c.from_residual.result _ none;
+      unheld = no_ok c.from_residual.result _ none;
+      alive = no_ok c.from_residual.result _ none;
+      table = same_table c.args.plan.now.limit _;
+      undamaged = err_out c.from_residual.result NoMemory _ c.from_residual.ensures.1 (λ same. cc);
+      refused = err_out c.from_residual.result NoMemory _ c.from_residual.ensures.1 tt;
+      disk = moves_none _ _ _;
+    }
+
+pub returns-in_err-add_input : goal.returns-in_err-add_input
+returns-in_err-add_input g c =
+    let none = c.from_residual-in_err-add_input.ensures.0 in
+    record {
+      waits = no_if_ok c.from_residual-in_err-add_input.result _ none;
+      safe = no_if_ok c.from_residual-in_err-add_input.result _ none;
+      rises = no_if_ok c.from_residual-in_err-add_input.result _ none;
+      few = no_if_ok c.from_residual-in_err-add_input.result _ none;
+      empty = no_ok c.from_residual-in_err-add_input.result _ none;
+      counted = no_ok c.from_residual-in_err-add_input.result _ none;
+      held = no_ok c.from_residual-in_err-add_input.result _ none;
+      parts = no_ok c.from_residual-in_err-add_input.result _ none;
+      source = no_ok c.from_residual-in_err-add_input.result _ none;
+      unheld = no_ok c.from_residual-in_err-add_input.result _ none;
+      alive = no_ok c.from_residual-in_err-add_input.result _ none;
+      table = same_table_twice {limit = c.args.plan.now.limit} _ _ _ c.loop-input.invariant.keeps.table c.add_input.ensures.table;
+      undamaged =
+          let q : Query = meaning c.args.plan.now.query.now in
+          let hf : List ℕ → ℕ = g.H.KeyHash.hash_of c.args.pass.now.groups.table.hash in
+          let at_loop : List ℕ → ℕ = g.H.KeyHash.hash_of c.loop-input.pass.groups.table.hash in
+          let inputs : List Brought = map brought c.args.inputs.now in
+          let i : ℕ = c.loop-input.input-index in
+          let input : Brought = brought c.input-item.result in
+          let here = brought_at c.args.inputs.now i c.input-item.result c.loop-input-test.true c.input-item.is in
+          let at : slice_get inputs i ≡ Some input = get_in inputs i input here.1 ∙ ap Some (sym here.0) in
+          let given = all_given q inputs c.requires.inputs in
+          let found = given_at q inputs given.0 i input given.1 here.1 here.0 in
+          let now : PassState = standing c.loop-input.pass.groups c.loop-input.pass.lists (g.D.TapeDisk.last c.loop-input.disk) in
+          err_out c.from_residual-in_err-add_input.result c.in_err-add_input.field-0.0 _ c.from_residual-in_err-add_input.ensures.1
+          (c.in_err-add_input.ensures.undamaged
+          (room_by c.args.plan.now hf at_loop (AreOf q input) (ap g.H.KeyHash.hash_of c.loop-input.invariant.keeps.table.hash) now
+          (can_read_input c.args.plan.now hf inputs given.0 i input at found c.requires.inputs given.1 c.requires.few now [] [] (c.loop-input.invariant.reads given.0 given.1))));
+      refused = err_out c.from_residual-in_err-add_input.result c.in_err-add_input.field-0.0 _ c.from_residual-in_err-add_input.ensures.1 (refused_longer _ _ _ _ _ c.loop-input.invariant.disk.failures (omega arith) c.in_err-add_input.ensures.refused);
+      disk = moves_twice _ _ _ _ _ _ _ _ _ c.loop-input.invariant.disk c.add_input.ensures.disk;
+    }
 
 pub loop-input-preserved : goal.loop-input-preserved
 loop-input-preserved g c =

@@ -11,7 +11,9 @@ use Rattle.group_runs.specs.Runs.{Entry}
 use Rattle.group_runs.specs.Chunks.{on_end}
 use Rattle.hash_agg.specs.Passes.{AreOnce, AreSafe, setting_of, ReadsList, CanReadList, entries_of, standing, Stands}
 use Rattle.hash_agg.specs.Waiting.{AddsUp, pass_cost}
-use Rattle.hash_agg.proofs.DiskLaws.{moves_none, moves_twice}
+use Rattle.hash_agg.proofs.DiskLaws.{moves_none, moves_twice, refused_longer}
+use Rattle.hash_agg.proofs.ReturnLaws.{no_ok, no_if_ok, refused_spill, undamaged_spill}
+use Rattle.spill_lists.specs.declared.error.SpillError.TheVariants.{NoMemory}
 use Rattle.hash_agg.proofs.SortLaws.{rises_once}
 use Rattle.hash_agg.proofs.UnionLaws.{one_run_more, safe_append, safe_moved, moved_stands}
 use Rattle.hash_agg.proofs.KeyLaws.{if_ok}
@@ -44,16 +46,63 @@ loop-pass-init g c =
           (waiting_begins q (setting_of c.args.plan.now hf) pieces c.args.run c.args.pass.now.lists (g.D.TapeDisk.last c.args.disk.now) made todo c.args.work.now (g.D.TapeDisk.writes c.args.disk.now) has waits (rises_once c.args.run c.requires.rises) costs);
     }
 
-pub returns-in_err-add_list-clause-undamaged : goal.returns-in_err-add_list-clause-undamaged
-returns-in_err-add_list-clause-undamaged g c =
-    let hf : List ℕ → ℕ = g.H.KeyHash.hash_of c.args.pass.now.groups.table.hash in
-    let i = c.loop-pass.invariant in
-    err_out c.from_residual.result c.in_err-add_list.field-0.0 _ c.from_residual.ensures.1
-    (λ honest pieces todo made has waits count costs.
-    c.in_err-add_list.ensures.undamaged (subst IsTrue (sym i.moves.honesty) honest)
-    (subst (λ hash. CanReadList c.args.plan.now (g.H.KeyHash.hash_of hash) (standing c.loop-pass.pass.groups c.begin_pass.new.self (g.D.TapeDisk.last c.loop-pass.disk))) (sym i.hash)
-    (pass_can c.args.plan.now hf pieces (on_end (c.args.run ∷ c.loop-pass.others.items)) (entries_of c.loop-pass.pass.groups) c.loop-pass.pass.lists c.begin_pass.new.self (g.D.TapeDisk.last c.loop-pass.disk) made c.args.work.now c.loop-pass.work (g.D.TapeDisk.writes c.args.disk.now) (g.D.TapeDisk.writes c.loop-pass.disk) (i.waits honest pieces todo made has waits count costs) count
-    (c.begin_pass.ensures.begins c.loop-pass-test.true))))
+pub returns-in_err-add_list : goal.returns-in_err-add_list
+returns-in_err-add_list g c =
+    let none = c.from_residual.ensures.0 in
+    record {
+      stands = no_if_ok c.from_residual.result _ none;
+      safe = no_if_ok c.from_residual.result _ none;
+      rises = no_if_ok c.from_residual.result _ none;
+      few = no_if_ok c.from_residual.result _ none;
+      counted = no_ok c.from_residual.result _ none;
+      held = no_ok c.from_residual.result _ none;
+      undamaged =
+          let hf : List ℕ → ℕ = g.H.KeyHash.hash_of c.args.pass.now.groups.table.hash in
+          let i = c.loop-pass.invariant in
+          err_out c.from_residual.result c.in_err-add_list.field-0.0 _ c.from_residual.ensures.1
+          (λ honest pieces todo made has waits count costs.
+          c.in_err-add_list.ensures.undamaged (subst IsTrue (sym i.moves.honesty) honest)
+          (subst (λ hash. CanReadList c.args.plan.now (g.H.KeyHash.hash_of hash) (standing c.loop-pass.pass.groups c.begin_pass.new.self (g.D.TapeDisk.last c.loop-pass.disk))) (sym i.hash)
+          (pass_can c.args.plan.now hf pieces (on_end (c.args.run ∷ c.loop-pass.others.items)) (entries_of c.loop-pass.pass.groups) c.loop-pass.pass.lists c.begin_pass.new.self (g.D.TapeDisk.last c.loop-pass.disk) made c.args.work.now c.loop-pass.work (g.D.TapeDisk.writes c.args.disk.now) (g.D.TapeDisk.writes c.loop-pass.disk) (i.waits honest pieces todo made has waits count costs) count
+          (c.begin_pass.ensures.begins c.loop-pass-test.true))));
+      refused = err_out c.from_residual.result c.in_err-add_list.field-0.0 _ c.from_residual.ensures.1 (refused_longer _ _ _ _ _ c.loop-pass.invariant.moves.failures (omega arith) c.in_err-add_list.ensures.refused);
+      disk = moves_twice _ _ _ _ _ _ _ _ _ c.loop-pass.invariant.moves c.add_list.ensures.disk;
+    }
+
+pub returns-in_err-more : goal.returns-in_err-more
+returns-in_err-more g c =
+    let none = c.from_residual-in_err-more.ensures.0 in
+    record {
+      stands = no_if_ok c.from_residual-in_err-more.result _ none;
+      safe = no_if_ok c.from_residual-in_err-more.result _ none;
+      rises = no_if_ok c.from_residual-in_err-more.result _ none;
+      few = no_if_ok c.from_residual-in_err-more.result _ none;
+      counted = no_ok c.from_residual-in_err-more.result _ none;
+      held = no_ok c.from_residual-in_err-more.result _ none;
+      undamaged = err_out c.from_residual-in_err-more.result c.in_err-more.field-0.0 _ c.from_residual-in_err-more.ensures.1 (λ honest pieces todo made has waits count costs. undamaged_spill _ _ c.in_err-more.field-0.0 c.in_err-more.ensures.refused);
+      refused = err_out c.from_residual-in_err-more.result c.in_err-more.field-0.0 _ c.from_residual-in_err-more.ensures.1
+          (let first = c.loop-pass.invariant.moves.failures in let then = c.add_list.ensures.disk.failures in refused_longer _ (g.D.TapeDisk.failures c.add_list.new.disk) _ _ c.in_err-more.field-0.0 (omega (arith, first, then)) (omega arith) (refused_spill _ _ c.in_err-more.field-0.0 c.in_err-more.ensures.refused));
+      disk = moves_twice (g.D.TapeDisk.failures c.args.disk.now) (g.D.TapeDisk.failures c.add_list.new.disk) (g.D.TapeDisk.failures c.finish.new.disk) (g.D.TapeDisk.writes c.args.disk.now) (g.D.TapeDisk.writes c.add_list.new.disk) (g.D.TapeDisk.writes c.finish.new.disk) (g.D.TapeDisk.honest c.args.disk.now) (g.D.TapeDisk.honest c.add_list.new.disk) (g.D.TapeDisk.honest c.finish.new.disk)
+          (moves_twice (g.D.TapeDisk.failures c.args.disk.now) (g.D.TapeDisk.failures c.loop-pass.disk) (g.D.TapeDisk.failures c.add_list.new.disk) (g.D.TapeDisk.writes c.args.disk.now) (g.D.TapeDisk.writes c.loop-pass.disk) (g.D.TapeDisk.writes c.add_list.new.disk) (g.D.TapeDisk.honest c.args.disk.now) (g.D.TapeDisk.honest c.loop-pass.disk) (g.D.TapeDisk.honest c.add_list.new.disk) c.loop-pass.invariant.moves c.add_list.ensures.disk)
+          c.finish.ensures.disk;
+    }
+
+pub returns-in_err-push : goal.returns-in_err-push
+returns-in_err-push g c =
+    let none = c.from_residual-in_err-push.ensures.0 in
+    record {
+      stands = no_if_ok c.from_residual-in_err-push.result _ none;
+      safe = no_if_ok c.from_residual-in_err-push.result _ none;
+      rises = no_if_ok c.from_residual-in_err-push.result _ none;
+      few = no_if_ok c.from_residual-in_err-push.result _ none;
+      counted = no_ok c.from_residual-in_err-push.result _ none;
+      held = no_ok c.from_residual-in_err-push.result _ none;
+      undamaged = err_out c.from_residual-in_err-push.result NoMemory _ c.from_residual-in_err-push.ensures.1 (λ honest pieces todo made has waits count costs same. cc);
+      refused = err_out c.from_residual-in_err-push.result NoMemory _ c.from_residual-in_err-push.ensures.1 tt;
+      disk = moves_twice (g.D.TapeDisk.failures c.args.disk.now) (g.D.TapeDisk.failures c.add_list.new.disk) (g.D.TapeDisk.failures c.finish.new.disk) (g.D.TapeDisk.writes c.args.disk.now) (g.D.TapeDisk.writes c.add_list.new.disk) (g.D.TapeDisk.writes c.finish.new.disk) (g.D.TapeDisk.honest c.args.disk.now) (g.D.TapeDisk.honest c.add_list.new.disk) (g.D.TapeDisk.honest c.finish.new.disk)
+          (moves_twice (g.D.TapeDisk.failures c.args.disk.now) (g.D.TapeDisk.failures c.loop-pass.disk) (g.D.TapeDisk.failures c.add_list.new.disk) (g.D.TapeDisk.writes c.args.disk.now) (g.D.TapeDisk.writes c.loop-pass.disk) (g.D.TapeDisk.writes c.add_list.new.disk) (g.D.TapeDisk.honest c.args.disk.now) (g.D.TapeDisk.honest c.loop-pass.disk) (g.D.TapeDisk.honest c.add_list.new.disk) c.loop-pass.invariant.moves c.add_list.ensures.disk)
+          c.finish.ensures.disk;
+    }
 
 pub loop-pass-preserved : goal.loop-pass-preserved
 loop-pass-preserved g c =
