@@ -1,6 +1,6 @@
 -- The row of an answer that a group gives.
 use Rattle.std.specs.Prelude.{◌≡◌, ◌≢◌, refl, ℕ, zero, suc, ◌+◌, ◌<◌, true, false, cond, List, [], ◌∷◌, ◌++◌, map, flat_map, length, take, drop, slice_get, slice_index_or, Some}
-use Rattle.std.proofs.Common.{sym, ◌∙◌, ap, subst, arith, add-one, append-nil, append_assoc}
+use Rattle.std.proofs.Common.{sym, ◌∙◌, ap, subst, arith, append-nil, append_assoc}
 use Rattle.std.proofs.lemmas.List.Concat.{flat_map-cons}
 use Rattle.grouping_model.specs.Datum.{Bigint_kind, HasKinds}
 use Rattle.grouping_model.specs.Aggregates.{Partial, Outcome, Plain, outcome}

@@ -74,9 +74,6 @@ with_others-requires-clause-few g c =
     subst (λ n. n + all_rows (map brought c.deref.result.now) < 2 ^ 57) (sym rows)
     (first_few c.self.inside.query c.self.inside.parts.entries first (map brought c.deref.result.now) c.self.invariant c.in-Some.ensures.first (ap (map brought) c.deref.ensures.value ∙ c.in_ok-others.ensures))
 
-of_both : {G : Type 0} → G → G
-of_both x = x
-
 pub show-requires-2 : goal.show-requires-2
 show-requires-2 g c =
     let held : Held = record { query = c.self.inside.query; parts = c.self.inside.parts.entries } in
