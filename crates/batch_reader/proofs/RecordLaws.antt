@@ -18,7 +18,7 @@ use Rattle.packed_rows.specs.View.{kind_of, kinds_of}
 use Rattle.packed_rows.specs.declared.value.ValueKind.{ValueKind}
 use Rattle.packed_rows.specs.declared.value.ValueKind.TheVariants as kind
 use Rattle.batch_reader.specs.Rows.{ArePackedRows, ReadsRows, packings, records_of}
-use Rattle.batch_reader.specs.Refusal.{RecordFault, RowsFault}
+use Rattle.batch_reader.specs.Refusal.{BuildFault, HeadReads, RecordFault, RowsFault}
 use Rattle.batch_reader.specs.declared.error.BatchError.{BatchError}
 use Rattle.batch_reader.specs.declared.error.BatchError.TheVariants.{NoMemory, WrongWidth, BadField}
 
@@ -131,6 +131,27 @@ rows_long kinds (f ∷ records) [] r = absurd r
 
 pub packed_long : (kinds : List Kind) (rs : List ByteRecord) (bytes : List (List ℕ)) → (rows : List Row) × ReadsRows kinds (records_of rs) rows × (bytes ≡ packings rows) → length bytes ≡ length rs
 packed_long kinds rs bytes packed = ap length packed.2 ∙ rows_long kinds (records_of rs) packed.0 packed.1 ∙ records_long rs
+
+-- as many as are told were read
+pub all_told : {X : Type 0} (records : List X) (told i : ℕ) → i ≡ told → i ≤ length records → length (take told records) ≡ told
+all_told records told i last within = omega (arith, last, within, length-take told records)
+
+-- what is kept then: all rows, or the fault of the batch
+pub kept_all : (kinds : List Kind) (records : List (List (List ℕ))) (i : ℕ) (fault : Option BatchError) (bytes : List (List ℕ)) → length records ≡ i → fault ≡ None
+    → KeptSoFar kinds records i fault bytes → (rows : List Row) × ReadsRows kinds records rows × (bytes ≡ packings rows)
+kept_all kinds records i fault bytes long none kept = rows_all kinds records i bytes long (kept_rows kinds records i fault bytes (ap is_some none) kept)
+
+fault_built : (kinds : List Kind) (origin number : List ℕ) (told : ℕ) (records : List (List (List ℕ))) (why : BatchError) → HeadReads origin number → told ≤ MOST_ROWS → length records ≡ told
+    → RowsFault kinds records why → BuildFault kinds origin number told records why
+fault_built kinds origin number told records NoMemory head few long fault = tt
+fault_built kinds origin number told records (WrongWidth row) head few long fault = (head, few, long, fault)
+fault_built kinds origin number told records (BadField row column) head few long fault = (head, few, long, fault)
+fault_built kinds origin number told records error head few long fault = absurd fault.fault
+
+pub kept_built : (kinds : List Kind) (origin number : List ℕ) (told : ℕ) (records : List (List (List ℕ))) (i : ℕ) (fault : Option BatchError) (bytes : List (List ℕ)) (why : BatchError) → HeadReads origin number → told ≤ MOST_ROWS → length records ≡ told → fault ≡ Some why
+    → KeptSoFar kinds records i fault bytes → BuildFault kinds origin number told records why
+kept_built kinds origin number told records i fault bytes why head few long is kept =
+    fault_built kinds origin number told records why head few long (subst (λ f. KeptSoFar kinds records i f bytes) is kept)
 
 -- the rows that records stand for have the kinds of the columns
 rows_of_kinds : (kinds : List Kind) (records : List (List (List ℕ))) (rows : List Row) → ReadsRows kinds records rows → AllByRecursion (HasKinds kinds) rows

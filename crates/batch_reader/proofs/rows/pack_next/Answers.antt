@@ -1,9 +1,10 @@
-use Rattle.std.specs.Prelude.{◌≡◌, ◌≤◌, ◌+◌, [], is_some, false, true, length, take}
+use Rattle.std.specs.Prelude.{◌≡◌, ◌≤◌, ◌+◌, [], is_some, false, true, drop, length, take}
 use Rattle.std.proofs.Common.{arith, ap, refl, sym, ◌∙◌}
 use Rattle.std.proofs.lemmas.List.{length-take}
+use Rattle.std.proofs.lemmas.Result.{err_from_is_err_and}
 use Rattle.csv.specs.Records.{fields_of}
 use Rattle.packed_rows.specs.Columns.{kinds}
-use Rattle.batch_reader.proofs.RecordLaws.{KeptSoFar, fewer_told, kept_fault, kept_more, kept_rows, rows_long, told_item}
+use Rattle.batch_reader.proofs.RecordLaws.{KeptSoFar, all_told, fewer_told, kept_all, kept_built, kept_fault, kept_more, kept_rows, rows_long, told_item}
 use Rattle.batch_reader.proofs.rows.pack_next.Goals as goal
 use Rattle.batch_reader.proofs.rows.pack_next.Goals.{then-is_none, else-is_none}
 
@@ -29,22 +30,42 @@ loop-row-preserved c =
     ] in
     record { left = sym item.2; within = within; kept = kept }
 
-pub returns-then-not-branch-clause-refused : goal.returns-then-not-branch-clause-refused
-returns-then-not-branch-clause-refused c = λ origin number head.
-    let none = rw c.if-not-branch.true at c.in_ok-read.ensures in
-    (head, c.requires, (fewer_told c.args.told c.loop-row.row c.args.records.now c.loop-row-test.true (sym c.loop-row.invariant.left ∙ none.0)).0)
+pub returns-in_err-read : goal.returns-in_err-read
+returns-in_err-read c =
+    let p = err_from_is_err_and c.from_residual.result c.from_residual.ensures.1 in
+    rw p.1 (record { packed = tt; told = tt; refused = tt; left = c.in_err-read.ensures })
 
-pub returns-then-not-branch-clause-left : goal.returns-then-not-branch-clause-left
-returns-then-not-branch-clause-left c =
+pub returns-then-not-branch : goal.returns-then-not-branch
+returns-then-not-branch c =
     let none = rw c.if-not-branch.true at c.in_ok-read.ensures in
-    none.1 ∙ sym (fewer_told c.args.told c.loop-row.row c.args.records.now c.loop-row-test.true (sym c.loop-row.invariant.left ∙ none.0)).1
+    let fewer = fewer_told c.args.told c.loop-row.row c.args.records.now c.loop-row-test.true (sym c.loop-row.invariant.left ∙ none.0) in
+    record { packed = tt; told = tt; refused = λ origin number head. (head, c.requires, fewer.0); left = none.1 ∙ sym fewer.1 }
 
-pub returns-in-None-clause-told : goal.returns-in-None-clause-told
-returns-in-None-clause-told c =
+pub returns-in-None : goal.returns-in-None
+returns-in-None c =
     let inv = c.loop-row.invariant in
-    let all = take c.args.told c.args.records.now in
+    let records = c.args.records.now in
+    let all = take c.args.told records in
     let last : c.loop-row.row ≡ c.args.told = omega arith in
-    let within = inv.within in
-    let kept = kept_rows (kinds c.args.schema.now) all c.loop-row.row c.loop-row.fault c.loop-row.rows (ap is_some c.in-None.is) inv.kept in
-    let long : length c.loop-row.rows ≡ length (take c.loop-row.row all) = ap length kept.2 ∙ rows_long (kinds c.args.schema.now) (take c.loop-row.row all) kept.0 kept.1 in
-    omega (arith, long, last, within, length-take c.loop-row.row all, length-take c.args.told c.args.records.now)
+    let long = all_told records c.args.told c.loop-row.row last inv.within in
+    let rows = kept_all (kinds c.args.schema.now) all c.loop-row.row c.loop-row.fault c.loop-row.rows (long ∙ sym last) c.in-None.is inv.kept in
+    record {
+      packed = rows;
+      told = ap length rows.2 ∙ rows_long (kinds c.args.schema.now) all rows.0 rows.1 ∙ long;
+      refused = tt;
+      left = inv.left ∙ ap (λ n. drop n records) last;
+    }
+
+pub returns-in-Some : goal.returns-in-Some
+returns-in-Some c =
+    let inv = c.loop-row.invariant in
+    let records = c.args.records.now in
+    let all = take c.args.told records in
+    let last : c.loop-row.row ≡ c.args.told = omega arith in
+    let long = all_told records c.args.told c.loop-row.row last inv.within in
+    record {
+      packed = tt;
+      told = tt;
+      refused = λ origin number head. kept_built (kinds c.args.schema.now) origin number c.args.told all c.loop-row.row c.loop-row.fault c.loop-row.rows _ head c.requires long c.in-Some.is inv.kept;
+      left = inv.left ∙ ap (λ n. drop n records) last;
+    }
