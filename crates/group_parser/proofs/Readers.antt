@@ -1,12 +1,12 @@
 -- What the readers of the code need of the reading functions.
-use Rattle.std.proofs.Common.{◌≡◌, ℕ, zero, suc, ◌+◌, Bool, true, false, List, [], ◌∷◌, ◌++◌, length, map, Some, None, Ok, Err, refl, sym, ap, ◌∙◌, arith}
+use Rattle.std.proofs.Common.{◌≡◌, ◌≢◌, ℕ, zero, suc, ◌+◌, ◌-◌, Bool, true, false, List, [], ◌∷◌, ◌++◌, length, map, Some, None, Ok, Err, refl, sym, ap, ◌∙◌, arith}
 use Rattle.std.specs.Prelude.{codes}
 use Rattle.query_tokens.specs.Words.{Lexeme}
 use Rattle.query_checks.specs.Forms as form
 use Rattle.query_grammar.specs.Terminals.{is_word, is_sign}
 use Rattle.query_grammar.specs.Grammar.{Named}
 use Rattle.query_grammar.specs.Queries.{most_open}
-use Rattle.query_grammar.specs.Reading.{Read, Fault, Unexpected, Too_deep, Inner, ◌>>=◌, after, cmp_at, tested, test_at, not_at, joined, and_at, or_at, condition_at, conditions}
+use Rattle.query_grammar.specs.Reading.{Read, Fault, Unexpected, Too_deep, Inner, ◌>>=◌, after, expect, enclosed_at, cmp_at, tested, test_at, not_at, joined, and_at, or_at, condition_at, conditions}
 use Rattle.query_grammar.proofs.Locality.{condition_step, tested_stays, joined_stays, not_stays, and_stays}
 use Rattle.std.proofs.lemmas.List.{map_push}
 use Rattle.query_tokens.specs.declared.word.Symbol.TheVariants as symbols
@@ -142,6 +142,15 @@ test_stops whole x f rest behind g e h = chain_fails (codes "is") tested whole x
 
 pub chain_ends : (operator : List ℕ) (step : Named → List Lexeme → Read Named) (whole : Read Named) (x : Named) (rest : List Lexeme) → Goes operator step whole x rest → None ≡ after (is_word operator) rest → whole ≡ Ok (x, rest)
 chain_ends operator step whole x rest g e = chain_done operator step whole x rest g (sym e)
+
+-- ---- parentheses
+
+-- where one more may be opened, the condition in it is read first
+pub inside_first : (inner : Inner) (room : ℕ) (ts : List Lexeme) → room ≢ 0
+    → enclosed_at inner room ts ≡ (inner.inside (room - 1) ts >>= λ x. (expect (is_sign symbols.Close) x.1 >>= λ closed. Ok (x.0, closed.1)))
+unfolding enclosed_at
+inside_first inner zero ts some = absurd (some refl)
+inside_first inner (suc room) ts some = let e : suc room - 1 ≡ room = omega arith in rw e refl
 
 -- ---- lists
 
