@@ -1,10 +1,11 @@
 -- Values whose texts lie on end.
-use Rattle.std.specs.Prelude.{◌≡◌, ℕ, ◌-◌, ◌≤◌, List, [], ◌∷◌, ◌++◌, length, take, drop, slice_index, slice_range}
+use Rattle.std.specs.Prelude.{◌≡◌, ℕ, ◌+◌, ◌-◌, ◌<◌, ◌≤◌, List, [], ◌∷◌, ◌++◌, length, take, drop, slice_get, slice_index, slice_range, Some, option_map}
 use Rattle.std.specs.Str.{IsCharBoundary, IsUtf8}
-use Rattle.std.proofs.Common.{sym, ◌∙◌, ap, subst, arith, inl, inr, refl, append-nil}
+use Rattle.std.proofs.Common.{sym, ◌∙◌, ap, subst, arith, inl, inr, refl, append-nil, get_or}
 use Rattle.std.proofs.lemmas.Bool.{cases_lt}
-use Rattle.std.proofs.lemmas.List.{get_or_append_left, take-append-le, drop-append-le, length-append, length-drop, map_push}
-use Rattle.std.proofs.lemmas.List.Elements.{All-head, All-tail, All-weaker, All-push}
+use Rattle.std.proofs.lemmas.List.{get_or_append_left, get_or-drop, get_or-take, take-append-le, drop-append-le, length-append, length-drop, length-map, map_push}
+use Rattle.std.proofs.lemmas.Option.{slice_get-map, slice_get-get_or}
+use Rattle.std.proofs.lemmas.List.Elements.{All-get_or, All-head, All-tail, All-weaker, All-push}
 use Rattle.std.proofs.lemmas.Str.{IsUtf8-nil, IsCharBoundary-at_seam, IsCharBoundary-end}
 use Rattle.grouping_model.specs.Aggregates.{Outcome, Plain}
 use Rattle.grouping_model.specs.Datum as datum
@@ -94,3 +95,24 @@ outcomes_with text longer cells more cell outcome grows all is shown =
     ap (outcomes_in longer) is
     ∙ map_push (outcome_in longer) cells cell
     ∙ (λ i. same_outcomes text longer cells grows all i ++ shown i ∷ [])
+
+-- the cell so many places behind another, and what it is
+pub record CellAt (texts : List ℕ) (run : List Outcome) (place : ℕ) (cell : Cell) : Type 0 where
+  pub lies : LiesIn texts cell
+  pub is : slice_get run place ≡ Some (outcome_in texts cell)
+
+pub cell_at : (texts these : List ℕ) (cells those : List Cell) (run : List Outcome) (from place : ℕ) → texts ≡ these → cells ≡ those → AllLieIn these those → outcomes_in these those ≡ run → from + place < length run
+    → CellAt texts run (from + place) (get_or (take (length cells - from) (drop from cells)) place Null)
+cell_at texts these cells those run from place same alike lie view low =
+    let all : AllLieIn texts cells = subst (λ texts. AllLieIn texts cells) (sym same) (subst (AllLieIn these) (sym alike) lie) in
+    let is : outcomes_in texts cells ≡ run = (λ i. outcomes_in (same i) (alike i)) ∙ view in
+    let long = ap length (sym is) ∙ length-map cells (outcome_in texts) in
+    let within : from + place < length cells = omega (arith, low, long) in
+    let at : get_or (take (length cells - from) (drop from cells)) place Null ≡ get_or cells (from + place) Null = get_or-take (length cells - from) (drop from cells) place Null (omega (arith, within)) ∙ get_or-drop from cells place Null in
+    record {
+      lies = subst (LiesIn texts) (sym at) (All-get_or (LiesIn texts) cells (from + place) Null within all);
+      is =
+          ap (λ run. slice_get run (from + place)) (sym is)
+          ∙ slice_get-map (outcome_in texts) cells (from + place)
+          ∙ ap (option_map (outcome_in texts)) (slice_get-get_or cells (from + place) Null within ∙ ap Some (sym at));
+    }
