@@ -6,7 +6,7 @@ use Rattle.packed_rows.specs.Field.{IsTextField}
 use Rattle.std.proofs.lemmas.List.Elements.{Contains-append_right}
 use Rattle.std.proofs.lemmas.List.Concat.{flat_map-append}
 use Rattle.packed_rows.specs.Packing.{value_packing, packing}
-use Rattle.std.proofs.lemmas.List.{map_push, take_more, take_all, drop_more, drop_all, get_or-map, length-map}
+use Rattle.std.proofs.lemmas.List.{map_more, map_push, take_more, take_all, drop_more, drop_all, get_or-map, length-map}
 use Rattle.packed_rows.specs.Field.{Reads, ReadsRow, IsBadField, IsLeftmostBad}
 use Rattle.packed_rows.specs.declared.value.Value.{Value}
 use Rattle.packed_rows.specs.declared.value.ValueKind.{ValueKind}
@@ -14,6 +14,15 @@ use Rattle.packed_rows.specs.View.{datum_of, row_of, kind_of, kinds_of, texts_of
 use Rattle.std.specs.Borrow.{Bor}
 use Rattle.packed_rows.specs.declared.value.ValueKind.TheVariants as kind
 use Rattle.packed_rows.proofs.PackingOrder.{value_apart, zero_apart}
+
+-- the packing of one value more
+pub packed_next : (values : List Value) (i : ℕ) (d : Value) (before after : List ℕ) → i < length values → before ≡ packing (row_of (take i values)) → after ≡ before ++ value_packing (datum_of (slice_index_or values i d)) → after ≡ packing (row_of (take (i + 1) values))
+packed_next values i d before after low so_far more =
+    let value = datum_of (slice_index_or values i d) in
+    more
+    ∙ (λ j. so_far j ++ sym (append-nil (value_packing value)) j)
+    ∙ sym (flat_map-append value_packing (row_of (take i values)) (value ∷ []))
+    ∙ ap packing (sym (map_more datum_of values i d low))
 
 -- what is left to unpack: the bytes are the values so far and these, and each row of the bytes has them in front
 pub record Unpacked (kinds left : List Kind) (bytes : List ℕ) (row : Row) (rest : List ℕ) : Type 0 where
