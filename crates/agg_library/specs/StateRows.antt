@@ -10,10 +10,10 @@ use Rattle.agg_library.specs.declared.kind.AggKind.{AggKind}
 use Rattle.agg_library.specs.Kinds.{function_of, kind_shape, kind_width, row_width}
 
 -- the bytes denote these partial results, one of each kind, that count at most so many rows each (own)
-abbrev pub Denotes : ℕ → List AggKind → List ℕ → List Partial → Type 0
-Denotes most [] bytes [] = bytes ≡ []
-Denotes most (kind ∷ kinds) bytes (p ∷ ps) = states.Denotes most (kind_shape kind) (take (kind_width kind) bytes) p × Denotes most kinds (drop (kind_width kind) bytes) ps
-Denotes most kinds bytes partials = ⊥
+abbrev pub DenotesAll : ℕ → List AggKind → List ℕ → List Partial → Type 0
+DenotesAll most [] bytes [] = bytes ≡ []
+DenotesAll most (kind ∷ kinds) bytes (p ∷ ps) = states.Denotes most (kind_shape kind) (take (kind_width kind) bytes) p × DenotesAll most kinds (drop (kind_width kind) bytes) ps
+DenotesAll most kinds bytes partials = ⊥
 
 -- what is known before any row (own)
 abbrev pub initial_partials : List AggKind → List Partial

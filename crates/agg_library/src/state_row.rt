@@ -11,7 +11,7 @@ ghost use Rattle.agg_protocol.specs.Results.{outcome_of};
 ghost use Rattle.agg_protocol.specs.States as states;
 ghost use Rattle.agg_protocol.specs.States.{rows_of, most_rows};
 ghost use Rattle.agg_library.specs.Kinds.{function_of, functions_of, kind_shape, kind_width, row_width};
-ghost use Rattle.agg_library.specs.StateRows.{Denotes, initial_partials, partial_after, AllWithin, part_at, with_part};
+ghost use Rattle.agg_library.specs.StateRows.{DenotesAll, initial_partials, partial_after, AllWithin, part_at, with_part};
 ghost use Rattle.agg_library.specs.declared.kind.AggKind.{AggKind};
 
 use crate::counting::{CountRows, CountValues};
@@ -111,7 +111,7 @@ impl StateRow {
     /// Writes the row of states before any row. It has the width of these states.
     pub fn init_into(kinds: &[AggKind], row: &mut [u8])
         requires { length row.old ≡ row_width kinds.now }
-        ensures { Denotes 0 kinds.now row.new (initial_partials kinds.now) }
+        ensures { DenotesAll 0 kinds.now row.new (initial_partials kinds.now) }
     {
         if let Some((kind, kinds)) = kinds.split_first() {
             let (part, rest) = row.split_at_mut(kind.width());
@@ -127,8 +127,8 @@ impl StateRow {
     /// `BadState` if they are not.
     pub fn check(kinds: &[AggKind], row: &[u8], most: u64) -> Result<(), BadState>
         requires { most ≤ most_rows }
-        ensures ok { OnOk result ((ps : List Partial) × Denotes most kinds.now row.now ps) }
-        ensures err { OnErr result ((ps : List Partial) → ¬ (Denotes most kinds.now row.now ps)) }
+        ensures ok { OnOk result ((ps : List Partial) × DenotesAll most kinds.now row.now ps) }
+        ensures err { OnErr result ((ps : List Partial) → ¬ (DenotesAll most kinds.now row.now ps)) }
     {
         let Some((kind, kinds)) = kinds.split_first() else {
             return Self::check_end(row);
@@ -167,11 +167,11 @@ impl StateRow {
         most: u64,
     ) -> Result<(), BadState>
         requires { most ≤ most_rows }
-        ensures ok { OnOk result ((ps qs : List Partial) × Denotes most kinds.now into.old ps
-            × Denotes most kinds.now from.now qs
-            × Denotes most kinds.now into.new (combine_all (functions_of kinds.now) ps qs)) }
-        ensures err { OnErr result ((ps qs : List Partial) → Denotes most kinds.now into.old ps →
-            Denotes most kinds.now from.now qs →
+        ensures ok { OnOk result ((ps qs : List Partial) × DenotesAll most kinds.now into.old ps
+            × DenotesAll most kinds.now from.now qs
+            × DenotesAll most kinds.now into.new (combine_all (functions_of kinds.now) ps qs)) }
+        ensures err { OnErr result ((ps qs : List Partial) → DenotesAll most kinds.now into.old ps →
+            DenotesAll most kinds.now from.now qs →
             ¬ (AllWithin most (combine_all (functions_of kinds.now) ps qs))) }
         ensures unchanged { OnErr result (into.new ≡ into.old) }
     {
@@ -235,11 +235,11 @@ impl StateRow {
 pub fn parts_of_rows()
     ensures read { (most : ℕ) (kinds : List AggKind) (row : List ℕ) (ps : List Partial) (i : ℕ)
         (kind : AggKind) (p : Partial) →
-        Denotes most kinds row ps → slice_get kinds i ≡ Some kind → slice_get ps i ≡ Some p →
+        DenotesAll most kinds row ps → slice_get kinds i ≡ Some kind → slice_get ps i ≡ Some p →
         states.Denotes most (kind_shape kind) (part_at kinds row i kind) p }
     ensures written { (most : ℕ) (kinds : List AggKind) (row : List ℕ) (ps : List Partial) (i : ℕ)
         (kind : AggKind) (part : List ℕ) (q : Partial) →
-        Denotes most kinds row ps → slice_get kinds i ≡ Some kind →
+        DenotesAll most kinds row ps → slice_get kinds i ≡ Some kind →
         states.Denotes most (kind_shape kind) part q →
-        Denotes most kinds (with_part kinds row i kind part) (slice_set ps i q) }
+        DenotesAll most kinds (with_part kinds row i kind part) (slice_set ps i q) }
 {}

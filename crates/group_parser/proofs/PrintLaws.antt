@@ -29,7 +29,7 @@ short_of w few =
     let three = or_parts calls bytes two.1 in
     ltb-false LONGEST_QUERY (length (spelling w)) three.1
 
-pub parsed_again : (q : Checked) (text : List ℕ) → kept.IsQuery q → text ≡ spelling (by_names q) → Accepts q.columns text q
+pub parsed_again : (q : Checked) (text : List ℕ) → kept.IsCheckedQuery q → text ≡ spelling (by_names q) → Accepts q.columns text q
 parsed_again q text is same =
     let w = by_names q in
     let first = passes_first q.columns w q is.passed in

@@ -22,7 +22,7 @@ use Rattle.agg_protocol.proofs.ArgumentLaws.{alone}
 use Rattle.agg_library.specs.declared.kind.AggKind.{AggKind}
 use Rattle.agg_library.specs.declared.kind.AggKind.TheVariants.{CountRows, Count, Sum, Min, Max, BitAnd, BitOr, BitXor, BoolAnd, BoolOr, Every}
 use Rattle.agg_library.specs.Kinds.{function_of, functions_of, kind_shape, kind_width, row_width}
-use Rattle.agg_library.specs.StateRows.{Denotes, AllWithin, initial_partials, partial_after}
+use Rattle.agg_library.specs.StateRows.{DenotesAll, AllWithin, initial_partials, partial_after}
 use Rattle.having_filter.specs.Kept.{TakesRows, IsWellFormed}
 use Rattle.group_runs.specs.Standing.{AreStates}
 use Rattle.group_runs.specs.Adding.{partial_after_row}
@@ -129,24 +129,24 @@ has_room kinds kind a row reach m bound p old takes has is reached low denoted m
 -- ---- the states of some aggregates
 
 -- the first state and the others
-pub first_and_rest : (m : ℕ) (kind : AggKind) (kinds : List AggKind) (bytes : List ℕ) (ps : List Partial) → Denotes m (kind ∷ kinds) bytes ps
-    → (p : Partial) × (qs : List Partial) × (ps ≡ p ∷ qs) × states.Denotes m (kind_shape kind) (take (kind_width kind) bytes) p × Denotes m kinds (drop (kind_width kind) bytes) qs
+pub first_and_rest : (m : ℕ) (kind : AggKind) (kinds : List AggKind) (bytes : List ℕ) (ps : List Partial) → DenotesAll m (kind ∷ kinds) bytes ps
+    → (p : Partial) × (qs : List Partial) × (ps ≡ p ∷ qs) × states.Denotes m (kind_shape kind) (take (kind_width kind) bytes) p × DenotesAll m kinds (drop (kind_width kind) bytes) qs
 first_and_rest m kind kinds bytes [] d = absurd d
 first_and_rest m kind kinds bytes (p ∷ qs) (first, rest) = (p, qs, refl, first, rest)
 
 -- the same of states that were split
-pub parted : (m : ℕ) (kind : AggKind) (kinds all : List AggKind) (bytes front back : List ℕ) (ps : List Partial) → all ≡ kind ∷ kinds → front ≡ take (kind_width kind) bytes → back ≡ drop (kind_width kind) bytes → Denotes m all bytes ps
-    → (p : Partial) × (qs : List Partial) × (ps ≡ p ∷ qs) × states.Denotes m (kind_shape kind) front p × Denotes m kinds back qs
+pub parted : (m : ℕ) (kind : AggKind) (kinds all : List AggKind) (bytes front back : List ℕ) (ps : List Partial) → all ≡ kind ∷ kinds → front ≡ take (kind_width kind) bytes → back ≡ drop (kind_width kind) bytes → DenotesAll m all bytes ps
+    → (p : Partial) × (qs : List Partial) × (ps ≡ p ∷ qs) × states.Denotes m (kind_shape kind) front p × DenotesAll m kinds back qs
 parted m kind kinds all bytes front back ps is before behind d =
-    let parts = first_and_rest m kind kinds bytes ps (subst (λ ks. Denotes m ks bytes ps) is d) in
-    (parts.0, parts.1, parts.2, subst (λ b. states.Denotes m (kind_shape kind) b parts.0) (sym before) parts.3, subst (λ b. Denotes m kinds b parts.1) (sym behind) parts.4)
+    let parts = first_and_rest m kind kinds bytes ps (subst (λ ks. DenotesAll m ks bytes ps) is d) in
+    (parts.0, parts.1, parts.2, subst (λ b. states.Denotes m (kind_shape kind) b parts.0) (sym before) parts.3, subst (λ b. DenotesAll m kinds b parts.1) (sym behind) parts.4)
 
-pub joined : (m : ℕ) (kind : AggKind) (all kinds : List AggKind) (front back : List ℕ) (p : Partial) (ps : List Partial) → all ≡ kind ∷ kinds → states.Denotes m (kind_shape kind) front p → Denotes m kinds back ps → Denotes m all (front ++ back) (p ∷ ps)
+pub joined : (m : ℕ) (kind : AggKind) (all kinds : List AggKind) (front back : List ℕ) (p : Partial) (ps : List Partial) → all ≡ kind ∷ kinds → states.Denotes m (kind_shape kind) front p → DenotesAll m kinds back ps → DenotesAll m all (front ++ back) (p ∷ ps)
 joined m kind all kinds front back p ps is d ds =
     let wide : length front ≡ kind_width kind = width_known m (kind_shape kind) front p d in
     let one : take (kind_width kind) (front ++ back) ≡ front = ap (λ n. take n (front ++ back)) (sym wide) ∙ take-append_seam front back in
     let others : drop (kind_width kind) (front ++ back) ≡ back = ap (λ n. drop n (front ++ back)) (sym wide) ∙ drop-append_seam front back in
-    subst (λ ks. Denotes m ks (front ++ back) (p ∷ ps)) (sym is) (subst (λ b. states.Denotes m (kind_shape kind) b p) (sym one) d, subst (λ b. Denotes m kinds b ps) (sym others) ds)
+    subst (λ ks. DenotesAll m ks (front ++ back) (p ∷ ps)) (sym is) (subst (λ b. states.Denotes m (kind_shape kind) b p) (sym one) d, subst (λ b. DenotesAll m kinds b ps) (sym others) ds)
 
 -- a list from a place on
 pub dropped : {X : Type 0} (xs : List X) (n : ℕ) (y : X) (ys : List X) → drop n xs ≡ y ∷ ys → (slice_get xs n ≡ Some y) × (drop (n + 1) xs ≡ ys)
@@ -167,7 +167,7 @@ first_named k ks all (a ∷ rest) is named =
     (a, rest, refl, first, others)
 
 -- the kinds matter by their functions alone
-pub by_functions : (m : ℕ) (ks ls : List AggKind) (bytes : List ℕ) (ps : List Partial) → functions_of ks ≡ functions_of ls → Denotes m ks bytes ps → Denotes m ls bytes ps
+pub by_functions : (m : ℕ) (ks ls : List AggKind) (bytes : List ℕ) (ps : List Partial) → functions_of ks ≡ functions_of ls → DenotesAll m ks bytes ps → DenotesAll m ls bytes ps
 by_functions m [] [] bytes ps e d = d
 by_functions m [] (l ∷ ls) bytes ps e d = absurd cc
 by_functions m (k ∷ ks) [] bytes ps e d = absurd cc
@@ -177,27 +177,27 @@ by_functions m (k ∷ ks) (l ∷ ls) bytes (p ∷ ps) e (first, rest) =
     let others : functions_of ks ≡ functions_of ls = cc in (
       subst (λ f. states.Denotes m (shape_of f) (take (states.width_of (shape_of f)) bytes) p) same first,
       by_functions m ks ls (drop (states.width_of (shape_of (function_of l))) bytes) ps others
-          (subst (λ f. Denotes m ks (drop (states.width_of (shape_of f)) bytes) ps) same rest),
+          (subst (λ f. DenotesAll m ks (drop (states.width_of (shape_of f)) bytes) ps) same rest),
     )
 
-pub states_by : (these : List Function) (m : ℕ) (kinds : List AggKind) (bytes : List ℕ) (ps : List Partial) → functions_of kinds ≡ these → AreStates these m bytes ps → Denotes m kinds bytes ps
+pub states_by : (these : List Function) (m : ℕ) (kinds : List AggKind) (bytes : List ℕ) (ps : List Partial) → functions_of kinds ≡ these → AreStates these m bytes ps → DenotesAll m kinds bytes ps
 states_by these m kinds bytes ps named are = by_functions m are.kinds kinds bytes ps (are.named ∙ sym named) are.denote
 
 -- the same states with another bound
-pub all_raised : (m most : ℕ) (kinds : List AggKind) (bytes : List ℕ) (ps : List Partial) → m ≤ most → Denotes m kinds bytes ps → Denotes most kinds bytes ps
+pub all_raised : (m most : ℕ) (kinds : List AggKind) (bytes : List ℕ) (ps : List Partial) → m ≤ most → DenotesAll m kinds bytes ps → DenotesAll most kinds bytes ps
 all_raised m most [] bytes [] low d = d
 all_raised m most [] bytes (p ∷ ps) low d = absurd d
 all_raised m most (k ∷ ks) bytes [] low d = absurd d
 all_raised m most (k ∷ ks) bytes (p ∷ ps) low (first, rest) =
     (raised m most (kind_shape k) (take (kind_width k) bytes) p low first, all_raised m most ks (drop (kind_width k) bytes) ps low rest)
 
-pub all_within : (m : ℕ) (kinds : List AggKind) (bytes : List ℕ) (ps : List Partial) → Denotes m kinds bytes ps → AllWithin m ps
+pub all_within : (m : ℕ) (kinds : List AggKind) (bytes : List ℕ) (ps : List Partial) → DenotesAll m kinds bytes ps → AllWithin m ps
 all_within m [] bytes [] d = tt
 all_within m [] bytes (p ∷ ps) d = absurd d
 all_within m (k ∷ ks) bytes [] d = absurd d
 all_within m (k ∷ ks) bytes (p ∷ ps) (first, rest) = (state_rows m (kind_shape k) p first.0, all_within m ks (drop (kind_width k) bytes) ps rest)
 
-pub all_lowered : (m most : ℕ) (kinds : List AggKind) (bytes : List ℕ) (ps : List Partial) → AllWithin m ps → Denotes most kinds bytes ps → Denotes m kinds bytes ps
+pub all_lowered : (m most : ℕ) (kinds : List AggKind) (bytes : List ℕ) (ps : List Partial) → AllWithin m ps → DenotesAll most kinds bytes ps → DenotesAll m kinds bytes ps
 all_lowered m most [] bytes [] few d = d
 all_lowered m most [] bytes (p ∷ ps) few d = absurd d
 all_lowered m most (k ∷ ks) bytes [] few d = absurd d
@@ -211,7 +211,7 @@ pub states_lowered : (these : List Function) (m most : ℕ) (bytes : List ℕ) (
 states_lowered these m most bytes ps few are = record { kinds = are.kinds; named = are.named; denote = all_lowered m most are.kinds bytes ps few are.denote }
 
 -- states denote one list of partial results
-pub denoted_once : (m : ℕ) (kinds : List AggKind) (bytes : List ℕ) (ps qs : List Partial) → m ≤ most_rows → Denotes m kinds bytes ps → Denotes m kinds bytes qs → ps ≡ qs
+pub denoted_once : (m : ℕ) (kinds : List AggKind) (bytes : List ℕ) (ps qs : List Partial) → m ≤ most_rows → DenotesAll m kinds bytes ps → DenotesAll m kinds bytes qs → ps ≡ qs
 denoted_once m [] bytes [] [] low d e = refl
 denoted_once m [] bytes [] (q ∷ qs) low d e = absurd e
 denoted_once m [] bytes (p ∷ ps) qs low d e = absurd d
@@ -248,7 +248,7 @@ fits kinds aggregates named few =
     let wide = narrow kinds in
     omega (arith, many, wide, few)
 
-pub states_wide : (m : ℕ) (kinds : List AggKind) (bytes : List ℕ) (ps : List Partial) → Denotes m kinds bytes ps → length bytes ≡ row_width kinds
+pub states_wide : (m : ℕ) (kinds : List AggKind) (bytes : List ℕ) (ps : List Partial) → DenotesAll m kinds bytes ps → length bytes ≡ row_width kinds
 states_wide m [] bytes [] d = ap length d
 states_wide m [] bytes (p ∷ ps) d = absurd d
 states_wide m (k ∷ ks) bytes [] d = absurd d
@@ -290,7 +290,7 @@ initial_are (k ∷ ks) (a ∷ calls) named =
 -- ---- two rows of states
 
 -- the rows of both add up
-pub rows_combined : (m n : ℕ) (kinds : List AggKind) (a b : List ℕ) (ps qs : List Partial) → Denotes m kinds a ps → Denotes n kinds b qs → AllWithin (m + n) (combine_all (functions_of kinds) ps qs)
+pub rows_combined : (m n : ℕ) (kinds : List AggKind) (a b : List ℕ) (ps qs : List Partial) → DenotesAll m kinds a ps → DenotesAll n kinds b qs → AllWithin (m + n) (combine_all (functions_of kinds) ps qs)
 rows_combined m n [] a b [] [] d e = tt
 rows_combined m n [] a b [] (q ∷ qs) d e = absurd e
 rows_combined m n [] a b (p ∷ ps) qs d e = absurd d
@@ -308,18 +308,18 @@ within_raised m n [] low few = tt
 within_raised m n (p ∷ ps) low (one, few) = (omega (arith, low, one), within_raised m n ps low few)
 
 -- states that were combined with others, within a bound
-pub combined : (m n bound : ℕ) (kinds : List AggKind) (a b new : List ℕ) (ps qs xs ys : List Partial) → m + n ≤ bound → bound ≤ most_rows → Denotes m kinds a ps → Denotes n kinds b qs
-    → Denotes bound kinds a xs → Denotes bound kinds b ys → Denotes bound kinds new (combine_all (functions_of kinds) xs ys)
-    → Denotes (m + n) kinds new (combine_all (functions_of kinds) ps qs)
+pub combined : (m n bound : ℕ) (kinds : List AggKind) (a b new : List ℕ) (ps qs xs ys : List Partial) → m + n ≤ bound → bound ≤ most_rows → DenotesAll m kinds a ps → DenotesAll n kinds b qs
+    → DenotesAll bound kinds a xs → DenotesAll bound kinds b ys → DenotesAll bound kinds new (combine_all (functions_of kinds) xs ys)
+    → DenotesAll (m + n) kinds new (combine_all (functions_of kinds) ps qs)
 combined m n bound kinds a b new ps qs xs ys low top d e x y z =
     let first : xs ≡ ps = denoted_once bound kinds a xs ps top x (all_raised m bound kinds a ps (omega (arith, low)) d) in
     let second : ys ≡ qs = denoted_once bound kinds b ys qs top y (all_raised n bound kinds b qs (omega (arith, low)) e) in
     all_lowered (m + n) bound kinds new (combine_all (functions_of kinds) ps qs) (rows_combined m n kinds a b ps qs d e)
-    (subst (λ ps. Denotes bound kinds new (combine_all (functions_of kinds) ps qs)) first (subst (λ qs. Denotes bound kinds new (combine_all (functions_of kinds) xs qs)) second z))
+    (subst (λ ps. DenotesAll bound kinds new (combine_all (functions_of kinds) ps qs)) first (subst (λ qs. DenotesAll bound kinds new (combine_all (functions_of kinds) xs qs)) second z))
 
 -- such states can be combined
-pub can_combine : (m n bound : ℕ) (kinds : List AggKind) (a b : List ℕ) (ps qs : List Partial) → m + n ≤ bound → Denotes m kinds a ps → Denotes n kinds b qs
-    → ((xs ys : List Partial) → Denotes bound kinds a xs → Denotes bound kinds b ys → ¬ (AllWithin bound (combine_all (functions_of kinds) xs ys))) → ⊥
+pub can_combine : (m n bound : ℕ) (kinds : List AggKind) (a b : List ℕ) (ps qs : List Partial) → m + n ≤ bound → DenotesAll m kinds a ps → DenotesAll n kinds b qs
+    → ((xs ys : List Partial) → DenotesAll bound kinds a xs → DenotesAll bound kinds b ys → ¬ (AllWithin bound (combine_all (functions_of kinds) xs ys))) → ⊥
 can_combine m n bound kinds a b ps qs low d e refused =
     refused ps qs (all_raised m bound kinds a ps (omega (arith, low)) d) (all_raised n bound kinds b qs (omega (arith, low)) e)
     (within_raised (m + n) bound (combine_all (functions_of kinds) ps qs) low (rows_combined m n kinds a b ps qs d e))

@@ -9,7 +9,7 @@ use Rattle.packed_rows.specs.Packing.{packing}
 use Rattle.agg_protocol.specs.States.{shape_of, width_of}
 use Rattle.agg_library.specs.declared.kind.AggKind.{AggKind}
 use Rattle.agg_library.specs.Kinds.{function_of}
-use Rattle.agg_library.specs.StateRows.{Denotes}
+use Rattle.agg_library.specs.StateRows.{DenotesAll}
 use Rattle.having_filter.specs.Kept.{key_kinds}
 use Rattle.group_runs.specs.Runs.{Entry, Rises}
 
@@ -17,7 +17,7 @@ use Rattle.group_runs.specs.Runs.{Entry, Rises}
 pub record AreStates (these : List Function) (most : ℕ) (bytes : List ℕ) (partials : List Partial) : Type 0 where
   pub kinds : List AggKind
   pub named : map function_of kinds ≡ these
-  pub denote : Denotes most kinds bytes partials
+  pub denote : DenotesAll most kinds bytes partials
 
 -- an entry stands for a group of a query: it has the packing of its key and the states of its partial results
 pub record StandsFor (query : Query) (most : ℕ) (entry : Entry) (group : Group) : Type 0 where

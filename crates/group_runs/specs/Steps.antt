@@ -8,7 +8,7 @@ use Rattle.grouping_model.specs.Grouping.{Group}
 use Rattle.grouping_model.specs.Parts.{functions, advanced, partials_at}
 use Rattle.grouping_model.specs.Query.{Query, Aggregate}
 use Rattle.agg_protocol.specs.States.{most_rows}
-use Rattle.agg_library.specs.StateRows.{Denotes, AllWithin}
+use Rattle.agg_library.specs.StateRows.{DenotesAll, AllWithin}
 use Rattle.agg_library.specs.declared.kind.AggKind.{AggKind}
 use Rattle.group_runs.specs.Runs.{Entry, Rises}
 use Rattle.group_runs.specs.Standing.{AreStates, StandsFor, AreGroups}
@@ -67,17 +67,17 @@ pub record AreAdvanced (query : Query) (bound : ℕ) (old : List ℕ) (row : Row
 
 -- the same of the states of some of the aggregates
 abbrev pub SomeAreWithin : List AggKind → ℕ → List ℕ → Type 0
-SomeAreWithin kinds bound bytes = (partials : List Partial) × Denotes bound kinds bytes partials
+SomeAreWithin kinds bound bytes = (partials : List Partial) × DenotesAll bound kinds bytes partials
 
 abbrev pub SomeHaveRoomForRow : List AggKind → ℕ → List ℕ → Type 0
-SomeHaveRoomForRow kinds bound old = (most : ℕ) × (partials : List Partial) × Denotes most kinds old partials × (most < bound)
+SomeHaveRoomForRow kinds bound old = (most : ℕ) × (partials : List Partial) × DenotesAll most kinds old partials × (most < bound)
 
 abbrev pub SomeAdvanceBy : List Aggregate → List AggKind → ℕ → List ℕ → Row → List ℕ → Type 0
 SomeAdvanceBy aggregates kinds bound old row new =
     (most : ℕ) (partials : List Partial)
     → most < bound
-    → Denotes most kinds old partials
-    → Denotes (most + 1) kinds new (advanced aggregates partials row)
+    → DenotesAll most kinds old partials
+    → DenotesAll (most + 1) kinds new (advanced aggregates partials row)
 
 -- the states of one group and others of its key can count the rows of both, within a bound, and are combined
 abbrev pub HaveRoomWithin : List Function → ℕ → List ℕ → List ℕ → Type 0

@@ -12,14 +12,14 @@ use Rattle.agg_protocol.specs.States.{IsState, shape_of, bytes_of}
 use Rattle.agg_library.specs.declared.kind.AggKind.{AggKind}
 use Rattle.agg_library.specs.declared.kind.AggKind.TheVariants as kind
 use Rattle.agg_library.specs.Kinds.{function_of, functions_of, kind_width}
-use Rattle.agg_library.specs.StateRows.{Denotes}
+use Rattle.agg_library.specs.StateRows.{DenotesAll}
 use Rattle.hash_agg.specs.Bytes.{state_bytes, group_bytes, run_bytes, ArePartials, IsGroupOf}
 use Rattle.group_runs.specs.Runs.{Entry}
 use Rattle.group_runs.specs.Standing.{StandsFor, AreGroups}
 use Rattle.group_runs.proofs.StateLaws.{joined}
 
 -- states are the bytes of their partial results
-states_bytes : (m : ℕ) (kinds : List AggKind) (bytes : List ℕ) (ps : List Partial) → Denotes m kinds bytes ps → (bytes ≡ state_bytes ps) × ArePartials m (functions_of kinds) ps
+states_bytes : (m : ℕ) (kinds : List AggKind) (bytes : List ℕ) (ps : List Partial) → DenotesAll m kinds bytes ps → (bytes ≡ state_bytes ps) × ArePartials m (functions_of kinds) ps
 states_bytes m [] bytes [] d = (d, tt)
 states_bytes m [] bytes (p ∷ ps) d = absurd d
 states_bytes m (k ∷ ks) bytes [] d = absurd d
@@ -59,7 +59,7 @@ name_all : (fs : List Function) → functions_of (map kind_for fs) ≡ fs
 name_all [] = refl
 name_all (f ∷ fs) = λ i. names_it f i ∷ name_all fs i
 
-bytes_states : (m : ℕ) (fs : List Function) (ps : List Partial) → ArePartials m fs ps → Denotes m (map kind_for fs) (state_bytes ps) ps
+bytes_states : (m : ℕ) (fs : List Function) (ps : List Partial) → ArePartials m fs ps → DenotesAll m (map kind_for fs) (state_bytes ps) ps
 bytes_states m [] [] all = refl
 bytes_states m [] (p ∷ ps) all = absurd all
 bytes_states m (f ∷ fs) [] all = absurd all

@@ -11,7 +11,7 @@ use Rattle.query_checks.specs.declared.parts.Parts.{Parts}
 use Rattle.query_checks.proofs.CheckedLaws.{reaches_places}
 use Rattle.having_filter.specs.Plans.{IsKept, PlansFor}
 use Rattle.having_filter.specs.declared.plan.Plan.{Plan}
-use Rattle.having_filter.specs.Kept.{IsQuery, by_names, headers, label_of}
+use Rattle.having_filter.specs.Kept.{IsCheckedQuery, by_names, headers, label_of}
 use Rattle.having_filter.proofs.NormalLaws.{columns_of_query, named_again, spelled_alike, label_twice}
 use Rattle.having_filter.proofs.WellLaws.{passed_query}
 
@@ -53,11 +53,11 @@ checked_here schema columns q parts same placed_so first passed =
     reaches_places columns q first ∙ ap (checked_places columns) (sym placed_so) ∙ passed ∙ ap (λ (s : List Column). Ok (checked_of s parts)) (sym same)
 
 -- what is kept of a query, of a copy of it
-pub kept_copy : (a b : Checked) (plan : Plan) (text : List ℕ) (labels : List (List ℕ)) (schema_text : List ℕ) → b ≡ a → IsQuery a → PlansFor b plan → text ≡ spelling (by_names a) → labels ≡ headers a → schema_text ≡ printed b.columns
+pub kept_copy : (a b : Checked) (plan : Plan) (text : List ℕ) (labels : List (List ℕ)) (schema_text : List ℕ) → b ≡ a → IsCheckedQuery a → PlansFor b plan → text ≡ spelling (by_names a) → labels ≡ headers a → schema_text ≡ printed b.columns
     → IsKept b plan text labels schema_text
 kept_copy a b plan text labels schema_text same is plans spelled labelled shown =
     record {
-      query = subst IsQuery (sym same) is;
+      query = subst IsCheckedQuery (sym same) is;
       plans = plans;
       spelled = spelled ∙ sym (ap (λ (q : Checked). spelling (by_names q)) same);
       labelled = labelled ∙ sym (ap headers same);

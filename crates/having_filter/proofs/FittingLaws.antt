@@ -23,7 +23,7 @@ use Rattle.query_checks.proofs.DistinctLaws.{all_append, all_distinct}
 use Rattle.query_checks.proofs.FormLaws.{columns_mapped}
 use Rattle.query_checks.proofs.ReadLaws.{both_pass, calls_in_two}
 use Rattle.having_filter.specs.Fitting.{OfOneKind, TakesOne, TakesTwo, OperandsFit, Fits, IsOfRow, IsOfGroup, HasFittingConditions}
-use Rattle.having_filter.specs.Kept.{IsQuery, by_names}
+use Rattle.having_filter.specs.Kept.{IsCheckedQuery, by_names}
 use Rattle.having_filter.proofs.PlaceLaws.{placed_name}
 use Rattle.having_filter.proofs.NormalLaws.{HasColumns, placed_item, columns_of_query}
 use Rattle.having_filter.proofs.PassedLaws.{passes_first, passes_places}
@@ -276,7 +276,7 @@ placed_fits columns w has plain fit grouped =
       items = items_read q p.items groups.0 (all_left (IsAmong (distinct_calls ◌==◌ p)) item_calls having_calls (all_among [] (calls_of p)));
     }
 
-pub conditions_fit : (q : Checked) → IsQuery q → HasFittingConditions q
+pub conditions_fit : (q : Checked) → IsCheckedQuery q → HasFittingConditions q
 conditions_fit q is =
     let w = by_names q in
     let first = passes_first q.columns w q is.passed in

@@ -26,7 +26,7 @@ use Rattle.query_checks.proofs.DistinctLaws.{Agrees, all_append, all_distinct, d
 use Rattle.query_checks.proofs.ReadLaws.{Passes, calls_in_two, calls_mapped, calls_pass}
 use Rattle.query_checks.proofs.SameLaws.{form_image}
 use Rattle.having_filter.specs.Meaning.{meaning, aggregate_of, source_of_form}
-use Rattle.having_filter.specs.Kept.{TakesRows, IsWellFormed, IsQuery}
+use Rattle.having_filter.specs.Kept.{TakesRows, IsWellFormed, IsCheckedQuery}
 use Rattle.having_filter.proofs.PlaceLaws.{same_places, distinct_places, places_in_range}
 use Rattle.having_filter.proofs.NormalLaws.{HasColumns, placed_item, columns_of_query, named_again, normal_writable, passes_again}
 
@@ -181,7 +181,7 @@ well_formed columns q first fit =
 
 -- a query that passes all checks
 pub passed_query : (columns : List Column) (q : Written (List ℕ)) → AreColumns columns → IsWritable q → PassesFirst columns q → kinds_fit (kinds columns) (placed columns q) ≡ true
-    → checked_places columns (placed columns q) ≡ Ok (record { columns = columns; written = placed columns q }) → IsQuery (record { columns = columns; written = placed columns q })
+    → checked_places columns (placed columns q) ≡ Ok (record { columns = columns; written = placed columns q }) → IsCheckedQuery (record { columns = columns; written = placed columns q })
 passed_query columns q are writable first fit passed =
     record {
       columns_are = are;

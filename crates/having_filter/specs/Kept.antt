@@ -53,7 +53,7 @@ pub record IsWellFormed (q : query.Query) : Type 0 where
   pub few_aggregates : length q.aggregates ≤ MOST_CALLS
 
 -- a query that passed all checks, over the columns of a schema: its own text passes them and says it again (own)
-pub record IsQuery (q : Checked) : Type 0 where
+pub record IsCheckedQuery (q : Checked) : Type 0 where
   pub columns_are : AreColumns q.columns
   pub writable : IsWritable (by_names q)
   pub passed : checked q.columns (by_names q) ≡ Ok q

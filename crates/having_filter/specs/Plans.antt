@@ -15,7 +15,7 @@ use Rattle.having_filter.specs.declared.plan.Source.{Source}
 use Rattle.having_filter.specs.declared.plan.Source.TheVariants as source
 use Rattle.having_filter.specs.declared.plan.Plan.{Plan}
 use Rattle.having_filter.specs.Meaning.{meaning, condition_by}
-use Rattle.having_filter.specs.Kept.{IsQuery, by_names, headers, key_kinds}
+use Rattle.having_filter.specs.Kept.{IsCheckedQuery, by_names, headers, key_kinds}
 
 -- a key or an aggregate by its place
 abbrev pub source_of : Source → query.Source
@@ -40,7 +40,7 @@ pub record PlansFor (q : Checked) (plan : Plan) : Type 0 where
 
 -- what is kept of a query: its plan, its canonical text, the names of its answer's columns, and the text of its schema
 pub record IsKept (q : Checked) (plan : Plan) (text : List ℕ) (labels : List (List ℕ)) (schema_text : List ℕ) : Type 0 where
-  pub query : IsQuery q
+  pub query : IsCheckedQuery q
   pub plans : PlansFor q plan
   pub spelled : text ≡ spelling (by_names q)
   pub labelled : labels ≡ headers q

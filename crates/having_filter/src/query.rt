@@ -16,7 +16,7 @@ ghost use Rattle.query_checks.specs.Spelling.{spelling};
 ghost use Rattle.query_checks.specs.Writable.{IsWritable};
 ghost use Rattle.query_checks.specs.Parts.{written_of_parts, checked_of};
 ghost use Rattle.having_filter.specs.Meaning.{meaning};
-ghost use Rattle.having_filter.specs.Kept.{IsQuery, by_names, headers, key_kinds, label_of};
+ghost use Rattle.having_filter.specs.Kept.{IsCheckedQuery, by_names, headers, key_kinds, label_of};
 ghost use Rattle.having_filter.specs.Plans.{PlansFor, source_of};
 
 use crate::copying::copied_parts;
@@ -168,7 +168,7 @@ impl Query {
     /// The columns of the table.
     pub fn schema(&self) -> &Schema
         ensures columns { result.now ≡ self.now.columns }
-        ensures query { IsQuery self.now }
+        ensures query { IsCheckedQuery self.now }
     {
         &self.schema
     }
@@ -190,7 +190,7 @@ impl Query {
     /// The columns of GROUP BY, each once.
     pub fn keys(&self) -> &[usize]
         ensures keys { result.now ≡ self.now.written.keys }
-        ensures query { IsQuery self.now }
+        ensures query { IsCheckedQuery self.now }
     {
         &self.parts.keys
     }
@@ -220,7 +220,7 @@ impl Query {
     pub fn agg_kinds(&self) -> &[AggKind]
         ensures functions { map function_of result.now
             ≡ map (λ a. a.function) (meaning self.now).aggregates }
-        ensures query { IsQuery self.now }
+        ensures query { IsCheckedQuery self.now }
     {
         &self.plan.kinds
     }

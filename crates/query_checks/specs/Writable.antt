@@ -18,8 +18,8 @@ IsColumnFor IsColumn Each_row (Some c) = ⊥
 IsColumnFor IsColumn argument None = ⊥
 IsColumnFor IsColumn argument (Some c) = IsColumn c
 
-abbrev pub IsArgument : {C : Type 0} → (C → Type 0) → Function → Option C → Type 0
-IsArgument IsColumn function column = IsColumnFor IsColumn (signature function).argument column
+abbrev pub IsWritableArgument : {C : Type 0} → (C → Type 0) → Function → Option C → Type 0
+IsWritableArgument IsColumn function column = IsColumnFor IsColumn (signature function).argument column
 
 -- a literal: a number has 64 bits in two's complement, and a text no character 0 (PostgreSQL 17, 8.1.1 and 8.3)
 abbrev pub IsLiteral : Datum → Type 0
@@ -30,8 +30,8 @@ IsLiteral value = Unit {0}
 -- a condition that a text can say, its columns being such as pass a test
 abbrev pub IsForm : {C : Type 0} → (C → Type 0) → Form C → Type 0
 IsForm IsColumn (Column c) = IsColumn c
-IsForm IsColumn (Call function column) = IsArgument IsColumn function column
-IsForm IsColumn (Call_where function column filter) = IsArgument IsColumn function column × IsForm IsColumn filter
+IsForm IsColumn (Call function column) = IsWritableArgument IsColumn function column
+IsForm IsColumn (Call_where function column filter) = IsWritableArgument IsColumn function column × IsForm IsColumn filter
 IsForm IsColumn (Literal value) = IsLiteral value
 IsForm IsColumn (Unary operator x) = IsForm IsColumn x
 IsForm IsColumn (Binary operator x y) = IsForm IsColumn x × IsForm IsColumn y

@@ -14,7 +14,7 @@ use Rattle.query_tokens.specs.Reserved.{is_reserved}
 use Rattle.query_grammar.specs.Terminals.{function_named, comparison_named, is_word, is_sign, symbol_number}
 use Rattle.query_grammar.specs.Reading.{Read, Inner, ◌>>=◌, after, filter_at, is_count, argument_at, call_at, function_or_column, choose, word_at, enclosed_at, prim_at, with_rest, after_comparison, cmp_at, looked_for, tested, chain_at, test_at, not_at, joined, and_at, or_at, condition_at, conditions}
 use Rattle.query_grammar.specs.Grammar as grammar
-use Rattle.query_grammar.specs.Grammar.{opening, closing, word, IsTest, IsArgument, IsCondition, IsAnd, IsNot, IsTested, IsCompared, IsOperand, IsCall}
+use Rattle.query_grammar.specs.Grammar.{opening, closing, word, IsTest, IsCallArgument, IsCondition, IsAnd, IsNot, IsTested, IsCompared, IsOperand, IsCall}
 use Rattle.query_grammar.proofs.Alike.{Within, Stays}
 use Rattle.query_grammar.proofs.Locality.{tested_stays, joined_stays, not_stays, and_stays, condition_step}
 use Rattle.query_grammar.proofs.Marks.{the_word, same_bytes, opening_sign}
@@ -163,7 +163,7 @@ pub word_free : (inner : Inner) (w : List ℕ) (ts : List Lexeme) → is_reserve
 unfolding word_at
 word_free inner w ts free = rw (not_this w (codes "true") free true_taken, not_this w (codes "false") free false_taken, not_this w (codes "null") free null_taken, free) refl
 
-argument_reads : {f : Function} {us : List Lexeme} {c : Function × Option (List ℕ)} → IsArgument f us c → (rest : List Lexeme) → argument_at f (us ++ rest) ≡ Ok (c, rest)
+argument_reads : {f : Function} {us : List Lexeme} {c : Function × Option (List ℕ)} → IsCallArgument f us c → (rest : List Lexeme) → argument_at f (us ++ rest) ≡ Ok (c, rest)
 unfolding argument_at symbol_number
 argument_reads grammar.all_rows rest = refl
 argument_reads (grammar.a_column {f = f} {w = w} free) rest = rw (none (is_count f), free) refl
@@ -198,11 +198,11 @@ a_filter : (inner : Inner) (c : Function × Option (List ℕ)) (vs rest : List L
 unfolding filter_at symbol_number
 a_filter inner c vs rest x e = rw e refl
 
-call_reads : (inner : Inner) (f : Function) (us tail : List Lexeme) (c : Function × Option (List ℕ)) → IsArgument f us c → call_at inner f (us ++ closing ∷ tail) ≡ filter_at inner c tail
+call_reads : (inner : Inner) (f : Function) (us tail : List Lexeme) (c : Function × Option (List ℕ)) → IsCallArgument f us c → call_at inner f (us ++ closing ∷ tail) ≡ filter_at inner c tail
 unfolding call_at symbol_number
 call_reads inner f us tail c p = rw (argument_reads p (closing ∷ tail)) refl
 
-function_reads : (inner : Inner) (room : ℕ) (w : List ℕ) (f : Function) (us tail : List Lexeme) (c : Function × Option (List ℕ)) → is_reserved w ≡ false → function_named w ≡ Some f → IsArgument f us c
+function_reads : (inner : Inner) (room : ℕ) (w : List ℕ) (f : Function) (us tail : List Lexeme) (c : Function × Option (List ℕ)) → is_reserved w ≡ false → function_named w ≡ Some f → IsCallArgument f us c
     → prim_at inner room (Name w ∷ opening ∷ (us ++ closing ∷ tail)) ≡ filter_at inner c tail
 unfolding prim_at symbol_number
 function_reads inner room w f us tail c free is_f p =

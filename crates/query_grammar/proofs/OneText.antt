@@ -25,7 +25,7 @@ is_canonical q passed =
     let same = (passes_places q passed).same in
     sym (ap by_names same ∙ named_again q.columns w (columns_of_query q.columns w first.columns_there))
 
-spelled : (q : Checked) → kept.IsQuery q → IsSpelled (spelling (by_names q)) (by_names q)
+spelled : (q : Checked) → kept.IsCheckedQuery q → IsSpelled (spelling (by_names q)) (by_names q)
 spelled q is =
     let says = text_says (by_names q) is.writable (passes_first q.columns (by_names q) q is.passed).shallow in
     record { tokens = says.tokens; read = says.read; is_query = subst (IsQuery most_open (lexemes_of says.tokens)) (is_canonical q is.passed) says.is_query }
@@ -37,7 +37,7 @@ ok_is {T} {E} x y e = ap taken e
     taken (Ok z) = z
     taken (Err z) = x
 
-pub one_text : (q r : Checked) → kept.IsQuery q → kept.IsQuery r → printed q.columns ≡ printed r.columns → spelling (by_names q) ≡ spelling (by_names r) → q ≡ r
+pub one_text : (q r : Checked) → kept.IsCheckedQuery q → kept.IsCheckedQuery r → printed q.columns ≡ printed r.columns → spelling (by_names q) ≡ spelling (by_names r) → q ≡ r
 one_text q r is_q is_r schemas texts =
     let one = spelled q is_q in
     let two = spelled r is_r in

@@ -16,7 +16,7 @@ use Rattle.grouping_model.specs.Condition as model
 use Rattle.query_checks.specs.Forms as form
 use Rattle.query_checks.specs.Spelling.{function_name, comparison_text, test_text, call_text, level, operand, spelled}
 use Rattle.query_checks.specs.Checks.{depth, filters_pass}
-use Rattle.query_checks.specs.Writable.{IsArgument, IsLiteral, IsForm}
+use Rattle.query_checks.specs.Writable.{IsWritableArgument, IsLiteral, IsForm}
 use Rattle.query_grammar.specs.Terminals.{function_named, comparison_named}
 use Rattle.query_grammar.specs.Grammar as grammar
 use Rattle.query_grammar.specs.Grammar.{Named, opening, closing, word, IsTest, IsCondition, IsAnd, IsNot, IsTested, IsCompared, IsOperand, IsCall}
@@ -173,7 +173,7 @@ pub record Calls (f : Function) (column : Option (List ℕ)) : Type 0 where
   pub named : IsName (function_name f)
   pub free : is_reserved (function_name f) ≡ false
   pub calls : function_named (function_name f) ≡ Some called
-  pub argument : grammar.IsArgument called inside (f, column)
+  pub argument : grammar.IsCallArgument called inside (f, column)
   pub spells : Spells (call_text f column) (Name (function_name f) ∷ opening ∷ (inside ++ closing ∷ []))
 
 record IsFunction (f : Function) : Type 0 where
@@ -211,7 +211,7 @@ rows_spelled =
       on = λ rest ws q more. reads_spelled opening _ _ tt refl (reads_spelled (Sign symbols.Star) _ _ tt refl (reads_spelled closing rest ws tt (never_first rest) more));
     })
 
-pub the_calls : (f : Function) (column : Option (List ℕ)) → IsArgument IsColumnName f column → Calls f column
+pub the_calls : (f : Function) (column : Option (List ℕ)) → IsWritableArgument IsColumnName f column → Calls f column
 unfolding function_named is_reserved
 the_calls function.Count_rows None a = record { called = function.Count; inside = Sign symbols.Star ∷ []; named = count_named; free = refl; calls = refl; argument = grammar.all_rows; spells = rows_spelled }
 the_calls function.Count_rows (Some name) a = absurd a

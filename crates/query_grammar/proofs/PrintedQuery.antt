@@ -19,7 +19,7 @@ use Rattle.query_checks.specs.Writable as writable
 use Rattle.query_checks.specs.Writable.{IsForm, IsColumnOrCall, IsWritable}
 use Rattle.query_grammar.specs.Grammar.{Named, opening, closing, word}
 use Rattle.query_grammar.specs.Queries as grammar
-use Rattle.query_grammar.specs.Queries.{most_open, IsItemValue, IsAlias, IsItem, IsName, IsListOf, IsClause, IsKeys, IsQuery}
+use Rattle.query_grammar.specs.Queries.{most_open, IsItemValue, IsAlias, IsItem, IsKey, IsListOf, IsClause, IsKeys, IsQuery}
 use Rattle.query_tokens.specs.Tokens.{tokens_in}
 use Rattle.packed_rows.proofs.PrintedColumns.{read_ok}
 use Rattle.query_checks.proofs.DistinctLaws.{all_distinct}
@@ -178,7 +178,7 @@ record Keys (names : List (List ℕ)) : Type 0 where
 opens_group : Opens (codes " GROUP BY ") (word (codes "group") ∷ word (codes "by") ∷ [])
 opens_group = opens_two (codes " GROUP ") (codes "BY ") (word (codes "group") ∷ []) (word (codes "by") ∷ []) (opens_between (codes "GROUP") (codes "group") group_word) (opens_word (codes "BY") (codes "by") by_word)
 
-one_name : (w : List ℕ) → IsColumnName w → One IsName (λ (name : List ℕ). name) (λ (name : List ℕ). name) w
+one_name : (w : List ℕ) → IsColumnName w → One IsKey (λ (name : List ℕ). name) (λ (name : List ℕ). name) w
 one_name w legal = record { tokens = Name w ∷ []; spells = spells_lexeme (Name w) legal.legal; is = grammar.name legal.free }
 
 same_list : {A : Type 0} (xs : List A) → map (λ (x : A). x) xs ≡ xs
@@ -188,7 +188,7 @@ same_list {A = A} (x ∷ xs) = ap (λ (ys : List A). x ∷ ys) (same_list xs)
 keys : (names : List (List ℕ)) → AllByRecursion IsColumnName names → Keys names
 keys [] all = record { tokens = []; part = nothing; is = grammar.no_keys }
 keys (w ∷ ws) all =
-    let m = many IsName (λ (name : List ℕ). name) (λ (name : List ℕ). name) IsColumnName one_name w ws all.0 all.1 in
+    let m = many IsKey (λ (name : List ℕ). name) (λ (name : List ℕ). name) IsColumnName one_name w ws all.0 all.1 in
     let same = same_list (w ∷ ws) in
     record {
       tokens = word (codes "group") ∷ word (codes "by") ∷ m.tokens;
@@ -196,7 +196,7 @@ keys (w ∷ ws) all =
         spells = opens_then (codes " GROUP BY ") (parted (w ∷ ws)) (word (codes "group") ∷ word (codes "by") ∷ []) m.tokens opens_group (subst (λ (names : List (List ℕ)). Spells (parted names) m.tokens) same m.spells);
         quiet = λ rest q. refl;
       };
-      is = grammar.keys (subst (λ (names : List (List ℕ)). IsListOf IsName m.tokens names) same m.is);
+      is = grammar.keys (subst (λ (names : List (List ℕ)). IsListOf IsKey m.tokens names) same m.is);
     }
 
 -- ---- the query

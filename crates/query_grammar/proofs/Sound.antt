@@ -14,7 +14,7 @@ use Rattle.grouping_model.specs.Condition.{Comparison, Test, Is_null, Is_true, I
 use Rattle.query_checks.specs.Forms as form
 use Rattle.query_grammar.specs.Terminals.{function_named, comparison_named, is_word, is_sign}
 use Rattle.query_grammar.specs.Grammar as grammar
-use Rattle.query_grammar.specs.Grammar.{Named, opening, closing, word, IsTest, IsArgument, IsCondition, IsAnd, IsNot, IsTested, IsCompared, IsOperand, IsCall}
+use Rattle.query_grammar.specs.Grammar.{Named, opening, closing, word, IsTest, IsCallArgument, IsCondition, IsAnd, IsNot, IsTested, IsCompared, IsOperand, IsCall}
 use Rattle.query_grammar.specs.Reading.{Read, Inner, ◌>>=◌, unexpected, after, choose, expect, name_at, filter_at, argument_at, call_at, function_or_column, word_at, enclosed_at, prim_at, with_rest, after_comparison, right_side, cmp_at, looked_for, tested, chain_at, test_at, not_at, joined, and_at, or_at, nested_at, condition_at, conditions}
 use Rattle.query_grammar.specs.Laws.{Part, Means, CanBecome}
 use Rattle.query_grammar.proofs.Marks.{the_word, same_bytes, opening_sign, closing_sign, star_sign}
@@ -49,7 +49,7 @@ abbrev pub Call_part : ℕ → Part Named
 Call_part limit = λ b ts x. IsCall (allowed b limit) ts x
 
 abbrev Argument_part : Function → Part (Function × Option (List ℕ))
-Argument_part f = λ b ts x. IsArgument f ts x
+Argument_part f = λ b ts x. IsCallArgument f ts x
 
 abbrev Test_part : Part Test
 Test_part = λ b ts x. IsTest ts x
@@ -133,14 +133,14 @@ filter_means inner h c Q plain q ts =
 name_argument_means : (f : Function) (ts : List Lexeme) → Means (Argument_part f) ts (name_at ts >>= λ name. Ok ((f, Some name.0), name.1))
 name_argument_means f ts =
     mapped Name_part (Argument_part f) ts (name_at ts) (λ w. (f, Some w)) (name_means ts)
-    (λ b u w p. subst (λ (v : List Lexeme). IsArgument f v (f, Some w)) (sym p.1) (grammar.a_column p.0))
+    (λ b u w p. subst (λ (v : List Lexeme). IsCallArgument f v (f, Some w)) (sym p.1) (grammar.a_column p.0))
 
 pub argument_means : (f : Function) (ts : List Lexeme) → Means (Argument_part f) ts (argument_at f ts)
 unfolding argument_at
 argument_means function.Count ts =
     chosen (Argument_part function.Count) (Sign symbols.Star) (is_sign symbols.Star) star_sign ts (λ rest. Ok ((function.Count_rows, None), rest))
     (name_at ts >>= λ name. Ok ((function.Count, Some name.0), name.1))
-    (λ rest. done (λ b u x. IsArgument function.Count (Sign symbols.Star ∷ u) x) rest (function.Count_rows, None) (λ b. grammar.all_rows))
+    (λ rest. done (λ b u x. IsCallArgument function.Count (Sign symbols.Star ∷ u) x) rest (function.Count_rows, None) (λ b. grammar.all_rows))
     (name_argument_means function.Count ts)
 argument_means f ts = name_argument_means f ts
 

@@ -14,7 +14,7 @@ use Rattle.query_grammar.specs.Whole.{item_value_at, alias_or_none, alias_at, it
 use Rattle.query_grammar.specs.Grammar as conditions
 use Rattle.query_grammar.specs.Grammar.{word, IsCall}
 use Rattle.query_grammar.specs.Queries as grammar
-use Rattle.query_grammar.specs.Queries.{IsItemValue, IsAlias, IsItem, IsName, IsListOf, IsClause, IsKeys, IsEnd, IsQuery}
+use Rattle.query_grammar.specs.Queries.{IsItemValue, IsAlias, IsItem, IsKey, IsListOf, IsClause, IsKeys, IsEnd, IsQuery}
 use Rattle.query_grammar.proofs.Complete.{sign_rank, rank, Stops, column_reads, not_this, word_free, condition_reads, function_call_reads}
 
 -- ---- items
@@ -96,7 +96,7 @@ list_reads P one F reads comma _ _ (grammar.more {x = x} {xs = xs} ts us p q) mo
     let others = list_reads P one F reads comma us xs q less.0 (omega (arith, le, size, less.1)) rest f h in
     rw (less.1, append_assoc ts (Sign symbols.Comma ∷ us) rest) (more_left one less.0 (ts ++ Sign symbols.Comma ∷ (us ++ rest)) x xs (us ++ rest) rest first others)
 
-name_reads : (ts : List Lexeme) (w : List ℕ) → IsName ts w → (rest : List Lexeme) → Unit {0} → name_at (ts ++ rest) ≡ Ok (w, rest)
+name_reads : (ts : List Lexeme) (w : List ℕ) → IsKey ts w → (rest : List Lexeme) → Unit {0} → name_at (ts ++ rest) ≡ Ok (w, rest)
 name_reads _ w (grammar.name free) rest h = rw free refl
 
 -- ---- clauses
@@ -110,7 +110,7 @@ keys_read : (ts : List Lexeme) (names : List (List ℕ)) → IsKeys ts names →
 unfolding keys_at
 keys_read _ _ grammar.no_keys rest none comma = rw none refl
 keys_read _ _ (grammar.keys {ts = ts} {names = names} p) rest none comma =
-    list_reads IsName name_at (λ _. Unit {0}) name_reads (λ _. tt {0}) ts names p (length (ts ++ rest)) (omega (arith, length-append ts rest)) rest (tt {0}) comma
+    list_reads IsKey name_at (λ _. Unit {0}) name_reads (λ _. tt {0}) ts names p (length (ts ++ rest)) (omega (arith, length-append ts rest)) rest (tt {0}) comma
 
 end_reads : (es : List Lexeme) → IsEnd es → end_at es ≡ Ok (tt, [])
 unfolding end_at symbol_number

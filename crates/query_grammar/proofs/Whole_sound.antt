@@ -11,7 +11,7 @@ use Rattle.query_checks.specs.Forms.{Written}
 use Rattle.query_grammar.specs.Terminals.{function_named, is_word, is_sign}
 use Rattle.query_grammar.specs.Grammar.{Named, opening, word}
 use Rattle.query_grammar.specs.Queries as grammar
-use Rattle.query_grammar.specs.Queries.{IsItemValue, IsAlias, IsItem, IsName, IsListOf, IsClause, IsKeys, IsEnd, IsQuery}
+use Rattle.query_grammar.specs.Queries.{IsItemValue, IsAlias, IsItem, IsKey, IsListOf, IsClause, IsKeys, IsEnd, IsQuery}
 use Rattle.query_grammar.specs.Reading.{Read, ◌>>=◌, unexpected, after, choose, expect, name_at, call_at, function_or_column, condition_at, conditions}
 use Rattle.query_grammar.specs.Whole.{item_value_at, alias_or_none, alias_at, item_at, list_at, clause_at, keys_at, nothing_at, end_at, query_at}
 use Rattle.query_grammar.specs.Laws.{Part, Means, CanBecome}
@@ -29,7 +29,7 @@ abbrev pub Item_part : ℕ → Part (Named × Option (List ℕ))
 Item_part limit = λ b ts x. IsItem (allowed b limit) ts x
 
 abbrev pub Key_part : Part (List ℕ)
-Key_part = λ b ts x. IsName ts x
+Key_part = λ b ts x. IsKey ts x
 
 abbrev pub List_part : {A : Type 0} → Part A → Part (List A)
 List_part P = λ b ts x. IsListOf (P b) ts x
@@ -74,9 +74,9 @@ value_means limit (Text s ∷ ts) = refused (Value_part limit) (Text s ∷ ts) (
 value_means limit (Sign s ∷ ts) = refused (Value_part limit) (Sign s ∷ ts) (an_item limit)
 
 pub is_name_means : (ts : List Lexeme) → Means Key_part ts (name_at ts)
-is_name_means ts = weaken Name_part Key_part ts (name_at ts) (λ b u w p. subst (λ (v : List Lexeme). IsName v w) (sym p.1) (grammar.name p.0)) (name_means ts)
+is_name_means ts = weaken Name_part Key_part ts (name_at ts) (λ b u w p. subst (λ (v : List Lexeme). IsKey v w) (sym p.1) (grammar.name p.0)) (name_means ts)
 
-as_name : (u : List Lexeme) (w : List ℕ) → IsName u w → IsAlias (word (codes "as") ∷ u) (Some w)
+as_name : (u : List Lexeme) (w : List ℕ) → IsKey u w → IsAlias (word (codes "as") ∷ u) (Some w)
 as_name u w (grammar.name free) = grammar.behind_as free
 
 bare_means : (b : Bool) (w : List ℕ) (ts : List Lexeme) → is_reserved w ≡ b → Means Alias_part (Name w ∷ ts) (cond b (Ok (None, Name w ∷ ts)) (Ok (Some w, ts)))

@@ -16,9 +16,9 @@ use Rattle.query_checks.specs.Writable as writable
 use Rattle.query_checks.specs.Writable.{IsForm, IsColumnOrCall, IsWritable}
 use Rattle.query_grammar.specs.Terminals.{function_named}
 use Rattle.query_grammar.specs.Grammar as grammar
-use Rattle.query_grammar.specs.Grammar.{Named, opening, closing, word, IsArgument, IsCondition, IsAnd, IsNot, IsTested, IsCompared, IsOperand, IsCall}
+use Rattle.query_grammar.specs.Grammar.{Named, opening, closing, word, IsCallArgument, IsCondition, IsAnd, IsNot, IsTested, IsCompared, IsOperand, IsCall}
 use Rattle.query_grammar.specs.Queries as queries
-use Rattle.query_grammar.specs.Queries.{IsItemValue, IsAlias, IsItem, IsName, IsListOf, IsClause, IsKeys, IsQuery}
+use Rattle.query_grammar.specs.Queries.{IsItemValue, IsAlias, IsItem, IsKey, IsListOf, IsClause, IsKeys, IsQuery}
 
 abbrev Legal : List Lexeme → Type 0
 Legal ts = AllByRecursion IsLexeme ts
@@ -55,7 +55,7 @@ an_argument Each_row name takes h = absurd (false≢true takes)
 an_argument Any_value name takes h = h
 an_argument (Values_of kind) name takes h = h
 
-argument_writable : (w : List ℕ) {f : Function} {ts : List Lexeme} {c : Function × Option (List ℕ)} → function_named w ≡ Some f → IsArgument f ts c → Legal ts → writable.IsArgument IsColumnName c.0 c.1
+argument_writable : (w : List ℕ) {f : Function} {ts : List Lexeme} {c : Function × Option (List ℕ)} → function_named w ≡ Some f → IsCallArgument f ts c → Legal ts → writable.IsCallArgument IsColumnName c.0 c.1
 argument_writable w e grammar.all_rows l = tt
 argument_writable w e (grammar.a_column {f = f} {w = name} free) l =
     an_argument (signature f).argument name (rw e at (named_takes w)) (record { legal = l.0; free = free })
@@ -128,7 +128,7 @@ alias_writable (queries.behind_as {w = w} free) l = for_some IsColumnName w (rec
 item_writable : {limit : ℕ} (ts : List Lexeme) (x : Named × Option (List ℕ)) → IsItem limit ts x → Legal ts → writable.IsItem x
 item_writable _ _ (queries.item ts us p q) l = record { value = value_is p; form = value_writable p (left ts us l); alias = alias_writable q (right ts us l) }
 
-name_writable : (ts : List Lexeme) (w : List ℕ) → IsName ts w → Legal ts → IsColumnName w
+name_writable : (ts : List Lexeme) (w : List ℕ) → IsKey ts w → Legal ts → IsColumnName w
 name_writable _ _ (queries.name free) l = record { legal = l.0; free = free }
 
 list_writable : {A : Type 0} (P : List Lexeme → A → Type 0) (Q : A → Type 0) → ((ts : List Lexeme) (x : A) → P ts x → Legal ts → Q x) → (ts : List Lexeme) (xs : List A) → IsListOf P ts xs → Legal ts → AllByRecursion Q xs
@@ -146,7 +146,7 @@ clause_writable (queries.clause {x = x} p) l = for_some (IsForm IsColumnName) x 
 
 keys_writable : {ts : List Lexeme} {names : List (List ℕ)} → IsKeys ts names → Legal ts → AllByRecursion IsColumnName names
 keys_writable queries.no_keys l = tt
-keys_writable (queries.keys {ts = ts} {names = names} p) l = list_writable IsName IsColumnName name_writable ts names p l.1.1
+keys_writable (queries.keys {ts = ts} {names = names} p) l = list_writable IsKey IsColumnName name_writable ts names p l.1.1
 
 pub query_writable : (limit : ℕ) (ts : List Lexeme) (q : Written (List ℕ)) → IsQuery limit ts q → AllByRecursion IsLexeme ts → IsWritable q
 query_writable limit _ _ (queries.query {items = items} is ws gs hs es p q r h e) l =

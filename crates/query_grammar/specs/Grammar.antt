@@ -38,9 +38,9 @@ pub data IsTest : List Lexeme → Test → Type 0 where
 
 -- what stands in the parentheses of a call of this function: a column, or `*` in those of count, which counts rows then
 -- (PostgreSQL 17, 4.2.7 Aggregate Expressions)
-pub data IsArgument : Function → List Lexeme → Function × Option (List ℕ) → Type 0 where
-  all_rows : IsArgument function.Count (Sign symbols.Star ∷ []) (function.Count_rows, None)
-  a_column : {f : Function} {w : List ℕ} → is_reserved w ≡ false → IsArgument f (Name w ∷ []) (f, Some w)
+pub data IsCallArgument : Function → List Lexeme → Function × Option (List ℕ) → Type 0 where
+  all_rows : IsCallArgument function.Count (Sign symbols.Star ∷ []) (function.Count_rows, None)
+  a_column : {f : Function} {w : List ℕ} → is_reserved w ≡ false → IsCallArgument f (Name w ∷ []) (f, Some w)
 
 mutual
   -- cond = and {OR and}, grouped to the left
@@ -90,10 +90,10 @@ mutual
   -- parentheses of a FILTER's condition are counted anew
   pub data IsCall (limit : ℕ) : List Lexeme → Named → Type 0 where
     plain : {w : List ℕ} {f : Function} (ts : List Lexeme) {c : Function × Option (List ℕ)} → is_reserved w ≡ false
-        → function_named w ≡ Some f → IsArgument f ts c
+        → function_named w ≡ Some f → IsCallArgument f ts c
         → IsCall limit (Name w ∷ opening ∷ (ts ++ closing ∷ [])) (form.Call c.0 c.1)
     filtered : {w : List ℕ} {f : Function} (ts us : List Lexeme) {c : Function × Option (List ℕ)} {x : Named}
-        → is_reserved w ≡ false → function_named w ≡ Some f → IsArgument f ts c → IsCondition limit limit us x
+        → is_reserved w ≡ false → function_named w ≡ Some f → IsCallArgument f ts c → IsCondition limit limit us x
         → IsCall limit
         (Name w ∷ opening ∷ (ts ++ closing ∷ word (codes "filter") ∷ opening ∷ word (codes "where") ∷ (us ++ closing ∷ [])))
         (form.Call_where c.0 c.1 x)

@@ -26,8 +26,8 @@ pub data IsItem (limit : ℕ) : List Lexeme → Named × Option (List ℕ) → T
       → IsItem limit (ts ++ us) (x, alias)
 
 -- a name that is not reserved
-pub data IsName : List Lexeme → List ℕ → Type 0 where
-  name : {w : List ℕ} → is_reserved w ≡ false → IsName (Name w ∷ []) w
+pub data IsKey : List Lexeme → List ℕ → Type 0 where
+  name : {w : List ℕ} → is_reserved w ≡ false → IsKey (Name w ∷ []) w
 
 -- one or more, parted by commas
 pub data IsListOf {A : Type 0} (P : List Lexeme → A → Type 0) : List Lexeme → List A → Type 0 where
@@ -43,7 +43,7 @@ pub data IsClause (limit : ℕ) (w : List ℕ) : List Lexeme → Option Named �
 -- [GROUP BY name {"," name}]
 pub data IsKeys : List Lexeme → List (List ℕ) → Type 0 where
   no_keys : IsKeys [] []
-  keys : {ts : List Lexeme} {names : List (List ℕ)} → IsListOf IsName ts names
+  keys : {ts : List Lexeme} {names : List (List ℕ)} → IsListOf IsKey ts names
       → IsKeys (word (codes "group") ∷ word (codes "by") ∷ ts) names
 
 -- [";"]

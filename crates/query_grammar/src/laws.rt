@@ -73,7 +73,7 @@ pub fn canonical_text_is_read()
 /// Two checked queries whose schemas and canonical texts are the same are the same query.
 #[tactic(auto, using(crate::proofs::OneText::one_text))]
 pub fn one_text_one_query()
-    ensures { (q r : Checked) → kept.IsQuery q → kept.IsQuery r →
+    ensures { (q r : Checked) → kept.IsCheckedQuery q → kept.IsCheckedQuery r →
         printed q.columns ≡ printed r.columns →
         spelling (by_names q) ≡ spelling (by_names r) → q ≡ r }
 {}

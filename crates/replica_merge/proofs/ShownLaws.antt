@@ -15,7 +15,7 @@ use Rattle.packed_rows.specs.declared.value.Value.{Value}
 use Rattle.agg_protocol.specs.States as states
 use Rattle.agg_library.specs.declared.kind.AggKind.{AggKind}
 use Rattle.agg_library.specs.Kinds.{kind_shape, kind_width}
-use Rattle.agg_library.specs.StateRows.{Denotes}
+use Rattle.agg_library.specs.StateRows.{DenotesAll}
 use Rattle.having_filter.specs.Kept.{key_kinds}
 use Rattle.group_runs.specs.Runs.{Entry}
 use Rattle.group_runs.specs.Standing.{AreStates, StandsFor, AreGroups}
@@ -25,7 +25,7 @@ use Rattle.replica_merge.specs.Groups.{answer_rows, groups_shown}
 
 -- ---- the states of a group
 
-pub partials_long : (m : ℕ) (kinds : List AggKind) (bytes : List ℕ) (ps : List Partial) → Denotes m kinds bytes ps → length ps ≡ length kinds
+pub partials_long : (m : ℕ) (kinds : List AggKind) (bytes : List ℕ) (ps : List Partial) → DenotesAll m kinds bytes ps → length ps ≡ length kinds
 partials_long m [] bytes [] d = refl
 partials_long m [] bytes (p ∷ ps) d = absurd d
 partials_long m (k ∷ ks) bytes [] d = absurd d
@@ -36,7 +36,7 @@ pub record NextState (m : ℕ) (kinds : List AggKind) (i : ℕ) (kind : AggKind)
   pub partial : Partial
   pub at : slice_get ps i ≡ Some partial
   pub denotes : states.Denotes m (kind_shape kind) (take (kind_width kind) rest) partial
-  pub others : Denotes m (drop (i + 1) kinds) (drop (kind_width kind) rest) (drop (i + 1) ps)
+  pub others : DenotesAll m (drop (i + 1) kinds) (drop (kind_width kind) rest) (drop (i + 1) ps)
 
 from_place : (kinds : List AggKind) (i : ℕ) (default : AggKind) → i < length kinds → drop i kinds ≡ slice_index_or kinds i default ∷ drop (i + 1) kinds
 from_place [] i default low = absurd (omega arith)
@@ -44,16 +44,16 @@ from_place (k ∷ kinds) zero default low = refl
 from_place (k ∷ kinds) (suc i) default low =
     from_place kinds i default (omega arith) ∙ ap (λ ks. slice_index_or kinds i default ∷ ks) (let one : i + 1 ≡ suc i = omega arith in let two : suc i + 1 ≡ suc (suc i) = omega arith in ap (λ n. drop n kinds) one ∙ sym (ap (λ n. drop n (k ∷ kinds)) two))
 
-pub next_state : (m : ℕ) (kinds : List AggKind) (i : ℕ) (default : AggKind) (rest : List ℕ) (ps : List Partial) → i < length kinds → Denotes m (drop i kinds) rest (drop i ps) → NextState m kinds i (slice_index_or kinds i default) rest ps
+pub next_state : (m : ℕ) (kinds : List AggKind) (i : ℕ) (default : AggKind) (rest : List ℕ) (ps : List Partial) → i < length kinds → DenotesAll m (drop i kinds) rest (drop i ps) → NextState m kinds i (slice_index_or kinds i default) rest ps
 next_state m kinds i default rest ps low d =
     let kind : AggKind = slice_index_or kinds i default in
-    let parts = first_and_rest m kind (drop (i + 1) kinds) rest (drop i ps) (subst (λ ks. Denotes m ks rest (drop i ps)) (from_place kinds i default low) d) in
+    let parts = first_and_rest m kind (drop (i + 1) kinds) rest (drop i ps) (subst (λ ks. DenotesAll m ks rest (drop i ps)) (from_place kinds i default low) d) in
     let at = dropped ps i parts.0 parts.1 parts.2 in
     record {
       partial = parts.0;
       at = at.0;
       denotes = parts.3;
-      others = subst (Denotes m (drop (i + 1) kinds) (drop (kind_width kind) rest)) (sym at.1) parts.4;
+      others = subst (DenotesAll m (drop (i + 1) kinds) (drop (kind_width kind) rest)) (sym at.1) parts.4;
     }
 
 -- ---- the values that HAVING and the items read

@@ -9,7 +9,7 @@ ghost use Rattle.packed_rows.specs.Packing.{packing};
 ghost use Rattle.packed_rows.specs.View.{row_of};
 ghost use Rattle.agg_protocol.specs.Results.{outcome_of};
 ghost use Rattle.agg_protocol.specs.States.{most_rows};
-ghost use Rattle.agg_library.specs.StateRows.{Denotes};
+ghost use Rattle.agg_library.specs.StateRows.{DenotesAll};
 ghost use Rattle.having_filter.specs.Kept.{key_kinds};
 ghost use Rattle.having_filter.specs.Meaning.{meaning};
 ghost use Rattle.having_filter.specs.Plans.{source_of};
@@ -75,10 +75,10 @@ fn finish_states(
     states: &[u8],
     values: &mut Vec<ResultValue<'static>>,
 ) -> Result<(), AllocError>
-    requires { (most : ℕ) × (ps : List Partial) × Denotes most kinds.now states.now ps
+    requires { (most : ℕ) × (ps : List Partial) × DenotesAll most kinds.now states.now ps
         × (most ≤ most_rows) }
     ensures { OnOk result ((most : ℕ) (ps : List Partial) → most ≤ most_rows →
-        Denotes most kinds.now states.now ps → map outcome_of values.new.items ≡ map outcome ps) }
+        DenotesAll most kinds.now states.now ps → map outcome_of values.new.items ≡ map outcome ps) }
 {
     values.clear();
     let mut rest = states;

@@ -4,22 +4,22 @@ use Rattle.std.proofs.lemmas.List.{append-nil, length-drop, take-append-drop, ta
 use Rattle.std.proofs.Math.Seq.{take-add}
 use Rattle.std.specs.Io.KnownBytes.{Appends, Keeps}
 use Rattle.std.proofs.KnownBytes.{Appends-kept, Appends-nil, Appends-trans}
-use Rattle.script_io.specs.Output.{AppendsFront, StopsShort}
+use Rattle.script_io.specs.Output.{TakesFront, StopsShort}
 
 -- the front of some bytes, and then nothing more
-pub front-kept : (a b c : Option (List ℕ)) (bytes : List ℕ) → AppendsFront a b bytes → Keeps b c → AppendsFront a c bytes
+pub front-kept : (a b c : Option (List ℕ)) (bytes : List ℕ) → TakesFront a b bytes → Keeps b c → TakesFront a c bytes
 front-kept a b c bytes p k = (p.0, p.1, p.2, Appends-kept a b c p.0 p.3 k)
 
 -- the front of the first bytes is the front of both
-pub front-first : (a b : Option (List ℕ)) (xs ys : List ℕ) → AppendsFront a b xs → AppendsFront a b (xs ++ ys)
+pub front-first : (a b : Option (List ℕ)) (xs ys : List ℕ) → TakesFront a b xs → TakesFront a b (xs ++ ys)
 front-first a b xs ys p = (p.0, p.1 ++ ys, ap (λ l. l ++ ys) p.2 ∙ append_assoc p.0 p.1 ys, p.3)
 
 -- the first bytes and the front of the second are the front of both
-pub front-second : (a b c : Option (List ℕ)) (xs ys : List ℕ) → Appends a b xs → AppendsFront b c ys → AppendsFront a c (xs ++ ys)
+pub front-second : (a b c : Option (List ℕ)) (xs ys : List ℕ) → Appends a b xs → TakesFront b c ys → TakesFront a c (xs ++ ys)
 front-second a b c xs ys p q = (xs ++ q.0, q.1, ap (λ l. xs ++ l) q.2 ∙ sym (append_assoc xs q.0 q.1), Appends-trans a b c _ _ p q.3)
 
 -- what stopped short took a front
-pub front-short : (a b : Option (List ℕ)) (bytes : List ℕ) → StopsShort a b bytes → AppendsFront a b bytes
+pub front-short : (a b : Option (List ℕ)) (bytes : List ℕ) → StopsShort a b bytes → TakesFront a b bytes
 front-short a b bytes p = (p.0, p.1, p.2, p.4)
 
 -- a write of no bytes kept what was there
@@ -53,9 +53,9 @@ within-more n m bytes p q =
     omega arith
 
 -- none of some bytes is a front of them
-pub front-none : (a b : Option (List ℕ)) (bytes : List ℕ) → Keeps a b → AppendsFront a b bytes
+pub front-none : (a b : Option (List ℕ)) (bytes : List ℕ) → Keeps a b → TakesFront a b bytes
 front-none a b bytes k = ([], bytes, refl, Appends-kept a a b [] (Appends-nil a) k)
 
 -- all of some bytes are a front of them
-pub front-all : (a b : Option (List ℕ)) (bytes : List ℕ) → Appends a b bytes → AppendsFront a b bytes
+pub front-all : (a b : Option (List ℕ)) (bytes : List ℕ) → Appends a b bytes → TakesFront a b bytes
 front-all a b bytes p = (bytes, [], sym (append-nil bytes), p)

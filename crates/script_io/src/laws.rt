@@ -4,7 +4,7 @@
 ghost use Rattle.std.specs.Prelude.{◌≡◌, ◌<◌, ◌≤◌, ℕ, ◌+◌, List, ◌++◌, length, Option, IfSome};
 ghost use Rattle.std.specs.Io.KnownBytes.{Appends, Consumes, IsAtEnd, Keeps};
 ghost use Rattle.script_io.specs.Input.{StopsReading};
-ghost use Rattle.script_io.specs.Output.{AppendsFront};
+ghost use Rattle.script_io.specs.Output.{TakesFront};
 ghost use Rattle.script_io.specs.Records.{records_of};
 
 use crate::input::InputError;
@@ -26,9 +26,9 @@ pub fn records_are_few()
 /// What counts as the front of some bytes: none of them, and all of them.
 pub fn fronts_range()
     ensures none { (old new : Option (List ℕ)) → (bytes : List ℕ)
-        → Keeps old new → AppendsFront old new bytes }
+        → Keeps old new → TakesFront old new bytes }
     ensures all { (old new : Option (List ℕ)) → (bytes : List ℕ)
-        → Appends old new bytes → AppendsFront old new bytes }
+        → Appends old new bytes → TakesFront old new bytes }
 {}
 
 /// Two writes in turn, of `xs` and then of `ys`. Both whole make `xs ++ ys`; where either stopped and
@@ -37,7 +37,7 @@ pub fn writes_compose()
     ensures both { (a b c : Option (List ℕ)) → (xs ys : List ℕ)
         → Appends a b xs → Appends b c ys → Appends a c (xs ++ ys) }
     ensures first_stopped { (a b c : Option (List ℕ)) → (xs ys : List ℕ)
-        → AppendsFront a b xs → Keeps b c → AppendsFront a c (xs ++ ys) }
+        → TakesFront a b xs → Keeps b c → TakesFront a c (xs ++ ys) }
     ensures second_stopped { (a b c : Option (List ℕ)) → (xs ys : List ℕ)
-        → Appends a b xs → AppendsFront b c ys → AppendsFront a c (xs ++ ys) }
+        → Appends a b xs → TakesFront b c ys → TakesFront a c (xs ++ ys) }
 {}

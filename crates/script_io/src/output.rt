@@ -2,7 +2,7 @@
 
 ghost use Rattle.std.specs.Prelude.{◌≡◌, OnErr, MatchResult};
 ghost use Rattle.std.specs.Io.KnownBytes.{Appends};
-ghost use Rattle.script_io.specs.Output.{AppendsFront, StopsShort};
+ghost use Rattle.script_io.specs.Output.{TakesFront, StopsShort};
 
 use std::io::Write;
 use thiserror::Error;
@@ -19,7 +19,7 @@ pub struct WriteFault;
 pub fn put_all<W: Write>(writer: &mut W, bytes: &[u8]) -> Result<(), WriteFault>
     ensures written { MatchResult result
         (λ _. Appends (W.contents writer.old) (W.contents writer.new) bytes.now)
-        (λ _. AppendsFront (W.contents writer.old) (W.contents writer.new) bytes.now) }
+        (λ _. TakesFront (W.contents writer.old) (W.contents writer.new) bytes.now) }
     ensures short { OnErr result
         (StopsShort (W.contents writer.old) (W.contents writer.new) bytes.now) }
 {

@@ -3,7 +3,7 @@ use Rattle.std.specs.Prelude.{ℕ, List, ◌++◌, Option, Result, Ok, Err, Matc
 use Rattle.std.specs.Io.KnownBytes.{Appends}
 use Rattle.std.proofs.lemmas.Bool.{false≢true}
 use Rattle.std.proofs.KnownBytes.{Appends-trans}
-use Rattle.script_io.specs.Output.{AppendsFront}
+use Rattle.script_io.specs.Output.{TakesFront}
 use Rattle.script_io.proofs.OutputFacts.{front-second}
 use Rattle.std.specs.Result.{IsErr, IsErrAnd}
 use Rattle.std.specs.Prelude.{◌≡◌}
@@ -16,8 +16,8 @@ passed_on (Err e) P Q failed q = q
 
 -- the second of two pieces, after the first
 pub wrote_second : {T E : Type 0} (a b c : Option (List ℕ)) (xs ys : List ℕ) (result : Result T E) → Appends a b xs
-    → MatchResult result (λ _. Appends b c ys) (λ _. AppendsFront b c ys)
-    → MatchResult result (λ _. Appends a c (xs ++ ys)) (λ _. AppendsFront a c (xs ++ ys))
+    → MatchResult result (λ _. Appends b c ys) (λ _. TakesFront b c ys)
+    → MatchResult result (λ _. Appends a c (xs ++ ys)) (λ _. TakesFront a c (xs ++ ys))
 wrote_second a b c xs ys (Ok x) first second = Appends-trans a b c xs ys first second
 wrote_second a b c xs ys (Err e) first second = front-second a b c xs ys first second
 

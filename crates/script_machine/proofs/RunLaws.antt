@@ -8,7 +8,7 @@ use Rattle.std.specs.Io.KnownBytes.{Appends, Consumes, IsAtEnd}
 use Rattle.std.proofs.KnownBytes.{Appends-nil, Appends-trans, Keeps-refl}
 use Rattle.grouping_model.specs.World.{World}
 use Rattle.script_io.specs.Input.{StopsReading}
-use Rattle.script_io.specs.Output.{AppendsFront}
+use Rattle.script_io.specs.Output.{TakesFront}
 use Rattle.script_io.specs.declared.input.InputError.{InputError}
 use Rattle.script_io.specs.declared.input.InputError.TheVariants as input
 use Rattle.script_io.proofs.InputFacts.{consumes-all, consumes-longer}
@@ -182,7 +182,7 @@ ran_stop disk later low commands left old new refused store ran =
 
 -- it stops within a reply: what was written is the front of an output in which each command behind is refused
 pub ran_front : (disk : Disk) (last : ℕ) (commands left : List Command) (old mid new : Option (List ℕ)) (refused : ℕ) (store next : Store) (c : Command) (reply : code.Reply)
-    → Ran disk commands old mid refused (c ∷ left) store → Steps (request_of c.head) c.owned store reply next → AppendsFront mid new (said_text reply)
+    → Ran disk commands old mid refused (c ∷ left) store → Steps (request_of c.head) c.owned store reply next → TakesFront mid new (said_text reply)
     → disk.failed_now + faults_in reply ≤ last → WritesFront (record disk { failed_now = last }) commands old new
 ran_front disk last commands left old mid new refused store next c reply ran step wrote failing =
     let answers = step.steps (state_after start ran.replies) ran.represents in
@@ -212,9 +212,9 @@ ran_front disk last commands left old mid new refused store next c reply ran ste
           let whole = subst (λ cs. Agrees world start cs (ran.replies ++ (said ∷ later))) ran.all agrees in
           let front = agrees_front world start ran.before (c ∷ left) ran.replies (said ∷ later) ran.runs whole in
           let text = answers.text world (ran.fits world front) (agrees_next world start ran.before left c ran.replies later said ran.runs whole) in
-          subst (AppendsFront old new) (sym (flat_map-append (reply_text world) ran.replies (said ∷ later)))
+          subst (TakesFront old new) (sym (flat_map-append (reply_text world) ran.replies (said ∷ later)))
           (front-second old mid new (replies_text world ran.replies) (replies_text world (said ∷ later)) (ran.writes world front)
-          (front-first mid new (reply_text world said) (replies_text world later) (subst (AppendsFront mid new) text wrote)));
+          (front-first mid new (reply_text world said) (replies_text world later) (subst (TakesFront mid new) text wrote)));
     }
 
 -- ---- a whole run

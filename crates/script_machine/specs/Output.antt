@@ -3,7 +3,7 @@ use Rattle.std.specs.Prelude.{ℕ, ◌≡◌, ◌≤◌, ◌<◌, ◌+◌, Bool,
 use Rattle.std.specs.Io.KnownBytes.{Appends, Keeps}
 use Rattle.grouping_model.specs.World.{World}
 use Rattle.grouping_model.specs.declared.limits.TheConstants.{LONGEST_INPUT}
-use Rattle.script_io.specs.Output.{AppendsFront}
+use Rattle.script_io.specs.Output.{TakesFront}
 use Rattle.script_io.specs.Records.{records_of}
 use Rattle.script_io.specs.declared.input.InputError.{InputError}
 use Rattle.script_io.specs.declared.input.InputError.TheVariants as input
@@ -45,7 +45,7 @@ pub record WritesFront (disk : Disk) (commands : List Command) (old new : Option
   pub runs : Run start commands replies
   pub faults : AreFaultsOf disk replies
   pub strict : (world : World) → Agrees world start commands replies → StrictRun start commands replies
-  pub writes : (world : World) → Agrees world start commands replies → AppendsFront old new (replies_text world replies)
+  pub writes : (world : World) → Agrees world start commands replies → TakesFront old new (replies_text world replies)
 
 -- what was written is an output of the commands before some command
 pub record WritesBefore (disk : Disk) (commands : List Command) (old new : Option (List ℕ)) : Type 0 where

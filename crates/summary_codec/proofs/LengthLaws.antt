@@ -14,7 +14,7 @@ use Rattle.grouping_model.specs.declared.limits.TheConstants.{LAST_NUMBER, LAST_
 use Rattle.packed_rows.specs.Columns.{Column, kinds, names, printed, column_text, kind_text, AreColumns, IsColumnName}
 use Rattle.packed_rows.specs.Packing.{packing, value_packing}
 use Rattle.batch_reader.specs.Rows.{packings}
-use Rattle.having_filter.specs.Kept.{IsQuery, key_kinds}
+use Rattle.having_filter.specs.Kept.{IsCheckedQuery, key_kinds}
 use Rattle.query_checks.specs.Checks.{Checked}
 use Rattle.having_filter.specs.Meaning.{meaning}
 use Rattle.group_runs.specs.Runs.{Entry}
@@ -58,7 +58,7 @@ short_keys q most (e ∷ run) [] few are = absurd are
 short_keys q most (e ∷ run) (g ∷ groups) few are =
     (subst IsShort (sym are.0.key) (short_packing (key_kinds q) g.0 few are.0.of_kinds), short_keys q most run groups few are.1)
 
-pub few_key_kinds : (q : Checked) → IsQuery q → length (key_kinds (meaning q)) ≤ MOST_COLUMNS
+pub few_key_kinds : (q : Checked) → IsCheckedQuery q → length (key_kinds (meaning q)) ≤ MOST_COLUMNS
 few_key_kinds q is =
     let few = is.well_formed.few_keys in
     let same = length-map (meaning q).keys (λ place. slice_index_or (meaning q).kinds place Bigint_kind) in
@@ -108,7 +108,7 @@ none_below (e ∷ xs) = (omega arith, none_below xs)
 
 -- ---- parts
 
-pub short_part : (q : Checked) (part : Part) → IsQuery q → IsPartOf q part → IsShortPart part
+pub short_part : (q : Checked) (part : Part) → IsCheckedQuery q → IsPartOf q part → IsShortPart part
 short_part q part is of_query =
     let within = of_query.within in
     let few = of_query.few in
@@ -122,7 +122,7 @@ short_part q part is of_query =
       batches = short_batches (kinds q.columns) part.prefix part.early (omega (arith, columns, same)) of_query.early;
     }
 
-pub short_parts : (q : Checked) (parts : Parts) → IsQuery q → AreHeldParts q parts → AllByRecursion (λ (held : ℕ × Part). IsShortPart held.1) parts
+pub short_parts : (q : Checked) (parts : Parts) → IsCheckedQuery q → AreHeldParts q parts → AllByRecursion (λ (held : ℕ × Part). IsShortPart held.1) parts
 short_parts q parts is held = each_of (IsHeldPart q) (λ (p : ℕ × Part). IsShortPart p.1) (λ p h. short_part q p.1 is h.part) parts held.each
 
 pub few_parts : (q : Checked) (parts : Parts) → AreHeldParts q parts → length parts ≤ LAST_ORIGIN + 1

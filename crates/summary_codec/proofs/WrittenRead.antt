@@ -22,8 +22,8 @@ use Rattle.agg_protocol.specs.States.{shape_of, width_of}
 use Rattle.agg_protocol.proofs.Denoting.{width_known}
 use Rattle.agg_library.specs.declared.kind.AggKind.{AggKind}
 use Rattle.agg_library.specs.Kinds.{kind_shape, kind_width, row_width}
-use Rattle.agg_library.specs.StateRows.{Denotes}
-use Rattle.having_filter.specs.Kept.{IsQuery, by_names, key_kinds}
+use Rattle.agg_library.specs.StateRows.{DenotesAll}
+use Rattle.having_filter.specs.Kept.{IsCheckedQuery, by_names, key_kinds}
 use Rattle.query_checks.specs.Checks.{Checked}
 use Rattle.having_filter.specs.Meaning.{meaning}
 use Rattle.query_checks.specs.Spelling.{spelling}
@@ -43,7 +43,7 @@ use Rattle.summary_codec.proofs.ReaderLaws.{AreRight, read_number, read_within, 
 
 -- ---- groups
 
-states_length : (most : ℕ) (kinds : List AggKind) (bytes : List ℕ) (partials : List Partial) → Denotes most kinds bytes partials → length bytes ≡ row_width kinds
+states_length : (most : ℕ) (kinds : List AggKind) (bytes : List ℕ) (partials : List Partial) → DenotesAll most kinds bytes partials → length bytes ≡ row_width kinds
 states_length most [] bytes [] is = ap length is
 states_length most [] bytes (p ∷ ps) is = absurd is
 states_length most (k ∷ ks) bytes [] is = absurd is
@@ -156,7 +156,7 @@ read_batches ks prefix early behind few some are = (
 
 -- ---- parts
 
-read_contents : (q : Checked) (p : Part) (behind : List ℕ) → IsQuery q → IsPartOf q p → (0 < p.prefix) ⊎ (0 < length p.early)
+read_contents : (q : Checked) (p : Part) (behind : List ℕ) → IsCheckedQuery q → IsPartOf q p → (0 < p.prefix) ⊎ (0 < length p.early)
     → contents q p.prefix (bytes_high_first 8 (length p.run) ++ (flat_map group_bytes p.run ++ (bytes_high_first 4 (length p.early) ++ (flat_map batch_bytes p.early ++ behind)))) (Ok (p, behind))
 unfolding contents
 read_contents q p behind is_query is some =
@@ -190,7 +190,7 @@ some_batches : {X : Type 0} (xs : List X) → xs ≢ [] → 0 < length xs
 some_batches [] some = absurd (some refl)
 some_batches (x ∷ xs) some = omega arith
 
-read_part : (q : Checked) → IsQuery q → (before : Parts) (held : ℕ × Part) (behind : List ℕ) → IsPartNext q before held → part q before (part_bytes held ++ behind) (Ok (held, behind))
+read_part : (q : Checked) → IsCheckedQuery q → (before : Parts) (held : ℕ × Part) (behind : List ℕ) → IsPartNext q before held → part q before (part_bytes held ++ behind) (Ok (held, behind))
 unfolding part part_bytes
 read_part q is_query before held behind is =
     let p = held.1 in
@@ -231,7 +231,7 @@ parts_next q (p ∷ held) before all rising =
       parts_next q held (before ++ p ∷ []) all.1 (subst (λ ps. IsStrictlySortedBy nat_cmp (map keys ps)) (sym (append_assoc before (p ∷ []) held)) rising),
     )
 
-read_parts : (q : Checked) (held : Parts) (behind : List ℕ) → IsQuery q → AreHeldParts q held → parts q (bytes_high_first 2 (length held) ++ (flat_map part_bytes held ++ behind)) (Ok (held, behind))
+read_parts : (q : Checked) (held : Parts) (behind : List ℕ) → IsCheckedQuery q → AreHeldParts q held → parts q (bytes_high_first 2 (length held) ++ (flat_map part_bytes held ++ behind)) (Ok (held, behind))
 unfolding parts
 read_parts q held behind is_query are =
     let few = few_parts q held are in (
@@ -252,7 +252,7 @@ unfolding schema
 read_schema columns behind are utf8 =
     (printed columns, behind, read_text (printed columns) behind (short_schema columns are) utf8, (columns, behind, (printed_again columns are, refl), (refl, (refl, refl))))
 
-read_query : (q : Checked) (behind : List ℕ) → IsQuery q → IsUtf8 (spelling (by_names q)) → query q.columns (sized_bytes (spelling (by_names q)) ++ behind) (Ok (q, behind))
+read_query : (q : Checked) (behind : List ℕ) → IsCheckedQuery q → IsUtf8 (spelling (by_names q)) → query q.columns (sized_bytes (spelling (by_names q)) ++ behind) (Ok (q, behind))
 unfolding query
 read_query q behind is utf8 =
     let accepts : Accepts q.columns (spelling (by_names q)) q = parsed_again q (spelling (by_names q)) is refl in
@@ -260,7 +260,7 @@ read_query q behind is utf8 =
     (spelling (by_names q), behind, read_text (spelling (by_names q)) behind (omega (arith, short)) utf8, (q, behind, (accepts, refl), (refl, (refl, refl))))
 
 -- the file of a query whose texts are UTF-8, and of what is held for it, is read as these
-pub read_again : (q : Checked) (held : Parts) → IsQuery q → IsUtf8 (printed q.columns) → IsUtf8 (spelling (by_names q)) → AreHeldParts q held → IsSummary (file_bytes q held) q held
+pub read_again : (q : Checked) (held : Parts) → IsCheckedQuery q → IsUtf8 (printed q.columns) → IsUtf8 (spelling (by_names q)) → AreHeldParts q held → IsSummary (file_bytes q held) q held
 unfolding summary heading rest opened
 read_again q held is columns spelled are =
     let c : List ℕ = sized_bytes (printed q.columns) in

@@ -2,7 +2,7 @@
 
 ghost use Rattle.std.specs.Prelude.{◌≡◌, ◌<◌, ℕ, List, slice_index, IsUtf8, IsTrue};
 ghost use Rattle.packed_rows.specs.Columns.{printed};
-ghost use Rattle.having_filter.specs.Kept.{IsQuery, by_names};
+ghost use Rattle.having_filter.specs.Kept.{IsCheckedQuery, by_names};
 ghost use Rattle.query_checks.specs.Checks.{Checked};
 ghost use Rattle.query_checks.specs.Spelling.{spelling};
 ghost use Rattle.origin_prefix.specs.Held.{Parts, AreHeldParts};
@@ -15,7 +15,7 @@ ghost use Rattle.summary_codec.specs.declared.error.SummaryError.{SummaryError};
 /// Each query, with what is held for it, has one spelling, which is read as it was, and bytes that are read are such a spelling. No
 /// bytes are read in two ways, or have two first faults, or are read and have a fault, or neither. A query's texts are UTF-8.
 pub fn one_spelling()
-    ensures read_again { (query : Checked) (held : Parts) → IsQuery query → IsUtf8 (printed query.columns) →
+    ensures read_again { (query : Checked) (held : Parts) → IsCheckedQuery query → IsUtf8 (printed query.columns) →
         IsUtf8 (spelling (by_names query)) → AreHeldParts query held →
         IsSummary (file_bytes query held) query held }
     ensures spelled { (bytes : List ℕ) (query : Checked) (held : Parts) → IsSummary bytes query held →

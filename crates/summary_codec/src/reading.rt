@@ -8,7 +8,7 @@ ghost use Rattle.group_parser.specs.declared.error.ParseError.{ParseError};
 ghost use Rattle.summary_codec.specs.declared.error.SummaryError.TheVariants as fault;
 ghost use Rattle.packed_rows.specs.View.{kinds_of};
 ghost use Rattle.having_filter.specs.Meaning.{meaning};
-ghost use Rattle.having_filter.specs.Kept.{IsQuery};
+ghost use Rattle.having_filter.specs.Kept.{IsCheckedQuery};
 ghost use Rattle.std.specs.Cmp.Lexicographic.{slice_cmp};
 ghost use Rattle.std.specs.Ordering.{nat_cmp};
 ghost use Rattle.std.specs.declared.cmp.Ordering.TheVariants.{Less};

@@ -3,7 +3,7 @@
 ghost use Rattle.std.specs.Prelude.{◌≡◌, ◌≤◌, ◌<◌, ◌^◌, ◌++◌, ℕ, List, length, flat_map, IfOk, OnOk, IsUtf8};
 ghost use Rattle.std.specs.Int.{bytes_high_first};
 ghost use Rattle.std.specs.List.{AllByRecursion};
-ghost use Rattle.having_filter.specs.Kept.{IsQuery, by_names};
+ghost use Rattle.having_filter.specs.Kept.{IsCheckedQuery, by_names};
 ghost use Rattle.query_checks.specs.Spelling.{spelling};
 ghost use Rattle.origin_prefix.specs.Held.{AreHeldParts};
 ghost use Rattle.origin_prefix.specs.Parts.{Part};
@@ -124,7 +124,7 @@ fn push_heading(out: &mut Vec<u8>, query: &Query) -> Result<(), AllocError>
     ensures heading { OnOk result (out.new.items ≡ out.old.items ++ opening
         ++ sized_bytes (printed query.now.columns)
         ++ sized_bytes (spelling (by_names query.now))) }
-    ensures query { OnOk result (IsQuery query.now) }
+    ensures query { OnOk result (IsCheckedQuery query.now) }
     ensures texts { OnOk result (IsUtf8 (printed query.now.columns)
         × IsUtf8 (spelling (by_names query.now))) }
 {

@@ -11,25 +11,25 @@ use Rattle.grouping_model.specs.Parts.{advanced}
 use Rattle.agg_protocol.proofs.Denoting.{width_known}
 use Rattle.agg_library.specs.declared.kind.AggKind.{AggKind}
 use Rattle.agg_library.specs.Kinds.{kind_shape, kind_width}
-use Rattle.agg_library.specs.StateRows.{Denotes}
+use Rattle.agg_library.specs.StateRows.{DenotesAll}
 use Rattle.having_filter.specs.Meaning.{meaning}
 use Rattle.group_runs.proofs.StateLaws.{first_and_rest, parted, first_named, dropped, joined}
 use Rattle.group_runs.proofs.ChunkLaws.{none_there}
 use Rattle.group_runs.proofs.states.+advance_from.Goals as goal
 
 -- the states of no aggregates are no bytes
-none_left : (m : ℕ) (kinds : List AggKind) (bytes : List ℕ) (ps : List Partial) → length kinds ≡ 0 → Denotes m kinds bytes ps → bytes ≡ []
+none_left : (m : ℕ) (kinds : List AggKind) (bytes : List ℕ) (ps : List Partial) → length kinds ≡ 0 → DenotesAll m kinds bytes ps → bytes ≡ []
 none_left m [] bytes [] none d = d
 none_left m [] bytes (p ∷ ps) none d = absurd d
 none_left m (kind ∷ kinds) bytes ps none d = absurd (omega (arith, none))
 
-none_moved : (calls : List Aggregate) (kinds : List AggKind) (bytes : List ℕ) (row : Row) (m : ℕ) (ps : List Partial) → length kinds ≡ 0 → Denotes m kinds bytes ps → Denotes (m + 1) kinds bytes (advanced calls ps row)
+none_moved : (calls : List Aggregate) (kinds : List AggKind) (bytes : List ℕ) (row : Row) (m : ℕ) (ps : List Partial) → length kinds ≡ 0 → DenotesAll m kinds bytes ps → DenotesAll (m + 1) kinds bytes (advanced calls ps row)
 none_moved [] [] bytes row m [] none d = d
 none_moved (call ∷ calls) [] bytes row m [] none d = d
 none_moved calls [] bytes row m (p ∷ ps) none d = absurd d
 none_moved calls (kind ∷ kinds) bytes row m ps none d = absurd (omega (arith, none))
 
-none_within : (m : ℕ) (kinds : List AggKind) (bytes : List ℕ) → length kinds ≡ 0 → bytes ≡ [] → Denotes m kinds bytes []
+none_within : (m : ℕ) (kinds : List AggKind) (bytes : List ℕ) → length kinds ≡ 0 → bytes ≡ [] → DenotesAll m kinds bytes []
 none_within m [] bytes none e = e
 none_within m (kind ∷ kinds) bytes none e = absurd (omega (arith, none))
 
@@ -61,10 +61,10 @@ returns-clause-moved t c =
     let parts = parted most c.in-Some.kind.now c.in-Some.kinds.now c.args.kinds.now c.args.states.now c.split_at_mut-part.result.0.now c.split_at_mut-part.result.1.now ps c.in-Some.ensures.cases.0
     (c.split_at_mut-part.ensures.front ∙ ap (λ n. take n c.args.states.now) c.width-2.ensures) (c.split_at_mut-part.ensures.back ∙ ap (λ n. drop n c.args.states.now) c.width-2.ensures) denoted in
     let whole : advanced (drop c.args.place q.aggregates) ps (row_of c.args.row.now) ≡ advanced (named.0 ∷ named.1) (parts.0 ∷ parts.1) (row_of c.args.row.now) = λ i. advanced (named.2 i) (parts.2 i) (row_of c.args.row.now) in
-    subst (Denotes (most + 1) c.args.kinds.now (c.advance_one.new.part ++ c.advance_from.new.states)) (sym whole)
+    subst (DenotesAll (most + 1) c.args.kinds.now (c.advance_one.new.part ++ c.advance_from.new.states)) (sym whole)
     (joined (most + 1) c.in-Some.kind.now c.args.kinds.now c.in-Some.kinds.now c.advance_one.new.part c.advance_from.new.states _ _ c.in-Some.ensures.cases.0
     (c.in_ok-advance_one.ensures.moved most parts.0 named.0 at.0 low parts.3)
-    (subst (λ calls. Denotes (most + 1) c.in-Some.kinds.now c.advance_from.new.states (advanced calls parts.1 (row_of c.args.row.now))) at.1 (moved most parts.1 low parts.4))))
+    (subst (λ calls. DenotesAll (most + 1) c.in-Some.kinds.now c.advance_from.new.states (advanced calls parts.1 (row_of c.args.row.now))) at.1 (moved most parts.1 low parts.4))))
     c.advance_from.ensures.moved
 
 pub returns-clause-within : goal.returns-clause-within
@@ -112,7 +112,7 @@ returns-then-states-width t c =
       within = tt;
       refused = λ room.
           let kind = c.in-Some.kind.now in let bytes = c.args.states.now in
-          let parts = first_and_rest room.0 kind c.in-Some.kinds.now bytes room.1 (subst (λ kinds. Denotes room.0 kinds bytes room.1) c.in-Some.ensures.cases.0 room.2) in
+          let parts = first_and_rest room.0 kind c.in-Some.kinds.now bytes room.1 (subst (λ kinds. DenotesAll room.0 kinds bytes room.1) c.in-Some.ensures.cases.0 room.2) in
           let wide = width_known room.0 (kind_shape kind) (take (kind_width kind) bytes) parts.0 parts.3 in
           let taken = length-take (kind_width kind) bytes in
           omega (arith, wide, taken);

@@ -4,7 +4,7 @@ use Rattle.std.proofs.lemmas.Result.{on_ok_weaker, on_err_weaker}
 use Rattle.grouping_model.specs.Query.{Query}
 use Rattle.grouping_model.specs.Combining.{combine_all}
 use Rattle.grouping_model.specs.Parts.{functions}
-use Rattle.agg_library.specs.StateRows.{Denotes}
+use Rattle.agg_library.specs.StateRows.{DenotesAll}
 use Rattle.agg_library.specs.Kinds.{functions_of}
 use Rattle.having_filter.specs.Meaning.{meaning}
 use Rattle.group_runs.proofs.StateLaws.{states_by, combined, can_combine}
@@ -22,7 +22,7 @@ returns-clause-combined c =
         kinds = kinds;
         named = named;
         denote =
-            subst (λ these. Denotes (m + n) kinds c.combine_into.new.into (combine_all these ps qs)) named
+            subst (λ these. DenotesAll (m + n) kinds c.combine_into.new.into (combine_all these ps qs)) named
             (combined m n c.args.most kinds c.args.states.now c.args.more.now c.combine_into.new.into ps qs both.0 both.1 low c.requires.most
             (states_by (functions q) m kinds c.args.states.now ps named are) (states_by (functions q) n kinds c.args.more.now qs named more)
             both.2 both.3 both.4);

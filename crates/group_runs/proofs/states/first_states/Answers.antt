@@ -3,7 +3,7 @@ use Rattle.std.proofs.Common.{sym, subst, rules}
 use Rattle.grouping_model.specs.Query.{Query}
 use Rattle.grouping_model.specs.Grouping.{partials}
 use Rattle.grouping_model.specs.Parts.{functions}
-use Rattle.agg_library.specs.StateRows.{Denotes}
+use Rattle.agg_library.specs.StateRows.{DenotesAll}
 use Rattle.having_filter.specs.Meaning.{meaning}
 use Rattle.group_runs.specs.Standing.{AreStates}
 use Rattle.group_runs.proofs.StateLaws.{fits, initial_are, written_over}
@@ -23,5 +23,5 @@ returns c =
     (record {
       kinds = kinds;
       named = c.agg_kinds-kinds.ensures.functions;
-      denote = subst (Denotes 0 kinds c.init_into.new.row) (initial_are kinds q.aggregates c.agg_kinds-kinds.ensures.functions) c.init_into.ensures;
+      denote = subst (DenotesAll 0 kinds c.init_into.new.row) (initial_are kinds q.aggregates c.agg_kinds-kinds.ensures.functions) c.init_into.ensures;
     })

@@ -7,7 +7,7 @@ use Rattle.agg_protocol.specs.States as states
 use Rattle.agg_protocol.specs.States.{most_rows}
 use Rattle.agg_library.specs.declared.kind.AggKind.TheVariants.{CountRows}
 use Rattle.agg_library.specs.Kinds.{kind_shape}
-use Rattle.agg_library.specs.StateRows.{Denotes}
+use Rattle.agg_library.specs.StateRows.{DenotesAll}
 use Rattle.group_runs.proofs.StateLaws.{raised}
 use Rattle.group_runs.proofs.RunLaws.{take_found}
 use Rattle.replica_merge.proofs.ShownLaws.{partials_long, next_state}
@@ -42,7 +42,7 @@ loop-kind-preserved c =
       left =
           λ most ps denotes.
           let next = next_state most kinds i CountRows rest ps c.loop-kind-test.true (c.loop-kind.invariant.left most ps denotes) in
-          subst (λ b. Denotes most (drop (i + 1) kinds) b (drop (i + 1) ps)) (sym back) next.others;
+          subst (λ b. DenotesAll most (drop (i + 1) kinds) b (drop (i + 1) ps)) (sym back) next.others;
     }
 
 pub returns : goal.returns
