@@ -55,7 +55,7 @@ an_argument Each_row name takes h = absurd (false≢true takes)
 an_argument Any_value name takes h = h
 an_argument (Values_of kind) name takes h = h
 
-argument_writable : (w : List ℕ) {f : Function} {ts : List Lexeme} {c : Function × Option (List ℕ)} → function_named w ≡ Some f → IsCallArgument f ts c → Legal ts → writable.IsCallArgument IsColumnName c.0 c.1
+argument_writable : (w : List ℕ) {f : Function} {ts : List Lexeme} {c : Function × Option (List ℕ)} → function_named w ≡ Some f → IsCallArgument f ts c → Legal ts → writable.IsWritableArgument IsColumnName c.0 c.1
 argument_writable w e grammar.all_rows l = tt
 argument_writable w e (grammar.a_column {f = f} {w = name} free) l =
     an_argument (signature f).argument name (rw e at (named_takes w)) (record { legal = l.0; free = free })
