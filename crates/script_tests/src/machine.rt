@@ -23,7 +23,8 @@ impl Read for EndlessReader {
 }
 
 /// A script that has replies of 156 bytes.
-const SCRIPT: &str = "columns,\"c text, d bigint\"\nquery,\"select c, count(*), sum(d) from batches group by c\"\n\
+const SCRIPT: &str =
+    "columns,\"c text, d bigint\"\nquery,\"select c, count(*), sum(d) from batches group by c\"\n\
     replica,a\nfeed,a,0,1,3\noslo,5\nbergen,7\noslo,-2\nknown,a\nanswer,a\n";
 
 /// What becomes of its run whose writer takes so many bytes, and how many it took.

@@ -12,8 +12,10 @@ use std::io;
 use std::io::{Read, Write};
 use test_tables::cut;
 
-/// A line of more bytes is told by so many of its bytes.
+/// A line of more bytes is told by its front.
 const LONG: usize = 600;
+
+/// How many bytes that has.
 const FRONT: usize = 80;
 
 /// Appends a text so many times, with the number of the turn for each `#`.
@@ -56,9 +58,7 @@ fn script_of(alloc: Global, text: &str) -> Result<String, AllocError> {
 /// Writes a line, or the front of one that is long.
 fn write_line<W: Write>(writer: &mut W, line: &str) -> io::Result<()> {
     match line.get(..FRONT) {
-        Some(front) if line.len() > LONG => {
-            writeln!(writer, "{front}.. ({} bytes)", line.len())
-        }
+        Some(front) if line.len() > LONG => writeln!(writer, "{front}.. ({} bytes)", line.len()),
         _ => writeln!(writer, "{line}"),
     }
 }
