@@ -10,10 +10,11 @@ use Rattle.spill_tapes.specs.declared.tape_id.TapeId.{TapeId}
 use Rattle.spill_tapes.specs.declared.error.TapeError.{TapeError}
 use Rattle.spill_tapes.specs.declared.error.TapeError.TheVariants as tape
 use Rattle.spill_lists.specs.declared.error.SpillError.TheVariants as spill
-use Rattle.spill_lists.specs.Errors.{spill_error}
+use Rattle.spill_tapes.specs.Errors.{tape_faults}
+use Rattle.spill_lists.specs.Errors.{spill_error, spill_faults}
 use Rattle.spill_lists.specs.declared.lists.OnTape.{OnTape}
 use Rattle.spill_lists.specs.Lists.{LeftList, left_by}
-use Rattle.spill_lists.specs.Standing.{ListsState, once, times, count_of, AreApart, AreSpilled, AreWritten, HasLists, AreLists, Moves, IsSpillRefusal, IsReadRefusal, list_pages, AreAhead, those_with_records}
+use Rattle.spill_lists.specs.Standing.{ListsState, once, times, count_of, AreApart, AreSpilled, AreWritten, HasLists, AreLists, list_pages, AreAhead, those_with_records}
 use Rattle.spill_lists.proofs.ApartLaws.{times-append, once_here, kept_written}
 use Rattle.spill_lists.proofs.ListLaws.{count-append}
 use Rattle.spill_lists.proofs.EndLaws.{AreLeft, left_start, left_step, left_end, those_count, those_times}
@@ -102,40 +103,30 @@ ending_end last last' before now rest none ending spilled ahead todo had =
       todo_are = left.1;
     }
 
-pub moves_none : (failed written : ℕ) (honest : Bool) → Moves failed failed written written honest honest
-moves_none failed written honest = record { failures = omega arith; writes = omega arith; honesty = refl }
-
-pub moves_twice : (f f' f'' w w' w'' : ℕ) (h h' h'' : Bool) → Moves f f' w w' h h' → Moves f' f'' w' w'' h' h'' → Moves f f'' w w'' h h''
-moves_twice f f' f'' w w' w'' h h' h'' first second = record {
-  failures = omega (arith, first.failures, second.failures);
-  writes = omega (arith, first.writes, second.writes);
-  honesty = second.honesty ∙ first.honesty;
-}
-
 -- why tapes that live refuse a call, and what that is to lists
-pub refused_alive : (dead : Bool) (before after : ℕ) (e : TapeError) → dead ≡ false → IsRefusal dead before after e → e ≢ tape.TapesDead
-refused_alive dead before after tape.NoMemory alive refused = λ same. cc
-refused_alive dead before after tape.TapeFault alive refused = λ same. cc
-refused_alive dead before after tape.TapeDamaged alive refused = λ same. cc
-refused_alive dead before after tape.TapesDead alive refused = λ same. true≢false (sym refused ∙ alive)
+pub refused_alive : (dead : Bool) (e : TapeError) → dead ≡ false → IsRefusal dead e → e ≢ tape.TapesDead
+refused_alive dead tape.NoMemory alive refused = λ same. cc
+refused_alive dead tape.TapeFault alive refused = λ same. cc
+refused_alive dead tape.TapeDamaged alive refused = λ same. cc
+refused_alive dead tape.TapesDead alive refused = λ same. true≢false (sym refused ∙ alive)
 
-pub refused_spill : (dead : Bool) (before after : ℕ) (e : TapeError) → IsRefusal dead before after e → IsSpillRefusal before after (spill_error e)
-refused_spill dead before after tape.NoMemory refused = tt
-refused_spill dead before after tape.TapeFault refused = refused.1
-refused_spill dead before after tape.TapeDamaged refused = absurd refused
-refused_spill dead before after tape.TapesDead refused = tt
+pub refused_undamaged : (dead : Bool) (e : TapeError) → IsRefusal dead e → e ≢ tape.TapeDamaged
+refused_undamaged dead tape.NoMemory refused = λ same. cc
+refused_undamaged dead tape.TapeFault refused = λ same. cc
+refused_undamaged dead tape.TapeDamaged refused = absurd refused
+refused_undamaged dead tape.TapesDead refused = λ same. cc
 
-pub refused_read_alive : (dead : Bool) (before after : ℕ) (e : TapeError) → dead ≡ false → IsTapeReadRefusal dead before after e → e ≢ tape.TapesDead
-refused_read_alive dead before after tape.NoMemory alive refused = λ same. cc
-refused_read_alive dead before after tape.TapeFault alive refused = λ same. cc
-refused_read_alive dead before after tape.TapeDamaged alive refused = λ same. cc
-refused_read_alive dead before after tape.TapesDead alive refused = λ same. true≢false (sym refused ∙ alive)
+pub refused_read_alive : (dead : Bool) (e : TapeError) → dead ≡ false → IsTapeReadRefusal dead e → e ≢ tape.TapesDead
+refused_read_alive dead tape.NoMemory alive refused = λ same. cc
+refused_read_alive dead tape.TapeFault alive refused = λ same. cc
+refused_read_alive dead tape.TapeDamaged alive refused = λ same. cc
+refused_read_alive dead tape.TapesDead alive refused = λ same. true≢false (sym refused ∙ alive)
 
-pub refused_read : (dead : Bool) (before after : ℕ) (e : TapeError) → IsTapeReadRefusal dead before after e → IsReadRefusal before after (spill_error e)
-refused_read dead before after tape.NoMemory refused = tt
-refused_read dead before after tape.TapeFault refused = refused.1
-refused_read dead before after tape.TapeDamaged refused = tt
-refused_read dead before after tape.TapesDead refused = tt
+pub same_faults : (e : TapeError) → tape_faults e ≡ spill_faults (spill_error e)
+same_faults tape.NoMemory = refl
+same_faults tape.TapeFault = refl
+same_faults tape.TapeDamaged = refl
+same_faults tape.TapesDead = refl
 
 pub undamaged_as : (e : TapeError) → e ≢ tape.TapeDamaged → spill_error e ≢ spill.TapeDamaged
 undamaged_as tape.NoMemory not_it = λ same. cc

@@ -1,4 +1,5 @@
--- What a refusal of tapes is to lists.
+-- What a refusal of tapes is to lists. All of this is our own.
+use Rattle.std.specs.Prelude.{ℕ}
 use Rattle.spill_tapes.specs.declared.error.TapeError.{TapeError}
 use Rattle.spill_tapes.specs.declared.error.TapeError.TheVariants as tape
 use Rattle.spill_lists.specs.declared.error.SpillError.{SpillError}
@@ -10,3 +11,9 @@ spill_error tape.NoMemory = spill.NoMemory
 spill_error tape.TapeFault = spill.TapeFault
 spill_error tape.TapeDamaged = spill.TapeDamaged
 spill_error tape.TapesDead = spill.NoMemory
+
+-- how often the disk failed in a call that is refused so
+abbrev pub spill_faults : SpillError → ℕ
+spill_faults spill.NoMemory = 0
+spill_faults spill.TapeFault = 1
+spill_faults spill.TapeDamaged = 0

@@ -4,8 +4,6 @@ use Rattle.spill_tapes.specs.Records.{Record, tape_bytes}
 use Rattle.spill_tapes.specs.Tapes.{TapesState, IsTape, is_written, is_read, written_len}
 use Rattle.spill_tapes.specs.declared.tape_id.TapeId.{TapeId}
 use Rattle.spill_lists.specs.declared.lists.OnTape.{OnTape}
-use Rattle.spill_lists.specs.declared.error.SpillError.{SpillError}
-use Rattle.spill_lists.specs.declared.error.SpillError.TheVariants.{NoMemory, TapeFault, TapeDamaged}
 use Rattle.spill_lists.specs.Lists.{LeftList, lists}
 
 -- the tapes; the level of the pass; its 16 lists, or none as long as it spilled nothing; the list that it reads, or none; and
@@ -71,22 +69,11 @@ pub record HasLists (last : ℕ → ℕ → Type 0) (s : ListsState) (spilled ah
 abbrev pub BeginsLast : (ℕ → ℕ → Type 0) → ListsState → List LeftList → Type 0
 BeginsLast last s todo = (others : List LeftList) × (list : LeftList) × (todo ≡ others ++ list ∷ []) × (s.level ≡ list.level) × HasLists last s [] list.records others
 
--- why a call is refused that only writes, by how often the disk had failed before and after it; and one that reads
-abbrev pub IsSpillRefusal : ℕ → ℕ → SpillError → Type 0
-IsSpillRefusal before after NoMemory = Unit {0}
-IsSpillRefusal before after TapeFault = before < after
-IsSpillRefusal before after TapeDamaged = ⊥
-
-abbrev pub IsReadRefusal : ℕ → ℕ → SpillError → Type 0
-IsReadRefusal before after NoMemory = Unit {0}
-IsReadRefusal before after TapeFault = before < after
-IsReadRefusal before after TapeDamaged = Unit {0}
-
--- what a call leaves of a disk: its counts of failures and of writes do not fall, and it is as honest as it was
-pub record Moves (failed failed_now written written_now : ℕ) (honest honest_now : Bool) : Type 0 where
-  pub failures : failed ≤ failed_now
-  pub writes : written ≤ written_now
-  pub honesty : honest_now ≡ honest
+-- the list that the pass reads, those that later passes are to read, and how deep it is, are as they were
+pub record KeepsRest (before after : ListsState) : Type 0 where
+  pub source : after.source ≡ before.source
+  pub todo : after.todo ≡ before.todo
+  pub level : after.level ≡ before.level
 
 -- how often a tape is there; and no tape is there twice
 abbrev pub once : TapeId → ℕ → ℕ

@@ -1,12 +1,14 @@
 //! Lists of records on tapes.
 
 ghost use Rattle.std.specs.Prelude.{◌≡◌, ◌≢◌, ◌↔◌, ◌+◌, ◌/◌, ◌<◌, ◌≤◌, ℕ, ◌++◌, ◌∷◌, List, [], true, false, length, IsTrue, IfOk, IfErr, OnOk, OnErr, IfSome, IfNone};
+ghost use Rattle.spill_tapes.specs.Calls.{failed};
+ghost use Rattle.spill_tapes.specs.Disk.{Leaves, OnlyReads};
 ghost use Rattle.spill_tapes.specs.Records.{Record};
 ghost use Rattle.spill_tapes.specs.Tape.{Gives};
 ghost use Rattle.spill_tapes.specs.Tapes.{IsTape, KeepsOthers, is_open, is_written, written_len};
 ghost use Rattle.spill_lists.specs.Lists.{LeftList, lists, left_by, list_of, deeper};
-ghost use Rattle.spill_lists.specs.Standing.{HasLists, BeginsLast, IsNewList, times, those_with_records, Moves, IsSpillRefusal, IsReadRefusal, spilled_number, ahead_number, waiting_number, list_pages, pages_of, written_pages};
-ghost use Rattle.spill_lists.specs.Errors.{spill_error};
+ghost use Rattle.spill_lists.specs.Standing.{HasLists, BeginsLast, IsNewList, times, those_with_records, KeepsRest, spilled_number, ahead_number, waiting_number, list_pages, pages_of, written_pages};
+ghost use Rattle.spill_lists.specs.Errors.{spill_error, spill_faults};
 ghost use Rattle.spill_lists.specs.declared.error.SpillError.TheVariants.{NoMemory, TapeDamaged};
 ghost use Rattle.spill_tapes.specs.declared.error.TapeError.TheVariants.{TapesDead};
 
@@ -144,11 +146,9 @@ impl SpillLists {
         ensures counted { OnOk result (spilled_number self.new ≡ spilled_number self.old + 1) }
         ensures paged { OnOk result (D.writes disk.new + written_pages self.old ≡ D.writes disk.old + written_pages self.new) }
         ensures alive { OnOk result (self.new.tapes.is_dead ≡ false) }
-        ensures source { self.new.source ≡ self.old.source }
-        ensures todo { self.new.todo ≡ self.old.todo }
-        ensures level { self.new.level ≡ self.old.level }
-        ensures refused { IfErr result (IsSpillRefusal (D.failures disk.old) (D.failures disk.new)) }
-        ensures disk { Moves (D.failures disk.old) (D.failures disk.new) (D.writes disk.old) (D.writes disk.new) (D.honest disk.old) (D.honest disk.new) }
+        ensures rest { KeepsRest self.old self.new }
+        ensures undamaged { IfErr result (λ error. error ≢ TapeDamaged) }
+        ensures disk { Leaves D.TapeDisk (failed spill_faults result) disk.old disk.new }
     {
         if self.parts.is_empty() {
             self.open_lists(disk)?;
@@ -166,9 +166,7 @@ impl SpillLists {
         ensures counted { OnOk result (spilled_number self.new ≡ 0) }
         ensures paged { OnOk result (written_pages self.new ≡ 0) }
         ensures alive { self.new.tapes.is_dead ≡ false }
-        ensures source { self.new.source ≡ self.old.source }
-        ensures todo { self.new.todo ≡ self.old.todo }
-        ensures level { self.new.level ≡ self.old.level }
+        ensures rest { KeepsRest self.old self.new }
         ensures refused { IfErr result (λ error. error ≡ NoMemory) }
     {
         let level = deeper(self.level);
@@ -189,9 +187,7 @@ impl SpillLists {
         ensures others { IfOk result (λ list. KeepsOthers (D.last disk.now) (D.last disk.now) self.old.tapes self.new.tapes list.tape) }
         ensures alive { self.new.tapes.is_dead ≡ false }
         ensures parts { self.new.parts ≡ self.old.parts }
-        ensures source { self.new.source ≡ self.old.source }
-        ensures todo { self.new.todo ≡ self.old.todo }
-        ensures level { self.new.level ≡ self.old.level }
+        ensures rest { KeepsRest self.old self.new }
         ensures refused { IfErr result (λ error. error ≡ NoMemory) }
     {
         match self.tapes.open(disk) {
@@ -222,11 +218,9 @@ impl SpillLists {
         ensures counted { OnOk result (spilled_number self.new ≡ spilled_number self.old + 1) }
         ensures paged { OnOk result (D.writes disk.new + written_pages self.old ≡ D.writes disk.old + written_pages self.new) }
         ensures alive { OnOk result (self.new.tapes.is_dead ≡ false) }
-        ensures source { self.new.source ≡ self.old.source }
-        ensures todo { self.new.todo ≡ self.old.todo }
-        ensures level { self.new.level ≡ self.old.level }
-        ensures refused { IfErr result (IsSpillRefusal (D.failures disk.old) (D.failures disk.new)) }
-        ensures disk { Moves (D.failures disk.old) (D.failures disk.new) (D.writes disk.old) (D.writes disk.new) (D.honest disk.old) (D.honest disk.new) }
+        ensures rest { KeepsRest self.old self.new }
+        ensures undamaged { IfErr result (λ error. error ≢ TapeDamaged) }
+        ensures disk { Leaves D.TapeDisk (failed spill_faults result) disk.old disk.new }
     {
         let list = self.parts[place];
         let Some(records) = list.records.checked_add(1) else {
@@ -251,8 +245,8 @@ impl SpillLists {
         ensures alive { OnOk result (self.new.tapes.is_dead ≡ false) }
         ensures source { self.new.source ≡ self.old.source }
         ensures level { self.new.level ≡ self.old.level }
-        ensures refused { IfErr result (IsSpillRefusal (D.failures disk.old) (D.failures disk.new)) }
-        ensures disk { Moves (D.failures disk.old) (D.failures disk.new) (D.writes disk.old) (D.writes disk.new) (D.honest disk.old) (D.honest disk.new) }
+        ensures undamaged { IfErr result (λ error. error ≢ TapeDamaged) }
+        ensures disk { Leaves D.TapeDisk (failed spill_faults result) disk.old disk.new }
     {
         let parts = replace(&mut self.parts, Vec::new(self.alloc));
         for list in &parts {
@@ -275,8 +269,8 @@ impl SpillLists {
         ensures parts { self.new.parts ≡ [] }
         ensures source { self.new.source ≡ self.old.source }
         ensures level { self.new.level ≡ self.old.level }
-        ensures refused { IfErr result (IsSpillRefusal (D.failures disk.old) (D.failures disk.new)) }
-        ensures disk { Moves (D.failures disk.old) (D.failures disk.new) (D.writes disk.old) (D.writes disk.new) (D.honest disk.old) (D.honest disk.new) }
+        ensures undamaged { IfErr result (λ error. error ≢ TapeDamaged) }
+        ensures disk { Leaves D.TapeDisk (failed spill_faults result) disk.old disk.new }
     {
         self.tapes.bytes_written(disk, list.tape);
         if list.records == 0 {
@@ -331,12 +325,10 @@ impl SpillLists {
         ensures nothing { OnErr result (bytes.new.items ≡ []) }
         ensures alive { OnOk result (self.new.tapes.is_dead ≡ false) }
         ensures parts { self.new.parts ≡ self.old.parts }
-        ensures writes { D.writes disk.new ≡ D.writes disk.old }
         ensures paged { written_pages self.new ≡ written_pages self.old }
         ensures todo { self.new.todo ≡ self.old.todo }
         ensures level { self.new.level ≡ self.old.level }
-        ensures refused { IfErr result (IsReadRefusal (D.failures disk.old) (D.failures disk.new)) }
-        ensures disk { Moves (D.failures disk.old) (D.failures disk.new) (D.writes disk.old) (D.writes disk.new) (D.honest disk.old) (D.honest disk.new) }
+        ensures disk { OnlyReads D.TapeDisk (failed spill_faults result) disk.old disk.new }
     {
         bytes.clear();
         let Some(list) = self.source else {

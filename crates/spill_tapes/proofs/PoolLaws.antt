@@ -1,8 +1,8 @@
 -- Pages that move between tapes and the free ones.
-use Rattle.std.specs.Prelude.{◌≡◌, ℕ, ◌+◌, ◌^◌, ◌<◌, ◌≤◌, List, [], ◌∷◌, ◌++◌, length}
-use Rattle.std.proofs.Common.{◌∙◌, ap, arith, length-append}
+use Rattle.std.specs.Prelude.{◌≡◌, refl, ℕ, ◌+◌, ◌^◌, ◌<◌, ◌≤◌, ◌⊎◌, List, [], ◌∷◌, ◌++◌, length}
+use Rattle.std.proofs.Common.{inl, inr, ◌∙◌, ap, arith, length-append}
 use Rattle.std.proofs.lemmas.Bool.Decides.{nat_tests}
-use Rattle.spill_tapes.specs.Pages.{PoolState, IsPool, given_back, once, times, below, IsApart, IsBalanced, IsFresh, FreesNone}
+use Rattle.spill_tapes.specs.Pages.{PoolState, IsPool, HavePages, given_back, once, times, below, IsApart, IsBalanced, IsFresh, FreesNone, UsesAgain, TakesPages, GivesBack}
 
 pub times-append : (page : ℕ) (xs ys : List ℕ) → times page (xs ++ ys) ≡ times page xs + times page ys
 times-append page [] ys = omega arith
@@ -142,3 +142,69 @@ balanced_all a b pages pages' free count none =
       all = omega arith;
       grows = omega arith;
     }
+
+-- where none is free and none becomes free, none is
+none_freed : (free free' : List ℕ) → ((page : ℕ) → times page free' ≤ times page free) → free ≡ [] → free' ≡ []
+none_freed free [] fewer none = refl
+none_freed free (page ∷ rest) fewer none =
+    let e : times page free ≡ 0 = ap (times page) none in
+    let at : once page page + times page rest ≤ times page free = fewer page in
+    absurd (omega (arith, e, at, same_one page))
+
+pub again_twice : (a b c : PoolState) → FreesNone b c → UsesAgain a b → UsesAgain b c → UsesAgain a c
+again_twice a b c frees first (inr none) = inr none
+again_twice a b c frees (inl same) (inl same') = inl (same' ∙ same)
+again_twice a b c frees (inr none) (inl same') = inr (none_freed b.free c.free frees none)
+
+-- no page moved; and pages moved twice
+pub takes_none : (pool : PoolState) (pages pages' : List ℕ) → HavePages pool pages → pages' ≡ pages → TakesPages pool pages pool pages'
+takes_none pool pages pages' have same = record {
+  pool = have.pool;
+  balanced = balanced_none pool pool pages pages' refl refl same;
+  frees = λ page. omega arith;
+  again = inl refl;
+}
+
+pub takes_twice : (a b c : PoolState) (xs ys zs : List ℕ) → TakesPages a xs b ys → TakesPages b ys c zs → TakesPages a xs c zs
+takes_twice a b c xs ys zs first second = record {
+  pool = second.pool;
+  balanced = balanced_twice a b c xs ys zs first.balanced second.balanced;
+  frees = frees_twice a b c first.frees second.frees;
+  again = again_twice a b c second.frees first.again second.again;
+}
+
+pub gives_none : (pool : PoolState) (pages pages' : List ℕ) → HavePages pool pages → pages' ≡ pages → GivesBack pool pages pool pages'
+gives_none pool pages pages' have same = record {
+  pool = have.pool;
+  balanced = balanced_none pool pool pages pages' refl refl same;
+  count = refl;
+}
+
+pub gives_twice : (a b c : PoolState) (xs ys zs : List ℕ) → GivesBack a xs b ys → GivesBack b ys c zs → GivesBack a xs c zs
+gives_twice a b c xs ys zs first second = record {
+  pool = second.pool;
+  balanced = balanced_twice a b c xs ys zs first.balanced second.balanced;
+  count = second.count ∙ first.count;
+}
+
+-- a page that was read is given back
+pub back : (a : PoolState) (pages pages' : List ℕ) (page : ℕ) → HavePages a pages → pages ≡ page ∷ pages' → GivesBack a pages (given_back a page) pages'
+back a pages pages' page have first = record {
+  pool = record { few = have.pool.few; room = have.pool.room };
+  balanced = balanced_back a pages pages' page first;
+  count = refl;
+}
+
+-- the pages that a tape has then
+have_after : (a b : PoolState) (xs ys : List ℕ) → HavePages a xs → IsPool b → IsBalanced a xs b ys → HavePages b ys
+have_after a b xs ys have pool moved = record {
+  pool = pool;
+  apart = apart_after a b xs ys have.apart moved;
+  fits = fits_after a b xs ys have.fits moved;
+}
+
+pub have_taken : (a b : PoolState) (xs ys : List ℕ) → HavePages a xs → TakesPages a xs b ys → HavePages b ys
+have_taken a b xs ys have takes = have_after a b xs ys have takes.pool takes.balanced
+
+pub have_given : (a b : PoolState) (xs ys : List ℕ) → HavePages a xs → GivesBack a xs b ys → HavePages b ys
+have_given a b xs ys have gives = have_after a b xs ys have gives.pool gives.balanced

@@ -1,6 +1,7 @@
 -- What is true of a result, from what else is.
 use Rattle.std.specs.Prelude.{◌≡◌, ◌≢◌, refl, Result, Ok, Err, OnOk, IfOk}
-use Rattle.spill_tapes.specs.Errors.{tape_error}
+use Rattle.std.proofs.Common.{ap}
+use Rattle.spill_tapes.specs.Errors.{tape_error, disk_faults, tape_faults}
 use Rattle.spill_tapes.specs.declared.disk.DiskError.{DiskError}
 use Rattle.spill_tapes.specs.declared.disk.DiskError.TheVariants as disk
 use Rattle.spill_tapes.specs.declared.error.TapeError.{TapeError}
@@ -22,7 +23,7 @@ pub if_ok_both : {X E Q : Type 0} {P R : X → Type 0} → (r : Result X E) → 
 if_ok_both (Ok x) f p q = f x p q
 if_ok_both (Err e) f p q = tt
 
--- a failure of the disk says neither that a tape is damaged nor that tapes are dead, and a fault is one of the disk
+-- a failure of the disk says neither that a tape is damaged nor that tapes are dead, and is told as such
 pub disk_undamaged : (f : DiskError) (e : TapeError) → e ≡ tape_error f → e ≢ tape.TapeDamaged
 disk_undamaged disk.NoMemory e is = λ same. cc
 disk_undamaged disk.TapeFault e is = λ same. cc
@@ -31,6 +32,6 @@ pub disk_alive : (f : DiskError) (e : TapeError) → e ≡ tape_error f → e �
 disk_alive disk.NoMemory e is = λ same. cc
 disk_alive disk.TapeFault e is = λ same. cc
 
-pub disk_fault : (f : DiskError) (e : TapeError) → e ≡ tape_error f → e ≡ tape.TapeFault → f ≡ disk.TapeFault
-disk_fault disk.NoMemory e is same = absurd (cc)
-disk_fault disk.TapeFault e is same = refl
+pub disk_fault : (f : DiskError) (e : TapeError) → e ≡ tape_error f → tape_faults e ≡ disk_faults f
+disk_fault disk.NoMemory e is = ap tape_faults is
+disk_fault disk.TapeFault e is = ap tape_faults is

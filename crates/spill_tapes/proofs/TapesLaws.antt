@@ -5,10 +5,10 @@ use Rattle.std.proofs.Math.ListN.{set}
 use Rattle.std.proofs.Common.{refl, sym, ◌∙◌, ap, subst, arith}
 use Rattle.std.proofs.lemmas.List.{get_or-set_same, get_or-set_other, get_or_past, get_or_push, get_or_default}
 use Rattle.std.proofs.lemmas.List.Sums.{sum_by-cons, sum_by-set}
-use Rattle.spill_tapes.specs.Disk.{Keeps}
+use Rattle.spill_tapes.specs.Calls.{Keeps}
 use Rattle.spill_tapes.specs.Records.{Record, tape_bytes}
 use Rattle.spill_tapes.specs.Errors.{tape_error}
-use Rattle.spill_tapes.specs.Pages.{IsPool, times, IsApart, IsBalanced, AreOn, KeepsPages}
+use Rattle.spill_tapes.specs.Pages.{IsPool, HavePages, times, IsApart, IsBalanced, AreOn, KeepsPages}
 use Rattle.spill_tapes.specs.Tape.{TapeState, no_tape, new_tape, tape_len, is_in, IsGood, AreWritten, AreAhead, HasIn, Has, Gives}
 use Rattle.spill_tapes.specs.Tapes.{TapesState, tape_at, phase_of, is_written, is_read, IsTape, KeepsOthers, IsRefusal, IsReadRefusal, AreTapes}
 use Rattle.spill_tapes.specs.declared.disk.DiskError.{DiskError}
@@ -214,12 +214,20 @@ pub written_has : (last : ℕ → ℕ → Type 0) (t : TapeState) (rs : List Rec
 written_has last t rs phase had = subst (λ (ph : Phase). HasIn ph last t rs) phase had
 
 -- why a call was refused
-pub disk_refusal : (error : DiskError) (dead : Bool) (before after : ℕ) → dead ≡ false → (error ≡ disk.TapeFault → before < after) → IsRefusal dead before after (tape_error error)
-disk_refusal disk.NoMemory dead before after alive fault = alive
-disk_refusal disk.TapeFault dead before after alive fault = (alive, fault refl)
+pub disk_refusal : (error : DiskError) (dead : Bool) → dead ≡ false → IsRefusal dead (tape_error error)
+disk_refusal disk.NoMemory dead alive = alive
+disk_refusal disk.TapeFault dead alive = alive
 
-pub read_refusal : (e : TapeError) (dead : Bool) (before after : ℕ) → dead ≡ false → e ≢ error.TapesDead → (e ≡ error.TapeFault → before < after) → IsReadRefusal dead before after e
-read_refusal error.NoMemory dead before after alive differ fault = alive
-read_refusal error.TapeFault dead before after alive differ fault = (alive, fault refl)
-read_refusal error.TapeDamaged dead before after alive differ fault = alive
-read_refusal error.TapesDead dead before after alive differ fault = absurd (differ refl)
+pub read_refusal : (e : TapeError) (dead : Bool) → dead ≡ false → e ≢ error.TapesDead → IsReadRefusal dead e
+read_refusal error.NoMemory dead alive differ = alive
+read_refusal error.TapeFault dead alive differ = alive
+read_refusal error.TapeDamaged dead alive differ = alive
+read_refusal error.TapesDead dead alive differ = absurd (differ refl)
+
+-- what is had of the pages of the tape in a place
+pub have_at : (t : TapesState) (tape : TapeId) (y : TapeState) → AreTapes t → y ≡ tape_at t tape → HavePages t.pool y.pages
+have_at t tape y are slot = subst (λ (z : TapeState). HavePages t.pool z.pages) (sym slot) (record {
+  pool = are.pool;
+  apart = apart_at t tape.index are;
+  fits = fits_at t tape.index are;
+})

@@ -1,17 +1,18 @@
--- What a call does to the bytes of a disk. `last place byte` is that the byte is the one last written at the place. All of this is our own.
-use Rattle.std.specs.Prelude.{◌≡◌, ℕ, ◌+◌, ◌<◌, ◌≤◌, ◌⊎◌, List, length, get_or}
+-- What calls leave of a disk. All of this is our own.
+use Rattle.std.specs.Prelude.{◌≡◌, ℕ, ◌+◌, ◌≤◌}
+use Rattle.spill_tapes.specs.Calls.{Keeps}
+use Rattle.spill_tapes.specs.declared.disk.TapeDisk.{Ghosts}
 
--- these bytes are the ones last written at the places from `at` on
-abbrev pub AreLast : (ℕ → ℕ → Type 0) → ℕ → List ℕ → Type 0
-AreLast last at bytes = (k : ℕ) → k < length bytes → last (at + k) (get_or bytes k 0)
+-- what a call leaves of a disk that failed so often in it: the disk is as honest as it was, has failed so often more, and has been
+-- written no less often
+pub record Leaves {D : Type 0} (g : Ghosts D) (faults : ℕ) (old new : D) : Type 0 where
+  pub honesty : g.honest new ≡ g.honest old
+  pub failures : g.failures new ≡ g.failures old + faults
+  pub writes : g.writes old ≤ g.writes new
 
--- these bytes have, at every place that was ever written, the byte last written there
-abbrev pub AreReadAt : (ℕ → ℕ → Type 0) → ℕ → List ℕ → Type 0
-AreReadAt last at bytes = (k byte : ℕ) → k < length bytes → last (at + k) byte → get_or bytes k 0 ≡ byte
-
--- the byte last written at a place still is: at every place, and at each place but n from `at` on
-abbrev pub Keeps : (ℕ → ℕ → Type 0) → (ℕ → ℕ → Type 0) → Type 0
-Keeps before after = (place byte : ℕ) → before place byte → after place byte
-
-abbrev pub KeepsBeside : (ℕ → ℕ → Type 0) → (ℕ → ℕ → Type 0) → ℕ → ℕ → Type 0
-KeepsBeside before after at n = (place byte : ℕ) → (place < at) ⊎ (at + n ≤ place) → before place byte → after place byte
+-- what a call leaves that only reads: nothing was written, and each place has the byte last written there
+pub record OnlyReads {D : Type 0} (g : Ghosts D) (faults : ℕ) (old new : D) : Type 0 where
+  pub honesty : g.honest new ≡ g.honest old
+  pub failures : g.failures new ≡ g.failures old + faults
+  pub writes : g.writes new ≡ g.writes old
+  pub keeps : Keeps (g.last old) (g.last new)

@@ -1,4 +1,5 @@
--- What a failure of the disk is to tapes.
+-- What a failure of the disk is to tapes, and how often the disk failed in a call that is refused so. All of this is our own.
+use Rattle.std.specs.Prelude.{ℕ}
 use Rattle.spill_tapes.specs.declared.disk.DiskError.{DiskError}
 use Rattle.spill_tapes.specs.declared.disk.DiskError.TheVariants as disk
 use Rattle.spill_tapes.specs.declared.error.TapeError.{TapeError}
@@ -7,3 +8,13 @@ use Rattle.spill_tapes.specs.declared.error.TapeError.TheVariants as tape
 abbrev pub tape_error : DiskError → TapeError
 tape_error disk.NoMemory = tape.NoMemory
 tape_error disk.TapeFault = tape.TapeFault
+
+abbrev pub disk_faults : DiskError → ℕ
+disk_faults disk.NoMemory = 0
+disk_faults disk.TapeFault = 1
+
+abbrev pub tape_faults : TapeError → ℕ
+tape_faults tape.NoMemory = 0
+tape_faults tape.TapeFault = 1
+tape_faults tape.TapeDamaged = 0
+tape_faults tape.TapesDead = 0

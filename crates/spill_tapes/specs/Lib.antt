@@ -1,4 +1,6 @@
+pub mod Calls
 pub mod Disk
+pub mod DiskLaws
 pub mod Errors
 pub mod Records
 pub mod Pages

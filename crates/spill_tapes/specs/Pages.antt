@@ -1,5 +1,5 @@
 -- The pages of tapes, by their numbers. Page n of a disk are the 8,192 bytes from the place 8,192 n on. All of this is our own.
-use Rattle.std.specs.Prelude.{◌≡◌, ℕ, ◌+◌, ◌*◌, ◌^◌, ◌<◌, ◌≤◌, ◌==◌, nat_lt, cond, List, [], ◌∷◌, ◌++◌, length, get_or}
+use Rattle.std.specs.Prelude.{◌≡◌, ℕ, ◌+◌, ◌*◌, ◌^◌, ◌<◌, ◌≤◌, ◌⊎◌, ◌==◌, nat_lt, cond, List, [], ◌∷◌, ◌++◌, length, get_or}
 
 -- the numbers of the pages that are free, how many page numbers were ever given out, and how many there is room for in the
 -- list of the free ones
@@ -38,6 +38,16 @@ pub record IsBalanced (before : PoolState) (pages : List ℕ) (after : PoolState
   pub all : length after.free + length pages' + before.count ≡ length before.free + length pages + after.count
   pub grows : before.count ≤ after.count
 
+-- what is true of the pages of a tape and of the free ones: they are apart, and no more than were ever given out
+pub record HavePages (given : PoolState) (pages : List ℕ) : Type 0 where
+  pub pool : IsPool given
+  pub apart : IsApart given pages
+  pub fits : length given.free + length pages ≤ given.count
+
+-- a new page number was given out only where no page was free
+abbrev pub UsesAgain : PoolState → PoolState → Type 0
+UsesAgain before after = (after.count ≡ before.count) ⊎ (after.free ≡ [])
+
 -- a page that no tape has: it is free, or has a new number
 abbrev pub IsFresh : PoolState → ℕ → Type 0
 IsFresh pool page = times page pool.free ≡ 0 → pool.count ≤ page
@@ -45,6 +55,18 @@ IsFresh pool page = times page pool.free ≡ 0 → pool.count ≤ page
 -- no page became free
 abbrev pub FreesNone : PoolState → PoolState → Type 0
 FreesNone before after = (page : ℕ) → times page after.free ≤ times page before.free
+
+-- a tape took pages of the free ones, or new ones where none was free; it gave pages back
+pub record TakesPages (before : PoolState) (pages : List ℕ) (after : PoolState) (pages' : List ℕ) : Type 0 where
+  pub pool : IsPool after
+  pub balanced : IsBalanced before pages after pages'
+  pub frees : FreesNone before after
+  pub again : UsesAgain before after
+
+pub record GivesBack (before : PoolState) (pages : List ℕ) (after : PoolState) (pages' : List ℕ) : Type 0 where
+  pub pool : IsPool after
+  pub balanced : IsBalanced before pages after pages'
+  pub count : after.count ≡ before.count
 
 -- a page has these bytes, and pages have
 pub record IsOn (last : ℕ → ℕ → Type 0) (page : ℕ) (bytes : List ℕ) : Type 0 where

@@ -1,8 +1,10 @@
 -- One tape. All of this is our own.
-use Rattle.std.specs.Prelude.{Bool, true, false, ◌≡◌, ℕ, ◌+◌, ◌-◌, ◌*◌, ◌<◌, ◌≤◌, ◌==◌, List, [], ◌∷◌, ◌++◌, length, drop, Option, Some, None}
+use Rattle.std.specs.Prelude.{Bool, true, false, ◌≡◌, ◌≢◌, IsTrue, IfSome, IfNone, ℕ, ◌+◌, ◌-◌, ◌*◌, ◌<◌, ◌≤◌, ◌==◌, List, [], ◌∷◌, ◌++◌, length, drop, Option, Some, None}
 use Rattle.std.specs.List.{flat_map}
 use Rattle.spill_tapes.specs.Records.{Record, IsRecord, AreRecords, tape_bytes}
 use Rattle.spill_tapes.specs.Pages.{AreOn}
+use Rattle.spill_tapes.specs.declared.error.TapeError.{TapeError}
+use Rattle.spill_tapes.specs.declared.error.TapeError.TheVariants.{TapeDamaged, TapesDead}
 use Rattle.spill_tapes.specs.declared.header.Header.{Header}
 use Rattle.spill_tapes.specs.declared.tape.Phase.{Phase}
 use Rattle.spill_tapes.specs.declared.tape.Phase.TheVariants.{Closed, Written, Read}
@@ -121,3 +123,16 @@ ended t = ended_by (t.records == 0) t
 abbrev pub Gives : (List Record → Type 0) → List Record → List ℕ → Option (ℕ × ℕ) → Type 0
 Gives IsRest rs bytes None = (rs ≡ []) × IsRest []
 Gives IsRest rs bytes (Some told) = (rest : List Record) × (rs ≡ record { hash = told.0; tag = told.1; bytes = bytes } ∷ rest) × IsRest rest
+
+-- what the call told that read the next record of a tape: the first of those ahead, if the disk is honest; and over any disk a tag and
+-- bytes that a record can have
+pub record IsGiven (honest : Bool) (last : ℕ → ℕ → Type 0) (before : TapeState) (last' : ℕ → ℕ → Type 0) (after : TapeState) (bytes : List ℕ) (found : Option (ℕ × ℕ)) : Type 0 where
+  pub good : IsGood after
+  pub gives : IsTrue honest → (rs : List Record) → AreAhead last before rs → Gives (AreAhead last' after) rs bytes found
+  pub none : IfNone found (bytes ≡ [])
+  pub framed : IfSome found (λ told. (told.1 < 2) × (length bytes ≤ 65535))
+
+-- why it told none
+pub record IsNotGiven (honest : Bool) (last : ℕ → ℕ → Type 0) (before : TapeState) (error : TapeError) : Type 0 where
+  pub undamaged : IsTrue honest → (rs : List Record) → AreAhead last before rs → error ≢ TapeDamaged
+  pub alive : error ≢ TapesDead

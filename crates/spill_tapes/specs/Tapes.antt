@@ -47,26 +47,24 @@ pub record KeepsOthers (last last' : ℕ → ℕ → Type 0) (before after : Tap
   pub lens : (id : TapeId) → id ≢ tape → written_len after id ≡ written_len before id
   pub records : (id : TapeId) → id ≢ tape → (rs : List Record) → IsTape last before id rs → IsTape last' after id rs
 
--- why no tape is opened, by whether the tapes were dead
+-- why no tape is opened, by whether the tapes were dead; why a call is refused that writes; and one that reads
 abbrev pub IsOpenRefusal : Bool → TapeError → Type 0
 IsOpenRefusal dead NoMemory = dead ≡ false
 IsOpenRefusal dead TapeFault = ⊥
 IsOpenRefusal dead TapeDamaged = ⊥
 IsOpenRefusal dead TapesDead = dead ≡ true
 
--- why a call is refused that only writes, by whether the tapes were dead and how often the disk had failed before and after
--- it; and one that reads
-abbrev pub IsRefusal : Bool → ℕ → ℕ → TapeError → Type 0
-IsRefusal dead before after NoMemory = dead ≡ false
-IsRefusal dead before after TapeFault = (dead ≡ false) × (before < after)
-IsRefusal dead before after TapeDamaged = ⊥
-IsRefusal dead before after TapesDead = dead ≡ true
+abbrev pub IsRefusal : Bool → TapeError → Type 0
+IsRefusal dead NoMemory = dead ≡ false
+IsRefusal dead TapeFault = dead ≡ false
+IsRefusal dead TapeDamaged = ⊥
+IsRefusal dead TapesDead = dead ≡ true
 
-abbrev pub IsReadRefusal : Bool → ℕ → ℕ → TapeError → Type 0
-IsReadRefusal dead before after NoMemory = dead ≡ false
-IsReadRefusal dead before after TapeFault = (dead ≡ false) × (before < after)
-IsReadRefusal dead before after TapeDamaged = dead ≡ false
-IsReadRefusal dead before after TapesDead = dead ≡ true
+abbrev pub IsReadRefusal : Bool → TapeError → Type 0
+IsReadRefusal dead NoMemory = dead ≡ false
+IsReadRefusal dead TapeFault = dead ≡ false
+IsReadRefusal dead TapeDamaged = dead ≡ false
+IsReadRefusal dead TapesDead = dead ≡ true
 
 -- what is true of all tapes: each page that was given out is free or one tape's, and there is no tape that is not open with
 -- pages; and what is true of each by its phase, as long as no call failed

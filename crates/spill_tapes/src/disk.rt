@@ -1,7 +1,8 @@
 //! Disks, as tapes use them.
-ghost use Rattle.std.specs.Prelude.{◌≡◌, ◌+◌, ◌<◌, ◌≤◌, ◌^◌, ℕ, Bool, IsTrue, OnOk, OnErr, IfErr, length};
-ghost use Rattle.spill_tapes.specs.Disk.{AreLast, AreReadAt, Keeps, KeepsBeside};
-ghost use Rattle.spill_tapes.specs.declared.disk.DiskError.TheVariants.{NoMemory, TapeFault};
+ghost use Rattle.std.specs.Prelude.{◌≡◌, ◌+◌, ◌<◌, ◌^◌, ℕ, Bool, IsTrue, OnOk, OnErr, length};
+ghost use Rattle.spill_tapes.specs.Calls.{AreLast, AreReadAt, Keeps, KeepsBeside, failed};
+ghost use Rattle.spill_tapes.specs.Errors.{disk_faults};
+ghost use Rattle.spill_tapes.specs.declared.disk.DiskError.TheVariants.{NoMemory};
 
 use std::alloc::AllocError;
 use thiserror::Error;
@@ -28,7 +29,8 @@ impl From<AllocError> for DiskError {
 /// A disk: bytes at places, which are numbers below 2^63.
 ///
 /// A write that succeeds puts its bytes at its places, and is counted. One that fails leaves its places as if they had never
-/// been written, so nothing is said of them, and is not counted. A read changes neither. Neither count ever falls.
+/// been written, so nothing is said of them, and is not counted. A read changes neither. A call that answers `TapeFault` met one
+/// failure more, and any other met none.
 ///
 /// A disk is honest if each read that succeeds gives, at every place that was ever written, the byte last written there.
 /// Whether it is so never changes.
@@ -51,8 +53,7 @@ pub trait TapeDisk {
         ensures read { OnOk result (IsTrue (honest self.old) → AreReadAt (last self.old) at bytes.new) }
         ensures keeps { Keeps (last self.old) (last self.new) }
         ensures writes { writes self.new ≡ writes self.old }
-        ensures failures { failures self.old ≤ failures self.new }
-        ensures fault { IfErr result (λ error. error ≡ TapeFault → failures self.old < failures self.new) }
+        ensures failures { failures self.new ≡ failures self.old + failed disk_faults result }
         ensures honesty { honest self.new ≡ honest self.old };
 
     /// Writes these bytes, from the place `at` on.
@@ -62,7 +63,6 @@ pub trait TapeDisk {
         ensures keeps { KeepsBeside (last self.old) (last self.new) at (length bytes.now) }
         ensures counted { OnOk result (writes self.new ≡ writes self.old + 1) }
         ensures uncounted { OnErr result (writes self.new ≡ writes self.old) }
-        ensures failures { failures self.old ≤ failures self.new }
-        ensures fault { IfErr result (λ error. error ≡ TapeFault → failures self.old < failures self.new) }
+        ensures failures { failures self.new ≡ failures self.old + failed disk_faults result }
         ensures honesty { honest self.new ≡ honest self.old };
 }

@@ -1,6 +1,6 @@
 //! The pages of tapes: which are free, and how many there are.
 ghost use Rattle.std.specs.Prelude.{◌≡◌, ◌+◌, ◌<◌, ◌≤◌, ◌^◌, ◌∷◌, ◌++◌, [], ℕ, IfOk, OnOk, IfSome, IfNone, OnErr, length};
-ghost use Rattle.spill_tapes.specs.Pages.{IsPool, IsApart, IsBalanced, FreesNone, IsFresh, given_back};
+ghost use Rattle.spill_tapes.specs.Pages.{IsPool, HavePages, IsApart, IsBalanced, TakesPages, IsFresh, given_back};
 
 use std::alloc::{AllocError, Global};
 use std::collections::VecDeque;
@@ -53,13 +53,10 @@ impl PagePool {
     /// Gives a free page to the end of `pages`, or else a new one.
     #[tactic(auto, using(crate::proofs::PoolLaws::balanced_twice, crate::proofs::PoolLaws::fresh_first, crate::proofs::PoolLaws::fresh_new))]
     pub(crate) fn take(&mut self, pages: &mut VecDeque<u64>) -> Result<u64, AllocError>
-        requires pool { IsPool self.old }
-        requires apart { IsApart self.old pages.old.items }
-        ensures pool { IsPool self.new }
+        requires pages { HavePages self.old pages.old.items }
+        ensures pages { TakesPages self.old pages.old.items self.new pages.new.items }
         ensures small { IfOk result (λ page. page < 2 ^ 49) }
         ensures taken { IfOk result (λ page. pages.new.items ≡ pages.old.items ++ page ∷ []) }
-        ensures balanced { IsBalanced self.old pages.old.items self.new pages.new.items }
-        ensures frees { FreesNone self.old self.new }
         ensures fresh { IfOk result (IsFresh self.old) }
         ensures refused { OnErr result (pages.new.items ≡ pages.old.items) }
     {
@@ -125,8 +122,7 @@ impl PagePool {
 
     /// Takes back all of these pages.
     pub(crate) fn give_back_all(&mut self, pages: &mut VecDeque<u64>)
-        requires pool { IsPool self.old }
-        requires fits { length self.old.free + length pages.old.items ≤ self.old.count }
+        requires pages { HavePages self.old pages.old.items }
         ensures pool { IsPool self.new }
         ensures free { self.new.free ≡ self.old.free ++ pages.old.items }
         ensures count { self.new.count ≡ self.old.count }

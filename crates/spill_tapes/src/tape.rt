@@ -1,11 +1,11 @@
 //! One tape: pages on a disk, and a buffer of one page.
-ghost use Rattle.std.specs.Prelude.{◌≡◌, ◌≢◌, ◌&&◌, nat_lt, nat_le, ◌+◌, ◌-◌, ◌*◌, ◌/◌, ◌<◌, ◌≤◌, ◌^◌, ◌∷◌, ◌++◌, [], ℕ, List, Some, None, IsTrue, IfOk, IfErr, IfSome, IfNone, OnOk, OnErr, length, take, drop};
-ghost use Rattle.spill_tapes.specs.Disk.{Keeps};
+ghost use Rattle.std.specs.Prelude.{◌≡◌, ◌&&◌, nat_lt, nat_le, ◌+◌, ◌-◌, ◌*◌, ◌/◌, ◌<◌, ◌≤◌, ◌^◌, ◌∷◌, ◌++◌, [], ℕ, List, Some, None, IsTrue, IfOk, IfErr, OnOk, OnErr, length, take, drop};
+ghost use Rattle.spill_tapes.specs.Disk.{Leaves, OnlyReads};
+ghost use Rattle.spill_tapes.specs.Calls.{failed};
+ghost use Rattle.spill_tapes.specs.Errors.{disk_faults, tape_faults};
 ghost use Rattle.spill_tapes.specs.Records.{Record, IsRecord, header_of};
-ghost use Rattle.spill_tapes.specs.Pages.{IsPool, IsApart, IsBalanced, FreesNone, KeepsPages};
-ghost use Rattle.spill_tapes.specs.Tape.{TapeState, new_tape, no_tape, tape_len, ahead, HasWritten, HasAhead, IsSameTape, IsGood, IsAfterHeader, Gives, spent, ended, AreWritten, AreAhead};
-ghost use Rattle.spill_tapes.specs.declared.disk.DiskError.TheVariants as disk_error;
-ghost use Rattle.spill_tapes.specs.declared.error.TapeError.TheVariants as tape_error;
+ghost use Rattle.spill_tapes.specs.Pages.{HavePages, TakesPages, GivesBack, KeepsPages};
+ghost use Rattle.spill_tapes.specs.Tape.{TapeState, new_tape, no_tape, tape_len, ahead, HasWritten, HasAhead, IsSameTape, IsGood, IsAfterHeader, Gives, IsGiven, IsNotGiven, spent, ended, AreWritten, AreAhead};
 ghost use Rattle.spill_tapes.specs.declared.tape.Phase.TheVariants as phase;
 
 use crate::disk::{DiskError, TapeDisk};
@@ -66,12 +66,9 @@ impl Tape {
 
     /// Writes the buffer, which is full, to a page more.
     fn flush<D: TapeDisk>(&mut self, disk: &mut D, pool: &mut PagePool) -> Result<(), DiskError>
-        requires pool { IsPool pool.old }
-        requires apart { IsApart pool.old self.old.pages }
+        requires pages { HavePages pool.old self.old.pages }
         requires full { length self.old.buffer ≡ 8192 }
-        ensures pool { IsPool pool.new }
-        ensures balanced { IsBalanced pool.old self.old.pages pool.new self.new.pages }
-        ensures frees { FreesNone pool.old pool.new }
+        ensures pages { TakesPages pool.old self.old.pages pool.new self.new.pages }
         ensures same { IsSameTape self.old self.new }
         ensures read { self.new.read ≡ self.old.read }
         ensures keeps { KeepsPages pool.old (D.last disk.old) (D.last disk.new) }
@@ -79,10 +76,7 @@ impl Tape {
         ensures longer { OnOk result (length self.new.pages ≡ length self.old.pages + 1) }
         ensures written { OnOk result ((bytes : List ℕ) → HasWritten (D.last disk.old) self.old bytes → HasWritten (D.last disk.new) self.new bytes) }
         ensures counted { OnOk result (D.writes disk.new ≡ D.writes disk.old + 1) }
-        ensures writes { D.writes disk.old ≤ D.writes disk.new }
-        ensures failures { D.failures disk.old ≤ D.failures disk.new }
-        ensures fault { IfErr result (λ error. error ≡ disk_error.TapeFault → D.failures disk.old < D.failures disk.new) }
-        ensures honesty { D.honest disk.new ≡ D.honest disk.old }
+        ensures disk { Leaves D.TapeDisk (failed disk_faults result) disk.old disk.new }
     {
         let page = pool.take(&mut self.pages)?;
         disk.write_at(page * PAGE as u64, &self.buffer)?;
@@ -97,22 +91,16 @@ impl Tape {
         pool: &mut PagePool,
         bytes: &[u8],
     ) -> Result<(), DiskError>
-        requires pool { IsPool pool.old }
-        requires apart { IsApart pool.old self.old.pages }
+        requires pages { HavePages pool.old self.old.pages }
         requires full { length self.old.buffer + length bytes.now ≡ 8192 }
-        ensures pool { IsPool pool.new }
-        ensures balanced { IsBalanced pool.old self.old.pages pool.new self.new.pages }
-        ensures frees { FreesNone pool.old pool.new }
+        ensures pages { TakesPages pool.old self.old.pages pool.new self.new.pages }
         ensures same { IsSameTape self.old self.new }
         ensures keeps { KeepsPages pool.old (D.last disk.old) (D.last disk.new) }
         ensures empty { OnOk result (self.new.buffer ≡ []) }
         ensures longer { OnOk result (length self.new.pages ≡ length self.old.pages + 1) }
         ensures written { OnOk result ((before : List ℕ) → HasWritten (D.last disk.old) self.old before → HasWritten (D.last disk.new) self.new (before ++ bytes.now)) }
         ensures counted { OnOk result (D.writes disk.new ≡ D.writes disk.old + 1) }
-        ensures writes { D.writes disk.old ≤ D.writes disk.new }
-        ensures failures { D.failures disk.old ≤ D.failures disk.new }
-        ensures fault { IfErr result (λ error. error ≡ disk_error.TapeFault → D.failures disk.old < D.failures disk.new) }
-        ensures honesty { D.honest disk.new ≡ D.honest disk.old }
+        ensures disk { Leaves D.TapeDisk (failed disk_faults result) disk.old disk.new }
     {
         self.buffer.extend_from_slice(bytes)?;
         self.flush(disk, pool)
@@ -125,22 +113,16 @@ impl Tape {
         pool: &mut PagePool,
         bytes: &[u8],
     ) -> Result<(), DiskError>
-        requires pool { IsPool pool.old }
-        requires apart { IsApart pool.old self.old.pages }
+        requires pages { HavePages pool.old self.old.pages }
         requires small { length self.old.buffer < 8192 }
-        ensures pool { IsPool pool.new }
-        ensures balanced { IsBalanced pool.old self.old.pages pool.new self.new.pages }
-        ensures frees { FreesNone pool.old pool.new }
+        ensures pages { TakesPages pool.old self.old.pages pool.new self.new.pages }
         ensures same { IsSameTape self.old self.new }
         ensures keeps { KeepsPages pool.old (D.last disk.old) (D.last disk.new) }
         ensures small { OnOk result (length self.new.buffer < 8192) }
         ensures longer { OnOk result (tape_len self.new ≡ tape_len self.old + length bytes.now) }
         ensures written { OnOk result ((before : List ℕ) → HasWritten (D.last disk.old) self.old before → HasWritten (D.last disk.new) self.new (before ++ bytes.now)) }
         ensures counted { OnOk result (D.writes disk.new + length self.old.pages ≡ D.writes disk.old + length self.new.pages) }
-        ensures writes { D.writes disk.old ≤ D.writes disk.new }
-        ensures failures { D.failures disk.old ≤ D.failures disk.new }
-        ensures fault { IfErr result (λ error. error ≡ disk_error.TapeFault → D.failures disk.old < D.failures disk.new) }
-        ensures honesty { D.honest disk.new ≡ D.honest disk.old }
+        ensures disk { Leaves D.TapeDisk (failed disk_faults result) disk.old disk.new }
     {
         let room = PAGE - self.buffer.len();
         if bytes.len() < room {
@@ -159,22 +141,16 @@ impl Tape {
         header: Header,
         bytes: &[u8],
     ) -> Result<(), DiskError>
-        requires pool { IsPool pool.old }
-        requires apart { IsApart pool.old self.old.pages }
+        requires pages { HavePages pool.old self.old.pages }
         requires small { length self.old.buffer < 8192 }
-        ensures pool { IsPool pool.new }
-        ensures balanced { IsBalanced pool.old self.old.pages pool.new self.new.pages }
-        ensures frees { FreesNone pool.old pool.new }
+        ensures pages { TakesPages pool.old self.old.pages pool.new self.new.pages }
         ensures keeps { KeepsPages pool.old (D.last disk.old) (D.last disk.new) }
         ensures same { IsSameTape self.old self.new }
         ensures small { OnOk result (length self.new.buffer < 8192) }
         ensures longer { OnOk result (tape_len self.new ≡ tape_len self.old + (9 + length bytes.now)) }
         ensures written { OnOk result ((before : List ℕ) → HasWritten (D.last disk.old) self.old before → HasWritten (D.last disk.new) self.new (before ++ (header_of header.hash header.tag header.len ++ bytes.now))) }
         ensures counted { OnOk result (D.writes disk.new + length self.old.pages ≡ D.writes disk.old + length self.new.pages) }
-        ensures writes { D.writes disk.old ≤ D.writes disk.new }
-        ensures failures { D.failures disk.old ≤ D.failures disk.new }
-        ensures fault { IfErr result (λ error. error ≡ disk_error.TapeFault → D.failures disk.old < D.failures disk.new) }
-        ensures honesty { D.honest disk.new ≡ D.honest disk.old }
+        ensures disk { Leaves D.TapeDisk (failed disk_faults result) disk.old disk.new }
     {
         self.put(disk, pool, &header.to_bytes())?;
         self.put(disk, pool, bytes)
@@ -188,26 +164,19 @@ impl Tape {
         header: Header,
         bytes: &[u8],
     ) -> Result<(), DiskError>
-        requires pool { IsPool pool.old }
-        requires apart { IsApart pool.old self.old.pages }
-        requires fits { length pool.old.free + length self.old.pages ≤ pool.old.count }
+        requires pages { HavePages pool.old self.old.pages }
         requires phase { self.old.phase ≡ phase.Written }
         requires good { IsGood self.old }
         requires record { IsRecord (record { hash = header.hash; tag = header.tag; bytes = bytes.now }) }
         requires len { header.len ≡ length bytes.now }
-        ensures pool { IsPool pool.new }
-        ensures balanced { IsBalanced pool.old self.old.pages pool.new self.new.pages }
-        ensures frees { FreesNone pool.old pool.new }
+        ensures pages { TakesPages pool.old self.old.pages pool.new self.new.pages }
         ensures keeps { KeepsPages pool.old (D.last disk.old) (D.last disk.new) }
         ensures phase { self.new.phase ≡ phase.Written }
         ensures good { OnOk result (IsGood self.new) }
         ensures longer { OnOk result (tape_len self.new ≡ tape_len self.old + (9 + length bytes.now)) }
         ensures appended { OnOk result ((rs : List Record) → AreWritten (D.last disk.old) self.old rs → AreWritten (D.last disk.new) self.new (rs ++ record { hash = header.hash; tag = header.tag; bytes = bytes.now } ∷ [])) }
         ensures counted { OnOk result (D.writes disk.new + tape_len self.old / 8192 ≡ D.writes disk.old + tape_len self.new / 8192) }
-        ensures writes { D.writes disk.old ≤ D.writes disk.new }
-        ensures failures { D.failures disk.old ≤ D.failures disk.new }
-        ensures fault { IfErr result (λ error. error ≡ disk_error.TapeFault → D.failures disk.old < D.failures disk.new) }
-        ensures honesty { D.honest disk.new ≡ D.honest disk.old }
+        ensures disk { Leaves D.TapeDisk (failed disk_faults result) disk.old disk.new }
     {
         self.buffer.reserve_exact(PAGE - self.buffer.len())?;
         self.put_record(disk, pool, header, bytes)?;
@@ -217,12 +186,9 @@ impl Tape {
 
     /// Fills up the page that has begun with zeros and writes it, if one has begun.
     fn finish<D: TapeDisk>(&mut self, disk: &mut D, pool: &mut PagePool) -> Result<(), DiskError>
-        requires pool { IsPool pool.old }
-        requires apart { IsApart pool.old self.old.pages }
+        requires pages { HavePages pool.old self.old.pages }
         requires small { length self.old.buffer < 8192 }
-        ensures pool { IsPool pool.new }
-        ensures balanced { IsBalanced pool.old self.old.pages pool.new self.new.pages }
-        ensures frees { FreesNone pool.old pool.new }
+        ensures pages { TakesPages pool.old self.old.pages pool.new self.new.pages }
         ensures keeps { KeepsPages pool.old (D.last disk.old) (D.last disk.new) }
         ensures same { IsSameTape self.old self.new }
         ensures read { self.new.read ≡ self.old.read }
@@ -230,10 +196,7 @@ impl Tape {
         ensures longer { OnOk result (tape_len self.old ≤ tape_len self.new) }
         ensures written { OnOk result ((bytes : List ℕ) → HasWritten (D.last disk.old) self.old bytes → ((rest : List ℕ) × HasWritten (D.last disk.new) self.new (bytes ++ rest))) }
         ensures counted { OnOk result (D.writes disk.new + tape_len self.old / 8192 ≡ D.writes disk.old + (tape_len self.old + 8191) / 8192) }
-        ensures writes { D.writes disk.old ≤ D.writes disk.new }
-        ensures failures { D.failures disk.old ≤ D.failures disk.new }
-        ensures fault { IfErr result (λ error. error ≡ disk_error.TapeFault → D.failures disk.old < D.failures disk.new) }
-        ensures honesty { D.honest disk.new ≡ D.honest disk.old }
+        ensures disk { Leaves D.TapeDisk (failed disk_faults result) disk.old disk.new }
     {
         if self.buffer.is_empty() {
             return Ok(());
@@ -248,23 +211,16 @@ impl Tape {
         disk: &mut D,
         pool: &mut PagePool,
     ) -> Result<(), DiskError>
-        requires pool { IsPool pool.old }
-        requires apart { IsApart pool.old self.old.pages }
-        requires fits { length pool.old.free + length self.old.pages ≤ pool.old.count }
+        requires pages { HavePages pool.old self.old.pages }
         requires phase { self.old.phase ≡ phase.Written }
         requires good { IsGood self.old }
-        ensures pool { IsPool pool.new }
-        ensures balanced { IsBalanced pool.old self.old.pages pool.new self.new.pages }
-        ensures frees { FreesNone pool.old pool.new }
+        ensures pages { TakesPages pool.old self.old.pages pool.new self.new.pages }
         ensures keeps { KeepsPages pool.old (D.last disk.old) (D.last disk.new) }
         ensures phase { self.new.phase ≡ phase.Read }
         ensures good { OnOk result (IsGood self.new) }
         ensures rewound { OnOk result ((rs : List Record) → AreWritten (D.last disk.old) self.old rs → AreAhead (D.last disk.new) self.new rs) }
         ensures counted { OnOk result (D.writes disk.new + tape_len self.old / 8192 ≡ D.writes disk.old + (tape_len self.old + 8191) / 8192) }
-        ensures writes { D.writes disk.old ≤ D.writes disk.new }
-        ensures failures { D.failures disk.old ≤ D.failures disk.new }
-        ensures fault { IfErr result (λ error. error ≡ disk_error.TapeFault → D.failures disk.old < D.failures disk.new) }
-        ensures honesty { D.honest disk.new ≡ D.honest disk.old }
+        ensures disk { Leaves D.TapeDisk (failed disk_faults result) disk.old disk.new }
     {
         self.phase = Phase::Read;
         self.read = 0;
@@ -274,23 +230,16 @@ impl Tape {
 
     /// Reads the next page into the buffer, of which all was read. The page is free then.
     fn load<D: TapeDisk>(&mut self, disk: &mut D, pool: &mut PagePool) -> Result<(), DiskError>
-        requires pool { IsPool pool.old }
-        requires apart { IsApart pool.old self.old.pages }
-        requires fits { length pool.old.free + length self.old.pages ≤ pool.old.count }
+        requires pages { HavePages pool.old self.old.pages }
         requires some { 0 < length self.old.pages }
         requires spent { self.old.read ≡ length self.old.buffer }
-        ensures pool { IsPool pool.new }
-        ensures balanced { IsBalanced pool.old self.old.pages pool.new self.new.pages }
-        ensures keeps { Keeps (D.last disk.old) (D.last disk.new) }
+        ensures pages { GivesBack pool.old self.old.pages pool.new self.new.pages }
         ensures same { IsSameTape self.old self.new }
         ensures start { OnOk result (self.new.read ≡ 0) }
         ensures full { OnOk result (length self.new.buffer ≡ 8192) }
         ensures shorter { OnOk result (length self.new.pages + 1 ≡ length self.old.pages) }
         ensures loaded { OnOk result (IsTrue (D.honest disk.old) → (bytes : List ℕ) → HasAhead (D.last disk.old) self.old bytes → HasAhead (D.last disk.new) self.new bytes) }
-        ensures writes { D.writes disk.new ≡ D.writes disk.old }
-        ensures failures { D.failures disk.old ≤ D.failures disk.new }
-        ensures fault { IfErr result (λ error. error ≡ disk_error.TapeFault → D.failures disk.old < D.failures disk.new) }
-        ensures honesty { D.honest disk.new ≡ D.honest disk.old }
+        ensures disk { OnlyReads D.TapeDisk (failed disk_faults result) disk.old disk.new }
     {
         self.buffer.resize(PAGE, 0)?;
         let Some(page) = self.pages.pop_front() else {
@@ -322,23 +271,16 @@ impl Tape {
         n: usize,
         bytes: &mut Vec<u8>,
     ) -> Result<(), DiskError>
-        requires pool { IsPool pool.old }
-        requires apart { IsApart pool.old self.old.pages }
-        requires fits { length pool.old.free + length self.old.pages ≤ pool.old.count }
+        requires pages { HavePages pool.old self.old.pages }
         requires read { self.old.read ≤ length self.old.buffer }
         requires ahead { n ≤ ahead self.old }
-        ensures pool { IsPool pool.new }
-        ensures balanced { IsBalanced pool.old self.old.pages pool.new self.new.pages }
-        ensures keeps { Keeps (D.last disk.old) (D.last disk.new) }
+        ensures pages { GivesBack pool.old self.old.pages pool.new self.new.pages }
         ensures same { IsSameTape self.old self.new }
         ensures read { OnOk result (self.new.read ≤ length self.new.buffer) }
         ensures ahead { OnOk result (ahead self.new + n ≡ ahead self.old) }
         ensures len { OnOk result (length bytes.new.items ≡ length bytes.old.items + n) }
         ensures filled { OnOk result (IsTrue (D.honest disk.old) → (front rest : List ℕ) → length front ≡ n → HasAhead (D.last disk.old) self.old (front ++ rest) → (bytes.new.items ≡ bytes.old.items ++ front) × HasAhead (D.last disk.new) self.new rest) }
-        ensures writes { D.writes disk.new ≡ D.writes disk.old }
-        ensures failures { D.failures disk.old ≤ D.failures disk.new }
-        ensures fault { IfErr result (λ error. error ≡ disk_error.TapeFault → D.failures disk.old < D.failures disk.new) }
-        ensures honesty { D.honest disk.new ≡ D.honest disk.old }
+        ensures disk { OnlyReads D.TapeDisk (failed disk_faults result) disk.old disk.new }
     {
         let ahead = self.buffer.len() - self.read;
         if n <= ahead {
@@ -357,26 +299,19 @@ impl Tape {
         pool: &mut PagePool,
         bytes: &mut Vec<u8>,
     ) -> Result<Header, DiskError>
-        requires pool { IsPool pool.old }
-        requires apart { IsApart pool.old self.old.pages }
-        requires fits { length pool.old.free + length self.old.pages ≤ pool.old.count }
+        requires pages { HavePages pool.old self.old.pages }
         requires read { self.old.read ≤ length self.old.buffer }
         requires ahead { self.old.left ≤ ahead self.old }
         requires left { 9 ≤ self.old.left }
         requires some { 0 < self.old.records }
         requires empty { bytes.old.items ≡ [] }
-        ensures pool { IsPool pool.new }
-        ensures balanced { IsBalanced pool.old self.old.pages pool.new self.new.pages }
-        ensures keeps { Keeps (D.last disk.old) (D.last disk.new) }
+        ensures pages { GivesBack pool.old self.old.pages pool.new self.new.pages }
         ensures phase { self.new.phase ≡ self.old.phase }
         ensures read { OnOk result (self.new.read ≤ length self.new.buffer) }
         ensures ahead { OnOk result (self.new.left ≤ ahead self.new) }
         ensures records { self.new.records ≡ self.old.records }
         ensures header { IfOk result (λ header. IsTrue (D.honest disk.old) → (rs : List Record) → AreAhead (D.last disk.old) self.old rs → IsAfterHeader (D.last disk.new) self.new header rs) }
-        ensures writes { D.writes disk.new ≡ D.writes disk.old }
-        ensures failures { D.failures disk.old ≤ D.failures disk.new }
-        ensures fault { IfErr result (λ error. error ≡ disk_error.TapeFault → D.failures disk.old < D.failures disk.new) }
-        ensures honesty { D.honest disk.new ≡ D.honest disk.old }
+        ensures disk { OnlyReads D.TapeDisk (failed disk_faults result) disk.old disk.new }
     {
         self.fill(disk, pool, HEADER, bytes)?;
         self.left -= HEADER as u64;
@@ -391,25 +326,18 @@ impl Tape {
         header: Header,
         bytes: &mut Vec<u8>,
     ) -> Result<(), DiskError>
-        requires pool { IsPool pool.old }
-        requires apart { IsApart pool.old self.old.pages }
-        requires fits { length pool.old.free + length self.old.pages ≤ pool.old.count }
+        requires pages { HavePages pool.old self.old.pages }
         requires read { self.old.read ≤ length self.old.buffer }
         requires ahead { self.old.left ≤ ahead self.old }
         requires left { header.len ≤ self.old.left }
         requires some { 0 < self.old.records }
-        ensures pool { IsPool pool.new }
-        ensures balanced { IsBalanced pool.old self.old.pages pool.new self.new.pages }
-        ensures keeps { Keeps (D.last disk.old) (D.last disk.new) }
+        ensures pages { GivesBack pool.old self.old.pages pool.new self.new.pages }
         ensures phase { self.new.phase ≡ self.old.phase }
         ensures read { OnOk result (self.new.read ≤ length self.new.buffer) }
         ensures ahead { OnOk result (self.new.left ≤ ahead self.new) }
         ensures len { OnOk result (length bytes.new.items ≡ header.len) }
         ensures gives { OnOk result (IsTrue (D.honest disk.old) → (rs : List Record) → IsAfterHeader (D.last disk.old) self.old header rs → Gives (AreAhead (D.last disk.new) self.new) rs bytes.new.items (Some (header.hash, header.tag))) }
-        ensures writes { D.writes disk.new ≡ D.writes disk.old }
-        ensures failures { D.failures disk.old ≤ D.failures disk.new }
-        ensures fault { IfErr result (λ error. error ≡ disk_error.TapeFault → D.failures disk.old < D.failures disk.new) }
-        ensures honesty { D.honest disk.new ≡ D.honest disk.old }
+        ensures disk { OnlyReads D.TapeDisk (failed disk_faults result) disk.old disk.new }
     {
         bytes.clear();
         bytes.reserve(header.len as usize)?;
@@ -427,26 +355,15 @@ impl Tape {
         pool: &mut PagePool,
         bytes: &mut Vec<u8>,
     ) -> Result<Option<(u32, u8)>, TapeError>
-        requires pool { IsPool pool.old }
-        requires apart { IsApart pool.old self.old.pages }
-        requires fits { length pool.old.free + length self.old.pages ≤ pool.old.count }
+        requires pages { HavePages pool.old self.old.pages }
         requires phase { self.old.phase ≡ phase.Read }
         requires good { IsGood self.old }
         requires empty { bytes.old.items ≡ [] }
-        ensures pool { IsPool pool.new }
-        ensures balanced { IsBalanced pool.old self.old.pages pool.new self.new.pages }
-        ensures keeps { Keeps (D.last disk.old) (D.last disk.new) }
+        ensures pages { GivesBack pool.old self.old.pages pool.new self.new.pages }
         ensures phase { self.new.phase ≡ phase.Read }
-        ensures good { OnOk result (IsGood self.new) }
-        ensures gives { IfOk result (λ found. IsTrue (D.honest disk.old) → (rs : List Record) → AreAhead (D.last disk.old) self.old rs → Gives (AreAhead (D.last disk.new) self.new) rs bytes.new.items found) }
-        ensures undamaged { IfErr result (λ error. IsTrue (D.honest disk.old) → (rs : List Record) → AreAhead (D.last disk.old) self.old rs → error ≢ tape_error.TapeDamaged) }
-        ensures alive { IfErr result (λ error. error ≢ tape_error.TapesDead) }
-        ensures none { IfOk result (λ found. IfNone found (bytes.new.items ≡ [])) }
-        ensures framed { IfOk result (λ found. IfSome found (λ told. (told.1 < 2) × (length bytes.new.items ≤ 65535))) }
-        ensures writes { D.writes disk.new ≡ D.writes disk.old }
-        ensures failures { D.failures disk.old ≤ D.failures disk.new }
-        ensures fault { IfErr result (λ error. error ≡ tape_error.TapeFault → D.failures disk.old < D.failures disk.new) }
-        ensures honesty { D.honest disk.new ≡ D.honest disk.old }
+        ensures given { IfOk result (IsGiven (D.honest disk.old) (D.last disk.old) self.old (D.last disk.new) self.new bytes.new.items) }
+        ensures refused { IfErr result (IsNotGiven (D.honest disk.old) (D.last disk.old) self.old) }
+        ensures disk { OnlyReads D.TapeDisk (failed tape_faults result) disk.old disk.new }
     {
         match self.next_record(disk, pool, bytes) {
             Ok(found) => {
@@ -464,26 +381,15 @@ impl Tape {
         pool: &mut PagePool,
         bytes: &mut Vec<u8>,
     ) -> Result<Option<(u32, u8)>, TapeError>
-        requires pool { IsPool pool.old }
-        requires apart { IsApart pool.old self.old.pages }
-        requires fits { length pool.old.free + length self.old.pages ≤ pool.old.count }
+        requires pages { HavePages pool.old self.old.pages }
         requires phase { self.old.phase ≡ phase.Read }
         requires good { IsGood self.old }
         requires empty { bytes.old.items ≡ [] }
-        ensures pool { IsPool pool.new }
-        ensures balanced { IsBalanced pool.old self.old.pages pool.new self.new.pages }
-        ensures keeps { Keeps (D.last disk.old) (D.last disk.new) }
+        ensures pages { GivesBack pool.old self.old.pages pool.new self.new.pages }
         ensures phase { self.new.phase ≡ phase.Read }
-        ensures good { OnOk result (IsGood self.new) }
-        ensures gives { IfOk result (λ found. IsTrue (D.honest disk.old) → (rs : List Record) → AreAhead (D.last disk.old) self.old rs → Gives (AreAhead (D.last disk.new) self.new) rs bytes.new.items found) }
-        ensures undamaged { IfErr result (λ error. IsTrue (D.honest disk.old) → (rs : List Record) → AreAhead (D.last disk.old) self.old rs → error ≢ tape_error.TapeDamaged) }
-        ensures alive { IfErr result (λ error. error ≢ tape_error.TapesDead) }
-        ensures none { IfOk result (λ found. IfNone found (bytes.new.items ≡ [])) }
-        ensures framed { IfOk result (λ found. IfSome found (λ told. (told.1 < 2) × (length bytes.new.items ≤ 65535))) }
-        ensures writes { D.writes disk.new ≡ D.writes disk.old }
-        ensures failures { D.failures disk.old ≤ D.failures disk.new }
-        ensures fault { IfErr result (λ error. error ≡ tape_error.TapeFault → D.failures disk.old < D.failures disk.new) }
-        ensures honesty { D.honest disk.new ≡ D.honest disk.old }
+        ensures given { IfOk result (IsGiven (D.honest disk.old) (D.last disk.old) self.old (D.last disk.new) self.new bytes.new.items) }
+        ensures refused { IfErr result (IsNotGiven (D.honest disk.old) (D.last disk.old) self.old) }
+        ensures disk { OnlyReads D.TapeDisk (failed tape_faults result) disk.old disk.new }
     {
         if self.records == 0 {
             return Ok(None);
@@ -520,10 +426,8 @@ impl Tape {
 
     /// Gives back its pages.
     pub(crate) fn give_back(&mut self, pool: &mut PagePool)
-        requires pool { IsPool pool.old }
-        requires fits { length pool.old.free + length self.old.pages ≤ pool.old.count }
-        ensures pool { IsPool pool.new }
-        ensures balanced { IsBalanced pool.old self.old.pages pool.new self.new.pages }
+        requires pages { HavePages pool.old self.old.pages }
+        ensures pages { GivesBack pool.old self.old.pages pool.new self.new.pages }
         ensures none { self.new.pages ≡ [] }
     {
         pool.give_back_all(&mut self.pages);

@@ -1,5 +1,9 @@
 //! Tapes over a disk.
 ghost use Rattle.std.specs.Prelude.{◌≡◌, ◌≢◌, ◌+◌, ◌/◌, ◌<◌, ◌≤◌, ◌∷◌, ◌++◌, [], ℕ, List, Some, Err, true, false, IsTrue, IfOk, IfErr, IfSome, IfNone, OnOk, OnErr, length, get_or};
+ghost use Rattle.spill_tapes.specs.Calls.{failed};
+ghost use Rattle.spill_tapes.specs.Disk.{Leaves, OnlyReads};
+ghost use Rattle.spill_tapes.specs.Errors.{tape_faults};
+ghost use Rattle.spill_tapes.specs.Pages.{UsesAgain};
 ghost use Rattle.spill_tapes.specs.Records.{Record, tape_bytes};
 ghost use Rattle.spill_tapes.specs.Tape.{Gives, new_tape, no_tape};
 ghost use Rattle.spill_tapes.specs.Tapes.{tape_at, phase_of, is_open, is_written, is_read, written_len, IsTape, KeepsOthers, IsOpenRefusal, IsRefusal, IsReadRefusal};
@@ -48,6 +52,7 @@ impl Tapes {
     pub fn new(alloc: Global) -> Tapes
         ensures alive { result.is_dead ≡ false }
         ensures none { (id : TapeId) → is_open result id ≡ false }
+        ensures pages { result.pool.count ≡ 0 }
     {
         Tapes {
             alloc,
@@ -128,6 +133,7 @@ impl Tapes {
         ensures opened { IfOk result (λ tape. tape.index ≡ length self.old.tapes) }
         ensures longer { OnOk result (self.new.tapes ≡ self.old.tapes ++ new_tape ∷ []) }
         ensures others { IfOk result (λ tape. (id : TapeId) → id ≢ tape → tape_at self.new id ≡ tape_at self.old id) }
+        ensures pages { self.new.pool ≡ self.old.pool }
     {
         let index = self.tapes.len();
         if self.tapes.push(tape).is_err() {
@@ -150,6 +156,7 @@ impl Tapes {
         ensures none { IfOk result (λ tape. written_len self.new tape ≡ 0) }
         ensures empty { IfOk result (λ tape. IsTape (D.last _disk.now) self.new tape []) }
         ensures others { IfOk result (λ tape. KeepsOthers (D.last _disk.now) (D.last _disk.now) self.old self.new tape) }
+        ensures pages { self.new.pool ≡ self.old.pool }
     {
         if self.is_dead() {
             return Err(TapeError::TapesDead);
@@ -168,6 +175,7 @@ impl Tapes {
         ensures fresh { IfOk result (λ tape. phase_of self.old tape ≡ Closed) }
         ensures opened { IfOk result (λ tape. tape_at self.new tape ≡ new_tape) }
         ensures others { IfOk result (λ tape. (id : TapeId) → id ≢ tape → tape_at self.new id ≡ tape_at self.old id) }
+        ensures pages { self.new.pool ≡ self.old.pool }
     {
         if let Some(index) = self.closed_place() {
             self.tapes[index] = tape;
@@ -190,7 +198,7 @@ impl Tapes {
         requires len { length bytes.now ≤ 65535 }
         ensures dead { self.old.is_dead ≡ true → result ≡ Err TapesDead }
         ensures unchanged { self.old.is_dead ≡ true → (self.new ≡ self.old) × (disk.new ≡ disk.old) }
-        ensures refused { IfErr result (IsRefusal self.old.is_dead (D.failures disk.old) (D.failures disk.new)) }
+        ensures refused { IfErr result (IsRefusal self.old.is_dead) }
         ensures alive { OnOk result (self.new.is_dead ≡ false) }
         ensures dies { OnErr result (self.new.is_dead ≡ true) }
         ensures phases { (id : TapeId) → phase_of self.new id ≡ phase_of self.old id }
@@ -198,9 +206,8 @@ impl Tapes {
         ensures longer { OnOk result (written_len self.new tape ≡ written_len self.old tape + (9 + length bytes.now)) }
         ensures counted { OnOk result (D.writes disk.new + written_len self.old tape / 8192 ≡ D.writes disk.old + written_len self.new tape / 8192) }
         ensures others { KeepsOthers (D.last disk.old) (D.last disk.new) self.old self.new tape }
-        ensures writes { D.writes disk.old ≤ D.writes disk.new }
-        ensures failures { D.failures disk.old ≤ D.failures disk.new }
-        ensures honesty { D.honest disk.new ≡ D.honest disk.old }
+        ensures again { UsesAgain self.old.pool self.new.pool }
+        ensures disk { Leaves D.TapeDisk (failed tape_faults result) disk.old disk.new }
     {
         if self.is_dead() {
             return Err(TapeError::TapesDead);
@@ -235,7 +242,7 @@ impl Tapes {
         requires written { self.old.is_dead ≡ false → is_written self.old tape ≡ true }
         ensures dead { self.old.is_dead ≡ true → result ≡ Err TapesDead }
         ensures unchanged { self.old.is_dead ≡ true → (self.new ≡ self.old) × (disk.new ≡ disk.old) }
-        ensures refused { IfErr result (IsRefusal self.old.is_dead (D.failures disk.old) (D.failures disk.new)) }
+        ensures refused { IfErr result (IsRefusal self.old.is_dead) }
         ensures alive { OnOk result (self.new.is_dead ≡ false) }
         ensures dies { OnErr result (self.new.is_dead ≡ true) }
         ensures open { is_open self.new tape ≡ is_open self.old tape }
@@ -244,9 +251,8 @@ impl Tapes {
         ensures bytes { self.old.is_dead ≡ false → (rs : List Record) → IsTape (D.last disk.old) self.old tape rs → written_len self.old tape ≡ length (tape_bytes rs) }
         ensures counted { OnOk result (D.writes disk.new + written_len self.old tape / 8192 ≡ D.writes disk.old + (written_len self.old tape + 8191) / 8192) }
         ensures others { KeepsOthers (D.last disk.old) (D.last disk.new) self.old self.new tape }
-        ensures writes { D.writes disk.old ≤ D.writes disk.new }
-        ensures failures { D.failures disk.old ≤ D.failures disk.new }
-        ensures honesty { D.honest disk.new ≡ D.honest disk.old }
+        ensures again { UsesAgain self.old.pool self.new.pool }
+        ensures disk { Leaves D.TapeDisk (failed tape_faults result) disk.old disk.new }
     {
         if self.is_dead() {
             return Err(TapeError::TapesDead);
@@ -272,7 +278,7 @@ impl Tapes {
         requires read { self.old.is_dead ≡ false → is_read self.old tape ≡ true }
         ensures dead { self.old.is_dead ≡ true → result ≡ Err TapesDead }
         ensures unchanged { self.old.is_dead ≡ true → (self.new ≡ self.old) × (disk.new ≡ disk.old) }
-        ensures refused { IfErr result (IsReadRefusal self.old.is_dead (D.failures disk.old) (D.failures disk.new)) }
+        ensures refused { IfErr result (IsReadRefusal self.old.is_dead) }
         ensures undamaged { IfErr result (λ error. IsTrue (D.honest disk.old) → (rs : List Record) → IsTape (D.last disk.old) self.old tape rs → error ≢ TapeDamaged) }
         ensures alive { OnOk result (self.new.is_dead ≡ false) }
         ensures dies { OnErr result (self.new.is_dead ≡ true) }
@@ -282,9 +288,8 @@ impl Tapes {
         ensures none { IfOk result (λ found. IfNone found (bytes.new.items ≡ [])) }
         ensures nothing { OnErr result (bytes.new.items ≡ []) }
         ensures others { KeepsOthers (D.last disk.old) (D.last disk.new) self.old self.new tape }
-        ensures writes { D.writes disk.new ≡ D.writes disk.old }
-        ensures failures { D.failures disk.old ≤ D.failures disk.new }
-        ensures honesty { D.honest disk.new ≡ D.honest disk.old }
+        ensures frees { self.new.pool.count ≡ self.old.pool.count }
+        ensures disk { OnlyReads D.TapeDisk (failed tape_faults result) disk.old disk.new }
     {
         bytes.clear();
         if self.is_dead() {
@@ -306,6 +311,7 @@ impl Tapes {
         requires open { is_open self.old tape ≡ true }
         ensures alive { self.new.is_dead ≡ self.old.is_dead }
         ensures closed { is_open self.new tape ≡ false }
+        ensures frees { self.new.pool.count ≡ self.old.pool.count }
         ensures others { KeepsOthers (D.last _disk.now) (D.last _disk.now) self.old self.new tape }
     {
         let slot = &mut self.tapes[tape.index];

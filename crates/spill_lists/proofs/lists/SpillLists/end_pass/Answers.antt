@@ -6,7 +6,8 @@ use Rattle.spill_lists.specs.Standing.{ListsState, AreSpilled, pages_of, written
 use Rattle.spill_lists.proofs.PageLaws.{IsPaged, paged_start, paged_step, paged_end, rest_apart}
 use Rattle.std.proofs.Math.Seq.{drop-cons}
 use Rattle.std.proofs.lemmas.List.{drop_all}
-use Rattle.spill_lists.proofs.PassLaws.{IsEnding, ending_start, lists_without, ending_written, ending_apart, ending_beside, ending_step, ending_end, moves_none, moves_twice}
+use Rattle.spill_lists.proofs.PassLaws.{IsEnding, ending_start, lists_without, ending_written, ending_apart, ending_beside, ending_step, ending_end}
+use Rattle.spill_tapes.specs.DiskLaws.{leaves_none, leaves_twice}
 use Rattle.spill_lists.proofs.StandingLaws.{state}
 use Rattle.spill_lists.proofs.lists.SpillLists.end_pass.Goals as goal
 
@@ -27,7 +28,7 @@ loop-list-init g c =
           subst (λ (s : ListsState). IsPaged (g.D.TapeDisk.last c.args.disk.now) c.self.inside.tapes c.deref-list-items.result.now (g.D.TapeDisk.writes c.args.disk.now) (pages_of (lists s.level spilled)) (written_pages s) (g.D.TapeDisk.writes c.args.disk.now)) c.self.view_is
           (paged_start (g.D.TapeDisk.last c.args.disk.now) c.self.inside.tapes c.self.inside.level c.self.inside.parts.items c.deref-list-items.result.now spilled (g.D.TapeDisk.writes c.args.disk.now) is
           (subst (λ (s : ListsState). AreSpilled (g.D.TapeDisk.last c.args.disk.now) s.tapes s.level s.parts spilled) (sym c.self.view_is) had.spilled_are));
-      disk = moves_none (g.D.TapeDisk.failures c.args.disk.now) (g.D.TapeDisk.writes c.args.disk.now) (g.D.TapeDisk.honest c.args.disk.now);
+      disk = leaves_none g.D.TapeDisk c.args.disk.now;
     }
 
 next_of : (tapes : List OnTape) (i : ℕ) (d : OnTape) → i < length tapes → drop i tapes ≡ get_or tapes i d ∷ drop (i + 1) tapes
@@ -56,7 +57,7 @@ loop-list-preserved g c =
           (g.D.TapeDisk.writes c.args.disk.now) (pages_of (lists c.args.self.now.level spilled)) (written_pages c.args.self.now) (g.D.TapeDisk.writes c.loop-list.disk) (g.D.TapeDisk.writes c.leave.new.disk) here c.leave.ensures.others
           (rest_apart (drop (c.loop-list.list-index + 1) c.deref-list-items.result.now) (c.loop-list.self.source ++ c.loop-list.self.todo) x.tape.index (ending_apart (g.D.TapeDisk.last c.args.disk.now) (g.D.TapeDisk.last c.loop-list.disk) c.args.self.now c.loop-list.self (drop c.loop-list.list-index c.deref-list-items.result.now) (drop (c.loop-list.list-index + 1) c.deref-list-items.result.now) x here c.loop-list.invariant.lists))
           c.in_ok-leave.ensures.paged (c.loop-list.invariant.pages spilled ahead todo had);
-      disk = moves_twice (g.D.TapeDisk.failures c.args.disk.now) (g.D.TapeDisk.failures c.loop-list.disk) (g.D.TapeDisk.failures c.leave.new.disk) (g.D.TapeDisk.writes c.args.disk.now) (g.D.TapeDisk.writes c.loop-list.disk) (g.D.TapeDisk.writes c.leave.new.disk) (g.D.TapeDisk.honest c.args.disk.now) (g.D.TapeDisk.honest c.loop-list.disk) (g.D.TapeDisk.honest c.leave.new.disk) c.loop-list.invariant.disk c.leave.ensures.disk;
+      disk = leaves_twice g.D.TapeDisk 0 c.args.disk.now c.loop-list.disk c.leave.new.disk c.loop-list.invariant.disk c.in_ok-leave.ensures.disk;
     }
 
 pub returns-clause-left : goal.returns-clause-left

@@ -1,8 +1,9 @@
 use Rattle.std.specs.Prelude.{List}
 use Rattle.std.proofs.Common.{drop}
+use Rattle.spill_tapes.specs.Disk.{Leaves}
 use Rattle.spill_tapes.specs.Records.{Record}
 use Rattle.spill_lists.specs.Lists.{LeftList, lists}
-use Rattle.spill_lists.specs.Standing.{Moves, HasLists, pages_of, written_pages}
+use Rattle.spill_lists.specs.Standing.{HasLists, pages_of, written_pages}
 use Rattle.spill_lists.proofs.PageLaws.{IsPaged}
 use Rattle.spill_lists.proofs.PassLaws.{IsEnding}
 use Rattle.spill_lists.proofs.lists.SpillLists.end_pass.Given as goal
@@ -14,5 +15,5 @@ invariant-loop-list g l = record {
       → HasLists (g.D.TapeDisk.last l.fn.disk) l.fn.self spilled ahead todo
       → IsPaged (g.D.TapeDisk.last l.disk) l.self.tapes (drop l.list-index l.list-items) (g.D.TapeDisk.writes l.fn.disk) (pages_of (lists l.fn.self.level spilled)) (written_pages l.fn.self) (g.D.TapeDisk.writes l.disk);
   lists : IsEnding (g.D.TapeDisk.last l.fn.disk) (g.D.TapeDisk.last l.disk) l.fn.self l.self (drop l.list-index l.list-items);
-  disk : Moves (g.D.TapeDisk.failures l.fn.disk) (g.D.TapeDisk.failures l.disk) (g.D.TapeDisk.writes l.fn.disk) (g.D.TapeDisk.writes l.disk) (g.D.TapeDisk.honest l.fn.disk) (g.D.TapeDisk.honest l.disk);
+  disk : Leaves g.D.TapeDisk 0 l.fn.disk l.disk;
 }

@@ -1,12 +1,17 @@
-use Rattle.std.proofs.Common.{List, ◌≡◌, ◌+◌, ◌/◌, ◌++◌, ◌∷◌, [], false, length, arith, ap, sym, subst, ◌∙◌, append-nil}
+use Rattle.std.proofs.Common.{List, ◌≡◌, ◌≢◌, ◌+◌, ◌/◌, ◌++◌, ◌∷◌, [], false, length, arith, ap, sym, subst, ◌∙◌, append-nil}
 use Rattle.std.proofs.lemmas.Result.{err_from_is_err_and}
 use Rattle.spill_tapes.specs.Records.{tape_bytes}
 use Rattle.spill_tapes.specs.Tapes.{IsTape, KeepsOthers, written_len}
 use Rattle.spill_lists.specs.Fields.{lists_of, one_or_none}
-use Rattle.spill_lists.specs.Standing.{ListsState, AreLists, IsSpillRefusal, list_pages, times}
+use Rattle.spill_lists.specs.Standing.{ListsState, AreLists, list_pages, times}
 use Rattle.spill_lists.proofs.EndLaws.{those_none, those_some}
-use Rattle.spill_lists.proofs.PassLaws.{moves_none, none_paged, refused_alive, refused_spill}
+use Rattle.spill_lists.proofs.PassLaws.{none_paged, refused_alive, refused_undamaged, undamaged_as, same_faults}
 use Rattle.spill_tapes.specs.declared.tape_id.TapeId.{TapeId}
+use Rattle.spill_tapes.specs.Disk.{Leaves}
+use Rattle.spill_tapes.specs.DiskLaws.{leaves_none}
+use Rattle.spill_lists.specs.Errors.{spill_faults}
+use Rattle.spill_lists.specs.declared.error.SpillError.{SpillError}
+use Rattle.spill_lists.specs.declared.error.SpillError.TheVariants.{TapeDamaged}
 use Rattle.spill_lists.specs.declared.lists.OnTape.{OnTape}
 use Rattle.spill_lists.specs.declared.lists.SpillLists.TheInside.{Inside}
 use Rattle.spill_lists.proofs.StandingLaws.{state, lists_beside, lists_pushed}
@@ -51,8 +56,8 @@ returns-then-list-eq0 g c =
       parts = ap (λ (s : ListsState). s.parts) view ∙ c.requires.parts;
       source = ap (λ (s : ListsState). s.source) view;
       level = ap (λ (s : ListsState). s.level) view;
-      refused = tt;
-      disk = moves_none (g.D.TapeDisk.failures c.args.disk.now) (g.D.TapeDisk.writes c.args.disk.now) (g.D.TapeDisk.honest c.args.disk.now);
+      undamaged = tt;
+      disk = leaves_none g.D.TapeDisk c.args.disk.now;
     }
 
 pub returns-in_ok-push-in-Ok : goal.returns-in_ok-push-in-Ok
@@ -71,8 +76,8 @@ returns-in_ok-push-in-Ok g c =
       parts = ap (λ (s : ListsState). s.parts) view ∙ c.requires.parts;
       source = ap (λ (s : ListsState). s.source) view;
       level = ap (λ (s : ListsState). s.level) view;
-      refused = tt;
-      disk = record { failures = told.failures; writes = told.writes; honesty = told.honesty };
+      undamaged = tt;
+      disk = told.disk;
     }
 
 pub returns-in_err-push-in-Ok : goal.returns-in_err-push-in-Ok
@@ -88,17 +93,17 @@ returns-in_err-push-in-Ok g c =
       parts = ap (λ (s : ListsState). s.parts) view ∙ c.requires.parts;
       source = ap (λ (s : ListsState). s.source) view;
       level = ap (λ (s : ListsState). s.level) view;
-      refused = subst (IsSpillRefusal (g.D.TapeDisk.failures c.args.disk.now) (g.D.TapeDisk.failures c.rewind.new.disk)) (sym e.2) tt;
-      disk = record { failures = told.failures; writes = told.writes; honesty = told.honesty };
+      undamaged = λ is. absurd (cc (is, e.2));
+      disk = subst (λ x. Leaves g.D.TapeDisk (spill_faults x) c.args.disk.now c.rewind.new.disk) (sym e.2) told.disk;
     })
 
 pub refusal-requires : goal.refusal-requires
 refusal-requires g c =
-    refused_alive c.self.inside.tapes.is_dead (g.D.TapeDisk.failures c.args.disk.now) (g.D.TapeDisk.failures c.rewind.new.disk) c.in-Err.error (ap (λ (s : ListsState). s.tapes.is_dead) c.self.view_is ∙ c.requires.alive) c.in-Err.ensures.refused
+    refused_alive c.self.inside.tapes.is_dead c.in-Err.error (ap (λ (s : ListsState). s.tapes.is_dead) c.self.view_is ∙ c.requires.alive) c.in-Err.ensures.refused
 
 pub returns-in-Err : goal.returns-in-Err
 returns-in-Err g c =
-    let view = c.self.view_is in let told = c.in-Err.ensures in let failures = g.D.TapeDisk.failures c.args.disk.now in let more = g.D.TapeDisk.failures c.rewind.new.disk in
+    let view = c.self.view_is in let told = c.in-Err.ensures in
     record {
       left = tt;
       paged = tt;
@@ -108,8 +113,8 @@ returns-in-Err g c =
       parts = ap (λ (s : ListsState). s.parts) view ∙ c.requires.parts;
       source = ap (λ (s : ListsState). s.source) view;
       level = ap (λ (s : ListsState). s.level) view;
-      refused = subst (IsSpillRefusal failures more) c.refusal.ensures (refused_spill c.self.inside.tapes.is_dead failures more c.in-Err.error told.refused);
-      disk = record { failures = told.failures; writes = told.writes; honesty = told.honesty };
+      undamaged = subst (λ (x : SpillError). x ≢ TapeDamaged) c.refusal.ensures (undamaged_as c.in-Err.error (refused_undamaged c.self.inside.tapes.is_dead c.in-Err.error told.refused));
+      disk = subst (λ n. Leaves g.D.TapeDisk n c.args.disk.now c.rewind.new.disk) (same_faults c.in-Err.error ∙ ap spill_faults c.refusal.ensures) told.disk;
     }
 
 pub invariant_of-self-in-Err : goal.invariant_of-self-in-Err

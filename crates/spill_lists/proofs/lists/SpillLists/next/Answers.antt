@@ -1,11 +1,14 @@
 use Rattle.std.proofs.Common.{List, ◌≡◌, ◌≢◌, ◌++◌, ◌∷◌, [], length, false, refl, arith, ap, sym, subst, ◌∙◌}
 use Rattle.spill_lists.specs.declared.lists.OnTape.{OnTape}
 use Rattle.spill_lists.specs.Fields.{lists_of, one_or_none}
-use Rattle.spill_lists.specs.Standing.{ListsState, HasLists, AreRead, IsReadRefusal, count_of, written_pages}
+use Rattle.spill_lists.specs.Standing.{ListsState, HasLists, AreRead, count_of, written_pages}
+use Rattle.spill_tapes.specs.Disk.{OnlyReads}
+use Rattle.spill_tapes.specs.DiskLaws.{reads_none}
+use Rattle.spill_lists.specs.Errors.{spill_faults}
 use Rattle.spill_tapes.specs.Records.{Record}
 use Rattle.spill_lists.specs.declared.error.SpillError.{SpillError}
 use Rattle.spill_lists.specs.declared.error.SpillError.TheVariants.{TapeDamaged}
-use Rattle.spill_lists.proofs.PassLaws.{moves_none, none_ahead, refused_read_alive, refused_read, undamaged_as}
+use Rattle.spill_lists.proofs.PassLaws.{none_ahead, refused_read_alive, undamaged_as, same_faults}
 use Rattle.spill_lists.proofs.StandingLaws.{lists_ended, has_ended, lists_read, has_read, lists_same, tape_ahead}
 use Rattle.spill_lists.proofs.PageLaws.{kept_pages, source_apart}
 use Rattle.spill_lists.proofs.lists.SpillLists.next.Goals as goal
@@ -40,12 +43,10 @@ returns-in_default g c =
       nothing = tt;
       alive = c.requires.alive;
       parts = refl;
-      writes = refl;
       paged = refl;
       todo = refl;
       level = refl;
-      refused = tt;
-      disk = moves_none (g.D.TapeDisk.failures c.args.disk.now) (g.D.TapeDisk.writes c.args.disk.now) (g.D.TapeDisk.honest c.args.disk.now);
+      disk = reads_none g.D.TapeDisk c.args.disk.now;
     }
 
 pub returns-in_default-checked_sub : goal.returns-in_default-checked_sub
@@ -64,14 +65,12 @@ returns-in_default-checked_sub g c =
       nothing = tt;
       alive = c.close.ensures.alive ∙ ap (λ (s : ListsState). s.tapes.is_dead) view ∙ c.requires.alive;
       parts = ap (λ (s : ListsState). s.parts) view;
-      writes = refl;
       paged = kept_pages (g.D.TapeDisk.last c.args.disk.now) (g.D.TapeDisk.last c.args.disk.now) c.self.inside.tapes c.close.new.self c.in-Some.list.tape c.self.inside.parts.items c.close.ensures.others
           (source_apart c.self.inside.parts.items (one_or_none c.self.inside.source) c.self.inside.todo.items c.in-Some.list (ap one_or_none c.in-Some.is) c.self.invariant.apart)
           ∙ ap written_pages view;
       todo = ap (λ (s : ListsState). s.todo) view;
       level = ap (λ (s : ListsState). s.level) view;
-      refused = tt;
-      disk = moves_none (g.D.TapeDisk.failures c.args.disk.now) (g.D.TapeDisk.writes c.args.disk.now) (g.D.TapeDisk.honest c.args.disk.now);
+      disk = reads_none g.D.TapeDisk c.args.disk.now;
     }
 
 pub next-requires : goal.next-requires
@@ -98,14 +97,12 @@ returns-in-Ok-Some g c =
       nothing = tt;
       alive = c.in-Ok-Some.ensures.alive;
       parts = ap (λ (s : ListsState). s.parts) view;
-      writes = told.writes;
       paged = kept_pages (g.D.TapeDisk.last c.args.disk.now) (g.D.TapeDisk.last c.next.new.disk) c.self.inside.tapes c.next.new.self c.in-Some.list.tape c.self.inside.parts.items c.next.ensures.others
           (source_apart c.self.inside.parts.items (one_or_none c.self.inside.source) c.self.inside.todo.items c.in-Some.list (ap one_or_none c.in-Some.is) c.self.invariant.apart)
           ∙ ap written_pages view;
       todo = ap (λ (s : ListsState). s.todo) view;
       level = ap (λ (s : ListsState). s.level) view;
-      refused = tt;
-      disk = record { failures = told.failures; writes = omega (arith, told.writes); honesty = told.honesty };
+      disk = ensured.disk;
     }
 
 pub returns-in-Ok-None : goal.returns-in-Ok-None
@@ -125,23 +122,21 @@ returns-in-Ok-None g c =
       nothing = ensured.none;
       alive = tt;
       parts = ap (λ (s : ListsState). s.parts) view;
-      writes = told.writes;
       paged = kept_pages (g.D.TapeDisk.last c.args.disk.now) (g.D.TapeDisk.last c.next.new.disk) c.self.inside.tapes c.next.new.self c.in-Some.list.tape c.self.inside.parts.items c.next.ensures.others
           (source_apart c.self.inside.parts.items (one_or_none c.self.inside.source) c.self.inside.todo.items c.in-Some.list (ap one_or_none c.in-Some.is) c.self.invariant.apart)
           ∙ ap written_pages view;
       todo = ap (λ (s : ListsState). s.todo) view;
       level = ap (λ (s : ListsState). s.level) view;
-      refused = tt;
-      disk = record { failures = told.failures; writes = omega (arith, told.writes); honesty = told.honesty };
+      disk = ensured.disk;
     }
 
 pub refusal-requires : goal.refusal-requires
 refusal-requires g c =
-    refused_read_alive c.self.inside.tapes.is_dead (g.D.TapeDisk.failures c.args.disk.now) (g.D.TapeDisk.failures c.next.new.disk) c.in-Err.error (ap (λ (s : ListsState). s.tapes.is_dead) c.self.view_is ∙ c.requires.alive) c.in-Err.ensures.refused
+    refused_read_alive c.self.inside.tapes.is_dead c.in-Err.error (ap (λ (s : ListsState). s.tapes.is_dead) c.self.view_is ∙ c.requires.alive) c.in-Err.ensures.refused
 
 pub returns-in-Err : goal.returns-in-Err
 returns-in-Err g c =
-    let view = c.self.view_is in let told = c.next.ensures in let failures = g.D.TapeDisk.failures c.args.disk.now in let more = g.D.TapeDisk.failures c.next.new.disk in
+    let view = c.self.view_is in let told = c.next.ensures in
     record {
       gives = tt;
       undamaged = λ honest spilled ahead todo had.
@@ -154,14 +149,12 @@ returns-in-Err g c =
       nothing = c.in-Err.ensures.nothing;
       alive = tt;
       parts = ap (λ (s : ListsState). s.parts) view;
-      writes = told.writes;
       paged = kept_pages (g.D.TapeDisk.last c.args.disk.now) (g.D.TapeDisk.last c.next.new.disk) c.self.inside.tapes c.next.new.self c.in-Some.list.tape c.self.inside.parts.items c.next.ensures.others
           (source_apart c.self.inside.parts.items (one_or_none c.self.inside.source) c.self.inside.todo.items c.in-Some.list (ap one_or_none c.in-Some.is) c.self.invariant.apart)
           ∙ ap written_pages view;
       todo = ap (λ (s : ListsState). s.todo) view;
       level = ap (λ (s : ListsState). s.level) view;
-      refused = subst (IsReadRefusal failures more) c.refusal.ensures (refused_read c.self.inside.tapes.is_dead failures more c.in-Err.error c.in-Err.ensures.refused);
-      disk = record { failures = told.failures; writes = omega (arith, told.writes); honesty = told.honesty };
+      disk = subst (λ n. OnlyReads g.D.TapeDisk n c.args.disk.now c.next.new.disk) (same_faults c.in-Err.error ∙ ap spill_faults c.refusal.ensures) c.in-Err.ensures.disk;
     }
 
 pub invariant_of-self-in-Err : goal.invariant_of-self-in-Err

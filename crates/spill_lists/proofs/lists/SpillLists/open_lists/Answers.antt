@@ -15,7 +15,7 @@ loop-place-init g c =
 pub loop-place-preserved : goal.loop-place-preserved
 loop-place-preserved g c =
     opening_step (g.D.TapeDisk.last c.args.disk.now) c.args.self.now c.loop-place.self c.open_list.new.self c.deeper-level.result c.loop-place.parts.items c.push.new.self.items c.loop-place._place c.in_ok-list.list c.loop-place.invariant
-    c.in_ok-push.ensures.items c.in_ok-list.ensures.opened c.in_ok-list.ensures.fresh c.in_ok-list.ensures.others c.open_list.ensures.alive c.open_list.ensures.parts c.open_list.ensures.source c.open_list.ensures.todo c.open_list.ensures.level
+    c.in_ok-push.ensures.items c.in_ok-list.ensures.opened c.in_ok-list.ensures.fresh c.in_ok-list.ensures.others c.open_list.ensures.alive c.open_list.ensures.parts c.open_list.ensures.rest.source c.open_list.ensures.rest.todo c.open_list.ensures.rest.level
 
 pub invariant_of-self : goal.invariant_of-self
 invariant_of-self g c =

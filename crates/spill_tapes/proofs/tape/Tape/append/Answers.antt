@@ -1,11 +1,14 @@
 use Rattle.std.proofs.Common.{◌+◌, ◌++◌, length, refl, sym, ap, ◌∙◌, subst, arith}
 use Rattle.std.proofs.lemmas.Result.{err_from_is_err_and}
-use Rattle.spill_tapes.specs.Pages.{IsApart, IsBalanced}
+use Rattle.spill_tapes.specs.Pages.{HavePages, TakesPages}
 use Rattle.spill_tapes.specs.Records.{header_of}
 use Rattle.spill_tapes.specs.Tape.{TapeState, IsGoodIn, HasWritten}
 use Rattle.spill_tapes.proofs.TapeLaws.{appended}
 use Rattle.spill_tapes.proofs.PageLaws.{same_written}
-use Rattle.spill_tapes.proofs.PoolLaws.{balanced_none}
+use Rattle.spill_tapes.proofs.PoolLaws.{takes_none}
+use Rattle.spill_tapes.specs.Errors.{disk_faults}
+use Rattle.spill_tapes.specs.DiskLaws.{leaves_none}
+use Rattle.spill_tapes.specs.Disk.{Leaves}
 use Rattle.spill_tapes.proofs.tape.Tape.append.Goals as goal
 
 pub returns-clause-appended : goal.returns-clause-appended
@@ -22,8 +25,7 @@ pub put_record-requires : goal.put_record-requires
 put_record-requires g c =
     let good = subst (λ p. IsGoodIn p c.args.self.now) c.requires.phase c.requires.good in
     record {
-      pool = c.requires.pool;
-      apart = subst (λ (t : TapeState). IsApart c.args.pool.now t.pages) (sym c.self.view_is) c.requires.apart;
+      pages = subst (λ (t : TapeState). HavePages c.args.pool.now t.pages) (sym c.self.view_is) c.requires.pages;
       small = omega (arith, good.0, ap length c.in_ok-reserve_exact.ensures.items, ap (λ (t : TapeState). length t.buffer) c.self.view_is);
     }
 
@@ -32,19 +34,14 @@ returns-in_err-reserve_exact g c =
     let e = err_from_is_err_and c.from_residual.result c.from_residual.ensures.1 in
     let pool = c.args.pool.now in let view = c.self.view_is in
     rw e.1 (record {
-      pool = c.requires.pool;
-      balanced = balanced_none pool pool c.args.self.now.pages c.self.inside.pages.items refl refl (ap (λ (t : TapeState). t.pages) view);
-      frees = λ _. omega arith;
+      pages = takes_none pool c.args.self.now.pages c.self.inside.pages.items c.requires.pages (ap (λ (t : TapeState). t.pages) view);
       keeps = λ _ _ _ _ _ _ had. had;
       phase = ap (λ (t : TapeState). t.phase) view ∙ c.requires.phase;
       good = tt;
       longer = tt;
       appended = tt;
       counted = tt;
-      writes = omega arith;
-      failures = omega arith;
-      fault = λ is. absurd (cc (is, e.2));
-      honesty = refl;
+      disk = subst (λ x. Leaves g.D.TapeDisk (disk_faults x) c.args.disk.now c.args.disk.now) (sym e.2) (leaves_none g.D.TapeDisk c.args.disk.now);
     })
 
 pub returns-in_err-put_record : goal.returns-in_err-put_record
@@ -52,17 +49,12 @@ returns-in_err-put_record g c =
     let e = err_from_is_err_and c.from_residual-in_err-put_record.result c.from_residual-in_err-put_record.ensures.1 in
     let told = c.in_err-put_record.ensures in let view = c.self.view_is in
     rw e.1 (record {
-      pool = told.pool;
-      balanced = subst (λ (t : TapeState). IsBalanced c.args.pool.now t.pages c.put_record.new.pool c.put_record.new.self.pages) view told.balanced;
-      frees = told.frees;
+      pages = subst (λ (t : TapeState). TakesPages c.args.pool.now t.pages c.put_record.new.pool c.put_record.new.self.pages) view told.pages;
       keeps = told.keeps;
       phase = told.same.phase ∙ ap (λ (t : TapeState). t.phase) view ∙ c.requires.phase;
       good = tt;
       longer = tt;
       appended = tt;
       counted = tt;
-      writes = told.writes;
-      failures = told.failures;
-      fault = λ is. told.fault (sym e.2 ∙ is);
-      honesty = told.honesty;
+      disk = subst (λ x. Leaves g.D.TapeDisk (disk_faults x) c.args.disk.now c.put_record.new.disk) (sym e.2) told.disk;
     })

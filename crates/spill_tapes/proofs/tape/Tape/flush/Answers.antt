@@ -1,10 +1,13 @@
 use Rattle.std.proofs.Common.{◌≡◌, ◌*◌, ◌++◌, ◌∷◌, [], length, length-append, refl, sym, ap, ◌∙◌, subst, arith}
 use Rattle.std.proofs.lemmas.Result.{err_from_is_err_and}
-use Rattle.spill_tapes.specs.Disk.{AreLast}
-use Rattle.spill_tapes.specs.Pages.{IsBalanced, KeepsPages}
+use Rattle.spill_tapes.specs.Calls.{AreLast}
+use Rattle.spill_tapes.specs.Pages.{TakesPages, KeepsPages}
 use Rattle.spill_tapes.specs.Tape.{TapeState}
 use Rattle.spill_tapes.proofs.PageLaws.{flushed, keeps_pages}
 use Rattle.spill_tapes.proofs.TapeLaws.{same_now}
+use Rattle.spill_tapes.specs.Errors.{disk_faults}
+use Rattle.spill_tapes.specs.DiskLaws.{leaves_none}
+use Rattle.spill_tapes.specs.Disk.{Leaves}
 use Rattle.spill_tapes.proofs.tape.Tape.flush.Goals as goal
 
 pub returns-in_err-page : goal.returns-in_err-page
@@ -12,9 +15,7 @@ returns-in_err-page g c =
     let e = err_from_is_err_and c.from_residual.result c.from_residual.ensures.1 in
     let pool = c.args.pool.now in let now = c.args.self.now in let view = c.self.view_is in let taken = c.in_err-page.ensures in
     rw e.1 (record {
-      pool = taken.pool;
-      balanced = subst (λ (t : TapeState). IsBalanced pool t.pages c.take.new.self c.take.new.pages.items) view taken.balanced;
-      frees = taken.frees;
+      pages = subst (λ (t : TapeState). TakesPages pool t.pages c.take.new.self c.take.new.pages.items) view taken.pages;
       same = same_now _ now _ view refl refl refl;
       read = ap (λ (t : TapeState). t.read) view;
       keeps = λ _ _ _ _ _ _ had. had;
@@ -22,10 +23,7 @@ returns-in_err-page g c =
       longer = tt;
       written = tt;
       counted = tt;
-      writes = omega arith;
-      failures = omega arith;
-      fault = λ is. absurd (cc (is, e.2));
-      honesty = refl;
+      disk = subst (λ x. Leaves g.D.TapeDisk (disk_faults x) c.args.disk.now c.args.disk.now) (sym e.2) (leaves_none g.D.TapeDisk c.args.disk.now);
     })
 
 pub returns-in_err-write_at : goal.returns-in_err-write_at
@@ -36,9 +34,7 @@ returns-in_err-write_at g c =
     let same : c.deref.result.now ≡ now.buffer = c.deref.ensures.value ∙ ap (λ (t : TapeState). t.buffer) view in
     let full : length c.deref.result.now ≡ 8192 = ap length same ∙ c.requires.full in
     rw e.1 (record {
-      pool = taken.pool;
-      balanced = subst (λ (t : TapeState). IsBalanced pool t.pages c.take.new.self c.take.new.pages.items) view taken.balanced;
-      frees = taken.frees;
+      pages = subst (λ (t : TapeState). TakesPages pool t.pages c.take.new.self c.take.new.pages.items) view taken.pages;
       same = same_now _ now _ view refl refl refl;
       read = ap (λ (t : TapeState). t.read) view;
       keeps = keeps_pages last last' pool page (length c.deref.result.now) taken.fresh full told.keeps;
@@ -46,10 +42,8 @@ returns-in_err-write_at g c =
       longer = tt;
       written = tt;
       counted = tt;
-      writes = omega (arith, told.uncounted);
-      failures = told.failures;
-      fault = λ is. told.fault (sym e.2 ∙ is);
-      honesty = told.honesty;
+      disk = subst (λ x. Leaves g.D.TapeDisk (disk_faults x) c.args.disk.now c.write_at.new.self) (sym e.2)
+          (record { honesty = told.honesty; failures = told.failures; writes = omega (arith, told.uncounted) });
     })
 
 pub returns : goal.returns
@@ -61,22 +55,17 @@ returns g c =
     let full : length c.deref.result.now ≡ 8192 = ap length same ∙ c.requires.full in
     let keeps : KeepsPages pool last last' = keeps_pages last last' pool page (length c.deref.result.now) taken.fresh full told.keeps in
     record {
-      pool = taken.pool;
-      balanced = subst (λ (t : TapeState). IsBalanced pool t.pages c.take.new.self c.take.new.pages.items) view taken.balanced;
-      frees = taken.frees;
+      pages = subst (λ (t : TapeState). TakesPages pool t.pages c.take.new.self c.take.new.pages.items) view taken.pages;
       same = same_now _ now _ view refl refl refl;
       read = ap (λ (t : TapeState). t.read) view;
       keeps = keeps;
       empty = c.clear.ensures.items;
       longer = omega (arith, ap length taken.taken, length-append c.self.inside.pages.items (page ∷ []), ap (λ (t : TapeState). length t.pages) view);
       written =
-          flushed last last' pool now _ page c.requires.apart keeps c.requires.full
+          flushed last last' pool now _ page c.requires.pages.apart keeps c.requires.full
           (subst (λ bs. AreLast last' (page * 8192) bs) same told.written)
           (taken.taken ∙ ap (λ (t : TapeState). t.pages ++ page ∷ []) view)
           c.clear.ensures.items;
       counted = told.counted;
-      writes = omega (arith, told.counted);
-      failures = told.failures;
-      fault = tt;
-      honesty = told.honesty;
+      disk = record { honesty = told.honesty; failures = told.failures; writes = omega (arith, told.counted) };
     }

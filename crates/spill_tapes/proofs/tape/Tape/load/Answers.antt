@@ -2,9 +2,9 @@ use Rattle.std.proofs.Common.{rules, ◌≡◌, ◌<◌, ◌*◌, ◌^◌, ◌�
 use Rattle.std.proofs.lemmas.Grind.{common_steps}
 use Rattle.std.proofs.lemmas.List.{with_items_is}
 use Rattle.std.specs.Vec.{with_items}
-use Rattle.spill_tapes.specs.Disk.{AreReadAt}
-use Rattle.spill_tapes.specs.Pages.{PoolState, IsBalanced}
-use Rattle.spill_tapes.proofs.PoolLaws.{balanced_back, apart_first}
+use Rattle.spill_tapes.specs.Calls.{AreReadAt}
+use Rattle.spill_tapes.specs.Pages.{PoolState, GivesBack}
+use Rattle.spill_tapes.proofs.PoolLaws.{back, apart_first}
 use Rattle.spill_tapes.proofs.PageLaws.{loaded}
 use Rattle.spill_tapes.proofs.Results.{ok_with}
 use Rattle.spill_tapes.proofs.tape.Tape.load.Goals as goal
@@ -12,19 +12,20 @@ use Rattle.spill_tapes.proofs.tape.Tape.load.Goals as goal
 pub overflow_mul-page : goal.overflow_mul-page
 overflow_mul-page g c =
     let first : c.args.self.now.pages ≡ c.in-Some.page ∷ c.pop_front.new.self.items = grind (arith, common_steps) in
-    let small : c.in-Some.page < 2 ^ 49 = apart_first c.args.pool.now c.args.self.now.pages c.pop_front.new.self.items c.in-Some.page c.requires.pool c.requires.apart first in
+    let small : c.in-Some.page < 2 ^ 49 = apart_first c.args.pool.now c.args.self.now.pages c.pop_front.new.self.items c.in-Some.page c.requires.pages.pool c.requires.pages.apart first in
     search rules
 
 pub read_at-requires : goal.read_at-requires
 read_at-requires g c =
     let first : c.args.self.now.pages ≡ c.in-Some.page ∷ c.pop_front.new.self.items = grind (arith, common_steps) in
-    let small : c.in-Some.page < 2 ^ 49 = apart_first c.args.pool.now c.args.self.now.pages c.pop_front.new.self.items c.in-Some.page c.requires.pool c.requires.apart first in
+    let small : c.in-Some.page < 2 ^ 49 = apart_first c.args.pool.now c.args.self.now.pages c.pop_front.new.self.items c.in-Some.page c.requires.pages.pool c.requires.pages.apart first in
     omega (arith, c.deref_mut.ensures.len, c.in_ok-resize.ensures.len)
 
-pub returns-clause-balanced : goal.returns-clause-balanced
-returns-clause-balanced g c =
+pub returns-clause-pages : goal.returns-clause-pages
+returns-clause-pages g c =
     let first : c.args.self.now.pages ≡ c.in-Some.page ∷ c.pop_front.new.self.items = grind (arith, common_steps) in
-    subst (λ (p : PoolState). IsBalanced c.args.pool.now c.args.self.now.pages p c.pop_front.new.self.items) (sym c.give_back.ensures) (balanced_back c.args.pool.now c.args.self.now.pages c.pop_front.new.self.items c.in-Some.page first)
+    subst (λ (p : PoolState). GivesBack c.args.pool.now c.args.self.now.pages p c.pop_front.new.self.items) (sym c.give_back.ensures)
+    (back c.args.pool.now c.args.self.now.pages c.pop_front.new.self.items c.in-Some.page c.requires.pages first)
 
 pub returns-clause-loaded : goal.returns-clause-loaded
 returns-clause-loaded g c =

@@ -1,10 +1,13 @@
 use Rattle.std.proofs.Common.{◌≡◌, ◌++◌, [], length, refl, sym, ap, subst, ◌∙◌, arith}
 use Rattle.std.proofs.lemmas.Result.{err_from_is_err_and}
-use Rattle.spill_tapes.specs.Pages.{IsBalanced}
+use Rattle.spill_tapes.specs.Pages.{GivesBack}
 use Rattle.spill_tapes.specs.Tape.{TapeState, ahead, HasAhead}
-use Rattle.spill_tapes.proofs.PoolLaws.{balanced_none}
+use Rattle.spill_tapes.proofs.PoolLaws.{gives_none}
 use Rattle.spill_tapes.proofs.PageLaws.{same_ahead}
 use Rattle.spill_tapes.proofs.HeaderLaws.{bytes_given}
+use Rattle.spill_tapes.specs.Errors.{disk_faults}
+use Rattle.spill_tapes.specs.DiskLaws.{reads_none}
+use Rattle.spill_tapes.specs.Disk.{OnlyReads}
 use Rattle.spill_tapes.proofs.tape.Tape.next_bytes.Goals as goal
 
 pub returns-in_err-reserve : goal.returns-in_err-reserve
@@ -12,25 +15,18 @@ returns-in_err-reserve g c =
     let t = c.args.self.now in let pool = c.args.pool.now in
     let e = err_from_is_err_and c.from_residual.result c.from_residual.ensures.1 in
     rw e.1 (record {
-      pool = c.requires.pool;
-      balanced = balanced_none pool pool t.pages t.pages refl refl refl;
-      keeps = λ place byte had. had;
+      pages = gives_none pool t.pages t.pages c.requires.pages refl;
       phase = refl;
       read = tt;
       ahead = tt;
       len = tt;
       gives = tt;
-      writes = refl;
-      failures = omega arith;
-      fault = λ is. absurd (cc (is, e.2));
-      honesty = refl;
+      disk = subst (λ x. OnlyReads g.D.TapeDisk (disk_faults x) c.args.disk.now c.args.disk.now) (sym e.2) (reads_none g.D.TapeDisk c.args.disk.now);
     })
 
 pub fill-requires : goal.fill-requires
 fill-requires g c = record {
-  pool = c.requires.pool;
-  apart = c.requires.apart;
-  fits = c.requires.fits;
+  pages = c.requires.pages;
   read = c.requires.read;
   ahead = omega (arith, c.requires.left, c.requires.ahead);
 }
@@ -40,18 +36,13 @@ returns-in_err-fill g c =
     let told = c.in_err-fill.ensures in
     let e = err_from_is_err_and c.from_residual-in_err-fill.result c.from_residual-in_err-fill.ensures.1 in
     rw e.1 (record {
-      pool = told.pool;
-      balanced = told.balanced;
-      keeps = told.keeps;
+      pages = told.pages;
       phase = told.same.phase;
       read = tt;
       ahead = tt;
       len = tt;
       gives = tt;
-      writes = told.writes;
-      failures = told.failures;
-      fault = λ is. told.fault (sym e.2 ∙ is);
-      honesty = told.honesty;
+      disk = subst (λ x. OnlyReads g.D.TapeDisk (disk_faults x) c.args.disk.now c.fill.new.disk) (sym e.2) told.disk;
     })
 
 pub returns : goal.returns
@@ -60,9 +51,7 @@ returns g c =
     let none : c.reserve.new.self.items ≡ [] = c.in_ok-reserve.ensures.items ∙ c.clear.ensures.items in
     let left = ap (λ (t : TapeState). t.left) view in
     record {
-      pool = told.pool;
-      balanced = subst (λ (t : TapeState). IsBalanced c.args.pool.now c.args.self.now.pages c.fill.new.pool t.pages) (sym view) told.balanced;
-      keeps = told.keeps;
+      pages = subst (λ (t : TapeState). GivesBack c.args.pool.now c.args.self.now.pages c.fill.new.pool t.pages) (sym view) told.pages;
       phase = ap (λ (t : TapeState). t.phase) view ∙ told.same.phase;
       read = omega (arith, told.read, ap (λ (t : TapeState). t.read) view, ap (λ (t : TapeState). length t.buffer) view);
       ahead = omega (arith, told.ahead, c.requires.ahead, told.same.left, left, c.from.ensures, ap ahead view);
@@ -75,8 +64,5 @@ returns g c =
             same_ahead (g.D.TapeDisk.last c.fill.new.disk) after _ (ap (λ (t : TapeState). t.pages) view) (ap (λ (t : TapeState). t.buffer) view) (ap (λ (t : TapeState). t.read) view) rest filled.1,
           ))
           (omega (arith, left, told.same.left, c.requires.left, c.from.ensures)) (omega (arith, ap (λ (t : TapeState). t.records) view, told.same.records, c.requires.some));
-      writes = told.writes;
-      failures = told.failures;
-      fault = tt;
-      honesty = told.honesty;
+      disk = told.disk;
     }

@@ -1,17 +1,17 @@
 use Rattle.std.proofs.Common.{◌≡◌, ◌+◌, ◌-◌, ◌++◌, length, arith, sym, ap, subst, ◌∙◌, get_or}
 use Rattle.std.proofs.lemmas.Result.{err_from_is_err_and}
-use Rattle.spill_tapes.specs.Pages.{IsBalanced}
+use Rattle.spill_tapes.specs.Pages.{GivesBack}
 use Rattle.spill_tapes.specs.Records.{number_at}
 use Rattle.spill_tapes.specs.Tape.{TapeState, HasAhead, ahead}
 use Rattle.spill_tapes.proofs.PageLaws.{same_ahead}
 use Rattle.spill_tapes.proofs.HeaderLaws.{after_header}
+use Rattle.spill_tapes.specs.Errors.{disk_faults}
+use Rattle.spill_tapes.specs.Disk.{OnlyReads}
 use Rattle.spill_tapes.proofs.tape.Tape.next_header.Goals as goal
 
 pub fill-requires : goal.fill-requires
 fill-requires g c = record {
-  pool = c.requires.pool;
-  apart = c.requires.apart;
-  fits = c.requires.fits;
+  pages = c.requires.pages;
   read = c.requires.read;
   ahead = omega (arith, c.requires.left, c.requires.ahead);
 }
@@ -21,27 +21,20 @@ returns-in_err-fill g c =
     let told = c.in_err-fill.ensures in
     let e = err_from_is_err_and c.from_residual.result c.from_residual.ensures.1 in
     rw e.1 (record {
-      pool = told.pool;
-      balanced = told.balanced;
-      keeps = told.keeps;
+      pages = told.pages;
       phase = told.same.phase;
       read = tt;
       ahead = tt;
       records = told.same.records;
       header = tt;
-      writes = told.writes;
-      failures = told.failures;
-      fault = λ is. told.fault (sym e.2 ∙ is);
-      honesty = told.honesty;
+      disk = subst (λ x. OnlyReads g.D.TapeDisk (disk_faults x) c.args.disk.now c.fill.new.disk) (sym e.2) told.disk;
     })
 
 pub returns : goal.returns
 returns g c =
     let told = c.in_ok-fill.ensures in let view = c.self.view_is in
     record {
-      pool = told.pool;
-      balanced = subst (λ (t : TapeState). IsBalanced c.args.pool.now c.args.self.now.pages c.fill.new.pool t.pages) (sym view) told.balanced;
-      keeps = told.keeps;
+      pages = subst (λ (t : TapeState). GivesBack c.args.pool.now c.args.self.now.pages c.fill.new.pool t.pages) (sym view) told.pages;
       phase = ap (λ (t : TapeState). t.phase) view ∙ told.same.phase;
       read = omega (arith, told.read, ap (λ (t : TapeState). t.read) view, ap (λ (t : TapeState). length t.buffer) view);
       ahead = omega (arith, told.ahead, c.requires.ahead, told.same.left, ap (λ (t : TapeState). t.left) view, ap ahead view);
@@ -60,8 +53,5 @@ returns g c =
             same_ahead (g.D.TapeDisk.last c.fill.new.disk) c.fill.new.self _ (ap (λ (t : TapeState). t.pages) c.self.view_is) (ap (λ (t : TapeState). t.buffer) c.self.view_is) (ap (λ (t : TapeState). t.read) c.self.view_is) rest told.1,
           ))
           left records c.requires.some;
-      writes = told.writes;
-      failures = told.failures;
-      fault = tt;
-      honesty = told.honesty;
+      disk = told.disk;
     }

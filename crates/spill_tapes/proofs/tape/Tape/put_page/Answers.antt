@@ -1,17 +1,19 @@
 use Rattle.std.proofs.Common.{◌≡◌, ◌+◌, ◌++◌, OnOk, length, length-append, refl, sym, ap, ◌∙◌, subst, arith}
 use Rattle.std.proofs.lemmas.Result.{err_from_is_err_and}
-use Rattle.spill_tapes.specs.Pages.{IsApart, IsBalanced}
+use Rattle.spill_tapes.specs.Pages.{HavePages, TakesPages}
 use Rattle.spill_tapes.specs.Tape.{TapeState}
 use Rattle.spill_tapes.proofs.PageLaws.{buffered}
-use Rattle.spill_tapes.proofs.PoolLaws.{balanced_none}
+use Rattle.spill_tapes.proofs.PoolLaws.{takes_none}
 use Rattle.spill_tapes.proofs.Results.{ok_with}
 use Rattle.spill_tapes.proofs.TapeLaws.{same_now}
+use Rattle.spill_tapes.specs.Errors.{disk_faults}
+use Rattle.spill_tapes.specs.DiskLaws.{leaves_none}
+use Rattle.spill_tapes.specs.Disk.{Leaves}
 use Rattle.spill_tapes.proofs.tape.Tape.put_page.Goals as goal
 
 pub flush-requires : goal.flush-requires
 flush-requires g c = record {
-  pool = c.requires.pool;
-  apart = subst (λ (t : TapeState). IsApart c.args.pool.now t.pages) (sym c.self.view_is) c.requires.apart;
+  pages = subst (λ (t : TapeState). HavePages c.args.pool.now t.pages) (sym c.self.view_is) c.requires.pages;
   full = ap length c.in_ok-extend_from_slice.ensures.items ∙ length-append c.self.inside.buffer.items c.args.bytes.now ∙ ap (λ (t : TapeState). length t.buffer + length c.args.bytes.now) c.self.view_is ∙ c.requires.full;
 }
 
@@ -20,19 +22,14 @@ returns-in_err-extend_from_slice g c =
     let e = err_from_is_err_and c.from_residual.result c.from_residual.ensures.1 in
     let view = c.self.view_is in
     rw e.1 (record {
-      pool = c.requires.pool;
-      balanced = balanced_none c.args.pool.now c.args.pool.now c.args.self.now.pages c.self.inside.pages.items refl refl (ap (λ (t : TapeState). t.pages) view);
-      frees = λ _. omega arith;
+      pages = takes_none c.args.pool.now c.args.self.now.pages c.self.inside.pages.items c.requires.pages (ap (λ (t : TapeState). t.pages) view);
       same = same_now _ c.args.self.now _ view refl refl refl;
       keeps = λ _ _ _ _ _ _ had. had;
       empty = tt;
       longer = tt;
       written = tt;
       counted = tt;
-      writes = omega arith;
-      failures = omega arith;
-      fault = λ is. absurd (cc (is, e.2));
-      honesty = refl;
+      disk = subst (λ x. Leaves g.D.TapeDisk (disk_faults x) c.args.disk.now c.args.disk.now) (sym e.2) (leaves_none g.D.TapeDisk c.args.disk.now);
     })
 
 pub returns : goal.returns
@@ -41,9 +38,7 @@ returns g c =
     let pages : c.self.inside.pages.items ≡ c.args.self.now.pages = ap (λ (t : TapeState). t.pages) view in
     let buffer : c.extend_from_slice.new.self.items ≡ c.args.self.now.buffer ++ c.args.bytes.now = c.in_ok-extend_from_slice.ensures.items ∙ ap (λ (t : TapeState). t.buffer ++ c.args.bytes.now) view in
     record {
-      pool = told.pool;
-      balanced = subst (λ (t : TapeState). IsBalanced c.args.pool.now t.pages c.flush.new.pool after.pages) view told.balanced;
-      frees = told.frees;
+      pages = subst (λ (t : TapeState). TakesPages c.args.pool.now t.pages c.flush.new.pool after.pages) view told.pages;
       same = same_now _ c.args.self.now after view told.same.phase told.same.left told.same.records;
       keeps = told.keeps;
       empty = told.empty;
@@ -52,8 +47,5 @@ returns g c =
           (λ f before had. f (before ++ c.args.bytes.now) (buffered (g.D.TapeDisk.last c.args.disk.now) c.args.self.now _ c.args.bytes.now pages buffer before had))
           told.written;
       counted = told.counted;
-      writes = told.writes;
-      failures = told.failures;
-      fault = told.fault;
-      honesty = told.honesty;
+      disk = told.disk;
     }

@@ -1,17 +1,19 @@
-use Rattle.std.proofs.Common.{◌++◌, length, sym, ap, ◌∙◌, arith}
-use Rattle.std.proofs.lemmas.Result.{err_from_is_err_and, IfErr-weaker}
+use Rattle.std.proofs.Common.{◌++◌, length, sym, ap, subst, ◌∙◌, arith}
+use Rattle.std.proofs.lemmas.Result.{err_from_is_err_and}
 use Rattle.spill_tapes.specs.Records.{header_of}
 use Rattle.spill_tapes.proofs.HeaderLaws.{header_len}
 use Rattle.spill_tapes.proofs.PageLaws.{keeps_twice, written_parts}
-use Rattle.spill_tapes.proofs.PoolLaws.{balanced_twice, frees_twice, apart_after}
+use Rattle.spill_tapes.proofs.PoolLaws.{takes_twice, have_taken}
 use Rattle.spill_tapes.proofs.Results.{ok_with}
 use Rattle.spill_tapes.proofs.TapeLaws.{same_twice}
+use Rattle.spill_tapes.specs.Errors.{disk_faults}
+use Rattle.spill_tapes.specs.DiskLaws.{leaves_twice}
+use Rattle.spill_tapes.specs.Disk.{Leaves}
 use Rattle.spill_tapes.proofs.tape.Tape.put_record.Goals as goal
 
 pub put-requires-2 : goal.put-requires-2
 put-requires-2 g c = record {
-  pool = c.in_ok-put.ensures.pool;
-  apart = apart_after c.args.pool.now c.put.new.pool c.args.self.now.pages c.put.new.self.pages c.requires.apart c.in_ok-put.ensures.balanced;
+  pages = have_taken c.args.pool.now c.put.new.pool c.args.self.now.pages c.put.new.self.pages c.requires.pages c.in_ok-put.ensures.pages;
   small = c.in_ok-put.ensures.small;
 }
 
@@ -19,19 +21,14 @@ pub returns-in_err-put : goal.returns-in_err-put
 returns-in_err-put g c =
     let e = err_from_is_err_and c.from_residual.result c.from_residual.ensures.1 in let told = c.in_err-put.ensures in
     rw e.1 (record {
-      pool = told.pool;
-      balanced = told.balanced;
-      frees = told.frees;
+      pages = told.pages;
       keeps = told.keeps;
       same = told.same;
       small = tt;
       longer = tt;
       written = tt;
       counted = tt;
-      writes = told.writes;
-      failures = told.failures;
-      fault = λ is. told.fault (sym e.2 ∙ is);
-      honesty = told.honesty;
+      disk = subst (λ x. Leaves g.D.TapeDisk (disk_faults x) c.args.disk.now c.put.new.disk) (sym e.2) told.disk;
     })
 
 pub returns : goal.returns
@@ -40,10 +37,8 @@ returns g c =
     let pool = c.args.pool.now in let between = c.put.new.pool in let now = c.args.self.now in let tape = c.put.new.self in let after = c.put-2.new.self in
     let bytes = c.args.bytes.now in let header = header_of c.args.header.hash c.args.header.tag c.args.header.len in
     record {
-      pool = told.pool;
-      balanced = balanced_twice pool between c.put-2.new.pool now.pages tape.pages after.pages first.balanced told.balanced;
-      frees = frees_twice pool between c.put-2.new.pool first.frees told.frees;
-      keeps = keeps_twice (g.D.TapeDisk.last c.args.disk.now) (g.D.TapeDisk.last c.put.new.disk) (g.D.TapeDisk.last c.put-2.new.disk) pool between first.balanced.grows first.frees first.keeps told.keeps;
+      pages = takes_twice pool between c.put-2.new.pool now.pages tape.pages after.pages first.pages told.pages;
+      keeps = keeps_twice (g.D.TapeDisk.last c.args.disk.now) (g.D.TapeDisk.last c.put.new.disk) (g.D.TapeDisk.last c.put-2.new.disk) pool between first.pages.balanced.grows first.pages.frees first.keeps told.keeps;
       same = same_twice now tape after first.same told.same;
       small = told.small;
       longer = ok_with r (λ e. omega (arith, e, first.longer, ap length c.to_bytes.ensures, header_len c.args.header.hash c.args.header.tag c.args.header.len)) told.longer;
@@ -51,8 +46,5 @@ returns g c =
           (λ f before had. written_parts (g.D.TapeDisk.last c.put-2.new.disk) after before c.to_bytes.result bytes (header ++ bytes) (ap (λ bs. bs ++ bytes) c.to_bytes.ensures) (f (before ++ c.to_bytes.result) (first.written before had)))
           told.written;
       counted = ok_with r (λ e. omega (arith, e, first.counted)) told.counted;
-      writes = omega (arith, first.writes, told.writes);
-      failures = omega (arith, first.failures, told.failures);
-      fault = IfErr-weaker r _ _ (λ error f is. omega (arith, f is, first.failures)) told.fault;
-      honesty = told.honesty ∙ first.honesty;
+      disk = leaves_twice g.D.TapeDisk _ _ _ _ first.disk told.disk;
     }

@@ -1,11 +1,13 @@
 use Rattle.std.proofs.Common.{◌≡◌, ◌≢◌, ◌+◌, ◌/◌, ◌++◌, ◌∷◌, [], true, false, length, ◌≤◌, refl, arith, sym, ap, ◌∙◌, subst}
 use Rattle.std.proofs.Math.ListN.{set}
-use Rattle.spill_tapes.specs.Pages.{IsApart}
+use Rattle.spill_tapes.specs.Pages.{UsesAgain}
 use Rattle.spill_tapes.specs.Tape.{TapeState, IsGood, tape_len, AreWritten, Has}
 use Rattle.spill_tapes.specs.Tapes.{TapesState, tape_at, phase_of, IsRefusal}
 use Rattle.spill_tapes.specs.TapesFields.{tapes_of}
 use Rattle.spill_tapes.specs.declared.tape.Phase.TheVariants.{Closed, Written}
-use Rattle.spill_tapes.proofs.TapesLaws.{tapes_put, others_kept, is_writing, written_open, open_within, slot_is, apart_at, fits_at, phases_kept, put_at, has_written, written_has, disk_refusal}
+use Rattle.spill_tapes.specs.Disk.{Leaves}
+use Rattle.spill_tapes.proofs.Results.{disk_fault}
+use Rattle.spill_tapes.proofs.TapesLaws.{tapes_put, others_kept, is_writing, written_open, open_within, slot_is, have_at, phases_kept, put_at, has_written, written_has, disk_refusal}
 use Rattle.spill_tapes.proofs.tapes.Tapes.append.Goals as goal
 
 pub index_mut-slot-requires : goal.index_mut-slot-requires
@@ -21,7 +23,7 @@ invariant_of-self-in-Err g c =
     let alive : s.is_dead ≡ false = sym c.is_dead.ensures ∙ c.if-is_dead.false in
     let differ : phase_of s tape ≢ Closed = written_open (phase_of s tape) (is_writing (phase_of s tape) (c.requires.written alive)) in
     tapes_put t s t' tape y x c.self.view_is c.self.invariant differ
-    (slot_is t s tape y c.self.view_is differ c.index_mut-slot.ensures.value) refl told.pool told.balanced (written_open x.phase told.phase) (λ e. absurd (cc e))
+    (slot_is t s tape y c.self.view_is differ c.index_mut-slot.ensures.value) refl told.pages.pool told.pages.balanced (written_open x.phase told.phase) (λ e. absurd (cc e))
 
 pub invariant_of-self : goal.invariant_of-self
 invariant_of-self g c =
@@ -30,7 +32,7 @@ invariant_of-self g c =
     let alive : s.is_dead ≡ false = sym c.is_dead.ensures ∙ c.if-is_dead.false in
     let differ : phase_of s tape ≢ Closed = written_open (phase_of s tape) (is_writing (phase_of s tape) (c.requires.written alive)) in
     tapes_put t s t' tape y x c.self.view_is c.self.invariant differ
-    (slot_is t s tape y c.self.view_is differ c.index_mut-slot.ensures.value) refl told.pool told.balanced (written_open x.phase told.phase) (λ e. (e, told.good))
+    (slot_is t s tape y c.self.view_is differ c.index_mut-slot.ensures.value) refl told.pages.pool told.pages.balanced (written_open x.phase told.phase) (λ e. (e, told.good))
 
 pub append-requires : goal.append-requires
 append-requires g c =
@@ -39,9 +41,7 @@ append-requires g c =
     let written : phase_of s tape ≡ Written = is_writing (phase_of s tape) (c.requires.written alive) in
     let slot : y ≡ tape_at t tape = slot_is t s tape y c.self.view_is (written_open (phase_of s tape) written) c.index_mut-slot.ensures.value in
     record {
-      pool = c.self.invariant.pool;
-      apart = subst (λ (z : TapeState). IsApart t.pool z.pages) (sym slot) (apart_at t tape.index c.self.invariant);
-      fits = subst (λ (z : TapeState). length t.pool.free + length z.pages ≤ t.pool.count) (sym slot) (fits_at t tape.index c.self.invariant);
+      pages = have_at t tape y c.self.invariant slot;
       phase = ap (λ (z : TapeState). z.phase) slot ∙ ap (λ (z : TapesState). phase_of z tape) c.self.view_is ∙ written;
       good = subst IsGood (sym slot) (c.self.invariant.good (ap (λ (z : TapesState). z.is_dead) c.self.view_is ∙ alive) tape.index);
       «record» = record { hash = c.ranges.hash.fits; tag = c.requires.tag; len = c.requires.len };
@@ -57,8 +57,7 @@ returns-in-Err g c =
     record {
       dead = λ is. absurd (cc (is, alive));
       unchanged = λ is. absurd (cc (is, alive));
-      refused = subst (IsRefusal s.is_dead (g.D.TapeDisk.failures c.args.disk.now) (g.D.TapeDisk.failures c.append.new.disk)) (sym c.from.ensures)
-          (disk_refusal c.in-Err.error s.is_dead (g.D.TapeDisk.failures c.args.disk.now) (g.D.TapeDisk.failures c.append.new.disk) alive told.fault);
+      refused = subst (IsRefusal s.is_dead) (sym c.from.ensures) (disk_refusal c.in-Err.error s.is_dead alive);
       alive = tt;
       dies = refl;
       phases = λ id. phases_kept t s t' tape id x c.self.view_is refl (told.phase ∙ sym written);
@@ -66,9 +65,8 @@ returns-in-Err g c =
       longer = tt;
       counted = tt;
       others = others_kept (g.D.TapeDisk.last c.args.disk.now) (g.D.TapeDisk.last c.append.new.disk) t s t' tape x c.self.view_is c.self.invariant told.keeps refl;
-      writes = told.writes;
-      failures = told.failures;
-      honesty = told.honesty;
+      again = subst (λ (z : TapesState). UsesAgain z.pool c.append.new.pool) c.self.view_is told.pages.again;
+      disk = subst (λ n. Leaves g.D.TapeDisk n c.args.disk.now c.append.new.disk) (sym (disk_fault _ _ c.from.ensures)) told.disk;
     }
 
 pub returns-in-Ok : goal.returns-in-Ok
@@ -95,7 +93,6 @@ returns-in-Ok g c =
       counted = subst (λ (z : TapeState). g.D.TapeDisk.writes c.append.new.disk + tape_len z / 8192 ≡ g.D.TapeDisk.writes c.args.disk.now + tape_len (tape_at t' tape) / 8192) slot
           (subst (λ (z : TapeState). g.D.TapeDisk.writes c.append.new.disk + tape_len y / 8192 ≡ g.D.TapeDisk.writes c.args.disk.now + tape_len z / 8192) (sym here) told.counted);
       others = others_kept last last' t s t' tape x c.self.view_is c.self.invariant told.keeps refl;
-      writes = told.writes;
-      failures = told.failures;
-      honesty = told.honesty;
+      again = subst (λ (z : TapesState). UsesAgain z.pool c.append.new.pool) c.self.view_is told.pages.again;
+      disk = told.disk;
     }

@@ -16,4 +16,5 @@ returns g c =
       alive = ap (λ (s : TapesState). s.is_dead) view;
       closed = ap (λ (x : TapeState). not (is_in Closed x.phase)) (put_at t now after tape c.close.new.self view differ refl ∙ c.close.ensures);
       others = others_kept_all last last t now after tape c.close.new.self view (λ place byte had. had) refl;
+      frees = c.give_back.ensures.pages.count ∙ ap (λ (s : TapesState). s.pool.count) view;
     }

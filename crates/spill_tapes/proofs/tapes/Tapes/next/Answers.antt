@@ -1,11 +1,10 @@
 use Rattle.std.proofs.Common.{◌≡◌, ◌≢◌, ◌+◌, true, false, length, ◌≤◌, refl, arith, sym, ap, ◌∙◌, subst}
 use Rattle.std.proofs.Math.ListN.{set}
-use Rattle.spill_tapes.specs.Pages.{IsApart}
 use Rattle.spill_tapes.specs.Tape.{TapeState, IsGood}
 use Rattle.spill_tapes.specs.Tapes.{TapesState, tape_at, phase_of}
 use Rattle.spill_tapes.specs.TapesFields.{tapes_of}
 use Rattle.spill_tapes.specs.declared.tape.Phase.TheVariants.{Closed, Read}
-use Rattle.spill_tapes.proofs.TapesLaws.{tapes_put, others_kept_all, is_reading, read_open, open_within, slot_is, apart_at, fits_at, phases_kept, read_ahead, read_gives, read_refusal}
+use Rattle.spill_tapes.proofs.TapesLaws.{tapes_put, others_kept_all, is_reading, read_open, open_within, slot_is, have_at, phases_kept, read_ahead, read_gives, read_refusal}
 use Rattle.spill_tapes.proofs.tapes.Tapes.next.Goals as goal
 
 pub index_mut-slot-requires : goal.index_mut-slot-requires
@@ -21,7 +20,7 @@ invariant_of-self-in-Err g c =
     let alive : s.is_dead ≡ false = sym c.is_dead.ensures ∙ c.if-is_dead.false in
     let differ : phase_of s tape ≢ Closed = read_open (phase_of s tape) (is_reading (phase_of s tape) (c.requires.read alive)) in
     tapes_put t s t' tape y x c.self.view_is c.self.invariant differ
-    (slot_is t s tape y c.self.view_is differ c.index_mut-slot.ensures.value) refl told.pool told.balanced (read_open x.phase told.phase) (λ e. absurd (cc e))
+    (slot_is t s tape y c.self.view_is differ c.index_mut-slot.ensures.value) refl told.pages.pool told.pages.balanced (read_open x.phase told.phase) (λ e. absurd (cc e))
 
 pub invariant_of-self : goal.invariant_of-self
 invariant_of-self g c =
@@ -30,7 +29,7 @@ invariant_of-self g c =
     let alive : s.is_dead ≡ false = sym c.is_dead.ensures ∙ c.if-is_dead.false in
     let differ : phase_of s tape ≢ Closed = read_open (phase_of s tape) (is_reading (phase_of s tape) (c.requires.read alive)) in
     tapes_put t s t' tape y x c.self.view_is c.self.invariant differ
-    (slot_is t s tape y c.self.view_is differ c.index_mut-slot.ensures.value) refl told.pool told.balanced (read_open x.phase told.phase) (λ e. (e, told.good))
+    (slot_is t s tape y c.self.view_is differ c.index_mut-slot.ensures.value) refl told.pages.pool told.pages.balanced (read_open x.phase told.phase) (λ e. (e, told.given.good))
 
 pub next-requires : goal.next-requires
 next-requires g c =
@@ -39,9 +38,7 @@ next-requires g c =
     let reading : phase_of s tape ≡ Read = is_reading (phase_of s tape) (c.requires.read alive) in
     let slot : y ≡ tape_at t tape = slot_is t s tape y c.self.view_is (read_open (phase_of s tape) reading) c.index_mut-slot.ensures.value in
     record {
-      pool = c.self.invariant.pool;
-      apart = subst (λ (z : TapeState). IsApart t.pool z.pages) (sym slot) (apart_at t tape.index c.self.invariant);
-      fits = subst (λ (z : TapeState). length t.pool.free + length z.pages ≤ t.pool.count) (sym slot) (fits_at t tape.index c.self.invariant);
+      pages = have_at t tape y c.self.invariant slot;
       phase = ap (λ (z : TapeState). z.phase) slot ∙ ap (λ (z : TapesState). phase_of z tape) c.self.view_is ∙ reading;
       good = subst IsGood (sym slot) (c.self.invariant.good (ap (λ (z : TapesState). z.is_dead) c.self.view_is ∙ alive) tape.index);
       empty = c.clear.ensures.items;
@@ -57,8 +54,8 @@ returns-in-Err g c =
     record {
       dead = λ is. absurd (cc (is, alive));
       unchanged = λ is. absurd (cc (is, alive));
-      refused = read_refusal c.in-Err.error s.is_dead (g.D.TapeDisk.failures c.args.disk.now) (g.D.TapeDisk.failures c.next.new.disk) alive told.alive told.fault;
-      undamaged = λ honest rs had. told.undamaged honest rs (read_ahead last t s tape c.index_mut-slot.result.now rs c.self.view_is (c.requires.read alive) c.index_mut-slot.ensures.value had);
+      refused = read_refusal c.in-Err.error s.is_dead alive told.refused.alive;
+      undamaged = λ honest rs had. told.refused.undamaged honest rs (read_ahead last t s tape c.index_mut-slot.result.now rs c.self.view_is (c.requires.read alive) c.index_mut-slot.ensures.value had);
       alive = tt;
       dies = refl;
       phases = λ id. phases_kept t s t' tape id x c.self.view_is refl (told.phase ∙ sym reading);
@@ -66,10 +63,9 @@ returns-in-Err g c =
       framed = tt;
       none = tt;
       nothing = c.clear-in-Err.ensures.items;
-      others = others_kept_all last last' t s t' tape x c.self.view_is told.keeps refl;
-      writes = told.writes;
-      failures = told.failures;
-      honesty = told.honesty;
+      others = others_kept_all last last' t s t' tape x c.self.view_is told.disk.keeps refl;
+      frees = told.pages.count ∙ ap (λ (z : TapesState). z.pool.count) c.self.view_is;
+      disk = told.disk;
     }
 
 pub returns-in-Ok : goal.returns-in-Ok
@@ -88,12 +84,11 @@ returns-in-Ok g c =
       dies = tt;
       phases = λ id. phases_kept t s t' tape id x c.self.view_is refl (told.phase ∙ sym reading);
       gives = λ honest rs had. read_gives last' t s t' tape x rs c.next.new.bytes.items c.in-Ok.found c.self.view_is (c.requires.read alive) refl told.phase
-          (told.gives honest rs (read_ahead last t s tape c.index_mut-slot.result.now rs c.self.view_is (c.requires.read alive) c.index_mut-slot.ensures.value had));
-      framed = told.framed;
-      none = told.none;
+          (told.given.gives honest rs (read_ahead last t s tape c.index_mut-slot.result.now rs c.self.view_is (c.requires.read alive) c.index_mut-slot.ensures.value had));
+      framed = told.given.framed;
+      none = told.given.none;
       nothing = tt;
-      others = others_kept_all last last' t s t' tape x c.self.view_is told.keeps refl;
-      writes = told.writes;
-      failures = told.failures;
-      honesty = told.honesty;
+      others = others_kept_all last last' t s t' tape x c.self.view_is told.disk.keeps refl;
+      frees = told.pages.count ∙ ap (λ (z : TapesState). z.pool.count) c.self.view_is;
+      disk = told.disk;
     }

@@ -23,4 +23,5 @@ returns g c =
       none = if_ok c.place-2.result (λ tape new. ap tape_len new) told.opened;
       empty = if_ok c.place-2.result (λ tape new. new_has last _ new) told.opened;
       others = if_ok c.place-2.result (λ tape same. others_same last now after tape same) told.others;
+      pages = told.pages;
     }

@@ -18,6 +18,7 @@ returns c =
       fresh = if_ok c.push.result (λ tape end. ap (λ (x : TapeState). x.phase) (none_past now tape end)) told.opened;
       opened = if_ok_both c.push.result (λ tape end longer. at_push now c.push.new.self tape new_tape longer end) told.opened told.longer;
       others = told.others;
+      pages = told.pages;
     }
 
 pub returns-in-Some : goal.returns-in-Some
@@ -31,4 +32,5 @@ returns-in-Some c =
       fresh = closed.1;
       opened = get_or-set_same t.tapes tape.index c.args.tape no_tape (subst (λ (s : TapesState). tape.index < length s.tapes) (sym view) closed.0) ∙ c.requires.new;
       others = λ id differ. same_at t (record { is_dead = t.is_dead; tapes = set t.tapes tape.index c.args.tape; pool = t.pool }) tape c.args.tape refl id differ ∙ ap (λ (s : TapesState). tape_at s id) view;
+      pages = ap (λ (s : TapesState). s.pool) view;
     }

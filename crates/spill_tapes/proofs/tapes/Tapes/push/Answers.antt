@@ -16,6 +16,7 @@ returns-then-is_err c =
       opened = tt;
       longer = tt;
       others = tt;
+      pages = ap (λ (s : TapesState). s.pool) c.self.view_is;
     }
 
 pub returns : goal.returns
@@ -31,4 +32,5 @@ returns c =
       opened = opened;
       longer = longer;
       others = same_at_push now (record { is_dead = t.is_dead; tapes = c.push.new.self.items; pool = t.pool }) (record { index = c.len-index.result }) new_tape longer opened;
+      pages = ap (λ (s : TapesState). s.pool) c.self.view_is;
     }
