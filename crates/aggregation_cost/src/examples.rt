@@ -34,5 +34,5 @@ pub fn keys_in_blocks()
 /// What a row and a group take on a tape.
 pub fn records_on_tape()
     ensures row { (of_row (1 ∷ 97 ∷ 0 ∷ []) (1 ∷ 97 ∷ 0 ∷ 2 ∷ [])).on_tape ≡ 13 }
-    ensures group { (of_group (1 ∷ 97 ∷ 0 ∷ []) (0 ∷ 0 ∷ 0 ∷ 0 ∷ 0 ∷ 0 ∷ 0 ∷ 1 ∷ [])).on_tape ≡ 22 }
+    ensures group { (of_group (1 ∷ 97 ∷ 0 ∷ []) 8).on_tape ≡ 22 }
 {}

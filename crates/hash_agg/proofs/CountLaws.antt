@@ -22,18 +22,19 @@ use Rattle.hash_agg.specs.declared.plan.Plan.{Plan}
 use Rattle.group_runs.specs.Runs.{Entry}
 use Rattle.hash_agg.specs.Inputs.{Brought, Packed, Counted, on_end, rows_in, all_rows, IsInput, AllBring}
 use Rattle.group_runs.specs.Adding.{row_added, rows_added, group_added, groups_added}
+use Rattle.hash_agg.specs.Added.{Are, source_of}
 use Rattle.hash_agg.specs.Adding.{Given, Of_rows, Of_groups, Gives, AllGive, given_added, all_added}
-use Rattle.hash_agg.specs.Passes.{Of_row, Of_group, pieces_added, made_of, piece_key, weight, rows_at, CountUpTo, AreOf, given_pieces, all_pieces, PassState, setting_of, Holds, CanRead, Reads, total, brings, brought_by, Brings}
+use Rattle.hash_agg.specs.Passes.{Of_row, Of_group, pieces_added, made_of, piece_key, weight, rows_at, CountUpTo, given_pieces, all_pieces, PassState, setting_of, Holds, CanRead, Reads, total, brings, brought_by, Brings}
 use Rattle.group_runs.proofs.RunLaws.{run_apart, groups_long}
 use Rattle.group_runs.proofs.MergeLaws.{AreApart, puts_rise, nothing_rises, keys_of-rows_added, keys_of-groups_added}
 use Rattle.hash_agg.proofs.PassLaws.{rows_append, pieces_append}
 use Rattle.hash_agg.proofs.WholeLaws.{GivenAt}
 
-pub pieces_of : (q : Query) (input : Brought) (given : Given) → Gives q input given → AreOf q input (given_pieces input given)
-pieces_of q (Packed packed) (Of_rows rows) gives = (rows, gives, refl)
-pieces_of q (Packed packed) (Of_groups groups) gives = absurd gives
-pieces_of q (Counted run most) (Of_rows rows) gives = absurd gives
-pieces_of q (Counted run most) (Of_groups groups) gives = (groups, gives, refl)
+pub pieces_are : (q : Query) (hf : List ℕ → ℕ) (input : Brought) (given : Given) → Gives q input given → Are q hf (source_of input) (given_pieces input given)
+pieces_are q hf (Packed packed) (Of_rows rows) gives = (rows, gives, refl)
+pieces_are q hf (Packed packed) (Of_groups groups) gives = absurd gives
+pieces_are q hf (Counted run most) (Of_rows rows) gives = absurd gives
+pieces_are q hf (Counted run most) (Of_groups groups) gives = (most, (groups, gives, refl))
 
 -- ---- the groups that they make up
 
@@ -168,19 +169,19 @@ module _ (plan : Plan) (hf : List ℕ → ℕ) (inputs : List Brought) (givens :
       omega (arith, a, b, c, low)
 
   module _ (pass : PassState) (ahead : List Record) (todo : List LeftList) (holds : Holds (meaning plan.query.now) (setting_of plan hf) pass (all_pieces (take i inputs) (take i givens)) ahead todo) where
-    pub can_read_input : CanRead plan hf (AreOf (meaning plan.query.now) input) pass
-    can_read_input = (all_pieces (take i inputs) (take i givens), given_pieces input found.given, ahead, todo, holds, pieces_of (meaning plan.query.now) input found.given found.gives, front_count)
+    pub can_read_input : CanRead plan hf (Are (meaning plan.query.now) hf (source_of input)) pass
+    can_read_input = (all_pieces (take i inputs) (take i givens), given_pieces input found.given, ahead, todo, holds, pieces_are (meaning plan.query.now) hf input found.given found.gives, front_count)
 
-    pub input_read : (next : PassState) → Reads plan hf (AreOf (meaning plan.query.now) input) pass next → Holds (meaning plan.query.now) (setting_of plan hf) next (all_pieces (take (i + 1) inputs) (take (i + 1) givens)) ahead todo
+    pub input_read : (next : PassState) → Reads plan hf (Are (meaning plan.query.now) hf (source_of input)) pass next → Holds (meaning plan.query.now) (setting_of plan hf) next (all_pieces (take (i + 1) inputs) (take (i + 1) givens)) ahead todo
     input_read next reads =
         subst (λ ps. Holds (meaning plan.query.now) (setting_of plan hf) next ps ahead todo) (sym (pieces_next inputs givens i input found.given at found.at))
-        (reads (all_pieces (take i inputs) (take i givens)) (given_pieces input found.given) ahead todo holds (pieces_of (meaning plan.query.now) input found.given found.gives) front_count)
+        (reads (all_pieces (take i inputs) (take i givens)) (given_pieces input found.given) ahead todo holds (pieces_are (meaning plan.query.now) hf input found.given found.gives) front_count)
 
 -- what an input brings, on top of what those before it brought
-pub input_brings : (q : Query) (inputs : List Brought) (givens : List Given) (i : ℕ) (input : Brought) (old new : List Entry) (before after : ListsState) → slice_get inputs i ≡ Some input → GivenAt q givens i input
-    → Brings q (AreOf q input) old before new after → total old before ≤ brought_by q (all_pieces (take i inputs) (take i givens)) → total new after ≤ brought_by q (all_pieces (take (i + 1) inputs) (take (i + 1) givens))
-input_brings q inputs givens i input old new before after at found brought few =
-    let more = brought (given_pieces input found.given) (pieces_of q input found.given found.gives) in
+pub input_brings : (q : Query) (hf : List ℕ → ℕ) (inputs : List Brought) (givens : List Given) (i : ℕ) (input : Brought) (old new : List Entry) (before after : ListsState) → slice_get inputs i ≡ Some input → GivenAt q givens i input
+    → Brings q (Are q hf (source_of input)) old before new after → total old before ≤ brought_by q (all_pieces (take i inputs) (take i givens)) → total new after ≤ brought_by q (all_pieces (take (i + 1) inputs) (take (i + 1) givens))
+input_brings q hf inputs givens i input old new before after at found brought few =
+    let more = brought (given_pieces input found.given) (pieces_are q hf input found.given found.gives) in
     let both : brought_by q (all_pieces (take (i + 1) inputs) (take (i + 1) givens)) ≡ brought_by q (all_pieces (take i inputs) (take i givens)) + brought_by q (given_pieces input found.given) =
     ap (brought_by q) (pieces_next inputs givens i input found.given at found.at) ∙ sum_by-append (brings q) (all_pieces (take i inputs) (take i givens)) (given_pieces input found.given) in
     omega (arith, few, more, both)

@@ -1,23 +1,32 @@
--- What calls leave of a disk, one after the other.
-use Rattle.std.specs.Prelude.{refl, ℕ, ◌≤◌, Bool}
-use Rattle.std.proofs.Common.{◌∙◌, arith}
+-- What the calls of a pass leave of a disk.
+use Rattle.std.specs.Prelude.{◌≡◌, ◌≢◌, refl, IfErr, IsErrAnd, Ok, Err}
+use Rattle.std.specs.declared.result.Result.{Result}
+use Rattle.std.proofs.Common.{sym, subst}
+use Rattle.std.proofs.lemmas.Result.{err_from_is_err_and}
+use Rattle.spill_tapes.specs.Calls.{failed}
+use Rattle.spill_tapes.specs.Disk.{Leaves}
+use Rattle.spill_tapes.specs.DiskLaws.{leaves_none}
+use Rattle.spill_tapes.specs.declared.disk.TapeDisk.{Ghosts}
+use Rattle.spill_lists.specs.Errors.{spill_faults}
 use Rattle.spill_lists.specs.declared.error.SpillError.{SpillError}
 use Rattle.spill_lists.specs.declared.error.SpillError.TheVariants.{NoMemory, TapeFault, TapeDamaged}
-use Rattle.spill_lists.specs.Standing.{Moves, IsReadRefusal}
 
--- no call; and two
-pub moves_none : (failed written : ℕ) (honest : Bool) → Moves failed failed written written honest honest
-moves_none failed written honest = record { failures = omega arith; writes = omega arith; honesty = refl }
+module _ {D : Type 0} (g : Ghosts D) where
+  -- an error that a `?` hands on
+  pub left_out : {T : Type 0} (r : Result T SpillError) (e : SpillError) (old new : D) → IsErrAnd r (λ x. x ≡ e) → Leaves g (spill_faults e) old new → Leaves g (failed spill_faults r) old new
+  left_out r e old new given leaves =
+      let p = err_from_is_err_and r given in
+      subst (λ r. Leaves g (failed spill_faults r) old new) (sym p.1) (subst (λ e. Leaves g (spill_faults e) old new) (sym p.2) leaves)
 
-pub moves_twice : (f f' f'' w w' w'' : ℕ) (h h' h'' : Bool) → Moves f f' w w' h h' → Moves f' f'' w' w'' h' h'' → Moves f f'' w w'' h h''
-moves_twice f f' f'' w w' w'' h h' h'' first second = record {
-  failures = omega (arith, first.failures, second.failures);
-  writes = omega (arith, first.writes, second.writes);
-  honesty = second.honesty ∙ first.honesty;
-}
+  -- a call without a disk
+  leaves_still : (e : SpillError) (disk : D) → e ≢ TapeFault → Leaves g (spill_faults e) disk disk
+  leaves_still NoMemory disk none = leaves_none g disk
+  leaves_still TapeFault disk none = absurd (none refl)
+  leaves_still TapeDamaged disk none = leaves_none g disk
 
--- a refusal, by how often the disk had failed before an earlier call, and after a later one
-pub refused_longer : (before later after last : ℕ) (e : SpillError) → before ≤ later → after ≤ last → IsReadRefusal later after e → IsReadRefusal before last e
-refused_longer before later after last NoMemory low high refused = tt
-refused_longer before later after last TapeFault low high refused = omega (arith, low, high, refused)
-refused_longer before later after last TapeDamaged low high refused = tt
+  pub still : {T : Type 0} (r : Result T SpillError) (disk : D) → IfErr r (λ e. e ≢ TapeFault) → Leaves g (failed spill_faults r) disk disk
+  still (Ok x) disk none = leaves_none g disk
+  still (Err e) disk none = leaves_still e disk none
+
+  pub still_out : {T : Type 0} (r : Result T SpillError) (e : SpillError) (disk : D) → IsErrAnd r (λ x. x ≡ e) → e ≢ TapeFault → Leaves g (failed spill_faults r) disk disk
+  still_out r e disk given none = left_out r e disk disk given (leaves_still e disk none)

@@ -1,9 +1,10 @@
 -- There are at most as many passes as groups.
-use Rattle.std.specs.Prelude.{◌≡◌, refl, ℕ, ◌<◌, ◌≤◌, max, true, false, cond, not, ◌||◌, List, [], ◌∷◌, ◌++◌, map, filter, length}
+use Rattle.std.specs.Prelude.{◌≡◌, refl, ℕ, ◌+◌, ◌<◌, ◌≤◌, max, true, false, cond, not, ◌||◌, List, [], ◌∷◌, ◌++◌, map, filter, length}
 use Rattle.std.specs.List.{AllByRecursion, IsDistinct}
 use Rattle.std.proofs.Common.{sym, ◌∙◌, ap, subst, inl, inr, arith}
 use Rattle.std.proofs.lemmas.Bool.{both_ways, false_from_ne_true}
-use Rattle.std.proofs.lemmas.List.{map-append, length-map}
+use Rattle.std.proofs.lemmas.List.{map-append, length-map, length-append}
+use Rattle.std.proofs.lemmas.List.Sums.{sum_by-cons}
 use Rattle.grouping_model.specs.Condition.{is_met}
 use Rattle.grouping_model.specs.Datum.{Row, row_cmp}
 use Rattle.grouping_model.specs.Query.{Query}
@@ -20,10 +21,10 @@ use Rattle.aggregation_cost.proofs.CostLaws.{passes_few}
 use Rattle.aggregation_cost.proofs.Keys.{same_key_itself, same_key-is, distinct-apart}
 use Rattle.aggregation_cost.proofs.Lists.{any-filter, each_gives, each_both, each_of_filter}
 use Rattle.group_runs.specs.Runs.{Entry, packed_keys}
-use Rattle.hash_agg.specs.Inputs.{Brought, Packed, Counted, AllBring, IsAggregate, on_end}
+use Rattle.hash_agg.specs.Inputs.{Brought, Packed, Counted, AllBring, IsAggregate, IsRunOver, on_end, rows_in, all_rows, groups_in, all_groups}
 use Rattle.hash_agg.specs.Adding.{Given, Of_rows, Of_groups, AllGive}
 use Rattle.hash_agg.specs.Passes.{Piece, Of_row, Of_group, records_of, all_pieces}
-use Rattle.group_runs.proofs.RunLaws.{keys_packed, keys_of_kinds}
+use Rattle.group_runs.proofs.RunLaws.{keys_packed, keys_of_kinds, groups_long}
 use Rattle.hash_agg.proofs.SpillLaws.{records_more}
 
 -- ---- lists of which each member is in another
@@ -146,3 +147,49 @@ few_passes q s inputs givens run is give fit = by (records_of q s.width (all_pie
         subst (AllByRecursion (λ x. cost.is_one_of (map packing (distinct row_cmp (on_end keys.lists))) x ≡ true)) (sym named) (each_among (on_end keys.lists) (on_end keys.lists) (λ k m. m)) in
         let fewer = fewer_distinct (cost.first_of_each (cost.keys_of (one ∷ more))) (map packing (distinct row_cmp (on_end keys.lists))) (distinct-apart (cost.keys_of (one ∷ more))) (each_distinct (λ x. cost.is_one_of (map packing (distinct row_cmp (on_end keys.lists))) x ≡ true) (cost.keys_of (one ∷ more)) all) in
         omega (arith, few, fewer, long)
+
+-- ---- how many groups and records there are
+
+pub run_few : (q : Query) (width : ℕ) (inputs : List Brought) (givens : List Given) (run : List Entry) → IsRunOver q inputs run → AllGive q inputs givens → length run ≤ length (records_of q width (all_pieces inputs givens))
+run_few q width inputs givens run over give =
+    let keys = has_keys q width inputs givens give in
+    let few = over.few keys.lists keys.bring in
+    let long : length (records_of q width (all_pieces inputs givens)) ≡ length (on_end keys.lists) =
+    sym (length-map (records_of q width (all_pieces inputs givens)) (λ (entry : cost.Record). entry.key)) ∙ ap length keys.keys ∙ length-map (on_end keys.lists) packing in
+    omega (arith, few, long)
+
+rows_cost : (q : Query) (width : ℕ) (rows : List Row) → length (records_of q width (map Of_row rows)) ≤ length rows
+rows_cost q width [] = omega arith
+rows_cost q width (row ∷ rows) =
+    let rest = rows_cost q width rows in
+    elim (is_met (column_of row) q.condition) as (λ b. length (cond b (cost.of_row (packing (key_of q row)) (packing row) ∷ []) [] ++ records_of q width (map Of_row rows)) ≤ length (row ∷ rows)) [
+      | true ↦ omega (arith, rest)
+      | false ↦ omega (arith, rest)
+    ]
+
+groups_cost : (q : Query) (width most : ℕ) (groups : List Group) → length (records_of q width (map (λ group. Of_group group most) groups)) ≡ length groups
+groups_cost q width most [] = refl
+groups_cost q width most (group ∷ groups) = let rest = groups_cost q width most groups in omega (arith, rest)
+
+pub records_few : (q : Query) (width : ℕ) (inputs : List Brought) (givens : List Given) → AllGive q inputs givens → length (records_of q width (all_pieces inputs givens)) ≤ all_rows inputs + all_groups inputs
+records_few q width [] [] give = omega arith
+records_few q width [] (given ∷ givens) give = absurd give
+records_few q width (input ∷ inputs) [] give = absurd give
+records_few q width (Packed packed ∷ inputs) (Of_rows rows ∷ givens) (first, give) =
+    let rest = records_few q width inputs givens give in
+    let here = rows_cost q width rows in
+    let many : length packed ≡ length rows = ap length first.packings_are ∙ length-map rows packing in
+    let both = ap length (records_more q width (map Of_row rows) (all_pieces inputs givens)) ∙ length-append (records_of q width (map Of_row rows)) (records_of q width (all_pieces inputs givens)) in
+    let counted = sum_by-cons rows_in (Packed packed) inputs in
+    let grouped = sum_by-cons groups_in (Packed packed) inputs in
+    omega (arith, rest, here, many, both, counted, grouped)
+records_few q width (Counted run most ∷ inputs) (Of_groups groups ∷ givens) (first, give) =
+    let rest = records_few q width inputs givens give in
+    let here = groups_cost q width most groups in
+    let many = groups_long q most run groups first in
+    let both = ap length (records_more q width (map (λ group. Of_group group most) groups) (all_pieces inputs givens)) ∙ length-append (records_of q width (map (λ group. Of_group group most) groups)) (records_of q width (all_pieces inputs givens)) in
+    let counted = sum_by-cons rows_in (Counted run most) inputs in
+    let grouped = sum_by-cons groups_in (Counted run most) inputs in
+    omega (arith, rest, here, many, both, counted, grouped)
+records_few q width (Packed packed ∷ inputs) (Of_groups groups ∷ givens) (first, give) = absurd first
+records_few q width (Counted run most ∷ inputs) (Of_rows rows ∷ givens) (first, give) = absurd first

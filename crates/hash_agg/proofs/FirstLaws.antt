@@ -6,7 +6,6 @@ use Rattle.std.proofs.Common.{sym, ap, subst, arith}
 use Rattle.std.proofs.lemmas.List.Sorted.{length_permutation}
 use Rattle.std.proofs.lemmas.List.Sums.{sum_by-cons}
 use Rattle.grouping_model.specs.Query.{Query}
-use Rattle.aggregation_cost.specs.Cost.{Cost}
 use Rattle.aggregation_cost.specs.Passes.{EachFits}
 use Rattle.aggregation_cost.specs.Space.{Setting}
 use Rattle.spill_tapes.specs.Records.{Record}
@@ -14,8 +13,9 @@ use Rattle.spill_lists.specs.Lists.{LeftList, lists, left_by}
 use Rattle.spill_lists.specs.Standing.{ListsState, HasLists, count_of, spilled_number, waiting_number, pages_of, written_pages}
 use Rattle.group_runs.specs.Runs.{Entry, Rises}
 use Rattle.hash_agg.specs.Inputs.{Brought, rows_in, all_rows}
+use Rattle.hash_agg.specs.Added.{IsUnderway}
 use Rattle.hash_agg.specs.Passes.{Piece, PassState, Holds, records_of, total}
-use Rattle.hash_agg.specs.Waiting.{Waits, Costs, AddsUp, pass_cost}
+use Rattle.hash_agg.specs.Waiting.{Costs, AddsUp, pass_cost}
 use Rattle.hash_agg.specs.declared.work.Work.{Work}
 use Rattle.hash_agg.proofs.SpillLaws.{nothing_spills}
 use Rattle.hash_agg.proofs.UnionLaws.{nothing_stands, ends}
@@ -55,18 +55,19 @@ pub first_waits : (q : Query) (s : Setting) (pieces : List Piece) (pass : PassSt
     → ((spilled ahead : List Record) (todo : List LeftList) → HasLists pass.last pass.lists spilled ahead todo → HasLists now after [] ahead (todo ++ left_by pass.lists.level spilled))
     → ((spilled ahead : List Record) (todo : List LeftList) → HasLists pass.last pass.lists spilled ahead todo → end + written_pages pass.lists ≡ written + pages_of (lists pass.lists.level spilled))
     → ((spilled ahead : List Record) (todo : List LeftList) (pages : ℕ) → HasLists pass.last pass.lists spilled ahead todo → AddsUp before (pass_cost s.width pass.entries (length spilled) pages) done)
-    → Holds q s pass pieces [] [] → (todo : List LeftList) × HasLists now after [] [] todo × Waits q s.hash pieces run todo × (made : Cost) × Costs q s pieces made todo × AddsUp before made done × (end ≡ start + made.pages)
+    → Holds q s pass pieces [] [] → IsUnderway q s pieces run (HasLists now after [] []) before done start end
 first_waits q s pieces pass run after now before done start written end moved rises top fit so_far left paged adds (spilled, has, stands, spills) =
     let all : pages_of (lists pass.lists.level spilled) ≡ pages_of (lists 0 spilled) = ap (λ level. pages_of (lists level spilled)) top in
-    let sum = paged spilled [] [] has in (
-      left_by pass.lists.level spilled,
-      left spilled [] [] has,
-      waits_first q s.hash pieces run spilled pass.lists.level (ends q s.hash pieces pass.entries run spilled spilled moved rises refl stands),
-      pass_cost s.width pass.entries (length spilled) (pages_of (lists 0 spilled)),
-      subst (λ level. Costs q s pieces (pass_cost s.width pass.entries (length spilled) (pages_of (lists 0 spilled))) (left_by level spilled)) (sym top) (costs_first q s pieces pass.entries pass.lists.parts spilled fit spills),
-      adds spilled [] [] (pages_of (lists 0 spilled)) has,
-      omega (arith, all, sum, so_far),
-    )
+    let sum = paged spilled [] [] has in
+    record {
+      todo = left_by pass.lists.level spilled;
+      has = left spilled [] [] has;
+      waits = waits_first q s.hash pieces run spilled pass.lists.level (ends q s.hash pieces pass.entries run spilled spilled moved rises refl stands);
+      made = pass_cost s.width pass.entries (length spilled) (pages_of (lists 0 spilled));
+      costs = subst (λ level. Costs q s pieces (pass_cost s.width pass.entries (length spilled) (pages_of (lists 0 spilled))) (left_by level spilled)) (sym top) (costs_first q s pieces pass.entries pass.lists.parts spilled fit spills);
+      adds = adds spilled [] [] (pages_of (lists 0 spilled)) has;
+      paged = omega (arith, all, sum, so_far);
+    }
 
 pub first_few : (entries run : List Entry) (lists after : ListsState) (most : ℕ) → IsPermutation entries run → waiting_number after ≡ waiting_number lists + spilled_number lists → lists.todo ≡ [] → total entries lists ≤ most → length run + waiting_number after ≤ most
 first_few entries run lists after most moved waiting none few =

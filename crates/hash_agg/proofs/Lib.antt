@@ -10,7 +10,6 @@ pub mod BytesLaws
 pub mod FoldLaws
 pub mod StepLaws
 pub mod DiskLaws
-pub mod LoopLaws
 pub mod RecordLaws
 pub mod ReadLaws
 pub mod LaterLaws
@@ -22,3 +21,4 @@ pub mod WorkLaws
 pub mod FitLaws
 pub mod FewLaws
 pub mod ReturnLaws
+pub mod AddedLaws

@@ -5,7 +5,7 @@ use Rattle.grouping_model.specs.Query.{Query}
 use Rattle.spill_tapes.specs.Records.{Record}
 use Rattle.spill_tapes.specs.Tape.{Gives}
 use Rattle.spill_lists.specs.Lists.{LeftList}
-use Rattle.spill_lists.specs.Standing.{ListsState, HasLists, spilled_number, ahead_number}
+use Rattle.spill_lists.specs.Standing.{ListsState, HasLists, count_of, spilled_number, ahead_number}
 use Rattle.having_filter.specs.Meaning.{meaning}
 use Rattle.hash_agg.specs.declared.plan.Plan.{Plan}
 use Rattle.group_runs.specs.Runs.{Entry}
@@ -111,3 +111,8 @@ spent_next number old new before between after spent parts counted source goes =
     cases : IsSpent number old before → IsSpent number new after
     cases (inl (empty, clear, all)) = let zero = none (goes.first empty (parts ∙ clear)) in let e = same in inr (omega (arith, zero, e, counted, all))
     cases (inr low) = let slow = goes.slow in let e = same in let s = spilled in inr (omega (arith, low, slow, e, s, counted))
+
+-- no record is left to be read
+pub spent_ends : (number : ℕ) (entries : List Entry) (before after : ListsState) → IsSpent number entries before → after.parts ≡ before.parts → ahead_number before ≡ 0 → 0 < number → spilled_number after < number
+spent_ends number entries before after (inl (empty, clear, all)) parts none some = absurd (omega (arith, all, none, some))
+spent_ends number entries before after (inr low) parts none some = let same : spilled_number after ≡ spilled_number before = ap count_of parts in omega (arith, low, same)

@@ -1,31 +1,20 @@
 -- Records on tapes, and rows that are passed over.
-use Rattle.std.specs.Prelude.{◌≡◌, refl, ℕ, ◌≤◌, true, false, cond, List, [], ◌∷◌, ◌++◌, length}
-use Rattle.std.proofs.Common.{sym, ◌∙◌, ap, subst, arith}
-use Rattle.std.proofs.lemmas.List.Sums.{sum_by-cons}
+use Rattle.std.specs.Prelude.{◌≡◌, ◌≢◌, refl, ℕ, ◌≤◌, false, List, [], ◌∷◌, ◌++◌, length}
+use Rattle.std.proofs.Common.{sym, ap, subst, arith}
 use Rattle.grouping_model.specs.Datum.{Row, HasKinds}
 use Rattle.grouping_model.specs.Condition.{is_met}
 use Rattle.grouping_model.specs.Query.{Query}
-use Rattle.grouping_model.specs.Grouping.{Group, column_of, key_of}
+use Rattle.grouping_model.specs.Grouping.{Group, column_of}
 use Rattle.packed_rows.specs.Packing.{packing}
-use Rattle.spill_lists.specs.Standing.{ListsState}
 use Rattle.having_filter.specs.Kept.{IsWellFormed}
 use Rattle.having_filter.specs.Meaning.{meaning}
 use Rattle.hash_agg.specs.declared.plan.Plan.{Plan}
-use Rattle.group_runs.specs.Runs.{Entry}
 use Rattle.group_runs.specs.Standing.{StandsFor}
-use Rattle.hash_agg.specs.Passes.{Piece, Of_row, Of_group, group_record, IsRowRecord, IsGroupRecord, ArePieces, made_of, CountUpTo, Stands, Spills, setting_of, PassState, CanRead, Reads, AreRows, AreOfRun, brings, brought_by, Proceeds, Brings}
+use Rattle.hash_agg.specs.Passes.{Piece, Of_row, Of_group, group_record, IsRowRecord, IsGroupRecord, ArePieces, made_of, CountUpTo, Stands, Spills, setting_of, PassState, CanRead, Reads, AreRows, AreOfRun}
 use Rattle.group_runs.proofs.RunLaws.{packed_once}
 use Rattle.hash_agg.proofs.PassLaws.{reads_over}
 use Rattle.hash_agg.proofs.SpillLaws.{spills_over}
 use Rattle.hash_agg.proofs.StepLaws.{one_row, passed_over, can_count, of_group_record}
-
--- ---- other words for what is read
-
-pub reads_by : (plan : Plan) (hf : List ℕ → ℕ) (Are Other : List Piece → Type 0) (old new : PassState) → ((more : List Piece) → Are more → Other more) → Reads plan hf Other old new → Reads plan hf Are old new
-reads_by plan hf Are Other old new gives reads pieces more ahead todo holds are count = reads pieces more ahead todo holds (gives more are) count
-
-pub can_by : (plan : Plan) (hf : List ℕ → ℕ) (Are Other : List Piece → Type 0) (old : PassState) → ((more : List Piece) → Are more → Other more) → CanRead plan hf Are old → CanRead plan hf Other old
-can_by plan hf Are Other old gives (pieces, more, ahead, todo, holds, are, count) = (pieces, more, ahead, todo, holds, gives more are, count)
 
 -- ---- a row
 
@@ -49,14 +38,6 @@ row_over plan hf packed row old has is unmet pieces more ahead todo (spilled, li
       (spills_over (meaning plan.query.now) (setting_of plan hf) pieces row old.entries old.lists.parts spilled unmet spills),
 )
 
-pub row_brings : (q : Query) (packed : List ℕ) (row : Row) (old new : List Entry) (before after : ListsState) → HasKinds q.kinds row → packed ≡ packing row → is_met (column_of row) q.condition ≡ true → Proceeds old before new after → Brings q (AreRows q (packed ∷ [])) old before new after
-row_brings q packed row old new before after has is met goes more are =
-    let few = goes.few in
-    let one : brought_by q more ≡ brought_by q (Of_row row ∷ []) = ap (brought_by q) (one_row q packed row more has is are) in
-    let sum = sum_by-cons (brings q) (Of_row row) [] in
-    let here : brings q (Of_row row) ≡ 1 = ap (λ b. cond b 1 0) met in
-    omega (arith, few, one, sum, here)
-
 -- ---- a record of a row
 
 pub row_record : (q : Query) (hf : List ℕ → ℕ) (hash : ℕ) (packed : List ℕ) (more : List Piece) → ArePieces q hf (record { hash = hash; tag = 0; bytes = packed } ∷ []) more → (row : Row) × (more ≡ Of_row row ∷ []) × IsRowRecord q hf (record { hash = hash; tag = 0; bytes = packed }) row
@@ -75,13 +56,12 @@ can_row_record plan hf hash packed old (pieces, more, ahead, todo, holds, are, c
     let one = row_record (meaning plan.query.now) hf hash packed more are in
     (one.0, one.2)
 
--- its hash is that of its key
-pub row_hashed : (plan : Plan) (hf : List ℕ → ℕ) (hash : ℕ) (packed key : List ℕ) (row : Row) (old : PassState) → HasKinds (meaning plan.query.now).kinds row → packed ≡ packing row → key ≡ packing (key_of (meaning plan.query.now) row)
-    → CanRead plan hf (ArePieces (meaning plan.query.now) hf (record { hash = hash; tag = 0; bytes = packed } ∷ [])) old → hash ≡ hf key
-row_hashed plan hf hash packed key row old has is named can =
+-- it is just this row: WHERE is true of it, and its hash is that of its key
+pub row_right : (plan : Plan) (hf : List ℕ → ℕ) (hash : ℕ) (packed : List ℕ) (row : Row) (old : PassState) → HasKinds (meaning plan.query.now).kinds row → packed ≡ packing row
+    → CanRead plan hf (ArePieces (meaning plan.query.now) hf (record { hash = hash; tag = 0; bytes = packed } ∷ [])) old → IsRowRecord (meaning plan.query.now) hf (record { hash = hash; tag = 0; bytes = packed }) row
+row_right plan hf hash packed row old has is can =
     let one = can_row_record plan hf hash packed old can in
-    let same : one.0 ≡ row = packed_once (meaning plan.query.now).kinds packed one.0 row one.1.of_kinds has one.1.bytes is in
-    one.1.hashed ∙ ap (λ row. hf (packing (key_of (meaning plan.query.now) row))) same ∙ ap hf (sym named)
+    subst (IsRowRecord (meaning plan.query.now) hf (record { hash = hash; tag = 0; bytes = packed })) (packed_once (meaning plan.query.now).kinds packed one.0 row one.1.of_kinds has one.1.bytes is) one.1
 
 -- ---- a record of a group
 
@@ -107,16 +87,16 @@ split_right plan hf hash bytes key states old formed short split can =
     let is = of_group_record (meaning plan.query.now) hf one.1 (record { hash = hash; tag = 1; bytes = bytes }) key states one.0 formed short split one.2 in
     (one.0, one.1, is.0, is.1, one.3)
 
--- a key and states that are the bytes of a record
-module _ (plan : Plan) (hf : List ℕ → ℕ) (hash : ℕ) (bytes key states : List ℕ) (formed : IsWellFormed (meaning plan.query.now)) (short : length key ≤ 65535) (split : bytes ≡ group_record key states) (old : PassState) where
-  pub record_reads : (new : PassState) → ((m : ℕ) → Reads plan hf (AreOfRun (meaning plan.query.now) m ((key, states) ∷ [])) old new) → Reads plan hf (ArePieces (meaning plan.query.now) hf (record { hash = hash; tag = 1; bytes = bytes } ∷ [])) old new
-  record_reads new reads pieces more ahead todo holds are count =
-      let one = group_of_record (meaning plan.query.now) hf hash bytes more are in
-      let is = of_group_record (meaning plan.query.now) hf one.1 (record { hash = hash; tag = 1; bytes = bytes }) key states one.0 formed short split one.3 in
-      reads one.1 pieces more ahead todo holds (one.0 ∷ [], (is.0, tt), one.2) count
+-- a key and states that are the bytes of a record are what is read by it
+pub record_is_group : (q : Query) (hf : List ℕ → ℕ) (hash : ℕ) (bytes key states : List ℕ) → IsWellFormed q → length key ≤ 65535 → bytes ≡ group_record key states
+    → (more : List Piece) → ArePieces q hf (record { hash = hash; tag = 1; bytes = bytes } ∷ []) more → (m : ℕ) × AreOfRun q m ((key, states) ∷ []) more
+record_is_group q hf hash bytes key states formed short split more are =
+    let one = group_of_record q hf hash bytes more are in
+    let is = of_group_record q hf one.1 (record { hash = hash; tag = 1; bytes = bytes }) key states one.0 formed short split one.3 in
+    (one.1, (one.0 ∷ [], (is.0, tt), one.2))
 
-  pub record_can : CanRead plan hf (ArePieces (meaning plan.query.now) hf (record { hash = hash; tag = 1; bytes = bytes } ∷ [])) old → (m : ℕ) × CanRead plan hf (AreOfRun (meaning plan.query.now) m ((key, states) ∷ [])) old
-  record_can (pieces, more, ahead, todo, holds, are, count) =
-      let one = group_of_record (meaning plan.query.now) hf hash bytes more are in
-      let is = of_group_record (meaning plan.query.now) hf one.1 (record { hash = hash; tag = 1; bytes = bytes }) key states one.0 formed short split one.3 in
-      (one.1, (pieces, more, ahead, todo, holds, (one.0 ∷ [], (is.0, tt), one.2), count))
+-- a record of a piece has one of the two tags
+pub tagged : (q : Query) (hf : List ℕ → ℕ) (hash tag : ℕ) (bytes : List ℕ) (more : List Piece) → tag ≢ 0 → tag ≢ 1 → ArePieces q hf (record { hash = hash; tag = tag; bytes = bytes } ∷ []) more → ⊥
+tagged q hf hash tag bytes [] no_row no_group are = are
+tagged q hf hash tag bytes (Of_row row ∷ more) no_row no_group are = no_row are.0.tag
+tagged q hf hash tag bytes (Of_group group most ∷ more) no_row no_group are = no_group are.0.tag

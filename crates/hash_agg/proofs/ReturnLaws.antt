@@ -1,14 +1,15 @@
 -- What is the same at most returns of a pass.
-use Rattle.std.specs.Prelude.{◌≡◌, ◌≢◌, refl, ℕ, ◌+◌, ◌≤◌, true, false, List, [], IfOk, OnOk, Ok, Err}
+use Rattle.std.specs.Prelude.{◌≡◌, refl, ℕ, ◌+◌, ◌≤◌, true, false, List, [], IfOk, OnOk, Ok, Err}
 use Rattle.std.specs.Result.{IsErr}
 use Rattle.std.specs.declared.result.Result.{Result}
-use Rattle.std.proofs.Common.{sym, ap, subst, arith}
+use Rattle.std.proofs.Common.{sym, ◌∙◌, ap, subst, arith}
 use Rattle.group_table.specs.Table.{TableState}
 use Rattle.group_runs.specs.Runs.{Entry}
-use Rattle.spill_lists.specs.Standing.{ListsState, IsReadRefusal, IsSpillRefusal, spilled_number}
-use Rattle.spill_lists.specs.declared.error.SpillError.{SpillError}
-use Rattle.spill_lists.specs.declared.error.SpillError.TheVariants.{NoMemory, TapeFault, TapeDamaged}
-use Rattle.hash_agg.specs.Passes.{GroupsState, entries_of, IsSameTable, KeepsLists, Proceeds}
+use Rattle.group_runs.specs.Standing.{IsRun}
+use Rattle.group_runs.proofs.EntryLaws.{groups_raised}
+use Rattle.grouping_model.specs.Query.{Query}
+use Rattle.spill_lists.specs.Standing.{ListsState, KeepsRest, spilled_number}
+use Rattle.hash_agg.specs.Passes.{GroupsState, entries_of, IsSameTable, Proceeds}
 use Rattle.hash_agg.proofs.StepLaws.{as_many}
 
 -- an error has nothing to say of a success; and what holds anyhow holds of a success
@@ -24,28 +25,12 @@ pub ok_any : {T E : Type 0} (r : Result T E) (P : Type 0) → P → OnOk r P
 ok_any (Ok x) P holds = holds
 ok_any (Err e) P holds = tt
 
--- errors, where no tape is read, and of a spill
-pub refused_still : (at : ℕ) (e : SpillError) → IsReadRefusal 0 0 e → IsReadRefusal at at e
-refused_still at NoMemory refused = tt
-refused_still at TapeFault refused = absurd (omega (arith, refused))
-refused_still at TapeDamaged refused = tt
-
-pub refused_spill : (before after : ℕ) (e : SpillError) → IsSpillRefusal before after e → IsReadRefusal before after e
-refused_spill before after NoMemory refused = tt
-refused_spill before after TapeFault refused = refused
-refused_spill before after TapeDamaged refused = tt
-
-pub undamaged_spill : (before after : ℕ) (e : SpillError) → IsSpillRefusal before after e → e ≢ TapeDamaged
-undamaged_spill before after NoMemory refused = λ same. cc
-undamaged_spill before after TapeFault refused = λ same. cc
-undamaged_spill before after TapeDamaged refused = absurd refused
-
 -- nothing moved; or states alone; or a record was spilled
 pub same_table : {Hash : Type 0} (limit : ℕ) (g : GroupsState Hash) → IsSameTable limit g g
 same_table limit g = record { width = refl; hash = refl; within = λ is. is }
 
-pub same_lists : (lists : ListsState) → KeepsLists lists lists
-same_lists lists = record { source = refl; todo = refl; level = refl }
+pub same_rest : (lists : ListsState) → KeepsRest lists lists
+same_rest lists = record { source = refl; todo = refl; level = refl }
 
 pub moved_table : {Hash : Type 0} (limit : ℕ) (g h : GroupsState Hash) → h.table ≡ g.table → h.most_held ≡ g.most_held → IsSameTable limit g h
 moved_table {Hash} limit g h same held = record {
@@ -65,3 +50,15 @@ spilled_proceeds entries before after late counted = record {
   slow = omega (arith, counted);
   few = omega (arith, counted);
 }
+
+-- ---- twice
+
+pub same_table_twice : {Hash : Type 0} {limit : ℕ} (a b c : GroupsState Hash) → IsSameTable limit a b → IsSameTable limit b c → IsSameTable limit a c
+same_table_twice a b c first second = record { width = second.width ∙ first.width; hash = second.hash ∙ first.hash; within = λ is. second.within (first.within is) }
+
+pub keeps_rest_twice : (a b c : ListsState) → KeepsRest a b → KeepsRest b c → KeepsRest a c
+keeps_rest_twice a b c first second = record { source = second.source ∙ first.source; todo = second.todo ∙ first.todo; level = second.level ∙ first.level }
+
+-- a run whose states count at most as many rows as are allowed
+pub run_within : (q : Query) (m most : ℕ) (run : List Entry) → m ≤ most → IsRun q m run → IsRun q most run
+run_within q m most run low is = record { groups = is.groups; are = groups_raised q m most run is.groups low is.are; rises = is.rises }

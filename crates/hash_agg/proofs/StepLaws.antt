@@ -12,13 +12,10 @@ use Rattle.grouping_model.specs.Datum.{Row, Kind, HasKinds, Datum, Null, Bigint,
 use Rattle.grouping_model.specs.Aggregates.{Function, Partial}
 use Rattle.grouping_model.specs.Condition.{is_met}
 use Rattle.grouping_model.specs.Query.{Query}
-use Rattle.grouping_model.specs.Grouping.{Group, column_of, key_of}
+use Rattle.grouping_model.specs.Grouping.{Group, column_of}
 use Rattle.grouping_model.specs.Parts.{functions, with_row}
 use Rattle.packed_rows.specs.Columns.{Column, kinds, AreColumns}
 use Rattle.packed_rows.specs.Packing.{packing, value_packing}
-use Rattle.packed_rows.specs.View.{bytes_of}
-use Rattle.std.specs.declared.alloc.Global.{Global}
-use Rattle.std.specs.declared.vec.Vec.{Vec}
 use Rattle.aggregation_cost.specs.Passes.{is_empty}
 use Rattle.aggregation_cost.specs.Space.{fits}
 use Rattle.spill_tapes.specs.Records.{Record}
@@ -36,11 +33,12 @@ use Rattle.group_runs.specs.Standing.{AreStates, StandsFor}
 use Rattle.group_runs.specs.Steps.{AreWithin, AreAdvanced, AreCombined}
 use Rattle.group_runs.specs.Standing.{states_width}
 use Rattle.hash_agg.specs.Passes.{Piece, Of_row, Of_group, group_record, IsGroupRecord, IsPiece, piece_key, piece_added, weight, rows_at, CountUpTo, AreOnce, AreGroupsBy, GroupsState, entries_of, WritesAt, Stands, Spills, AreSafe, PassState, standing, setting_of, Holds, CanRead, Reads, ReadsSome, IsAt, AreRows, AreOfRun, total, brings, brought_by, Brings, Proceeds}
+use Rattle.hash_agg.specs.Added.{IsSelected}
 use Rattle.hash_agg.proofs.KeyLaws.{key_has}
 use Rattle.hash_agg.proofs.NeedLaws.{keys_set}
 use Rattle.hash_agg.proofs.SpillLaws.{among_entries, none_of, spills_there, spills_new, spills_left}
 use Rattle.group_runs.proofs.RunLaws.{packed_once, take_found, group_at, groups_long}
-use Rattle.hash_agg.proofs.InputLaws.{row_at, flat_row_at, rows_long}
+use Rattle.hash_agg.proofs.InputLaws.{flat_row_at}
 use Rattle.group_runs.proofs.StateLaws.{states_by, states_wide, narrow}
 use Rattle.hash_agg.proofs.TableLaws.{no_key, named_at, get_mapped}
 use Rattle.hash_agg.proofs.PassLaws.{IsKept, after, by_at, by_set, by_append, rows_append, rows_one, reads_there, reads_new, reads_left}
@@ -185,13 +183,6 @@ pub record Told (q : Query) (bound : ℕ) (key : List ℕ) (Moved : List ℕ →
   pub moves :
       (m : ℕ) (old new : List ℕ) (found : List Partial) → Moved old new → m + weight piece ≤ bound → AreStates (functions q) m old found → AreStates (functions q) (m + weight piece) new (after q (Some found) piece)
 
--- a row that WHERE keeps, and its packed key
-pub record IsSelected (q : Query) (packed key : List ℕ) (row : Row) : Type 0 where
-  pub has : HasKinds q.kinds row
-  pub is : packed ≡ packing row
-  pub met : is_met (column_of row) q.condition ≡ true
-  pub named : key ≡ packing (key_of q row)
-
 abbrev pub row_told : (q : Query) (bound : ℕ) (packed key : List ℕ) (row : Row) → IsWellFormed q → IsSelected q packed key row → (more : List Piece) → AreRows q (packed ∷ []) more → Told q bound key (λ old new. AreAdvanced q bound old row new) more
 row_told q bound packed key row formed selected more are =
     record {
@@ -214,6 +205,9 @@ group_told q bound m key states more are =
       kept = tt;
       moves = λ k old new found moved low mine. moved.moved k m found one.0.1 low mine one.2.states;
     }
+
+abbrev pub entry_told : (q : Query) (bound : ℕ) (key states : List ℕ) (more : List Piece) → (most : ℕ) × AreOfRun q most ((key, states) ∷ []) more → Told q bound key (λ old new. AreCombined (functions q) bound old states new) more
+entry_told q bound key states more are = group_told q bound are.0 key states more are.1
 
 -- what was read, and one piece more, count few enough rows
 pub can_count : (q : Query) (m : ℕ) (ps : List Piece) (p : Piece) → CountUpTo q m (ps ++ p ∷ []) → rows_at q (piece_key q p) ps + weight p ≤ m
@@ -394,14 +388,6 @@ all_read plan hf Are old i now h short pieces more ahead todo holds are count =
     subst (λ more. Holds (meaning plan.query.now) (setting_of plan hf) now (pieces ++ more) ahead todo) (take_all i more (short more are)) (h pieces more ahead todo holds are count)
 
 -- ---- the pieces of rows, and of a run
-
-pub row_is_at : (q : Query) (packed : List (Vec ℕ Global)) (i : ℕ) (bytes : Vec ℕ Global) (one : List ℕ) → i < length packed → bytes ≡ slice_index_or packed i bytes → one ≡ bytes.items → IsAt (AreRows q (bytes_of packed)) i (AreRows q (one ∷ []))
-row_is_at q packed i bytes one low is same more (rows, are, made) =
-    let found = row_at q.kinds packed rows i bytes are low is in
-    (Of_row found.row, ap (λ more. slice_get more i) made ∙ get_mapped Of_row rows i found.row found.at, (found.row ∷ [], record { of_kinds = (found.has, tt); packings_are = ap (λ one. one ∷ []) (same ∙ found.is) }, refl))
-
-pub rows_short : (q : Query) (packed : List (Vec ℕ Global)) (more : List Piece) → AreRows q (bytes_of packed) more → length more ≡ length packed
-rows_short q packed more (rows, are, made) = ap length made ∙ length-map rows Of_row ∙ sym (rows_long q.kinds packed rows are)
 
 pub flat_is_at : (q : Query) (packed : List (List ℕ)) (i : ℕ) (one : List ℕ) → slice_get packed i ≡ Some one → IsAt (AreRows q packed) i (AreRows q (one ∷ []))
 flat_is_at q packed i one at more (rows, are, made) =

@@ -1,10 +1,11 @@
 -- What the passes that were made took, and what those that are to be made will take, is what the cost says.
-use Rattle.std.specs.Prelude.{◌≡◌, refl, ℕ, zero, suc, ◌+◌, ◌≤◌, ◌-◌, ◌/◌, ◌%◌, ◌^◌, ◌==◌, nat_lt, max, true, false, cond, not, List, [], ◌∷◌, ◌++◌, map, filter, flat_map, length}
+use Rattle.std.specs.Prelude.{◌≡◌, refl, ℕ, zero, suc, ◌+◌, ◌*◌, ◌<◌, ◌≤◌, ◌-◌, ◌/◌, ◌%◌, ◌^◌, ◌==◌, nat_lt, max, true, false, cond, not, List, [], ◌∷◌, ◌++◌, map, filter, flat_map, length}
 use Rattle.std.specs.List.{AllByRecursion, sum_by, range_with_len}
 use Rattle.std.proofs.Common.{sym, ◌∙◌, ap, subst, arith, append-nil}
 use Rattle.std.proofs.lemmas.Bool.Decides.{nat_tests}
 use Rattle.std.proofs.lemmas.List.Elements.{recursion_from_All}
 use Rattle.std.proofs.lemmas.List.{length-append}
+use Rattle.std.proofs.lemmas.Nat.{mul-le}
 use Rattle.std.proofs.lemmas.List.Sums.{sum_by-cons}
 use Rattle.std.proofs.lemmas.List.Sorted.{IsPermutation-append_comm}
 use Rattle.query_checks.proofs.DistinctLaws.{all_append}
@@ -290,13 +291,20 @@ adds_twice a b c m n first second =
     record { passes = omega (arith, p, q); spilled = omega (arith, s, t); most_held = omega (arith, u, v) }
 
 -- what was counted on top of nothing
-pub is_work : (none work : Work) (c : Cost) → none ≡ record { passes = 0; spilled = 0; most_held = 0 } → AddsUp none c work → IsWork work c
-is_work none work c nothing adds =
+pub is_work : (none work : Work) (c : Cost) → none ≡ record { passes = 0; spilled = 0; most_held = 0 } → AddsUp none c work → c.passes ≤ 18446744073709551615 → c.spilled ≤ 340282366920938463463374607431768211455 → IsWork work c
+is_work none work c nothing adds few short =
     let from : AddsUp (record { passes = 0; spilled = 0; most_held = 0 }) c work = subst (λ old. AddsUp old c work) nothing adds in
     let p = from.passes in
     let s = from.spilled in
     let m = from.most_held in
-    record { passes = omega (arith, p); spilled = omega (arith, s); most_held = omega (arith, m) }
+    record { passes = omega (arith, p, few); spilled = omega (arith, s, short); most_held = omega (arith, m) }
+
+-- the counters have room for the cost of fewer than 2^58 records
+pub cost_counts : (c : Cost) (records : ℕ) → c.passes ≤ max 1 records → c.spilled ≤ c.passes * records → records < 2 ^ 58 → (c.passes ≤ 18446744073709551615) × (c.spilled ≤ 340282366920938463463374607431768211455)
+cost_counts c records few some low =
+    let passes : c.passes ≤ 2 ^ 58 = omega (arith, few, low) in
+    let most = mul-le c.passes records (2 ^ 58) (2 ^ 58) passes (omega (arith, low)) in
+    (omega (arith, few, low), omega (arith, some, most))
 
 pub work_few : (work : Work) (c : Cost) (most : ℕ) → IsWork work c → c.passes ≤ most → work.passes ≤ most
 work_few work c most is few = let p = is.passes in omega (arith, p, few)

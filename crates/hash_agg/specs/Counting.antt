@@ -1,5 +1,5 @@
 -- What is counted of aggregations that come one after the other. All of this is our own.
-use Rattle.std.specs.Prelude.{◌≡◌, ℕ, ◌+◌, List, [], ◌∷◌}
+use Rattle.std.specs.Prelude.{◌≡◌, ℕ, ◌+◌, ◌≤◌, max, List, [], ◌∷◌}
 use Rattle.grouping_model.specs.Query.{Query}
 use Rattle.aggregation_cost.specs.Space.{Setting}
 use Rattle.aggregation_cost.specs.Cost.{Cost, cost}
@@ -8,7 +8,7 @@ use Rattle.hash_agg.specs.Inputs.{Brought}
 use Rattle.hash_agg.specs.Means.{MeansState}
 use Rattle.group_runs.specs.Standing.{states_width}
 use Rattle.hash_agg.specs.Passes.{setting_for, records_of, all_pieces}
-use Rattle.hash_agg.specs.Waiting.{AddsUp}
+use Rattle.hash_agg.specs.Waiting.{AddsUp, IsWork}
 use Rattle.hash_agg.specs.declared.work.Work.{Work}
 
 -- the limit and the hash function of some means, for the groups of a query
@@ -18,6 +18,15 @@ setting_by hash_of query means = setting_for query means.limit (hash_of means.ha
 -- what an aggregation of inputs costs that give these rows and groups
 abbrev pub cost_given : Query → Setting → List Brought → List Given → Cost
 cost_given query setting inputs givens = cost setting (records_of query (states_width query) (all_pieces inputs givens))
+
+-- it makes so many passes at most, and one
+abbrev pub HasFewPasses : Query → Setting → List Brought → ℕ → Type 0
+HasFewPasses query setting inputs most = (givens : List Given) → AllGive query inputs givens → (cost_given query setting inputs givens).passes ≤ max 1 most
+
+-- an aggregation of inputs took just what it costs: its work is told, and its pages are written beside others
+pub record Took (query : Query) (setting : Setting) (inputs : List Brought) (told : Work) (writes written : ℕ) : Type 0 where
+  pub work : (givens : List Given) → AllGive query inputs givens → IsWork told (cost_given query setting inputs givens)
+  pub pages : (givens : List Given) → AllGive query inputs givens → written ≡ writes + (cost_given query setting inputs givens).pages
 
 -- an aggregation of inputs was counted: what it costs was added to the work, and its pages to those that were written
 pub record IsCounted (query : Query) (setting : Setting) (inputs : List Brought) (old : Work) (writes : ℕ) (new : Work) (written : ℕ) : Type 0 where

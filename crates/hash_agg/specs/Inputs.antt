@@ -10,6 +10,8 @@ use Rattle.packed_rows.specs.View.{bytes_of}
 use Rattle.having_filter.specs.Kept.{key_kinds}
 use Rattle.hash_agg.specs.declared.input.Input.{Input}
 use Rattle.hash_agg.specs.declared.input.Input.TheVariants.{Rows, Flat, Groups}
+use Rattle.hash_agg.specs.declared.input.Packings.{Packings}
+use Rattle.hash_agg.specs.declared.input.Packings.TheVariants.{Apart, OnEnd}
 use Rattle.group_runs.specs.Runs.{Entry, packed_keys}
 use Rattle.group_runs.specs.Standing.{AreGroups, IsRun}
 
@@ -23,6 +25,11 @@ abbrev pub brought : Input → Brought
 brought (Rows packed) = Packed (bytes_of packed.now)
 brought (Flat packed) = Packed packed.now
 brought (Groups run rows) = Counted run.now rows
+
+-- packed rows, as a list
+abbrev pub packings_in : Packings → List (List ℕ)
+packings_in (Apart packed) = bytes_of packed.now
+packings_in (OnEnd packed) = packed.now
 
 -- the members of some lists of rows, one list after the other
 abbrev pub on_end : List (List Row) → List Row
@@ -41,6 +48,14 @@ rows_in (Counted run most) = most
 -- the same of all inputs together
 abbrev pub all_rows : List Brought → ℕ
 all_rows inputs = sum_by rows_in inputs
+
+-- how many groups an input has, and all inputs together
+abbrev pub groups_in : Brought → ℕ
+groups_in (Packed rows) = 0
+groups_in (Counted run most) = length run
+
+abbrev pub all_groups : List Brought → ℕ
+all_groups inputs = sum_by groups_in inputs
 
 -- what may be aggregated: packed rows of the query's table, or a run of the query
 abbrev pub IsInput : Query → Brought → Type 0

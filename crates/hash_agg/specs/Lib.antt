@@ -5,3 +5,4 @@ pub mod Passes
 pub mod Waiting
 pub mod Means
 pub mod Counting
+pub mod Added

@@ -1,7 +1,7 @@
 -- A pass of an aggregation: groups in a table, and records that are left for the next pass. All of this is our own.
 use Rattle.std.specs.Borrow.{Bor}
 use Rattle.std.specs.Int.{w16, to_be_bytes}
-use Rattle.std.specs.Prelude.{◌≡◌, ◌≢◌, ℕ, ◌+◌, ◌≤◌, ◌<◌, ◌⊎◌, if◌then◌else◌, List, [], ◌∷◌, ◌++◌, length, map, flat_map, sum_by, take, slice_get, slice_index, slice_set, Some, None}
+use Rattle.std.specs.Prelude.{◌≡◌, ◌≢◌, ℕ, ◌+◌, ◌≤◌, ◌<◌, ◌⊎◌, if◌then◌else◌, true, List, [], ◌∷◌, ◌++◌, length, map, flat_map, sum_by, take, slice_get, slice_index, slice_set, Some, None}
 use Rattle.byteorder.specs.Endian.{big_from}
 use Rattle.context_tree.specs.Tree.{TreeState}
 use Rattle.aggregation_cost.specs.Cost.{greatest}
@@ -28,7 +28,7 @@ use Rattle.having_filter.specs.Meaning.{meaning}
 use Rattle.hash_agg.specs.declared.plan.Plan.{Plan}
 use Rattle.group_runs.specs.Runs.{Entry, packed_keys}
 use Rattle.group_runs.specs.Standing.{AreStates, StandsFor, AreGroups, states_width}
-use Rattle.hash_agg.specs.Inputs.{Brought, Packed, Counted, ArePackings, rows_in}
+use Rattle.hash_agg.specs.Inputs.{Brought, ArePackings, rows_in}
 use Rattle.group_runs.specs.Adding.{row_added, group_added}
 use Rattle.hash_agg.specs.Adding.{Given, Of_rows, Of_groups}
 
@@ -43,11 +43,12 @@ pub data Piece : Type 0 where
 abbrev pub group_record : List ℕ → List ℕ → List ℕ
 group_record key states = to_be_bytes w16 (length key) ++ (key ++ states)
 
--- a record on a tape is that of a row; or of a group. Its hash is that of its key
+-- a record on a tape is that of a row of which WHERE is true, since no other is spilled; or of a group. Its hash is that of its key
 pub record IsRowRecord (query : Query) (hash : List ℕ → ℕ) (one : Record) (row : Row) : Type 0 where
   pub tag : one.tag ≡ 0
   pub of_kinds : HasKinds query.kinds row
   pub bytes : one.bytes ≡ packing row
+  pub met : is_met (column_of row) query.condition ≡ true
   pub hashed : one.hash ≡ hash (packing (key_of query row))
 
 pub record IsGroupRecord (query : Query) (hash : List ℕ → ℕ) (one : Record) (group : Group) (most : ℕ) : Type 0 where
@@ -169,7 +170,7 @@ setting_for query limit hash = record { limit = limit; width = states_width quer
 -- which each group has as many bytes
 abbrev pub cost_records : Query → ℕ → Piece → List cost.Record
 cost_records query width (Of_row row) = if is_met (column_of row) query.condition then cost.of_row (packing (key_of query row)) (packing row) ∷ [] else []
-cost_records query width (Of_group group most) = record { key = packing group.0; on_tape = 9 + (2 + length (packing group.0) + width) } ∷ []
+cost_records query width (Of_group group most) = cost.of_group (packing group.0) width ∷ []
 
 abbrev pub records_of : Query → ℕ → List Piece → List cost.Record
 records_of query width pieces = flat_map (cost_records query width) pieces
@@ -284,16 +285,12 @@ ReadsSome plan hash Are number old new =
 abbrev pub IsAt : (List Piece → Type 0) → ℕ → (List Piece → Type 0) → Type 0
 IsAt Are place One = (more : List Piece) → Are more → (piece : Piece) × (slice_get more place ≡ Some piece) × One (piece ∷ [])
 
--- the pieces of packed rows; of the groups of a run; and of what an input gives
+-- the pieces of packed rows; and of the groups of a run
 abbrev pub AreRows : Query → List (List ℕ) → List Piece → Type 0
 AreRows query packed more = (rows : List Row) × ArePackings query.kinds packed rows × (more ≡ map Of_row rows)
 
 abbrev pub AreOfRun : Query → ℕ → List Entry → List Piece → Type 0
 AreOfRun query most run more = (groups : List Group) × AreGroups query most run groups × (more ≡ map (λ group. Of_group group most) groups)
-
-abbrev pub AreOf : Query → Brought → List Piece → Type 0
-AreOf query (Packed packed) more = AreRows query packed more
-AreOf query (Counted run most) more = AreOfRun query most run more
 
 -- what an input gives, as pieces; and what all give
 abbrev pub given_pieces : Brought → Given → List Piece
@@ -331,12 +328,6 @@ Brings query Are old before new after = (more : List Piece) → Are more → tot
 -- the pages that were written meanwhile are those that became full on the lists of the pass
 abbrev pub WritesPages : ℕ → ListsState → ℕ → ListsState → Type 0
 WritesPages written before now after = now + written_pages before ≡ written + written_pages after
-
--- what is read stays as it is, and so is what is left to later passes
-pub record KeepsLists (before after : ListsState) : Type 0 where
-  pub source : after.source ≡ before.source
-  pub todo : after.todo ≡ before.todo
-  pub level : after.level ≡ before.level
 
 -- ---- runs
 

@@ -77,6 +77,6 @@ pass_cost width entries spilled pages = record { passes = 1; spilled = spilled; 
 
 -- what was counted is a cost
 pub record IsWork (work : Work) (cost : Cost) : Type 0 where
-  pub passes : work.passes ≡ min cost.passes 18446744073709551615
-  pub spilled : work.spilled ≡ min cost.spilled 340282366920938463463374607431768211455
+  pub passes : work.passes ≡ cost.passes
+  pub spilled : work.spilled ≡ cost.spilled
   pub most_held : work.most_held ≡ cost.most_held

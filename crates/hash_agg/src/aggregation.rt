@@ -1,19 +1,15 @@
 //! The aggregation of inputs.
 
-ghost use Rattle.std.specs.Prelude.{◌≡◌, ◌≢◌, ◌+◌, ◌<◌, ◌≤◌, ◌^◌, max, [], false, List, map, length, IsTrue, IfOk, IfErr, OnOk};
+ghost use Rattle.std.specs.Prelude.{◌≡◌, ◌≢◌, ◌<◌, ◌≤◌, ◌^◌, max, map, length, IsTrue, IfOk, IfErr, OnOk};
 ghost use Rattle.std.specs.List.{AllByRecursion};
-ghost use Rattle.aggregation_cost.specs.Cost.{Cost, both, cost};
-ghost use Rattle.spill_lists.specs.Lists.{LeftList};
-ghost use Rattle.spill_lists.specs.Standing.{HasLists, Moves, IsReadRefusal, waiting_number};
+ghost use Rattle.spill_tapes.specs.Calls.{failed};
+ghost use Rattle.spill_tapes.specs.Disk.{Leaves};
+ghost use Rattle.spill_lists.specs.Errors.{spill_faults};
 ghost use Rattle.spill_lists.specs.declared.error.SpillError.TheVariants.{TapeDamaged};
 ghost use Rattle.having_filter.specs.Meaning.{meaning};
-ghost use Rattle.hash_agg.specs.Adding.{Given, AllGive};
-ghost use Rattle.hash_agg.specs.Inputs.{brought, rows_in, all_rows, IsInput, IsAggregate, IsRunOver};
-ghost use Rattle.group_runs.specs.Runs.{Rises};
-ghost use Rattle.group_runs.specs.Standing.{states_width};
-ghost use Rattle.hash_agg.specs.Passes.{Piece, IsPlan, IsSameTable, AreSafe, CountUpTo, Stands, entries_of, setting_of, setting_for, records_of, all_pieces, brought_by};
-ghost use Rattle.hash_agg.specs.Waiting.{Waits, Costs, AddsUp, IsWork};
-ghost use Rattle.hash_agg.specs.declared.work.Work.{Work};
+ghost use Rattle.hash_agg.specs.Added.{AreInputs, Continues, CountsWithin, IsFirst, IsOver, IsSafeRun, MadeFirst, MadeLater, query_of};
+ghost use Rattle.hash_agg.specs.Counting.{HasFewPasses, IsCounted, Took, setting_by};
+ghost use Rattle.hash_agg.specs.Inputs.{brought, all_rows, all_groups, IsInput, IsAggregate, IsRunOver};
 
 use crate::input::Input;
 use crate::means::Means;
@@ -56,18 +52,15 @@ pub fn aggregate<H: KeyHash + Copy, D: TapeDisk>(
 ) -> Result<(Run, Work), SpillError>
     requires inputs { AllByRecursion (IsInput (meaning query.now)) (map brought inputs.now) }
     requires few { all_rows (map brought inputs.now) < 2 ^ 57 }
+    requires groups { all_groups (map brought inputs.now) < 2 ^ 57 }
     ensures aggregate { IfOk result (λ done. IsTrue (D.honest disk.old) → IsAggregate (meaning query.now) (map brought inputs.now) done.0) }
     ensures run { IfOk result (λ done. IsRunOver (meaning query.now) (map brought inputs.now) done.0) }
-    ensures work { IfOk result (λ done. IsTrue (D.honest disk.old) → (givens : List Given) → AllGive (meaning query.now) (map brought inputs.now) givens →
-        IsWork done.1 (cost (setting_for (meaning query.now) means.now.limit (H.hash_of means.now.hash)) (records_of (meaning query.now) (states_width (meaning query.now)) (all_pieces (map brought inputs.now) givens)))) }
-    ensures pages { OnOk result (IsTrue (D.honest disk.old) → (givens : List Given) → AllGive (meaning query.now) (map brought inputs.now) givens →
-        D.writes disk.new ≡ D.writes disk.old + (cost (setting_for (meaning query.now) means.now.limit (H.hash_of means.now.hash)) (records_of (meaning query.now) (states_width (meaning query.now)) (all_pieces (map brought inputs.now) givens))).pages) }
+    ensures took { IfOk result (λ done. IsTrue (D.honest disk.old) → Took (meaning query.now) (setting_by H.hash_of (meaning query.now) means.now) (map brought inputs.now) done.1 (D.writes disk.old) (D.writes disk.new)) }
     ensures passes { IfOk result (λ done. 1 ≤ done.1.passes) }
     ensures few { IfOk result (λ done. IsTrue (D.honest disk.old) → done.1.passes ≤ max 1 (length done.0)) }
     ensures held { IfOk result (λ done. done.1.most_held ≤ means.now.limit) }
     ensures undamaged { IfErr result (λ error. IsTrue (D.honest disk.old) → error ≢ TapeDamaged) }
-    ensures refused { IfErr result (IsReadRefusal (D.failures disk.old) (D.failures disk.new)) }
-    ensures disk { Moves (D.failures disk.old) (D.failures disk.new) (D.writes disk.old) (D.writes disk.new) (D.honest disk.old) (D.honest disk.new) }
+    ensures disk { Leaves D.TapeDisk (failed spill_faults result) disk.old disk.new }
 {
     let mut work = Work::none();
     let run = aggregated(alloc, query, inputs, means, disk, &mut work)?;
@@ -87,23 +80,17 @@ pub(crate) fn aggregated<H: KeyHash + Copy, D: TapeDisk>(
     requires few { all_rows (map brought inputs.now) < 2 ^ 57 }
     ensures aggregate { IfOk result (λ run. IsTrue (D.honest disk.old) → IsAggregate (meaning query.now) (map brought inputs.now) run) }
     ensures run { IfOk result (IsRunOver (meaning query.now) (map brought inputs.now)) }
-    ensures work { OnOk result (IsTrue (D.honest disk.old) → (givens : List Given) → AllGive (meaning query.now) (map brought inputs.now) givens →
-        AddsUp work.old (cost (setting_for (meaning query.now) means.now.limit (H.hash_of means.now.hash)) (records_of (meaning query.now) (states_width (meaning query.now)) (all_pieces (map brought inputs.now) givens))) work.new) }
-    ensures pages { OnOk result (IsTrue (D.honest disk.old) → (givens : List Given) → AllGive (meaning query.now) (map brought inputs.now) givens →
-        D.writes disk.new ≡ D.writes disk.old + (cost (setting_for (meaning query.now) means.now.limit (H.hash_of means.now.hash)) (records_of (meaning query.now) (states_width (meaning query.now)) (all_pieces (map brought inputs.now) givens))).pages) }
-    ensures passes { OnOk result (1 ≤ work.new.passes) }
-    ensures few { IfOk result (λ run. IsTrue (D.honest disk.old) → (givens : List Given) → AllGive (meaning query.now) (map brought inputs.now) givens →
-        (cost (setting_for (meaning query.now) means.now.limit (H.hash_of means.now.hash)) (records_of (meaning query.now) (states_width (meaning query.now)) (all_pieces (map brought inputs.now) givens))).passes ≤ max 1 (length run)) }
-    ensures held { OnOk result (work.old.most_held ≤ means.now.limit → work.new.most_held ≤ means.now.limit) }
+    ensures counted { OnOk result (IsTrue (D.honest disk.old) → IsCounted (meaning query.now) (setting_by H.hash_of (meaning query.now) means.now) (map brought inputs.now) work.old (D.writes disk.old) work.new (D.writes disk.new)) }
+    ensures few { IfOk result (λ run. IsTrue (D.honest disk.old) → HasFewPasses (meaning query.now) (setting_by H.hash_of (meaning query.now) means.now) (map brought inputs.now) (length run)) }
+    ensures within { OnOk result (CountsWithin means.now.limit work.old work.new) }
     ensures undamaged { IfErr result (λ error. IsTrue (D.honest disk.old) → error ≢ TapeDamaged) }
-    ensures refused { IfErr result (IsReadRefusal (D.failures disk.old) (D.failures disk.new)) }
-    ensures disk { Moves (D.failures disk.old) (D.failures disk.new) (D.writes disk.old) (D.writes disk.new) (D.honest disk.old) (D.honest disk.new) }
+    ensures disk { Leaves D.TapeDisk (failed spill_faults result) disk.old disk.new }
 {
     let plan = Plan::new(alloc, query, rows_of_all(inputs), means.limit())?;
     let mut buffers = Buffers::new(alloc);
-    let mut pass = Pass::new(alloc, &plan, means.hash(), disk)?;
-    let run = first_pass(alloc, disk, &plan, &mut pass, inputs, &mut buffers, work)?;
-    later_passes(alloc, disk, &plan, &mut pass, run, &mut buffers, work)
+    let mut pass = Pass::new(alloc, plan, means.hash(), disk)?;
+    let run = first_pass(alloc, disk, &mut pass, inputs, &mut buffers, work)?;
+    later_passes(alloc, disk, &mut pass, run, &mut buffers, work)
 }
 
 /// How many rows all inputs have, or their states count at most.
@@ -122,46 +109,20 @@ fn rows_of_all(inputs: &[Input<'_>]) -> u64
 fn first_pass<H: KeyHash + Drop, D: TapeDisk>(
     alloc: Global,
     disk: &mut D,
-    plan: &Plan<'_>,
-    pass: &mut Pass<H>,
+    pass: &mut Pass<'_, H>,
     inputs: &[Input<'_>],
     buffers: &mut Buffers,
     work: &mut Work,
 ) -> Result<Run, SpillError>
-    requires plan { IsPlan plan.now }
-    requires inputs { AllByRecursion (IsInput (meaning plan.now.query.now)) (map brought inputs.now) }
-    requires few { all_rows (map brought inputs.now) ≤ plan.now.most }
-    requires width { pass.old.groups.table.width ≡ length plan.now.first.items }
-    requires alive { pass.old.lists.tapes.is_dead ≡ false }
-    requires empty { entries_of pass.old.groups ≡ [] }
-    requires unheld { pass.old.groups.most_held ≡ 0 }
-    requires none { HasLists (D.last disk.old) pass.old.lists [] [] [] }
-    requires parts { pass.old.lists.parts ≡ [] }
-    requires source { pass.old.lists.source ≡ [] }
-    requires todo { pass.old.lists.todo ≡ [] }
-    requires level { pass.old.lists.level ≡ 0 }
-    ensures waits { IfOk result (λ run. (givens : List Given) → AllGive (meaning plan.now.query.now) (map brought inputs.now) givens →
-        (todo : List LeftList) × HasLists (D.last disk.new) pass.new.lists [] [] todo × Waits (meaning plan.now.query.now) (H.hash_of pass.old.groups.table.hash) (all_pieces (map brought inputs.now) givens) run todo
-        × (made : Cost) × Costs (meaning plan.now.query.now) (setting_of plan.now (H.hash_of pass.old.groups.table.hash)) (all_pieces (map brought inputs.now) givens) made todo × AddsUp work.old made work.new × (D.writes disk.new ≡ D.writes disk.old + made.pages)) }
-    ensures safe { IfOk result (AreSafe (meaning plan.now.query.now) plan.now.most) }
-    ensures rises { IfOk result Rises }
-    ensures few { IfOk result (λ run. (givens : List Given) → AllGive (meaning plan.now.query.now) (map brought inputs.now) givens →
-        length run + waiting_number pass.new.lists ≤ brought_by (meaning plan.now.query.now) (all_pieces (map brought inputs.now) givens)) }
-    ensures empty { OnOk result (entries_of pass.new.groups ≡ []) }
-    ensures counted { OnOk result (1 ≤ work.new.passes) }
-    ensures held { OnOk result (work.old.most_held ≤ plan.now.limit → work.new.most_held ≤ plan.now.limit) }
-    ensures parts { OnOk result (pass.new.lists.parts ≡ []) }
-    ensures source { OnOk result (pass.new.lists.source ≡ []) }
-    ensures table { IsSameTable plan.now.limit pass.old.groups pass.new.groups }
-    ensures unheld { OnOk result (pass.new.groups.most_held ≡ 0) }
-    ensures alive { OnOk result (pass.new.lists.tapes.is_dead ≡ false) }
+    requires first { IsFirst D.TapeDisk pass.old disk.old }
+    requires inputs { AreInputs (query_of pass.old) pass.old.plan.most (map brought inputs.now) }
+    ensures made { IfOk result (λ run. MadeFirst H.hash_of D.TapeDisk (map brought inputs.now) pass.old disk.old work.old run pass.new disk.new work.new) }
     ensures undamaged { IfErr result (λ error. error ≢ TapeDamaged) }
-    ensures refused { IfErr result (IsReadRefusal (D.failures disk.old) (D.failures disk.new)) }
-    ensures disk { Moves (D.failures disk.old) (D.failures disk.new) (D.writes disk.old) (D.writes disk.new) (D.honest disk.old) (D.honest disk.new) }
+    ensures disk { Leaves D.TapeDisk (failed spill_faults result) disk.old disk.new }
 {
-    let mut row = Vec::with_capacity(alloc, plan.query.schema().width())?;
+    let mut row = Vec::with_capacity(alloc, pass.plan.query.schema().width())?;
     for input in inputs {
-        pass.add_input(disk, plan, *input, &mut row, buffers)?;
+        pass.add_input(disk, *input, &mut row, buffers)?;
     }
     pass.finish(alloc, disk, work)
 }
@@ -170,43 +131,22 @@ fn first_pass<H: KeyHash + Drop, D: TapeDisk>(
 fn later_passes<H: KeyHash + Drop, D: TapeDisk>(
     alloc: Global,
     disk: &mut D,
-    plan: &Plan<'_>,
-    pass: &mut Pass<H>,
+    pass: &mut Pass<'_, H>,
     run: Run,
     buffers: &mut Buffers,
     work: &mut Work,
 ) -> Result<Run, SpillError>
-    requires plan { IsPlan plan.now }
-    requires width { pass.old.groups.table.width ≡ length plan.now.first.items }
-    requires alive { pass.old.lists.tapes.is_dead ≡ false }
-    requires empty { entries_of pass.old.groups ≡ [] }
-    requires unheld { pass.old.groups.most_held ≡ 0 }
-    requires parts { pass.old.lists.parts ≡ [] }
-    requires source { pass.old.lists.source ≡ [] }
-    requires rises { Rises run }
-    requires safe { AreSafe (meaning plan.now.query.now) plan.now.most run }
+    requires over { IsOver pass.old }
+    requires run { IsSafeRun (query_of pass.old) pass.old.plan.most run }
     requires counted { 1 ≤ work.old.passes }
-    ensures stands { IfOk result (λ all. IsTrue (D.honest disk.old) → (pieces : List Piece) (todo : List LeftList) (made : Cost) → HasLists (D.last disk.old) pass.old.lists [] [] todo →
-        Waits (meaning plan.now.query.now) (H.hash_of pass.old.groups.table.hash) pieces run todo → CountUpTo (meaning plan.now.query.now) plan.now.most pieces →
-        Costs (meaning plan.now.query.now) (setting_of plan.now (H.hash_of pass.old.groups.table.hash)) pieces made todo →
-        Stands (meaning plan.now.query.now) (H.hash_of pass.old.groups.table.hash) pieces all []
-        × (more : Cost) × (both made more ≡ cost (setting_of plan.now (H.hash_of pass.old.groups.table.hash)) (records_of (meaning plan.now.query.now) (length plan.now.first.items) pieces))
-        × ((start : Work) → AddsUp start made work.old → AddsUp start (both made more) work.new) × (D.writes disk.new ≡ D.writes disk.old + more.pages)) }
-    ensures safe { IfOk result (AreSafe (meaning plan.now.query.now) plan.now.most) }
-    ensures rises { IfOk result Rises }
-    ensures few { IfOk result (λ all. length all ≤ length run + waiting_number pass.old.lists) }
-    ensures counted { OnOk result (1 ≤ work.new.passes) }
-    ensures held { OnOk result (work.old.most_held ≤ plan.now.limit → work.new.most_held ≤ plan.now.limit) }
-    ensures undamaged { IfErr result (λ error. IsTrue (D.honest disk.old) → (pieces : List Piece) (todo : List LeftList) (made : Cost) → HasLists (D.last disk.old) pass.old.lists [] [] todo →
-        Waits (meaning plan.now.query.now) (H.hash_of pass.old.groups.table.hash) pieces run todo → CountUpTo (meaning plan.now.query.now) plan.now.most pieces →
-        Costs (meaning plan.now.query.now) (setting_of plan.now (H.hash_of pass.old.groups.table.hash)) pieces made todo → error ≢ TapeDamaged) }
-    ensures refused { IfErr result (IsReadRefusal (D.failures disk.old) (D.failures disk.new)) }
-    ensures disk { Moves (D.failures disk.old) (D.failures disk.new) (D.writes disk.old) (D.writes disk.new) (D.honest disk.old) (D.honest disk.new) }
+    ensures made { IfOk result (λ all. MadeLater H.hash_of D.TapeDisk pass.old disk.old run work.old all disk.new work.new) }
+    ensures undamaged { IfErr result (λ error. Continues H.hash_of D.TapeDisk pass.old disk.old run work.old (λ pieces start writes. error ≢ TapeDamaged)) }
+    ensures disk { Leaves D.TapeDisk (failed spill_faults result) disk.old disk.new }
 {
     let mut others = Vec::new(alloc);
     let mut bytes = Vec::new(alloc);
     while pass.lists.begin_pass(disk) {
-        pass.add_list(alloc, disk, plan, &mut bytes, buffers)?;
+        pass.add_list(alloc, disk, &mut bytes, buffers)?;
         let more = pass.finish(alloc, disk, work)?;
         others.push(more)?;
     }

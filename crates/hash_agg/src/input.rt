@@ -1,7 +1,7 @@
 //! What is aggregated.
 
-ghost use Rattle.std.specs.Prelude.{◌≡◌};
-ghost use Rattle.hash_agg.specs.Inputs.{brought, rows_in};
+ghost use Rattle.std.specs.Prelude.{◌≡◌, ◌<◌, Some, length, slice_get};
+ghost use Rattle.hash_agg.specs.Inputs.{brought, rows_in, packings_in};
 
 use flat_rows::PackedRows;
 use group_runs::Run;
@@ -26,6 +26,39 @@ impl<'a> Input<'a> {
             Input::Rows(rows) => rows.len() as u64,
             Input::Flat(rows) => rows.len() as u64,
             Input::Groups { rows, .. } => *rows,
+        }
+    }
+}
+
+/// Packed rows: each by itself, or one behind the other in one run of bytes.
+#[derive(Drop)]
+pub(crate) enum Packings<'a> {
+    Apart(&'a [Vec<u8>]),
+    OnEnd(&'a PackedRows),
+}
+
+impl<'a> Packings<'a> {
+    /// How many rows there are.
+    pub(crate) fn len(&self) -> usize
+        ensures { result ≡ length (packings_in self.now) }
+    {
+        match self {
+            Packings::Apart(rows) => rows.len(),
+            Packings::OnEnd(rows) => rows.len(),
+        }
+    }
+
+    /// The row at a place.
+    pub(crate) fn row(&self, place: usize) -> &'a [u8]
+        requires { place < length (packings_in self.now) }
+        ensures { slice_get (packings_in self.now) place ≡ Some result.now }
+    {
+        match self {
+            Packings::Apart(rows) => match rows.get(place) {
+                Some(row) => row,
+                None => unreachable!(),
+            },
+            Packings::OnEnd(rows) => rows.row(place),
         }
     }
 }

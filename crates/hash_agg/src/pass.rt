@@ -1,32 +1,23 @@
 //! A pass: the groups that its table takes, and the records that it spills to lists for later passes.
 
-ghost use Rattle.std.specs.Prelude.{◌≡◌, ◌≢◌, ◌+◌, ◌<◌, ◌≤◌, ◌++◌, ◌∷◌, ◌&&◌, max, ℕ, List, [], true, false, is_some, length, IsTrue, IfOk, IfErr, IfSome, OnOk};
-ghost use Rattle.std.specs.List.Sorted.{IsPermutation};
-ghost use Rattle.spill_tapes.specs.Records.{Record};
-ghost use Rattle.spill_lists.specs.Lists.{LeftList, lists, left_by};
-ghost use Rattle.spill_lists.specs.Standing.{HasLists, BeginsLast, Moves, IsReadRefusal, IsSpillRefusal, spilled_number, ahead_number, waiting_number, pages_of, written_pages};
+ghost use Rattle.std.specs.Prelude.{◌≡◌, ◌≢◌, ◌≤◌, ℕ, List, [], ◌∷◌, is_some, length, IfOk, IfErr, IfSome, OnOk};
+ghost use Rattle.spill_tapes.specs.Calls.{failed};
+ghost use Rattle.spill_tapes.specs.Disk.{Leaves};
+ghost use Rattle.spill_lists.specs.Errors.{spill_faults};
 ghost use Rattle.spill_lists.specs.declared.error.SpillError.TheVariants.{TapeDamaged};
-ghost use Rattle.aggregation_cost.specs.Passes.{is_empty};
-ghost use Rattle.aggregation_cost.specs.Space.{need, fits};
-ghost use Rattle.grouping_model.specs.Condition.{is_met};
-ghost use Rattle.grouping_model.specs.Datum.{Row, HasKinds};
-ghost use Rattle.grouping_model.specs.Grouping.{Group, column_of, key_of};
-ghost use Rattle.packed_rows.specs.Packing.{packing};
-ghost use Rattle.packed_rows.specs.View.{bytes_of, row_of};
-ghost use Rattle.having_filter.specs.Meaning.{meaning};
-ghost use Rattle.hash_agg.specs.Inputs.{brought, IsInput, rows_in};
-ghost use Rattle.group_runs.specs.Runs.{Rises, packed_keys};
+ghost use Rattle.grouping_model.specs.Grouping.{Group};
+ghost use Rattle.packed_rows.specs.View.{row_of};
 ghost use Rattle.group_runs.specs.Standing.{StandsFor, IsRun};
-ghost use Rattle.hash_agg.specs.Passes.{Piece, entries_of, HasPlace, IsPlan, IsSameTable, standing, setting_of, Holds, Reads, CanRead, AreSafe, Proceeds, Brings, WritesPages, KeepsLists, CountUpTo, Stands, ArePieces, AreRows, AreOfRun, AreOf, total, ReadsList, CanReadList};
-ghost use Rattle.hash_agg.specs.Waiting.{AddsUp, pass_cost};
+ghost use Rattle.hash_agg.specs.Inputs.{brought, packings_in};
+ghost use Rattle.hash_agg.specs.Passes.{IsPlan};
+ghost use Rattle.hash_agg.specs.Added.{Packed_rows, Entries, On_tape, Added, AddedOne, AddedList, AreInputs, CountsPass, Finished, HasRoom, IsFirst, IsFresh, IsGenuine, IsReady, IsSelected, Refused, RefusedList, enters, query_of, source_of};
 
 use crate::groups::Groups;
-use crate::input::Input;
+use crate::input::{Input, Packings};
 use crate::plan::Plan;
 use crate::record::{GROUP, ROW, split_group, write_group};
 use crate::work::Work;
 use agg_protocol::BadState;
-use flat_rows::PackedRows;
 use group_runs::Run;
 use group_table::KeyHash;
 use packed_rows::Value;
@@ -53,93 +44,73 @@ impl Buffers {
     }
 }
 
-/// A pass. Its table takes no new group that would exceed the limit, but for the first; and none once a record was spilled.
+/// A pass, by a plan. Its table takes no new group that would exceed the limit, but for the first; and none once a record was spilled.
 #[derive(Drop)]
-pub(crate) struct Pass<H: KeyHash + Drop> {
+pub(crate) struct Pass<'q, H: KeyHash + Drop> {
+    pub(crate) plan: Plan<'q>,
     pub(crate) groups: Groups<H>,
     pub(crate) lists: SpillLists,
 }
 
-impl<H: KeyHash + Drop> Pass<H> {
+impl<'q, H: KeyHash + Drop> Pass<'q, H> {
     /// The first pass, which has read nothing. The only error is a failed allocation.
     pub(crate) fn new<D: TapeDisk>(
         alloc: Global,
-        plan: &Plan<'_>,
+        plan: Plan<'q>,
         hash: H,
         disk: &D,
-    ) -> Result<Pass<H>, AllocError>
-        requires plan { IsPlan plan.now }
-        ensures empty { IfOk result (λ pass. entries_of pass.groups ≡ []) }
-        ensures width { IfOk result (λ pass. pass.groups.table.width ≡ length plan.now.first.items) }
-        ensures hash { IfOk result (λ pass. pass.groups.table.hash ≡ hash) }
-        ensures held { IfOk result (λ pass. pass.groups.most_held ≡ 0) }
-        ensures alive { IfOk result (λ pass. pass.lists.tapes.is_dead ≡ false) }
-        ensures none { IfOk result (λ pass. HasLists (D.last disk.now) pass.lists [] [] []) }
-        ensures parts { IfOk result (λ pass. pass.lists.parts ≡ []) }
-        ensures source { IfOk result (λ pass. pass.lists.source ≡ []) }
-        ensures todo { IfOk result (λ pass. pass.lists.todo ≡ []) }
-        ensures level { IfOk result (λ pass. pass.lists.level ≡ 0) }
+    ) -> Result<Pass<'q, H>, AllocError>
+        requires plan { IsPlan plan }
+        ensures first { IfOk result (λ pass. IsFirst D.TapeDisk pass disk.now) }
+        ensures by { IfOk result (λ pass. (pass.plan ≡ plan.entry) × (pass.groups.table.hash ≡ hash)) }
     {
         let groups = Groups::new(alloc, plan.first.len() as u32, hash)?;
         Ok(Pass {
+            plan,
             groups,
             lists: SpillLists::new(alloc, disk),
         })
     }
 
     /// How many bytes of blocks the table holds at most while a group that isn't there enters it, if it may enter.
-    fn room_for(&self, plan: &Plan<'_>, key: &[u8]) -> Option<u64>
-        requires plan { IsPlan plan.now }
-        requires width { self.now.groups.table.width ≡ length plan.now.first.items }
+    fn room_for(&self, key: &[u8]) -> Option<u64>
+        requires ready { IsReady self.now }
         requires key { length key.now ≤ 8192 }
-        ensures none { IfSome result (λ need. self.now.lists.parts ≡ []) }
-        ensures few { IfSome result (λ need. HasPlace self.now.groups) }
-        ensures within { IfSome result (λ need. need ≤ plan.now.limit) }
-        ensures exact { (hash : List ℕ → ℕ) → is_some result ≡ (is_empty self.now.lists.parts && fits (setting_of plan.now hash) (packed_keys (entries_of self.now.groups) ++ key.now ∷ [])) }
-        ensures needed { IfSome result (λ bytes. bytes ≡ need self.now.groups.table.width (packed_keys (entries_of self.now.groups) ++ key.now ∷ [])) }
-        ensures first { entries_of self.now.groups ≡ [] → self.now.lists.parts ≡ [] → is_some result ≡ true }
+        ensures room { IfSome result (HasRoom self.now key.now) }
+        ensures exact { (hash : List ℕ → ℕ) → is_some result ≡ enters hash self.now key.now }
     {
         if !self.lists.is_empty() {
             return None;
         }
-        self.groups.need_within(key, plan.limit)
+        self.groups.need_within(key, self.plan.limit)
     }
 
     /// Reads a row that WHERE keeps, whose packed key this is. What `states` holds doesn't matter.
     fn add_selected<D: TapeDisk>(
         &mut self,
         disk: &mut D,
-        plan: &Plan<'_>,
         packed: &[u8],
         row: &[Value<'_>],
         key: &[u8],
         states: &mut Vec<u8>,
     ) -> Result<(), SpillError>
-        requires plan { IsPlan plan.now }
-        requires width { self.old.groups.table.width ≡ length plan.now.first.items }
-        requires alive { self.old.lists.tapes.is_dead ≡ false }
-        requires row { HasKinds (meaning plan.now.query.now).kinds (row_of row.now) × (packed.now ≡ packing (row_of row.now)) }
-        requires met { is_met (column_of (row_of row.now)) (meaning plan.now.query.now).condition ≡ true }
-        requires key { key.now ≡ packing (key_of (meaning plan.now.query.now) (row_of row.now)) }
-        ensures reads { OnOk result (Reads plan.now (H.hash_of self.old.groups.table.hash) (AreRows (meaning plan.now.query.now) (packed.now ∷ [])) (standing self.old.groups self.old.lists (D.last disk.old)) (standing self.new.groups self.new.lists (D.last disk.new))) }
-        ensures pages { OnOk result (WritesPages (D.writes disk.old) self.old.lists (D.writes disk.new) self.new.lists) }
-        ensures undamaged { IfErr result (λ error. CanRead plan.now (H.hash_of self.old.groups.table.hash) (AreRows (meaning plan.now.query.now) (packed.now ∷ [])) (standing self.old.groups self.old.lists (D.last disk.old)) → error ≢ TapeDamaged) }
-        ensures safe { OnOk result (AreSafe (meaning plan.now.query.now) plan.now.most (entries_of self.old.groups) → AreSafe (meaning plan.now.query.now) plan.now.most (entries_of self.new.groups)) }
-        ensures proceeds { OnOk result (Proceeds (entries_of self.old.groups) self.old.lists (entries_of self.new.groups) self.new.lists) }
-        ensures table { IsSameTable plan.now.limit self.old.groups self.new.groups }
-        ensures lists { KeepsLists self.old.lists self.new.lists }
-        ensures alive { OnOk result (self.new.lists.tapes.is_dead ≡ false) }
-        ensures refused { IfErr result (IsReadRefusal (D.failures disk.old) (D.failures disk.new)) }
-        ensures disk { Moves (D.failures disk.old) (D.failures disk.new) (D.writes disk.old) (D.writes disk.new) (D.honest disk.old) (D.honest disk.new) }
+        requires ready { IsReady self.old }
+        requires selected { IsSelected (query_of self.old) packed.now key.now (row_of row.now) }
+        ensures added { OnOk result (AddedOne H.hash_of D.TapeDisk (Packed_rows (packed.now ∷ [])) self.old disk.old self.new disk.new) }
+        ensures refused { IfErr result (λ error. Refused H.hash_of D.TapeDisk (Packed_rows (packed.now ∷ [])) self.old disk.old error self.new) }
+        ensures disk { Leaves D.TapeDisk (failed spill_faults result) disk.old disk.new }
     {
         if let Some(slot) = self.groups.find(key) {
-            return match self.groups.advance(plan.query, slot, row, plan.most) {
+            return match self
+                .groups
+                .advance(self.plan.query, slot, row, self.plan.most)
+            {
                 Ok(()) => Ok(()),
                 Err(BadState) => Err(SpillError::TapeDamaged),
             };
         }
-        if let Some(need) = self.room_for(plan, key) {
-            plan.first_after(row, states)?;
+        if let Some(need) = self.room_for(key) {
+            self.plan.first_after(row, states)?;
             self.groups.enter(key, states, need)?;
             return Ok(());
         }
@@ -151,33 +122,26 @@ impl<H: KeyHash + Drop> Pass<H> {
     fn add_group<D: TapeDisk>(
         &mut self,
         disk: &mut D,
-        plan: &Plan<'_>,
         key: &[u8],
         states: &[u8],
         tape_record: &mut Vec<u8>,
     ) -> Result<(), SpillError>
-        requires plan { IsPlan plan.now }
-        requires width { self.old.groups.table.width ≡ length plan.now.first.items }
-        requires alive { self.old.lists.tapes.is_dead ≡ false }
-        requires group { (group : Group) × StandsFor (meaning plan.now.query.now) plan.now.most (key.now, states.now) group }
-        ensures reads { OnOk result ((m : ℕ) → Reads plan.now (H.hash_of self.old.groups.table.hash) (AreOfRun (meaning plan.now.query.now) m ((key.now, states.now) ∷ [])) (standing self.old.groups self.old.lists (D.last disk.old)) (standing self.new.groups self.new.lists (D.last disk.new))) }
-        ensures pages { OnOk result (WritesPages (D.writes disk.old) self.old.lists (D.writes disk.new) self.new.lists) }
-        ensures undamaged { IfErr result (λ error. (m : ℕ) → CanRead plan.now (H.hash_of self.old.groups.table.hash) (AreOfRun (meaning plan.now.query.now) m ((key.now, states.now) ∷ [])) (standing self.old.groups self.old.lists (D.last disk.old)) → error ≢ TapeDamaged) }
-        ensures safe { OnOk result (AreSafe (meaning plan.now.query.now) plan.now.most (entries_of self.old.groups) → AreSafe (meaning plan.now.query.now) plan.now.most (entries_of self.new.groups)) }
-        ensures proceeds { OnOk result (Proceeds (entries_of self.old.groups) self.old.lists (entries_of self.new.groups) self.new.lists) }
-        ensures table { IsSameTable plan.now.limit self.old.groups self.new.groups }
-        ensures lists { KeepsLists self.old.lists self.new.lists }
-        ensures alive { OnOk result (self.new.lists.tapes.is_dead ≡ false) }
-        ensures refused { IfErr result (IsReadRefusal (D.failures disk.old) (D.failures disk.new)) }
-        ensures disk { Moves (D.failures disk.old) (D.failures disk.new) (D.writes disk.old) (D.writes disk.new) (D.honest disk.old) (D.honest disk.new) }
+        requires ready { IsReady self.old }
+        requires group { (group : Group) × StandsFor (query_of self.old) self.old.plan.most (key.now, states.now) group }
+        ensures added { OnOk result (AddedOne H.hash_of D.TapeDisk (Entries ((key.now, states.now) ∷ [])) self.old disk.old self.new disk.new) }
+        ensures refused { IfErr result (λ error. Refused H.hash_of D.TapeDisk (Entries ((key.now, states.now) ∷ [])) self.old disk.old error self.new) }
+        ensures disk { Leaves D.TapeDisk (failed spill_faults result) disk.old disk.new }
     {
         if let Some(slot) = self.groups.find(key) {
-            return match self.groups.combine(plan.query, slot, states, plan.most) {
+            return match self
+                .groups
+                .combine(self.plan.query, slot, states, self.plan.most)
+            {
                 Ok(()) => Ok(()),
                 Err(BadState) => Err(SpillError::TapeDamaged),
             };
         }
-        if let Some(need) = self.room_for(plan, key) {
+        if let Some(need) = self.room_for(key) {
             self.groups.enter(key, states, need)?;
             return Ok(());
         }
@@ -190,100 +154,74 @@ impl<H: KeyHash + Drop> Pass<H> {
     fn add_row<'r, D: TapeDisk>(
         &mut self,
         disk: &mut D,
-        plan: &Plan<'_>,
         packed: &'r [u8],
         row: &mut Vec<Value<'r>>,
         buffers: &mut Buffers,
     ) -> Result<(), SpillError>
-        requires plan { IsPlan plan.now }
-        requires width { self.old.groups.table.width ≡ length plan.now.first.items }
-        requires alive { self.old.lists.tapes.is_dead ≡ false }
-        ensures reads { OnOk result (Reads plan.now (H.hash_of self.old.groups.table.hash) (AreRows (meaning plan.now.query.now) (packed.now ∷ [])) (standing self.old.groups self.old.lists (D.last disk.old)) (standing self.new.groups self.new.lists (D.last disk.new))) }
-        ensures pages { OnOk result (WritesPages (D.writes disk.old) self.old.lists (D.writes disk.new) self.new.lists) }
-        ensures undamaged { IfErr result (λ error. CanRead plan.now (H.hash_of self.old.groups.table.hash) (AreRows (meaning plan.now.query.now) (packed.now ∷ [])) (standing self.old.groups self.old.lists (D.last disk.old)) → error ≢ TapeDamaged) }
-        ensures safe { OnOk result (AreSafe (meaning plan.now.query.now) plan.now.most (entries_of self.old.groups) → AreSafe (meaning plan.now.query.now) plan.now.most (entries_of self.new.groups)) }
-        ensures brings { OnOk result (Brings (meaning plan.now.query.now) (AreRows (meaning plan.now.query.now) (packed.now ∷ [])) (entries_of self.old.groups) self.old.lists (entries_of self.new.groups) self.new.lists) }
-        ensures table { IsSameTable plan.now.limit self.old.groups self.new.groups }
-        ensures lists { KeepsLists self.old.lists self.new.lists }
-        ensures alive { OnOk result (self.new.lists.tapes.is_dead ≡ false) }
-        ensures refused { IfErr result (IsReadRefusal (D.failures disk.old) (D.failures disk.new)) }
-        ensures disk { Moves (D.failures disk.old) (D.failures disk.new) (D.writes disk.old) (D.writes disk.new) (D.honest disk.old) (D.honest disk.new) }
+        requires ready { IsReady self.old }
+        ensures added { OnOk result (Added H.hash_of D.TapeDisk (Packed_rows (packed.now ∷ [])) self.old disk.old self.new disk.new) }
+        ensures refused { IfErr result (λ error. Refused H.hash_of D.TapeDisk (Packed_rows (packed.now ∷ [])) self.old disk.old error self.new) }
+        ensures disk { Leaves D.TapeDisk (failed spill_faults result) disk.old disk.new }
     {
         let Buffers { key, states, .. } = buffers;
-        if !plan.select(packed, row, key)? {
+        if !self.plan.select(packed, row, key)? {
             return Ok(()); // It is passed over.
         }
-        self.add_selected(disk, plan, packed, row, key, states)
+        self.add_selected(disk, packed, row, key, states)
     }
 
-    /// Reads a record of a packed row, whose hash is that of its key, from a tape. What `buffers` holds doesn't matter.
+    /// Reads a record of a packed row from a tape. `TapeDamaged` if it is none of the query, if WHERE isn't true of it, since only
+    /// selected rows are spilled, or if its hash isn't its key's. What `buffers` holds doesn't matter.
     fn add_row_record<D: TapeDisk>(
         &mut self,
         alloc: Global,
         disk: &mut D,
-        plan: &Plan<'_>,
         hash: u32,
         packed: &[u8],
         buffers: &mut Buffers,
     ) -> Result<(), SpillError>
-        requires plan { IsPlan plan.now }
-        requires width { self.old.groups.table.width ≡ length plan.now.first.items }
-        requires alive { self.old.lists.tapes.is_dead ≡ false }
-        ensures reads { OnOk result (Reads plan.now (H.hash_of self.old.groups.table.hash) (ArePieces (meaning plan.now.query.now) (H.hash_of self.old.groups.table.hash) (record { hash = hash; tag = 0; bytes = packed.now } ∷ [])) (standing self.old.groups self.old.lists (D.last disk.old)) (standing self.new.groups self.new.lists (D.last disk.new))) }
-        ensures pages { OnOk result (WritesPages (D.writes disk.old) self.old.lists (D.writes disk.new) self.new.lists) }
-        ensures undamaged { IfErr result (λ error. CanRead plan.now (H.hash_of self.old.groups.table.hash) (ArePieces (meaning plan.now.query.now) (H.hash_of self.old.groups.table.hash) (record { hash = hash; tag = 0; bytes = packed.now } ∷ [])) (standing self.old.groups self.old.lists (D.last disk.old)) → error ≢ TapeDamaged) }
-        ensures safe { OnOk result (AreSafe (meaning plan.now.query.now) plan.now.most (entries_of self.old.groups) → AreSafe (meaning plan.now.query.now) plan.now.most (entries_of self.new.groups)) }
-        ensures proceeds { OnOk result (Proceeds (entries_of self.old.groups) self.old.lists (entries_of self.new.groups) self.new.lists) }
-        ensures table { IsSameTable plan.now.limit self.old.groups self.new.groups }
-        ensures lists { KeepsLists self.old.lists self.new.lists }
-        ensures alive { OnOk result (self.new.lists.tapes.is_dead ≡ false) }
-        ensures refused { IfErr result (IsReadRefusal (D.failures disk.old) (D.failures disk.new)) }
-        ensures disk { Moves (D.failures disk.old) (D.failures disk.new) (D.writes disk.old) (D.writes disk.new) (D.honest disk.old) (D.honest disk.new) }
+        requires ready { IsReady self.old }
+        ensures added { OnOk result (AddedOne H.hash_of D.TapeDisk (On_tape hash 0 packed.now) self.old disk.old self.new disk.new) }
+        ensures genuine { OnOk result (IsGenuine H.hash_of self.old (On_tape hash 0 packed.now)) }
+        ensures refused { IfErr result (λ error. Refused H.hash_of D.TapeDisk (On_tape hash 0 packed.now) self.old disk.old error self.new) }
+        ensures disk { Leaves D.TapeDisk (failed spill_faults result) disk.old disk.new }
     {
         let Buffers { key, states, .. } = buffers;
         // Values borrow from the bytes of their record, which the next record takes the place of. So each has a `Vec` of its own.
-        let mut row = Vec::with_capacity(alloc, plan.query.schema().width())?;
-        if !plan.select(packed, &mut row, key)? {
-            return Ok(()); // It is passed over.
+        let mut row = Vec::with_capacity(alloc, self.plan.query.schema().width())?;
+        if !self.plan.select(packed, &mut row, key)? {
+            return Err(SpillError::TapeDamaged);
         }
         if self.groups.hash(key) != hash {
             return Err(SpillError::TapeDamaged);
         }
-        self.add_selected(disk, plan, packed, &row, key, states)
+        self.add_selected(disk, packed, &row, key, states)
     }
 
-    /// Reads a record of a group, whose hash is that of its key, from a tape. What `buffers` holds doesn't matter.
+    /// Reads a record of a group from a tape. `TapeDamaged` if it is none of the query, or if its hash isn't its key's. What `buffers`
+    /// holds doesn't matter.
     fn add_group_record<D: TapeDisk>(
         &mut self,
         alloc: Global,
         disk: &mut D,
-        plan: &Plan<'_>,
         hash: u32,
         bytes: &[u8],
         buffers: &mut Buffers,
     ) -> Result<(), SpillError>
-        requires plan { IsPlan plan.now }
-        requires width { self.old.groups.table.width ≡ length plan.now.first.items }
-        requires alive { self.old.lists.tapes.is_dead ≡ false }
-        ensures reads { OnOk result (Reads plan.now (H.hash_of self.old.groups.table.hash) (ArePieces (meaning plan.now.query.now) (H.hash_of self.old.groups.table.hash) (record { hash = hash; tag = 1; bytes = bytes.now } ∷ [])) (standing self.old.groups self.old.lists (D.last disk.old)) (standing self.new.groups self.new.lists (D.last disk.new))) }
-        ensures pages { OnOk result (WritesPages (D.writes disk.old) self.old.lists (D.writes disk.new) self.new.lists) }
-        ensures undamaged { IfErr result (λ error. CanRead plan.now (H.hash_of self.old.groups.table.hash) (ArePieces (meaning plan.now.query.now) (H.hash_of self.old.groups.table.hash) (record { hash = hash; tag = 1; bytes = bytes.now } ∷ [])) (standing self.old.groups self.old.lists (D.last disk.old)) → error ≢ TapeDamaged) }
-        ensures safe { OnOk result (AreSafe (meaning plan.now.query.now) plan.now.most (entries_of self.old.groups) → AreSafe (meaning plan.now.query.now) plan.now.most (entries_of self.new.groups)) }
-        ensures proceeds { OnOk result (Proceeds (entries_of self.old.groups) self.old.lists (entries_of self.new.groups) self.new.lists) }
-        ensures table { IsSameTable plan.now.limit self.old.groups self.new.groups }
-        ensures lists { KeepsLists self.old.lists self.new.lists }
-        ensures alive { OnOk result (self.new.lists.tapes.is_dead ≡ false) }
-        ensures refused { IfErr result (IsReadRefusal (D.failures disk.old) (D.failures disk.new)) }
-        ensures disk { Moves (D.failures disk.old) (D.failures disk.new) (D.writes disk.old) (D.writes disk.new) (D.honest disk.old) (D.honest disk.new) }
+        requires ready { IsReady self.old }
+        ensures added { OnOk result (AddedOne H.hash_of D.TapeDisk (On_tape hash 1 bytes.now) self.old disk.old self.new disk.new) }
+        ensures genuine { OnOk result (IsGenuine H.hash_of self.old (On_tape hash 1 bytes.now)) }
+        ensures refused { IfErr result (λ error. Refused H.hash_of D.TapeDisk (On_tape hash 1 bytes.now) self.old disk.old error self.new) }
+        ensures disk { Leaves D.TapeDisk (failed spill_faults result) disk.old disk.new }
     {
         let Some((key, states)) = split_group(bytes) else {
             return Err(SpillError::TapeDamaged);
         };
-        plan.check_group(alloc, key, states)?;
-        if self.groups.hash(key) != hash {
+        self.plan.check_group(alloc, key, states)?;
+        if hash != self.groups.hash(key) {
             return Err(SpillError::TapeDamaged);
         }
-        self.add_group(disk, plan, key, states, &mut buffers.tape_record)
+        self.add_group(disk, key, states, &mut buffers.tape_record)
     }
 
     /// Reads a record from a tape. `TapeDamaged` if it is none of the query. What `buffers` holds doesn't matter.
@@ -291,31 +229,20 @@ impl<H: KeyHash + Drop> Pass<H> {
         &mut self,
         alloc: Global,
         disk: &mut D,
-        plan: &Plan<'_>,
         hash: u32,
         tag: u8,
         bytes: &[u8],
         buffers: &mut Buffers,
     ) -> Result<(), SpillError>
-        requires plan { IsPlan plan.now }
-        requires width { self.old.groups.table.width ≡ length plan.now.first.items }
-        requires alive { self.old.lists.tapes.is_dead ≡ false }
-        requires tag { tag < 2 }
-        ensures reads { OnOk result (Reads plan.now (H.hash_of self.old.groups.table.hash) (ArePieces (meaning plan.now.query.now) (H.hash_of self.old.groups.table.hash) (record { hash = hash; tag = tag; bytes = bytes.now } ∷ [])) (standing self.old.groups self.old.lists (D.last disk.old)) (standing self.new.groups self.new.lists (D.last disk.new))) }
-        ensures pages { OnOk result (WritesPages (D.writes disk.old) self.old.lists (D.writes disk.new) self.new.lists) }
-        ensures undamaged { IfErr result (λ error. CanRead plan.now (H.hash_of self.old.groups.table.hash) (ArePieces (meaning plan.now.query.now) (H.hash_of self.old.groups.table.hash) (record { hash = hash; tag = tag; bytes = bytes.now } ∷ [])) (standing self.old.groups self.old.lists (D.last disk.old)) → error ≢ TapeDamaged) }
-        ensures safe { OnOk result (AreSafe (meaning plan.now.query.now) plan.now.most (entries_of self.old.groups) → AreSafe (meaning plan.now.query.now) plan.now.most (entries_of self.new.groups)) }
-        ensures proceeds { OnOk result (Proceeds (entries_of self.old.groups) self.old.lists (entries_of self.new.groups) self.new.lists) }
-        ensures table { IsSameTable plan.now.limit self.old.groups self.new.groups }
-        ensures lists { KeepsLists self.old.lists self.new.lists }
-        ensures alive { OnOk result (self.new.lists.tapes.is_dead ≡ false) }
-        ensures refused { IfErr result (IsReadRefusal (D.failures disk.old) (D.failures disk.new)) }
-        ensures disk { Moves (D.failures disk.old) (D.failures disk.new) (D.writes disk.old) (D.writes disk.new) (D.honest disk.old) (D.honest disk.new) }
+        requires ready { IsReady self.old }
+        ensures added { OnOk result (AddedOne H.hash_of D.TapeDisk (On_tape hash tag bytes.now) self.old disk.old self.new disk.new) }
+        ensures refused { IfErr result (λ error. Refused H.hash_of D.TapeDisk (On_tape hash tag bytes.now) self.old disk.old error self.new) }
+        ensures disk { Leaves D.TapeDisk (failed spill_faults result) disk.old disk.new }
     {
-        if tag == ROW {
-            self.add_row_record(alloc, disk, plan, hash, bytes, buffers)
-        } else {
-            self.add_group_record(alloc, disk, plan, hash, bytes, buffers)
+        match tag {
+            ROW => self.add_row_record(alloc, disk, hash, bytes, buffers),
+            GROUP => self.add_group_record(alloc, disk, hash, bytes, buffers),
+            _ => Err(SpillError::TapeDamaged),
         }
     }
 
@@ -323,56 +250,17 @@ impl<H: KeyHash + Drop> Pass<H> {
     fn add_rows<'r, D: TapeDisk>(
         &mut self,
         disk: &mut D,
-        plan: &Plan<'_>,
-        rows: &'r [Vec<u8>],
+        rows: Packings<'r>,
         row: &mut Vec<Value<'r>>,
         buffers: &mut Buffers,
     ) -> Result<(), SpillError>
-        requires plan { IsPlan plan.now }
-        requires width { self.old.groups.table.width ≡ length plan.now.first.items }
-        requires alive { self.old.lists.tapes.is_dead ≡ false }
-        ensures reads { OnOk result (Reads plan.now (H.hash_of self.old.groups.table.hash) (AreRows (meaning plan.now.query.now) (bytes_of rows.now)) (standing self.old.groups self.old.lists (D.last disk.old)) (standing self.new.groups self.new.lists (D.last disk.new))) }
-        ensures pages { OnOk result (WritesPages (D.writes disk.old) self.old.lists (D.writes disk.new) self.new.lists) }
-        ensures undamaged { IfErr result (λ error. CanRead plan.now (H.hash_of self.old.groups.table.hash) (AreRows (meaning plan.now.query.now) (bytes_of rows.now)) (standing self.old.groups self.old.lists (D.last disk.old)) → error ≢ TapeDamaged) }
-        ensures safe { OnOk result (AreSafe (meaning plan.now.query.now) plan.now.most (entries_of self.old.groups) → AreSafe (meaning plan.now.query.now) plan.now.most (entries_of self.new.groups)) }
-        ensures brings { OnOk result (Brings (meaning plan.now.query.now) (AreRows (meaning plan.now.query.now) (bytes_of rows.now)) (entries_of self.old.groups) self.old.lists (entries_of self.new.groups) self.new.lists) }
-        ensures table { IsSameTable plan.now.limit self.old.groups self.new.groups }
-        ensures lists { KeepsLists self.old.lists self.new.lists }
-        ensures alive { OnOk result (self.new.lists.tapes.is_dead ≡ false) }
-        ensures refused { IfErr result (IsReadRefusal (D.failures disk.old) (D.failures disk.new)) }
-        ensures disk { Moves (D.failures disk.old) (D.failures disk.new) (D.writes disk.old) (D.writes disk.new) (D.honest disk.old) (D.honest disk.new) }
-    {
-        for packed in rows {
-            self.add_row(disk, plan, packed, row, buffers)?;
-        }
-        Ok(())
-    }
-
-    /// Reads packed rows that lie on end. What `row` and `buffers` hold doesn't matter.
-    fn add_flat<'r, D: TapeDisk>(
-        &mut self,
-        disk: &mut D,
-        plan: &Plan<'_>,
-        rows: &'r PackedRows,
-        row: &mut Vec<Value<'r>>,
-        buffers: &mut Buffers,
-    ) -> Result<(), SpillError>
-        requires plan { IsPlan plan.now }
-        requires width { self.old.groups.table.width ≡ length plan.now.first.items }
-        requires alive { self.old.lists.tapes.is_dead ≡ false }
-        ensures reads { OnOk result (Reads plan.now (H.hash_of self.old.groups.table.hash) (AreRows (meaning plan.now.query.now) rows.now) (standing self.old.groups self.old.lists (D.last disk.old)) (standing self.new.groups self.new.lists (D.last disk.new))) }
-        ensures pages { OnOk result (WritesPages (D.writes disk.old) self.old.lists (D.writes disk.new) self.new.lists) }
-        ensures undamaged { IfErr result (λ error. CanRead plan.now (H.hash_of self.old.groups.table.hash) (AreRows (meaning plan.now.query.now) rows.now) (standing self.old.groups self.old.lists (D.last disk.old)) → error ≢ TapeDamaged) }
-        ensures safe { OnOk result (AreSafe (meaning plan.now.query.now) plan.now.most (entries_of self.old.groups) → AreSafe (meaning plan.now.query.now) plan.now.most (entries_of self.new.groups)) }
-        ensures brings { OnOk result (Brings (meaning plan.now.query.now) (AreRows (meaning plan.now.query.now) rows.now) (entries_of self.old.groups) self.old.lists (entries_of self.new.groups) self.new.lists) }
-        ensures table { IsSameTable plan.now.limit self.old.groups self.new.groups }
-        ensures lists { KeepsLists self.old.lists self.new.lists }
-        ensures alive { OnOk result (self.new.lists.tapes.is_dead ≡ false) }
-        ensures refused { IfErr result (IsReadRefusal (D.failures disk.old) (D.failures disk.new)) }
-        ensures disk { Moves (D.failures disk.old) (D.failures disk.new) (D.writes disk.old) (D.writes disk.new) (D.honest disk.old) (D.honest disk.new) }
+        requires ready { IsReady self.old }
+        ensures added { OnOk result (Added H.hash_of D.TapeDisk (Packed_rows (packings_in rows.entry)) self.old disk.old self.new disk.new) }
+        ensures refused { IfErr result (λ error. Refused H.hash_of D.TapeDisk (Packed_rows (packings_in rows.entry)) self.old disk.old error self.new) }
+        ensures disk { Leaves D.TapeDisk (failed spill_faults result) disk.old disk.new }
     {
         for place in 0..rows.len() {
-            self.add_row(disk, plan, rows.row(place), row, buffers)?;
+            self.add_row(disk, rows.row(place), row, buffers)?;
         }
         Ok(())
     }
@@ -381,28 +269,18 @@ impl<H: KeyHash + Drop> Pass<H> {
     fn add_run<D: TapeDisk>(
         &mut self,
         disk: &mut D,
-        plan: &Plan<'_>,
         run: &Run,
         tape_record: &mut Vec<u8>,
     ) -> Result<(), SpillError>
-        requires plan { IsPlan plan.now }
-        requires width { self.old.groups.table.width ≡ length plan.now.first.items }
-        requires alive { self.old.lists.tapes.is_dead ≡ false }
-        requires run { IsRun (meaning plan.now.query.now) plan.now.most run.now }
-        ensures reads { OnOk result ((m : ℕ) → Reads plan.now (H.hash_of self.old.groups.table.hash) (AreOfRun (meaning plan.now.query.now) m run.now) (standing self.old.groups self.old.lists (D.last disk.old)) (standing self.new.groups self.new.lists (D.last disk.new))) }
-        ensures pages { OnOk result (WritesPages (D.writes disk.old) self.old.lists (D.writes disk.new) self.new.lists) }
-        ensures undamaged { IfErr result (λ error. (m : ℕ) → CanRead plan.now (H.hash_of self.old.groups.table.hash) (AreOfRun (meaning plan.now.query.now) m run.now) (standing self.old.groups self.old.lists (D.last disk.old)) → error ≢ TapeDamaged) }
-        ensures safe { OnOk result (AreSafe (meaning plan.now.query.now) plan.now.most (entries_of self.old.groups) → AreSafe (meaning plan.now.query.now) plan.now.most (entries_of self.new.groups)) }
-        ensures brings { OnOk result ((m : ℕ) → Brings (meaning plan.now.query.now) (AreOfRun (meaning plan.now.query.now) m run.now) (entries_of self.old.groups) self.old.lists (entries_of self.new.groups) self.new.lists) }
-        ensures table { IsSameTable plan.now.limit self.old.groups self.new.groups }
-        ensures lists { KeepsLists self.old.lists self.new.lists }
-        ensures alive { OnOk result (self.new.lists.tapes.is_dead ≡ false) }
-        ensures refused { IfErr result (IsReadRefusal (D.failures disk.old) (D.failures disk.new)) }
-        ensures disk { Moves (D.failures disk.old) (D.failures disk.new) (D.writes disk.old) (D.writes disk.new) (D.honest disk.old) (D.honest disk.new) }
+        requires ready { IsReady self.old }
+        requires run { IsRun (query_of self.old) self.old.plan.most run.now }
+        ensures added { OnOk result (Added H.hash_of D.TapeDisk (Entries run.now) self.old disk.old self.new disk.new) }
+        ensures refused { IfErr result (λ error. Refused H.hash_of D.TapeDisk (Entries run.now) self.old disk.old error self.new) }
+        ensures disk { Leaves D.TapeDisk (failed spill_faults result) disk.old disk.new }
     {
         for place in 0..run.len() {
             let (key, states) = run.group(place);
-            self.add_group(disk, plan, key, states, tape_record)?;
+            self.add_group(disk, key, states, tape_record)?;
         }
         Ok(())
     }
@@ -411,31 +289,20 @@ impl<H: KeyHash + Drop> Pass<H> {
     pub(crate) fn add_input<'r, D: TapeDisk>(
         &mut self,
         disk: &mut D,
-        plan: &Plan<'_>,
         input: Input<'r>,
         row: &mut Vec<Value<'r>>,
         buffers: &mut Buffers,
     ) -> Result<(), SpillError>
-        requires plan { IsPlan plan.now }
-        requires width { self.old.groups.table.width ≡ length plan.now.first.items }
-        requires alive { self.old.lists.tapes.is_dead ≡ false }
-        requires input { IsInput (meaning plan.now.query.now) (brought input) }
-        requires few { rows_in (brought input) ≤ plan.now.most }
-        ensures reads { OnOk result (Reads plan.now (H.hash_of self.old.groups.table.hash) (AreOf (meaning plan.now.query.now) (brought input.entry)) (standing self.old.groups self.old.lists (D.last disk.old)) (standing self.new.groups self.new.lists (D.last disk.new))) }
-        ensures pages { OnOk result (WritesPages (D.writes disk.old) self.old.lists (D.writes disk.new) self.new.lists) }
-        ensures undamaged { IfErr result (λ error. CanRead plan.now (H.hash_of self.old.groups.table.hash) (AreOf (meaning plan.now.query.now) (brought input.entry)) (standing self.old.groups self.old.lists (D.last disk.old)) → error ≢ TapeDamaged) }
-        ensures safe { OnOk result (AreSafe (meaning plan.now.query.now) plan.now.most (entries_of self.old.groups) → AreSafe (meaning plan.now.query.now) plan.now.most (entries_of self.new.groups)) }
-        ensures brings { OnOk result (Brings (meaning plan.now.query.now) (AreOf (meaning plan.now.query.now) (brought input.entry)) (entries_of self.old.groups) self.old.lists (entries_of self.new.groups) self.new.lists) }
-        ensures table { IsSameTable plan.now.limit self.old.groups self.new.groups }
-        ensures lists { KeepsLists self.old.lists self.new.lists }
-        ensures alive { OnOk result (self.new.lists.tapes.is_dead ≡ false) }
-        ensures refused { IfErr result (IsReadRefusal (D.failures disk.old) (D.failures disk.new)) }
-        ensures disk { Moves (D.failures disk.old) (D.failures disk.new) (D.writes disk.old) (D.writes disk.new) (D.honest disk.old) (D.honest disk.new) }
+        requires ready { IsReady self.old }
+        requires input { AreInputs (query_of self.old) self.old.plan.most (brought input ∷ []) }
+        ensures added { OnOk result (Added H.hash_of D.TapeDisk (source_of (brought input.entry)) self.old disk.old self.new disk.new) }
+        ensures refused { IfErr result (λ error. Refused H.hash_of D.TapeDisk (source_of (brought input.entry)) self.old disk.old error self.new) }
+        ensures disk { Leaves D.TapeDisk (failed spill_faults result) disk.old disk.new }
     {
         match input {
-            Input::Rows(rows) => self.add_rows(disk, plan, rows, row, buffers),
-            Input::Flat(rows) => self.add_flat(disk, plan, rows, row, buffers),
-            Input::Groups { run, .. } => self.add_run(disk, plan, run, &mut buffers.tape_record),
+            Input::Rows(rows) => self.add_rows(disk, Packings::Apart(rows), row, buffers),
+            Input::Flat(rows) => self.add_rows(disk, Packings::OnEnd(rows), row, buffers),
+            Input::Groups { run, .. } => self.add_run(disk, run, &mut buffers.tape_record),
         }
     }
 
@@ -444,31 +311,17 @@ impl<H: KeyHash + Drop> Pass<H> {
         &mut self,
         alloc: Global,
         disk: &mut D,
-        plan: &Plan<'_>,
         bytes: &mut Vec<u8>,
         buffers: &mut Buffers,
     ) -> Result<(), SpillError>
-        requires plan { IsPlan plan.now }
-        requires width { self.old.groups.table.width ≡ length plan.now.first.items }
-        requires alive { self.old.lists.tapes.is_dead ≡ false }
-        requires empty { entries_of self.old.groups ≡ [] }
-        requires none { self.old.lists.parts ≡ [] }
-        ensures reads { OnOk result (IsTrue (D.honest disk.old) → ReadsList plan.now (H.hash_of self.old.groups.table.hash) (standing self.old.groups self.old.lists (D.last disk.old)) (standing self.new.groups self.new.lists (D.last disk.new))) }
-        ensures pages { OnOk result (WritesPages (D.writes disk.old) self.old.lists (D.writes disk.new) self.new.lists) }
-        ensures undamaged { IfErr result (λ error. IsTrue (D.honest disk.old) → CanReadList plan.now (H.hash_of self.old.groups.table.hash) (standing self.old.groups self.old.lists (D.last disk.old)) → error ≢ TapeDamaged) }
-        ensures safe { OnOk result (AreSafe (meaning plan.now.query.now) plan.now.most (entries_of self.new.groups)) }
-        ensures few { OnOk result (total (entries_of self.new.groups) self.new.lists ≤ ahead_number self.old.lists) }
-        ensures fewer { OnOk result (0 < ahead_number self.old.lists → spilled_number self.new.lists < ahead_number self.old.lists) }
-        ensures table { IsSameTable plan.now.limit self.old.groups self.new.groups }
-        ensures source { OnOk result (self.new.lists.source ≡ []) }
-        ensures todo { self.new.lists.todo ≡ self.old.lists.todo }
-        ensures level { self.new.lists.level ≡ self.old.lists.level }
-        ensures alive { OnOk result (self.new.lists.tapes.is_dead ≡ false) }
-        ensures refused { IfErr result (IsReadRefusal (D.failures disk.old) (D.failures disk.new)) }
-        ensures disk { Moves (D.failures disk.old) (D.failures disk.new) (D.writes disk.old) (D.writes disk.new) (D.honest disk.old) (D.honest disk.new) }
+        requires ready { IsReady self.old }
+        requires fresh { IsFresh self.old }
+        ensures added { OnOk result (AddedList H.hash_of D.TapeDisk self.old disk.old self.new disk.new) }
+        ensures refused { IfErr result (λ error. RefusedList H.hash_of D.TapeDisk self.old disk.old error self.new) }
+        ensures disk { Leaves D.TapeDisk (failed spill_faults result) disk.old disk.new }
     {
         while let Some((hash, tag)) = self.lists.next(disk, bytes)? {
-            self.add_record(alloc, disk, plan, hash, tag, bytes, buffers)?;
+            self.add_record(alloc, disk, hash, tag, bytes, buffers)?;
         }
         Ok(())
     }
@@ -481,23 +334,11 @@ impl<H: KeyHash + Drop> Pass<H> {
         disk: &mut D,
         work: &mut Work,
     ) -> Result<Run, SpillError>
-        requires alive { self.old.lists.tapes.is_dead ≡ false }
-        ensures run { IfOk result (λ run. IsPermutation (entries_of self.old.groups) run) }
-        ensures rises { IfOk result Rises }
-        ensures emptied { OnOk result (entries_of self.new.groups ≡ []) }
-        ensures unheld { OnOk result (self.new.groups.most_held ≡ 0) }
-        ensures left { OnOk result ((spilled ahead : List Record) (todo : List LeftList) → HasLists (D.last disk.old) self.old.lists spilled ahead todo → HasLists (D.last disk.new) self.new.lists [] ahead (todo ++ left_by self.old.lists.level spilled)) }
-        ensures paged { OnOk result ((spilled ahead : List Record) (todo : List LeftList) → HasLists (D.last disk.old) self.old.lists spilled ahead todo → D.writes disk.new + written_pages self.old.lists ≡ D.writes disk.old + pages_of (lists self.old.lists.level spilled)) }
-        ensures parts { OnOk result (self.new.lists.parts ≡ []) }
-        ensures waiting { OnOk result (waiting_number self.new.lists ≡ waiting_number self.old.lists + spilled_number self.old.lists) }
-        ensures source { self.new.lists.source ≡ self.old.lists.source }
-        ensures table { (limit : ℕ) → IsSameTable limit self.old.groups self.new.groups }
-        ensures counted { 1 ≤ work.new.passes }
-        ensures held { work.new.most_held ≡ max work.old.most_held self.old.groups.most_held }
-        ensures adds { (spilled ahead : List Record) (todo : List LeftList) (pages : ℕ) → HasLists (D.last disk.old) self.old.lists spilled ahead todo → AddsUp work.old (pass_cost self.old.groups.table.width (entries_of self.old.groups) (length spilled) pages) work.new }
-        ensures alive { OnOk result (self.new.lists.tapes.is_dead ≡ false) }
-        ensures refused { IfErr result (IsSpillRefusal (D.failures disk.old) (D.failures disk.new)) }
-        ensures disk { Moves (D.failures disk.old) (D.failures disk.new) (D.writes disk.old) (D.writes disk.new) (D.honest disk.old) (D.honest disk.new) }
+        requires ready { IsReady self.old }
+        ensures finished { IfOk result (λ run. Finished D.TapeDisk self.old disk.old run self.new disk.new) }
+        ensures counted { CountsPass D.TapeDisk self.old disk.old work.old work.new }
+        ensures undamaged { IfErr result (λ error. error ≢ TapeDamaged) }
+        ensures disk { Leaves D.TapeDisk (failed spill_faults result) disk.old disk.new }
     {
         work.passes = work.passes.saturating_add(1);
         work.spilled = work.spilled.saturating_add(self.lists.spilled(disk));

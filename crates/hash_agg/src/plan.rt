@@ -8,8 +8,7 @@ ghost use Rattle.grouping_model.specs.Parts.{functions};
 ghost use Rattle.packed_rows.specs.Packing.{packing};
 ghost use Rattle.packed_rows.specs.View.{row_of};
 ghost use Rattle.agg_protocol.specs.States.{most_rows};
-ghost use Rattle.spill_lists.specs.Standing.{IsReadRefusal};
-ghost use Rattle.spill_lists.specs.declared.error.SpillError.TheVariants.{TapeDamaged};
+ghost use Rattle.spill_lists.specs.declared.error.SpillError.TheVariants.{TapeDamaged, TapeFault};
 ghost use Rattle.having_filter.specs.Kept.{IsWellFormed};
 ghost use Rattle.having_filter.specs.Meaning.{meaning};
 ghost use Rattle.group_runs.specs.Standing.{StandsFor};
@@ -41,7 +40,7 @@ fn unpack<'r>(query: &Query, packed: &'r [u8], row: &mut Vec<Value<'r>>) -> Resu
         × (packed.now ≡ packing (row_of row.new.items))) }
     ensures undamaged { IfErr result (λ error. (list : Row) → HasKinds (meaning query.now).kinds list →
         packed.now ≡ packing list → error ≢ TapeDamaged) }
-    ensures refused { IfErr result (IsReadRefusal 0 0) }
+    ensures faultless { IfErr result (λ error. error ≢ TapeFault) }
 {
     match unpack_into(query.schema().kinds(), packed, row) {
         Ok(()) => Ok(()),
@@ -106,7 +105,7 @@ impl<'a> Plan<'a> {
             key.new.items ≡ packing (key_of (meaning self.now.query.now) (row_of row.new.items))) }
         ensures undamaged { IfErr result (λ error. (list : Row) →
             HasKinds (meaning self.now.query.now).kinds list → packed.now ≡ packing list → error ≢ TapeDamaged) }
-        ensures refused { IfErr result (IsReadRefusal 0 0) }
+        ensures faultless { IfErr result (λ error. error ≢ TapeFault) }
     {
         unpack(self.query, packed, row)?;
         if !self.query.where_true(row) {
@@ -130,7 +129,7 @@ impl<'a> Plan<'a> {
         ensures undamaged { IfErr result (λ error.
             HaveRoomForRow (functions (meaning self.now.query.now)) self.now.most self.now.first.items →
             error ≢ TapeDamaged) }
-        ensures refused { IfErr result (IsReadRefusal 0 0) }
+        ensures faultless { IfErr result (λ error. error ≢ TapeFault) }
     {
         states.clear();
         states.extend_from_slice(&self.first)?;
@@ -152,7 +151,7 @@ impl<'a> Plan<'a> {
             StandsFor (meaning self.now.query.now) self.now.most (key.now, states.now) group) }
         ensures undamaged { IfErr result (λ error. (most : ℕ) (group : Group) → most ≤ self.now.most →
             StandsFor (meaning self.now.query.now) most (key.now, states.now) group → error ≢ TapeDamaged) }
-        ensures refused { IfErr result (IsReadRefusal 0 0) }
+        ensures faultless { IfErr result (λ error. error ≢ TapeFault) }
     {
         // The values borrow from the key, whose bytes the next record takes the place of.
         let mut values = Vec::with_capacity(alloc, self.query.key_kinds().len())?;

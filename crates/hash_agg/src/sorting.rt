@@ -3,8 +3,7 @@
 ghost use Rattle.std.specs.Prelude.{◌≡◌, ◌≢◌, ◌++◌, ◌∷◌, IfOk, IfErr, OnOk, slice_index};
 ghost use Rattle.std.specs.List.{All};
 ghost use Rattle.std.specs.List.Sorted.{IsPermutation};
-ghost use Rattle.spill_lists.specs.Standing.{IsReadRefusal};
-ghost use Rattle.spill_lists.specs.declared.error.SpillError.TheVariants.{TapeDamaged};
+ghost use Rattle.spill_lists.specs.declared.error.SpillError.TheVariants.{TapeDamaged, TapeFault};
 ghost use Rattle.group_runs.specs.Runs.{Rises};
 ghost use Rattle.group_runs.specs.Chunks.{on_end};
 ghost use Rattle.hash_agg.specs.Passes.{AreOnce, IsLed, pairs};
@@ -73,7 +72,7 @@ pub(crate) fn united(alloc: Global, first: &Run, others: &[Run]) -> Result<Run, 
     ensures sorted { IfOk result (IsPermutation (on_end (first.now ∷ others.now))) }
     ensures rises { IfOk result Rises }
     ensures undamaged { IfErr result (λ error. AreOnce (on_end (first.now ∷ others.now)) → error ≢ TapeDamaged) }
-    ensures refused { IfErr result (IsReadRefusal 0 0) }
+    ensures faultless { IfErr result (λ error. error ≢ TapeFault) }
 {
     let mut entries = Vec::new(alloc);
     push_all(&mut entries, first)?;
@@ -89,7 +88,7 @@ fn told_apart(alloc: Global, entries: &mut [Led<'_>]) -> Result<Run, SpillError>
     ensures sorted { IfOk result (IsPermutation (pairs entries.old)) }
     ensures rises { IfOk result Rises }
     ensures undamaged { IfErr result (λ error. AreOnce (pairs entries.old) → error ≢ TapeDamaged) }
-    ensures refused { IfErr result (IsReadRefusal 0 0) }
+    ensures faultless { IfErr result (λ error. error ≢ TapeFault) }
 {
     entries.sort_unstable();
     let mut run = Run::with_capacity(alloc, entries.len(), 0, 0)?;

@@ -1,27 +1,32 @@
 use Rattle.std.specs.Prelude.{◌≡◌, ◌+◌, ◌≤◌, max, ℕ, List, [], map, length, IsTrue}
-use Rattle.std.proofs.Common.{sym, ◌∙◌, ap, subst, arith}
 use Rattle.std.specs.List.{AllByRecursion}
-use Rattle.aggregation_cost.specs.Cost.{Cost, cost}
+use Rattle.std.proofs.Common.{sym, ◌∙◌, ap, subst, arith}
+use Rattle.spill_tapes.specs.DiskLaws.{leaves_twice}
+use Rattle.spill_lists.specs.declared.error.SpillError.TheVariants.{NoMemory}
+use Rattle.aggregation_cost.specs.Cost.{cost}
 use Rattle.aggregation_cost.specs.Space.{Setting}
 use Rattle.grouping_model.specs.Query.{Query}
 use Rattle.query_checks.specs.Checks.{Checked}
 use Rattle.having_filter.specs.Meaning.{meaning}
 use Rattle.group_runs.specs.Runs.{Entry, Rises}
 use Rattle.group_runs.specs.Standing.{AreGroups}
-use Rattle.hash_agg.specs.Inputs.{Brought, brought, all_rows, on_end, IsInput, IsAggregate, IsRunOver}
+use Rattle.hash_agg.specs.Added.{CountsWithin, IsSafeRun, query_of, setting_in}
 use Rattle.hash_agg.specs.Adding.{Given, AllGive, all_added}
-use Rattle.group_runs.specs.Standing.{states_width}
-use Rattle.hash_agg.specs.Passes.{Piece, AreSafe, Stands, setting_of, setting_for, records_of, all_pieces}
-use Rattle.hash_agg.specs.Waiting.{Waits, Costs, AddsUp}
-use Rattle.hash_agg.proofs.KeyLaws.{if_ok, if_ok_both}
+use Rattle.hash_agg.specs.Counting.{HasFewPasses, IsCounted, setting_by}
+use Rattle.hash_agg.specs.Inputs.{Brought, brought, all_rows, on_end, IsInput, IsAggregate, IsRunOver}
+use Rattle.hash_agg.specs.Passes.{AreSafe, CountUpTo, IsPlan, Stands, setting_for, records_of, all_pieces}
+use Rattle.hash_agg.specs.Waiting.{AddsUp}
+use Rattle.hash_agg.specs.declared.pass.Pass.{Pass}
+use Rattle.hash_agg.specs.declared.plan.Plan.{Plan}
+use Rattle.hash_agg.proofs.CountLaws.{all_made, made_rise, all_few, few_keys}
+use Rattle.hash_agg.proofs.DiskLaws.{left_out, still_out}
 use Rattle.hash_agg.proofs.FewLaws.{few_passes}
 use Rattle.hash_agg.proofs.FitLaws.{all_fit}
-use Rattle.hash_agg.proofs.DiskLaws.{refused_longer, moves_none}
-use Rattle.hash_agg.proofs.ReturnLaws.{no_ok, no_if_ok}
-use Rattle.spill_lists.specs.declared.error.SpillError.TheVariants.{NoMemory}
-use Rattle.hash_agg.proofs.StepLaws.{err_out, on_ok, on_error}
+use Rattle.hash_agg.proofs.KeyLaws.{if_ok}
+use Rattle.hash_agg.proofs.LaterLaws.{begun, made_all}
 use Rattle.hash_agg.proofs.NeedLaws.{ok_from}
-use Rattle.hash_agg.proofs.CountLaws.{all_made, made_rise, all_few, few_keys}
+use Rattle.hash_agg.proofs.ReturnLaws.{no_ok, no_if_ok}
+use Rattle.hash_agg.proofs.StepLaws.{err_out, on_error}
 use Rattle.hash_agg.proofs.UnionLaws.{all_stand, safe_run}
 use Rattle.hash_agg.proofs.WholeLaws.{all_given, lists_give, keys_give, keys_are, keys_few}
 use Rattle.hash_agg.proofs.aggregation.aggregated.Goals as goal
@@ -46,188 +51,133 @@ is_aggregate q hf inputs run all rises stands =
       is_run = record { groups = all_added q [] given.0; are = whole given.0 given.1; rises = rises };
     }
 
+-- a pass by the plan of a query, whose groups count as many rows as there are at most
+plan_counts : {H : Type 0} (pass : Pass H) (inputs : List Brought) (givens : List Given) → pass.plan.most ≡ all_rows inputs → AllByRecursion (IsInput (query_of pass)) inputs → AllGive (query_of pass) inputs givens → CountUpTo (query_of pass) pass.plan.most (all_pieces inputs givens)
+plan_counts pass inputs givens most all give k = let few = all_few (query_of pass) k inputs givens all give in omega (arith, few, most)
+
+-- its setting is that of the means
+set_by : {H : Type 0} (hash_of : H → List ℕ → ℕ) (pass : Pass H) (limit : ℕ) (hash : H) → IsPlan pass.plan → pass.plan.limit ≡ limit → pass.groups.table.hash ≡ hash → setting_in hash_of pass ≡ setting_for (query_of pass) limit (hash_of hash)
+set_by hash_of pass limit hash plan limited hashed = λ i. record { limit = limited i; width = plan.width i; hash = hash_of (hashed i) }
+
 pub first_pass-requires-clause-inputs : goal.first_pass-requires-clause-inputs
-first_pass-requires-clause-inputs g c = subst (λ (query : Checked). AllByRecursion (IsInput (meaning query)) (map brought c.args.inputs.now)) (sym c.in_ok-plan.ensures.query) c.requires.inputs
+first_pass-requires-clause-inputs g c =
+    let by = c.in_ok-pass.ensures.by in
+    let inputs : List Brought = map brought c.args.inputs.now in
+    let most : c.in_ok-pass.pass.plan.most ≡ all_rows inputs = ap (λ (plan : Plan). plan.most) by.0 ∙ c.in_ok-plan.ensures.most ∙ c.rows_of_all.ensures in
+    record {
+      are = subst (λ (query : Checked). AllByRecursion (IsInput (meaning query)) inputs) (sym (ap (λ (plan : Plan). plan.query.now) by.0 ∙ c.in_ok-plan.ensures.query)) c.requires.inputs;
+      few = omega (arith, most);
+    }
+
+pub later_passes-requires-clause-run : goal.later_passes-requires-clause-run
+later_passes-requires-clause-run g c =
+    let made = c.in_ok-run.ensures.made in
+    subst (λ (plan : Plan). IsSafeRun (meaning plan.query.now) plan.most c.in_ok-run.run') (sym made.plan) made.safe
 
 pub returns-in_err-plan : goal.returns-in_err-plan
 returns-in_err-plan g c =
-    let none = c.from_residual.ensures.0 in
     record {
-      aggregate = no_if_ok c.from_residual.result _ none;
-      run = no_if_ok c.from_residual.result _ none;
-      few = no_if_ok c.from_residual.result _ none;
-      work = no_ok c.from_residual.result _ none;
-      pages = no_ok c.from_residual.result _ none;
-      passes = no_ok c.from_residual.result _ none;
-      held = no_ok c.from_residual.result _ none;
+      aggregate = no_if_ok c.from_residual.result _ c.from_residual.ensures.0;
+      run = no_if_ok c.from_residual.result _ c.from_residual.ensures.0;
+      counted = no_ok c.from_residual.result _ c.from_residual.ensures.0;
+      few = no_if_ok c.from_residual.result _ c.from_residual.ensures.0;
+      within = no_ok c.from_residual.result _ c.from_residual.ensures.0;
       undamaged = err_out c.from_residual.result NoMemory _ c.from_residual.ensures.1 (λ honest same. cc);
-      refused = err_out c.from_residual.result NoMemory _ c.from_residual.ensures.1 tt;
-      disk = moves_none _ _ _;
+      disk = still_out g.D.TapeDisk c.from_residual.result NoMemory c.args.disk.now c.from_residual.ensures.1 (λ same. cc);
     }
 
 pub returns-in_err-pass : goal.returns-in_err-pass
 returns-in_err-pass g c =
-    let none = c.from_residual-in_err-pass.ensures.0 in
     record {
-      aggregate = no_if_ok c.from_residual-in_err-pass.result _ none;
-      run = no_if_ok c.from_residual-in_err-pass.result _ none;
-      few = no_if_ok c.from_residual-in_err-pass.result _ none;
-      work = no_ok c.from_residual-in_err-pass.result _ none;
-      pages = no_ok c.from_residual-in_err-pass.result _ none;
-      passes = no_ok c.from_residual-in_err-pass.result _ none;
-      held = no_ok c.from_residual-in_err-pass.result _ none;
+      aggregate = no_if_ok c.from_residual-in_err-pass.result _ c.from_residual-in_err-pass.ensures.0;
+      run = no_if_ok c.from_residual-in_err-pass.result _ c.from_residual-in_err-pass.ensures.0;
+      counted = no_ok c.from_residual-in_err-pass.result _ c.from_residual-in_err-pass.ensures.0;
+      few = no_if_ok c.from_residual-in_err-pass.result _ c.from_residual-in_err-pass.ensures.0;
+      within = no_ok c.from_residual-in_err-pass.result _ c.from_residual-in_err-pass.ensures.0;
       undamaged = err_out c.from_residual-in_err-pass.result NoMemory _ c.from_residual-in_err-pass.ensures.1 (λ honest same. cc);
-      refused = err_out c.from_residual-in_err-pass.result NoMemory _ c.from_residual-in_err-pass.ensures.1 tt;
-      disk = moves_none _ _ _;
+      disk = still_out g.D.TapeDisk c.from_residual-in_err-pass.result NoMemory c.args.disk.now c.from_residual-in_err-pass.ensures.1 (λ same. cc);
     }
 
 pub returns-in_err-run : goal.returns-in_err-run
 returns-in_err-run g c =
-    let none = c.from_residual-in_err-run.ensures.0 in
     record {
-      aggregate = no_if_ok c.from_residual-in_err-run.result _ none;
-      run = no_if_ok c.from_residual-in_err-run.result _ none;
-      few = no_if_ok c.from_residual-in_err-run.result _ none;
-      work = no_ok c.from_residual-in_err-run.result _ none;
-      pages = no_ok c.from_residual-in_err-run.result _ none;
-      passes = no_ok c.from_residual-in_err-run.result _ none;
-      held = no_ok c.from_residual-in_err-run.result _ none;
+      aggregate = no_if_ok c.from_residual-in_err-run.result _ c.from_residual-in_err-run.ensures.0;
+      run = no_if_ok c.from_residual-in_err-run.result _ c.from_residual-in_err-run.ensures.0;
+      counted = no_ok c.from_residual-in_err-run.result _ c.from_residual-in_err-run.ensures.0;
+      few = no_if_ok c.from_residual-in_err-run.result _ c.from_residual-in_err-run.ensures.0;
+      within = no_ok c.from_residual-in_err-run.result _ c.from_residual-in_err-run.ensures.0;
       undamaged = err_out c.from_residual-in_err-run.result c.in_err-run.field-0.0 _ c.from_residual-in_err-run.ensures.1 (λ honest. c.in_err-run.ensures.undamaged);
-      refused = err_out c.from_residual-in_err-run.result c.in_err-run.field-0.0 _ c.from_residual-in_err-run.ensures.1 c.in_err-run.ensures.refused;
-      disk = c.first_pass.ensures.disk;
+      disk = left_out g.D.TapeDisk c.from_residual-in_err-run.result c.in_err-run.field-0.0 c.args.disk.now c.first_pass.new.disk c.from_residual-in_err-run.ensures.1 c.in_err-run.ensures.disk;
     }
 
-pub returns-clause-aggregate : goal.returns-clause-aggregate
-returns-clause-aggregate g c =
+pub returns : goal.returns
+returns g c =
     let inputs : List Brought = map brought c.args.inputs.now in
-    let q : Query = meaning c.in_ok-plan.plan.query.now in
-    let all : AllByRecursion (IsInput q) inputs = subst (λ (query : Checked). AllByRecursion (IsInput (meaning query)) inputs) (sym c.in_ok-plan.ensures.query) c.requires.inputs in
-    let first = c.in_ok-run.ensures in
-    let hf : List ℕ → ℕ = g.H.KeyHash.hash_of c.first_pass.new.pass.groups.table.hash in
-    let most : c.in_ok-plan.plan.most ≡ all_rows inputs = c.in_ok-plan.ensures.most ∙ c.rows_of_all.ensures in
-    if_ok_both c.later_passes.result _ Rises _
-    (λ run stands rises honest.
-    subst (λ (query : Checked). IsAggregate (meaning query) inputs run) c.in_ok-plan.ensures.query
-    (is_aggregate q hf inputs run all rises
-    (λ givens give.
-    let w = first.waits givens give in
-    (stands (subst IsTrue (sym c.first_pass.ensures.disk.honesty) honest) (all_pieces inputs givens) w.0 w.3 w.1
-    (subst (λ hash. Waits q (g.H.KeyHash.hash_of hash) (all_pieces inputs givens) c.in_ok-run.run' w.0) (sym first.table.hash) w.2)
-    (λ k. let few = all_few q k inputs givens all give in omega (arith, few, most))
-    (subst (λ hash. Costs q (setting_of c.in_ok-plan.plan (g.H.KeyHash.hash_of hash)) (all_pieces inputs givens) w.3 w.0) (sym first.table.hash) w.4)).0)))
-    c.later_passes.ensures.stands c.later_passes.ensures.rises
-
-pub returns-clause-work : goal.returns-clause-work
-returns-clause-work g c =
-    let inputs : List Brought = map brought c.args.inputs.now in
-    let q : Query = meaning c.in_ok-plan.plan.query.now in
-    let all : AllByRecursion (IsInput q) inputs = subst (λ (query : Checked). AllByRecursion (IsInput (meaning query)) inputs) (sym c.in_ok-plan.ensures.query) c.requires.inputs in
-    let first = c.in_ok-run.ensures in
-    let most : c.in_ok-plan.plan.most ≡ all_rows inputs = c.in_ok-plan.ensures.most ∙ c.rows_of_all.ensures in
-    let here : List ℕ → ℕ = g.H.KeyHash.hash_of c.first_pass.new.pass.groups.table.hash in
-    let there : List ℕ → ℕ = g.H.KeyHash.hash_of c.args.means.now.hash in
-    let hashed : here ≡ there = ap g.H.KeyHash.hash_of (first.table.hash ∙ c.in_ok-pass.ensures.hash ∙ c.hash.ensures) in
-    let limit : c.in_ok-plan.plan.limit ≡ c.args.means.now.limit = c.in_ok-plan.ensures.limit ∙ c.limit.ensures.limit in
-    let set : setting_of c.in_ok-plan.plan here ≡ setting_for q c.args.means.now.limit there = λ i. record { limit = limit i; width = c.in_ok-plan.ensures.plan.width i; hash = hashed i } in
-    ok_from c.later_passes.result _
-    (λ run stands honest. subst (λ (query : Checked). (givens : List Given) → AllGive (meaning query) inputs givens → AddsUp c.args.work.now (cost (setting_for (meaning query) c.args.means.now.limit there) (records_of (meaning query) (states_width (meaning query)) (all_pieces inputs givens))) c.later_passes.new.work) c.in_ok-plan.ensures.query
-    (λ givens give.
-    let pieces : List Piece = all_pieces inputs givens in
-    let w = first.waits givens give in
-    let s = stands (subst IsTrue (sym c.first_pass.ensures.disk.honesty) honest) pieces w.0 w.3 w.1
-    (subst (λ hash. Waits q (g.H.KeyHash.hash_of hash) pieces c.in_ok-run.run' w.0) (sym first.table.hash) w.2)
-    (λ k. let few = all_few q k inputs givens all give in omega (arith, few, most))
-    (subst (λ hash. Costs q (setting_of c.in_ok-plan.plan (g.H.KeyHash.hash_of hash)) pieces w.3 w.0) (sym first.table.hash) w.4) in
-    subst (λ (set : Setting). AddsUp c.args.work.now (cost set (records_of q set.width pieces)) c.later_passes.new.work) set
-    (subst (λ made. AddsUp c.args.work.now made c.later_passes.new.work) s.2 (s.3 c.args.work.now w.5))))
-    c.later_passes.ensures.stands
-
-pub returns-clause-pages : goal.returns-clause-pages
-returns-clause-pages g c =
-    let inputs : List Brought = map brought c.args.inputs.now in
-    let q : Query = meaning c.in_ok-plan.plan.query.now in
-    let all : AllByRecursion (IsInput q) inputs = subst (λ (query : Checked). AllByRecursion (IsInput (meaning query)) inputs) (sym c.in_ok-plan.ensures.query) c.requires.inputs in
-    let first = c.in_ok-run.ensures in
-    let most : c.in_ok-plan.plan.most ≡ all_rows inputs = c.in_ok-plan.ensures.most ∙ c.rows_of_all.ensures in
-    let here : List ℕ → ℕ = g.H.KeyHash.hash_of c.first_pass.new.pass.groups.table.hash in
-    let there : List ℕ → ℕ = g.H.KeyHash.hash_of c.args.means.now.hash in
-    let hashed : here ≡ there = ap g.H.KeyHash.hash_of (first.table.hash ∙ c.in_ok-pass.ensures.hash ∙ c.hash.ensures) in
-    let limit : c.in_ok-plan.plan.limit ≡ c.args.means.now.limit = c.in_ok-plan.ensures.limit ∙ c.limit.ensures.limit in
-    let set : setting_of c.in_ok-plan.plan here ≡ setting_for q c.args.means.now.limit there = λ i. record { limit = limit i; width = c.in_ok-plan.ensures.plan.width i; hash = hashed i } in
-    ok_from c.later_passes.result _
-    (λ run stands honest. subst (λ (query : Checked). (givens : List Given) → AllGive (meaning query) inputs givens → g.D.TapeDisk.writes c.later_passes.new.disk ≡ g.D.TapeDisk.writes c.args.disk.now + (cost (setting_for (meaning query) c.args.means.now.limit there) (records_of (meaning query) (states_width (meaning query)) (all_pieces inputs givens))).pages) c.in_ok-plan.ensures.query
-    (λ givens give.
-    let pieces : List Piece = all_pieces inputs givens in
-    let w = first.waits givens give in
-    let s = stands (subst IsTrue (sym c.first_pass.ensures.disk.honesty) honest) pieces w.0 w.3 w.1
-    (subst (λ hash. Waits q (g.H.KeyHash.hash_of hash) pieces c.in_ok-run.run' w.0) (sym first.table.hash) w.2)
-    (λ k. let few = all_few q k inputs givens all give in omega (arith, few, most))
-    (subst (λ hash. Costs q (setting_of c.in_ok-plan.plan (g.H.KeyHash.hash_of hash)) pieces w.3 w.0) (sym first.table.hash) w.4) in
-    let early = w.6 in
-    let late = s.4 in
-    subst (λ (set : Setting). g.D.TapeDisk.writes c.later_passes.new.disk ≡ g.D.TapeDisk.writes c.args.disk.now + (cost set (records_of q set.width pieces)).pages) set
-    (subst (λ (made : Cost). g.D.TapeDisk.writes c.later_passes.new.disk ≡ g.D.TapeDisk.writes c.args.disk.now + made.pages) s.2 (omega (arith, early, late)))))
-    c.later_passes.ensures.stands
-
-pub returns-clause-held : goal.returns-clause-held
-returns-clause-held g c =
-    let limit : c.in_ok-plan.plan.limit ≡ c.args.means.now.limit = c.in_ok-plan.ensures.limit ∙ c.limit.ensures.limit in
-    on_ok c.later_passes.result
-    (λ later before. subst (λ limit. c.later_passes.new.work.most_held ≤ limit) limit (later (c.in_ok-run.ensures.held (subst (λ limit. c.args.work.now.most_held ≤ limit) (sym limit) before))))
-    c.later_passes.ensures.held
-
-pub returns-clause-run : goal.returns-clause-run
-returns-clause-run g c =
-    let inputs : List Brought = map brought c.args.inputs.now in
-    let q : Query = meaning c.in_ok-plan.plan.query.now in
-    let all : AllByRecursion (IsInput q) inputs = subst (λ (query : Checked). AllByRecursion (IsInput (meaning query)) inputs) (sym c.in_ok-plan.ensures.query) c.requires.inputs in
-    let most : c.in_ok-plan.plan.most ≡ all_rows inputs = c.in_ok-plan.ensures.most ∙ c.rows_of_all.ensures in
-    if_ok_both c.later_passes.result (λ run. AreSafe q c.in_ok-plan.plan.most run × Rises run) (λ run. length run ≤ _) _
-    (λ run safe many.
-    subst (λ (query : Checked). IsRunOver (meaning query) inputs run) c.in_ok-plan.ensures.query
-    (record {
-      is_run = safe_run q (all_rows inputs) run (subst (λ most. AreSafe q most run) most safe.0) safe.1;
-      few = λ lists bring. few_keys q inputs lists (length run) all (λ givens give. let few = c.in_ok-run.ensures.few givens give in omega (arith, few, many)) bring;
-    }))
-    (if_ok_both c.later_passes.result (AreSafe q c.in_ok-plan.plan.most) Rises (λ run. AreSafe q c.in_ok-plan.plan.most run × Rises run) (λ run safe rises. (safe, rises)) c.later_passes.ensures.safe c.later_passes.ensures.rises)
-    c.later_passes.ensures.few
-
-pub returns-clause-undamaged : goal.returns-clause-undamaged
-returns-clause-undamaged g c =
-    let inputs : List Brought = map brought c.args.inputs.now in
-    let q : Query = meaning c.in_ok-plan.plan.query.now in
-    let all : AllByRecursion (IsInput q) inputs = subst (λ (query : Checked). AllByRecursion (IsInput (meaning query)) inputs) (sym c.in_ok-plan.ensures.query) c.requires.inputs in
-    let given = all_given q inputs all in
-    let first = c.in_ok-run.ensures in
-    let most : c.in_ok-plan.plan.most ≡ all_rows inputs = c.in_ok-plan.ensures.most ∙ c.rows_of_all.ensures in
-    let w = first.waits given.0 given.1 in
-    on_error c.later_passes.result
-    (λ error right honest.
-    right (subst IsTrue (sym c.first_pass.ensures.disk.honesty) honest) (all_pieces inputs given.0) w.0 w.3 w.1
-    (subst (λ hash. Waits q (g.H.KeyHash.hash_of hash) (all_pieces inputs given.0) c.in_ok-run.run' w.0) (sym first.table.hash) w.2)
-    (λ k. let few = all_few q k inputs given.0 all given.1 in omega (arith, few, most))
-    (subst (λ hash. Costs q (setting_of c.in_ok-plan.plan (g.H.KeyHash.hash_of hash)) (all_pieces inputs given.0) w.3 w.0) (sym first.table.hash) w.4))
-    c.later_passes.ensures.undamaged
-
-pub returns-clause-refused : goal.returns-clause-refused
-returns-clause-refused g c =
-    let before = c.first_pass.ensures.disk.failures in
-    on_error c.later_passes.result
-    (λ error refused. refused_longer (g.D.TapeDisk.failures c.args.disk.now) (g.D.TapeDisk.failures c.first_pass.new.disk) (g.D.TapeDisk.failures c.later_passes.new.disk) (g.D.TapeDisk.failures c.later_passes.new.disk) error before (omega arith) refused)
-    c.later_passes.ensures.refused
-
-pub returns-clause-few : goal.returns-clause-few
-returns-clause-few g c =
-    let inputs : List Brought = map brought c.args.inputs.now in
-    let there : List ℕ → ℕ = g.H.KeyHash.hash_of c.args.means.now.hash in
-    let limit : c.in_ok-plan.plan.limit ≡ c.args.means.now.limit = c.in_ok-plan.ensures.limit ∙ c.limit.ensures.limit in
-    let set : setting_of c.in_ok-plan.plan there ≡ setting_for (meaning c.in_ok-plan.plan.query.now) c.args.means.now.limit there = λ i. record { limit = limit i; width = c.in_ok-plan.ensures.plan.width i; hash = there } in
-    if_ok c.later_passes.result (λ run. IsTrue (g.D.TapeDisk.honest c.args.disk.now) → IsAggregate (meaning c.args.query.now) inputs run) _
-    (λ run is honest.
-    subst (λ (query : Checked). (givens : List Given) → AllGive (meaning query) inputs givens → (cost (setting_for (meaning query) c.args.means.now.limit there) (records_of (meaning query) (states_width (meaning query)) (all_pieces inputs givens))).passes ≤ max 1 (length run)) c.in_ok-plan.ensures.query
-    (λ givens give.
-    subst (λ (set : Setting). (cost set (records_of (meaning c.in_ok-plan.plan.query.now) set.width (all_pieces inputs givens))).passes ≤ max 1 (length run)) set
-    (few_passes (meaning c.in_ok-plan.plan.query.now) (setting_of c.in_ok-plan.plan there) inputs givens run
-    (subst (λ (query : Checked). IsAggregate (meaning query) inputs run) (sym c.in_ok-plan.ensures.query) (is honest)) give
-    (all_fit (meaning c.in_ok-plan.plan.query.now) (setting_of c.in_ok-plan.plan there) inputs givens c.in_ok-plan.ensures.plan.formed c.in_ok-plan.ensures.plan.limit c.in_ok-plan.ensures.plan.narrow give))))
-    (returns-clause-aggregate g c)
+    let pass = c.in_ok-pass.pass in
+    let q : Query = query_of pass in
+    let set : Setting = setting_in g.H.KeyHash.hash_of pass in
+    let plan = c.in_ok-pass.ensures.first.ready.plan in
+    let by = c.in_ok-pass.ensures.by in
+    let queried : pass.plan.query.now ≡ c.args.query.now = ap (λ (plan : Plan). plan.query.now) by.0 ∙ c.in_ok-plan.ensures.query in
+    let most : pass.plan.most ≡ all_rows inputs = ap (λ (plan : Plan). plan.most) by.0 ∙ c.in_ok-plan.ensures.most ∙ c.rows_of_all.ensures in
+    let limited : pass.plan.limit ≡ c.args.means.now.limit = ap (λ (plan : Plan). plan.limit) by.0 ∙ c.in_ok-plan.ensures.limit ∙ c.limit.ensures.limit in
+    let set_is = set_by g.H.KeyHash.hash_of pass c.args.means.now.limit c.args.means.now.hash plan limited (by.1 ∙ c.hash.ensures) in
+    let are : AllByRecursion (IsInput q) inputs = subst (λ (query : Checked). AllByRecursion (IsInput (meaning query)) inputs) (sym queried) c.requires.inputs in
+    let first = c.in_ok-run.ensures.made in
+    let honesty = c.in_ok-run.ensures.disk.honesty in
+    let all = made_all g.H.KeyHash.hash_of g.D.TapeDisk inputs pass c.args.disk.now c.args.work.now c.in_ok-run.run' c.first_pass.new.pass c.first_pass.new.disk c.first_pass.new.work first in
+    record {
+      aggregate =
+          if_ok c.later_passes.result _ _
+          (λ run later honest.
+          let made = all run c.later_passes.new.disk c.later_passes.new.work honesty later in
+          subst (λ (query : Checked). IsAggregate (meaning query) inputs run) queried
+          (is_aggregate q set.hash inputs run are made.safe.rises (λ givens give. (made.whole honest givens give (plan_counts pass inputs givens most are give)).stands)))
+          c.later_passes.ensures.made;
+      run =
+          if_ok c.later_passes.result _ _
+          (λ run later.
+          let made = all run c.later_passes.new.disk c.later_passes.new.work honesty later in
+          subst (λ (query : Checked). IsRunOver (meaning query) inputs run) queried
+          (record {
+            is_run = safe_run q (all_rows inputs) run (subst (λ most. AreSafe q most run) most made.safe.safe) made.safe.rises;
+            few = λ lists bring. few_keys q inputs lists (length run) are made.few bring;
+          }))
+          c.later_passes.ensures.made;
+      counted =
+          ok_from c.later_passes.result _
+          (λ run later honest.
+          let made = all run c.later_passes.new.disk c.later_passes.new.work honesty later in
+          subst (λ (query : Checked). IsCounted (meaning query) (setting_by g.H.KeyHash.hash_of (meaning query) c.args.means.now) inputs c.args.work.now (g.D.TapeDisk.writes c.args.disk.now) c.later_passes.new.work (g.D.TapeDisk.writes c.later_passes.new.disk)) queried
+          (record {
+            work = λ givens give. subst (λ (set : Setting). AddsUp c.args.work.now (cost set (records_of q set.width (all_pieces inputs givens))) c.later_passes.new.work) set_is (made.whole honest givens give (plan_counts pass inputs givens most are give)).adds;
+            pages = λ givens give. subst (λ (set : Setting). g.D.TapeDisk.writes c.later_passes.new.disk ≡ g.D.TapeDisk.writes c.args.disk.now + (cost set (records_of q set.width (all_pieces inputs givens))).pages) set_is (made.whole honest givens give (plan_counts pass inputs givens most are give)).paged;
+          }))
+          c.later_passes.ensures.made;
+      few =
+          if_ok c.later_passes.result _ _
+          (λ run later honest.
+          let made = all run c.later_passes.new.disk c.later_passes.new.work honesty later in
+          subst (λ (query : Checked). HasFewPasses (meaning query) (setting_by g.H.KeyHash.hash_of (meaning query) c.args.means.now) inputs (length run)) queried
+          (λ givens give.
+          subst (λ (set : Setting). (cost set (records_of q set.width (all_pieces inputs givens))).passes ≤ max 1 (length run)) set_is
+          (few_passes q set inputs givens run
+          (is_aggregate q set.hash inputs run are made.safe.rises (λ givens give. (made.whole honest givens give (plan_counts pass inputs givens most are give)).stands)) give
+          (all_fit q set inputs givens plan.formed plan.limit plan.narrow give))))
+          c.later_passes.ensures.made;
+      within =
+          ok_from c.later_passes.result _
+          (λ run later.
+          let made = all run c.later_passes.new.disk c.later_passes.new.work honesty later in
+          subst (λ limit. CountsWithin limit c.args.work.now c.later_passes.new.work) limited made.within)
+          c.later_passes.ensures.made;
+      undamaged =
+          on_error c.later_passes.result
+          (λ error right honest.
+          let given = all_given q inputs are in
+          right (subst IsTrue (sym honesty) honest) (all_pieces inputs given.0) c.args.work.now (g.D.TapeDisk.writes c.args.disk.now)
+          (begun g.H.KeyHash.hash_of g.D.TapeDisk inputs pass c.args.disk.now c.args.work.now c.in_ok-run.run' c.first_pass.new.pass c.first_pass.new.disk c.first_pass.new.work first given.0 given.1)
+          (subst (λ (plan : Plan). CountUpTo (meaning plan.query.now) plan.most (all_pieces inputs given.0)) (sym first.plan) (plan_counts pass inputs given.0 most are given.1)))
+          c.later_passes.ensures.undamaged;
+      disk = leaves_twice g.D.TapeDisk _ c.args.disk.now c.first_pass.new.disk c.later_passes.new.disk c.in_ok-run.ensures.disk c.later_passes.ensures.disk;
+    }

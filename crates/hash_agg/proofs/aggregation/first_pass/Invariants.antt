@@ -1,20 +1,21 @@
 use Rattle.std.specs.Prelude.{◌≤◌, List, [], map, take}
-use Rattle.having_filter.specs.Meaning.{meaning}
-use Rattle.spill_lists.specs.Standing.{Moves}
-use Rattle.hash_agg.specs.Inputs.{brought}
+use Rattle.spill_tapes.specs.Disk.{Leaves}
+use Rattle.hash_agg.specs.Added.{IsReady, KeepsPass, query_of, setting_in}
 use Rattle.hash_agg.specs.Adding.{Given, AllGive}
-use Rattle.hash_agg.specs.Passes.{WritesPages, standing, setting_of, entries_of, Holds, total, all_pieces, brought_by}
-use Rattle.hash_agg.proofs.LoopLaws.{Keeps}
+use Rattle.hash_agg.specs.Inputs.{brought}
+use Rattle.hash_agg.specs.Passes.{AreSafe, WritesPages, standing, entries_of, Holds, total, all_pieces, brought_by}
 use Rattle.hash_agg.proofs.aggregation.first_pass.Given as goal
 
 abbrev pub invariant-loop-input : goal.invariant-loop-input
 invariant-loop-input g l =
     record {
-      reads : (givens : List Given) → AllGive (meaning l.plan.query.now) (map brought l.inputs) givens
-          → Holds (meaning l.plan.query.now) (setting_of l.plan (g.H.KeyHash.hash_of l.fn.pass.groups.table.hash)) (standing l.pass.groups l.pass.lists (g.D.TapeDisk.last l.disk)) (all_pieces (take l.input-index (map brought l.inputs)) (take l.input-index givens)) [] [];
-      brings : (givens : List Given) → AllGive (meaning l.plan.query.now) (map brought l.inputs) givens
-          → total (entries_of l.pass.groups) l.pass.lists ≤ brought_by (meaning l.plan.query.now) (all_pieces (take l.input-index (map brought l.inputs)) (take l.input-index givens));
-      keeps : Keeps (meaning l.plan.query.now) l.plan.most l.plan.limit l.fn.pass.groups l.pass.groups l.fn.pass.lists l.pass.lists;
+      reads : (givens : List Given) → AllGive (query_of l.fn.pass) (map brought l.inputs) givens
+          → Holds (query_of l.fn.pass) (setting_in g.H.KeyHash.hash_of l.fn.pass) (standing l.pass.groups l.pass.lists (g.D.TapeDisk.last l.disk)) (all_pieces (take l.input-index (map brought l.inputs)) (take l.input-index givens)) [] [];
+      brings : (givens : List Given) → AllGive (query_of l.fn.pass) (map brought l.inputs) givens
+          → total (entries_of l.pass.groups) l.pass.lists ≤ brought_by (query_of l.fn.pass) (all_pieces (take l.input-index (map brought l.inputs)) (take l.input-index givens));
+      safe : AreSafe (query_of l.fn.pass) l.fn.pass.plan.most (entries_of l.pass.groups);
       pages : WritesPages (g.D.TapeDisk.writes l.fn.disk) l.fn.pass.lists (g.D.TapeDisk.writes l.disk) l.pass.lists;
-      disk : Moves (g.D.TapeDisk.failures l.fn.disk) (g.D.TapeDisk.failures l.disk) (g.D.TapeDisk.writes l.fn.disk) (g.D.TapeDisk.writes l.disk) (g.D.TapeDisk.honest l.fn.disk) (g.D.TapeDisk.honest l.disk);
+      ready : IsReady l.pass;
+      kept : KeepsPass l.fn.pass l.pass;
+      disk : Leaves g.D.TapeDisk 0 l.fn.disk l.disk;
     }

@@ -1,189 +1,168 @@
-use Rattle.std.specs.Prelude.{◌≡◌, refl, ◌++◌, ◌∷◌, ℕ, List, [], length, IsTrue}
+use Rattle.std.specs.Prelude.{◌≡◌, refl, ◌≤◌, ◌++◌, ◌∷◌, ℕ, List, [], length, IsTrue}
+use Rattle.std.specs.List.Sorted.{IsPermutation}
 use Rattle.std.proofs.Common.{sym, ◌∙◌, ap, subst, arith, append-nil}
 use Rattle.std.proofs.lemmas.Grind.{common_steps}
 use Rattle.std.proofs.lemmas.List.{length-append}
 use Rattle.std.proofs.lemmas.List.Sorted.{length_permutation}
-use Rattle.std.specs.List.Sorted.{IsPermutation}
-use Rattle.grouping_model.specs.Query.{Query}
+use Rattle.spill_tapes.specs.DiskLaws.{leaves_none, leaves_twice}
+use Rattle.spill_lists.specs.Errors.{spill_faults}
 use Rattle.spill_lists.specs.Standing.{count_of, waiting_number, full_pages, written_pages}
-use Rattle.having_filter.specs.Meaning.{meaning}
-use Rattle.group_runs.specs.Runs.{Entry}
-use Rattle.group_runs.specs.Chunks.{on_end}
-use Rattle.hash_agg.specs.Passes.{AreOnce, AreSafe, setting_of, ReadsList, CanReadList, entries_of, standing, Stands}
-use Rattle.hash_agg.specs.Waiting.{AddsUp, pass_cost}
-use Rattle.hash_agg.proofs.DiskLaws.{moves_none, moves_twice, refused_longer}
-use Rattle.hash_agg.proofs.ReturnLaws.{no_ok, no_if_ok, refused_spill, undamaged_spill}
 use Rattle.spill_lists.specs.declared.error.SpillError.TheVariants.{NoMemory}
+use Rattle.aggregation_cost.specs.Space.{Setting}
+use Rattle.grouping_model.specs.Query.{Query}
+use Rattle.group_runs.specs.Runs.{Entry, Rises}
+use Rattle.group_runs.specs.Chunks.{on_end}
+use Rattle.hash_agg.specs.Added.{IsDone, query_of, setting_in}
+use Rattle.having_filter.specs.Meaning.{meaning}
+use Rattle.hash_agg.specs.Passes.{AreOnce, AreSafe, PassState, ReadsList, CanReadList, entries_of, standing}
+use Rattle.hash_agg.specs.Waiting.{AddsUp, pass_cost}
+use Rattle.hash_agg.specs.declared.plan.Plan.{Plan}
+use Rattle.hash_agg.proofs.DiskLaws.{left_out, still}
+use Rattle.hash_agg.proofs.KeyLaws.{if_ok_both}
+use Rattle.hash_agg.proofs.LaterLaws.{IsWaiting, pass_can, pass_made, waiting_ends}
+use Rattle.hash_agg.proofs.NeedLaws.{held_by_both}
+use Rattle.hash_agg.proofs.ReturnLaws.{no_if_ok}
 use Rattle.hash_agg.proofs.SortLaws.{rises_once}
-use Rattle.hash_agg.proofs.UnionLaws.{one_run_more, safe_append, safe_moved, moved_stands}
-use Rattle.hash_agg.proofs.KeyLaws.{if_ok}
 use Rattle.hash_agg.proofs.StepLaws.{err_out, on_error}
-use Rattle.hash_agg.proofs.NeedLaws.{none_held, held_by_both}
-use Rattle.hash_agg.proofs.LaterLaws.{IsWaiting, waiting_begins, pass_can, pass_made, waiting_ends}
+use Rattle.hash_agg.proofs.UnionLaws.{one_run_more, safe_append, safe_moved, moved_stands}
 use Rattle.hash_agg.proofs.aggregation.later_passes.Goals as goal
+
+-- of the records of one list those were read that could be, by the plan and the hash function that all passes have
+can_by : {H : Type 0} (hash_of : H → List ℕ → ℕ) (plan other : Plan) (hash last : H) (pass : PassState) → other ≡ plan → last ≡ hash → CanReadList plan (hash_of hash) pass → CanReadList other (hash_of last) pass
+can_by hash_of plan other hash last pass same hashed can = subst (λ hash. CanReadList other (hash_of hash) pass) (sym hashed) (subst (λ plan. CanReadList plan (hash_of hash) pass) (sym same) can)
+
+reads_by : {H : Type 0} (hash_of : H → List ℕ → ℕ) (plan other : Plan) (hash last : H) (pass next : PassState) → other ≡ plan → last ≡ hash → ReadsList other (hash_of last) pass next → ReadsList plan (hash_of hash) pass next
+reads_by hash_of plan other hash last pass next same hashed reads = subst (λ hash. ReadsList plan (hash_of hash) pass next) hashed (subst (λ plan. ReadsList plan (hash_of last) pass next) same reads)
 
 pub loop-pass-init : goal.loop-pass-init
 loop-pass-init g c =
-    let q : Query = meaning c.args.plan.now.query.now in
-    let hf : List ℕ → ℕ = g.H.KeyHash.hash_of c.args.pass.now.groups.table.hash in
+    let q : Query = query_of c.args.pass.now in
     let one : on_end (c.args.run ∷ c.new-others.result.items) ≡ c.args.run = ap (λ rs. on_end (c.args.run ∷ rs)) c.new-others.ensures.items ∙ append-nil c.args.run in
     let long = ap length one in
     record {
-      width = c.requires.width;
+      over = c.requires.over;
+      plan = refl;
       hash = refl;
-      alive = c.requires.alive;
-      empty = c.requires.empty;
-      unheld = c.requires.unheld;
-      counted = c.requires.counted;
-      held = λ is. is;
-      parts = c.requires.parts;
-      source = c.requires.source;
-      moves = moves_none (g.D.TapeDisk.failures c.args.disk.now) (g.D.TapeDisk.writes c.args.disk.now) (g.D.TapeDisk.honest c.args.disk.now);
-      safe = subst (AreSafe q c.args.plan.now.most) (sym one) c.requires.safe;
+      within = record { counted = c.requires.counted; held = λ is. is };
+      safe = subst (AreSafe q c.args.pass.now.plan.most) (sym one) c.requires.run.safe;
       few = omega (arith, long);
-      waits = λ honest pieces todo made has waits count costs.
-          subst (λ es. IsWaiting q (setting_of c.args.plan.now hf) pieces es c.args.pass.now.lists (g.D.TapeDisk.last c.args.disk.now) made c.args.work.now c.args.work.now (g.D.TapeDisk.writes c.args.disk.now) (g.D.TapeDisk.writes c.args.disk.now)) (sym one)
-          (waiting_begins q (setting_of c.args.plan.now hf) pieces c.args.run c.args.pass.now.lists (g.D.TapeDisk.last c.args.disk.now) made todo c.args.work.now (g.D.TapeDisk.writes c.args.disk.now) has waits (rises_once c.args.run c.requires.rises) costs);
+      waits = λ honest pieces start writes underway count.
+          subst (λ es. IsWaiting q (setting_in g.H.KeyHash.hash_of c.args.pass.now) pieces es c.args.pass.now.lists (g.D.TapeDisk.last c.args.disk.now) start c.args.work.now writes (g.D.TapeDisk.writes c.args.disk.now)) (sym one)
+          (record { underway = underway; once = rises_once c.args.run c.requires.run.rises });
+      disk = leaves_none g.D.TapeDisk c.args.disk.now;
     }
 
 pub returns-in_err-add_list : goal.returns-in_err-add_list
 returns-in_err-add_list g c =
-    let none = c.from_residual.ensures.0 in
+    let i = c.loop-pass.invariant in
     record {
-      stands = no_if_ok c.from_residual.result _ none;
-      safe = no_if_ok c.from_residual.result _ none;
-      rises = no_if_ok c.from_residual.result _ none;
-      few = no_if_ok c.from_residual.result _ none;
-      counted = no_ok c.from_residual.result _ none;
-      held = no_ok c.from_residual.result _ none;
+      made = no_if_ok c.from_residual.result _ c.from_residual.ensures.0;
       undamaged =
-          let hf : List ℕ → ℕ = g.H.KeyHash.hash_of c.args.pass.now.groups.table.hash in
-          let i = c.loop-pass.invariant in
           err_out c.from_residual.result c.in_err-add_list.field-0.0 _ c.from_residual.ensures.1
-          (λ honest pieces todo made has waits count costs.
-          c.in_err-add_list.ensures.undamaged (subst IsTrue (sym i.moves.honesty) honest)
-          (subst (λ hash. CanReadList c.args.plan.now (g.H.KeyHash.hash_of hash) (standing c.loop-pass.pass.groups c.begin_pass.new.self (g.D.TapeDisk.last c.loop-pass.disk))) (sym i.hash)
-          (pass_can c.args.plan.now hf pieces (on_end (c.args.run ∷ c.loop-pass.others.items)) (entries_of c.loop-pass.pass.groups) c.loop-pass.pass.lists c.begin_pass.new.self (g.D.TapeDisk.last c.loop-pass.disk) made c.args.work.now c.loop-pass.work (g.D.TapeDisk.writes c.args.disk.now) (g.D.TapeDisk.writes c.loop-pass.disk) (i.waits honest pieces todo made has waits count costs) count
-          (c.begin_pass.ensures.begins c.loop-pass-test.true))));
-      refused = err_out c.from_residual.result c.in_err-add_list.field-0.0 _ c.from_residual.ensures.1 (refused_longer _ _ _ _ _ c.loop-pass.invariant.moves.failures (omega arith) c.in_err-add_list.ensures.refused);
-      disk = moves_twice _ _ _ _ _ _ _ _ _ c.loop-pass.invariant.moves c.add_list.ensures.disk;
+          (λ honest pieces start writes underway count.
+          c.in_err-add_list.ensures.refused.undamaged (subst IsTrue (sym i.disk.honesty) honest)
+          (can_by g.H.KeyHash.hash_of c.args.pass.now.plan c.loop-pass.pass.plan c.args.pass.now.groups.table.hash c.loop-pass.pass.groups.table.hash (standing c.loop-pass.pass.groups c.begin_pass.new.self (g.D.TapeDisk.last c.loop-pass.disk)) i.plan i.hash
+          (pass_can c.args.pass.now.plan (g.H.KeyHash.hash_of c.args.pass.now.groups.table.hash) pieces (on_end (c.args.run ∷ c.loop-pass.others.items)) (entries_of c.loop-pass.pass.groups) c.loop-pass.pass.lists c.begin_pass.new.self (g.D.TapeDisk.last c.loop-pass.disk) start c.loop-pass.work writes (g.D.TapeDisk.writes c.loop-pass.disk)
+          (i.waits honest pieces start writes underway count) count (c.begin_pass.ensures.begins c.loop-pass-test.true))));
+      disk =
+          left_out g.D.TapeDisk c.from_residual.result c.in_err-add_list.field-0.0 c.args.disk.now c.add_list.new.disk c.from_residual.ensures.1
+          (leaves_twice g.D.TapeDisk (spill_faults c.in_err-add_list.field-0.0) c.args.disk.now c.loop-pass.disk c.add_list.new.disk i.disk c.in_err-add_list.ensures.disk);
     }
 
 pub returns-in_err-more : goal.returns-in_err-more
 returns-in_err-more g c =
-    let none = c.from_residual-in_err-more.ensures.0 in
     record {
-      stands = no_if_ok c.from_residual-in_err-more.result _ none;
-      safe = no_if_ok c.from_residual-in_err-more.result _ none;
-      rises = no_if_ok c.from_residual-in_err-more.result _ none;
-      few = no_if_ok c.from_residual-in_err-more.result _ none;
-      counted = no_ok c.from_residual-in_err-more.result _ none;
-      held = no_ok c.from_residual-in_err-more.result _ none;
-      undamaged = err_out c.from_residual-in_err-more.result c.in_err-more.field-0.0 _ c.from_residual-in_err-more.ensures.1 (λ honest pieces todo made has waits count costs. undamaged_spill _ _ c.in_err-more.field-0.0 c.in_err-more.ensures.refused);
-      refused = err_out c.from_residual-in_err-more.result c.in_err-more.field-0.0 _ c.from_residual-in_err-more.ensures.1
-          (let first = c.loop-pass.invariant.moves.failures in let then = c.add_list.ensures.disk.failures in refused_longer _ (g.D.TapeDisk.failures c.add_list.new.disk) _ _ c.in_err-more.field-0.0 (omega (arith, first, then)) (omega arith) (refused_spill _ _ c.in_err-more.field-0.0 c.in_err-more.ensures.refused));
-      disk = moves_twice (g.D.TapeDisk.failures c.args.disk.now) (g.D.TapeDisk.failures c.add_list.new.disk) (g.D.TapeDisk.failures c.finish.new.disk) (g.D.TapeDisk.writes c.args.disk.now) (g.D.TapeDisk.writes c.add_list.new.disk) (g.D.TapeDisk.writes c.finish.new.disk) (g.D.TapeDisk.honest c.args.disk.now) (g.D.TapeDisk.honest c.add_list.new.disk) (g.D.TapeDisk.honest c.finish.new.disk)
-          (moves_twice (g.D.TapeDisk.failures c.args.disk.now) (g.D.TapeDisk.failures c.loop-pass.disk) (g.D.TapeDisk.failures c.add_list.new.disk) (g.D.TapeDisk.writes c.args.disk.now) (g.D.TapeDisk.writes c.loop-pass.disk) (g.D.TapeDisk.writes c.add_list.new.disk) (g.D.TapeDisk.honest c.args.disk.now) (g.D.TapeDisk.honest c.loop-pass.disk) (g.D.TapeDisk.honest c.add_list.new.disk) c.loop-pass.invariant.moves c.add_list.ensures.disk)
-          c.finish.ensures.disk;
+      made = no_if_ok c.from_residual-in_err-more.result _ c.from_residual-in_err-more.ensures.0;
+      undamaged = err_out c.from_residual-in_err-more.result c.in_err-more.field-0.0 _ c.from_residual-in_err-more.ensures.1 (λ honest pieces start writes underway count. c.in_err-more.ensures.undamaged);
+      disk =
+          left_out g.D.TapeDisk c.from_residual-in_err-more.result c.in_err-more.field-0.0 c.args.disk.now c.finish.new.disk c.from_residual-in_err-more.ensures.1
+          (leaves_twice g.D.TapeDisk (spill_faults c.in_err-more.field-0.0) c.args.disk.now c.add_list.new.disk c.finish.new.disk (leaves_twice g.D.TapeDisk 0 c.args.disk.now c.loop-pass.disk c.add_list.new.disk c.loop-pass.invariant.disk c.in_ok-add_list.ensures.disk) c.in_err-more.ensures.disk);
     }
 
 pub returns-in_err-push : goal.returns-in_err-push
 returns-in_err-push g c =
-    let none = c.from_residual-in_err-push.ensures.0 in
     record {
-      stands = no_if_ok c.from_residual-in_err-push.result _ none;
-      safe = no_if_ok c.from_residual-in_err-push.result _ none;
-      rises = no_if_ok c.from_residual-in_err-push.result _ none;
-      few = no_if_ok c.from_residual-in_err-push.result _ none;
-      counted = no_ok c.from_residual-in_err-push.result _ none;
-      held = no_ok c.from_residual-in_err-push.result _ none;
-      undamaged = err_out c.from_residual-in_err-push.result NoMemory _ c.from_residual-in_err-push.ensures.1 (λ honest pieces todo made has waits count costs same. cc);
-      refused = err_out c.from_residual-in_err-push.result NoMemory _ c.from_residual-in_err-push.ensures.1 tt;
-      disk = moves_twice (g.D.TapeDisk.failures c.args.disk.now) (g.D.TapeDisk.failures c.add_list.new.disk) (g.D.TapeDisk.failures c.finish.new.disk) (g.D.TapeDisk.writes c.args.disk.now) (g.D.TapeDisk.writes c.add_list.new.disk) (g.D.TapeDisk.writes c.finish.new.disk) (g.D.TapeDisk.honest c.args.disk.now) (g.D.TapeDisk.honest c.add_list.new.disk) (g.D.TapeDisk.honest c.finish.new.disk)
-          (moves_twice (g.D.TapeDisk.failures c.args.disk.now) (g.D.TapeDisk.failures c.loop-pass.disk) (g.D.TapeDisk.failures c.add_list.new.disk) (g.D.TapeDisk.writes c.args.disk.now) (g.D.TapeDisk.writes c.loop-pass.disk) (g.D.TapeDisk.writes c.add_list.new.disk) (g.D.TapeDisk.honest c.args.disk.now) (g.D.TapeDisk.honest c.loop-pass.disk) (g.D.TapeDisk.honest c.add_list.new.disk) c.loop-pass.invariant.moves c.add_list.ensures.disk)
-          c.finish.ensures.disk;
+      made = no_if_ok c.from_residual-in_err-push.result _ c.from_residual-in_err-push.ensures.0;
+      undamaged = err_out c.from_residual-in_err-push.result NoMemory _ c.from_residual-in_err-push.ensures.1 (λ honest pieces start writes underway count same. cc);
+      disk =
+          left_out g.D.TapeDisk c.from_residual-in_err-push.result NoMemory c.args.disk.now c.finish.new.disk c.from_residual-in_err-push.ensures.1
+          (leaves_twice g.D.TapeDisk 0 c.args.disk.now c.add_list.new.disk c.finish.new.disk (leaves_twice g.D.TapeDisk 0 c.args.disk.now c.loop-pass.disk c.add_list.new.disk c.loop-pass.invariant.disk c.in_ok-add_list.ensures.disk) c.in_ok-more.ensures.disk);
     }
 
 pub loop-pass-preserved : goal.loop-pass-preserved
 loop-pass-preserved g c =
-    let q : Query = meaning c.args.plan.now.query.now in
-    let hf : List ℕ → ℕ = g.H.KeyHash.hash_of c.args.pass.now.groups.table.hash in
+    let q : Query = query_of c.args.pass.now in
+    let set : Setting = setting_in g.H.KeyHash.hash_of c.args.pass.now in
     let i = c.loop-pass.invariant in
-    let f = c.in_ok-more.ensures in
-    let a = c.in_ok-add_list.ensures in
+    let end = c.in_ok-more.ensures.finished in
+    let counts = c.in_ok-more.ensures.counted in
+    let add = c.in_ok-add_list.ensures.added in
     let run : List Entry = c.in_ok-more.more in
     let more : on_end (c.args.run ∷ c.push.new.self.items) ≡ on_end (c.args.run ∷ c.loop-pass.others.items) ++ run = ap (λ rs. on_end (c.args.run ∷ rs)) c.in_ok-push.ensures.items ∙ one_run_more (c.args.run ∷ c.loop-pass.others.items) run in
     let both = ap length more ∙ length-append (on_end (c.args.run ∷ c.loop-pass.others.items)) run in
-    let many = length_permutation (entries_of c.add_list.new.self.groups) run f.run in
-    let made = a.few in
-    let left = f.waiting in
-    let same : waiting_number c.add_list.new.self.lists ≡ waiting_number c.begin_pass.new.self = ap count_of a.todo in
+    let many = length_permutation (entries_of c.add_list.new.self.groups) run end.moved in
+    let made = add.few in
+    let left = end.waiting in
+    let same : waiting_number c.add_list.new.self.lists ≡ waiting_number c.begin_pass.new.self = ap count_of add.kept.todo in
     let counted = c.begin_pass.ensures.counted in
     let before = i.few in
-    let read_pages = a.pages in
-    let none : written_pages c.begin_pass.new.self ≡ 0 = ap (full_pages c.begin_pass.new.self.tapes) c.begin_pass.ensures.parts in
+    let safe : AreSafe q c.args.pass.now.plan.most (entries_of c.add_list.new.self.groups) = subst (λ (plan : Plan). AreSafe (meaning plan.query.now) plan.most (entries_of c.add_list.new.self.groups)) i.plan add.safe in
     record {
-      width = (f.table c.args.plan.now.limit).width ∙ a.table.width ∙ i.width;
-      hash = (f.table c.args.plan.now.limit).hash ∙ a.table.hash ∙ i.hash;
-      alive = f.alive;
-      empty = f.emptied;
-      unheld = f.unheld;
-      counted = f.counted;
-      held = λ within. held_by_both c.args.plan.now.limit _ _ _ f.held (i.held within) (a.table.within (none_held c.args.plan.now.limit _ i.unheld));
-      parts = f.parts;
-      source = f.source ∙ a.source;
-      moves = moves_twice (g.D.TapeDisk.failures c.args.disk.now) (g.D.TapeDisk.failures c.add_list.new.disk) (g.D.TapeDisk.failures c.finish.new.disk) (g.D.TapeDisk.writes c.args.disk.now) (g.D.TapeDisk.writes c.add_list.new.disk) (g.D.TapeDisk.writes c.finish.new.disk) (g.D.TapeDisk.honest c.args.disk.now) (g.D.TapeDisk.honest c.add_list.new.disk) (g.D.TapeDisk.honest c.finish.new.disk)
-          (moves_twice (g.D.TapeDisk.failures c.args.disk.now) (g.D.TapeDisk.failures c.loop-pass.disk) (g.D.TapeDisk.failures c.add_list.new.disk) (g.D.TapeDisk.writes c.args.disk.now) (g.D.TapeDisk.writes c.loop-pass.disk) (g.D.TapeDisk.writes c.add_list.new.disk) (g.D.TapeDisk.honest c.args.disk.now) (g.D.TapeDisk.honest c.loop-pass.disk) (g.D.TapeDisk.honest c.add_list.new.disk) i.moves c.add_list.ensures.disk)
-          c.finish.ensures.disk;
-      safe = subst (AreSafe q c.args.plan.now.most) (sym more) (safe_append q c.args.plan.now.most (on_end (c.args.run ∷ c.loop-pass.others.items)) run i.safe (safe_moved q c.args.plan.now.most (entries_of c.add_list.new.self.groups) run a.safe f.run));
+      over = record { ready = end.ready; fresh = end.fresh; source = end.source ∙ add.source };
+      plan = end.plan ∙ add.kept.plan ∙ i.plan;
+      hash = end.hash ∙ add.kept.table.hash ∙ i.hash;
+      within =
+          record {
+            counted = counts.counted;
+            held = λ within. held_by_both c.args.pass.now.plan.limit _ _ _ counts.held (i.within.held within) (subst (λ (plan : Plan). c.add_list.new.self.groups.most_held ≤ plan.limit) (add.kept.plan ∙ i.plan) add.ready.held);
+          };
+      safe = subst (AreSafe q c.args.pass.now.plan.most) (sym more) (safe_append q c.args.pass.now.plan.most (on_end (c.args.run ∷ c.loop-pass.others.items)) run i.safe (safe_moved q c.args.pass.now.plan.most (entries_of c.add_list.new.self.groups) run safe end.moved));
       few = omega (arith, both, many, made, left, same, counted, before);
-      waits = λ honest pieces todo made has waits count costs.
-          subst (λ es. IsWaiting q (setting_of c.args.plan.now hf) pieces es c.finish.new.self.lists (g.D.TapeDisk.last c.finish.new.disk) made c.args.work.now c.finish.new.work (g.D.TapeDisk.writes c.args.disk.now) (g.D.TapeDisk.writes c.finish.new.disk)) (sym more)
-          (pass_made c.args.plan.now hf pieces (on_end (c.args.run ∷ c.loop-pass.others.items)) (entries_of c.loop-pass.pass.groups) c.loop-pass.pass.lists c.begin_pass.new.self (g.D.TapeDisk.last c.loop-pass.disk) made c.args.work.now c.loop-pass.work (g.D.TapeDisk.writes c.args.disk.now) (g.D.TapeDisk.writes c.loop-pass.disk) (i.waits honest pieces todo made has waits count costs) count
-          (c.begin_pass.ensures.begins c.loop-pass-test.true)
-          c.add_list.new.self.lists c.finish.new.self.lists (g.D.TapeDisk.last c.add_list.new.disk) (g.D.TapeDisk.last c.finish.new.disk) (entries_of c.add_list.new.self.groups) run c.finish.new.work (g.D.TapeDisk.writes c.add_list.new.disk) (g.D.TapeDisk.writes c.finish.new.disk) c.requires.plan.formed a.level
-          (subst (λ hash. ReadsList c.args.plan.now (g.H.KeyHash.hash_of hash) (standing c.loop-pass.pass.groups c.begin_pass.new.self (g.D.TapeDisk.last c.loop-pass.disk)) (standing c.add_list.new.self.groups c.add_list.new.self.lists (g.D.TapeDisk.last c.add_list.new.disk))) i.hash
-          (a.reads (subst IsTrue (sym i.moves.honesty) honest)))
-          f.run f.rises f.left
-          (λ spilled ahead todo pages has. subst (λ width. AddsUp c.loop-pass.work (pass_cost width (entries_of c.add_list.new.self.groups) (length spilled) pages) c.finish.new.work) (a.table.width ∙ i.width) (f.adds spilled ahead todo pages has))
-          (omega (arith, read_pages, none)) f.paged);
+      waits = λ honest pieces start writes underway count.
+          let read_pages = add.pages in
+          let none : written_pages c.begin_pass.new.self ≡ 0 = ap (full_pages c.begin_pass.new.self.tapes) c.begin_pass.ensures.parts in
+          subst (λ es. IsWaiting q set pieces es c.finish.new.self.lists (g.D.TapeDisk.last c.finish.new.disk) start c.finish.new.work writes (g.D.TapeDisk.writes c.finish.new.disk)) (sym more)
+          (pass_made c.args.pass.now.plan (g.H.KeyHash.hash_of c.args.pass.now.groups.table.hash) pieces (on_end (c.args.run ∷ c.loop-pass.others.items)) (entries_of c.loop-pass.pass.groups) c.loop-pass.pass.lists c.begin_pass.new.self (g.D.TapeDisk.last c.loop-pass.disk) start c.loop-pass.work writes (g.D.TapeDisk.writes c.loop-pass.disk)
+          (i.waits honest pieces start writes underway count) count (c.begin_pass.ensures.begins c.loop-pass-test.true)
+          c.add_list.new.self.lists c.finish.new.self.lists (g.D.TapeDisk.last c.add_list.new.disk) (g.D.TapeDisk.last c.finish.new.disk) (entries_of c.add_list.new.self.groups) run c.finish.new.work (g.D.TapeDisk.writes c.add_list.new.disk) (g.D.TapeDisk.writes c.finish.new.disk) c.requires.over.ready.plan.formed add.kept.level
+          (reads_by g.H.KeyHash.hash_of c.args.pass.now.plan c.loop-pass.pass.plan c.args.pass.now.groups.table.hash c.loop-pass.pass.groups.table.hash (standing c.loop-pass.pass.groups c.begin_pass.new.self (g.D.TapeDisk.last c.loop-pass.disk)) (standing c.add_list.new.self.groups c.add_list.new.self.lists (g.D.TapeDisk.last c.add_list.new.disk)) i.plan i.hash
+          (add.reads (subst IsTrue (sym i.disk.honesty) honest)))
+          end.moved end.rises end.left
+          (λ spilled ahead todo pages has. subst (λ width. AddsUp c.loop-pass.work (pass_cost width (entries_of c.add_list.new.self.groups) (length spilled) pages) c.finish.new.work) (add.ready.width ∙ ap (λ (plan : Plan). length plan.first.items) (add.kept.plan ∙ i.plan)) (counts.adds spilled ahead todo pages has))
+          (omega (arith, read_pages, none)) end.paged);
+      disk = leaves_twice g.D.TapeDisk 0 c.args.disk.now c.add_list.new.disk c.finish.new.disk (leaves_twice g.D.TapeDisk 0 c.args.disk.now c.loop-pass.disk c.add_list.new.disk i.disk c.in_ok-add_list.ensures.disk) c.in_ok-more.ensures.disk;
     }
 
-pub returns-clause-stands : goal.returns-clause-stands
-returns-clause-stands g c =
-    let q : Query = meaning c.args.plan.now.query.now in
+pub returns : goal.returns
+returns g c =
+    let q : Query = query_of c.args.pass.now in
+    let set : Setting = setting_in g.H.KeyHash.hash_of c.args.pass.now in
     let hf : List ℕ → ℕ = g.H.KeyHash.hash_of c.args.pass.now.groups.table.hash in
     let i = c.loop-pass.invariant in
-    if_ok c.united.result (IsPermutation (on_end (c.args.run ∷ c.deref.result.now))) _
-    (λ all moved honest pieces todo made has waits count costs.
-    let w = i.waits honest pieces todo made has waits count costs in
-    let e = waiting_ends q (setting_of c.args.plan.now hf) pieces (on_end (c.args.run ∷ c.loop-pass.others.items)) c.loop-pass.pass.lists (g.D.TapeDisk.last c.loop-pass.disk) made c.args.work.now c.loop-pass.work (g.D.TapeDisk.writes c.args.disk.now) (g.D.TapeDisk.writes c.loop-pass.disk) (c.begin_pass.ensures.none c.loop-pass-test.false) w in
-    (moved_stands q hf pieces (on_end (c.args.run ∷ c.loop-pass.others.items)) all [] (subst (λ (rs : List (List Entry)). IsPermutation (on_end (c.args.run ∷ rs)) all) c.deref.ensures.value moved) w.once e.0, e.1, e.2, e.3, e.4))
-    c.united.ensures.sorted
-
-pub returns-clause-safe : goal.returns-clause-safe
-returns-clause-safe g c =
-    let q : Query = meaning c.args.plan.now.query.now in
-    if_ok c.united.result (IsPermutation (on_end (c.args.run ∷ c.deref.result.now))) _
-    (λ all moved. safe_moved q c.args.plan.now.most (on_end (c.args.run ∷ c.loop-pass.others.items)) all c.loop-pass.invariant.safe (subst (λ (rs : List (List Entry)). IsPermutation (on_end (c.args.run ∷ rs)) all) c.deref.ensures.value moved))
-    c.united.ensures.sorted
-
-pub returns-clause-few : goal.returns-clause-few
-returns-clause-few g c =
-    if_ok c.united.result (IsPermutation (on_end (c.args.run ∷ c.deref.result.now))) _
-    (λ all moved.
-    let many = length_permutation (on_end (c.args.run ∷ c.loop-pass.others.items)) all (subst (λ (rs : List (List Entry)). IsPermutation (on_end (c.args.run ∷ rs)) all) c.deref.ensures.value moved) in
-    let few = c.loop-pass.invariant.few in
-    omega (arith, many, few))
-    c.united.ensures.sorted
-
-pub returns-clause-undamaged : goal.returns-clause-undamaged
-returns-clause-undamaged g c =
-    let i = c.loop-pass.invariant in
-    on_error c.united.result
-    (λ error right honest pieces todo made has waits count costs.
-    right (subst (λ (rs : List (List Entry)). AreOnce (on_end (c.args.run ∷ rs))) (sym c.deref.ensures.value) (i.waits honest pieces todo made has waits count costs).once))
-    c.united.ensures.undamaged
+    let joined : List Entry = on_end (c.args.run ∷ c.loop-pass.others.items) in
+    record {
+      made =
+          if_ok_both c.united.result (IsPermutation (on_end (c.args.run ∷ c.deref.result.now))) Rises _
+          (λ all moved rises.
+          let perm : IsPermutation joined all = subst (λ (rs : List (List Entry)). IsPermutation (on_end (c.args.run ∷ rs)) all) c.deref.ensures.value moved in
+          record {
+            whole =
+                λ honest pieces start writes underway count.
+                let w = i.waits honest pieces start writes underway count in
+                let e = waiting_ends q set pieces joined c.loop-pass.pass.lists (g.D.TapeDisk.last c.loop-pass.disk) start c.loop-pass.work writes (g.D.TapeDisk.writes c.loop-pass.disk) (c.begin_pass.ensures.none c.loop-pass-test.false) w.underway in
+                record { stands = moved_stands q hf pieces joined all [] perm w.once e.stands; adds = e.adds; paged = e.paged };
+            few = let many = length_permutation joined all perm in let few = i.few in omega (arith, many, few);
+            safe = record { safe = safe_moved q c.args.pass.now.plan.most joined all i.safe perm; rises = rises };
+            within = i.within;
+          })
+          c.united.ensures.sorted c.united.ensures.rises;
+      undamaged =
+          on_error c.united.result
+          (λ error right honest pieces start writes underway count.
+          right (subst (λ (rs : List (List Entry)). AreOnce (on_end (c.args.run ∷ rs))) (sym c.deref.ensures.value) (i.waits honest pieces start writes underway count).once))
+          c.united.ensures.undamaged;
+      disk = leaves_twice g.D.TapeDisk _ c.args.disk.now c.loop-pass.disk c.loop-pass.disk i.disk (still g.D.TapeDisk c.united.result c.loop-pass.disk c.united.ensures.faultless);
+    }
 
 -- where nothing was spilled, the groups are those of the first pass
 none_there : {X : Type 0} (xs : List X) → length xs ≡ 0 → xs ≡ []
@@ -193,21 +172,25 @@ none_there (x ∷ xs) none = absurd (omega (arith, none))
 alone : (run : List Entry) (others : List (List Entry)) → length others ≡ 0 → on_end (run ∷ others) ≡ run
 alone run others none = ap (λ runs. on_end (run ∷ runs)) (none_there others none) ∙ append-nil run
 
-pub returns-then-is_empty-clause-stands : goal.returns-then-is_empty-clause-stands
-returns-then-is_empty-clause-stands g c =
-    let q : Query = meaning c.args.plan.now.query.now in
-    let hf : List ℕ → ℕ = g.H.KeyHash.hash_of c.args.pass.now.groups.table.hash in
+pub returns-then-is_empty : goal.returns-then-is_empty
+returns-then-is_empty g c =
+    let q : Query = query_of c.args.pass.now in
+    let set : Setting = setting_in g.H.KeyHash.hash_of c.args.pass.now in
     let i = c.loop-pass.invariant in
     let counted = c.loop-pass.others.ok in
     let none : length c.loop-pass.others.items ≡ 0 = grind (arith, common_steps, c.is_empty.ensures, c.if-is_empty.true) in
-    let one = alone c.args.run c.loop-pass.others.items none in
-    λ honest pieces todo made has waits count costs.
-    let w = i.waits honest pieces todo made has waits count costs in
-    let e = waiting_ends q (setting_of c.args.plan.now hf) pieces (on_end (c.args.run ∷ c.loop-pass.others.items)) c.loop-pass.pass.lists (g.D.TapeDisk.last c.loop-pass.disk) made c.args.work.now c.loop-pass.work (g.D.TapeDisk.writes c.args.disk.now) (g.D.TapeDisk.writes c.loop-pass.disk) (c.begin_pass.ensures.none c.loop-pass-test.false) w in
-    (subst (λ all. Stands q hf pieces all []) one e.0, e.1, e.2, e.3, e.4)
-
-pub returns-then-is_empty-clause-safe : goal.returns-then-is_empty-clause-safe
-returns-then-is_empty-clause-safe g c = c.requires.safe
-
-pub returns-then-is_empty-clause-few : goal.returns-then-is_empty-clause-few
-returns-then-is_empty-clause-few g c = omega arith
+    record {
+      made =
+          record {
+            whole =
+                λ honest pieces start writes underway count.
+                subst (λ all. IsDone q set pieces all start c.loop-pass.work writes (g.D.TapeDisk.writes c.loop-pass.disk)) (alone c.args.run c.loop-pass.others.items none)
+                (waiting_ends q set pieces (on_end (c.args.run ∷ c.loop-pass.others.items)) c.loop-pass.pass.lists (g.D.TapeDisk.last c.loop-pass.disk) start c.loop-pass.work writes (g.D.TapeDisk.writes c.loop-pass.disk) (c.begin_pass.ensures.none c.loop-pass-test.false)
+                (i.waits honest pieces start writes underway count).underway);
+            few = omega arith;
+            safe = c.requires.run;
+            within = i.within;
+          };
+      undamaged = tt;
+      disk = i.disk;
+    }

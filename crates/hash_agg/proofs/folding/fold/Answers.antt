@@ -20,6 +20,3 @@ pub returns-clause-run : goal.returns-clause-run
 returns-clause-run g c =
     let few : c.args.rows + all_rows (map brought c.args.more.now) < 2 ^ 57 = c.requires.few in
     folded_over (meaning c.args.query.now) c.args.rows c.args.run.now c.in_ok-more.more c.absorb.new.self (map brought c.args.more.now) (omega (arith, few)) c.requires.run c.in_ok-more.ensures.run c.in_ok-absorb.ensures.added
-
-pub returns-clause-counted : goal.returns-clause-counted
-returns-clause-counted g c = λ honest. record { work = c.in_ok-more.ensures.work honest; pages = c.in_ok-more.ensures.pages honest }

@@ -1,81 +1,105 @@
 use Rattle.std.specs.Prelude.{refl, ◌∷◌, [], List, ℕ}
-use Rattle.std.proofs.Common.{sym, ◌∙◌, ap, arith}
+use Rattle.std.proofs.Common.{sym, ◌∙◌, ap}
+use Rattle.spill_tapes.specs.DiskLaws.{leaves_none}
+use Rattle.spill_lists.specs.declared.error.SpillError.TheVariants.{NoMemory}
 use Rattle.packed_rows.specs.View.{row_of}
-use Rattle.grouping_model.specs.Query.{Query}
-use Rattle.having_filter.specs.Meaning.{meaning}
-use Rattle.hash_agg.specs.Passes.{AreRows, ArePieces, standing}
-use Rattle.hash_agg.proofs.StepLaws.{on_ok, on_error}
-use Rattle.hash_agg.proofs.RecordLaws.{reads_by, can_by, row_over, record_is_row, row_hashed}
-use Rattle.hash_agg.proofs.DiskLaws.{moves_none}
-use Rattle.hash_agg.proofs.ReturnLaws.{same_table, same_lists}
+use Rattle.hash_agg.specs.Added.{Packed_rows, On_tape, query_of}
+use Rattle.hash_agg.specs.Passes.{Of_row, standing}
+use Rattle.hash_agg.proofs.AddedLaws.{same_pass, added_by, refused_by}
+use Rattle.hash_agg.proofs.DiskLaws.{still_out}
+use Rattle.hash_agg.proofs.RecordLaws.{can_row_record, record_is_row, row_right}
+use Rattle.hash_agg.proofs.ReturnLaws.{no_ok, ok_any}
+use Rattle.hash_agg.proofs.StepLaws.{on_error, err_out}
 use Rattle.hash_agg.proofs.pass.Pass.add_row_record.Goals as goal
+
+pub returns-in_err-row : goal.returns-in_err-row
+returns-in_err-row g c =
+    record {
+      added = no_ok c.from_residual.result _ c.from_residual.ensures.0;
+      genuine = no_ok c.from_residual.result _ c.from_residual.ensures.0;
+      refused = err_out c.from_residual.result NoMemory _ c.from_residual.ensures.1 (record { undamaged = λ can same. cc; kept = same_pass c.args.self.now });
+      disk = still_out g.D.TapeDisk c.from_residual.result NoMemory c.args.disk.now c.from_residual.ensures.1 (λ same. cc);
+    }
+
+pub returns-in_err-select : goal.returns-in_err-select
+returns-in_err-select g c =
+    record {
+      added = no_ok c.from_residual-in_err-select.result _ c.from_residual-in_err-select.ensures.0;
+      genuine = no_ok c.from_residual-in_err-select.result _ c.from_residual-in_err-select.ensures.0;
+      refused =
+          err_out c.from_residual-in_err-select.result c.in_err-select.field-0.0 _ c.from_residual-in_err-select.ensures.1
+          (record {
+            undamaged =
+                λ can.
+                let one = can_row_record c.args.self.now.plan (g.H.KeyHash.hash_of c.args.self.now.groups.table.hash) c.args.hash c.args.packed.now (standing c.args.self.now.groups c.args.self.now.lists (g.D.TapeDisk.last c.args.disk.now)) can in
+                c.in_err-select.ensures.undamaged one.0 one.1.of_kinds one.1.bytes;
+            kept = same_pass c.args.self.now;
+          });
+      disk = still_out g.D.TapeDisk c.from_residual-in_err-select.result c.in_err-select.field-0.0 c.args.disk.now c.from_residual-in_err-select.ensures.1 c.in_err-select.ensures.faultless;
+    }
 
 pub returns-then-not-branch : goal.returns-then-not-branch
 returns-then-not-branch g c =
     record {
-      reads =
-          let q : Query = meaning c.args.plan.now.query.now in
-          let hf : List ℕ → ℕ = g.H.KeyHash.hash_of c.args.self.now.groups.table.hash in
-          reads_by c.args.plan.now hf (ArePieces q hf (record { hash = c.args.hash; tag = 0; bytes = c.args.packed.now } ∷ [])) (AreRows q (c.args.packed.now ∷ []))
-          (standing c.args.self.now.groups c.args.self.now.lists (g.D.TapeDisk.last c.args.disk.now)) (standing c.args.self.now.groups c.args.self.now.lists (g.D.TapeDisk.last c.args.disk.now)) (record_is_row q hf c.args.hash c.args.packed.now)
-          (row_over c.args.plan.now hf c.args.packed.now (row_of c.select.new.row.items)
-          (standing c.args.self.now.groups c.args.self.now.lists (g.D.TapeDisk.last c.args.disk.now)) c.in_ok-select.ensures.row.0 c.in_ok-select.ensures.row.1 (sym c.in_ok-select.ensures.met ∙ c.if-not-branch.true));
-      pages = refl;
-      undamaged = tt;
-      safe = λ is. is;
-      proceeds = record { first = λ none clear. clear; slow = omega arith; few = omega arith };
-      table = same_table _ _;
-      lists = same_lists _;
-      alive = c.requires.alive;
-      refused = tt;
-      disk = moves_none _ _ _;
+      added = tt;
+      genuine = tt;
+      refused =
+          record {
+            undamaged =
+                λ can same.
+                let one = row_right c.args.self.now.plan (g.H.KeyHash.hash_of c.args.self.now.groups.table.hash) c.args.hash c.args.packed.now (row_of c.select.new.row.items) (standing c.args.self.now.groups c.args.self.now.lists (g.D.TapeDisk.last c.args.disk.now))
+                c.in_ok-select.ensures.row.0 c.in_ok-select.ensures.row.1 can in
+                let met = sym c.in_ok-select.ensures.met ∙ c.if-not-branch.true in
+                let other = one.met in
+                cc;
+            kept = same_pass c.args.self.now;
+          };
+      disk = leaves_none g.D.TapeDisk c.args.disk.now;
     }
 
 pub returns-then-hash : goal.returns-then-hash
 returns-then-hash g c =
     record {
-      reads = tt;
-      pages = tt;
-      undamaged =
-          λ can same.
-          let hf : List ℕ → ℕ = g.H.KeyHash.hash_of c.args.self.now.groups.table.hash in
-          let hashed = row_hashed c.args.plan.now hf c.args.hash c.args.packed.now c.select.new.key.items (row_of c.select.new.row.items) (standing c.args.self.now.groups c.args.self.now.lists (g.D.TapeDisk.last c.args.disk.now))
-          c.in_ok-select.ensures.row.0 c.in_ok-select.ensures.row.1 (c.in_ok-select.ensures.key c.if-not-branch.false) can in
-          c.if-hash.true (c.hash.ensures ∙ ap hf c.deref.ensures.value ∙ sym hashed);
-      safe = tt;
-      proceeds = tt;
-      table = same_table _ _;
-      lists = same_lists _;
-      alive = tt;
-      refused = tt;
-      disk = moves_none _ _ _;
+      added = tt;
+      genuine = tt;
+      refused =
+          record {
+            undamaged =
+                λ can same.
+                let hf : List ℕ → ℕ = g.H.KeyHash.hash_of c.args.self.now.groups.table.hash in
+                let one = row_right c.args.self.now.plan hf c.args.hash c.args.packed.now (row_of c.select.new.row.items) (standing c.args.self.now.groups c.args.self.now.lists (g.D.TapeDisk.last c.args.disk.now)) c.in_ok-select.ensures.row.0 c.in_ok-select.ensures.row.1 can in
+                c.if-hash.true (c.hash.ensures ∙ ap hf (c.deref.ensures.value ∙ c.in_ok-select.ensures.key c.if-not-branch.false) ∙ sym one.hashed);
+            kept = same_pass c.args.self.now;
+          };
+      disk = leaves_none g.D.TapeDisk c.args.disk.now;
     }
 
 pub returns : goal.returns
 returns g c =
+    let hf : List ℕ → ℕ = g.H.KeyHash.hash_of c.args.self.now.groups.table.hash in
+    let row = c.in_ok-select.ensures.row in
     record {
-      reads =
-          let q : Query = meaning c.args.plan.now.query.now in
-          let hf : List ℕ → ℕ = g.H.KeyHash.hash_of c.args.self.now.groups.table.hash in
-          on_ok c.add_selected.result
-          (reads_by c.args.plan.now hf (ArePieces q hf (record { hash = c.args.hash; tag = 0; bytes = c.args.packed.now } ∷ [])) (AreRows q (c.args.packed.now ∷ []))
-          (standing c.args.self.now.groups c.args.self.now.lists (g.D.TapeDisk.last c.args.disk.now)) (standing c.add_selected.new.self.groups c.add_selected.new.self.lists (g.D.TapeDisk.last c.add_selected.new.disk))
-          (record_is_row q hf c.args.hash c.args.packed.now))
-          c.add_selected.ensures.reads;
-      pages = c.add_selected.ensures.pages;
-      undamaged =
-          let q : Query = meaning c.args.plan.now.query.now in
-          let hf : List ℕ → ℕ = g.H.KeyHash.hash_of c.args.self.now.groups.table.hash in
+      added =
+          added_by g.H.KeyHash.hash_of g.D.TapeDisk (On_tape c.args.hash 0 c.args.packed.now) (Packed_rows (c.args.packed.now ∷ [])) c.args.self.now c.args.disk.now (record_is_row (query_of c.args.self.now) hf c.args.hash c.args.packed.now)
+          c.add_selected.result c.add_selected.new.self c.add_selected.new.disk c.add_selected.ensures.added;
+      genuine =
+          ok_any c.add_selected.result _ (
+            Of_row (row_of c.select.new.row.items),
+            (
+              record {
+                tag = refl;
+                of_kinds = row.0;
+                bytes = row.1;
+                met = sym c.in_ok-select.ensures.met ∙ c.if-not-branch.false;
+                hashed = sym c.if-hash.false ∙ c.hash.ensures ∙ ap hf (c.deref.ensures.value ∙ c.in_ok-select.ensures.key c.if-not-branch.false);
+              },
+              tt,
+            ),
+          );
+      refused =
           on_error c.add_selected.result
-          (λ error right can.
-          right (can_by c.args.plan.now hf (ArePieces q hf (record { hash = c.args.hash; tag = 0; bytes = c.args.packed.now } ∷ [])) (AreRows q (c.args.packed.now ∷ []))
-          (standing c.args.self.now.groups c.args.self.now.lists (g.D.TapeDisk.last c.args.disk.now)) (record_is_row q hf c.args.hash c.args.packed.now) can))
-          c.add_selected.ensures.undamaged;
-      safe = c.add_selected.ensures.safe;
-      proceeds = c.add_selected.ensures.proceeds;
-      table = c.add_selected.ensures.table;
-      lists = c.add_selected.ensures.lists;
-      alive = c.add_selected.ensures.alive;
-      refused = c.add_selected.ensures.refused;
+          (refused_by g.H.KeyHash.hash_of g.D.TapeDisk (On_tape c.args.hash 0 c.args.packed.now) (Packed_rows (c.args.packed.now ∷ [])) c.args.self.now c.args.disk.now (record_is_row (query_of c.args.self.now) hf c.args.hash c.args.packed.now)
+          c.add_selected.new.self)
+          c.add_selected.ensures.refused;
       disk = c.add_selected.ensures.disk;
     }

@@ -1,18 +1,12 @@
-use Rattle.packed_rows.specs.View.{bytes_of}
-use Rattle.having_filter.specs.Meaning.{meaning}
-use Rattle.spill_lists.specs.Standing.{Moves}
-use Rattle.hash_agg.specs.Passes.{WritesPages, standing, entries_of, ReadsSome, AreRows}
-use Rattle.hash_agg.proofs.StepLaws.{BringsSome}
-use Rattle.hash_agg.proofs.LoopLaws.{Keeps}
+use Rattle.spill_tapes.specs.Disk.{Leaves}
+use Rattle.hash_agg.specs.Added.{Packed_rows}
+use Rattle.hash_agg.specs.Inputs.{packings_in}
+use Rattle.hash_agg.proofs.AddedLaws.{AddedSome}
 use Rattle.hash_agg.proofs.pass.Pass.add_rows.Given as goal
 
-abbrev pub invariant-loop-packed : goal.invariant-loop-packed
-invariant-loop-packed g l =
+abbrev pub invariant-loop-place : goal.invariant-loop-place
+invariant-loop-place g l =
     record {
-      reads : ReadsSome l.plan (g.H.KeyHash.hash_of l.fn.self.groups.table.hash) (AreRows (meaning l.plan.query.now) (bytes_of l.rows)) l.packed-index
-          (standing l.fn.self.groups l.fn.self.lists (g.D.TapeDisk.last l.fn.disk)) (standing l.self.groups l.self.lists (g.D.TapeDisk.last l.disk));
-      brings : BringsSome (meaning l.plan.query.now) (AreRows (meaning l.plan.query.now) (bytes_of l.rows)) l.packed-index (entries_of l.fn.self.groups) l.fn.self.lists (entries_of l.self.groups) l.self.lists;
-      keeps : Keeps (meaning l.plan.query.now) l.plan.most l.plan.limit l.fn.self.groups l.self.groups l.fn.self.lists l.self.lists;
-      pages : WritesPages (g.D.TapeDisk.writes l.fn.disk) l.fn.self.lists (g.D.TapeDisk.writes l.disk) l.self.lists;
-      disk : Moves (g.D.TapeDisk.failures l.fn.disk) (g.D.TapeDisk.failures l.disk) (g.D.TapeDisk.writes l.fn.disk) (g.D.TapeDisk.writes l.disk) (g.D.TapeDisk.honest l.fn.disk) (g.D.TapeDisk.honest l.disk);
+      some : AddedSome g.H.KeyHash.hash_of g.D.TapeDisk (Packed_rows (packings_in l.rows)) l.place l.fn.self l.fn.disk l.self l.disk;
+      disk : Leaves g.D.TapeDisk 0 l.fn.disk l.disk;
     }

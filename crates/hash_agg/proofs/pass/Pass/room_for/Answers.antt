@@ -2,9 +2,8 @@ use Rattle.std.specs.Prelude.{◌≡◌, ◌++◌, ◌∷◌, ◌&&◌, [], ℕ,
 use Rattle.std.proofs.Common.{sym, ◌∙◌, ap}
 use Rattle.aggregation_cost.specs.Passes.{is_empty}
 use Rattle.aggregation_cost.specs.Space.{fits}
-use Rattle.group_runs.specs.Runs.{Entry, packed_keys}
+use Rattle.group_runs.specs.Runs.{packed_keys}
 use Rattle.hash_agg.specs.Passes.{entries_of, setting_of}
-use Rattle.hash_agg.proofs.NeedLaws.{first_fits}
 use Rattle.hash_agg.proofs.pass.Pass.room_for.Goals as goal
 
 pub returns-clause-exact : goal.returns-clause-exact
@@ -12,13 +11,5 @@ returns-clause-exact g c = λ hash.
     let keys : List (List ℕ) = packed_keys (entries_of c.args.self.now.groups) ++ c.args.key.now ∷ [] in
     let clear : c.args.self.now.lists.parts ≡ [] = c.is_empty.ensures.0 c.if-not-is_empty.false in
     c.need_within.ensures.fits hash
-    ∙ ap (λ width. fits (record { limit = c.args.plan.now.limit; width = width; hash = hash }) keys) c.requires.width
-    ∙ ap (λ parts. is_empty parts && fits (setting_of c.args.plan.now hash) keys) (sym clear)
-
-pub returns-clause-first : goal.returns-clause-first
-returns-clause-first g c = λ none clear.
-    let hash : List ℕ → ℕ = λ key. 0 in
-    c.need_within.ensures.fits hash
-    ∙ ap (λ width. fits (record { limit = c.args.plan.now.limit; width = width; hash = hash }) (packed_keys (entries_of c.args.self.now.groups) ++ c.args.key.now ∷ [])) c.requires.width
-    ∙ ap (λ (entries : List Entry). fits (setting_of c.args.plan.now hash) (packed_keys entries ++ c.args.key.now ∷ [])) none
-    ∙ first_fits (setting_of c.args.plan.now hash) c.args.key.now c.requires.plan.limit c.requires.plan.narrow c.requires.key
+    ∙ ap (λ width. fits (record { limit = c.args.self.now.plan.limit; width = width; hash = hash }) keys) c.requires.ready.width
+    ∙ ap (λ parts. is_empty parts && fits (setting_of c.args.self.now.plan hash) keys) (sym clear)

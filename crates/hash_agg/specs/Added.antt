@@ -1,0 +1,242 @@
+-- What a pass adds to its groups and lists, and what it leaves of its disk. All of this is our own.
+use Rattle.std.specs.Prelude.{◌≡◌, ◌≢◌, ℕ, ◌+◌, ◌≤◌, ◌<◌, ◌&&◌, max, Bool, true, false, List, [], ◌∷◌, ◌++◌, length, IsTrue}
+use Rattle.std.specs.List.{AllByRecursion}
+use Rattle.std.specs.List.Sorted.{IsPermutation}
+use Rattle.aggregation_cost.specs.Cost.{Cost, cost}
+use Rattle.aggregation_cost.specs.Passes.{is_empty}
+use Rattle.aggregation_cost.specs.Space.{Setting, need, fits}
+use Rattle.grouping_model.specs.Condition.{is_met}
+use Rattle.grouping_model.specs.Datum.{Row, HasKinds}
+use Rattle.grouping_model.specs.Query.{Query}
+use Rattle.grouping_model.specs.Grouping.{column_of, key_of}
+use Rattle.packed_rows.specs.Packing.{packing}
+use Rattle.spill_tapes.specs.Records.{Record}
+use Rattle.spill_tapes.specs.declared.disk.TapeDisk.{Ghosts}
+use Rattle.spill_lists.specs.Lists.{LeftList, lists, left_by}
+use Rattle.spill_lists.specs.Standing.{HasLists, KeepsRest, spilled_number, ahead_number, waiting_number, pages_of, written_pages}
+use Rattle.spill_lists.specs.declared.error.SpillError.{SpillError}
+use Rattle.spill_lists.specs.declared.error.SpillError.TheVariants.{TapeDamaged}
+use Rattle.having_filter.specs.Meaning.{meaning}
+use Rattle.group_runs.specs.Runs.{Entry, Rises, packed_keys}
+use Rattle.hash_agg.specs.Inputs.{Brought, Packed, Counted, IsInput, all_rows}
+use Rattle.hash_agg.specs.Adding.{Given, AllGive}
+use Rattle.hash_agg.specs.Passes.{Piece, ArePieces, AreSafe, IsPlan, IsSameTable, HasPlace, CountUpTo, Stands, AreRows, AreOfRun, Reads, CanRead, ReadsList, CanReadList, Brings, Proceeds, WritesPages, entries_of, total, standing, setting_of, records_of, all_pieces, brought_by}
+use Rattle.hash_agg.specs.Waiting.{Waits, Costs, AddsUp, pass_cost}
+use Rattle.hash_agg.specs.declared.plan.Plan.{Plan}
+use Rattle.hash_agg.specs.declared.pass.Pass.{Pass}
+use Rattle.hash_agg.specs.declared.work.Work.{Work}
+
+-- what a pass reads: packed rows; groups; or a record on a tape, by its hash, its tag and its bytes
+pub data Source : Type 0 where
+  Packed_rows : List (List ℕ) → Source
+  Entries : List Entry → Source
+  On_tape : ℕ → ℕ → List ℕ → Source
+
+abbrev pub source_of : Brought → Source
+source_of (Packed packed) = Packed_rows packed
+source_of (Counted run most) = Entries run
+
+-- the pieces that it stands for
+abbrev pub Are : Query → (List ℕ → ℕ) → Source → List Piece → Type 0
+Are query hash (Packed_rows packed) more = AreRows query packed more
+Are query hash (Entries run) more = (most : ℕ) × AreOfRun query most run more
+Are query hash (On_tape hashed tag bytes) more = ArePieces query hash (record { hash = hashed; tag = tag; bytes = bytes } ∷ []) more
+
+-- ---- a pass
+
+abbrev pub query_of : {H : Type 0} → Pass H → Query
+query_of pass = meaning pass.plan.query.now
+
+-- its limit, the length of its states, and its hash function, as the cost has them
+abbrev pub setting_in : {H : Type 0} → (H → List ℕ → ℕ) → Pass H → Setting
+setting_in hash_of pass = setting_of pass.plan (hash_of pass.groups.table.hash)
+
+-- it can go on: its table has states as long as those that a group begins with, and never held more than the limit; and its tapes live
+pub record IsReady {H : Type 0} (pass : Pass H) : Type 0 where
+  pub plan : IsPlan pass.plan
+  pub width : pass.groups.table.width ≡ length pass.plan.first.items
+  pub held : pass.groups.most_held ≤ pass.plan.limit
+  pub alive : pass.lists.tapes.is_dead ≡ false
+
+-- it has no group, and has spilled nothing
+pub record IsFresh {H : Type 0} (pass : Pass H) : Type 0 where
+  pub empty : entries_of pass.groups ≡ []
+  pub parts : pass.lists.parts ≡ []
+
+-- it is the first, and has read nothing
+pub record IsFirst {H D : Type 0} (g : Ghosts D) (pass : Pass H) (disk : D) : Type 0 where
+  pub ready : IsReady pass
+  pub fresh : IsFresh pass
+  pub none : HasLists (g.last disk) pass.lists [] [] []
+  pub source : pass.lists.source ≡ []
+  pub todo : pass.lists.todo ≡ []
+  pub level : pass.lists.level ≡ 0
+
+-- it is over, and the next one may begin
+pub record IsOver {H : Type 0} (pass : Pass H) : Type 0 where
+  pub ready : IsReady pass
+  pub fresh : IsFresh pass
+  pub source : pass.lists.source ≡ []
+
+-- its plan, its table but for the groups, and the lists to which it doesn't spill are the same
+pub record KeepsPass {H : Type 0} (old new : Pass H) : Type 0 where
+  pub plan : new.plan ≡ old.plan
+  pub table : IsSameTable old.plan.limit old.groups new.groups
+  pub lists : KeepsRest old.lists new.lists
+
+-- whether a key that isn't there enters its table
+abbrev pub enters : {H : Type 0} → (List ℕ → ℕ) → Pass H → List ℕ → Bool
+enters hash pass key = is_empty pass.lists.parts && fits (setting_of pass.plan hash) (packed_keys (entries_of pass.groups) ++ key ∷ [])
+
+-- it does, and so many bytes of blocks are held at most meanwhile
+pub record HasRoom {H : Type 0} (pass : Pass H) (key : List ℕ) (bytes : ℕ) : Type 0 where
+  pub none : pass.lists.parts ≡ []
+  pub few : HasPlace pass.groups
+  pub within : bytes ≤ pass.plan.limit
+  pub needed : bytes ≡ need pass.groups.table.width (packed_keys (entries_of pass.groups) ++ key ∷ [])
+
+-- ---- what it reads
+
+-- a row of which WHERE is true, its packing, and its packed key
+pub record IsSelected (query : Query) (packed key : List ℕ) (row : Row) : Type 0 where
+  pub has : HasKinds query.kinds row
+  pub is : packed ≡ packing row
+  pub met : is_met (column_of row) query.condition ≡ true
+  pub named : key ≡ packing (key_of query row)
+
+-- what is read was added, by a plan and a hash function: the groups and lists are those after it; they are as many more as it brings
+-- at most, and groups of the query over any disk; and the pages that became full were written
+pub record AddedBy {H D : Type 0} (plan : Plan) (hash : List ℕ → ℕ) (g : Ghosts D) (what : Source) (old : Pass H) (before : D) (new : Pass H) (after : D) : Type 0 where
+  pub reads : Reads plan hash (Are (meaning plan.query.now) hash what) (standing old.groups old.lists (g.last before)) (standing new.groups new.lists (g.last after))
+  pub brings : Brings (meaning plan.query.now) (Are (meaning plan.query.now) hash what) (entries_of old.groups) old.lists (entries_of new.groups) new.lists
+  pub safe : AreSafe (meaning plan.query.now) plan.most (entries_of old.groups) → AreSafe (meaning plan.query.now) plan.most (entries_of new.groups)
+  pub pages : WritesPages (g.writes before) old.lists (g.writes after) new.lists
+  pub ready : IsReady new
+  pub kept : KeepsPass old new
+
+-- it was not; if it can be read, no tape is to blame
+pub record RefusedBy {H D : Type 0} (plan : Plan) (hash : List ℕ → ℕ) (g : Ghosts D) (what : Source) (old : Pass H) (before : D) (error : SpillError) (new : Pass H) : Type 0 where
+  pub undamaged : CanRead plan hash (Are (meaning plan.query.now) hash what) (standing old.groups old.lists (g.last before)) → error ≢ TapeDamaged
+  pub kept : KeepsPass old new
+
+-- the same by the pass's own plan and hash function
+abbrev pub Added : {H D : Type 0} → (H → List ℕ → ℕ) → Ghosts D → Source → Pass H → D → Pass H → D → Type 0
+Added hash_of g what old before new after = AddedBy old.plan (hash_of old.groups.table.hash) g what old before new after
+
+abbrev pub Refused : {H D : Type 0} → (H → List ℕ → ℕ) → Ghosts D → Source → Pass H → D → SpillError → Pass H → Type 0
+Refused hash_of g what old before error new = RefusedBy old.plan (hash_of old.groups.table.hash) g what old before error new
+
+-- one row, group or record was added: it made one group at most, or was spilled, if it was not the first
+pub record AddedOne {H D : Type 0} (hash_of : H → List ℕ → ℕ) (g : Ghosts D) (what : Source) (old : Pass H) (before : D) (new : Pass H) (after : D) : Type 0 where
+  pub added : Added hash_of g what old before new after
+  pub proceeds : Proceeds (entries_of old.groups) old.lists (entries_of new.groups) new.lists
+
+-- a record is that of a row of which WHERE is true, or of a group of the query, and its hash is that of its key
+abbrev pub IsGenuine : {H : Type 0} → (H → List ℕ → ℕ) → Pass H → Source → Type 0
+IsGenuine hash_of pass what = (piece : Piece) × Are (query_of pass) (hash_of pass.groups.table.hash) what (piece ∷ [])
+
+-- inputs of the query, which count so many rows at most
+pub record AreInputs (query : Query) (most : ℕ) (inputs : List Brought) : Type 0 where
+  pub are : AllByRecursion (IsInput query) inputs
+  pub few : all_rows inputs ≤ most
+
+-- ---- a list that it reads
+
+-- what a pass over a list keeps: its plan, its table but for the groups, and the lists of later passes
+pub record KeepsLater {H : Type 0} (old new : Pass H) : Type 0 where
+  pub plan : new.plan ≡ old.plan
+  pub table : IsSameTable old.plan.limit old.groups new.groups
+  pub todo : new.lists.todo ≡ old.lists.todo
+  pub level : new.lists.level ≡ old.lists.level
+
+-- the records of its list were added, of which fewer are spilled than there were
+pub record AddedList {H D : Type 0} (hash_of : H → List ℕ → ℕ) (g : Ghosts D) (old : Pass H) (before : D) (new : Pass H) (after : D) : Type 0 where
+  pub reads : IsTrue (g.honest before) → ReadsList old.plan (hash_of old.groups.table.hash) (standing old.groups old.lists (g.last before)) (standing new.groups new.lists (g.last after))
+  pub safe : AreSafe (query_of old) old.plan.most (entries_of new.groups)
+  pub few : total (entries_of new.groups) new.lists ≤ ahead_number old.lists
+  pub fewer : 0 < ahead_number old.lists → spilled_number new.lists < ahead_number old.lists
+  pub pages : WritesPages (g.writes before) old.lists (g.writes after) new.lists
+  pub source : new.lists.source ≡ []
+  pub ready : IsReady new
+  pub kept : KeepsLater old new
+
+pub record RefusedList {H D : Type 0} (hash_of : H → List ℕ → ℕ) (g : Ghosts D) (old : Pass H) (before : D) (error : SpillError) (new : Pass H) : Type 0 where
+  pub undamaged : IsTrue (g.honest before) → CanReadList old.plan (hash_of old.groups.table.hash) (standing old.groups old.lists (g.last before)) → error ≢ TapeDamaged
+  pub kept : KeepsLater old new
+
+-- ---- its end
+
+-- its groups became a run, and what it spilled was left to later passes
+pub record Finished {H D : Type 0} (g : Ghosts D) (old : Pass H) (before : D) (run : List Entry) (new : Pass H) (after : D) : Type 0 where
+  pub moved : IsPermutation (entries_of old.groups) run
+  pub rises : Rises run
+  pub left : (spilled ahead : List Record) (todo : List LeftList) → HasLists (g.last before) old.lists spilled ahead todo → HasLists (g.last after) new.lists [] ahead (todo ++ left_by old.lists.level spilled)
+  pub paged : (spilled ahead : List Record) (todo : List LeftList) → HasLists (g.last before) old.lists spilled ahead todo → g.writes after + written_pages old.lists ≡ g.writes before + pages_of (lists old.lists.level spilled)
+  pub waiting : waiting_number new.lists ≡ waiting_number old.lists + spilled_number old.lists
+  pub source : new.lists.source ≡ old.lists.source
+  pub ready : IsReady new
+  pub fresh : IsFresh new
+  pub plan : new.plan ≡ old.plan
+  pub hash : new.groups.table.hash ≡ old.groups.table.hash
+
+-- it was counted: the pass, what it spilled, and what its table held
+pub record CountsPass {H D : Type 0} (g : Ghosts D) (pass : Pass H) (disk : D) (old new : Work) : Type 0 where
+  pub counted : 1 ≤ new.passes
+  pub held : new.most_held ≡ max old.most_held pass.groups.most_held
+  pub adds :
+      (spilled ahead : List Record) (todo : List LeftList) (pages : ℕ) → HasLists (g.last disk) pass.lists spilled ahead todo
+      → AddsUp old (pass_cost pass.groups.table.width (entries_of pass.groups) (length spilled) pages) new
+
+-- ---- all passes
+
+-- passes were counted, and the blocks of none exceeded a limit
+pub record CountsWithin (limit : ℕ) (old new : Work) : Type 0 where
+  pub counted : 1 ≤ new.passes
+  pub held : old.most_held ≤ limit → new.most_held ≤ limit
+
+-- a run of groups of the query over any disk
+pub record IsSafeRun (query : Query) (most : ℕ) (run : List Entry) : Type 0 where
+  pub safe : AreSafe query most run
+  pub rises : Rises run
+
+-- an aggregation of pieces is under way: each is in the groups of a run or on a list that is left, and the passes that were made, and
+-- those over these lists, cost what is said of the pieces
+pub record IsUnderway (query : Query) (setting : Setting) (pieces : List Piece) (run : List Entry) (Has : List LeftList → Type 0) (old new : Work) (writes written : ℕ) : Type 0 where
+  pub todo : List LeftList
+  pub has : Has todo
+  pub waits : Waits query setting.hash pieces run todo
+  pub made : Cost
+  pub costs : Costs query setting pieces made todo
+  pub adds : AddsUp old made new
+  pub paged : written ≡ writes + made.pages
+
+-- it is done
+pub record IsDone (query : Query) (setting : Setting) (pieces : List Piece) (run : List Entry) (old new : Work) (writes written : ℕ) : Type 0 where
+  pub stands : Stands query setting.hash pieces run []
+  pub adds : AddsUp old (cost setting (records_of query setting.width pieces)) new
+  pub paged : written ≡ writes + (cost setting (records_of query setting.width pieces)).pages
+
+-- so it is between two passes, if what was begun was under way
+abbrev pub Continues : {H D : Type 0} → (H → List ℕ → ℕ) → Ghosts D → Pass H → D → List Entry → Work → (List Piece → Work → ℕ → Type 0) → Type 0
+Continues hash_of g pass disk run work Then =
+    IsTrue (g.honest disk) → (pieces : List Piece) (start : Work) (writes : ℕ)
+    → IsUnderway (query_of pass) (setting_in hash_of pass) pieces run (HasLists (g.last disk) pass.lists [] []) start work writes (g.writes disk)
+    → CountUpTo (query_of pass) pass.plan.most pieces
+    → Then pieces start writes
+
+-- the first pass was made, over inputs
+pub record MadeFirst {H D : Type 0} (hash_of : H → List ℕ → ℕ) (g : Ghosts D) (inputs : List Brought) (old : Pass H) (before : D) (work : Work) (run : List Entry) (new : Pass H) (after : D) (done : Work) : Type 0 where
+  pub underway : (givens : List Given) → AllGive (query_of old) inputs givens → IsUnderway (query_of old) (setting_in hash_of old) (all_pieces inputs givens) run (HasLists (g.last after) new.lists [] []) work done (g.writes before) (g.writes after)
+  pub few : (givens : List Given) → AllGive (query_of old) inputs givens → length run + waiting_number new.lists ≤ brought_by (query_of old) (all_pieces inputs givens)
+  pub safe : IsSafeRun (query_of old) old.plan.most run
+  pub over : IsOver new
+  pub within : CountsWithin old.plan.limit work done
+  pub plan : new.plan ≡ old.plan
+  pub hash : new.groups.table.hash ≡ old.groups.table.hash
+
+-- the later ones were made, whose groups were united with those of the first
+pub record MadeLater {H D : Type 0} (hash_of : H → List ℕ → ℕ) (g : Ghosts D) (old : Pass H) (before : D) (first : List Entry) (work : Work) (run : List Entry) (after : D) (done : Work) : Type 0 where
+  pub whole : Continues hash_of g old before first work (λ pieces start writes. IsDone (query_of old) (setting_in hash_of old) pieces run start done writes (g.writes after))
+  pub few : length run ≤ length first + waiting_number old.lists
+  pub safe : IsSafeRun (query_of old) old.plan.most run
+  pub within : CountsWithin old.plan.limit work done
