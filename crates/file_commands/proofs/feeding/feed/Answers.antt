@@ -53,7 +53,7 @@ returns-in-Err-clause-why g c = λ of. absurd (not_of_batch c.in-Err.refused.why
 pub returns-in_err-batch-clause-disk : goal.returns-in_err-batch-clause-disk
 returns-in_err-batch-clause-disk g c =
     let e = err_from_is_err_and c.from_residual.result c.from_residual.ensures.1 in
-    rw e.1 (subst (λ n. Leaves g.D.TapeDisk n c.args.disk.now c.args.disk.now) (sym (ap refusal_faults e.2 ∙ no_batch_fault c.in_err-batch.error)) (leaves_none g.D.TapeDisk c.args.disk.now))
+    rw e.1 (subst (λ n. Leaves g.D.TapeDisk n c.args.disk.now c.args.disk.now) (sym (ap refusal_faults e.2 ∙ no_batch_fault _)) (leaves_none g.D.TapeDisk c.args.disk.now))
 
 pub returns-in-Err-clause-disk : goal.returns-in-Err-clause-disk
 returns-in-Err-clause-disk g c =

@@ -36,4 +36,4 @@ returns-clause-counted g c =
 pub returns-in_err-other-clause-disk : goal.returns-in_err-other-clause-disk
 returns-in_err-other-clause-disk g c =
     let e = err_from_is_err_and c.from_residual.result c.from_residual.ensures.1 in
-    rw e.1 (subst (λ n. Leaves g.D.TapeDisk n c.args.disk.now c.args.disk.now) (sym (ap refusal_faults e.2 ∙ no_file_fault c.args.file.now c.in_err-other.error c.in_err-other.ensures.why)) (leaves_none g.D.TapeDisk c.args.disk.now))
+    rw e.1 (subst (λ n. Leaves g.D.TapeDisk n c.args.disk.now c.args.disk.now) (sym (ap refusal_faults e.2 ∙ no_file_fault c.args.file.now _ c.in_err-other.ensures.why)) (leaves_none g.D.TapeDisk c.args.disk.now))
