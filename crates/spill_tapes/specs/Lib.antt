@@ -9,3 +9,4 @@ pub mod Tapes
 pub mod TapesFields
 pub mod Memory
 pub mod MemoryFields
+pub mod Faulty

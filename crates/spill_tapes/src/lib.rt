@@ -6,6 +6,9 @@
 
 mod disk;
 mod error;
+mod fail_disk;
+mod file_disk;
+mod flip_disk;
 mod header;
 mod mem_disk;
 mod pool;
@@ -15,6 +18,9 @@ mod tapes;
 
 pub use disk::{DiskError, TapeDisk};
 pub use error::TapeError;
+pub use fail_disk::FailDisk;
+pub use file_disk::{FileDisk, WriteFault};
+pub use flip_disk::FlipDisk;
 pub use mem_disk::MemDisk;
 pub use tape_id::TapeId;
 pub use tapes::Tapes;

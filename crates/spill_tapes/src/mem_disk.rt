@@ -5,14 +5,12 @@ ghost use Rattle.spill_tapes.specs.Memory.{name_of, byte_at, IsSame, IsSameBesid
 ghost use Rattle.spill_tapes.specs.declared.disk.DiskError.TheVariants as disk_error;
 
 use crate::disk::{DiskError, TapeDisk};
+use crate::pool::PAGE;
 use chunk_contexts::{ChunkContext, Generation};
 use chunk_layout::ChunkName;
 use std::alloc::Global;
 use std::collections::BTreeMap;
 use std::marker::Model;
-
-/// How many bytes a page has.
-const PAGE: usize = 8192;
 
 /// A disk in memory, which is honest and never fails but for want of memory. At first each place is 0.
 ///

@@ -6,6 +6,9 @@ use std::alloc::{AllocError, Global};
 use std::collections::VecDeque;
 use std::marker::Model;
 
+/// How many bytes a page has.
+pub(crate) const PAGE: usize = 8192;
+
 /// How many pages there are at most.
 const MOST_PAGES: u64 = 562_949_953_421_311;
 

@@ -11,13 +11,10 @@ ghost use Rattle.spill_tapes.specs.declared.tape.Phase.TheVariants as phase;
 use crate::disk::{DiskError, TapeDisk};
 use crate::error::TapeError;
 use crate::header::{HEADER, Header};
-use crate::pool::PagePool;
+use crate::pool::{PAGE, PagePool};
 use std::alloc::{AllocError, Global};
 use std::collections::VecDeque;
 use std::marker::Model;
-
-/// How many bytes a page has.
-const PAGE: usize = 8192;
 
 /// What is done with a tape.
 #[derive(Clone, Copy, PartialEq, Eq)]
