@@ -21,13 +21,16 @@ use Rattle.spill_lists.specs.declared.error.SpillError.TheVariants as spill
 use Rattle.origin_prefix.specs.declared.error.JoinError.TheVariants as join
 use Rattle.replica_merge.specs.declared.error.MergeError.{MergeError}
 use Rattle.replica_merge.specs.declared.error.MergeError.TheVariants as merge
-use Rattle.script_machine.specs.Refusals.{origin_disagrees, columns_refusal, merge_refusal}
+use Rattle.script_machine.specs.Refusals.{origin_disagrees, columns_refusal, merge_refusal, batch_refusal}
+use Rattle.batch_reader.specs.declared.error.BatchError.{BatchError}
+use Rattle.batch_reader.specs.declared.error.BatchError.TheVariants as batch
+use Rattle.script_machine.specs.Views.{refusal_faults}
 use Rattle.script_machine.specs.Machine.{IsBatch}
 use Rattle.script_machine.specs.declared.refusal.Refusal.{Refusal}
 use Rattle.script_machine.specs.declared.refusal.Refusal.TheVariants as refuse
 use Rattle.script_machine.proofs.FeedLaws.{built_batch}
 use Rattle.script_machine.proofs.QueryLaws.{read_over}
-use Rattle.file_commands.specs.Commands.{IsNew, IsNotNew, IsApart, TakesFile, IsOtherFile, OfBatchFile}
+use Rattle.file_commands.specs.Commands.{IsNew, IsNotNew, IsNoSummary, IsApart, TakesFile, IsOtherFile, OfBatchFile}
 
 -- a replica is not merged, by why it is not
 pub apart : (old other : Held) (e : MergeError) → (e ≡ merge.DifferentQuery → ¬ (SameQuery old.query other.query))
@@ -37,6 +40,19 @@ apart old other (merge.Join join.OriginDisagrees) different disagrees = disagree
 apart old other (merge.Join (join.Spill spill.NoMemory)) different disagrees = tt
 apart old other (merge.Join (join.Spill spill.TapeFault)) different disagrees = tt
 apart old other (merge.Join (join.Spill spill.TapeDamaged)) different disagrees = tt
+
+-- neither the fault of a batch file nor that of a summary file is one of the disk
+pub no_batch_fault : (error : BatchError) → refusal_faults (batch_refusal error) ≡ 0
+no_batch_fault batch.NoMemory = refl
+no_batch_fault batch.BadBatchHead = refl
+no_batch_fault batch.TooManyRows = refl
+no_batch_fault batch.RowCount = refl
+no_batch_fault (batch.WrongWidth row) = refl
+no_batch_fault (batch.BadField row column) = refl
+
+pub no_file_fault : (file : List ℕ) (why : Refusal) → IsNoSummary file why → refusal_faults why ≡ 0
+no_file_fault file (refuse.Merge error) is = absurd is
+no_file_fault file why is = refl
 
 -- what follows from why a call failed
 pub if_err : {T : Type 0} (result : Result T Refusal) (P Q : Refusal → Type 0) → ((why : Refusal) → P why → Q why) → IfErr result P → IfErr result Q

@@ -10,7 +10,9 @@ ghost use Rattle.packed_rows.specs.Columns.{kinds};
 ghost use Rattle.replica_merge.specs.Replicas.{told, Fits};
 ghost use Rattle.replica_merge.specs.Counting.{aggregations_asked};
 ghost use Rattle.script_machine.specs.Text.{origins_text};
-ghost use Rattle.spill_lists.specs.Standing.{Moves, IsReadRefusal};
+ghost use Rattle.spill_tapes.specs.Calls.{failed};
+ghost use Rattle.spill_tapes.specs.Disk.{Leaves};
+ghost use Rattle.spill_lists.specs.Errors.{spill_faults};
 ghost use Rattle.spill_lists.specs.declared.error.SpillError.TheVariants.{TapeDamaged};
 ghost use Rattle.file_commands.specs.Commands.{text_of};
 
@@ -76,8 +78,7 @@ pub fn table<H: KeyHash + Copy, D: TapeDisk>(
         (aggregations_asked replica.now.parts) work.old (D.writes disk.old) work.new (D.writes disk.new)) }
     ensures uncounted { OnErr result (work.new ≡ work.old) }
     ensures undamaged { IfErr result (λ error. IsTrue (D.honest disk.old) → error ≢ TapeDamaged) }
-    ensures refused { IfErr result (IsReadRefusal (D.failures disk.old) (D.failures disk.new)) }
-    ensures disk { Moves (D.failures disk.old) (D.failures disk.new) (D.writes disk.old) (D.writes disk.new) (D.honest disk.old) (D.honest disk.new) }
+    ensures disk { Leaves D.TapeDisk (failed spill_faults result) disk.old disk.new }
 {
     let mut counted = *work;
     let answer = replica.answer(means, disk, &mut counted)?;

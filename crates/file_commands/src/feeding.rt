@@ -5,9 +5,10 @@ ghost use Rattle.packed_rows.specs.Columns.{kinds};
 ghost use Rattle.batch_reader.specs.File.{read_file};
 ghost use Rattle.having_filter.specs.Meaning.{meaning};
 ghost use Rattle.hash_agg.specs.Counting.{setting_by};
-ghost use Rattle.script_machine.specs.Refusals.{origin_disagrees, tape_fault, tape_damaged};
-ghost use Rattle.script_machine.specs.Views.{IsOfBatch};
-ghost use Rattle.spill_lists.specs.Standing.{Moves};
+ghost use Rattle.script_machine.specs.Refusals.{origin_disagrees, tape_damaged};
+ghost use Rattle.script_machine.specs.Views.{IsOfBatch, refusal_faults};
+ghost use Rattle.spill_tapes.specs.Calls.{failed};
+ghost use Rattle.spill_tapes.specs.Disk.{Leaves};
 ghost use Rattle.file_commands.specs.Commands.{TakesFile, FeedIsCounted, FileAgrees, FileDisagrees, IsNoBatchFile, IsOtherFile};
 
 use batch_reader::read_batch;
@@ -44,9 +45,8 @@ pub fn feed<H: KeyHash + Copy, D: TapeDisk>(
         FileDisagrees (read_file file.now) replica.old) }
     ensures other { IfErr result (λ why. why ≡ origin_disagrees →
         IsOtherFile (read_file file.now) replica.old) }
-    ensures fault { IfErr result (λ why. why ≡ tape_fault → D.failures disk.old < D.failures disk.new) }
     ensures undamaged { IfErr result (λ why. IsTrue (D.honest disk.old) → why ≢ tape_damaged) }
-    ensures disk { Moves (D.failures disk.old) (D.failures disk.new) (D.writes disk.old) (D.writes disk.new) (D.honest disk.old) (D.honest disk.new) }
+    ensures disk { Leaves D.TapeDisk (failed refusal_faults result) disk.old disk.new }
 {
     let schema = replica.query().schema();
     let batch = read_batch(alloc, schema, file)?;

@@ -7,8 +7,10 @@ ghost use Rattle.hash_agg.specs.Counting.{setting_by};
 ghost use Rattle.replica_merge.specs.Replicas.{Held, Fits};
 ghost use Rattle.replica_merge.specs.Counting.{MergeIsCounted};
 ghost use Rattle.summary_codec.specs.Reading.{IsSummary};
-ghost use Rattle.script_machine.specs.Refusals.{origin_disagrees, tape_fault, tape_damaged};
-ghost use Rattle.spill_lists.specs.Standing.{Moves};
+ghost use Rattle.script_machine.specs.Refusals.{origin_disagrees, tape_damaged};
+ghost use Rattle.spill_tapes.specs.Calls.{failed};
+ghost use Rattle.spill_tapes.specs.Disk.{Leaves};
+ghost use Rattle.script_machine.specs.Views.{refusal_faults};
 ghost use Rattle.file_commands.specs.Commands.{MergesHeld, IsApart, MergesFile, FileMergeIsCounted, IsNotMerged};
 
 use crate::making::load;
@@ -34,9 +36,8 @@ fn take_in<H: KeyHash + Copy, D: TapeDisk>(
     ensures why { IfErr result (IsApart replica.old other.now) }
     ensures agree { IfErr result (λ why. why ≡ origin_disagrees → (world : World) →
         Fits world replica.old → ¬ (Fits world other.now)) }
-    ensures fault { IfErr result (λ why. why ≡ tape_fault → D.failures disk.old < D.failures disk.new) }
     ensures undamaged { IfErr result (λ why. IsTrue (D.honest disk.old) → why ≢ tape_damaged) }
-    ensures disk { Moves (D.failures disk.old) (D.failures disk.new) (D.writes disk.old) (D.writes disk.new) (D.honest disk.old) (D.honest disk.new) }
+    ensures disk { Leaves D.TapeDisk (failed refusal_faults result) disk.old disk.new }
 {
     match replica.merge(other, means, disk, work) {
         Ok(()) => Ok(()),
@@ -70,9 +71,8 @@ pub fn merge<H: KeyHash + Copy, D: TapeDisk>(
     ensures agree { IfErr result (λ why. why ≡ origin_disagrees → (world : World) →
         Fits world replica.old → (other : Held) → IsSummary file.now other.query other.parts →
         ¬ (Fits world other)) }
-    ensures fault { IfErr result (λ why. why ≡ tape_fault → D.failures disk.old < D.failures disk.new) }
     ensures undamaged { IfErr result (λ why. IsTrue (D.honest disk.old) → why ≢ tape_damaged) }
-    ensures disk { Moves (D.failures disk.old) (D.failures disk.new) (D.writes disk.old) (D.writes disk.new) (D.honest disk.old) (D.honest disk.new) }
+    ensures disk { Leaves D.TapeDisk (failed refusal_faults result) disk.old disk.new }
 {
     let other = load(alloc, file)?;
     take_in(replica, &other, means, disk, work)

@@ -1,16 +1,19 @@
 -- Why a batch is not taken, or parts are not joined. All of this is our own.
-use Rattle.std.specs.Prelude.{ℕ, ◌<◌, Bool, IsTrue}
-use Rattle.spill_lists.specs.declared.error.SpillError.{SpillError}
-use Rattle.spill_lists.specs.declared.error.SpillError.TheVariants.{NoMemory, TapeFault, TapeDamaged}
+use Rattle.std.specs.Prelude.{ℕ}
+use Rattle.spill_lists.specs.Errors.{spill_faults}
+use Rattle.spill_lists.specs.declared.error.SpillError.TheVariants.{NoMemory}
 use Rattle.origin_prefix.specs.declared.error.JoinError.{JoinError}
-use Rattle.origin_prefix.specs.declared.error.JoinError.TheVariants.{Spill}
+use Rattle.origin_prefix.specs.declared.error.JoinError.TheVariants.{OriginDisagrees, Spill}
+use Rattle.origin_prefix.specs.declared.error.RefusedBatch.{RefusedBatch}
 
 -- want of memory
 abbrev pub no_memory : JoinError
 no_memory = Spill NoMemory
 
--- what the error of an aggregation tells of a disk that is honest or not, and had failed so often before the call and after it
-abbrev pub IsErrorOver : (honest : Bool) → ℕ → ℕ → SpillError → Type 0
-IsErrorOver honest before after NoMemory = Unit {0}
-IsErrorOver honest before after TapeFault = before < after
-IsErrorOver honest before after TapeDamaged = ¬ (IsTrue honest)
+-- how often the disk failed in a call that is refused so; and in one that hands its batch back
+abbrev pub join_faults : JoinError → ℕ
+join_faults OriginDisagrees = 0
+join_faults (Spill error) = spill_faults error
+
+abbrev pub batch_faults : RefusedBatch → ℕ
+batch_faults refused = join_faults refused.why

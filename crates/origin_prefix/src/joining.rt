@@ -5,9 +5,10 @@ ghost use Rattle.having_filter.specs.Meaning.{meaning};
 ghost use Rattle.hash_agg.specs.Counting.{AreCounted, setting_by};
 ghost use Rattle.origin_prefix.specs.Parts.{Batches, IsPartOf, Settles, aggregations_behind};
 ghost use Rattle.origin_prefix.specs.Joins.{PartsDisagree, Joins, Unites, JoinIsCounted};
-ghost use Rattle.origin_prefix.specs.Errors.{IsErrorOver};
-ghost use Rattle.spill_lists.specs.Standing.{Moves, IsReadRefusal};
-ghost use Rattle.spill_lists.specs.declared.error.SpillError.{SpillError};
+ghost use Rattle.origin_prefix.specs.Errors.{join_faults};
+ghost use Rattle.spill_tapes.specs.Calls.{failed};
+ghost use Rattle.spill_tapes.specs.Disk.{Leaves};
+ghost use Rattle.spill_lists.specs.Errors.{spill_faults};
 ghost use Rattle.spill_lists.specs.declared.error.SpillError.TheVariants.{TapeDamaged};
 ghost use Rattle.origin_prefix.specs.declared.error.JoinError.TheVariants.{OriginDisagrees, Spill};
 
@@ -44,9 +45,8 @@ impl OriginPart {
             PartsDisagree self.now other.now) }
         ensures agree_else { IfErr result (λ e. e ≢ OriginDisagrees →
             ¬ (PartsDisagree self.now other.now)) }
-        ensures over { IfErr result (λ e. (error : SpillError) → e ≡ Spill error →
-            IsErrorOver (D.honest disk.old) (D.failures disk.old) (D.failures disk.new) error) }
-        ensures disk { Moves (D.failures disk.old) (D.failures disk.new) (D.writes disk.old) (D.writes disk.new) (D.honest disk.old) (D.honest disk.new) }
+        ensures undamaged { IfErr result (λ e. IsTrue (D.honest disk.old) → e ≢ Spill TapeDamaged) }
+        ensures disk { Leaves D.TapeDisk (failed join_faults result) disk.old disk.new }
     {
         if self.disagrees(other) {
             return Err(JoinError::OriginDisagrees);
@@ -72,8 +72,7 @@ impl OriginPart {
         ensures uncounted { OnErr result (work.new ≡ work.old) }
         ensures part { IfOk result (IsPartOf query.now) }
         ensures undamaged { IfErr result (λ error. IsTrue (D.honest disk.old) → error ≢ TapeDamaged) }
-        ensures refused { IfErr result (IsReadRefusal (D.failures disk.old) (D.failures disk.new)) }
-        ensures disk { Moves (D.failures disk.old) (D.failures disk.new) (D.writes disk.old) (D.writes disk.new) (D.honest disk.old) (D.honest disk.new) }
+        ensures disk { Leaves D.TapeDisk (failed spill_faults result) disk.old disk.new }
     {
         if self.prefix < other.prefix {
             return other.united(self, query, means, disk, work);
@@ -114,8 +113,7 @@ impl OriginPart {
         ensures uncounted { OnErr result (work.new ≡ work.old) }
         ensures part { IfOk result (IsPartOf query.now) }
         ensures undamaged { IfErr result (λ error. IsTrue (D.honest disk.old) → error ≢ TapeDamaged) }
-        ensures refused { IfErr result (IsReadRefusal (D.failures disk.old) (D.failures disk.new)) }
-        ensures disk { Moves (D.failures disk.old) (D.failures disk.new) (D.writes disk.old) (D.writes disk.new) (D.honest disk.old) (D.honest disk.new) }
+        ensures disk { Leaves D.TapeDisk (failed spill_faults result) disk.old disk.new }
     {
         let mut early = BTreeMap::new(self.alloc);
         copy_above(self.alloc, &self.early, self.prefix, &mut early)?;

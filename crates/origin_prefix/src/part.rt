@@ -10,10 +10,11 @@ ghost use Rattle.having_filter.specs.Meaning.{meaning};
 ghost use Rattle.packed_rows.specs.Columns.{kinds};
 ghost use Rattle.batch_reader.specs.Rows.{ArePackedRows};
 ghost use Rattle.origin_prefix.specs.Parts.{Part, empty, is_nothing, knows_number, IsOpen, IsPartOf, behind, following, rows_following, aggregations_behind, aggregations_on, Folds, Settles, Delivers, Disagrees};
-ghost use Rattle.spill_lists.specs.Standing.{Moves, IsReadRefusal};
-ghost use Rattle.spill_lists.specs.declared.error.SpillError.{SpillError};
+ghost use Rattle.spill_tapes.specs.Calls.{failed};
+ghost use Rattle.spill_tapes.specs.Disk.{Leaves};
+ghost use Rattle.spill_lists.specs.Errors.{spill_faults};
 ghost use Rattle.spill_lists.specs.declared.error.SpillError.TheVariants.{TapeDamaged};
-ghost use Rattle.origin_prefix.specs.Errors.{no_memory, IsErrorOver};
+ghost use Rattle.origin_prefix.specs.Errors.{no_memory, batch_faults};
 ghost use Rattle.origin_prefix.specs.declared.error.JoinError.TheVariants.{OriginDisagrees, Spill};
 ghost use Rattle.grouping_model.specs.declared.delivered.Delivered.TheVariants.{Early, Known};
 ghost use Rattle.std.specs.BTreeMap.{insert_entry};
@@ -131,8 +132,7 @@ fn fold_following<H: KeyHash + Copy, D: TapeDisk>(
     ensures same { OnErr result (run.new ≡ run.old) }
     ensures uncounted { OnErr result (work.new ≡ work.old) }
     ensures undamaged { IfErr result (λ error. IsTrue (D.honest disk.old) → error ≢ TapeDamaged) }
-    ensures refused { IfErr result (IsReadRefusal (D.failures disk.old) (D.failures disk.new)) }
-    ensures disk { Moves (D.failures disk.old) (D.failures disk.new) (D.writes disk.old) (D.writes disk.new) (D.honest disk.old) (D.honest disk.new) }
+    ensures disk { Leaves D.TapeDisk (failed spill_faults result) disk.old disk.new }
 {
     let (inputs, upto) = following_inputs(alloc, prefix, next, early)?;
     if upto > prefix {
@@ -237,8 +237,7 @@ impl OriginPart {
         ensures same { OnErr result (self.new ≡ self.old) }
         ensures uncounted { OnErr result (work.new ≡ work.old) }
         ensures undamaged { IfErr result (λ error. IsTrue (D.honest disk.old) → error ≢ TapeDamaged) }
-        ensures refused { IfErr result (IsReadRefusal (D.failures disk.old) (D.failures disk.new)) }
-        ensures disk { Moves (D.failures disk.old) (D.failures disk.new) (D.writes disk.old) (D.writes disk.new) (D.honest disk.old) (D.honest disk.new) }
+        ensures disk { Leaves D.TapeDisk (failed spill_faults result) disk.old disk.new }
     {
         let next_is_given = next.is_some();
         let upto = fold_following(
@@ -319,9 +318,8 @@ impl OriginPart {
             Disagrees self.old batch.number batch.rows) }
         ensures unknown { IfErr result (λ e. e.why ≢ OriginDisagrees →
             knows_number self.old batch.number ≡ false) }
-        ensures over { IfErr result (λ e. (error : SpillError) → e.why ≡ Spill error →
-            IsErrorOver (D.honest disk.old) (D.failures disk.old) (D.failures disk.new) error) }
-        ensures disk { Moves (D.failures disk.old) (D.failures disk.new) (D.writes disk.old) (D.writes disk.new) (D.honest disk.old) (D.honest disk.new) }
+        ensures undamaged { IfErr result (λ e. IsTrue (D.honest disk.old) → e.why ≢ Spill TapeDamaged) }
+        ensures disk { Leaves D.TapeDisk (failed batch_faults result) disk.old disk.new }
     {
         if batch.number <= self.prefix {
             return Ok(Delivered::Known);

@@ -20,7 +20,6 @@ use Rattle.origin_prefix.proofs.TellingLaws.{joined_tells}
 use Rattle.origin_prefix.proofs.FittingLaws.{fits_joined, agrees_joined}
 use Rattle.spill_lists.specs.declared.error.SpillError.{SpillError}
 use Rattle.spill_lists.specs.declared.error.SpillError.TheVariants as spill
-use Rattle.origin_prefix.specs.Errors.{IsErrorOver}
 use Rattle.replica_merge.specs.Replicas.{Parts, part_at, part_of, told, Fits, IsHeldPart, AreHeldParts, AsideAt, JoinedAside, JoinsAt, Merges, DisagreeSomewhere, filled}
 use Rattle.replica_merge.proofs.ToldLaws.{told_is, some_told, empty_tells, part_here}
 use Rattle.replica_merge.proofs.HeldLaws.{held_part}
@@ -249,9 +248,3 @@ pub never_somewhere : (query : Checked) (old other : Parts) → DisagreeSomewher
 never_somewhere query old other d world fits fits_other =
     absurd (agrees_joined (meaning query) world d.origin (part_of old d.origin) d.theirs (fits d.origin)
     (subst (FitsOrigin (meaning query) world d.origin) (part_here other d.origin d.theirs d.there) (fits_other d.origin)) d.parts)
-
--- what the error of an aggregation tells of the disk, where calls were made before it
-pub told_later : (honest honest_now : Bool) (before now after : ℕ) (error : SpillError) → honest_now ≡ honest → before ≤ now → IsErrorOver honest_now now after error → IsErrorOver honest before after error
-told_later honest honest_now before now after spill.NoMemory same low told = tt
-told_later honest honest_now before now after spill.TapeFault same low told = omega (arith, low, told)
-told_later honest honest_now before now after spill.TapeDamaged same low told = λ is. told (subst IsTrue (sym same) is)

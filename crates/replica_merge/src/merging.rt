@@ -14,10 +14,11 @@ ghost use Rattle.origin_prefix.specs.Joins.{Joins, PartsDisagree, JoinIsCounted}
 ghost use Rattle.origin_prefix.specs.declared.error.JoinError.TheVariants as joins;
 ghost use Rattle.replica_merge.specs.Counting.{MergeIsCounted};
 ghost use Rattle.replica_merge.specs.Replicas.{Parts, part_at, part_of, told, Fits, SameQuery, AreHeldParts, JoinedAside, Merges, DisagreeSomewhere, filled};
-ghost use Rattle.origin_prefix.specs.Errors.{IsErrorOver};
-ghost use Rattle.spill_lists.specs.Standing.{Moves};
-ghost use Rattle.spill_lists.specs.declared.error.SpillError.{SpillError};
-ghost use Rattle.replica_merge.specs.Errors.{origin_disagrees};
+ghost use Rattle.origin_prefix.specs.Errors.{join_faults};
+ghost use Rattle.spill_lists.specs.declared.error.SpillError.TheVariants.{TapeDamaged};
+ghost use Rattle.spill_tapes.specs.Calls.{failed};
+ghost use Rattle.spill_tapes.specs.Disk.{Leaves};
+ghost use Rattle.replica_merge.specs.Errors.{origin_disagrees, tape_damaged, merge_faults};
 ghost use Rattle.replica_merge.specs.declared.error.MergeError.TheVariants.{DifferentQuery, Join};
 
 use crate::error::MergeError;
@@ -106,9 +107,8 @@ fn join_part<H: KeyHash + Copy, D: TapeDisk>(
         theirs.now)) }
     ensures disagree { IfErr result (λ e. e ≡ joins.OriginDisagrees →
         PartsDisagree (unwrap_or (option_copied own.entry) empty) theirs.now) }
-    ensures over { IfErr result (λ e. (error : SpillError) → e ≡ joins.Spill error →
-        IsErrorOver (D.honest disk.old) (D.failures disk.old) (D.failures disk.new) error) }
-    ensures disk { Moves (D.failures disk.old) (D.failures disk.new) (D.writes disk.old) (D.writes disk.new) (D.honest disk.old) (D.honest disk.new) }
+    ensures undamaged { IfErr result (λ e. IsTrue (D.honest disk.old) → e ≢ joins.Spill TapeDamaged) }
+    ensures disk { Leaves D.TapeDisk (failed join_faults result) disk.old disk.new }
 {
     match own {
         Some(own) => own.join(theirs, query, means, disk, work),
@@ -137,9 +137,8 @@ fn join_all<H: KeyHash + Copy, D: TapeDisk>(
     ensures disagree { IfErr result (λ e. e ≡ origin_disagrees →
         DisagreeSomewhere own.now.entries theirs.now.entries) }
     ensures same { IfErr result (λ e. e ≢ DifferentQuery) }
-    ensures over { IfErr result (λ e. (error : SpillError) → e ≡ Join (joins.Spill error) →
-        IsErrorOver (D.honest disk.old) (D.failures disk.old) (D.failures disk.new) error) }
-    ensures disk { Moves (D.failures disk.old) (D.failures disk.new) (D.writes disk.old) (D.writes disk.new) (D.honest disk.old) (D.honest disk.new) }
+    ensures undamaged { IfErr result (λ e. IsTrue (D.honest disk.old) → e ≢ tape_damaged) }
+    ensures disk { Leaves D.TapeDisk (failed merge_faults result) disk.old disk.new }
 {
     let mut joined = places(alloc, own)?;
     for (origin, part) in theirs {
@@ -210,9 +209,8 @@ impl Replica {
         // Replicas that fit one world never disagree.
         ensures agree { IfErr result (λ e. e ≡ origin_disagrees → (world : World) →
             Fits world self.now → Fits world other.now → ⊥) }
-        ensures over { IfErr result (λ e. (error : SpillError) → e ≡ Join (joins.Spill error) →
-            IsErrorOver (D.honest disk.old) (D.failures disk.old) (D.failures disk.new) error) }
-        ensures disk { Moves (D.failures disk.old) (D.failures disk.new) (D.writes disk.old) (D.writes disk.new) (D.honest disk.old) (D.honest disk.new) }
+        ensures undamaged { IfErr result (λ e. IsTrue (D.honest disk.old) → e ≢ tape_damaged) }
+        ensures disk { Leaves D.TapeDisk (failed merge_faults result) disk.old disk.new }
     {
         if !self.query.same_query(&other.query) {
             return Err(MergeError::DifferentQuery);
@@ -292,9 +290,8 @@ impl Replica {
             DisagreeSomewhere self.old.parts other.now.parts) }
         ensures agree { IfErr result (λ e. e ≡ origin_disagrees → (world : World) →
             Fits world self.old → Fits world other.now → ⊥) }
-        ensures over { IfErr result (λ e. (error : SpillError) → e ≡ Join (joins.Spill error) →
-            IsErrorOver (D.honest disk.old) (D.failures disk.old) (D.failures disk.new) error) }
-        ensures disk { Moves (D.failures disk.old) (D.failures disk.new) (D.writes disk.old) (D.writes disk.new) (D.honest disk.old) (D.honest disk.new) }
+        ensures undamaged { IfErr result (λ e. IsTrue (D.honest disk.old) → e ≢ tape_damaged) }
+        ensures disk { Leaves D.TapeDisk (failed merge_faults result) disk.old disk.new }
     {
         let joined = self.join(other, means, disk, work)?;
         self.commit(joined);

@@ -16,10 +16,11 @@ ghost use Rattle.hash_agg.specs.Inputs.{Counted, brought, all_rows, IsInput, IsA
 ghost use Rattle.group_runs.specs.Standing.{IsRun};
 ghost use Rattle.hash_agg.specs.Counting.{IsCounted, AreCounted, setting_by};
 ghost use Rattle.origin_prefix.specs.Parts.{IsPartOf, Disagrees, aggregations_on};
-ghost use Rattle.origin_prefix.specs.Errors.{IsErrorOver};
+ghost use Rattle.origin_prefix.specs.Errors.{batch_faults};
 ghost use Rattle.origin_prefix.specs.declared.error.JoinError.TheVariants.{OriginDisagrees, Spill};
-ghost use Rattle.spill_lists.specs.Standing.{Moves, IsReadRefusal};
-ghost use Rattle.spill_lists.specs.declared.error.SpillError.{SpillError};
+ghost use Rattle.spill_tapes.specs.Calls.{failed};
+ghost use Rattle.spill_tapes.specs.Disk.{Leaves};
+ghost use Rattle.spill_lists.specs.Errors.{spill_faults};
 ghost use Rattle.spill_lists.specs.declared.error.SpillError.TheVariants.{TapeDamaged};
 ghost use Rattle.replica_merge.specs.Counting.{aggregations_asked};
 ghost use Rattle.replica_merge.specs.Replicas.{part_at, part_of, told, Fits, AreHeldParts, DeliveredTo, known_of, known_part, counted_part};
@@ -127,8 +128,7 @@ fn with_others<H: KeyHash + Copy, D: TapeDisk>(
         IsCounted (meaning query.now) (setting_by H.hash_of (meaning query.now) means.now)
         (map brought others.now) work.old (D.writes disk.old) work.new (D.writes disk.new)) }
     ensures undamaged { IfErr result (λ error. IsTrue (D.honest disk.old) → error ≢ TapeDamaged) }
-    ensures refused { IfErr result (IsReadRefusal (D.failures disk.old) (D.failures disk.new)) }
-    ensures disk { Moves (D.failures disk.old) (D.failures disk.new) (D.writes disk.old) (D.writes disk.new) (D.honest disk.old) (D.honest disk.new) }
+    ensures disk { Leaves D.TapeDisk (failed spill_faults result) disk.old disk.new }
 {
     let mut all = run.try_clone(alloc)?;
     fold(alloc, query, &mut all, rows, others, means, disk, work)?;
@@ -155,9 +155,8 @@ fn deliver_to<H: KeyHash + Copy, D: TapeDisk>(
         (aggregations_on (part_of parts.old.entries batch.origin) batch.number batch.rows)
         work.old (D.writes disk.old) work.new (D.writes disk.new)) }
     ensures uncounted { OnErr result (work.new ≡ work.old) }
-    ensures over { IfErr result (λ e. (error : SpillError) → e.why ≡ Spill error →
-        IsErrorOver (D.honest disk.old) (D.failures disk.old) (D.failures disk.new) error) }
-    ensures disk { Moves (D.failures disk.old) (D.failures disk.new) (D.writes disk.old) (D.writes disk.new) (D.honest disk.old) (D.honest disk.new) }
+    ensures undamaged { IfErr result (λ e. IsTrue (D.honest disk.old) → e.why ≢ Spill TapeDamaged) }
+    ensures disk { Leaves D.TapeDisk (failed batch_faults result) disk.old disk.new }
 {
     match parts.get_mut(&batch.origin) {
         Some(part) => part.deliver(query, batch, means, disk, work),
@@ -185,9 +184,8 @@ fn deliver_first<H: KeyHash + Copy, D: TapeDisk>(
         (aggregations_on (part_of parts.old.entries batch.origin) batch.number batch.rows)
         work.old (D.writes disk.old) work.new (D.writes disk.new)) }
     ensures uncounted { OnErr result (work.new ≡ work.old) }
-    ensures over { IfErr result (λ e. (error : SpillError) → e.why ≡ Spill error →
-        IsErrorOver (D.honest disk.old) (D.failures disk.old) (D.failures disk.new) error) }
-    ensures disk { Moves (D.failures disk.old) (D.failures disk.new) (D.writes disk.old) (D.writes disk.new) (D.honest disk.old) (D.honest disk.new) }
+    ensures undamaged { IfErr result (λ e. IsTrue (D.honest disk.old) → e.why ≢ Spill TapeDamaged) }
+    ensures disk { Leaves D.TapeDisk (failed batch_faults result) disk.old disk.new }
 {
     let origin = batch.origin;
     // The part has its place before the batch is taken, so that a batch is never lost.
@@ -224,9 +222,8 @@ fn deliver_in<H: KeyHash + Copy, D: TapeDisk>(
         (aggregations_on (part_of parts.old.entries batch.origin) batch.number batch.rows)
         work.old (D.writes disk.old) work.new (D.writes disk.new)) }
     ensures uncounted { OnErr result (work.new ≡ work.old) }
-    ensures over { IfErr result (λ e. (error : SpillError) → e.why ≡ Spill error →
-        IsErrorOver (D.honest disk.old) (D.failures disk.old) (D.failures disk.new) error) }
-    ensures disk { Moves (D.failures disk.old) (D.failures disk.new) (D.writes disk.old) (D.writes disk.new) (D.honest disk.old) (D.honest disk.new) }
+    ensures undamaged { IfErr result (λ e. IsTrue (D.honest disk.old) → e.why ≢ Spill TapeDamaged) }
+    ensures disk { Leaves D.TapeDisk (failed batch_faults result) disk.old disk.new }
 {
     if parts.contains_key(&batch.origin) {
         return deliver_to(query, parts, batch, means, disk, work);
@@ -325,9 +322,8 @@ impl Replica {
         ensures agrees { IfErr result (λ e. e.why ≡ OriginDisagrees →
             (world : World) (those : List Row) → Fits world self.old →
             world batch.origin batch.number ≡ Some those → batch.rows ≢ packings those) }
-        ensures over { IfErr result (λ e. (error : SpillError) → e.why ≡ Spill error →
-            IsErrorOver (D.honest disk.old) (D.failures disk.old) (D.failures disk.new) error) }
-        ensures disk { Moves (D.failures disk.old) (D.failures disk.new) (D.writes disk.old) (D.writes disk.new) (D.honest disk.old) (D.honest disk.new) }
+        ensures undamaged { IfErr result (λ e. IsTrue (D.honest disk.old) → e.why ≢ Spill TapeDamaged) }
+        ensures disk { Leaves D.TapeDisk (failed batch_faults result) disk.old disk.new }
     {
         deliver_in(
             self.alloc,
@@ -364,8 +360,7 @@ impl Replica {
             (aggregations_asked self.now.parts) work.old (D.writes disk.old) work.new (D.writes disk.new)) }
         ensures uncounted { OnErr result (work.new ≡ work.old) }
         ensures undamaged { IfErr result (λ error. IsTrue (D.honest disk.old) → error ≢ TapeDamaged) }
-        ensures refused { IfErr result (IsReadRefusal (D.failures disk.old) (D.failures disk.new)) }
-        ensures disk { Moves (D.failures disk.old) (D.failures disk.new) (D.writes disk.old) (D.writes disk.new) (D.honest disk.old) (D.honest disk.new) }
+        ensures disk { Leaves D.TapeDisk (failed spill_faults result) disk.old disk.new }
     {
         let Some((_, first)) = self.parts.first_key_value() else {
             return Ok(show_none(self.alloc, &self.query)?);

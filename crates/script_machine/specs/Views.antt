@@ -52,6 +52,10 @@ is_tape_fault reply = false
 abbrev pub faults_in : Reply → ℕ
 faults_in reply = if is_tape_fault reply then 1 else 0
 
+-- how often it failed in a call that is refused so
+abbrev pub refusal_faults : Refusal → ℕ
+refusal_faults why = faults_in (says.Refused why)
+
 -- what the code keeps: the columns and the query, once they were told, the replicas by their names, the summary files by theirs, and the
 -- limit of aggregations
 pub record Store : Type 0 where

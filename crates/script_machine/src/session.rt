@@ -21,11 +21,13 @@ ghost use Rattle.packed_rows.specs.Columns.{kinds};
 ghost use Rattle.script_commands.specs.Commands as ask;
 ghost use Rattle.script_commands.specs.Commands.{owned_by, request_of};
 ghost use Rattle.script_machine.specs.Machine.{IsNoBatch, IsNoQuery};
-ghost use Rattle.script_machine.specs.Views.{Store, IsStore, empty, faults_in, is_tape_fault, Steps, Takes, IsOfBatch, IsOtherBatch, JoinsNames};
+ghost use Rattle.script_machine.specs.Views.{Store, IsStore, empty, faults_in, refusal_faults, is_tape_fault, Steps, Takes, IsOfBatch, IsOtherBatch, JoinsNames};
 ghost use Rattle.script_machine.specs.declared.reply.Reply.TheVariants as says;
 ghost use Rattle.script_machine.specs.declared.refusal.Refusal.TheVariants.{NoMemory};
 ghost use Rattle.script_machine.specs.Refusals.{origin_disagrees, tape_fault, tape_damaged};
-ghost use Rattle.spill_lists.specs.Standing.{Moves, IsReadRefusal};
+ghost use Rattle.spill_tapes.specs.Calls.{failed};
+ghost use Rattle.spill_tapes.specs.Disk.{Leaves};
+ghost use Rattle.spill_lists.specs.Errors.{spill_faults};
 ghost use Rattle.spill_lists.specs.declared.error.SpillError.TheVariants as spill;
 
 use crate::refusal::Refusal;
@@ -106,12 +108,11 @@ fn deliver<D: TapeDisk>(
         records.old) why)) }
     ensures other { IfOk result (λ done. IfErr done (λ why. why ≡ origin_disagrees → IsOtherBatch
         origin.now number.now told (take told records.old) replica.old)) }
-    ensures fault { IfOk result (λ done. IfErr done (λ why. why ≡ tape_fault
-        → D.failures disk.old < D.failures disk.new)) }
     ensures undamaged { IfOk result (λ done. IfErr done (λ why. IsTrue (D.honest disk.old)
         → why ≢ tape_damaged)) }
     ensures left { OnOk result (records.new ≡ drop told records.old) }
-    ensures disk { Moves (D.failures disk.old) (D.failures disk.new) (D.writes disk.old) (D.writes disk.new) (D.honest disk.old) (D.honest disk.new) }
+    ensures disk { IfOk result (λ done. Leaves D.TapeDisk (failed refusal_faults done) disk.old disk.new) }
+    ensures stopped { OnErr result (D.failures disk.old ≤ D.failures disk.new) }
 {
     let schema = replica.query().schema();
     let batch = match read_rows(alloc, schema, origin, number, told, records)? {
@@ -173,8 +174,7 @@ fn answer_of_replica<D: TapeDisk>(
         (told replica.now.parts))) × (found.1.items ≡ table_text (headers replica.now.query) (answer
         (meaning replica.now.query) world (told replica.now.parts)))) }
     ensures undamaged { IfErr result (λ error. IsTrue (D.honest disk.old) → error ≢ spill.TapeDamaged) }
-    ensures refused { IfErr result (IsReadRefusal (D.failures disk.old) (D.failures disk.new)) }
-    ensures disk { Moves (D.failures disk.old) (D.failures disk.new) (D.writes disk.old) (D.writes disk.new) (D.honest disk.old) (D.honest disk.new) }
+    ensures disk { Leaves D.TapeDisk (failed spill_faults result) disk.old disk.new }
 {
     let answer = replica.answer(means, disk, &mut Work::none())?;
     let table = print_csv(alloc, replica.query(), &answer);
@@ -330,9 +330,9 @@ impl Session {
     ) -> Result<Reply<'static>, AllocError>
         ensures answers { IfOk result (λ reply. IsTrue (D.honest disk.old) → Steps (ask.Feed name.now origin.now number.now told)
             (take told records.old) self.old reply self.new) }
-        ensures faults { IfOk result (λ reply. D.failures disk.old + faults_in reply ≤ D.failures disk.new) }
         ensures left { OnOk result (records.new ≡ drop told records.old) }
-        ensures disk { Moves (D.failures disk.old) (D.failures disk.new) (D.writes disk.old) (D.writes disk.new) (D.honest disk.old) (D.honest disk.new) }
+        ensures disk { IfOk result (λ reply. Leaves D.TapeDisk (faults_in reply) disk.old disk.new) }
+        ensures stopped { OnErr result (D.failures disk.old ≤ D.failures disk.new) }
     {
         let Some(replica) = self.replicas.get_mut(name) else {
             records.skip(told as usize)?;
@@ -364,8 +364,7 @@ impl Session {
     /// Answers `answer`.
     fn answer<D: TapeDisk>(&self, name: &[u8], disk: &mut D) -> Reply<'static>
         ensures answers { IsTrue (D.honest disk.old) → (owned : List Record) → Steps (ask.Answer name.now) owned self.now result self.now }
-        ensures faults { D.failures disk.old + faults_in result ≤ D.failures disk.new }
-        ensures disk { Moves (D.failures disk.old) (D.failures disk.new) (D.writes disk.old) (D.writes disk.new) (D.honest disk.old) (D.honest disk.new) }
+        ensures disk { Leaves D.TapeDisk (faults_in result) disk.old disk.new }
     {
         match self.replicas.get(name) {
             None => Reply::Refused(Refusal::NoSuchName),
@@ -379,9 +378,8 @@ impl Session {
     /// What two replicas hold together, aside from both.
     fn join<D: TapeDisk>(&self, into: &[u8], from: &[u8], disk: &mut D) -> Result<Joined, Refusal>
         ensures joins { JoinsNames (D.honest disk.old) self.now into.now from.now result }
-        ensures fault { IfErr result (λ why. why ≡ tape_fault → D.failures disk.old < D.failures disk.new) }
         ensures undamaged { IfErr result (λ why. IsTrue (D.honest disk.old) → why ≢ tape_damaged) }
-        ensures disk { Moves (D.failures disk.old) (D.failures disk.new) (D.writes disk.old) (D.writes disk.new) (D.honest disk.old) (D.honest disk.new) }
+        ensures disk { Leaves D.TapeDisk (failed refusal_faults result) disk.old disk.new }
     {
         let Some(own) = self.replicas.get(into) else {
             return Err(Refusal::NoSuchName);
@@ -400,8 +398,7 @@ impl Session {
     fn merge<D: TapeDisk>(&mut self, into: &[u8], from: &[u8], disk: &mut D) -> Reply<'static>
         ensures answers { IsTrue (D.honest disk.old) → (owned : List Record) →
             Steps (ask.Merge into.now from.now) owned self.old result self.new }
-        ensures faults { D.failures disk.old + faults_in result ≤ D.failures disk.new }
-        ensures disk { Moves (D.failures disk.old) (D.failures disk.new) (D.writes disk.old) (D.writes disk.new) (D.honest disk.old) (D.honest disk.new) }
+        ensures disk { Leaves D.TapeDisk (faults_in result) disk.old disk.new }
     {
         let joined = match self.join(into, from, disk) {
             Ok(joined) => joined,
@@ -463,10 +460,10 @@ impl Session {
     ) -> Result<Reply<'c>, AllocError>
         ensures answers { IfOk result (λ reply. IsTrue (D.honest disk.old) → Steps (request_of (fields_of command.now.head))
             (take (owned_by (fields_of command.now.head)) records.old) self.old reply self.new) }
-        ensures faults { IfOk result (λ reply. D.failures disk.old + faults_in reply ≤ D.failures disk.new) }
         ensures left { OnOk result (records.new
             ≡ drop (owned_by (fields_of command.now.head)) records.old) }
-        ensures disk { Moves (D.failures disk.old) (D.failures disk.new) (D.writes disk.old) (D.writes disk.new) (D.honest disk.old) (D.honest disk.new) }
+        ensures disk { IfOk result (λ reply. Leaves D.TapeDisk (faults_in reply) disk.old disk.new) }
+        ensures stopped { OnErr result (D.failures disk.old ≤ D.failures disk.new) }
     {
         let reply = match command.request() {
             Request::Feed {

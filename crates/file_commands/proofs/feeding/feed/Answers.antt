@@ -5,10 +5,15 @@ use Rattle.grouping_model.specs.Datum.{Row}
 use Rattle.batch_reader.specs.File.{read_file}
 use Rattle.batch_reader.specs.Rows.{ReadsRows, packings}
 use Rattle.query_checks.specs.Checks.{Checked}
+use Rattle.std.proofs.lemmas.Result.{err_from_is_err_and}
+use Rattle.spill_tapes.specs.Disk.{Leaves}
+use Rattle.spill_tapes.specs.DiskLaws.{leaves_none}
+use Rattle.spill_lists.specs.declared.error.SpillError.TheVariants as spill
+use Rattle.origin_prefix.specs.declared.error.JoinError.TheVariants as join
 use Rattle.replica_merge.specs.declared.error.MergeError.TheVariants as merge
-use Rattle.script_machine.specs.Views.{IsOfBatch}
-use Rattle.script_machine.proofs.FeedLaws.{other_why, delivery_tells, fault_told, never_damaged, not_of_batch}
-use Rattle.file_commands.proofs.FileLaws.{FileBatch, read_of_file, packed_of_file, takes_file, of_batch_file, other_file}
+use Rattle.script_machine.specs.Views.{IsOfBatch, refusal_faults}
+use Rattle.script_machine.proofs.FeedLaws.{other_why, same_faults, damage_told, not_of_batch}
+use Rattle.file_commands.proofs.FileLaws.{FileBatch, read_of_file, packed_of_file, takes_file, of_batch_file, other_file, no_batch_fault}
 use Rattle.file_commands.proofs.feeding.feed.Goals as goal
 
 pub deliver-requires-clause-rows : goal.deliver-requires-clause-rows
@@ -45,11 +50,18 @@ returns-in-Ok-clause-counted g c = λ honest.
 pub returns-in-Err-clause-why : goal.returns-in-Err-clause-why
 returns-in-Err-clause-why g c = λ of. absurd (not_of_batch c.in-Err.refused.why (subst IsOfBatch c.from.ensures of))
 
-pub returns-in-Err-clause-fault : goal.returns-in-Err-clause-fault
-returns-in-Err-clause-fault g c = λ is. fault_told _ _ _ (merge.Join c.in-Err.refused.why) (delivery_tells _ _ _ c.in-Err.refused.why c.in-Err.ensures.over) (sym c.from.ensures ∙ is)
+pub returns-in_err-batch-clause-disk : goal.returns-in_err-batch-clause-disk
+returns-in_err-batch-clause-disk g c =
+    let e = err_from_is_err_and c.from_residual.result c.from_residual.ensures.1 in
+    rw e.1 (subst (λ n. Leaves g.D.TapeDisk n c.args.disk.now c.args.disk.now) (sym (ap refusal_faults e.2 ∙ no_batch_fault _)) (leaves_none g.D.TapeDisk c.args.disk.now))
+
+pub returns-in-Err-clause-disk : goal.returns-in-Err-clause-disk
+returns-in-Err-clause-disk g c =
+    subst (λ n. Leaves g.D.TapeDisk n c.args.disk.now c.deliver.new.disk) (same_faults (merge.Join c.in-Err.refused.why) ∙ ap refusal_faults (sym c.from.ensures)) c.in-Err.ensures.disk
 
 pub returns-in-Err-clause-undamaged : goal.returns-in-Err-clause-undamaged
-returns-in-Err-clause-undamaged g c = λ honest is. never_damaged _ _ _ (merge.Join c.in-Err.refused.why) (delivery_tells _ _ _ c.in-Err.refused.why c.in-Err.ensures.over) honest (sym c.from.ensures ∙ is)
+returns-in-Err-clause-undamaged g c = λ honest is.
+    c.in-Err.ensures.undamaged honest (let error : merge.Join c.in-Err.refused.why ≡ merge.Join (join.Spill spill.TapeDamaged) = damage_told (merge.Join c.in-Err.refused.why) (sym c.from.ensures ∙ is) in cc)
 
 pub returns-in-Ok-clause-agreed : goal.returns-in-Ok-clause-agreed
 returns-in-Ok-clause-agreed g c =

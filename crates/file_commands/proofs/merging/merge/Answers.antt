@@ -1,10 +1,14 @@
 use Rattle.std.specs.Prelude.{◌≡◌}
-use Rattle.std.proofs.Common.{inr, sym, subst}
+use Rattle.std.proofs.Common.{◌∙◌, ap, inr, sym, subst}
+use Rattle.std.proofs.lemmas.Result.{err_from_is_err_and}
+use Rattle.spill_tapes.specs.Disk.{Leaves}
+use Rattle.spill_tapes.specs.DiskLaws.{leaves_none}
+use Rattle.script_machine.specs.Views.{refusal_faults}
 use Rattle.grouping_model.specs.World.{World}
 use Rattle.replica_merge.specs.Replicas.{Held, Fits}
 use Rattle.script_machine.specs.Refusals.{origin_disagrees}
 use Rattle.file_commands.specs.Commands.{MergesHeld, IsApart, MergesFile, FileMergeIsCounted, IsNotMerged}
-use Rattle.file_commands.proofs.FileLaws.{if_err, on_ok}
+use Rattle.file_commands.proofs.FileLaws.{if_err, on_ok, no_file_fault}
 use Rattle.file_commands.proofs.merging.merge.Goals as goal
 
 pub returns-clause-merged : goal.returns-clause-merged
@@ -28,3 +32,8 @@ pub returns-clause-counted : goal.returns-clause-counted
 returns-clause-counted g c =
     on_ok c.take_in.result _ (_ → FileMergeIsCounted _ c.args.file.now c.args.replica.now _ _ _ _)
     (λ counted honest. (c.in_ok-other.other, c.in_ok-other.ensures.loaded, counted honest)) c.take_in.ensures.counted
+
+pub returns-in_err-other-clause-disk : goal.returns-in_err-other-clause-disk
+returns-in_err-other-clause-disk g c =
+    let e = err_from_is_err_and c.from_residual.result c.from_residual.ensures.1 in
+    rw e.1 (subst (λ n. Leaves g.D.TapeDisk n c.args.disk.now c.args.disk.now) (sym (ap refusal_faults e.2 ∙ no_file_fault c.args.file.now _ c.in_err-other.ensures.why)) (leaves_none g.D.TapeDisk c.args.disk.now))

@@ -1,6 +1,8 @@
-use Rattle.std.proofs.Common.{◌∙◌, sym, subst}
+use Rattle.std.proofs.Common.{◌∙◌, ap, sym, subst}
+use Rattle.spill_tapes.specs.Disk.{Leaves}
+use Rattle.script_machine.specs.Views.{refusal_faults}
 use Rattle.file_commands.specs.Commands.{IsApart}
-use Rattle.script_machine.proofs.FeedLaws.{fault_told, never_damaged}
+use Rattle.script_machine.proofs.FeedLaws.{same_faults, damage_told}
 use Rattle.file_commands.proofs.FileLaws.{apart, told_disagreement}
 use Rattle.file_commands.proofs.merging.take_in.Goals as goal
 
@@ -13,8 +15,9 @@ pub returns-in-Err-clause-agree : goal.returns-in-Err-clause-agree
 returns-in-Err-clause-agree g c =
     λ is world own theirs. c.in-Err.ensures.agree (told_disagreement c.in-Err.error (sym c.from.ensures ∙ is)) world own theirs
 
-pub returns-in-Err-clause-fault : goal.returns-in-Err-clause-fault
-returns-in-Err-clause-fault g c = λ is. fault_told _ _ _ c.in-Err.error c.in-Err.ensures.over (sym c.from.ensures ∙ is)
+pub returns-in-Err-clause-disk : goal.returns-in-Err-clause-disk
+returns-in-Err-clause-disk g c =
+    subst (λ n. Leaves g.D.TapeDisk n c.args.disk.now c.merge.new.disk) (same_faults c.in-Err.error ∙ ap refusal_faults (sym c.from.ensures)) c.in-Err.ensures.disk
 
 pub returns-in-Err-clause-undamaged : goal.returns-in-Err-clause-undamaged
-returns-in-Err-clause-undamaged g c = λ honest is. never_damaged _ _ _ c.in-Err.error c.in-Err.ensures.over honest (sym c.from.ensures ∙ is)
+returns-in-Err-clause-undamaged g c = λ honest is. c.in-Err.ensures.undamaged honest (damage_told c.in-Err.error (sym c.from.ensures ∙ is))

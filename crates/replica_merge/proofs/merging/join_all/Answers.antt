@@ -1,4 +1,4 @@
-use Rattle.std.specs.Prelude.{◌≡◌, refl, ℕ, [], unwrap_or, IfErr, IsTrue}
+use Rattle.std.specs.Prelude.{◌≡◌, ◌≢◌, refl, ℕ, [], unwrap_or, IfErr, IsTrue}
 use Rattle.std.proofs.Common.{rules, ◌∙◌, sym, subst}
 use Rattle.std.proofs.lemmas.Result.{err_from_is_err_and}
 use Rattle.std.specs.List.{AllByRecursion}
@@ -14,13 +14,12 @@ use Rattle.origin_prefix.specs.Parts.{Part, empty, IsPartOf}
 use Rattle.origin_prefix.proofs.ByNumber.{numbers, rising_rest}
 use Rattle.replica_merge.specs.Replicas.{Parts, part_at, part_of, IsHeldPart, DisagreeSomewhere}
 use Rattle.origin_prefix.specs.declared.error.JoinError.TheVariants as join
-use Rattle.origin_prefix.specs.Errors.{IsErrorOver}
-use Rattle.spill_lists.specs.declared.error.SpillError.{SpillError}
-use Rattle.replica_merge.specs.Errors.{origin_disagrees}
+use Rattle.spill_tapes.specs.Disk.{Leaves}
+use Rattle.spill_tapes.specs.DiskLaws.{leaves_twice}
+use Rattle.replica_merge.specs.Errors.{origin_disagrees, tape_damaged, merge_faults}
 use Rattle.replica_merge.specs.declared.error.MergeError.TheVariants.{Join}
 use Rattle.replica_merge.proofs.DeliveredLaws.{part_is}
-use Rattle.replica_merge.proofs.MergedLaws.{JoinedSoFar, joined_more, found_disagreement, told_later}
-use Rattle.hash_agg.proofs.DiskLaws.{moves_twice}
+use Rattle.replica_merge.proofs.MergedLaws.{JoinedSoFar, joined_more, found_disagreement}
 use Rattle.replica_merge.proofs.merging.join_all.Goals as goal
 
 pub join_part-requires-clause-own : goal.join_part-requires-clause-own
@@ -60,8 +59,7 @@ loop-origin-preserved g c =
       rest = rising_rest (n, c.in-Some.part.now) rest rising;
       held = (subst (AllByRecursion (IsHeldPart c.args.query.now)) c.in-Some.ensures.steps c.loop-origin.invariant.held).1;
       rising = c.in_ok-put.ensures.rising;
-      disk = moves_twice (g.D.TapeDisk.failures c.args.disk.now) (g.D.TapeDisk.failures c.loop-origin.disk) (g.D.TapeDisk.failures c.join_part.new.disk) (g.D.TapeDisk.writes c.args.disk.now) (g.D.TapeDisk.writes c.loop-origin.disk) (g.D.TapeDisk.writes c.join_part.new.disk)
-          (g.D.TapeDisk.honest c.args.disk.now) (g.D.TapeDisk.honest c.loop-origin.disk) (g.D.TapeDisk.honest c.join_part.new.disk) c.loop-origin.invariant.disk c.join_part.ensures.disk;
+      disk = leaves_twice g.D.TapeDisk 0 c.args.disk.now c.loop-origin.disk c.join_part.new.disk c.loop-origin.invariant.disk c.in_ok-part.ensures.disk;
       counted = λ so work written left.
           let q : Query = meaning c.args.query.now in
           let setting : Setting = setting_by g.H.KeyHash.hash_of q c.args.means.now in
@@ -85,12 +83,14 @@ returns-clause-counted g c = λ so.
     (c.loop-origin.invariant.counted so c.loop-origin.work (g.D.TapeDisk.writes c.loop-origin.disk)
     (subst (λ rest. MergeIsCounted q setting c.args.own.now.entries rest c.loop-origin.work (g.D.TapeDisk.writes c.loop-origin.disk) c.loop-origin.work (g.D.TapeDisk.writes c.loop-origin.disk)) (sym done) (refl, refl)))
 
-pub returns-in_err-part-clause-over : goal.returns-in_err-part-clause-over
-returns-in_err-part-clause-over g c =
+pub returns-in_err-part-clause-undamaged : goal.returns-in_err-part-clause-undamaged
+returns-in_err-part-clause-undamaged g c =
     let p = err_from_is_err_and c.from_residual-in_err-part.result c.from_residual-in_err-part.ensures.1 in
-    let before : ℕ = g.D.TapeDisk.failures c.args.disk.now in
-    let now : ℕ = g.D.TapeDisk.failures c.loop-origin.disk in
-    let after : ℕ = g.D.TapeDisk.failures c.join_part.new.disk in
-    subst (λ r. IfErr r (λ e. (error : SpillError) → e ≡ Join (join.Spill error) → IsErrorOver (g.D.TapeDisk.honest c.args.disk.now) before after error)) (sym p.1)
-    (λ error is. told_later (g.D.TapeDisk.honest c.args.disk.now) (g.D.TapeDisk.honest c.loop-origin.disk) before now after error c.loop-origin.invariant.disk.honesty c.loop-origin.invariant.disk.failures
-    (c.in_err-part.ensures.over error (let given = sym p.2 ∙ is in cc)))
+    subst (λ r. IfErr r (λ e. IsTrue (g.D.TapeDisk.honest c.args.disk.now) → e ≢ tape_damaged)) (sym p.1)
+    (λ honest is. c.in_err-part.ensures.undamaged (subst IsTrue (sym c.loop-origin.invariant.disk.honesty) honest) (let given = sym p.2 ∙ is in cc))
+
+pub returns-in_err-part-clause-disk : goal.returns-in_err-part-clause-disk
+returns-in_err-part-clause-disk g c =
+    let p = err_from_is_err_and c.from_residual-in_err-part.result c.from_residual-in_err-part.ensures.1 in
+    rw p.1 (subst (λ e. Leaves g.D.TapeDisk (merge_faults e) c.args.disk.now c.join_part.new.disk) (sym p.2)
+    (leaves_twice g.D.TapeDisk _ c.args.disk.now c.loop-origin.disk c.join_part.new.disk c.loop-origin.invariant.disk c.in_err-part.ensures.disk))

@@ -6,7 +6,7 @@ use Rattle.having_filter.specs.Meaning.{meaning}
 use Rattle.hash_agg.specs.Counting.{setting_by}
 use Rattle.hash_agg.specs.declared.work.Work.{Work}
 use Rattle.origin_prefix.specs.Parts.{Part}
-use Rattle.spill_lists.specs.Standing.{Moves}
+use Rattle.spill_tapes.specs.Disk.{Leaves}
 use Rattle.replica_merge.specs.Counting.{MergeIsCounted}
 use Rattle.replica_merge.specs.Replicas.{part_at, part_of, IsHeldPart}
 use Rattle.replica_merge.proofs.MergedLaws.{JoinedSoFar}
@@ -19,7 +19,7 @@ invariant-loop-origin g l =
       rest : IsStrictlySortedBy nat_cmp (map (λ (held : ℕ × Part). held.0) l.origin-iterator);
       held : AllByRecursion (IsHeldPart l.query) l.origin-iterator;
       rising : IsStrictlySortedBy nat_cmp (map (λ (held : ℕ × Part). held.0) l.joined.entries);
-      disk : Moves (g.D.TapeDisk.failures l.fn.disk) (g.D.TapeDisk.failures l.disk) (g.D.TapeDisk.writes l.fn.disk) (g.D.TapeDisk.writes l.disk) (g.D.TapeDisk.honest l.fn.disk) (g.D.TapeDisk.honest l.disk);
+      disk : Leaves g.D.TapeDisk 0 l.fn.disk l.disk;
       counted : IsTrue (g.D.TapeDisk.honest l.fn.disk) → (new : Work) (written : ℕ)
           → MergeIsCounted (meaning l.query) (setting_by g.H.KeyHash.hash_of (meaning l.query) l.means) l.own.entries l.origin-iterator l.work (g.D.TapeDisk.writes l.disk) new written
           → MergeIsCounted (meaning l.query) (setting_by g.H.KeyHash.hash_of (meaning l.query) l.means) l.own.entries l.initial.origin-iterator l.fn.work (g.D.TapeDisk.writes l.fn.disk) new written;

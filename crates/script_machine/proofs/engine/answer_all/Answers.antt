@@ -1,9 +1,9 @@
 use Rattle.std.specs.Prelude.{◌≡◌, ◌<◌, ◌≤◌, ◌+◌, refl, if◌then◌else◌, length, IsTrue}
 use Rattle.std.proofs.Common.{arith, ap, sym, subst, ◌∙◌}
+use Rattle.std.proofs.Math.Nat.{le_of_eq}
 use Rattle.std.proofs.lemmas.List.{length-drop}
 use Rattle.csv.specs.Records.{fields_of}
 use Rattle.script_commands.specs.Commands.{command_at, owned_by}
-use Rattle.hash_agg.proofs.DiskLaws.{moves_none, moves_twice}
 use Rattle.script_machine.specs.Views.{is_refusal}
 use Rattle.script_machine.specs.declared.error.RunError.TheVariants as stop
 use Rattle.script_machine.proofs.OutputLaws.{passed_as}
@@ -16,7 +16,7 @@ loop-command-init g c =
     record {
       room = omega arith;
       ran = λ honest. ran_start _ (omega arith) _ _ _ c.requires.none;
-      disk = moves_none (g.D.TapeDisk.failures c.args.disk.now) (g.D.TapeDisk.writes c.args.disk.now) (g.D.TapeDisk.honest c.args.disk.now);
+      honesty = refl;
     }
 
 pub returns-in_err-command : goal.returns-in_err-command
@@ -25,7 +25,7 @@ returns-in_err-command g c =
 
 pub returns-in_err-reply : goal.returns-in_err-reply
 returns-in_err-reply g c =
-    let later = c.execute.ensures.disk.failures in
+    let later = c.in_err-reply.ensures.stopped in
     passed_as c.from_residual-in_err-reply.result stop.NoMemory _ _ c.from_residual-in_err-reply.ensures.1 (λ honest. ran_stop _ _ later _ _ _ _ _ _ (c.loop-command.invariant.ran honest))
 
 pub returns-in_err-put_reply : goal.returns-in_err-put_reply
@@ -33,7 +33,7 @@ returns-in_err-put_reply g c =
     let next = rw c.in-Some.is at c.in_ok-command.ensures.found in
     passed_as c.from_residual-in_err-put_reply.result stop.WriteFault _ _ c.from_residual-in_err-put_reply.ensures.1
     (λ honest. ran_front _ _ _ _ _ _ _ _ _ _ (command_at (fields_of c.in-Some.command.head) c.next_command.new.records) _ (rw next at c.loop-command.invariant.ran honest)
-    (c.in_ok-reply.ensures.answers (subst IsTrue (sym c.loop-command.invariant.disk.honesty) honest)) c.in_err-put_reply.ensures c.in_ok-reply.ensures.faults)
+    (c.in_ok-reply.ensures.answers (subst IsTrue (sym c.loop-command.invariant.honesty) honest)) c.in_err-put_reply.ensures (le_of_eq (sym c.in_ok-reply.ensures.disk.failures)))
 
 pub loop-command-smaller : goal.loop-command-smaller
 loop-command-smaller g c =
@@ -61,7 +61,6 @@ loop-command-preserved g c =
       ran = λ honest.
           rw c.in_ok-reply.ensures.left
           (ran_more _ _ _ _ _ _ _ _ _ _ _ (command_at (fields_of c.in-Some.command.head) c.next_command.new.records) _ (rw next at inv.ran honest)
-          (c.in_ok-reply.ensures.answers (subst IsTrue (sym inv.disk.honesty) honest)) c.in_ok-put_reply.ensures counts c.in_ok-reply.ensures.faults);
-      disk = moves_twice (g.D.TapeDisk.failures c.args.disk.now) (g.D.TapeDisk.failures c.loop-command.disk) (g.D.TapeDisk.failures c.execute.new.disk) (g.D.TapeDisk.writes c.args.disk.now) (g.D.TapeDisk.writes c.loop-command.disk) (g.D.TapeDisk.writes c.execute.new.disk)
-          (g.D.TapeDisk.honest c.args.disk.now) (g.D.TapeDisk.honest c.loop-command.disk) (g.D.TapeDisk.honest c.execute.new.disk) inv.disk c.execute.ensures.disk;
+          (c.in_ok-reply.ensures.answers (subst IsTrue (sym inv.honesty) honest)) c.in_ok-put_reply.ensures counts (le_of_eq (sym c.in_ok-reply.ensures.disk.failures)));
+      honesty = c.in_ok-reply.ensures.disk.honesty ∙ inv.honesty;
     }

@@ -1,5 +1,4 @@
-use Rattle.std.proofs.Common.{◌+◌, ◌≤◌, length, IsTrue}
-use Rattle.spill_lists.specs.Standing.{Moves}
+use Rattle.std.proofs.Common.{◌≡◌, ◌+◌, ◌≤◌, length, IsTrue}
 use Rattle.script_commands.specs.Commands.{commands_of}
 use Rattle.script_machine.proofs.RunLaws.{Ran}
 use Rattle.script_machine.proofs.engine.answer_all.Given as goal
@@ -11,7 +10,7 @@ invariant-loop-command g l =
       ran : IsTrue (g.D.TapeDisk.honest l.fn.disk)
           → Ran (record { honest = g.D.TapeDisk.honest l.fn.disk; failed = g.D.TapeDisk.failures l.fn.disk; failed_now = g.D.TapeDisk.failures l.disk })
           (commands_of l.fn.records) (g.W.Write.contents l.fn.writer) (g.W.Write.contents l.writer) l.refused (commands_of l.records) l.session;
-      disk : Moves (g.D.TapeDisk.failures l.fn.disk) (g.D.TapeDisk.failures l.disk) (g.D.TapeDisk.writes l.fn.disk) (g.D.TapeDisk.writes l.disk) (g.D.TapeDisk.honest l.fn.disk) (g.D.TapeDisk.honest l.disk);
+      honesty : g.D.TapeDisk.honest l.disk ≡ g.D.TapeDisk.honest l.fn.disk;
     }
 
 abbrev pub decreases-loop-command : goal.decreases-loop-command

@@ -4,9 +4,12 @@ use Rattle.packed_rows.specs.Columns.{kinds}
 use Rattle.batch_reader.specs.Rows.{ReadsRows}
 use Rattle.batch_reader.proofs.RecordLaws.{built_rows}
 use Rattle.query_checks.specs.Checks.{Checked}
-use Rattle.script_machine.specs.Views.{IsOfBatch}
+use Rattle.script_machine.specs.Views.{IsOfBatch, refusal_faults}
+use Rattle.spill_tapes.specs.Disk.{Leaves}
+use Rattle.spill_lists.specs.declared.error.SpillError.TheVariants as spill
+use Rattle.origin_prefix.specs.declared.error.JoinError.TheVariants as join
 use Rattle.replica_merge.specs.declared.error.MergeError.TheVariants as merge
-use Rattle.script_machine.proofs.FeedLaws.{built_batch, other_why, delivery_tells, fault_told, never_damaged, not_of_batch}
+use Rattle.script_machine.proofs.FeedLaws.{built_batch, other_why, same_faults, damage_told, not_of_batch}
 use Rattle.script_machine.proofs.session.deliver.Goals as goal
 
 pub deliver-requires-clause-rows : goal.deliver-requires-clause-rows
@@ -54,8 +57,10 @@ returns-in-Err-deliver-clause-other g c = λ is.
 pub returns-in-Err-deliver-clause-why : goal.returns-in-Err-deliver-clause-why
 returns-in-Err-deliver-clause-why g c = λ of. absurd (not_of_batch c.in-Err-deliver.refused.why (subst IsOfBatch c.from-in-Err-deliver.ensures of))
 
-pub returns-in-Err-deliver-clause-fault : goal.returns-in-Err-deliver-clause-fault
-returns-in-Err-deliver-clause-fault g c = λ is. fault_told _ _ _ (merge.Join c.in-Err-deliver.refused.why) (delivery_tells _ _ _ c.in-Err-deliver.refused.why c.in-Err-deliver.ensures.over) (sym c.from-in-Err-deliver.ensures ∙ is)
+pub returns-in-Err-deliver-clause-disk : goal.returns-in-Err-deliver-clause-disk
+returns-in-Err-deliver-clause-disk g c =
+    subst (λ n. Leaves g.D.TapeDisk n c.args.disk.now c.deliver.new.disk) (same_faults (merge.Join c.in-Err-deliver.refused.why) ∙ ap refusal_faults (sym c.from-in-Err-deliver.ensures)) c.in-Err-deliver.ensures.disk
 
 pub returns-in-Err-deliver-clause-undamaged : goal.returns-in-Err-deliver-clause-undamaged
-returns-in-Err-deliver-clause-undamaged g c = λ honest is. never_damaged _ _ _ (merge.Join c.in-Err-deliver.refused.why) (delivery_tells _ _ _ c.in-Err-deliver.refused.why c.in-Err-deliver.ensures.over) honest (sym c.from-in-Err-deliver.ensures ∙ is)
+returns-in-Err-deliver-clause-undamaged g c = λ honest is.
+    c.in-Err-deliver.ensures.undamaged honest (let error : merge.Join c.in-Err-deliver.refused.why ≡ merge.Join (join.Spill spill.TapeDamaged) = damage_told (merge.Join c.in-Err-deliver.refused.why) (sym c.from-in-Err-deliver.ensures ∙ is) in cc)

@@ -1,9 +1,12 @@
-use Rattle.std.proofs.Common.{sym, subst}
+use Rattle.std.proofs.Common.{ap, sym, subst, ◌∙◌}
 use Rattle.script_commands.specs.Commands as ask
-use Rattle.script_machine.specs.Views.{Steps}
+use Rattle.script_machine.specs.Views.{Steps, refusal_faults}
 use Rattle.script_machine.specs.declared.refusal.Refusal.TheVariants as why
 use Rattle.script_machine.specs.declared.reply.Reply.TheVariants as says
-use Rattle.script_machine.proofs.FeedLaws.{fault_refused, spill_fault}
+use Rattle.spill_tapes.specs.Disk.{Leaves}
+use Rattle.origin_prefix.specs.declared.error.JoinError.TheVariants as join
+use Rattle.replica_merge.specs.declared.error.MergeError.TheVariants as merge
+use Rattle.script_machine.proofs.FeedLaws.{same_faults}
 use Rattle.script_machine.proofs.StoreLaws.{answer_nowhere, answer_refused, answered}
 use Rattle.script_machine.proofs.session.Session.answer.Goals as goal
 
@@ -20,7 +23,6 @@ returns-in-Ok-clause-answers g c = λ honest owned.
 pub returns-in-Err-clause-answers : goal.returns-in-Err-clause-answers
 returns-in-Err-clause-answers g c = λ honest owned. answer_refused c.args.self.now c.args.name.now owned c.in-Err.error c.from.result c.from.ensures (c.in-Err.ensures.undamaged honest)
 
-pub returns-in-Err-clause-faults : goal.returns-in-Err-clause-faults
-returns-in-Err-clause-faults g c =
-    fault_refused (g.D.TapeDisk.failures c.args.disk.now) (g.D.TapeDisk.failures c.answer_of_replica.new.disk) c.from.result c.answer_of_replica.ensures.disk.failures
-    (spill_fault (g.D.TapeDisk.failures c.args.disk.now) (g.D.TapeDisk.failures c.answer_of_replica.new.disk) c.in-Err.error c.from.result c.from.ensures c.in-Err.ensures.refused)
+pub returns-in-Err-clause-disk : goal.returns-in-Err-clause-disk
+returns-in-Err-clause-disk g c =
+    subst (λ n. Leaves g.D.TapeDisk n c.args.disk.now c.answer_of_replica.new.disk) (same_faults (merge.Join (join.Spill c.in-Err.error)) ∙ ap refusal_faults (sym c.from.ensures)) c.in-Err.ensures.disk

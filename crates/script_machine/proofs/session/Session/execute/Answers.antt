@@ -1,12 +1,15 @@
-use Rattle.std.specs.Prelude.{◌≡◌, ℕ, refl, drop, take}
-use Rattle.std.proofs.Common.{◌∙◌, ap, sym, subst, arith}
+use Rattle.std.specs.Prelude.{◌≡◌, false, ℕ, refl, drop, take}
+use Rattle.std.proofs.Common.{◌∙◌, ap, sym, subst}
 use Rattle.csv.specs.Records.{fields_of}
 use Rattle.script_commands.specs.Commands as ask
 use Rattle.script_commands.specs.Commands.{owned_by, request_of}
 use Rattle.script_commands.specs.Views.{request_view}
 use Rattle.script_commands.specs.declared.request.Request.{Request}
 use Rattle.script_commands.proofs.CommandLaws.{owned_told}
-use Rattle.script_machine.specs.Views.{Steps}
+use Rattle.spill_tapes.specs.Disk.{Leaves}
+use Rattle.spill_tapes.specs.DiskLaws.{leaves_none}
+use Rattle.script_machine.specs.Views.{Steps, is_tape_fault, faults_in}
+use Rattle.script_machine.specs.declared.reply.Reply.{Reply}
 use Rattle.script_machine.specs.declared.refusal.Refusal.TheVariants as why
 use Rattle.script_machine.specs.declared.reply.Reply.TheVariants as says
 use Rattle.script_machine.proofs.FeedLaws.{no_fault_in}
@@ -60,17 +63,19 @@ returns-clause-answers g c = λ honest.
 pub returns-clause-left : goal.returns-clause-left
 returns-clause-left g c = c.in_ok-skip.ensures ∙ ap (λ (n : ℕ). drop n c.args.records.now) c.owned.ensures
 
-pub returns-clause-faults : goal.returns-clause-faults
-returns-clause-faults g c =
+pub returns-clause-disk : goal.returns-clause-disk
+returns-clause-disk g c =
+    let none : (reply : Reply) → is_tape_fault reply ≡ false → Leaves g.D.TapeDisk (faults_in reply) c.args.disk.now c.args.disk.now =
+    λ reply faultless. subst (λ n. Leaves g.D.TapeDisk n c.args.disk.now c.args.disk.now) (sym (no_fault_in reply faultless)) (leaves_none g.D.TapeDisk c.args.disk.now) in
     elim c.match-request.branch [
-      | in-Columns w ↦ rw (w.reply-is, w.disk-is) (no_fault_in (g.D.TapeDisk.failures c.args.disk.now) (g.D.TapeDisk.failures c.args.disk.now) w.tell_columns-reply.result w.tell_columns-reply.ensures.faultless (omega arith))
-      | in-Query w ↦ rw (w.reply-is, w.disk-is) (no_fault_in (g.D.TapeDisk.failures c.args.disk.now) (g.D.TapeDisk.failures c.args.disk.now) w.tell_query-reply.result w.tell_query-reply.ensures.faultless (omega arith))
-      | in-Limit w ↦ rw (w.reply-is, w.disk-is) (no_fault_in (g.D.TapeDisk.failures c.args.disk.now) (g.D.TapeDisk.failures c.args.disk.now) w.tell_limit-reply.result w.tell_limit-reply.ensures.faultless (omega arith))
-      | in-Replica w ↦ rw (w.reply-is, w.disk-is) (no_fault_in (g.D.TapeDisk.failures c.args.disk.now) (g.D.TapeDisk.failures c.args.disk.now) w.add_replica-reply.result w.add_replica-reply.ensures.faultless (omega arith))
-      | in-Known w ↦ rw (w.reply-is, w.disk-is) (no_fault_in (g.D.TapeDisk.failures c.args.disk.now) (g.D.TapeDisk.failures c.args.disk.now) w.known-reply.result w.known-reply.ensures.faultless (omega arith))
-      | in-Answer w ↦ rw (w.reply-is, w.disk-is) w.answer-reply.ensures.faults
-      | in-Merge w ↦ rw (w.reply-is, w.disk-is) w.merge-reply.ensures.faults
-      | in-Save w ↦ rw (w.reply-is, w.disk-is) (no_fault_in (g.D.TapeDisk.failures c.args.disk.now) (g.D.TapeDisk.failures c.args.disk.now) w.save-reply.result w.save-reply.ensures.faultless (omega arith))
-      | in-Load w ↦ rw (w.reply-is, w.disk-is) (no_fault_in (g.D.TapeDisk.failures c.args.disk.now) (g.D.TapeDisk.failures c.args.disk.now) w.load-reply.result w.load-reply.ensures.faultless (omega arith))
-      | in-Unknown w ↦ rw (w.reply-is, w.disk-is) (no_fault_in (g.D.TapeDisk.failures c.args.disk.now) (g.D.TapeDisk.failures c.args.disk.now) (says.Refused why.BadCommand) refl (omega arith))
+      | in-Columns w ↦ rw (w.reply-is, w.disk-is) (none w.tell_columns-reply.result w.tell_columns-reply.ensures.faultless)
+      | in-Query w ↦ rw (w.reply-is, w.disk-is) (none w.tell_query-reply.result w.tell_query-reply.ensures.faultless)
+      | in-Limit w ↦ rw (w.reply-is, w.disk-is) (none w.tell_limit-reply.result w.tell_limit-reply.ensures.faultless)
+      | in-Replica w ↦ rw (w.reply-is, w.disk-is) (none w.add_replica-reply.result w.add_replica-reply.ensures.faultless)
+      | in-Known w ↦ rw (w.reply-is, w.disk-is) (none w.known-reply.result w.known-reply.ensures.faultless)
+      | in-Answer w ↦ rw (w.reply-is, w.disk-is) w.answer-reply.ensures.disk
+      | in-Merge w ↦ rw (w.reply-is, w.disk-is) w.merge-reply.ensures.disk
+      | in-Save w ↦ rw (w.reply-is, w.disk-is) (none w.save-reply.result w.save-reply.ensures.faultless)
+      | in-Load w ↦ rw (w.reply-is, w.disk-is) (none w.load-reply.result w.load-reply.ensures.faultless)
+      | in-Unknown w ↦ rw (w.reply-is, w.disk-is) (none (says.Refused why.BadCommand) refl)
     ]

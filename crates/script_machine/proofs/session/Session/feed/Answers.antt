@@ -1,11 +1,10 @@
 use Rattle.std.specs.Prelude.{Some, take}
-use Rattle.std.proofs.Common.{◌∙◌, ap, sym, subst, inl, inr, arith}
+use Rattle.std.proofs.Common.{◌∙◌, ap, sym, subst, inl, inr}
 use Rattle.std.specs.Option.{is_some}
 use Rattle.script_commands.specs.Commands as ask
 use Rattle.script_machine.specs.Views.{Store, Steps, Takes, Updates}
 use Rattle.script_machine.specs.declared.refusal.Refusal.TheVariants as why
 use Rattle.script_machine.specs.declared.reply.Reply.TheVariants as says
-use Rattle.script_machine.proofs.FeedLaws.{fault_refused}
 use Rattle.script_machine.proofs.StoreLaws.{disagrees_or, feed_disagrees, feed_nowhere, feed_refused, feed_took, held_asks, same_updated, store_updated, updated}
 use Rattle.script_machine.proofs.session.Session.feed.Goals as goal
 use Rattle.script_machine.proofs.session.Session.feed.Goals.{in-Ok, in-Err}
@@ -74,12 +73,9 @@ returns-clause-answers g c =
           ]))
     ]
 
-pub returns-clause-faults : goal.returns-clause-faults
-returns-clause-faults g c =
-    let low = c.deliver.ensures.disk.failures in
+pub returns-clause-disk : goal.returns-clause-disk
+returns-clause-disk g c =
     elim c.match-branch-3.branch [
-      | in-Ok w ↦ rw w.result-is (omega (arith, low))
-      | in-Err w ↦
-          let fault = rw w.in-Err.is at c.in_ok-delivered.ensures.fault in
-          rw w.result-is (fault_refused (g.D.TapeDisk.failures c.args.disk.now) (g.D.TapeDisk.failures c.deliver.new.disk) w.in-Err.why low fault)
+      | in-Ok w ↦ rw w.result-is (rw w.in-Ok.is at c.in_ok-delivered.ensures.disk)
+      | in-Err w ↦ rw w.result-is (rw w.in-Err.is at c.in_ok-delivered.ensures.disk)
     ]

@@ -1,8 +1,9 @@
 use Rattle.std.specs.Prelude.{Err}
 use Rattle.std.proofs.Common.{◌∙◌, ap, sym, subst}
 use Rattle.std.specs.Option.{option_copied}
-use Rattle.script_machine.specs.Views.{Store, JoinsNames}
-use Rattle.script_machine.proofs.FeedLaws.{fault_told, never_damaged}
+use Rattle.spill_tapes.specs.Disk.{Leaves}
+use Rattle.script_machine.specs.Views.{Store, JoinsNames, refusal_faults}
+use Rattle.script_machine.proofs.FeedLaws.{same_faults, damage_told}
 use Rattle.script_machine.proofs.StoreLaws.{join_refused}
 use Rattle.script_machine.proofs.session.Session.join.Goals as goal
 
@@ -14,8 +15,9 @@ returns-in-Err-clause-joins g c =
     (sym c.get.ensures.value ∙ ap option_copied c.in-Some.is) (sym c.get-2.ensures.value ∙ ap option_copied c.in-Some-get.is)
     c.in-Err.ensures.different c.in-Err.ensures.agree c.from.ensures)
 
-pub returns-in-Err-clause-fault : goal.returns-in-Err-clause-fault
-returns-in-Err-clause-fault g c = λ is. fault_told _ _ _ c.in-Err.error c.in-Err.ensures.over (sym c.from.ensures ∙ is)
+pub returns-in-Err-clause-disk : goal.returns-in-Err-clause-disk
+returns-in-Err-clause-disk g c =
+    subst (λ n. Leaves g.D.TapeDisk n c.args.disk.now c.join.new.disk) (same_faults c.in-Err.error ∙ ap refusal_faults (sym c.from.ensures)) c.in-Err.ensures.disk
 
 pub returns-in-Err-clause-undamaged : goal.returns-in-Err-clause-undamaged
-returns-in-Err-clause-undamaged g c = λ honest is. never_damaged _ _ _ c.in-Err.error c.in-Err.ensures.over honest (sym c.from.ensures ∙ is)
+returns-in-Err-clause-undamaged g c = λ honest is. c.in-Err.ensures.undamaged honest (damage_told c.in-Err.error (sym c.from.ensures ∙ is))

@@ -6,17 +6,12 @@ use Rattle.replica_merge.specs.Replicas.{Held, Fits}
 use Rattle.script_commands.specs.Commands as ask
 use Rattle.script_machine.specs.Views.{Store, Steps, Updates, JoinsHeld, replica_at}
 use Rattle.script_machine.specs.declared.reply.Reply.TheVariants as says
-use Rattle.script_machine.proofs.FeedLaws.{fault_refused}
 use Rattle.script_machine.proofs.StoreLaws.{held_asks, merge_refused, merged, one_query, one_there, store_updated, updated}
 use Rattle.script_machine.proofs.session.Session.merge.Goals as goal
 
 pub returns-in-Err-clause-answers : goal.returns-in-Err-clause-answers
 returns-in-Err-clause-answers g c = λ honest owned.
     merge_refused c.args.self.now c.args.into.now c.args.from.now owned c.in-Err.why c.in-Err.ensures.joins (c.in-Err.ensures.undamaged honest)
-
-pub returns-in-Err-clause-faults : goal.returns-in-Err-clause-faults
-returns-in-Err-clause-faults g c =
-    fault_refused (g.D.TapeDisk.failures c.args.disk.now) (g.D.TapeDisk.failures c.join.new.disk) c.in-Err.why c.join.ensures.disk.failures c.in-Err.ensures.fault
 
 pub invariant_of-self : goal.invariant_of-self
 invariant_of-self g c =
