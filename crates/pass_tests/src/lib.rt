@@ -5,6 +5,8 @@
 #![tactic(auto)]
 
 #[cfg(test)]
+mod flips;
+#[cfg(test)]
 mod one_hash;
 #[cfg(test)]
 mod passes;

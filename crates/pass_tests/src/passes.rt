@@ -4,7 +4,7 @@ ghost use Rattle.having_filter.specs.Meaning.{meaning};
 ghost use Rattle.hash_agg.specs.Inputs.{ArePackings};
 
 use batch_reader::PackedRows;
-use hash_agg::{Fnv1a, Input, KeyHash, Means, MemDisk, Run, Work, aggregate};
+use hash_agg::{Fnv1a, Input, KeyHash, Means, MemDisk, Run, TapeDisk, Work, aggregate};
 use having_filter::Query;
 use hex::encode;
 use std::test::*;
@@ -179,36 +179,40 @@ fn limits_have_a_range(rt: HostRuntime) {
     assert!(rt; is_limit(1_099_511_627_776) && !is_limit(1_099_511_627_777));
 }
 
-/// Why the groups of rows are refused over a disk with a fault.
-fn refused_rows(
+/// Why the groups of rows are refused over a disk.
+fn refused_rows<D: TapeDisk>(
     rt: HostRuntime,
     query: &Query,
     rows: &PackedRows,
-    fault: &str,
+    disk: &mut D,
 ) -> Result<String, Fail>
     requires rows { (those : List Row) × ArePackings (meaning query.now).kinds rows.now those }
     requires few { length rows.now < 2 ^ 57 }
 {
     let means = Means::new(65_536, Fnv1a)?;
-    let mut disk = FaultyDisk::new(rt.alloc(), fault);
-    let refused = aggregate(rt.alloc(), query, &[Input::Flat(rows)], &means, &mut disk).err();
-    drop(disk);
+    let refused = aggregate(rt.alloc(), query, &[Input::Flat(rows)], &means, disk).err();
     Ok(format!(in rt.alloc(); "{refused:?}")?)
 }
 
-/// Why the groups of 385 towns, one of which is spilled, are refused over a disk with a fault.
-fn refused(rt: HostRuntime, query: &Query, fault: &str) -> Result<String, Fail> {
+/// Why the groups of 385 towns, one of which is spilled, are refused over a disk.
+pub(crate) fn refused<D: TapeDisk>(
+    rt: HostRuntime,
+    query: &Query,
+    disk: &mut D,
+) -> Result<String, Fail> {
     let rows = rows_of(rt, query, 385)?;
-    let told = refused_rows(rt, query, &rows, fault);
+    let told = refused_rows(rt, query, &rows, disk);
     drop(rows);
     told
 }
 
-/// The same of the groups of the query.
+/// The same of the groups of the query over a disk with a fault.
 fn refusal(rt: HostRuntime, fault: &str) -> Result<String, Fail> {
+    let mut disk = FaultyDisk::new(rt.alloc(), fault);
     let query = query(rt, COLUMNS, TOWNS)?;
-    let told = refused(rt, &query, fault);
+    let told = refused(rt, &query, &mut disk);
     drop(query);
+    drop(disk);
     told
 }
 
