@@ -1,10 +1,10 @@
 -- What is true of the fields of a tree stays true.
 use Rattle.std.proofs.Common.{◌≡◌, ℕ, zero, suc, ◌+◌, ◌<◌, ◌≤◌, inl, inr, Bool, true, false, List, [], ◌∷◌, Option, Some, None, length, get_or, cond, set, drop, refl, sym, ap, ◌∙◌, subst, arith}
 use Rattle.std.specs.Prelude.{is_some, unwrap_or}
-use Rattle.std.proofs.lemmas.Bool.{cases_Bool, cases_eq, cases_lt, cond-true, cond-false, false≢true}
+use Rattle.std.proofs.lemmas.Bool.{cases_Bool, cases_eq, cond-true, cond-false, false≢true}
 use Rattle.chunk_contexts.specs.declared.error.ContextError.{ContextError}
 use Rattle.context_tree.specs.Contexts.{no_context, held_by}
-use Rattle.context_tree.specs.Links.{is_below, cleared, placed}
+use Rattle.context_tree.specs.Links.{stamp_of, is_below, cleared, placed}
 use Rattle.std.specs.List.{refill}
 use Rattle.std.proofs.lemmas.List.{get_or-set_same, get_or-set_other, get_or_default, length-set, set-get_or}
 use Rattle.context_tree.specs.Tree.{TreeState, Stamped, Emptied, IsRefusedBy, IsNotMade, has_stamp, is_there, context_at, with_context, without_slots, held_from}
@@ -18,6 +18,14 @@ use Rattle.context_tree.proofs.Clearing.{length-cleared, get_or-cleared, is-clea
 use Rattle.context_tree.specs.declared.context.Context.{Context}
 use Rattle.context_tree.specs.declared.links.Link.{Link}
 use Rattle.context_tree.proofs.Slots.{refill-whole, placed-here, placed-other, length-placed}
+
+-- no context has a later stamp than the last one
+pub stamp-low : (ls : List (Option Link)) (last slot : ℕ) → Stamped ls last → stamp_of (get_or ls slot None) ≤ last
+stamp-low ls last slot stamps = by (get_or ls slot None) refl
+  where
+    by : (l : Option Link) → get_or ls slot None ≡ l → stamp_of l ≤ last
+    by None e = omega arith
+    by (Some l) e = stamps slot l e
 
 -- a context is made
 module _ (ls : List (Option Link)) (cs : List Context) (last slot : ℕ) (low : slot ≤ length ls) (long : length cs ≡ length ls) (link : Link) (c : Context) where
@@ -122,17 +130,10 @@ not-made {there = there} {spent = spent} {here = here} {none = none} {refusal = 
     subst (λ (b : Bool). IsNotMade b spent refusal e) (sym is) (subst (λ (b : Bool). IsNotMade here b refusal e) (sym last) (subst (λ (o : Option ContextError). IsNotMade here none o e) (sym own) so))
 
 -- contexts are given up: those in the slots that are emptied
-module _ (x : Inside) (are : AreFields x) (gone : ℕ → Bool) (from : ℕ) (none : (k : ℕ) → k < from → gone k ≡ false) (ls : List (Option Link)) (links : ls ≡ cleared gone None 0 x.links)
-    (d ds : List Context) (same : d ≡ x.contexts.items) (as-long : length ds ≡ length d) (kept-before : (k : ℕ) → k < from → get_or ds k no_context ≡ get_or d k no_context)
-    (told-behind : (k : ℕ) → from ≤ k → get_or ds k no_context ≡ cond (is_some (get_or ls k None)) (get_or d k no_context) no_context) where
+module _ (x : Inside) (are : AreFields x) (gone : ℕ → Bool) (ls : List (Option Link)) (links : ls ≡ cleared gone None 0 x.links) (d ds : List Context) (same : d ≡ x.contexts.items)
+    (as-long : length ds ≡ length d) (told : (k : ℕ) → get_or ds k no_context ≡ cond (is_some (get_or ls k None)) (get_or d k no_context) no_context) where
   long : length ds ≡ length x.contexts.items
   long = as-long ∙ ap length same
-
-  before : (k : ℕ) → k < from → get_or ds k no_context ≡ get_or x.contexts.items k no_context
-  before k low = kept-before k low ∙ ap (λ (cs : List Context). get_or cs k no_context) same
-
-  behind : (k : ℕ) → from ≤ k → get_or ds k no_context ≡ cond (is_some (get_or ls k None)) (get_or x.contexts.items k no_context) no_context
-  behind k past = told-behind k past ∙ ap (λ (cs : List Context). cond (is_some (get_or ls k None)) (get_or cs k no_context) no_context) same
 
   link-is : (k : ℕ) → get_or ls k None ≡ cond (gone k) None (get_or x.links k None)
   link-is k = ap (λ (l : List (Option Link)). get_or l k None) links ∙ get_or-cleared gone None x.links k
@@ -143,18 +144,17 @@ module _ (x : Inside) (are : AreFields x) (gone : ℕ → Bool) (from : ℕ) (no
   kept k (Some link) free = refl
 
   context-is : (k : ℕ) → get_or ds k no_context ≡ cond (gone k) no_context (get_or x.contexts.items k no_context)
-  context-is k = elim (cases_lt k from) [
-    | inl low ↦ before k low ∙ sym (cond-false (gone k) no_context (get_or x.contexts.items k no_context) (none k low))
-    | inr past ↦ behind k past ∙ elim (cases_Bool (gone k)) [
-      | inl goes ↦
-          ap (λ (l : Option Link). cond (is_some l) (get_or x.contexts.items k no_context) no_context) (link-is k ∙ cond-true (gone k) None (get_or x.links k None) goes)
-          ∙ sym (cond-true (gone k) no_context (get_or x.contexts.items k no_context) goes)
-      | inr stays ↦
-          ap (λ (l : Option Link). cond (is_some l) (get_or x.contexts.items k no_context) no_context) (link-is k ∙ cond-false (gone k) None (get_or x.links k None) stays)
-          ∙ kept k (get_or x.links k None) refl
-          ∙ sym (cond-false (gone k) no_context (get_or x.contexts.items k no_context) stays)
-    ]
-  ]
+  context-is k =
+      told k ∙ ap (λ (cs : List Context). cond (is_some (get_or ls k None)) (get_or cs k no_context) no_context) same
+      ∙ elim (cases_Bool (gone k)) [
+        | inl goes ↦
+            ap (λ (l : Option Link). cond (is_some l) (get_or x.contexts.items k no_context) no_context) (link-is k ∙ cond-true (gone k) None (get_or x.links k None) goes)
+            ∙ sym (cond-true (gone k) no_context (get_or x.contexts.items k no_context) goes)
+        | inr stays ↦
+            ap (λ (l : Option Link). cond (is_some l) (get_or x.contexts.items k no_context) no_context) (link-is k ∙ cond-false (gone k) None (get_or x.links k None) stays)
+            ∙ kept k (get_or x.links k None) refl
+            ∙ sym (cond-false (gone k) no_context (get_or x.contexts.items k no_context) stays)
+      ]
 
   abbrev n : ℕ
   n = length x.contexts.items

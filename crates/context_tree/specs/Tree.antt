@@ -3,7 +3,7 @@ use Rattle.std.specs.Prelude.{◌≡◌, ℕ, ◌+◌, ◌≤◌, ◌==◌, Bool
 use Rattle.chunk_contexts.specs.declared.error.ContextError.{ContextError}
 use Rattle.chunk_contexts.specs.declared.error.ContextError.TheVariants.{NoMemory}
 use Rattle.context_tree.specs.Contexts.{no_context, new_context, reset_context, held_by}
-use Rattle.context_tree.specs.Links.{is_below, is_under, cleared, placed, IsForest}
+use Rattle.context_tree.specs.Links.{stamp_of, is_below, is_under, cleared, placed, IsForest}
 use Rattle.context_tree.specs.declared.context.Context.{Context}
 use Rattle.context_tree.specs.declared.error.TreeError.{TreeError}
 use Rattle.context_tree.specs.declared.error.TreeError.TheVariants as error
@@ -49,10 +49,6 @@ abbrev pub context_at : TreeState → ContextId → Context
 context_at t id = get_or t.contexts id.slot no_context
 
 -- the id of the context below which one was made, which the root has not
-abbrev pub stamp_of : Option Link → ℕ
-stamp_of None = 0
-stamp_of (Some link) = link.stamp
-
 abbrev pub id_in : List (Option Link) → Option ℕ → Option ContextId
 id_in ls None = None
 id_in ls (Some slot) = Some (record { slot = slot; stamp = stamp_of (get_or ls slot None) })

@@ -6,7 +6,7 @@ ghost use Rattle.chunk_layout.specs.Pieces.{place_of, without, piece_at, resized
 ghost use Rattle.chunk_contexts.specs.Chunks.{chunk_of, Adds, Keeps, KeepsOthers, IsRefused, IsResizeRefused, IsResized};
 ghost use Rattle.chunk_contexts.specs.declared.error.ContextError.TheVariants.{NotSupported};
 ghost use Rattle.context_tree.specs.Contexts.{chunks_of, blocks_of, room_in, refusal_of, growth_of, can_free, with_chunk, with_bytes, with_resized, without_chunk, kind_refusal, no_context, has_chunk, chunk_bytes, held_by, IsCounted};
-ghost use Rattle.context_tree.specs.Links.{is_under, placed};
+ghost use Rattle.context_tree.specs.Links.{is_under, placed, IsFull};
 ghost use Rattle.context_tree.specs.Tree.{new_tree, is_there, context_at, parent_id, id_in, with_context, with_new, without_slots, deleted, reset, held_below, held_from, IsWhole, IsRefusedBy, IsKept, IsNotMade};
 ghost use Rattle.context_tree.specs.declared.error.TreeError.TheVariants.{NoSuchContext};
 
@@ -69,13 +69,12 @@ fn put_context(contexts: &mut SmallVec<Context, 1>, slot: usize, context: Contex
     contexts.push_reserved(context);
 }
 
-/// Gives up the contexts of the slots that are free, from one on.
-fn give_up_free(contexts: &mut [Context], links: &Links, from: usize, alloc: Global)
+/// Gives up the contexts of the slots that are free.
+fn give_up_free(contexts: &mut [Context], links: &Links, alloc: Global)
     requires { length contexts.old ≡ length links.now }
-    ensures before { (slot : ℕ) → slot < from → get_or contexts.new slot no_context ≡ get_or contexts.old slot no_context }
-    ensures behind { (slot : ℕ) → from ≤ slot → get_or contexts.new slot no_context ≡ cond (is_some (get_or links.now slot None)) (get_or contexts.old slot no_context) no_context }
+    ensures { (slot : ℕ) → get_or contexts.new slot no_context ≡ cond (is_some (get_or links.now slot None)) (get_or contexts.old slot no_context) no_context }
 {
-    for slot in from..links.len() {
+    for slot in 0..links.len() {
         if links.get(slot as u32).is_none() {
             replace(contexts, slot, Context::made_with(alloc));
         }
@@ -190,7 +189,8 @@ impl Tree {
         Some(ContextId { slot, stamp })
     }
 
-    /// Makes a context below another, with the next stamp.
+    /// Makes a context below another, with the next stamp. It is in a slot that was free; a new slot is made only where
+    /// none is.
     ///
     /// Refuses `StampsSpent` where the last stamp was given out, and then a slab of chunks that are too large. Nothing is
     /// changed then, and no stamp is spent.
@@ -199,6 +199,7 @@ impl Tree {
         ensures stamp { IfOk result (λ id. id.stamp ≡ self.old.last + 1) }
         ensures fresh { IfOk result (λ id. get_or self.old.links id.slot None ≡ None) }
         ensures low { IfOk result (λ id. id.slot ≤ length self.old.links) }
+        ensures needed { IfOk result (λ id. id.slot ≡ length self.old.links → IsFull self.old.links) }
         ensures made { IfOk result (λ id. self.new ≡ with_new self.old parent kind id) }
         ensures allowed { OnOk result (kind_refusal kind ≡ None) }
         ensures refused { IfErr result (IsNotMade (is_there self.old parent) (self.old.last == 18446744073709551615) (kind_refusal kind)) }
@@ -239,12 +240,7 @@ impl Tree {
     {
         self.links.is_forest();
         self.links.prune(id.slot);
-        give_up_free(
-            &mut self.contexts,
-            &self.links,
-            id.slot as usize + 1,
-            self.alloc,
-        );
+        give_up_free(&mut self.contexts, &self.links, self.alloc);
     }
 
     /// Deletes a context and all its descendants. Refuses `RootKept`.
@@ -260,12 +256,7 @@ impl Tree {
         }
         self.links.is_forest();
         self.links.cut(id.slot);
-        give_up_free(
-            &mut self.contexts,
-            &self.links,
-            id.slot as usize,
-            self.alloc,
-        );
+        give_up_free(&mut self.contexts, &self.links, self.alloc);
         Ok(())
     }
 
@@ -382,6 +373,7 @@ impl Tree {
         requires { is_there self.old id ≡ true → IsTrue (has_chunk (context_at self.old id) name) }
         ensures there { OnOk result (is_there self.old id ≡ true) }
         ensures bytes { IfOk result (λ bytes. bytes.now ≡ chunk_bytes (context_at self.old id) name) }
+        ensures len { IfOk result (λ bytes. length bytes.now ≡ name.len) }
         ensures refused { IfErr result (λ e. (is_there self.old id ≡ false) × (e ≡ NoSuchContext)) }
     {
         self.check(id)?;
