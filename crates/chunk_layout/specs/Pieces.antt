@@ -1,5 +1,5 @@
 -- A layout as its users see it: the sizes of its blocks, and the chunks that lie in them. All of this is our own.
-use Rattle.std.specs.Prelude.{◌≢◌, ℕ, zero, suc, ◌+◌, ◌≤◌, ◌==◌, ◌&&◌, ◌⊎◌, Bool, false, not, List, [], ◌∷◌, ◌++◌, Option, Some, None}
+use Rattle.std.specs.Prelude.{◌≡◌, ◌≢◌, ◌<◌, true, is_some, ℕ, zero, suc, ◌+◌, ◌≤◌, ◌==◌, ◌&&◌, ◌⊎◌, Bool, false, not, List, [], ◌∷◌, ◌++◌, Option, Some, None}
 use Rattle.std.specs.Prelude.{if◌then◌else◌, ◌-◌, length, get_or, slice_set, replicate, unwrap_or, take}
 use Rattle.std.specs.Int.{w32, to_be_bytes}
 use Rattle.std.specs.List.{filter, list_any, refill}
@@ -80,6 +80,10 @@ abbrev pub with_block : {X : Type 0} → List (Option X) → ℕ → X → List 
 with_block [] block x = Some x ∷ []
 with_block (b ∷ bs) zero x = Some x ∷ bs
 with_block (b ∷ bs) (suc block) x = b ∷ with_block bs block x
+
+-- each number has a block
+abbrev pub AreTaken : List (Option ℕ) → Type 0
+AreTaken blocks = (block : ℕ) → block < length blocks → is_some (get_or blocks block None) ≡ true
 
 -- whether a block is the one that is kept
 abbrev pub is_kept : Option ℕ → ℕ → Bool
