@@ -4,17 +4,18 @@ ghost use Rattle.smallvec.specs.SmallVec.{HasRoomFor};
 ghost use Rattle.block_memory.specs.Cells.{zeros};
 ghost use Rattle.chunk_layout.specs.Pieces.{place_of, without, piece_at, resized, total};
 ghost use Rattle.chunk_contexts.specs.Chunks.{chunk_of, Adds, Keeps, KeepsOthers, IsRefused, IsResizeRefused, IsResized};
-ghost use Rattle.chunk_contexts.specs.declared.error.ContextError.TheVariants.{NotSupported};
-ghost use Rattle.context_tree.specs.Contexts.{chunks_of, blocks_of, room_in, refusal_of, growth_of, can_free, with_chunk, with_bytes, with_resized, without_chunk, kind_refusal, no_context, has_chunk, chunk_bytes, held_by, IsCounted};
+ghost use Rattle.chunk_contexts.specs.declared.error.ContextError.TheVariants.{NoMemory, NotSupported};
+ghost use Rattle.context_tree.specs.Contexts.{chunks_of, blocks_of, room_in, refusal_of, growth_of, can_free, may_lie_in, with_chunk, with_bytes, with_resized, without_chunk, kind_refusal, no_context, has_chunk, chunk_bytes, held_by, IsCounted};
 ghost use Rattle.context_tree.specs.Links.{is_under, placed, IsFull};
-ghost use Rattle.context_tree.specs.Tree.{new_tree, is_there, context_at, parent_id, id_in, with_context, with_new, without_slots, deleted, reset, held_below, held_from, IsWhole, IsRefusedBy, IsKept, IsNotMade};
+ghost use Rattle.context_tree.specs.Tree.{new_tree, is_there, context_at, parent_id, id_in, with_context, with_new, without_slots, deleted, reset, held_below, held_from, held_by_all, IsBounded, IsWhole, IsRefusedBy, IsKept, IsNotMade};
 ghost use Rattle.context_tree.specs.declared.error.TreeError.TheVariants.{NoSuchContext};
+ghost use Rattle.context_tree.specs.declared.error.TreeError.TheVariants as error;
 
 use crate::context::Context;
 use crate::error::TreeError;
 use crate::kind::Kind;
 use crate::links::{ContextId, Links};
-use chunk_contexts::{ChunkContext, ChunkName};
+use chunk_contexts::{ChunkContext, ChunkName, ContextError};
 use smallvec::SmallVec;
 use std::alloc::Global;
 use std::default::MadeWith;
@@ -22,6 +23,9 @@ use std::marker::Model;
 
 /// The slot of the root.
 const ROOT: u32 = 0;
+
+/// What the blocks of a tree stay below, in bytes.
+const BOUND: u64 = 0x8000_0000_0000_0000;
 
 /// Memory contexts, each but the root made below another.
 ///
@@ -96,6 +100,39 @@ fn sum_below(links: &Links, contexts: &[Context], above: u32) -> u128
     sum
 }
 
+/// The bytes of the blocks of all contexts.
+fn sum_all(contexts: &[Context]) -> u64
+    requires { IsBounded contexts.now }
+    ensures { result ≡ held_by_all contexts.now }
+{
+    let mut sum = 0;
+    for slot in 0..contexts.len() {
+        sum += contexts[slot].held();
+    }
+    sum
+}
+
+/// Refuses a growth that would bring the blocks of all contexts to 2^63 bytes.
+fn check_growth(contexts: &[Context], growth: u64) -> Result<(), TreeError>
+    requires { IsBounded contexts.now }
+    ensures { MatchResult result (λ _. held_by_all contexts.now + growth < 2 ^ 63) (λ e. (0 < growth) × (e ≡ error.Context NoMemory)) }
+{
+    if growth > 0 && growth >= BOUND - sum_all(contexts) {
+        return Err(TreeError::Context(ContextError::NoMemory));
+    }
+    Ok(())
+}
+
+/// How many bytes of blocks a request of `n` bytes takes of a context: 0 where it is refused for what it asks.
+fn growth_for(context: &Context, n: usize) -> u64
+    ensures { result ≡ growth_of context.now n }
+{
+    if n > u32::MAX as usize {
+        return 0;
+    }
+    context.growth_for(n as u32)
+}
+
 impl Tree {
     /// Makes a tree of a root alone: an `AllocSet` with no block, and stamp 0.
     pub fn new(alloc: Global) -> Tree
@@ -123,6 +160,13 @@ impl Tree {
         ensures { IsWhole self.now }
     {
         self.links.is_forest();
+    }
+
+    /// A law: the blocks of all contexts have fewer than 2^63 bytes.
+    pub fn is_bounded(&self)
+        ensures { IsBounded self.now.contexts }
+    {
+        let _contexts = &self.contexts;
     }
 
     /// Whether there is a context of this id.
@@ -270,7 +314,7 @@ impl Tree {
 
     /// The bytes of the blocks of a context and of all its descendants.
     pub fn held_below(&self, id: ContextId) -> Result<u128, TreeError>
-        ensures bound { IfOk result (λ held. held < 2 ^ 96) }
+        ensures bound { IfOk result (λ held. held < 2 ^ 63) }
         ensures value { MatchResult result (λ held. (is_there self.now id ≡ true) × (held ≡ held_below self.now id)) (λ e. (is_there self.now id ≡ false) × (e ≡ NoSuchContext)) }
     {
         self.check(id)?;
@@ -292,6 +336,7 @@ impl Tree {
         ensures lives { IfOk result (λ name. IsTrue (has_chunk (context_at self.new id) name)) }
         ensures holds { IfOk result (λ name. chunk_bytes (context_at self.new id) name ≡ bytes.now) }
         ensures block { IfOk result (λ name. IsTrue (is_some (get_or (blocks_of (context_at self.new id)) name.block None))) }
+        ensures lies { IfOk result (λ name. may_lie_in (context_at self.old id) (length bytes.now) name.block) }
         ensures keeps { IfOk result (Keeps (chunks_of (context_at self.old id)) (chunks_of (context_at self.new id))) }
         ensures space { IfOk result (λ name. self.new ≡ with_context self.old id (with_chunk (context_at self.old id) (length bytes.now) (chunk_of name (room_in (context_at self.old id) (length bytes.now)) bytes.now))) }
         ensures grown { OnOk result (held_by (context_at self.new id) ≡ held_by (context_at self.old id) + growth_of (context_at self.old id) (length bytes.now)) }
@@ -299,6 +344,8 @@ impl Tree {
         ensures unchanged { OnErr result (self.new ≡ self.old) }
     {
         self.check(id)?;
+        let growth = growth_for(&self.contexts[id.slot as usize], bytes.len());
+        check_growth(&self.contexts, growth)?;
         Ok(self.contexts[id.slot as usize].alloc(bytes)?)
     }
 
@@ -310,6 +357,7 @@ impl Tree {
         ensures lives { IfOk result (λ name. IsTrue (has_chunk (context_at self.new id) name)) }
         ensures holds { IfOk result (λ name. chunk_bytes (context_at self.new id) name ≡ zeros n) }
         ensures block { IfOk result (λ name. IsTrue (is_some (get_or (blocks_of (context_at self.new id)) name.block None))) }
+        ensures lies { IfOk result (λ name. may_lie_in (context_at self.old id) n name.block) }
         ensures keeps { IfOk result (Keeps (chunks_of (context_at self.old id)) (chunks_of (context_at self.new id))) }
         ensures space { IfOk result (λ name. self.new ≡ with_context self.old id (with_chunk (context_at self.old id) n (chunk_of name (room_in (context_at self.old id) n) (zeros n)))) }
         ensures grown { OnOk result (held_by (context_at self.new id) ≡ held_by (context_at self.old id) + growth_of (context_at self.old id) n) }
@@ -317,6 +365,8 @@ impl Tree {
         ensures unchanged { OnErr result (self.new ≡ self.old) }
     {
         self.check(id)?;
+        let growth = growth_for(&self.contexts[id.slot as usize], n as usize);
+        check_growth(&self.contexts, growth)?;
         Ok(self.contexts[id.slot as usize].alloc_zeroed(n)?)
     }
 
@@ -354,10 +404,14 @@ impl Tree {
         ensures keeps { IfOk result (KeepsOthers (chunks_of (context_at self.old id)) (chunks_of (context_at self.new id)) name) }
         ensures stays { IfOk result (λ new. n ≤ (piece_at (chunks_of (context_at self.old id)) (place_of name)).room → self.new ≡ with_context self.old id (with_resized (context_at self.old id) (place_of name) (resized (chunk_bytes (context_at self.old id) name) n))) }
         ensures moved { IfOk result (λ new. (piece_at (chunks_of (context_at self.old id)) (place_of name)).room < n → self.new ≡ with_context self.old id (without_chunk (with_chunk (context_at self.old id) n (chunk_of new (room_in (context_at self.old id) n) (resized (chunk_bytes (context_at self.old id) name) n))) (place_of name))) }
+        ensures lies { IfOk result (λ new. (piece_at (chunks_of (context_at self.old id)) (place_of name)).room < n → may_lie_in (context_at self.old id) n new.block) }
+        ensures grown { IfOk result (λ new. (piece_at (chunks_of (context_at self.old id)) (place_of name)).room < n → held_by (with_chunk (context_at self.old id) n (chunk_of new (room_in (context_at self.old id) n) (resized (chunk_bytes (context_at self.old id) name) n))) ≡ held_by (context_at self.old id) + growth_of (context_at self.old id) n) }
         ensures refused { IfErr result (IsRefusedBy (is_there self.old id) (IsResizeRefused (can_free (context_at self.old id)) (refusal_of (context_at self.old id) n) (growth_of (context_at self.old id) n) (piece_at (chunks_of (context_at self.old id)) (place_of name)).room n)) }
         ensures unchanged { OnErr result (self.new ≡ self.old) }
     {
         self.check(id)?;
+        let growth = self.contexts[id.slot as usize].growth_to(name, n);
+        check_growth(&self.contexts, growth)?;
         Ok(self.contexts[id.slot as usize].resize(name, n)?)
     }
 }

@@ -4,11 +4,11 @@ use Rattle.std.proofs.lemmas.Bool.{eq-eqb, ne_eqb}
 use Rattle.std.proofs.lemmas.Result.{err_from_is_err_and}
 use Rattle.context_tree.specs.Contexts.{new_context}
 use Rattle.context_tree.specs.Links.{placed, IsFull}
-use Rattle.context_tree.specs.Tree.{TreeState, Stamped, Emptied, with_new}
+use Rattle.context_tree.specs.Tree.{TreeState, Stamped, Emptied, IsBounded, with_new}
 use Rattle.context_tree.specs.declared.error.TreeError.TheVariants.{StampsSpent}
 use Rattle.context_tree.specs.declared.context.Context.{Context}
 use Rattle.context_tree.specs.declared.links.Link.{Link}
-use Rattle.context_tree.proofs.TreeLaws.{stamp-low, stamps-made, empty-made, long-made, not-made}
+use Rattle.context_tree.proofs.TreeLaws.{stamp-low, stamps-made, empty-made, bounded-made, long-made, not-made}
 use Rattle.context_tree.proofs.tree.Tree.create.Goals as goal
 
 pub add-requires-clause-later : goal.add-requires-clause-later
@@ -25,6 +25,8 @@ invariant_of-self-2 c =
       stamps = subst (λ (ls : List (Option Link)). Stamped ls (t.last + 1)) (sym links) (stamps-made t.links t.contexts.items t.last slot was.low c.self.invariant.long link it refl c.self.invariant.stamps);
       empty = subst (λ (ls : List (Option Link)). Emptied ls c.put_context.new.contexts.items) (sym links)
           (subst (λ (cs : List Context). Emptied (placed t.links slot (Some link)) cs) (sym contexts) (empty-made t.links t.contexts.items t.last slot was.low c.self.invariant.long link it c.self.invariant.empty));
+      bounded = subst IsBounded (sym contexts)
+          (bounded-made t.links t.contexts.items t.last slot was.low c.self.invariant.long link it c.args.kind c.in_ok-context.ensures.1 was.fresh c.self.invariant.empty c.self.invariant.bounded);
     }
 
 pub returns-in_err-check : goal.returns-in_err-check
