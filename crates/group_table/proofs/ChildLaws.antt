@@ -218,13 +218,14 @@ module _ (ls now : List (Option Link)) (above : ℕ) where
       omega (arith, rest, first_is now place d ds, first_is ls place c cs, same 0)
 
 -- trees that are the same slot by slot
-pub as_before : (before after : TreeState) (parent : ContextId) → IsSameBySlot before after → IsAsBefore before after parent
-as_before before after parent same = record {
+pub as_before : (before after : TreeState) → IsSameBySlot before after → IsAsBefore before after
+as_before before after same = record {
   there = λ id. ap (λ (l : Option Link). has_stamp l id.stamp) (same.links id.slot);
   same = λ id there. same.contexts id.slot;
-  held = held_alike before.links after.links parent.slot 0 before.contexts after.contexts (λ k.
-      ap (λ (b : Bool). cond b (held_by (get_or after.contexts k no_context)) 0) (below_alike before.links after.links same.links parent.slot (0 + k))
-      ∙ ap (λ (c : Context). cond (is_below before.links parent.slot (0 + k)) (held_by c) 0) (same.contexts k));
+  links = λ id there. same.links id.slot;
+  held = λ above. held_alike before.links after.links above.slot 0 before.contexts after.contexts (λ k.
+      ap (λ (b : Bool). cond b (held_by (get_or after.contexts k no_context)) 0) (below_alike before.links after.links same.links above.slot (0 + k))
+      ∙ ap (λ (c : Context). cond (is_below before.links above.slot (0 + k)) (held_by c) 0) (same.contexts k));
 }
 
 pub same_as_itself : (t : TreeState) → IsSameBySlot t t
@@ -374,9 +375,10 @@ all_made before one after parent width made whole first one_whole there rest =
       set = same3 buckets b2 ∙ same2 buckets b1 ∙ context_made before whole one parent buckets kind.AllocSet first;
       run = same3 keys k2 ∙ context_made one one_whole two parent keys kind.Bump rest.keys_new;
       slab = context_made two rest.between_whole after parent states (kind.Slab width) rest.states_new;
-      held = held_made two rest.between_whole after parent states (kind.Slab width) rest.states_new parent
-          ∙ held_made one one_whole two parent keys kind.Bump rest.keys_new parent
-          ∙ held_made before whole one parent buckets kind.AllocSet first parent;
+      held = λ above.
+          held_made two rest.between_whole after parent states (kind.Slab width) rest.states_new above
+          ∙ held_made one one_whole two parent keys kind.Bump rest.keys_new above
+          ∙ held_made before whole one parent buckets kind.AllocSet first above;
       fresh = λ id is. (
         there3 id (there2 id (there1 id is)),
         same3 id (there2 id (there1 id is)) ∙ same2 id (there1 id is) ∙ same1 id is,
