@@ -380,4 +380,8 @@ impl ChunkContext for AllocSet {
         }
         self.growth_for(n)
     }
+
+    fn are_laid(&self) {
+        self.lists.layout.are_laid();
+    }
 }

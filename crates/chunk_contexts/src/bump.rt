@@ -112,4 +112,8 @@ impl ChunkContext for Bump {
     fn growth_to(&self, _name: ChunkName, _n: u32) -> u64 {
         0
     }
+
+    fn are_laid(&self) {
+        self.runs.layout.are_laid();
+    }
 }

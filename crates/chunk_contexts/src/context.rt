@@ -2,7 +2,7 @@
 ghost use Rattle.std.specs.Prelude.{◌≡◌, ◌+◌, ◌<◌, ◌≤◌, ℕ, Bool, not, true, false, List, [], Option, None, IsTrue, IfOk, OnOk, IfErr, OnErr, length, get_or, is_some};
 ghost use Rattle.std.specs.Borrow.{sem};
 ghost use Rattle.block_memory.specs.Cells.{zeros};
-ghost use Rattle.chunk_layout.specs.Pieces.{Piece, place_of, piece_at, without, rewritten, resized, total};
+ghost use Rattle.chunk_layout.specs.Pieces.{Piece, place_of, piece_at, without, rewritten, resized, total, AreLaid};
 ghost use Rattle.chunk_layout.specs.declared.place.Place.{Place};
 ghost use Rattle.chunk_contexts.specs.Chunks.{is_live, bytes_of, chunk_of, Adds, Keeps, KeepsOthers, IsRefused, IsResizeRefused, IsResized};
 ghost use Rattle.chunk_contexts.specs.ContextLends.{lends_chunk};
@@ -151,4 +151,8 @@ pub trait ChunkContext {
         ensures stays { n ≤ (piece_at (chunks self.now) (place_of name)).room → result ≡ 0 }
         ensures moves { (piece_at (chunks self.now) (place_of name)).room < n → frees self.now ≡ true → result ≡ growth self.now n }
         ensures refused { frees self.now ≡ false → result ≡ 0 };
+
+    /// A law: no two live chunks share a byte, and each lies in a block.
+    fn are_laid(&self)
+        ensures { AreLaid (blocks self.now) (chunks self.now) };
 }

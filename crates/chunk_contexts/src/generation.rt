@@ -241,4 +241,8 @@ impl ChunkContext for Generation {
         }
         self.growth_for(n)
     }
+
+    fn are_laid(&self) {
+        self.runs.layout.are_laid();
+    }
 }

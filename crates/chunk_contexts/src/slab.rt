@@ -149,4 +149,8 @@ impl ChunkContext for Slab {
         }
         self.growth_for(n)
     }
+
+    fn are_laid(&self) {
+        self.inner.layout.are_laid();
+    }
 }

@@ -5,8 +5,8 @@ use Rattle.std.proofs.lemmas.List.{get_or-map, length-map, length-set}
 use Rattle.block_memory.specs.Cells.{Cells, Holds, IsWritten}
 use Rattle.block_memory.specs.Words.{word_bytes}
 use Rattle.chunk_layout.specs.Every.{Every}
-use Rattle.chunk_layout.specs.Pieces.{Layout, Piece, has, piece_at, put_at, with_block, outside, total, without, with_piece, AreTaken, IsClear, size_at}
-use Rattle.chunk_layout.specs.Spots.{Blocks, cells_of, block_at, poke, headed, piece_of, sizes_of, spots_of, spot_at, Stands, IsLayout}
+use Rattle.chunk_layout.specs.Pieces.{Layout, Piece, has, piece_at, put_at, with_block, outside, total, without, with_piece, AreApart, IsInside, AreLaid, AreTaken, IsClear, size_at}
+use Rattle.chunk_layout.specs.Spots.{Blocks, cells_of, block_at, poke, headed, piece_of, sizes_of, spots_of, spot_at, Stands, Apart, IsLayout}
 use Rattle.chunk_layout.specs.Fields.{layout_of, AreFields}
 use Rattle.chunk_layout.specs.Vacant.{AreVacant}
 use Rattle.chunk_layout.specs.Lends.{layout_with}
@@ -15,7 +15,7 @@ use Rattle.chunk_layout.specs.declared.place.Spot.{Spot}
 use Rattle.chunk_layout.specs.declared.place.Note.{Note}
 use Rattle.chunk_layout.specs.declared.place.Note.TheVariants.{Chunk, Written, Gone, Returned}
 use Rattle.chunk_layout.specs.declared.layout.ChunkLayout.TheInside.{Inside}
-use Rattle.chunk_layout.proofs.Lists.{every_get}
+use Rattle.chunk_layout.proofs.Lists.{every_get, every_weaker, every_map, pairwise_weaker, pairwise_through}
 use Rattle.chunk_layout.proofs.Reading.{length-read, holds-read}
 use Rattle.chunk_layout.proofs.Pokes.{some-within, sizes-poke}
 use Rattle.chunk_layout.proofs.Finding.{without-spot, found-place, found-stands, piece-found}
@@ -337,3 +337,27 @@ small-any x ok b = elim (cases_lt b (length x.blocks.items)) [
   | inl low ↦ small-block x ok b low
   | inr past ↦ omega (arith, ap (λ (o : Option Cells). length (cells_of o)) (get_or_past x.blocks.items b None past))
 ]
+
+-- the chunks of a layout are apart, and lie in their blocks
+apart-less : (head : ℕ) (bs : Blocks) (s t : Spot) → Apart head s t → AreApart (piece_of bs s) (piece_of bs t)
+apart-less head bs s t is = elim is [
+  | inl blocks ↦ inl blocks
+  | inr order ↦ elim order [
+    | inl before ↦ inr (inl (omega (arith, before)))
+    | inr behind ↦ inr (inr (omega (arith, behind)))
+  ]
+]
+
+inside-block : (head : ℕ) (bs : Blocks) (s : Spot) → Stands head bs s → IsInside (sizes_of bs) (piece_of bs s)
+inside-block head bs s stands = (
+  let fits = stands.fits in omega (arith, fits, length-read (block_at bs s.place.block) s.place.offset s.len stands.written),
+  let inside = stands.inside in omega (arith, inside, size-any bs s.place.block),
+)
+
+pub laid-is : (x : Inside) → AreFields x → AreLaid (sizes_of x.blocks.items) (map (piece_of x.blocks.items) (spots_of x.notes.notes))
+laid-is x ok =
+    let bs : Blocks = x.blocks.items in let ss = spots_of x.notes.notes in
+    record {
+      apart = pairwise_through AreApart (piece_of bs) ss (pairwise_weaker (Apart x.head) (λ s t. AreApart (piece_of bs s) (piece_of bs t)) (apart-less x.head bs) ss ok.laid.apart);
+      inside = every_map (IsInside (sizes_of bs)) (piece_of bs) ss (every_weaker (Stands x.head bs) (λ s. IsInside (sizes_of bs) (piece_of bs s)) (inside-block x.head bs) ss ok.laid.stand);
+    }

@@ -3,7 +3,7 @@ ghost use Rattle.std.specs.Prelude.{◌≡◌, ◌+◌, ◌*◌, ◌-◌, ◌^�
 ghost use Rattle.std.specs.Borrow.{sem};
 ghost use Rattle.block_memory.specs.Cells.{zeros};
 ghost use Rattle.chunk_layout.specs.Every.{Every};
-ghost use Rattle.chunk_layout.specs.Pieces.{has, same_place, is_kept, piece_at, put_at, with_piece, without, outside, with_block, size_at, total, only, AreTaken, IsClear, resized};
+ghost use Rattle.chunk_layout.specs.Pieces.{has, same_place, is_kept, piece_at, put_at, with_piece, without, outside, with_block, size_at, total, only, AreLaid, AreTaken, IsClear, resized};
 
 use crate::blocks::{
     HEADER, block_len, drop_block, put_block, read_bytes, read_word, write_bytes, write_header,
@@ -56,6 +56,13 @@ impl ChunkLayout {
             notes: GhostNotes::new(),
             alloc,
         }
+    }
+
+    /// A law: no two chunks share a byte, and each lies in its block.
+    pub fn are_laid(&self)
+        ensures { AreLaid self.now.blocks self.now.pieces }
+    {
+        let _blocks = &self.blocks;
     }
 
     /// The bytes of all blocks together.

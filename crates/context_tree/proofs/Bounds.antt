@@ -100,3 +100,15 @@ below-all ls above slot (c ∷ cs) =
     let here = some-less (is_below ls above slot) (held_by c) in
     let rest = below-all ls above (slot + 1) cs in
     omega (arith, here, rest)
+
+-- what is cleared with a context and its descendants is what they held
+given-one : (b : Bool) (c : Context) → held_by (cond b no_context c) + cond b (held_by c) 0 ≡ held_by c
+given-one true c = omega arith
+given-one false c = omega arith
+
+pub all-given : (ls : List (Option Link)) (above place : ℕ) (cs : List Context) → held_by_all (cleared (is_below ls above) no_context place cs) + held_from ls above place cs ≡ held_by_all cs
+all-given ls above place [] = refl
+all-given ls above place (c ∷ cs) =
+    let here = given-one (is_below ls above place) c in
+    let rest = all-given ls above (place + 1) cs in
+    omega (arith, here, rest)

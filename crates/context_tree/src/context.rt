@@ -167,4 +167,13 @@ impl ChunkContext for Context {
             Context::Bump(it) => it.growth_to(name, n),
         }
     }
+
+    fn are_laid(&self) {
+        match self {
+            Context::AllocSet(it) => it.are_laid(),
+            Context::Slab(it) => it.are_laid(),
+            Context::Generation(it) => it.are_laid(),
+            Context::Bump(it) => it.are_laid(),
+        }
+    }
 }

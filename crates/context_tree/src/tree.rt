@@ -2,7 +2,7 @@
 ghost use Rattle.std.specs.Prelude.{◌≡◌, ◌+◌, ◌*◌, ◌-◌, ◌<◌, ◌≤◌, ◌==◌, ◌^◌, ℕ, List, true, false, cond, None, IfOk, IfErr, OnOk, OnErr, IsTrue, MatchResult, length, get_or, is_some, slice_set};
 ghost use Rattle.smallvec.specs.SmallVec.{HasRoomFor};
 ghost use Rattle.block_memory.specs.Cells.{zeros};
-ghost use Rattle.chunk_layout.specs.Pieces.{place_of, without, piece_at, resized, total};
+ghost use Rattle.chunk_layout.specs.Pieces.{place_of, without, piece_at, resized, total, AreLaid};
 ghost use Rattle.chunk_contexts.specs.Chunks.{chunk_of, Adds, Keeps, KeepsOthers, IsRefused, IsResizeRefused, IsResized};
 ghost use Rattle.chunk_contexts.specs.declared.error.ContextError.TheVariants.{NoMemory, NotSupported};
 ghost use Rattle.context_tree.specs.Contexts.{chunks_of, blocks_of, room_in, refusal_of, growth_of, can_free, may_lie_in, with_chunk, with_bytes, with_resized, without_chunk, kind_refusal, no_context, has_chunk, chunk_bytes, held_by, IsCounted};
@@ -198,6 +198,15 @@ impl Tree {
         }
     }
 
+    /// A law: no two live chunks of a context share a byte, and each lies in a block.
+    pub fn are_laid(&self, id: ContextId)
+        ensures { AreLaid (blocks_of (context_at self.now id)) (chunks_of (context_at self.now id)) }
+    {
+        if let Some(context) = self.contexts.get(id.slot as usize) {
+            context.are_laid();
+        }
+    }
+
     /// The id of the root.
     pub fn root(&self) -> ContextId
         ensures slot { result.slot ≡ 0 }
@@ -291,6 +300,7 @@ impl Tree {
     pub fn delete(&mut self, id: ContextId) -> Result<(), TreeError>
         ensures there { OnOk result ((is_there self.old id ≡ true) × (0 < id.slot)) }
         ensures space { OnOk result (self.new ≡ deleted self.old id) }
+        ensures given { OnOk result (held_by_all self.new.contexts + held_below self.old id ≡ held_by_all self.old.contexts) }
         ensures refused { IfErr result (IsKept (is_there self.old id) id.slot) }
         ensures unchanged { OnErr result (self.new ≡ self.old) }
     {

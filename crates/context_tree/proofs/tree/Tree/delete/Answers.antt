@@ -1,6 +1,7 @@
-use Rattle.std.proofs.Common.{None, length, sym, ap, ◌∙◌}
+use Rattle.std.proofs.Common.{◌+◌, None, length, sym, ap, ◌∙◌}
 use Rattle.context_tree.specs.Links.{is_below}
-use Rattle.context_tree.specs.Tree.{TreeState, deleted}
+use Rattle.context_tree.specs.Tree.{TreeState, deleted, held_below, held_by_all}
+use Rattle.context_tree.proofs.Bounds.{all-given}
 use Rattle.context_tree.proofs.Clearing.{length-cleared}
 use Rattle.context_tree.proofs.TreeLaws.{given-up, fields-given}
 use Rattle.context_tree.proofs.tree.Tree.delete.Goals as goal
@@ -22,3 +23,9 @@ returns-clause-space c =
     given-up x c.self.invariant (is_below x.links slot) c.cut.new.self c.cut.ensures
     c.deref_mut.result.now c.give_up_free.new.contexts c.deref_mut.ensures.value c.give_up_free.auto.contexts c.give_up_free.ensures
     ∙ ap (λ (t : TreeState). deleted t c.args.id) c.self.view_is
+
+pub returns-clause-given : goal.returns-clause-given
+returns-clause-given c =
+    let now = c.args.self.now in let id = c.args.id in
+    ap (λ (t : TreeState). held_by_all t.contexts + held_below now id) (returns-clause-space c)
+    ∙ all-given now.links id.slot 0 now.contexts
