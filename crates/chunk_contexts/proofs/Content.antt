@@ -1,15 +1,16 @@
 -- What a change of the chunks says of their names.
-use Rattle.std.proofs.Common.{◌≡◌, ℕ, inl, inr, Bool, true, false, List, [], ◌∷◌, length, drop, cond, refl, sym, ap, ◌∙◌}
+use Rattle.std.proofs.Common.{◌≡◌, ℕ, inl, inr, Bool, true, false, List, Option, [], ◌∷◌, length, drop, cond, refl, sym, ap, ◌∙◌}
 use Rattle.std.specs.Prelude.{IsTrue, ◌==◌, ◌&&◌, ◌||◌}
 use Rattle.std.specs.List.{refill, length_refill}
 use Rattle.std.proofs.lemmas.Bool.{cases_Bool, cond-true, cond-false, and_parts, and_from, eqb-true, eq-eqb, true≢false, false_from_ne_true}
 use Rattle.std.proofs.Math.Seq.{take-append_seam}
-use Rattle.chunk_layout.specs.Pieces.{Piece, same_place, is_at, place_of, has, piece_at, without, rewritten, with_bytes_of}
+use Rattle.chunk_layout.specs.Pieces.{Piece, same_place, is_at, place_of, has, piece_at, without, rewritten, with_bytes_of, AreApart, IsInside, AreLaid}
 use Rattle.chunk_layout.specs.declared.place.Place.{Place}
 use Rattle.chunk_layout.specs.declared.place.ChunkName.{ChunkName}
+use Rattle.chunk_layout.proofs.Lists.{every_filter, pairwise_filter}
 use Rattle.chunk_layout.proofs.Finding.{same-place, place-same}
 use Rattle.chunk_layout.proofs.PieceLaws.{other-place, has-first, piece_at-first, has-later, piece_at-later, has-without, piece_at-without}
-use Rattle.chunk_contexts.specs.Chunks.{is_live, bytes_of, chunk_of, Adds, Keeps, KeepsOthers, IsResized}
+use Rattle.chunk_contexts.specs.Chunks.{live, is_live, bytes_of, chunk_of, Adds, Keeps, KeepsOthers, IsResized}
 
 -- ---- what a live name says
 pub name-there : (chunks : List Piece) (name : ChunkName) → IsTrue (is_live chunks name) → IsTrue (has chunks (place_of name))
@@ -121,3 +122,7 @@ module _ (ps : List Piece) (name : ChunkName) (lives : IsTrue (is_live ps name))
   pub rewritten-keeps : KeepsOthers ps (rewritten ps (place_of name) ws) name name
   rewritten-keeps = λ other apart there.
       kept ps (rewritten ps (place_of name) ws) name other apart (has-rewritten (place_of name) ws ps (place_of other)) (piece_at-rewritten_other (place_of name) ws ps (place_of other) apart) there
+
+-- so are the live ones of chunks that are apart
+pub laid-live : (blocks : List (Option ℕ)) (ps : List Piece) → AreLaid blocks ps → AreLaid blocks (live ps)
+laid-live blocks ps laid = record { apart = pairwise_filter AreApart _ ps laid.apart; inside = every_filter (IsInside blocks) _ ps laid.inside }

@@ -4,10 +4,11 @@ use Rattle.std.specs.Prelude.{IsTrue, is_some, unwrap_or, ◌==◌}
 use Rattle.std.proofs.lemmas.Bool.{cases_Bool, cases_eq, cases_lt, cond-true, cond-false, eq-eqb, ne_eqb}
 use Rattle.std.proofs.lemmas.List.{get_or-set_same, get_or-set_other, length-set, get_or_past}
 use Rattle.chunk_layout.specs.Every.{Every, Pairwise}
-use Rattle.chunk_layout.specs.Pieces.{Layout, Piece, is_at, has, piece_at, without, outside, put_at, rewritten, with_bytes_of}
+use Rattle.chunk_layout.specs.Pieces.{Layout, Piece, is_at, has, piece_at, without, outside, put_at, rewritten, with_bytes_of, total}
 use Rattle.chunk_layout.specs.Lends.{layout_with}
 use Rattle.chunk_layout.specs.declared.place.Place.{Place}
 use Rattle.chunk_layout.specs.Pieces.{no_piece}
+use Rattle.chunk_layout.proofs.Numbers.{total-set_none}
 use Rattle.chunk_layout.proofs.Finding.{same-place}
 use Rattle.std.proofs.lemmas.Bool.{false≢true}
 use Rattle.chunk_layout.proofs.Lists.{first_has, first_passes, every_filter, every_weaker, every_both, pairwise_filter}
@@ -216,3 +217,11 @@ module _ (r : Runs) (cs : List ℕ) (is : IsCounted r cs) where
             (λ i. run_of (record { layout = is-back i; active = stops i }))
             ∙ (λ i. record { chunks = without ps place; blocks = set r.layout.blocks b None; active = r.active.block; left = left-back i })
             ∙ ap (λ (x : Bool). freed_by x (run_of r) place) (sym (eq-eqb (in_block (without ps place) b) 0 none))
+
+-- no more is held after a chunk was given up
+pub freed-less : (s : RunState) (place : Place) → total (gen_freed s place).blocks ≤ total s.blocks
+freed-less s place = by (in_block (without s.chunks place) place.block == 0)
+  where
+    by : (b : Bool) → total (freed_by b s place).blocks ≤ total s.blocks
+    by true = let t = total-set_none s.blocks place.block in omega (arith, t)
+    by false = omega arith

@@ -1,7 +1,9 @@
 -- What a context takes of blocks, and why it refuses a request.
-use Rattle.std.proofs.Common.{◌≡◌, ℕ, ◌+◌, ◌<◌, ◌≤◌, false, sym, ap, subst, ◌∙◌, arith}
-use Rattle.std.specs.Prelude.{nat_le, nat_lt, is_some, OnErr, Result, Ok, Err}
+use Rattle.std.proofs.Common.{◌≡◌, ℕ, zero, suc, Bool, List, [], ◌∷◌, length, get_or, cond, set, refl, ◌+◌, ◌<◌, ◌≤◌, false, sym, ap, subst, ◌∙◌, arith}
+use Rattle.std.specs.Prelude.{unwrap_or, replicate, nat_le, nat_lt, is_some, OnErr, Result, Ok, Err}
 use Rattle.std.proofs.lemmas.Bool.{le-leb, lt-leb, le-ltb, cond-false, cond-true}
+use Rattle.chunk_layout.specs.Pieces.{total, only}
+use Rattle.chunk_layout.proofs.Numbers.{total-set_none}
 use Rattle.chunk_contexts.specs.Rooms.{most, over_most, room_of, class_of, rounded, largest}
 use Rattle.chunk_contexts.specs.Free.{is_in}
 use Rattle.std.specs.Prelude.{IfOk, Option, Some, None, true}
@@ -46,6 +48,43 @@ growth-new s n low none full =
     let classed = le-leb n largest low in
     let fits : nat_le (set_room n + 8) s.left ≡ false = ap (λ (r : ℕ). nat_le (r + 8) s.left) room ∙ lt-leb (room_of (class_of n) + 8) s.left full in
     (λ i. growth_by (over i) (classed i) ((ap (λ (r : ℕ). is_in r s.free) room ∙ none) i) (fits i) s (room i))
+
+-- and where one is free, or enough is left, none grows
+pub growth-free : (s : SetState) (n : ℕ) → n ≤ largest → is_in (room_of (class_of n)) s.free ≡ true → set_growth s n ≡ 0
+growth-free s n low free =
+    let room = room-classed n low in let over = growth-over n (omega (arith, low)) in
+    let classed = le-leb n largest low in
+    (λ i. growth_by (over i) (classed i) ((ap (λ (r : ℕ). is_in r s.free) room ∙ free) i) (nat_le (set_room n + 8) s.left) s (set_room n))
+
+pub growth-fits : (s : SetState) (n : ℕ) → n ≤ largest → is_in (room_of (class_of n)) s.free ≡ false → room_of (class_of n) + 8 ≤ s.left → set_growth s n ≡ 0
+growth-fits s n low none left =
+    let room = room-classed n low in let over = growth-over n (omega (arith, low)) in
+    let classed = le-leb n largest low in
+    let fits : nat_le (set_room n + 8) s.left ≡ true = ap (λ (r : ℕ). nat_le (r + 8) s.left) room ∙ le-leb (room_of (class_of n) + 8) s.left left in
+    (λ i. growth_by (over i) (classed i) ((ap (λ (r : ℕ). is_in r s.free) room ∙ none) i) (fits i) s (set_room n))
+
+-- blocks of which one may be given back
+pub less-by : (b : Bool) (blocks : List (Option ℕ)) (k : ℕ) → total (cond b (set blocks k None) blocks) ≤ total blocks
+less-by true blocks k = let t = total-set_none blocks k in omega (arith, t)
+less-by false blocks k = omega arith
+
+pub total-none : (n : ℕ) → total (replicate n None) ≡ 0
+total-none zero = refl
+total-none (suc n) = omega (arith, total-none n)
+
+total-one : (n k : ℕ) (x : Option ℕ) → total (set (replicate n None) k x) ≤ unwrap_or x 0
+total-one zero k x = omega arith
+total-one (suc n) zero x = omega (arith, total-none n)
+total-one (suc n) (suc k) x = omega (arith, total-one n k x)
+
+size-total : (blocks : List (Option ℕ)) (k : ℕ) → unwrap_or (get_or blocks k None) 0 ≤ total blocks
+size-total [] k = omega arith
+size-total (b ∷ blocks) zero = omega arith
+size-total (b ∷ blocks) (suc k) = omega (arith, size-total blocks k)
+
+pub total-only : (blocks : List (Option ℕ)) (keep : Option ℕ) → total (only blocks keep) ≤ total blocks
+total-only blocks None = omega (arith, total-none (length blocks))
+total-only blocks (Some k) = omega (arith, total-one (length blocks) k (get_or blocks k None), size-total blocks k)
 
 -- ---- chunks that lie one after the other
 pub if_ok : {T E : Type 0} {P Q : T → Type 0} (r : Result T E) → ((x : T) → P x → Q x) → IfOk r P → IfOk r Q

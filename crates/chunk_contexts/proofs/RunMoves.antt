@@ -83,6 +83,10 @@ other-bytes false b size s place room xs ys = refl
 other-bytes true true size s place room xs ys = refl
 other-bytes true false size s place room xs ys = refl
 
+pub run-blocks : (head : ℕ) (s : RunState) (place : Place) (room : ℕ) (xs ys : List ℕ)
+    → (run_taken head s (record { place = place; room = room; is_live = true; bytes = xs })).blocks ≡ (run_taken head s (record { place = place; room = room; is_live = true; bytes = ys })).blocks
+run-blocks head s place room xs ys = ap (λ (t : RunState). t.blocks) (other-bytes _ _ _ s place room xs ys)
+
 module _ (head : ℕ) (s t : RunState) (place : Place) (room : ℕ) (ys xs : List ℕ) (none : has s.chunks place ≡ false) (made : t ≡ run_taken head s (record { place = place; room = room; is_live = true; bytes = xs })) where
   abbrev p : Piece
   p = record { place = place; room = room; is_live = true; bytes = xs }

@@ -32,6 +32,11 @@ other-bytes true true c s place room xs ys = refl
 other-bytes true false true s place room xs ys = refl
 other-bytes true false false s place room xs ys = refl
 
+-- whatever its bytes, it takes the same blocks
+pub taken-blocks : (s : SetState) (n : ℕ) (place : Place) (room : ℕ) (xs ys : List ℕ)
+    → (set_taken s n (record { place = place; room = room; is_live = true; bytes = xs })).blocks ≡ (set_taken s n (record { place = place; room = room; is_live = true; bytes = ys })).blocks
+taken-blocks s n place room xs ys = ap (λ (t : SetState). t.blocks) (other-bytes _ _ _ s place room xs ys)
+
 -- and other bytes are written to its chunk
 pub put-taken : (s : SetState) (n : ℕ) (place : Place) (room : ℕ) (xs ys : List ℕ) → has s.chunks place ≡ false
     → set_put (set_taken s n (record { place = place; room = room; is_live = true; bytes = xs })) place ys ≡ set_taken s n (record { place = place; room = room; is_live = true; bytes = ys })

@@ -1,6 +1,6 @@
 -- The content of a context: a finite map from the names of its live chunks to their bytes, as the list of these chunks.
 -- (PostgreSQL 17, src/backend/utils/mmgr/README: what memory contexts are for; that a name tells a place and a length: own)
-use Rattle.std.specs.Prelude.{◌≡◌, ℕ, ◌<◌, ◌==◌, ◌&&◌, Bool, true, false, List, ◌∷◌, Option, Some, None, length, IsTrue}
+use Rattle.std.specs.Prelude.{◌≡◌, ℕ, ◌<◌, ◌==◌, ◌&&◌, Bool, true, false, List, ◌∷◌, Option, Some, None, length, get_or, IsTrue}
 use Rattle.std.specs.List.{filter}
 use Rattle.chunk_layout.specs.Pieces.{Piece, place_of, same_place, has, piece_at, resized}
 use Rattle.chunk_layout.specs.declared.place.Place.{Place}
@@ -38,6 +38,10 @@ KeepsOthers before after name new = (other : ChunkName) → same_place (place_of
 abbrev pub IsRefused : Option ContextError → ℕ → ContextError → Type 0
 IsRefused None growth error = (error ≡ NoMemory) × (0 < growth)
 IsRefused (Some refusal) growth error = error ≡ refusal
+
+-- where blocks grow, a block is one of a number that none had
+abbrev pub IsNewBlock : ℕ → List (Option ℕ) → ℕ → Type 0
+IsNewBlock growth blocks block = 0 < growth → get_or blocks block None ≡ None
 
 -- a live chunk by its name
 abbrev pub chunk_of : ChunkName → ℕ → List ℕ → Piece

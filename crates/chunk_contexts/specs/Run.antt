@@ -1,6 +1,6 @@
 -- The rules of space of a `Generation` and a `Bump`: chunks lie one after the other in blocks of 8,192 bytes. A chunk that
--- is longer, with its header if chunks have one, has a block of its own, and the block in use stays. (After
--- `src/backend/utils/mmgr/generation.c` and `bump.c` of PostgreSQL.)
+-- is longer, with its header if chunks have one, has a block of its own, and the block in use stays. (The rules are our own:
+-- in PostgreSQL 17, src/backend/utils/mmgr/generation.c and bump.c, blocks double.)
 use Rattle.std.specs.Prelude.{◌≡◌, ℕ, ◌+◌, ◌-◌, ◌<◌, nat_le, Bool, true, false, List, [], ◌∷◌, Option, None, replicate, length, get_or, is_some, IsTrue}
 use Rattle.chunk_layout.specs.Every.{Every}
 use Rattle.chunk_layout.specs.Pieces.{Piece, piece_at, with_block, without, rewritten}

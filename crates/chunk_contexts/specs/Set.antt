@@ -2,7 +2,8 @@
 --
 -- Each chunk has 8 bytes before it. Chunks of up to 8,192 bytes have the room of a class, and lie in blocks that double in
 -- size, from 8,192 bytes up to 1,048,576; one that is freed serves later requests of its class. A larger chunk has a block
--- of its own, which goes back when it is freed. (The rules follow `src/backend/utils/mmgr/aset.c` of PostgreSQL.)
+-- of its own, which goes back when it is freed. (The rules are our own; that chunks have classes, that blocks double and that
+-- the first one is kept by a reset is as in PostgreSQL 17, src/backend/utils/mmgr/aset.c.)
 use Rattle.std.specs.Prelude.{ℕ, ◌+◌, ◌-◌, ◌*◌, nat_le, nat_lt, min, Bool, true, false, cond, if◌then◌else◌, List, [], ◌∷◌, Option, Some, None, slice_set, is_some}
 use Rattle.chunk_layout.specs.Pieces.{Piece, piece_at, without, with_block, rewritten, size_at, only}
 use Rattle.chunk_layout.specs.declared.place.Place.{Place}

@@ -3,7 +3,7 @@ ghost use Rattle.std.specs.Prelude.{◌≡◌, ◌+◌, ◌*◌, ◌-◌, ◌<�
 ghost use Rattle.block_memory.specs.Cells.{zeros};
 ghost use Rattle.chunk_layout.specs.Pieces.{has, same_place, place_of, piece_at, total, with_block, resized};
 ghost use Rattle.chunk_contexts.specs.Rooms.{most, rounded, rooms, room_of, largest};
-ghost use Rattle.chunk_contexts.specs.Chunks.{chunk_of};
+ghost use Rattle.chunk_contexts.specs.Chunks.{chunk_of, IsNewBlock};
 ghost use Rattle.chunk_contexts.specs.Free.{is_in};
 ghost use Rattle.chunk_contexts.specs.Set.{new_set, set_growth, set_room, block_size, grown, carved, reused, dedicated, set_taken, set_freed, set_put, set_reset};
 
@@ -111,6 +111,7 @@ impl AllocSet {
         requires small { room ≤ 8192 }
         ensures carved { IfOk result (λ place. self.new ≡ carved (grown self.old place.block (block_size self.old.next room)) (record { place = place; room = room; is_live = true; bytes = [] })) }
         ensures fresh { IfOk result (λ place. has self.old.chunks place ≡ false) }
+        ensures vacant { IfOk result (λ place. get_or self.old.blocks place.block None ≡ None) }
         ensures held { OnOk result (total self.new.blocks ≡ total self.old.blocks + block_size self.old.next room) }
         ensures refused { OnErr result ((self.new ≡ self.old) × (0 < block_size self.old.next room)) }
     {
@@ -133,6 +134,7 @@ impl AllocSet {
         requires small { room ≤ most + 8 }
         ensures taken { IfOk result (λ place. self.new ≡ dedicated self.old (record { place = place; room = room; is_live = true; bytes = [] })) }
         ensures fresh { IfOk result (λ place. has self.old.chunks place ≡ false) }
+        ensures vacant { IfOk result (λ place. get_or self.old.blocks place.block None ≡ None) }
         ensures held { OnOk result (total self.new.blocks ≡ total self.old.blocks + (room + 8)) }
         ensures refused { OnErr result (self.new ≡ self.old) }
     {
@@ -151,6 +153,7 @@ impl AllocSet {
         ensures taken { IfOk result (λ place. self.new ≡ set_taken self.old n (record { place = place; room = set_room n; is_live = true; bytes = [] })) }
         ensures room { OnOk result (n ≤ set_room n) }
         ensures fresh { IfOk result (λ place. has self.old.chunks place ≡ false) }
+        ensures lies { IfOk result (λ place. IsNewBlock (set_growth self.old n) self.old.blocks place.block) }
         ensures held { OnOk result (total self.new.blocks ≡ total self.old.blocks + set_growth self.old n) }
         ensures refused { OnErr result ((self.new ≡ self.old) × (0 < set_growth self.old n)) }
     {
@@ -258,6 +261,8 @@ impl AllocSet {
         ensures len { IfOk result (λ moved. moved.len ≡ n) }
         ensures fresh { IfOk result (λ moved. has self.old.chunks (place_of moved) ≡ false) }
         ensures moved { IfOk result (λ moved. self.new ≡ set_freed (set_taken self.old n (chunk_of moved (set_room n) (resized (piece_at self.old.chunks from).bytes n))) from) }
+        ensures lies { IfOk result (λ moved. IsNewBlock (set_growth self.old n) self.old.blocks moved.block) }
+        ensures held { IfOk result (λ moved. total (set_taken self.old n (chunk_of moved (set_room n) (resized (piece_at self.old.chunks from).bytes n))).blocks ≡ total self.old.blocks + set_growth self.old n) }
         ensures refused { OnErr result ((self.new ≡ self.old) × (0 < set_growth self.old n)) }
     {
         let place = self.claim(n)?;
@@ -283,6 +288,8 @@ impl ChunkContext for AllocSet {
     ghost growth = { set_growth };
 
     ghost frees = { λ s. true };
+
+    ghost may_lie = { λ s n block. IsNewBlock (set_growth s n) s.blocks block };
 
     ghost taken = { set_taken };
 
@@ -365,5 +372,16 @@ impl ChunkContext for AllocSet {
             return 0;
         }
         block_size(self.next, room) as u64
+    }
+
+    fn growth_to(&self, name: ChunkName, n: u32) -> u64 {
+        if n as usize <= self.room(name.place()) {
+            return 0;
+        }
+        self.growth_for(n)
+    }
+
+    fn are_laid(&self) {
+        self.lists.layout.are_laid();
     }
 }

@@ -42,7 +42,7 @@ impl Bump {
 impl ChunkContext for Bump {
     ghost use Rattle.std.specs.Prelude.{false};
     ghost use Rattle.chunk_contexts.specs.Rooms.{rounded, over_most};
-    ghost use Rattle.chunk_contexts.specs.Run.{run_growth, run_taken, run_wrote, run_put, run_reset};
+    ghost use Rattle.chunk_contexts.specs.Run.{run_growth, run_taken, run_wrote, run_put, run_reset, IsBlockOf};
 
     ghost chunks = { λ s. s.chunks };
 
@@ -55,6 +55,8 @@ impl ChunkContext for Bump {
     ghost growth = { run_growth 0 };
 
     ghost frees = { λ s. false };
+
+    ghost may_lie = { λ s n block. IsBlockOf s (run_growth 0 s n) block };
 
     ghost taken = { λ s n p. run_taken 0 s p };
 
@@ -104,5 +106,14 @@ impl ChunkContext for Bump {
 
     fn growth_for(&self, n: u32) -> u64 {
         self.runs.growth(0, n as usize)
+    }
+
+    /// Nothing, since `resize` is refused.
+    fn growth_to(&self, _name: ChunkName, _n: u32) -> u64 {
+        0
+    }
+
+    fn are_laid(&self) {
+        self.runs.layout.are_laid();
     }
 }

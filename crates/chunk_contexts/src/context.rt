@@ -1,8 +1,8 @@
 //! What all kinds of context do.
-ghost use Rattle.std.specs.Prelude.{◌≡◌, ◌+◌, ◌<◌, ◌≤◌, ℕ, Bool, not, true, List, [], Option, None, IsTrue, IfOk, OnOk, IfErr, OnErr, length, get_or, is_some};
+ghost use Rattle.std.specs.Prelude.{◌≡◌, ◌+◌, ◌<◌, ◌≤◌, ℕ, Bool, not, true, false, List, [], Option, None, IsTrue, IfOk, OnOk, IfErr, OnErr, length, get_or, is_some};
 ghost use Rattle.std.specs.Borrow.{sem};
 ghost use Rattle.block_memory.specs.Cells.{zeros};
-ghost use Rattle.chunk_layout.specs.Pieces.{Piece, place_of, piece_at, without, rewritten, resized, total};
+ghost use Rattle.chunk_layout.specs.Pieces.{Piece, place_of, piece_at, without, rewritten, resized, total, AreLaid};
 ghost use Rattle.chunk_layout.specs.declared.place.Place.{Place};
 ghost use Rattle.chunk_contexts.specs.Chunks.{is_live, bytes_of, chunk_of, Adds, Keeps, KeepsOthers, IsRefused, IsResizeRefused, IsResized};
 ghost use Rattle.chunk_contexts.specs.ContextLends.{lends_chunk};
@@ -35,6 +35,10 @@ pub trait ChunkContext {
 
     ghost frees: { Self → Bool };
 
+    /// Whether the chunk of a request of n bytes may lie in a block: where blocks grow, in one of a number that none had; else
+    /// in the block in use, where a kind cuts chunks from one block at a time and uses none again.
+    ghost may_lie: { Self → ℕ → ℕ → Type 0 };
+
     /// The context with a chunk more for a request of n bytes; with other bytes in a chunk that stays where it is, as many
     /// or not; without a chunk; and without any.
     ghost taken: { Self → ℕ → Piece → Self };
@@ -57,6 +61,7 @@ pub trait ChunkContext {
         ensures lives { IfOk result (λ name. IsTrue (is_live (chunks self.new) name)) }
         ensures holds { IfOk result (λ name. bytes_of (chunks self.new) name ≡ bytes.now) }
         ensures block { IfOk result (λ name. IsTrue (is_some (get_or (blocks self.new) name.block None))) }
+        ensures lies { IfOk result (λ name. may_lie self.old (length bytes.now) name.block) }
         ensures keeps { IfOk result (Keeps (chunks self.old) (chunks self.new)) }
         ensures space { IfOk result (λ name. self.new ≡ taken self.old (length bytes.now) (chunk_of name (room self.old (length bytes.now)) bytes.now)) }
         ensures grown { OnOk result (total (blocks self.new) ≡ total (blocks self.old) + growth self.old (length bytes.now)) }
@@ -71,6 +76,7 @@ pub trait ChunkContext {
         ensures lives { IfOk result (λ name. IsTrue (is_live (chunks self.new) name)) }
         ensures holds { IfOk result (λ name. bytes_of (chunks self.new) name ≡ zeros n) }
         ensures block { IfOk result (λ name. IsTrue (is_some (get_or (blocks self.new) name.block None))) }
+        ensures lies { IfOk result (λ name. may_lie self.old n name.block) }
         ensures keeps { IfOk result (Keeps (chunks self.old) (chunks self.new)) }
         ensures space { IfOk result (λ name. self.new ≡ taken self.old n (chunk_of name (room self.old n) (zeros n))) }
         ensures grown { OnOk result (total (blocks self.new) ≡ total (blocks self.old) + growth self.old n) }
@@ -102,6 +108,7 @@ pub trait ChunkContext {
         ensures gone { OnOk result (chunks self.new ≡ without (chunks self.old) (place_of name)) }
         ensures keeps { OnOk result (KeepsOthers (chunks self.old) (chunks self.new) name name) }
         ensures space { OnOk result (self.new ≡ freed self.old (place_of name)) }
+        ensures most { OnOk result (total (blocks self.new) ≤ total (blocks self.old)) }
         ensures refused { IfErr result (λ error. (error ≡ NotSupported) × (IsTrue (not (frees self.old)))) }
         ensures unchanged { OnErr result (self.new ≡ self.old) };
 
@@ -117,13 +124,17 @@ pub trait ChunkContext {
         ensures keeps { IfOk result (KeepsOthers (chunks self.old) (chunks self.new) name) }
         ensures stays { IfOk result (λ new. n ≤ (piece_at (chunks self.old) (place_of name)).room → self.new ≡ put self.old (place_of name) (resized (bytes_of (chunks self.old) name) n)) }
         ensures moved { IfOk result (λ new. (piece_at (chunks self.old) (place_of name)).room < n → self.new ≡ freed (taken self.old n (chunk_of new (room self.old n) (resized (bytes_of (chunks self.old) name) n))) (place_of name)) }
+        ensures lies { IfOk result (λ new. (piece_at (chunks self.old) (place_of name)).room < n → may_lie self.old n new.block) }
+        ensures grown { IfOk result (λ new. (piece_at (chunks self.old) (place_of name)).room < n → total (blocks (taken self.old n (chunk_of new (room self.old n) (resized (bytes_of (chunks self.old) name) n)))) ≡ total (blocks self.old) + growth self.old n) }
+        ensures most { OnOk result (total (blocks self.new) ≤ total (blocks self.old) + growth self.old n) }
         ensures refused { IfErr result (IsResizeRefused (frees self.old) (refusal self.old n) (growth self.old n) (piece_at (chunks self.old) (place_of name)).room n) }
         ensures unchanged { OnErr result (self.new ≡ self.old) };
 
     /// Gives up all chunks, and all blocks that the kind does not keep.
     fn reset(&mut self)
         ensures empty { chunks self.new ≡ [] }
-        ensures space { self.new ≡ emptied self.old };
+        ensures space { self.new ≡ emptied self.old }
+        ensures most { total (blocks self.new) ≤ total (blocks self.old) };
 
     /// The bytes of its blocks.
     fn held(&self) -> u64
@@ -132,4 +143,16 @@ pub trait ChunkContext {
     /// How many bytes of blocks `alloc` of `n` bytes would take now: 0 where it would be refused for what it asks.
     fn growth_for(&self, n: u32) -> u64
         ensures { result ≡ growth self.now n };
+
+    /// How many bytes of blocks `resize` of a live chunk would take now: 0 where it would stay where it is, or be refused for
+    /// what it asks.
+    fn growth_to(&self, name: ChunkName, n: u32) -> u64
+        requires { IsTrue (is_live (chunks self.now) name) }
+        ensures stays { n ≤ (piece_at (chunks self.now) (place_of name)).room → result ≡ 0 }
+        ensures moves { (piece_at (chunks self.now) (place_of name)).room < n → frees self.now ≡ true → result ≡ growth self.now n }
+        ensures refused { frees self.now ≡ false → result ≡ 0 };
+
+    /// A law: no two live chunks share a byte, and each lies in a block.
+    fn are_laid(&self)
+        ensures { AreLaid (blocks self.now) (chunks self.now) };
 }

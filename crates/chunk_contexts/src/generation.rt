@@ -145,7 +145,7 @@ impl Generation {
 impl ChunkContext for Generation {
     ghost use Rattle.std.specs.Prelude.{true};
     ghost use Rattle.chunk_contexts.specs.Rooms.{rounded, over_most};
-    ghost use Rattle.chunk_contexts.specs.Run.{run_growth, run_taken, run_wrote, run_put, run_reset};
+    ghost use Rattle.chunk_contexts.specs.Run.{run_growth, run_taken, run_wrote, run_put, run_reset, IsBlockOf};
     ghost use Rattle.chunk_contexts.specs.Generation.{gen_freed};
 
     ghost chunks = { λ s. s.chunks };
@@ -159,6 +159,8 @@ impl ChunkContext for Generation {
     ghost growth = { run_growth 8 };
 
     ghost frees = { λ s. true };
+
+    ghost may_lie = { λ s n block. IsBlockOf s (run_growth 8 s n) block };
 
     ghost taken = { λ s n p. run_taken 8 s p };
 
@@ -231,5 +233,16 @@ impl ChunkContext for Generation {
 
     fn growth_for(&self, n: u32) -> u64 {
         self.runs.growth(HEAD, n as usize)
+    }
+
+    fn growth_to(&self, name: ChunkName, n: u32) -> u64 {
+        if n as usize <= self.room(name.place()) {
+            return 0;
+        }
+        self.growth_for(n)
+    }
+
+    fn are_laid(&self) {
+        self.runs.layout.are_laid();
     }
 }

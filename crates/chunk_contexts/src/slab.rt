@@ -5,7 +5,7 @@ ghost use Rattle.chunk_contexts.specs.Slab.{new_slab, slab_refusal_by};
 
 use crate::context::ChunkContext;
 use crate::error::ContextError;
-use crate::rooms::check_len;
+use crate::rooms::{check_len, rounded};
 use crate::slab_chunks::SlabChunks;
 use chunk_layout::ChunkName;
 use std::alloc::Global;
@@ -70,7 +70,8 @@ impl Slab {
 impl ChunkContext for Slab {
     ghost use Rattle.std.specs.Prelude.{true};
     ghost use Rattle.chunk_contexts.specs.Rooms.{rounded};
-    ghost use Rattle.chunk_contexts.specs.Slab.{slab_refusal, slab_growth, slab_taken, slab_wrote, slab_freed, slab_reset};
+    ghost use Rattle.chunk_contexts.specs.Chunks.{IsNewBlock};
+    ghost use Rattle.chunk_contexts.specs.Slab.{slab_refusal, slab_growth, slab_grows, slab_taken, slab_wrote, slab_freed, slab_reset};
 
     ghost chunks = { λ s. s.chunks };
 
@@ -83,6 +84,8 @@ impl ChunkContext for Slab {
     ghost growth = { slab_growth };
 
     ghost frees = { λ s. true };
+
+    ghost may_lie = { λ s n block. IsNewBlock (slab_grows s) s.blocks block };
 
     ghost taken = { λ s n p. slab_taken s p };
 
@@ -138,5 +141,16 @@ impl ChunkContext for Slab {
             return 0;
         }
         self.inner.growth()
+    }
+
+    fn growth_to(&self, _name: ChunkName, n: u32) -> u64 {
+        if n as usize <= rounded(self.inner.size) {
+            return 0;
+        }
+        self.growth_for(n)
+    }
+
+    fn are_laid(&self) {
+        self.inner.layout.are_laid();
     }
 }

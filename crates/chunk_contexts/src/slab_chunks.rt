@@ -2,7 +2,7 @@
 ghost use Rattle.std.specs.Prelude.{◌≡◌, ◌≢◌, ℕ, ◌+◌, ◌*◌, ◌-◌, ◌<◌, ◌≤◌, ◌^◌, true, false, [], ◌∷◌, ◌++◌, Some, None, IsTrue, is_some, IfOk, OnOk, OnErr, length, get_or};
 ghost use Rattle.block_memory.specs.Cells.{zeros};
 ghost use Rattle.chunk_layout.specs.Pieces.{has, total, with_block};
-ghost use Rattle.chunk_contexts.specs.Chunks.{chunk_of, live, Adds};
+ghost use Rattle.chunk_contexts.specs.Chunks.{chunk_of, live, Adds, IsNewBlock};
 ghost use Rattle.chunk_contexts.specs.Rooms.{most, rounded};
 ghost use Rattle.chunk_contexts.specs.Slab.{per_block, slab_block, no_block, new_slab, slab_of, slab_grows, slab_taken, slab_freed, slab_reset, IsSlabLayout, IsEntry, AreChunks};
 
@@ -191,6 +191,7 @@ impl SlabChunks {
         ensures chunks { AreChunks self.new }
         ensures taken { IfOk result (λ place. slab_of self.new ≡ slab_taken (slab_of self.old) (record { place = place; room = rounded self.old.size; is_live = true; bytes = [] })) }
         ensures fresh { IfOk result (λ place. has (slab_of self.old).chunks place ≡ false) }
+        ensures lies { IfOk result (λ place. IsNewBlock (slab_grows (slab_of self.old)) (slab_of self.old).blocks place.block) }
         ensures grown { OnOk result (total (slab_of self.new).blocks ≡ total (slab_of self.old).blocks + slab_grows (slab_of self.old)) }
         ensures refused { OnErr result ((slab_of self.new ≡ slab_of self.old) × (0 < slab_grows (slab_of self.old))) }
     {
@@ -208,6 +209,7 @@ impl SlabChunks {
         ensures chunks { AreChunks self.new }
         ensures added { IfOk result (λ name. Adds (slab_of self.old).chunks (slab_of self.new).chunks name (rounded self.old.size) bytes.now) }
         ensures taken { IfOk result (λ name. slab_of self.new ≡ slab_taken (slab_of self.old) (chunk_of name (rounded self.old.size) bytes.now)) }
+        ensures lies { IfOk result (λ name. IsNewBlock (slab_grows (slab_of self.old)) (slab_of self.old).blocks name.block) }
         ensures grown { OnOk result (total (slab_of self.new).blocks ≡ total (slab_of self.old).blocks + slab_grows (slab_of self.old)) }
         ensures refused { OnErr result ((slab_of self.new ≡ slab_of self.old) × (0 < slab_grows (slab_of self.old))) }
     {
@@ -222,6 +224,7 @@ impl SlabChunks {
         ensures chunks { AreChunks self.new }
         ensures added { IfOk result (λ name. Adds (slab_of self.old).chunks (slab_of self.new).chunks name (rounded self.old.size) (zeros self.old.size)) }
         ensures taken { IfOk result (λ name. slab_of self.new ≡ slab_taken (slab_of self.old) (chunk_of name (rounded self.old.size) (zeros self.old.size))) }
+        ensures lies { IfOk result (λ name. IsNewBlock (slab_grows (slab_of self.old)) (slab_of self.old).blocks name.block) }
         ensures grown { OnOk result (total (slab_of self.new).blocks ≡ total (slab_of self.old).blocks + slab_grows (slab_of self.old)) }
         ensures refused { OnErr result ((slab_of self.new ≡ slab_of self.old) × (0 < slab_grows (slab_of self.old))) }
     {

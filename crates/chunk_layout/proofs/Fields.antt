@@ -5,16 +5,17 @@ use Rattle.std.proofs.lemmas.List.{get_or-map, length-map, length-set}
 use Rattle.block_memory.specs.Cells.{Cells, Holds, IsWritten}
 use Rattle.block_memory.specs.Words.{word_bytes}
 use Rattle.chunk_layout.specs.Every.{Every}
-use Rattle.chunk_layout.specs.Pieces.{Layout, Piece, has, piece_at, put_at, with_block, outside, total, without, with_piece, IsClear, size_at}
-use Rattle.chunk_layout.specs.Spots.{Blocks, cells_of, block_at, poke, headed, piece_of, sizes_of, spots_of, spot_at, Stands, IsLayout}
+use Rattle.chunk_layout.specs.Pieces.{Layout, Piece, has, piece_at, put_at, with_block, outside, total, without, with_piece, AreApart, IsInside, AreLaid, AreTaken, IsClear, size_at}
+use Rattle.chunk_layout.specs.Spots.{Blocks, cells_of, block_at, poke, headed, piece_of, sizes_of, spots_of, spot_at, Stands, Apart, IsLayout}
 use Rattle.chunk_layout.specs.Fields.{layout_of, AreFields}
+use Rattle.chunk_layout.specs.Vacant.{AreVacant}
 use Rattle.chunk_layout.specs.Lends.{layout_with}
 use Rattle.chunk_layout.specs.declared.place.Place.{Place}
 use Rattle.chunk_layout.specs.declared.place.Spot.{Spot}
 use Rattle.chunk_layout.specs.declared.place.Note.{Note}
 use Rattle.chunk_layout.specs.declared.place.Note.TheVariants.{Chunk, Written, Gone, Returned}
 use Rattle.chunk_layout.specs.declared.layout.ChunkLayout.TheInside.{Inside}
-use Rattle.chunk_layout.proofs.Lists.{every_get}
+use Rattle.chunk_layout.proofs.Lists.{every_get, every_weaker, every_map, pairwise_weaker, pairwise_through}
 use Rattle.chunk_layout.proofs.Reading.{length-read, holds-read}
 use Rattle.chunk_layout.proofs.Pokes.{some-within, sizes-poke}
 use Rattle.chunk_layout.proofs.Finding.{without-spot, found-place, found-stands, piece-found}
@@ -108,7 +109,7 @@ module _ (x : Inside) (ok : AreFields x) (l : Layout) (e : layout_of x ≡ l) (p
     fits' : kept + length bytes ≤ (piece_at (map (piece_of bs) ss) place).room
     fits' = subst (λ (q : Piece). kept + length bytes ≤ q.room) (sym old-is) fits
 
-    module _ (y : Inside) (head : y.head ≡ x.head) (held : y.held ≡ x.held) (blocks : y.blocks.items ≡ poke bs place.block (place.offset + kept) bytes)
+    module _ (y : Inside) (head : y.head ≡ x.head) (held : y.held ≡ x.held) (marks : y.vacant ≡ x.vacant) (blocks : y.blocks.items ≡ poke bs place.block (place.offset + kept) bytes)
         (notes : y.notes.notes ≡ Written place (kept + length bytes) live ∷ x.notes.notes) where
       sizes : sizes_of bs ≡ sizes_of y.blocks.items
       sizes = sym (sizes-poke bs place.block (place.offset + kept) bytes found-some) ∙ ap sizes_of (sym blocks)
@@ -119,6 +120,7 @@ module _ (x : Inside) (ok : AreFields x) (l : Layout) (e : layout_of x ≡ l) (p
         held = held ∙ ok.held ∙ ap total sizes;
         small = subst (Every (λ (o : Option ℕ). unwrap_or o 0 ≤ 2147483648)) sizes ok.small;
         few = subst (λ (z : List (Option ℕ)). length z < 4294967296) sizes ok.few;
+        vacant = subst (λ (z : List (Option ℕ) × List Bool). AreVacant z.0 z.1) (λ i. (sizes i, sym marks i)) ok.vacant;
       }
 
       pub layout-put : layout_of y ≡ put_at l place kept bytes live
@@ -131,7 +133,7 @@ module _ (x : Inside) (ok : AreFields x) (l : Layout) (e : layout_of x ≡ l) (p
     count' : length (piece_at (map (piece_of bs) ss) place).bytes ≡ n
     count' = ap (λ (q : Piece). length q.bytes) old-is ∙ count
 
-    module _ (y : Inside) (head : y.head ≡ x.head) (held : y.held ≡ x.held) (blocks : y.blocks.items ≡ poke bs place.block place.offset (take n ws)) (notes : y.notes.notes ≡ x.notes.notes) where
+    module _ (y : Inside) (head : y.head ≡ x.head) (held : y.held ≡ x.held) (marks : y.vacant ≡ x.vacant) (blocks : y.blocks.items ≡ poke bs place.block place.offset (take n ws)) (notes : y.notes.notes ≡ x.notes.notes) where
       sizes-lent : sizes_of bs ≡ sizes_of y.blocks.items
       sizes-lent = sym (sizes-poke bs place.block place.offset (take n ws) found-some) ∙ ap sizes_of (sym blocks)
 
@@ -141,6 +143,7 @@ module _ (x : Inside) (ok : AreFields x) (l : Layout) (e : layout_of x ≡ l) (p
         held = held ∙ ok.held ∙ ap total sizes-lent;
         small = subst (Every (λ (o : Option ℕ). unwrap_or o 0 ≤ 2147483648)) sizes-lent ok.small;
         few = subst (λ (z : List (Option ℕ)). length z < 4294967296) sizes-lent ok.few;
+        vacant = subst (λ (z : List (Option ℕ) × List Bool). AreVacant z.0 z.1) (λ i. (sizes-lent i, sym marks i)) ok.vacant;
       }
 
       pub layout-lent : layout_of y ≡ layout_with l place ws
@@ -149,7 +152,7 @@ module _ (x : Inside) (ok : AreFields x) (l : Layout) (e : layout_of x ≡ l) (p
           (λ i. record { head = head i; blocks = sym sizes-lent i; pieces = pieces i }) ∙ ap (λ (z : Layout). layout_with z place ws) e
 
 -- fewer chunks, in the same blocks
-module _ (x : Inside) (ok : AreFields x) (l : Layout) (e : layout_of x ≡ l) (place : Place) (y : Inside) (head : y.head ≡ x.head) (held : y.held ≡ x.held) (blocks : y.blocks.items ≡ x.blocks.items)
+module _ (x : Inside) (ok : AreFields x) (l : Layout) (e : layout_of x ≡ l) (place : Place) (y : Inside) (head : y.head ≡ x.head) (held : y.held ≡ x.held) (marks : y.vacant ≡ x.vacant) (blocks : y.blocks.items ≡ x.blocks.items)
     (notes : y.notes.notes ≡ Gone place ∷ x.notes.notes) where
   pub fields-gone : AreFields y
   fields-gone = record {
@@ -158,6 +161,7 @@ module _ (x : Inside) (ok : AreFields x) (l : Layout) (e : layout_of x ≡ l) (p
     held = held ∙ ok.held ∙ ap (λ (z : Blocks). total (sizes_of z)) (sym blocks);
     small = subst (λ (z : Blocks). Every (λ (o : Option ℕ). unwrap_or o 0 ≤ 2147483648) (sizes_of z)) (sym blocks) ok.small;
     few = subst (λ (z : Blocks). length (sizes_of z) < 4294967296) (sym blocks) ok.few;
+    vacant = subst (λ (z : Blocks × List Bool). AreVacant (sizes_of z.0) z.1) (λ i. (sym blocks i, sym marks i)) ok.vacant;
   }
 
   pub layout-gone : layout_of y ≡ record { head = l.head; blocks = l.blocks; pieces = without l.pieces place }
@@ -198,7 +202,7 @@ module _ (x : Inside) (ok : AreFields x) (l : Layout) (e : layout_of x ≡ l) (p
   clear' : Every (IsClear x.head place room) (map (piece_of cs) (spots_of x.notes.notes))
   clear' = subst (λ (z : Layout). Every (IsClear z.head place room) z.pieces) (sym e) clear
 
-  module _ (y : Inside) (head : y.head ≡ x.head) (held : y.held ≡ x.held) (blocks : y.blocks.items ≡ headed x.head cs place room)
+  module _ (y : Inside) (head : y.head ≡ x.head) (held : y.held ≡ x.held) (marks : y.vacant ≡ x.vacant) (blocks : y.blocks.items ≡ headed x.head cs place room)
       (notes : y.notes.notes ≡ Chunk (record { place = place; room = room; len = 0; is_live = true }) ∷ x.notes.notes) where
     same-sizes : sizes_of cs ≡ sizes_of y.blocks.items
     same-sizes = elim ok.laid.header [
@@ -213,12 +217,19 @@ module _ (x : Inside) (ok : AreFields x) (l : Layout) (e : layout_of x ≡ l) (p
       held = held ∙ ok.held ∙ ap total same-sizes;
       small = subst (Every (λ (o : Option ℕ). unwrap_or o 0 ≤ 2147483648)) same-sizes ok.small;
       few = subst (λ (z : List (Option ℕ)). length z < 4294967296) same-sizes ok.few;
+      vacant = subst (λ (z : List (Option ℕ) × List Bool). AreVacant z.0 z.1) (λ i. (same-sizes i, sym marks i)) ok.vacant;
     }
 
     pub layout-carved : layout_of y ≡ with_piece l (record { place = place; room = room; is_live = true; bytes = [] })
     layout-carved =
         let pieces = ap (λ (z : Blocks × List Note). map (piece_of z.0) (spots_of z.1)) (λ i. (blocks i, notes i)) ∙ pieces-carved x.head cs (spots_of x.notes.notes) ok.laid place room carve-some carve-after carve-inside clear' in
         (λ i. record { head = head i; blocks = sym same-sizes i; pieces = pieces i }) ∙ ap (λ (z : Layout). with_piece z (record { place = place; room = room; is_live = true; bytes = [] })) e
+
+-- a number is new only where each has a block
+pub all-taken : (x : Inside) (l : Layout) → layout_of x ≡ l → (b : ℕ) → (b ≡ length x.blocks.items → AreTaken (sizes_of x.blocks.items)) → b ≡ length l.blocks → AreTaken l.blocks
+all-taken x l e b taken new =
+    subst (λ (z : Layout). AreTaken z.blocks) e
+    (taken (omega (arith, new, ap (λ (z : Layout). length z.blocks) e, length-map x.blocks.items (option_map {T = Cells} length))))
 
 -- a block is taken
 module _ (x : Inside) (ok : AreFields x) (l : Layout) (e : layout_of x ≡ l) (b len : ℕ) (low : b ≤ length x.blocks.items) (none : get_or x.blocks.items b None ≡ None) (small : len ≤ 2147483648)
@@ -247,7 +258,7 @@ module _ (x : Inside) (ok : AreFields x) (l : Layout) (e : layout_of x ≡ l) (b
   pub held-small : x.held + len < 18446744073709551616
   held-small = let h = ok.held in let f = ok.few in omega (arith, total-bound (sizes_of ds) ok.small, h, f, small)
 
-  module _ (y : Inside) (head : y.head ≡ x.head) (held : y.held ≡ x.held + len) (blocks : y.blocks.items ≡ with_block ds b block) (notes : y.notes.notes ≡ x.notes.notes) where
+  module _ (y : Inside) (head : y.head ≡ x.head) (held : y.held ≡ x.held + len) (blocks : y.blocks.items ≡ with_block ds b block) (notes : y.notes.notes ≡ x.notes.notes) (marked : AreVacant (sizes_of y.blocks.items) y.vacant) where
     sizes' : sizes_of y.blocks.items ≡ with_block (sizes_of ds) b len
     sizes' = ap sizes_of blocks ∙ sizes-taken
 
@@ -261,6 +272,7 @@ module _ (x : Inside) (ok : AreFields x) (l : Layout) (e : layout_of x ≡ l) (b
       held = held ∙ ap (λ (n : ℕ). n + len) ok.held ∙ sym (ap total sizes' ∙ total-taken);
       small = subst (Every (λ (o : Option ℕ). unwrap_or o 0 ≤ 2147483648)) (sym sizes') (every-with_block (λ (o : Option ℕ). unwrap_or o 0 ≤ 2147483648) (sizes_of ds) b len small ok.small);
       few = subst (λ (z : List (Option ℕ)). length z < 4294967296) (sym sizes') (count few);
+      vacant = marked;
     }
       where
         count : (b < 4294967295) ⊎ (b < length ds) → length (with_block (sizes_of ds) b len) < 4294967296
@@ -291,7 +303,8 @@ module _ (x : Inside) (ok : AreFields x) (l : Layout) (e : layout_of x ≡ l) (b
   pub held-enough : b < length gs → length (block_at gs b) ≤ x.held
   held-enough low = omega (arith, held-dropped low)
 
-  module _ (low : b < length gs) (y : Inside) (head : y.head ≡ x.head) (held : y.held ≡ x.held - length (block_at gs b)) (blocks : y.blocks.items ≡ set gs b None) (notes : y.notes.notes ≡ Returned b ∷ x.notes.notes) where
+  module _ (low : b < length gs) (y : Inside) (head : y.head ≡ x.head) (held : y.held ≡ x.held - length (block_at gs b)) (blocks : y.blocks.items ≡ set gs b None) (notes : y.notes.notes ≡ Returned b ∷ x.notes.notes)
+      (marked : AreVacant (sizes_of y.blocks.items) y.vacant) where
     sizes-back : sizes_of y.blocks.items ≡ set (sizes_of gs) b None
     sizes-back = ap sizes_of blocks ∙ sizes-dropped
 
@@ -302,6 +315,7 @@ module _ (x : Inside) (ok : AreFields x) (l : Layout) (e : layout_of x ≡ l) (b
       held = held ∙ (omega (arith, held-dropped low)) ∙ sym (ap total sizes-back);
       small = subst (Every (λ (o : Option ℕ). unwrap_or o 0 ≤ 2147483648)) (sym sizes-back) (every-set (λ (o : Option ℕ). unwrap_or o 0 ≤ 2147483648) (sizes_of gs) b None (omega arith) ok.small);
       few = subst (λ (z : List (Option ℕ)). length z < 4294967296) (sym sizes-back) (let f = ok.few in omega (arith, length-set (sizes_of gs) b None, f));
+      vacant = marked;
     }
 
     pub layout-dropped : layout_of y ≡ record { head = l.head; blocks = set l.blocks b None; pieces = outside l.pieces b }
@@ -323,3 +337,27 @@ small-any x ok b = elim (cases_lt b (length x.blocks.items)) [
   | inl low ↦ small-block x ok b low
   | inr past ↦ omega (arith, ap (λ (o : Option Cells). length (cells_of o)) (get_or_past x.blocks.items b None past))
 ]
+
+-- the chunks of a layout are apart, and lie in their blocks
+apart-less : (head : ℕ) (bs : Blocks) (s t : Spot) → Apart head s t → AreApart (piece_of bs s) (piece_of bs t)
+apart-less head bs s t is = elim is [
+  | inl blocks ↦ inl blocks
+  | inr order ↦ elim order [
+    | inl before ↦ inr (inl (omega (arith, before)))
+    | inr behind ↦ inr (inr (omega (arith, behind)))
+  ]
+]
+
+inside-block : (head : ℕ) (bs : Blocks) (s : Spot) → Stands head bs s → IsInside (sizes_of bs) (piece_of bs s)
+inside-block head bs s stands = (
+  let fits = stands.fits in omega (arith, fits, length-read (block_at bs s.place.block) s.place.offset s.len stands.written),
+  let inside = stands.inside in omega (arith, inside, size-any bs s.place.block),
+)
+
+pub laid-is : (x : Inside) → AreFields x → AreLaid (sizes_of x.blocks.items) (map (piece_of x.blocks.items) (spots_of x.notes.notes))
+laid-is x ok =
+    let bs : Blocks = x.blocks.items in let ss = spots_of x.notes.notes in
+    record {
+      apart = pairwise_through AreApart (piece_of bs) ss (pairwise_weaker (Apart x.head) (λ s t. AreApart (piece_of bs s) (piece_of bs t)) (apart-less x.head bs) ss ok.laid.apart);
+      inside = every_map (IsInside (sizes_of bs)) (piece_of bs) ss (every_weaker (Stands x.head bs) (λ s. IsInside (sizes_of bs) (piece_of bs s)) (inside-block x.head bs) ss ok.laid.stand);
+    }

@@ -9,3 +9,4 @@ pub mod Lending
 pub mod Fields
 pub mod PieceLaws
 pub mod MarkLaws
+pub mod Vacancy

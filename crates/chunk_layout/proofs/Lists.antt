@@ -34,6 +34,14 @@ pub every_unmap : {X Y : Type 0} (P : Y → Type 0) (f : X → Y) (xs : List X) 
 every_unmap P f [] e = tt
 every_unmap P f (x ∷ xs) e = (e.0, every_unmap P f xs e.1)
 
+pub pairwise_weaker : {X : Type 0} (R S : X → X → Type 0) → ((x y : X) → R x y → S x y) → (xs : List X) → Pairwise R xs → Pairwise S xs
+pairwise_weaker R S h [] e = tt
+pairwise_weaker R S h (x ∷ xs) e = (every_weaker (R x) (S x) (h x) xs e.0, pairwise_weaker R S h xs e.1)
+
+pub pairwise_through : {X Y : Type 0} (R : Y → Y → Type 0) (f : X → Y) (xs : List X) → Pairwise (λ x y. R (f x) (f y)) xs → Pairwise R (map f xs)
+pairwise_through R f [] e = tt
+pairwise_through R f (x ∷ xs) e = (every_map (R (f x)) f xs e.0, pairwise_through R f xs e.1)
+
 pub pairwise_filter : {X : Type 0} (R : X → X → Type 0) (test : X → Bool) (xs : List X) → Pairwise R xs → Pairwise R (filter test xs)
 pairwise_filter R test [] e = tt
 pairwise_filter R test (x ∷ xs) e = by_cond (Pairwise R) (test x) (x ∷ filter test xs) (filter test xs) (λ _. (every_filter (R x) test xs e.0, pairwise_filter R test xs e.1)) (λ _. pairwise_filter R test xs e.1)

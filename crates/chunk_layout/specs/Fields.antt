@@ -3,6 +3,7 @@ use Rattle.std.specs.Prelude.{◌≡◌, ◌^◌, ◌<◌, ◌≤◌, map, lengt
 use Rattle.chunk_layout.specs.Every.{Every}
 use Rattle.chunk_layout.specs.Pieces.{Layout, total}
 use Rattle.chunk_layout.specs.Spots.{IsLayout, sizes_of, spots_of, piece_of}
+use Rattle.chunk_layout.specs.Vacant.{AreVacant}
 use Rattle.chunk_layout.specs.declared.layout.ChunkLayout.TheInside.{Inside}
 
 abbrev pub layout_of : Inside → Layout
@@ -13,3 +14,4 @@ pub record AreFields (l : Inside) : Type 0 where
   pub held : l.held ≡ total (sizes_of l.blocks.items)
   pub small : Every (λ size. unwrap_or size 0 ≤ 2 ^ 31) (sizes_of l.blocks.items)
   pub few : length (sizes_of l.blocks.items) < 2 ^ 32
+  pub vacant : AreVacant (sizes_of l.blocks.items) l.vacant

@@ -4,5 +4,6 @@ pub mod Spots
 pub mod Fields
 pub mod Lends
 pub mod Marks
+pub mod Vacant
 pub mod MarkFields
 pub mod Links

@@ -1,10 +1,10 @@
 -- A layout as its users see it: the sizes of its blocks, and the chunks that lie in them. All of this is our own.
-use Rattle.std.specs.Prelude.{◌≢◌, ℕ, zero, suc, ◌+◌, ◌≤◌, ◌==◌, ◌&&◌, ◌⊎◌, Bool, false, not, List, [], ◌∷◌, ◌++◌, Option, Some, None}
+use Rattle.std.specs.Prelude.{◌≡◌, ◌≢◌, ◌<◌, true, is_some, ℕ, zero, suc, ◌+◌, ◌≤◌, ◌==◌, ◌&&◌, ◌⊎◌, Bool, false, not, List, [], ◌∷◌, ◌++◌, Option, Some, None}
 use Rattle.std.specs.Prelude.{if◌then◌else◌, ◌-◌, length, get_or, slice_set, replicate, unwrap_or, take}
 use Rattle.std.specs.Int.{w32, to_be_bytes}
 use Rattle.std.specs.List.{filter, list_any, refill}
 use Rattle.block_memory.specs.Cells.{zeros}
-use Rattle.chunk_layout.specs.Every.{first_by}
+use Rattle.chunk_layout.specs.Every.{Every, Pairwise, first_by}
 use Rattle.chunk_layout.specs.declared.place.Place.{Place}
 use Rattle.chunk_layout.specs.declared.place.ChunkName.{ChunkName}
 
@@ -80,6 +80,23 @@ abbrev pub with_block : {X : Type 0} → List (Option X) → ℕ → X → List 
 with_block [] block x = Some x ∷ []
 with_block (b ∷ bs) zero x = Some x ∷ bs
 with_block (b ∷ bs) (suc block) x = b ∷ with_block bs block x
+
+-- no byte of a chunk is one of the other's
+abbrev pub AreApart : Piece → Piece → Type 0
+AreApart p q = (p.place.block ≢ q.place.block) ⊎ ((p.place.offset + p.room ≤ q.place.offset) ⊎ (q.place.offset + q.room ≤ p.place.offset))
+
+-- a chunk has no more bytes than room, and its room lies in its block
+abbrev pub IsInside : List (Option ℕ) → Piece → Type 0
+IsInside blocks p = (length p.bytes ≤ p.room) × (p.place.offset + p.room ≤ size_at blocks p.place.block)
+
+-- no two chunks share a byte, and each lies in its block
+pub record AreLaid (blocks : List (Option ℕ)) (chunks : List Piece) : Type 0 where
+  pub apart : Pairwise AreApart chunks
+  pub inside : Every (IsInside blocks) chunks
+
+-- each number has a block
+abbrev pub AreTaken : List (Option ℕ) → Type 0
+AreTaken blocks = (block : ℕ) → block < length blocks → is_some (get_or blocks block None) ≡ true
 
 -- whether a block is the one that is kept
 abbrev pub is_kept : Option ℕ → ℕ → Bool

@@ -2,9 +2,11 @@
 ghost use Rattle.std.specs.Prelude.{◌≡◌, ◌+◌, ◌-◌, ◌<◌, ◌≤◌, ◌^◌, ◌⊎◌, Some, None, IsSome, IfSome, IfOk, OnErr, length, get_or, slice_set};
 ghost use Rattle.block_memory.specs.Cells.{IsWritten, Holds, zeros};
 ghost use Rattle.block_memory.specs.Words.{word_bytes};
-ghost use Rattle.chunk_layout.specs.Pieces.{with_block};
-ghost use Rattle.chunk_layout.specs.Spots.{block_at, poke, headed};
+ghost use Rattle.chunk_layout.specs.Pieces.{with_block, AreTaken};
+ghost use Rattle.chunk_layout.specs.Vacant.{AreVacant};
+ghost use Rattle.chunk_layout.specs.Spots.{block_at, poke, headed, sizes_of};
 
+use crate::marks::BlockMarks;
 use crate::place::Place;
 use block_memory::RawBlock;
 use std::alloc::AllocError;
@@ -80,56 +82,49 @@ pub(crate) fn write_header(
         .set_word(at, room as u64);
 }
 
-/// Takes a number from `vacant` whose block was given back.
-///
-/// `vacant` is looked at again against the blocks, so that no more has to be known of it.
-fn take_vacant(blocks: &[Option<RawBlock>], vacant: &mut Vec<u32>) -> Option<u32>
-    ensures { IfSome result (λ number. (number < length blocks.now) × (get_or blocks.now number None ≡ None)) }
-{
-    let number = vacant.pop()?;
-    let at = number as usize;
-    if at < blocks.len() && blocks[at].is_none() {
-        return Some(number);
-    }
-    None
-}
-
-/// Adds a block behind the others, and room for its number in `vacant`, so that giving it back takes no memory.
+/// Adds a block behind the others, and room for the mark on its number, so that giving it back takes no memory.
 fn push_block(
     blocks: &mut Vec<Option<RawBlock>>,
-    vacant: &mut Vec<u32>,
+    vacant: &mut BlockMarks,
     block: RawBlock,
 ) -> Result<u32, AllocError>
+    requires { AreVacant (sizes_of blocks.old.items) vacant.old }
     ensures added { IfOk result (λ number. (number ≡ length blocks.old.items) × (number < 2 ^ 32 - 1) × (blocks.new.items ≡ with_block blocks.old.items number block)) }
+    ensures vacant { AreVacant (sizes_of blocks.new.items) vacant.new }
     ensures refused { OnErr result (blocks.new.items ≡ blocks.old.items) }
 {
     let number = blocks.len();
     if number >= MAX_BLOCKS {
         return Err(AllocError);
     }
-    let missing = (number + 1).saturating_sub(vacant.len());
-    vacant.reserve(missing)?;
-    blocks.push(Some(block))?;
+    blocks.reserve(1)?;
+    vacant.add()?;
+    blocks.push_reserved(Some(block));
     Ok(number as u32)
 }
 
-/// Puts a block at a number that no block has, and answers it.
-#[tactic(auto, using(crate::proofs::Numbers::added_blocks))]
+/// Puts a block at a number that no block has, and answers it. A new number is made only where each one has a block.
 pub(crate) fn put_block(
     blocks: &mut Vec<Option<RawBlock>>,
-    vacant: &mut Vec<u32>,
+    vacant: &mut BlockMarks,
     block: RawBlock,
 ) -> Result<u32, AllocError>
+    requires { AreVacant (sizes_of blocks.old.items) vacant.old }
     ensures was_free { IfOk result (λ number. (number ≤ length blocks.old.items) × (get_or blocks.old.items number None ≡ None)) }
+    ensures needed { IfOk result (λ number. number ≡ length blocks.old.items → AreTaken (sizes_of blocks.old.items)) }
     ensures few { IfOk result (λ number. number < 2 ^ 32 - 1 ⊎ (number < length blocks.old.items)) }
     ensures added { IfOk result (λ number. blocks.new.items ≡ with_block blocks.old.items number block) }
+    ensures vacant { AreVacant (sizes_of blocks.new.items) vacant.new }
     ensures refused { OnErr result (blocks.new.items ≡ blocks.old.items) }
 {
-    if let Some(number) = take_vacant(blocks, vacant) {
-        blocks[number as usize] = Some(block);
-        return Ok(number);
+    match vacant.first() {
+        Some(number) => {
+            vacant.unmark(number);
+            blocks[number as usize] = Some(block);
+            Ok(number)
+        }
+        None => push_block(blocks, vacant, block),
     }
-    push_block(blocks, vacant, block)
 }
 
 /// How many bytes the block of a number has: 0 where there is none.
@@ -145,19 +140,22 @@ pub(crate) fn block_len(blocks: &[Option<RawBlock>], number: usize) -> usize
     }
 }
 
-/// Gives the block of a number back, and answers how many bytes it had: 0 where there was none.
+/// Gives the block of a number back, and answers how many bytes it had: 0 where there was none. The number is marked then.
 pub(crate) fn drop_block(
     blocks: &mut Vec<Option<RawBlock>>,
-    vacant: &mut Vec<u32>,
+    vacant: &mut BlockMarks,
     number: u32,
 ) -> usize
-    requires { number < length blocks.old.items }
+    requires there { number < length blocks.old.items }
+    requires vacant { AreVacant (sizes_of blocks.old.items) vacant.old }
     ensures size { result ≡ length (block_at blocks.old.items number) }
     ensures blocks { blocks.new.items ≡ slice_set blocks.old.items number None }
+    ensures vacant { AreVacant (sizes_of blocks.new.items) vacant.new }
 {
-    let Some(block) = blocks[number as usize].take() else {
-        return 0;
-    };
-    let _ = vacant.push(number);
-    block.len()
+    let dropped = blocks[number as usize].take();
+    vacant.mark(number);
+    match dropped {
+        Some(block) => block.len(),
+        None => 0,
+    }
 }

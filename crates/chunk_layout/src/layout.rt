@@ -3,12 +3,13 @@ ghost use Rattle.std.specs.Prelude.{◌≡◌, ◌+◌, ◌*◌, ◌-◌, ◌^�
 ghost use Rattle.std.specs.Borrow.{sem};
 ghost use Rattle.block_memory.specs.Cells.{zeros};
 ghost use Rattle.chunk_layout.specs.Every.{Every};
-ghost use Rattle.chunk_layout.specs.Pieces.{has, same_place, is_kept, piece_at, put_at, with_piece, without, outside, with_block, size_at, total, only, IsClear, resized};
+ghost use Rattle.chunk_layout.specs.Pieces.{has, same_place, is_kept, piece_at, put_at, with_piece, without, outside, with_block, size_at, total, only, AreLaid, AreTaken, IsClear, resized};
 
 use crate::blocks::{
     HEADER, block_len, drop_block, put_block, read_bytes, read_word, write_bytes, write_header,
     write_zeros,
 };
+use crate::marks::BlockMarks;
 use crate::place::{Note, Place, Spot};
 use block_memory::{GhostNotes, RawBlock};
 use std::alloc::{AllocError, Global};
@@ -22,7 +23,7 @@ const PART: usize = 256;
 pub struct ChunkLayout {
     head: usize,
     blocks: Vec<Option<RawBlock>>,
-    vacant: Vec<u32>,
+    vacant: BlockMarks,
     held: u64,
     notes: GhostNotes<Note>,
     alloc: Global,
@@ -50,11 +51,18 @@ impl ChunkLayout {
         ChunkLayout {
             head: if headers { HEADER } else { 0 },
             blocks: Vec::new(alloc),
-            vacant: Vec::new(alloc),
+            vacant: BlockMarks::new(alloc),
             held: 0,
             notes: GhostNotes::new(),
             alloc,
         }
+    }
+
+    /// A law: no two chunks share a byte, and each lies in its block.
+    pub fn are_laid(&self)
+        ensures { AreLaid self.now.blocks self.now.pieces }
+    {
+        let _blocks = &self.blocks;
     }
 
     /// The bytes of all blocks together.
@@ -174,11 +182,13 @@ impl ChunkLayout {
         self.notes.add(&Note::Gone(place));
     }
 
-    /// Takes a block of `len` bytes, and answers its number, which no block had.
+    /// Takes a block of `len` bytes, and answers its number, which no block had. A new number is made only where each one
+    /// has a block.
     pub fn take_block(&mut self, len: usize) -> Result<u32, AllocError>
         requires some { 1 ≤ len }
         requires small { len ≤ 2 ^ 31 }
         ensures was_free { IfOk result (λ block. (block ≤ length self.old.blocks) × (get_or self.old.blocks block None ≡ None)) }
+        ensures needed { IfOk result (λ block. block ≡ length self.old.blocks → AreTaken self.old.blocks) }
         ensures name { IfOk result (λ block. block < 2 ^ 32) }
         ensures taken { IfOk result (λ block. self.new ≡ record { head = self.old.head; blocks = with_block self.old.blocks block len; pieces = self.old.pieces }) }
         ensures refused { OnErr result (self.new ≡ self.old) }

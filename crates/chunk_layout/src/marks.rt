@@ -106,6 +106,16 @@ impl BlockMarks {
         exchange(&mut self.order, &mut self.places, place, self.count);
     }
 
+    /// Whether a number is marked.
+    pub fn has(&self, number: u32) -> bool
+        ensures { result ≡ get_or self.now number false }
+    {
+        match self.places.get(number as usize) {
+            Some(place) => (*place as usize) < self.count,
+            None => false,
+        }
+    }
+
     /// A number that is marked, if there is one.
     pub fn first(&self) -> Option<u32>
         ensures some { IfSome result (λ number. (number < length self.now) × (get_or self.now number false ≡ true)) }

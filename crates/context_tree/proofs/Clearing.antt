@@ -1,16 +1,16 @@
 -- Lists by slots, some of which are cleared.
-use Rattle.std.proofs.Common.{◌≡◌, ℕ, zero, suc, ◌+◌, ◌<◌, ◌≤◌, inl, inr, Bool, true, false, List, [], ◌∷◌, Option, None, length, get_or, cond, set, refl, sym, ap, ◌∙◌, arith, subst}
-use Rattle.std.specs.Prelude.{◌==◌, is_some}
-use Rattle.std.proofs.lemmas.Bool.{cases_eq, cases_lt, cond-true, cond-false, ne_eqb, false≢true}
+use Rattle.std.proofs.Common.{◌≡◌, ℕ, zero, suc, ◌+◌, ◌<◌, ◌⊎◌, inl, inr, Bool, true, false, List, [], ◌∷◌, Option, None, length, get_or, cond, set, refl, sym, ap, ◌∙◌, arith, subst}
+use Rattle.std.specs.Prelude.{◌==◌, ◌||◌, is_some}
+use Rattle.std.proofs.lemmas.Bool.{cases_Bool, cases_eq, cases_lt, cond-true, cond-false, eq-eqb, ne_eqb, false≢true}
 use Rattle.std.proofs.lemmas.List.{get_or-set_same, get_or-set_other, length-set, get_or_past, ext_get_or}
-use Rattle.context_tree.specs.Links.{is_below, is_under, is_orphan, cleared, IsForest, AreFree}
+use Rattle.context_tree.specs.Links.{is_below, is_under, cleared, IsForest, AreFree}
 use Rattle.context_tree.specs.LinkFields.{AreFields}
 use Rattle.context_tree.specs.declared.links.Link.{Link}
 use Rattle.context_tree.specs.declared.links.Links.TheInside.{Inside}
 use Rattle.chunk_layout.specs.declared.marks.BlockMarks.{BlockMarks}
 use Rattle.std.specs.List.{refill}
 use Rattle.context_tree.proofs.Slots.{refill-whole}
-use Rattle.context_tree.proofs.Forest.{not-under, left-is, below-self, not-below, under-other, under-closed, below-closed, forest-cleared}
+use Rattle.context_tree.proofs.Forest.{root-not-under, root-not-below, below-self, under-past, under-other, under-closed, below-closed, forest-cleared}
 
 cond-same : {X : Type 0} (b : Bool) (x : X) → cond b x x ≡ x
 cond-same true x = refl
@@ -52,50 +52,64 @@ free-emptied ls marks after slot are low long marked = record {
           get_or-set_other ls slot k None None ne ∙ was.1,
         )
   ];
+  all = λ k less none. marked k ∙ elim (cases_eq k slot) [
+    | inl same ↦ cond-true (k == slot) true (get_or marks k false) (eq-eqb k slot same)
+    | inr ne ↦
+        cond-false (k == slot) true (get_or marks k false) (ne_eqb k slot ne)
+        ∙ are.all k (omega (arith, less, length-set ls slot None)) (sym (get_or-set_other ls slot k None None ne) ∙ none)
+  ];
   long = λ k some less. omega (arith, long, are.long k some (omega (arith, less, length-set ls slot None)));
 }
 
--- the slots below one are gone through
+-- the slots of the descendants of a context are marked, and then the marked slots are emptied
 module _ (old : List (Option Link)) (forest : IsForest old) (above : ℕ) where
-  abbrev pub Done : List (Option Link) → ℕ → Type 0
-  Done now slot = (k : ℕ) → k < slot → get_or now k None ≡ cond (is_under old above k) None (get_or old k None)
+  module _ (marks now : List Bool) (are : AreFree old marks) (long : length now ≡ length marks) (marked : (k : ℕ) → get_or now k false ≡ (is_under old above k || get_or marks k false)) (ws : List (Option Link))
+      (same : length ws ≡ length old) (emptied : (k : ℕ) → get_or ws k None ≡ cond (get_or now k false) None (get_or old k None)) where
+    or-split : (a b : Bool) → (a || b) ≡ true → (a ≡ true) ⊎ (b ≡ true)
+    or-split true b e = inl refl
+    or-split false b e = inr e
 
-  abbrev pub Rest : List (Option Link) → ℕ → Type 0
-  Rest now slot = (k : ℕ) → slot ≤ k → get_or now k None ≡ get_or old k None
+    or-true : (a b : Bool) → b ≡ true → (a || b) ≡ true
+    or-true true b e = refl
+    or-true false b e = e
 
-  pub done-first : Done old (above + 1)
-  done-first k low = sym (cond-false (is_under old above k) None (get_or old k None) (not-under old forest above k (omega (arith, low))))
+    -- where a slot was marked before, it was empty
+    emptied-by : (k : ℕ) (under was : Bool) → is_under old above k ≡ under → get_or marks k false ≡ was → cond (under || was) None (get_or old k None) ≡ cond under None (get_or old k None)
+    emptied-by k true was is marked = refl
+    emptied-by k false true is marked = sym (are.free k marked).1
+    emptied-by k false false is marked = refl
 
-  module _ (now : List (Option Link)) (slot : ℕ) (less : above < slot) (long : length now ≡ length old) (low : slot < length old) (done : Done now slot) (rest : Rest now slot) where
-    pub left-now : is_orphan now above (get_or now slot None) ≡ is_under old above slot
-    left-now = ap (is_orphan now above) (rest slot (omega arith)) ∙ left-is old forest now above slot done less
+    emptied-is : (k : ℕ) → get_or ws k None ≡ cond (is_under old above k) None (get_or old k None)
+    emptied-is k =
+        emptied k ∙ ap (λ (b : Bool). cond b None (get_or old k None)) (marked k)
+        ∙ emptied-by k (is_under old above k) (get_or marks k false) refl refl
 
-    pub done-kept : is_under old above slot ≡ false → Done now (slot + 1)
-    done-kept kept k before = elim (cases_eq k slot) [
-      | inl same ↦
-          rest k (omega (arith, same))
-          ∙ sym (cond-false (is_under old above k) None (get_or old k None) (ap (is_under old above) same ∙ kept))
-      | inr ne ↦ done k (omega (arith, before, ne))
+    pub pruned : ws ≡ cleared (is_under old above) None 0 old
+    pruned = is-cleared (is_under old above) None old ws same emptied-is
+
+    there-low : (k : ℕ) → is_under old above k ≡ true → k < length old
+    there-low k under = elim (cases_lt k (length old)) [
+      | inl low ↦ low
+      | inr past ↦ absurd (false≢true (sym (under-past old forest above k past) ∙ under))
     ]
 
-    pub done-gone : is_under old above slot ≡ true → Done (set now slot None) (slot + 1)
-    done-gone goes k before = elim (cases_eq k slot) [
-      | inl same ↦
-          ap (λ (j : ℕ). get_or (set now slot None) j None) same ∙ get_or-set_same now slot None None (omega (arith, long, low))
-          ∙ sym (cond-true (is_under old above k) None (get_or old k None) (ap (is_under old above) same ∙ goes))
-      | inr ne ↦ get_or-set_other now slot k None None ne ∙ done k (omega (arith, before, ne))
-    ]
-
-    pub rest-gone : Rest (set now slot None) (slot + 1)
-    rest-gone k past = get_or-set_other now slot k None None (λ e. omega (arith, e, past)) ∙ rest k (omega (arith, past))
-
-  pub pruned : (now : List (Option Link)) → length now ≡ length old → (end : ℕ) → length old ≤ end → Done now end → now ≡ cleared (is_under old above) None 0 old
-  pruned now long end all done = is-cleared (is_under old above) None old now long (λ i. elim (cases_lt i end) [
-    | inl low ↦ done i low
-    | inr past ↦
-        get_or_past now i None (omega (arith, past, all, long))
-        ∙ sym (ap (λ (l : Option Link). cond (is_under old above i) None l) (get_or_past old i None (omega (arith, past, all))) ∙ cond-same (is_under old above i) None)
-  ])
+    pub free-pruned : AreFree ws now
+    free-pruned = record {
+      free = λ k is. (
+        elim (or-split (is_under old above k) (get_or marks k false) (sym (marked k) ∙ is)) [
+          | inl under ↦ let low = there-low k under in omega (arith, same, low)
+          | inr was ↦ let low = (are.free k was).0 in omega (arith, same, low)
+        ],
+        emptied k ∙ cond-true (get_or now k false) None (get_or old k None) is,
+      );
+      all = λ k low none. elim (cases_Bool (get_or now k false)) [
+        | inl is ↦ is
+        | inr not ↦
+            let gone : get_or old k None ≡ None = sym (emptied k ∙ cond-false (get_or now k false) None (get_or old k None) not) ∙ none in
+            marked k ∙ or-true (is_under old above k) (get_or marks k false) (are.all k (omega (arith, low, same)) gone)
+      ];
+      long = λ k some low. omega (arith, long, are.long k some (omega (arith, low, same)));
+    }
 
   -- and that one too
   pub cut-too : (now : List (Option Link)) → now ≡ cleared (is_under old above) None 0 old → above < length old → set now above None ≡ cleared (is_below old above) None 0 old
@@ -111,10 +125,10 @@ module _ (old : List (Option Link)) (forest : IsForest old) (above : ℕ) where
       ])
 
   pub forest-pruned : IsForest (cleared (is_under old above) None 0 old)
-  forest-pruned = forest-cleared old forest (is_under old above) (not-under old forest above 0 (omega arith)) (under-closed old forest above) (cleared (is_under old above) None 0 old) (get_or-cleared (is_under old above) None old)
+  forest-pruned = forest-cleared old forest (is_under old above) (root-not-under old forest above) (under-closed old forest above) (cleared (is_under old above) None 0 old) (get_or-cleared (is_under old above) None old)
 
   pub forest-cut : 0 < above → IsForest (cleared (is_below old above) None 0 old)
-  forest-cut some = forest-cleared old forest (is_below old above) (not-below old forest above 0 some) (below-closed old forest above) (cleared (is_below old above) None 0 old) (get_or-cleared (is_below old above) None old)
+  forest-cut some = forest-cleared old forest (is_below old above) (root-not-below old forest above some) (below-closed old forest above) (cleared (is_below old above) None 0 old) (get_or-cleared (is_below old above) None old)
 
 -- a slot in which there is a context is one of the list
 pub low-there : (ls : List (Option Link)) (slot : ℕ) → is_some (get_or ls slot None) ≡ true → slot < length ls

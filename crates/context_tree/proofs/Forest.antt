@@ -1,18 +1,25 @@
 -- Which slots are below another in a forest.
-use Rattle.std.proofs.Common.{◌≡◌, ◌≢◌, ℕ, zero, suc, ◌<◌, ◌≤◌, inl, inr, Bool, true, false, List, Option, Some, None, get_or, cond, refl, sym, ap, ◌∙◌, subst, arith}
+use Rattle.std.proofs.Common.{◌≡◌, ◌≢◌, ℕ, zero, suc, ◌<◌, ◌≤◌, inl, inr, Bool, true, false, List, Option, Some, None, length, get_or, cond, refl, sym, ap, ◌∙◌, subst, arith}
 use Rattle.std.specs.Prelude.{◌==◌, ◌||◌, ◌&&◌, not, is_some, unwrap_or}
-use Rattle.std.proofs.lemmas.Bool.{cases_Bool, cases_eq, cases_lt, cond-true, cond-false, eq-eqb, ne_eqb, false≢true}
-use Rattle.context_tree.specs.Links.{parent_of, is_true_of, leads_to, is_below, is_under, is_orphan, IsMadeBelow, IsForest}
+use Rattle.std.proofs.lemmas.Bool.{cases_Bool, cases_eq, cond-true, cond-false, eq-eqb, ne_eqb, false≢true}
+use Rattle.std.proofs.lemmas.List.{get_or_past}
+use Rattle.context_tree.specs.Links.{parent_of, stamp_of, is_true_of, leads_to, is_below, is_under, IsMadeBelow, IsForest}
 use Rattle.context_tree.specs.declared.links.Link.{Link}
 
 module _ (ls : List (Option Link)) (forest : IsForest ls) where
   abbrev link_at : ℕ → Option Link
   link_at slot = get_or ls slot None
 
-  -- a parent is in a lower slot, and is there
-  pub parent-is : (slot : ℕ) (link : Option Link) → get_or ls slot None ≡ link → (p : ℕ) → parent_of link ≡ Some p → (p < slot) × (is_some (get_or ls p None) ≡ true)
+  abbrev pub stamp_at : ℕ → ℕ
+  stamp_at slot = stamp_of (get_or ls slot None)
+
+  -- a parent has a lower stamp, and is there
+  pub parent-is : (slot : ℕ) (link : Option Link) → get_or ls slot None ≡ link → (p : ℕ) → parent_of link ≡ Some p → (stamp_at p < stamp_at slot) × (is_some (get_or ls p None) ≡ true)
   parent-is slot None is p e = absurd (false≢true (ap is_some e))
-  parent-is slot (Some link) is p e = subst (IsMadeBelow ls slot) e (forest.below slot link is)
+  parent-is slot (Some link) is p e =
+      let made = subst (IsMadeBelow ls slot link.stamp) e (forest.below slot link is) in
+      let own : stamp_at slot ≡ link.stamp = ap stamp_of is in
+      (omega (arith, made.0, own), made.1)
 
   -- looking at more parents changes nothing
   steps-of : (p : Option ℕ) (f g : ℕ → Bool) → ((x : ℕ) → p ≡ Some x → f x ≡ g x) → is_true_of p f ≡ is_true_of p g
@@ -27,7 +34,7 @@ module _ (ls : List (Option Link)) (forest : IsForest ls) where
   or-none true c e = refl
   or-none false c e = e
 
-  enough : (steps other above slot : ℕ) → slot ≤ steps → slot ≤ other → leads_to steps ls above slot ≡ leads_to other ls above slot
+  enough : (steps other above slot : ℕ) → stamp_at slot ≤ steps → stamp_at slot ≤ other → leads_to steps ls above slot ≡ leads_to other ls above slot
   unfolding leads_to
   enough zero zero above slot low low2 = refl
   enough zero (suc other) above slot low low2 =
@@ -41,17 +48,17 @@ module _ (ls : List (Option Link)) (forest : IsForest ls) where
       (steps-of (parent_of (link_at slot)) (leads_to steps ls above) (leads_to other ls above)
       (λ p e. let less = (parent-is slot (link_at slot) refl p e).0 in enough steps other above p (omega (arith, less, low)) (omega (arith, less, low2))))
 
-  unfolded : (above slot : ℕ) → leads_to (suc slot) ls above slot ≡ ((slot == above) || is_true_of (parent_of (get_or ls slot None)) (λ p. leads_to p ls above p))
+  unfolded : (above slot : ℕ) → leads_to (suc (stamp_at slot)) ls above slot ≡ ((slot == above) || is_true_of (parent_of (get_or ls slot None)) (λ p. leads_to (stamp_at p) ls above p))
   unfolding leads_to
   unfolded above slot =
       ap (λ (b : Bool). (slot == above) || b)
-      (steps-of (parent_of (link_at slot)) (leads_to slot ls above) (λ p. leads_to p ls above p)
-      (λ p e. let less = (parent-is slot (link_at slot) refl p e).0 in enough slot p above p (omega (arith, less)) (omega arith)))
+      (steps-of (parent_of (link_at slot)) (leads_to (stamp_at slot) ls above) (λ p. leads_to (stamp_at p) ls above p)
+      (λ p e. let less = (parent-is slot (link_at slot) refl p e).0 in enough (stamp_at slot) (stamp_at p) above p (omega (arith, less)) (omega arith)))
 
   -- a slot is below another just where it is the same, or its parent is below that
   pub below-is : (above slot : ℕ) → is_below ls above slot ≡ ((slot == above) || is_true_of (parent_of (get_or ls slot None)) (is_below ls above))
   unfolding is_below
-  below-is above slot = enough slot (suc slot) above slot (omega arith) (omega arith) ∙ unfolded above slot
+  below-is above slot = enough (stamp_at slot) (suc (stamp_at slot)) above slot (omega arith) (omega arith) ∙ unfolded above slot
 
   pub below-self : (slot : ℕ) → is_below ls slot slot ≡ true
   below-self slot = below-is slot slot ∙ ap (λ (b : Bool). b || is_true_of (parent_of (get_or ls slot None)) (is_below ls slot)) (eq-eqb slot slot refl)
@@ -59,33 +66,31 @@ module _ (ls : List (Option Link)) (forest : IsForest ls) where
   pub below-other : (above slot : ℕ) → slot ≢ above → is_below ls above slot ≡ is_true_of (parent_of (get_or ls slot None)) (is_below ls above)
   below-other above slot ne = below-is above slot ∙ ap (λ (b : Bool). b || is_true_of (parent_of (get_or ls slot None)) (is_below ls above)) (ne_eqb slot above ne)
 
-  -- nothing in a lower slot is below it
-  not-below-by : (bound above slot : ℕ) → slot ≤ bound → slot < above → is_below ls above slot ≡ false
-  not-below-by zero above slot low less =
-      below-other above slot (λ e. omega (arith, e, less))
+  -- no other that was made as early is below it
+  not-below-by : (bound above slot : ℕ) → stamp_at slot ≤ bound → stamp_at slot ≤ stamp_at above → slot ≢ above → is_below ls above slot ≡ false
+  not-below-by zero above slot low less ne =
+      below-other above slot ne
       ∙ no-more (parent_of (link_at slot)) (is_below ls above) (λ p e _. omega (arith, (parent-is slot (link_at slot) refl p e).0, low))
-  not-below-by (suc bound) above slot low less =
-      below-other above slot (λ e. omega (arith, e, less))
+  not-below-by (suc bound) above slot low less ne =
+      below-other above slot ne
       ∙ steps-of (parent_of (link_at slot)) (is_below ls above) (λ p. false)
-      (λ p e. let under = (parent-is slot (link_at slot) refl p e).0 in not-below-by bound above p (omega (arith, under, low)) (omega (arith, under, less)))
+      (λ p e.
+      let under = (parent-is slot (link_at slot) refl p e).0 in
+      not-below-by bound above p (omega (arith, under, low)) (omega (arith, under, less)) (λ same. let one : stamp_at p ≡ stamp_at above = ap stamp_at same in omega (arith, one, under, less)))
       ∙ nothing (parent_of (link_at slot))
     where
       nothing : (p : Option ℕ) → is_true_of p (λ q. false) ≡ false
       nothing None = refl
       nothing (Some q) = refl
 
-  pub not-below : (above slot : ℕ) → slot < above → is_below ls above slot ≡ false
-  not-below above slot less = not-below-by slot above slot (omega arith) less
+  pub not-below : (above slot : ℕ) → stamp_at slot ≤ stamp_at above → slot ≢ above → is_below ls above slot ≡ false
+  not-below above slot less ne = not-below-by (stamp_at slot) above slot (omega arith) less ne
 
-  pub not-under : (above slot : ℕ) → slot ≤ above → is_under ls above slot ≡ false
-  not-under above slot low = elim (cases_eq slot above) [
-    | inl same ↦ ap (λ (b : Bool). is_below ls above slot && not b) (eq-eqb slot above same) ∙ and-false (is_below ls above slot)
-    | inr ne ↦ ap (λ (b : Bool). b && not (slot == above)) (not-below above slot (omega (arith, low, ne)))
-  ]
-    where
-      and-false : (b : Bool) → (b && false) ≡ false
-      and-false true = refl
-      and-false false = refl
+  -- nor is the root
+  pub root-not-below : (above : ℕ) → 0 < above → is_below ls above 0 ≡ false
+  root-not-below above some =
+      below-other above 0 (λ e. omega (arith, e, some))
+      ∙ ap (λ (p : Option ℕ). is_true_of p (is_below ls above)) forest.top
 
   pub under-other : (above slot : ℕ) → slot ≢ above → is_under ls above slot ≡ is_below ls above slot
   under-other above slot ne = ap (λ (b : Bool). is_below ls above slot && not b) (ne_eqb slot above ne) ∙ and-true (is_below ls above slot)
@@ -94,29 +99,27 @@ module _ (ls : List (Option Link)) (forest : IsForest ls) where
       and-true true = refl
       and-true false = refl
 
-  -- where the descendants in lower slots are gone already, a context is one just where its parent is the one above or gone
-  module _ (now : List (Option Link)) (above slot : ℕ) (done : (k : ℕ) → k < slot → get_or now k None ≡ cond (is_under ls above k) None (get_or ls k None)) where
-    left-parent : (p : ℕ) → p < slot → is_some (get_or ls p None) ≡ true → ((p == above) || not (is_some (get_or now p None))) ≡ is_below ls above p
-    left-parent p low there = elim (cases_eq p above) [
-      | inl same ↦
-          ap (λ (b : Bool). b || not (is_some (get_or now p None))) (eq-eqb p above same)
-          ∙ sym (ap (λ (a : ℕ). is_below ls a p) (sym same) ∙ below-self p)
-      | inr ne ↦
-          ap (λ (b : Bool). b || not (is_some (get_or now p None))) (ne_eqb p above ne)
-          ∙ ap (λ (l : Option Link). not (is_some l)) (done p low)
-          ∙ elim (cases_Bool (is_below ls above p)) [
-            | inl is ↦ ap (λ (l : Option Link). not (is_some l)) (cond-true (is_under ls above p) None (get_or ls p None) (under-other above p ne ∙ is)) ∙ sym is
-            | inr other ↦
-                ap (λ (l : Option Link). not (is_some l)) (cond-false (is_under ls above p) None (get_or ls p None) (under-other above p ne ∙ other))
-                ∙ ap not there ∙ sym other
-          ]
-    ]
+  pub not-under-itself : (above slot : ℕ) → slot ≡ above → is_under ls above slot ≡ false
+  not-under-itself above slot same = ap (λ (b : Bool). is_below ls above slot && not b) (eq-eqb slot above same) ∙ and-false (is_below ls above slot)
+    where
+      and-false : (b : Bool) → (b && false) ≡ false
+      and-false true = refl
+      and-false false = refl
 
-    pub left-is : above < slot → is_orphan now above (get_or ls slot None) ≡ is_under ls above slot
-    left-is less =
-        steps-of (parent_of (get_or ls slot None)) (λ p. (p == above) || not (is_some (get_or now p None))) (is_below ls above)
-        (λ p e. let up = parent-is slot (get_or ls slot None) refl p e in left-parent p up.0 up.1)
-        ∙ sym (under-other above slot (λ e. omega (arith, e, less)) ∙ below-other above slot (λ e. omega (arith, e, less)))
+  -- nor what is in no slot
+  pub under-past : (above slot : ℕ) → length ls ≤ slot → is_under ls above slot ≡ false
+  under-past above slot past = elim (cases_eq slot above) [
+    | inl same ↦ not-under-itself above slot same
+    | inr ne ↦
+        under-other above slot ne ∙ below-other above slot ne
+        ∙ ap (λ (l : Option Link). is_true_of (parent_of l) (is_below ls above)) (get_or_past ls slot None past)
+  ]
+
+  pub root-not-under : (above : ℕ) → is_under ls above 0 ≡ false
+  root-not-under above = elim (cases_eq 0 above) [
+    | inl same ↦ not-under-itself above 0 same
+    | inr ne ↦ under-other above 0 ne ∙ root-not-below above (omega (arith, ne))
+  ]
 
   -- what is cleared with all that was made below it leaves a forest
   module _ (gone : ℕ → Bool) (root : gone 0 ≡ false) (closed : (slot p : ℕ) → parent_of (get_or ls slot None) ≡ Some p → gone p ≡ true → gone slot ≡ true)
@@ -130,32 +133,25 @@ module _ (ls : List (Option Link)) (forest : IsForest ls) where
         none≢some : None ≡ Some link → ⊥
         none≢some e = false≢true (ap is_some e)
 
-    made : (slot : ℕ) (p : Option ℕ) → gone slot ≡ false → parent_of (get_or ls slot None) ≡ p → IsMadeBelow ls slot p → IsMadeBelow now slot p
-    made slot None stays up was = was
-    made slot (Some p) stays up was = (
-      was.0,
-      elim (cases_Bool (gone p)) [
-        | inl goes ↦ absurd (false≢true (sym stays ∙ closed slot p up goes))
-        | inr here ↦ ap is_some (is p ∙ cond-false (gone p) None (get_or ls p None) here) ∙ was.1
-      ],
-    )
+    stays-there : (slot : ℕ) → gone slot ≡ false → get_or now slot None ≡ get_or ls slot None
+    stays-there slot stays = is slot ∙ cond-false (gone slot) None (get_or ls slot None) stays
+
+    made : (slot stamp : ℕ) (p : Option ℕ) → gone slot ≡ false → parent_of (get_or ls slot None) ≡ p → IsMadeBelow ls slot stamp p → IsMadeBelow now slot stamp p
+    made slot stamp None stays up was = was
+    made slot stamp (Some p) stays up was = elim (cases_Bool (gone p)) [
+      | inl goes ↦ absurd (false≢true (sym stays ∙ closed slot p up goes))
+      | inr here ↦ (
+        let same = ap stamp_of (stays-there p here) in omega (arith, same, was.0),
+        ap is_some (stays-there p here) ∙ was.1,
+      )
+    ]
 
     pub forest-cleared : IsForest now
     forest-cleared = record {
-      root = ap is_some (is 0 ∙ cond-false (gone 0) None (get_or ls 0 None) root) ∙ forest.root;
-      below = λ slot link e. let was = kept-link slot link e in made slot link.parent was.0 (ap parent_of was.1) (forest.below slot link was.1);
+      root = ap is_some (stays-there 0 root) ∙ forest.root;
+      top = ap parent_of (stays-there 0 root) ∙ forest.top;
+      below = λ slot link e. let was = kept-link slot link e in made slot link.stamp link.parent was.0 (ap parent_of was.1) (forest.below slot link was.1);
     }
-
-  pub under-closed : (above slot p : ℕ) → parent_of (get_or ls slot None) ≡ Some p → is_under ls above p ≡ true → is_under ls above slot ≡ true
-  under-closed above slot p up under =
-      let less = (parent-is slot (get_or ls slot None) refl p up).0 in
-      elim (cases_lt above p) [
-        | inr low ↦ absurd (false≢true (sym (not-under above p low) ∙ under))
-        | inl high ↦
-            let ne : (k : ℕ) → above < k → k ≢ above = λ k more e. omega (arith, more, e) in
-            under-other above slot (ne slot (omega (arith, high, less))) ∙ below-other above slot (ne slot (omega (arith, high, less)))
-            ∙ ap (λ (q : Option ℕ). is_true_of q (is_below ls above)) up ∙ sym (under-other above p (ne p high)) ∙ under
-      ]
 
   pub below-closed : (above slot p : ℕ) → parent_of (get_or ls slot None) ≡ Some p → is_below ls above p ≡ true → is_below ls above slot ≡ true
   below-closed above slot p up below = elim (cases_eq slot above) [
@@ -163,27 +159,44 @@ module _ (ls : List (Option Link)) (forest : IsForest ls) where
     | inr ne ↦ below-other above slot ne ∙ ap (λ (q : Option ℕ). is_true_of q (is_below ls above)) up ∙ below
   ]
 
-  -- a link is put into a free slot
-  module _ (slot : ℕ) (link : Link) (free : get_or ls slot None ≡ None) (made : IsMadeBelow ls slot link.parent) (some : 0 < slot) (now : List (Option Link))
-      (here : get_or now slot None ≡ Some link) (other : (k : ℕ) → k ≢ slot → get_or now k None ≡ get_or ls k None) where
-    still : (k : ℕ) → is_some (get_or ls k None) ≡ true → is_some (get_or now k None) ≡ true
-    still k there = elim (cases_eq k slot) [
-      | inl same ↦ absurd (false≢true (sym (ap (λ (j : ℕ). is_some (get_or ls j None)) same ∙ ap is_some free) ∙ there))
-      | inr ne ↦ ap is_some (other k ne) ∙ there
-    ]
+  pub under-closed : (above slot p : ℕ) → parent_of (get_or ls slot None) ≡ Some p → is_under ls above p ≡ true → is_under ls above slot ≡ true
+  under-closed above slot p up under = elim (cases_eq p above) [
+    | inl same ↦ absurd (false≢true (sym (not-under-itself above p same) ∙ under))
+    | inr differ ↦
+        let below : is_below ls above p ≡ true = sym (under-other above p differ) ∙ under in
+        elim (cases_eq slot above) [
+          | inl same ↦
+              let less : stamp_at p < stamp_at above = subst (λ (k : ℕ). stamp_at p < stamp_at k) same (parent-is slot (get_or ls slot None) refl p up).0 in
+              absurd (false≢true (sym (not-below above p (omega (arith, less)) differ) ∙ below))
+          | inr ne ↦ under-other above slot ne ∙ below-closed above slot p up below
+        ]
+  ]
 
-    made-still : (k : ℕ) (p : Option ℕ) → IsMadeBelow ls k p → IsMadeBelow now k p
-    made-still k None was = was
-    made-still k (Some p) was = (was.0, still p was.1)
+  -- a link is put into a free slot
+  module _ (slot : ℕ) (link : Link) (free : get_or ls slot None ≡ None) (made : IsMadeBelow ls slot link.stamp link.parent) (now : List (Option Link))
+      (here : get_or now slot None ≡ Some link) (other : (k : ℕ) → k ≢ slot → get_or now k None ≡ get_or ls k None) where
+    not-free : (k : ℕ) → is_some (get_or ls k None) ≡ true → k ≢ slot
+    not-free k there same = false≢true (sym (ap (λ (j : ℕ). is_some (get_or ls j None)) same ∙ ap is_some free) ∙ there)
+
+    still : (k : ℕ) → is_some (get_or ls k None) ≡ true → get_or now k None ≡ get_or ls k None
+    still k there = other k (not-free k there)
+
+    made-still : (k stamp : ℕ) (p : Option ℕ) → IsMadeBelow ls k stamp p → IsMadeBelow now k stamp p
+    made-still k stamp None was = was
+    made-still k stamp (Some p) was = (
+      let same = ap stamp_of (still p was.1) in omega (arith, same, was.0),
+      ap is_some (still p was.1) ∙ was.1,
+    )
 
     pub forest-added : IsForest now
     forest-added = record {
-      root = still 0 forest.root;
+      root = ap is_some (still 0 forest.root) ∙ forest.root;
+      top = ap parent_of (still 0 forest.root) ∙ forest.top;
       below = λ k l e. elim (cases_eq k slot) [
         | inl same ↦
             let it : link ≡ l = some-inj (sym here ∙ ap (λ (j : ℕ). get_or now j None) (sym same) ∙ e) in
-            subst (λ (j : ℕ). IsMadeBelow now j l.parent) (sym same) (subst (λ (m : Link). IsMadeBelow now slot m.parent) it (made-still slot link.parent made))
-        | inr ne ↦ made-still k l.parent (forest.below k l (sym (other k ne) ∙ e))
+            subst (λ (j : ℕ). IsMadeBelow now j l.stamp l.parent) (sym same) (subst (λ (m : Link). IsMadeBelow now slot m.stamp m.parent) it (made-still slot link.stamp link.parent made))
+        | inr ne ↦ made-still k l.stamp l.parent (forest.below k l (sym (other k ne) ∙ e))
       ];
     }
       where

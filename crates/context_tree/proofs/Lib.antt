@@ -2,3 +2,4 @@ pub mod Forest
 pub mod Slots
 pub mod Clearing
 pub mod TreeLaws
+pub mod Bounds

@@ -1,23 +1,35 @@
 -- What is true of the fields of a tree stays true.
 use Rattle.std.proofs.Common.{◌≡◌, ℕ, zero, suc, ◌+◌, ◌<◌, ◌≤◌, inl, inr, Bool, true, false, List, [], ◌∷◌, Option, Some, None, length, get_or, cond, set, drop, refl, sym, ap, ◌∙◌, subst, arith}
 use Rattle.std.specs.Prelude.{is_some, unwrap_or}
-use Rattle.std.proofs.lemmas.Bool.{cases_Bool, cases_eq, cases_lt, cond-true, cond-false, false≢true}
+use Rattle.std.proofs.lemmas.Bool.{cases_Bool, cases_eq, cond-true, cond-false, false≢true}
+use Rattle.chunk_contexts.specs.Chunks.{IsRefused}
 use Rattle.chunk_contexts.specs.declared.error.ContextError.{ContextError}
-use Rattle.context_tree.specs.Contexts.{no_context, held_by}
-use Rattle.context_tree.specs.Links.{is_below, cleared, placed}
+use Rattle.chunk_contexts.specs.declared.error.ContextError.TheVariants.{NoMemory}
+use Rattle.context_tree.specs.Contexts.{no_context, new_context, refusal_of, growth_of, held_by}
+use Rattle.context_tree.specs.Links.{stamp_of, is_below, cleared, placed}
 use Rattle.std.specs.List.{refill}
-use Rattle.std.proofs.lemmas.List.{get_or-set_same, get_or-set_other, get_or_default, length-set, set-get_or}
-use Rattle.context_tree.specs.Tree.{TreeState, Stamped, Emptied, IsRefusedBy, IsNotMade, has_stamp, is_there, context_at, with_context, without_slots, held_from}
+use Rattle.std.proofs.lemmas.List.{get_or-set_same, get_or-set_other, get_or_default, get_or_read, length-set, set-get_or}
+use Rattle.context_tree.specs.Tree.{TreeState, Stamped, Emptied, IsRefusedBy, IsNotMade, has_stamp, is_there, context_at, with_context, without_slots, held_from, held_by_all, IsBounded}
 use Rattle.context_tree.specs.TreeFields.{tree_of, AreFields}
 use Rattle.context_tree.specs.declared.error.TreeError.{TreeError}
 use Rattle.context_tree.specs.declared.error.TreeError.TheVariants as error
 use Rattle.context_tree.specs.declared.error.TreeError.TheVariants.{NoSuchContext}
+use Rattle.context_tree.specs.declared.kind.Kind.{Kind}
 use Rattle.context_tree.specs.declared.links.ContextId.{ContextId}
 use Rattle.context_tree.specs.declared.tree.Tree.TheInside.{Inside}
+use Rattle.context_tree.proofs.Bounds.{growth-admitted, all-set, all-placed, all-cleared, nothing-held}
 use Rattle.context_tree.proofs.Clearing.{length-cleared, get_or-cleared, is-cleared, low-there}
 use Rattle.context_tree.specs.declared.context.Context.{Context}
 use Rattle.context_tree.specs.declared.links.Link.{Link}
 use Rattle.context_tree.proofs.Slots.{refill-whole, placed-here, placed-other, length-placed}
+
+-- no context has a later stamp than the last one
+pub stamp-low : (ls : List (Option Link)) (last slot : ℕ) → Stamped ls last → stamp_of (get_or ls slot None) ≤ last
+stamp-low ls last slot stamps = by (get_or ls slot None) refl
+  where
+    by : (l : Option Link) → get_or ls slot None ≡ l → stamp_of l ≤ last
+    by None e = omega arith
+    by (Some l) e = stamps slot l e
 
 -- a context is made
 module _ (ls : List (Option Link)) (cs : List Context) (last slot : ℕ) (low : slot ≤ length ls) (long : length cs ≡ length ls) (link : Link) (c : Context) where
@@ -35,6 +47,12 @@ module _ (ls : List (Option Link)) (cs : List Context) (last slot : ℕ) (low : 
     | inl same ↦ absurd (false≢true (sym (ap is_some e) ∙ ap is_some (ap (λ (j : ℕ). get_or (placed ls slot (Some link)) j None) same ∙ placed-here ls slot (Some link) None low)))
     | inr ne ↦ placed-other cs slot k c no_context (omega (arith, low, long)) ne ∙ empty k (sym (placed-other ls slot k (Some link) None low ne) ∙ e)
   ]
+
+  -- it holds nothing
+  pub bounded-made : (made : Kind) → c ≡ new_context made → get_or ls slot None ≡ None → Emptied ls cs → IsBounded cs → IsBounded (placed cs slot c)
+  bounded-made made new free empty bounded =
+      let same = all-placed cs slot c (omega (arith, low, long)) (empty slot free) (ap held_by new ∙ nothing-held made) in
+      omega (arith, same, bounded)
 
   pub long-made : length (placed cs slot c) ≡ length (placed ls slot (Some link))
   long-made = length-placed cs ls slot c (Some link) long
@@ -89,12 +107,46 @@ module _ (x : Inside) (are : AreFields x) (now : TreeState) (view : tree_of x �
     | inr ne ↦ get_or-set_other cs id.slot k c no_context ne ∙ are.empty k free
   ]
 
+  -- one of which a chunk is lent holds as much
+  pub fields-lent : (was c : Context) → was ≡ get_or cs id.slot was → held_by c ≡ held_by was
+      → AreFields (record { alloc = x.alloc; links = x.links; contexts = record { items = set cs id.slot c; capacity = x.contexts.capacity }; last = x.last })
+  fields-lent was c is holds = record {
+    long = length-set cs id.slot c ∙ are.long;
+    stamps = are.stamps;
+    empty = empty-written c;
+    bounded =
+        let same = ap held_by (is ∙ get_or_default cs id.slot was no_context slot-low) in
+        let sum = all-set cs id.slot c slot-low in
+        let bounded = are.bounded in
+        omega (arith, same, sum, holds, bounded);
+  }
+
+  -- what is read of it in one list is what is changed in another
+  pub read-changed : (e d : List Context) (other read : Context) → e ≡ cs → d ≡ cs → read ≡ get_or e id.slot read → read ≡ get_or d id.slot other
+  read-changed e d other read is same at =
+      get_or_read e id.slot read (omega (arith, slot-low, ap length is)) at other
+      ∙ ap (λ (l : List Context). get_or l id.slot other) (is ∙ sym same)
+
   module _ (d : List Context) (same : d ≡ cs) (c : Context) where
-    pub fields-written : AreFields (record { alloc = x.alloc; links = x.links; contexts = record { items = refill (length cs) cs (set d id.slot c); capacity = x.contexts.capacity }; last = x.last })
-    fields-written = record {
+    -- it holds no more than it did and a growth for which there is room
+    pub fits-grown : (other : Context) (growth : ℕ) → held_by c ≤ held_by (get_or d id.slot other) + growth → held_by_all cs + growth < 9223372036854775808
+        → held_by_all cs + held_by c < 9223372036854775808 + held_by (get_or cs id.slot no_context)
+    fits-grown other growth less room =
+        let is = ap held_by (ap (λ (l : List Context). get_or l id.slot other) same ∙ get_or_default cs id.slot other no_context slot-low) in
+        omega (arith, less, room, is)
+
+    -- where the growth was looked at first, in the same contexts
+    pub fits-asked : (other : Context) (growth : ℕ) (e : List Context) → e ≡ cs → held_by c ≤ held_by (get_or d id.slot other) + growth → held_by_all e + growth < 9223372036854775808
+        → held_by_all cs + held_by c < 9223372036854775808 + held_by (get_or cs id.slot no_context)
+    fits-asked other growth e is less room = fits-grown other growth less (subst (λ (l : List Context). held_by_all l + growth < 9223372036854775808) is room)
+
+    pub fields-written : held_by_all cs + held_by c < 9223372036854775808 + held_by (get_or cs id.slot no_context)
+        → AreFields (record { alloc = x.alloc; links = x.links; contexts = record { items = refill (length cs) cs (set d id.slot c); capacity = x.contexts.capacity }; last = x.last })
+    fields-written fits = record {
       long = ap length (whole d same c) ∙ length-set cs id.slot c ∙ are.long;
       stamps = are.stamps;
       empty = subst (Emptied x.links) (sym (whole d same c)) (empty-written c);
+      bounded = subst IsBounded (sym (whole d same c)) (let sum = all-set cs id.slot c slot-low in omega (arith, sum, fits));
     }
 
     -- what was lent, and what it became, are the contexts before and after; and one that stays as it was changes nothing
@@ -116,23 +168,20 @@ module _ (P : ContextError → Type 0) (there : Bool) (e : TreeError) where
   pub refused-own : there ≡ true → (own : ContextError) → e ≡ error.Context own → P own → IsRefusedBy there P e
   refused-own here own is so = subst (λ (b : Bool). IsRefusedBy b P e) (sym here) (own, is, so)
 
+-- no growth is refused for what is asked
+pub refused-growth : (c : Context) (n : ℕ) → 0 < growth_of c n → IsRefused (refusal_of c n) (growth_of c n) NoMemory
+refused-growth c n grows = subst (λ (o : Option ContextError). IsRefused o (growth_of c n) NoMemory) (sym (growth-admitted c n grows)) (refl, grows)
+
 -- why no context is made
 pub not-made : {there spent here none : Bool} {refusal why : Option ContextError} (e : TreeError) → there ≡ here → spent ≡ none → refusal ≡ why → IsNotMade here none why e → IsNotMade there spent refusal e
 not-made {there = there} {spent = spent} {here = here} {none = none} {refusal = refusal} {why = why} e is last own so =
     subst (λ (b : Bool). IsNotMade b spent refusal e) (sym is) (subst (λ (b : Bool). IsNotMade here b refusal e) (sym last) (subst (λ (o : Option ContextError). IsNotMade here none o e) (sym own) so))
 
 -- contexts are given up: those in the slots that are emptied
-module _ (x : Inside) (are : AreFields x) (gone : ℕ → Bool) (from : ℕ) (none : (k : ℕ) → k < from → gone k ≡ false) (ls : List (Option Link)) (links : ls ≡ cleared gone None 0 x.links)
-    (d ds : List Context) (same : d ≡ x.contexts.items) (as-long : length ds ≡ length d) (kept-before : (k : ℕ) → k < from → get_or ds k no_context ≡ get_or d k no_context)
-    (told-behind : (k : ℕ) → from ≤ k → get_or ds k no_context ≡ cond (is_some (get_or ls k None)) (get_or d k no_context) no_context) where
+module _ (x : Inside) (are : AreFields x) (gone : ℕ → Bool) (ls : List (Option Link)) (links : ls ≡ cleared gone None 0 x.links) (d ds : List Context) (same : d ≡ x.contexts.items)
+    (as-long : length ds ≡ length d) (told : (k : ℕ) → get_or ds k no_context ≡ cond (is_some (get_or ls k None)) (get_or d k no_context) no_context) where
   long : length ds ≡ length x.contexts.items
   long = as-long ∙ ap length same
-
-  before : (k : ℕ) → k < from → get_or ds k no_context ≡ get_or x.contexts.items k no_context
-  before k low = kept-before k low ∙ ap (λ (cs : List Context). get_or cs k no_context) same
-
-  behind : (k : ℕ) → from ≤ k → get_or ds k no_context ≡ cond (is_some (get_or ls k None)) (get_or x.contexts.items k no_context) no_context
-  behind k past = told-behind k past ∙ ap (λ (cs : List Context). cond (is_some (get_or ls k None)) (get_or cs k no_context) no_context) same
 
   link-is : (k : ℕ) → get_or ls k None ≡ cond (gone k) None (get_or x.links k None)
   link-is k = ap (λ (l : List (Option Link)). get_or l k None) links ∙ get_or-cleared gone None x.links k
@@ -143,18 +192,17 @@ module _ (x : Inside) (are : AreFields x) (gone : ℕ → Bool) (from : ℕ) (no
   kept k (Some link) free = refl
 
   context-is : (k : ℕ) → get_or ds k no_context ≡ cond (gone k) no_context (get_or x.contexts.items k no_context)
-  context-is k = elim (cases_lt k from) [
-    | inl low ↦ before k low ∙ sym (cond-false (gone k) no_context (get_or x.contexts.items k no_context) (none k low))
-    | inr past ↦ behind k past ∙ elim (cases_Bool (gone k)) [
-      | inl goes ↦
-          ap (λ (l : Option Link). cond (is_some l) (get_or x.contexts.items k no_context) no_context) (link-is k ∙ cond-true (gone k) None (get_or x.links k None) goes)
-          ∙ sym (cond-true (gone k) no_context (get_or x.contexts.items k no_context) goes)
-      | inr stays ↦
-          ap (λ (l : Option Link). cond (is_some l) (get_or x.contexts.items k no_context) no_context) (link-is k ∙ cond-false (gone k) None (get_or x.links k None) stays)
-          ∙ kept k (get_or x.links k None) refl
-          ∙ sym (cond-false (gone k) no_context (get_or x.contexts.items k no_context) stays)
-    ]
-  ]
+  context-is k =
+      told k ∙ ap (λ (cs : List Context). cond (is_some (get_or ls k None)) (get_or cs k no_context) no_context) same
+      ∙ elim (cases_Bool (gone k)) [
+        | inl goes ↦
+            ap (λ (l : Option Link). cond (is_some l) (get_or x.contexts.items k no_context) no_context) (link-is k ∙ cond-true (gone k) None (get_or x.links k None) goes)
+            ∙ sym (cond-true (gone k) no_context (get_or x.contexts.items k no_context) goes)
+        | inr stays ↦
+            ap (λ (l : Option Link). cond (is_some l) (get_or x.contexts.items k no_context) no_context) (link-is k ∙ cond-false (gone k) None (get_or x.links k None) stays)
+            ∙ kept k (get_or x.links k None) refl
+            ∙ sym (cond-false (gone k) no_context (get_or x.contexts.items k no_context) stays)
+      ]
 
   abbrev n : ℕ
   n = length x.contexts.items
@@ -187,4 +235,5 @@ module _ (x : Inside) (are : AreFields x) (gone : ℕ → Bool) (from : ℕ) (no
     long = ap length all-given ∙ long-given;
     stamps = stamps-kept;
     empty = subst (Emptied ls) (sym all-given) empty-kept;
+    bounded = subst IsBounded (sym all-given) (let less = all-cleared gone 0 x.contexts.items in let was = are.bounded in omega (arith, less, was));
   }

@@ -4,11 +4,11 @@ use Rattle.std.specs.Prelude.{◌≡◌, ℕ, ◌*◌, nat_lt, Bool, true, false
 use Rattle.chunk_layout.specs.Pieces.{Piece, total}
 use Rattle.chunk_layout.specs.declared.place.Place.{Place}
 use Rattle.chunk_layout.specs.declared.place.ChunkName.{ChunkName}
-use Rattle.chunk_contexts.specs.Chunks.{is_live, bytes_of}
+use Rattle.chunk_contexts.specs.Chunks.{is_live, bytes_of, IsNewBlock}
 use Rattle.chunk_contexts.specs.Rooms.{rounded, over_most}
 use Rattle.chunk_contexts.specs.Set.{new_set, set_room, set_growth, set_taken, set_wrote, set_put, set_freed, set_reset}
-use Rattle.chunk_contexts.specs.Slab.{new_slab, slab_refusal, slab_growth, slab_taken, slab_wrote, slab_freed, slab_reset, has_spare, per_block, block_count}
-use Rattle.chunk_contexts.specs.Run.{new_run, run_growth, run_taken, run_wrote, run_put, run_reset}
+use Rattle.chunk_contexts.specs.Slab.{new_slab, slab_refusal, slab_growth, slab_grows, slab_taken, slab_wrote, slab_freed, slab_reset, has_spare, per_block, block_count}
+use Rattle.chunk_contexts.specs.Run.{new_run, run_growth, run_taken, run_wrote, run_put, run_reset, IsBlockOf}
 use Rattle.chunk_contexts.specs.Generation.{gen_freed}
 use Rattle.chunk_contexts.specs.declared.error.ContextError.{ContextError}
 use Rattle.context_tree.specs.declared.context.Context.{Context}
@@ -67,6 +67,13 @@ can_free (AllocSet s) = true
 can_free (Slab s) = true
 can_free (Generation s) = true
 can_free (Bump s) = false
+
+-- whether the chunk of a request of n bytes may lie in a block
+abbrev pub may_lie_in : Context → ℕ → ℕ → Type 0
+may_lie_in (AllocSet s) n block = IsNewBlock (set_growth s n) s.blocks block
+may_lie_in (Slab s) n block = IsNewBlock (slab_grows s) s.blocks block
+may_lie_in (Generation s) n block = IsBlockOf s (run_growth 8 s n) block
+may_lie_in (Bump s) n block = IsBlockOf s (run_growth 0 s n) block
 
 -- with a chunk more for a request of n bytes; with other bytes in a chunk, as many as it had or not; without a chunk; and
 -- without any

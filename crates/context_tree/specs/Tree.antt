@@ -1,9 +1,9 @@
 -- A tree of contexts as its users see it.
-use Rattle.std.specs.Prelude.{◌≡◌, ℕ, ◌+◌, ◌≤◌, ◌==◌, Bool, true, false, cond, List, [], ◌∷◌, Option, Some, None, length, get_or, slice_set}
+use Rattle.std.specs.Prelude.{◌≡◌, ℕ, ◌+◌, ◌^◌, ◌<◌, ◌≤◌, ◌==◌, Bool, true, false, cond, List, [], ◌∷◌, Option, Some, None, length, get_or, slice_set}
 use Rattle.chunk_contexts.specs.declared.error.ContextError.{ContextError}
 use Rattle.chunk_contexts.specs.declared.error.ContextError.TheVariants.{NoMemory}
 use Rattle.context_tree.specs.Contexts.{no_context, new_context, reset_context, held_by}
-use Rattle.context_tree.specs.Links.{is_below, is_under, cleared, placed, IsForest}
+use Rattle.context_tree.specs.Links.{stamp_of, is_below, is_under, cleared, placed, IsForest}
 use Rattle.context_tree.specs.declared.context.Context.{Context}
 use Rattle.context_tree.specs.declared.error.TreeError.{TreeError}
 use Rattle.context_tree.specs.declared.error.TreeError.TheVariants as error
@@ -24,6 +24,14 @@ Stamped ls last = (slot : ℕ) → (link : Link) → get_or ls slot None ≡ Som
 
 abbrev pub Emptied : List (Option Link) → List Context → Type 0
 Emptied ls cs = (slot : ℕ) → get_or ls slot None ≡ None → get_or cs slot no_context ≡ no_context
+
+-- the bytes of the blocks of all contexts, which stay below 2^63. (Our own.)
+abbrev pub held_by_all : List Context → ℕ
+held_by_all [] = 0
+held_by_all (c ∷ cs) = held_by c + held_by_all cs
+
+abbrev pub IsBounded : List Context → Type 0
+IsBounded cs = held_by_all cs < 2 ^ 63
 
 -- what holds of each tree: the links are those of one tree, and there is a context for each
 pub record IsWhole (t : TreeState) : Type 0 where
@@ -49,10 +57,6 @@ abbrev pub context_at : TreeState → ContextId → Context
 context_at t id = get_or t.contexts id.slot no_context
 
 -- the id of the context below which one was made, which the root has not
-abbrev pub stamp_of : Option Link → ℕ
-stamp_of None = 0
-stamp_of (Some link) = link.stamp
-
 abbrev pub id_in : List (Option Link) → Option ℕ → Option ContextId
 id_in ls None = None
 id_in ls (Some slot) = Some (record { slot = slot; stamp = stamp_of (get_or ls slot None) })

@@ -1,6 +1,6 @@
 -- What is true of the fields of a `Tree`.
 use Rattle.std.specs.Prelude.{◌≡◌, length}
-use Rattle.context_tree.specs.Tree.{TreeState, Stamped, Emptied}
+use Rattle.context_tree.specs.Tree.{TreeState, Stamped, Emptied, IsBounded}
 use Rattle.context_tree.specs.declared.tree.Tree.TheInside.{Inside}
 
 abbrev pub tree_of : Inside → TreeState
@@ -10,3 +10,4 @@ pub record AreFields (t : Inside) : Type 0 where
   pub long : length t.contexts.items ≡ length t.links
   pub stamps : Stamped t.links t.last
   pub empty : Emptied t.links t.contexts.items
+  pub bounded : IsBounded t.contexts.items

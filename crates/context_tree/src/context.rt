@@ -52,7 +52,7 @@ impl MadeWith<Global> for Context {
 }
 
 impl ChunkContext for Context {
-    ghost use Rattle.context_tree.specs.Contexts.{chunks_of, blocks_of, room_in, refusal_of, growth_of, can_free, with_chunk, with_bytes, with_resized, without_chunk, reset_context};
+    ghost use Rattle.context_tree.specs.Contexts.{chunks_of, blocks_of, room_in, refusal_of, growth_of, can_free, may_lie_in, with_chunk, with_bytes, with_resized, without_chunk, reset_context};
 
     ghost chunks = { chunks_of };
 
@@ -65,6 +65,8 @@ impl ChunkContext for Context {
     ghost growth = { growth_of };
 
     ghost frees = { can_free };
+
+    ghost may_lie = { may_lie_in };
 
     ghost taken = { with_chunk };
 
@@ -154,6 +156,24 @@ impl ChunkContext for Context {
             Context::Slab(it) => it.growth_for(n),
             Context::Generation(it) => it.growth_for(n),
             Context::Bump(it) => it.growth_for(n),
+        }
+    }
+
+    fn growth_to(&self, name: ChunkName, n: u32) -> u64 {
+        match self {
+            Context::AllocSet(it) => it.growth_to(name, n),
+            Context::Slab(it) => it.growth_to(name, n),
+            Context::Generation(it) => it.growth_to(name, n),
+            Context::Bump(it) => it.growth_to(name, n),
+        }
+    }
+
+    fn are_laid(&self) {
+        match self {
+            Context::AllocSet(it) => it.are_laid(),
+            Context::Slab(it) => it.are_laid(),
+            Context::Generation(it) => it.are_laid(),
+            Context::Bump(it) => it.are_laid(),
         }
     }
 }

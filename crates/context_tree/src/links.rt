@@ -1,6 +1,6 @@
 //! Which contexts of a tree there are, and below which other each was made.
-ghost use Rattle.std.specs.Prelude.{◌≡◌, ◌<◌, ◌≤◌, ◌+◌, ◌==◌, ◌-◌, ◌^◌, ℕ, true, false, Some, None, [], ◌∷◌, IfOk, OnErr, OnOk, IsTrue, length, get_or, is_some, slice_set, cond, ◌++◌};
-ghost use Rattle.context_tree.specs.Links.{parent_of, is_below, is_under, is_orphan, cleared, placed, IsForest, IsMadeBelow, AreFree};
+ghost use Rattle.std.specs.Prelude.{◌≡◌, ◌<◌, ◌≤◌, ◌+◌, ◌==◌, ◌||◌, ◌-◌, ◌^◌, ℕ, true, false, Some, None, [], ◌∷◌, IfOk, OnErr, OnOk, IsTrue, length, get_or, is_some, slice_set, cond, ◌++◌};
+ghost use Rattle.context_tree.specs.Links.{parent_of, stamp_of, is_below, is_under, cleared, placed, IsForest, IsFull, IsMadeBelow, AreFree};
 
 use chunk_layout::BlockMarks;
 use smallvec::SmallVec;
@@ -21,7 +21,7 @@ pub struct ContextId {
 pub struct Link {
     /// The stamp that it was made with.
     pub stamp: u64,
-    /// The slot of the context below which it was made, which is a lower one. The root has none.
+    /// The slot of the context below which it was made, whose stamp is lower. The root has none.
     pub parent: Option<u32>,
 }
 
@@ -68,24 +68,32 @@ fn parent(links: &[Option<Link>], slot: usize) -> Option<u32>
     }
 }
 
-/// Whether the context in a slot was made below this one, or below one that is gone.
-fn is_orphan(links: &[Option<Link>], slot: usize, above: u32) -> bool
-    ensures { result ≡ is_orphan links.now above (get_or links.now slot None) }
+/// The stamp of the context in a slot: 0 where there is none.
+fn stamp(links: &[Option<Link>], slot: usize) -> u64
+    ensures { result ≡ stamp_of (get_or links.now slot None) }
 {
-    match parent(links, slot) {
-        Some(parent) => parent == above || !is_there(links, parent),
-        None => false,
+    match links.get(slot) {
+        Some(Some(link)) => link.stamp,
+        _ => 0,
     }
 }
 
-/// Whether there is a context in a slot.
-fn is_there(links: &[Option<Link>], slot: u32) -> bool
-    ensures { result ≡ is_some (get_or links.now slot None) }
+/// Whether the context in a slot is the one in another, or a descendant of it.
+///
+/// A context was made before its descendants, so the search ends at the first ancestor that is not younger than it.
+fn is_below(links: &[Option<Link>], slot: u32, above: u32) -> bool
+    requires { IsForest links.now }
+    ensures { result ≡ is_below links.now above slot }
 {
-    match links.get(slot as usize) {
-        Some(link) => link.is_some(),
-        None => false,
+    let oldest = stamp(links, above as usize);
+    let mut at = slot;
+    while stamp(links, at as usize) > oldest {
+        match parent(links, at as usize) {
+            Some(parent) => at = parent,
+            None => return false,
+        }
     }
+    at == above
 }
 
 /// Empties a slot that has no child, so that another context can be in it.
@@ -100,20 +108,43 @@ fn empty(links: &mut [Option<Link>], free: &mut BlockMarks, slot: u32)
     free.mark(slot);
 }
 
+/// Marks the slots of all descendants of a context.
+fn mark_below(links: &[Option<Link>], free: &mut BlockMarks, above: u32)
+    requires forest { IsForest links.now }
+    requires free { AreFree links.now free.old }
+    requires few { length links.now < 2 ^ 32 }
+    ensures long { length free.new ≡ length free.old }
+    ensures marked { (k : ℕ) → get_or free.new k false ≡ (is_under links.now above k || get_or free.old k false) }
+{
+    for slot in 0..links.len() as u32 {
+        if slot != above && is_below(links, slot, above) {
+            free.mark(slot);
+        }
+    }
+}
+
+/// Empties the slots that are marked.
+fn empty_marked(links: &mut [Option<Link>], free: &BlockMarks)
+    requires { length links.old < 2 ^ 32 }
+    ensures { (k : ℕ) → get_or links.new k None ≡ cond (get_or free.now k false) None (get_or links.old k None) }
+{
+    for slot in 0..links.len() {
+        if free.has(slot as u32) {
+            links[slot] = None;
+        }
+    }
+}
+
 /// Empties the slots of all descendants of a context.
 fn prune(links: &mut [Option<Link>], free: &mut BlockMarks, above: u32)
     requires forest { IsForest links.old }
     requires free { AreFree links.old free.old }
     requires few { length links.old < 2 ^ 32 }
-    requires there { IsTrue (is_some (get_or links.old above None)) }
     ensures links { links.new ≡ cleared (is_under links.old above) None 0 links.old }
     ensures free { AreFree links.new free.new }
 {
-    for slot in above as usize + 1..links.len() {
-        if is_orphan(links, slot, above) {
-            empty(links, free, slot as u32);
-        }
-    }
+    mark_below(links, free, above);
+    empty_marked(links, free);
 }
 
 /// Empties the slots of a context and of all its descendants.
@@ -182,21 +213,17 @@ impl Links {
     pub fn is_below(&self, slot: u32, above: u32) -> bool
         ensures { result ≡ is_below self.now above slot }
     {
-        let mut at = slot;
-        while at > above {
-            match parent(&self.links, at as usize) {
-                Some(parent) => at = parent,
-                None => return false,
-            }
-        }
-        at == above
+        is_below(&self.links, slot, above)
     }
 
-    /// Puts a link below that in a slot into another slot, which is free, and answers which.
+    /// Puts a link below that in a slot into another slot, which is free, and answers which. A new slot is made only where
+    /// none is free.
     pub fn add(&mut self, parent: u32, stamp: u64) -> Result<u32, AllocError>
         requires there { IsTrue (is_some (get_or self.old parent None)) }
+        requires later { stamp_of (get_or self.old parent None) < stamp }
         ensures low { IfOk result (λ slot. slot ≤ length self.old) }
         ensures fresh { IfOk result (λ slot. get_or self.old slot None ≡ None) }
+        ensures needed { IfOk result (λ slot. slot ≡ length self.old → IsFull self.old) }
         ensures added { IfOk result (λ slot. self.new ≡ placed self.old slot (Some (record { stamp = stamp; parent = Some parent }))) }
         ensures unchanged { OnErr result (self.new ≡ self.old) }
     {
@@ -205,19 +232,19 @@ impl Links {
             parent: Some(parent),
         };
         match self.free.first() {
-            Some(slot) if slot > parent => {
+            Some(slot) => {
                 self.free.unmark(slot);
                 self.links[slot as usize] = Some(link);
                 Ok(slot)
             }
-            _ => self.push(link),
+            None => self.push(link),
         }
     }
 
     /// Puts a link into a new slot, and answers which.
     fn push(&mut self, link: Link) -> Result<u32, AllocError>
-        requires below { IsMadeBelow self.old (length self.old) link.parent }
-        requires some { 0 < length self.old }
+        requires below { IsMadeBelow self.old (length self.old) link.stamp link.parent }
+        requires full { IsFull self.old }
         ensures slot { IfOk result (λ slot. slot ≡ length self.old) }
         ensures added { IfOk result (λ slot. self.new ≡ placed self.old slot (Some link)) }
         ensures unchanged { OnErr result (self.new ≡ self.old) }
@@ -234,7 +261,6 @@ impl Links {
 
     /// Empties the slots of all descendants of a context.
     pub fn prune(&mut self, above: u32)
-        requires there { IsTrue (is_some (get_or self.old above None)) }
         ensures { self.new ≡ cleared (is_under self.old above) None 0 self.old }
     {
         prune(&mut self.links, &mut self.free, above);

@@ -2,19 +2,20 @@
 ghost use Rattle.std.specs.Prelude.{◌≡◌, ◌+◌, ◌*◌, ◌-◌, ◌<◌, ◌≤◌, ◌==◌, ◌^◌, ℕ, List, true, false, cond, None, IfOk, IfErr, OnOk, OnErr, IsTrue, MatchResult, length, get_or, is_some, slice_set};
 ghost use Rattle.smallvec.specs.SmallVec.{HasRoomFor};
 ghost use Rattle.block_memory.specs.Cells.{zeros};
-ghost use Rattle.chunk_layout.specs.Pieces.{place_of, without, piece_at, resized, total};
+ghost use Rattle.chunk_layout.specs.Pieces.{place_of, without, piece_at, resized, total, AreLaid};
 ghost use Rattle.chunk_contexts.specs.Chunks.{chunk_of, Adds, Keeps, KeepsOthers, IsRefused, IsResizeRefused, IsResized};
-ghost use Rattle.chunk_contexts.specs.declared.error.ContextError.TheVariants.{NotSupported};
-ghost use Rattle.context_tree.specs.Contexts.{chunks_of, blocks_of, room_in, refusal_of, growth_of, can_free, with_chunk, with_bytes, with_resized, without_chunk, kind_refusal, no_context, has_chunk, chunk_bytes, held_by, IsCounted};
-ghost use Rattle.context_tree.specs.Links.{is_under, placed};
-ghost use Rattle.context_tree.specs.Tree.{new_tree, is_there, context_at, parent_id, id_in, with_context, with_new, without_slots, deleted, reset, held_below, held_from, IsWhole, IsRefusedBy, IsKept, IsNotMade};
+ghost use Rattle.chunk_contexts.specs.declared.error.ContextError.TheVariants.{NoMemory, NotSupported};
+ghost use Rattle.context_tree.specs.Contexts.{chunks_of, blocks_of, room_in, refusal_of, growth_of, can_free, may_lie_in, with_chunk, with_bytes, with_resized, without_chunk, kind_refusal, no_context, has_chunk, chunk_bytes, held_by, IsCounted};
+ghost use Rattle.context_tree.specs.Links.{is_under, placed, IsFull};
+ghost use Rattle.context_tree.specs.Tree.{new_tree, is_there, context_at, parent_id, id_in, with_context, with_new, without_slots, deleted, reset, held_below, held_from, held_by_all, IsBounded, IsWhole, IsRefusedBy, IsKept, IsNotMade};
 ghost use Rattle.context_tree.specs.declared.error.TreeError.TheVariants.{NoSuchContext};
+ghost use Rattle.context_tree.specs.declared.error.TreeError.TheVariants as error;
 
 use crate::context::Context;
 use crate::error::TreeError;
 use crate::kind::Kind;
 use crate::links::{ContextId, Links};
-use chunk_contexts::{ChunkContext, ChunkName};
+use chunk_contexts::{ChunkContext, ChunkName, ContextError};
 use smallvec::SmallVec;
 use std::alloc::Global;
 use std::default::MadeWith;
@@ -22,6 +23,9 @@ use std::marker::Model;
 
 /// The slot of the root.
 const ROOT: u32 = 0;
+
+/// What the blocks of a tree stay below, in bytes.
+const BOUND: u64 = 0x8000_0000_0000_0000;
 
 /// Memory contexts, each but the root made below another.
 ///
@@ -69,13 +73,12 @@ fn put_context(contexts: &mut SmallVec<Context, 1>, slot: usize, context: Contex
     contexts.push_reserved(context);
 }
 
-/// Gives up the contexts of the slots that are free, from one on.
-fn give_up_free(contexts: &mut [Context], links: &Links, from: usize, alloc: Global)
+/// Gives up the contexts of the slots that are free.
+fn give_up_free(contexts: &mut [Context], links: &Links, alloc: Global)
     requires { length contexts.old ≡ length links.now }
-    ensures before { (slot : ℕ) → slot < from → get_or contexts.new slot no_context ≡ get_or contexts.old slot no_context }
-    ensures behind { (slot : ℕ) → from ≤ slot → get_or contexts.new slot no_context ≡ cond (is_some (get_or links.now slot None)) (get_or contexts.old slot no_context) no_context }
+    ensures { (slot : ℕ) → get_or contexts.new slot no_context ≡ cond (is_some (get_or links.now slot None)) (get_or contexts.old slot no_context) no_context }
 {
-    for slot in from..links.len() {
+    for slot in 0..links.len() {
         if links.get(slot as u32).is_none() {
             replace(contexts, slot, Context::made_with(alloc));
         }
@@ -95,6 +98,39 @@ fn sum_below(links: &Links, contexts: &[Context], above: u32) -> u128
         }
     }
     sum
+}
+
+/// The bytes of the blocks of all contexts.
+fn sum_all(contexts: &[Context]) -> u64
+    requires { IsBounded contexts.now }
+    ensures { result ≡ held_by_all contexts.now }
+{
+    let mut sum = 0;
+    for slot in 0..contexts.len() {
+        sum += contexts[slot].held();
+    }
+    sum
+}
+
+/// Refuses a growth that would bring the blocks of all contexts to 2^63 bytes.
+fn check_growth(contexts: &[Context], growth: u64) -> Result<(), TreeError>
+    requires { IsBounded contexts.now }
+    ensures { MatchResult result (λ _. held_by_all contexts.now + growth < 2 ^ 63) (λ e. (0 < growth) × (e ≡ error.Context NoMemory)) }
+{
+    if growth > 0 && growth >= BOUND - sum_all(contexts) {
+        return Err(TreeError::Context(ContextError::NoMemory));
+    }
+    Ok(())
+}
+
+/// How many bytes of blocks a request of `n` bytes takes of a context: 0 where it is refused for what it asks.
+fn growth_for(context: &Context, n: usize) -> u64
+    ensures { result ≡ growth_of context.now n }
+{
+    if n > u32::MAX as usize {
+        return 0;
+    }
+    context.growth_for(n as u32)
 }
 
 impl Tree {
@@ -126,6 +162,13 @@ impl Tree {
         self.links.is_forest();
     }
 
+    /// A law: the blocks of all contexts have fewer than 2^63 bytes.
+    pub fn is_bounded(&self)
+        ensures { IsBounded self.now.contexts }
+    {
+        let _contexts = &self.contexts;
+    }
+
     /// Whether there is a context of this id.
     pub fn is_live(&self, id: ContextId) -> bool
         ensures { result ≡ is_there self.now id }
@@ -152,6 +195,15 @@ impl Tree {
     {
         if let Some(context) = self.contexts.get(id.slot as usize) {
             context.spare_by_count();
+        }
+    }
+
+    /// A law: no two live chunks of a context share a byte, and each lies in a block.
+    pub fn are_laid(&self, id: ContextId)
+        ensures { AreLaid (blocks_of (context_at self.now id)) (chunks_of (context_at self.now id)) }
+    {
+        if let Some(context) = self.contexts.get(id.slot as usize) {
+            context.are_laid();
         }
     }
 
@@ -190,7 +242,8 @@ impl Tree {
         Some(ContextId { slot, stamp })
     }
 
-    /// Makes a context below another, with the next stamp.
+    /// Makes a context below another, with the next stamp. It is in a slot that was free; a new slot is made only where
+    /// none is.
     ///
     /// Refuses `StampsSpent` where the last stamp was given out, and then a slab of chunks that are too large. Nothing is
     /// changed then, and no stamp is spent.
@@ -199,6 +252,7 @@ impl Tree {
         ensures stamp { IfOk result (λ id. id.stamp ≡ self.old.last + 1) }
         ensures fresh { IfOk result (λ id. get_or self.old.links id.slot None ≡ None) }
         ensures low { IfOk result (λ id. id.slot ≤ length self.old.links) }
+        ensures needed { IfOk result (λ id. id.slot ≡ length self.old.links → IsFull self.old.links) }
         ensures made { IfOk result (λ id. self.new ≡ with_new self.old parent kind id) }
         ensures allowed { OnOk result (kind_refusal kind ≡ None) }
         ensures refused { IfErr result (IsNotMade (is_there self.old parent) (self.old.last == 18446744073709551615) (kind_refusal kind)) }
@@ -239,18 +293,14 @@ impl Tree {
     {
         self.links.is_forest();
         self.links.prune(id.slot);
-        give_up_free(
-            &mut self.contexts,
-            &self.links,
-            id.slot as usize + 1,
-            self.alloc,
-        );
+        give_up_free(&mut self.contexts, &self.links, self.alloc);
     }
 
     /// Deletes a context and all its descendants. Refuses `RootKept`.
     pub fn delete(&mut self, id: ContextId) -> Result<(), TreeError>
         ensures there { OnOk result ((is_there self.old id ≡ true) × (0 < id.slot)) }
         ensures space { OnOk result (self.new ≡ deleted self.old id) }
+        ensures given { OnOk result (held_by_all self.new.contexts + held_below self.old id ≡ held_by_all self.old.contexts) }
         ensures refused { IfErr result (IsKept (is_there self.old id) id.slot) }
         ensures unchanged { OnErr result (self.new ≡ self.old) }
     {
@@ -260,12 +310,7 @@ impl Tree {
         }
         self.links.is_forest();
         self.links.cut(id.slot);
-        give_up_free(
-            &mut self.contexts,
-            &self.links,
-            id.slot as usize,
-            self.alloc,
-        );
+        give_up_free(&mut self.contexts, &self.links, self.alloc);
         Ok(())
     }
 
@@ -279,7 +324,7 @@ impl Tree {
 
     /// The bytes of the blocks of a context and of all its descendants.
     pub fn held_below(&self, id: ContextId) -> Result<u128, TreeError>
-        ensures bound { IfOk result (λ held. held < 2 ^ 96) }
+        ensures bound { IfOk result (λ held. held < 2 ^ 63) }
         ensures value { MatchResult result (λ held. (is_there self.now id ≡ true) × (held ≡ held_below self.now id)) (λ e. (is_there self.now id ≡ false) × (e ≡ NoSuchContext)) }
     {
         self.check(id)?;
@@ -301,6 +346,7 @@ impl Tree {
         ensures lives { IfOk result (λ name. IsTrue (has_chunk (context_at self.new id) name)) }
         ensures holds { IfOk result (λ name. chunk_bytes (context_at self.new id) name ≡ bytes.now) }
         ensures block { IfOk result (λ name. IsTrue (is_some (get_or (blocks_of (context_at self.new id)) name.block None))) }
+        ensures lies { IfOk result (λ name. may_lie_in (context_at self.old id) (length bytes.now) name.block) }
         ensures keeps { IfOk result (Keeps (chunks_of (context_at self.old id)) (chunks_of (context_at self.new id))) }
         ensures space { IfOk result (λ name. self.new ≡ with_context self.old id (with_chunk (context_at self.old id) (length bytes.now) (chunk_of name (room_in (context_at self.old id) (length bytes.now)) bytes.now))) }
         ensures grown { OnOk result (held_by (context_at self.new id) ≡ held_by (context_at self.old id) + growth_of (context_at self.old id) (length bytes.now)) }
@@ -308,6 +354,8 @@ impl Tree {
         ensures unchanged { OnErr result (self.new ≡ self.old) }
     {
         self.check(id)?;
+        let growth = growth_for(&self.contexts[id.slot as usize], bytes.len());
+        check_growth(&self.contexts, growth)?;
         Ok(self.contexts[id.slot as usize].alloc(bytes)?)
     }
 
@@ -319,6 +367,7 @@ impl Tree {
         ensures lives { IfOk result (λ name. IsTrue (has_chunk (context_at self.new id) name)) }
         ensures holds { IfOk result (λ name. chunk_bytes (context_at self.new id) name ≡ zeros n) }
         ensures block { IfOk result (λ name. IsTrue (is_some (get_or (blocks_of (context_at self.new id)) name.block None))) }
+        ensures lies { IfOk result (λ name. may_lie_in (context_at self.old id) n name.block) }
         ensures keeps { IfOk result (Keeps (chunks_of (context_at self.old id)) (chunks_of (context_at self.new id))) }
         ensures space { IfOk result (λ name. self.new ≡ with_context self.old id (with_chunk (context_at self.old id) n (chunk_of name (room_in (context_at self.old id) n) (zeros n)))) }
         ensures grown { OnOk result (held_by (context_at self.new id) ≡ held_by (context_at self.old id) + growth_of (context_at self.old id) n) }
@@ -326,6 +375,8 @@ impl Tree {
         ensures unchanged { OnErr result (self.new ≡ self.old) }
     {
         self.check(id)?;
+        let growth = growth_for(&self.contexts[id.slot as usize], n as usize);
+        check_growth(&self.contexts, growth)?;
         Ok(self.contexts[id.slot as usize].alloc_zeroed(n)?)
     }
 
@@ -363,10 +414,14 @@ impl Tree {
         ensures keeps { IfOk result (KeepsOthers (chunks_of (context_at self.old id)) (chunks_of (context_at self.new id)) name) }
         ensures stays { IfOk result (λ new. n ≤ (piece_at (chunks_of (context_at self.old id)) (place_of name)).room → self.new ≡ with_context self.old id (with_resized (context_at self.old id) (place_of name) (resized (chunk_bytes (context_at self.old id) name) n))) }
         ensures moved { IfOk result (λ new. (piece_at (chunks_of (context_at self.old id)) (place_of name)).room < n → self.new ≡ with_context self.old id (without_chunk (with_chunk (context_at self.old id) n (chunk_of new (room_in (context_at self.old id) n) (resized (chunk_bytes (context_at self.old id) name) n))) (place_of name))) }
+        ensures lies { IfOk result (λ new. (piece_at (chunks_of (context_at self.old id)) (place_of name)).room < n → may_lie_in (context_at self.old id) n new.block) }
+        ensures grown { IfOk result (λ new. (piece_at (chunks_of (context_at self.old id)) (place_of name)).room < n → held_by (with_chunk (context_at self.old id) n (chunk_of new (room_in (context_at self.old id) n) (resized (chunk_bytes (context_at self.old id) name) n))) ≡ held_by (context_at self.old id) + growth_of (context_at self.old id) n) }
         ensures refused { IfErr result (IsRefusedBy (is_there self.old id) (IsResizeRefused (can_free (context_at self.old id)) (refusal_of (context_at self.old id) n) (growth_of (context_at self.old id) n) (piece_at (chunks_of (context_at self.old id)) (place_of name)).room n)) }
         ensures unchanged { OnErr result (self.new ≡ self.old) }
     {
         self.check(id)?;
+        let growth = self.contexts[id.slot as usize].growth_to(name, n);
+        check_growth(&self.contexts, growth)?;
         Ok(self.contexts[id.slot as usize].resize(name, n)?)
     }
 }
@@ -382,6 +437,7 @@ impl Tree {
         requires { is_there self.old id ≡ true → IsTrue (has_chunk (context_at self.old id) name) }
         ensures there { OnOk result (is_there self.old id ≡ true) }
         ensures bytes { IfOk result (λ bytes. bytes.now ≡ chunk_bytes (context_at self.old id) name) }
+        ensures len { IfOk result (λ bytes. length bytes.now ≡ name.len) }
         ensures refused { IfErr result (λ e. (is_there self.old id ≡ false) × (e ≡ NoSuchContext)) }
     {
         self.check(id)?;

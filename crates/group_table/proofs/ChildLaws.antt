@@ -7,7 +7,7 @@ use Rattle.chunk_contexts.specs.Rooms.{most}
 use Rattle.chunk_contexts.specs.declared.error.ContextError.{ContextError}
 use Rattle.chunk_contexts.specs.declared.error.ContextError.TheVariants.{TooLarge}
 use Rattle.context_tree.specs.Contexts.{no_context, new_context, kind_refusal, held_by}
-use Rattle.context_tree.specs.Links.{parent_of, is_true_of, leads_to, is_below, is_under, cleared, placed, IsMadeBelow, IsForest}
+use Rattle.context_tree.specs.Links.{parent_of, stamp_of, is_true_of, leads_to, is_below, is_under, cleared, placed, IsMadeBelow, IsForest}
 use Rattle.context_tree.specs.Tree.{TreeState, IsWhole, IsNotMade, has_stamp, is_there, context_at, deleted, held_below, held_from}
 use Rattle.context_tree.specs.declared.context.Context.{Context}
 use Rattle.context_tree.specs.declared.error.TreeError.{TreeError}
@@ -75,18 +75,24 @@ leads_alike (suc steps) ls now same above slot =
     ap (λ (l : Option Link). (slot == above) || is_true_of (parent_of l) (leads_to steps now above)) (same slot)
     ∙ ap (λ (b : Bool). (slot == above) || b) (test_same (parent_of (get_or ls slot None)) (leads_to steps now above) (leads_to steps ls above) (λ p e. leads_alike steps ls now same above p))
 
--- in a forest a parent is in a lower slot, and is there
+-- in a forest a parent has a lower stamp, and is there
 module _ (ls : List (Option Link)) (forest : IsForest ls) where
-  pub parent_is : (slot : ℕ) (link : Option Link) → get_or ls slot None ≡ link → (p : ℕ) → parent_of link ≡ Some p → (p < slot) × (is_some (get_or ls p None) ≡ true)
-  parent_is slot None is p e = absurd (false≢true (ap is_some e))
-  parent_is slot (Some link) is p e = subst (IsMadeBelow ls slot) e (forest.below slot link is)
+  abbrev stamp_at : ℕ → ℕ
+  stamp_at slot = stamp_of (get_or ls slot None)
 
-  -- one never comes to a higher slot
-  pub not_above : (steps above slot : ℕ) → slot < above → leads_to steps ls above slot ≡ false
+  pub parent_is : (slot : ℕ) (link : Option Link) → get_or ls slot None ≡ link → (p : ℕ) → parent_of link ≡ Some p → (stamp_at p < stamp_at slot) × (is_some (get_or ls p None) ≡ true)
+  parent_is slot None is p e = absurd (false≢true (ap is_some e))
+  parent_is slot (Some link) is p e =
+      let made = subst (IsMadeBelow ls slot link.stamp) e (forest.below slot link is) in
+      let own : stamp_at slot ≡ link.stamp = ap stamp_of is in
+      (omega (arith, made.0, own), made.1)
+
+  -- one never comes to a context that was made later
+  pub not_above : (steps above slot : ℕ) → stamp_at slot < stamp_at above → leads_to steps ls above slot ≡ false
   unfolding leads_to
-  not_above zero above slot less = ne_eqb slot above (λ e. omega (arith, e, less))
+  not_above zero above slot less = ne_eqb slot above (λ e. omega (arith, ap stamp_at e, less))
   not_above (suc steps) above slot less =
-      ap (λ (b : Bool). b || is_true_of (parent_of (get_or ls slot None)) (leads_to steps ls above)) (ne_eqb slot above (λ e. omega (arith, e, less)))
+      ap (λ (b : Bool). b || is_true_of (parent_of (get_or ls slot None)) (leads_to steps ls above)) (ne_eqb slot above (λ e. omega (arith, ap stamp_at e, less)))
       ∙ test_fails (parent_of (get_or ls slot None)) (leads_to steps ls above) (λ p e. not_above steps above p (omega (arith, less, (parent_is slot (get_or ls slot None) refl p e).0)))
 
   -- a context is below the one that it was made below
@@ -101,16 +107,16 @@ module _ (ls : List (Option Link)) (forest : IsForest ls) where
       or_true true = refl
       or_true false = refl
 
-  below_of : (slot p : ℕ) → (0 < slot) → parent_of (get_or ls slot None) ≡ Some p → leads_to slot ls p slot ≡ true
-  below_of zero p some up = absurd (omega (arith, some))
-  below_of (suc steps) p some up = child_by steps (suc steps) p up
+  below_of : (steps slot p : ℕ) → (0 < steps) → parent_of (get_or ls slot None) ≡ Some p → leads_to steps ls p slot ≡ true
+  below_of zero slot p some up = absurd (omega (arith, some))
+  below_of (suc steps) slot p some up = child_by steps slot p up
 
   pub child_below : (slot p : ℕ) → parent_of (get_or ls slot None) ≡ Some p → is_below ls p slot ≡ true
   unfolding is_below
-  child_below slot p up = below_of slot p (omega (arith, (parent_is slot (get_or ls slot None) refl p up).0)) up
+  child_below slot p up = below_of (stamp_at slot) slot p (omega (arith, (parent_is slot (get_or ls slot None) refl p up).0)) up
 
   -- and not below another that was made there
-  beside_by : (steps a b p : ℕ) → p < a → parent_of (get_or ls b None) ≡ Some p → b ≢ a → leads_to steps ls a b ≡ false
+  beside_by : (steps a b p : ℕ) → stamp_at p < stamp_at a → parent_of (get_or ls b None) ≡ Some p → b ≢ a → leads_to steps ls a b ≡ false
   unfolding leads_to
   beside_by zero a b p low up differ = ne_eqb b a differ
   beside_by (suc steps) a b p low up differ =
@@ -121,7 +127,7 @@ module _ (ls : List (Option Link)) (forest : IsForest ls) where
   beside : (a b p : ℕ) → parent_of (get_or ls a None) ≡ Some p → parent_of (get_or ls b None) ≡ Some p → b ≢ a → is_under ls a b ≡ false
   unfolding is_below
   beside a b p first last differ =
-      ap (λ (c : Bool). c && not (b == a)) (beside_by b a b p (parent_is a (get_or ls a None) refl p first).0 last differ)
+      ap (λ (c : Bool). c && not (b == a)) (beside_by (stamp_at b) a b p (parent_is a (get_or ls a None) refl p first).0 last differ)
 
   pub are_apart : (a b : ContextId) (p : ℕ) → parent_of (get_or ls a.slot None) ≡ Some p → parent_of (get_or ls b.slot None) ≡ Some p → a.slot ≢ b.slot → IsApart ls a b
   are_apart a b p first last differ = record {
@@ -156,19 +162,23 @@ module _ (ls : List (Option Link)) (forest : IsForest ls) where
 
     pub below_other : (above k : ℕ) → k ≢ free_slot → is_below now above k ≡ is_below ls above k
     unfolding is_below
-    below_other above k differ = leads_other k above k differ
+    below_other above k differ =
+        ap (λ (l : Option Link). leads_to (stamp_of l) now above k) (other k differ)
+        ∙ leads_other (stamp_at k) above k differ
 
     pub below_none : (k : ℕ) → k ≢ free_slot → is_below now free_slot k ≡ false
     unfolding is_below
-    below_none k differ = leads_none k k differ
+    below_none k differ = leads_none (stamp_of (get_or now k None)) k differ
 
 pub below_self : (ls : List (Option Link)) (slot : ℕ) → is_below ls slot slot ≡ true
 unfolding is_below
-below_self ls slot = leads_self slot ls slot
+below_self ls slot = leads_self (stamp_of (get_or ls slot None)) ls slot
 
 pub below_alike : (ls now : List (Option Link)) → ((slot : ℕ) → get_or now slot None ≡ get_or ls slot None) → (above slot : ℕ) → is_below now above slot ≡ is_below ls above slot
 unfolding is_below
-below_alike ls now same above slot = leads_alike slot ls now same above slot
+below_alike ls now same above slot =
+    ap (λ (l : Option Link). leads_to (stamp_of l) now above slot) (same slot)
+    ∙ leads_alike (stamp_of (get_or ls slot None)) ls now same above slot
 
 -- a slot in which there is a context is one of the list
 low_there : (ls : List (Option Link)) (slot : ℕ) → is_some (get_or ls slot None) ≡ true → slot < length ls
@@ -208,13 +218,14 @@ module _ (ls now : List (Option Link)) (above : ℕ) where
       omega (arith, rest, first_is now place d ds, first_is ls place c cs, same 0)
 
 -- trees that are the same slot by slot
-pub as_before : (before after : TreeState) (parent : ContextId) → IsSameBySlot before after → IsAsBefore before after parent
-as_before before after parent same = record {
+pub as_before : (before after : TreeState) → IsSameBySlot before after → IsAsBefore before after
+as_before before after same = record {
   there = λ id. ap (λ (l : Option Link). has_stamp l id.stamp) (same.links id.slot);
   same = λ id there. same.contexts id.slot;
-  held = held_alike before.links after.links parent.slot 0 before.contexts after.contexts (λ k.
-      ap (λ (b : Bool). cond b (held_by (get_or after.contexts k no_context)) 0) (below_alike before.links after.links same.links parent.slot (0 + k))
-      ∙ ap (λ (c : Context). cond (is_below before.links parent.slot (0 + k)) (held_by c) 0) (same.contexts k));
+  links = λ id there. same.links id.slot;
+  held = λ above. held_alike before.links after.links above.slot 0 before.contexts after.contexts (λ k.
+      ap (λ (b : Bool). cond b (held_by (get_or after.contexts k no_context)) 0) (below_alike before.links after.links same.links above.slot (0 + k))
+      ∙ ap (λ (c : Context). cond (is_below before.links above.slot (0 + k)) (held_by c) 0) (same.contexts k));
 }
 
 pub same_as_itself : (t : TreeState) → IsSameBySlot t t
@@ -364,9 +375,10 @@ all_made before one after parent width made whole first one_whole there rest =
       set = same3 buckets b2 ∙ same2 buckets b1 ∙ context_made before whole one parent buckets kind.AllocSet first;
       run = same3 keys k2 ∙ context_made one one_whole two parent keys kind.Bump rest.keys_new;
       slab = context_made two rest.between_whole after parent states (kind.Slab width) rest.states_new;
-      held = held_made two rest.between_whole after parent states (kind.Slab width) rest.states_new parent
-          ∙ held_made one one_whole two parent keys kind.Bump rest.keys_new parent
-          ∙ held_made before whole one parent buckets kind.AllocSet first parent;
+      held = λ above.
+          held_made two rest.between_whole after parent states (kind.Slab width) rest.states_new above
+          ∙ held_made one one_whole two parent keys kind.Bump rest.keys_new above
+          ∙ held_made before whole one parent buckets kind.AllocSet first above;
       fresh = λ id is. (
         there3 id (there2 id (there1 id is)),
         same3 id (there2 id (there1 id is)) ∙ same2 id (there1 id is) ∙ same1 id is,

@@ -6,7 +6,7 @@ use Rattle.std.proofs.lemmas.List.{get_or-set_same, get_or-set_other}
 use Rattle.chunk_layout.specs.Pieces.{size_at, total, only}
 use Rattle.chunk_contexts.specs.Set.{SetState, new_set, set_reset}
 use Rattle.context_tree.specs.Contexts.{no_context, reset_context, held_by}
-use Rattle.context_tree.specs.Links.{parent_of, is_below, is_under, cleared}
+use Rattle.context_tree.specs.Links.{parent_of, stamp_of, is_below, is_under, cleared}
 use Rattle.context_tree.specs.Tree.{TreeState, IsWhole, has_stamp, is_there, context_at, reset}
 use Rattle.context_tree.specs.declared.context.Context.{Context}
 use Rattle.context_tree.specs.declared.context.Context.TheVariants.{AllocSet, Slab, Generation, Bump}
@@ -55,7 +55,7 @@ module _ (tree : TreeState) (id : ContextId) where
   pub not_parent : IsWhole tree → (p : ℕ) → parent_of (get_or tree.links id.slot None) ≡ Some p → gone p ≡ false
   unfolding is_below
   not_parent whole p up =
-      ap (λ b. b && not (p == id.slot)) (not_above tree.links whole.forest p id.slot p (parent_is tree.links whole.forest id.slot (get_or tree.links id.slot None) refl p up).0)
+      ap (λ b. b && not (p == id.slot)) (not_above tree.links whole.forest (stamp_of (get_or tree.links p None)) id.slot p (parent_is tree.links whole.forest id.slot (get_or tree.links id.slot None) refl p up).0)
 
 -- a table stays in its place when one of its contexts is reset
 module _ {H : Type 0} (t : TableState H) (tree : TreeState) (id : ContextId) (is : IsPlaced t tree) (after : IsWhole (reset tree id))

@@ -4,7 +4,7 @@ use Rattle.std.proofs.Common.{inl, inr, sym, ◌∙◌, ap, subst, arith}
 use Rattle.std.proofs.lemmas.Bool.{cases_eq, cond-false, false≢true}
 use Rattle.std.proofs.lemmas.List.{get_or-set_other, ext_get_or}
 use Rattle.context_tree.specs.Contexts.{no_context, reset_context, held_by}
-use Rattle.context_tree.specs.Links.{parent_of, is_true_of, leads_to, is_below, is_under, cleared}
+use Rattle.context_tree.specs.Links.{parent_of, stamp_of, is_true_of, leads_to, is_below, is_under, cleared}
 use Rattle.context_tree.specs.Tree.{TreeState, context_at, with_context, without_slots, reset, held_below, held_from}
 use Rattle.context_tree.specs.declared.context.Context.{Context}
 use Rattle.context_tree.specs.declared.links.ContextId.{ContextId}
@@ -52,9 +52,22 @@ module _ (gone : ℕ → Bool) (ls : List (Option Link)) (above : ℕ) where
       ∙ parent_less (gone slot) (get_or ls slot None) (leads_to steps now above)
       (test_less (parent_of (get_or ls slot None)) (leads_to steps ls above) (leads_to steps now above) (λ x. leads_less steps x) both.1)
 
+  -- from a link that is cleared one comes nowhere else
+  not_itself : (steps slot : ℕ) → leads_to steps ls above slot ≡ false → (slot == above) ≡ false
+  unfolding leads_to
+  not_itself zero slot e = e
+  not_itself (suc steps) slot e = (or_false (slot == above) (is_true_of (parent_of (get_or ls slot None)) (leads_to steps ls above)) e).0
+
+  less_by : (slot : ℕ) (goes : Bool) → leads_to (stamp_of (get_or ls slot None)) ls above slot ≡ false → leads_to (stamp_of (cond goes None (get_or ls slot None))) now above slot ≡ false
+  unfolding leads_to
+  less_by slot true e = not_itself (stamp_of (get_or ls slot None)) slot e
+  less_by slot false e = leads_less (stamp_of (get_or ls slot None)) slot e
+
   pub below_less : (slot : ℕ) → is_below ls above slot ≡ false → is_below now above slot ≡ false
   unfolding is_below
-  below_less slot e = leads_less slot slot e
+  below_less slot e =
+      ap (λ (l : Option Link). leads_to (stamp_of l) now above slot) (cleared_at gone None ls slot)
+      ∙ less_by slot (gone slot) e
 
   -- and no more is held
   held_less : (place : ℕ) (cs : List Context) → held_from now above place (cleared gone no_context place cs) ≤ held_from ls above place cs

@@ -409,7 +409,7 @@ module _ {H : Type 0} (before after : TreeState) (parent : ContextId) (width : �
 
   pub holds_fresh : held_below before parent ≡ 0 → HoldsKeys fresh after
   holds_fresh none = record {
-    alone = omega (arith, none, is.held, ap held_by is.set, ap held_by is.run, ap held_by is.slab);
+    alone = omega (arith, none, is.held parent, ap held_by is.set, ap held_by is.run, ap held_by is.slab);
     in_buckets = subst (IsSetWith (HoldsArray None 0)) (sym is.set) refl;
     in_keys = subst (IsRunWith (HoldsKeyBlocks [])) (sym is.run) new_run_holds;
     in_states = subst (IsSlabWith (HoldsStates width 0)) (sym is.slab) (new_slab_holds width);

@@ -17,7 +17,7 @@ use Rattle.group_table.specs.Standing.{IsChild, IsApart}
 use Rattle.group_table.specs.declared.children.Children.{Children}
 
 -- the three contexts of a table of states of this many bytes are there below another, empty, and neither below one another
--- nor in the slot of one that was there before; all that were there are as before, and no more is held
+-- nor in the slot of one that was there before; all that were there are as before, and no more is held below any
 pub record AreMade (before after : TreeState) (parent : ContextId) (width : ℕ) (made : Children) : Type 0 where
   pub parent_there : is_there after parent ≡ true
   pub buckets : IsChild after parent made.buckets
@@ -29,7 +29,7 @@ pub record AreMade (before after : TreeState) (parent : ContextId) (width : ℕ)
   pub set : context_at after made.buckets ≡ AllocSet new_set
   pub run : context_at after made.keys ≡ Bump new_run
   pub slab : context_at after made.states ≡ Slab (new_slab width)
-  pub held : held_below after parent ≡ held_below before parent
+  pub held : (above : ContextId) → held_below after above ≡ held_below before above
   pub fresh : (id : ContextId) → is_there before id ≡ true
       → (is_there after id ≡ true) × (context_at after id ≡ context_at before id) × (id.slot ≢ made.buckets.slot) × (id.slot ≢ made.keys.slot) × (id.slot ≢ made.states.slot)
   pub links : (id : ContextId) → is_there before id ≡ true → get_or after.links id.slot None ≡ get_or before.links id.slot None
@@ -41,11 +41,13 @@ IsRefusedOf number before e = ((e ≡ StampsSpent) × (18446744073709551615 < be
 abbrev pub IsRefused : TreeState → TreeError → Type 0
 IsRefused before e = IsRefusedOf 3 before e
 
--- the same contexts are there as before, each as it was, and as much is held below one
-pub record IsAsBefore (before after : TreeState) (parent : ContextId) : Type 0 where
+-- the same contexts are there as before, each as it was and below the one that it was made below, and as much is held
+-- below any
+pub record IsAsBefore (before after : TreeState) : Type 0 where
   pub there : (id : ContextId) → is_there after id ≡ is_there before id
   pub same : (id : ContextId) → is_there before id ≡ true → context_at after id ≡ context_at before id
-  pub held : held_below after parent ≡ held_below before parent
+  pub links : (id : ContextId) → is_there before id ≡ true → get_or after.links id.slot None ≡ get_or before.links id.slot None
+  pub held : (above : ContextId) → held_below after above ≡ held_below before above
 
 -- the links and the contexts are those from before, slot by slot; there may be more free slots at the end
 pub record IsSameBySlot (before after : TreeState) : Type 0 where
@@ -66,7 +68,7 @@ pub record AreNew (before after : TreeState) (parent : ContextId) (width : ℕ) 
   pub states_new : IsNew between after parent (kind.Slab width) states
   pub whole : IsWhole after
 
--- a new table has no group, its contexts hold nothing, and all others are as before
+-- a new table has no group, its contexts hold nothing, all others are as before, and as much is held below any
 pub record IsNewTable {H : Type 0} (before after : TreeState) (parent : ContextId) (width : ℕ) (hash : H) (t : TableState H) : Type 0 where
   pub slots : t.slots ≡ []
   pub array : t.array ≡ None
@@ -76,7 +78,7 @@ pub record IsNewTable {H : Type 0} (before after : TreeState) (parent : ContextI
   pub buckets : held_by (context_at after t.buckets) ≡ 0
   pub keys : held_by (context_at after t.keys) ≡ 0
   pub states : held_by (context_at after t.states) ≡ 0
-  pub held : held_below after parent ≡ held_below before parent
+  pub held : (above : ContextId) → held_below after above ≡ held_below before above
   pub others : (id : ContextId) → is_there before id ≡ true
       → (is_there after id ≡ true) × (context_at after id ≡ context_at before id) × (id.slot ≢ t.buckets.slot) × (id.slot ≢ t.keys.slot) × (id.slot ≢ t.states.slot)
   pub links : (id : ContextId) → is_there before id ≡ true → get_or after.links id.slot None ≡ get_or before.links id.slot None

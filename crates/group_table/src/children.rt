@@ -26,7 +26,7 @@ pub(crate) fn make_children(
     requires width { width ≤ 65535 }
     ensures made { IfOk result (AreMade tree.old tree.new parent width) }
     ensures refused { IfErr result (IsRefused tree.old) }
-    ensures as_before { OnErr result (IsAsBefore tree.old tree.new parent) }
+    ensures as_before { OnErr result (IsAsBefore tree.old tree.new) }
 {
     tree.is_whole();
     let buckets = tree.create(parent, Kind::AllocSet)?;

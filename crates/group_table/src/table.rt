@@ -118,7 +118,7 @@ impl<H: KeyHash + Drop> GroupTable<H> {
         ensures made { IfOk result (IsNewTable tree.old tree.new parent width hash) }
         ensures holds { IfOk result (λ table. held_below tree.old parent ≡ 0 → HoldsKeys table tree.new) }
         ensures refused { IfErr result (IsRefused tree.old) }
-        ensures as_before { OnErr result (IsAsBefore tree.old tree.new parent) }
+        ensures as_before { OnErr result (IsAsBefore tree.old tree.new) }
     {
         let Children {
             buckets,

@@ -1,12 +1,12 @@
 -- Two tables stay beside one another.
-use Rattle.std.specs.Prelude.{◌≡◌, ◌≢◌, refl, ℕ, true, false, List, Option, Some, None, get_or, is_some}
-use Rattle.std.proofs.Common.{sym, ◌∙◌, ap, subst, arith}
-use Rattle.std.proofs.lemmas.Bool.{false≢true}
+use Rattle.std.specs.Prelude.{◌≡◌, ◌≢◌, refl, ℕ, ◌<◌, true, false, List, Option, Some, None, get_or, is_some}
+use Rattle.std.proofs.Common.{inl, inr, sym, ◌∙◌, ap, subst, arith}
+use Rattle.std.proofs.lemmas.Bool.{cases_eq, false≢true}
 use Rattle.context_tree.specs.Links.{parent_of, is_true_of, is_below, IsForest}
 use Rattle.context_tree.specs.Tree.{TreeState, is_there, id_in, parent_id}
 use Rattle.context_tree.specs.declared.links.ContextId.{ContextId}
 use Rattle.context_tree.specs.declared.links.Link.{Link}
-use Rattle.context_tree.proofs.Forest.{parent-is, below-other, not-below}
+use Rattle.context_tree.proofs.Forest.{below-other, root-not-below}
 use Rattle.group_table.specs.Table.{TableState, IsSameBut}
 use Rattle.group_table.specs.Standing.{IsPlaced, IsTableIn, KeepsOthers, IsBeside, KeepsBeside, IsSameFor}
 use Rattle.group_table.specs.Children.{IsNewTable}
@@ -100,10 +100,14 @@ module _ {H : Type 0} (hash_of : H → List ℕ → ℕ) (tree after : TreeState
     up_from : (above slot p : ℕ) → slot ≢ above → parent_of (get_or tree.links slot None) ≡ Some p → is_below tree.links above p ≡ false → is_below tree.links above slot ≡ false
     up_from above slot p differ up beside = below-other tree.links forest above slot differ ∙ ap (λ (q : Option ℕ). is_true_of q (is_below tree.links above)) up ∙ beside
 
+    not_root : (slot p : ℕ) → parent_of (get_or tree.links slot None) ≡ Some p → 0 < slot
+    not_root slot p up = elim (cases_eq slot 0) [
+      | inl same ↦ absurd (false≢true (ap is_some (sym forest.top ∙ ap (λ (k : ℕ). parent_of (get_or tree.links k None)) (sym same) ∙ up)))
+      | inr ne ↦ omega (arith, ne)
+    ]
+
     parent_beside : (id : ContextId) → parent_of (get_or tree.links id.slot None) ≡ Some left.parent.slot → right.parent.slot ≢ id.slot → is_below tree.links id.slot right.parent.slot ≡ false
-    parent_beside id up differ =
-        up_from id.slot right.parent.slot 0 differ are.up
-        (not-below tree.links forest id.slot 0 (let low = (parent-is tree.links forest id.slot (get_or tree.links id.slot None) refl left.parent.slot up).0 in omega (arith, low)))
+    parent_beside id up differ = up_from id.slot right.parent.slot 0 differ are.up (root-not-below tree.links forest id.slot (not_root id.slot left.parent.slot up))
 
     child_beside : (id child : ContextId) → parent_of (get_or tree.links id.slot None) ≡ Some left.parent.slot → right.parent.slot ≢ id.slot → parent_of (get_or tree.links child.slot None) ≡ Some right.parent.slot → child.slot ≢ id.slot
         → is_below tree.links id.slot child.slot ≡ false

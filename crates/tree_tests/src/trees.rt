@@ -407,3 +407,42 @@ fn tell_slots(
 fn slots_are_used_again(rt: HostRuntime) -> Result<(), Fail> {
     expect_told(of_tree(rt.alloc(), 0, tell_slots), "true Ok(2001) ")
 }
+
+/// Makes a context below one that is in a high slot, and another below the root, and deletes both. Answers the higher slot.
+fn make_in_turn(tree: &mut Tree, root: ContextId, high: ContextId) -> Result<u32, TreeError> {
+    let below = tree.create(high, Kind::Bump)?;
+    let beside = tree.create(root, Kind::Bump)?;
+    tree.delete(below)?;
+    tree.delete(beside)?;
+    Ok(below.slot.max(beside.slot))
+}
+
+/// The highest slot of a million rounds, in each of which contexts are made below a high slot and below the root.
+fn highest_in_turn(tree: &mut Tree, root: ContextId) -> Result<u32, TreeError> {
+    let first = tree.create(root, Kind::Bump)?;
+    let second = tree.create(root, Kind::Bump)?;
+    let high = tree.create(root, Kind::Bump)?;
+    tree.delete(first)?;
+    tree.delete(second)?;
+    let mut highest = high.slot;
+    for _ in 0..1_000_000 {
+        highest = make_in_turn(tree, root, high)?.max(highest);
+    }
+    Ok(highest)
+}
+
+/// Tells the highest slot of many contexts of which three live at once, and the next stamp.
+fn tell_rounds(
+    alloc: Global,
+    tree: &mut Tree,
+    root: ContextId,
+    text: &mut String,
+) -> Result<(), TreeError> {
+    tell(alloc, text, highest_in_turn(tree, root))?;
+    tell(alloc, text, next_stamp(tree, root))
+}
+
+#[test]
+fn slots_stay_few_below_any_slot(rt: HostRuntime) -> Result<(), Fail> {
+    expect_told(of_tree(rt.alloc(), 0, tell_rounds), "Ok(3) Ok(2000004) ")
+}

@@ -1,5 +1,5 @@
 use Rattle.std.proofs.Common.{Option, sym, ap, ◌∙◌, subst}
-use Rattle.context_tree.specs.Tree.{TreeState, has_stamp}
+use Rattle.context_tree.specs.Tree.{has_stamp}
 use Rattle.context_tree.specs.declared.kind.Kind.TheVariants as kind
 use Rattle.context_tree.specs.declared.links.Link.{Link}
 use Rattle.group_table.specs.Children.{IsNew, IsAsBefore}
@@ -30,6 +30,6 @@ pub returns-in-Err-clause-as_before : goal.returns-in-Err-clause-as_before
 returns-in-Err-clause-as_before c =
     let made = c.in_ok-buckets.ensures in let buckets = c.in_ok-buckets.buckets in
     let new : IsNew c.args.tree.now c.create.new.self c.args.parent kind.AllocSet buckets = record { free = made.fresh; low = made.low; is = made.made } in
-    subst (λ (t : TreeState). IsAsBefore c.args.tree.now t c.args.parent) (sym c.take_back.ensures)
-    (as_before c.args.tree.now _ c.args.parent
+    subst (IsAsBefore c.args.tree.now) (sym c.take_back.ensures)
+    (as_before c.args.tree.now _
     (taken_back c.args.tree.now c.is_whole.ensures c.create.new.self c.args.parent buckets kind.AllocSet new c.make_keys_and_states.new.tree c.in-Err.ensures.same))

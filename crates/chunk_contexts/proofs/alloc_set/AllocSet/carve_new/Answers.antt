@@ -1,4 +1,4 @@
-use Rattle.std.proofs.Common.{◌≡◌, ◌+◌, ◌-◌, ◌∷◌, ℕ, List, [], Option, Some, None, true, refl, sym, ap, ◌∙◌, subst, arith}
+use Rattle.std.proofs.Common.{◌≡◌, ◌+◌, ◌-◌, ◌∷◌, ℕ, List, get_or, [], Option, Some, None, true, refl, sym, ap, ◌∙◌, subst, arith}
 use Rattle.chunk_layout.specs.Pieces.{Layout, Piece, has, total, with_block}
 use Rattle.chunk_layout.specs.declared.place.Place.{Place}
 use Rattle.chunk_contexts.specs.declared.active.Active.{Active}
@@ -89,3 +89,8 @@ returns-clause-held c =
     let cut = cut-is l c.take_block.new.self c.cut_up.new.self.layout x.active b size c.in_ok-block.ensures.taken c.cut_up.ensures.cut in
     total-taken c.args.self.now l c.carve.new.layout b size (ap (λ (s : SetState). s.blocks) c.self.view_is) c.in_ok-block.ensures.was_free.1 (ap (λ (z : Layout). z.blocks) c.carve.ensures.carved ∙ ap (λ (z : Layout). z.blocks) cut)
     ∙ ap (λ (n : ℕ). total c.args.self.now.blocks + n) (c.block_size-size.ensures.value ∙ ap (λ (s : SetState). block_size s.next c.args.room) c.self.view_is)
+
+pub returns-clause-vacant : goal.returns-clause-vacant
+returns-clause-vacant c =
+    let none : get_or c.args.self.now.blocks c.in_ok-block.block None ≡ None = ap (λ (s : SetState). get_or s.blocks c.in_ok-block.block None) (sym c.self.view_is) ∙ c.in_ok-block.ensures.was_free.1 in
+    subst (λ (k : ℕ). get_or c.args.self.now.blocks k None ≡ None) (ap (λ (q : Place). q.block) (sym c.carve.ensures.place)) none

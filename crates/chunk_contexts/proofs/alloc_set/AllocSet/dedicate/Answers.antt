@@ -1,4 +1,4 @@
-use Rattle.std.proofs.Common.{◌≡◌, ◌≢◌, ◌+◌, ◌-◌, ◌∷◌, ℕ, [], true, false, inl, sym, ap, ◌∙◌, subst, arith}
+use Rattle.std.proofs.Common.{◌≡◌, ◌≢◌, ◌+◌, ◌-◌, ◌∷◌, ℕ, None, get_or, [], true, false, inl, sym, ap, ◌∙◌, subst, arith}
 use Rattle.chunk_layout.specs.Every.{Every}
 use Rattle.chunk_layout.specs.Pieces.{Layout, Piece, has, with_piece, with_block, size_at, IsClear}
 use Rattle.chunk_layout.specs.declared.place.Place.{Place}
@@ -60,3 +60,6 @@ returns-clause-held c =
     let x = c.self.inside in let l = x.lists.layout in let b = c.in_ok-block.block in
     total-taken c.args.self.now l c.carve.new.self b (c.args.room + 8) (ap (λ (s : SetState). s.blocks) c.self.view_is) c.in_ok-block.ensures.was_free.1
     (ap (λ (z : Layout). z.blocks) c.carve.ensures ∙ ap (λ (z : Layout). z.blocks) c.in_ok-block.ensures.taken)
+
+pub returns-clause-vacant : goal.returns-clause-vacant
+returns-clause-vacant c = ap (λ (s : SetState). get_or s.blocks c.in_ok-block.block None) (sym c.self.view_is) ∙ c.in_ok-block.ensures.was_free.1

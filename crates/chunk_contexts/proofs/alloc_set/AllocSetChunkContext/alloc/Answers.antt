@@ -1,10 +1,10 @@
-use Rattle.std.proofs.Common.{◌≡◌, List, [], length, true, sym, ap, ◌∙◌, arith}
+use Rattle.std.proofs.Common.{◌≡◌, List, [], length, true, sym, ap, ◌∙◌, subst, arith}
 use Rattle.chunk_layout.specs.Pieces.{Piece, has, piece_at, place_of}
 use Rattle.chunk_layout.specs.declared.place.ChunkName.{ChunkName}
 use Rattle.chunk_layout.proofs.Finding.{place-same}
 use Rattle.chunk_layout.proofs.PieceLaws.{piece_at-first}
-use Rattle.chunk_contexts.specs.Chunks.{chunk_of}
-use Rattle.chunk_contexts.specs.Set.{SetState, set_room, set_taken, set_put}
+use Rattle.chunk_contexts.specs.Chunks.{chunk_of, IsNewBlock}
+use Rattle.chunk_contexts.specs.Set.{SetState, set_growth, set_room, set_taken, set_put}
 use Rattle.chunk_contexts.proofs.SetMoves.{taken-chunks, put-taken}
 use Rattle.chunk_contexts.proofs.Content.{added-keeps}
 use Rattle.chunk_contexts.proofs.alloc_set.AllocSetChunkContext.alloc.Goals as goal
@@ -38,3 +38,8 @@ pub returns-clause-keeps : goal.returns-clause-keeps
 returns-clause-keeps c =
     let s = c.args.self.now in let n = length c.args.bytes.now in
     added-keeps s.chunks c.write.new.self.chunks c.write.result (set_room n) c.args.bytes.now (returns-clause-added c)
+
+pub returns-clause-lies : goal.returns-clause-lies
+returns-clause-lies c =
+    let s = c.args.self.now in
+    subst (λ (m : ChunkName). IsNewBlock (set_growth s (length c.args.bytes.now)) s.blocks m.block) (sym c.write.ensures.name) c.in_ok-place.ensures.lies

@@ -1,12 +1,12 @@
-use Rattle.std.proofs.Common.{◌≡◌, List, [], true, sym, ap, ◌∙◌, arith}
+use Rattle.std.proofs.Common.{◌≡◌, List, [], true, sym, ap, ◌∙◌, subst, arith}
 use Rattle.block_memory.specs.Cells.{zeros}
 use Rattle.block_memory.proofs.CellLemmas.{length-zeros}
 use Rattle.chunk_layout.specs.Pieces.{Piece, has, piece_at, place_of}
 use Rattle.chunk_layout.specs.declared.place.ChunkName.{ChunkName}
 use Rattle.chunk_layout.proofs.Finding.{place-same}
 use Rattle.chunk_layout.proofs.PieceLaws.{piece_at-first}
-use Rattle.chunk_contexts.specs.Chunks.{chunk_of}
-use Rattle.chunk_contexts.specs.Set.{SetState, set_room, set_taken, set_put}
+use Rattle.chunk_contexts.specs.Chunks.{chunk_of, IsNewBlock}
+use Rattle.chunk_contexts.specs.Set.{SetState, set_growth, set_room, set_taken, set_put}
 use Rattle.chunk_contexts.proofs.SetMoves.{taken-chunks, put-taken}
 use Rattle.chunk_contexts.proofs.Content.{added-lives, added-keeps}
 use Rattle.chunk_contexts.proofs.alloc_set.AllocSetChunkContext.alloc_zeroed.Goals as goal
@@ -41,3 +41,8 @@ returns-clause-lives c = added-lives c.args.self.now.chunks c.write_zeros.new.se
 
 pub returns-clause-keeps : goal.returns-clause-keeps
 returns-clause-keeps c = added-keeps c.args.self.now.chunks c.write_zeros.new.self.chunks c.write_zeros.result (set_room c.args.n) (zeros c.args.n) (returns-clause-added c)
+
+pub returns-clause-lies : goal.returns-clause-lies
+returns-clause-lies c =
+    let s = c.args.self.now in
+    subst (λ (m : ChunkName). IsNewBlock (set_growth s (c.args.n)) s.blocks m.block) (sym c.write_zeros.ensures.name) c.in_ok-place.ensures.lies

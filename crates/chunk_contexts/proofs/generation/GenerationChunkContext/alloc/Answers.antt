@@ -4,7 +4,7 @@ use Rattle.chunk_layout.specs.Pieces.{total}
 use Rattle.chunk_contexts.specs.declared.runs.Runs.{Runs}
 use Rattle.chunk_contexts.specs.Chunks.{chunk_of, Adds}
 use Rattle.chunk_contexts.specs.Rooms.{rounded}
-use Rattle.chunk_contexts.specs.Run.{RunState, run_of, run_growth, run_taken}
+use Rattle.chunk_contexts.specs.Run.{RunState, run_of, run_growth, run_taken, IsBlockOf}
 use Rattle.chunk_contexts.specs.Generation.{IsCounted}
 use Rattle.chunk_contexts.proofs.Content.{added-lives, added-holds, added-keeps}
 use Rattle.chunk_contexts.proofs.GenAllocs.{made-there, made-counted, made-block, counted-longer, refused-count, refused-as}
@@ -30,6 +30,7 @@ returns-in_err-make_count c =
       lives = tt;
       holds = tt;
       block = tt;
+      lies = tt;
       keeps = tt;
       space = tt;
       grown = tt;
@@ -46,6 +47,7 @@ returns-in_err-name c =
       lives = tt;
       holds = tt;
       block = tt;
+      lies = tt;
       keeps = tt;
       space = tt;
       grown = tt;
@@ -63,6 +65,7 @@ returns c =
       lives = added-lives _ _ name (rounded n) bytes added;
       holds = added-holds _ _ name (rounded n) bytes added;
       block = made-block 8 after _ name (rounded n) bytes told.run added;
+      lies = subst (λ (s : RunState). IsBlockOf s (run_growth 8 s n) name.block) c.self.view_is told.block;
       keeps = added-keeps _ _ name (rounded n) bytes added;
       space = told.space ∙ ap (λ (s : RunState). run_taken 8 s (chunk_of name (rounded n) bytes)) c.self.view_is;
       grown = told.grown ∙ ap (λ (s : RunState). total s.blocks + run_growth 8 s n) c.self.view_is;

@@ -1,18 +1,18 @@
-use Rattle.std.proofs.Common.{◌≡◌, ◌∷◌, ℕ, List, true, false, refl, sym, ap, ◌∙◌, subst, arith}
+use Rattle.std.proofs.Common.{◌≡◌, ◌+◌, ◌∷◌, ℕ, List, true, false, refl, sym, ap, ◌∙◌, subst, arith}
 use Rattle.std.proofs.lemmas.Result.{err_from_is_err_and}
 use Rattle.block_memory.specs.Cells.{zeros}
 use Rattle.block_memory.proofs.CellLemmas.{length-zeros}
-use Rattle.chunk_layout.specs.Pieces.{Piece, same_place, place_of, has, piece_at, without, resized}
+use Rattle.chunk_layout.specs.Pieces.{Piece, same_place, place_of, has, piece_at, without, resized, total}
 use Rattle.chunk_layout.specs.declared.place.Place.{Place}
 use Rattle.chunk_layout.specs.declared.place.ChunkName.{ChunkName}
 use Rattle.chunk_layout.proofs.PieceLaws.{same_place-sym, has-later, piece_at-later}
 use Rattle.chunk_contexts.specs.Chunks.{bytes_of, chunk_of, IsResized}
 use Rattle.chunk_contexts.specs.Rooms.{rounded, over_most}
-use Rattle.chunk_contexts.specs.Run.{RunState, run_put, run_taken}
+use Rattle.chunk_contexts.specs.Run.{RunState, run_growth, run_put, run_taken}
 use Rattle.chunk_contexts.specs.Generation.{gen_freed}
 use Rattle.chunk_contexts.proofs.Growth.{resize-some, resize-refused}
-use Rattle.chunk_contexts.proofs.GenMoves.{freed-chunks}
-use Rattle.chunk_contexts.proofs.RunMoves.{run-chunks, run-written}
+use Rattle.chunk_contexts.proofs.GenMoves.{freed-chunks, freed-less}
+use Rattle.chunk_contexts.proofs.RunMoves.{run-chunks, run-blocks, run-written}
 use Rattle.chunk_contexts.proofs.SetMoves.{resized-stays, resized-moved}
 use Rattle.chunk_contexts.proofs.Content.{name-there, apart-places, resized-keeps}
 use Rattle.chunk_contexts.proofs.generation.GenerationChunkContext.resize.Goals as goal
@@ -26,6 +26,9 @@ returns-in_err-check_len c =
       keeps = tt;
       stays = tt;
       moved = tt;
+      lies = tt;
+      grown = tt;
+      most = tt;
       refused = resize-some (over_most c.args.n) _ _ c.args.n e.0 _ c.in_err-check_len.ensures e.2;
       unchanged = refl;
     })
@@ -45,6 +48,9 @@ returns-then-len-room c =
       keeps = resized-keeps s.chunks c.stay.new.self.chunks name c.stay.result n is;
       stays = λ fits. state;
       moved = λ more. absurd (omega (arith, more, c.if-len-room.true, c.room.ensures, ap (λ (p : Place). (piece_at s.chunks p).room) c.place-place.ensures));
+      lies = λ more. absurd (omega (arith, more, c.if-len-room.true, c.room.ensures, ap (λ (p : Place). (piece_at s.chunks p).room) c.place-place.ensures));
+      grown = λ more. absurd (omega (arith, more, c.if-len-room.true, c.room.ensures, ap (λ (p : Place). (piece_at s.chunks p).room) c.place-place.ensures));
+      most = let same = ap (λ (t : RunState). total t.blocks) state in omega (arith, same);
       refused = tt;
       unchanged = tt;
     }
@@ -59,6 +65,9 @@ returns-in_err-moved c =
       keeps = tt;
       stays = tt;
       moved = tt;
+      lies = tt;
+      grown = tt;
+      most = tt;
       refused = resize-refused (over_most c.args.n) _ _ c.args.n e.0 _ told.refused e.2 (omega (arith, c.if-len-room.false, c.room.ensures, ap (λ (p : Place). (piece_at s.chunks p).room) c.place-place.ensures));
       unchanged = told.unchanged;
     })
@@ -103,6 +112,8 @@ returns c =
     moved-is s c.fill.new.self c.release.new.self name c.place-place.result p
     (filled-is s c.alloc_zeroed.new.self c.fill.new.self name new n (rounded n) (zeros n) there c.in_ok-moved.ensures.added.fresh c.in_ok-moved.ensures.space
     c.place-place.result c.place.result c.place-place.ensures c.place.ensures c.fill.ensures) c.release.ensures c.place-place.ensures in
+    let grown : total (run_taken 8 s p).blocks ≡ total s.blocks + run_growth 8 s n =
+    ap total (run-blocks 8 s (place_of new) (rounded n) p.bytes (zeros n) ∙ ap (λ (t : RunState). t.blocks) (sym c.in_ok-moved.ensures.space)) ∙ c.in_ok-moved.ensures.grown in
     let chunks : c.release.new.self.chunks ≡ without (p ∷ s.chunks) (place_of name) =
     ap (λ (t : RunState). t.chunks) state ∙ freed-chunks (run_taken 8 s p) (place_of name) ∙ ap (λ (cs : List Piece). without cs (place_of name)) (run-chunks 8 s p) in
     let is : IsResized s.chunks c.release.new.self.chunks name new n =
@@ -114,6 +125,12 @@ returns c =
       keeps = resized-keeps s.chunks c.release.new.self.chunks name new n is;
       stays = λ fits. absurd (omega (arith, fits, c.if-len-room.false, c.room.ensures, ap (λ (p : Place). (piece_at s.chunks p).room) c.place-place.ensures));
       moved = λ more. state;
+      lies = λ _. c.in_ok-moved.ensures.lies;
+      grown = λ _. grown;
+      most =
+          let same = ap (λ (t : RunState). total t.blocks) state in
+          let less = freed-less (run_taken 8 s p) (place_of name) in
+          omega (arith, same, less, grown);
       refused = tt;
       unchanged = tt;
     }

@@ -2,7 +2,7 @@ use Rattle.std.proofs.Common.{◌≡◌, ◌+◌, None, refl, length, sym, ap, �
 use Rattle.std.proofs.lemmas.Result.{err_from_is_err_and}
 use Rattle.chunk_layout.specs.Every.{Every}
 use Rattle.chunk_layout.specs.Pieces.{Piece, total}
-use Rattle.chunk_contexts.specs.Chunks.{live, chunk_of, Adds}
+use Rattle.chunk_contexts.specs.Chunks.{live, chunk_of, Adds, IsNewBlock}
 use Rattle.chunk_contexts.specs.Rooms.{over_most, rounded}
 use Rattle.chunk_contexts.specs.Slab.{SlabState, slab_of, slab_refusal, slab_grows, slab_growth, slab_taken}
 use Rattle.chunk_contexts.proofs.Content.{added-lives, added-holds, added-keeps}
@@ -20,6 +20,7 @@ returns-in_err-check_size c =
       lives = tt;
       holds = tt;
       block = tt;
+      lies = tt;
       keeps = tt;
       space = tt;
       grown = tt;
@@ -39,6 +40,7 @@ returns-in_err-name c =
       lives = tt;
       holds = tt;
       block = tt;
+      lies = tt;
       keeps = tt;
       space = tt;
       grown = tt;
@@ -61,6 +63,7 @@ returns c =
       lives = added-lives _ _ name (rounded n) bytes added;
       holds = added-holds _ _ name (rounded n) bytes added;
       block = added-housed after told.chunks _ name (rounded n) bytes added;
+      lies = subst (λ (s : SlabState). IsNewBlock (slab_grows s) s.blocks name.block) c.self.view_is told.lies;
       keeps = added-keeps _ _ name (rounded n) bytes added;
       space = told.taken ∙ ap (λ m. slab_taken (slab_of c.self.inside.inner) (chunk_of name (rounded m) bytes)) (sym same) ∙ ap (λ (s : SlabState). slab_taken s (chunk_of name (rounded n) bytes)) c.self.view_is;
       grown = told.grown ∙ ap (λ (s : SlabState). total s.blocks + slab_grows s) c.self.view_is ∙ ap (λ g. total now.blocks + g) (sym (slab-grown now n none));

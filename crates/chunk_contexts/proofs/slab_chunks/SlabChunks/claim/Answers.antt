@@ -1,4 +1,4 @@
-use Rattle.std.proofs.Common.{◌≡◌, ◌<◌, [], true, false, ap, arith}
+use Rattle.std.proofs.Common.{◌≡◌, ◌<◌, ℕ, None, get_or, sym, subst, [], true, false, ap, arith}
 use Rattle.chunk_layout.specs.Pieces.{Piece, total}
 use Rattle.chunk_contexts.specs.Rooms.{rounded}
 use Rattle.chunk_contexts.specs.Slab.{SlabState, slab_of, slab_grows, has_spare}
@@ -37,3 +37,14 @@ returns-clause-grown c =
     let s = c.args.self.now in
     let spare : has_spare (slab_of s) ≡ false = spare-unmarked s.size s.per s.layout s.blocks.items s.spare c.requires.chunks c.in_default.ensures.none in
     grown-total (slab_of s) spare (slab_of c.grow.new.self) (slab_of c.take-2.new.self) c.in_ok-block.block c.in_ok-block.ensures.grown c.take-2.result c.take-2.ensures.block c.take-2.ensures.taken c.in_ok-block.ensures.vacant
+
+pub returns-in-Some-clause-lies : goal.returns-in-Some-clause-lies
+returns-in-Some-clause-lies c = λ grows.
+    let s = c.args.self.now in let p : Piece = record { place = c.take.result; room = rounded s.size; is_live = true; bytes = [] } in
+    let none = grows-none (slab_of s) p (spare-marked s.size s.per s.layout s.blocks.items s.spare c.requires.chunks c.in-Some.block c.in-Some.ensures.some.1) in
+    absurd (omega (arith, grows, none))
+
+pub returns-clause-lies : goal.returns-clause-lies
+returns-clause-lies c _ =
+    let s = c.args.self.now in
+    subst (λ (k : ℕ). get_or (slab_of s).blocks k None ≡ None) (sym c.take-2.ensures.block) c.in_ok-block.ensures.vacant

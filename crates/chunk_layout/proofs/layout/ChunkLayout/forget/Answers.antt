@@ -7,10 +7,10 @@ pub invariant_of-self : goal.invariant_of-self
 invariant_of-self c =
     let x = c.self.inside in
     let y : Inside = record { head = x.head; blocks = x.blocks; vacant = x.vacant; held = x.held; notes = c.add.new.self; alloc = x.alloc } in
-    fields-gone c.self.inside c.self.invariant c.args.self.now c.self.view_is c.args.place y refl refl refl c.add.ensures
+    fields-gone c.self.inside c.self.invariant c.args.self.now c.self.view_is c.args.place y refl refl refl refl c.add.ensures
 
 pub returns : goal.returns
 returns c =
     let x = c.self.inside in
     let y : Inside = record { head = x.head; blocks = x.blocks; vacant = x.vacant; held = x.held; notes = c.add.new.self; alloc = x.alloc } in
-    layout-gone c.self.inside c.self.invariant c.args.self.now c.self.view_is c.args.place y refl refl refl c.add.ensures
+    layout-gone c.self.inside c.self.invariant c.args.self.now c.self.view_is c.args.place y refl refl refl refl c.add.ensures

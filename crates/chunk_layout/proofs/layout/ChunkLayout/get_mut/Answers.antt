@@ -36,7 +36,7 @@ invariant_of-self-lent c =
     ap cells_of (ap option_copied_mut (sym c.unwrap-block.ensures) ∙ c.as_mut.ensures.value ∙ c.index_mut.ensures.value ∙ get_or_default x.blocks.items b c.index_mut.result.now None low) in
     λ w.
     let y : Inside = record { head = x.head; blocks = with_item x.blocks b (Some (with_bytes c.unwrap-block.result.now c.args.place.offset (take c.args.len w))); vacant = x.vacant; held = x.held; notes = x.notes; alloc = x.alloc } in
-    fields-lent x c.self.invariant c.args.self.now c.self.view_is c.args.place c.requires.there c.args.len c.requires.len w y refl refl
+    fields-lent x c.self.invariant c.args.self.now c.self.view_is c.args.place c.requires.there c.args.len c.requires.len w y refl refl refl
     (ap (λ (cells : Cells). (with_item x.blocks b (Some (with_bytes cells c.args.place.offset (take c.args.len w)))).items) there) refl
 
 pub returns : goal.returns
@@ -49,7 +49,7 @@ returns c =
         refl,
         λ w.
             let y : Inside = record { head = x.head; blocks = with_item x.blocks b (Some (with_bytes c.unwrap-block.result.now c.args.place.offset (take c.args.len w))); vacant = x.vacant; held = x.held; notes = x.notes; alloc = x.alloc } in
-            layout-lent x c.self.invariant c.args.self.now c.self.view_is c.args.place c.requires.there c.args.len c.requires.len w y refl refl
+            layout-lent x c.self.invariant c.args.self.now c.self.view_is c.args.place c.requires.there c.args.len c.requires.len w y refl refl refl
             (ap (λ (cells : Cells). (with_item x.blocks b (Some (with_bytes cells c.args.place.offset (take c.args.len w)))).items) there) refl,
       ),
       record {

@@ -18,11 +18,11 @@ invariant_of-self c =
     let x = c.self.inside in let d = c.drop_block-size in
     let low : c.args.block < length x.blocks.items = omega (arith, length-map x.blocks.items (option_map {T = Cells} length), subst (λ (l : Layout). c.args.block < length l.blocks) (sym c.self.view_is) c.requires) in
     let y : Inside = record { head = x.head; blocks = d.new.blocks; vacant = d.new.vacant; held = x.held - d.result; notes = c.add.new.self; alloc = x.alloc } in
-    fields-dropped x c.self.invariant c.args.self.now c.self.view_is c.args.block low y refl (ap (λ (n : ℕ). x.held - n) d.ensures.size) d.ensures.blocks c.add.ensures
+    fields-dropped x c.self.invariant c.args.self.now c.self.view_is c.args.block low y refl (ap (λ (n : ℕ). x.held - n) d.ensures.size) d.ensures.blocks c.add.ensures d.ensures.vacant
 
 pub returns : goal.returns
 returns c =
     let x = c.self.inside in let d = c.drop_block-size in
     let low : c.args.block < length x.blocks.items = omega (arith, length-map x.blocks.items (option_map {T = Cells} length), subst (λ (l : Layout). c.args.block < length l.blocks) (sym c.self.view_is) c.requires) in
     let y : Inside = record { head = x.head; blocks = d.new.blocks; vacant = d.new.vacant; held = x.held - d.result; notes = c.add.new.self; alloc = x.alloc } in
-    layout-dropped x c.self.invariant c.args.self.now c.self.view_is c.args.block low y refl (ap (λ (n : ℕ). x.held - n) d.ensures.size) d.ensures.blocks c.add.ensures
+    layout-dropped x c.self.invariant c.args.self.now c.self.view_is c.args.block low y refl (ap (λ (n : ℕ). x.held - n) d.ensures.size) d.ensures.blocks c.add.ensures d.ensures.vacant

@@ -23,10 +23,10 @@ overflow_add-kept c =
 
 pub invariant_of-self : goal.invariant_of-self
 invariant_of-self c =
-    fields-put c.self.inside c.self.invariant c.args.self.now c.self.view_is c.args.place c.requires.there c.args.kept c.args.bytes.now c.args.is_live c.requires.kept c.requires.room _ refl refl c.write_bytes.ensures c.add.ensures
+    fields-put c.self.inside c.self.invariant c.args.self.now c.self.view_is c.args.place c.requires.there c.args.kept c.args.bytes.now c.args.is_live c.requires.kept c.requires.room _ refl refl refl c.write_bytes.ensures c.add.ensures
 
 pub returns : goal.returns
 returns c =
     let x = c.self.inside in
     let y : Inside = record { head = x.head; blocks = c.write_bytes.new.blocks; vacant = x.vacant; held = x.held; notes = c.add.new.self; alloc = x.alloc } in
-    layout-put x c.self.invariant c.args.self.now c.self.view_is c.args.place c.requires.there c.args.kept c.args.bytes.now c.args.is_live c.requires.kept c.requires.room y refl refl c.write_bytes.ensures c.add.ensures
+    layout-put x c.self.invariant c.args.self.now c.self.view_is c.args.place c.requires.there c.args.kept c.args.bytes.now c.args.is_live c.requires.kept c.requires.room y refl refl refl c.write_bytes.ensures c.add.ensures

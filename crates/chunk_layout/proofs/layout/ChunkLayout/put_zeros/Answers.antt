@@ -27,7 +27,7 @@ invariant_of-self c =
     let x = c.self.inside in let z : List ℕ = zeros c.args.n in
     let y : Inside = record { head = x.head; blocks = c.write_zeros.new.blocks; vacant = x.vacant; held = x.held; notes = c.add.new.self; alloc = x.alloc } in
     let fits : c.args.kept + length z ≤ (piece_at c.args.self.now.pieces c.args.place).room = omega (arith, c.requires.room, length-zeros c.args.n) in
-    fields-put c.self.inside c.self.invariant c.args.self.now c.self.view_is c.args.place c.requires.there c.args.kept z true c.requires.kept fits y refl refl c.write_zeros.ensures
+    fields-put c.self.inside c.self.invariant c.args.self.now c.self.view_is c.args.place c.requires.there c.args.kept z true c.requires.kept fits y refl refl refl c.write_zeros.ensures
     (c.add.ensures ∙ ap (λ (n : ℕ). Written c.args.place (c.args.kept + n) true ∷ x.notes.notes) (sym (length-zeros c.args.n)))
 
 pub returns : goal.returns
@@ -35,5 +35,5 @@ returns c =
     let x = c.self.inside in let z : List ℕ = zeros c.args.n in
     let y : Inside = record { head = x.head; blocks = c.write_zeros.new.blocks; vacant = x.vacant; held = x.held; notes = c.add.new.self; alloc = x.alloc } in
     let fits : c.args.kept + length z ≤ (piece_at c.args.self.now.pieces c.args.place).room = omega (arith, c.requires.room, length-zeros c.args.n) in
-    layout-put c.self.inside c.self.invariant c.args.self.now c.self.view_is c.args.place c.requires.there c.args.kept z true c.requires.kept fits y refl refl c.write_zeros.ensures
+    layout-put c.self.inside c.self.invariant c.args.self.now c.self.view_is c.args.place c.requires.there c.args.kept z true c.requires.kept fits y refl refl refl c.write_zeros.ensures
     (c.add.ensures ∙ ap (λ (n : ℕ). Written c.args.place (c.args.kept + n) true ∷ x.notes.notes) (sym (length-zeros c.args.n)))

@@ -1,15 +1,18 @@
-use Rattle.std.proofs.Common.{◌≡◌, ◌+◌, ◌≤◌, true, false, List, Option, Some, None, length, get_or, refl, sym, ap, ◌∙◌, subst}
+use Rattle.std.proofs.Common.{◌≡◌, ◌+◌, ◌≤◌, true, false, List, Option, Some, None, length, get_or, refl, sym, ap, ◌∙◌, subst, arith}
 use Rattle.std.specs.Prelude.{◌==◌}
 use Rattle.std.proofs.lemmas.Bool.{eq-eqb, ne_eqb}
 use Rattle.std.proofs.lemmas.Result.{err_from_is_err_and}
 use Rattle.context_tree.specs.Contexts.{new_context}
-use Rattle.context_tree.specs.Links.{placed}
-use Rattle.context_tree.specs.Tree.{TreeState, Stamped, Emptied, with_new}
+use Rattle.context_tree.specs.Links.{placed, IsFull}
+use Rattle.context_tree.specs.Tree.{TreeState, Stamped, Emptied, IsBounded, with_new}
 use Rattle.context_tree.specs.declared.error.TreeError.TheVariants.{StampsSpent}
 use Rattle.context_tree.specs.declared.context.Context.{Context}
 use Rattle.context_tree.specs.declared.links.Link.{Link}
-use Rattle.context_tree.proofs.TreeLaws.{stamps-made, empty-made, long-made, not-made}
+use Rattle.context_tree.proofs.TreeLaws.{stamp-low, stamps-made, empty-made, bounded-made, long-made, not-made}
 use Rattle.context_tree.proofs.tree.Tree.create.Goals as goal
+
+pub add-requires-clause-later : goal.add-requires-clause-later
+add-requires-clause-later c = let low = stamp-low c.self.inside.links c.self.inside.last c.args.parent.slot c.self.invariant.stamps in omega (arith, low)
 
 pub invariant_of-self-2 : goal.invariant_of-self-2
 invariant_of-self-2 c =
@@ -22,6 +25,8 @@ invariant_of-self-2 c =
       stamps = subst (λ (ls : List (Option Link)). Stamped ls (t.last + 1)) (sym links) (stamps-made t.links t.contexts.items t.last slot was.low c.self.invariant.long link it refl c.self.invariant.stamps);
       empty = subst (λ (ls : List (Option Link)). Emptied ls c.put_context.new.contexts.items) (sym links)
           (subst (λ (cs : List Context). Emptied (placed t.links slot (Some link)) cs) (sym contexts) (empty-made t.links t.contexts.items t.last slot was.low c.self.invariant.long link it c.self.invariant.empty));
+      bounded = subst IsBounded (sym contexts)
+          (bounded-made t.links t.contexts.items t.last slot was.low c.self.invariant.long link it c.args.kind c.in_ok-context.ensures.1 was.fresh c.self.invariant.empty c.self.invariant.bounded);
     }
 
 pub returns-in_err-check : goal.returns-in_err-check
@@ -32,6 +37,7 @@ returns-in_err-check c =
       stamp = tt;
       fresh = tt;
       low = tt;
+      needed = tt;
       made = tt;
       allowed = tt;
       refused = not-made e.0 c.in_err-check.ensures.0 refl refl (e.2 ∙ c.in_err-check.ensures.1);
@@ -46,6 +52,7 @@ returns-then-self c =
       stamp = tt;
       fresh = tt;
       low = tt;
+      needed = tt;
       made = tt;
       allowed = tt;
       refused = not-made StampsSpent c.in_ok-check.ensures spent refl refl;
@@ -61,6 +68,7 @@ returns-in_err-context c =
       stamp = tt;
       fresh = tt;
       low = tt;
+      needed = tt;
       made = tt;
       allowed = tt;
       refused = not-made e.0 c.in_ok-check.ensures left c.in_err-context.ensures e.2;
@@ -76,6 +84,7 @@ returns-in_err-reserve c =
       stamp = tt;
       fresh = tt;
       low = tt;
+      needed = tt;
       made = tt;
       allowed = tt;
       refused = not-made e.0 c.in_ok-check.ensures left c.in_ok-context.ensures.0 e.2;
@@ -91,6 +100,7 @@ returns-in_err-slot c =
       stamp = tt;
       fresh = tt;
       low = tt;
+      needed = tt;
       made = tt;
       allowed = tt;
       refused = not-made e.0 c.in_ok-check.ensures left c.in_ok-context.ensures.0 e.2;
@@ -107,6 +117,7 @@ returns c =
       stamp = ap (λ (t : TreeState). t.last + 1) view;
       fresh = subst (λ (t : TreeState). get_or t.links slot None ≡ None) view was.fresh;
       low = subst (λ (t : TreeState). slot ≤ length t.links) view was.low;
+      needed = subst (λ (t : TreeState). slot ≡ length t.links → IsFull t.links) view was.needed;
       made =
           (λ i. record { links = was.added i; contexts = contexts i; last = x.last + 1 })
           ∙ ap (λ (t : TreeState). with_new t c.args.parent c.args.kind (record { slot = slot; stamp = x.last + 1 })) view;

@@ -1,4 +1,4 @@
-use Rattle.std.proofs.Common.{◌≡◌, true, false, refl, sym, subst, ◌∙◌}
+use Rattle.std.proofs.Common.{◌≡◌, true, false, refl, sym, subst, ◌∙◌, arith}
 use Rattle.std.specs.Prelude.{IsTrue}
 use Rattle.std.proofs.lemmas.Bool.{not-true}
 use Rattle.std.proofs.lemmas.Result.{err_from_is_err_and}
@@ -7,7 +7,7 @@ use Rattle.chunk_contexts.specs.Chunks.{KeepsOthers}
 use Rattle.context_tree.specs.Contexts.{chunks_of, can_free, without_chunk, has_chunk}
 use Rattle.context_tree.specs.Tree.{is_there}
 use Rattle.context_tree.specs.declared.context.Context.{Context}
-use Rattle.context_tree.proofs.TreeLaws.{old-is, said, new-by, unchanged, fields-written, refused-gone, refused-own}
+use Rattle.context_tree.proofs.TreeLaws.{old-is, fits-grown, said, new-by, unchanged, fields-written, refused-gone, refused-own}
 use Rattle.context_tree.proofs.tree.Tree.free.Goals as goal
 
 pub free-requires : goal.free-requires
@@ -15,9 +15,11 @@ free-requires c =
     let old = old-is c.self.inside c.self.invariant c.args.self.now c.self.view_is c.args.id c.in_ok-check.ensures c.deref_mut.result.now c.index-deref_mut-id.result c.deref_mut.ensures.value in
     subst (λ (a : Context). IsTrue (has_chunk a c.args.name)) (sym old) (c.requires c.in_ok-check.ensures)
 
-pub invariant_of-self : goal.invariant_of-self
-invariant_of-self c =
-    fields-written c.self.inside c.self.invariant c.args.self.now c.self.view_is c.args.id c.in_ok-check.ensures c.deref_mut.result.now c.deref_mut.ensures.value c.free.new.self
+pub invariant_of-self-2 : goal.invariant_of-self-2
+invariant_of-self-2 c =
+    let x = c.self.inside in let are = c.self.invariant in let now = c.args.self.now in let view = c.self.view_is in let id = c.args.id in let there = c.in_ok-check.ensures in
+    let d = c.deref_mut.result.now in let same = c.deref_mut.ensures.value in let new = c.free.new.self in let other = c.index-deref_mut-id.result in
+    fields-written x are now view id there d same new (fits-grown x are now view id there d same new other 0 (omega (arith, c.in_ok-free.ensures.most)) (omega (arith, are.bounded)))
 
 pub returns-in_err-check : goal.returns-in_err-check
 returns-in_err-check c =

@@ -1,22 +1,20 @@
-use Rattle.std.proofs.Common.{◌≡◌, ◌<◌, ◌≤◌, true, None, refl, sym, subst, ◌∙◌}
+use Rattle.std.proofs.Common.{◌≡◌, ◌+◌, ◌<◌, ◌≤◌, true, None, inl, inr, get_or, refl, sym, ap, subst, ◌∙◌, arith}
+use Rattle.std.proofs.lemmas.Bool.{cases_lt}
 use Rattle.std.specs.Prelude.{IsTrue}
 use Rattle.std.proofs.lemmas.Result.{err_from_is_err_and}
 use Rattle.chunk_layout.specs.Pieces.{piece_at, place_of, resized}
 use Rattle.chunk_contexts.specs.Chunks.{chunk_of, IsResized, IsResizeRefused, KeepsOthers}
-use Rattle.context_tree.specs.Contexts.{chunks_of, chunk_bytes, room_in, refusal_of, growth_of, can_free, with_resized, with_chunk, without_chunk, has_chunk}
+use Rattle.context_tree.specs.Contexts.{chunks_of, chunk_bytes, room_in, refusal_of, growth_of, can_free, may_lie_in, held_by, with_resized, with_chunk, without_chunk, has_chunk}
 use Rattle.context_tree.specs.Tree.{is_there}
 use Rattle.context_tree.specs.declared.context.Context.{Context}
-use Rattle.context_tree.proofs.TreeLaws.{old-is, said, new-by, unchanged, fields-written, refused-gone, refused-own}
+use Rattle.context_tree.proofs.Bounds.{resized-held}
+use Rattle.context_tree.proofs.TreeLaws.{old-is, read-changed, fits-asked, said, new-by, unchanged, fields-written, refused-gone, refused-own}
 use Rattle.context_tree.proofs.tree.Tree.resize.Goals as goal
 
 pub resize-requires : goal.resize-requires
 resize-requires c =
     let old = old-is c.self.inside c.self.invariant c.args.self.now c.self.view_is c.args.id c.in_ok-check.ensures c.deref_mut.result.now c.index-deref_mut-id.result c.deref_mut.ensures.value in
     subst (λ (a : Context). IsTrue (has_chunk a c.args.name)) (sym old) (c.requires c.in_ok-check.ensures)
-
-pub invariant_of-self : goal.invariant_of-self
-invariant_of-self c =
-    fields-written c.self.inside c.self.invariant c.args.self.now c.self.view_is c.args.id c.in_ok-check.ensures c.deref_mut.result.now c.deref_mut.ensures.value c.resize.new.self
 
 pub returns-in_err-check : goal.returns-in_err-check
 returns-in_err-check c =
@@ -27,6 +25,8 @@ returns-in_err-check c =
       keeps = tt;
       stays = tt;
       moved = tt;
+      lies = tt;
+      grown = tt;
       refused = refused-gone _ (is_there c.args.self.now c.args.id) e.0 c.in_err-check.ensures.0 (e.2 ∙ c.in_err-check.ensures.1);
       unchanged = refl;
     })
@@ -44,6 +44,8 @@ returns-in_err-resize c =
       keeps = tt;
       stays = tt;
       moved = tt;
+      lies = tt;
+      grown = tt;
       refused = refused-own _ (is_there now id) e.0 there own e.2 refused;
       unchanged = unchanged x are now view id there d same new other told.unchanged;
     })
@@ -65,6 +67,27 @@ returns c =
       moved = λ room.
           new-by x are now view id there d same new other (λ a. without_chunk (with_chunk a n (chunk_of to (room_in a n) (resized (chunk_bytes a name) n))) (place_of name))
           (told.moved (subst (λ (a : Context). (piece_at (chunks_of a) (place_of name)).room < n) (sym old) room));
+      lies = λ room. said (λ a _. may_lie_in a n to.block) (told.lies (subst (λ (a : Context). (piece_at (chunks_of a) (place_of name)).room < n) (sym old) room));
+      grown = λ room.
+          said (λ a _. held_by (with_chunk a n (chunk_of to (room_in a n) (resized (chunk_bytes a name) n))) ≡ held_by a + growth_of a n)
+          (told.grown (subst (λ (a : Context). (piece_at (chunks_of a) (place_of name)).room < n) (sym old) room));
       refused = tt;
       unchanged = tt;
     }
+
+pub invariant_of-self-2 : goal.invariant_of-self-2
+invariant_of-self-2 c =
+    let x = c.self.inside in let are = c.self.invariant in let now = c.args.self.now in let view = c.self.view_is in let id = c.args.id in let there = c.in_ok-check.ensures in
+    let d = c.deref_mut.result.now in let same = c.deref_mut.ensures.value in let new = c.resize.new.self in let other = c.index-deref_mut-id.result in
+    let name = c.args.name in let n = c.args.n in let told = c.in_ok-resize.ensures in
+    let a : Context = get_or d id.slot other in
+    let read = read-changed x are now view id there c.deref.result.now d other c.index-deref-id.result c.deref.ensures same c.index-deref-id.is in
+    let less : held_by new ≤ held_by a + c.growth_to-growth.result = elim (cases_lt (piece_at (chunks_of a) (place_of name)).room n) [
+      | inl more ↦
+          let growth = c.growth_to-growth.ensures.moves (subst (λ (b : Context). (piece_at (chunks_of b) (place_of name)).room < n) (sym read) more) (subst (λ (b : Context). can_free b ≡ true) (sym read) told.admitted.0) in
+          omega (arith, told.most, growth, ap (λ (b : Context). growth_of b n) read)
+      | inr fits ↦
+          let stays = ap held_by (told.stays fits) ∙ resized-held a (place_of name) (resized (chunk_bytes a name) n) in
+          omega (arith, stays)
+    ] in
+    fields-written x are now view id there d same new (fits-asked x are now view id there d same new other c.growth_to-growth.result c.deref-2.result.now c.deref-2.ensures less c.in_ok-check_growth.ensures)
