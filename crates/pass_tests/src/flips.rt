@@ -1,63 +1,29 @@
 //! A disk that changes what it gives back, and what an aggregation makes of it.
 
-ghost use Rattle.std.specs.Prelude.{◌≡◌, false};
-ghost use Rattle.spill_tapes.specs.Memory.{byte_at};
-
 use crate::passes::refused;
-use hash_agg::{MemDisk, TapeDisk};
-use spill_tapes::DiskError;
+use spill_tapes::{FlipDisk, MemDisk};
 use std::alloc::Global;
 use std::test::*;
 use test_tables::expect_lines;
 use test_towns::{COLUMNS, query};
 
-/// A disk in memory that flips some bits of one byte of all that is read.
-#[derive(Drop)]
-struct FlipDisk {
-    inner: MemDisk,
-    place: usize,
-    bits: u8,
-}
-
-impl FlipDisk {
-    fn new(alloc: Global, place: usize, bits: u8) -> FlipDisk {
-        FlipDisk {
-            inner: MemDisk::new(alloc),
-            place,
-            bits,
-        }
-    }
-}
-
-impl TapeDisk for FlipDisk {
-    ghost failures = { λ _. 0 };
-
-    ghost writes = { λ d. d.inner.count };
-
-    ghost honest = { λ _. false };
-
-    ghost last = { λ d place byte. byte_at d.inner place ≡ byte };
-
-    fn read_at(&mut self, at: u64, bytes: &mut [u8]) -> Result<(), DiskError> {
-        self.inner.read_at(at, bytes)?;
-        if self.place < bytes.len() {
-            bytes[self.place] ^= self.bits;
-        }
-        Ok(())
-    }
-
-    fn write_at(&mut self, at: u64, bytes: &[u8]) -> Result<(), DiskError> {
-        self.inner.write_at(at, bytes)
-    }
-}
-
 /// A query whose WHERE is true of all 385 towns.
 const LOW_TOWNS: &str = "SELECT c, count(*), sum(d) FROM batches WHERE d < 1000 GROUP BY c";
 
-/// Why the groups of 385 towns are refused over a disk that flips the bits of one number in the byte that another names.
-fn flipped(rt: HostRuntime, flip: &str) -> Result<String, Fail> {
+/// A disk in memory that flips the bits of one number in the byte that another names.
+fn flip_disk(alloc: Global, flip: &str) -> Result<FlipDisk<MemDisk>, Fail> {
     let (place, bits) = flip.split_once(' ').ok_or("no place and bits")?;
-    let mut disk = FlipDisk::new(rt.alloc(), place.parse()?, bits.parse()?);
+    let place: u64 = place.parse()?;
+    let bits: u8 = bits.parse()?;
+    if place >= 8192 || bits == 0 {
+        return Err(Fail::from("no byte of a page, or no bits"));
+    }
+    Ok(FlipDisk::new(MemDisk::new(alloc), place, bits))
+}
+
+/// Why the groups of 385 towns are refused over such a disk.
+fn flipped(rt: HostRuntime, flip: &str) -> Result<String, Fail> {
+    let mut disk = flip_disk(rt.alloc(), flip)?;
     let query = query(rt, COLUMNS, LOW_TOWNS)?;
     let told = refused(rt, &query, &mut disk);
     drop(query);

@@ -8,7 +8,7 @@ use hash_agg::{Fnv1a, Input, KeyHash, Means, MemDisk, Run, TapeDisk, Work, aggre
 use having_filter::Query;
 use hex::encode;
 use std::test::*;
-use test_disks::FaultyDisk;
+use test_disks::failing;
 use test_tables::{expect, expect_lines};
 use test_towns::{COLUMNS, TOWNS, lines, packed, query};
 
@@ -206,9 +206,9 @@ pub(crate) fn refused<D: TapeDisk>(
     told
 }
 
-/// The same of the groups of the query over a disk with a fault.
-fn refusal(rt: HostRuntime, fault: &str) -> Result<String, Fail> {
-    let mut disk = FaultyDisk::new(rt.alloc(), fault);
+/// The same of the groups of the query over a disk of which a call fails.
+fn refusal(rt: HostRuntime, call: &str) -> Result<String, Fail> {
+    let mut disk = failing(rt.alloc(), call.parse()?);
     let query = query(rt, COLUMNS, TOWNS)?;
     let told = refused(rt, &query, &mut disk);
     drop(query);
@@ -216,11 +216,11 @@ fn refusal(rt: HostRuntime, fault: &str) -> Result<String, Fail> {
     told
 }
 
-/// What is wrong with a disk, and why the groups are refused over it.
+/// Which call of a disk fails, the write of the one page or the read behind it, and why the groups are refused over it.
 const REFUSALS: &str = "\
-write => Some(TapeFault)
-read => Some(TapeFault)
-flip => Some(TapeDamaged)";
+0 => Some(TapeFault)
+1 => Some(TapeFault)
+2 => None";
 
 #[test]
 fn faults_of_disks_are_told(rt: HostRuntime) -> Result<(), Fail> {

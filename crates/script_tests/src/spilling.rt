@@ -1,10 +1,12 @@
 //! Groups that a limit has spilled, to disks some of which fail.
 
+use hash_agg::{MemDisk, TapeDisk};
 use script_machine::{Outcome, RunError, run};
+use spill_tapes::FailDisk;
 use std::alloc::{AllocError, Global};
 use std::test::*;
-use test_disks::FaultyDisk;
-use test_tables::{cut, expect_told_lines};
+use test_disks::{failing, flipping};
+use test_tables::{cut, expect_told, expect_told_lines};
 
 /// Appends a row of each of so many towns, `k0000` and on.
 fn push_rows(alloc: Global, rows: &mut String, towns: u32) -> Result<(), AllocError> {
@@ -48,29 +50,39 @@ const HEAD: &str = "columns,\"c text, d bigint\";\
     query,\"select c, count(*), sum(d) from batches group by c having c = 'k0384'\";\
     replica,a;replica,b;feed,a,0,1,385;feed,a,1,1,385;feed,b,0,2,385;limit,65536;";
 
-/// Runs a script over a disk with a fault, and answers how many of its commands are refused.
-fn run_over(
+/// Runs a script over a disk, and answers how many of its commands are refused.
+fn run_over<D: TapeDisk>(
     alloc: Global,
     script: &str,
-    fault: &str,
+    disk: &mut D,
     replies: &mut Vec<u8>,
 ) -> Result<u64, RunError> {
-    let mut disk = FaultyDisk::new(alloc, fault);
-    let outcome = run(alloc, &mut script.as_bytes(), replies, &mut disk);
-    drop(disk);
-    match outcome {
+    match run(alloc, &mut script.as_bytes(), replies, disk) {
         Ok(Outcome { refused }) => Ok(refused),
         Err(error) => Err(error),
     }
 }
 
-/// The replies to a script over a disk with a fault, on one line, behind how many are refused.
-fn replies_over(alloc: Global, script: &str, fault: &str) -> Result<String, RunError> {
+/// The replies to a script over a disk, on one line, behind how many are refused.
+fn replies_over<D: TapeDisk>(
+    alloc: Global,
+    script: &str,
+    disk: &mut D,
+) -> Result<String, RunError> {
     let mut replies = Vec::new(alloc);
-    let refused = run_over(alloc, script, fault, &mut replies)?;
+    let refused = run_over(alloc, script, disk, &mut replies)?;
     let replies = str::from_utf8(&replies).unwrap_or("not UTF-8");
     let replies = replies.replace(alloc, "\n", "/")?;
     Ok(format!(in alloc; "{refused} {replies}")?)
+}
+
+/// The same over a disk of which the first write or the first read fails, or which flips a bit where it is called by another name.
+fn replies_over_faulty(alloc: Global, script: &str, fault: &str) -> Result<String, RunError> {
+    match fault {
+        "write" => replies_over(alloc, script, &mut failing(alloc, 0)),
+        "read" => replies_over(alloc, script, &mut failing(alloc, 1)),
+        _ => replies_over(alloc, script, &mut flipping(alloc)),
+    }
 }
 
 /// The replies to commands behind the head over a disk with a fault, on one line, with how many are refused.
@@ -78,7 +90,7 @@ fn told(alloc: Global, case: &str) -> Result<String, RunError> {
     let (fault, commands) = cut(case, ": ");
     let commands = format!(in alloc; "{HEAD}{commands}")?;
     let script = script(alloc, &commands, 385)?;
-    let told = replies_over(alloc, &script, fault)?;
+    let told = replies_over_faulty(alloc, &script, fault)?;
     let (refused, _) = cut(&told, " ");
     let (_, replies) = cut(&told, "limit 65536/");
     let replies = replies.strip_suffix('/').unwrap_or("no end");
@@ -100,4 +112,99 @@ flip: feed,b,0,1,385;known,b;limit,90128;feed,b,0,1,385;answer,b => 1 refused Ta
 #[test]
 fn faults_of_disks_are_told(rt: HostRuntime) -> Result<(), Fail> {
     expect_told_lines(rt.alloc(), FAULTS, told)
+}
+
+/// A run over a disk of which a call fails: whether that call was made, how many commands were refused, and the replies.
+#[derive(Drop)]
+struct Failing {
+    failed: bool,
+    refused: u64,
+    replies: Vec<u8>,
+}
+
+/// Runs a script over a disk of which the call with this number fails.
+fn run_failing<D: TapeDisk + Drop>(
+    alloc: Global,
+    script: &str,
+    disk: D,
+    call: u64,
+) -> Result<Failing, RunError> {
+    let mut disk = FailDisk::new(disk, call);
+    let mut replies = Vec::new(alloc);
+    let refused = run_over(alloc, script, &mut disk, &mut replies)?;
+    Ok(Failing {
+        failed: disk.failed(),
+        refused,
+        replies,
+    })
+}
+
+/// How many of the lines of a text are this one.
+fn lines_that_are(text: &str, line: &str) -> usize {
+    text.lines().filter(|found| *found == line).count()
+}
+
+/// What is wrong with the replies to the script where a call fails, if that was made: just one command is refused, for that; the first
+/// batch is known when it is fed again, or else taken; and each answer that isn't refused is that of a run without a fault.
+fn fault_of(run: &Failing, plain: &str) -> Option<&'static str> {
+    let text = str::from_utf8(&run.replies).unwrap_or("not UTF-8");
+    if !run.failed {
+        return (text != plain || run.refused != 0).then_some("a whole disk");
+    }
+    let faults = lines_that_are(text, "refused TapeFault");
+    if faults != 1 || run.refused != 1 {
+        return Some("not one refusal");
+    }
+    let fed = text.split_once("limit 65536\n")?.1;
+    let is_fed = fed.starts_with("folded upto 1\nknown\n")
+        || fed.starts_with("refused TapeFault\nfolded upto 1\n");
+    let answers = lines_that_are(text, "k0384,2,768") + lines_that_are(text, "k0384,1,384");
+    (!is_fed || answers == 0).then_some("another reply")
+}
+
+/// Goes through the calls of disks, each failing in a run of its own, until none is reached, and tells what is wrong with a run, or
+/// whether there were more than so many.
+fn each_call_fails(alloc: Global, script: &str, many: u64) -> Result<String, RunError> {
+    let mut plain = Vec::new(alloc);
+    run_over(alloc, script, &mut MemDisk::new(alloc), &mut plain)?;
+    let plain = str::from_utf8(&plain).unwrap_or("not UTF-8");
+    for call in 0..1000 {
+        let run = run_failing(alloc, script, MemDisk::new(alloc), call)?;
+        if let Some(fault) = fault_of(&run, plain) {
+            return Ok(format!(in alloc; "call {call}: {fault}")?);
+        }
+        if !run.failed {
+            return Ok(format!(in alloc; "more than {many}: {}", call > many)?);
+        }
+    }
+    Ok(format!(in alloc; "calls without end")?)
+}
+
+/// The commands in front of those whose disks fail.
+const ONE: &str = "columns,\"c text, d bigint\";\
+    query,\"select c, count(*), sum(d) from batches group by c having c = 'k0384'\";replica,a;limit,65536;";
+
+/// The same for commands, each `feed` being of so many towns.
+fn each_call_of(alloc: Global, commands: &str, towns: u32) -> Result<String, RunError> {
+    let commands = format!(in alloc; "{ONE}{commands}")?;
+    let script = script(alloc, &commands, towns)?;
+    each_call_fails(alloc, &script, 10)
+}
+
+#[test]
+fn each_call_of_a_batch_may_fail(rt: HostRuntime) -> Result<(), Fail> {
+    let commands = "feed,a,0,1,1000;feed,a,0,1,1000;answer,a;answer,a";
+    expect_told(
+        each_call_of(rt.alloc(), commands, 1000),
+        "more than 10: true",
+    )
+}
+
+#[test]
+fn each_call_of_an_answer_may_fail(rt: HostRuntime) -> Result<(), Fail> {
+    let commands = "feed,a,0,1,386;feed,a,0,1,386;feed,a,1,1,386;answer,a;answer,a;answer,a";
+    expect_told(
+        each_call_of(rt.alloc(), commands, 386),
+        "more than 10: true",
+    )
 }

@@ -1,5 +1,6 @@
 //! A disk that fails once.
-ghost use Rattle.std.specs.Prelude.{◌≡◌, ◌+◌, ◌-◌, ◌==◌, ◌&&◌, ◌||◌, not, cond, false};
+ghost use Rattle.std.specs.Prelude.{◌≡◌, ◌+◌, ◌-◌, ◌==◌, ◌&&◌, ◌||◌, not, cond, false, is_err, IfErr};
+ghost use Rattle.spill_tapes.specs.declared.disk.DiskError.TheVariants.{TapeFault};
 
 use crate::disk::{DiskError, TapeDisk};
 use std::marker::Model;
@@ -47,17 +48,20 @@ impl<D: TapeDisk + Drop> FailDisk<D> {
         &self.inner
     }
 
-    /// Whether this call is the one that fails. It is counted.
-    fn fails_now(&mut self) -> bool
-        ensures due { result ≡ (not self.old.failed && self.old.before == 0) }
-        ensures failed { self.new.failed ≡ (self.old.failed || result) }
+    /// Counts a call, and fails it if it is the one.
+    fn count_call(&mut self) -> Result<(), DiskError>
+        ensures due { is_err result ≡ (not self.old.failed && self.old.before == 0) }
+        ensures fault { IfErr result (λ error. error ≡ TapeFault) }
+        ensures failed { self.new.failed ≡ (self.old.failed || is_err result) }
         ensures counted { self.new.before ≡ self.old.before - 1 }
         ensures inner { self.new.inner ≡ self.old.inner }
     {
-        let is_due = !self.failed && self.before == 0;
-        self.failed = self.failed || is_due;
+        if !self.failed && self.before == 0 {
+            self.failed = true;
+            return Err(DiskError::TapeFault);
+        }
         self.before = self.before.saturating_sub(1);
-        is_due
+        Ok(())
     }
 }
 
@@ -71,16 +75,12 @@ impl<D: TapeDisk + Drop> TapeDisk for FailDisk<D> {
     ghost last = { λ d. D.TapeDisk.last d.inner };
 
     fn read_at(&mut self, at: u64, bytes: &mut [u8]) -> Result<(), DiskError> {
-        if self.fails_now() {
-            return Err(DiskError::TapeFault);
-        }
+        self.count_call()?;
         self.inner.read_at(at, bytes)
     }
 
     fn write_at(&mut self, at: u64, bytes: &[u8]) -> Result<(), DiskError> {
-        if self.fails_now() {
-            return Err(DiskError::TapeFault);
-        }
+        self.count_call()?;
         self.inner.write_at(at, bytes)
     }
 }

@@ -4,6 +4,8 @@
 #[cfg(test)]
 mod calls;
 #[cfg(test)]
+mod files;
+#[cfg(test)]
 mod lists;
 #[cfg(test)]
 mod tapes;

@@ -5,7 +5,7 @@ use spill_lists::{SpillError, SpillLists};
 use spill_tapes::{MemDisk, TapeDisk};
 use std::alloc::Global;
 use std::test::*;
-use test_disks::{FaultyDisk, Marks};
+use test_disks::{Marks, failing, flipping};
 use test_tables::expect;
 
 /// Spills a record: its hash, its tag and its bytes.
@@ -508,7 +508,7 @@ fn write_fault(alloc: Global, bytes: &[u8]) -> Result<(bool, Option<SpillError>)
     if bytes.len() > 65535 {
         return Err(Fail::from("no record"));
     }
-    let mut disk = FaultyDisk::new(alloc, "write");
+    let mut disk = failing(alloc, 0);
     let mut lists = SpillLists::new(alloc, &disk);
     match lists.spill(&mut disk, 7, 0, bytes) {
         Ok(()) => Ok((true, lists.end_pass(&mut disk).err())),
@@ -549,23 +549,22 @@ fn read_again<D: TapeDisk>(
     Ok(lists.next(disk, bytes))
 }
 
-/// What becomes of the one record of a list that is read again over a disk that has a fault.
-fn read_over_faulty(alloc: Global, fault: &str) -> Result<Found, Fail> {
-    let mut disk = FaultyDisk::new(alloc, fault);
-    let mut lists = SpillLists::new(alloc, &disk);
+/// What becomes of the one record of a list that is read again over a disk.
+fn read_over<D: TapeDisk>(alloc: Global, disk: &mut D) -> Result<Found, Fail> {
+    let mut lists = SpillLists::new(alloc, disk);
     let mut bytes = Vec::new(alloc);
-    read_again(&mut lists, &mut disk, &mut bytes)
+    read_again(&mut lists, disk, &mut bytes)
 }
 
 #[test]
 fn damage_is_told(rt: HostRuntime) -> Result<(), Fail> {
-    assert!(rt; read_over_faulty(rt.alloc(), "flip")? == Err(SpillError::TapeDamaged));
+    assert!(rt; read_over(rt.alloc(), &mut flipping(rt.alloc()))? == Err(SpillError::TapeDamaged));
     Ok(())
 }
 
 #[test]
 fn a_fault_of_reading_is_told(rt: HostRuntime) -> Result<(), Fail> {
-    assert!(rt; read_over_faulty(rt.alloc(), "read")? == Err(SpillError::TapeFault));
+    assert!(rt; read_over(rt.alloc(), &mut failing(rt.alloc(), 1))? == Err(SpillError::TapeFault));
     Ok(())
 }
 

@@ -6,7 +6,7 @@ use crate::calls::{append, close, next, rewind};
 use spill_tapes::{DiskError, MemDisk, TapeDisk, TapeError, TapeId, Tapes};
 use std::alloc::{AllocError, Global};
 use std::test::Fail;
-use test_disks::{FaultyDisk, Marks};
+use test_disks::{Marks, failing, flipping};
 use test_tables::expect;
 
 /// How many tapes there are at once, and how many records each has.
@@ -136,7 +136,7 @@ fn no_record<D: TapeDisk>(
 }
 
 /// Tells what a case names of tapes over a disk: a tape of two records, of a long one or of none.
-fn tell_case<D: TapeDisk>(
+pub(crate) fn tell_case<D: TapeDisk>(
     alloc: Global,
     disk: &mut D,
     case: &str,
@@ -152,11 +152,21 @@ fn tell_case<D: TapeDisk>(
     told
 }
 
-/// Tells a case over a disk that has a fault, and how many writes succeeded.
-fn tell_over_faulty(alloc: Global, fault: &str, case: &str, text: &mut String) -> Result<(), Fail> {
-    let mut disk = FaultyDisk::new(alloc, fault);
+/// Tells a case over a disk of which a call fails, and how many writes succeeded.
+fn tell_over_failing(alloc: Global, call: u64, case: &str, text: &mut String) -> Result<(), Fail> {
+    let mut disk = failing(alloc, call);
     let told = tell_case(alloc, &mut disk, case, text);
-    let writes = disk.writes();
+    let writes = disk.inner().writes();
+    drop(disk);
+    told?;
+    Ok(tell_writes(alloc, writes, text)?)
+}
+
+/// Tells a case over a disk that flips a bit, and how many writes there were.
+fn tell_over_flipping(alloc: Global, case: &str, text: &mut String) -> Result<(), Fail> {
+    let mut disk = flipping(alloc);
+    let told = tell_case(alloc, &mut disk, case, text);
+    let writes = disk.inner().writes();
     drop(disk);
     told?;
     Ok(tell_writes(alloc, writes, text)?)
@@ -175,10 +185,11 @@ fn tell_over_memory(alloc: Global, case: &str, text: &mut String) -> Result<(), 
 /// What is told of a case over a disk with a fault, or in memory where it has none.
 fn told(alloc: Global, fault: &str, case: &str) -> Result<String, Fail> {
     let mut text = String::new(alloc);
-    if fault.is_empty() {
-        tell_over_memory(alloc, case, &mut text)?;
-    } else {
-        tell_over_faulty(alloc, fault, case, &mut text)?;
+    match fault {
+        "" => tell_over_memory(alloc, case, &mut text)?,
+        "write" => tell_over_failing(alloc, 0, case, &mut text)?,
+        "read" => tell_over_failing(alloc, 1, case, &mut text)?,
+        _ => tell_over_flipping(alloc, case, &mut text)?,
     }
     Ok(text)
 }

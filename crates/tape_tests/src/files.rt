@@ -1,0 +1,40 @@
+//! Tapes over a file.
+
+use crate::tapes::tell_case;
+use spill_tapes::{FileDisk, TapeDisk};
+use std::fs;
+use std::os::unix::fs::MetadataExt;
+use std::test::*;
+use test_tables::expect;
+
+/// Tells two records over a disk, and who may read and write the file that it lies in.
+fn told_over<D: TapeDisk>(rt: HostRuntime, disk: &mut D, path: &str) -> Result<String, Fail> {
+    let mut text = String::new(rt.alloc());
+    tell_case(rt.alloc(), disk, "two", &mut text)?;
+    let mode = fs::metadata(&rt, path)?.mode() & 0o777;
+    Ok(format!(in rt.alloc(); "{text}, mode {mode:o}")?)
+}
+
+/// The same over a new file, which is removed then, and whether a second one is refused in its place.
+fn told_over_file(rt: HostRuntime, path: &str) -> Result<String, Fail> {
+    let mut disk = match FileDisk::create(&rt, path) {
+        Ok(disk) => disk,
+        Err(fault) => return Err(Fail::new(format!(in rt.alloc(); "{fault}")?)),
+    };
+    let is_refused = FileDisk::create(&rt, path).is_err();
+    let told = told_over(rt, &mut disk, path);
+    let writes = disk.writes();
+    drop(disk);
+    let removed = fs::remove_file(&rt, path);
+    let told = told?;
+    removed?;
+    Ok(format!(in rt.alloc(); "{told}, {writes} written, refused again {is_refused}")?)
+}
+
+#[test]
+fn a_file_serves(rt: HostRuntime) -> Result<(), Fail> {
+    expect(
+        told_over_file(rt, "tapes_of_a_file.tmp"),
+        "Ok(()), Ok(Some((7, 0))) ab, Ok(Some((9, 1))) , Ok(None) , None, mode 600, 1 written, refused again true",
+    )
+}
