@@ -18,14 +18,14 @@ use Rattle.aggregation_cost.specs.Passes.{is_empty}
 use Rattle.aggregation_cost.specs.Space.{fits}
 use Rattle.group_runs.specs.Standing.{AreStates, StandsFor}
 use Rattle.group_runs.specs.Steps.{AreWithin}
-use Rattle.hash_agg.specs.Passes.{Piece, Of_row, Of_group, AreOnce, AreSafe, GroupsState, IsAt, IsPiece, IsSameTable, Proceeds, ReadsSome, WritesAt, WritesPages, Brings, entries_of, standing, setting_of, weight, brings, brought_by}
+use Rattle.hash_agg.specs.Passes.{Piece, Of_row, Of_group, AreOnce, AreSafe, GroupsState, IsPiece, IsSameTable, Proceeds, WritesAt, WritesPages, Brings, entries_of, standing, setting_of, weight, brings, brought_by}
 use Rattle.hash_agg.specs.Added.{Source, Entries, Are, Added, AddedBy, AddedOne, HasRoom, IsReady, KeepsLater, KeepsPass, Refused, RefusedBy, enters, query_of}
 use Rattle.hash_agg.specs.declared.pass.Pass.{Pass}
 use Rattle.hash_agg.specs.declared.plan.Plan.{Plan}
 use Rattle.hash_agg.proofs.NeedLaws.{first_fits}
 use Rattle.hash_agg.proofs.PassLaws.{IsKept, after}
 use Rattle.hash_agg.proofs.ReturnLaws.{same_table, same_table_twice, same_rest, keeps_rest_twice, moved_table, moved_proceeds, spilled_proceeds}
-use Rattle.hash_agg.proofs.StepLaws.{BringsSome, Told, one_there, one_new, one_left, safe_there, safe_new, fit_told, proceeds_new, group_is_at, next_room, next_read, none_read, all_read, next_brings, all_brings}
+use Rattle.hash_agg.proofs.StepLaws.{BringsSome, IsAt, ReadsSome, Told, one_there, one_new, one_left, safe_there, safe_new, fit_told, proceeds_new, group_is_at, next_room, next_read, none_read, all_read, next_brings, all_brings}
 
 -- ---- a pass that stays what it is
 

@@ -23,12 +23,12 @@ use Rattle.group_runs.specs.Runs.{Entry}
 use Rattle.hash_agg.specs.Inputs.{Brought, Packed, Counted, on_end, rows_in, all_rows, IsInput, AllBring}
 use Rattle.group_runs.specs.Adding.{row_added, rows_added, group_added, groups_added}
 use Rattle.hash_agg.specs.Added.{Are, source_of}
-use Rattle.hash_agg.specs.Adding.{Given, Of_rows, Of_groups, Gives, AllGive, given_added, all_added}
+use Rattle.hash_agg.specs.Adding.{Given, Of_rows, Of_groups, Gives, AllGive}
 use Rattle.hash_agg.specs.Passes.{Of_row, Of_group, pieces_added, made_of, piece_key, weight, rows_at, CountUpTo, given_pieces, all_pieces, PassState, setting_of, Holds, CanRead, Reads, total, brings, brought_by, Brings}
 use Rattle.group_runs.proofs.RunLaws.{run_apart, groups_long}
 use Rattle.group_runs.proofs.MergeLaws.{AreApart, puts_rise, nothing_rises, keys_of-rows_added, keys_of-groups_added}
 use Rattle.hash_agg.proofs.PassLaws.{rows_append, pieces_append}
-use Rattle.hash_agg.proofs.WholeLaws.{GivenAt}
+use Rattle.hash_agg.proofs.WholeLaws.{GivenAt, given_added, all_added}
 
 pub pieces_are : (q : Query) (hf : List ℕ → ℕ) (input : Brought) (given : Given) → Gives q input given → Are q hf (source_of input) (given_pieces input given)
 pieces_are q hf (Packed packed) (Of_rows rows) gives = (rows, gives, refl)

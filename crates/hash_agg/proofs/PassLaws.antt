@@ -22,10 +22,11 @@ use Rattle.spill_tapes.specs.Records.{Record}
 use Rattle.group_runs.specs.Runs.{Entry}
 use Rattle.group_runs.specs.Standing.{AreStates, StandsFor, AreGroups}
 use Rattle.group_runs.specs.Adding.{merged}
-use Rattle.hash_agg.specs.Passes.{Piece, Of_row, Of_group, IsPiece, ArePieces, piece_key, piece_added, pieces_added, made_of, weight, rows_at, AreOnce, HasNoKey, IsParted, AreGroupsBy, Stands}
+use Rattle.hash_agg.specs.Passes.{Piece, Of_row, Of_group, IsPiece, ArePieces, piece_key, piece_added, pieces_added, made_of, weight, rows_at, AreOnce, IsParted, AreGroupsBy, Stands}
 use Rattle.group_runs.proofs.MergeLaws.{AreApart, apart_from, found_among, found_others}
 use Rattle.group_runs.proofs.RunLaws.{packed_once}
 use Rattle.group_runs.proofs.StateLaws.{states_raised}
+use Rattle.hash_agg.proofs.TableLaws.{HasNoKey}
 
 -- ---- what is found at a key
 

@@ -20,9 +20,10 @@ use Rattle.grouping_model.proofs.Members.{false_is_not_true}
 use Rattle.packed_rows.proofs.PackingOrder.{less, tied}
 use Rattle.group_runs.specs.Runs.{Entry, packed_keys, Rises}
 use Rattle.group_runs.specs.Places.{AllBelow}
-use Rattle.hash_agg.specs.Passes.{AreOnce, HasNoKey, Led, IsLed, pairs}
+use Rattle.hash_agg.specs.Passes.{AreOnce, Led, IsLed, pairs}
 use Rattle.group_runs.proofs.RunLaws.{take_found}
 use Rattle.group_runs.proofs.PlaceLaws.{key_total, below_to, rises_between}
+use Rattle.hash_agg.proofs.TableLaws.{HasNoKey}
 
 -- ---- keys that differ
 

@@ -18,9 +18,10 @@ use Rattle.spill_tapes.specs.Records.{Record}
 use Rattle.spill_lists.specs.declared.lists.OnTape.{OnTape}
 use Rattle.group_runs.specs.Runs.{Entry, packed_keys}
 use Rattle.group_runs.specs.Standing.{states_width}
-use Rattle.hash_agg.specs.Passes.{Piece, Of_row, Of_group, IsPiece, piece_key, HasNoKey, cost_records, records_of, AreCosted, Spills}
+use Rattle.hash_agg.specs.Passes.{Piece, Of_row, Of_group, IsPiece, piece_key, cost_records, records_of, AreCosted, Spills}
 use Rattle.hash_agg.proofs.PassLaws.{IsKept}
 use Rattle.group_runs.proofs.StateLaws.{states_long}
+use Rattle.hash_agg.proofs.TableLaws.{HasNoKey}
 
 -- ---- keys
 

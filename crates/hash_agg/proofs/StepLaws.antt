@@ -32,7 +32,7 @@ use Rattle.group_runs.specs.Runs.{Entry, packed_keys}
 use Rattle.group_runs.specs.Standing.{AreStates, StandsFor}
 use Rattle.group_runs.specs.Steps.{AreWithin, AreAdvanced, AreCombined}
 use Rattle.group_runs.specs.Standing.{states_width}
-use Rattle.hash_agg.specs.Passes.{Piece, Of_row, Of_group, group_record, IsGroupRecord, IsPiece, piece_key, piece_added, weight, rows_at, CountUpTo, AreOnce, AreGroupsBy, GroupsState, entries_of, WritesAt, Stands, Spills, AreSafe, PassState, standing, setting_of, Holds, CanRead, Reads, ReadsSome, IsAt, AreRows, AreOfRun, total, brings, brought_by, Brings, Proceeds}
+use Rattle.hash_agg.specs.Passes.{Piece, Of_row, Of_group, group_record, IsGroupRecord, IsPiece, piece_key, piece_added, weight, rows_at, CountUpTo, AreOnce, AreGroupsBy, GroupsState, entries_of, WritesAt, Stands, Spills, AreSafe, PassState, standing, setting_of, Holds, CanRead, Reads, AreRows, AreOfRun, total, brings, brought_by, Brings, Proceeds}
 use Rattle.hash_agg.specs.Added.{IsSelected}
 use Rattle.hash_agg.proofs.KeyLaws.{key_has}
 use Rattle.hash_agg.proofs.NeedLaws.{keys_set}
@@ -42,6 +42,19 @@ use Rattle.hash_agg.proofs.InputLaws.{flat_row_at}
 use Rattle.group_runs.proofs.StateLaws.{states_by, states_wide, narrow}
 use Rattle.hash_agg.proofs.TableLaws.{no_key, named_at, get_mapped}
 use Rattle.hash_agg.proofs.PassLaws.{IsKept, after, by_at, by_set, by_append, rows_append, rows_one, reads_there, reads_new, reads_left}
+
+-- the first of them, so many, were read
+abbrev pub ReadsSome : Plan → (List ℕ → ℕ) → (List Piece → Type 0) → ℕ → PassState → PassState → Type 0
+ReadsSome plan hash Are number old new =
+    (pieces more : List Piece) (ahead : List Record) (todo : List LeftList)
+    → Holds (meaning plan.query.now) (setting_of plan hash) old pieces ahead todo
+    → Are more
+    → CountUpTo (meaning plan.query.now) plan.most (pieces ++ more)
+    → Holds (meaning plan.query.now) (setting_of plan hash) new (pieces ++ take number more) ahead todo
+
+-- the piece at a place, alone
+abbrev pub IsAt : (List Piece → Type 0) → ℕ → (List Piece → Type 0) → Type 0
+IsAt Are place One = (more : List Piece) → Are more → (piece : Piece) × (slice_get more place ≡ Some piece) × One (piece ∷ [])
 
 pub on_ok : {T E : Type 0} (r : Result T E) {P Q : Type 0} → (P → Q) → OnOk r P → OnOk r Q
 on_ok (Ok x) gives holds = gives holds

@@ -1,5 +1,5 @@
 -- The table of a pass.
-use Rattle.std.specs.Prelude.{◌≡◌, refl, ℕ, zero, suc, ◌+◌, ◌≤◌, true, false, cond, List, [], ◌∷◌, map, slice_get, Option, Some, None, get_or}
+use Rattle.std.specs.Prelude.{◌≡◌, ◌≢◌, refl, ℕ, zero, suc, ◌+◌, ◌≤◌, true, false, cond, List, [], ◌∷◌, map, slice_get, Option, Some, None, get_or}
 use Rattle.std.proofs.Common.{sym, ◌∙◌, ap, arith}
 use Rattle.std.proofs.lemmas.Bool.{eq-eqb}
 use Rattle.std.specs.List.{AllByRecursion}
@@ -15,7 +15,11 @@ use Rattle.group_table.specs.Standing.{IsTableIn}
 use Rattle.group_table.specs.Table.{TableState, IsSameBut, held_in, HasNo, key_in, state_in, group_in, groups}
 use Rattle.group_table.specs.declared.table.Slot.{Slot}
 use Rattle.group_runs.specs.Runs.{Entry}
-use Rattle.hash_agg.specs.Passes.{GroupsState, entries_of, AreOnce, HasNoKey}
+use Rattle.hash_agg.specs.Passes.{GroupsState, entries_of, AreOnce}
+
+-- no entry has this key
+abbrev pub HasNoKey : List Entry → List ℕ → Type 0
+HasNoKey entries key = (i : ℕ) (x : Entry) → slice_get entries i ≡ Some x → x.0 ≢ key
 
 -- the context of a pass is there once it was made
 pub pass_there : (parent id : ContextId) (kind : Kind) → get_or (new_tree 0).links id.slot None ≡ None → id.slot ≤ 1 → is_there (with_new (new_tree 0) parent kind id) id ≡ true

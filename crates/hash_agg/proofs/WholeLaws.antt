@@ -15,9 +15,18 @@ use Rattle.group_runs.specs.Runs.{Entry, packed_keys}
 use Rattle.group_runs.specs.Standing.{AreGroups}
 use Rattle.hash_agg.specs.Inputs.{Brought, Packed, Counted, brought, on_end, IsInput, AreInputsOf, AllBring}
 use Rattle.group_runs.specs.Adding.{rows_added, groups_added}
-use Rattle.hash_agg.specs.Adding.{Given, Of_rows, Of_groups, Gives, AllGive, all_added}
+use Rattle.hash_agg.specs.Adding.{Given, Of_rows, Of_groups, Gives, AllGive}
 use Rattle.group_runs.proofs.MergeLaws.{rows_added_part, groups_added_part, puts, puts-append, puts_all, keys_of-rows_added, keys_of-groups_added, distinct_few}
 use Rattle.group_runs.proofs.RunLaws.{packed_once, keys_packed, keys_of_kinds}
+
+-- the groups after all that an input gives, and after all that some inputs give
+abbrev pub given_added : Query → List Group → Given → List Group
+given_added query groups (Of_rows rows) = rows_added query groups rows
+given_added query groups (Of_groups more) = groups_added query groups more
+
+abbrev pub all_added : Query → List Group → List Given → List Group
+all_added query groups [] = groups
+all_added query groups (given ∷ givens) = all_added query (given_added query groups given) givens
 
 -- what may be aggregated gives something
 one_given : (q : Query) (input : Brought) → IsInput q input → (given : Given) × Gives q input given

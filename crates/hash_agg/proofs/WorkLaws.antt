@@ -299,11 +299,11 @@ is_work none work c nothing adds few short =
     let m = from.most_held in
     record { passes = omega (arith, p, few); spilled = omega (arith, s, short); most_held = omega (arith, m) }
 
--- the counters have room for the cost of fewer than 2^58 records
-pub cost_counts : (c : Cost) (records : ℕ) → c.passes ≤ max 1 records → c.spilled ≤ c.passes * records → records < 2 ^ 58 → (c.passes ≤ 18446744073709551615) × (c.spilled ≤ 340282366920938463463374607431768211455)
+-- the counters have room for the cost of fewer than 2^63 records
+pub cost_counts : (c : Cost) (records : ℕ) → c.passes ≤ max 1 records → c.spilled ≤ c.passes * records → records < 2 ^ 63 → (c.passes ≤ 18446744073709551615) × (c.spilled ≤ 340282366920938463463374607431768211455)
 cost_counts c records few some low =
-    let passes : c.passes ≤ 2 ^ 58 = omega (arith, few, low) in
-    let most = mul-le c.passes records (2 ^ 58) (2 ^ 58) passes (omega (arith, low)) in
+    let passes : c.passes ≤ 2 ^ 63 = omega (arith, few, low) in
+    let most = mul-le c.passes records (2 ^ 63) (2 ^ 63) passes (omega (arith, low)) in
     (omega (arith, few, low), omega (arith, some, most))
 
 pub work_few : (work : Work) (c : Cost) (most : ℕ) → IsWork work c → c.passes ≤ most → work.passes ≤ most

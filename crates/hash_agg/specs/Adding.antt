@@ -1,10 +1,9 @@
--- Groups after all that inputs give. All of this is our own.
+-- What inputs give. All of this is our own.
 use Rattle.std.specs.Prelude.{List, [], ◌∷◌}
 use Rattle.grouping_model.specs.Datum.{Row}
 use Rattle.grouping_model.specs.Query.{Query}
 use Rattle.grouping_model.specs.Grouping.{Group}
 use Rattle.group_runs.specs.Standing.{AreGroups}
-use Rattle.group_runs.specs.Adding.{rows_added, groups_added}
 use Rattle.hash_agg.specs.Inputs.{Brought, Packed, Counted, ArePackings}
 
 -- what an input gives: rows, or groups
@@ -21,12 +20,3 @@ abbrev pub AllGive : Query → List Brought → List Given → Type 0
 AllGive query [] [] = Unit {0}
 AllGive query (input ∷ inputs) (given ∷ givens) = Gives query input given × AllGive query inputs givens
 AllGive query inputs givens = ⊥
-
--- the groups after all that an input gives, and after all that some inputs give
-abbrev pub given_added : Query → List Group → Given → List Group
-given_added query groups (Of_rows rows) = rows_added query groups rows
-given_added query groups (Of_groups more) = groups_added query groups more
-
-abbrev pub all_added : Query → List Group → List Given → List Group
-all_added query groups [] = groups
-all_added query groups (given ∷ givens) = all_added query (given_added query groups given) givens

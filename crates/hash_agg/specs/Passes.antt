@@ -1,7 +1,7 @@
 -- A pass of an aggregation: groups in a table, and records that are left for the next pass. All of this is our own.
 use Rattle.std.specs.Borrow.{Bor}
 use Rattle.std.specs.Int.{w16, to_be_bytes}
-use Rattle.std.specs.Prelude.{◌≡◌, ◌≢◌, ℕ, ◌+◌, ◌≤◌, ◌<◌, ◌⊎◌, if◌then◌else◌, true, List, [], ◌∷◌, ◌++◌, length, map, flat_map, sum_by, take, slice_get, slice_index, slice_set, Some, None}
+use Rattle.std.specs.Prelude.{◌≡◌, ℕ, ◌+◌, ◌≤◌, ◌<◌, ◌⊎◌, if◌then◌else◌, true, List, [], ◌∷◌, ◌++◌, length, map, flat_map, sum_by, slice_get, slice_index, slice_set, Some, None}
 use Rattle.byteorder.specs.Endian.{big_from}
 use Rattle.context_tree.specs.Tree.{TreeState}
 use Rattle.aggregation_cost.specs.Cost.{greatest}
@@ -99,12 +99,9 @@ CountUpTo query most pieces = (key : Row) → rows_at query key pieces ≤ most
 
 -- ---- entries
 
--- no two entries have the same key; none has this one
+-- no two entries have the same key
 abbrev pub AreOnce : List Entry → Type 0
 AreOnce entries = (i j : ℕ) (x y : Entry) → slice_get entries i ≡ Some x → slice_get entries j ≡ Some y → x.0 ≡ y.0 → i ≡ j
-
-abbrev pub HasNoKey : List Entry → List ℕ → Type 0
-HasNoKey entries key = (i : ℕ) (x : Entry) → slice_get entries i ≡ Some x → x.0 ≢ key
 
 -- ---- the table of a pass
 
@@ -271,19 +268,6 @@ CanReadList plan hash old =
     × HasLists old.last old.lists [] records todo
     × ArePieces (meaning plan.query.now) hash records pieces
     × CountUpTo (meaning plan.query.now) plan.most pieces
-
--- the first of them, so many, were read
-abbrev pub ReadsSome : Plan → (List ℕ → ℕ) → (List Piece → Type 0) → ℕ → PassState → PassState → Type 0
-ReadsSome plan hash Are number old new =
-    (pieces more : List Piece) (ahead : List Record) (todo : List LeftList)
-    → Holds (meaning plan.query.now) (setting_of plan hash) old pieces ahead todo
-    → Are more
-    → CountUpTo (meaning plan.query.now) plan.most (pieces ++ more)
-    → Holds (meaning plan.query.now) (setting_of plan hash) new (pieces ++ take number more) ahead todo
-
--- the piece at a place, alone
-abbrev pub IsAt : (List Piece → Type 0) → ℕ → (List Piece → Type 0) → Type 0
-IsAt Are place One = (more : List Piece) → Are more → (piece : Piece) × (slice_get more place ≡ Some piece) × One (piece ∷ [])
 
 -- the pieces of packed rows; and of the groups of a run
 abbrev pub AreRows : Query → List (List ℕ) → List Piece → Type 0

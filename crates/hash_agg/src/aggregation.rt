@@ -1,11 +1,12 @@
 //! The aggregation of inputs.
 
-ghost use Rattle.std.specs.Prelude.{◌≡◌, ◌≢◌, ◌<◌, ◌≤◌, ◌^◌, max, map, length, IsTrue, IfOk, IfErr, OnOk};
+ghost use Rattle.std.specs.Prelude.{◌≡◌, ◌≢◌, ◌≤◌, max, map, length, IsTrue, IfOk, IfErr, OnOk};
 ghost use Rattle.std.specs.List.{AllByRecursion};
 ghost use Rattle.spill_tapes.specs.Calls.{failed};
 ghost use Rattle.spill_tapes.specs.Disk.{Leaves};
 ghost use Rattle.spill_lists.specs.Errors.{spill_faults};
 ghost use Rattle.spill_lists.specs.declared.error.SpillError.TheVariants.{TapeDamaged};
+ghost use Rattle.agg_protocol.specs.States.{most_rows};
 ghost use Rattle.having_filter.specs.Meaning.{meaning};
 ghost use Rattle.hash_agg.specs.Added.{AreInputs, Continues, CountsWithin, IsFirst, IsOver, IsSafeRun, MadeFirst, MadeLater, query_of};
 ghost use Rattle.hash_agg.specs.Counting.{HasFewPasses, IsCounted, Took, setting_by};
@@ -28,7 +29,8 @@ use std::alloc::Global;
 /// the groups that are given, which are none over no selected row and no group, also without GROUP BY.
 ///
 /// The rows are packed rows of the query's table. A run has rising packed keys of the columns of GROUP BY, and states of
-/// the query's aggregates that count at most `rows` rows each. All inputs together have fewer than 2^57 rows.
+/// the query's aggregates that count at most `rows` rows each. All inputs together have at most
+/// 2^62 - 1 rows, the most that a state counts, and as many groups.
 ///
 /// A pass over the inputs takes the groups that keep within the limit of its means, and at least one; what is left goes to lists
 /// on tapes, by fresh bits of its hash, and each list is a later pass. So a limit and a hash function change nothing but the time and
@@ -41,8 +43,8 @@ use std::alloc::Global;
 /// at most.
 ///
 /// Beside the run it is told what the aggregation took, which over an honest disk is what `aggregation_cost` says of the selected rows and
-/// of the groups, and so is how often the disk was written: one pass at least, and no more than groups. Over any disk the blocks of its
-/// table never have more bytes than the limit of its means.
+/// of the groups, and so is how often the disk was written: one pass at least, and no more than groups. Over any disk the most bytes
+/// that it is told of the blocks of its table are no more than the limit of its means.
 pub fn aggregate<H: KeyHash + Copy, D: TapeDisk>(
     alloc: Global,
     query: &Query,
@@ -51,8 +53,8 @@ pub fn aggregate<H: KeyHash + Copy, D: TapeDisk>(
     disk: &mut D,
 ) -> Result<(Run, Work), SpillError>
     requires inputs { AllByRecursion (IsInput (meaning query.now)) (map brought inputs.now) }
-    requires few { all_rows (map brought inputs.now) < 2 ^ 57 }
-    requires groups { all_groups (map brought inputs.now) < 2 ^ 57 }
+    requires few { all_rows (map brought inputs.now) ≤ most_rows }
+    requires groups { all_groups (map brought inputs.now) ≤ most_rows }
     ensures aggregate { IfOk result (λ done. IsTrue (D.honest disk.old) → IsAggregate (meaning query.now) (map brought inputs.now) done.0) }
     ensures run { IfOk result (λ done. IsRunOver (meaning query.now) (map brought inputs.now) done.0) }
     ensures took { IfOk result (λ done. IsTrue (D.honest disk.old) → Took (meaning query.now) (setting_by H.hash_of (meaning query.now) means.now) (map brought inputs.now) done.1 (D.writes disk.old) (D.writes disk.new)) }
@@ -77,7 +79,7 @@ pub(crate) fn aggregated<H: KeyHash + Copy, D: TapeDisk>(
     work: &mut Work,
 ) -> Result<Run, SpillError>
     requires inputs { AllByRecursion (IsInput (meaning query.now)) (map brought inputs.now) }
-    requires few { all_rows (map brought inputs.now) < 2 ^ 57 }
+    requires few { all_rows (map brought inputs.now) ≤ most_rows }
     ensures aggregate { IfOk result (λ run. IsTrue (D.honest disk.old) → IsAggregate (meaning query.now) (map brought inputs.now) run) }
     ensures run { IfOk result (IsRunOver (meaning query.now) (map brought inputs.now)) }
     ensures counted { OnOk result (IsTrue (D.honest disk.old) → IsCounted (meaning query.now) (setting_by H.hash_of (meaning query.now) means.now) (map brought inputs.now) work.old (D.writes disk.old) work.new (D.writes disk.new)) }
@@ -95,7 +97,7 @@ pub(crate) fn aggregated<H: KeyHash + Copy, D: TapeDisk>(
 
 /// How many rows all inputs have, or their states count at most.
 fn rows_of_all(inputs: &[Input<'_>]) -> u64
-    requires { all_rows (map brought inputs.now) < 2 ^ 57 }
+    requires { all_rows (map brought inputs.now) ≤ most_rows }
     ensures { result ≡ all_rows (map brought inputs.now) }
 {
     let mut rows = 0;

@@ -6,6 +6,7 @@ ghost use Rattle.spill_tapes.specs.Calls.{failed};
 ghost use Rattle.spill_tapes.specs.Disk.{Leaves};
 ghost use Rattle.spill_lists.specs.Errors.{spill_faults};
 ghost use Rattle.spill_lists.specs.declared.error.SpillError.TheVariants.{TapeDamaged};
+ghost use Rattle.agg_protocol.specs.States.{most_rows};
 ghost use Rattle.having_filter.specs.Meaning.{meaning};
 ghost use Rattle.group_runs.specs.Standing.{IsRun};
 ghost use Rattle.hash_agg.specs.Counting.{IsCounted, setting_by};
@@ -24,7 +25,7 @@ use std::alloc::Global;
 
 /// Adds what inputs give to a run, which becomes the run that `aggregate` gives of it and of them.
 ///
-/// No state of the run counts more than `rows` rows, and with those of the inputs they are fewer than 2^57. The limit is that
+/// No state of the run counts more than `rows` rows, and with those of the inputs they are at most 2^62 - 1. The limit is that
 /// of the inputs' groups, which are then merged with the run. What their aggregation took is added to `work`.
 ///
 /// # Errors
@@ -42,7 +43,7 @@ pub fn fold<H: KeyHash + Copy, D: TapeDisk>(
 ) -> Result<(), SpillError>
     requires run { IsRun (meaning query.now) rows run.old }
     requires inputs { AllByRecursion (IsInput (meaning query.now)) (map brought more.now) }
-    requires few { rows + all_rows (map brought more.now) < 2 ^ 57 }
+    requires few { rows + all_rows (map brought more.now) ≤ most_rows }
     ensures folded { OnOk result (IsTrue (D.honest disk.old) → IsAggregate (meaning query.now)
         (Counted run.old rows ∷ map brought more.now) run.new) }
     ensures run { OnOk result (IsRunOver (meaning query.now)

@@ -1,5 +1,6 @@
-ghost use Rattle.std.specs.Prelude.{◌≡◌, ◌<◌, ◌^◌, IfOk, List, length};
+ghost use Rattle.std.specs.Prelude.{◌≡◌, ◌≤◌, IfOk, List, length};
 ghost use Rattle.grouping_model.specs.Datum.{Row};
+ghost use Rattle.agg_protocol.specs.States.{most_rows};
 ghost use Rattle.having_filter.specs.Meaning.{meaning};
 ghost use Rattle.hash_agg.specs.Inputs.{ArePackings};
 
@@ -45,7 +46,7 @@ fn counted<H: KeyHash + Copy>(
     hash: H,
 ) -> Result<(Run, Work, u64), Fail>
     requires rows { (those : List Row) × ArePackings (meaning query.now).kinds rows.now those }
-    requires few { length rows.now < 2 ^ 57 }
+    requires few { length rows.now ≤ most_rows }
 {
     let means = Means::new(limit, hash)?;
     let mut disk = MemDisk::new(rt.alloc());
@@ -88,7 +89,7 @@ fn compared_with<H: KeyHash + Copy>(
     hash: H,
 ) -> Result<String, Fail>
     requires rows { (those : List Row) × ArePackings (meaning query.now).kinds rows.now those }
-    requires few { length rows.now < 2 ^ 57 }
+    requires few { length rows.now ≤ most_rows }
 {
     let (parts, work, pages) = counted(rt, query, rows, limit, hash)?;
     let told = told_of_runs(rt, whole, &parts);
@@ -105,7 +106,7 @@ fn compared_rows<H: KeyHash + Copy>(
     hash: H,
 ) -> Result<String, Fail>
     requires rows { (those : List Row) × ArePackings (meaning query.now).kinds rows.now those }
-    requires few { length rows.now < 2 ^ 57 }
+    requires few { length rows.now ≤ most_rows }
 {
     let (whole, _, _) = counted(rt, query, rows, 1_099_511_627_776, Fnv1a)?;
     let told = compared_with(rt, query, rows, &whole, limit, hash);
@@ -187,7 +188,7 @@ fn refused_rows<D: TapeDisk>(
     disk: &mut D,
 ) -> Result<String, Fail>
     requires rows { (those : List Row) × ArePackings (meaning query.now).kinds rows.now those }
-    requires few { length rows.now < 2 ^ 57 }
+    requires few { length rows.now ≤ most_rows }
 {
     let means = Means::new(65_536, Fnv1a)?;
     let refused = aggregate(rt.alloc(), query, &[Input::Flat(rows)], &means, disk).err();

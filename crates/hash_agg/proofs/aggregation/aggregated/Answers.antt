@@ -11,7 +11,7 @@ use Rattle.having_filter.specs.Meaning.{meaning}
 use Rattle.group_runs.specs.Runs.{Entry, Rises}
 use Rattle.group_runs.specs.Standing.{AreGroups}
 use Rattle.hash_agg.specs.Added.{CountsWithin, IsSafeRun, query_of, setting_in}
-use Rattle.hash_agg.specs.Adding.{Given, AllGive, all_added}
+use Rattle.hash_agg.specs.Adding.{Given, AllGive}
 use Rattle.hash_agg.specs.Counting.{HasFewPasses, IsCounted, setting_by}
 use Rattle.hash_agg.specs.Inputs.{Brought, brought, all_rows, on_end, IsInput, IsAggregate, IsRunOver}
 use Rattle.hash_agg.specs.Passes.{AreSafe, CountUpTo, IsPlan, Stands, setting_for, records_of, all_pieces}
@@ -28,7 +28,7 @@ use Rattle.hash_agg.proofs.NeedLaws.{ok_from}
 use Rattle.hash_agg.proofs.ReturnLaws.{no_ok, no_if_ok}
 use Rattle.hash_agg.proofs.StepLaws.{err_out, on_error}
 use Rattle.hash_agg.proofs.UnionLaws.{all_stand, safe_run}
-use Rattle.hash_agg.proofs.WholeLaws.{all_given, lists_give, keys_give, keys_are, keys_few}
+use Rattle.hash_agg.proofs.WholeLaws.{all_added, all_given, lists_give, keys_give, keys_are, keys_few}
 use Rattle.hash_agg.proofs.aggregation.aggregated.Goals as goal
 
 -- what all passes hold in the end is the aggregate
