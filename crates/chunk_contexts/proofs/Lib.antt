@@ -19,3 +19,4 @@ pub mod SlabMoves
 pub mod SlabStates
 pub mod SlabViews
 pub mod SlabCounts
+pub mod Sums

@@ -1,6 +1,6 @@
 -- The content of a context: a finite map from the names of its live chunks to their bytes, as the list of these chunks.
 -- (PostgreSQL 17, src/backend/utils/mmgr/README: what memory contexts are for; that a name tells a place and a length: own)
-use Rattle.std.specs.Prelude.{◌≡◌, ℕ, ◌<◌, ◌==◌, ◌&&◌, Bool, true, false, List, ◌∷◌, Option, Some, None, length, get_or, IsTrue}
+use Rattle.std.specs.Prelude.{◌≡◌, ℕ, ◌+◌, ◌<◌, ◌==◌, ◌&&◌, Bool, true, false, List, [], ◌∷◌, Option, Some, None, length, get_or, IsTrue}
 use Rattle.std.specs.List.{filter}
 use Rattle.chunk_layout.specs.Pieces.{Piece, place_of, same_place, has, piece_at, resized}
 use Rattle.chunk_layout.specs.declared.place.Place.{Place}
@@ -19,6 +19,11 @@ is_live chunks name = has chunks (place_of name) && (length (piece_at chunks (pl
 -- the bytes of a chunk
 abbrev pub bytes_of : List Piece → ChunkName → List ℕ
 bytes_of chunks name = (piece_at chunks (place_of name)).bytes
+
+-- how many bytes chunks have together
+abbrev pub lengths : List Piece → ℕ
+lengths [] = 0
+lengths (p ∷ ps) = length p.bytes + lengths ps
 
 -- after are the chunks before with one more, whose place none of them had
 pub record Adds (before after : List Piece) (name : ChunkName) (room : ℕ) (bytes : List ℕ) : Type 0 where

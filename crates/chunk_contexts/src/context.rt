@@ -4,7 +4,7 @@ ghost use Rattle.std.specs.Borrow.{sem};
 ghost use Rattle.block_memory.specs.Cells.{zeros};
 ghost use Rattle.chunk_layout.specs.Pieces.{Piece, place_of, piece_at, without, rewritten, resized, total, AreLaid};
 ghost use Rattle.chunk_layout.specs.declared.place.Place.{Place};
-ghost use Rattle.chunk_contexts.specs.Chunks.{is_live, bytes_of, chunk_of, Adds, Keeps, KeepsOthers, IsRefused, IsResizeRefused, IsResized};
+ghost use Rattle.chunk_contexts.specs.Chunks.{is_live, bytes_of, lengths, chunk_of, Adds, Keeps, KeepsOthers, IsRefused, IsResizeRefused, IsResized};
 ghost use Rattle.chunk_contexts.specs.ContextLends.{lends_chunk};
 ghost use Rattle.chunk_contexts.specs.declared.error.ContextError.{ContextError};
 ghost use Rattle.chunk_contexts.specs.declared.error.ContextError.TheVariants.{NotSupported};
@@ -152,7 +152,8 @@ pub trait ChunkContext {
         ensures moves { (piece_at (chunks self.now) (place_of name)).room < n → frees self.now ≡ true → result ≡ growth self.now n }
         ensures refused { frees self.now ≡ false → result ≡ 0 };
 
-    /// A law: no two live chunks share a byte, and each lies in a block.
+    /// A law: no two live chunks share a byte, and each lies in a block. So no less is held than they have bytes.
     fn are_laid(&self)
-        ensures { AreLaid (blocks self.now) (chunks self.now) };
+        ensures laid { AreLaid (blocks self.now) (chunks self.now) }
+        ensures enough { lengths (chunks self.now) ≤ total (blocks self.now) };
 }

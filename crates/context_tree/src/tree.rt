@@ -3,7 +3,7 @@ ghost use Rattle.std.specs.Prelude.{◌≡◌, ◌+◌, ◌*◌, ◌-◌, ◌<�
 ghost use Rattle.smallvec.specs.SmallVec.{HasRoomFor};
 ghost use Rattle.block_memory.specs.Cells.{zeros};
 ghost use Rattle.chunk_layout.specs.Pieces.{place_of, without, piece_at, resized, total, AreLaid};
-ghost use Rattle.chunk_contexts.specs.Chunks.{chunk_of, Adds, Keeps, KeepsOthers, IsRefused, IsResizeRefused, IsResized};
+ghost use Rattle.chunk_contexts.specs.Chunks.{lengths, chunk_of, Adds, Keeps, KeepsOthers, IsRefused, IsResizeRefused, IsResized};
 ghost use Rattle.chunk_contexts.specs.declared.error.ContextError.TheVariants.{NoMemory, NotSupported};
 ghost use Rattle.context_tree.specs.Contexts.{chunks_of, blocks_of, room_in, refusal_of, growth_of, can_free, may_lie_in, with_chunk, with_bytes, with_resized, without_chunk, kind_refusal, no_context, has_chunk, chunk_bytes, held_by, IsCounted};
 ghost use Rattle.context_tree.specs.Links.{is_under, placed, IsFull};
@@ -198,9 +198,10 @@ impl Tree {
         }
     }
 
-    /// A law: no two live chunks of a context share a byte, and each lies in a block.
+    /// A law: no two live chunks of a context share a byte, and each lies in a block. So it holds no less than they have bytes.
     pub fn are_laid(&self, id: ContextId)
-        ensures { AreLaid (blocks_of (context_at self.now id)) (chunks_of (context_at self.now id)) }
+        ensures laid { AreLaid (blocks_of (context_at self.now id)) (chunks_of (context_at self.now id)) }
+        ensures enough { lengths (chunks_of (context_at self.now id)) ≤ held_by (context_at self.now id) }
     {
         if let Some(context) = self.contexts.get(id.slot as usize) {
             context.are_laid();

@@ -1,0 +1,127 @@
+-- What chunks that are apart take of their blocks together: each byte of a block is one of at most one chunk.
+use Rattle.std.proofs.Common.{◌≡◌, ℕ, zero, suc, ◌+◌, ◌<◌, ◌≤◌, inl, inr, ◌⊎◌, Bool, List, [], ◌∷◌, Option, cond, refl, sym, ◌∙◌, arith}
+use Rattle.std.specs.Prelude.{◌==◌, ◌&&◌, nat_le, nat_lt, unwrap_or}
+use Rattle.std.proofs.lemmas.Bool.{cases_Bool, cases_lt, cond-true, cond-false, and_parts, and_from, eqb-true, eq-eqb, leb-true, le-leb, lt-ltb}
+use Rattle.chunk_layout.specs.Every.{Every, Pairwise}
+use Rattle.chunk_layout.specs.Pieces.{Piece, size_at, total, AreApart, IsInside, AreLaid}
+use Rattle.chunk_contexts.specs.Chunks.{lengths}
+
+-- a byte of a block is one of a chunk
+abbrev covers : Piece → ℕ → ℕ → Bool
+covers p b o = (p.place.block == b) && (nat_le p.place.offset o && nat_lt o (p.place.offset + p.room))
+
+abbrev hit : Piece → ℕ → ℕ → ℕ
+hit p b o = cond (covers p b o) 1 0
+
+abbrev hits : List Piece → ℕ → ℕ → ℕ
+hits [] b o = 0
+hits (p ∷ ps) b o = hit p b o + hits ps b o
+
+record IsHit (p : Piece) (b o : ℕ) : Type 0 where
+  block : p.place.block ≡ b
+  after : p.place.offset ≤ o
+  before : o < p.place.offset + p.room
+
+hit-is : (p : Piece) (b o : ℕ) → p.place.block ≡ b → p.place.offset ≤ o → o < p.place.offset + p.room → hit p b o ≡ 1
+hit-is p b o block after before =
+    cond-true (covers p b o) 1 0
+    (and_from (p.place.block == b) (nat_le p.place.offset o && nat_lt o (p.place.offset + p.room)) (eq-eqb p.place.block b block)
+    (and_from (nat_le p.place.offset o) (nat_lt o (p.place.offset + p.room)) (le-leb p.place.offset o after) (lt-ltb o (p.place.offset + p.room) before)))
+
+hit-cases : (p : Piece) (b o : ℕ) → (hit p b o ≡ 0) ⊎ (IsHit p b o × (hit p b o ≡ 1))
+hit-cases p b o = elim (cases_Bool (covers p b o)) [
+  | inr not ↦ inl (cond-false (covers p b o) 1 0 not)
+  | inl is ↦
+      let outer = and_parts (p.place.block == b) (nat_le p.place.offset o && nat_lt o (p.place.offset + p.room)) is in
+      let inner = and_parts (nat_le p.place.offset o) (nat_lt o (p.place.offset + p.room)) outer.1 in
+      inr (
+        record { block = eqb-true p.place.block b outer.0; after = leb-true p.place.offset o inner.0; before = leb-true (suc o) (p.place.offset + p.room) inner.1 },
+        cond-true (covers p b o) 1 0 is,
+      )
+]
+
+-- what is apart from a chunk has none of its bytes
+none-apart : (p q : Piece) (b o : ℕ) → IsHit p b o → AreApart p q → IsHit q b o → ⊥
+none-apart p q b o is apart other = elim apart [
+  | inl blocks ↦ blocks (is.block ∙ sym other.block)
+  | inr order ↦ elim order [
+    | inl first ↦ let a = is.before in let c = other.after in omega (arith, first, a, c)
+    | inr last ↦ let a = other.before in let c = is.after in omega (arith, last, a, c)
+  ]
+]
+
+none-hits : (p : Piece) (ps : List Piece) (b o : ℕ) → IsHit p b o → Every (AreApart p) ps → hits ps b o ≡ 0
+none-hits p [] b o is apart = refl
+none-hits p (q ∷ ps) b o is apart =
+    let rest = none-hits p ps b o is apart.1 in
+    elim (hit-cases q b o) [
+      | inl none ↦ omega (arith, none, rest)
+      | inr other ↦ absurd (none-apart p q b o is apart.0 other.0)
+    ]
+
+one-hit : (ps : List Piece) → Pairwise AreApart ps → (b o : ℕ) → hits ps b o ≤ 1
+one-hit [] apart b o = omega arith
+one-hit (p ∷ ps) apart b o = elim (hit-cases p b o) [
+  | inl none ↦ let rest = one-hit ps apart.1 b o in omega (arith, none, rest)
+  | inr is ↦ let rest = none-hits p ps b o is.0 apart.0 in let one = is.1 in omega (arith, one, rest)
+]
+
+-- sums over the bytes of a block, and of all blocks
+abbrev along : (ℕ → ℕ) → ℕ → ℕ
+along f zero = 0
+along f (suc n) = along f n + f n
+
+abbrev over : (ℕ → ℕ → ℕ) → ℕ → List (Option ℕ) → ℕ
+over f b [] = 0
+over f b (x ∷ xs) = along (f b) (unwrap_or x 0) + over f (b + 1) xs
+
+along-add : (f g : ℕ → ℕ) (n : ℕ) → along (λ o. f o + g o) n ≡ along f n + along g n
+along-add f g zero = refl
+along-add f g (suc n) = let rest = along-add f g n in omega (arith, rest)
+
+over-add : (f g : ℕ → ℕ → ℕ) (b : ℕ) (xs : List (Option ℕ)) → over (λ c o. f c o + g c o) b xs ≡ over f b xs + over g b xs
+over-add f g b [] = refl
+over-add f g b (x ∷ xs) = let here = along-add (f b) (g b) (unwrap_or x 0) in let rest = over-add f g (b + 1) xs in omega (arith, here, rest)
+
+along-most : (f : ℕ → ℕ) → ((o : ℕ) → f o ≤ 1) → (n : ℕ) → along f n ≤ n
+along-most f most zero = omega arith
+along-most f most (suc n) = let rest = along-most f most n in let one = most n in omega (arith, rest, one)
+
+over-most : (f : ℕ → ℕ → ℕ) → ((b o : ℕ) → f b o ≤ 1) → (b : ℕ) (xs : List (Option ℕ)) → over f b xs ≤ total xs
+over-most f most b [] = omega arith
+over-most f most b (x ∷ xs) = let here = along-most (f b) (most b) (unwrap_or x 0) in let rest = over-most f most (b + 1) xs in omega (arith, here, rest)
+
+-- a chunk takes its room of its block
+along-room : (f : ℕ → ℕ) (start room n : ℕ) → start + room ≤ n → ((o : ℕ) → start ≤ o → o < start + room → f o ≡ 1) → room ≤ along f n
+along-room f start zero n low one = omega arith
+along-room f start (suc room) zero low one = omega (arith, low)
+along-room f start (suc room) (suc n) low one = elim (cases_lt n (start + suc room)) [
+  | inr less ↦ let rest = along-room f start (suc room) n less one in omega (arith, rest)
+  | inl last ↦
+      let rest = along-room f start room n (omega (arith, low)) (λ o after before. one o after (omega (arith, before))) in
+      let here = one n (omega (arith, last, low)) last in
+      omega (arith, rest, here)
+]
+
+over-room : (p : Piece) (b k : ℕ) (xs : List (Option ℕ)) → p.place.block ≡ b + k → p.place.offset + p.room ≤ size_at xs k → p.room ≤ over (hit p) b xs
+over-room p b k [] block inside = omega (arith, inside)
+over-room p b zero (x ∷ xs) block inside =
+    let here = along-room (hit p b) p.place.offset p.room (unwrap_or x 0) inside (λ o after before. hit-is p b o (omega (arith, block)) after before) in
+    omega (arith, here)
+over-room p b (suc k) (x ∷ xs) block inside = let rest = over-room p (b + 1) k xs (omega (arith, block)) inside in omega (arith, rest)
+
+lengths-hits : (blocks : List (Option ℕ)) (ps : List Piece) → Every (IsInside blocks) ps → lengths ps ≤ over (hits ps) 0 blocks
+lengths-hits blocks [] inside = omega arith
+lengths-hits blocks (p ∷ ps) inside =
+    let rest = lengths-hits blocks ps inside.1 in
+    let here = over-room p 0 p.place.block blocks (omega arith) inside.0.1 in
+    let fits = inside.0.0 in
+    let sum = over-add (hit p) (hits ps) 0 blocks in
+    omega (arith, rest, here, fits, sum)
+
+-- so they have no more bytes than the blocks
+pub laid-enough : (blocks : List (Option ℕ)) (ps : List Piece) → AreLaid blocks ps → lengths ps ≤ total blocks
+laid-enough blocks ps laid =
+    let less = lengths-hits blocks ps laid.inside in
+    let most = over-most (hits ps) (one-hit ps laid.apart) 0 blocks in
+    omega (arith, less, most)
