@@ -10,3 +10,4 @@ pub mod TapesFields
 pub mod Memory
 pub mod MemoryFields
 pub mod Faulty
+pub mod Chosen
