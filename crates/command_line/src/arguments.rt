@@ -20,6 +20,8 @@ pub(crate) const FORMAT: &str = "format";
 
 pub(crate) const LIMIT: &str = "limit";
 
+pub(crate) const SPILL: &str = "spill";
+
 pub(crate) const EXPLAIN: &str = "explain";
 
 static FORMATS: [&str; 2] = ["csv", "aligned"];
@@ -57,12 +59,15 @@ The script is CSV, a command in each record, and is read whole before the first 
 written. Its commands are columns, query, limit, replica, feed, merge, known, answer, save
 and load. What it saves it keeps in memory, and ends with it.
 
+What doesn't keep within the limit of a script is spilled: to memory, or with --spill to a
+new file, which is removed at the end.
+
 Example:
   agg_tool script < examples/sales.script
 
 Status: 0 all was done; 1 a command was refused, memory ran out or the script is longer
-than 67,108,864 bytes; 3 standard input could not be read or standard output not
-written.";
+than 67,108,864 bytes; 2 the words are no command line; 3 standard input could not be
+read, standard output not written or the file for what is spilled not made.";
 
 const NEW_ABOUT: &str = "Makes a summary file that knows no batch yet";
 
@@ -97,7 +102,8 @@ file can't be read or OUT would be longer than 67,108,864 bytes, the command end
 isn't written.
 
 The groups of a batch take at most --limit bytes of blocks while they are counted; what
-doesn't keep within is spilled, and counted in later passes. The reply is the same.
+doesn't keep within is spilled, and counted in later passes: to memory, or with --spill to
+a new file, which is removed at the end. The reply is the same.
 --explain tells on standard error what all of it took, as 'passes 2 spilled 1 pages 1
 held 57352 limit 65536': passes, records that were spilled, pages of 8192 bytes written
 for them, and the most bytes held at once.
@@ -118,7 +124,8 @@ one of the INs. Where the first IN is refused, a file can't be read or OUT would
 than 67,108,864 bytes, the command ends, and OUT isn't written.
 
 Groups of early batches that follow now take at most --limit bytes of blocks while they
-are counted; what doesn't keep within is spilled, and counted in later passes. --explain
+are counted; what doesn't keep within is spilled, and counted in later passes: to memory,
+or with --spill to a new file, which is removed at the end. --explain
 tells on standard error what all of it took, as 'passes 2 spilled 1 pages 1 held 57352
 limit 65536': passes, records that were spilled, pages of 8192 bytes written for them, and
 the most bytes held at once.
@@ -146,7 +153,8 @@ const ANSWER_ABOUT: &str = "Prints the query's answer over what a summary knows"
 const ANSWER_AFTER: &str = "\
 The rows stand in the order of the query's keys, null last. The groups of several origins
 take at most --limit bytes of blocks while they are combined; what doesn't keep within is
-spilled, and combined in later passes. The answer is the same. --explain tells on standard
+spilled, and combined in later passes: to memory, or with --spill to a new file, which is
+removed at the end. The answer is the same. --explain tells on standard
 error what that took, as 'passes 2 spilled 1 pages 1 held 57352 limit 65536': passes,
 records that were spilled, pages of 8192 bytes written for them, and the most bytes held
 at once; 'passes 0' where there is nothing to combine.
@@ -175,6 +183,10 @@ fn task<'a>(alloc: Global, name: &'a str, about: &'a str, after: &'a str) -> Com
     Command::new(alloc, name).about(about).after_help(after)
 }
 
+fn script_command<'a>(alloc: Global) -> Result<Command<'a>, AllocError> {
+    task(alloc, "script", SCRIPT_ABOUT, SCRIPT_AFTER).arg(spill_option(alloc))
+}
+
 fn new_command<'a>(alloc: Global) -> Result<Command<'a>, AllocError> {
     task(alloc, "new", NEW_ABOUT, NEW_AFTER)
         .arg(positional(alloc, OUT, "The summary file to write"))?
@@ -193,6 +205,16 @@ fn limit_option<'a>(alloc: Global) -> Arg<'a> {
     .allow_negative_numbers(true)
 }
 
+/// The option of a file for what is spilled.
+fn spill_option<'a>(alloc: Global) -> Arg<'a> {
+    option(
+        alloc,
+        SPILL,
+        "PATH",
+        "A new file for what is spilled, removed at the end [default: memory]",
+    )
+}
+
 /// The option that asks what the work took.
 fn explain_option<'a>(alloc: Global) -> Arg<'a> {
     Arg::new(alloc, EXPLAIN)
@@ -207,6 +229,7 @@ fn feed_command<'a>(alloc: Global) -> Result<Command<'a>, AllocError> {
         .arg(positional(alloc, IN, "The summary file to add to"))?
         .arg(positional(alloc, BATCH, "The batch files to add").num_args(1..))?
         .arg(limit_option(alloc))?
+        .arg(spill_option(alloc))?
         .arg(explain_option(alloc))
 }
 
@@ -215,6 +238,7 @@ fn merge_command<'a>(alloc: Global) -> Result<Command<'a>, AllocError> {
         .arg(positional(alloc, OUT, "The summary file to write"))?
         .arg(positional(alloc, IN, "The summary files to merge").num_args(1..))?
         .arg(limit_option(alloc))?
+        .arg(spill_option(alloc))?
         .arg(explain_option(alloc))
 }
 
@@ -238,6 +262,7 @@ fn answer_command<'a>(alloc: Global) -> Result<Command<'a>, AllocError> {
         .arg(positional(alloc, IN, "The summary file to read"))?
         .arg(format_option(alloc))?
         .arg(limit_option(alloc))?
+        .arg(spill_option(alloc))?
         .arg(explain_option(alloc))
 }
 
@@ -267,8 +292,7 @@ fn with_command<'a>(
 
 /// The program's commands.
 fn program<'a>(alloc: Global) -> Result<Command<'a>, AllocError> {
-    let script = task(alloc, "script", SCRIPT_ABOUT, SCRIPT_AFTER);
-    let program = with_command(bare_program(alloc), Ok(script))?;
+    let program = with_command(bare_program(alloc), script_command(alloc))?;
     let program = with_command(program, new_command(alloc))?;
     let program = with_command(program, feed_command(alloc))?;
     let program = with_command(program, merge_command(alloc))?;

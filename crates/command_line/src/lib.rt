@@ -6,9 +6,10 @@ mod arguments;
 mod files;
 mod problem;
 mod script;
+mod spill;
 mod tasks;
 
-use crate::arguments::parse_words;
+use crate::arguments::{SPILL, parse_words};
 use crate::problem::output_fault;
 use crate::script::run_script;
 use crate::tasks::{Session, Task};
@@ -65,7 +66,9 @@ fn run_words<R: Files + AllocGlobal, S: AsStr, I: Read, W: Write, E: Write>(
 ) -> Ending {
     match parse_words(rt.alloc(), words) {
         Ok(matches) => match matches.subcommand() {
-            Some(("script", _)) => run_script(rt.alloc(), reader, writer, errors),
+            Some(("script", matches)) => {
+                run_script(rt, matches.get_str(SPILL), reader, writer, errors)
+            }
             Some((name, matches)) => run_task(rt, name, matches, writer, errors),
             // The parser wants a command.
             None => Ending::BadUsage,

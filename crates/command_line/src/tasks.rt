@@ -1,15 +1,17 @@
 //! What each command does.
 
-use crate::arguments::{BATCH, COLUMNS, EXPLAIN, FORMAT, IN, LIMIT, OUT, QUERY};
+use crate::arguments::{BATCH, COLUMNS, EXPLAIN, FORMAT, IN, LIMIT, OUT, QUERY, SPILL};
 use crate::files::{read_file, write_file};
 use crate::problem::{Problem, output_fault};
+use crate::spill::{open_disk, remove_disk};
 use clap::ArgMatches;
 use exit_status::{Ending, refusal_ending};
 use file_commands::Format;
-use hash_agg::{Fnv1a, Means, MemDisk, Work};
+use hash_agg::{Fnv1a, Means, TapeDisk, Work};
 use replica_merge::{Delivered, Replica};
 use script_io::{put_all, read_limit};
 use script_machine::{Refusal, Reply, name, put_reply};
+use spill_tapes::{MemDisk, SpillDisk};
 use std::alloc::Global;
 use std::io::Write;
 use std::rt::Files;
@@ -111,13 +113,21 @@ fn means_of(task: Task, matches: &ArgMatches<'_>) -> Result<Means<Fnv1a>, Refusa
     }
 }
 
+/// The file for what is spilled that a command tells.
+fn spill_of<'p>(task: Task, matches: &ArgMatches<'p>) -> Option<&'p str> {
+    if !task.groups_rows() {
+        return None;
+    }
+    matches.get_str(SPILL)
+}
+
 /// Feeds the batch of a file to a replica.
-fn feed_file<'p, R: Files + AllocGlobal>(
+fn feed_file<'p, R: Files + AllocGlobal, D: TapeDisk>(
     rt: &R,
     replica: &mut Replica,
     path: &'p str,
     means: &Means<Fnv1a>,
-    disk: &mut MemDisk,
+    disk: &mut D,
     work: &mut Work,
 ) -> Result<Delivered, Problem<'p>> {
     let file = read_file(rt, path)?;
@@ -128,12 +138,12 @@ fn feed_file<'p, R: Files + AllocGlobal>(
 }
 
 /// Merges the replica of a summary file into another.
-fn merge_file<'p, R: Files + AllocGlobal>(
+fn merge_file<'p, R: Files + AllocGlobal, D: TapeDisk>(
     rt: &R,
     replica: &mut Replica,
     path: &'p str,
     means: &Means<Fnv1a>,
-    disk: &mut MemDisk,
+    disk: &mut D,
     work: &mut Work,
 ) -> Result<(), Problem<'p>> {
     let file = read_file(rt, path)?;
@@ -146,23 +156,23 @@ fn merge_file<'p, R: Files + AllocGlobal>(
 /// A command that runs: the files that it reaches, its streams, its disk of tapes, what its grouping took, and whether
 /// something was passed over.
 #[derive(Drop)]
-pub(crate) struct Session<'c, R, W, E> {
+pub(crate) struct Session<'c, R: Files, W, E> {
     rt: &'c R,
     writer: &'c mut W,
     errors: &'c mut E,
-    disk: MemDisk,
+    disk: SpillDisk<R::File>,
     work: Work,
     refused: bool,
 }
 
 impl<'c, R: Files + AllocGlobal, W: Write, E: Write> Session<'c, R, W, E> {
-    /// Nothing was done yet.
+    /// Nothing was done yet. What is spilled lies in memory.
     pub(crate) fn new(rt: &'c R, writer: &'c mut W, errors: &'c mut E) -> Session<'c, R, W, E> {
         Session {
             rt,
             writer,
             errors,
-            disk: MemDisk::new(rt.alloc()),
+            disk: SpillDisk::Memory(MemDisk::new(rt.alloc())),
             work: Work::none(),
             refused: false,
         }
@@ -364,7 +374,19 @@ impl<'c, R: Files + AllocGlobal, W: Write, E: Write> Session<'c, R, W, E> {
             Ok(means) => means,
             Err(why) => return self.refuse_limit(why),
         };
-        let done = self.run_command(task, matches, &means);
+        let spill = spill_of(task, matches);
+        match open_disk(self.rt, spill) {
+            Ok(disk) => self.disk = disk,
+            Err(problem) => return self.stop(problem),
+        }
+        let ending = self.run_by(task, matches, &means);
+        remove_disk(self.rt, spill, self.errors);
+        ending
+    }
+
+    /// Runs a command on files by means, and tells how it ended.
+    fn run_by(&mut self, task: Task, matches: &ArgMatches<'_>, means: &Means<Fnv1a>) -> Ending {
+        let done = self.run_command(task, matches, means);
         if done.is_ok() && task.groups_rows() && matches.get_flag(EXPLAIN) {
             self.explain(means.limit());
         }

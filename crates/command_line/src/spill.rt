@@ -1,0 +1,36 @@
+//! The disk of tapes that a command takes.
+
+use crate::problem::Problem;
+use script_machine::RunError;
+use spill_tapes::{FileDisk, MemDisk, SpillDisk};
+use std::fs;
+use std::io::Write;
+use std::rt::Files;
+
+/// A disk of tapes: in a new file where its path is told, else in memory.
+pub(crate) fn open_disk<'p, R: Files + AllocGlobal>(
+    rt: &R,
+    path: Option<&'p str>,
+) -> Result<SpillDisk<R::File>, Problem<'p>> {
+    let Some(path) = path else {
+        return Ok(SpillDisk::Memory(MemDisk::new(rt.alloc())));
+    };
+    match FileDisk::create(rt, path) {
+        Ok(disk) => Ok(SpillDisk::File(disk)),
+        Err(fault) => Err(Problem::failed(path, RunError::WriteFault, fault.cause)),
+    }
+}
+
+/// Removes the file in which the tapes lay, if they did in one. A sentence says so where it can't be removed.
+pub(crate) fn remove_disk<R: Files, E: Write>(rt: &R, path: Option<&str>, errors: &mut E) {
+    let Some(path) = path else {
+        return;
+    };
+    if let Err(cause) = fs::remove_file(rt, path) {
+        // Nothing is left to do where the sentence can't be written.
+        let _ = writeln!(
+            errors,
+            "{path}: the file for what is spilled can't be removed ({cause})"
+        );
+    }
+}
