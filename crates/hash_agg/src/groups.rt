@@ -1,6 +1,6 @@
 //! The groups of a pass, in a table whose bytes lie in memory contexts.
 
-ghost use Rattle.std.specs.Prelude.{◌≡◌, ◌≢◌, ◌++◌, ◌∷◌, ◌≤◌, ◌<◌, max, ℕ, true, List, [], map, Some, is_some, length, slice_get, MatchOption, IfOk, IfSome, OnOk, OnErr};
+ghost use Rattle.std.specs.Prelude.{◌≡◌, ◌++◌, ◌∷◌, ◌≤◌, ◌<◌, max, ℕ, true, [], map, Some, is_some, length, slice_get, MatchOption, IfOk, IfSome, OnOk, OnErr};
 ghost use Rattle.std.specs.List.Sorted.{IsPermutation};
 ghost use Rattle.grouping_model.specs.Datum.{HasKinds};
 ghost use Rattle.grouping_model.specs.Parts.{functions};
@@ -9,7 +9,6 @@ ghost use Rattle.agg_protocol.specs.States.{most_rows};
 ghost use Rattle.aggregation_cost.specs.Cost.{greatest};
 ghost use Rattle.aggregation_cost.specs.Space.{Key, need, fits, fronts};
 ghost use Rattle.context_tree.specs.Tree.{is_there, new_tree, held_below};
-ghost use Rattle.group_table.specs.Standing.{IsTableIn};
 ghost use Rattle.group_table.specs.Table.{IsSlot, Names, HasNo, state_in};
 ghost use Rattle.having_filter.specs.Kept.{IsWellFormed};
 ghost use Rattle.having_filter.specs.Meaning.{meaning};

@@ -1,5 +1,5 @@
 -- The inputs of an answer, and the answer that their groups give.
-use Rattle.std.specs.Prelude.{◌≡◌, ◌≢◌, refl, ℕ, ◌+◌, ◌*◌, ◌^◌, ◌<◌, ◌≤◌, ◌⊎◌, true, false, cond, List, [], ◌∷◌, ◌++◌, map, filter, flat_map, length, drop, slice_get, Bool, IsTrue, All, Some}
+use Rattle.std.specs.Prelude.{◌≡◌, ◌≢◌, refl, ℕ, ◌+◌, ◌*◌, ◌<◌, ◌≤◌, ◌⊎◌, true, false, cond, List, [], ◌∷◌, ◌++◌, map, filter, flat_map, length, drop, slice_get, Bool, IsTrue, All, Some}
 use Rattle.std.proofs.Common.{sym, ◌∙◌, ap, subst, inl, inr, arith, append-nil}
 use Rattle.std.proofs.lemmas.Bool.{true≢false}
 use Rattle.std.proofs.lemmas.List.{length-map}
@@ -72,14 +72,11 @@ all_above_zero : (ps : Parts) → AllByRecursion (λ (e : ℕ × Part). 0 ≤ e.
 all_above_zero [] = tt
 all_above_zero (e ∷ ps) = (omega arith, all_above_zero ps)
 
-pub few_parts : (query : Checked) (parts : Parts) → AreHeldParts query parts → all_rows (map counted_part parts) < 2 ^ 57
+pub few_parts : (query : Checked) (parts : Parts) → AreHeldParts query parts → all_rows (map counted_part parts) ≤ most_rows
 few_parts query parts held =
     let count : 0 + length parts ≤ LAST_ORIGIN + 1 = few_origins query 0 parts (omega arith) held.rising held.each (all_above_zero parts) in
     let rows : all_rows (map counted_part parts) ≤ length parts * (LAST_NUMBER * MOST_ROWS) = few_each query parts held.each in
     omega (arith, count, rows)
-
-pub few_enough : (n : ℕ) → n < 2 ^ 57 → n ≤ most_rows
-few_enough n low = omega (arith, low)
 
 -- ---- rows of a world
 
@@ -152,12 +149,12 @@ one_list q run rows (these ∷ more ∷ lists) are = absurd are.1
 pub only_part : (honest : Bool) (held : Held) (run : List Entry) (rows : ℕ) → AreHeldParts held.query held.parts → Counted run rows ∷ [] ≡ map counted_part held.parts → IsOfParts honest held run
 only_part honest held run rows is one =
     let q : Query = meaning held.query in
-    let few : all_rows (Counted run rows ∷ []) < 2 ^ 57 = subst (λ inputs. all_rows inputs < 2 ^ 57) (sym one) (few_parts held.query held.parts is) in
+    let few : all_rows (Counted run rows ∷ []) ≤ most_rows = subst (λ inputs. all_rows inputs ≤ most_rows) (sym one) (few_parts held.query held.parts is) in
     let sum : all_rows (Counted run rows ∷ []) ≡ rows + 0 = sum_by-cons rows_in (Counted run rows) [] in
     let is_run : IsRun q rows run = (subst (AllByRecursion (IsInput q)) (sym one) (part_inputs held.query held.parts is.each)).0 in
     record {
       most = rows;
-      few = few_enough rows (omega (arith, few, sum));
+      few = omega (arith, few, sum);
       groups = is_run.groups;
       are = is_run.are;
       known =
@@ -175,7 +172,7 @@ whole_run honest held inputs run is all over aggregate =
     let given : IsRunOver q (map counted_part held.parts) run = subst (λ those. IsRunOver q those run) all over in
     record {
       most = all_rows (map counted_part held.parts);
-      few = few_enough (all_rows (map counted_part held.parts)) (few_parts held.query held.parts is);
+      few = few_parts held.query held.parts is;
       groups = given.is_run.groups;
       are = given.is_run.are;
       known = λ honest world fits. groups_known held run world is fits (subst (λ those. IsAggregate q those run) all (aggregate honest));
@@ -208,10 +205,10 @@ first_inputs query parts first others is there are =
     (subst (AllByRecursion (IsInput (meaning query))) (sym (all_inputs parts first others there are)) (part_inputs query parts is.each)).1
 
 pub first_few : (query : Checked) (parts : Parts) (first : ℕ × Part) (others : List Brought) → AreHeldParts query parts → slice_get parts 0 ≡ Some first
-    → others ≡ map counted_part (drop 1 parts) → first.1.prefix * MOST_ROWS + all_rows others < 2 ^ 57
+    → others ≡ map counted_part (drop 1 parts) → first.1.prefix * MOST_ROWS + all_rows others ≤ most_rows
 first_few query parts first others is there are =
-    subst (λ n. n < 2 ^ 57) (sum_by-cons rows_in (counted_part first) others)
-    (subst (λ inputs. all_rows inputs < 2 ^ 57) (sym (all_inputs parts first others there are)) (few_parts query parts is))
+    subst (λ n. n ≤ most_rows) (sum_by-cons rows_in (counted_part first) others)
+    (subst (λ inputs. all_rows inputs ≤ most_rows) (sym (all_inputs parts first others there are)) (few_parts query parts is))
 
 -- what an answer is counted as
 pub alone_counted : (q : Query) (setting : Setting) (parts : Parts) (others : List Input) (work : Work) (writes : ℕ) → map brought others ≡ map counted_part (drop 1 parts) → others ≡ []

@@ -1,5 +1,5 @@
 -- What a replica holds and tells after a merge.
-use Rattle.std.specs.Prelude.{◌≡◌, ◌≤◌, ◌≢◌, refl, ℕ, ◌<◌, ◌⊎◌, ◌||◌, ◌&&◌, nat_eq, Bool, true, false, cond, List, [], ◌∷◌, length, Option, Some, None, option_map, unwrap_or, if◌then◌else◌, IsTrue}
+use Rattle.std.specs.Prelude.{◌≡◌, ◌≢◌, refl, ℕ, ◌<◌, ◌⊎◌, ◌||◌, ◌&&◌, nat_eq, Bool, true, false, cond, List, [], ◌∷◌, length, Option, Some, None, option_map, unwrap_or, if◌then◌else◌, IsTrue}
 use Rattle.std.proofs.Common.{◌∙◌, sym, ap, subst, inl, inr, arith}
 use Rattle.std.proofs.lemmas.Bool.{true≢false}
 use Rattle.std.specs.Option.{is_some}
@@ -18,8 +18,6 @@ use Rattle.origin_prefix.proofs.Lists.{is_itself, is_other, same_or_other}
 use Rattle.origin_prefix.proofs.ByNumber.{numbers, at, at_head, behind_head, all_found, put_same, put_else, first_alone, some_is}
 use Rattle.origin_prefix.proofs.TellingLaws.{joined_tells}
 use Rattle.origin_prefix.proofs.FittingLaws.{fits_joined, agrees_joined}
-use Rattle.spill_lists.specs.declared.error.SpillError.{SpillError}
-use Rattle.spill_lists.specs.declared.error.SpillError.TheVariants as spill
 use Rattle.replica_merge.specs.Replicas.{Parts, part_at, part_of, told, Fits, IsHeldPart, AreHeldParts, AsideAt, JoinedAside, JoinsAt, Merges, DisagreeSomewhere, filled}
 use Rattle.replica_merge.proofs.ToldLaws.{told_is, some_told, empty_tells, part_here}
 use Rattle.replica_merge.proofs.HeldLaws.{held_part}

@@ -1,6 +1,6 @@
 //! What a replica holds, and what it tells of it.
 
-ghost use Rattle.std.specs.Prelude.{◌≡◌, ◌≢◌, ◌+◌, ◌^◌, ◌<◌, ◌≤◌, ◌∷◌, ℕ, List, None, All, [], map, length, drop, Some, IsSome, IfSome, IsTrue, false, IfOk, IfErr, OnOk, OnErr};
+ghost use Rattle.std.specs.Prelude.{◌≡◌, ◌≢◌, ◌+◌, ◌≤◌, ◌∷◌, ℕ, List, None, All, [], map, length, drop, Some, IsSome, IfSome, IsTrue, false, IfOk, IfErr, OnOk, OnErr};
 ghost use Rattle.std.specs.BTreeMap.{insert_entry};
 ghost use Rattle.std.specs.List.{AllByRecursion};
 ghost use Rattle.std.specs.Option.{option_copied};
@@ -11,6 +11,7 @@ ghost use Rattle.grouping_model.specs.Replies.{InLimits, reply_of, known_list};
 ghost use Rattle.grouping_model.specs.World.{World, IsWorld, knows, learn, prefix};
 ghost use Rattle.packed_rows.specs.Columns.{kinds};
 ghost use Rattle.batch_reader.specs.Rows.{ArePackedRows, packings};
+ghost use Rattle.agg_protocol.specs.States.{most_rows as most_counted};
 ghost use Rattle.having_filter.specs.Meaning.{meaning};
 ghost use Rattle.hash_agg.specs.Inputs.{Counted, brought, all_rows, IsInput, IsAggregate, IsRunOver};
 ghost use Rattle.group_runs.specs.Standing.{IsRun};
@@ -119,7 +120,7 @@ fn with_others<H: KeyHash + Copy, D: TapeDisk>(
 ) -> Result<Run, SpillError>
     requires run { IsRun (meaning query.now) rows run.now }
     requires inputs { AllByRecursion (IsInput (meaning query.now)) (map brought others.now) }
-    requires few { rows + all_rows (map brought others.now) < 2 ^ 57 }
+    requires few { rows + all_rows (map brought others.now) ≤ most_counted }
     ensures aggregate { IfOk result (λ all. IsTrue (D.honest disk.old) →
         IsAggregate (meaning query.now) (Counted run.now rows ∷ map brought others.now) all) }
     ensures run { IfOk result (IsRunOver (meaning query.now)

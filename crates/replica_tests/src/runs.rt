@@ -49,6 +49,9 @@ fn shown(rt: HostRuntime, run: &Run) -> Result<String, Fail> {
 fn groups_of_three(rt: HostRuntime, query: &Query, lines: &str) -> Result<String, Fail> {
     let (first, more) = halves(lines, "|")?;
     let early = groups(rt, query, 1, first)?;
+    if early.len() != 1 {
+        return Err(Fail::from("one row has one group"));
+    }
     let late = apart(rt, &packed(rt, query, 2, more)?)?;
     let inputs = [
         Input::Groups {

@@ -13,11 +13,9 @@ use Rattle.replica_merge.specs.Counting.{MergeIsCounted}
 use Rattle.origin_prefix.specs.Parts.{Part, empty, IsPartOf}
 use Rattle.origin_prefix.proofs.ByNumber.{numbers, rising_rest}
 use Rattle.replica_merge.specs.Replicas.{Parts, part_at, part_of, IsHeldPart, DisagreeSomewhere}
-use Rattle.origin_prefix.specs.declared.error.JoinError.TheVariants as join
 use Rattle.spill_tapes.specs.Disk.{Leaves}
 use Rattle.spill_tapes.specs.DiskLaws.{leaves_twice}
 use Rattle.replica_merge.specs.Errors.{origin_disagrees, tape_damaged, merge_faults}
-use Rattle.replica_merge.specs.declared.error.MergeError.TheVariants.{Join}
 use Rattle.replica_merge.proofs.DeliveredLaws.{part_is}
 use Rattle.replica_merge.proofs.MergedLaws.{JoinedSoFar, joined_more, found_disagreement}
 use Rattle.replica_merge.proofs.merging.join_all.Goals as goal

@@ -1,8 +1,9 @@
-use Rattle.std.specs.Prelude.{◌≡◌, ◌≢◌, ◌==◌, true, ℕ, ◌+◌, ◌*◌, ◌<◌, ◌^◌, List, [], map, All, length}
+use Rattle.std.specs.Prelude.{◌≡◌, ◌≢◌, ◌==◌, true, ℕ, ◌+◌, ◌*◌, ◌≤◌, List, [], map, All, length}
 use Rattle.std.proofs.Common.{rules, sym, ◌∙◌, ap, subst, arith}
 use Rattle.grouping_model.specs.Aggregates.{Outcome}
 use Rattle.grouping_model.specs.Answer.{answer}
 use Rattle.grouping_model.specs.declared.limits.TheConstants.{MOST_ROWS}
+use Rattle.agg_protocol.specs.States.{most_rows}
 use Rattle.having_filter.specs.Meaning.{meaning}
 use Rattle.hash_agg.specs.Inputs.{brought, all_rows}
 use Rattle.hash_agg.specs.Counting.{AreCounted, setting_by}
@@ -71,7 +72,7 @@ pub with_others-requires-clause-few : goal.with_others-requires-clause-few
 with_others-requires-clause-few g c =
     let first : ℕ × Part = (c.in-Some.field-0-0.now, c.in-Some.first.now) in
     let rows : c.most_rows-rows.result ≡ first.1.prefix * MOST_ROWS = c.most_rows-rows.ensures ∙ ap (λ n. n * MOST_ROWS) c.prefix.ensures in
-    subst (λ n. n + all_rows (map brought c.deref.result.now) < 2 ^ 57) (sym rows)
+    subst (λ n. n + all_rows (map brought c.deref.result.now) ≤ most_rows) (sym rows)
     (first_few c.self.inside.query c.self.inside.parts.entries first (map brought c.deref.result.now) c.self.invariant c.in-Some.ensures.first (ap (map brought) c.deref.ensures.value ∙ c.in_ok-others.ensures))
 
 pub show-requires-2 : goal.show-requires-2
