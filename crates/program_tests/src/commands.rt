@@ -103,19 +103,19 @@ const SPILLED: &str = "\
 ?rows|@0.csv|0|1|20000 => - => 0
 ?rows|@1.csv|1|1|20000 => - => 0
 ?rows|@2.csv|0|2|20000 => - => 0
-new|@e.sum|--columns|town text, amount bigint|--query|SELECT town, count(*), sum(amount) FROM batches GROUP BY town HAVING town = 'k0384' => saved 121/ => 0
-feed|@a.sum|@e.sum|@0.csv|@1.csv => folded upto 1/folded upto 1/saved 1660157/ => 0
-feed|@b.sum|@e.sum|@0.csv|@1.csv|--limit|65536|--spill|@t.tmp => folded upto 1/folded upto 1/saved 1660157/ => 0
+new|@e.sum|--columns|town text, amount bigint|--query|SELECT town, count(*), sum(amount) FROM batches GROUP BY town HAVING town = 'k00384' => saved 122/ => 0
+feed|@a.sum|@e.sum|@0.csv|@1.csv => folded upto 1/folded upto 1/saved 1680158/ => 0
+feed|@b.sum|@e.sum|@0.csv|@1.csv|--limit|65536|--spill|@t.tmp => folded upto 1/folded upto 1/saved 1680158/ => 0
 ?same|@a.sum|@b.sum => - => 0
 ?there|@t.tmp => - => 1
-feed|@c.sum|@e.sum|@0.csv|--spill|@t.tmp|--limit|65536|--explain => folded upto 1/saved 830139/ => 0 => limit 65536
-feed|@d.sum|@e.sum|@2.csv|--spill|@t.tmp => early/saved 370147/ => 0
-merge|@m.sum|@c.sum|@d.sum => merged/saved 830139/ => 0
-merge|@n.sum|@c.sum|@d.sum|--limit|65536|--spill|@t.tmp => merged/saved 830139/ => 0
+feed|@c.sum|@e.sum|@0.csv|--spill|@t.tmp|--limit|65536|--explain => folded upto 1/saved 840140/ => 0 => limit 65536
+feed|@d.sum|@e.sum|@2.csv|--spill|@t.tmp => early/saved 380148/ => 0
+merge|@m.sum|@c.sum|@d.sum => merged/saved 840140/ => 0
+merge|@n.sum|@c.sum|@d.sum|--limit|65536|--spill|@t.tmp => merged/saved 840140/ => 0
 ?same|@m.sum|@n.sum => - => 0
 ?there|@t.tmp => - => 1
-answer|@a.sum => town,count,sum/k0384,2,768/ => 0
-answer|@a.sum|--limit|65536|--spill|@t.tmp => town,count,sum/k0384,2,768/ => 0
+answer|@a.sum => town,count,sum/k00384,2,768/ => 0
+answer|@a.sum|--limit|65536|--spill|@t.tmp => town,count,sum/k00384,2,768/ => 0
 answer|@none.sum|--spill|@t.tmp => refused ReadFault/ => 3 => none.sum: refused ReadFault
 feed|@x.sum|@e.sum|@none.csv|--spill|@t.tmp => refused ReadFault/ => 3 => none.csv: refused ReadFault
 answer|@a.sum|--limit|65535|--spill|@t.tmp => refused LimitOutOfRange/ => 1 => --limit: refused LimitOutOfRange
