@@ -273,11 +273,29 @@ fn a_file_over_the_limit_is_refused(rt: HostRuntime) -> Result<(), Fail> {
     Ok(())
 }
 
-/// A file of 67,108,865 bytes: as a batch or a later summary it is passed over.
+/// A file of 67,108,865 bytes, and one without an end: as a batch or a later summary it is passed over.
 const TOO_LONG: &str = "\
 ?long|@long.csv|67108865 => - => 0
 new|@e.sum|--columns|c text, d bigint|--query|SELECT count(*) FROM batches => saved 58/ => 0
 feed|@f.sum|@e.sum|@long.csv|@b.csv => refused InputTooLong/folded upto 1/saved 86/ => 1 => long.csv: refused InputTooLong: more than 67,108,864 bytes
 merge|@g.sum|@f.sum|@long.csv => refused InputTooLong/saved 86/ => 1 => long.csv: refused InputTooLong
 known|@long.csv => refused InputTooLong/ => 1 => long.csv: refused InputTooLong
+feed|@h.sum|@e.sum|/dev/zero|@b.csv => refused InputTooLong/folded upto 1/saved 86/ => 1 => /dev/zero: refused InputTooLong
+merge|@h.sum|@f.sum|/dev/zero => refused InputTooLong/saved 86/ => 1 => /dev/zero: refused InputTooLong
+answer|/dev/zero => refused InputTooLong/ => 1 => /dev/zero: refused InputTooLong
 ";
+
+/// A file that nobody's batches gave, in which each of all origins counts as many rows as it may: it is read, and summed as it stands.
+const FULL: &str = "\
+?origins|@full.sum|1024 => - => 0
+answer|@full.sum => count/144115188008747008/ => 0
+answer|@full.sum|--limit|65536 => count/144115188008747008/ => 0
+merge|@m.sum|@full.sum|@full.sum => merged/saved 28722/ => 0
+?same|@m.sum|@full.sum => - => 0
+";
+
+#[test]
+fn the_greatest_counts_are_summed(rt: HostRuntime) -> Result<(), Fail> {
+    assert_eq!(rt; play(&rt, "full", &[], FULL)?.as_str(), "");
+    Ok(())
+}

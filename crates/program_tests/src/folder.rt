@@ -59,13 +59,39 @@ fn write_rows(rt: &HostRuntime, file: &str, told: &str) -> Result<bool, Fail> {
     Ok(fs::write(rt, file, text.as_bytes()).is_ok())
 }
 
+/// Appends a text behind its length.
+fn push_text(bytes: &mut Vec<u8>, text: &[u8]) -> Result<(), Fail> {
+    bytes.extend_from_slice(&u16::try_from(text.len())?.to_be_bytes())?;
+    bytes.extend_from_slice(text)?;
+    Ok(())
+}
+
+/// An origin of a summary of `count(*)`: its prefix is the last number, and its one group counts as many rows as these batches may have.
+const FULL_ORIGIN: &[u8] =
+    b"\x7f\xff\xff\xff\x00\x00\x00\x00\x00\x00\x00\x01\x00\x00\x00\x00\x7f\xff\xff\xff\x00\x00\x00\x00\x00\x00";
+
+/// Makes a summary file of `count(*)` in which so many origins count as many rows as they may.
+fn write_origins(rt: &HostRuntime, file: &str, told: &str) -> Result<bool, Fail> {
+    let origins: u16 = told.parse()?;
+    let mut bytes = Vec::new(rt.alloc());
+    bytes.extend_from_slice(b"AGGSUM01")?;
+    push_text(&mut bytes, b"d bigint")?;
+    push_text(&mut bytes, b"SELECT count(*) FROM batches")?;
+    bytes.extend_from_slice(&origins.to_be_bytes())?;
+    for origin in 0..origins {
+        bytes.extend_from_slice(&origin.to_be_bytes())?;
+        bytes.extend_from_slice(FULL_ORIGIN)?;
+    }
+    Ok(fs::write(rt, file, bytes.as_slice()).is_ok())
+}
+
 /// Whether only its owner may read and write a file.
 fn is_private(rt: &HostRuntime, file: &str) -> Result<bool, Fail> {
     Ok(fs::metadata(rt, file)?.permissions().mode() & 0o777 == 0o600)
 }
 
 /// What a test does beside commands: whether files are the same, whether one is there, a link, a file that only its owner may read
-/// and write, whether one is so, a file of a length, and a batch file of many rows.
+/// and write, whether one is so, a file of a length, a batch file of many rows, and a summary of many origins.
 fn aside(rt: &HostRuntime, word: &str, file: &str, rest: &str) -> Result<bool, Fail> {
     match word {
         "same" => are_same(rt, file, rest),
@@ -79,6 +105,7 @@ fn aside(rt: &HostRuntime, word: &str, file: &str, rest: &str) -> Result<bool, F
                 .is_ok(),
         ),
         "rows" => write_rows(rt, file, rest),
+        "origins" => write_origins(rt, file, rest),
         _ => Err("no such word")?,
     }
 }

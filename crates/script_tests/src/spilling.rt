@@ -2,11 +2,12 @@
 
 use hash_agg::{MemDisk, TapeDisk};
 use script_machine::{Outcome, RunError, run};
-use spill_tapes::FailDisk;
+use spill_tapes::{FailDisk, FileDisk};
 use std::alloc::{AllocError, Global};
+use std::fs;
 use std::test::*;
 use test_disks::{failing, flipping};
-use test_tables::{cut, expect_told, expect_told_lines};
+use test_tables::{cut, expect, expect_told, expect_told_lines};
 
 /// Appends a row of each of so many towns, `k0000` and on.
 fn push_rows(alloc: Global, rows: &mut String, towns: u32) -> Result<(), AllocError> {
@@ -162,33 +163,79 @@ fn fault_of(run: &Failing, plain: &str) -> Option<&'static str> {
     (!is_fed || answers == 0).then_some("another reply")
 }
 
-/// Goes through the calls of disks, each failing in a run of its own, until none is reached, and tells what is wrong with a run, or
-/// whether there were more than so many.
-fn each_call_fails(alloc: Global, script: &str, many: u64) -> Result<String, RunError> {
+/// The replies to a script over a disk in memory.
+fn plain_replies(alloc: Global, script: &str) -> Result<Vec<u8>, RunError> {
     let mut plain = Vec::new(alloc);
     run_over(alloc, script, &mut MemDisk::new(alloc), &mut plain)?;
-    let plain = str::from_utf8(&plain).unwrap_or("not UTF-8");
+    Ok(plain)
+}
+
+/// What ends the way through the calls of disks: what is wrong with the run of which this call fails, or that it wasn't reached,
+/// and whether there were more than ten before.
+fn end_at(
+    alloc: Global,
+    run: &Failing,
+    plain: &[u8],
+    call: u64,
+) -> Result<Option<String>, RunError> {
+    let plain = str::from_utf8(plain).unwrap_or("not UTF-8");
+    if let Some(fault) = fault_of(run, plain) {
+        return Ok(Some(format!(in alloc; "call {call}: {fault}")?));
+    }
+    if run.failed {
+        return Ok(None);
+    }
+    Ok(Some(format!(in alloc; "more than 10: {}", call > 10)?))
+}
+
+/// Goes through the calls of disks in memory, each failing in a run of its own, until none is reached.
+fn each_call_fails(alloc: Global, script: &str) -> Result<String, RunError> {
+    let plain = plain_replies(alloc, script)?;
     for call in 0..1000 {
         let run = run_failing(alloc, script, MemDisk::new(alloc), call)?;
-        if let Some(fault) = fault_of(&run, plain) {
-            return Ok(format!(in alloc; "call {call}: {fault}")?);
-        }
-        if !run.failed {
-            return Ok(format!(in alloc; "more than {many}: {}", call > many)?);
+        if let Some(end) = end_at(alloc, &run, &plain, call)? {
+            return Ok(end);
         }
     }
     Ok(format!(in alloc; "calls without end")?)
+}
+
+/// A run over a disk in a new file, of which a call fails.
+fn run_failing_file(rt: HostRuntime, script: &str, path: &str, call: u64) -> Result<Failing, Fail> {
+    let Ok(disk) = FileDisk::create(&rt, path) else {
+        return Err(Fail::from("no file"));
+    };
+    let run = run_failing(rt.alloc(), script, disk, call);
+    fs::remove_file(&rt, path)?;
+    Ok(run?)
+}
+
+/// The same over disks in files.
+fn each_call_of_files_fails(rt: HostRuntime, script: &str, path: &str) -> Result<String, Fail> {
+    let plain = plain_replies(rt.alloc(), script)?;
+    for call in 0..1000 {
+        let run = run_failing_file(rt, script, path, call)?;
+        if let Some(end) = end_at(rt.alloc(), &run, &plain, call)? {
+            return Ok(end);
+        }
+    }
+    Err(Fail::from("calls without end"))
 }
 
 /// The commands in front of those whose disks fail.
 const ONE: &str = "columns,\"c text, d bigint\";\
     query,\"select c, count(*), sum(d) from batches group by c having c = 'k0384'\";replica,a;limit,65536;";
 
-/// The same for commands, each `feed` being of so many towns.
-fn each_call_of(alloc: Global, commands: &str, towns: u32) -> Result<String, RunError> {
+/// A script of commands behind these, each `feed` being of so many towns.
+fn script_of(alloc: Global, commands: &str, towns: u32) -> Result<String, AllocError> {
     let commands = format!(in alloc; "{ONE}{commands}")?;
-    let script = script(alloc, &commands, towns)?;
-    each_call_fails(alloc, &script, 10)
+    script(alloc, &commands, towns)
+}
+
+/// Goes through the calls of disks in memory over such a script.
+fn each_call_of(alloc: Global, commands: &str, towns: u32) -> Result<String, RunError> {
+    let script = script_of(alloc, commands, towns)?;
+    each_call_fails(alloc, &script)
 }
 
 #[test]
@@ -205,6 +252,16 @@ fn each_call_of_an_answer_may_fail(rt: HostRuntime) -> Result<(), Fail> {
     let commands = "feed,a,0,1,386;feed,a,0,1,386;feed,a,1,1,386;answer,a;answer,a;answer,a";
     expect_told(
         each_call_of(rt.alloc(), commands, 386),
+        "more than 10: true",
+    )
+}
+
+#[test]
+fn each_call_of_a_file_may_fail(rt: HostRuntime) -> Result<(), Fail> {
+    let commands = "feed,a,0,1,386;feed,a,0,1,386;feed,a,1,1,386;answer,a;answer,a;answer,a";
+    let script = script_of(rt.alloc(), commands, 386)?;
+    expect(
+        each_call_of_files_fails(rt, &script, "failing_tapes.tmp"),
         "more than 10: true",
     )
 }
