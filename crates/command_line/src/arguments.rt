@@ -103,7 +103,7 @@ isn't written.
 
 The groups of a batch take at most --limit bytes of blocks while they are counted; what
 doesn't keep within is spilled, and counted in later passes: to memory, or with --spill to
-a new file, which is removed at the end. The reply is the same.
+a new file, which is removed at the end. The reply is the same, unless that file fails.
 --explain tells on standard error what all of it took, as 'passes 2 spilled 1 pages 1
 held 57352 limit 65536': passes, records that were spilled, pages of 8192 bytes written
 for them, and the most bytes held at once.
@@ -154,7 +154,7 @@ const ANSWER_AFTER: &str = "\
 The rows stand in the order of the query's keys, null last. The groups of several origins
 take at most --limit bytes of blocks while they are combined; what doesn't keep within is
 spilled, and combined in later passes: to memory, or with --spill to a new file, which is
-removed at the end. The answer is the same. --explain tells on standard
+removed at the end. The answer is the same, unless that file fails. --explain tells on standard
 error what that took, as 'passes 2 spilled 1 pages 1 held 57352 limit 65536': passes,
 records that were spilled, pages of 8192 bytes written for them, and the most bytes held
 at once; 'passes 0' where there is nothing to combine.

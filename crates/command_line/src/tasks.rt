@@ -153,14 +153,15 @@ fn merge_file<'p, R: Files + AllocGlobal, D: TapeDisk>(
     }
 }
 
-/// A command that runs: the files that it reaches, its streams, its disk of tapes, what its grouping took, and whether
-/// something was passed over.
+/// A command that runs: the files that it reaches, its streams, its disk of tapes and the file in which that lies, if it does in one,
+/// what its grouping took, and whether something was passed over.
 #[derive(Drop)]
 pub(crate) struct Session<'c, R: Files, W, E> {
     rt: &'c R,
     writer: &'c mut W,
     errors: &'c mut E,
     disk: SpillDisk<R::File>,
+    spill: Option<&'c str>,
     work: Work,
     refused: bool,
 }
@@ -173,6 +174,7 @@ impl<'c, R: Files + AllocGlobal, W: Write, E: Write> Session<'c, R, W, E> {
             writer,
             errors,
             disk: SpillDisk::Memory(MemDisk::new(rt.alloc())),
+            spill: None,
             work: Work::none(),
             refused: false,
         }
@@ -208,6 +210,12 @@ impl<'c, R: Files + AllocGlobal, W: Write, E: Write> Session<'c, R, W, E> {
         self.refused = true;
         self.complain(&problem);
         self.reply(&Reply::Refused(problem.why))
+    }
+
+    /// Removes the file in which the tapes lay, when nothing is spilled any more.
+    fn remove_spill(&mut self) {
+        let spill = self.spill.take();
+        remove_disk(self.rt, spill, self.errors);
     }
 
     /// Writes the summary file of a replica.
@@ -316,6 +324,8 @@ impl<'c, R: Files + AllocGlobal, W: Write, E: Write> Session<'c, R, W, E> {
             Task::Merge => self.merge_files(replica, matches, means)?,
             Task::New => {}
         }
+        // OUT may have the path of the file for what is spilled, which is no longer wanted.
+        self.remove_spill();
         self.save(replica, value(matches, OUT))
     }
 
@@ -369,7 +379,7 @@ impl<'c, R: Files + AllocGlobal, W: Write, E: Write> Session<'c, R, W, E> {
     }
 
     /// Runs a command on files, and tells how it ended.
-    pub(crate) fn run(mut self, task: Task, matches: &ArgMatches<'_>) -> Ending {
+    pub(crate) fn run(mut self, task: Task, matches: &ArgMatches<'c>) -> Ending {
         let means = match means_of(task, matches) {
             Ok(means) => means,
             Err(why) => return self.refuse_limit(why),
@@ -379,8 +389,9 @@ impl<'c, R: Files + AllocGlobal, W: Write, E: Write> Session<'c, R, W, E> {
             Ok(disk) => self.disk = disk,
             Err(problem) => return self.stop(problem),
         }
+        self.spill = spill;
         let ending = self.run_by(task, matches, &means);
-        remove_disk(self.rt, spill, self.errors);
+        self.remove_spill();
         ending
     }
 

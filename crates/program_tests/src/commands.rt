@@ -116,6 +116,10 @@ merge|@n.sum|@c.sum|@d.sum|--limit|65536|--spill|@t.tmp => merged/saved 840140/ 
 ?there|@t.tmp => - => 1
 answer|@a.sum => town,count,sum/k00384,2,768/ => 0
 answer|@a.sum|--limit|65536|--spill|@t.tmp => town,count,sum/k00384,2,768/ => 0
+feed|@y.sum|@e.sum|@0.csv|@1.csv|--limit|65536|--spill|@y.sum => folded upto 1/folded upto 1/saved 1680158/ => 0
+?same|@y.sum|@a.sum => - => 0
+merge|@z.sum|@c.sum|@d.sum|--spill|@z.sum => merged/saved 840140/ => 0
+?same|@z.sum|@m.sum => - => 0
 answer|@none.sum|--spill|@t.tmp => refused ReadFault/ => 3 => none.sum: refused ReadFault
 feed|@x.sum|@e.sum|@none.csv|--spill|@t.tmp => refused ReadFault/ => 3 => none.csv: refused ReadFault
 answer|@a.sum|--limit|65535|--spill|@t.tmp => refused LimitOutOfRange/ => 1 => --limit: refused LimitOutOfRange

@@ -1,6 +1,6 @@
 //! What is there while a script runs, and how its commands are answered.
 
-ghost use Rattle.std.specs.Prelude.{◌≡◌, ◌≢◌, ◌+◌, ◌<◌, ◌≤◌, IsTrue, false, List, Some, None, [], IfOk, IfErr, OnOk, OnErr, drop, length, string_bytes, take};
+ghost use Rattle.std.specs.Prelude.{◌≡◌, ◌≢◌, ◌+◌, ◌<◌, ◌≤◌, IsTrue, false, List, Some, None, [], IfOk, IfErr, OnOk, OnErr, drop, length, string_bytes, take, ℕ};
 ghost use Rattle.std.specs.HashMap.{UpdatesBy};
 ghost use Rattle.std.specs.Str.{bytes_eq};
 ghost use Rattle.csv.specs.Records.{fields_of};
@@ -112,7 +112,7 @@ fn deliver<D: TapeDisk>(
         → why ≢ tape_damaged)) }
     ensures left { OnOk result (records.new ≡ drop told records.old) }
     ensures disk { IfOk result (λ done. Leaves D.TapeDisk (failed refusal_faults done) disk.old disk.new) }
-    ensures stopped { OnErr result (D.failures disk.old ≤ D.failures disk.new) }
+    ensures stopped { OnErr result (Leaves D.TapeDisk 0 disk.old disk.new) }
 {
     let schema = replica.query().schema();
     let batch = match read_rows(alloc, schema, origin, number, told, records)? {
@@ -332,7 +332,7 @@ impl Session {
             (take told records.old) self.old reply self.new) }
         ensures left { OnOk result (records.new ≡ drop told records.old) }
         ensures disk { IfOk result (λ reply. Leaves D.TapeDisk (faults_in reply) disk.old disk.new) }
-        ensures stopped { OnErr result (D.failures disk.old ≤ D.failures disk.new) }
+        ensures stopped { OnErr result (Leaves D.TapeDisk 0 disk.old disk.new) }
     {
         let Some(replica) = self.replicas.get_mut(name) else {
             records.skip(told as usize)?;
@@ -463,7 +463,7 @@ impl Session {
         ensures left { OnOk result (records.new
             ≡ drop (owned_by (fields_of command.now.head)) records.old) }
         ensures disk { IfOk result (λ reply. Leaves D.TapeDisk (faults_in reply) disk.old disk.new) }
-        ensures stopped { OnErr result (D.failures disk.old ≤ D.failures disk.new) }
+        ensures stopped { OnErr result ((faults : ℕ) × Leaves D.TapeDisk faults disk.old disk.new) }
     {
         let reply = match command.request() {
             Request::Feed {

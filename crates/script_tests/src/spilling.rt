@@ -4,8 +4,8 @@ use hash_agg::{MemDisk, TapeDisk};
 use script_machine::{Outcome, RunError, run};
 use spill_tapes::{FailDisk, FileDisk};
 use std::alloc::{AllocError, Global};
-use std::fs;
 use std::test::*;
+use std::{fs, process};
 use test_disks::{failing, flipping};
 use test_tables::{cut, expect, expect_told, expect_told_lines};
 
@@ -260,8 +260,10 @@ fn each_call_of_an_answer_may_fail(rt: HostRuntime) -> Result<(), Fail> {
 fn each_call_of_a_file_may_fail(rt: HostRuntime) -> Result<(), Fail> {
     let commands = "feed,a,0,1,386;feed,a,0,1,386;feed,a,1,1,386;answer,a;answer,a;answer,a";
     let script = script_of(rt.alloc(), commands, 386)?;
+    let process = process::id(rt.process());
+    let path = format!(in rt.alloc(); "/tmp/agg_tool_failing_tapes_{process}")?;
     expect(
-        each_call_of_files_fails(rt, &script, "failing_tapes.tmp"),
+        each_call_of_files_fails(rt, &script, &path),
         "more than 10: true",
     )
 }

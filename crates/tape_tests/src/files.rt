@@ -2,9 +2,9 @@
 
 use crate::tapes::tell_case;
 use spill_tapes::{FileDisk, TapeDisk};
-use std::fs;
 use std::os::unix::fs::MetadataExt;
 use std::test::*;
+use std::{fs, process};
 use test_tables::expect;
 
 /// Tells two records over a disk, and who may read and write the file that it lies in.
@@ -33,8 +33,10 @@ fn told_over_file(rt: HostRuntime, path: &str) -> Result<String, Fail> {
 
 #[test]
 fn a_file_serves(rt: HostRuntime) -> Result<(), Fail> {
+    let process = process::id(rt.process());
+    let path = format!(in rt.alloc(); "/tmp/agg_tool_tapes_{process}")?;
     expect(
-        told_over_file(rt, "tapes_of_a_file.tmp"),
+        told_over_file(rt, &path),
         "Ok(()), Ok(Some((7, 0))) ab, Ok(Some((9, 1))) , Ok(None) , None, mode 600, 1 written, refused again true",
     )
 }

@@ -25,7 +25,8 @@ returns-in_err-command g c =
 
 pub returns-in_err-reply : goal.returns-in_err-reply
 returns-in_err-reply g c =
-    let later = c.in_err-reply.ensures.stopped in
+    let stopped = c.in_err-reply.ensures.stopped in
+    let later : g.D.TapeDisk.failures c.loop-command.disk ≤ g.D.TapeDisk.failures c.execute.new.disk = omega (arith, stopped.1.failures) in
     passed_as c.from_residual-in_err-reply.result stop.NoMemory _ _ c.from_residual-in_err-reply.ensures.1 (λ honest. ran_stop _ _ later _ _ _ _ _ _ (c.loop-command.invariant.ran honest))
 
 pub returns-in_err-put_reply : goal.returns-in_err-put_reply

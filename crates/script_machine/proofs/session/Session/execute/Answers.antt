@@ -1,5 +1,6 @@
 use Rattle.std.specs.Prelude.{◌≡◌, false, ℕ, refl, drop, take}
 use Rattle.std.proofs.Common.{◌∙◌, ap, sym, subst}
+use Rattle.std.proofs.lemmas.Result.{err_from_is_err_and}
 use Rattle.csv.specs.Records.{fields_of}
 use Rattle.script_commands.specs.Commands as ask
 use Rattle.script_commands.specs.Commands.{owned_by, request_of}
@@ -79,3 +80,20 @@ returns-clause-disk g c =
       | in-Load w ↦ rw (w.reply-is, w.disk-is) (none w.load-reply.result w.load-reply.ensures.faultless)
       | in-Unknown w ↦ rw (w.reply-is, w.disk-is) (none (says.Refused why.BadCommand) refl)
     ]
+
+pub returns-in_err-skip-clause-stopped : goal.returns-in_err-skip-clause-stopped
+returns-in_err-skip-clause-stopped g c =
+    let e = err_from_is_err_and c.from_residual.result c.from_residual.ensures.1 in
+    let none = leaves_none g.D.TapeDisk c.args.disk.now in
+    rw e.1 (elim c.match-request.branch [
+      | in-Columns w ↦ rw w.disk-is (0, none)
+      | in-Query w ↦ rw w.disk-is (0, none)
+      | in-Limit w ↦ rw w.disk-is (0, none)
+      | in-Replica w ↦ rw w.disk-is (0, none)
+      | in-Known w ↦ rw w.disk-is (0, none)
+      | in-Answer w ↦ rw w.disk-is (faults_in w.answer-reply.result, w.answer-reply.ensures.disk)
+      | in-Merge w ↦ rw w.disk-is (faults_in w.merge-reply.result, w.merge-reply.ensures.disk)
+      | in-Save w ↦ rw w.disk-is (0, none)
+      | in-Load w ↦ rw w.disk-is (0, none)
+      | in-Unknown w ↦ rw w.disk-is (0, none)
+    ])
