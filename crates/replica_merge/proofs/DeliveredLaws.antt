@@ -82,12 +82,16 @@ taken_at (Err e) honest query old new batch before after there written is d refu
       unknown = λ why. subst (λ (p : Part). knows_number p batch.number ≡ false) here (unknown why);
     }
 
--- the first batch of an origin: its part was nothing before
+-- the part that was made for the first batch of an origin is nothing, as it was before
+pub made_part : (old between : Parts) (o : ℕ) → part_at old o ≡ None → between ≡ insert_entry nat_cmp old o empty → part_of between o ≡ part_of old o
+made_part old between o none put =
+    ap (λ ps. part_of ps o) put ∙ ap (λ found. unwrap_or found empty) (put_same old o empty) ∙ sym (ap (λ found. unwrap_or found empty) none)
+
+-- the first batch of an origin
 pub first_delivers : (honest : Bool) (query : Checked) (old between new : Parts) (o n : ℕ) (rows : List (List ℕ)) (reply : Delivered) → part_at old o ≡ None → between ≡ insert_entry nat_cmp old o empty
     → DeliversAt honest query between o n rows new reply → DeliversAt honest query old o n rows new reply
 first_delivers honest query old between new o n rows reply none put d =
-    let nothing : part_of between o ≡ part_of old o =
-    ap (λ ps. part_of ps o) put ∙ ap (λ found. unwrap_or found empty) (put_same old o empty) ∙ sym (ap (λ found. unwrap_or found empty) none) in
+    let nothing : part_of between o ≡ part_of old o = made_part old between o none put in
     record {
       part = d.part;
       own = d.own;
@@ -111,8 +115,7 @@ nothing_known old o n none low =
 pub first_refused : (old between failed new : Parts) (batch : Batch) (e : RefusedBatch) → part_at old batch.origin ≡ None → 1 ≤ batch.number → between ≡ insert_entry nat_cmp old batch.origin empty
     → RefusesAt between batch failed e → new ≡ remove_entry (is_at (nat_cmp batch.origin)) failed → RefusesAt old batch new e
 first_refused old between failed new batch e none low put r removed =
-    let nothing : part_of between batch.origin ≡ part_of old batch.origin =
-    ap (λ ps. part_of ps batch.origin) put ∙ ap (λ found. unwrap_or found empty) (put_same old batch.origin empty) ∙ sym (ap (λ found. unwrap_or found empty) none) in
+    let nothing : part_of between batch.origin ≡ part_of old batch.origin = made_part old between batch.origin none put in
     record {
       back = r.back;
       same = place_given_up old between failed new batch.origin none put r.same removed;

@@ -1,5 +1,5 @@
 -- What a replica holds and tells, and when it fits a world. All of this is our own.
-use Rattle.std.specs.Prelude.{◌≡◌, ◌≢◌, ℕ, ◌*◌, List, ◌++◌, map, flat_map, Option, Some, None, option_map, unwrap_or, Bool, if◌then◌else◌, Result, Ok, Err, false}
+use Rattle.std.specs.Prelude.{◌≡◌, ◌≢◌, ℕ, ◌*◌, List, ◌++◌, map, flat_map, Option, Some, None, option_map, unwrap_or, Bool, if◌then◌else◌, Result, Ok, Err, false, IsTrue, OnOk, OnErr, IfErr}
 use Rattle.std.specs.List.Sorted.{IsStrictlySortedBy}
 use Rattle.std.specs.Map.{lookup}
 use Rattle.std.specs.Ordering.{eq_by_cmp, nat_cmp}
@@ -14,8 +14,16 @@ use Rattle.query_checks.specs.Checks.{Checked}
 use Rattle.having_filter.specs.Meaning.{meaning}
 use Rattle.query_checks.specs.Spelling.{spelling}
 use Rattle.batch_reader.specs.declared.batch.Batch as packed
-use Rattle.origin_prefix.specs.Parts.{Part, empty, knows_number, is_nothing, IsPartOf, Delivers, Disagrees}
-use Rattle.origin_prefix.specs.declared.error.JoinError.TheVariants.{OriginDisagrees}
+use Rattle.origin_prefix.specs.Parts.{Part, empty, knows_number, is_nothing, IsPartOf, Delivers, Disagrees, aggregations_on}
+use Rattle.aggregation_cost.specs.Space.{Setting}
+use Rattle.spill_tapes.specs.Calls.{failed}
+use Rattle.spill_tapes.specs.Disk.{Leaves}
+use Rattle.spill_tapes.specs.declared.disk.TapeDisk.{Ghosts}
+use Rattle.spill_lists.specs.declared.error.SpillError.TheVariants.{TapeDamaged}
+use Rattle.hash_agg.specs.Counting.{AreCounted}
+use Rattle.hash_agg.specs.declared.work.Work.{Work}
+use Rattle.origin_prefix.specs.Errors.{batch_faults}
+use Rattle.origin_prefix.specs.declared.error.JoinError.TheVariants.{OriginDisagrees, Spill}
 use Rattle.origin_prefix.specs.declared.error.RefusedBatch.{RefusedBatch}
 use Rattle.origin_prefix.specs.Joins.{Joins, PartsDisagree}
 use Rattle.origin_prefix.specs.Fitting.{FitsOrigin}
@@ -103,6 +111,15 @@ pub record RefusesAt (old : Parts) (batch : packed.Batch) (new : Parts) (refused
 abbrev pub DeliveredTo : (honest : Bool) → Checked → Parts → packed.Batch → Parts → Result Delivered RefusedBatch → Type 0
 DeliveredTo honest query old batch new (Ok reply) = DeliversAt honest query old batch.origin batch.number batch.rows new reply
 DeliveredTo honest query old batch new (Err refused) = RefusesAt old batch new refused
+
+-- a batch is delivered to the parts of a query, over a disk of tapes, by a limit and a hash function: what becomes of the parts; what the
+-- aggregation of the batches that are folded takes is counted, and nothing where it is refused; and what that leaves of the disk
+pub record IsDelivery {D : Type 0} (g : Ghosts D) (query : Checked) (setting : Setting) (batch : packed.Batch) (old : Parts) (before : D) (begun : Work) (new : Parts) (after : D) (done : Work) (result : Result Delivered RefusedBatch) : Type 0 where
+  pub delivered : DeliveredTo (g.honest before) query old batch new result
+  pub counted : OnOk result (IsTrue (g.honest before) → AreCounted (meaning query) setting (aggregations_on (part_of old batch.origin) batch.number batch.rows) begun (g.writes before) done (g.writes after))
+  pub uncounted : OnErr result (done ≡ begun)
+  pub undamaged : IfErr result (λ refused. IsTrue (g.honest before) → refused.why ≢ Spill TapeDamaged)
+  pub disk : Leaves g (failed batch_faults result) before after
 
 -- what a part of an origin says of it
 abbrev pub known_part : ℕ × Part → KnownOrigin

@@ -24,7 +24,7 @@ ghost use Rattle.spill_tapes.specs.Disk.{Leaves};
 ghost use Rattle.spill_lists.specs.Errors.{spill_faults};
 ghost use Rattle.spill_lists.specs.declared.error.SpillError.TheVariants.{TapeDamaged};
 ghost use Rattle.replica_merge.specs.Counting.{aggregations_asked};
-ghost use Rattle.replica_merge.specs.Replicas.{part_at, part_of, told, Fits, AreHeldParts, DeliveredTo, known_of, known_part, counted_part};
+ghost use Rattle.replica_merge.specs.Replicas.{part_at, part_of, told, Fits, AreHeldParts, IsDelivery, known_of, known_part, counted_part};
 
 use crate::known_origin::KnownOrigin;
 use crate::showing::{show, show_none};
@@ -149,15 +149,8 @@ fn deliver_to<H: KeyHash + Copy, D: TapeDisk>(
     requires part { IsPartOf query.now (part_of parts.old.entries batch.origin) }
     requires number { (1 ≤ batch.number) × (batch.number ≤ LAST_NUMBER) }
     requires rows { ArePackedRows (kinds query.now.columns) batch.rows }
-    ensures delivered { DeliveredTo (D.honest disk.old) query.now parts.old.entries batch
-        parts.new.entries result }
-    ensures counted { OnOk result (IsTrue (D.honest disk.old) →
-        AreCounted (meaning query.now) (setting_by H.hash_of (meaning query.now) means.now)
-        (aggregations_on (part_of parts.old.entries batch.origin) batch.number batch.rows)
-        work.old (D.writes disk.old) work.new (D.writes disk.new)) }
-    ensures uncounted { OnErr result (work.new ≡ work.old) }
-    ensures undamaged { IfErr result (λ e. IsTrue (D.honest disk.old) → e.why ≢ Spill TapeDamaged) }
-    ensures disk { Leaves D.TapeDisk (failed batch_faults result) disk.old disk.new }
+    ensures { IsDelivery D.TapeDisk query.now (setting_by H.hash_of (meaning query.now) means.now) batch
+        parts.old.entries disk.old work.old parts.new.entries disk.new work.new result }
 {
     match parts.get_mut(&batch.origin) {
         Some(part) => part.deliver(query, batch, means, disk, work),
@@ -178,15 +171,8 @@ fn deliver_first<H: KeyHash + Copy, D: TapeDisk>(
     requires none { part_at parts.old.entries batch.origin ≡ None }
     requires number { (1 ≤ batch.number) × (batch.number ≤ LAST_NUMBER) }
     requires rows { ArePackedRows (kinds query.now.columns) batch.rows }
-    ensures delivered { DeliveredTo (D.honest disk.old) query.now parts.old.entries batch
-        parts.new.entries result }
-    ensures counted { OnOk result (IsTrue (D.honest disk.old) →
-        AreCounted (meaning query.now) (setting_by H.hash_of (meaning query.now) means.now)
-        (aggregations_on (part_of parts.old.entries batch.origin) batch.number batch.rows)
-        work.old (D.writes disk.old) work.new (D.writes disk.new)) }
-    ensures uncounted { OnErr result (work.new ≡ work.old) }
-    ensures undamaged { IfErr result (λ e. IsTrue (D.honest disk.old) → e.why ≢ Spill TapeDamaged) }
-    ensures disk { Leaves D.TapeDisk (failed batch_faults result) disk.old disk.new }
+    ensures { IsDelivery D.TapeDisk query.now (setting_by H.hash_of (meaning query.now) means.now) batch
+        parts.old.entries disk.old work.old parts.new.entries disk.new work.new result }
 {
     let origin = batch.origin;
     // The part has its place before the batch is taken, so that a batch is never lost.
@@ -216,15 +202,8 @@ fn deliver_in<H: KeyHash + Copy, D: TapeDisk>(
     requires held { AreHeldParts query.now parts.old.entries }
     requires number { (1 ≤ batch.number) × (batch.number ≤ LAST_NUMBER) }
     requires rows { ArePackedRows (kinds query.now.columns) batch.rows }
-    ensures delivered { DeliveredTo (D.honest disk.old) query.now parts.old.entries batch
-        parts.new.entries result }
-    ensures counted { OnOk result (IsTrue (D.honest disk.old) →
-        AreCounted (meaning query.now) (setting_by H.hash_of (meaning query.now) means.now)
-        (aggregations_on (part_of parts.old.entries batch.origin) batch.number batch.rows)
-        work.old (D.writes disk.old) work.new (D.writes disk.new)) }
-    ensures uncounted { OnErr result (work.new ≡ work.old) }
-    ensures undamaged { IfErr result (λ e. IsTrue (D.honest disk.old) → e.why ≢ Spill TapeDamaged) }
-    ensures disk { Leaves D.TapeDisk (failed batch_faults result) disk.old disk.new }
+    ensures { IsDelivery D.TapeDisk query.now (setting_by H.hash_of (meaning query.now) means.now) batch
+        parts.old.entries disk.old work.old parts.new.entries disk.new work.new result }
 {
     if parts.contains_key(&batch.origin) {
         return deliver_to(query, parts, batch, means, disk, work);

@@ -1,23 +1,42 @@
-use Rattle.std.specs.Prelude.{◌≡◌}
-use Rattle.std.proofs.Common.{sym, ◌∙◌, ap}
+use Rattle.std.specs.Prelude.{◌≡◌, IsTrue}
+use Rattle.std.proofs.Common.{sym, ◌∙◌, ap, subst}
 use Rattle.std.specs.BTreeMap.{insert_entry}
 use Rattle.std.specs.Ordering.{nat_cmp}
+use Rattle.having_filter.specs.Meaning.{meaning}
+use Rattle.hash_agg.specs.Counting.{AreCounted, setting_by}
+use Rattle.origin_prefix.specs.Parts.{Part, empty, aggregations_on}
 use Rattle.replica_merge.specs.Replicas.{Parts}
-use Rattle.replica_merge.proofs.DeliveredLaws.{when_fine, first_delivers, first_refused}
+use Rattle.replica_merge.proofs.DeliveredLaws.{when_fine, made_part, first_delivers, first_refused}
 use Rattle.replica_merge.proofs.replica.deliver_first.Goals as goal
 
-pub returns-in-Ok-clause-delivered : goal.returns-in-Ok-clause-delivered
-returns-in-Ok-clause-delivered g c =
+pub returns-in-Ok : goal.returns-in-Ok
+returns-in-Ok g c =
+    let told = c.in-Ok.ensures in let query = meaning c.args.query.now in let batch = c.args.batch in
     let old : Parts = c.args.parts.now.entries in
     let between : Parts = c.insert.new.self.entries in
-    let put : between ≡ insert_entry nat_cmp old c.args.batch.origin c.empty.result = when_fine c.insert.result _ c.insert.ensures.entries (sym c.if-is_err.ensures.value) in
-    first_delivers (g.D.TapeDisk.honest c.args.disk.now) c.args.query.now old between c.deliver_to.new.parts.entries c.args.batch.origin c.args.batch.number c.args.batch.rows c.in-Ok.delivered c.requires.none
-    (put ∙ ap (insert_entry nat_cmp old c.args.batch.origin) c.empty.ensures) c.in-Ok.ensures.delivered
+    let made : between ≡ insert_entry nat_cmp old batch.origin c.empty.result = when_fine c.insert.result _ c.insert.ensures.entries (sym c.if-is_err.ensures.value) in
+    let put : between ≡ insert_entry nat_cmp old batch.origin empty = made ∙ ap (insert_entry nat_cmp old batch.origin) c.empty.ensures in
+    record {
+      delivered = first_delivers (g.D.TapeDisk.honest c.args.disk.now) c.args.query.now old between c.deliver_to.new.parts.entries batch.origin batch.number batch.rows c.in-Ok.delivered c.requires.none put told.delivered;
+      counted = subst (λ (part : Part). IsTrue (g.D.TapeDisk.honest c.args.disk.now) → AreCounted query (setting_by g.H.KeyHash.hash_of query c.args.means.now)
+          (aggregations_on part batch.number batch.rows) c.args.work.now (g.D.TapeDisk.writes c.args.disk.now) c.deliver_to.new.work (g.D.TapeDisk.writes c.deliver_to.new.disk))
+          (made_part old between batch.origin c.requires.none put) told.counted;
+      uncounted = tt;
+      undamaged = tt;
+      disk = told.disk;
+    }
 
-pub returns-in-Err-clause-delivered : goal.returns-in-Err-clause-delivered
-returns-in-Err-clause-delivered g c =
+pub returns-in-Err : goal.returns-in-Err
+returns-in-Err g c =
+    let told = c.in-Err.ensures in let batch = c.args.batch in
     let old : Parts = c.args.parts.now.entries in
     let between : Parts = c.insert.new.self.entries in
-    let put : between ≡ insert_entry nat_cmp old c.args.batch.origin c.empty.result = when_fine c.insert.result _ c.insert.ensures.entries (sym c.if-is_err.ensures.value) in
-    first_refused old between c.deliver_to.new.parts.entries c.remove.new.self.entries c.args.batch c.in-Err.refused c.requires.none c.requires.number.0
-    (put ∙ ap (insert_entry nat_cmp old c.args.batch.origin) c.empty.ensures) c.in-Err.ensures.delivered c.remove.ensures.entries
+    let made : between ≡ insert_entry nat_cmp old batch.origin c.empty.result = when_fine c.insert.result _ c.insert.ensures.entries (sym c.if-is_err.ensures.value) in
+    record {
+      delivered = first_refused old between c.deliver_to.new.parts.entries c.remove.new.self.entries batch c.in-Err.refused c.requires.none c.requires.number.0
+          (made ∙ ap (insert_entry nat_cmp old batch.origin) c.empty.ensures) told.delivered c.remove.ensures.entries;
+      counted = tt;
+      uncounted = told.uncounted;
+      undamaged = told.undamaged;
+      disk = told.disk;
+    }
