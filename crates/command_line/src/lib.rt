@@ -42,12 +42,12 @@ fn end_without_command<W: Write, E: Write>(
 }
 
 /// Runs a command on files, by its name.
-fn run_task<'c, R: Files + AllocGlobal, W: Write, E: Write>(
-    rt: &'c R,
+fn run_task<R: Files + AllocGlobal, W: Write, E: Write>(
+    rt: &R,
     name: &str,
-    matches: &ArgMatches<'c>,
-    writer: &'c mut W,
-    errors: &'c mut E,
+    matches: &ArgMatches<'_>,
+    writer: &mut W,
+    errors: &mut E,
 ) -> Ending {
     match Task::named(name) {
         Some(task) => Session::new(rt, writer, errors).run(task, matches),

@@ -153,15 +153,15 @@ fn merge_file<'p, R: Files + AllocGlobal, D: TapeDisk>(
     }
 }
 
-/// A command that runs: the files that it reaches, its streams, its disk of tapes and the file in which that lies, if it does in one,
-/// what its grouping took, and whether something was passed over.
+/// A command that runs: the files that it reaches, its streams, its disk of tapes and whether that lies in a file, what its grouping
+/// took, and whether something was passed over.
 #[derive(Drop)]
 pub(crate) struct Session<'c, R: Files, W, E> {
     rt: &'c R,
     writer: &'c mut W,
     errors: &'c mut E,
     disk: SpillDisk<R::File>,
-    spill: Option<&'c str>,
+    in_file: bool,
     work: Work,
     refused: bool,
 }
@@ -174,7 +174,7 @@ impl<'c, R: Files + AllocGlobal, W: Write, E: Write> Session<'c, R, W, E> {
             writer,
             errors,
             disk: SpillDisk::Memory(MemDisk::new(rt.alloc())),
-            spill: None,
+            in_file: false,
             work: Work::none(),
             refused: false,
         }
@@ -213,9 +213,11 @@ impl<'c, R: Files + AllocGlobal, W: Write, E: Write> Session<'c, R, W, E> {
     }
 
     /// Removes the file in which the tapes lay, when nothing is spilled any more.
-    fn remove_spill(&mut self) {
-        let spill = self.spill.take();
-        remove_disk(self.rt, spill, self.errors);
+    fn remove_spill(&mut self, task: Task, matches: &ArgMatches<'_>) {
+        if self.in_file {
+            self.in_file = false;
+            remove_disk(self.rt, spill_of(task, matches), self.errors);
+        }
     }
 
     /// Writes the summary file of a replica.
@@ -325,7 +327,7 @@ impl<'c, R: Files + AllocGlobal, W: Write, E: Write> Session<'c, R, W, E> {
             Task::New => {}
         }
         // OUT may have the path of the file for what is spilled, which is no longer wanted.
-        self.remove_spill();
+        self.remove_spill(task, matches);
         self.save(replica, value(matches, OUT))
     }
 
@@ -379,7 +381,7 @@ impl<'c, R: Files + AllocGlobal, W: Write, E: Write> Session<'c, R, W, E> {
     }
 
     /// Runs a command on files, and tells how it ended.
-    pub(crate) fn run(mut self, task: Task, matches: &ArgMatches<'c>) -> Ending {
+    pub(crate) fn run(mut self, task: Task, matches: &ArgMatches<'_>) -> Ending {
         let means = match means_of(task, matches) {
             Ok(means) => means,
             Err(why) => return self.refuse_limit(why),
@@ -389,9 +391,9 @@ impl<'c, R: Files + AllocGlobal, W: Write, E: Write> Session<'c, R, W, E> {
             Ok(disk) => self.disk = disk,
             Err(problem) => return self.stop(problem),
         }
-        self.spill = spill;
+        self.in_file = spill.is_some();
         let ending = self.run_by(task, matches, &means);
-        self.remove_spill();
+        self.remove_spill(task, matches);
         ending
     }
 

@@ -159,8 +159,9 @@ fn fault_of(run: &Failing, plain: &str) -> Option<&'static str> {
     let fed = text.split_once("limit 65536\n")?.1;
     let is_fed = fed.starts_with("folded upto 1\nknown\n")
         || fed.starts_with("refused TapeFault\nfolded upto 1\n");
-    let answers = lines_that_are(text, "k0384,2,768") + lines_that_are(text, "k0384,1,384");
-    (!is_fed || answers == 0).then_some("another reply")
+    let is_answered = lines_that_are(text, "k0384,2,768") > 0
+        || lines_that_are(text, "k0384,1,384") > 0;
+    (!is_fed || !is_answered).then_some("another reply")
 }
 
 /// The replies to a script over a disk in memory.
