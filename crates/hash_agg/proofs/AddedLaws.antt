@@ -9,7 +9,7 @@ use Rattle.grouping_model.specs.Parts.{functions}
 use Rattle.spill_tapes.specs.Records.{Record}
 use Rattle.spill_tapes.specs.declared.disk.TapeDisk.{Ghosts}
 use Rattle.spill_lists.specs.Lists.{LeftList}
-use Rattle.spill_lists.specs.Standing.{ListsState, HasLists, KeepsRest, spilled_number, written_pages}
+use Rattle.spill_lists.specs.Standing.{ListsState, KeepsRest, Spilled}
 use Rattle.spill_lists.specs.declared.error.SpillError.{SpillError}
 use Rattle.group_table.specs.Table.{Names, HasNo, state_in}
 use Rattle.group_table.specs.declared.table.Slot.{Slot}
@@ -124,19 +124,19 @@ module _ {H D : Type 0} (hash_of : H → List ℕ → ℕ) (g : Ghosts D) (what 
 
   -- it is spilled
   pub left_added : {T E : Type 0} (r : Result T E) (lists : ListsState) (end : D) (one : Record) → HasNo old.groups.table old.groups.tree key → length key ≤ 8192 → enters hf old key ≡ false → ((more : List Piece) (are : Are (query_of old) hf what more) → IsPiece (query_of old) hf one (told more are).piece) → KeepsRest old.lists lists
-      → OnOk r ((spilled ahead : List Record) (todo : List LeftList) → HasLists (g.last disk) old.lists spilled ahead todo → HasLists (g.last end) lists (spilled ++ one ∷ []) ahead todo) → OnOk r (spilled_number lists ≡ spilled_number old.lists + 1) → OnOk r (g.writes end + written_pages old.lists ≡ g.writes disk + written_pages lists) → OnOk r (lists.tapes.is_dead ≡ false)
+      → OnOk r (Spilled g one old.lists disk lists end)
       → OnOk r (AddedOne hash_of g what old disk (record old { lists = lists }) end)
-  left_added (Err e) lists end one absent short out is kept puts counted paged alive = tt
-  left_added (Ok x) lists end one absent short out is kept puts counted paged alive =
-      let goes = spilled_proceeds (entries_of old.groups) old.lists lists (λ empty clear. sym out ∙ fresh_enters hf old key ready short empty clear) counted in
+  left_added (Err e) lists end one absent short out is kept spilled = tt
+  left_added (Ok x) lists end one absent short out is kept spilled =
+      let goes = spilled_proceeds (entries_of old.groups) old.lists lists (λ empty clear. sym out ∙ fresh_enters hf old key ready short empty clear) spilled.counted in
       record {
         added =
             record {
-              reads = one_left old.plan hf old.groups old.lists (g.last disk) key (Are (query_of old) hf what) Moved told old.groups lists (g.last end) one absent ready.plan.width out refl is puts;
+              reads = one_left old.plan hf old.groups old.lists (g.last disk) key (Are (query_of old) hf what) Moved told old.groups lists (g.last end) one absent ready.plan.width out refl is spilled.added;
               brings = one_brings (entries_of old.groups) lists goes;
               safe = λ is. is;
-              pages = paged;
-              ready = record { plan = ready.plan; width = ready.width; held = ready.held; alive = alive };
+              pages = spilled.paged;
+              ready = record { plan = ready.plan; width = ready.width; held = ready.held; alive = spilled.alive };
               kept = record { plan = refl; table = same_table old.plan.limit old.groups; lists = kept };
             };
         proceeds = goes;

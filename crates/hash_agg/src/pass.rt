@@ -236,6 +236,7 @@ impl<'q, H: KeyHash + Drop> Pass<'q, H> {
     ) -> Result<(), SpillError>
         requires ready { IsReady self.old }
         ensures added { OnOk result (AddedOne H.hash_of D.TapeDisk (On_tape hash tag bytes.now) self.old disk.old self.new disk.new) }
+        ensures genuine { OnOk result (IsGenuine H.hash_of self.old (On_tape hash tag bytes.now)) }
         ensures refused { IfErr result (λ error. Refused H.hash_of D.TapeDisk (On_tape hash tag bytes.now) self.old disk.old error self.new) }
         ensures disk { Leaves D.TapeDisk (failed spill_faults result) disk.old disk.new }
     {

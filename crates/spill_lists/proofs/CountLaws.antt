@@ -1,9 +1,10 @@
 -- How many records a pass spilled.
-use Rattle.std.specs.Prelude.{◌≡◌, refl, ℕ, zero, suc, ◌+◌, ◌<◌, ◌≤◌, ◌==◌, ◌-◌, ◌/◌, ◌%◌, ◌^◌, nat_lt, Bool, true, false, cond, List, [], ◌∷◌, map, length, sum_by}
+use Rattle.std.specs.Prelude.{◌≡◌, refl, ℕ, zero, suc, ◌+◌, ◌<◌, ◌≤◌, ◌==◌, ◌-◌, ◌/◌, ◌%◌, ◌^◌, nat_lt, Bool, true, false, cond, List, [], ◌∷◌, map, length, get_or, sum_by}
 use Rattle.std.specs.List.{range_with_len}
 use Rattle.std.proofs.Common.{sym, ◌∙◌, ap, arith}
 use Rattle.std.proofs.lemmas.Bool.Decides.{nat_tests}
-use Rattle.std.proofs.lemmas.List.Sums.{sum_by-cons}
+use Rattle.std.proofs.Math.ListN.{set}
+use Rattle.std.proofs.lemmas.List.Sums.{sum_by-cons, sum_by-set}
 use Rattle.spill_tapes.specs.Records.{Record}
 use Rattle.spill_tapes.specs.Tapes.{TapesState}
 use Rattle.spill_lists.specs.Lists.{LeftList, list_of, on_list, deeper, lists}
@@ -93,3 +94,7 @@ tapes_count last t (tape ∷ tapes) (list ∷ all) (is, number, level, are) =
 pub spilled_count : (last : ℕ → ℕ → Type 0) (t : TapesState) (level : ℕ) (parts : List OnTape) (spilled : List Record) → AreSpilled last t level parts spilled → count_of parts ≡ length spilled
 spilled_count last t level [] spilled none = sym (ap length none)
 spilled_count last t level (tape ∷ tapes) spilled are = tapes_count last t (tape ∷ tapes) (lists level spilled) are ∙ all_on level spilled
+
+-- one of the lists that a pass spills to has a record more
+pub count_put : (parts : List OnTape) (i : ℕ) (x y : OnTape) → i < length parts → x ≡ get_or parts i x → y.records ≡ x.records + 1 → count_of (set parts i y) ≡ count_of parts + 1
+count_put parts i x y less is more = omega (arith, sum_by-set (λ (z : OnTape). z.records) parts i y x less, ap (λ (z : OnTape). z.records) is, more)

@@ -2,6 +2,7 @@
 use Rattle.std.specs.Prelude.{◌≡◌, ℕ, ◌+◌, ◌/◌, ◌<◌, ◌≤◌, ◌⊎◌, ◌==◌, cond, Bool, true, false, not, List, [], ◌∷◌, ◌++◌, length, sum_by, filter}
 use Rattle.spill_tapes.specs.Records.{Record, tape_bytes}
 use Rattle.spill_tapes.specs.Tapes.{TapesState, IsTape, is_written, is_read, written_len}
+use Rattle.spill_tapes.specs.declared.disk.TapeDisk.{Ghosts}
 use Rattle.spill_tapes.specs.declared.tape_id.TapeId.{TapeId}
 use Rattle.spill_lists.specs.declared.lists.OnTape.{OnTape}
 use Rattle.spill_lists.specs.Lists.{LeftList, lists}
@@ -64,6 +65,13 @@ pub record HasLists (last : ℕ → ℕ → Type 0) (s : ListsState) (spilled ah
   pub spilled_are : AreSpilled last s.tapes s.level s.parts spilled
   pub ahead_are : AreAhead last s.tapes s.source ahead
   pub todo_are : AreOn last s.tapes s.todo todo
+
+-- a record was added to those that the pass spills, and the pages that became full by it were written
+pub record Spilled {D : Type 0} (g : Ghosts D) (entry : Record) (old : ListsState) (before : D) (new : ListsState) (after : D) : Type 0 where
+  pub added : (spilled ahead : List Record) (todo : List LeftList) → HasLists (g.last before) old spilled ahead todo → HasLists (g.last after) new (spilled ++ entry ∷ []) ahead todo
+  pub counted : spilled_number new ≡ spilled_number old + 1
+  pub paged : g.writes after + written_pages old ≡ g.writes before + written_pages new
+  pub alive : new.tapes.is_dead ≡ false
 
 -- the pass that begins reads the last of the lists that were to be read
 abbrev pub BeginsLast : (ℕ → ℕ → Type 0) → ListsState → List LeftList → Type 0

@@ -7,7 +7,7 @@ ghost use Rattle.spill_tapes.specs.Records.{Record};
 ghost use Rattle.spill_tapes.specs.Tape.{Gives};
 ghost use Rattle.spill_tapes.specs.Tapes.{IsTape, KeepsOthers, is_open, is_written, written_len};
 ghost use Rattle.spill_lists.specs.Lists.{LeftList, lists, left_by, list_of, deeper};
-ghost use Rattle.spill_lists.specs.Standing.{HasLists, BeginsLast, IsNewList, times, those_with_records, KeepsRest, spilled_number, ahead_number, waiting_number, list_pages, pages_of, written_pages};
+ghost use Rattle.spill_lists.specs.Standing.{HasLists, BeginsLast, IsNewList, Spilled, times, those_with_records, KeepsRest, spilled_number, ahead_number, waiting_number, list_pages, pages_of, written_pages};
 ghost use Rattle.spill_lists.specs.Errors.{spill_error, spill_faults};
 ghost use Rattle.spill_lists.specs.declared.error.SpillError.TheVariants.{NoMemory, TapeDamaged};
 ghost use Rattle.spill_tapes.specs.declared.error.TapeError.TheVariants.{TapesDead};
@@ -142,10 +142,7 @@ impl SpillLists {
         requires alive { self.old.tapes.is_dead ≡ false }
         requires tag { tag < 2 }
         requires len { length bytes.now ≤ 65535 }
-        ensures spilled { OnOk result ((spilled ahead : List Record) (todo : List LeftList) → HasLists (D.last disk.old) self.old spilled ahead todo → HasLists (D.last disk.new) self.new (spilled ++ record { hash = hash; tag = tag; bytes = bytes.now } ∷ []) ahead todo) }
-        ensures counted { OnOk result (spilled_number self.new ≡ spilled_number self.old + 1) }
-        ensures paged { OnOk result (D.writes disk.new + written_pages self.old ≡ D.writes disk.old + written_pages self.new) }
-        ensures alive { OnOk result (self.new.tapes.is_dead ≡ false) }
+        ensures spilled { OnOk result (Spilled D.TapeDisk (record { hash = hash; tag = tag; bytes = bytes.now }) self.old disk.old self.new disk.new) }
         ensures rest { KeepsRest self.old self.new }
         ensures undamaged { IfErr result (λ error. error ≢ TapeDamaged) }
         ensures disk { Leaves D.TapeDisk (failed spill_faults result) disk.old disk.new }
@@ -214,10 +211,7 @@ impl SpillLists {
         requires place { place ≡ list_of self.old.level hash }
         requires tag { tag < 2 }
         requires len { length bytes.now ≤ 65535 }
-        ensures spilled { OnOk result ((spilled ahead : List Record) (todo : List LeftList) → HasLists (D.last disk.old) self.old spilled ahead todo → HasLists (D.last disk.new) self.new (spilled ++ record { hash = hash; tag = tag; bytes = bytes.now } ∷ []) ahead todo) }
-        ensures counted { OnOk result (spilled_number self.new ≡ spilled_number self.old + 1) }
-        ensures paged { OnOk result (D.writes disk.new + written_pages self.old ≡ D.writes disk.old + written_pages self.new) }
-        ensures alive { OnOk result (self.new.tapes.is_dead ≡ false) }
+        ensures spilled { OnOk result (Spilled D.TapeDisk (record { hash = hash; tag = tag; bytes = bytes.now }) self.old disk.old self.new disk.new) }
         ensures rest { KeepsRest self.old self.new }
         ensures undamaged { IfErr result (λ error. error ≢ TapeDamaged) }
         ensures disk { Leaves D.TapeDisk (failed spill_faults result) disk.old disk.new }

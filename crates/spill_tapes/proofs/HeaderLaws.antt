@@ -1,12 +1,12 @@
 -- The front of a record, as it is read.
-use Rattle.std.specs.Prelude.{◌≡◌, ℕ, suc, ◌+◌, ◌^◌, ◌<◌, ◌≤◌, List, [], ◌∷◌, ◌++◌, length, get_or, nat_lt, nat_le, ◌&&◌, Bool, true, false, ◌==◌, Option, Some, None}
+use Rattle.std.specs.Prelude.{◌≡◌, ℕ, suc, ◌+◌, ◌*◌, ◌^◌, ◌<◌, ◌≤◌, List, [], ◌∷◌, ◌++◌, length, get_or, nat_lt, nat_le, ◌&&◌, ◌||◌, Bool, true, false, ◌==◌, Option, Some, None}
 use Rattle.std.proofs.Common.{refl, sym, ◌∙◌, ap, subst, arith, length-append}
 use Rattle.std.proofs.lemmas.List.{append_assoc}
 use Rattle.std.proofs.lemmas.Bool.{and_parts, leb-true}
 use Rattle.std.proofs.lemmas.Bool.Decides.{nat_tests}
 use Rattle.std.proofs.lemmas.Nat.{from_be_bytes-to_be_bytes_4}
 use Rattle.spill_tapes.specs.Records.{Record, header_of, tape_bytes, number_at}
-use Rattle.spill_tapes.specs.Tape.{TapeState, HasAhead, AreAhead, IsAfterHeader, Gives, IsGood, IsGoodIn, ended, ended_by, join}
+use Rattle.spill_tapes.specs.Tape.{TapeState, HasAhead, AreAhead, IsAfterHeader, Gives, IsGood, IsGoodIn, IsGoodRead, ended, ended_by, join}
 use Rattle.spill_tapes.specs.declared.tape.Phase.TheVariants.{Read}
 use Rattle.spill_tapes.specs.declared.header.Header.{Header}
 
@@ -56,11 +56,16 @@ after_header before after t t' h bytes hash tag len fill left records some (r �
     }
 
 -- and then the record can stand there
-pub can_stand : (last : ℕ → ℕ → Type 0) (t : TapeState) (h : Header) (rs : List Record) → IsAfterHeader last t h rs → (nat_lt h.tag 2 && nat_le h.len 65535 && nat_le h.len t.left) ≡ true
+ends : (records len left : ℕ) (others : List Record) → records ≡ length others + 1 → left ≡ len + length (tape_bytes others) → (nat_lt 1 records || len == left) ≡ true
+ends records len left [] number is = let same : len ≡ left = omega (arith, is) in grind (arith, nat_tests)
+ends records len left (r ∷ rs) number is = let more : 1 < records = omega (arith, number) in grind (arith, nat_tests)
+
+pub can_stand : (last : ℕ → ℕ → Type 0) (t : TapeState) (h : Header) (rs : List Record) → IsAfterHeader last t h rs → (nat_lt h.tag 2 && nat_le h.len 65535 && nat_le h.len t.left && (nat_lt 1 t.records || h.len == t.left)) ≡ true
 can_stand last t h rs had =
     let tag : h.tag < 2 = omega (arith, had.tag, had.good.tag) in
     let len : h.len ≤ 65535 = omega (arith, had.len, had.good.len) in
     let left : h.len ≤ t.left = omega (arith, had.len, had.left) in
+    let end : (nat_lt 1 t.records || h.len == t.left) ≡ true = ends t.records h.len t.left had.others had.number (had.left ∙ ap (λ n. n + length (tape_bytes had.others)) (sym had.len)) in
     grind (arith, nat_tests)
 
 -- the bytes of a record were read, of which the front was read before
@@ -91,9 +96,15 @@ ended_at last t rs false none had = had
 pub ended_ahead : (last : ℕ → ℕ → Type 0) (t : TapeState) (rs : List Record) → AreAhead last t rs → AreAhead last (ended t) rs
 ended_ahead last t rs had = ended_at last t rs (t.records == 0) (λ h. grind (arith, nat_tests)) had
 
-pub ended_as : (t : TapeState) (done : Bool) → t.phase ≡ Read → IsGood t → ((ended_by done t).pages ≡ t.pages) × ((ended_by done t).phase ≡ Read) × IsGood (ended_by done t)
-ended_as t true phase good = (refl, phase, subst (λ ph. IsGoodIn ph (ended_by true t)) (sym phase) (omega arith, omega arith))
-ended_as t false phase good = (refl, phase, good)
+ended_by_as : (t : TapeState) (done : Bool) → (done ≡ true → t.records ≡ 0) → t.phase ≡ Read → IsGood t → ((ended_by done t).pages ≡ t.pages) × ((ended_by done t).phase ≡ Read) × IsGood (ended_by done t)
+ended_by_as t true none phase good =
+    let was : IsGoodRead t = subst (λ ph. IsGoodIn ph t) phase good in
+    let pages : 8192 * length t.pages < 8192 = omega (arith, was.pages, was.end (none refl)) in
+    (refl, phase, subst (λ ph. IsGoodIn ph (ended_by true t)) (sym phase) (record { read = omega arith; left = omega arith; pages = omega (arith, pages); end = λ _. refl }))
+ended_by_as t false none phase good = (refl, phase, good)
+
+pub ended_as : (t : TapeState) → t.phase ≡ Read → IsGood t → ((ended t).pages ≡ t.pages) × ((ended t).phase ≡ Read) × IsGood (ended t)
+ended_as t phase good = ended_by_as t (t.records == 0) (λ h. grind (arith, nat_tests)) phase good
 
 pub gives_with : (P Q : List Record → Type 0) (rs : List Record) (bytes : List ℕ) (found : Option (ℕ × ℕ)) → ((xs : List Record) → P xs → Q xs) → Gives P rs bytes found → Gives Q rs bytes found
 gives_with P Q rs bytes None f told = (told.0, f [] told.1)
@@ -103,11 +114,15 @@ pub ended_gives : (last : ℕ → ℕ → Type 0) (t t' : TapeState) (rs : List 
 ended_gives last t t' rs bytes found is told = gives_with (AreAhead last t) (AreAhead last t') rs bytes found (λ xs had. subst (λ (y : TapeState). AreAhead last y xs) (sym is) (ended_ahead last t xs had)) told
 
 -- what a record that can stand there has
-pub stands : (tag len left : ℕ) → (nat_lt tag 2 && nat_le len 65535 && nat_le len left) ≡ true → (tag < 2) × (len ≤ 65535) × (len ≤ left)
-stands tag len left is =
-    let last = and_parts (nat_lt tag 2 && nat_le len 65535) (nat_le len left) is in
+is_last : (records len left : ℕ) → (nat_lt 1 records || len == left) ≡ true → records ≡ 1 → len ≡ left
+is_last records len left is one = grind (arith, nat_tests)
+
+pub stands : (tag len left records : ℕ) → (nat_lt tag 2 && nat_le len 65535 && nat_le len left && (nat_lt 1 records || len == left)) ≡ true → (tag < 2) × (len ≤ 65535) × (len ≤ left) × (records ≡ 1 → len ≡ left)
+stands tag len left records is =
+    let end = and_parts (nat_lt tag 2 && nat_le len 65535 && nat_le len left) (nat_lt 1 records || len == left) is in
+    let last = and_parts (nat_lt tag 2 && nat_le len 65535) (nat_le len left) end.0 in
     let first = and_parts (nat_lt tag 2) (nat_le len 65535) last.0 in
-    (leb-true (suc tag) 2 first.0, leb-true len 65535 first.1, leb-true len left last.1)
+    (leb-true (suc tag) 2 first.0, leb-true len 65535 first.1, leb-true len left last.1, is_last records len left end.1)
 
 -- where no records are left, there are none
 pub none_left : (last : ℕ → ℕ → Type 0) (t : TapeState) (rs : List Record) → t.records ≡ 0 → AreAhead last t rs → (rs ≡ []) × AreAhead last t []

@@ -65,11 +65,25 @@ pub record IsSameTape (before after : TapeState) : Type 0 where
 abbrev pub spent : TapeState → ℕ → TapeState
 spent t n = record { phase = t.phase; pages = t.pages; buffer = t.buffer; read = t.read + n; left = t.left; records = t.records }
 
+-- what is true of a tape that is being written: no whole page waits in its buffer, and it has bytes only of records
+pub record IsGoodWritten (t : TapeState) : Type 0 where
+  pub small : length t.buffer < 8192
+  pub number : t.records ≤ tape_len t
+  pub begun : t.records ≡ 0 → tape_len t ≡ 0
+
+-- and of one that is being read: it has the page of each byte that is left to be read, and no page more, since one that was read is
+-- free; and behind its last record nothing is left
+pub record IsGoodRead (t : TapeState) : Type 0 where
+  pub read : t.read ≤ length t.buffer
+  pub left : t.left ≤ ahead t
+  pub pages : ahead t < t.left + 8192
+  pub end : t.records ≡ 0 → t.left ≡ 0
+
 -- what is true of a tape by its phase
 abbrev pub IsGoodIn : Phase → TapeState → Type 0
 IsGoodIn Closed t = t.pages ≡ []
-IsGoodIn Written t = (length t.buffer < 8192) × (t.records ≤ tape_len t)
-IsGoodIn Read t = (t.read ≤ length t.buffer) × (t.left ≤ ahead t)
+IsGoodIn Written t = IsGoodWritten t
+IsGoodIn Read t = IsGoodRead t
 
 abbrev pub IsGood : TapeState → Type 0
 IsGood t = IsGoodIn t.phase t

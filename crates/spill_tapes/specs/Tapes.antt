@@ -1,5 +1,5 @@
 -- Tapes as their users see them: some are open, each is written first and then read, and each is a list of records. All of this is our own.
-use Rattle.std.specs.Prelude.{◌≡◌, ◌≢◌, ℕ, ◌+◌, ◌<◌, Bool, true, false, not, List, [], length, get_or}
+use Rattle.std.specs.Prelude.{◌≡◌, ◌≢◌, ℕ, ◌+◌, ◌<◌, Bool, true, false, not, List, [], length, get_or, Result, Err, IfErr, OnOk, OnErr}
 use Rattle.std.specs.List.{sum_by}
 use Rattle.spill_tapes.specs.Records.{Record}
 use Rattle.spill_tapes.specs.Pages.{PoolState, IsPool, times, below}
@@ -65,6 +65,15 @@ IsReadRefusal dead NoMemory = dead ≡ false
 IsReadRefusal dead TapeFault = dead ≡ false
 IsReadRefusal dead TapeDamaged = dead ≡ false
 IsReadRefusal dead TapesDead = dead ≡ true
+
+-- how a call ends that is handed the disk: dead tapes refuse it, and nothing is changed; and where living ones refuse it, for one of
+-- these reasons, they are dead from then on
+pub record DiesIfRefused {T D : Type 0} (IsReason : Bool → TapeError → Type 0) (result : Result T TapeError) (old new : TapesState) (before after : D) : Type 0 where
+  pub dead : old.is_dead ≡ true → result ≡ Err TapesDead
+  pub unchanged : old.is_dead ≡ true → (new ≡ old) × (after ≡ before)
+  pub refused : IfErr result (IsReason old.is_dead)
+  pub alive : OnOk result (new.is_dead ≡ false)
+  pub dies : OnErr result (new.is_dead ≡ true)
 
 -- what is true of all tapes: each page that was given out is free or one tape's, and there is no tape that is not open with
 -- pages; and what is true of each by its phase, as long as no call failed

@@ -1,11 +1,11 @@
 //! One tape: pages on a disk, and a buffer of one page.
-ghost use Rattle.std.specs.Prelude.{◌≡◌, ◌&&◌, nat_lt, nat_le, ◌+◌, ◌-◌, ◌*◌, ◌/◌, ◌<◌, ◌≤◌, ◌^◌, ◌∷◌, ◌++◌, [], ℕ, List, Some, None, IsTrue, IfOk, IfErr, OnOk, OnErr, length, take, drop};
+ghost use Rattle.std.specs.Prelude.{◌≡◌, ◌&&◌, ◌||◌, ◌==◌, nat_lt, nat_le, ◌+◌, ◌-◌, ◌*◌, ◌/◌, ◌<◌, ◌≤◌, ◌^◌, ◌∷◌, ◌++◌, [], ℕ, List, Some, None, IsTrue, IfOk, IfErr, OnOk, OnErr, length, take, drop};
 ghost use Rattle.spill_tapes.specs.Disk.{Leaves, OnlyReads};
 ghost use Rattle.spill_tapes.specs.Calls.{failed};
 ghost use Rattle.spill_tapes.specs.Errors.{disk_faults, tape_faults};
 ghost use Rattle.spill_tapes.specs.Records.{Record, IsRecord, header_of};
 ghost use Rattle.spill_tapes.specs.Pages.{HavePages, TakesPages, GivesBack, KeepsPages};
-ghost use Rattle.spill_tapes.specs.Tape.{TapeState, new_tape, no_tape, tape_len, ahead, HasWritten, HasAhead, IsSameTape, IsGood, IsAfterHeader, Gives, IsGiven, IsNotGiven, spent, ended, AreWritten, AreAhead};
+ghost use Rattle.spill_tapes.specs.Tape.{TapeState, new_tape, no_tape, tape_len, ahead, HasWritten, HasAhead, IsSameTape, IsGood, IsGoodRead, IsAfterHeader, Gives, IsGiven, IsNotGiven, spent, ended, AreWritten, AreAhead};
 ghost use Rattle.spill_tapes.specs.declared.tape.Phase.TheVariants as phase;
 
 use crate::disk::{DiskError, TapeDisk};
@@ -191,6 +191,7 @@ impl Tape {
         ensures read { self.new.read ≡ self.old.read }
         ensures empty { OnOk result (self.new.buffer ≡ []) }
         ensures longer { OnOk result (tape_len self.old ≤ tape_len self.new) }
+        ensures page { OnOk result (tape_len self.new < tape_len self.old + 8192) }
         ensures written { OnOk result ((bytes : List ℕ) → HasWritten (D.last disk.old) self.old bytes → ((rest : List ℕ) × HasWritten (D.last disk.new) self.new (bytes ++ rest))) }
         ensures counted { OnOk result (D.writes disk.new + tape_len self.old / 8192 ≡ D.writes disk.old + (tape_len self.old + 8191) / 8192) }
         ensures disk { Leaves D.TapeDisk (failed disk_faults result) disk.old disk.new }
@@ -297,15 +298,13 @@ impl Tape {
         bytes: &mut Vec<u8>,
     ) -> Result<Header, DiskError>
         requires pages { HavePages pool.old self.old.pages }
-        requires read { self.old.read ≤ length self.old.buffer }
-        requires ahead { self.old.left ≤ ahead self.old }
+        requires good { IsGoodRead self.old }
         requires left { 9 ≤ self.old.left }
         requires some { 0 < self.old.records }
         requires empty { bytes.old.items ≡ [] }
         ensures pages { GivesBack pool.old self.old.pages pool.new self.new.pages }
         ensures phase { self.new.phase ≡ self.old.phase }
-        ensures read { OnOk result (self.new.read ≤ length self.new.buffer) }
-        ensures ahead { OnOk result (self.new.left ≤ ahead self.new) }
+        ensures good { OnOk result (IsGoodRead self.new) }
         ensures records { self.new.records ≡ self.old.records }
         ensures header { IfOk result (λ header. IsTrue (D.honest disk.old) → (rs : List Record) → AreAhead (D.last disk.old) self.old rs → IsAfterHeader (D.last disk.new) self.new header rs) }
         ensures disk { OnlyReads D.TapeDisk (failed disk_faults result) disk.old disk.new }
@@ -324,14 +323,13 @@ impl Tape {
         bytes: &mut Vec<u8>,
     ) -> Result<(), DiskError>
         requires pages { HavePages pool.old self.old.pages }
-        requires read { self.old.read ≤ length self.old.buffer }
-        requires ahead { self.old.left ≤ ahead self.old }
+        requires good { IsGoodRead self.old }
         requires left { header.len ≤ self.old.left }
         requires some { 0 < self.old.records }
+        requires last { self.old.records ≡ 1 → header.len ≡ self.old.left }
         ensures pages { GivesBack pool.old self.old.pages pool.new self.new.pages }
         ensures phase { self.new.phase ≡ self.old.phase }
-        ensures read { OnOk result (self.new.read ≤ length self.new.buffer) }
-        ensures ahead { OnOk result (self.new.left ≤ ahead self.new) }
+        ensures good { OnOk result (IsGoodRead self.new) }
         ensures len { OnOk result (length bytes.new.items ≡ header.len) }
         ensures gives { OnOk result (IsTrue (D.honest disk.old) → (rs : List Record) → IsAfterHeader (D.last disk.old) self.old header rs → Gives (AreAhead (D.last disk.new) self.new) rs bytes.new.items (Some (header.hash, header.tag))) }
         ensures disk { OnlyReads D.TapeDisk (failed disk_faults result) disk.old disk.new }
@@ -402,11 +400,12 @@ impl Tape {
         Ok(Some((header.hash, header.tag)))
     }
 
-    /// Whether a record with this front can stand at the front of what is left.
+    /// Whether a record with this front can stand at the front of what is left. The last one takes all of it.
     fn can_have(&self, header: Header) -> bool
-        ensures { result ≡ (nat_lt header.tag 2 && nat_le header.len 65535 && nat_le header.len self.now.left) }
+        ensures { result ≡ (nat_lt header.tag 2 && nat_le header.len 65535 && nat_le header.len self.now.left && (nat_lt 1 self.now.records || header.len == self.now.left)) }
     {
-        header.tag < 2 && header.len <= 65535 && u64::from(header.len) <= self.left
+        let len = u64::from(header.len);
+        header.tag < 2 && len <= 65535 && len <= self.left && (self.records > 1 || len == self.left)
     }
 
     /// Gives up the buffer if there are no more records to be read.

@@ -6,7 +6,7 @@ ghost use Rattle.spill_tapes.specs.Errors.{tape_faults};
 ghost use Rattle.spill_tapes.specs.Pages.{UsesAgain};
 ghost use Rattle.spill_tapes.specs.Records.{Record, tape_bytes};
 ghost use Rattle.spill_tapes.specs.Tape.{Gives, new_tape, no_tape};
-ghost use Rattle.spill_tapes.specs.Tapes.{tape_at, phase_of, is_open, is_written, is_read, written_len, IsTape, KeepsOthers, IsOpenRefusal, IsRefusal, IsReadRefusal};
+ghost use Rattle.spill_tapes.specs.Tapes.{tape_at, phase_of, is_open, is_written, is_read, written_len, IsTape, KeepsOthers, DiesIfRefused, IsOpenRefusal, IsRefusal, IsReadRefusal};
 ghost use Rattle.spill_tapes.specs.declared.error.TapeError.TheVariants.{TapeDamaged, TapesDead};
 ghost use Rattle.spill_tapes.specs.declared.tape.Phase.TheVariants.{Closed, Written, Read};
 ghost use Rattle.spill_tapes.specs.declared.tape_id.TapeId.{TapeId};
@@ -196,11 +196,7 @@ impl Tapes {
         requires written { self.old.is_dead ≡ false → is_written self.old tape ≡ true }
         requires tag { tag < 2 }
         requires len { length bytes.now ≤ 65535 }
-        ensures dead { self.old.is_dead ≡ true → result ≡ Err TapesDead }
-        ensures unchanged { self.old.is_dead ≡ true → (self.new ≡ self.old) × (disk.new ≡ disk.old) }
-        ensures refused { IfErr result (IsRefusal self.old.is_dead) }
-        ensures alive { OnOk result (self.new.is_dead ≡ false) }
-        ensures dies { OnErr result (self.new.is_dead ≡ true) }
+        ensures dies { DiesIfRefused IsRefusal result self.old self.new disk.old disk.new }
         ensures phases { (id : TapeId) → phase_of self.new id ≡ phase_of self.old id }
         ensures appended { OnOk result ((rs : List Record) → IsTape (D.last disk.old) self.old tape rs → IsTape (D.last disk.new) self.new tape (rs ++ record { hash = hash; tag = tag; bytes = bytes.now } ∷ [])) }
         ensures longer { OnOk result (written_len self.new tape ≡ written_len self.old tape + (9 + length bytes.now)) }
@@ -240,11 +236,7 @@ impl Tapes {
     #[tactic(auto, using(crate::proofs::TapesLaws::bytes_written))]
     pub fn rewind<D: TapeDisk>(&mut self, disk: &mut D, tape: TapeId) -> Result<(), TapeError>
         requires written { self.old.is_dead ≡ false → is_written self.old tape ≡ true }
-        ensures dead { self.old.is_dead ≡ true → result ≡ Err TapesDead }
-        ensures unchanged { self.old.is_dead ≡ true → (self.new ≡ self.old) × (disk.new ≡ disk.old) }
-        ensures refused { IfErr result (IsRefusal self.old.is_dead) }
-        ensures alive { OnOk result (self.new.is_dead ≡ false) }
-        ensures dies { OnErr result (self.new.is_dead ≡ true) }
+        ensures dies { DiesIfRefused IsRefusal result self.old self.new disk.old disk.new }
         ensures open { is_open self.new tape ≡ is_open self.old tape }
         ensures read { OnOk result (is_read self.new tape ≡ true) }
         ensures rewound { OnOk result ((rs : List Record) → IsTape (D.last disk.old) self.old tape rs → IsTape (D.last disk.new) self.new tape rs) }
@@ -276,12 +268,8 @@ impl Tapes {
         bytes: &mut Vec<u8>,
     ) -> Result<Option<(u32, u8)>, TapeError>
         requires read { self.old.is_dead ≡ false → is_read self.old tape ≡ true }
-        ensures dead { self.old.is_dead ≡ true → result ≡ Err TapesDead }
-        ensures unchanged { self.old.is_dead ≡ true → (self.new ≡ self.old) × (disk.new ≡ disk.old) }
-        ensures refused { IfErr result (IsReadRefusal self.old.is_dead) }
+        ensures dies { DiesIfRefused IsReadRefusal result self.old self.new disk.old disk.new }
         ensures undamaged { IfErr result (λ error. IsTrue (D.honest disk.old) → (rs : List Record) → IsTape (D.last disk.old) self.old tape rs → error ≢ TapeDamaged) }
-        ensures alive { OnOk result (self.new.is_dead ≡ false) }
-        ensures dies { OnErr result (self.new.is_dead ≡ true) }
         ensures phases { (id : TapeId) → phase_of self.new id ≡ phase_of self.old id }
         ensures gives { IfOk result (λ found. IsTrue (D.honest disk.old) → (rs : List Record) → IsTape (D.last disk.old) self.old tape rs → Gives (IsTape (D.last disk.new) self.new tape) rs bytes.new.items found) }
         ensures framed { IfOk result (λ found. IfSome found (λ told. (told.1 < 2) × (length bytes.new.items ≤ 65535))) }

@@ -3,7 +3,7 @@
 ghost use Rattle.std.specs.Prelude.{◌+◌, ◌<◌, ◌^◌};
 
 use crate::calls::{append, close, next, rewind};
-use spill_tapes::{DiskError, MemDisk, TapeDisk, TapeError, TapeId, Tapes};
+use spill_tapes::{DiskError, FlipDisk, MemDisk, TapeDisk, TapeError, TapeId, Tapes};
 use std::alloc::{AllocError, Global};
 use std::test::Fail;
 use test_disks::{Marks, failing, flipping};
@@ -121,6 +121,22 @@ fn long_record<D: TapeDisk>(
     Ok(tell_opened(alloc, tapes, disk, text)?)
 }
 
+/// Tells a tape with one record, and what comes behind it.
+fn one_record<D: TapeDisk>(
+    alloc: Global,
+    tapes: &mut Tapes,
+    disk: &mut D,
+    text: &mut String,
+) -> Result<(), Fail> {
+    let tape = tapes.open(disk)?;
+    append(tapes, disk, tape, 7, 0, b"ab")?;
+    rewind(tapes, disk, tape)?;
+    tell_next(alloc, tapes, disk, tape, text)?;
+    tell_next(alloc, tapes, disk, tape, text)?;
+    close(tapes, disk, tape);
+    Ok(())
+}
+
 /// Tells a tape without a record.
 fn no_record<D: TapeDisk>(
     alloc: Global,
@@ -135,7 +151,7 @@ fn no_record<D: TapeDisk>(
     Ok(())
 }
 
-/// Tells what a case names of tapes over a disk: a tape of two records, of a long one or of none.
+/// Tells what a case names of tapes over a disk: a tape of two records, of a long one, of one or of none.
 pub(crate) fn tell_case<D: TapeDisk>(
     alloc: Global,
     disk: &mut D,
@@ -146,6 +162,7 @@ pub(crate) fn tell_case<D: TapeDisk>(
     let told = match case {
         "two" => two_records(alloc, &mut tapes, disk, text),
         "long" => long_record(alloc, &mut tapes, disk, text),
+        "one" => one_record(alloc, &mut tapes, disk, text),
         _ => no_record(alloc, &mut tapes, disk, text),
     };
     drop(tapes);
@@ -163,13 +180,22 @@ fn tell_over_failing(alloc: Global, call: u64, case: &str, text: &mut String) ->
 }
 
 /// Tells a case over a disk that flips a bit, and how many writes there were.
-fn tell_over_flipping(alloc: Global, case: &str, text: &mut String) -> Result<(), Fail> {
-    let mut disk = flipping(alloc);
+fn tell_over_flipping(
+    alloc: Global,
+    mut disk: FlipDisk<MemDisk>,
+    case: &str,
+    text: &mut String,
+) -> Result<(), Fail> {
     let told = tell_case(alloc, &mut disk, case, text);
     let writes = disk.inner().writes();
     drop(disk);
     told?;
     Ok(tell_writes(alloc, writes, text)?)
+}
+
+/// A disk by which the first record on each page, of two bytes, has none.
+fn shortening(alloc: Global) -> FlipDisk<MemDisk> {
+    FlipDisk::new(MemDisk::new(alloc), 8, 2)
 }
 
 /// Tells a case over a disk in memory, and how many writes there were.
@@ -189,7 +215,8 @@ fn told(alloc: Global, fault: &str, case: &str) -> Result<String, Fail> {
         "" => tell_over_memory(alloc, case, &mut text)?,
         "write" => tell_over_failing(alloc, 0, case, &mut text)?,
         "read" => tell_over_failing(alloc, 1, case, &mut text)?,
-        _ => tell_over_flipping(alloc, case, &mut text)?,
+        "shorter" => tell_over_flipping(alloc, shortening(alloc), case, &mut text)?,
+        _ => tell_over_flipping(alloc, flipping(alloc), case, &mut text)?,
     }
     Ok(text)
 }
@@ -215,6 +242,14 @@ fn damage_is_found(rt: HostRuntime) -> Result<(), Fail> {
     expect(
         told(rt.alloc(), "flip", "two"),
         "Ok(()), Err(TapeDamaged) , Err(TapesDead) , Err(TapesDead) , Some(TapesDead), 1 written",
+    )
+}
+
+#[test]
+fn bytes_behind_the_last_record_are_damage(rt: HostRuntime) -> Result<(), Fail> {
+    expect(
+        told(rt.alloc(), "shorter", "one"),
+        "Err(TapeDamaged) , Err(TapesDead) , , 1 written",
     )
 }
 

@@ -102,7 +102,7 @@ returns g c =
           (sym (c.in_default-room_for.ensures.exact (g.H.KeyHash.hash_of c.args.self.now.groups.table.hash)))
           (λ more are.
           is_group_record q (g.H.KeyHash.hash_of c.args.self.now.groups.table.hash) are.0 one c.args.key.now c.args.states.now (one_group q are.0 c.args.key.now c.args.states.now more are.1).0 refl written c.hash-hash.ensures (one_group q are.0 c.args.key.now c.args.states.now more are.1).2)
-          c.spill.ensures.rest c.spill.ensures.spilled c.spill.ensures.counted c.spill.ensures.paged c.spill.ensures.alive;
+          c.spill.ensures.rest c.spill.ensures.spilled;
       refused = on_error c.spill.result (λ error right. record { undamaged = λ can. right; kept = record { plan = refl; table = same_table _ _; lists = c.spill.ensures.rest } }) c.spill.ensures.undamaged;
       disk = c.spill.ensures.disk;
     }

@@ -108,7 +108,7 @@ returns g c =
           (key_brief q c.args.key.now (key_of q (row_of c.args.row.now)) c.requires.ready.plan.formed c.requires.selected.named (key_has q (row_of c.args.row.now) c.requires.ready.plan.formed.keys c.requires.selected.has))
           (sym (c.in_default-room_for.ensures.exact (g.H.KeyHash.hash_of c.args.self.now.groups.table.hash)))
           (λ more are. record { tag = refl; of_kinds = c.requires.selected.has; bytes = c.requires.selected.is; met = c.requires.selected.met; hashed = c.hash-hash.ensures ∙ ap (g.H.KeyHash.hash_of c.args.self.now.groups.table.hash) c.requires.selected.named })
-          c.spill.ensures.rest c.spill.ensures.spilled c.spill.ensures.counted c.spill.ensures.paged c.spill.ensures.alive;
+          c.spill.ensures.rest c.spill.ensures.spilled;
       refused = on_error c.spill.result (λ error right. record { undamaged = λ can. right; kept = record { plan = refl; table = same_table _ _; lists = c.spill.ensures.rest } }) c.spill.ensures.undamaged;
       disk = c.spill.ensures.disk;
     }

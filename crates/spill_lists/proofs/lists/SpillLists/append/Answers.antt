@@ -1,10 +1,11 @@
-use Rattle.std.proofs.Common.{◌≡◌, ◌<◌, false, length, refl, arith, ap, sym, subst, ◌∙◌}
+use Rattle.std.proofs.Common.{◌≡◌, ◌+◌, ◌<◌, false, length, refl, arith, ap, sym, subst, ◌∙◌}
 use Rattle.spill_tapes.specs.Records.{Record}
 use Rattle.spill_lists.specs.declared.lists.OnTape.{OnTape}
 use Rattle.spill_lists.specs.Fields.{lists_of, one_or_none}
-use Rattle.spill_lists.specs.Standing.{ListsState, HasLists, written_pages}
+use Rattle.spill_lists.specs.Standing.{ListsState, HasLists, spilled_number, written_pages}
 use Rattle.spill_lists.specs.Lists.{list_of}
 use Rattle.spill_lists.proofs.ApartLaws.{written_here}
+use Rattle.spill_lists.proofs.CountLaws.{count_put}
 use Rattle.spill_lists.proofs.StandingLaws.{lists_put, has_put}
 use Rattle.spill_lists.proofs.PageLaws.{put_pages, parts_once}
 use Rattle.spill_lists.proofs.lists.SpillLists.append.Goals as goal
@@ -20,19 +21,22 @@ invariant_of-self g c =
     lists_put c.self.inside.tapes c.append.new.self c.self.inside.level c.self.inside.parts.items (one_or_none c.self.inside.source) c.self.inside.todo.items c.args.place c.index-list.result.now y c.index-list.ensures refl c.append.ensures.phases (λ _. alive) c.self.invariant
 
 pub returns-in-Ok-clause-spilled : goal.returns-in-Ok-clause-spilled
-returns-in-Ok-clause-spilled g c spilled ahead todo had =
-    let y : OnTape = record { tape = c.index-list.result.now.tape; records = c.in-Some.records; level = c.index-list.result.now.level } in
+returns-in-Ok-clause-spilled g c =
+    let last = g.D.TapeDisk.last c.args.disk.now in let last' = g.D.TapeDisk.last c.append.new.disk in
+    let parts = c.self.inside.parts.items in let source = one_or_none c.self.inside.source in let todo_on = c.self.inside.todo.items in
+    let x : OnTape = c.index-list.result.now in
+    let y : OnTape = record { tape = x.tape; records = c.in-Some.records; level = x.level } in
     let r : Record = record { hash = c.args.hash; tag = c.args.tag; bytes = c.args.bytes.now } in
-    has_put (g.D.TapeDisk.last c.args.disk.now) (g.D.TapeDisk.last c.append.new.disk) c.self.inside.tapes c.append.new.self c.self.inside.level c.self.inside.parts.items (one_or_none c.self.inside.source) c.self.inside.todo.items spilled ahead todo c.args.place c.index-list.result.now y r
-    (subst (λ (s : ListsState). c.args.place < length s.parts) (sym c.self.view_is) c.requires.parts) c.index-list.ensures refl (c.in-Some.ensures).1 refl (subst (λ (s : ListsState). c.args.place ≡ list_of s.level c.args.hash) (sym c.self.view_is) c.requires.place)
-    c.self.invariant.apart c.append.ensures.others c.in-Ok.ensures.appended (subst (λ (s : ListsState). HasLists (g.D.TapeDisk.last c.args.disk.now) s spilled ahead todo) (sym c.self.view_is) had)
-
-pub returns-in-Ok-clause-paged : goal.returns-in-Ok-clause-paged
-returns-in-Ok-clause-paged g c =
-    let y : OnTape = record { tape = c.index-list.result.now.tape; records = c.in-Some.records; level = c.index-list.result.now.level } in
-    let put = put_pages (g.D.TapeDisk.last c.args.disk.now) (g.D.TapeDisk.last c.append.new.disk) c.self.inside.tapes c.append.new.self c.self.inside.parts.items c.args.place c.index-list.result.now y
-    (subst (λ (s : ListsState). c.args.place < length s.parts) (sym c.self.view_is) c.requires.parts) c.index-list.ensures
-    (parts_once c.self.inside.parts.items (one_or_none c.self.inside.source) c.self.inside.todo.items c.index-list.result.now.tape.index c.self.invariant.apart) c.append.ensures.others refl in
+    let less : c.args.place < length parts = subst (λ (s : ListsState). c.args.place < length s.parts) (sym c.self.view_is) c.requires.parts in
+    let place : c.args.place ≡ list_of c.self.inside.level c.args.hash = subst (λ (s : ListsState). c.args.place ≡ list_of s.level c.args.hash) (sym c.self.view_is) c.requires.place in
+    let put = put_pages last last' c.self.inside.tapes c.append.new.self parts c.args.place x y less c.index-list.ensures (parts_once parts source todo_on x.tape.index c.self.invariant.apart) c.append.ensures.others refl in
     let counted = c.in-Ok.ensures.counted in
     let old : written_pages (lists_of c.self.inside) ≡ written_pages c.args.self.now = ap written_pages c.self.view_is in
-    omega (arith, put, counted, old)
+    record {
+      added = λ spilled ahead todo had.
+          has_put last last' c.self.inside.tapes c.append.new.self c.self.inside.level parts source todo_on spilled ahead todo c.args.place x y r less c.index-list.ensures refl (c.in-Some.ensures).1 refl place c.self.invariant.apart c.append.ensures.others c.in-Ok.ensures.appended
+          (subst (λ (s : ListsState). HasLists last s spilled ahead todo) (sym c.self.view_is) had);
+      counted = count_put parts c.args.place x y less c.index-list.ensures (c.in-Some.ensures).1 ∙ ap (λ (s : ListsState). spilled_number s + 1) c.self.view_is;
+      paged = omega (arith, put, counted, old);
+      alive = c.in-Ok.ensures.dies.alive;
+    }

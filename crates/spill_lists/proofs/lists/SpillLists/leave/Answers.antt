@@ -72,7 +72,7 @@ returns-in_ok-push-in-Ok g c =
           (λ here. told.counted ∙ ap (λ n. writes + (n + 8191) / 8192) (told.bytes alive records here)) had;
       kept = λ some records had. told.rewound records (subst (λ (s : ListsState). IsTape (g.D.TapeDisk.last c.args.disk.now) s.tapes list.tape records) (sym view) had);
       others = subst (λ (s : ListsState). KeepsOthers (g.D.TapeDisk.last c.args.disk.now) (g.D.TapeDisk.last c.rewind.new.disk) s.tapes c.rewind.new.self list.tape) view c.rewind.ensures.others;
-      alive = told.alive;
+      alive = told.dies.alive;
       parts = ap (λ (s : ListsState). s.parts) view ∙ c.requires.parts;
       source = ap (λ (s : ListsState). s.source) view;
       level = ap (λ (s : ListsState). s.level) view;
@@ -99,7 +99,7 @@ returns-in_err-push-in-Ok g c =
 
 pub refusal-requires : goal.refusal-requires
 refusal-requires g c =
-    refused_alive c.self.inside.tapes.is_dead c.in-Err.error (ap (λ (s : ListsState). s.tapes.is_dead) c.self.view_is ∙ c.requires.alive) c.in-Err.ensures.refused
+    refused_alive c.self.inside.tapes.is_dead c.in-Err.error (ap (λ (s : ListsState). s.tapes.is_dead) c.self.view_is ∙ c.requires.alive) c.in-Err.ensures.dies.refused
 
 pub returns-in-Err : goal.returns-in-Err
 returns-in-Err g c =
@@ -113,7 +113,7 @@ returns-in-Err g c =
       parts = ap (λ (s : ListsState). s.parts) view ∙ c.requires.parts;
       source = ap (λ (s : ListsState). s.source) view;
       level = ap (λ (s : ListsState). s.level) view;
-      undamaged = subst (λ (x : SpillError). x ≢ TapeDamaged) c.refusal.ensures (undamaged_as c.in-Err.error (refused_undamaged c.self.inside.tapes.is_dead c.in-Err.error told.refused));
+      undamaged = subst (λ (x : SpillError). x ≢ TapeDamaged) c.refusal.ensures (undamaged_as c.in-Err.error (refused_undamaged c.self.inside.tapes.is_dead c.in-Err.error told.dies.refused));
       disk = subst (λ n. Leaves g.D.TapeDisk n c.args.disk.now c.rewind.new.disk) (same_faults c.in-Err.error ∙ ap spill_faults c.refusal.ensures) told.disk;
     }
 

@@ -95,7 +95,7 @@ returns-in-Ok-Some g c =
       framed = ensured.framed;
       none = tt;
       nothing = tt;
-      alive = c.in-Ok-Some.ensures.alive;
+      alive = c.in-Ok-Some.ensures.dies.alive;
       parts = ap (λ (s : ListsState). s.parts) view;
       paged = kept_pages (g.D.TapeDisk.last c.args.disk.now) (g.D.TapeDisk.last c.next.new.disk) c.self.inside.tapes c.next.new.self c.in-Some.list.tape c.self.inside.parts.items c.next.ensures.others
           (source_apart c.self.inside.parts.items (one_or_none c.self.inside.source) c.self.inside.todo.items c.in-Some.list (ap one_or_none c.in-Some.is) c.self.invariant.apart)
@@ -132,7 +132,7 @@ returns-in-Ok-None g c =
 
 pub refusal-requires : goal.refusal-requires
 refusal-requires g c =
-    refused_read_alive c.self.inside.tapes.is_dead c.in-Err.error (ap (λ (s : ListsState). s.tapes.is_dead) c.self.view_is ∙ c.requires.alive) c.in-Err.ensures.refused
+    refused_read_alive c.self.inside.tapes.is_dead c.in-Err.error (ap (λ (s : ListsState). s.tapes.is_dead) c.self.view_is ∙ c.requires.alive) c.in-Err.ensures.dies.refused
 
 pub returns-in-Err : goal.returns-in-Err
 returns-in-Err g c =

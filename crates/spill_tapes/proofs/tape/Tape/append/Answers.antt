@@ -26,7 +26,7 @@ put_record-requires g c =
     let good = subst (λ p. IsGoodIn p c.args.self.now) c.requires.phase c.requires.good in
     record {
       pages = subst (λ (t : TapeState). HavePages c.args.pool.now t.pages) (sym c.self.view_is) c.requires.pages;
-      small = omega (arith, good.0, ap length c.in_ok-reserve_exact.ensures.items, ap (λ (t : TapeState). length t.buffer) c.self.view_is);
+      small = omega (arith, good.small, ap length c.in_ok-reserve_exact.ensures.items, ap (λ (t : TapeState). length t.buffer) c.self.view_is);
     }
 
 pub returns-in_err-reserve_exact : goal.returns-in_err-reserve_exact

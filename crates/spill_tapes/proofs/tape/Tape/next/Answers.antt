@@ -1,5 +1,4 @@
 use Rattle.std.proofs.Common.{sym, ap, subst, ◌∙◌}
-use Rattle.std.specs.Prelude.{◌==◌}
 use Rattle.spill_tapes.specs.Pages.{GivesBack}
 use Rattle.spill_tapes.specs.Tape.{TapeState, IsGood}
 use Rattle.spill_tapes.proofs.HeaderLaws.{ended_as, ended_gives}
@@ -8,7 +7,7 @@ use Rattle.spill_tapes.proofs.tape.Tape.next.Goals as goal
 pub returns-in-Ok : goal.returns-in-Ok
 returns-in-Ok g c =
     let told = c.in-Ok.ensures in let is = c.end_reading.ensures in let t = c.next_record.new.self in let pages = c.args.self.now.pages in
-    let ended = ended_as t (t.records == 0) told.phase told.given.good in
+    let ended = ended_as t told.phase told.given.good in
     record {
       pages = subst (λ (x : TapeState). GivesBack c.args.pool.now pages c.next_record.new.pool x.pages) (sym is) (subst (GivesBack c.args.pool.now pages c.next_record.new.pool) (sym ended.0) told.pages);
       phase = ap (λ (x : TapeState). x.phase) is ∙ ended.1;

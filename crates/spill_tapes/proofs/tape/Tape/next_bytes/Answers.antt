@@ -17,8 +17,7 @@ returns-in_err-reserve g c =
     rw e.1 (record {
       pages = gives_none pool t.pages t.pages c.requires.pages refl;
       phase = refl;
-      read = tt;
-      ahead = tt;
+      good = tt;
       len = tt;
       gives = tt;
       disk = subst (λ x. OnlyReads g.D.TapeDisk (disk_faults x) c.args.disk.now c.args.disk.now) (sym e.2) (reads_none g.D.TapeDisk c.args.disk.now);
@@ -27,8 +26,8 @@ returns-in_err-reserve g c =
 pub fill-requires : goal.fill-requires
 fill-requires g c = record {
   pages = c.requires.pages;
-  read = c.requires.read;
-  ahead = omega (arith, c.requires.left, c.requires.ahead);
+  read = c.requires.good.read;
+  ahead = omega (arith, c.requires.left, c.requires.good.left);
 }
 
 pub returns-in_err-fill : goal.returns-in_err-fill
@@ -38,8 +37,7 @@ returns-in_err-fill g c =
     rw e.1 (record {
       pages = told.pages;
       phase = told.same.phase;
-      read = tt;
-      ahead = tt;
+      good = tt;
       len = tt;
       gives = tt;
       disk = subst (λ x. OnlyReads g.D.TapeDisk (disk_faults x) c.args.disk.now c.fill.new.disk) (sym e.2) told.disk;
@@ -53,8 +51,14 @@ returns g c =
     record {
       pages = subst (λ (t : TapeState). GivesBack c.args.pool.now c.args.self.now.pages c.fill.new.pool t.pages) (sym view) told.pages;
       phase = ap (λ (t : TapeState). t.phase) view ∙ told.same.phase;
-      read = omega (arith, told.read, ap (λ (t : TapeState). t.read) view, ap (λ (t : TapeState). length t.buffer) view);
-      ahead = omega (arith, told.ahead, c.requires.ahead, told.same.left, left, c.from.ensures, ap ahead view);
+      good = record {
+        read = omega (arith, told.read, ap (λ (t : TapeState). t.read) view, ap (λ (t : TapeState). length t.buffer) view);
+        left = omega (arith, told.ahead, c.requires.good.left, told.same.left, left, c.from.ensures, ap ahead view);
+        pages = omega (arith, told.ahead, c.requires.good.pages, c.requires.left, told.same.left, left, c.from.ensures, ap ahead view);
+        end = λ none.
+            let one : c.args.self.now.records ≡ 1 = omega (arith, none, c.requires.some, told.same.records, ap (λ (t : TapeState). t.records) view) in
+            omega (arith, c.requires.last one, told.same.left, left, c.from.ensures);
+      };
       len = omega (arith, told.len, ap length none);
       gives = λ honest.
           bytes_given (g.D.TapeDisk.last c.args.disk.now) (g.D.TapeDisk.last c.fill.new.disk) c.args.self.now _ c.args.header c.fill.new.bytes.items

@@ -12,8 +12,8 @@ use Rattle.spill_tapes.proofs.tape.Tape.next_header.Goals as goal
 pub fill-requires : goal.fill-requires
 fill-requires g c = record {
   pages = c.requires.pages;
-  read = c.requires.read;
-  ahead = omega (arith, c.requires.left, c.requires.ahead);
+  read = c.requires.good.read;
+  ahead = omega (arith, c.requires.left, c.requires.good.left);
 }
 
 pub returns-in_err-fill : goal.returns-in_err-fill
@@ -23,8 +23,7 @@ returns-in_err-fill g c =
     rw e.1 (record {
       pages = told.pages;
       phase = told.same.phase;
-      read = tt;
-      ahead = tt;
+      good = tt;
       records = told.same.records;
       header = tt;
       disk = subst (λ x. OnlyReads g.D.TapeDisk (disk_faults x) c.args.disk.now c.fill.new.disk) (sym e.2) told.disk;
@@ -36,8 +35,12 @@ returns g c =
     record {
       pages = subst (λ (t : TapeState). GivesBack c.args.pool.now c.args.self.now.pages c.fill.new.pool t.pages) (sym view) told.pages;
       phase = ap (λ (t : TapeState). t.phase) view ∙ told.same.phase;
-      read = omega (arith, told.read, ap (λ (t : TapeState). t.read) view, ap (λ (t : TapeState). length t.buffer) view);
-      ahead = omega (arith, told.ahead, c.requires.ahead, told.same.left, ap (λ (t : TapeState). t.left) view, ap ahead view);
+      good = record {
+        read = omega (arith, told.read, ap (λ (t : TapeState). t.read) view, ap (λ (t : TapeState). length t.buffer) view);
+        left = omega (arith, told.ahead, c.requires.good.left, told.same.left, ap (λ (t : TapeState). t.left) view, ap ahead view);
+        pages = omega (arith, told.ahead, c.requires.good.pages, c.requires.left, told.same.left, ap (λ (t : TapeState). t.left) view, ap ahead view);
+        end = λ none. absurd (omega (arith, none, c.requires.some, told.same.records, ap (λ (t : TapeState). t.records) view));
+      };
       records = ap (λ (t : TapeState). t.records) view ∙ told.same.records;
       header = λ honest.
           let text : c.deref.result.now ≡ c.fill.new.bytes.items = c.deref.ensures.value in

@@ -48,8 +48,7 @@ next_header-requires g c =
     let good = subst (λ p. IsGoodIn p c.args.self.now) c.requires.phase c.requires.good in
     record {
       pages = c.requires.pages;
-      read = good.0;
-      ahead = good.1;
+      good = good;
       left = omega (arith, c.if-self.false, ap (λ (x : TapeState). x.left) c.self.view_is);
       some = omega (arith, c.if-self-eq0.false, ap (λ (x : TapeState). x.records) c.self.view_is);
       empty = c.requires.empty;
@@ -86,11 +85,12 @@ returns-then-not-can_have g c =
 pub next_bytes-requires : goal.next_bytes-requires
 next_bytes-requires g c =
     let told = c.in_ok-header.ensures in let t = c.args.self.now in let pool = c.args.pool.now in let now = c.next_header.new.self in
+    let is = stands c.in_ok-header.header.tag c.in_ok-header.header.len now.left now.records (sym c.can_have.ensures ∙ c.if-not-can_have.false) in
     record {
       pages = have_given pool c.next_header.new.pool t.pages now.pages c.requires.pages told.pages;
-      read = told.read;
-      ahead = told.ahead;
-      left = (stands c.in_ok-header.header.tag c.in_ok-header.header.len now.left (sym c.can_have.ensures ∙ c.if-not-can_have.false)).2;
+      good = told.good;
+      left = is.2;
+      last = is.3;
       some = omega (arith, told.records, c.if-self-eq0.false, ap (λ (x : TapeState). x.records) c.self.view_is);
     }
 
@@ -110,12 +110,12 @@ pub returns : goal.returns
 returns g c =
     let one = c.in_ok-header.ensures in let two = c.in_ok-next_bytes.ensures in let header = c.in_ok-header.header in
     let phase = two.phase ∙ one.phase ∙ c.requires.phase in
-    let is = stands header.tag header.len c.next_header.new.self.left (sym c.can_have.ensures ∙ c.if-not-can_have.false) in
+    let is = stands header.tag header.len c.next_header.new.self.left c.next_header.new.self.records (sym c.can_have.ensures ∙ c.if-not-can_have.false) in
     record {
       pages = gives_twice c.args.pool.now c.next_header.new.pool c.next_bytes.new.pool c.args.self.now.pages c.next_header.new.self.pages c.next_bytes.new.self.pages one.pages two.pages;
       phase = phase;
       given = record {
-        good = subst (λ p. IsGoodIn p c.next_bytes.new.self) (sym phase) (two.read, two.ahead);
+        good = subst (λ p. IsGoodIn p c.next_bytes.new.self) (sym phase) two.good;
         gives = λ honest rs had. two.gives (subst IsTrue (sym one.disk.honesty) honest) rs (one.header honest rs had);
         none = tt;
         framed = (is.0, omega (arith, two.len, is.1));

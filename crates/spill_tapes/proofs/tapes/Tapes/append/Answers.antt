@@ -55,11 +55,7 @@ returns-in-Err g c =
     let alive : s.is_dead ≡ false = sym c.is_dead.ensures ∙ c.if-is_dead.false in
     let written : phase_of s tape ≡ Written = is_writing (phase_of s tape) (c.requires.written alive) in
     record {
-      dead = λ is. absurd (cc (is, alive));
-      unchanged = λ is. absurd (cc (is, alive));
-      refused = subst (IsRefusal s.is_dead) (sym c.from.ensures) (disk_refusal c.in-Err.error s.is_dead alive);
-      alive = tt;
-      dies = refl;
+      dies = record { dead = λ is. absurd (cc (is, alive)); unchanged = λ is. absurd (cc (is, alive)); refused = subst (IsRefusal s.is_dead) (sym c.from.ensures) (disk_refusal c.in-Err.error s.is_dead alive); alive = tt; dies = refl };
       phases = λ id. phases_kept t s t' tape id x c.self.view_is refl (told.phase ∙ sym written);
       appended = tt;
       longer = tt;
@@ -80,11 +76,7 @@ returns-in-Ok g c =
     let slot : y ≡ tape_at s tape = slot_is t s tape y c.self.view_is differ c.index_mut-slot.ensures.value ∙ ap (λ (z : TapesState). tape_at z tape) c.self.view_is in
     let here : tape_at t' tape ≡ x = put_at t s t' tape x c.self.view_is differ refl in
     record {
-      dead = λ is. absurd (cc (is, alive));
-      unchanged = λ is. absurd (cc (is, alive));
-      refused = tt;
-      alive = ap (λ (z : TapesState). z.is_dead) c.self.view_is ∙ alive;
-      dies = tt;
+      dies = record { dead = λ is. absurd (cc (is, alive)); unchanged = λ is. absurd (cc (is, alive)); refused = tt; alive = ap (λ (z : TapesState). z.is_dead) c.self.view_is ∙ alive; dies = tt };
       phases = λ id. phases_kept t s t' tape id x c.self.view_is refl (told.phase ∙ sym written);
       appended = λ rs had. subst (λ (z : TapeState). Has last' z (rs ++ record { hash = c.args.hash; tag = c.args.tag; bytes = c.args.bytes.now } ∷ [])) (sym here)
           (has_written last' x (rs ++ record { hash = c.args.hash; tag = c.args.tag; bytes = c.args.bytes.now } ∷ []) told.phase

@@ -52,12 +52,8 @@ returns-in-Err g c =
     let alive : s.is_dead ≡ false = sym c.is_dead.ensures ∙ c.if-is_dead.false in
     let reading : phase_of s tape ≡ Read = is_reading (phase_of s tape) (c.requires.read alive) in
     record {
-      dead = λ is. absurd (cc (is, alive));
-      unchanged = λ is. absurd (cc (is, alive));
-      refused = read_refusal c.in-Err.error s.is_dead alive told.refused.alive;
+      dies = record { dead = λ is. absurd (cc (is, alive)); unchanged = λ is. absurd (cc (is, alive)); refused = read_refusal c.in-Err.error s.is_dead alive told.refused.alive; alive = tt; dies = refl };
       undamaged = λ honest rs had. told.refused.undamaged honest rs (read_ahead last t s tape c.index_mut-slot.result.now rs c.self.view_is (c.requires.read alive) c.index_mut-slot.ensures.value had);
-      alive = tt;
-      dies = refl;
       phases = λ id. phases_kept t s t' tape id x c.self.view_is refl (told.phase ∙ sym reading);
       gives = tt;
       framed = tt;
@@ -76,12 +72,8 @@ returns-in-Ok g c =
     let alive : s.is_dead ≡ false = sym c.is_dead.ensures ∙ c.if-is_dead.false in
     let reading : phase_of s tape ≡ Read = is_reading (phase_of s tape) (c.requires.read alive) in
     record {
-      dead = λ is. absurd (cc (is, alive));
-      unchanged = λ is. absurd (cc (is, alive));
-      refused = tt;
+      dies = record { dead = λ is. absurd (cc (is, alive)); unchanged = λ is. absurd (cc (is, alive)); refused = tt; alive = ap (λ (z : TapesState). z.is_dead) c.self.view_is ∙ alive; dies = tt };
       undamaged = tt;
-      alive = ap (λ (z : TapesState). z.is_dead) c.self.view_is ∙ alive;
-      dies = tt;
       phases = λ id. phases_kept t s t' tape id x c.self.view_is refl (told.phase ∙ sym reading);
       gives = λ honest rs had. read_gives last' t s t' tape x rs c.next.new.bytes.items c.in-Ok.found c.self.view_is (c.requires.read alive) refl told.phase
           (told.given.gives honest rs (read_ahead last t s tape c.index_mut-slot.result.now rs c.self.view_is (c.requires.read alive) c.index_mut-slot.ensures.value had));

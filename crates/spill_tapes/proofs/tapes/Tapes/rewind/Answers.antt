@@ -54,11 +54,7 @@ returns-in-Err g c =
     let written : phase_of s tape ≡ Written = is_writing (phase_of s tape) (c.requires.written alive) in
     let here : tape_at t' tape ≡ x = put_at t s t' tape x c.self.view_is (written_open (phase_of s tape) written) refl in
     record {
-      dead = λ is. absurd (cc (is, alive));
-      unchanged = λ is. absurd (cc (is, alive));
-      refused = subst (IsRefusal s.is_dead) (sym c.from.ensures) (disk_refusal c.in-Err.error s.is_dead alive);
-      alive = tt;
-      dies = refl;
+      dies = record { dead = λ is. absurd (cc (is, alive)); unchanged = λ is. absurd (cc (is, alive)); refused = subst (IsRefusal s.is_dead) (sym c.from.ensures) (disk_refusal c.in-Err.error s.is_dead alive); alive = tt; dies = refl };
       «open» = ap (λ (z : TapeState). not (is_in Closed z.phase)) here ∙ ap (λ p. not (is_in Closed p)) told.phase ∙ sym (ap (λ p. not (is_in Closed p)) written);
       read = tt;
       rewound = tt;
@@ -80,11 +76,7 @@ returns-in-Ok g c =
     let slot : y ≡ tape_at s tape = slot_is t s tape y c.self.view_is differ c.index_mut-slot.ensures.value ∙ ap (λ (z : TapesState). tape_at z tape) c.self.view_is in
     let here : tape_at t' tape ≡ x = put_at t s t' tape x c.self.view_is differ refl in
     record {
-      dead = λ is. absurd (cc (is, alive));
-      unchanged = λ is. absurd (cc (is, alive));
-      refused = tt;
-      alive = ap (λ (z : TapesState). z.is_dead) c.self.view_is ∙ alive;
-      dies = tt;
+      dies = record { dead = λ is. absurd (cc (is, alive)); unchanged = λ is. absurd (cc (is, alive)); refused = tt; alive = ap (λ (z : TapesState). z.is_dead) c.self.view_is ∙ alive; dies = tt };
       «open» = ap (λ (z : TapeState). not (is_in Closed z.phase)) here ∙ ap (λ p. not (is_in Closed p)) told.phase ∙ sym (ap (λ p. not (is_in Closed p)) written);
       read = ap (λ (z : TapeState). is_in Read z.phase) here ∙ ap (is_in Read) told.phase;
       rewound = λ rs had. subst (λ (z : TapeState). Has last' z rs) (sym here)
