@@ -1,5 +1,5 @@
 -- How a run goes on from one command to the next.
-use Rattle.std.specs.Prelude.{◌≡◌, ◌≤◌, ◌+◌, refl, ℕ, if◌then◌else◌, List, [], ◌∷◌, ◌++◌, length, map, count_by, Option, Some, None, IfSome, IfErr, Result, Ok, Err, MatchResult}
+use Rattle.std.specs.Prelude.{◌≡◌, ◌≤◌, ◌+◌, refl, ℕ, Bool, IsTrue, codes, if◌then◌else◌, List, [], ◌∷◌, ◌++◌, length, map, count_by, Option, Some, None, IfSome, IfErr, Result, Ok, Err, MatchResult}
 use Rattle.std.proofs.Common.{◌∙◌, ap, sym, subst, arith, append_assoc, inl}
 use Rattle.std.proofs.lemmas.List.{append-nil}
 use Rattle.std.proofs.lemmas.List.Sums.{sum_by-append}
@@ -13,11 +13,12 @@ use Rattle.script_io.specs.declared.input.InputError.{InputError}
 use Rattle.script_io.specs.declared.input.InputError.TheVariants as input
 use Rattle.script_io.proofs.InputFacts.{consumes-all, consumes-longer}
 use Rattle.script_io.proofs.OutputFacts.{front-first, front-second}
-use Rattle.script_commands.specs.Commands.{Command, request_of}
+use Rattle.script_io.specs.Records.{Record}
+use Rattle.script_commands.specs.Commands.{Command, Request, request_of}
 use Rattle.script_machine.specs.Machine.{State, Reply, Refused, Run, StrictRun, MayReply, IsReply, Agrees, AgreesAt, start, after, is_refused, is_fault}
-use Rattle.script_machine.specs.Text.{reply_text, replies_text}
-use Rattle.script_machine.specs.Output.{Disk, AreFaultsOf, WritesFront, WritesBefore, WritesSome, StopsAt, commands_in, run_error}
-use Rattle.script_machine.specs.Views.{Store, empty, Represents, FitsWorld, Steps, said_text, is_refusal, faults_in}
+use Rattle.script_machine.specs.Text.{MayRead, AllMayRead, joined, line, refusal_name, reply_text, replies_text}
+use Rattle.script_machine.specs.Output.{Disk, IsOutput, WritesFront, WritesBefore, WritesSome, StopsAt, commands_in, run_error}
+use Rattle.script_machine.specs.Views.{Store, empty, Represents, FitsWorld, Answers, Steps, said_text, is_refusal, faults_in}
 use Rattle.script_machine.specs.declared.refusal.Refusal.TheVariants.{NoMemory}
 use Rattle.script_machine.specs.declared.error.RunError.{RunError}
 use Rattle.script_machine.specs.declared.error.RunError.TheVariants as stop
@@ -32,29 +33,57 @@ state_append : (old : State) (xs ys : List Reply) → state_after old (xs ++ ys)
 state_append old [] ys = refl
 state_append old (x ∷ xs) ys = state_append (after old x) xs ys
 
-run_append : (old : State) (cs ds : List Command) (xs ys : List Reply) → Run old cs xs → Run (state_after old xs) ds ys → Run old (cs ++ ds) (xs ++ ys)
+run_append : (honest : Bool) (old : State) (cs ds : List Command) (xs ys : List Reply) → Run honest old cs xs → Run honest (state_after old xs) ds ys → Run honest old (cs ++ ds) (xs ++ ys)
 unfolding Run
-run_append old [] ds [] ys p q = q
-run_append old (c ∷ cs) ds (x ∷ xs) ys p q = (p.0, run_append (after old x) cs ds xs ys p.1 q)
-run_append old [] ds (x ∷ xs) ys p q = absurd p
-run_append old (c ∷ cs) ds [] ys p q = absurd p
+run_append honest old [] ds [] ys p q = q
+run_append honest old (c ∷ cs) ds (x ∷ xs) ys p q = (p.0, run_append honest (after old x) cs ds xs ys p.1 q)
+run_append honest old [] ds (x ∷ xs) ys p q = absurd p
+run_append honest old (c ∷ cs) ds [] ys p q = absurd p
 
-run_one : (old : State) (c : Command) (x : Reply) → MayReply old c x → Run old (c ∷ []) (x ∷ [])
+run_one : (honest : Bool) (old : State) (c : Command) (x : Reply) → MayReply honest old (request_of c.head) c.owned x → Run honest old (c ∷ []) (x ∷ [])
 unfolding Run
-run_one old c x p = (p, tt)
+run_one honest old c x p = (p, tt)
 
-run_none : Run start [] []
+run_none : (honest : Bool) → Run honest start [] []
 unfolding Run
-run_none = tt
+run_none honest = tt
 
 -- each command may be refused for want of memory
 abbrev pub refusals : List Command → List Reply
 refusals commands = map (λ c. Refused NoMemory) commands
 
-run_refused : (old : State) (cs : List Command) → Run old cs (refusals cs)
+run_refused : (honest : Bool) (old : State) (cs : List Command) → Run honest old cs (refusals cs)
 unfolding Run
-run_refused old [] = tt
-run_refused old (c ∷ cs) = (inl (inl (inl refl)), run_refused old cs)
+run_refused honest old [] = tt
+run_refused honest old (c ∷ cs) = (inl (inl (inl (inl refl))), run_refused honest old cs)
+
+-- the texts of such refusals, and of replies one behind the other
+abbrev pub refusal_texts : List Command → List (List ℕ)
+refusal_texts commands = map (λ c. line (codes "refused ") (refusal_name NoMemory)) commands
+
+reads_refused : (cs : List Command) → AllMayRead (refusals cs) (refusal_texts cs)
+unfolding AllMayRead
+reads_refused [] = tt
+reads_refused (c ∷ cs) = (λ world. refl, reads_refused cs)
+
+reads_append : (xs ys : List Reply) (ts us : List (List ℕ)) → AllMayRead xs ts → AllMayRead ys us → AllMayRead (xs ++ ys) (ts ++ us)
+unfolding AllMayRead
+reads_append [] ys [] us p q = q
+reads_append (x ∷ xs) ys (t ∷ ts) us p q = (p.0, reads_append xs ys ts us p.1 q)
+reads_append [] ys (t ∷ ts) us p q = absurd p
+reads_append (x ∷ xs) ys [] us p q = absurd p
+
+reads_one : (x : Reply) (t : List ℕ) → MayRead x t → AllMayRead (x ∷ []) (t ∷ [])
+unfolding AllMayRead
+reads_one x t p = (p, tt)
+
+reads_none : AllMayRead [] []
+unfolding AllMayRead
+reads_none = tt
+
+refused_right : (world : World) (cs : List Command) → joined (refusal_texts cs) ≡ replies_text world (refusals cs)
+refused_right world [] = refl
+refused_right world (c ∷ cs) = ap (λ l. line (codes "refused ") (refusal_name NoMemory) ++ l) (refused_right world cs)
 
 strict_refused : (old : State) (cs : List Command) → StrictRun old cs (refusals cs)
 unfolding StrictRun
@@ -76,20 +105,20 @@ strict_none : StrictRun start [] []
 unfolding StrictRun
 strict_none = tt
 
-agrees_front : (world : World) (old : State) (cs ds : List Command) (xs ys : List Reply) → Run old cs xs → Agrees world old (cs ++ ds) (xs ++ ys) → Agrees world old cs xs
+agrees_front : (honest : Bool) (world : World) (old : State) (cs ds : List Command) (xs ys : List Reply) → Run honest old cs xs → Agrees world old (cs ++ ds) (xs ++ ys) → Agrees world old cs xs
 unfolding Run Agrees
-agrees_front world old [] ds [] ys run all = tt
-agrees_front world old (c ∷ cs) ds (x ∷ xs) ys run all = (all.0, agrees_front world (after old x) cs ds xs ys run.1 all.1)
-agrees_front world old [] ds (x ∷ xs) ys run all = absurd run
-agrees_front world old (c ∷ cs) ds [] ys run all = absurd run
+agrees_front honest world old [] ds [] ys run all = tt
+agrees_front honest world old (c ∷ cs) ds (x ∷ xs) ys run all = (all.0, agrees_front honest world (after old x) cs ds xs ys run.1 all.1)
+agrees_front honest world old [] ds (x ∷ xs) ys run all = absurd run
+agrees_front honest world old (c ∷ cs) ds [] ys run all = absurd run
 
-agrees_next : (world : World) (old : State) (cs ds : List Command) (c : Command) (xs ys : List Reply) (y : Reply) → Run old cs xs → Agrees world old (cs ++ c ∷ ds) (xs ++ y ∷ ys)
+agrees_next : (honest : Bool) (world : World) (old : State) (cs ds : List Command) (c : Command) (xs ys : List Reply) (y : Reply) → Run honest old cs xs → Agrees world old (cs ++ c ∷ ds) (xs ++ y ∷ ys)
     → AgreesAt world (state_after old xs) (request_of c.head) c.owned y
 unfolding Run Agrees
-agrees_next world old [] ds c [] ys y run all = all.0
-agrees_next world old (d ∷ cs) ds c (x ∷ xs) ys y run all = agrees_next world (after old x) cs ds c xs ys y run.1 all.1
-agrees_next world old [] ds c (x ∷ xs) ys y run all = absurd run
-agrees_next world old (d ∷ cs) ds c [] ys y run all = absurd run
+agrees_next honest world old [] ds c [] ys y run all = all.0
+agrees_next honest world old (d ∷ cs) ds c (x ∷ xs) ys y run all = agrees_next honest world (after old x) cs ds c xs ys y run.1 all.1
+agrees_next honest world old [] ds c (x ∷ xs) ys y run all = absurd run
+agrees_next honest world old (d ∷ cs) ds c [] ys y run all = absurd run
 
 count_one : (reply : Reply) → count_by is_refused (reply ∷ []) ≡ (if is_refused reply then 1 else 0)
 count_one reply = grind arith
@@ -108,18 +137,17 @@ no_faults : (cs : List Command) → count_by is_fault (refusals cs) ≡ 0
 no_faults [] = refl
 no_faults (c ∷ cs) = faults_append (Refused NoMemory ∷ []) (refusals cs) ∙ (λ i. fault_one (Refused NoMemory) i + no_faults cs i)
 
--- the commands before and their replies, what was written, and the commands that are left
+-- the commands before, their replies and the texts of these, what was written, and the commands that are left
 pub record Ran (disk : Disk) (commands : List Command) (old new : Option (List ℕ)) (refused : ℕ) (left : List Command) (store : Store) : Type 0 where
   pub before : List Command
   pub replies : List Reply
+  pub texts : List (List ℕ)
   pub all : commands ≡ before ++ left
-  pub runs : Run start before replies
+  pub output : IsOutput disk before replies texts
   pub counts : count_by is_refused replies ≡ refused
-  pub faults : AreFaultsOf disk replies
   pub represents : Represents (state_after start replies) store
-  pub strict : (world : World) → Agrees world start before replies → StrictRun start before replies
-  pub fits : (world : World) → Agrees world start before replies → FitsWorld world store
-  pub writes : (world : World) → Agrees world start before replies → Appends old new (replies_text world replies)
+  pub fits : IsTrue disk.honest → (world : World) → Agrees world start before replies → FitsWorld world store
+  pub writes : Appends old new (joined texts)
 
 pub ran_start : (disk : Disk) → disk.failed ≤ disk.failed_now → (commands : List Command) (known : Option (List ℕ)) (store : Store) → store ≡ empty → Ran disk commands known known 0 commands store
 ran_start disk low commands known store is =
@@ -127,47 +155,87 @@ ran_start disk low commands known store is =
     (record {
       before = [];
       replies = [];
+      texts = [];
       all = refl;
-      runs = run_none;
+      output = record { runs = run_none disk.honest; faults = omega (arith, low); reads = reads_none; strict = λ right world agrees. strict_none; right = λ right world agrees. refl };
       counts = refl;
-      faults = omega (arith, low);
       represents = record { columns = refl; query = refl; replicas = λ name. refl; saved = λ name. tt; limit = refl };
-      strict = λ world agrees. strict_none;
-      fits = λ world agrees. record { of_columns = tt; fit = λ name. tt; files = λ name. tt };
-      writes = λ world agrees. Appends-nil known;
+      fits = λ right world agrees. record { of_columns = tt; fit = λ name. tt; files = λ name. tt };
+      writes = Appends-nil known;
     })
 
-pub ran_more : (disk : Disk) (later : ℕ) (commands left : List Command) (old mid new : Option (List ℕ)) (refused more : ℕ) (store next : Store) (c : Command) (reply : code.Reply)
-    → Ran disk commands old mid refused (c ∷ left) store → Steps (request_of c.head) c.owned store reply next → Appends mid new (said_text reply)
-    → more ≡ refused + (if is_refusal reply then 1 else 0) → disk.failed_now + faults_in reply ≤ later → Ran (record disk { failed_now = later }) commands old new more left next
-ran_more disk later commands left old mid new refused more store next c reply ran step wrote counts failing =
-    let answers = step.steps (state_after start ran.replies) ran.represents in
-    record {
-      before = ran.before ++ (c ∷ []);
-      replies = ran.replies ++ (answers.said ∷ []);
-      all = ran.all ∙ sym (append_assoc ran.before (c ∷ []) left);
-      runs = run_append start ran.before (c ∷ []) ran.replies (answers.said ∷ []) ran.runs (run_one (state_after start ran.replies) c answers.said answers.may);
-      counts = count_append ran.replies answers.said ∙ ap (λ n. n + (if is_refused answers.said then 1 else 0)) ran.counts
-          ∙ ap (λ b. refused + (if b then 1 else 0)) (sym answers.refused) ∙ sym counts;
-      faults =
-          let all : count_by is_fault (ran.replies ++ answers.said ∷ []) ≡ count_by is_fault ran.replies + (if is_fault answers.said then 1 else 0) =
-          faults_append ran.replies (answers.said ∷ []) ∙ ap (λ n. count_by is_fault ran.replies + n) (fault_one answers.said) in
-          let one : faults_in reply ≡ (if is_fault answers.said then 1 else 0) = ap (λ b. if b then 1 else 0) answers.faulted in
-          let had = ran.faults in
-          omega (arith, all, one, had, failing);
-      represents = subst (λ state. Represents state next) (sym (state_append start ran.replies (answers.said ∷ []))) answers.represents;
-      strict = λ world agrees.
-          let front = agrees_front world start ran.before (c ∷ []) ran.replies (answers.said ∷ []) ran.runs agrees in
-          strict_append start ran.before (c ∷ []) ran.replies (answers.said ∷ []) (ran.strict world front)
-          (strict_one (state_after start ran.replies) c answers.said (answers.strict world (ran.fits world front) (agrees_next world start ran.before [] c ran.replies [] answers.said ran.runs agrees)));
-      fits = λ world agrees.
-          answers.fits world (ran.fits world (agrees_front world start ran.before (c ∷ []) ran.replies (answers.said ∷ []) ran.runs agrees)) (agrees_next world start ran.before [] c ran.replies [] answers.said ran.runs agrees);
-      writes = λ world agrees.
-          let front = agrees_front world start ran.before (c ∷ []) ran.replies (answers.said ∷ []) ran.runs agrees in
-          let text = answers.text world (ran.fits world front) (agrees_next world start ran.before [] c ran.replies [] answers.said ran.runs agrees) in
-          subst (Appends old new) (sym (flat_map-append (reply_text world) ran.replies (answers.said ∷ []) ∙ ap (λ l. replies_text world ran.replies ++ l) (append-nil (reply_text world answers.said))))
-          (Appends-trans old mid new _ _ (ran.writes world front) (subst (Appends mid new) text wrote));
-    }
+-- an output with one reply more, and others that are refused
+module _ {disk : Disk} {later : ℕ} {commands left : List Command} {old mid : Option (List ℕ)} {refused : ℕ} {store next : Store} {c : Command} {reply : code.Reply}
+    (ran : Ran disk commands old mid refused (c ∷ left) store) (step : Steps disk.honest (request_of c.head) c.owned store reply next) (failing : disk.failed_now + faults_in reply ≤ later) where
+  abbrev answers : Answers disk.honest (state_after start ran.replies) (request_of c.head) c.owned store reply next
+  answers = step.steps (state_after start ran.replies) ran.represents
+
+  front : (world : World) (more : List Command) (ys : List Reply) → Agrees world start (ran.before ++ c ∷ more) (ran.replies ++ answers.said ∷ ys) → Agrees world start ran.before ran.replies
+  front world more ys agrees = agrees_front disk.honest world start ran.before (c ∷ more) ran.replies (answers.said ∷ ys) ran.output.runs agrees
+
+  here : (world : World) (more : List Command) (ys : List Reply) → Agrees world start (ran.before ++ c ∷ more) (ran.replies ++ answers.said ∷ ys) → AgreesAt world (state_after start ran.replies) (request_of c.head) c.owned answers.said
+  here world more ys agrees = agrees_next disk.honest world start ran.before more c ran.replies ys answers.said ran.output.runs agrees
+
+  output_more : (more : List Command) → IsOutput (record disk { failed_now = later }) (ran.before ++ c ∷ more) (ran.replies ++ answers.said ∷ refusals more) (ran.texts ++ said_text reply ∷ refusal_texts more)
+  output_more more =
+      let said = answers.said in
+      record {
+        runs = run_append disk.honest start ran.before (c ∷ more) ran.replies (said ∷ refusals more) ran.output.runs
+            (run_append disk.honest (state_after start ran.replies) (c ∷ []) more (said ∷ []) (refusals more) (run_one disk.honest (state_after start ran.replies) c said answers.may)
+            (run_refused disk.honest (after (state_after start ran.replies) said) more));
+        faults =
+            let all : count_by is_fault (ran.replies ++ said ∷ refusals more) ≡ count_by is_fault ran.replies + ((if is_fault said then 1 else 0) + 0) =
+            faults_append ran.replies (said ∷ refusals more) ∙ ap (λ n. count_by is_fault ran.replies + n) (faults_append (said ∷ []) (refusals more) ∙ (λ i. fault_one said i + no_faults more i)) in
+            let one : faults_in reply ≡ (if is_fault said then 1 else 0) = ap (λ b. if b then 1 else 0) answers.faulted in
+            let had = ran.output.faults in
+            omega (arith, all, one, had, failing);
+        reads = reads_append ran.replies (said ∷ refusals more) ran.texts (said_text reply ∷ refusal_texts more) ran.output.reads
+            (reads_append (said ∷ []) (refusals more) (said_text reply ∷ []) (refusal_texts more) (reads_one said (said_text reply) answers.reads) (reads_refused more));
+        strict = λ right world agrees.
+            strict_append start ran.before (c ∷ more) ran.replies (said ∷ refusals more) (ran.output.strict right world (front world more (refusals more) agrees))
+            (strict_append (state_after start ran.replies) (c ∷ []) more (said ∷ []) (refusals more)
+            (strict_one (state_after start ran.replies) c said (answers.strict right world (ran.fits right world (front world more (refusals more) agrees)) (here world more (refusals more) agrees)))
+            (strict_refused (after (state_after start ran.replies) said) more));
+        right = λ right world agrees.
+            let before = front world more (refusals more) agrees in
+            let text : said_text reply ≡ reply_text world said = answers.text right world (ran.fits right world before) (here world more (refusals more) agrees) in
+            flat_map-append (λ t. t) ran.texts (said_text reply ∷ refusal_texts more)
+            ∙ (λ i. ran.output.right right world before i ++ (text i ++ refused_right world more i))
+            ∙ sym (flat_map-append (reply_text world) ran.replies (said ∷ refusals more));
+      }
+
+  -- it goes on
+  pub ran_more : (new : Option (List ℕ)) (more : ℕ) → Appends mid new (said_text reply) → more ≡ refused + (if is_refusal reply then 1 else 0) → Ran (record disk { failed_now = later }) commands old new more left next
+  ran_more new more wrote counts =
+      record {
+        before = ran.before ++ (c ∷ []);
+        replies = ran.replies ++ (answers.said ∷ []);
+        texts = ran.texts ++ (said_text reply ∷ []);
+        all = ran.all ∙ sym (append_assoc ran.before (c ∷ []) left);
+        output = output_more [];
+        counts = count_append ran.replies answers.said ∙ ap (λ n. n + (if is_refused answers.said then 1 else 0)) ran.counts
+            ∙ ap (λ b. refused + (if b then 1 else 0)) (sym answers.refused) ∙ sym counts;
+        represents = subst (λ state. Represents state next) (sym (state_append start ran.replies (answers.said ∷ []))) answers.represents;
+        fits = λ right world agrees. answers.fits right world (ran.fits right world (front world [] [] agrees)) (here world [] [] agrees);
+        writes = subst (Appends old new) (sym (flat_map-append (λ t. t) ran.texts (said_text reply ∷ []) ∙ ap (λ l. joined ran.texts ++ l) (append-nil (said_text reply))))
+            (Appends-trans old mid new _ _ ran.writes wrote);
+      }
+
+  -- it stops within a reply: what was written is the front of an output in which each command behind is refused
+  pub ran_front : (new : Option (List ℕ)) → TakesFront mid new (said_text reply) → WritesFront (record disk { failed_now = later }) commands old new
+  ran_front new wrote =
+      record {
+        replies = ran.replies ++ answers.said ∷ refusals left;
+        texts = ran.texts ++ said_text reply ∷ refusal_texts left;
+        output = subst (λ cs. IsOutput (record disk { failed_now = later }) cs (ran.replies ++ answers.said ∷ refusals left) (ran.texts ++ said_text reply ∷ refusal_texts left)) (sym ran.all) (output_more left);
+        writes = subst (TakesFront old new) (sym (flat_map-append (λ t. t) ran.texts (said_text reply ∷ refusal_texts left)))
+            (front-second old mid new (joined ran.texts) (joined (said_text reply ∷ refusal_texts left)) ran.writes
+            (front-first mid new (said_text reply) (joined (refusal_texts left)) wrote));
+      }
+
+-- a disk is as honest as it was
+pub honest_steps : (was is : Bool) (request : Request) (owned : List Record) (store next : Store) (reply : code.Reply) → is ≡ was → Steps is request owned store reply next → Steps was request owned store reply next
+honest_steps was is request owned store next reply same steps = subst (λ h. Steps h request owned store reply next) same steps
 
 -- it stops with commands left
 pub ran_stop : (disk : Disk) (later : ℕ) → disk.failed_now ≤ later → (commands left : List Command) (old new : Option (List ℕ)) (refused : ℕ) (store : Store) → Ran disk commands old new refused left store → WritesBefore (record disk { failed_now = later }) commands old new
@@ -177,44 +245,13 @@ ran_stop disk later low commands left old new refused store ran =
       left = left;
       all = ran.all;
       refused = refused;
-      writes = record { replies = ran.replies; runs = ran.runs; counts = ran.counts; faults = let had = ran.faults in omega (arith, had, low); strict = ran.strict; writes = ran.writes };
-    }
-
--- it stops within a reply: what was written is the front of an output in which each command behind is refused
-pub ran_front : (disk : Disk) (last : ℕ) (commands left : List Command) (old mid new : Option (List ℕ)) (refused : ℕ) (store next : Store) (c : Command) (reply : code.Reply)
-    → Ran disk commands old mid refused (c ∷ left) store → Steps (request_of c.head) c.owned store reply next → TakesFront mid new (said_text reply)
-    → disk.failed_now + faults_in reply ≤ last → WritesFront (record disk { failed_now = last }) commands old new
-ran_front disk last commands left old mid new refused store next c reply ran step wrote failing =
-    let answers = step.steps (state_after start ran.replies) ran.represents in
-    let said = answers.said in
-    let later = refusals left in
-    record {
-      replies = ran.replies ++ (said ∷ later);
-      runs = subst (λ cs. Run start cs (ran.replies ++ (said ∷ later))) (sym ran.all)
-          (run_append start ran.before (c ∷ left) ran.replies (said ∷ later) ran.runs
-          (run_append (state_after start ran.replies) (c ∷ []) left (said ∷ []) later
-          (run_one (state_after start ran.replies) c said answers.may) (run_refused (after (state_after start ran.replies) said) left)));
-      faults =
-          let all : count_by is_fault (ran.replies ++ said ∷ later) ≡ count_by is_fault ran.replies + ((if is_fault said then 1 else 0) + 0) =
-          faults_append ran.replies (said ∷ later) ∙ ap (λ n. count_by is_fault ran.replies + n) (faults_append (said ∷ []) later ∙ (λ i. fault_one said i + no_faults left i)) in
-          let one : faults_in reply ≡ (if is_fault said then 1 else 0) = ap (λ b. if b then 1 else 0) answers.faulted in
-          let had = ran.faults in
-          omega (arith, all, one, had, failing);
-      strict = λ world agrees.
-          let whole = subst (λ cs. Agrees world start cs (ran.replies ++ (said ∷ later))) ran.all agrees in
-          let front = agrees_front world start ran.before (c ∷ left) ran.replies (said ∷ later) ran.runs whole in
-          subst (λ cs. StrictRun start cs (ran.replies ++ (said ∷ later))) (sym ran.all)
-          (strict_append start ran.before (c ∷ left) ran.replies (said ∷ later) (ran.strict world front)
-          (strict_append (state_after start ran.replies) (c ∷ []) left (said ∷ []) later
-          (strict_one (state_after start ran.replies) c said (answers.strict world (ran.fits world front) (agrees_next world start ran.before left c ran.replies later said ran.runs whole)))
-          (strict_refused (after (state_after start ran.replies) said) left)));
-      writes = λ world agrees.
-          let whole = subst (λ cs. Agrees world start cs (ran.replies ++ (said ∷ later))) ran.all agrees in
-          let front = agrees_front world start ran.before (c ∷ left) ran.replies (said ∷ later) ran.runs whole in
-          let text = answers.text world (ran.fits world front) (agrees_next world start ran.before left c ran.replies later said ran.runs whole) in
-          subst (TakesFront old new) (sym (flat_map-append (reply_text world) ran.replies (said ∷ later)))
-          (front-second old mid new (replies_text world ran.replies) (replies_text world (said ∷ later)) (ran.writes world front)
-          (front-first mid new (reply_text world said) (replies_text world later) (subst (TakesFront mid new) text wrote)));
+      writes = record {
+        replies = ran.replies;
+        texts = ran.texts;
+        output = record { runs = ran.output.runs; faults = let had = ran.output.faults in omega (arith, had, low); reads = ran.output.reads; strict = ran.output.strict; right = ran.output.right };
+        counts = ran.counts;
+        writes = ran.writes;
+      };
     }
 
 -- ---- a whole run
@@ -227,7 +264,7 @@ pub stops_unread : (disk : Disk) → disk.failed ≤ disk.failed_now → (a b kn
     → IfSome a (λ script. StopsAt disk most script known known (run_error e))
 stops_unread disk low None b known most e h = tt
 stops_unread disk low (Some script) b known most input.ReadFault h = tt
-stops_unread disk low (Some script) b known most input.NoMemory h = (λ _. Keeps-refl known, λ honest. none_yet disk low (commands_in script) known)
+stops_unread disk low (Some script) b known most input.NoMemory h = (λ _. Keeps-refl known, none_yet disk low (commands_in script) known)
 stops_unread disk low (Some script) b known most input.TooLong h = consumes-longer (Some script) b h.0 most h.1 h.2
 
 stops_so : (disk : Disk) (most : ℕ) (script : List ℕ) (old new : Option (List ℕ)) (e : RunError) → length script ≤ most

@@ -1,5 +1,5 @@
 -- What the code keeps, before and after a command.
-use Rattle.std.specs.Prelude.{◌≡◌, ◌≢◌, ◌<◌, ◌≤◌, ◌⊎◌, ◌&&◌, nat_le, refl, ℕ, Bool, true, false, if◌then◌else◌, List, [], length, Option, Some, None, IfSome, option_map, unwrap_or, string_bytes}
+use Rattle.std.specs.Prelude.{◌≡◌, ◌≢◌, ◌<◌, ◌≤◌, ◌⊎◌, ◌&&◌, nat_le, refl, ℕ, Bool, true, false, if◌then◌else◌, List, [], length, Option, Some, None, IfSome, IsTrue, option_map, unwrap_or, string_bytes}
 use Rattle.std.proofs.Common.{◌∙◌, ap, sym, subst, inl, inr, arith}
 use Rattle.std.specs.declared.alloc.Global.{Global}
 use Rattle.std.specs.declared.vec.Vec.{Vec}
@@ -30,7 +30,7 @@ use Rattle.script_commands.specs.Commands as ask
 use Rattle.script_commands.specs.Commands.{Request}
 use Rattle.table_print.specs.Table.{table_text}
 use Rattle.script_machine.specs.Machine as machine
-use Rattle.script_machine.specs.Machine.{State, Fed, IsBatch, IsNoBatch, ColumnsReply, IsNoQuery, QueryReply, limit_reply, replica_reply, FeedReply, known_reply, answer_reply, merge_reply, save_reply, load_reply, Replies, IsReply, FeedAgrees, with_replica}
+use Rattle.script_machine.specs.Machine.{State, Fed, IsBatch, IsNoBatch, ColumnsReply, IsNoQuery, QueryReply, limit_reply, replica_reply, FeedReply, known_reply, answer_reply, merge_reply, save_reply, load_reply, Replies, IsReply, FeedAgrees, uses_tapes, with_replica}
 use Rattle.script_machine.specs.Text.{line, known_text, answer_text}
 use Rattle.script_machine.specs.Views.{Store, IsStore, IsFileOf, AreSaved, IsFitting, Represents, FitsWorld, Answers, Steps, Takes, IsOfBatch, IsOtherBatch, JoinRefused, Updates, Files, replica_at, saved_at, knowledge_of, said_text}
 use Rattle.spill_lists.specs.declared.error.SpillError.{SpillError}
@@ -171,49 +171,10 @@ still_fits world old new s f =
       files = λ name. subst (λ o. IfSome o (IsFitting world)) (sym (s.saved name)) (f.files name);
     }
 
--- a refusal of the code is one of the machine's
-pub refused_for : (request : Request) (owned : List Record) (old new : Store) (refusal : Refusal) → Same old new
-    → ((state : State) → Represents state old → IsReply state request owned (machine.Refused refusal))
-    → Steps request owned old (says.Refused refusal) new
-refused_for request owned old new refusal s may =
-    record {
-      steps = λ state r. record {
-        said = machine.Refused refusal;
-        may = inl (may state r);
-        strict = λ world f agrees. may state r;
-        represents = still state old new s r;
-        refused = refl;
-        faulted = refl;
-        fits = λ world f agrees. still_fits world old new s f;
-        text = λ world f agrees. refl;
-      };
-    }
-
-pub no_memory_same : (request : Request) (owned : List Record) (old new : Store) → Same old new → Steps request owned old (says.Refused why.NoMemory) new
-no_memory_same request owned old new s = refused_for request owned old new why.NoMemory s (λ state r. inl (inl refl))
-
-pub out_of_memory : (request : Request) (owned : List Record) (store : Store) → Steps request owned store (says.Refused why.NoMemory) store
-out_of_memory request owned store = refused_for request owned store store why.NoMemory (same store) (λ state r. inl (inl refl))
-
-pub refused : (request : Request) (owned : List Record) (store : Store) (refusal : Refusal)
-    → ((state : State) → Represents state store → Replies state request owned (machine.Refused refusal)) → Steps request owned store (says.Refused refusal) store
-refused request owned store refusal replies = refused_for request owned store store refusal (same store) (λ state r. inr (replies state r))
-
 -- no memory, or another refusal
 memory_or : (refusal : Refusal) → (refusal ≡ why.NoMemory) ⊎ (refusal ≢ why.NoMemory)
 memory_or why.NoMemory = inl refl
 memory_or refusal = inr (λ e. cc)
-
--- a refusal that may be for want of memory
-pub refused_or_memory : (request : Request) (owned : List Record) (old new : Store) (refusal : Refusal) → Same old new
-    → (refusal ≢ why.NoMemory → (state : State) → Represents state old → Replies state request owned (machine.Refused refusal))
-    → Steps request owned old (says.Refused refusal) new
-refused_or_memory request owned old new refusal s replies = refused_for request owned old new refusal s (λ state r. go state r (memory_or refusal))
-  where
-    go : (state : State) → Represents state old → (refusal ≡ why.NoMemory) ⊎ (refusal ≢ why.NoMemory)
-        → IsReply state request owned (machine.Refused refusal)
-    go state r (inl e) = inl (inl (ap machine.Refused e))
-    go state r (inr other) = inr (replies other state r)
 
 -- ---- columns and query
 
@@ -221,85 +182,11 @@ none_there : {X : Type 0} (o : Option X) → is_some o ≡ false → o ≡ None
 none_there None e = refl
 none_there (Some x) e = absurd (true≢false e)
 
-pub columns_there : (store : Store) (text : List ℕ) (owned : List Record) → is_some store.columns ≡ true → Steps (ask.Columns text) owned store (says.Refused why.BadCommand) store
-columns_there store text owned there =
-    refused (ask.Columns text) owned store why.BadCommand (λ state r. subst (λ cs. ColumnsReply cs text (machine.Refused why.BadCommand)) (sym r.columns) (go store.columns there))
-  where
-    go : (o : Option (List Column)) → is_some o ≡ true → ColumnsReply o text (machine.Refused why.BadCommand)
-    go (Some columns) e = refl
-    go None e = absurd (true≢false (sym e))
-
-pub no_schema : (store : Store) (text : List ℕ) (owned : List Record) (error : RowError) (refusal : Refusal) → is_some store.columns ≡ false → ParseFault text error → refusal ≡ columns_refusal error
-    → Steps (ask.Columns text) owned store (says.Refused refusal) store
-no_schema store text owned error refusal none bad is = subst (λ w. Steps (ask.Columns text) owned store (says.Refused w) store) (sym is) (go error bad)
-  where
-    go : (error : RowError) → ParseFault text error → Steps (ask.Columns text) owned store (says.Refused (columns_refusal error)) store
-    go row.NoMemory bad = out_of_memory (ask.Columns text) owned store
-    go row.BadSchema bad =
-        refused (ask.Columns text) owned store why.BadSchema
-        (λ state r. subst (λ cs. ColumnsReply cs text (machine.Refused why.BadSchema)) (sym (r.columns ∙ none_there store.columns none)) (refl, bad))
-    go (row.BadField column) bad = absurd bad
-    go row.WrongWidth bad = absurd bad
-    go row.BadPacked bad = absurd bad
-
-pub columns_told : (store : Store) (text : List ℕ) (owned : List Record) (columns : List Column) (count : ℕ) → is_some store.columns ≡ false
-    → IsSchemaText text columns → count ≡ length columns → Steps (ask.Columns text) owned store (says.Columns count) (record store { columns = Some columns })
-columns_told store text owned columns count none is counted =
-    record {
-      steps = λ state r. record {
-        said = machine.Has_columns columns;
-        may = inl (inr (subst (λ cs. ColumnsReply cs text (machine.Has_columns columns)) (sym (r.columns ∙ none_there store.columns none)) is));
-        strict = λ world f agrees. inr (subst (λ cs. ColumnsReply cs text (machine.Has_columns columns)) (sym (r.columns ∙ none_there store.columns none)) is);
-        represents = record { columns = refl; query = r.query; replicas = r.replicas; saved = r.saved; limit = r.limit };
-        refused = refl;
-        faulted = refl;
-        fits = λ world f agrees. record { of_columns = agrees.0; fit = f.fit; files = f.files };
-        text = λ world f agrees. ap (λ n. said_text (says.Columns n)) counted;
-      };
-    }
-
-pub query_too_early : (store : Store) (text : List ℕ) (owned : List Record) → store.columns ≡ None → Steps (ask.Query text) owned store (says.Refused why.BadCommand) store
-query_too_early store text owned none =
-    refused (ask.Query text) owned store why.BadCommand (λ state r. subst (λ cs. QueryReply cs state.query text (machine.Refused why.BadCommand)) (sym (r.columns ∙ none)) refl)
-
 -- the machine's reply to a query's text, where these columns and this query were told
 query_says : (state : State) (store : Store) (text : List ℕ) (columns : List Column) (asked : Option Checked) (reply : machine.Reply) → Represents state store → store.columns ≡ Some columns → store.query ≡ asked
     → QueryReply (Some columns) asked text reply → QueryReply state.columns state.query text reply
 query_says state store text columns asked reply r told same says =
     subst (λ cs. QueryReply cs state.query text reply) (sym (r.columns ∙ told)) (subst (λ q. QueryReply (Some columns) q text reply) (sym (r.query ∙ same)) says)
-
-pub query_there : (store : Store) (text : List ℕ) (owned : List Record) (columns : List Column) → store.columns ≡ Some columns → is_some store.query ≡ true
-    → Steps (ask.Query text) owned store (says.Refused why.BadCommand) store
-query_there store text owned columns told there =
-    refused (ask.Query text) owned store why.BadCommand
-    (λ state r. query_says state store text columns store.query (machine.Refused why.BadCommand) r told refl (go store.query there))
-  where
-    go : (q : Option Checked) → is_some q ≡ true → QueryReply (Some columns) q text (machine.Refused why.BadCommand)
-    go (Some q) e = refl
-    go None e = absurd (true≢false (sym e))
-
-pub query_refused : (store : Store) (text : List ℕ) (owned : List Record) (columns : List Column) (refusal : Refusal) → store.columns ≡ Some columns → is_some store.query ≡ false
-    → (refusal ≢ why.NoMemory → IsNoQuery columns text refusal) → Steps (ask.Query text) owned store (says.Refused refusal) store
-query_refused store text owned columns refusal told none bad =
-    refused_or_memory (ask.Query text) owned store store refusal (same store)
-    (λ other state r. query_says state store text columns None (machine.Refused refusal) r told (none_there store.query none) (bad other))
-
-pub query_told : (store : Store) (text : List ℕ) (owned : List Record) (columns : List Column) (query : Checked) (shown : String Global)
-    → store.columns ≡ Some columns → is_some store.query ≡ false → Accepts columns text query → string_bytes shown ≡ spelling (by_names query)
-    → Steps (ask.Query text) owned store (says.Query shown) (record store { query = Some query })
-query_told store text owned columns query shown told none is spelled =
-    record {
-      steps = λ state r. record {
-        said = machine.Has_query query;
-        may = inl (inr (query_says state store text columns None (machine.Has_query query) r told (none_there store.query none) is));
-        strict = λ world f agrees. inr (query_says state store text columns None (machine.Has_query query) r told (none_there store.query none) is);
-        represents = record { columns = r.columns; query = refl; replicas = r.replicas; saved = r.saved; limit = r.limit };
-        refused = refl;
-        faulted = refl;
-        fits = λ world f agrees. record { of_columns = f.of_columns; fit = f.fit; files = f.files };
-        text = λ world f agrees. ap (λ bytes. line (codes "query ") bytes) spelled;
-      };
-    }
 
 -- a store with its first query: no replica is there yet
 pub store_asked : (store : Store) (columns : List Column) (query : Checked) → IsStore store → store.columns ≡ Some columns → is_some store.query ≡ false
@@ -319,38 +206,6 @@ store_asked store columns query is told none over =
     go None h = tt
     go (Some held) h = absurd cc
 
--- ---- the limit
-
-pub limit_told : (store : Store) (bytes : ℕ) (owned : List Record) → LEAST_LIMIT ≤ bytes → bytes ≤ GREATEST_LIMIT
-    → Steps (ask.Limit bytes) owned store (says.Limit bytes) (record store { limit = bytes })
-limit_told store bytes owned low high =
-    let reply : machine.Has_limit bytes ≡ limit_reply bytes = sym (ap (λ b. if b then machine.Has_limit bytes else machine.Refused limit_out_of_range) within) in
-    record {
-      steps = λ state r. record {
-        said = machine.Has_limit bytes;
-        may = inl (inr reply);
-        strict = λ world f agrees. inr reply;
-        represents = record { columns = r.columns; query = r.query; replicas = r.replicas; saved = r.saved; limit = refl };
-        refused = refl;
-        faulted = refl;
-        fits = λ world f agrees. record { of_columns = f.of_columns; fit = f.fit; files = f.files };
-        text = λ world f agrees. refl;
-      };
-    }
-  where
-    within : (nat_le LEAST_LIMIT bytes && nat_le bytes GREATEST_LIMIT) ≡ true
-    within = grind (arith, low, high)
-
-pub limit_refused : (store : Store) (bytes : ℕ) (owned : List Record) → (bytes < LEAST_LIMIT) ⊎ (GREATEST_LIMIT < bytes)
-    → Steps (ask.Limit bytes) owned store (says.Refused limit_out_of_range) store
-limit_refused store bytes owned beyond =
-    refused (ask.Limit bytes) owned store limit_out_of_range
-    (λ state r. sym (ap (λ b. if b then machine.Has_limit bytes else machine.Refused limit_out_of_range) (outside beyond)))
-  where
-    outside : (bytes < LEAST_LIMIT) ⊎ (GREATEST_LIMIT < bytes) → (nat_le LEAST_LIMIT bytes && nat_le bytes GREATEST_LIMIT) ≡ false
-    outside (inl low) = grind (arith, low)
-    outside (inr high) = grind (arith, high)
-
 -- ---- replicas
 
 -- a replica that knows nothing fits each world
@@ -368,43 +223,6 @@ fits_nothing query world origin =
 some_there : {X : Type 0} (o : Option X) → is_some o ≡ true → (x : X) × (o ≡ Some x)
 some_there None e = absurd (true≢false (sym e))
 some_there (Some x) e = (x, refl)
-
-pub replica_too_early : (store : Store) (name : List ℕ) (owned : List Record) → store.query ≡ None → Steps (ask.Replica name) owned store (says.Refused why.BadCommand) store
-replica_too_early store name owned none =
-    refused (ask.Replica name) owned store why.BadCommand (λ state r. sym (ap (λ q. replica_reply q (state.replicas name) name) (r.query ∙ none)))
-
-pub name_taken : (store : Store) (name : List ℕ) (owned : List Record) (query : Checked) → store.query ≡ Some query → is_some (replica_at store name) ≡ true
-    → Steps (ask.Replica name) owned store (says.Refused why.NameTaken) store
-name_taken store name owned query told there =
-    let found = some_there (replica_at store name) there in
-    refused (ask.Replica name) owned store why.NameTaken
-    (λ state r.
-    sym (ap (λ q. replica_reply q (state.replicas name) name) (r.query ∙ told)
-    ∙ ap (λ known. replica_reply (Some query) known name) (r.replicas name ∙ ap (option_map knowledge_of) found.1)))
-
-pub replica_made : (old new : Store) (name : Bor (List ℕ)) (owned : List Record) (query : Checked) → old.query ≡ Some query → is_some (replica_at old name.now) ≡ false
-    → Updates old new name.now (record { query = query; parts = [] }) → Steps (ask.Replica name.now) owned old (says.Created name) new
-replica_made old new name owned query told none u =
-    record {
-      steps = λ state r. record {
-        said = machine.Created name.now;
-        may = inl (inr (sym (ap (λ q. replica_reply q (state.replicas name.now) name.now) (r.query ∙ told)
-            ∙ ap (λ known. replica_reply (Some query) known name.now) (r.replicas name.now ∙ ap (option_map knowledge_of) (none_there (replica_at old name.now) none)))));
-        strict = λ world f agrees. inr (sym (ap (λ q. replica_reply q (state.replicas name.now) name.now) (r.query ∙ told)
-            ∙ ap (λ known. replica_reply (Some query) known name.now) (r.replicas name.now ∙ ap (option_map knowledge_of) (none_there (replica_at old name.now) none))));
-        represents = record {
-          columns = r.columns ∙ sym u.columns;
-          query = r.query ∙ sym u.query;
-          replicas = known_updated state old new name.now (record { query = query; parts = [] }) r u;
-          saved = saved_still state old new u.saved r;
-          limit = r.limit ∙ sym u.limit;
-        };
-        refused = refl;
-        faulted = refl;
-        fits = λ world f agrees. fits_updated world old new name.now (record { query = query; parts = [] }) u (fits_nothing query world) f;
-        text = λ world f agrees. refl;
-      };
-    }
 
 -- the columns and the query of a replica are those of the store
 pub held_asks : (store : Store) (name : List ℕ) (held : Held) → IsStore store → replica_at store name ≡ Some held
@@ -436,226 +254,11 @@ fed_of_world world state store name origin number told_rows owned held is there 
     subst (λ o. IfSome o (λ known. (other : Fed) → IsBatch (kinds (unwrap_or state.columns [])) origin number told_rows owned other → world other.origin other.number ≡ Some other.rows)) (known_there state store name held r there) agrees fed
     (subst (λ cs. IsBatch (kinds cs) origin number told_rows owned fed) (sym (feed_columns state store name held r is there)) batch)
 
--- a batch of another world
-pub feed_disagrees : (old new : Store) (name origin number : List ℕ) (told_rows : ℕ) (owned : List Record) (held : Held) → IsStore old → replica_at old name ≡ Some held → Same old new
-    → IsOtherBatch origin number told_rows owned held → Steps (ask.Feed name origin number told_rows) owned old (says.Refused origin_disagrees) new
-feed_disagrees old new name origin number told_rows owned held is there s other =
-    record {
-      steps = λ state r. record {
-        said = machine.Refused origin_disagrees;
-        may = inr (record {
-          instead = machine.Took name other.fed (reply_of (told held.parts) (other.fed.origin, other.fed.number));
-          would = subst (λ known. FeedReply (unwrap_or state.columns []) known name origin number told_rows owned (machine.Took name other.fed (reply_of (told held.parts) (other.fed.origin, other.fed.number)))) (sym (known_there state old name held r there))
-              (refl, subst (λ cs. IsBatch (kinds cs) origin number told_rows owned other.fed) (sym (feed_columns state old name held r is there)) other.is_batch, refl);
-          takes = refl;
-          refused = refl;
-        });
-        strict = λ world f agrees.
-            absurd (other.never world (subst (λ o. IfSome o (Fits world)) there (f.fit name)) (fed_of_world world state old name origin number told_rows owned held is there r agrees.1 other.fed other.is_batch));
-        represents = still state old new s r;
-        refused = refl;
-        faulted = refl;
-        fits = λ world f agrees. still_fits world old new s f;
-        text = λ world f agrees. refl;
-      };
-    }
-
 pub disagrees_or : (refusal : Refusal) → (refusal ≡ origin_disagrees) ⊎ (refusal ≢ origin_disagrees)
 disagrees_or (why.Merge (merge.Join join.OriginDisagrees)) = inl refl
 disagrees_or refusal = inr (λ e. cc)
 
-pub feed_nowhere : (store : Store) (name origin number : List ℕ) (told_rows : ℕ) (owned : List Record) → replica_at store name ≡ None
-    → Steps (ask.Feed name origin number told_rows) owned store (says.Refused why.NoSuchName) store
-feed_nowhere store name origin number told_rows owned none =
-    refused (ask.Feed name origin number told_rows) owned store why.NoSuchName
-    (λ state r. subst (λ known. FeedReply (unwrap_or state.columns []) known name origin number told_rows owned (machine.Refused why.NoSuchName))
-    (sym (known_nowhere state store name r none)) refl)
-
-pub feed_refused : (old new : Store) (name origin number : List ℕ) (told_rows : ℕ) (owned : List Record) (held : Held) (refusal : Refusal) → IsStore old
-    → replica_at old name ≡ Some held → Same old new → refusal ≢ origin_disagrees → refusal ≢ tape_damaged → (IsOfBatch refusal → IsNoBatch (kinds held.query.columns) origin number told_rows owned refusal)
-    → Steps (ask.Feed name origin number told_rows) owned old (says.Refused refusal) new
-feed_refused old new name origin number told_rows owned held refusal is there s agreed undamaged bad =
-    refused_for (ask.Feed name origin number told_rows) owned old new refusal s (λ state r. go state r refusal agreed undamaged bad)
-  where
-    of_batch : (state : State) → Represents state old → (refusal : Refusal) → IsNoBatch (kinds held.query.columns) origin number told_rows owned refusal
-        → IsReply state (ask.Feed name origin number told_rows) owned (machine.Refused refusal)
-    of_batch state r refusal bad =
-        inr (subst (λ known. FeedReply (unwrap_or state.columns []) known name origin number told_rows owned (machine.Refused refusal)) (sym (known_there state old name held r there))
-        (subst (λ cs. IsNoBatch (kinds cs) origin number told_rows owned refusal) (sym (feed_columns state old name held r is there)) bad))
-
-    go : (state : State) → Represents state old → (refusal : Refusal) → refusal ≢ origin_disagrees → refusal ≢ tape_damaged → (IsOfBatch refusal → IsNoBatch (kinds held.query.columns) origin number told_rows owned refusal)
-        → IsReply state (ask.Feed name origin number told_rows) owned (machine.Refused refusal)
-    go state r why.NoMemory agreed undamaged bad = inl (inl refl)
-    go state r (why.Merge (merge.Join (join.Spill spill.TapeFault))) agreed undamaged bad = inl (inr (refl, refl))
-    go state r (why.Merge (merge.Join join.OriginDisagrees)) agreed undamaged bad = absurd (agreed refl)
-    go state r (why.Merge (merge.Join (join.Spill spill.TapeDamaged))) agreed undamaged bad = absurd (undamaged refl)
-    go state r refusal agreed undamaged bad = of_batch state r refusal (bad tt)
-
-pub feed_took : (old new : Store) (name origin number : List ℕ) (told_rows : ℕ) (owned : List Record) (held later : Held) (delivered : Delivered) → IsStore old
-    → replica_at old name ≡ Some held → Takes true origin number told_rows owned held later delivered → Updates old new name later
-    → Steps (ask.Feed name origin number told_rows) owned old (says.Delivered delivered) new
-feed_took old new name origin number told_rows owned held later delivered is there takes u =
-    record {
-      steps = λ state r. record {
-        said = machine.Took name takes.fed delivered;
-        may = inl (inr (subst (λ known. FeedReply (unwrap_or state.columns []) known name origin number told_rows owned (machine.Took name takes.fed delivered)) (sym (known_there state old name held r there))
-            (refl, subst (λ cs. IsBatch (kinds cs) origin number told_rows owned takes.fed) (sym (feed_columns state old name held r is there)) takes.is_batch, takes.reply)));
-        strict = λ world f agrees. inr (subst (λ known. FeedReply (unwrap_or state.columns []) known name origin number told_rows owned (machine.Took name takes.fed delivered)) (sym (known_there state old name held r there))
-            (refl, subst (λ cs. IsBatch (kinds cs) origin number told_rows owned takes.fed) (sym (feed_columns state old name held r is there)) takes.is_batch, takes.reply));
-        represents = record {
-          columns = r.columns ∙ sym u.columns;
-          query = r.query ∙ sym u.query;
-          replicas = λ other. ap (λ known. with_replica state.replicas name known other)
-              (ap (λ known. learn (unwrap_or known nothing) (takes.fed.origin, takes.fed.number)) (known_there state old name held r there) ∙ sym takes.learns)
-              ∙ known_updated state old new name later r u other;
-          saved = saved_still state old new u.saved r;
-          limit = r.limit ∙ sym u.limit;
-        };
-        refused = refl;
-        faulted = refl;
-        fits = λ world f agrees. fits_updated world old new name later u
-            (takes.fits refl world (columns_of_world world old name held is there f) (subst (λ o. IfSome o (Fits world)) there (f.fit name)) (fed_of_world world state old name origin number told_rows owned held is there r agrees.1 takes.fed takes.is_batch)) f;
-        text = λ world f agrees. refl;
-      };
-    }
-
--- ---- questions
-
-pub known_nowhere_at : (store : Store) (name : List ℕ) (owned : List Record) → replica_at store name ≡ None → Steps (ask.Known name) owned store (says.Refused why.NoSuchName) store
-known_nowhere_at store name owned none =
-    refused (ask.Known name) owned store why.NoSuchName (λ state r. sym (ap known_reply (known_nowhere state store name r none)))
-
-pub known_listed : (store : Store) (name : List ℕ) (owned : List Record) (held : Held) (lines : Vec ℕ Global) → replica_at store name ≡ Some held
-    → lines.items ≡ known_text (known_list (told held.parts)) → Steps (ask.Known name) owned store (says.Listed lines) store
-known_listed store name owned held lines there shown =
-    record {
-      steps = λ state r. record {
-        said = machine.Listed (known_list (told held.parts));
-        may = inl (inr (sym (ap known_reply (known_there state store name held r there))));
-        strict = λ world f agrees. inr (sym (ap known_reply (known_there state store name held r there)));
-        represents = r;
-        refused = refl;
-        faulted = refl;
-        fits = λ world f agrees. f;
-        text = λ world f agrees. shown;
-      };
-    }
-
-pub answer_nowhere : (store : Store) (name : List ℕ) (owned : List Record) → replica_at store name ≡ None → Steps (ask.Answer name) owned store (says.Refused why.NoSuchName) store
-answer_nowhere store name owned none =
-    refused (ask.Answer name) owned store why.NoSuchName
-    (λ state r. sym (ap (λ known. answer_reply state.query known) (known_nowhere state store name r none) ∙ go state.query))
-  where
-    go : (q : Option Checked) → answer_reply q None ≡ machine.Refused why.NoSuchName
-    go None = refl
-    go (Some q) = refl
-
-pub answered : (store : Store) (name : List ℕ) (owned : List Record) (held : Held) (rows : ℕ) (table : Vec ℕ Global) → IsStore store → replica_at store name ≡ Some held
-    → ((world : World) → IsWorld (kinds held.query.columns) world → Fits world held
-    → (rows ≡ length (answer (meaning held.query) world (told held.parts))) × (table.items ≡ table_text (headers held.query) (answer (meaning held.query) world (told held.parts))))
-    → Steps (ask.Answer name) owned store (says.Answer rows table) store
-answered store name owned held rows table is there shown =
-    let asks = held_asks store name held is there in
-    record {
-      steps = λ state r. record {
-        said = machine.Answered held.query (told held.parts);
-        may = inl (inr (sym (ap (λ q. answer_reply q (state.replicas name)) (r.query ∙ asks.0) ∙ ap (λ known. answer_reply (Some held.query) known) (known_there state store name held r there))));
-        strict = λ world f agrees. inr (sym (ap (λ q. answer_reply q (state.replicas name)) (r.query ∙ asks.0) ∙ ap (λ known. answer_reply (Some held.query) known) (known_there state store name held r there)));
-        represents = r;
-        refused = refl;
-        faulted = refl;
-        fits = λ world f agrees. f;
-        text = λ world f agrees.
-            let of_world = subst (λ cs. IfSome cs (λ (columns : List Column). IsWorld (kinds columns) world)) asks.1 f.of_columns in
-            let right = shown world of_world (subst (λ o. IfSome o (λ (h : Held). Fits world h)) there (f.fit name)) in
-            ap (λ n. answer_text n table.items) right.0 ∙ ap (λ bytes. answer_text (length (answer (meaning held.query) world (told held.parts))) bytes) right.1;
-      };
-    }
-
--- an answer for which memory was wanting, or the disk of tapes failed
-pub answer_refused : (store : Store) (name : List ℕ) (owned : List Record) (error : SpillError) (refusal : Refusal) → refusal ≡ merge_refusal (merge.Join (join.Spill error)) → error ≢ spill.TapeDamaged
-    → Steps (ask.Answer name) owned store (says.Refused refusal) store
-answer_refused store name owned error refusal is undamaged = subst (λ w. Steps (ask.Answer name) owned store (says.Refused w) store) (sym is) (go error undamaged)
-  where
-    go : (error : SpillError) → error ≢ spill.TapeDamaged → Steps (ask.Answer name) owned store (says.Refused (merge_refusal (merge.Join (join.Spill error)))) store
-    go spill.NoMemory undamaged = out_of_memory (ask.Answer name) owned store
-    go spill.TapeFault undamaged = refused_for (ask.Answer name) owned store store tape_fault (same store) (λ state r. inl (inr (refl, refl)))
-    go spill.TapeDamaged undamaged = absurd (undamaged refl)
-
 -- ---- merging
-
-pub merge_nowhere : (store : Store) (into from : List ℕ) (owned : List Record) → (replica_at store into ≡ None) ⊎ (replica_at store from ≡ None)
-    → Steps (ask.Merge into from) owned store (says.Refused why.NoSuchName) store
-merge_nowhere store into from owned none =
-    refused (ask.Merge into from) owned store why.NoSuchName (λ state r. go state r none)
-  where
-    second : (known : Option Knowledge) → machine.Refused why.NoSuchName ≡ merge_reply known None into from
-    second None = refl
-    second (Some known) = refl
-
-    go : (state : State) → Represents state store → (replica_at store into ≡ None) ⊎ (replica_at store from ≡ None) → machine.Refused why.NoSuchName ≡ merge_reply (state.replicas into) (state.replicas from) into from
-    go state r (inl e) = sym (ap (λ known. merge_reply known (state.replicas from) into from) (known_nowhere state store into r e))
-    go state r (inr e) = second (state.replicas into) ∙ sym (ap (λ known. merge_reply (state.replicas into) known into from) (known_nowhere state store from r e))
-
-pub merge_refused : (store : Store) (into from : List ℕ) (owned : List Record) (refusal : Refusal) → JoinRefused (replica_at store into) (replica_at store from) refusal → refusal ≢ tape_damaged
-    → Steps (ask.Merge into from) owned store (says.Refused refusal) store
-merge_refused store into from owned refusal refused_is undamaged = go (replica_at store into) (replica_at store from) refl refl refusal undamaged refused_is
-  where
-    both : (own theirs : Held) → replica_at store into ≡ Some own → replica_at store from ≡ Some theirs → (state : State) → Represents state store
-        → machine.Merged into from ≡ merge_reply (state.replicas into) (state.replicas from) into from
-    both own theirs one two state r = sym (λ i. merge_reply (known_there state store into own r one i) (known_there state store from theirs r two i) into from)
-
-    go : (own theirs : Option Held) → replica_at store into ≡ own → replica_at store from ≡ theirs → (refusal : Refusal) → refusal ≢ tape_damaged → JoinRefused own theirs refusal → Steps (ask.Merge into from) owned store (says.Refused refusal) store
-    go None theirs one two refusal undamaged is = subst (λ w. Steps (ask.Merge into from) owned store (says.Refused w) store) (sym is) (merge_nowhere store into from owned (inl one))
-    go (Some own) None one two refusal undamaged is = subst (λ w. Steps (ask.Merge into from) owned store (says.Refused w) store) (sym is) (merge_nowhere store into from owned (inr two))
-    go (Some own) (Some theirs) one two why.NoMemory undamaged is = out_of_memory (ask.Merge into from) owned store
-    go (Some own) (Some theirs) one two (why.Merge (merge.Join (join.Spill spill.TapeFault))) undamaged is = refused_for (ask.Merge into from) owned store store tape_fault (same store) (λ state r. inl (inr (refl, refl)))
-    go (Some own) (Some theirs) one two (why.Merge (merge.Join (join.Spill spill.TapeDamaged))) undamaged is = absurd (undamaged refl)
-    go (Some own) (Some theirs) one two (why.Merge (merge.Join join.OriginDisagrees)) undamaged never =
-        record {
-          steps = λ state r. record {
-            said = machine.Refused origin_disagrees;
-            may = inr (record { instead = machine.Merged into from; would = both own theirs one two state r; takes = refl; refused = refl });
-            strict = λ world f agrees.
-                absurd (never world (subst (λ o. IfSome o (Fits world)) one (f.fit into)) (subst (λ o. IfSome o (Fits world)) two (f.fit from)));
-            represents = r;
-            refused = refl;
-            faulted = refl;
-            fits = λ world f agrees. f;
-            text = λ world f agrees. refl;
-          };
-        }
-    go (Some own) (Some theirs) one two refusal undamaged is = absurd is
-
-pub merged : (old new : Store) (into from : List ℕ) (owned : List Record) (own theirs later : Held) → IsStore old → replica_at old into ≡ Some own → replica_at old from ≡ Some theirs
-    → told later.parts ≡ union (told own.parts) (told theirs.parts)
-    → ((world : World) → IsWorld (kinds own.query.columns) world → Fits world own → Fits world theirs → Fits world later)
-    → Updates old new into later → Steps (ask.Merge into from) owned old says.Merged new
-merged old new into from owned own theirs later is one two learns fits u =
-    record {
-      steps = λ state r.
-          let reply : machine.Merged into from ≡ merge_reply (state.replicas into) (state.replicas from) into from =
-          sym (λ i. merge_reply (known_there state old into own r one i) (known_there state old from theirs r two i) into from) in
-          record {
-            said = machine.Merged into from;
-            may = inl (inr reply);
-            strict = λ world f agrees. inr reply;
-            represents = record {
-              columns = r.columns ∙ sym u.columns;
-              query = r.query ∙ sym u.query;
-              replicas = λ other. ap (λ known. with_replica state.replicas into known other)
-                  ((λ i. union (unwrap_or (known_there state old into own r one i) nothing) (unwrap_or (known_there state old from theirs r two i) nothing)) ∙ sym learns)
-                  ∙ known_updated state old new into later r u other;
-              saved = saved_still state old new u.saved r;
-              limit = r.limit ∙ sym u.limit;
-            };
-            refused = refl;
-            faulted = refl;
-            fits = λ world f agrees. fits_updated world old new into later u
-                (fits world (columns_of_world world old into own is one f) (subst (λ o. IfSome o (Fits world)) one (f.fit into)) (subst (λ o. IfSome o (Fits world)) two (f.fit from))) f;
-            text = λ world f agrees. refl;
-          };
-    }
 
 -- all replicas have one query
 pub one_query : (store : Store) (into from : List ℕ) (own theirs : Held) → IsStore store → replica_at store into ≡ Some own → replica_at store from ≡ Some theirs → own.query ≡ theirs.query
@@ -688,15 +291,6 @@ one_there a b one two = ap (λ x. unwrap_or x a) (sym one ∙ two)
 
 -- ---- saving and loading
 
-pub save_nowhere : (store : Store) (name saved : List ℕ) (owned : List Record) → replica_at store name ≡ None → Steps (ask.Save name saved) owned store (says.Refused why.NoSuchName) store
-save_nowhere store name saved owned none =
-    refused (ask.Save name saved) owned store why.NoSuchName
-    (λ state r. sym (ap (λ known. save_reply state.query known saved) (known_nowhere state store name r none) ∙ go state.query))
-  where
-    go : (q : Option Checked) → save_reply q None saved ≡ machine.Refused why.NoSuchName
-    go None = refl
-    go (Some q) = refl
-
 -- a map that was updated at a name has another file
 pub filed : {S : Type 0} (limit : ℕ) (columns : Option (List Column)) (query : Option Checked) (replicas : List (Vec ℕ Global × Held)) (name : List ℕ) (bytes : Vec ℕ Global) (old new : HashMap (Vec ℕ Global) (Vec ℕ Global) S)
     → UpdatesBy (λ (x y : Vec ℕ Global). bytes_eq x.items y.items) (λ (key : Vec ℕ Global). bytes_eq name key.items) old new (Some bytes)
@@ -728,80 +322,517 @@ store_filed old new name bytes u file is =
           (each_file (λ other o. IfSome o (IsFileOf old.query)) old new name bytes u file (λ other different. is.files other));
     }
 
-pub saved_as : (old new : Store) (name saved : List ℕ) (owned : List Record) (held : Held) (bytes : Vec ℕ Global) (count : ℕ) → IsStore old → replica_at old name ≡ Some held
-    → IsSummary bytes.items held.query held.parts → ((world : World) → Fits world held → bytes.items ≡ world_file held.query world (told held.parts)) → count ≡ length bytes.items
-    → Files old new saved bytes → Steps (ask.Save name saved) owned old (says.Saved count) new
-saved_as old new name saved owned held bytes count is there file world_is counted u =
-    let asks = held_asks old name held is there in
-    record {
-      steps = λ state r.
-          let reply : machine.Saved saved held.query (told held.parts) ≡ save_reply state.query (state.replicas name) saved =
-          sym (ap (λ q. save_reply q (state.replicas name) saved) (r.query ∙ asks.0) ∙ ap (λ known. save_reply (Some held.query) known saved) (known_there state old name held r there)) in
-          record {
-            said = machine.Saved saved held.query (told held.parts);
-            may = inl (inr reply);
-            strict = λ world f agrees. inr reply;
-            represents = record {
-              columns = r.columns ∙ sym u.columns;
-              query = r.query ∙ sym u.query;
-              replicas = λ other. r.replicas other ∙ ap (option_map knowledge_of) (sym (replicas_at old new u.replicas other));
-              saved = each_file (λ other o. AreSaved (with_replica state.saved saved (told held.parts) other) o) old new saved bytes u
-                  (subst (λ b. AreSaved (if b then Some (told held.parts) else state.saved saved) (Some bytes)) (sym ((bytes_eq-Decides saved saved).1 refl)) (record { held = held; is = file; tells = refl }))
-                  (λ other different. subst (λ b. AreSaved (if b then Some (told held.parts) else state.saved other) (saved_at old other)) (sym different) (r.saved other));
-              limit = r.limit ∙ sym u.limit;
-            };
-            refused = refl;
-            faulted = refl;
-            fits = λ world f agrees. record {
-              of_columns = subst (λ cs. IfSome cs (λ (columns : List Column). IsWorld (kinds columns) world)) (sym u.columns) f.of_columns;
-              fit = λ other. subst (λ o. IfSome o (λ (h : Held). Fits world h)) (sym (replicas_at old new u.replicas other)) (f.fit other);
-              files = each_file (λ other o. IfSome o (IsFitting world)) old new saved bytes u
-                  (record { held = held; is = file; fits = subst (λ o. IfSome o (λ (h : Held). Fits world h)) there (f.fit name) }) (λ other different. f.files other);
-            };
-            text = λ world f agrees.
-                ap (λ n. said_text (says.Saved n)) (counted ∙ ap length (world_is world (subst (λ o. IfSome o (λ (h : Held). Fits world h)) there (f.fit name))));
-          };
-    }
-
-pub load_nowhere : (store : Store) (name saved : List ℕ) (owned : List Record) → saved_at store saved ≡ None → Steps (ask.Load name saved) owned store (says.Refused why.NoSuchName) store
-load_nowhere store name saved owned none =
-    refused (ask.Load name saved) owned store why.NoSuchName (λ state r. go (state.saved saved) (subst (AreSaved (state.saved saved)) none (r.saved saved)))
-  where
-    go : (known : Option Knowledge) → AreSaved known None → machine.Refused why.NoSuchName ≡ load_reply known name
-    go None are = refl
-    go (Some known) are = absurd are
-
-pub loaded : (old new : Store) (name saved : List ℕ) (owned : List Record) (bytes : Vec ℕ Global) (later : Held) → saved_at old saved ≡ Some bytes
-    → ((held : Held) → IsSummary bytes.items held.query held.parts → later ≡ held) → Updates old new name later → Steps (ask.Load name saved) owned old says.Loaded new
-loaded old new name saved owned bytes later there is u =
-    record { steps = λ state r. go state r (state.saved saved) refl (subst (AreSaved (state.saved saved)) there (r.saved saved)) }
-  where
-    go : (state : State) → Represents state old → (known : Option Knowledge) → state.saved saved ≡ known → AreSaved known (Some bytes) → Answers state (ask.Load name saved) owned old says.Loaded new
-    go state r None e are = absurd are
-    go state r (Some known) e are =
-        let reply : machine.Loaded name known ≡ load_reply (state.saved saved) name = sym (ap (λ k. load_reply k name) e) in
-        record {
-          said = machine.Loaded name known;
-          may = inl (inr reply);
-          strict = λ world f agrees. inr reply;
-          represents = record {
-            columns = r.columns ∙ sym u.columns;
-            query = r.query ∙ sym u.query;
-            replicas = λ other. ap (λ k. with_replica state.replicas name k other) (sym are.tells ∙ ap knowledge_of (sym (is are.held are.is))) ∙ known_updated state old new name later r u other;
-            saved = saved_still state old new u.saved r;
-            limit = r.limit ∙ sym u.limit;
-          };
-          refused = refl;
-          faulted = refl;
-          fits = λ world f agrees.
-              let file = subst (λ o. IfSome o (IsFitting world)) there (f.files saved) in
-              fits_updated world old new name later u (subst (Fits world) (sym (is file.held file.is)) file.fits) f;
-          text = λ world f agrees. refl;
-        }
-
 -- what is loaded has the query
 pub loaded_asks : (store : Store) (saved : List ℕ) (bytes : Vec ℕ Global) (later : Held) → IsStore store → saved_at store saved ≡ Some bytes → ((held : Held) → IsSummary bytes.items held.query held.parts → later ≡ held)
     → store.query ≡ Some later.query
 loaded_asks store saved bytes later is there same =
     let file = subst (λ o. IfSome o (IsFileOf store.query)) there (is.files saved) in
     file.asked ∙ ap (λ (h : Held). Some h.query) (sym (same file.held file.is))
+
+-- ---- replies, over a disk of tapes that may be honest
+
+module _ {honest : Bool} where
+  -- a refusal of the code is one of the machine's
+  pub refused_for : (request : Request) (owned : List Record) (old new : Store) (refusal : Refusal) → Same old new
+      → ((state : State) → Represents state old → IsReply state request owned (machine.Refused refusal))
+      → Steps honest request owned old (says.Refused refusal) new
+  refused_for request owned old new refusal s may =
+      record {
+        steps = λ state r. record {
+          said = machine.Refused refusal;
+          may = inl (inl (may state r));
+          strict = λ right world f agrees. may state r;
+          represents = still state old new s r;
+          refused = refl;
+          faulted = refl;
+          fits = λ right world f agrees. still_fits world old new s f;
+          reads = λ world. refl;
+          text = λ right world f agrees. refl;
+        };
+      }
+
+  -- a refusal since the disk gave back what was not written to it
+  pub damaged : (request : Request) (owned : List Record) (old new : Store) → Same old new → (IsTrue honest → ⊥) → IsTrue (uses_tapes request) → Steps honest request owned old (says.Refused tape_damaged) new
+  damaged request owned old new s never uses =
+      record {
+        steps = λ state r. record {
+          said = machine.Refused tape_damaged;
+          may = inr (record { dishonest = false_from_ne_true honest never; aggregates = uses; refused = refl });
+          strict = λ right. absurd (never right);
+          represents = still state old new s r;
+          refused = refl;
+          faulted = refl;
+          fits = λ right. absurd (never right);
+          reads = λ world. refl;
+          text = λ right. absurd (never right);
+        };
+      }
+
+  pub no_memory_same : (request : Request) (owned : List Record) (old new : Store) → Same old new → Steps honest request owned old (says.Refused why.NoMemory) new
+  no_memory_same request owned old new s = refused_for request owned old new why.NoMemory s (λ state r. inl (inl refl))
+
+  pub out_of_memory : (request : Request) (owned : List Record) (store : Store) → Steps honest request owned store (says.Refused why.NoMemory) store
+  out_of_memory request owned store = refused_for request owned store store why.NoMemory (same store) (λ state r. inl (inl refl))
+
+  pub refused : (request : Request) (owned : List Record) (store : Store) (refusal : Refusal)
+      → ((state : State) → Represents state store → Replies state request owned (machine.Refused refusal)) → Steps honest request owned store (says.Refused refusal) store
+  refused request owned store refusal replies = refused_for request owned store store refusal (same store) (λ state r. inr (replies state r))
+
+  -- a refusal that may be for want of memory
+  pub refused_or_memory : (request : Request) (owned : List Record) (old new : Store) (refusal : Refusal) → Same old new
+      → (refusal ≢ why.NoMemory → (state : State) → Represents state old → Replies state request owned (machine.Refused refusal))
+      → Steps honest request owned old (says.Refused refusal) new
+  refused_or_memory request owned old new refusal s replies = refused_for request owned old new refusal s (λ state r. go state r (memory_or refusal))
+    where
+      go : (state : State) → Represents state old → (refusal ≡ why.NoMemory) ⊎ (refusal ≢ why.NoMemory)
+          → IsReply state request owned (machine.Refused refusal)
+      go state r (inl e) = inl (inl (ap machine.Refused e))
+      go state r (inr other) = inr (replies other state r)
+
+  pub columns_there : (store : Store) (text : List ℕ) (owned : List Record) → is_some store.columns ≡ true → Steps honest (ask.Columns text) owned store (says.Refused why.BadCommand) store
+  columns_there store text owned there =
+      refused (ask.Columns text) owned store why.BadCommand (λ state r. subst (λ cs. ColumnsReply cs text (machine.Refused why.BadCommand)) (sym r.columns) (go store.columns there))
+    where
+      go : (o : Option (List Column)) → is_some o ≡ true → ColumnsReply o text (machine.Refused why.BadCommand)
+      go (Some columns) e = refl
+      go None e = absurd (true≢false (sym e))
+
+  pub no_schema : (store : Store) (text : List ℕ) (owned : List Record) (error : RowError) (refusal : Refusal) → is_some store.columns ≡ false → ParseFault text error → refusal ≡ columns_refusal error
+      → Steps honest (ask.Columns text) owned store (says.Refused refusal) store
+  no_schema store text owned error refusal none bad is = subst (λ w. Steps honest (ask.Columns text) owned store (says.Refused w) store) (sym is) (go error bad)
+    where
+      go : (error : RowError) → ParseFault text error → Steps honest (ask.Columns text) owned store (says.Refused (columns_refusal error)) store
+      go row.NoMemory bad = out_of_memory (ask.Columns text) owned store
+      go row.BadSchema bad =
+          refused (ask.Columns text) owned store why.BadSchema
+          (λ state r. subst (λ cs. ColumnsReply cs text (machine.Refused why.BadSchema)) (sym (r.columns ∙ none_there store.columns none)) (refl, bad))
+      go (row.BadField column) bad = absurd bad
+      go row.WrongWidth bad = absurd bad
+      go row.BadPacked bad = absurd bad
+
+  pub columns_told : (store : Store) (text : List ℕ) (owned : List Record) (columns : List Column) (count : ℕ) → is_some store.columns ≡ false
+      → IsSchemaText text columns → count ≡ length columns → Steps honest (ask.Columns text) owned store (says.Columns count) (record store { columns = Some columns })
+  columns_told store text owned columns count none is counted =
+      record {
+        steps = λ state r. record {
+          said = machine.Has_columns columns;
+          may = inl (inl (inr (subst (λ cs. ColumnsReply cs text (machine.Has_columns columns)) (sym (r.columns ∙ none_there store.columns none)) is)));
+          strict = λ right world f agrees. inr (subst (λ cs. ColumnsReply cs text (machine.Has_columns columns)) (sym (r.columns ∙ none_there store.columns none)) is);
+          represents = record { columns = refl; query = r.query; replicas = r.replicas; saved = r.saved; limit = r.limit };
+          refused = refl;
+          faulted = refl;
+          fits = λ right world f agrees. record { of_columns = agrees.0; fit = f.fit; files = f.files };
+          reads = λ world. ap (λ n. said_text (says.Columns n)) counted;
+          text = λ right world f agrees. ap (λ n. said_text (says.Columns n)) counted;
+        };
+      }
+
+  pub query_too_early : (store : Store) (text : List ℕ) (owned : List Record) → store.columns ≡ None → Steps honest (ask.Query text) owned store (says.Refused why.BadCommand) store
+  query_too_early store text owned none =
+      refused (ask.Query text) owned store why.BadCommand (λ state r. subst (λ cs. QueryReply cs state.query text (machine.Refused why.BadCommand)) (sym (r.columns ∙ none)) refl)
+
+  pub query_there : (store : Store) (text : List ℕ) (owned : List Record) (columns : List Column) → store.columns ≡ Some columns → is_some store.query ≡ true
+      → Steps honest (ask.Query text) owned store (says.Refused why.BadCommand) store
+  query_there store text owned columns told there =
+      refused (ask.Query text) owned store why.BadCommand
+      (λ state r. query_says state store text columns store.query (machine.Refused why.BadCommand) r told refl (go store.query there))
+    where
+      go : (q : Option Checked) → is_some q ≡ true → QueryReply (Some columns) q text (machine.Refused why.BadCommand)
+      go (Some q) e = refl
+      go None e = absurd (true≢false (sym e))
+
+  pub query_refused : (store : Store) (text : List ℕ) (owned : List Record) (columns : List Column) (refusal : Refusal) → store.columns ≡ Some columns → is_some store.query ≡ false
+      → (refusal ≢ why.NoMemory → IsNoQuery columns text refusal) → Steps honest (ask.Query text) owned store (says.Refused refusal) store
+  query_refused store text owned columns refusal told none bad =
+      refused_or_memory (ask.Query text) owned store store refusal (same store)
+      (λ other state r. query_says state store text columns None (machine.Refused refusal) r told (none_there store.query none) (bad other))
+
+  pub query_told : (store : Store) (text : List ℕ) (owned : List Record) (columns : List Column) (query : Checked) (shown : String Global)
+      → store.columns ≡ Some columns → is_some store.query ≡ false → Accepts columns text query → string_bytes shown ≡ spelling (by_names query)
+      → Steps honest (ask.Query text) owned store (says.Query shown) (record store { query = Some query })
+  query_told store text owned columns query shown told none is spelled =
+      record {
+        steps = λ state r. record {
+          said = machine.Has_query query;
+          may = inl (inl (inr (query_says state store text columns None (machine.Has_query query) r told (none_there store.query none) is)));
+          strict = λ right world f agrees. inr (query_says state store text columns None (machine.Has_query query) r told (none_there store.query none) is);
+          represents = record { columns = r.columns; query = refl; replicas = r.replicas; saved = r.saved; limit = r.limit };
+          refused = refl;
+          faulted = refl;
+          fits = λ right world f agrees. record { of_columns = f.of_columns; fit = f.fit; files = f.files };
+          reads = λ world. ap (λ bytes. line (codes "query ") bytes) spelled;
+          text = λ right world f agrees. ap (λ bytes. line (codes "query ") bytes) spelled;
+        };
+      }
+
+  pub limit_told : (store : Store) (bytes : ℕ) (owned : List Record) → LEAST_LIMIT ≤ bytes → bytes ≤ GREATEST_LIMIT
+      → Steps honest (ask.Limit bytes) owned store (says.Limit bytes) (record store { limit = bytes })
+  limit_told store bytes owned low high =
+      let reply : machine.Has_limit bytes ≡ limit_reply bytes = sym (ap (λ b. if b then machine.Has_limit bytes else machine.Refused limit_out_of_range) within) in
+      record {
+        steps = λ state r. record {
+          said = machine.Has_limit bytes;
+          may = inl (inl (inr reply));
+          strict = λ right world f agrees. inr reply;
+          represents = record { columns = r.columns; query = r.query; replicas = r.replicas; saved = r.saved; limit = refl };
+          refused = refl;
+          faulted = refl;
+          fits = λ right world f agrees. record { of_columns = f.of_columns; fit = f.fit; files = f.files };
+          reads = λ world. refl;
+          text = λ right world f agrees. refl;
+        };
+      }
+    where
+      within : (nat_le LEAST_LIMIT bytes && nat_le bytes GREATEST_LIMIT) ≡ true
+      within = grind (arith, low, high)
+
+  pub limit_refused : (store : Store) (bytes : ℕ) (owned : List Record) → (bytes < LEAST_LIMIT) ⊎ (GREATEST_LIMIT < bytes)
+      → Steps honest (ask.Limit bytes) owned store (says.Refused limit_out_of_range) store
+  limit_refused store bytes owned beyond =
+      refused (ask.Limit bytes) owned store limit_out_of_range
+      (λ state r. sym (ap (λ b. if b then machine.Has_limit bytes else machine.Refused limit_out_of_range) (outside beyond)))
+    where
+      outside : (bytes < LEAST_LIMIT) ⊎ (GREATEST_LIMIT < bytes) → (nat_le LEAST_LIMIT bytes && nat_le bytes GREATEST_LIMIT) ≡ false
+      outside (inl low) = grind (arith, low)
+      outside (inr high) = grind (arith, high)
+
+  pub replica_too_early : (store : Store) (name : List ℕ) (owned : List Record) → store.query ≡ None → Steps honest (ask.Replica name) owned store (says.Refused why.BadCommand) store
+  replica_too_early store name owned none =
+      refused (ask.Replica name) owned store why.BadCommand (λ state r. sym (ap (λ q. replica_reply q (state.replicas name) name) (r.query ∙ none)))
+
+  pub name_taken : (store : Store) (name : List ℕ) (owned : List Record) (query : Checked) → store.query ≡ Some query → is_some (replica_at store name) ≡ true
+      → Steps honest (ask.Replica name) owned store (says.Refused why.NameTaken) store
+  name_taken store name owned query told there =
+      let found = some_there (replica_at store name) there in
+      refused (ask.Replica name) owned store why.NameTaken
+      (λ state r.
+      sym (ap (λ q. replica_reply q (state.replicas name) name) (r.query ∙ told)
+      ∙ ap (λ known. replica_reply (Some query) known name) (r.replicas name ∙ ap (option_map knowledge_of) found.1)))
+
+  pub replica_made : (old new : Store) (name : Bor (List ℕ)) (owned : List Record) (query : Checked) → old.query ≡ Some query → is_some (replica_at old name.now) ≡ false
+      → Updates old new name.now (record { query = query; parts = [] }) → Steps honest (ask.Replica name.now) owned old (says.Created name) new
+  replica_made old new name owned query told none u =
+      record {
+        steps = λ state r. record {
+          said = machine.Created name.now;
+          may = inl (inl (inr (sym (ap (λ q. replica_reply q (state.replicas name.now) name.now) (r.query ∙ told)
+              ∙ ap (λ known. replica_reply (Some query) known name.now) (r.replicas name.now ∙ ap (option_map knowledge_of) (none_there (replica_at old name.now) none))))));
+          strict = λ right world f agrees. inr (sym (ap (λ q. replica_reply q (state.replicas name.now) name.now) (r.query ∙ told)
+              ∙ ap (λ known. replica_reply (Some query) known name.now) (r.replicas name.now ∙ ap (option_map knowledge_of) (none_there (replica_at old name.now) none))));
+          represents = record {
+            columns = r.columns ∙ sym u.columns;
+            query = r.query ∙ sym u.query;
+            replicas = known_updated state old new name.now (record { query = query; parts = [] }) r u;
+            saved = saved_still state old new u.saved r;
+            limit = r.limit ∙ sym u.limit;
+          };
+          refused = refl;
+          faulted = refl;
+          fits = λ right world f agrees. fits_updated world old new name.now (record { query = query; parts = [] }) u (fits_nothing query world) f;
+          reads = λ world. refl;
+          text = λ right world f agrees. refl;
+        };
+      }
+
+  -- a batch of another world
+  pub feed_disagrees : (old new : Store) (name origin number : List ℕ) (told_rows : ℕ) (owned : List Record) (held : Held) → IsStore old → replica_at old name ≡ Some held → Same old new
+      → IsOtherBatch origin number told_rows owned held → Steps honest (ask.Feed name origin number told_rows) owned old (says.Refused origin_disagrees) new
+  feed_disagrees old new name origin number told_rows owned held is there s other =
+      record {
+        steps = λ state r. record {
+          said = machine.Refused origin_disagrees;
+          may = inl (inr (record {
+            instead = machine.Took name other.fed (reply_of (told held.parts) (other.fed.origin, other.fed.number));
+            would = subst (λ known. FeedReply (unwrap_or state.columns []) known name origin number told_rows owned (machine.Took name other.fed (reply_of (told held.parts) (other.fed.origin, other.fed.number)))) (sym (known_there state old name held r there))
+                (refl, subst (λ cs. IsBatch (kinds cs) origin number told_rows owned other.fed) (sym (feed_columns state old name held r is there)) other.is_batch, refl);
+            takes = refl;
+            refused = refl;
+          }));
+          strict = λ right world f agrees.
+              absurd (other.never world (subst (λ o. IfSome o (Fits world)) there (f.fit name)) (fed_of_world world state old name origin number told_rows owned held is there r agrees.1 other.fed other.is_batch));
+          represents = still state old new s r;
+          refused = refl;
+          faulted = refl;
+          fits = λ right world f agrees. still_fits world old new s f;
+          reads = λ world. refl;
+          text = λ right world f agrees. refl;
+        };
+      }
+
+  pub feed_nowhere : (store : Store) (name origin number : List ℕ) (told_rows : ℕ) (owned : List Record) → replica_at store name ≡ None
+      → Steps honest (ask.Feed name origin number told_rows) owned store (says.Refused why.NoSuchName) store
+  feed_nowhere store name origin number told_rows owned none =
+      refused (ask.Feed name origin number told_rows) owned store why.NoSuchName
+      (λ state r. subst (λ known. FeedReply (unwrap_or state.columns []) known name origin number told_rows owned (machine.Refused why.NoSuchName))
+      (sym (known_nowhere state store name r none)) refl)
+
+  pub feed_refused : (old new : Store) (name origin number : List ℕ) (told_rows : ℕ) (owned : List Record) (held : Held) (refusal : Refusal) → IsStore old
+      → replica_at old name ≡ Some held → Same old new → refusal ≢ origin_disagrees → (IsTrue honest → refusal ≢ tape_damaged) → (IsOfBatch refusal → IsNoBatch (kinds held.query.columns) origin number told_rows owned refusal)
+      → Steps honest (ask.Feed name origin number told_rows) owned old (says.Refused refusal) new
+  feed_refused old new name origin number told_rows owned held refusal is there s = go refusal
+    where
+      request : Request
+      request = ask.Feed name origin number told_rows
+
+      of_batch : (refusal : Refusal) → IsNoBatch (kinds held.query.columns) origin number told_rows owned refusal → Steps honest request owned old (says.Refused refusal) new
+      of_batch refusal bad =
+          refused_for request owned old new refusal s
+          (λ state r. inr (subst (λ known. FeedReply (unwrap_or state.columns []) known name origin number told_rows owned (machine.Refused refusal)) (sym (known_there state old name held r there))
+          (subst (λ cs. IsNoBatch (kinds cs) origin number told_rows owned refusal) (sym (feed_columns state old name held r is there)) bad)))
+
+      go : (refusal : Refusal) → refusal ≢ origin_disagrees → (IsTrue honest → refusal ≢ tape_damaged) → (IsOfBatch refusal → IsNoBatch (kinds held.query.columns) origin number told_rows owned refusal)
+          → Steps honest request owned old (says.Refused refusal) new
+      go why.NoMemory agreed undamaged bad = no_memory_same request owned old new s
+      go (why.Merge (merge.Join (join.Spill spill.TapeFault))) agreed undamaged bad = refused_for request owned old new tape_fault s (λ state r. inl (inr (refl, refl)))
+      go (why.Merge (merge.Join join.OriginDisagrees)) agreed undamaged bad = absurd (agreed refl)
+      go (why.Merge (merge.Join (join.Spill spill.TapeDamaged))) agreed undamaged bad = damaged request owned old new s (λ right. undamaged right refl) refl
+      go refusal agreed undamaged bad = of_batch refusal (bad tt)
+
+  pub feed_took : (old new : Store) (name origin number : List ℕ) (told_rows : ℕ) (owned : List Record) (held later : Held) (delivered : Delivered) → IsStore old
+      → replica_at old name ≡ Some held → Takes honest origin number told_rows owned held later delivered → Updates old new name later
+      → Steps honest (ask.Feed name origin number told_rows) owned old (says.Delivered delivered) new
+  feed_took old new name origin number told_rows owned held later delivered is there takes u =
+      record {
+        steps = λ state r. record {
+          said = machine.Took name takes.fed delivered;
+          may = inl (inl (inr (subst (λ known. FeedReply (unwrap_or state.columns []) known name origin number told_rows owned (machine.Took name takes.fed delivered)) (sym (known_there state old name held r there))
+              (refl, subst (λ cs. IsBatch (kinds cs) origin number told_rows owned takes.fed) (sym (feed_columns state old name held r is there)) takes.is_batch, takes.reply))));
+          strict = λ right world f agrees. inr (subst (λ known. FeedReply (unwrap_or state.columns []) known name origin number told_rows owned (machine.Took name takes.fed delivered)) (sym (known_there state old name held r there))
+              (refl, subst (λ cs. IsBatch (kinds cs) origin number told_rows owned takes.fed) (sym (feed_columns state old name held r is there)) takes.is_batch, takes.reply));
+          represents = record {
+            columns = r.columns ∙ sym u.columns;
+            query = r.query ∙ sym u.query;
+            replicas = λ other. ap (λ known. with_replica state.replicas name known other)
+                (ap (λ known. learn (unwrap_or known nothing) (takes.fed.origin, takes.fed.number)) (known_there state old name held r there) ∙ sym takes.learns)
+                ∙ known_updated state old new name later r u other;
+            saved = saved_still state old new u.saved r;
+            limit = r.limit ∙ sym u.limit;
+          };
+          refused = refl;
+          faulted = refl;
+          fits = λ right world f agrees. fits_updated world old new name later u
+              (takes.fits right world (columns_of_world world old name held is there f) (subst (λ o. IfSome o (Fits world)) there (f.fit name)) (fed_of_world world state old name origin number told_rows owned held is there r agrees.1 takes.fed takes.is_batch)) f;
+          reads = λ world. refl;
+          text = λ right world f agrees. refl;
+        };
+      }
+
+  pub known_nowhere_at : (store : Store) (name : List ℕ) (owned : List Record) → replica_at store name ≡ None → Steps honest (ask.Known name) owned store (says.Refused why.NoSuchName) store
+  known_nowhere_at store name owned none =
+      refused (ask.Known name) owned store why.NoSuchName (λ state r. sym (ap known_reply (known_nowhere state store name r none)))
+
+  pub known_listed : (store : Store) (name : List ℕ) (owned : List Record) (held : Held) (lines : Vec ℕ Global) → replica_at store name ≡ Some held
+      → lines.items ≡ known_text (known_list (told held.parts)) → Steps honest (ask.Known name) owned store (says.Listed lines) store
+  known_listed store name owned held lines there shown =
+      record {
+        steps = λ state r. record {
+          said = machine.Listed (known_list (told held.parts));
+          may = inl (inl (inr (sym (ap known_reply (known_there state store name held r there)))));
+          strict = λ right world f agrees. inr (sym (ap known_reply (known_there state store name held r there)));
+          represents = r;
+          refused = refl;
+          faulted = refl;
+          fits = λ right world f agrees. f;
+          reads = λ world. shown;
+          text = λ right world f agrees. shown;
+        };
+      }
+
+  pub answer_nowhere : (store : Store) (name : List ℕ) (owned : List Record) → replica_at store name ≡ None → Steps honest (ask.Answer name) owned store (says.Refused why.NoSuchName) store
+  answer_nowhere store name owned none =
+      refused (ask.Answer name) owned store why.NoSuchName
+      (λ state r. sym (ap (λ known. answer_reply state.query known) (known_nowhere state store name r none) ∙ go state.query))
+    where
+      go : (q : Option Checked) → answer_reply q None ≡ machine.Refused why.NoSuchName
+      go None = refl
+      go (Some q) = refl
+
+  pub answered : (store : Store) (name : List ℕ) (owned : List Record) (held : Held) (rows : ℕ) (table : Vec ℕ Global) → IsStore store → replica_at store name ≡ Some held
+      → (IsTrue honest → (world : World) → IsWorld (kinds held.query.columns) world → Fits world held
+      → (rows ≡ length (answer (meaning held.query) world (told held.parts))) × (table.items ≡ table_text (headers held.query) (answer (meaning held.query) world (told held.parts))))
+      → Steps honest (ask.Answer name) owned store (says.Answer rows table) store
+  answered store name owned held rows table is there shown =
+      let asks = held_asks store name held is there in
+      record {
+        steps = λ state r. record {
+          said = machine.Answered held.query (told held.parts);
+          may = inl (inl (inr (sym (ap (λ q. answer_reply q (state.replicas name)) (r.query ∙ asks.0) ∙ ap (λ known. answer_reply (Some held.query) known) (known_there state store name held r there)))));
+          strict = λ right world f agrees. inr (sym (ap (λ q. answer_reply q (state.replicas name)) (r.query ∙ asks.0) ∙ ap (λ known. answer_reply (Some held.query) known) (known_there state store name held r there)));
+          represents = r;
+          refused = refl;
+          faulted = refl;
+          fits = λ right world f agrees. f;
+          reads = (rows, (table.items, refl));
+          text = λ right world f agrees.
+              let of_world = subst (λ cs. IfSome cs (λ (columns : List Column). IsWorld (kinds columns) world)) asks.1 f.of_columns in
+              let right = shown right world of_world (subst (λ o. IfSome o (λ (h : Held). Fits world h)) there (f.fit name)) in
+              ap (λ n. answer_text n table.items) right.0 ∙ ap (λ bytes. answer_text (length (answer (meaning held.query) world (told held.parts))) bytes) right.1;
+        };
+      }
+
+  -- an answer for which memory was wanting, or the disk of tapes failed
+  pub answer_refused : (store : Store) (name : List ℕ) (owned : List Record) (error : SpillError) (refusal : Refusal) → refusal ≡ merge_refusal (merge.Join (join.Spill error)) → (IsTrue honest → error ≢ spill.TapeDamaged)
+      → Steps honest (ask.Answer name) owned store (says.Refused refusal) store
+  answer_refused store name owned error refusal is undamaged = subst (λ w. Steps honest (ask.Answer name) owned store (says.Refused w) store) (sym is) (go error undamaged)
+    where
+      go : (error : SpillError) → (IsTrue honest → error ≢ spill.TapeDamaged) → Steps honest (ask.Answer name) owned store (says.Refused (merge_refusal (merge.Join (join.Spill error)))) store
+      go spill.NoMemory undamaged = out_of_memory (ask.Answer name) owned store
+      go spill.TapeFault undamaged = refused_for (ask.Answer name) owned store store tape_fault (same store) (λ state r. inl (inr (refl, refl)))
+      go spill.TapeDamaged undamaged = damaged (ask.Answer name) owned store store (same store) (λ right. undamaged right refl) refl
+
+  pub merge_nowhere : (store : Store) (into from : List ℕ) (owned : List Record) → (replica_at store into ≡ None) ⊎ (replica_at store from ≡ None)
+      → Steps honest (ask.Merge into from) owned store (says.Refused why.NoSuchName) store
+  merge_nowhere store into from owned none =
+      refused (ask.Merge into from) owned store why.NoSuchName (λ state r. go state r none)
+    where
+      second : (known : Option Knowledge) → machine.Refused why.NoSuchName ≡ merge_reply known None into from
+      second None = refl
+      second (Some known) = refl
+
+      go : (state : State) → Represents state store → (replica_at store into ≡ None) ⊎ (replica_at store from ≡ None) → machine.Refused why.NoSuchName ≡ merge_reply (state.replicas into) (state.replicas from) into from
+      go state r (inl e) = sym (ap (λ known. merge_reply known (state.replicas from) into from) (known_nowhere state store into r e))
+      go state r (inr e) = second (state.replicas into) ∙ sym (ap (λ known. merge_reply (state.replicas into) known into from) (known_nowhere state store from r e))
+
+  pub merge_refused : (store : Store) (into from : List ℕ) (owned : List Record) (refusal : Refusal) → JoinRefused (replica_at store into) (replica_at store from) refusal → (IsTrue honest → refusal ≢ tape_damaged)
+      → Steps honest (ask.Merge into from) owned store (says.Refused refusal) store
+  merge_refused store into from owned refusal refused_is undamaged = go (replica_at store into) (replica_at store from) refl refl refusal undamaged refused_is
+    where
+      both : (own theirs : Held) → replica_at store into ≡ Some own → replica_at store from ≡ Some theirs → (state : State) → Represents state store
+          → machine.Merged into from ≡ merge_reply (state.replicas into) (state.replicas from) into from
+      both own theirs one two state r = sym (λ i. merge_reply (known_there state store into own r one i) (known_there state store from theirs r two i) into from)
+
+      go : (own theirs : Option Held) → replica_at store into ≡ own → replica_at store from ≡ theirs → (refusal : Refusal) → (IsTrue honest → refusal ≢ tape_damaged) → JoinRefused own theirs refusal → Steps honest (ask.Merge into from) owned store (says.Refused refusal) store
+      go None theirs one two refusal undamaged is = subst (λ w. Steps honest (ask.Merge into from) owned store (says.Refused w) store) (sym is) (merge_nowhere store into from owned (inl one))
+      go (Some own) None one two refusal undamaged is = subst (λ w. Steps honest (ask.Merge into from) owned store (says.Refused w) store) (sym is) (merge_nowhere store into from owned (inr two))
+      go (Some own) (Some theirs) one two why.NoMemory undamaged is = out_of_memory (ask.Merge into from) owned store
+      go (Some own) (Some theirs) one two (why.Merge (merge.Join (join.Spill spill.TapeFault))) undamaged is = refused_for (ask.Merge into from) owned store store tape_fault (same store) (λ state r. inl (inr (refl, refl)))
+      go (Some own) (Some theirs) one two (why.Merge (merge.Join (join.Spill spill.TapeDamaged))) undamaged is = damaged (ask.Merge into from) owned store store (same store) (λ right. undamaged right refl) refl
+      go (Some own) (Some theirs) one two (why.Merge (merge.Join join.OriginDisagrees)) undamaged never =
+          record {
+            steps = λ state r. record {
+              said = machine.Refused origin_disagrees;
+              may = inl (inr (record { instead = machine.Merged into from; would = both own theirs one two state r; takes = refl; refused = refl }));
+              strict = λ right world f agrees.
+                  absurd (never world (subst (λ o. IfSome o (Fits world)) one (f.fit into)) (subst (λ o. IfSome o (Fits world)) two (f.fit from)));
+              represents = r;
+              refused = refl;
+              faulted = refl;
+              fits = λ right world f agrees. f;
+              reads = λ world. refl;
+              text = λ right world f agrees. refl;
+            };
+          }
+      go (Some own) (Some theirs) one two refusal undamaged is = absurd is
+
+  pub merged : (old new : Store) (into from : List ℕ) (owned : List Record) (own theirs later : Held) → IsStore old → replica_at old into ≡ Some own → replica_at old from ≡ Some theirs
+      → told later.parts ≡ union (told own.parts) (told theirs.parts)
+      → (IsTrue honest → (world : World) → IsWorld (kinds own.query.columns) world → Fits world own → Fits world theirs → Fits world later)
+      → Updates old new into later → Steps honest (ask.Merge into from) owned old says.Merged new
+  merged old new into from owned own theirs later is one two learns fits u =
+      record {
+        steps = λ state r.
+            let reply : machine.Merged into from ≡ merge_reply (state.replicas into) (state.replicas from) into from =
+            sym (λ i. merge_reply (known_there state old into own r one i) (known_there state old from theirs r two i) into from) in
+            record {
+              said = machine.Merged into from;
+              may = inl (inl (inr reply));
+              strict = λ right world f agrees. inr reply;
+              represents = record {
+                columns = r.columns ∙ sym u.columns;
+                query = r.query ∙ sym u.query;
+                replicas = λ other. ap (λ known. with_replica state.replicas into known other)
+                    ((λ i. union (unwrap_or (known_there state old into own r one i) nothing) (unwrap_or (known_there state old from theirs r two i) nothing)) ∙ sym learns)
+                    ∙ known_updated state old new into later r u other;
+                saved = saved_still state old new u.saved r;
+                limit = r.limit ∙ sym u.limit;
+              };
+              refused = refl;
+              faulted = refl;
+              fits = λ right world f agrees. fits_updated world old new into later u
+                  (fits right world (columns_of_world world old into own is one f) (subst (λ o. IfSome o (Fits world)) one (f.fit into)) (subst (λ o. IfSome o (Fits world)) two (f.fit from))) f;
+              reads = λ world. refl;
+              text = λ right world f agrees. refl;
+            };
+      }
+
+  pub save_nowhere : (store : Store) (name saved : List ℕ) (owned : List Record) → replica_at store name ≡ None → Steps honest (ask.Save name saved) owned store (says.Refused why.NoSuchName) store
+  save_nowhere store name saved owned none =
+      refused (ask.Save name saved) owned store why.NoSuchName
+      (λ state r. sym (ap (λ known. save_reply state.query known saved) (known_nowhere state store name r none) ∙ go state.query))
+    where
+      go : (q : Option Checked) → save_reply q None saved ≡ machine.Refused why.NoSuchName
+      go None = refl
+      go (Some q) = refl
+
+  pub saved_as : (old new : Store) (name saved : List ℕ) (owned : List Record) (held : Held) (bytes : Vec ℕ Global) (count : ℕ) → IsStore old → replica_at old name ≡ Some held
+      → IsSummary bytes.items held.query held.parts → ((world : World) → Fits world held → bytes.items ≡ world_file held.query world (told held.parts)) → count ≡ length bytes.items
+      → Files old new saved bytes → Steps honest (ask.Save name saved) owned old (says.Saved count) new
+  saved_as old new name saved owned held bytes count is there file world_is counted u =
+      let asks = held_asks old name held is there in
+      record {
+        steps = λ state r.
+            let reply : machine.Saved saved held.query (told held.parts) ≡ save_reply state.query (state.replicas name) saved =
+            sym (ap (λ q. save_reply q (state.replicas name) saved) (r.query ∙ asks.0) ∙ ap (λ known. save_reply (Some held.query) known saved) (known_there state old name held r there)) in
+            record {
+              said = machine.Saved saved held.query (told held.parts);
+              may = inl (inl (inr reply));
+              strict = λ right world f agrees. inr reply;
+              represents = record {
+                columns = r.columns ∙ sym u.columns;
+                query = r.query ∙ sym u.query;
+                replicas = λ other. r.replicas other ∙ ap (option_map knowledge_of) (sym (replicas_at old new u.replicas other));
+                saved = each_file (λ other o. AreSaved (with_replica state.saved saved (told held.parts) other) o) old new saved bytes u
+                    (subst (λ b. AreSaved (if b then Some (told held.parts) else state.saved saved) (Some bytes)) (sym ((bytes_eq-Decides saved saved).1 refl)) (record { held = held; is = file; tells = refl }))
+                    (λ other different. subst (λ b. AreSaved (if b then Some (told held.parts) else state.saved other) (saved_at old other)) (sym different) (r.saved other));
+                limit = r.limit ∙ sym u.limit;
+              };
+              refused = refl;
+              faulted = refl;
+              fits = λ right world f agrees. record {
+                of_columns = subst (λ cs. IfSome cs (λ (columns : List Column). IsWorld (kinds columns) world)) (sym u.columns) f.of_columns;
+                fit = λ other. subst (λ o. IfSome o (λ (h : Held). Fits world h)) (sym (replicas_at old new u.replicas other)) (f.fit other);
+                files = each_file (λ other o. IfSome o (IsFitting world)) old new saved bytes u
+                    (record { held = held; is = file; fits = subst (λ o. IfSome o (λ (h : Held). Fits world h)) there (f.fit name) }) (λ other different. f.files other);
+              };
+              reads = (count, refl);
+              text = λ right world f agrees.
+                  ap (λ n. said_text (says.Saved n)) (counted ∙ ap length (world_is world (subst (λ o. IfSome o (λ (h : Held). Fits world h)) there (f.fit name))));
+            };
+      }
+
+  pub load_nowhere : (store : Store) (name saved : List ℕ) (owned : List Record) → saved_at store saved ≡ None → Steps honest (ask.Load name saved) owned store (says.Refused why.NoSuchName) store
+  load_nowhere store name saved owned none =
+      refused (ask.Load name saved) owned store why.NoSuchName (λ state r. go (state.saved saved) (subst (AreSaved (state.saved saved)) none (r.saved saved)))
+    where
+      go : (known : Option Knowledge) → AreSaved known None → machine.Refused why.NoSuchName ≡ load_reply known name
+      go None are = refl
+      go (Some known) are = absurd are
+
+  pub loaded : (old new : Store) (name saved : List ℕ) (owned : List Record) (bytes : Vec ℕ Global) (later : Held) → saved_at old saved ≡ Some bytes
+      → ((held : Held) → IsSummary bytes.items held.query held.parts → later ≡ held) → Updates old new name later → Steps honest (ask.Load name saved) owned old says.Loaded new
+  loaded old new name saved owned bytes later there is u =
+      record { steps = λ state r. go state r (state.saved saved) refl (subst (AreSaved (state.saved saved)) there (r.saved saved)) }
+    where
+      go : (state : State) → Represents state old → (known : Option Knowledge) → state.saved saved ≡ known → AreSaved known (Some bytes) → Answers honest state (ask.Load name saved) owned old says.Loaded new
+      go state r None e are = absurd are
+      go state r (Some known) e are =
+          let reply : machine.Loaded name known ≡ load_reply (state.saved saved) name = sym (ap (λ k. load_reply k name) e) in
+          record {
+            said = machine.Loaded name known;
+            may = inl (inl (inr reply));
+            strict = λ right world f agrees. inr reply;
+            represents = record {
+              columns = r.columns ∙ sym u.columns;
+              query = r.query ∙ sym u.query;
+              replicas = λ other. ap (λ k. with_replica state.replicas name k other) (sym are.tells ∙ ap knowledge_of (sym (is are.held are.is))) ∙ known_updated state old new name later r u other;
+              saved = saved_still state old new u.saved r;
+              limit = r.limit ∙ sym u.limit;
+            };
+            refused = refl;
+            faulted = refl;
+            fits = λ right world f agrees.
+                let file = subst (λ o. IfSome o (IsFitting world)) there (f.files saved) in
+                fits_updated world old new name later u (subst (Fits world) (sym (is file.held file.is)) file.fits) f;
+            reads = λ world. refl;
+            text = λ right world f agrees. refl;
+          }

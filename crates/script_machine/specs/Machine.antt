@@ -20,7 +20,7 @@ use Rattle.script_io.specs.Records.{Record}
 use Rattle.script_commands.specs.Commands.{Command, Request, Columns, Query, Limit, Replica, Feed, Known, Answer, Merge, Save, Load, Unknown, request_of}
 use Rattle.script_machine.specs.declared.refusal.Refusal.{Refusal}
 use Rattle.script_machine.specs.declared.refusal.Refusal.TheVariants.{NoMemory, BadSchema, BadCommand, NoSuchName, NameTaken}
-use Rattle.script_machine.specs.Refusals.{limit_out_of_range, origin_disagrees, tape_fault, tells_fault, batch_refusal, query_refusal}
+use Rattle.script_machine.specs.Refusals.{limit_out_of_range, origin_disagrees, tape_fault, tape_damaged, tells_fault, batch_refusal, query_refusal}
 
 -- what is there: the columns and the query, once they were told, what each replica knows, by its name, what was saved, by the name
 -- that it was given, and the limit of aggregations
@@ -187,9 +187,15 @@ pub record IsDisagreement (old : State) (request : Request) (owned : List Record
   pub takes : takes_batches instead ≡ true
   pub refused : reply ≡ Refused origin_disagrees
 
--- the same where origins need not keep to one batch a number
-abbrev pub MayReply : State → Command → Reply → Type 0
-MayReply old command reply = IsReply old (request_of command.head) command.owned reply ⊎ IsDisagreement old (request_of command.head) command.owned reply
+-- a command that aggregates is refused, since the disk of tapes gave back what was not written to it: an honest one never does
+pub record IsDamage (honest : Bool) (request : Request) (reply : Reply) : Type 0 where
+  pub dishonest : honest ≡ false
+  pub aggregates : IsTrue (uses_tapes request)
+  pub refused : reply ≡ Refused tape_damaged
+
+-- the same where origins need not keep to one batch a number, and the disk of tapes may be honest or not
+abbrev pub MayReply : Bool → State → Request → List Record → Reply → Type 0
+MayReply honest old request owned reply = (IsReply old request owned reply ⊎ IsDisagreement old request owned reply) ⊎ IsDamage honest request reply
 
 -- under a name is this, and under the others what was there
 abbrev pub with_replica : (List ℕ → Option Knowledge) → List ℕ → Knowledge → List ℕ → Option Knowledge
@@ -210,10 +216,10 @@ after old (Loaded name known) = record old { replicas = with_replica old.replica
 after old reply = old
 
 -- commands may be answered so, one after the other
-unfoldable pub Run : State → List Command → List Reply → Type 0
-Run old [] [] = Unit {0}
-Run old (command ∷ commands) (reply ∷ replies) = MayReply old command reply × Run (after old reply) commands replies
-Run old commands replies = ⊥
+unfoldable pub Run : Bool → State → List Command → List Reply → Type 0
+Run honest old [] [] = Unit {0}
+Run honest old (command ∷ commands) (reply ∷ replies) = MayReply honest old (request_of command.head) command.owned reply × Run honest (after old reply) commands replies
+Run honest old commands replies = ⊥
 
 abbrev pub is_refused : Reply → Bool
 is_refused (Refused why) = true

@@ -9,7 +9,7 @@ use Rattle.script_io.specs.declared.input.InputError.{InputError}
 use Rattle.script_io.specs.declared.input.InputError.TheVariants as input
 use Rattle.script_commands.specs.Commands.{Command, commands_of}
 use Rattle.script_machine.specs.Machine.{Reply, Run, StrictRun, start, is_refused, is_fault, Agrees}
-use Rattle.script_machine.specs.Text.{replies_text}
+use Rattle.script_machine.specs.Text.{AllMayRead, joined, replies_text}
 use Rattle.script_machine.specs.declared.refusal.Refusal.{Refusal}
 use Rattle.script_machine.specs.declared.refusal.Refusal.TheVariants as refusal
 use Rattle.script_machine.specs.declared.error.RunError.{RunError}
@@ -29,23 +29,29 @@ pub record Disk : Type 0 where
 abbrev pub AreFaultsOf : Disk → List Reply → Type 0
 AreFaultsOf disk replies = disk.failed + count_by is_fault replies ≤ disk.failed_now
 
--- what was written is an output of the commands: the replies of a run of the machine over them, in order, of which so many
--- are refusals. For each world with which the script agrees, none is for disagreement, and these are the bytes
+-- replies to commands, one to each, and their texts, by a run of the machine over such a disk. Over an honest disk, and for each world
+-- with which the script agrees, none is for disagreement, and these are the texts
+pub record IsOutput (disk : Disk) (commands : List Command) (replies : List Reply) (texts : List (List ℕ)) : Type 0 where
+  pub runs : Run disk.honest start commands replies
+  pub faults : AreFaultsOf disk replies
+  pub reads : AllMayRead replies texts
+  pub strict : IsTrue disk.honest → (world : World) → Agrees world start commands replies → StrictRun start commands replies
+  pub right : IsTrue disk.honest → (world : World) → Agrees world start commands replies → joined texts ≡ replies_text world replies
+
+-- what was written is an output of the commands, of whose replies so many are refusals
 pub record WritesAll (disk : Disk) (commands : List Command) (old new : Option (List ℕ)) (refused : ℕ) : Type 0 where
   pub replies : List Reply
-  pub runs : Run start commands replies
+  pub texts : List (List ℕ)
+  pub output : IsOutput disk commands replies texts
   pub counts : count_by is_refused replies ≡ refused
-  pub faults : AreFaultsOf disk replies
-  pub strict : (world : World) → Agrees world start commands replies → StrictRun start commands replies
-  pub writes : (world : World) → Agrees world start commands replies → Appends old new (replies_text world replies)
+  pub writes : Appends old new (joined texts)
 
 -- what was written is the front of an output of the commands
 pub record WritesFront (disk : Disk) (commands : List Command) (old new : Option (List ℕ)) : Type 0 where
   pub replies : List Reply
-  pub runs : Run start commands replies
-  pub faults : AreFaultsOf disk replies
-  pub strict : (world : World) → Agrees world start commands replies → StrictRun start commands replies
-  pub writes : (world : World) → Agrees world start commands replies → TakesFront old new (replies_text world replies)
+  pub texts : List (List ℕ)
+  pub output : IsOutput disk commands replies texts
+  pub writes : TakesFront old new (joined texts)
 
 -- what was written is an output of the commands before some command
 pub record WritesBefore (disk : Disk) (commands : List Command) (old new : Option (List ℕ)) : Type 0 where
@@ -55,11 +61,11 @@ pub record WritesBefore (disk : Disk) (commands : List Command) (old new : Optio
   pub refused : ℕ
   pub writes : WritesAll disk before old new refused
 
--- what was written where not all commands were answered, over an honest disk: the front of an output at a fault of the writer, and
--- for want of memory the output of the commands before
+-- what was written where not all commands were answered: the front of an output at a fault of the writer, and for want of memory the
+-- output of the commands before
 abbrev pub WritesSome : Disk → List Command → Option (List ℕ) → Option (List ℕ) → RunError → Type 0
-WritesSome disk commands old new WriteFault = IsTrue disk.honest → WritesFront disk commands old new
-WritesSome disk commands old new NoMemory = IsTrue disk.honest → WritesBefore disk commands old new
+WritesSome disk commands old new WriteFault = WritesFront disk commands old new
+WritesSome disk commands old new NoMemory = WritesBefore disk commands old new
 WritesSome disk commands old new error = ⊥
 
 -- what a run that stopped tells of its script: it is longer than the limit, or it could not be read, or not all of its
@@ -70,9 +76,9 @@ StopsAt disk most script old new ReadFault = Unit {0}
 StopsAt disk most script old new WriteFault = (length script ≤ most) × WritesSome disk (commands_in script) old new WriteFault
 StopsAt disk most script old new NoMemory = (most < length script → Keeps old new) × WritesSome disk (commands_in script) old new NoMemory
 
--- a run answered a script within the limit, and over an honest disk as the machine does, with so many refusals
+-- a run answered a script within the limit, as the machine does over such a disk, with so many refusals
 abbrev pub AnswersAll : Disk → Option (List ℕ) → Option (List ℕ) → Option (List ℕ) → ℕ → Type 0
-AnswersAll disk unread old new refused = IfSome unread (λ script. (length script ≤ LONGEST_INPUT) × (IsTrue disk.honest → WritesAll disk (commands_in script) old new refused))
+AnswersAll disk unread old new refused = IfSome unread (λ script. (length script ≤ LONGEST_INPUT) × WritesAll disk (commands_in script) old new refused)
 
 -- a run stopped before the end of its script
 abbrev pub AnswersSome : Disk → Option (List ℕ) → Option (List ℕ) → Option (List ℕ) → RunError → Type 0

@@ -15,8 +15,8 @@ use Rattle.summary_codec.specs.Reading.{IsSummary}
 use Rattle.script_io.specs.Records.{Record}
 use Rattle.script_commands.specs.Commands.{Request}
 use Rattle.script_machine.specs.Machine as machine
-use Rattle.script_machine.specs.Machine.{State, Fed, IsBatch, IsReply, IsDisagreement, AgreesAt, after}
-use Rattle.script_machine.specs.Text.{line, delivered_text, refusal_name, answer_text, reply_text}
+use Rattle.script_machine.specs.Machine.{State, Fed, IsBatch, IsReply, MayReply, AgreesAt, after}
+use Rattle.script_machine.specs.Text.{MayRead, line, delivered_text, refusal_name, answer_text, reply_text}
 use Rattle.spill_lists.specs.declared.error.SpillError.TheVariants as spill
 use Rattle.origin_prefix.specs.declared.error.JoinError.TheVariants as join
 use Rattle.replica_merge.specs.declared.error.MergeError.TheVariants as merge
@@ -124,20 +124,22 @@ pub record FitsWorld (world : World) (store : Store) : Type 0 where
   pub fit : (name : List ℕ) → IfSome (replica_at store name) (Fits world)
   pub files : (name : List ℕ) → IfSome (saved_at store name) (IsFitting world)
 
--- a reply of the code to what is asked is one of the machine's, and what is kept then is what is there then
-pub record Answers (state : State) (request : Request) (owned : List Record) (old : Store) (reply : Reply) (new : Store) : Type 0 where
+-- a reply of the code to what is asked, over a disk of tapes that may be honest, is one of the machine's, and what is kept then is what is
+-- there then. Over an honest disk it is the right one
+pub record Answers (honest : Bool) (state : State) (request : Request) (owned : List Record) (old : Store) (reply : Reply) (new : Store) : Type 0 where
   pub said : machine.Reply
-  pub may : IsReply state request owned said ⊎ IsDisagreement state request owned said
+  pub may : MayReply honest state request owned said
   pub represents : Represents (after state said) new
   pub refused : is_refusal reply ≡ machine.is_refused said
   pub faulted : is_tape_fault reply ≡ machine.is_fault said
-  pub strict : (world : World) → FitsWorld world old → AgreesAt world state request owned said → IsReply state request owned said
-  pub fits : (world : World) → FitsWorld world old → AgreesAt world state request owned said → FitsWorld world new
-  pub text : (world : World) → FitsWorld world old → AgreesAt world state request owned said → said_text reply ≡ reply_text world said
+  pub reads : MayRead said (said_text reply)
+  pub strict : IsTrue honest → (world : World) → FitsWorld world old → AgreesAt world state request owned said → IsReply state request owned said
+  pub fits : IsTrue honest → (world : World) → FitsWorld world old → AgreesAt world state request owned said → FitsWorld world new
+  pub text : IsTrue honest → (world : World) → FitsWorld world old → AgreesAt world state request owned said → said_text reply ≡ reply_text world said
 
 -- the same for whatever is there
-pub record Steps (request : Request) (owned : List Record) (old : Store) (reply : Reply) (new : Store) : Type 0 where
-  pub steps : (state : State) → Represents state old → Answers state request owned old reply new
+pub record Steps (honest : Bool) (request : Request) (owned : List Record) (old : Store) (reply : Reply) (new : Store) : Type 0 where
+  pub steps : (state : State) → Represents state old → Answers honest state request owned old reply new
 
 -- one name has this replica now, and nothing else changed
 pub record Updates (old new : Store) (name : List ℕ) (held : Held) : Type 0 where

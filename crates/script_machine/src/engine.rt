@@ -1,6 +1,6 @@
 //! Runs a script.
 
-ghost use Rattle.std.specs.Prelude.{◌≡◌, ◌≤◌, ◌+◌, length, IfErr, IfOk, IsTrue, MatchResult};
+ghost use Rattle.std.specs.Prelude.{◌≡◌, ◌≤◌, ◌+◌, length, IfErr, IfOk, MatchResult};
 ghost use Rattle.script_io.specs.Input.{ConsumesAtMost};
 ghost use Rattle.script_commands.specs.Commands.{commands_of};
 ghost use Rattle.script_machine.specs.Views.{empty};
@@ -64,7 +64,7 @@ fn answer_all<W: Write, O: Observer, D: TapeDisk>(
     requires few { length records.old ≤ LONGEST_INPUT + 1 }
     requires none { session.old ≡ empty }
     ensures { MatchResult result
-        (λ outcome. IsTrue (D.honest disk.old) → WritesAll (record { honest = D.honest disk.old; failed = D.failures disk.old; failed_now = D.failures disk.new }) (commands_of records.old) (W.contents writer.old)
+        (λ outcome. WritesAll (record { honest = D.honest disk.old; failed = D.failures disk.old; failed_now = D.failures disk.new }) (commands_of records.old) (W.contents writer.old)
         (W.contents writer.new) outcome.refused)
         (λ e. WritesSome (record { honest = D.honest disk.old; failed = D.failures disk.old; failed_now = D.failures disk.new }) (commands_of records.old) (W.contents writer.old)
         (W.contents writer.new) e) }
@@ -91,7 +91,7 @@ fn run_script<W: Write, O: Observer, D: TapeDisk>(
 ) -> Result<Outcome, RunError>
     requires { length script.now ≤ LONGEST_INPUT }
     ensures { MatchResult result
-        (λ outcome. IsTrue (D.honest disk.old) → WritesAll (record { honest = D.honest disk.old; failed = D.failures disk.old; failed_now = D.failures disk.new }) (commands_in script.now) (W.contents writer.old)
+        (λ outcome. WritesAll (record { honest = D.honest disk.old; failed = D.failures disk.old; failed_now = D.failures disk.new }) (commands_in script.now) (W.contents writer.old)
         (W.contents writer.new) outcome.refused)
         (λ e. WritesSome (record { honest = D.honest disk.old; failed = D.failures disk.old; failed_now = D.failures disk.new }) (commands_in script.now) (W.contents writer.old)
         (W.contents writer.new) e) }
@@ -124,7 +124,7 @@ pub fn run<R: Read, W: Write, D: TapeDisk>(
     // No more is read than the longest script and one byte.
     ensures reads { ConsumesAtMost (R.remaining reader.old) (R.remaining reader.new)
         (LONGEST_INPUT + 1) }
-    // A script within the limit is answered, over an honest disk, as the machine does, with so many refusals.
+    // A script within the limit is answered as the machine does over such a disk, with so many refusals.
     ensures done { IfOk result (λ outcome. AnswersAll (record { honest = D.honest disk.old; failed = D.failures disk.old; failed_now = D.failures disk.new }) (R.remaining reader.old)
         (W.contents writer.old) (W.contents writer.new) outcome.refused) }
     // What was written where the run stopped.

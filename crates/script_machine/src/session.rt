@@ -1,6 +1,6 @@
 //! What is there while a script runs, and how its commands are answered.
 
-ghost use Rattle.std.specs.Prelude.{◌≡◌, ◌≢◌, ◌+◌, ◌<◌, ◌≤◌, IsTrue, false, List, Some, None, [], IfOk, IfErr, OnOk, OnErr, drop, length, string_bytes, take, ℕ};
+ghost use Rattle.std.specs.Prelude.{◌≡◌, ◌≢◌, ◌+◌, ◌<◌, ◌≤◌, Bool, IsTrue, false, List, Some, None, [], IfOk, IfErr, OnOk, OnErr, drop, length, string_bytes, take, ℕ};
 ghost use Rattle.std.specs.HashMap.{UpdatesBy};
 ghost use Rattle.std.specs.Str.{bytes_eq};
 ghost use Rattle.csv.specs.Records.{fields_of};
@@ -248,7 +248,7 @@ impl Session {
 
     /// Answers `columns`.
     fn tell_columns(&mut self, text: &str) -> Reply<'static>
-        ensures answers { (owned : List Record) → Steps (ask.Columns text.now) owned self.old result self.new }
+        ensures answers { (honest : Bool) (owned : List Record) → Steps honest (ask.Columns text.now) owned self.old result self.new }
         ensures faultless { is_tape_fault result ≡ false }
     {
         if self.columns.is_some() {
@@ -266,7 +266,7 @@ impl Session {
 
     /// Answers `query`.
     fn tell_query(&mut self, text: &str) -> Reply<'static>
-        ensures answers { (owned : List Record) → Steps (ask.Query text.now) owned self.old result self.new }
+        ensures answers { (honest : Bool) (owned : List Record) → Steps honest (ask.Query text.now) owned self.old result self.new }
         ensures faultless { is_tape_fault result ≡ false }
     {
         let Some(schema) = &self.columns else {
@@ -286,7 +286,7 @@ impl Session {
 
     /// Answers `limit`.
     fn tell_limit(&mut self, bytes: u64) -> Reply<'static>
-        ensures answers { (owned : List Record) → Steps (ask.Limit bytes) owned self.old result self.new }
+        ensures answers { (honest : Bool) (owned : List Record) → Steps honest (ask.Limit bytes) owned self.old result self.new }
         ensures faultless { is_tape_fault result ≡ false }
     {
         match Means::new(bytes, Fnv1a) {
@@ -300,7 +300,7 @@ impl Session {
 
     /// Answers `replica`.
     fn add_replica<'c>(&mut self, name: &'c [u8]) -> Reply<'c>
-        ensures answers { (owned : List Record) → Steps (ask.Replica name.now) owned self.old result self.new }
+        ensures answers { (honest : Bool) (owned : List Record) → Steps honest (ask.Replica name.now) owned self.old result self.new }
         ensures faultless { is_tape_fault result ≡ false }
     {
         let Some(query) = &self.query else {
@@ -328,7 +328,7 @@ impl Session {
         records: &mut Records<'_>,
         disk: &mut D,
     ) -> Result<Reply<'static>, AllocError>
-        ensures answers { IfOk result (λ reply. IsTrue (D.honest disk.old) → Steps (ask.Feed name.now origin.now number.now told)
+        ensures answers { IfOk result (λ reply. Steps (D.honest disk.old) (ask.Feed name.now origin.now number.now told)
             (take told records.old) self.old reply self.new) }
         ensures left { OnOk result (records.new ≡ drop told records.old) }
         ensures disk { IfOk result (λ reply. Leaves D.TapeDisk (faults_in reply) disk.old disk.new) }
@@ -349,7 +349,7 @@ impl Session {
 
     /// Answers `known`.
     fn known(&self, name: &[u8]) -> Reply<'static>
-        ensures answers { (owned : List Record) → Steps (ask.Known name.now) owned self.now result self.now }
+        ensures answers { (honest : Bool) (owned : List Record) → Steps honest (ask.Known name.now) owned self.now result self.now }
         ensures faultless { is_tape_fault result ≡ false }
     {
         match self.replicas.get(name) {
@@ -363,7 +363,7 @@ impl Session {
 
     /// Answers `answer`.
     fn answer<D: TapeDisk>(&self, name: &[u8], disk: &mut D) -> Reply<'static>
-        ensures answers { IsTrue (D.honest disk.old) → (owned : List Record) → Steps (ask.Answer name.now) owned self.now result self.now }
+        ensures answers { (owned : List Record) → Steps (D.honest disk.old) (ask.Answer name.now) owned self.now result self.now }
         ensures disk { Leaves D.TapeDisk (faults_in result) disk.old disk.new }
     {
         match self.replicas.get(name) {
@@ -396,8 +396,8 @@ impl Session {
 
     /// Answers `merge`.
     fn merge<D: TapeDisk>(&mut self, into: &[u8], from: &[u8], disk: &mut D) -> Reply<'static>
-        ensures answers { IsTrue (D.honest disk.old) → (owned : List Record) →
-            Steps (ask.Merge into.now from.now) owned self.old result self.new }
+        ensures answers { (owned : List Record) →
+            Steps (D.honest disk.old) (ask.Merge into.now from.now) owned self.old result self.new }
         ensures disk { Leaves D.TapeDisk (faults_in result) disk.old disk.new }
     {
         let joined = match self.join(into, from, disk) {
@@ -415,7 +415,7 @@ impl Session {
 
     /// Answers `save`.
     fn save(&mut self, name: &[u8], saved: &[u8]) -> Reply<'static>
-        ensures answers { (owned : List Record) → Steps (ask.Save name.now saved.now) owned self.old result
+        ensures answers { (honest : Bool) (owned : List Record) → Steps honest (ask.Save name.now saved.now) owned self.old result
             self.new }
         ensures faultless { is_tape_fault result ≡ false }
     {
@@ -434,7 +434,7 @@ impl Session {
 
     /// Answers `load`.
     fn load(&mut self, name: &[u8], saved: &[u8]) -> Reply<'static>
-        ensures answers { (owned : List Record) → Steps (ask.Load name.now saved.now) owned self.old result
+        ensures answers { (honest : Bool) (owned : List Record) → Steps honest (ask.Load name.now saved.now) owned self.old result
             self.new }
         ensures faultless { is_tape_fault result ≡ false }
     {
@@ -458,7 +458,7 @@ impl Session {
         records: &mut Records<'_>,
         disk: &mut D,
     ) -> Result<Reply<'c>, AllocError>
-        ensures answers { IfOk result (λ reply. IsTrue (D.honest disk.old) → Steps (request_of (fields_of command.now.head))
+        ensures answers { IfOk result (λ reply. Steps (D.honest disk.old) (request_of (fields_of command.now.head))
             (take (owned_by (fields_of command.now.head)) records.old) self.old reply self.new) }
         ensures left { OnOk result (records.new
             ≡ drop (owned_by (fields_of command.now.head)) records.old) }

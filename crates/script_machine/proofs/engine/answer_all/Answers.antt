@@ -1,5 +1,5 @@
-use Rattle.std.specs.Prelude.{◌≡◌, ◌<◌, ◌≤◌, ◌+◌, refl, if◌then◌else◌, length, IsTrue}
-use Rattle.std.proofs.Common.{arith, ap, sym, subst, ◌∙◌}
+use Rattle.std.specs.Prelude.{◌≡◌, ◌<◌, ◌≤◌, ◌+◌, refl, if◌then◌else◌, length}
+use Rattle.std.proofs.Common.{arith, ap, sym, ◌∙◌}
 use Rattle.std.proofs.Math.Nat.{le_of_eq}
 use Rattle.std.proofs.lemmas.List.{length-drop}
 use Rattle.csv.specs.Records.{fields_of}
@@ -7,7 +7,7 @@ use Rattle.script_commands.specs.Commands.{command_at, owned_by}
 use Rattle.script_machine.specs.Views.{is_refusal}
 use Rattle.script_machine.specs.declared.error.RunError.TheVariants as stop
 use Rattle.script_machine.proofs.OutputLaws.{passed_as}
-use Rattle.script_machine.proofs.RunLaws.{ran_front, ran_more, ran_start, ran_stop}
+use Rattle.script_machine.proofs.RunLaws.{honest_steps, ran_front, ran_more, ran_start, ran_stop}
 use Rattle.script_machine.proofs.engine.answer_all.Goals as goal
 use Rattle.script_machine.proofs.engine.answer_all.Goals.{then-is_refused, else-is_refused}
 
@@ -15,26 +15,26 @@ pub loop-command-init : goal.loop-command-init
 loop-command-init g c =
     record {
       room = omega arith;
-      ran = λ honest. ran_start _ (omega arith) _ _ _ c.requires.none;
+      ran = ran_start _ (omega arith) _ _ _ c.requires.none;
       honesty = refl;
     }
 
 pub returns-in_err-command : goal.returns-in_err-command
 returns-in_err-command g c =
-    passed_as c.from_residual.result stop.NoMemory _ _ c.from_residual.ensures.1 (λ honest. ran_stop _ _ (omega arith) _ _ _ _ _ _ (c.loop-command.invariant.ran honest))
+    passed_as c.from_residual.result stop.NoMemory _ _ c.from_residual.ensures.1 (ran_stop _ _ (omega arith) _ _ _ _ _ _ c.loop-command.invariant.ran)
 
 pub returns-in_err-reply : goal.returns-in_err-reply
 returns-in_err-reply g c =
     let stopped = c.in_err-reply.ensures.stopped in
     let later : g.D.TapeDisk.failures c.loop-command.disk ≤ g.D.TapeDisk.failures c.execute.new.disk = omega (arith, stopped.1.failures) in
-    passed_as c.from_residual-in_err-reply.result stop.NoMemory _ _ c.from_residual-in_err-reply.ensures.1 (λ honest. ran_stop _ _ later _ _ _ _ _ _ (c.loop-command.invariant.ran honest))
+    passed_as c.from_residual-in_err-reply.result stop.NoMemory _ _ c.from_residual-in_err-reply.ensures.1 (ran_stop _ _ later _ _ _ _ _ _ c.loop-command.invariant.ran)
 
 pub returns-in_err-put_reply : goal.returns-in_err-put_reply
 returns-in_err-put_reply g c =
     let next = rw c.in-Some.is at c.in_ok-command.ensures.found in
     passed_as c.from_residual-in_err-put_reply.result stop.WriteFault _ _ c.from_residual-in_err-put_reply.ensures.1
-    (λ honest. ran_front _ _ _ _ _ _ _ _ _ _ (command_at (fields_of c.in-Some.command.head) c.next_command.new.records) _ (rw next at c.loop-command.invariant.ran honest)
-    (c.in_ok-reply.ensures.answers (subst IsTrue (sym c.loop-command.invariant.honesty) honest)) c.in_err-put_reply.ensures (le_of_eq (sym c.in_ok-reply.ensures.disk.failures)))
+    (ran_front {c = command_at (fields_of c.in-Some.command.head) c.next_command.new.records} (rw next at c.loop-command.invariant.ran)
+    (honest_steps _ _ _ _ _ _ _ c.loop-command.invariant.honesty c.in_ok-reply.ensures.answers) (le_of_eq (sym c.in_ok-reply.ensures.disk.failures)) _ c.in_err-put_reply.ensures)
 
 pub loop-command-smaller : goal.loop-command-smaller
 loop-command-smaller g c =
@@ -59,9 +59,9 @@ loop-command-preserved g c =
     let room = inv.room in
     record {
       room = omega (arith, room, bounded, fewer);
-      ran = λ honest.
+      ran =
           rw c.in_ok-reply.ensures.left
-          (ran_more _ _ _ _ _ _ _ _ _ _ _ (command_at (fields_of c.in-Some.command.head) c.next_command.new.records) _ (rw next at inv.ran honest)
-          (c.in_ok-reply.ensures.answers (subst IsTrue (sym inv.honesty) honest)) c.in_ok-put_reply.ensures counts (le_of_eq (sym c.in_ok-reply.ensures.disk.failures)));
+          (ran_more {c = command_at (fields_of c.in-Some.command.head) c.next_command.new.records} (rw next at inv.ran) (honest_steps _ _ _ _ _ _ _ inv.honesty c.in_ok-reply.ensures.answers)
+          (le_of_eq (sym c.in_ok-reply.ensures.disk.failures)) _ _ c.in_ok-put_reply.ensures counts);
       honesty = c.in_ok-reply.ensures.disk.honesty ∙ inv.honesty;
     }

@@ -1,4 +1,4 @@
-use Rattle.std.proofs.Common.{◌≡◌, ◌+◌, ◌≤◌, length, IsTrue}
+use Rattle.std.proofs.Common.{◌≡◌, ◌+◌, ◌≤◌, length}
 use Rattle.script_commands.specs.Commands.{commands_of}
 use Rattle.script_machine.proofs.RunLaws.{Ran}
 use Rattle.script_machine.proofs.engine.answer_all.Given as goal
@@ -7,8 +7,7 @@ abbrev pub invariant-loop-command : goal.invariant-loop-command
 invariant-loop-command g l =
     record {
       room : l.refused + length l.records ≤ length l.fn.records;
-      ran : IsTrue (g.D.TapeDisk.honest l.fn.disk)
-          → Ran (record { honest = g.D.TapeDisk.honest l.fn.disk; failed = g.D.TapeDisk.failures l.fn.disk; failed_now = g.D.TapeDisk.failures l.disk })
+      ran : Ran (record { honest = g.D.TapeDisk.honest l.fn.disk; failed = g.D.TapeDisk.failures l.fn.disk; failed_now = g.D.TapeDisk.failures l.disk })
           (commands_of l.fn.records) (g.W.Write.contents l.fn.writer) (g.W.Write.contents l.writer) l.refused (commands_of l.records) l.session;
       honesty : g.D.TapeDisk.honest l.disk ≡ g.D.TapeDisk.honest l.fn.disk;
     }

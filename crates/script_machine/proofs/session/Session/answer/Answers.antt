@@ -11,17 +11,17 @@ use Rattle.script_machine.proofs.StoreLaws.{answer_nowhere, answer_refused, answ
 use Rattle.script_machine.proofs.session.Session.answer.Goals as goal
 
 pub returns-in-None-clause-answers : goal.returns-in-None-clause-answers
-returns-in-None-clause-answers g c = λ honest owned.
-    subst (λ s. Steps (ask.Answer c.args.name.now) owned s (says.Refused why.NoSuchName) s) c.self.view_is
+returns-in-None-clause-answers g c = λ owned.
+    subst (λ s. Steps (g.D.TapeDisk.honest c.args.disk.now) (ask.Answer c.args.name.now) owned s (says.Refused why.NoSuchName) s) c.self.view_is
     (answer_nowhere _ c.args.name.now owned (sym c.in-None.ensures.value))
 
 pub returns-in-Ok-clause-answers : goal.returns-in-Ok-clause-answers
-returns-in-Ok-clause-answers g c = λ honest owned.
-    subst (λ s. Steps (ask.Answer c.args.name.now) owned s (says.Answer c.in-Ok.rows c.in-Ok.table) s) c.self.view_is
-    (answered _ c.args.name.now owned c.in-Some.replica.now c.in-Ok.rows c.in-Ok.table c.self.invariant (sym c.in-Some.ensures.value) (c.in-Ok.ensures.answer honest))
+returns-in-Ok-clause-answers g c = λ owned.
+    subst (λ s. Steps (g.D.TapeDisk.honest c.args.disk.now) (ask.Answer c.args.name.now) owned s (says.Answer c.in-Ok.rows c.in-Ok.table) s) c.self.view_is
+    (answered _ c.args.name.now owned c.in-Some.replica.now c.in-Ok.rows c.in-Ok.table c.self.invariant (sym c.in-Some.ensures.value) c.in-Ok.ensures.answer)
 
 pub returns-in-Err-clause-answers : goal.returns-in-Err-clause-answers
-returns-in-Err-clause-answers g c = λ honest owned. answer_refused c.args.self.now c.args.name.now owned c.in-Err.error c.from.result c.from.ensures (c.in-Err.ensures.undamaged honest)
+returns-in-Err-clause-answers g c = λ owned. answer_refused c.args.self.now c.args.name.now owned c.in-Err.error c.from.result c.from.ensures c.in-Err.ensures.undamaged
 
 pub returns-in-Err-clause-disk : goal.returns-in-Err-clause-disk
 returns-in-Err-clause-disk g c =

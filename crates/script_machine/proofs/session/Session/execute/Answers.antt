@@ -33,31 +33,32 @@ returns-in-Feed-clause-left g c =
     rw told c.feed.ensures.left
 
 pub returns-clause-answers : goal.returns-clause-answers
-returns-clause-answers g c = λ honest.
+returns-clause-answers g c =
+    let honest = g.D.TapeDisk.honest c.args.disk.now in
     let head = fields_of c.args.command.now.head in
     let owned = take (owned_by head) c.args.records.now in
     let asks : (r : Request) → c.request.result ≡ r → request_view r ≡ request_of head = λ r is. sym (ap request_view is) ∙ c.request.ensures in
     elim c.match-request.branch [
       | in-Columns w ↦ rw (w.reply-is, w.self-is)
-          (subst (λ r. Steps r owned c.args.self.now w.tell_columns-reply.result w.tell_columns-reply.new.self) (asks _ w.in-Columns.is) (w.tell_columns-reply.ensures.answers owned))
+          (subst (λ r. Steps honest r owned c.args.self.now w.tell_columns-reply.result w.tell_columns-reply.new.self) (asks _ w.in-Columns.is) (w.tell_columns-reply.ensures.answers honest owned))
       | in-Query w ↦ rw (w.reply-is, w.self-is)
-          (subst (λ r. Steps r owned c.args.self.now w.tell_query-reply.result w.tell_query-reply.new.self) (asks _ w.in-Query.is) (w.tell_query-reply.ensures.answers owned))
+          (subst (λ r. Steps honest r owned c.args.self.now w.tell_query-reply.result w.tell_query-reply.new.self) (asks _ w.in-Query.is) (w.tell_query-reply.ensures.answers honest owned))
       | in-Limit w ↦ rw (w.reply-is, w.self-is)
-          (subst (λ r. Steps r owned c.args.self.now w.tell_limit-reply.result w.tell_limit-reply.new.self) (asks _ w.in-Limit.is) (w.tell_limit-reply.ensures.answers owned))
+          (subst (λ r. Steps honest r owned c.args.self.now w.tell_limit-reply.result w.tell_limit-reply.new.self) (asks _ w.in-Limit.is) (w.tell_limit-reply.ensures.answers honest owned))
       | in-Replica w ↦ rw (w.reply-is, w.self-is)
-          (subst (λ r. Steps r owned c.args.self.now w.add_replica-reply.result w.add_replica-reply.new.self) (asks _ w.in-Replica.is) (w.add_replica-reply.ensures.answers owned))
+          (subst (λ r. Steps honest r owned c.args.self.now w.add_replica-reply.result w.add_replica-reply.new.self) (asks _ w.in-Replica.is) (w.add_replica-reply.ensures.answers honest owned))
       | in-Known w ↦ rw (w.reply-is, w.self-is)
-          (subst (λ r. Steps r owned c.args.self.now w.known-reply.result c.args.self.now) (asks _ w.in-Known.is) (w.known-reply.ensures.answers owned))
+          (subst (λ r. Steps honest r owned c.args.self.now w.known-reply.result c.args.self.now) (asks _ w.in-Known.is) (w.known-reply.ensures.answers honest owned))
       | in-Answer w ↦ rw (w.reply-is, w.self-is)
-          (subst (λ r. Steps r owned c.args.self.now w.answer-reply.result c.args.self.now) (asks _ w.in-Answer.is) (w.answer-reply.ensures.answers honest owned))
+          (subst (λ r. Steps honest r owned c.args.self.now w.answer-reply.result c.args.self.now) (asks _ w.in-Answer.is) (w.answer-reply.ensures.answers owned))
       | in-Merge w ↦ rw (w.reply-is, w.self-is)
-          (subst (λ r. Steps r owned c.args.self.now w.merge-reply.result w.merge-reply.new.self) (asks _ w.in-Merge.is) (w.merge-reply.ensures.answers honest owned))
+          (subst (λ r. Steps honest r owned c.args.self.now w.merge-reply.result w.merge-reply.new.self) (asks _ w.in-Merge.is) (w.merge-reply.ensures.answers owned))
       | in-Save w ↦ rw (w.reply-is, w.self-is)
-          (subst (λ r. Steps r owned c.args.self.now w.save-reply.result w.save-reply.new.self) (asks _ w.in-Save.is) (w.save-reply.ensures.answers owned))
+          (subst (λ r. Steps honest r owned c.args.self.now w.save-reply.result w.save-reply.new.self) (asks _ w.in-Save.is) (w.save-reply.ensures.answers honest owned))
       | in-Load w ↦ rw (w.reply-is, w.self-is)
-          (subst (λ r. Steps r owned c.args.self.now w.load-reply.result w.load-reply.new.self) (asks _ w.in-Load.is) (w.load-reply.ensures.answers owned))
+          (subst (λ r. Steps honest r owned c.args.self.now w.load-reply.result w.load-reply.new.self) (asks _ w.in-Load.is) (w.load-reply.ensures.answers honest owned))
       | in-Unknown w ↦ rw (w.reply-is, w.self-is)
-          (subst (λ r. Steps r owned c.args.self.now (says.Refused why.BadCommand) c.args.self.now) (asks _ w.in-Unknown.is)
+          (subst (λ r. Steps honest r owned c.args.self.now (says.Refused why.BadCommand) c.args.self.now) (asks _ w.in-Unknown.is)
           (refused ask.Unknown owned c.args.self.now why.BadCommand (λ state r. refl)))
     ]
 

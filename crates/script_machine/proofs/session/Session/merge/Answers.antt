@@ -10,8 +10,8 @@ use Rattle.script_machine.proofs.StoreLaws.{held_asks, merge_refused, merged, on
 use Rattle.script_machine.proofs.session.Session.merge.Goals as goal
 
 pub returns-in-Err-clause-answers : goal.returns-in-Err-clause-answers
-returns-in-Err-clause-answers g c = λ honest owned.
-    merge_refused c.args.self.now c.args.into.now c.args.from.now owned c.in-Err.why c.in-Err.ensures.joins (c.in-Err.ensures.undamaged honest)
+returns-in-Err-clause-answers g c = λ owned.
+    merge_refused c.args.self.now c.args.into.now c.args.from.now owned c.in-Err.why c.in-Err.ensures.joins c.in-Err.ensures.undamaged
 
 pub invariant_of-self : goal.invariant_of-self
 invariant_of-self g c =
@@ -24,7 +24,7 @@ invariant_of-self g c =
     (asks.0 ∙ ap Some (sym c.commit.ensures.query)) c.self.invariant
 
 pub returns-clause-answers : goal.returns-clause-answers
-returns-clause-answers g c = λ honest owned.
+returns-clause-answers g c = λ owned.
     let request = ask.Merge c.args.into.now c.args.from.now in
     let there = sym c.in-Some.ensures.value in
     let old : Store = record { columns = c.self.inside.columns; query = c.self.inside.query; replicas = c.self.inside.replicas.entries; saved = c.self.inside.saved.entries; limit = c.self.inside.means.limit } in
@@ -37,8 +37,8 @@ returns-clause-answers g c = λ honest owned.
     let theirs : Held = found.1 in
     let joins : JoinsHeld (g.D.TapeDisk.honest c.args.disk.now) own theirs c.in-Ok.joined = subst (λ (h : Held). JoinsHeld (g.D.TapeDisk.honest c.args.disk.now) h theirs c.in-Ok.joined) (one_there found.0 own found.2 there) found.4 in
     let same : own.query ≡ theirs.query = one_query old c.args.into.now c.args.from.now own theirs c.self.invariant there found.3 in
-    subst (λ (s : Store). Steps request owned s says.Merged new) c.self.view_is
+    subst (λ (s : Store). Steps (g.D.TapeDisk.honest c.args.disk.now) request owned s says.Merged new) c.self.view_is
     (merged old new c.args.into.now c.args.from.now owned own theirs c.commit.new.self c.self.invariant there found.3
     (c.commit.ensures.told (g.D.TapeDisk.honest c.args.disk.now) theirs.parts joins.held joins.aside)
-    (λ world is fits fits_theirs. c.commit.ensures.fits (g.D.TapeDisk.honest c.args.disk.now) honest theirs.parts joins.held joins.aside world is fits (subst (λ (q : Checked). Fits world (record { query = q; parts = theirs.parts })) (sym same) fits_theirs))
+    (λ right world is fits fits_theirs. c.commit.ensures.fits (g.D.TapeDisk.honest c.args.disk.now) right theirs.parts joins.held joins.aside world is fits (subst (λ (q : Checked). Fits world (record { query = q; parts = theirs.parts })) (sym same) fits_theirs))
     u)

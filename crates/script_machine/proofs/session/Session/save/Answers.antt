@@ -12,12 +12,12 @@ use Rattle.script_machine.proofs.StoreLaws.{save_nowhere, saved_as, filed, store
 use Rattle.script_machine.proofs.session.Session.save.Goals as goal
 
 pub returns-in_default-clause-answers : goal.returns-in_default-clause-answers
-returns-in_default-clause-answers c = λ owned.
-    subst (λ s. Steps (ask.Save c.args.name.now c.args.saved.now) owned s (says.Refused why.NoSuchName) s) c.self.view_is
+returns-in_default-clause-answers c = λ honest owned.
+    subst (λ s. Steps honest (ask.Save c.args.name.now c.args.saved.now) owned s (says.Refused why.NoSuchName) s) c.self.view_is
     (save_nowhere _ c.args.name.now c.args.saved.now owned (sym c.in_default.ensures.value))
 
 pub returns-in_default-file_of_replica-clause-answers : goal.returns-in_default-file_of_replica-clause-answers
-returns-in_default-file_of_replica-clause-answers c = λ owned. out_of_memory (ask.Save c.args.name.now c.args.saved.now) owned c.args.self.now
+returns-in_default-file_of_replica-clause-answers c = λ honest owned. out_of_memory (ask.Save c.args.name.now c.args.saved.now) owned c.args.self.now
 
 pub invariant_of-self-2 : goal.invariant_of-self-2
 invariant_of-self-2 c =
@@ -29,20 +29,20 @@ invariant_of-self-2 c =
     (record { held = c.in-Some.replica.now; asked = (held_asks old c.args.name.now c.in-Some.replica.now c.self.invariant (sym c.in-Some.ensures.value)).0; is = c.in-Ok.ensures.file }) c.self.invariant
 
 pub returns-clause-answers : goal.returns-clause-answers
-returns-clause-answers c = λ owned.
+returns-clause-answers c = λ honest owned.
     let old : Store = record { columns = c.self.inside.columns; query = c.self.inside.query; replicas = c.self.inside.replicas.entries; saved = c.self.inside.saved.entries; limit = c.self.inside.means.limit } in
     let new : Store = record { columns = c.self.inside.columns; query = c.self.inside.query; replicas = c.self.inside.replicas.entries; saved = c.keep.new.kept.entries; limit = c.self.inside.means.limit } in
     let u : UpdatesBy (λ (x y : Vec ℕ Global). bytes_eq x.items y.items) (λ (k : Vec ℕ Global). bytes_eq c.args.saved.now k.items) c.self.inside.saved c.keep.new.kept (Some c.in-Ok.made.1) =
     subst (λ q. UpdatesBy (λ (x y : Vec ℕ Global). bytes_eq x.items y.items) (λ (k : Vec ℕ Global). bytes_eq q k.items) c.self.inside.saved c.keep.new.kept (Some c.in-Ok.made.1)) c.in-Ok.ensures.name c.in-Ok-keep.ensures.put in
     let counted : c.len-length.result ≡ length c.in-Ok.made.1.items = search rules in
-    subst (λ s. Steps (ask.Save c.args.name.now c.args.saved.now) owned s (says.Saved c.len-length.result) new) c.self.view_is
+    subst (λ s. Steps honest (ask.Save c.args.name.now c.args.saved.now) owned s (says.Saved c.len-length.result) new) c.self.view_is
     (saved_as old new c.args.name.now c.args.saved.now owned c.in-Some.replica.now c.in-Ok.made.1 c.len-length.result c.self.invariant (sym c.in-Some.ensures.value)
     c.in-Ok.ensures.file c.in-Ok.ensures.world counted
     (filed c.self.inside.means.limit c.self.inside.columns c.self.inside.query c.self.inside.replicas.entries c.args.saved.now c.in-Ok.made.1 c.self.inside.saved c.keep.new.kept u))
 
 pub returns-in_default-keep-clause-answers : goal.returns-in_default-keep-clause-answers
-returns-in_default-keep-clause-answers c = λ owned.
+returns-in_default-keep-clause-answers c = λ honest owned.
     let new : Store = record { columns = c.self.inside.columns; query = c.self.inside.query; replicas = c.self.inside.replicas.entries; saved = c.keep.new.kept.entries; limit = c.self.inside.means.limit } in
-    subst (λ s. Steps (ask.Save c.args.name.now c.args.saved.now) owned s (says.Refused why.NoMemory) new) c.self.view_is
+    subst (λ s. Steps honest (ask.Save c.args.name.now c.args.saved.now) owned s (says.Refused why.NoMemory) new) c.self.view_is
     (no_memory_same (ask.Save c.args.name.now c.args.saved.now) owned _ new
     (same_files c.self.inside.means.limit c.self.inside.columns c.self.inside.query c.self.inside.replicas.entries c.self.inside.saved.entries c.keep.new.kept.entries c.in_default-keep.ensures.refused))

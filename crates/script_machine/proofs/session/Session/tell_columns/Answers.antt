@@ -9,17 +9,17 @@ use Rattle.script_machine.proofs.StoreLaws.{columns_there, no_schema, columns_to
 use Rattle.script_machine.proofs.session.Session.tell_columns.Goals as goal
 
 pub returns-then-is_some-clause-answers : goal.returns-then-is_some-clause-answers
-returns-then-is_some-clause-answers c = λ owned. columns_there c.args.self.now c.args.text.now owned
+returns-then-is_some-clause-answers c = λ honest owned. columns_there c.args.self.now c.args.text.now owned
     (ap (λ (s : Store). is_some s.columns) (sym c.self.view_is) ∙ sym c.is_some.ensures ∙ c.if-is_some.true)
 
 pub returns-in-Ok-clause-answers : goal.returns-in-Ok-clause-answers
-returns-in-Ok-clause-answers c = λ owned.
+returns-in-Ok-clause-answers c = λ honest owned.
     let new : Store = record { columns = Some c.in-Ok.schema; query = c.self.inside.query; replicas = c.self.inside.replicas.entries; saved = c.self.inside.saved.entries; limit = c.self.inside.means.limit } in
-    subst (λ s. Steps (ask.Columns c.args.text.now) owned s (says.Columns c.width-count.result) new) c.self.view_is
+    subst (λ s. Steps honest (ask.Columns c.args.text.now) owned s (says.Columns c.width-count.result) new) c.self.view_is
     (columns_told _ c.args.text.now owned c.in-Ok.schema c.width-count.result (sym c.is_some.ensures ∙ c.if-is_some.false) c.in-Ok.ensures.parsed c.width-count.ensures.width)
 
 pub returns-in-Err-clause-answers : goal.returns-in-Err-clause-answers
-returns-in-Err-clause-answers c = λ owned. no_schema c.args.self.now c.args.text.now owned c.in-Err.error c.from.result
+returns-in-Err-clause-answers c = λ honest owned. no_schema c.args.self.now c.args.text.now owned c.in-Err.error c.from.result
     (ap (λ (s : Store). is_some s.columns) (sym c.self.view_is) ∙ sym c.is_some.ensures ∙ c.if-is_some.false)
     c.in-Err.ensures.refused c.from.ensures
 

@@ -7,15 +7,15 @@ use Rattle.script_machine.proofs.StoreLaws.{limit_refused, limit_told}
 use Rattle.script_machine.proofs.session.Session.tell_limit.Goals as goal
 
 pub returns-in-Ok-clause-answers : goal.returns-in-Ok-clause-answers
-returns-in-Ok-clause-answers c = λ owned.
+returns-in-Ok-clause-answers c = λ honest owned.
     let within = c.in-Ok.ensures.within in
     let old : Store = record { columns = c.self.inside.columns; query = c.self.inside.query; replicas = c.self.inside.replicas.entries; saved = c.self.inside.saved.entries; limit = c.self.inside.means.limit } in
     let new : Store = record old { limit = c.in-Ok.means.limit } in
-    subst (λ s. Steps (ask.Limit c.args.bytes) owned s (says.Limit c.args.bytes) new) c.self.view_is
-    (subst (λ n. Steps (ask.Limit c.args.bytes) owned old (says.Limit c.args.bytes) (record old { limit = n })) (sym (ap (λ (m : MeansState _). m.limit) c.in-Ok.ensures.means))
+    subst (λ s. Steps honest (ask.Limit c.args.bytes) owned s (says.Limit c.args.bytes) new) c.self.view_is
+    (subst (λ n. Steps honest (ask.Limit c.args.bytes) owned old (says.Limit c.args.bytes) (record old { limit = n })) (sym (ap (λ (m : MeansState _). m.limit) c.in-Ok.ensures.means))
     (limit_told old c.args.bytes owned within.0 within.1))
 
 pub returns-in-Err-clause-answers : goal.returns-in-Err-clause-answers
-returns-in-Err-clause-answers c = λ owned.
-    subst (λ r. Steps (ask.Limit c.args.bytes) owned c.args.self.now (says.Refused r) c.args.self.now) (sym c.from.ensures)
+returns-in-Err-clause-answers c = λ honest owned.
+    subst (λ r. Steps honest (ask.Limit c.args.bytes) owned c.args.self.now (says.Refused r) c.args.self.now) (sym c.from.ensures)
     (limit_refused c.args.self.now c.args.bytes owned c.in-Err.ensures.refused)

@@ -8,13 +8,13 @@ use Rattle.script_machine.proofs.StoreLaws.{query_too_early, query_there, query_
 use Rattle.script_machine.proofs.session.Session.tell_query.Goals as goal
 
 pub returns-in_default-clause-answers : goal.returns-in_default-clause-answers
-returns-in_default-clause-answers c = λ owned.
-    subst (λ s. Steps (ask.Query c.args.text.now) owned s (says.Refused why.BadCommand) s) c.self.view_is
+returns-in_default-clause-answers c = λ honest owned.
+    subst (λ s. Steps honest (ask.Query c.args.text.now) owned s (says.Refused why.BadCommand) s) c.self.view_is
     (query_too_early _ c.args.text.now owned c.in_default.is)
 
 pub returns-then-is_some-clause-answers : goal.returns-then-is_some-clause-answers
-returns-then-is_some-clause-answers c = λ owned.
-    subst (λ s. Steps (ask.Query c.args.text.now) owned s (says.Refused why.BadCommand) s) c.self.view_is
+returns-then-is_some-clause-answers c = λ honest owned.
+    subst (λ s. Steps honest (ask.Query c.args.text.now) owned s (says.Refused why.BadCommand) s) c.self.view_is
     (query_there _ c.args.text.now owned c.in-Some.schema c.in-Some.is (sym c.is_some.ensures ∙ c.if-is_some.true))
 
 pub invariant_of-self : goal.invariant_of-self
@@ -23,13 +23,13 @@ invariant_of-self c =
     c.in-Some.schema c.in-Ok.query c.self.invariant c.in-Some.is (sym c.is_some.ensures ∙ c.if-is_some.false) c.in-Ok.ensures.columns
 
 pub returns-in-Ok-clause-answers : goal.returns-in-Ok-clause-answers
-returns-in-Ok-clause-answers c = λ owned.
+returns-in-Ok-clause-answers c = λ honest owned.
     let new : Store = record { columns = c.self.inside.columns; query = Some c.in-Ok.query; replicas = c.self.inside.replicas.entries; saved = c.self.inside.saved.entries; limit = c.self.inside.means.limit } in
-    subst (λ s. Steps (ask.Query c.args.text.now) owned s (says.Query c.in-Ok.canonical) new) c.self.view_is
+    subst (λ s. Steps honest (ask.Query c.args.text.now) owned s (says.Query c.in-Ok.canonical) new) c.self.view_is
     (query_told _ c.args.text.now owned c.in-Some.schema c.in-Ok.query c.in-Ok.canonical c.in-Some.is (sym c.is_some.ensures ∙ c.if-is_some.false)
     c.in-Ok.ensures.read.0 c.in-Ok.ensures.read.1)
 
 pub returns-in-Err-clause-answers : goal.returns-in-Err-clause-answers
-returns-in-Err-clause-answers c = λ owned.
-    subst (λ s. Steps (ask.Query c.args.text.now) owned s (says.Refused c.in-Err.why) s) c.self.view_is
+returns-in-Err-clause-answers c = λ honest owned.
+    subst (λ s. Steps honest (ask.Query c.args.text.now) owned s (says.Refused c.in-Err.why) s) c.self.view_is
     (query_refused _ c.args.text.now owned c.in-Some.schema c.in-Err.why c.in-Some.is (sym c.is_some.ensures ∙ c.if-is_some.false) c.in-Err.ensures.why)
