@@ -6,6 +6,7 @@ ghost use Rattle.chunk_contexts.specs.Rooms.{most, rounded, rooms, room_of, larg
 ghost use Rattle.chunk_contexts.specs.Chunks.{chunk_of, IsNewBlock};
 ghost use Rattle.chunk_contexts.specs.Free.{is_in};
 ghost use Rattle.chunk_contexts.specs.Set.{new_set, set_growth, set_room, block_size, grown, carved, reused, dedicated, set_taken, set_freed, set_put, set_reset};
+ghost use Rattle.chunk_contexts.specs.SetRules.{GrowsByRule};
 
 use crate::active::Active;
 use crate::context::ChunkContext;
@@ -251,6 +252,14 @@ impl AllocSet {
     {
         self.lists.layout.resize(place, len, n);
         place.named(n)
+    }
+
+    /// A law: a request of a class that takes a block takes one of the next size, doubled until it holds the chunk. What was
+    /// left of the block before is then cut up: while 16 bytes are left, a free chunk of the largest class that fits.
+    pub fn grows_by_rule(&self)
+        ensures { GrowsByRule self.now }
+    {
+        let _lists = &self.lists;
     }
 
     /// Makes a chunk of `len` bytes `n` bytes long, in a new chunk.
