@@ -7,6 +7,7 @@ use Rattle.chunk_layout.specs.declared.place.ChunkName.{ChunkName}
 use Rattle.chunk_contexts.specs.Chunks.{is_live, bytes_of, IsNewBlock}
 use Rattle.chunk_contexts.specs.Rooms.{rounded, over_most}
 use Rattle.chunk_contexts.specs.Set.{new_set, set_room, set_growth, set_taken, set_wrote, set_put, set_freed, set_reset}
+use Rattle.chunk_contexts.specs.SetRules.{GrowsByRule}
 use Rattle.chunk_contexts.specs.Slab.{new_slab, slab_refusal, slab_growth, slab_grows, slab_taken, slab_wrote, slab_freed, slab_reset, has_spare, per_block, block_count}
 use Rattle.chunk_contexts.specs.Run.{new_run, run_growth, run_taken, run_wrote, run_put, run_reset, IsBlockOf}
 use Rattle.chunk_contexts.specs.Generation.{gen_freed}
@@ -128,3 +129,10 @@ IsCounted (AllocSet s) = Unit {0}
 IsCounted (Slab s) = has_spare s ≡ nat_lt (length s.chunks) (per_block (rounded s.size) * block_count s.blocks)
 IsCounted (Generation s) = Unit {0}
 IsCounted (Bump s) = Unit {0}
+
+-- a set grows by the rule that a block has the next size, and that what was left of the one before is cut up
+abbrev pub IsGrownByRule : Context → Type 0
+IsGrownByRule (AllocSet s) = GrowsByRule s
+IsGrownByRule (Slab s) = Unit {0}
+IsGrownByRule (Generation s) = Unit {0}
+IsGrownByRule (Bump s) = Unit {0}
