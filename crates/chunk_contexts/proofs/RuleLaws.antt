@@ -4,12 +4,13 @@ use Rattle.std.specs.Prelude.{◌||◌, nat_le, is_some, reverse}
 use Rattle.std.proofs.lemmas.Bool.{agree_below, agree_below_at, leb-true, leb-false, cases_lt, cases_Bool, or_cases, cond-true, cond-false, le-leb}
 use Rattle.std.proofs.lemmas.List.{get_or_past, reverse-append}
 use Rattle.chunk_layout.specs.Pieces.{Piece}
-use Rattle.chunk_contexts.specs.Rooms.{rooms, rooms_down, largest, over_most, class_of, room_of}
+use Rattle.chunk_contexts.specs.Rooms.{rooms, rooms_down, over_most, class_of, room_of}
 use Rattle.chunk_contexts.specs.Free.{is_in}
 use Rattle.chunk_contexts.specs.Set.{SetState, cut_up, block_size, set_growth, growth_by, set_room, set_taken, taken_by}
 use Rattle.chunk_contexts.specs.SetRules.{IsCutUp, IsDoubled}
 use Rattle.chunk_contexts.proofs.ClassLaws.{in-at, in-some}
 use Rattle.chunk_contexts.proofs.Growth.{room-classed}
+use Rattle.chunk_contexts.specs.declared.rooms.TheConstants.{LARGEST}
 
 -- no class lies between this room and its double
 abbrev IsStep : ℕ → Type 0
@@ -78,9 +79,9 @@ grows false true fits s room some = absurd (omega (arith, some))
 grows false false true s room some = absurd (omega (arith, some))
 grows false false false s room some = (refl, refl, refl)
 
-module _ (s : SetState) (n : ℕ) (small : n ≤ largest) (some : 0 < set_growth s n) where
-  classed : nat_le n largest ≡ true
-  classed = le-leb n largest small
+module _ (s : SetState) (n : ℕ) (small : n ≤ LARGEST) (some : 0 < set_growth s n) where
+  classed : nat_le n LARGEST ≡ true
+  classed = le-leb n LARGEST small
 
   by-class : set_growth s n ≡ growth_by (is_some (over_most n)) true (is_in (set_room n) s.free) (nat_le (set_room n + 8) s.left) s (set_room n)
   by-class = λ i. growth_by (is_some (over_most n)) (classed i) (is_in (set_room n) s.free) (nat_le (set_room n + 8) s.left) s (set_room n)
@@ -90,7 +91,7 @@ module _ (s : SetState) (n : ℕ) (small : n ≤ largest) (some : 0 < set_growth
       let is = grows (is_some (over_most n)) (is_in (set_room n) s.free) (nat_le (set_room n + 8) s.left) s (set_room n) (subst (λ (k : ℕ). 0 < k) by-class some) in
       (is.0, is.1, by-class ∙ is.2)
 
-  room-small : set_room n ≤ largest
+  room-small : set_room n ≤ LARGEST
   room-small = omega (arith, room-classed n small, room-top (class_of n))
 
   pub cut-by_rule : (p : Piece) → p.room ≡ set_room n → IsCutUp s.left s.free (set_taken s n p).free
@@ -122,7 +123,7 @@ module _ (s : SetState) (n : ℕ) (small : n ≤ largest) (some : 0 < set_growth
       not_before less zero low = omega (arith, less)
       not_before less (suc fewer) low = absurd (omega (arith, low))
 
-pub size-most : (s : SetState) (n : ℕ) → n ≤ largest → s.next ≤ 1048576 → set_growth s n ≤ 1048576
+pub size-most : (s : SetState) (n : ℕ) → n ≤ LARGEST → s.next ≤ 1048576 → set_growth s n ≤ 1048576
 size-most s n small most = elim (cases_lt 0 (set_growth s n)) [
   | inl some ↦ elim (cases_Bool (nat_le (set_room n + 8) s.next)) [
     | inl fits ↦ omega (arith, (new-block s n small some).2, cond-true _ s.next (2 * s.next) fits, most)

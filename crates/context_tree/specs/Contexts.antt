@@ -4,6 +4,7 @@ use Rattle.std.specs.Prelude.{◌≡◌, ℕ, ◌*◌, nat_lt, Bool, true, false
 use Rattle.chunk_layout.specs.Pieces.{Piece, total}
 use Rattle.chunk_layout.specs.declared.place.Place.{Place}
 use Rattle.chunk_layout.specs.declared.place.ChunkName.{ChunkName}
+use Rattle.chunk_layout.specs.declared.blocks.TheConstants.{HEADER}
 use Rattle.chunk_contexts.specs.Chunks.{is_live, bytes_of, IsNewBlock}
 use Rattle.chunk_contexts.specs.Rooms.{rounded, over_most}
 use Rattle.chunk_contexts.specs.Set.{new_set, set_room, set_growth, set_taken, set_wrote, set_put, set_freed, set_reset}
@@ -60,7 +61,7 @@ refusal_of (Bump s) n = over_most n
 abbrev pub growth_of : Context → ℕ → ℕ
 growth_of (AllocSet s) n = set_growth s n
 growth_of (Slab s) n = slab_growth s n
-growth_of (Generation s) n = run_growth 8 s n
+growth_of (Generation s) n = run_growth HEADER s n
 growth_of (Bump s) n = run_growth 0 s n
 
 abbrev pub can_free : Context → Bool
@@ -73,7 +74,7 @@ can_free (Bump s) = false
 abbrev pub may_lie_in : Context → ℕ → ℕ → Type 0
 may_lie_in (AllocSet s) n block = IsNewBlock (set_growth s n) s.blocks block
 may_lie_in (Slab s) n block = IsNewBlock (slab_grows s) s.blocks block
-may_lie_in (Generation s) n block = IsBlockOf s (run_growth 8 s n) block
+may_lie_in (Generation s) n block = IsBlockOf s (run_growth HEADER s n) block
 may_lie_in (Bump s) n block = IsBlockOf s (run_growth 0 s n) block
 
 -- with a chunk more for a request of n bytes; with other bytes in a chunk, as many as it had or not; without a chunk; and
@@ -81,7 +82,7 @@ may_lie_in (Bump s) n block = IsBlockOf s (run_growth 0 s n) block
 abbrev pub with_chunk : Context → ℕ → Piece → Context
 with_chunk (AllocSet s) n p = AllocSet (set_taken s n p)
 with_chunk (Slab s) n p = Slab (slab_taken s p)
-with_chunk (Generation s) n p = Generation (run_taken 8 s p)
+with_chunk (Generation s) n p = Generation (run_taken HEADER s p)
 with_chunk (Bump s) n p = Bump (run_taken 0 s p)
 
 abbrev pub with_bytes : Context → Place → List ℕ → Context
