@@ -32,7 +32,7 @@ pub room-inj : (i j : ℕ) → i < 11 → j < 11 → room_of i ≡ room_of j →
 room-inj i j low low' same = sym (class-room i low) ∙ ap class_of same ∙ class-room j low'
 
 -- what is in a list stands at a place of it
-in-at : (n : ℕ) (xs : List ℕ) → is_in n xs ≡ true → (i : ℕ) × (i < length xs) × (get_or xs i 0 ≡ n)
+pub in-at : (n : ℕ) (xs : List ℕ) → is_in n xs ≡ true → (i : ℕ) × (i < length xs) × (get_or xs i 0 ≡ n)
 in-at n [] is = absurd (false≢true is)
 in-at n (x ∷ xs) is = elim (cases_Bool (x == n)) [
   | inl same ↦ (0, omega arith, eqb-true x n same)

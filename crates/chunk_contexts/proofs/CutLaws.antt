@@ -9,12 +9,13 @@ use Rattle.chunk_layout.proofs.Lists.{by_cond, every_weaker, every_both}
 use Rattle.chunk_layout.proofs.Finding.{same-place}
 use Rattle.chunk_contexts.specs.declared.active.Active.{Active}
 use Rattle.chunk_contexts.specs.Chunks.{live}
-use Rattle.chunk_contexts.specs.Rooms.{rooms, rooms_down, largest}
+use Rattle.chunk_contexts.specs.Rooms.{rooms, rooms_down}
 use Rattle.chunk_contexts.specs.Set.{cut_up}
 use Rattle.chunk_contexts.specs.SetFields.{Alone}
 use Rattle.chunk_contexts.proofs.ClassLaws.{in-small}
 use Rattle.chunk_contexts.specs.Free.{by_room, IsRest, is_in, free_rooms, first_free, cut_used, cut_piece, cut_pieces}
 use Rattle.chunk_layout.specs.Links.{link_bytes}
+use Rattle.chunk_contexts.specs.declared.rooms.TheConstants.{LARGEST}
 
 -- no chunk is where each is somewhere else
 pub none-at : (place : Place) (ps : List Piece) → Every (λ (p : Piece). p.place ≡ place → ⊥) ps → has ps place ≡ false
@@ -79,15 +80,15 @@ cut-every P block size new (room ∷ rs) known used ps every =
     (by_cond (Every P) (nat_le (room + 8) (size - used)) (cut_one room block used ps ∷ ps) ps (λ fits. (new room used _ known.0 (leb-true (room + 8) (size - used) fits), every)) (λ _. every))
 
 pub cut-alone : (block size : ℕ) (rs : List ℕ) → Every (λ (room : ℕ). is_in room rooms ≡ true) rs → (used : ℕ) (ps : List Piece)
-    → Every (λ (q : Piece). 0 < size → largest < q.room → q.place.block ≢ block) ps → Pairwise Alone ps → Pairwise Alone (cut_pieces rs block used size ps)
+    → Every (λ (q : Piece). 0 < size → LARGEST < q.room → q.place.block ≢ block) ps → Pairwise Alone ps → Pairwise Alone (cut_pieces rs block used size ps)
 cut-alone block size [] known used ps apart alone = alone
 cut-alone block size (room ∷ rs) known used ps apart alone =
     let small = in-small room known.0 in
     let new : room + 8 ≤ size - used → Every (Alone (cut_one room block used ps)) ps = λ fits.
-    every_weaker (λ (q : Piece). 0 < size → largest < q.room → q.place.block ≢ block) (Alone (cut_one room block used ps))
+    every_weaker (λ (q : Piece). 0 < size → LARGEST < q.room → q.place.block ≢ block) (Alone (cut_one room block used ps))
     (λ q a h e. elim h [ inl big ↦ absurd (omega (arith, big, small)) | inr big ↦ a (omega (arith, fits)) big (sym e) ]) ps apart in
     cut-alone block size rs known.1 (cut_used room used size) (cut_piece room block used size ps)
-    (by_cond (Every (λ (q : Piece). 0 < size → largest < q.room → q.place.block ≢ block)) (nat_le (room + 8) (size - used)) (cut_one room block used ps ∷ ps) ps (λ _. (λ _ big. absurd (omega (arith, big, small)), apart)) (λ _. apart))
+    (by_cond (Every (λ (q : Piece). 0 < size → LARGEST < q.room → q.place.block ≢ block)) (nat_le (room + 8) (size - used)) (cut_one room block used ps ∷ ps) ps (λ _. (λ _ big. absurd (omega (arith, big, small)), apart)) (λ _. apart))
     (by_cond (Pairwise Alone) (nat_le (room + 8) (size - used)) (cut_one room block used ps ∷ ps) ps (λ fits. (new (leb-true (room + 8) (size - used) fits), alone)) (λ _. alone))
 
 pub cut-live : (rs : List ℕ) (block size used : ℕ) (ps : List Piece) → live (cut_pieces rs block used size ps) ≡ live ps

@@ -10,15 +10,16 @@ use Rattle.chunk_contexts.specs.declared.error.ContextError.TheVariants.{NoMemor
 use Rattle.chunk_contexts.specs.declared.runs.Runs.{Runs}
 use Rattle.chunk_contexts.specs.Chunks.{Adds, IsRefused, chunk_of}
 use Rattle.chunk_contexts.specs.Rooms.{rounded, over_most}
-use Rattle.chunk_contexts.specs.Run.{run_block, run_of, run_growth, run_growth_by, run_taken, RunState, IsBlockOf, IsRun}
+use Rattle.chunk_contexts.specs.Run.{run_of, run_growth, run_growth_by, run_taken, RunState, IsBlockOf, IsRun}
 use Rattle.chunk_contexts.specs.Generation.{IsCounted}
 use Rattle.chunk_contexts.proofs.GenLaws.{made-low, counted-made}
+use Rattle.chunk_contexts.specs.declared.rooms.TheConstants.{BLOCK}
 
 module _ (r t : Runs) (cs ds : List ℕ) (is : IsCounted r cs) (run : IsRun 8 t) (n : ℕ) (bytes : List ℕ) (name : ChunkName) (admitted : over_most n ≡ None) (space : run_of t ≡ run_taken 8 (run_of r) (chunk_of name (rounded n) bytes))
     (added : Adds r.layout.pieces t.layout.pieces name (rounded n) bytes) (block : IsBlockOf (run_of r) (run_growth 8 (run_of r) n) name.block)
     (same : (k : ℕ) → get_or ds k 0 ≡ get_or cs k 0) (longer : length cs ≤ length ds) (enough : 0 < run_growth 8 (run_of r) n → length r.layout.blocks < length ds) where
   abbrev a : Bool
-  a = nat_le (8 + rounded n) run_block
+  a = nat_le (8 + rounded n) BLOCK
 
   abbrev b : Bool
   b = nat_le (8 + rounded n) (r.active.size - r.active.used)
@@ -34,11 +35,11 @@ module _ (r t : Runs) (cs ds : List ℕ) (is : IsCounted r cs) (run : IsRun 8 t)
   p = chunk_of name (rounded n) bytes
 
   pub made-there : name.block < length ds
-  made-there = made-low r t cs ds is run p a b (8 + rounded n) some space added.fresh (λ _ fits. leb-true (8 + rounded n) (r.active.size - r.active.used) fits) (λ small. leb-true (8 + rounded n) run_block small)
+  made-there = made-low r t cs ds is run p a b (8 + rounded n) some space added.fresh (λ _ fits. leb-true (8 + rounded n) (r.active.size - r.active.used) fits) (λ small. leb-true (8 + rounded n) BLOCK small)
       (λ none. block.0 (grows ∙ none)) (λ more. block.1 (subst (λ (g : ℕ). 0 < g) (sym grows) more)) same longer (λ more. enough (subst (λ (g : ℕ). 0 < g) (sym grows) more))
 
   pub made-counted : IsCounted t (set ds name.block (get_or ds name.block 0 + 1))
-  made-counted = counted-made r t cs ds is run p a b (8 + rounded n) some space added.fresh (λ _ fits. leb-true (8 + rounded n) (r.active.size - r.active.used) fits) (λ small. leb-true (8 + rounded n) run_block small)
+  made-counted = counted-made r t cs ds is run p a b (8 + rounded n) some space added.fresh (λ _ fits. leb-true (8 + rounded n) (r.active.size - r.active.used) fits) (λ small. leb-true (8 + rounded n) BLOCK small)
       (λ none. block.0 (grows ∙ none)) (λ more. block.1 (subst (λ (g : ℕ). 0 < g) (sym grows) more)) same longer (λ more. enough (subst (λ (g : ℕ). 0 < g) (sym grows) more))
 
 -- the block of a chunk that was made is there
@@ -55,7 +56,7 @@ refused-count s t n e same grows is = subst (λ (s : RunState). IsRefused (over_
   where
     by : (o : Option ContextError) → over_most n ≡ o → IsRefused o (run_growth 8 s n) e
     by None none = (is, grows)
-    by (Some refusal) over = absurd (omega (arith, grows, ap (λ (o : Option ContextError). run_growth_by (is_some o) (nat_le (8 + rounded n) run_block) (nat_le (8 + rounded n) s.left) (8 + rounded n)) over))
+    by (Some refusal) over = absurd (omega (arith, grows, ap (λ (o : Option ContextError). run_growth_by (is_some o) (nat_le (8 + rounded n) BLOCK) (nat_le (8 + rounded n) s.left) (8 + rounded n)) over))
 
 pub refused-as : (s t : RunState) (n : ℕ) (e f : ContextError) → s ≡ t → e ≡ f → IsRefused (over_most n) (run_growth 8 s n) f → IsRefused (over_most n) (run_growth 8 t n) e
 refused-as s t n e f same is refused = subst (λ (s : RunState). IsRefused (over_most n) (run_growth 8 s n) e) same (subst (IsRefused (over_most n) (run_growth 8 s n)) (sym is) refused)

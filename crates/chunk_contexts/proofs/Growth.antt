@@ -4,14 +4,15 @@ use Rattle.std.specs.Prelude.{unwrap_or, replicate, nat_le, nat_lt, is_some, OnE
 use Rattle.std.proofs.lemmas.Bool.{le-leb, lt-leb, le-ltb, cond-false, cond-true}
 use Rattle.chunk_layout.specs.Pieces.{total, only}
 use Rattle.chunk_layout.proofs.Numbers.{total-set_none}
-use Rattle.chunk_contexts.specs.Rooms.{most, over_most, room_of, class_of, rounded, largest}
+use Rattle.chunk_contexts.specs.Rooms.{over_most, room_of, class_of, rounded}
 use Rattle.chunk_contexts.specs.Free.{is_in}
 use Rattle.std.specs.Prelude.{IfOk, Option, Some, None, true}
 use Rattle.chunk_contexts.specs.Chunks.{IsRefused, IsResizeRefused}
 use Rattle.chunk_contexts.specs.declared.error.ContextError.{ContextError}
 use Rattle.chunk_contexts.specs.declared.error.ContextError.TheVariants.{NoMemory}
-use Rattle.chunk_contexts.specs.Run.{RunState, run_block, run_growth, run_growth_by}
+use Rattle.chunk_contexts.specs.Run.{RunState, run_growth, run_growth_by}
 use Rattle.chunk_contexts.specs.Set.{SetState, set_growth, growth_by, set_room, block_size}
+use Rattle.chunk_contexts.specs.declared.rooms.TheConstants.{BLOCK, LARGEST, MOST}
 
 pub always_err : {T E P : Type 0} (r : Result T E) → P → OnErr r P
 always_err (Ok x) p = tt
@@ -35,31 +36,31 @@ pub resize-refused : (o : Option ContextError) (growth room n : ℕ) (e f : Cont
 resize-refused None growth room n e f refused is more = (is ∙ refused.0, refused.1, more)
 resize-refused (Some refusal) growth room n e f refused is more = is ∙ refused
 
-pub growth-over : (n : ℕ) → n ≤ most → is_some (over_most n) ≡ false
-growth-over n low = ap is_some (cond-false (nat_lt most n) _ _ (le-ltb most n low))
+pub growth-over : (n : ℕ) → n ≤ MOST → is_some (over_most n) ≡ false
+growth-over n low = ap is_some (cond-false (nat_lt MOST n) _ _ (le-ltb MOST n low))
 
-pub room-classed : (n : ℕ) → n ≤ largest → set_room n ≡ room_of (class_of n)
-room-classed n low = cond-true (nat_le n largest) (room_of (class_of n)) (rounded n) (le-leb n largest low)
+pub room-classed : (n : ℕ) → n ≤ LARGEST → set_room n ≡ room_of (class_of n)
+room-classed n low = cond-true (nat_le n LARGEST) (room_of (class_of n)) (rounded n) (le-leb n LARGEST low)
 
 -- a request of a class, for which nothing is free and nothing is left
-pub growth-new : (s : SetState) (n : ℕ) → n ≤ largest → is_in (room_of (class_of n)) s.free ≡ false → s.left < room_of (class_of n) + 8 → set_growth s n ≡ block_size s.next (room_of (class_of n))
+pub growth-new : (s : SetState) (n : ℕ) → n ≤ LARGEST → is_in (room_of (class_of n)) s.free ≡ false → s.left < room_of (class_of n) + 8 → set_growth s n ≡ block_size s.next (room_of (class_of n))
 growth-new s n low none full =
     let room = room-classed n low in let over = growth-over n (omega (arith, low)) in
-    let classed = le-leb n largest low in
+    let classed = le-leb n LARGEST low in
     let fits : nat_le (set_room n + 8) s.left ≡ false = ap (λ (r : ℕ). nat_le (r + 8) s.left) room ∙ lt-leb (room_of (class_of n) + 8) s.left full in
     (λ i. growth_by (over i) (classed i) ((ap (λ (r : ℕ). is_in r s.free) room ∙ none) i) (fits i) s (room i))
 
 -- and where one is free, or enough is left, none grows
-pub growth-free : (s : SetState) (n : ℕ) → n ≤ largest → is_in (room_of (class_of n)) s.free ≡ true → set_growth s n ≡ 0
+pub growth-free : (s : SetState) (n : ℕ) → n ≤ LARGEST → is_in (room_of (class_of n)) s.free ≡ true → set_growth s n ≡ 0
 growth-free s n low free =
     let room = room-classed n low in let over = growth-over n (omega (arith, low)) in
-    let classed = le-leb n largest low in
+    let classed = le-leb n LARGEST low in
     (λ i. growth_by (over i) (classed i) ((ap (λ (r : ℕ). is_in r s.free) room ∙ free) i) (nat_le (set_room n + 8) s.left) s (set_room n))
 
-pub growth-fits : (s : SetState) (n : ℕ) → n ≤ largest → is_in (room_of (class_of n)) s.free ≡ false → room_of (class_of n) + 8 ≤ s.left → set_growth s n ≡ 0
+pub growth-fits : (s : SetState) (n : ℕ) → n ≤ LARGEST → is_in (room_of (class_of n)) s.free ≡ false → room_of (class_of n) + 8 ≤ s.left → set_growth s n ≡ 0
 growth-fits s n low none left =
     let room = room-classed n low in let over = growth-over n (omega (arith, low)) in
-    let classed = le-leb n largest low in
+    let classed = le-leb n LARGEST low in
     let fits : nat_le (set_room n + 8) s.left ≡ true = ap (λ (r : ℕ). nat_le (r + 8) s.left) room ∙ le-leb (room_of (class_of n) + 8) s.left left in
     (λ i. growth_by (over i) (classed i) ((ap (λ (r : ℕ). is_in r s.free) room ∙ none) i) (fits i) s (set_room n))
 
@@ -91,15 +92,15 @@ pub if_ok : {T E : Type 0} {P Q : T → Type 0} (r : Result T E) → ((x : T) �
 if_ok (Ok x) f h = f x h
 if_ok (Err e) f h = h
 
-module _ (head : ℕ) (s : RunState) (n : ℕ) (low : n ≤ most) where
+module _ (head : ℕ) (s : RunState) (n : ℕ) (low : n ≤ MOST) where
   size : ℕ
   size = head + rounded n
 
   pub run-own : 8192 < head + rounded n → run_growth head s n ≡ head + rounded n
-  run-own big = λ i. run_growth_by (growth-over n low i) (lt-leb (head + rounded n) run_block big i) (nat_le (head + rounded n) s.left) (head + rounded n)
+  run-own big = λ i. run_growth_by (growth-over n low i) (lt-leb (head + rounded n) BLOCK big i) (nat_le (head + rounded n) s.left) (head + rounded n)
 
   pub run-fits : head + rounded n ≤ 8192 → head + rounded n ≤ s.left → run_growth head s n ≡ 0
-  run-fits small fits = λ i. run_growth_by (growth-over n low i) (le-leb (head + rounded n) run_block small i) (le-leb (head + rounded n) s.left fits i) (head + rounded n)
+  run-fits small fits = λ i. run_growth_by (growth-over n low i) (le-leb (head + rounded n) BLOCK small i) (le-leb (head + rounded n) s.left fits i) (head + rounded n)
 
   pub run-new : head + rounded n ≤ 8192 → s.left < head + rounded n → run_growth head s n ≡ 8192
-  run-new small full = λ i. run_growth_by (growth-over n low i) (le-leb (head + rounded n) run_block small i) (lt-leb (head + rounded n) s.left full i) (head + rounded n)
+  run-new small full = λ i. run_growth_by (growth-over n low i) (le-leb (head + rounded n) BLOCK small i) (lt-leb (head + rounded n) s.left full i) (head + rounded n)

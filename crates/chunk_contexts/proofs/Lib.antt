@@ -6,6 +6,7 @@ pub mod Content
 pub mod CutLaws
 pub mod SetLaws
 pub mod Growth
+pub mod RuleLaws
 pub mod SetViews
 pub mod OverLaws
 pub mod SetMoves

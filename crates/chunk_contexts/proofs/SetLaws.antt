@@ -12,7 +12,7 @@ use Rattle.chunk_layout.proofs.Finding.{same-place}
 use Rattle.chunk_layout.proofs.Numbers.{with_block-here, with_block-other}
 use Rattle.chunk_layout.proofs.PieceLaws.{without-none, without-first, without-later}
 use Rattle.chunk_contexts.specs.declared.active.Active.{Active}
-use Rattle.chunk_contexts.specs.Rooms.{rooms, rooms_down, room_of, largest}
+use Rattle.chunk_contexts.specs.Rooms.{rooms, rooms_down, room_of}
 use Rattle.chunk_contexts.specs.Free.{by_room, is_in, first_free, Linked, Elsewhere, AreLists, IsRest, cut_pieces}
 use Rattle.chunk_layout.specs.Links.{IsLinkable}
 use Rattle.chunk_contexts.specs.Set.{or_first}
@@ -21,6 +21,7 @@ use Rattle.chunk_contexts.proofs.ClassLaws.{in-small, in-some}
 use Rattle.chunk_contexts.proofs.FreeLaws.{IsLiveAt, pairwise-found, linked-kept, first_free-kept}
 use Rattle.chunk_contexts.proofs.ListLaws.{lists-new}
 use Rattle.chunk_contexts.proofs.CutLaws.{rest-none, none-at, cut-every, cut-alone, down-known}
+use Rattle.chunk_contexts.specs.declared.rooms.TheConstants.{LARGEST}
 
 pub some-block : (blocks : List (Option ℕ)) (b : ℕ) → 0 < size_at blocks b → IsTrue (is_some (get_or blocks b None))
 some-block blocks b big = by-option (get_or blocks b None) big
@@ -54,7 +55,7 @@ module _ (l : Layout) (heads : List (Option Place)) (active : Active) (first : O
   ps = l.pieces
 
   one-room : (p : Piece) → IsSetPiece l.blocks active first p → 1 ≤ p.room
-  one-room p g = elim (cases_lt largest p.room) [
+  one-room p g = elim (cases_lt LARGEST p.room) [
     | inl large ↦ omega (arith, large)
     | inr small ↦ omega (arith, in-some p.room (g.small small))
   ]
@@ -128,7 +129,7 @@ module _ (l : Layout) (heads : List (Option Place)) (active : Active) (first : O
     alone-t : Every (Alone t) (without ps place)
     alone-t = pairwise-found Alone alone-sym ps place there is.lists.links.places is.alone
 
-    pub set-put : (kept : ℕ) (bytes : List ℕ) (lives : Bool) (heads' : List (Option Place)) → (lives ≡ true) ⊎ (t.room ≤ largest)
+    pub set-put : (kept : ℕ) (bytes : List ℕ) (lives : Bool) (heads' : List (Option Place)) → (lives ≡ true) ⊎ (t.room ≤ LARGEST)
         → AreLists (put_at l place kept bytes lives) heads' → IsSet (put_at l place kept bytes lives) heads' active first
     set-put kept bytes lives heads' ok lists =
         let q : Piece = record { place = place; room = t.room; is_live = lives; bytes = take kept t.bytes ++ bytes } in
@@ -156,7 +157,7 @@ module _ (l : Layout) (heads : List (Option Place)) (active : Active) (first : O
         }
 
     -- ---- a large chunk's block goes back
-    module _ (was : IsLiveAt ps place) (big : largest < t.room) where
+    module _ (was : IsLiveAt ps place) (big : LARGEST < t.room) where
       abbrev b : ℕ
       b = place.block
 
@@ -240,7 +241,7 @@ module _ (l : Layout) (heads : List (Option Place)) (active : Active) (first : O
     start-kept f e = let h = is.start f e in let other = same-block f h.0 in (subst (λ (o : Option ℕ). IsTrue (is_some o)) (sym other) h.0, subst (λ (o : Option ℕ). unwrap_or o 0 ≤ 1048576) (sym other) h.1)
 
     -- for a chunk of its own
-    module _ (room : ℕ) (big : largest < room) where
+    module _ (room : ℕ) (big : LARGEST < room) where
       abbrev own : Piece
       own = record { place = record { block = b; offset = 8 }; room = room; is_live = true; bytes = [] }
 
@@ -298,7 +299,7 @@ module _ (l : Layout) (heads : List (Option Place)) (active : Active) (first : O
       abbrev cut : List Piece
       cut = cut_pieces rooms_down active.block active.used active.size ps
 
-      good-next : (q : Piece) → IsTrue (is_some (get_or l.blocks q.place.block None)) → (q.room ≤ largest → IsTrue (is_in q.room rooms)) → (largest < q.room → (q.is_live ≡ true) × (first ≢ Some q.place.block)) → IsSetPiece blocks' next first' q
+      good-next : (q : Piece) → IsTrue (is_some (get_or l.blocks q.place.block None)) → (q.room ≤ LARGEST → IsTrue (is_in q.room rooms)) → (LARGEST < q.room → (q.is_live ≡ true) × (first ≢ Some q.place.block)) → IsSetPiece blocks' next first' q
       good-next q there small large = record {
         there = subst (λ (o : Option ℕ). IsTrue (is_some o)) (sym (same-block q.place.block there)) there;
         used = λ _ e. absurd (not-none q.place.block there e);
@@ -322,7 +323,7 @@ module _ (l : Layout) (heads : List (Option Place)) (active : Active) (first : O
 
       alone-cut : Pairwise Alone cut
       alone-cut = cut-alone active.block active.size rooms_down down-known active.used ps
-          (every_weaker (IsSetPiece l.blocks active first) (λ (q : Piece). 0 < active.size → largest < q.room → q.place.block ≢ active.block) (λ q g some big. (g.large big).1.0 some) ps is.good) is.alone
+          (every_weaker (IsSetPiece l.blocks active first) (λ (q : Piece). 0 < active.size → LARGEST < q.room → q.place.block ≢ active.block) (λ q g some big. (g.large big).1.0 some) ps is.good) is.alone
 
       pub set-grown : AreLists (record { head = 8; blocks = blocks'; pieces = cut }) heads' → IsSet (record { head = 8; blocks = blocks'; pieces = cut }) heads' next first'
       set-grown lists = record {

@@ -10,7 +10,7 @@ use Rattle.chunk_layout.proofs.Finding.{same-place}
 use Rattle.chunk_layout.proofs.Numbers.{total-with_block}
 use Rattle.chunk_layout.specs.Every.{Every}
 use Rattle.chunk_contexts.specs.Chunks.{live}
-use Rattle.chunk_contexts.specs.Rooms.{rooms, largest}
+use Rattle.chunk_contexts.specs.Rooms.{rooms}
 use Rattle.chunk_contexts.specs.Free.{by_room, is_in, free_rooms, first_free, AreLists}
 use Rattle.chunk_layout.specs.Links.{link_bytes}
 use Rattle.chunk_contexts.specs.Set.{SetState, set_put, set_freed}
@@ -20,6 +20,7 @@ use Rattle.chunk_contexts.specs.declared.alloc_set.AllocSet.TheInside.{Inside}
 use Rattle.chunk_contexts.proofs.FreeLaws.{IsLiveAt, LiveAt, live-found, live-without, free_rooms-kept}
 use Rattle.chunk_contexts.proofs.ListLaws.{lists-put, live-put, rooms-put, live-released, rooms-released}
 use Rattle.chunk_contexts.proofs.SetLaws.{set-put, set-back, outside-is}
+use Rattle.chunk_contexts.specs.declared.rooms.TheConstants.{LARGEST}
 
 module _ (x : Inside) (ok : AreFields x) (s : SetState) (e : set_of x ≡ s) (place : Place) (there : IsTrue (has s.chunks place)) where
   abbrev l : Layout
@@ -61,7 +62,7 @@ module _ (x : Inside) (ok : AreFields x) (s : SetState) (e : set_of x ≡ s) (pl
     | inr past ↦ absurd (false≢true (ap is_some (sym (get_or_past l.blocks place.block None past)) ∙ seen-housed))
   ]
 
-  pub seen-known : (room : ℕ) → room ≡ (piece_at ps place).room → room ≤ largest → IsTrue (is_in room rooms)
+  pub seen-known : (room : ℕ) → room ≡ (piece_at ps place).room → room ≤ LARGEST → IsTrue (is_in room rooms)
   seen-known room is low = subst (λ (r : ℕ). IsTrue (is_in r rooms)) (sym is) (good.small (omega (arith, is, low)))
 
   -- other bytes
@@ -92,7 +93,7 @@ module _ (x : Inside) (ok : AreFields x) (s : SetState) (e : set_of x ≡ s) (pl
         ∙ ap (λ (z : SetState). set_put z place (take kept (piece_at z.chunks place).bytes ++ bytes)) e
 
   -- a chunk of a class is freed
-  module _ (low : (piece_at ps place).room ≤ largest) (room : ℕ) (size : (piece_at ps place).room ≡ room) (known : is_in room rooms ≡ true)
+  module _ (low : (piece_at ps place).room ≤ LARGEST) (room : ℕ) (size : (piece_at ps place).room ≡ room) (known : is_in room rooms ≡ true)
       (n : FreeLists) (is : n.layout ≡ put_at l place 0 (link_bytes (first_free by_room room ps)) false) (lists : AreLists n.layout n.heads) where
     pub fields-released : AreFields (record { lists = n; active = x.active; next = x.next; first = x.first })
     fields-released = record {
@@ -106,14 +107,14 @@ module _ (x : Inside) (ok : AreFields x) (s : SetState) (e : set_of x ≡ s) (pl
         let chunks = ap (λ (z : Layout). live z.pieces) is ∙ live-released l x.lists.heads ok.set.lists place here room size known in
         let free = ap (λ (z : Layout). free_rooms z.pieces) is ∙ rooms-released l x.lists.heads ok.set.lists place here room size known in
         let same : (piece_at (live ps) place).room ≡ room = ap (λ (q : Piece). q.room) (sym was.same) ∙ size in
-        let small : nat_lt largest (piece_at (live ps) place).room ≡ false = le-ltb largest (piece_at (live ps) place).room (omega (arith, same, size, low)) in
+        let small : nat_lt LARGEST (piece_at (live ps) place).room ≡ false = le-ltb LARGEST (piece_at (live ps) place).room (omega (arith, same, size, low)) in
         let free' : free_rooms n.layout.pieces ≡ (piece_at (live ps) place).room ∷ free_rooms ps = free ∙ ap (λ (r : ℕ). r ∷ free_rooms ps) (sym same) in
-        let blocks = ap (λ (z : Layout). z.blocks) is ∙ sym (cond-false (nat_lt largest (piece_at (live ps) place).room) (set l.blocks place.block None) l.blocks small) in
-        (λ i. record { chunks = chunks i; blocks = blocks i; free = (free' ∙ sym (cond-false (nat_lt largest (piece_at (live ps) place).room) (free_rooms ps) ((piece_at (live ps) place).room ∷ free_rooms ps) small)) i; left = x.active.size - x.active.used; next = x.next; first = x.first })
+        let blocks = ap (λ (z : Layout). z.blocks) is ∙ sym (cond-false (nat_lt LARGEST (piece_at (live ps) place).room) (set l.blocks place.block None) l.blocks small) in
+        (λ i. record { chunks = chunks i; blocks = blocks i; free = (free' ∙ sym (cond-false (nat_lt LARGEST (piece_at (live ps) place).room) (free_rooms ps) ((piece_at (live ps) place).room ∷ free_rooms ps) small)) i; left = x.active.size - x.active.used; next = x.next; first = x.first })
         ∙ ap (λ (z : SetState). set_freed z place) e
 
   -- a larger chunk is freed
-  module _ (big : largest < (piece_at ps place).room) (m : Layout) (is : m ≡ record { head = l.head; blocks = set l.blocks place.block None; pieces = outside ps place.block }) where
+  module _ (big : LARGEST < (piece_at ps place).room) (m : Layout) (is : m ≡ record { head = l.head; blocks = set l.blocks place.block None; pieces = outside ps place.block }) where
     abbrev w : Inside
     w = record { lists = record { layout = m; heads = x.lists.heads }; active = x.active; next = x.next; first = x.first }
 
@@ -129,9 +130,9 @@ module _ (x : Inside) (ok : AreFields x) (s : SetState) (e : set_of x ≡ s) (pl
         let chunks = ap (λ (z : Layout). live z.pieces) is ∙ ap live rest ∙ live-without ps place in
         let free = ap (λ (z : Layout). free_rooms z.pieces) is ∙ ap free_rooms rest ∙ free_rooms-kept ps place was.only in
         let room = ap (λ (q : Piece). q.room) was.same in
-        let large : nat_lt largest (piece_at (live ps) place).room ≡ true = lt-ltb largest (piece_at (live ps) place).room (omega (arith, room, big)) in
-        let blocks = ap (λ (z : Layout). z.blocks) is ∙ sym (cond-true (nat_lt largest (piece_at (live ps) place).room) (set l.blocks place.block None) l.blocks large) in
-        (λ i. record { chunks = chunks i; blocks = blocks i; free = (free ∙ sym (cond-true (nat_lt largest (piece_at (live ps) place).room) (free_rooms ps) ((piece_at (live ps) place).room ∷ free_rooms ps) large)) i; left = x.active.size - x.active.used; next = x.next; first = x.first })
+        let large : nat_lt LARGEST (piece_at (live ps) place).room ≡ true = lt-ltb LARGEST (piece_at (live ps) place).room (omega (arith, room, big)) in
+        let blocks = ap (λ (z : Layout). z.blocks) is ∙ sym (cond-true (nat_lt LARGEST (piece_at (live ps) place).room) (set l.blocks place.block None) l.blocks large) in
+        (λ i. record { chunks = chunks i; blocks = blocks i; free = (free ∙ sym (cond-true (nat_lt LARGEST (piece_at (live ps) place).room) (free_rooms ps) ((piece_at (live ps) place).room ∷ free_rooms ps) large)) i; left = x.active.size - x.active.used; next = x.next; first = x.first })
         ∙ ap (λ (z : SetState). set_freed z place) e
 
 -- a block more

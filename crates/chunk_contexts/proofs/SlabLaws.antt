@@ -10,7 +10,7 @@ use Rattle.chunk_layout.proofs.Lists.{every_weaker, first_has, first_passes}
 use Rattle.chunk_layout.proofs.Finding.{same-place}
 use Rattle.chunk_layout.proofs.PieceLaws.{without-none}
 use Rattle.chunk_contexts.specs.Chunks.{live}
-use Rattle.chunk_contexts.specs.Rooms.{most, rounded}
+use Rattle.chunk_contexts.specs.Rooms.{rounded}
 use Rattle.chunk_contexts.specs.Free.{by_block, is_free, first_free, Elsewhere, AreLinked}
 use Rattle.chunk_layout.specs.Links.{IsLinkable}
 use Rattle.chunk_contexts.specs.Generation.{in_block}
@@ -22,6 +22,7 @@ use Rattle.chunk_contexts.proofs.RunMoves.{every-put}
 use Rattle.chunk_contexts.proofs.GenLaws.{in-here, in-other}
 use Rattle.chunk_contexts.proofs.GenMoves.{in-put}
 use Rattle.chunk_contexts.proofs.LinkLaws as Link
+use Rattle.chunk_contexts.specs.declared.rooms.TheConstants.{MOST}
 
 -- so many chunks have room in a block
 pub chunk-fits : (room n : ℕ) → n < per_block room → n * (8 + room) + (8 + room) ≤ slab_block room
@@ -124,7 +125,7 @@ module _ (size : ℕ) (l : Layout) (is : IsSlabLayout size l) where
     }
 
   -- ---- the next chunk is cut from a block
-  module _ (k : ℕ) (name : k < 4294967296) (some : IsTrue (is_some (get_or l.blocks k None))) (small : size ≤ most) (none : first_free by_block k ps ≡ None) (few : in_block (live ps) k < per_block room) where
+  module _ (k : ℕ) (name : k < 4294967296) (some : IsTrue (is_some (get_or l.blocks k None))) (small : size ≤ MOST) (none : first_free by_block k ps ≡ None) (few : in_block (live ps) k < per_block room) where
     abbrev cut : ℕ
     cut = in_block ps k
 

@@ -3,10 +3,12 @@ use Rattle.std.specs.Prelude.{◌≡◌, ℕ, ◌+◌, ◌≤◌, ◌==◌, ◌&
 use Rattle.std.specs.Prelude.{◌^◌, ◌<◌, get_or}
 use Rattle.chunk_layout.specs.Every.{Every, Pairwise}
 use Rattle.chunk_layout.specs.Pieces.{Layout, Piece, same_place, size_at}
+use Rattle.chunk_layout.specs.declared.blocks.TheConstants.{HEADER}
 use Rattle.chunk_contexts.specs.declared.active.Active.{Active}
 use Rattle.chunk_contexts.specs.Rooms.{room_of}
 use Rattle.chunk_layout.specs.declared.place.Place.{Place}
 use Rattle.chunk_layout.specs.Links.{link_bytes, IsLinkable}
+use Rattle.chunk_contexts.specs.declared.rooms.TheConstants.{CLASSES, LARGEST_BLOCK}
 
 -- free chunks are kept in lists by a number that a chunk has by its place and room: its room, or its block
 abbrev pub by_room : Place → ℕ → ℕ
@@ -46,11 +48,11 @@ Linked key (p ∷ ps) = (p.is_live ≡ false → p.bytes ≡ link_bytes (first_f
 -- what is left of a block of so many bytes is cut into free chunks, in front of the others: for each room in turn one, if
 -- it fits with its header
 abbrev pub cut_used : ℕ → ℕ → ℕ → ℕ
-cut_used room used size = cond (nat_le (room + 8) (size - used)) (used + 8 + room) used
+cut_used room used size = cond (nat_le (room + HEADER) (size - used)) (used + HEADER + room) used
 
 abbrev pub cut_piece : ℕ → ℕ → ℕ → ℕ → List Piece → List Piece
 cut_piece room block used size ps =
-    cond (nat_le (room + 8) (size - used)) ((record { place = record { block = block; offset = used + 8 }; room = room; is_live = false; bytes = link_bytes (first_free by_room room ps) }) ∷ ps) ps
+    cond (nat_le (room + HEADER) (size - used)) ((record { place = record { block = block; offset = used + HEADER }; room = room; is_live = false; bytes = link_bytes (first_free by_room room ps) }) ∷ ps) ps
 
 abbrev pub cut_pieces : List ℕ → ℕ → ℕ → ℕ → List Piece → List Piece
 cut_pieces [] block used size ps = ps
@@ -62,7 +64,7 @@ Elsewhere p q = same_place p.place q.place ≡ false
 
 -- chunks with headers, of which each free one names the next of its list
 pub record AreLinked (key : Place → ℕ → ℕ) (l : Layout) : Type 0 where
-  pub head : l.head ≡ 8
+  pub head : l.head ≡ HEADER
   pub places : Pairwise Elsewhere l.pieces
   pub ranges : Every (λ p. IsLinkable p.place) l.pieces
   pub linked : Linked key l.pieces
@@ -70,14 +72,14 @@ pub record AreLinked (key : Place → ℕ → ℕ) (l : Layout) : Type 0 where
 -- the free lists of a layout by rooms: what each list has first, by its class
 pub record AreLists (l : Layout) (heads : List (Option Place)) : Type 0 where
   pub links : AreLinked by_room l
-  pub count : length heads ≡ 11
-  pub firsts : (class : ℕ) → class < 11 → get_or heads class None ≡ first_free by_room (room_of class) l.pieces
+  pub count : length heads ≡ CLASSES
+  pub firsts : (class : ℕ) → class < CLASSES → get_or heads class None ≡ first_free by_room (room_of class) l.pieces
 
 -- no chunk lies in what is left of a block
 pub record IsRest (l : Layout) (active : Active) : Type 0 where
   pub size : 0 < active.size → active.size ≡ size_at l.blocks active.block
   pub used : active.used ≤ active.size
-  pub bound : active.size ≤ 1048576
+  pub bound : active.size ≤ LARGEST_BLOCK
   pub block : active.block < 2 ^ 32
   pub clear : Every (λ p. 0 < active.size → p.place.block ≡ active.block → p.place.offset + p.room ≤ active.used) l.pieces
   pub rooms : Every (λ p. 1 ≤ p.room) l.pieces

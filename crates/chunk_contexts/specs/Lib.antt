@@ -3,6 +3,7 @@ pub mod Rooms
 pub mod Free
 pub mod Set
 pub mod SetFields
+pub mod SetRules
 pub mod ContextLends
 pub mod Run
 pub mod BumpFields

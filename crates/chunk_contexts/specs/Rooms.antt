@@ -3,10 +3,7 @@ use Rattle.std.specs.Prelude.{ℕ, ◌+◌, ◌*◌, ◌/◌, max, nat_le, nat_l
 use Rattle.std.specs.List.{position_or_len}
 use Rattle.chunk_contexts.specs.declared.error.ContextError.{ContextError}
 use Rattle.chunk_contexts.specs.declared.error.ContextError.TheVariants.{TooLarge}
-
--- the longest chunk of any context, in bytes
-abbrev pub most : ℕ
-most = 1073741823
+use Rattle.chunk_contexts.specs.declared.rooms.TheConstants.{MOST}
 
 -- a number of bytes raised to a multiple of 8, at least 8
 abbrev pub rounded : ℕ → ℕ
@@ -14,17 +11,14 @@ rounded n = (max n 1 + 7) / 8 * 8
 
 -- a request that is too long for any kind
 abbrev pub over_most : ℕ → Option ContextError
-over_most n = if nat_lt most n then Some TooLarge else None
+over_most n = if nat_lt MOST n then Some TooLarge else None
 
--- the rooms of the chunks of a set that lie together in blocks, and the longest one
+-- the rooms of the chunks of a set that lie together in blocks
 unfoldable pub rooms : List ℕ
 rooms = 8 ∷ 16 ∷ 32 ∷ 64 ∷ 128 ∷ 256 ∷ 512 ∷ 1024 ∷ 2048 ∷ 4096 ∷ 8192 ∷ []
 
 unfoldable pub rooms_down : List ℕ
 rooms_down = 8192 ∷ 4096 ∷ 2048 ∷ 1024 ∷ 512 ∷ 256 ∷ 128 ∷ 64 ∷ 32 ∷ 16 ∷ 8 ∷ []
-
-abbrev pub largest : ℕ
-largest = 8192
 
 unfoldable pub room_of : ℕ → ℕ
 room_of class = get_or rooms class 0

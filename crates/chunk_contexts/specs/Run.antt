@@ -8,10 +8,7 @@ use Rattle.chunk_layout.specs.declared.place.Place.{Place}
 use Rattle.chunk_contexts.specs.Rooms.{rounded, over_most}
 use Rattle.chunk_contexts.specs.Free.{IsRest}
 use Rattle.chunk_contexts.specs.declared.runs.Runs.{Runs}
-
--- the size of a block, in bytes
-abbrev pub run_block : ℕ
-run_block = 8192
+use Rattle.chunk_contexts.specs.declared.rooms.TheConstants.{BLOCK}
 
 -- its live chunks, the newest first; the size of each block by its number; the number of the block in use; and what is
 -- left of it
@@ -29,19 +26,19 @@ abbrev pub run_growth_by : Bool → Bool → Bool → ℕ → ℕ
 run_growth_by true small fits size = 0
 run_growth_by false false fits size = size
 run_growth_by false true true size = 0
-run_growth_by false true false size = run_block
+run_growth_by false true false size = BLOCK
 
 abbrev pub run_growth : ℕ → RunState → ℕ → ℕ
-run_growth head s n = run_growth_by (is_some (over_most n)) (nat_le (head + rounded n) run_block) (nat_le (head + rounded n) s.left) (head + rounded n)
+run_growth head s n = run_growth_by (is_some (over_most n)) (nat_le (head + rounded n) BLOCK) (nat_le (head + rounded n) s.left) (head + rounded n)
 
 -- with a chunk: in a block of its own, behind the others, or in a new block
 abbrev pub run_taken_by : Bool → Bool → ℕ → RunState → Piece → RunState
 run_taken_by false fits size s p = record { chunks = p ∷ s.chunks; blocks = with_block s.blocks p.place.block size; active = s.active; left = s.left }
 run_taken_by true true size s p = record { chunks = p ∷ s.chunks; blocks = s.blocks; active = s.active; left = s.left - size }
-run_taken_by true false size s p = record { chunks = p ∷ s.chunks; blocks = with_block s.blocks p.place.block run_block; active = p.place.block; left = run_block - size }
+run_taken_by true false size s p = record { chunks = p ∷ s.chunks; blocks = with_block s.blocks p.place.block BLOCK; active = p.place.block; left = BLOCK - size }
 
 abbrev pub run_taken : ℕ → RunState → Piece → RunState
-run_taken head s p = run_taken_by (nat_le (head + p.room) run_block) (nat_le (head + p.room) s.left) (head + p.room) s p
+run_taken head s p = run_taken_by (nat_le (head + p.room) BLOCK) (nat_le (head + p.room) s.left) (head + p.room) s p
 
 -- the block of a chunk that is made: the one in use, or a new one where blocks grow
 abbrev pub IsBlockOf : RunState → ℕ → ℕ → Type 0

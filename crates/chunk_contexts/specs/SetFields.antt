@@ -4,11 +4,12 @@ use Rattle.chunk_layout.specs.Every.{Every, Pairwise}
 use Rattle.chunk_layout.specs.Pieces.{Layout, Piece, size_at}
 use Rattle.chunk_layout.specs.declared.place.Place.{Place}
 use Rattle.chunk_contexts.specs.Chunks.{live}
-use Rattle.chunk_contexts.specs.Rooms.{rooms, largest}
+use Rattle.chunk_contexts.specs.Rooms.{rooms}
 use Rattle.chunk_contexts.specs.Free.{is_in, free_rooms, AreLists}
 use Rattle.chunk_contexts.specs.Set.{SetState}
 use Rattle.chunk_contexts.specs.declared.alloc_set.AllocSet.TheInside.{Inside}
 use Rattle.chunk_contexts.specs.declared.active.Active.{Active}
+use Rattle.chunk_contexts.specs.declared.rooms.TheConstants.{BLOCK, LARGEST, LARGEST_BLOCK}
 
 abbrev pub set_of : Inside → SetState
 set_of s = record { chunks = live s.lists.layout.pieces; blocks = s.lists.layout.blocks; free = free_rooms s.lists.layout.pieces; left = s.active.size - s.active.used; next = s.next; first = s.first }
@@ -18,12 +19,12 @@ set_of s = record { chunks = live s.lists.layout.pieces; blocks = s.lists.layout
 pub record IsSetPiece (blocks : List (Option ℕ)) (active : Active) (first : Option ℕ) (p : Piece) : Type 0 where
   pub there : IsTrue (is_some (get_or blocks p.place.block None))
   pub used : 0 < active.size → p.place.block ≡ active.block → p.place.offset + p.room ≤ active.used
-  pub small : p.room ≤ largest → IsTrue (is_in p.room rooms)
-  pub large : largest < p.room → (p.is_live ≡ true) × ((0 < active.size → p.place.block ≢ active.block) × (first ≢ Some p.place.block))
+  pub small : p.room ≤ LARGEST → IsTrue (is_in p.room rooms)
+  pub large : LARGEST < p.room → (p.is_live ≡ true) × ((0 < active.size → p.place.block ≢ active.block) × (first ≢ Some p.place.block))
 
 -- a larger chunk has its block for itself
 abbrev pub Alone : Piece → Piece → Type 0
-Alone p q = ((largest < p.room) ⊎ (largest < q.room)) → p.place.block ≢ q.place.block
+Alone p q = ((LARGEST < p.room) ⊎ (LARGEST < q.room)) → p.place.block ≢ q.place.block
 
 pub record IsSet (l : Layout) (heads : List (Option Place)) (active : Active) (first : Option ℕ) : Type 0 where
   pub lists : AreLists l heads
@@ -31,10 +32,10 @@ pub record IsSet (l : Layout) (heads : List (Option Place)) (active : Active) (f
   pub good : Every (IsSetPiece l.blocks active first) l.pieces
   pub size : 0 < active.size → active.size ≡ size_at l.blocks active.block
   pub used : active.used ≤ active.size
-  pub bound : active.size ≤ 1048576
+  pub bound : active.size ≤ LARGEST_BLOCK
   pub block : active.block < 2 ^ 32
-  pub start : (block : ℕ) → first ≡ Some block → (IsTrue (is_some (get_or l.blocks block None))) × (size_at l.blocks block ≤ 1048576)
+  pub start : (block : ℕ) → first ≡ Some block → (IsTrue (is_some (get_or l.blocks block None))) × (size_at l.blocks block ≤ LARGEST_BLOCK)
 
 pub record AreFields (s : Inside) : Type 0 where
   pub set : IsSet s.lists.layout s.lists.heads s.active s.first
-  pub next : (8192 ≤ s.next) × (s.next ≤ 1048576)
+  pub next : (BLOCK ≤ s.next) × (s.next ≤ LARGEST_BLOCK)

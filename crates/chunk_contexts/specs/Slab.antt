@@ -4,22 +4,24 @@
 use Rattle.std.specs.Prelude.{◌≡◌, ℕ, ◌+◌, ◌*◌, ◌/◌, ◌≤◌, ◌==◌, ◌&&◌, ◌||◌, max, nat_lt, Bool, true, false, cond, List, [], ◌∷◌, Option, Some, None, replicate, length, get_or, slice_set, is_some, IsTrue}
 use Rattle.chunk_layout.specs.Every.{Every}
 use Rattle.chunk_layout.specs.Pieces.{Layout, Piece, without, with_block, rewritten, size_at}
+use Rattle.chunk_layout.specs.declared.blocks.TheConstants.{HEADER}
 use Rattle.chunk_layout.specs.declared.place.Place.{Place}
 use Rattle.chunk_contexts.specs.Chunks.{live}
-use Rattle.chunk_contexts.specs.Rooms.{most, rounded, over_most}
+use Rattle.chunk_contexts.specs.Rooms.{rounded, over_most}
 use Rattle.chunk_contexts.specs.Free.{by_block, first_free, AreLinked}
 use Rattle.chunk_contexts.specs.Generation.{in_block}
 use Rattle.chunk_contexts.specs.declared.error.ContextError.{ContextError}
 use Rattle.chunk_contexts.specs.declared.error.ContextError.TheVariants.{WrongSize}
 use Rattle.chunk_contexts.specs.declared.slab_chunks.SlabBlock.{SlabBlock}
 use Rattle.chunk_contexts.specs.declared.slab_chunks.SlabChunks.{SlabChunks}
+use Rattle.chunk_contexts.specs.declared.rooms.TheConstants.{BLOCK, MOST}
 
 -- the size of a block for chunks of this room, and how many chunks it has
 abbrev pub slab_block : ℕ → ℕ
-slab_block room = max 8192 (8 + room)
+slab_block room = max BLOCK (HEADER + room)
 
 unfoldable pub per_block : ℕ → ℕ
-per_block room = slab_block room / (8 + room)
+per_block room = slab_block room / (HEADER + room)
 
 -- the size of its chunks; its live chunks, the newest first; and the size of each block by its number
 pub record SlabState : Type 0 where
@@ -89,7 +91,7 @@ pub record IsSlabLayout (size : ℕ) (l : Layout) : Type 0 where
   pub rooms : Every (λ p. p.room ≡ rounded size) l.pieces
   pub there : Every (λ p. IsTrue (is_some (get_or l.blocks p.place.block None))) l.pieces
   pub sizes : (block : ℕ) → IsTrue (is_some (get_or l.blocks block None)) → size_at l.blocks block ≡ slab_block (rounded size)
-  pub ends : Every (λ p. p.place.offset + p.room ≤ in_block l.pieces p.place.block * (8 + rounded size)) l.pieces
+  pub ends : Every (λ p. p.place.offset + p.room ≤ in_block l.pieces p.place.block * (HEADER + rounded size)) l.pieces
 
 -- what is kept of a block: its first free chunk, how many chunks were cut from it, and how many of these are live
 pub record IsEntry (ps : List Piece) (block : ℕ) (e : SlabBlock) : Type 0 where
@@ -102,7 +104,7 @@ no_block = record { free = None; cut = 0; live = 0 }
 
 -- what is kept of each block; and the blocks with a free chunk are marked
 pub record IsSlab (size count : ℕ) (l : Layout) (kept : List SlabBlock) (marked : List Bool) : Type 0 where
-  pub small : size ≤ most
+  pub small : size ≤ MOST
   pub per : count ≡ per_block (rounded size)
   pub layout : IsSlabLayout size l
   pub entries : (block : ℕ) → IsEntry l.pieces block (get_or kept block no_block)

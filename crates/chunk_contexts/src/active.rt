@@ -1,6 +1,7 @@
 //! The block in use: the one that chunks are cut from.
 ghost use Rattle.std.specs.Prelude.{◌≡◌, cond, ◌==◌, ◌+◌, ◌-◌, ◌≤◌, true, false, [], ◌∷◌};
 ghost use Rattle.chunk_layout.specs.Pieces.{has};
+ghost use Rattle.chunk_layout.specs.declared.blocks.TheConstants.{HEADER};
 
 use chunk_layout::{ChunkLayout, Place};
 
@@ -51,7 +52,7 @@ impl Active {
     pub(crate) fn carve(&mut self, layout: &mut ChunkLayout, head: usize, room: usize) -> Place
         requires rest { IsRest layout.old self.old }
         requires head { layout.old.head ≡ head }
-        requires small { head ≤ 8 }
+        requires small { head ≤ HEADER }
         requires room { 1 ≤ room }
         requires fits { self.old.used + head + room ≤ self.old.size }
         ensures place { result ≡ record { block = self.old.block; offset = self.old.used + head } }

@@ -2,25 +2,22 @@
 ghost use Rattle.std.specs.Prelude.{◌≡◌, ◌+◌, ◌*◌, ◌-◌, ◌<◌, ◌≤◌, ◌^◌, min, true, false, [], ◌∷◌, Some, None, IsTrue, IfSome, IfNone, IfOk, OnOk, OnErr, IfErr, length, get_or, is_some, nat_le, take, ◌++◌};
 ghost use Rattle.block_memory.specs.Cells.{zeros};
 ghost use Rattle.chunk_layout.specs.Pieces.{has, same_place, place_of, piece_at, total, with_block, resized};
-ghost use Rattle.chunk_contexts.specs.Rooms.{most, rounded, rooms, room_of, largest};
+ghost use Rattle.chunk_contexts.specs.Rooms.{rounded, rooms, room_of};
 ghost use Rattle.chunk_contexts.specs.Chunks.{chunk_of, IsNewBlock};
 ghost use Rattle.chunk_contexts.specs.Free.{is_in};
 ghost use Rattle.chunk_contexts.specs.Set.{new_set, set_growth, set_room, block_size, grown, carved, reused, dedicated, set_taken, set_freed, set_put, set_reset};
+ghost use Rattle.chunk_contexts.specs.SetRules.{GrowsByRule};
 
 use crate::active::Active;
 use crate::context::ChunkContext;
 use crate::error::ContextError;
 use crate::free_lists::FreeLists;
-use crate::rooms::{CLASSES, HEADER, LARGEST, MOST, check_len, class_of, room_of, rounded};
-use chunk_layout::{ChunkLayout, ChunkName, Place};
+use crate::rooms::{
+    BLOCK, CLASSES, LARGEST, LARGEST_BLOCK, MOST, check_len, class_of, room_of, rounded,
+};
+use chunk_layout::{ChunkLayout, ChunkName, HEADER, Place};
 use std::alloc::{AllocError, Global};
 use std::marker::Model;
-
-/// The size of the first block that has chunks of the classes, in bytes.
-const FIRST_BLOCK: usize = 8192;
-
-/// The largest size of a block that has chunks of the classes, in bytes.
-const LAST_BLOCK: usize = 1_048_576;
 
 /// A context for chunks of any size, which are freed one by one.
 #[derive(Drop)]
@@ -45,12 +42,12 @@ impl Model for AllocSet {
 
 /// The size of a new block for a chunk of this room.
 fn block_size(next: usize, room: usize) -> usize
-    requires next { next ≤ 1048576 }
-    requires least { 8192 ≤ next }
-    requires room { room ≤ 8192 }
+    requires next { next ≤ LARGEST_BLOCK }
+    requires least { BLOCK ≤ next }
+    requires room { room ≤ LARGEST }
     ensures value { result ≡ block_size next room }
-    ensures room { room + 8 ≤ result }
-    ensures small { result ≤ 1048576 }
+    ensures room { room + HEADER ≤ result }
+    ensures small { result ≤ LARGEST_BLOCK }
 {
     if room + HEADER <= next {
         next
@@ -70,7 +67,7 @@ impl AllocSet {
                 heads: [None; CLASSES],
             },
             active: Active::NONE,
-            next: FIRST_BLOCK,
+            next: BLOCK,
             first: None,
         }
     }
@@ -84,7 +81,7 @@ impl AllocSet {
 
     /// Takes the first free chunk of a class, if there is one. It has no bytes then.
     fn reuse(&mut self, class: usize) -> Option<Place>
-        requires { class < 11 }
+        requires { class < CLASSES }
         ensures some { IfSome result (λ place. (is_in (room_of class) self.old.free ≡ true) × (self.new ≡ reused self.old (record { place = place; room = room_of class; is_live = true; bytes = [] }))) }
         ensures fresh { IfSome result (λ place. has self.old.chunks place ≡ false) }
         ensures none { IfNone result ((is_in (room_of class) self.old.free ≡ false) × (self.new ≡ self.old)) }
@@ -98,7 +95,7 @@ impl AllocSet {
     /// Makes a chunk of no bytes in the block in use.
     fn carve(&mut self, room: usize) -> Place
         requires known { IsTrue (is_in room rooms) }
-        requires fits { room + 8 ≤ self.old.left }
+        requires fits { room + HEADER ≤ self.old.left }
         ensures carved { self.new ≡ carved self.old (record { place = result; room = room; is_live = true; bytes = [] }) }
         ensures fresh { has self.old.chunks result ≡ false }
     {
@@ -108,7 +105,7 @@ impl AllocSet {
     /// Makes a chunk of no bytes in a new block, which is then in use. What was left of the one before is cut up.
     fn carve_new(&mut self, room: usize) -> Result<Place, AllocError>
         requires known { IsTrue (is_in room rooms) }
-        requires small { room ≤ 8192 }
+        requires small { room ≤ LARGEST }
         ensures carved { IfOk result (λ place. self.new ≡ carved (grown self.old place.block (block_size self.old.next room)) (record { place = place; room = room; is_live = true; bytes = [] })) }
         ensures fresh { IfOk result (λ place. has self.old.chunks place ≡ false) }
         ensures vacant { IfOk result (λ place. get_or self.old.blocks place.block None ≡ None) }
@@ -123,19 +120,19 @@ impl AllocSet {
             used: 0,
             size,
         };
-        self.next = (2 * self.next).min(LAST_BLOCK);
+        self.next = (2 * self.next).min(LARGEST_BLOCK);
         self.first = self.first.or(Some(block));
         Ok(self.active.carve(&mut self.lists.layout, HEADER, room))
     }
 
     /// Makes a chunk of no bytes in a block of its own.
     fn dedicate(&mut self, room: usize) -> Result<Place, AllocError>
-        requires large { largest < room }
-        requires small { room ≤ most + 8 }
+        requires large { LARGEST < room }
+        requires small { room ≤ MOST + 8 }
         ensures taken { IfOk result (λ place. self.new ≡ dedicated self.old (record { place = place; room = room; is_live = true; bytes = [] })) }
         ensures fresh { IfOk result (λ place. has self.old.chunks place ≡ false) }
         ensures vacant { IfOk result (λ place. get_or self.old.blocks place.block None ≡ None) }
-        ensures held { OnOk result (total self.new.blocks ≡ total self.old.blocks + (room + 8)) }
+        ensures held { OnOk result (total self.new.blocks ≡ total self.old.blocks + (room + HEADER)) }
         ensures refused { OnErr result (self.new ≡ self.old) }
     {
         let block = self.lists.layout.take_block(room + HEADER)?;
@@ -149,7 +146,7 @@ impl AllocSet {
 
     /// Makes a chunk of no bytes, with room for `n`.
     fn claim(&mut self, n: usize) -> Result<Place, AllocError>
-        requires { n ≤ most }
+        requires { n ≤ MOST }
         ensures taken { IfOk result (λ place. self.new ≡ set_taken self.old n (record { place = place; room = set_room n; is_live = true; bytes = [] })) }
         ensures room { OnOk result (n ≤ set_room n) }
         ensures fresh { IfOk result (λ place. has self.old.chunks place ≡ false) }
@@ -176,7 +173,7 @@ impl AllocSet {
         requires there { IsTrue (has self.old.chunks place) }
         requires kept { kept ≤ length (piece_at self.old.chunks place).bytes }
         requires room { kept + length bytes.now ≤ (piece_at self.old.chunks place).room }
-        requires small { kept + length bytes.now ≤ most }
+        requires small { kept + length bytes.now ≤ MOST }
         ensures name { result ≡ record { block = place.block; offset = place.offset; len = kept + length bytes.now } }
         ensures put { self.new ≡ set_put self.old place (take kept (piece_at self.old.chunks place).bytes ++ bytes.now) }
         ensures block { IsTrue (is_some (get_or self.new.blocks place.block None)) }
@@ -194,7 +191,7 @@ impl AllocSet {
         requires there { IsTrue (has self.old.chunks place) }
         requires kept { kept ≤ length (piece_at self.old.chunks place).bytes }
         requires room { kept + n ≤ (piece_at self.old.chunks place).room }
-        requires small { kept + n ≤ most }
+        requires small { kept + n ≤ MOST }
         ensures name { result ≡ record { block = place.block; offset = place.offset; len = kept + n } }
         ensures put { self.new ≡ set_put self.old place (take kept (piece_at self.old.chunks place).bytes ++ zeros n) }
         ensures block { IsTrue (is_some (get_or self.new.blocks place.block None)) }
@@ -245,7 +242,7 @@ impl AllocSet {
         requires there { IsTrue (has self.old.chunks place) }
         requires len { length (piece_at self.old.chunks place).bytes ≡ len }
         requires room { n ≤ (piece_at self.old.chunks place).room }
-        requires small { n ≤ most }
+        requires small { n ≤ MOST }
         ensures name { result ≡ record { block = place.block; offset = place.offset; len = n } }
         ensures put { self.new ≡ set_put self.old place (resized (piece_at self.old.chunks place).bytes n) }
     {
@@ -253,11 +250,19 @@ impl AllocSet {
         place.named(n)
     }
 
+    /// A law: a request of a class that takes a block takes one of the next size, doubled until it holds the chunk. What was
+    /// left of the block before is then cut up: while 16 bytes are left, a free chunk of the largest class that fits.
+    pub fn grows_by_rule(&self)
+        ensures { GrowsByRule self.now }
+    {
+        let _lists = &self.lists;
+    }
+
     /// Makes a chunk of `len` bytes `n` bytes long, in a new chunk.
     fn relocate(&mut self, from: Place, len: usize, n: usize) -> Result<ChunkName, AllocError>
         requires there { IsTrue (has self.old.chunks from) }
         requires len { length (piece_at self.old.chunks from).bytes ≡ len }
-        requires small { n ≤ most }
+        requires small { n ≤ MOST }
         ensures len { IfOk result (λ moved. moved.len ≡ n) }
         ensures fresh { IfOk result (λ moved. has self.old.chunks (place_of moved) ≡ false) }
         ensures moved { IfOk result (λ moved. self.new ≡ set_freed (set_taken self.old n (chunk_of moved (set_room n) (resized (piece_at self.old.chunks from).bytes n))) from) }
@@ -348,9 +353,9 @@ impl ChunkContext for AllocSet {
             None => Active::NONE,
         };
         self.next = if self.first.is_some() {
-            2 * FIRST_BLOCK
+            2 * BLOCK
         } else {
-            FIRST_BLOCK
+            BLOCK
         };
     }
 

@@ -8,21 +8,21 @@ ghost use Rattle.chunk_layout.specs.Links.{link_bytes, IsLinkable};
 ghost use Rattle.chunk_contexts.specs.Chunks.{live};
 
 use crate::active::Active;
-use crate::rooms::{CLASSES, HEADER, class_of, room_of};
-use chunk_layout::{ChunkLayout, Place, put_first, take_first};
+use crate::rooms::{CLASSES, LARGEST, class_of, room_of};
+use chunk_layout::{ChunkLayout, HEADER, Place, put_first, take_first};
 
 /// A layout of chunks with headers, and the first free chunk of each class.
 #[derive(Drop)]
 pub struct FreeLists {
     pub(crate) layout: ChunkLayout,
-    pub(crate) heads: [Option<Place>; 11],
+    pub(crate) heads: [Option<Place>; CLASSES],
 }
 
 impl FreeLists {
     /// Takes the first free chunk of a class, if there is one. It is live then, and has no bytes.
     pub(crate) fn reuse(&mut self, class: usize) -> Option<Place>
         requires lists { AreLists self.old.layout self.old.heads }
-        requires class { class < 11 }
+        requires class { class < CLASSES }
         ensures lists { AreLists self.new.layout self.new.heads }
         ensures none { IfNone result ((first_free by_room (room_of class) self.old.layout.pieces ≡ None) × (self.new ≡ self.old)) }
         ensures some { IfSome result (λ place. first_free by_room (room_of class) self.old.layout.pieces ≡ Some place) }
@@ -54,12 +54,12 @@ impl FreeLists {
         requires lists { AreLists self.old.layout self.old.heads }
         requires known { IsTrue (is_in room rooms) }
         requires inside { place.offset + room ≤ size_at self.old.layout.blocks place.block }
-        requires after { 8 ≤ place.offset }
-        requires clear { Every (IsClear 8 place room) self.old.layout.pieces }
+        requires after { HEADER ≤ place.offset }
+        requires clear { Every (IsClear HEADER place room) self.old.layout.pieces }
         requires none { has self.old.layout.pieces place ≡ false }
         requires links { IsLinkable place }
         ensures lists { AreLists self.new.layout self.new.heads }
-        ensures cut { self.new.layout ≡ record { head = 8; blocks = self.old.layout.blocks; pieces = (record { place = place; room = room; is_live = false; bytes = link_bytes (first_free by_room room self.old.layout.pieces) }) ∷ self.old.layout.pieces } }
+        ensures cut { self.new.layout ≡ record { head = HEADER; blocks = self.old.layout.blocks; pieces = (record { place = place; room = room; is_live = false; bytes = link_bytes (first_free by_room room self.old.layout.pieces) }) ∷ self.old.layout.pieces } }
     {
         self.layout.carve(place, room);
         self.release(place, room);
@@ -70,11 +70,11 @@ impl FreeLists {
         requires lists { AreLists self.old.layout self.old.heads }
         requires rest { IsRest self.old.layout block.old }
         requires known { IsTrue (is_in room rooms) }
-        requires small { room ≤ 8192 }
+        requires small { room ≤ LARGEST }
         ensures lists { AreLists self.new.layout self.new.heads }
         ensures rest { IsRest self.new.layout block.new }
         ensures used { block.new ≡ record { block = block.old.block; used = cut_used room block.old.used block.old.size; size = block.old.size } }
-        ensures cut { self.new.layout ≡ record { head = 8; blocks = self.old.layout.blocks; pieces = cut_piece room block.old.block block.old.used block.old.size self.old.layout.pieces } }
+        ensures cut { self.new.layout ≡ record { head = HEADER; blocks = self.old.layout.blocks; pieces = cut_piece room block.old.block block.old.used block.old.size self.old.layout.pieces } }
     {
         if room + HEADER > block.left() {
             return;
@@ -92,7 +92,7 @@ impl FreeLists {
         requires lists { AreLists self.old.layout self.old.heads }
         requires rest { IsRest self.old.layout block }
         ensures lists { AreLists self.new.layout self.new.heads }
-        ensures cut { self.new.layout ≡ record { head = 8; blocks = self.old.layout.blocks; pieces = cut_pieces rooms_down block.block block.used block.size self.old.layout.pieces } }
+        ensures cut { self.new.layout ≡ record { head = HEADER; blocks = self.old.layout.blocks; pieces = cut_pieces rooms_down block.block block.used block.size self.old.layout.pieces } }
     {
         let mut rest = block;
         for index in 0..CLASSES {
@@ -104,7 +104,7 @@ impl FreeLists {
     /// Whether a chunk of a class is free.
     pub(crate) fn has_free(&self, class: usize) -> bool
         requires lists { AreLists self.now.layout self.now.heads }
-        requires class { class < 11 }
+        requires class { class < CLASSES }
         ensures { result ≡ is_in (room_of class) (free_rooms self.now.layout.pieces) }
     {
         self.heads[class].is_some()
@@ -114,7 +114,7 @@ impl FreeLists {
     pub(crate) fn clear(&mut self, keep: Option<u32>)
         requires lists { AreLists self.old.layout self.old.heads }
         ensures lists { AreLists self.new.layout self.new.heads }
-        ensures cleared { self.new.layout ≡ record { head = 8; blocks = only self.old.layout.blocks keep; pieces = [] } }
+        ensures cleared { self.new.layout ≡ record { head = HEADER; blocks = only self.old.layout.blocks keep; pieces = [] } }
     {
         self.layout.clear(keep);
         self.heads = [None; CLASSES];

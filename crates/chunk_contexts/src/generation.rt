@@ -4,14 +4,11 @@ ghost use Rattle.chunk_layout.specs.Pieces.{has, same_place, piece_at, place_of,
 
 use crate::context::ChunkContext;
 use crate::error::ContextError;
-use crate::rooms::check_len;
+use crate::rooms::{BLOCK, MOST, check_len};
 use crate::runs::Runs;
-use chunk_layout::{ChunkName, Place};
+use chunk_layout::{ChunkName, HEADER, Place};
 use std::alloc::{AllocError, Global};
 use std::marker::Model;
-
-/// How many bytes stand before a chunk for its header.
-const HEAD: usize = 8;
 
 /// A context for chunks that are given up about as they were taken: they lie one after the other, and a block goes back at
 /// once when all its chunks are given up.
@@ -51,7 +48,7 @@ fn make_count(counts: &mut Vec<u32>, numbers: usize, growth: u64) -> Result<(), 
 /// Counts one chunk more in a block.
 fn count_one(counts: &mut Vec<u32>, block: u32)
     requires there { block < length counts.old.items }
-    requires few { get_or counts.old.items block 0 ≤ 8192 }
+    requires few { get_or counts.old.items block 0 ≤ BLOCK }
     ensures { counts.new.items ≡ slice_set counts.old.items block (get_or counts.old.items block 0 + 1) }
 {
     counts[block as usize] += 1;
@@ -81,7 +78,6 @@ fn forget_counts(counts: &mut Vec<u32>)
 impl Generation {
     ghost use Rattle.std.specs.Prelude.{true, false, ◌++◌, take};
     ghost use Rattle.block_memory.specs.Cells.{zeros};
-    ghost use Rattle.chunk_contexts.specs.Rooms.{most};
     ghost use Rattle.chunk_contexts.specs.Run.{new_run, run_put};
     ghost use Rattle.chunk_contexts.specs.Generation.{gen_freed};
 
@@ -98,7 +94,7 @@ impl Generation {
         requires there { IsTrue (has self.old.chunks place) }
         requires len { length (piece_at self.old.chunks place).bytes ≡ len }
         requires room { n ≤ (piece_at self.old.chunks place).room }
-        requires small { n ≤ most }
+        requires small { n ≤ MOST }
         ensures name { result ≡ record { block = place.block; offset = place.offset; len = n } }
         ensures put { self.new ≡ run_put self.old place (resized (piece_at self.old.chunks place).bytes n) }
     {
@@ -147,6 +143,7 @@ impl ChunkContext for Generation {
     ghost use Rattle.chunk_contexts.specs.Rooms.{rounded, over_most};
     ghost use Rattle.chunk_contexts.specs.Run.{run_growth, run_taken, run_wrote, run_put, run_reset, IsBlockOf};
     ghost use Rattle.chunk_contexts.specs.Generation.{gen_freed};
+    ghost use Rattle.chunk_layout.specs.declared.blocks.TheConstants.{HEADER};
 
     ghost chunks = { λ s. s.chunks };
 
@@ -156,13 +153,13 @@ impl ChunkContext for Generation {
 
     ghost refusal = { λ s n. over_most n };
 
-    ghost growth = { run_growth 8 };
+    ghost growth = { run_growth HEADER };
 
     ghost frees = { λ s. true };
 
-    ghost may_lie = { λ s n block. IsBlockOf s (run_growth 8 s n) block };
+    ghost may_lie = { λ s n block. IsBlockOf s (run_growth HEADER s n) block };
 
-    ghost taken = { λ s n p. run_taken 8 s p };
+    ghost taken = { λ s n p. run_taken HEADER s p };
 
     ghost wrote = { run_wrote };
 
@@ -173,25 +170,25 @@ impl ChunkContext for Generation {
     ghost emptied = { run_reset };
 
     fn alloc(&mut self, bytes: &[u8]) -> Result<ChunkName, ContextError> {
-        let growth = self.runs.growth(HEAD, bytes.len());
+        let growth = self.runs.growth(HEADER, bytes.len());
         make_count(
             &mut self.counts,
             self.runs.layout.numbers() as usize,
             growth,
         )?;
-        let name = self.runs.alloc(HEAD, bytes)?;
+        let name = self.runs.alloc(HEADER, bytes)?;
         count_one(&mut self.counts, name.block);
         Ok(name)
     }
 
     fn alloc_zeroed(&mut self, n: u32) -> Result<ChunkName, ContextError> {
-        let growth = self.runs.growth(HEAD, n as usize);
+        let growth = self.runs.growth(HEADER, n as usize);
         make_count(
             &mut self.counts,
             self.runs.layout.numbers() as usize,
             growth,
         )?;
-        let name = self.runs.alloc_zeroed(HEAD, n)?;
+        let name = self.runs.alloc_zeroed(HEADER, n)?;
         count_one(&mut self.counts, name.block);
         Ok(name)
     }
@@ -232,7 +229,7 @@ impl ChunkContext for Generation {
     }
 
     fn growth_for(&self, n: u32) -> u64 {
-        self.runs.growth(HEAD, n as usize)
+        self.runs.growth(HEADER, n as usize)
     }
 
     fn growth_to(&self, name: ChunkName, n: u32) -> u64 {

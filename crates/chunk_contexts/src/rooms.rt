@@ -1,25 +1,31 @@
 //! How many bytes a chunk has room for.
 ghost use Rattle.std.specs.Prelude.{◌≡◌, ◌+◌, ◌≤◌, ◌<◌, IsTrue, IsSome, Some, IsOk, MatchResult, is_some};
-ghost use Rattle.chunk_contexts.specs.Rooms.{most, rounded, room_of, class_of, over_most, rooms};
+ghost use Rattle.chunk_contexts.specs.Rooms.{rounded, room_of, class_of, over_most, rooms};
 ghost use Rattle.chunk_contexts.specs.Free.{is_in};
 ghost use Rattle.std.specs.Prelude.{None};
 
 use crate::error::ContextError;
 
 /// The longest chunk, in bytes.
-pub(crate) const MOST: usize = 1_073_741_823;
+pub const MOST: usize = 1_073_741_823;
 
 /// How many classes there are.
-pub(crate) const CLASSES: usize = 11;
+pub const CLASSES: usize = 11;
 
 /// The rooms of the classes.
 const ROOMS: [usize; CLASSES] = [8, 16, 32, 64, 128, 256, 512, 1024, 2048, 4096, 8192];
 
-/// How many bytes stand before a chunk for its header.
-pub(crate) const HEADER: usize = 8;
+/// The rooms of the smallest class and of the largest.
+pub const SMALLEST: usize = 8;
 
-/// The room of the largest class.
-pub(crate) const LARGEST: usize = 8192;
+pub const LARGEST: usize = 8192;
+
+/// The size of a block, in bytes: of the first one of an `AllocSet`, and in the other kinds of each that is not larger for
+/// the sake of one chunk.
+pub const BLOCK: usize = 8192;
+
+/// The largest size of a block of an `AllocSet` that has chunks of the classes, in bytes.
+pub const LARGEST_BLOCK: usize = 1_048_576;
 
 /// Refuses a request that is too long for any kind.
 pub(crate) fn check_len(n: usize) -> Result<(), ContextError>
@@ -33,7 +39,7 @@ pub(crate) fn check_len(n: usize) -> Result<(), ContextError>
 
 /// `n` raised to a multiple of 8, at least 8.
 pub(crate) fn rounded(n: usize) -> usize
-    requires { n ≤ most }
+    requires { n ≤ MOST }
     ensures value { result ≡ rounded n }
     ensures room { n ≤ result }
     ensures some { 8 ≤ result }
@@ -45,20 +51,20 @@ pub(crate) fn rounded(n: usize) -> usize
 /// The room of a class.
 #[tactic(auto, unfolding(crate::specs::Rooms::room_of, crate::specs::Rooms::rooms))]
 pub(crate) fn room_of(class: usize) -> usize
-    requires { class < 11 }
+    requires { class < CLASSES }
     ensures value { result ≡ room_of class }
     ensures known { IsTrue (is_in result rooms) }
-    ensures some { 8 ≤ result }
-    ensures small { result ≤ 8192 }
+    ensures some { SMALLEST ≤ result }
+    ensures small { result ≤ LARGEST }
 {
     ROOMS[class]
 }
 
 /// The first class with room for `n` bytes.
 pub(crate) fn class_of(n: usize) -> usize
-    requires { n ≤ 8192 }
+    requires { n ≤ LARGEST }
     ensures value { result ≡ class_of n }
-    ensures class { result < 11 }
+    ensures class { result < CLASSES }
     ensures room { n ≤ room_of result }
 {
     for class in 0..CLASSES {

@@ -2,17 +2,15 @@
 ghost use Rattle.std.specs.Prelude.{◌≡◌, ℕ, ◌+◌, ◌-◌, ◌<◌, ◌≤◌, ◌^◌, ◌++◌, if◌then◌else◌, true, false, [], ◌∷◌, Some, None, IsTrue, IfOk, OnOk, IfErr, OnErr, length, get_or, take};
 ghost use Rattle.block_memory.specs.Cells.{zeros};
 ghost use Rattle.chunk_layout.specs.Pieces.{has, piece_at, total, with_block};
-ghost use Rattle.chunk_contexts.specs.Rooms.{most, rounded, over_most};
+ghost use Rattle.chunk_contexts.specs.Rooms.{rounded, over_most};
 ghost use Rattle.chunk_contexts.specs.Chunks.{chunk_of, Adds, IsRefused};
+ghost use Rattle.chunk_layout.specs.declared.blocks.TheConstants.{HEADER};
 
 use crate::active::Active;
 use crate::error::ContextError;
-use crate::rooms::{MOST, check_len, rounded};
+use crate::rooms::{BLOCK, MOST, check_len, rounded};
 use chunk_layout::{ChunkLayout, ChunkName, Place};
 use std::alloc::{AllocError, Global};
-
-/// The size of a block, in bytes.
-const BLOCK: usize = 8192;
 
 /// A layout of which chunks are cut from one block at a time.
 #[derive(Drop)]
@@ -22,12 +20,12 @@ pub struct Runs {
 }
 
 impl Runs {
-    ghost use Rattle.chunk_contexts.specs.Run.{run_block, new_run, run_growth, run_taken, run_put, run_of, run_reset, IsBlockOf, IsRun};
+    ghost use Rattle.chunk_contexts.specs.Run.{new_run, run_growth, run_taken, run_put, run_of, run_reset, IsBlockOf, IsRun};
 
     /// Makes a layout with no block.
     pub(crate) fn new(alloc: Global, headers: bool) -> Runs
         ensures state { run_of result ≡ new_run }
-        ensures run { IsRun (if headers then 8 else 0) result }
+        ensures run { IsRun (if headers then HEADER else 0) result }
     {
         Runs {
             layout: ChunkLayout::new(alloc, headers),
@@ -38,9 +36,9 @@ impl Runs {
     /// Makes a chunk of no bytes in a block of its own.
     fn own(&mut self, head: usize, room: usize) -> Result<Place, AllocError>
         requires run { IsRun head self.old }
-        requires head { head ≤ 8 }
+        requires head { head ≤ HEADER }
         requires room { 1 ≤ room }
-        requires small { room ≤ most + 8 }
+        requires small { room ≤ MOST + 8 }
         ensures run { IsRun head self.new }
         ensures made { IfOk result (λ place. run_of self.new ≡ record { chunks = (record { place = place; room = room; is_live = true; bytes = [] }) ∷ (run_of self.old).chunks; blocks = with_block (run_of self.old).blocks place.block (head + room); active = (run_of self.old).active; left = (run_of self.old).left }) }
         ensures fresh { IfOk result (λ place. has self.old.layout.pieces place ≡ false) }
@@ -60,11 +58,11 @@ impl Runs {
     /// Takes a block, which is then in use.
     fn start(&mut self, head: usize) -> Result<(), AllocError>
         requires run { IsRun head self.old }
-        requires head { head ≤ 8 }
+        requires head { head ≤ HEADER }
         ensures run { IsRun head self.new }
-        ensures started { OnOk result (run_of self.new ≡ record { chunks = (run_of self.old).chunks; blocks = with_block (run_of self.old).blocks self.new.active.block run_block; active = self.new.active.block; left = run_block }) }
+        ensures started { OnOk result (run_of self.new ≡ record { chunks = (run_of self.old).chunks; blocks = with_block (run_of self.old).blocks self.new.active.block BLOCK; active = self.new.active.block; left = BLOCK }) }
         ensures vacant { OnOk result (get_or self.old.layout.blocks self.new.active.block None ≡ None) }
-        ensures held { OnOk result (total self.new.layout.blocks ≡ total self.old.layout.blocks + run_block) }
+        ensures held { OnOk result (total self.new.layout.blocks ≡ total self.old.layout.blocks + BLOCK) }
         ensures refused { OnErr result (self.new ≡ self.old) }
     {
         let block = self.layout.take_block(BLOCK)?;
@@ -79,7 +77,7 @@ impl Runs {
     /// Makes a chunk of no bytes in the block in use.
     fn append(&mut self, head: usize, room: usize) -> Place
         requires run { IsRun head self.old }
-        requires head { head ≤ 8 }
+        requires head { head ≤ HEADER }
         requires room { 1 ≤ room }
         requires fits { head + room ≤ (run_of self.old).left }
         ensures run { IsRun head self.new }
@@ -93,8 +91,8 @@ impl Runs {
     /// Makes a chunk of no bytes, with room for `n`.
     pub(crate) fn claim(&mut self, head: usize, n: usize) -> Result<Place, AllocError>
         requires run { IsRun head self.old }
-        requires head { head ≤ 8 }
-        requires small { n ≤ most }
+        requires head { head ≤ HEADER }
+        requires small { n ≤ MOST }
         ensures run { IsRun head self.new }
         ensures taken { IfOk result (λ place. run_of self.new ≡ run_taken head (run_of self.old) (record { place = place; room = rounded n; is_live = true; bytes = [] })) }
         ensures fresh { IfOk result (λ place. has self.old.layout.pieces place ≡ false) }
@@ -126,7 +124,7 @@ impl Runs {
     /// How many bytes of blocks `claim` would take.
     pub(crate) fn growth(&self, head: usize, n: usize) -> u64
         requires run { IsRun head self.now }
-        requires head { head ≤ 8 }
+        requires head { head ≤ HEADER }
         ensures { result ≡ run_growth head (run_of self.now) n }
     {
         if n > MOST {
@@ -145,7 +143,7 @@ impl Runs {
     /// Takes a chunk that holds `bytes`.
     pub(crate) fn alloc(&mut self, head: usize, bytes: &[u8]) -> Result<ChunkName, ContextError>
         requires run { IsRun head self.old }
-        requires head { head ≤ 8 }
+        requires head { head ≤ HEADER }
         ensures run { IsRun head self.new }
         ensures admitted { OnOk result (over_most (length bytes.now) ≡ None) }
         ensures added { IfOk result (λ name. Adds (run_of self.old).chunks (run_of self.new).chunks name (rounded (length bytes.now)) (bytes.now)) }
@@ -164,7 +162,7 @@ impl Runs {
     /// Takes a chunk of `n` zeros.
     pub(crate) fn alloc_zeroed(&mut self, head: usize, n: u32) -> Result<ChunkName, ContextError>
         requires run { IsRun head self.old }
-        requires head { head ≤ 8 }
+        requires head { head ≤ HEADER }
         ensures run { IsRun head self.new }
         ensures admitted { OnOk result (over_most (n) ≡ None) }
         ensures added { IfOk result (λ name. Adds (run_of self.old).chunks (run_of self.new).chunks name (rounded (n)) (zeros n)) }

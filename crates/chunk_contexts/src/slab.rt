@@ -1,6 +1,6 @@
 //! `Slab`: chunks of one size, in blocks that go back as soon as all their chunks are free.
 ghost use Rattle.std.specs.Prelude.{◌≡◌, ◌≤◌, ◌==◌, Some, None, MatchResult};
-ghost use Rattle.chunk_contexts.specs.Rooms.{most, over_most};
+ghost use Rattle.chunk_contexts.specs.Rooms.{over_most};
 ghost use Rattle.chunk_contexts.specs.Slab.{new_slab, slab_refusal_by};
 
 use crate::context::ChunkContext;

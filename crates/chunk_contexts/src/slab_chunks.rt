@@ -3,15 +3,12 @@ ghost use Rattle.std.specs.Prelude.{◌≡◌, ◌≢◌, ℕ, ◌+◌, ◌*◌,
 ghost use Rattle.block_memory.specs.Cells.{zeros};
 ghost use Rattle.chunk_layout.specs.Pieces.{has, total, with_block};
 ghost use Rattle.chunk_contexts.specs.Chunks.{chunk_of, live, Adds, IsNewBlock};
-ghost use Rattle.chunk_contexts.specs.Rooms.{most, rounded};
+ghost use Rattle.chunk_contexts.specs.Rooms.{rounded};
 ghost use Rattle.chunk_contexts.specs.Slab.{per_block, slab_block, no_block, new_slab, slab_of, slab_grows, slab_taken, slab_freed, slab_reset, IsSlabLayout, IsEntry, AreChunks};
 
-use crate::rooms::{HEADER, rounded};
-use chunk_layout::{BlockMarks, ChunkLayout, ChunkName, Place, put_first, take_first};
+use crate::rooms::{BLOCK, MOST, rounded};
+use chunk_layout::{BlockMarks, ChunkLayout, ChunkName, HEADER, Place, put_first, take_first};
 use std::alloc::{AllocError, Global};
-
-/// The size of a block, in bytes, if a chunk fits it.
-const BLOCK: usize = 8192;
 
 /// How many numbers of blocks there may be.
 const MAX_NUMBERS: usize = 0xffff_ffff;
@@ -45,7 +42,7 @@ pub struct SlabChunks {
 
 /// The size of a block for chunks of this room.
 fn slab_block(room: usize) -> usize
-    requires { room ≤ most + 8 }
+    requires { room ≤ MOST + 8 }
     ensures { result ≡ slab_block room }
 {
     BLOCK.max(HEADER + room)
@@ -54,7 +51,7 @@ fn slab_block(room: usize) -> usize
 /// How many chunks of this room a block has.
 #[tactic(auto, unfolding(crate::specs::Slab::per_block))]
 fn per_block(room: usize) -> usize
-    requires { room ≤ most + 8 }
+    requires { room ≤ MOST + 8 }
     ensures { result ≡ per_block room }
 {
     slab_block(room) / (HEADER + room)
@@ -63,7 +60,7 @@ fn per_block(room: usize) -> usize
 /// Makes a chunk of no bytes in a block that has a free one: the one that was given up last, else the next to be cut.
 fn take_chunk(layout: &mut ChunkLayout, entry: &mut SlabBlock, block: u32, size: usize) -> Place
     requires layout { IsSlabLayout size layout.old }
-    requires small { size ≤ most }
+    requires small { size ≤ MOST }
     requires there { IsTrue (is_some (get_or layout.old.blocks block None)) }
     requires entry { IsEntry layout.old.pieces block entry.old }
     requires spare { entry.old.live < per_block (rounded size) }
@@ -136,7 +133,7 @@ fn forget_entries(blocks: &mut Vec<SlabBlock>)
 impl SlabChunks {
     /// Makes a layout of no block.
     pub(crate) fn new(alloc: Global, size: usize) -> SlabChunks
-        requires { size ≤ most }
+        requires { size ≤ MOST }
         ensures chunks { AreChunks result }
         ensures state { slab_of result ≡ new_slab size }
     {

@@ -6,6 +6,7 @@ use Rattle.block_memory.specs.Cells.{Cells, Holds, IsWritten, with_bytes}
 use Rattle.block_memory.specs.Words.{word_bytes}
 use Rattle.chunk_layout.specs.Every.{Every, Pairwise, first_by}
 use Rattle.chunk_layout.specs.Pieces.{Piece, same_place}
+use Rattle.chunk_layout.specs.declared.blocks.TheConstants.{HEADER}
 use Rattle.chunk_layout.specs.declared.place.Place.{Place}
 use Rattle.chunk_layout.specs.declared.place.Spot.{Spot}
 use Rattle.chunk_layout.specs.declared.place.Note.{Note}
@@ -27,7 +28,7 @@ poke bs block at bytes = slice_set bs block (Some (with_bytes (block_at bs block
 
 -- the blocks after the header of a chunk was written, where chunks have one
 abbrev pub headed : ℕ → Blocks → Place → ℕ → Blocks
-headed head bs place room = if head == 8 then poke bs place.block (place.offset - 8) (word_bytes room) else bs
+headed head bs place room = if head == HEADER then poke bs place.block (place.offset - HEADER) (word_bytes room) else bs
 
 -- ---- the spots that the notes tell of
 abbrev pub spot_is_at : Place → Spot → Bool
@@ -79,13 +80,13 @@ pub record Stands (head : ℕ) (bs : Blocks) (s : Spot) : Type 0 where
   pub inside : s.place.offset + s.room ≤ length (block_at bs s.place.block)
   pub fits : s.len ≤ s.room
   pub written : IsWritten (block_at bs s.place.block) s.place.offset s.len
-  pub header : head ≡ 8 → Holds (block_at bs s.place.block) (s.place.offset - 8) (word_bytes s.room)
+  pub header : head ≡ HEADER → Holds (block_at bs s.place.block) (s.place.offset - HEADER) (word_bytes s.room)
 
 -- no byte of a chunk, header included, is one of the other's
 abbrev pub Apart : ℕ → Spot → Spot → Type 0
 Apart head s t = (s.place.block ≢ t.place.block) ⊎ ((s.place.offset + s.room + head ≤ t.place.offset) ⊎ (t.place.offset + t.room + head ≤ s.place.offset))
 
 pub record IsLayout (head : ℕ) (bs : Blocks) (ss : List Spot) : Type 0 where
-  pub header : (head ≡ 0) ⊎ (head ≡ 8)
+  pub header : (head ≡ 0) ⊎ (head ≡ HEADER)
   pub stand : Every (Stands head bs) ss
   pub apart : Pairwise (Apart head) ss

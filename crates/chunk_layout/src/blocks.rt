@@ -11,8 +11,8 @@ use crate::place::Place;
 use block_memory::RawBlock;
 use std::alloc::AllocError;
 
-/// How many bytes a header has.
-pub(crate) const HEADER: usize = 8;
+/// How many bytes stand before a chunk for its header, where chunks have headers.
+pub const HEADER: usize = 8;
 
 /// How many blocks there may be at once.
 const MAX_BLOCKS: usize = 0xffff_ffff;

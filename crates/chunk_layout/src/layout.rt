@@ -44,9 +44,9 @@ impl Model for ChunkLayout {
 impl ChunkLayout {
     ghost use Rattle.chunk_layout.specs.Lends.{lends_piece};
 
-    /// Makes a layout of no block. With `headers`, each chunk has 8 bytes before it that hold its room.
+    /// Makes a layout of no block. With `headers`, each chunk has a header before it, which holds its room.
     pub fn new(alloc: Global, headers: bool) -> ChunkLayout
-        ensures { result ≡ record { head = if headers then 8 else 0; blocks = []; pieces = [] } }
+        ensures { result ≡ record { head = if headers then HEADER else 0; blocks = []; pieces = [] } }
     {
         ChunkLayout {
             head: if headers { HEADER } else { 0 },
@@ -166,7 +166,7 @@ impl ChunkLayout {
 
     /// How many bytes a chunk has room for, as its header says.
     pub fn room(&self, place: Place) -> usize
-        requires headers { self.now.head ≡ 8 }
+        requires headers { self.now.head ≡ HEADER }
         requires there { IsTrue (has self.now.pieces place) }
         ensures { result ≡ (piece_at self.now.pieces place).room }
     {

@@ -12,6 +12,7 @@ mod link;
 mod marks;
 mod place;
 
+pub use blocks::HEADER;
 pub use layout::ChunkLayout;
 pub use link::{put_first, take_first};
 pub use marks::BlockMarks;

@@ -1,10 +1,10 @@
 -- What all contexts hold together.
 use Rattle.std.proofs.Common.{◌≡◌, ℕ, zero, suc, ◌+◌, ◌<◌, ◌≤◌, Bool, true, false, List, [], ◌∷◌, Option, Some, None, length, get_or, cond, set, drop, refl, ap, ◌∙◌, arith}
 use Rattle.std.specs.Prelude.{is_some, nat_le}
-use Rattle.chunk_contexts.specs.Rooms.{rounded, largest, over_most}
+use Rattle.chunk_contexts.specs.Rooms.{rounded, over_most}
 use Rattle.chunk_contexts.specs.Free.{is_in}
 use Rattle.chunk_contexts.specs.Set.{SetState, growth_by, set_growth, set_room}
-use Rattle.chunk_contexts.specs.Run.{RunState, run_block, run_growth, run_growth_by}
+use Rattle.chunk_contexts.specs.Run.{RunState, run_growth, run_growth_by}
 use Rattle.chunk_contexts.specs.Slab.{SlabState, slab_refusal, slab_growth, slab_grows}
 use Rattle.chunk_contexts.specs.declared.error.ContextError.{ContextError}
 use Rattle.context_tree.specs.Contexts.{no_context, new_context, with_bytes, with_resized, held_by, growth_of, refusal_of}
@@ -16,6 +16,7 @@ use Rattle.context_tree.specs.declared.kind.Kind.{Kind}
 use Rattle.context_tree.specs.declared.kind.Kind.TheVariants as kind
 use Rattle.context_tree.specs.declared.links.Link.{Link}
 use Rattle.chunk_layout.specs.declared.place.Place.{Place}
+use Rattle.chunk_contexts.specs.declared.rooms.TheConstants.{BLOCK, LARGEST}
 
 -- a new context holds nothing, and one in which bytes are written as much as before
 pub nothing-held : (made : Kind) → held_by (new_context made) ≡ 0
@@ -40,13 +41,13 @@ resized-held (Bump s) place bytes = refl
 set-refused : (s : SetState) (n : ℕ) (o : Option ContextError) → over_most n ≡ o → 0 < set_growth s n → o ≡ None
 set-refused s n None is grows = refl
 set-refused s n (Some e) is grows =
-    let none : set_growth s n ≡ 0 = ap (λ (p : Option ContextError). growth_by (is_some p) (nat_le n largest) (is_in (set_room n) s.free) (nat_le (set_room n + 8) s.left) s (set_room n)) is in
+    let none : set_growth s n ≡ 0 = ap (λ (p : Option ContextError). growth_by (is_some p) (nat_le n LARGEST) (is_in (set_room n) s.free) (nat_le (set_room n + 8) s.left) s (set_room n)) is in
     absurd (omega (arith, none, grows))
 
 run-refused : (head : ℕ) (s : RunState) (n : ℕ) (o : Option ContextError) → over_most n ≡ o → 0 < run_growth head s n → o ≡ None
 run-refused head s n None is grows = refl
 run-refused head s n (Some e) is grows =
-    let none : run_growth head s n ≡ 0 = ap (λ (p : Option ContextError). run_growth_by (is_some p) (nat_le (head + rounded n) run_block) (nat_le (head + rounded n) s.left) (head + rounded n)) is in
+    let none : run_growth head s n ≡ 0 = ap (λ (p : Option ContextError). run_growth_by (is_some p) (nat_le (head + rounded n) BLOCK) (nat_le (head + rounded n) s.left) (head + rounded n)) is in
     absurd (omega (arith, none, grows))
 
 slab-refused : (s : SlabState) (n : ℕ) (o : Option ContextError) → slab_refusal s n ≡ o → 0 < slab_growth s n → o ≡ None

@@ -4,9 +4,11 @@ use Rattle.std.specs.Prelude.{◌≡◌, ℕ, ◌*◌, nat_lt, Bool, true, false
 use Rattle.chunk_layout.specs.Pieces.{Piece, total}
 use Rattle.chunk_layout.specs.declared.place.Place.{Place}
 use Rattle.chunk_layout.specs.declared.place.ChunkName.{ChunkName}
+use Rattle.chunk_layout.specs.declared.blocks.TheConstants.{HEADER}
 use Rattle.chunk_contexts.specs.Chunks.{is_live, bytes_of, IsNewBlock}
 use Rattle.chunk_contexts.specs.Rooms.{rounded, over_most}
 use Rattle.chunk_contexts.specs.Set.{new_set, set_room, set_growth, set_taken, set_wrote, set_put, set_freed, set_reset}
+use Rattle.chunk_contexts.specs.SetRules.{GrowsByRule}
 use Rattle.chunk_contexts.specs.Slab.{new_slab, slab_refusal, slab_growth, slab_grows, slab_taken, slab_wrote, slab_freed, slab_reset, has_spare, per_block, block_count}
 use Rattle.chunk_contexts.specs.Run.{new_run, run_growth, run_taken, run_wrote, run_put, run_reset, IsBlockOf}
 use Rattle.chunk_contexts.specs.Generation.{gen_freed}
@@ -59,7 +61,7 @@ refusal_of (Bump s) n = over_most n
 abbrev pub growth_of : Context → ℕ → ℕ
 growth_of (AllocSet s) n = set_growth s n
 growth_of (Slab s) n = slab_growth s n
-growth_of (Generation s) n = run_growth 8 s n
+growth_of (Generation s) n = run_growth HEADER s n
 growth_of (Bump s) n = run_growth 0 s n
 
 abbrev pub can_free : Context → Bool
@@ -72,7 +74,7 @@ can_free (Bump s) = false
 abbrev pub may_lie_in : Context → ℕ → ℕ → Type 0
 may_lie_in (AllocSet s) n block = IsNewBlock (set_growth s n) s.blocks block
 may_lie_in (Slab s) n block = IsNewBlock (slab_grows s) s.blocks block
-may_lie_in (Generation s) n block = IsBlockOf s (run_growth 8 s n) block
+may_lie_in (Generation s) n block = IsBlockOf s (run_growth HEADER s n) block
 may_lie_in (Bump s) n block = IsBlockOf s (run_growth 0 s n) block
 
 -- with a chunk more for a request of n bytes; with other bytes in a chunk, as many as it had or not; without a chunk; and
@@ -80,7 +82,7 @@ may_lie_in (Bump s) n block = IsBlockOf s (run_growth 0 s n) block
 abbrev pub with_chunk : Context → ℕ → Piece → Context
 with_chunk (AllocSet s) n p = AllocSet (set_taken s n p)
 with_chunk (Slab s) n p = Slab (slab_taken s p)
-with_chunk (Generation s) n p = Generation (run_taken 8 s p)
+with_chunk (Generation s) n p = Generation (run_taken HEADER s p)
 with_chunk (Bump s) n p = Bump (run_taken 0 s p)
 
 abbrev pub with_bytes : Context → Place → List ℕ → Context
@@ -128,3 +130,10 @@ IsCounted (AllocSet s) = Unit {0}
 IsCounted (Slab s) = has_spare s ≡ nat_lt (length s.chunks) (per_block (rounded s.size) * block_count s.blocks)
 IsCounted (Generation s) = Unit {0}
 IsCounted (Bump s) = Unit {0}
+
+-- a set grows by the rule that a block has the next size, and that what was left of the one before is cut up
+abbrev pub IsGrownByRule : Context → Type 0
+IsGrownByRule (AllocSet s) = GrowsByRule s
+IsGrownByRule (Slab s) = Unit {0}
+IsGrownByRule (Generation s) = Unit {0}
+IsGrownByRule (Bump s) = Unit {0}

@@ -1,6 +1,6 @@
 //! One value of the four kinds of context.
 ghost use Rattle.std.specs.Prelude.{◌≡◌, None, Some, MatchResult};
-ghost use Rattle.context_tree.specs.Contexts.{new_context, kind_refusal, IsCounted};
+ghost use Rattle.context_tree.specs.Contexts.{new_context, kind_refusal, IsCounted, IsGrownByRule};
 
 use crate::kind::Kind;
 use chunk_contexts::{AllocSet, Bump, ChunkContext, ChunkName, ContextError, Generation, Slab};
@@ -36,6 +36,17 @@ impl Context {
         match self {
             Context::AllocSet(_) | Context::Generation(_) | Context::Bump(_) => {}
             Context::Slab(slab) => slab.spare_by_count(),
+        }
+    }
+
+    /// A law: a set takes a block of the next size, doubled until it holds the chunk, and cuts up what was left of the one
+    /// before: while 16 bytes are left, a free chunk of the largest class that fits.
+    pub(crate) fn grows_by_rule(&self)
+        ensures { IsGrownByRule self.now }
+    {
+        match self {
+            Context::AllocSet(set) => set.grows_by_rule(),
+            Context::Slab(_) | Context::Generation(_) | Context::Bump(_) => {}
         }
     }
 }

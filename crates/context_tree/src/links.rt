@@ -97,15 +97,15 @@ fn is_below(links: &[Option<Link>], slot: u32, above: u32) -> bool
 }
 
 /// Empties a slot that has no child, so that another context can be in it.
-fn empty(links: &mut [Option<Link>], free: &mut BlockMarks, slot: u32)
-    requires there { slot < length links.old }
-    requires room { slot < length free.old }
-    ensures links { links.new ≡ slice_set links.old slot None }
+fn empty(links: &mut [Option<Link>], free: &mut BlockMarks, leaf: u32)
+    requires there { leaf < length links.old }
+    requires room { leaf < length free.old }
+    ensures links { links.new ≡ slice_set links.old leaf None }
     ensures long { length free.new ≡ length free.old }
-    ensures marked { (k : ℕ) → get_or free.new k false ≡ cond (k == slot) true (get_or free.old k false) }
+    ensures marked { (k : ℕ) → get_or free.new k false ≡ cond (k == leaf) true (get_or free.old k false) }
 {
-    links[slot as usize] = None;
-    free.mark(slot);
+    links[leaf as usize] = None;
+    free.mark(leaf);
 }
 
 /// Marks the slots of all descendants of a context.

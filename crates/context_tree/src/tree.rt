@@ -5,7 +5,7 @@ ghost use Rattle.block_memory.specs.Cells.{zeros};
 ghost use Rattle.chunk_layout.specs.Pieces.{place_of, without, piece_at, resized, total, AreLaid};
 ghost use Rattle.chunk_contexts.specs.Chunks.{lengths, chunk_of, Adds, Keeps, KeepsOthers, IsRefused, IsResizeRefused, IsResized};
 ghost use Rattle.chunk_contexts.specs.declared.error.ContextError.TheVariants.{NoMemory, NotSupported};
-ghost use Rattle.context_tree.specs.Contexts.{chunks_of, blocks_of, room_in, refusal_of, growth_of, can_free, may_lie_in, with_chunk, with_bytes, with_resized, without_chunk, kind_refusal, no_context, has_chunk, chunk_bytes, held_by, IsCounted};
+ghost use Rattle.context_tree.specs.Contexts.{chunks_of, blocks_of, room_in, refusal_of, growth_of, can_free, may_lie_in, with_chunk, with_bytes, with_resized, without_chunk, kind_refusal, no_context, has_chunk, chunk_bytes, held_by, IsCounted, IsGrownByRule};
 ghost use Rattle.context_tree.specs.Links.{is_under, placed, IsFull};
 ghost use Rattle.context_tree.specs.Tree.{new_tree, is_there, context_at, parent_id, id_in, with_context, with_new, without_slots, deleted, reset, held_below, held_from, held_by_all, IsBounded, IsWhole, IsRefusedBy, IsKept, IsNotMade};
 ghost use Rattle.context_tree.specs.declared.error.TreeError.TheVariants.{NoSuchContext};
@@ -170,7 +170,7 @@ impl Tree {
     }
 
     /// Whether there is a context of this id.
-    pub fn is_live(&self, id: ContextId) -> bool
+    pub fn is_there(&self, id: ContextId) -> bool
         ensures { result ≡ is_there self.now id }
     {
         match self.links.get(id.slot) {
@@ -183,7 +183,7 @@ impl Tree {
     fn check(&self, id: ContextId) -> Result<(), TreeError>
         ensures { MatchResult result (λ _. is_there self.now id ≡ true) (λ e. (is_there self.now id ≡ false) × (e ≡ NoSuchContext)) }
     {
-        if !self.is_live(id) {
+        if !self.is_there(id) {
             return Err(TreeError::NoSuchContext);
         }
         Ok(())
@@ -196,6 +196,15 @@ impl Tree {
         if let Some(context) = self.contexts.get(id.slot as usize) {
             context.spare_by_count();
         }
+    }
+
+    /// A law: an `AllocSet` takes a block of the next size, doubled until it holds the chunk, and cuts up what was left of the
+    /// one before: while 16 bytes are left, a free chunk of the largest class that fits.
+    pub fn grows_by_rule(&self, id: ContextId)
+        requires { is_there self.now id ≡ true }
+        ensures { IsGrownByRule (context_at self.now id) }
+    {
+        self.contexts[id.slot as usize].grows_by_rule();
     }
 
     /// A law: no two live chunks of a context share a byte, and each lies in a block. So it holds no less than they have bytes.

@@ -4,7 +4,7 @@ use Rattle.std.proofs.Common.{inl, inr, sym, ◌∙◌, ap, subst, arith}
 use Rattle.std.proofs.lemmas.Bool.{cases_lt, lt-ltb, le-ltb, le-leb, leb-true, eq-eqb, ne_eqb, false≢true, false_from_ne_true}
 use Rattle.chunk_layout.specs.Pieces.{Piece, place_of, piece_at, size_at, total, with_block}
 use Rattle.chunk_layout.specs.declared.place.ChunkName.{ChunkName}
-use Rattle.chunk_contexts.specs.Rooms.{rounded, largest, over_most, rooms, room_of, class_of}
+use Rattle.chunk_contexts.specs.Rooms.{rounded, over_most, rooms, room_of, class_of}
 use Rattle.chunk_contexts.specs.Free.{is_in}
 use Rattle.chunk_contexts.specs.Set.{SetState, new_set, set_room, set_growth, set_taken, set_freed, growth_by, taken_by}
 use Rattle.aggregation_cost.specs.Space.{grown, buckets, array_block, bucket_blocks}
@@ -13,6 +13,7 @@ use Rattle.group_table.specs.Standing.{IsFirst, HasSpace, HasFirst}
 use Rattle.group_table.specs.Space.{IsArraySized, IsArrayHeld, HoldsArray, AreArraysHeld}
 use Rattle.group_table.proofs.SetFacts.{sum_with}
 use Rattle.group_table.proofs.TakeLaws.{not_over}
+use Rattle.chunk_contexts.specs.declared.rooms.TheConstants.{LARGEST}
 
 -- a short chunk has a room of a class
 AllLow : List ℕ → Type 0
@@ -113,15 +114,15 @@ space_held s (inl new) = subst (λ (x : SetState). total x.blocks ≤ 16384) (sy
 space_held s (inr has) = has.most
 
 -- an array with a block of its own
-not_classed : (n : ℕ) → 8192 < n → nat_le n largest ≡ false
-not_classed n large = false_from_ne_true (nat_le n largest) (λ is. omega (arith, large, leb-true n largest is))
+not_classed : (n : ℕ) → 8192 < n → nat_le n LARGEST ≡ false
+not_classed n large = false_from_ne_true (nat_le n LARGEST) (λ is. omega (arith, large, leb-true n LARGEST is))
 
 large_room : (n : ℕ) → 8192 < n → set_room n ≡ rounded n
 large_room n large = ap (λ (b : Bool). if b then room_of (class_of n) else rounded n) (not_classed n large)
 
 large_grows : (s : SetState) (n : ℕ) → 8192 < n → over_most n ≡ None → set_growth s n ≡ rounded n + 8
 large_grows s n large allowed =
-    ap (λ o. growth_by (is_some o) (nat_le n largest) (is_in (set_room n) s.free) (nat_le (set_room n + 8) s.left) s (set_room n)) allowed
+    ap (λ o. growth_by (is_some o) (nat_le n LARGEST) (is_in (set_room n) s.free) (nat_le (set_room n + 8) s.left) s (set_room n)) allowed
     ∙ ap (λ b. growth_by false b (is_in (set_room n) s.free) (nat_le (set_room n + 8) s.left) s (set_room n)) (not_classed n large)
     ∙ ap (λ m. m + 8) (large_room n large)
 
@@ -279,10 +280,10 @@ module _ (s m : SetState) (old name : ChunkName) (n : ℕ) (is : AreArraysHeld s
   larger_settled = elim (cases_lt 256 (buckets n)) [
     | inl long ↦
         let big : 8192 < old.len = omega (arith, is.older.0.len, long) in
-        let gone : nat_lt largest r ≡ true = lt-ltb largest r (omega (arith, room, large_room old.len big, big)) in
+        let gone : nat_lt LARGEST r ≡ true = lt-ltb LARGEST r (omega (arith, room, large_room old.len big, big)) in
         given_back long (ap (λ b. cond b (slice_set m.blocks old.block None) m.blocks) gone ∙ ap (λ bs. slice_set bs old.block None) same)
     | inr least ↦
         let short : old.len ≤ 8192 = omega (arith, is.older.0.len, least) in
-        let kept : nat_lt largest r ≡ false = le-ltb largest r (omega (arith, room, short_room old.len short)) in
+        let kept : nat_lt LARGEST r ≡ false = le-ltb LARGEST r (omega (arith, room, short_room old.len short)) in
         settled_by (ap (λ b. cond b (slice_set m.blocks old.block None) m.blocks) kept ∙ same) (ap (λ (c : Bool). if c then 32 * buckets n + 8 else 0) (le-ltb 256 (buckets n) least))
   ]

@@ -3,7 +3,6 @@ use Rattle.std.specs.Prelude.{◌≡◌, ◌≢◌, refl, ℕ, zero, suc, ◌+�
 use Rattle.std.proofs.Common.{inl, inr, sym, ◌∙◌, ap, subst, arith}
 use Rattle.std.proofs.lemmas.Bool.{cases_eq, cases_lt, cond-true, cond-false, eq-eqb, ne_eqb, leb-true, false_from_ne_true, false≢true}
 use Rattle.std.proofs.lemmas.List.{get_or_past}
-use Rattle.chunk_contexts.specs.Rooms.{most}
 use Rattle.chunk_contexts.specs.declared.error.ContextError.{ContextError}
 use Rattle.chunk_contexts.specs.declared.error.ContextError.TheVariants.{TooLarge}
 use Rattle.context_tree.specs.Contexts.{no_context, new_context, kind_refusal, held_by}
@@ -18,6 +17,7 @@ use Rattle.context_tree.specs.declared.links.Link.{Link}
 use Rattle.group_table.specs.Children.{AreMade, AreNew, IsNew, IsRefusedOf, IsAsBefore, IsSameBySlot}
 use Rattle.group_table.specs.Standing.{IsChild, IsApart}
 use Rattle.group_table.specs.declared.children.Children.{Children}
+use Rattle.chunk_contexts.specs.declared.rooms.TheConstants.{MOST}
 
 -- lists by slots, in which something is put, or some are cleared
 module _ {X : Type 0} where
@@ -338,7 +338,7 @@ refused_of before number true false None e there allowed few is = inr is
 refused_of before number true false (Some own) e there allowed few is = absurd (false≢true (ap is_some (sym allowed)))
 
 pub slab_allowed : (width : ℕ) → width ≤ 65535 → kind_refusal (kind.Slab width) ≡ None
-slab_allowed width low = ap (λ b. if b then Some TooLarge else None) (false_from_ne_true (nat_lt most width) (λ is. omega (arith, low, leb-true (suc most) width is)))
+slab_allowed width low = ap (λ b. if b then Some TooLarge else None) (false_from_ne_true (nat_lt MOST width) (λ is. omega (arith, low, leb-true (suc MOST) width is)))
 
 -- the three are made: first the buckets, then the others
 pub all_made : (before one after : TreeState) (parent : ContextId) (width : ℕ) (made : Children) → IsWhole before → IsNew before one parent kind.AllocSet made.buckets → IsWhole one → is_there before parent ≡ true

@@ -7,7 +7,6 @@ use Rattle.chunk_layout.specs.Pieces.{Piece, same_place, place_of, is_at, piece_
 use Rattle.chunk_layout.specs.declared.place.Place.{Place}
 use Rattle.chunk_layout.specs.declared.place.ChunkName.{ChunkName}
 use Rattle.chunk_contexts.specs.Chunks.{KeepsOthers, is_live, bytes_of}
-use Rattle.chunk_contexts.specs.Rooms.{largest}
 use Rattle.chunk_contexts.specs.Set.{SetState, set_room, set_freed}
 use Rattle.context_tree.specs.Contexts.{chunks_of, has_chunk, chunk_bytes, without_chunk, held_by}
 use Rattle.context_tree.specs.Tree.{TreeState, context_at, with_context}
@@ -24,6 +23,7 @@ use Rattle.group_table.proofs.BlockLaws.{short_room, first_settled, larger_settl
 use Rattle.group_table.proofs.IndexLaws.{none_yet}
 use Rattle.group_table.proofs.StandLaws.{SetOf, set_of, set_with}
 use Rattle.group_table.proofs.TreeFacts.{at_same, at_other, placed_kept, same_links, same_number, only_twice}
+use Rattle.chunk_contexts.specs.declared.rooms.TheConstants.{LARGEST}
 
 eqb_comm : (a b : ℕ) → (a == b) ≡ (b == a)
 eqb_comm a b = by (cases_eq a b)
@@ -225,7 +225,7 @@ module _ {H : Type 0} (hash_of : H → List ℕ → ℕ) (t : TableState H) (nam
       apart = same_back (place_of name) (place_of old) (spare.apart old array)
 
       -- a block that goes back is not the first
-      freed_by : (large : Bool) → nat_lt largest (piece_at m.chunks (place_of old)).room ≡ large → (block : ℕ) → s.first ≡ Some block → size_at (cond large (slice_set m.blocks old.block None) m.blocks) block ≡ 16384
+      freed_by : (large : Bool) → nat_lt LARGEST (piece_at m.chunks (place_of old)).room ≡ large → (block : ℕ) → s.first ≡ Some block → size_at (cond large (slice_set m.blocks old.block None) m.blocks) block ≡ 16384
       freed_by true is_large block here =
           let room : (piece_at m.chunks (place_of old)).room ≡ set_room old.len = room_at (place_of old) ∙ was.beside.room in
           let long : 8192 < old.len = not_short (λ short. omega (arith, leb-true 8193 (piece_at m.chunks (place_of old)).room is_large, room, short_room old.len short)) in
@@ -239,7 +239,7 @@ module _ {H : Type 0} (hash_of : H → List ℕ → ℕ) (t : TableState H) (nam
       first_left : IsFirst freed
       first_left = record {
         none = λ gone_first. absurd (false≢true (sym (ap is_some (sym first_same ∙ gone_first)) ∙ was.first));
-        size = λ block here. freed_by (nat_lt largest (piece_at m.chunks (place_of old)).room) refl block (sym first_same ∙ here);
+        size = λ block here. freed_by (nat_lt LARGEST (piece_at m.chunks (place_of old)).room) refl block (sym first_same ∙ here);
       }
 
       beside_left : IsBesideFirst freed name
@@ -266,7 +266,7 @@ module _ {H : Type 0} (hash_of : H → List ℕ → ℕ) (t : TableState H) (nam
       less_held =
           let now_held : held_by (context_at after t.buckets) ≡ total freed.blocks = ap held_by is_freed in
           let was_held : held_by b ≡ total m.blocks = ap held_by set.is ∙ ap total (sym blocks_same) in
-          omega (arith, now_held, was_held, less (nat_lt largest (piece_at m.chunks (place_of old)).room))
+          omega (arith, now_held, was_held, less (nat_lt LARGEST (piece_at m.chunks (place_of old)).room))
         where
           less : (large : Bool) → total (cond large (slice_set m.blocks old.block None) m.blocks) ≤ total m.blocks
           less true = total_less m.blocks old.block

@@ -6,10 +6,11 @@ use Rattle.chunk_layout.specs.Pieces.{Piece, same_place, place_of, is_at, has, p
 use Rattle.chunk_layout.specs.declared.place.Place.{Place}
 use Rattle.chunk_layout.specs.declared.place.ChunkName.{ChunkName}
 use Rattle.chunk_contexts.specs.Chunks.{chunk_of}
-use Rattle.chunk_contexts.specs.Rooms.{largest, over_most, rooms, room_of, class_of}
+use Rattle.chunk_contexts.specs.Rooms.{over_most, rooms, room_of, class_of}
 use Rattle.chunk_contexts.specs.Free.{is_in}
 use Rattle.chunk_contexts.specs.Set.{SetState, new_set, set_room, set_growth, set_taken, growth_by, taken_by, dedicated}
 use Rattle.group_table.specs.Standing.{IsFirst, IsBesideFirst, HasFirst}
+use Rattle.chunk_contexts.specs.declared.rooms.TheConstants.{LARGEST}
 
 -- the size of a block, where another one came, and the sum of all
 size_kept : (bs : List (Option ℕ)) (block x first : ℕ) → size_at bs first ≡ 16384 → first ≢ block → size_at (with_block bs block x) first ≡ 16384
@@ -51,15 +52,15 @@ module _ (s : SetState) (n : ℕ) (name : ChunkName) (bytes : List ℕ) where
 
   -- one with a block of its own
   module _ (large : 8192 < n) (allowed : over_most n ≡ None) (more : total taken.blocks ≡ total s.blocks + set_growth s n) (len : name.len ≡ n) (first : IsFirst s) (some : is_some s.first ≡ true) where
-    not_classed : nat_le n largest ≡ false
-    not_classed = false_from_ne_true (nat_le n largest) (λ is. omega (arith, large, leb-true n largest is))
+    not_classed : nat_le n LARGEST ≡ false
+    not_classed = false_from_ne_true (nat_le n LARGEST) (λ is. omega (arith, large, leb-true n LARGEST is))
 
     is_dedicated : taken ≡ dedicated s p
     is_dedicated = ap (λ b. taken_by b (is_in p.room s.free) (nat_le (p.room + 8) s.left) s p) not_classed
 
     growth : set_growth s n ≡ set_room n + 8
     growth =
-        ap (λ o. growth_by (is_some o) (nat_le n largest) (is_in (set_room n) s.free) (nat_le (set_room n + 8) s.left) s (set_room n)) allowed
+        ap (λ o. growth_by (is_some o) (nat_le n LARGEST) (is_in (set_room n) s.free) (nat_le (set_room n + 8) s.left) s (set_room n)) allowed
         ∙ ap (λ b. growth_by false b (is_in (set_room n) s.free) (nat_le (set_room n + 8) s.left) s (set_room n)) not_classed
 
     sum : total (dedicated s p).blocks ≡ total s.blocks + (p.room + 8)

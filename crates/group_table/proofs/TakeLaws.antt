@@ -9,7 +9,7 @@ use Rattle.chunk_layout.specs.Pieces.{total}
 use Rattle.chunk_layout.specs.declared.place.ChunkName.{ChunkName}
 use Rattle.chunk_contexts.specs.Chunks.{chunk_of, is_live, Keeps}
 use Rattle.chunk_contexts.specs.declared.error.ContextError.TheVariants.{TooLarge}
-use Rattle.chunk_contexts.specs.Rooms.{over_most, most}
+use Rattle.chunk_contexts.specs.Rooms.{over_most}
 use Rattle.chunk_contexts.specs.Set.{SetState, set_room, set_growth, set_taken}
 use Rattle.context_tree.specs.Contexts.{chunks_of, blocks_of, has_chunk, chunk_bytes, with_chunk, room_in, growth_of, held_by}
 use Rattle.context_tree.specs.Tree.{TreeState, context_at, with_context}
@@ -22,6 +22,7 @@ use Rattle.group_table.specs.Arrays.{OnlyIn, IsSpare, count_of}
 use Rattle.group_table.proofs.SetFacts.{large_first, large_some, large_chunks, large_same, large_beside, first_first, first_some, first_beside, taken_first}
 use Rattle.group_table.proofs.StandLaws.{SetOf, set_of, set_with, array_beside}
 use Rattle.group_table.proofs.TreeFacts.{at_same, at_other, placed_kept, same_links, same_number}
+use Rattle.chunk_contexts.specs.declared.rooms.TheConstants.{MOST}
 
 -- how many buckets are wanted
 module _ (count number : ℕ) (full : 4 * number ≤ 3 * count) where
@@ -82,8 +83,8 @@ none_in_zeros n place =
 none_some : {X : Type 0} → (x : X) → None ≡ Some x → ⊥
 none_some x e = false≢true (ap is_some e)
 
-pub not_over : (n : ℕ) → n ≤ most → over_most n ≡ None
-not_over n low = ap (λ b. if b then Some TooLarge else None) (false_from_ne_true (nat_lt most n) (λ is. omega (arith, low, leb-true (suc most) n is)))
+pub not_over : (n : ℕ) → n ≤ MOST → over_most n ≡ None
+not_over n low = ap (λ b. if b then Some TooLarge else None) (false_from_ne_true (nat_lt MOST n) (λ is. omega (arith, low, leb-true (suc MOST) n is)))
 
 -- the chunk that is taken
 pub record Taken {H : Type 0} (hash_of : H → List ℕ → ℕ) (t : TableState H) (tree after : TreeState) (name : ChunkName) : Type 0 where

@@ -4,7 +4,7 @@ use Rattle.chunk_layout.specs.Every.{Every}
 use Rattle.chunk_layout.specs.Pieces.{Layout, has, without, with_piece, size_at, IsClear}
 use Rattle.chunk_layout.specs.declared.place.Place.{Place}
 use Rattle.chunk_contexts.specs.Chunks.{live}
-use Rattle.chunk_contexts.specs.Rooms.{most, rounded}
+use Rattle.chunk_contexts.specs.Rooms.{rounded}
 use Rattle.chunk_contexts.specs.Free.{by_block, first_free}
 use Rattle.chunk_contexts.specs.Generation.{in_block}
 use Rattle.chunk_contexts.specs.Slab.{slab_block, per_block, IsSlabLayout, IsEntry}
@@ -13,6 +13,7 @@ use Rattle.chunk_contexts.proofs.FreeLaws.{length-link}
 use Rattle.chunk_contexts.proofs.SlabLaws.{was, reused-block, reused-layout, reused-live, reused-fresh, reused-entry, reused-other, cut-fits, cut-inside, cut-clear, cut-layout, cut-live, cut-fresh, cut-entry, cut-other, per-small}
 use Rattle.chunk_contexts.proofs.LinkLaws as Link
 use Rattle.chunk_contexts.proofs.slab_chunks.take_chunk.Goals as goal
+use Rattle.chunk_contexts.specs.declared.rooms.TheConstants.{MOST}
 
 pub take_first-requires : goal.take_first-requires
 take_first-requires c =
@@ -53,7 +54,7 @@ returns-in-Some-clause-fresh c =
     reused-fresh c.args.size l r.layout c.args.block place (sym r.entry.free ∙ e.some.0)
 
 -- the next chunk is cut
-module _ (size : ℕ) (l t : Layout) (is : IsSlabLayout size l) (k : ℕ) (e : SlabBlock) (entry : IsEntry l.pieces k e) (name : k < 4294967296) (some : IsTrue (is_some (Rattle.std.specs.Prelude.get_or l.blocks k None))) (small : size ≤ most)
+module _ (size : ℕ) (l t : Layout) (is : IsSlabLayout size l) (k : ℕ) (e : SlabBlock) (entry : IsEntry l.pieces k e) (name : k < 4294967296) (some : IsTrue (is_some (Rattle.std.specs.Prelude.get_or l.blocks k None))) (small : size ≤ MOST)
     (spare : e.live < per_block (rounded size)) (free : e.free ≡ None) (same : t ≡ l) (room : ℕ) (room-is : room ≡ rounded size) where
   none : first_free by_block k l.pieces ≡ None
   none = sym entry.free ∙ free

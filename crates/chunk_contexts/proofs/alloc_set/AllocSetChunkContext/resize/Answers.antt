@@ -4,12 +4,12 @@ use Rattle.chunk_layout.specs.Pieces.{Piece, place_of, piece_at, without, resize
 use Rattle.chunk_layout.specs.declared.place.Place.{Place}
 use Rattle.chunk_layout.specs.declared.place.ChunkName.{ChunkName}
 use Rattle.chunk_contexts.specs.Chunks.{bytes_of, chunk_of, IsResized}
-use Rattle.chunk_contexts.specs.Rooms.{largest}
 use Rattle.chunk_contexts.specs.Set.{SetState, set_room, set_put, set_taken, set_freed}
 use Rattle.chunk_contexts.proofs.SetMoves.{resized-stays, resized-moved, taken-chunks}
 use Rattle.chunk_contexts.proofs.Growth.{less-by}
 use Rattle.chunk_contexts.proofs.Content.{name-there, resized-keeps}
 use Rattle.chunk_contexts.proofs.alloc_set.AllocSetChunkContext.resize.Goals as goal
+use Rattle.chunk_contexts.specs.declared.rooms.TheConstants.{LARGEST}
 
 pub returns-then-len-room-clause-resized : goal.returns-then-len-room-clause-resized
 returns-then-len-room-clause-resized c =
@@ -47,6 +47,6 @@ returns-clause-most c =
     let s = c.args.self.now in let n = c.args.n in let from = c.place-place.result in
     let p : Piece = chunk_of c.in_ok-relocate.field-0 (set_room n) (resized (piece_at s.chunks from).bytes n) in
     let t = set_taken s n p in
-    let less = less-by (nat_lt largest (piece_at t.chunks from).room) t.blocks from.block in
+    let less = less-by (nat_lt LARGEST (piece_at t.chunks from).room) t.blocks from.block in
     let is = ap (λ (z : SetState). total z.blocks) c.in_ok-relocate.ensures.moved in
     omega (arith, less, is, c.in_ok-relocate.ensures.held)
