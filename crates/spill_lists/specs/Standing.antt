@@ -1,5 +1,5 @@
 -- Lists on tapes. All of this is our own.
-use Rattle.std.specs.Prelude.{◌≡◌, ℕ, ◌+◌, ◌/◌, ◌<◌, ◌≤◌, ◌⊎◌, ◌==◌, cond, Bool, true, false, not, List, [], ◌∷◌, ◌++◌, length, sum_by, filter}
+use Rattle.std.specs.Prelude.{◌≡◌, ℕ, ◌+◌, ◌/◌, ◌<◌, ◌≤◌, ◌⊎◌, ◌==◌, cond, true, false, not, List, [], ◌∷◌, ◌++◌, length, sum_by, filter}
 use Rattle.spill_tapes.specs.Records.{Record, tape_bytes}
 use Rattle.spill_tapes.specs.Tapes.{TapesState, IsTape, is_written, is_read, written_len}
 use Rattle.spill_tapes.specs.declared.disk.TapeDisk.{Ghosts}

@@ -1,5 +1,5 @@
 -- Pages that move between tapes and the free ones.
-use Rattle.std.specs.Prelude.{◌≡◌, refl, ℕ, ◌+◌, ◌^◌, ◌<◌, ◌≤◌, ◌⊎◌, List, [], ◌∷◌, ◌++◌, length}
+use Rattle.std.specs.Prelude.{◌≡◌, refl, ℕ, ◌+◌, ◌^◌, ◌<◌, ◌≤◌, List, [], ◌∷◌, ◌++◌, length}
 use Rattle.std.proofs.Common.{inl, inr, ◌∙◌, ap, arith, length-append}
 use Rattle.std.proofs.lemmas.Bool.Decides.{nat_tests}
 use Rattle.spill_tapes.specs.Pages.{PoolState, IsPool, HavePages, given_back, once, times, below, IsApart, IsBalanced, IsFresh, FreesNone, UsesAgain, TakesPages, GivesBack}

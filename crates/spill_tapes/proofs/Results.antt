@@ -1,5 +1,5 @@
 -- What is true of a result, from what else is.
-use Rattle.std.specs.Prelude.{◌≡◌, ◌≢◌, refl, Result, Ok, Err, OnOk, IfOk}
+use Rattle.std.specs.Prelude.{◌≡◌, ◌≢◌, Result, Ok, Err, OnOk, IfOk}
 use Rattle.std.proofs.Common.{ap}
 use Rattle.spill_tapes.specs.Errors.{tape_error, disk_faults, tape_faults}
 use Rattle.spill_tapes.specs.declared.disk.DiskError.{DiskError}

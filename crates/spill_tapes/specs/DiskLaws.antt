@@ -1,5 +1,5 @@
 -- Laws of what calls leave of a disk: no call, and two, of which the first met no failure.
-use Rattle.std.specs.Prelude.{◌≡◌, refl, ℕ, ◌+◌}
+use Rattle.std.specs.Prelude.{refl, ℕ, ◌+◌}
 use Rattle.std.proofs.Common.{◌∙◌, ap, sym}
 use Rattle.std.proofs.Math.Nat.{add-zero, le_refl, le_trans, le_of_eq}
 use Rattle.spill_tapes.specs.declared.disk.TapeDisk.{Ghosts}

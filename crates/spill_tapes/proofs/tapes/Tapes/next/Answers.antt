@@ -1,4 +1,4 @@
-use Rattle.std.proofs.Common.{◌≡◌, ◌≢◌, ◌+◌, true, false, length, ◌≤◌, refl, arith, sym, ap, ◌∙◌, subst}
+use Rattle.std.proofs.Common.{◌≡◌, ◌≢◌, true, false, refl, arith, sym, ap, ◌∙◌, subst}
 use Rattle.std.proofs.Math.ListN.{set}
 use Rattle.spill_tapes.specs.Tape.{TapeState, IsGood}
 use Rattle.spill_tapes.specs.Tapes.{TapesState, tape_at, phase_of}

@@ -1,4 +1,4 @@
-use Rattle.std.proofs.Common.{◌≡◌, ◌≢◌, ◌+◌, ◌/◌, not, true, false, length, ◌≤◌, refl, arith, sym, ap, ◌∙◌, subst}
+use Rattle.std.proofs.Common.{◌≡◌, ◌≢◌, ◌+◌, ◌/◌, not, true, false, refl, arith, sym, ap, ◌∙◌, subst}
 use Rattle.std.proofs.Math.ListN.{set}
 use Rattle.spill_tapes.specs.Pages.{UsesAgain}
 use Rattle.spill_tapes.specs.Tape.{TapeState, IsGood, tape_len, is_in, AreWritten, Has}
