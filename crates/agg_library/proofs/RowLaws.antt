@@ -9,7 +9,6 @@ use Rattle.grouping_model.specs.Combining.{combine, combine_all}
 use Rattle.agg_protocol.specs.States as states
 use Rattle.agg_protocol.specs.States.{rows_of}
 use Rattle.agg_library.specs.declared.kind.AggKind.{AggKind}
-use Rattle.agg_library.specs.declared.kind.AggKind.TheVariants.{CountRows, Count, Sum, Min, Max, BitAnd, BitOr, BitXor, BoolAnd, BoolOr, Every}
 use Rattle.agg_library.specs.Kinds.{function_of, functions_of, kind_shape, kind_width, row_width}
 use Rattle.agg_library.specs.StateRows.{DenotesAll, AllWithin, with_part}
 use Rattle.agg_protocol.proofs.Denoting.{width_known}
@@ -77,20 +76,6 @@ both_split m kind kinds ks into a b from x y e ea eb ex ey (p ∷ ps) (q ∷ qs)
       subst (λ t. DenotesAll m ks t qs) (sym ey) dq.1,
       all.1,
     )
-
--- no state of a kind is wider than a sum's
-pub widest : (kind : AggKind) → kind_width kind ≤ 24
-widest CountRows = omega arith
-widest Count = omega arith
-widest Sum = omega arith
-widest Min = omega arith
-widest Max = omega arith
-widest BitAnd = omega arith
-widest BitOr = omega arith
-widest BitXor = omega arith
-widest BoolAnd = omega arith
-widest BoolOr = omega arith
-widest Every = omega arith
 
 -- the same of a first part and a rest that were written
 pub combined_cons : (m : ℕ) (kind : AggKind) (kinds ks : List AggKind) (front back : List ℕ) (p q : Partial) (ps qs : List Partial) → kinds ≡ kind ∷ ks

@@ -1,10 +1,11 @@
 -- The function of each kind of aggregate, what it takes, and the width of its states.
-use Rattle.std.specs.Prelude.{ℕ, List, map, sum_by}
+use Rattle.std.specs.Prelude.{◌≡◌, refl, ℕ, List, [], ◌∷◌, map, slice_index_or, sum_by}
 use Rattle.grouping_model.specs.Aggregates as model
 use Rattle.grouping_model.specs.Aggregates.{Function}
 use Rattle.packed_rows.specs.View.{kind_of}
 use Rattle.agg_protocol.specs.States.{Shape, shape_of, width_of}
 use Rattle.agg_protocol.specs.Signatures as signatures
+use Rattle.agg_protocol.specs.Signatures.{function_number}
 use Rattle.agg_library.specs.declared.kind.AggKind.{AggKind}
 use Rattle.agg_library.specs.declared.kind.Argument.{Argument}
 use Rattle.agg_library.specs.declared.kind.Argument.TheVariants as argument
@@ -23,6 +24,18 @@ function_of BitXor = model.Bit_xor
 function_of BoolAnd = model.Bool_and
 function_of BoolOr = model.Bool_or
 function_of Every = model.Every
+
+-- all kinds, in the order of their functions' numbers (own)
+abbrev pub kinds : List AggKind
+kinds = CountRows ∷ Count ∷ Sum ∷ Min ∷ Max ∷ BitAnd ∷ BitOr ∷ BitXor ∷ BoolAnd ∷ BoolOr ∷ Every ∷ []
+
+-- the kind that names a function, and that it does (own)
+abbrev pub kind_for : Function → AggKind
+kind_for function = slice_index_or kinds (function_number function) Every
+
+pub kind_for_names : (function : Function) → function_of (kind_for function) ≡ function
+kind_for_names model.Count_rows = refl
+kind_for_names function = refl
 
 -- the functions that some kinds name (own)
 abbrev pub functions_of : List AggKind → List Function

@@ -71,9 +71,8 @@ impl StateRow {
 
     /// Moves the state of one aggregate on by one row (PostgreSQL 17, CREATE AGGREGATE: `sfunc` is called for each input
     /// row; 4.2.7: FILTER says which rows those are). `reach` is the row's argument, or `None` where the filter keeps
-    /// the row away. The argument is null or of the function's argument kind: bigint for `sum`, `min`, `max`,
-    /// `bit_and`, `bit_or` and `bit_xor`, boolean for `bool_and`, `bool_or` and `every`, any for `count(x)`; and for
-    /// `count(*)`, which has no argument, any value will do.
+    /// the row away. The argument is null or of the kind that the function takes (`AggKind::argument`); where it takes
+    /// any, or each row, any value will do.
     ///
     /// # Errors
     ///

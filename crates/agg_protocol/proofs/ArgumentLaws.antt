@@ -1,33 +1,32 @@
 -- What one more argument makes of a partial result, where the function takes it.
-use Rattle.std.proofs.Common.{◌≡◌, refl, ℕ, zero, suc, ◌+◌, ◌≤◌, ◌<◌, List, [], ◌∷◌, ◌++◌, length, All, slice_index_or, sym, ap, ◌∙◌, arith, length-append, Option, Some, None, Bool, ℤ, ◌+ℤ◌}
+use Rattle.std.proofs.Common.{◌≡◌, refl, ℕ, zero, suc, ◌+◌, ◌≤◌, ◌<◌, List, [], ◌∷◌, ◌++◌, length, All, slice_index_or, sym, ap, subst, ◌∙◌, arith, length-append, Option, Some, None, Bool, ℤ, ◌+ℤ◌}
 use Rattle.std.proofs.Math.IntN.{+ℤ_idl, +ℤ_idr}
-use Rattle.grouping_model.specs.Datum.{Datum, Null, Bigint, Boolean, Text, Bigint_kind, Boolean_kind, Text_kind, HasKind}
-use Rattle.grouping_model.specs.Aggregates.{Function, Count_rows, Count, Sum, Min, Max, Bit_and, Bit_or, Bit_xor, Bool_and, Bool_or, Every, Partial, Counted, Summed, Number, Truth_value, partial, as_number, as_boolean}
+use Rattle.grouping_model.specs.Datum.{Datum, Null, Bigint, Boolean, Text, Kind, Bigint_kind, Boolean_kind, Text_kind, HasKind}
+use Rattle.grouping_model.specs.Aggregates.{Function, Count_rows, Count, Sum, Partial, Counted, Summed, Number, Truth_value, partial, as_number, as_boolean}
 use Rattle.grouping_model.specs.Combining.{combine, transition, joined, of_numbers, of_truths}
 use Rattle.grouping_model.proofs.CombiningLaws.{partial_append}
 use Rattle.grouping_model.proofs.TransitionLaws.{one_more_argument}
 use Rattle.packed_rows.specs.View.{datum_of, row_of}
 use Rattle.packed_rows.specs.declared.Value.{Value}
-use Rattle.agg_protocol.specs.Arguments.{Takes}
+use Rattle.agg_protocol.specs.Signatures.{Argument, Values_of, signature}
+use Rattle.agg_protocol.specs.Arguments.{Takes, IsArgument}
 use Rattle.agg_protocol.specs.States.{IsState, shape_of, rows_of, most_rows, A_count, A_sum, A_number, A_truth}
 use Rattle.agg_protocol.proofs.Denoting.{shape_is, shape_known, shape_partial, rows_add, one_row, no_row}
 
+-- the kind of the values that an argument stands for; where it stands for any, one of them
+kind_in : Argument → Kind
+kind_in (Values_of kind) = kind
+kind_in argument = Text_kind
+
 -- the partial result of a list with one more argument
 pub one_more : (f : Function) (xs : List Datum) (v : Datum) → Takes f v → partial f (xs ++ v ∷ []) ≡ transition f (partial f xs) v
+unfolding kind_in
 one_more Count_rows xs v takes = partial_append Count_rows xs (v ∷ [])
 one_more Count xs Null takes = one_more_argument Count xs Text_kind Null tt
 one_more Count xs (Bigint z) takes = partial_append Count xs (Bigint z ∷ [])
 one_more Count xs (Boolean b) takes = partial_append Count xs (Boolean b ∷ [])
 one_more Count xs (Text text) takes = partial_append Count xs (Text text ∷ [])
-one_more Sum xs v takes = one_more_argument Sum xs Bigint_kind v takes
-one_more Min xs v takes = one_more_argument Min xs Bigint_kind v takes
-one_more Max xs v takes = one_more_argument Max xs Bigint_kind v takes
-one_more Bit_and xs v takes = one_more_argument Bit_and xs Bigint_kind v takes
-one_more Bit_or xs v takes = one_more_argument Bit_or xs Bigint_kind v takes
-one_more Bit_xor xs v takes = one_more_argument Bit_xor xs Bigint_kind v takes
-one_more Bool_and xs v takes = one_more_argument Bool_and xs Boolean_kind v takes
-one_more Bool_or xs v takes = one_more_argument Bool_or xs Boolean_kind v takes
-one_more Every xs v takes = one_more_argument Every xs Boolean_kind v takes
+one_more f xs v takes = one_more_argument f xs (kind_in (signature f).argument) v takes
 
 -- what a transition makes, and what combining makes, in the words of lists
 pub moved_list : (f : Function) (p q : Partial) (v : Datum) → Takes f v → q ≡ transition f p v → (xs : List Datum) → p ≡ partial f xs → q ≡ partial f (xs ++ v ∷ [])
@@ -42,31 +41,20 @@ joined-none : {X : Type 0} (both : X → X → X) (x : Option X) → joined both
 joined-none both None = refl
 joined-none both (Some x) = refl
 
+-- functions whose states hold numbers, or truth values, take these
+numbers_taken : (f : Function) → shape_of f ≡ A_number → (signature f).argument ≡ Values_of Bigint_kind
+numbers_taken Count_rows shape = cc
+numbers_taken f shape = cc
+
+truths_taken : (f : Function) → shape_of f ≡ A_truth → (signature f).argument ≡ Values_of Boolean_kind
+truths_taken Count_rows shape = cc
+truths_taken f shape = cc
+
 pub takes_number : (f : Function) (v : Datum) → shape_of f ≡ A_number → Takes f v → HasKind Bigint_kind v
-takes_number Min v shape takes = takes
-takes_number Max v shape takes = takes
-takes_number Bit_and v shape takes = takes
-takes_number Bit_or v shape takes = takes
-takes_number Bit_xor v shape takes = takes
-takes_number Count_rows v shape takes = cc
-takes_number Count v shape takes = cc
-takes_number Sum v shape takes = cc
-takes_number Bool_and v shape takes = cc
-takes_number Bool_or v shape takes = cc
-takes_number Every v shape takes = cc
+takes_number f v shape takes = subst (λ argument. IsArgument argument v) (numbers_taken f shape) takes
 
 pub takes_truth : (f : Function) (v : Datum) → shape_of f ≡ A_truth → Takes f v → HasKind Boolean_kind v
-takes_truth Bool_and v shape takes = takes
-takes_truth Bool_or v shape takes = takes
-takes_truth Every v shape takes = takes
-takes_truth Count_rows v shape takes = cc
-takes_truth Count v shape takes = cc
-takes_truth Sum v shape takes = cc
-takes_truth Min v shape takes = cc
-takes_truth Max v shape takes = cc
-takes_truth Bit_and v shape takes = cc
-takes_truth Bit_or v shape takes = cc
-takes_truth Bit_xor v shape takes = cc
+takes_truth f v shape takes = subst (λ argument. IsArgument argument v) (truths_taken f shape) takes
 
 pub number_passes : (f : Function) (o : Option ℤ) → transition f (Number o) Null ≡ Number o
 number_passes Count_rows o = refl
@@ -98,30 +86,12 @@ truth_moved f o (Bigint z) shape takes = absurd (takes_truth f (Bigint z) shape 
 truth_moved f o (Text text) shape takes = absurd (takes_truth f (Text text) shape takes)
 
 pub number_first : (f : Function) → shape_of f ≡ A_number → partial f [] ≡ Number None
-number_first Min shape = refl
-number_first Max shape = refl
-number_first Bit_and shape = refl
-number_first Bit_or shape = refl
-number_first Bit_xor shape = refl
 number_first Count_rows shape = cc
-number_first Count shape = cc
-number_first Sum shape = cc
-number_first Bool_and shape = cc
-number_first Bool_or shape = cc
-number_first Every shape = cc
+number_first f shape = cc
 
 pub truth_first : (f : Function) → shape_of f ≡ A_truth → partial f [] ≡ Truth_value None
-truth_first Bool_and shape = refl
-truth_first Bool_or shape = refl
-truth_first Every shape = refl
 truth_first Count_rows shape = cc
-truth_first Count shape = cc
-truth_first Sum shape = cc
-truth_first Min shape = cc
-truth_first Max shape = cc
-truth_first Bit_and shape = cc
-truth_first Bit_or shape = cc
-truth_first Bit_xor shape = cc
+truth_first f shape = cc
 
 -- ---- one more argument is as much as the state of that argument alone, combined
 
@@ -143,31 +113,14 @@ alone_count Count n Null shape = let same : n + 0 ≡ n = omega arith in ap Coun
 alone_count Count n (Bigint z) shape = refl
 alone_count Count n (Boolean b) shape = refl
 alone_count Count n (Text text) shape = refl
-alone_count Sum n v shape = cc
-alone_count Min n v shape = cc
-alone_count Max n v shape = cc
-alone_count Bit_and n v shape = cc
-alone_count Bit_or n v shape = cc
-alone_count Bit_xor n v shape = cc
-alone_count Bool_and n v shape = cc
-alone_count Bool_or n v shape = cc
-alone_count Every n v shape = cc
+alone_count f n v shape = cc
 
 alone_sum : (f : Function) (n : ℕ) (y : ℤ) (v : Datum) → shape_of f ≡ A_sum → Takes f v → combine f (Summed n y) (transition f (partial f []) v) ≡ transition f (Summed n y) v
 alone_sum Sum n y Null shape takes = let same : n + 0 ≡ n = omega arith in λ j. Summed (same j) (+ℤ_idr y j)
 alone_sum Sum n y (Bigint z) shape takes = ap (λ x. Summed (n + 1) (y +ℤ x)) (+ℤ_idl z)
 alone_sum Sum n y (Boolean b) shape takes = absurd takes
 alone_sum Sum n y (Text text) shape takes = absurd takes
-alone_sum Count_rows n y v shape takes = cc
-alone_sum Count n y v shape takes = cc
-alone_sum Min n y v shape takes = cc
-alone_sum Max n y v shape takes = cc
-alone_sum Bit_and n y v shape takes = cc
-alone_sum Bit_or n y v shape takes = cc
-alone_sum Bit_xor n y v shape takes = cc
-alone_sum Bool_and n y v shape takes = cc
-alone_sum Bool_or n y v shape takes = cc
-alone_sum Every n y v shape takes = cc
+alone_sum f n y v shape takes = cc
 
 pub one_alone : (f : Function) (p : Partial) (v : Datum) → shape_is p ≡ shape_of f → Takes f v → combine f p (transition f (partial f []) v) ≡ transition f p v
 one_alone f (Counted n) v shape takes = alone_count f n v (sym shape)

@@ -6,7 +6,7 @@ use Rattle.std.specs.Prelude.{Result, Ok, Err, OnErr}
 use Rattle.std.specs.Int.{w64, w128, cast_unsigned, cast_signed, bytes_high_first}
 use Rattle.byteorder.specs.Endian.{big_from}
 use Rattle.grouping_model.specs.Datum.{Datum, Null, Bigint, Boolean, Text}
-use Rattle.grouping_model.specs.Aggregates.{Function, Count_rows, Count, Sum, Min, Max, Bit_and, Bit_or, Bit_xor, Bool_and, Bool_or, Every, Partial, Counted, Summed, Number, Truth_value, partial}
+use Rattle.grouping_model.specs.Aggregates.{Function, Count_rows, Partial, Counted, Summed, Number, Truth_value, partial}
 use Rattle.grouping_model.specs.Combining.{combine}
 use Rattle.agg_protocol.specs.States.{Shape, shape_of, width_of, rows_of, most_rows, Denotes, IsState, IsTotal, A_count, A_sum, A_number, A_truth}
 use Rattle.agg_protocol.proofs.Bytes.{reads, reads_all, total_fits}
@@ -98,51 +98,23 @@ rows_add f (Truth_value o) (Summed k y) e = cc
 rows_add f (Truth_value o) (Number u) e = cc
 rows_add f (Truth_value o) (Truth_value u) e = omega arith
 
+-- what a partial result is made of is what the table says
 pub shape_partial : (f : Function) (xs : List Datum) → shape_is (partial f xs) ≡ shape_of f
 shape_partial Count_rows xs = refl
-shape_partial Count xs = refl
-shape_partial Sum xs = refl
-shape_partial Min xs = refl
-shape_partial Max xs = refl
-shape_partial Bit_and xs = refl
-shape_partial Bit_or xs = refl
-shape_partial Bit_xor xs = refl
-shape_partial Bool_and xs = refl
-shape_partial Bool_or xs = refl
-shape_partial Every xs = refl
+shape_partial f xs = refl
 
 -- one argument is at most one row
 pub one_row : (f : Function) (v : Datum) → rows_of (partial f (v ∷ [])) ≤ 1
 one_row Count_rows v = omega arith
-one_row Count Null = omega arith
-one_row Count (Bigint z) = omega arith
-one_row Count (Boolean b) = omega arith
-one_row Count (Text t) = omega arith
-one_row Sum Null = omega arith
-one_row Sum (Bigint z) = omega arith
-one_row Sum (Boolean b) = omega arith
-one_row Sum (Text t) = omega arith
-one_row Min v = omega arith
-one_row Max v = omega arith
-one_row Bit_and v = omega arith
-one_row Bit_or v = omega arith
-one_row Bit_xor v = omega arith
-one_row Bool_and v = omega arith
-one_row Bool_or v = omega arith
-one_row Every v = omega arith
+one_row f Null = omega arith
+one_row f (Bigint z) = omega arith
+one_row f (Boolean true) = omega arith
+one_row f (Boolean false) = omega arith
+one_row f (Text t) = omega arith
 
 pub no_row : (f : Function) → rows_of (partial f []) ≡ 0
 no_row Count_rows = refl
-no_row Count = refl
-no_row Sum = refl
-no_row Min = refl
-no_row Max = refl
-no_row Bit_and = refl
-no_row Bit_or = refl
-no_row Bit_xor = refl
-no_row Bool_and = refl
-no_row Bool_or = refl
-no_row Every = refl
+no_row f = refl
 
 at_most : (n m : ℕ) → n ≤ m → m ≤ most_rows → n ≤ most_rows
 at_most n m l small = omega arith

@@ -1,6 +1,6 @@
 -- The aggregate functions: the name, the argument, the result and the states of each, one line a function
 -- (PostgreSQL 17, 9.21 Aggregate Functions). Whatever else is said of a function by its name or kinds follows from here.
-use Rattle.std.specs.Prelude.{ℕ, List, [], ◌∷◌, Bool, true, false, ◌&&◌, Option, find, codes}
+use Rattle.std.specs.Prelude.{◌≡◌, refl, ℕ, ◌==◌, List, [], ◌∷◌, Bool, true, false, ◌&&◌, slice_index_or, Option, find, codes}
 use Rattle.std.specs.Str.{bytes_eq}
 use Rattle.grouping_model.specs.Datum.{Kind, Bigint_kind, Boolean_kind}
 use Rattle.grouping_model.specs.Aggregates.{Function, Count_rows, Count, Sum, Min, Max, Bit_and, Bit_or, Bit_xor, Bool_and, Bool_or, Every}
@@ -15,33 +15,50 @@ pub data Argument : Type 0 where
 pub data Shape : Type 0 where
   A_count A_sum A_number A_truth : Shape
 
--- a function by its name, its argument, the kind of its result, and what its states hold. A numeric has the kind bigint
--- here, since both compare by their values (PostgreSQL 17, 9.21 and 10.2)
+-- a function by its number, its name, its argument, the kind of its result, and what its states hold. A numeric has the kind
+-- bigint here, since both compare by their values (PostgreSQL 17, 9.21 and 10.2; the numbers are our own)
 pub record Signature : Type 0 where
+  pub number : ℕ
   pub name : List ℕ
   pub argument : Argument
   pub result : Kind
   pub shape : Shape
 
-abbrev pub signed : List ℕ → Argument → Kind → Shape → Signature
-signed name argument result shape = record { name = name; argument = argument; result = result; shape = shape }
+abbrev pub signed : ℕ → List ℕ → Argument → Kind → Shape → Signature
+signed number name argument result shape = record { number = number; name = name; argument = argument; result = result; shape = shape }
 
 abbrev pub signature : Function → Signature
-signature Count_rows = signed (codes "count") Each_row Bigint_kind A_count
-signature Count = signed (codes "count") Any_value Bigint_kind A_count
-signature Sum = signed (codes "sum") (Values_of Bigint_kind) Bigint_kind A_sum
-signature Min = signed (codes "min") (Values_of Bigint_kind) Bigint_kind A_number
-signature Max = signed (codes "max") (Values_of Bigint_kind) Bigint_kind A_number
-signature Bit_and = signed (codes "bit_and") (Values_of Bigint_kind) Bigint_kind A_number
-signature Bit_or = signed (codes "bit_or") (Values_of Bigint_kind) Bigint_kind A_number
-signature Bit_xor = signed (codes "bit_xor") (Values_of Bigint_kind) Bigint_kind A_number
-signature Bool_and = signed (codes "bool_and") (Values_of Boolean_kind) Boolean_kind A_truth
-signature Bool_or = signed (codes "bool_or") (Values_of Boolean_kind) Boolean_kind A_truth
-signature Every = signed (codes "every") (Values_of Boolean_kind) Boolean_kind A_truth
+signature Count_rows = signed 0 (codes "count") Each_row Bigint_kind A_count
+signature Count = signed 1 (codes "count") Any_value Bigint_kind A_count
+signature Sum = signed 2 (codes "sum") (Values_of Bigint_kind) Bigint_kind A_sum
+signature Min = signed 3 (codes "min") (Values_of Bigint_kind) Bigint_kind A_number
+signature Max = signed 4 (codes "max") (Values_of Bigint_kind) Bigint_kind A_number
+signature Bit_and = signed 5 (codes "bit_and") (Values_of Bigint_kind) Bigint_kind A_number
+signature Bit_or = signed 6 (codes "bit_or") (Values_of Bigint_kind) Bigint_kind A_number
+signature Bit_xor = signed 7 (codes "bit_xor") (Values_of Bigint_kind) Bigint_kind A_number
+signature Bool_and = signed 8 (codes "bool_and") (Values_of Boolean_kind) Boolean_kind A_truth
+signature Bool_or = signed 9 (codes "bool_or") (Values_of Boolean_kind) Boolean_kind A_truth
+signature Every = signed 10 (codes "every") (Values_of Boolean_kind) Boolean_kind A_truth
 
--- all functions, in the order above
+-- all functions, in the order of their numbers
 abbrev pub functions : List Function
 functions = Count_rows ∷ Count ∷ Sum ∷ Min ∷ Max ∷ Bit_and ∷ Bit_or ∷ Bit_xor ∷ Bool_and ∷ Bool_or ∷ Every ∷ []
+
+-- the number of a function, and the function of a number
+abbrev pub function_number : Function → ℕ
+function_number function = (signature function).number
+
+abbrev pub function_at : ℕ → Function
+function_at number = slice_index_or functions number Every
+
+-- a function is told by its number
+pub function_at_back : (function : Function) → function_at (function_number function) ≡ function
+function_at_back Count_rows = refl
+function_at_back function = refl
+
+-- whether two functions are the same
+abbrev pub function_eq : Function → Function → Bool
+function_eq f g = function_number f == function_number g
 
 -- what the states of a function hold
 abbrev pub shape_of : Function → Shape

@@ -1,6 +1,7 @@
 -- The states of the aggregate functions: which partial results they denote, and the bytes of each
 -- (PostgreSQL 17, CREATE AGGREGATE: stype and serialfunc; which bytes those are is our own).
-use Rattle.std.specs.Prelude.{◌≡◌, ℕ, ◌-◌, ◌*◌, ◌^◌, ◌≤◌, true, false, List, [], ◌∷◌, ◌++◌, ℤ, pos, neg_ℤ, ◌≤ℤ◌, FitsSigned, Some, None}
+use Rattle.std.specs.Prelude.{◌≡◌, refl, ℕ, ◌-◌, ◌*◌, ◌^◌, ◌≤◌, true, false, List, [], ◌∷◌, ◌++◌, ℤ, pos, neg_ℤ, ◌≤ℤ◌, FitsSigned, Some, None}
+use Rattle.std.proofs.Common.{leb-true}
 use Rattle.std.specs.Int.{w64, w128, cast_unsigned, bytes_high_first}
 use Rattle.grouping_model.specs.Aggregates.{Partial, Counted, Summed, Number, Truth_value}
 pub use Rattle.agg_protocol.specs.Signatures.{Shape, A_count, A_sum, A_number, A_truth, shape_of}
@@ -11,6 +12,11 @@ width_of A_count = 8
 width_of A_sum = 24
 width_of A_number = 9
 width_of A_truth = 1
+
+-- no state has more bytes than a sum's
+pub widest_is_sum : (shape : Shape) → width_of shape ≤ width_of A_sum
+widest_is_sum A_count = leb-true (width_of A_count) (width_of A_sum) refl
+widest_is_sum shape = leb-true (width_of shape) (width_of A_sum) refl
 
 -- the most rows that a state can count (own)
 abbrev pub most_rows : ℕ

@@ -16,11 +16,10 @@ use Rattle.packed_rows.specs.View.{datum_of}
 use Rattle.packed_rows.specs.declared.value.Value.{Value}
 use Rattle.agg_protocol.specs.Arguments.{Takes}
 use Rattle.agg_protocol.specs.States as states
-use Rattle.agg_protocol.specs.States.{Shape, A_count, A_sum, A_number, A_truth, IsState, shape_of, rows_of, most_rows}
+use Rattle.agg_protocol.specs.States.{Shape, A_count, A_sum, A_number, A_truth, IsState, widest_is_sum, shape_of, rows_of, most_rows}
 use Rattle.agg_protocol.proofs.Denoting.{shape_known, shape_partial, rows_add, one_row, width_known, within, once}
 use Rattle.agg_protocol.proofs.ArgumentLaws.{alone}
 use Rattle.agg_library.specs.declared.kind.AggKind.{AggKind}
-use Rattle.agg_library.specs.declared.kind.AggKind.TheVariants.{CountRows, Count, Sum, Min, Max, BitAnd, BitOr, BitXor, BoolAnd, BoolOr, Every}
 use Rattle.agg_library.specs.Kinds.{function_of, functions_of, kind_shape, kind_width, row_width}
 use Rattle.agg_library.specs.StateRows.{DenotesAll, AllWithin, initial_partials, partial_after}
 use Rattle.having_filter.specs.Kept.{TakesRows, IsWellFormed}
@@ -221,23 +220,10 @@ denoted_once m (k ∷ ks) bytes (p ∷ ps) (q ∷ qs) low (first, rest) (one, ot
     λ i. once m (kind_shape k) (take (kind_width k) bytes) p q low first one i ∷ denoted_once m ks (drop (kind_width k) bytes) ps qs low rest others i
 
 -- how wide the states are
-kind_narrow : (kind : AggKind) → kind_width kind ≤ 24
-kind_narrow CountRows = omega arith
-kind_narrow Count = omega arith
-kind_narrow Sum = omega arith
-kind_narrow Min = omega arith
-kind_narrow Max = omega arith
-kind_narrow BitAnd = omega arith
-kind_narrow BitOr = omega arith
-kind_narrow BitXor = omega arith
-kind_narrow BoolAnd = omega arith
-kind_narrow BoolOr = omega arith
-kind_narrow Every = omega arith
-
 pub narrow : (kinds : List AggKind) → row_width kinds ≤ length kinds * 24
 narrow [] = omega arith
 narrow (k ∷ ks) =
-    let one = kind_narrow k in
+    let one = widest_is_sum (kind_shape k) in
     let both = sum_by-cons kind_width k ks in
     let rest = narrow ks in
     omega (arith, one, both, rest)

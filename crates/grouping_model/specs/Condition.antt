@@ -14,7 +14,7 @@ pub data Truth : Type 0 where
 
 -- = <> < <= > >= (PostgreSQL 17, Table 9.1)
 pub data Comparison : Type 0 where
-  Same Different Below At_most Above At_least : Comparison
+  Equal Unequal Less At_most More At_least : Comparison
 
 -- what an IS test looks for (PostgreSQL 17, Table 9.2)
 pub data Test : Type 0 where
@@ -82,11 +82,11 @@ outcome_cmp x y = None
 
 -- whether a comparison is true of an order
 abbrev pub holds_of : Comparison → Ordering → Bool
-holds_of Same order = is_eq order
-holds_of Different order = is_ne order
-holds_of Below order = is_lt order
+holds_of Equal order = is_eq order
+holds_of Unequal order = is_ne order
+holds_of Less order = is_lt order
 holds_of At_most order = is_le order
-holds_of Above order = is_gt order
+holds_of More order = is_gt order
 holds_of At_least order = is_ge order
 
 -- a comparison: unknown where there is no order, which is where a side is null (PostgreSQL 17, 9.2)

@@ -2,7 +2,7 @@
 use Rattle.std.specs.Prelude.{ℕ, ◌-◌, ◌==◌, ◌&&◌, ◌^◌, true, false, List, [], ◌∷◌, ℤ, pos, negsuc, Some, None, option_map, find, codes}
 use Rattle.grouping_model.specs.Datum.{Datum, Null, Bigint, Boolean, Text, Bigint_kind, Boolean_kind, Text_kind, Row}
 use Rattle.grouping_model.specs.Aggregates.{Function, Count_rows, Count, Sum, Min, Max, Bit_and, Bit_or, Bit_xor, Bool_and, Bool_or, Every, Outcome, Plain, Numeric}
-use Rattle.grouping_model.specs.Condition.{At, Literal, Compare, Is, Above, Same, Is_null}
+use Rattle.grouping_model.specs.Condition.{At, Literal, Compare, Is, More, Equal, Is_null}
 use Rattle.grouping_model.specs.Query.{Query, Aggregate, Key, Call}
 use Rattle.grouping_model.specs.World.{World, Batch, Knowledge, knowing}
 
@@ -69,7 +69,7 @@ any_rows =
       items = Call 0 ∷ [];
       keys = [];
       aggregates = of_rows ∷ [];
-      having = Some (Compare Above (At (Call 0)) (Literal (Bigint (pos 0))));
+      having = Some (Compare More (At (Call 0)) (Literal (Bigint (pos 0))));
     }
 
 -- the greatest and the least number of 64 bits, twice each
@@ -103,13 +103,13 @@ big_ones =
     record any_rows {
       items = Call 0 ∷ Call 1 ∷ [];
       aggregates =
-          of_rows ∷ record { function = Count_rows; column = None; filter = Some (Compare Above (At 1) (Literal (Bigint (pos 1)))) } ∷ [];
+          of_rows ∷ record { function = Count_rows; column = None; filter = Some (Compare More (At 1) (Literal (Bigint (pos 1)))) } ∷ [];
       having = None;
     }
 
 -- SELECT count(*) FROM batches WHERE d = d IS NULL, which reads (d = d) IS NULL
 abbrev pub not_itself : Query
-not_itself = record any_rows { condition = Some (Is Is_null (Compare Same (At 1) (At 1))); having = None }
+not_itself = record any_rows { condition = Some (Is Is_null (Compare Equal (At 1) (At 1))); having = None }
 
 -- SELECT bool_and(b), bool_or(b), every(b), bit_and(d), bit_or(d), max(d) FROM batches, over b boolean, d bigint
 abbrev pub bits_and_booleans : Query

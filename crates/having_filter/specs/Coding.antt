@@ -1,5 +1,5 @@
 -- Conditions as trees of numbers, which tell them apart. All of this is our own.
-use Rattle.std.specs.Prelude.{ℕ, zero, suc, ◌≡◌, pos, negsuc, true, false, List, [], ◌∷◌, map, slice_index_or, Option, Some, None}
+use Rattle.std.specs.Prelude.{ℕ, zero, suc, ◌≡◌, pos, negsuc, true, false, List, [], ◌∷◌, map, Option, Some, None}
 use mathlib.Core.Path.{refl, ap}
 use base.Stored.{Gv, gnil, gnum, gcons, Coded}
 use denote.Struct.Codes.{itself}
@@ -7,60 +7,11 @@ use Rattle.std.specs.Coded.{code_by, coded×, coded_list, coded_option, coded_�
 use Rattle.grouping_model.specs.Datum as datum
 use Rattle.grouping_model.specs.Datum.{Datum, Kind, Bigint_kind, Boolean_kind, Text_kind}
 use Rattle.packed_rows.specs.Columns as packed
-use Rattle.grouping_model.specs.Aggregates as function
-use Rattle.grouping_model.specs.Aggregates.{Function}
 use Rattle.grouping_model.specs.Condition as model
-use Rattle.agg_protocol.specs.Signatures.{functions}
+use Rattle.agg_protocol.specs.Signatures.{function_number, function_at, function_at_back}
 use Rattle.query_checks.specs.Forms.{Unary_operator, Negation, Testing, Binary_operator, Conjunction, Disjunction, Comparing, Form, Column, Call, Call_where, Literal, Unary, Binary, Written}
 use Rattle.query_checks.specs.Checks.{kind_number, Checked}
-use Rattle.query_checks.specs.Sameness.{function_number, comparison_number, test_number}
-
--- what a number stands for
-abbrev pub function_at : ℕ → Function
-function_at n = slice_index_or functions n function.Every
-
-pub function_at_back : (x : Function) → function_at (function_number x) ≡ x
-function_at_back function.Count_rows = refl
-function_at_back function.Count = refl
-function_at_back function.Sum = refl
-function_at_back function.Min = refl
-function_at_back function.Max = refl
-function_at_back function.Bit_and = refl
-function_at_back function.Bit_or = refl
-function_at_back function.Bit_xor = refl
-function_at_back function.Bool_and = refl
-function_at_back function.Bool_or = refl
-function_at_back function.Every = refl
-
--- what a number stands for
-abbrev pub comparison_at : ℕ → model.Comparison
-comparison_at zero = model.Same
-comparison_at (suc zero) = model.Different
-comparison_at (suc (suc zero)) = model.Below
-comparison_at (suc (suc (suc zero))) = model.At_most
-comparison_at (suc (suc (suc (suc zero)))) = model.Above
-comparison_at n = model.At_least
-
-pub comparison_at_back : (x : model.Comparison) → comparison_at (comparison_number x) ≡ x
-comparison_at_back model.Same = refl
-comparison_at_back model.Different = refl
-comparison_at_back model.Below = refl
-comparison_at_back model.At_most = refl
-comparison_at_back model.Above = refl
-comparison_at_back model.At_least = refl
-
--- what a number stands for
-abbrev pub test_at : ℕ → model.Test
-test_at zero = model.Is_null
-test_at (suc zero) = model.Is_true
-test_at (suc (suc zero)) = model.Is_false
-test_at n = model.Is_unknown
-
-pub test_at_back : (x : model.Test) → test_at (test_number x) ≡ x
-test_at_back model.Is_null = refl
-test_at_back model.Is_true = refl
-test_at_back model.Is_false = refl
-test_at_back model.Is_unknown = refl
+use Rattle.query_checks.specs.Sameness.{comparison_number, comparison_at, comparison_at_back, test_number, test_at, test_at_back}
 
 -- trees of lists, values and columns, and back
 abbrev pub tree_of_bytes : List ℕ → Gv

@@ -2,9 +2,10 @@
 use Rattle.std.proofs.Common.{◌≡◌, ◌&&◌, Bool, true, Option, Some, None, option_map, refl, ap}
 use Rattle.std.specs.Option.{option_map_or}
 use Rattle.std.proofs.lemmas.Bool.{and_parts}
+use Rattle.agg_protocol.specs.Signatures.{function_eq}
 use Rattle.query_checks.specs.Forms.{Form, Column, Call, Call_where, Literal, Unary, Binary, map_form}
 use Rattle.query_checks.specs.Reads.{columns_pass}
-use Rattle.query_checks.specs.Sameness.{form_eq, option_same, function_eq, unary_eq, binary_eq}
+use Rattle.query_checks.specs.Sameness.{form_eq, option_same, unary_eq, binary_eq}
 use Rattle.query_checks.proofs.DistinctLaws.{Agrees}
 
 -- columns that are there or not, over other columns

@@ -68,11 +68,11 @@ pub record Written (C : Type 0) : Type 0 where
 
 -- the comparison and the test that the code names
 abbrev pub comparison_of : Comparison → model.Comparison
-comparison_of comparison.Equal = model.Same
-comparison_of comparison.Unequal = model.Different
-comparison_of comparison.Less = model.Below
+comparison_of comparison.Equal = model.Equal
+comparison_of comparison.Unequal = model.Unequal
+comparison_of comparison.Less = model.Less
 comparison_of comparison.AtMost = model.At_most
-comparison_of comparison.More = model.Above
+comparison_of comparison.More = model.More
 comparison_of comparison.AtLeast = model.At_least
 
 abbrev pub test_of : IsTest → model.Test

@@ -6,7 +6,7 @@ use Rattle.query_tokens.specs.Words as words
 use Rattle.query_tokens.specs.Spelling.{spell}
 use Rattle.grouping_model.specs.Datum.{Datum, Null, Bigint, Boolean, Text}
 use Rattle.grouping_model.specs.Aggregates.{Function}
-use Rattle.grouping_model.specs.Condition.{Comparison, Same, Different, Below, At_most, Above, At_least, Test, Is_null, Is_true, Is_false, Is_unknown}
+use Rattle.grouping_model.specs.Condition.{Comparison, Equal, Unequal, Less, At_most, More, At_least, Test, Is_null, Is_true, Is_false, Is_unknown}
 pub use Rattle.agg_protocol.specs.Signatures.{Argument, Each_row, Any_value, Values_of, Signature, signature, functions, is_value, is_named}
 unfoldable pub use Rattle.agg_protocol.specs.Signatures.{function_named}
 use Rattle.query_checks.specs.Forms.{Unary_operator, Negation, Testing, Binary_operator, Conjunction, Disjunction, Comparing, Form, Column, Call, Call_where, Literal, Unary, Binary, Written}
@@ -17,11 +17,11 @@ abbrev pub function_name : Function → List ℕ
 function_name function = (signature function).name
 
 abbrev pub comparison_text : Comparison → List ℕ
-comparison_text Same = codes " = "
-comparison_text Different = codes " <> "
-comparison_text Below = codes " < "
+comparison_text Equal = codes " = "
+comparison_text Unequal = codes " <> "
+comparison_text Less = codes " < "
 comparison_text At_most = codes " <= "
-comparison_text Above = codes " > "
+comparison_text More = codes " > "
 comparison_text At_least = codes " >= "
 
 -- an operator between its operands, and IS behind its operand

@@ -1,9 +1,10 @@
 //! When two conditions or calls are the same.
 
 ghost use Rattle.std.specs.Prelude.{◌≡◌, ◌==◌};
+ghost use Rattle.agg_protocol.specs.Signatures.{function_eq};
 ghost use Rattle.agg_library.specs.Kinds.{function_of};
 ghost use Rattle.query_checks.specs.Forms.{form_of, call_form, test_of, comparison_of};
-ghost use Rattle.query_checks.specs.Sameness.{form_eq, function_eq, test_number, comparison_number, option_same};
+ghost use Rattle.query_checks.specs.Sameness.{form_eq, test_number, comparison_number, option_same};
 
 use crate::condition::{AggCall, Comparison, Cond, IsTest};
 use agg_library::AggKind;

@@ -1,6 +1,6 @@
 -- What is in the grammar is read.
 use Rattle.std.proofs.Common.{◌≡◌, ℕ, zero, suc, ◌≤◌, ◌<◌, Bool, true, false, cond, List, [], ◌∷◌, ◌++◌, length, Option, Some, None, Ok, Err, refl, ap, subst, ◌∙◌, append_assoc, arith}
-use Rattle.std.specs.Prelude.{codes, if◌then◌else◌}
+use Rattle.std.specs.Prelude.{codes, is_some, if◌then◌else◌}
 use Rattle.std.specs.Str.{bytes_eq}
 use Rattle.std.proofs.lemmas.List.{length-append}
 use Rattle.query_tokens.specs.declared.word.Symbol.{Symbol}
@@ -23,13 +23,7 @@ use Rattle.query_grammar.proofs.Marks.{the_word, same_bytes, opening_sign}
 
 unfoldable pub sign_rank : Symbol → ℕ
 sign_rank symbols.Open = 0
-sign_rank symbols.Equal = 1
-sign_rank symbols.Unequal = 1
-sign_rank symbols.Less = 1
-sign_rank symbols.AtMost = 1
-sign_rank symbols.More = 1
-sign_rank symbols.AtLeast = 1
-sign_rank other = 5
+sign_rank symbol = cond (is_some (comparison_named symbol)) 1 5
 
 -- at which level a token carries on what stands before it: 0 a call, 1 a comparison, 2 an IS test, 3 AND, 4 OR, 5 none
 abbrev pub rank : Lexeme → ℕ
@@ -64,15 +58,14 @@ no_mark tok test law k (t ∷ ts) lt h = go (test t) refl
 pub no_word : (w : List ℕ) (k : ℕ) (rest : List Lexeme) → rank (Name w) < k → Stops k rest → after (is_word w) rest ≡ None
 no_word w k rest lt h = no_mark (Name w) (is_word w) (the_word w) k rest lt h
 
+no_comparison_at : (o : Option Comparison) (ts : List Lexeme) → 2 ≤ cond (is_some o) 1 5 → with_rest o ts ≡ None
+no_comparison_at None ts h = refl
+no_comparison_at (Some c) ts h = absurd (omega (arith, h))
+
 no_comparison_sign : (s : Symbol) (ts : List Lexeme) → 2 ≤ sign_rank s → with_rest (comparison_named s) ts ≡ None
 unfolding sign_rank comparison_named
-no_comparison_sign symbols.Equal ts h = absurd (omega (arith, h))
-no_comparison_sign symbols.Unequal ts h = absurd (omega (arith, h))
-no_comparison_sign symbols.Less ts h = absurd (omega (arith, h))
-no_comparison_sign symbols.AtMost ts h = absurd (omega (arith, h))
-no_comparison_sign symbols.More ts h = absurd (omega (arith, h))
-no_comparison_sign symbols.AtLeast ts h = absurd (omega (arith, h))
-no_comparison_sign other ts h = refl
+no_comparison_sign symbols.Open ts h = refl
+no_comparison_sign symbol ts h = no_comparison_at (comparison_named symbol) ts h
 
 no_comparison : (rest : List Lexeme) → Stops 2 rest → after_comparison rest ≡ None
 no_comparison [] h = refl
@@ -82,11 +75,11 @@ no_comparison (Text s ∷ ts) h = refl
 no_comparison (Sign s ∷ ts) h = no_comparison_sign s ts h.at
 
 no_opening : (rest : List Lexeme) → Stops 1 rest → after (is_sign symbols.Open) rest ≡ None
-unfolding sign_rank
+unfolding sign_rank comparison_named
 no_opening rest h = no_mark opening (is_sign symbols.Open) opening_sign 1 rest (omega arith) h
 
 closing_stops : (k : ℕ) (rest : List Lexeme) → k ≤ 5 → Stops k (closing ∷ rest)
-unfolding sign_rank
+unfolding sign_rank comparison_named
 closing_stops k rest le = record { at = le }
 
 -- ---- chains

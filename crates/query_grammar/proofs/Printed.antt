@@ -17,7 +17,7 @@ use Rattle.query_checks.specs.Forms as form
 use Rattle.query_checks.specs.Spelling.{function_name, comparison_text, test_text, call_text, level, operand, spelled}
 use Rattle.query_checks.specs.Checks.{depth, filters_pass}
 use Rattle.query_checks.specs.Writable.{IsWritableArgument, IsLiteral, IsForm}
-use Rattle.query_grammar.specs.Terminals.{function_named, comparison_named}
+use Rattle.query_grammar.specs.Terminals.{function_named, comparison_named, symbol_for}
 use Rattle.query_grammar.specs.Grammar as grammar
 use Rattle.query_grammar.specs.Grammar.{Named, opening, closing, word, IsTest, IsCondition, IsAnd, IsNot, IsTested, IsCompared, IsOperand, IsCall}
 use Rattle.query_grammar.proofs.Texts.{reads_space, reads_spelled, never_first, Quiet, Spells, Opens, spells_lexeme, spells_two, opens_then, spells_between, spells_enclosed, spells_word, opens_word, opens_between, opens_two, where_word, filter_word, and_word, or_word, not_word, is_word, null_word, true_word, false_word, unknown_word}
@@ -215,16 +215,7 @@ pub the_calls : (f : Function) (column : Option (List ℕ)) → IsWritableArgume
 unfolding function_named is_reserved
 the_calls function.Count_rows None a = record { called = function.Count; inside = Sign symbols.Star ∷ []; named = count_named; free = refl; calls = refl; argument = grammar.all_rows; spells = rows_spelled }
 the_calls function.Count_rows (Some name) a = absurd a
-the_calls function.Count (Some name) a = column_call function.Count name (record { named = count_named; free = refl; calls = refl }) a
-the_calls function.Sum (Some name) a = column_call function.Sum name (record { named = record { begins = refl; continues = refl; lower = refl; within = omega arith }; free = refl; calls = refl }) a
-the_calls function.Min (Some name) a = column_call function.Min name (record { named = record { begins = refl; continues = refl; lower = refl; within = omega arith }; free = refl; calls = refl }) a
-the_calls function.Max (Some name) a = column_call function.Max name (record { named = record { begins = refl; continues = refl; lower = refl; within = omega arith }; free = refl; calls = refl }) a
-the_calls function.Bit_and (Some name) a = column_call function.Bit_and name (record { named = record { begins = refl; continues = refl; lower = refl; within = omega arith }; free = refl; calls = refl }) a
-the_calls function.Bit_or (Some name) a = column_call function.Bit_or name (record { named = record { begins = refl; continues = refl; lower = refl; within = omega arith }; free = refl; calls = refl }) a
-the_calls function.Bit_xor (Some name) a = column_call function.Bit_xor name (record { named = record { begins = refl; continues = refl; lower = refl; within = omega arith }; free = refl; calls = refl }) a
-the_calls function.Bool_and (Some name) a = column_call function.Bool_and name (record { named = record { begins = refl; continues = refl; lower = refl; within = omega arith }; free = refl; calls = refl }) a
-the_calls function.Bool_or (Some name) a = column_call function.Bool_or name (record { named = record { begins = refl; continues = refl; lower = refl; within = omega arith }; free = refl; calls = refl }) a
-the_calls function.Every (Some name) a = column_call function.Every name (record { named = record { begins = refl; continues = refl; lower = refl; within = omega arith }; free = refl; calls = refl }) a
+the_calls f (Some name) a = column_call f name (record { named = record { begins = refl; continues = refl; lower = refl; within = omega arith }; free = refl; calls = refl }) a
 the_calls f None a = absurd a
 
 pub call_is : (limit : ℕ) (f : Function) (column : Option (List ℕ)) (c : Calls f column) → IsCall limit (Name (function_name f) ∷ opening ∷ (c.inside ++ closing ∷ [])) (form.Call f column)
@@ -260,12 +251,8 @@ record Compares (c : model.Comparison) : Type 0 where
 
 compares : (c : model.Comparison) → Compares c
 unfolding comparison_named
-compares model.Same = record { symbol = symbols.Equal; is = refl; quiet = λ rest. refl; opens = record { on = λ rest ws more. reads_space _ _ (reads_spelled (Sign symbols.Equal) _ _ tt refl (reads_space rest ws more)) } }
-compares model.Different = record { symbol = symbols.Unequal; is = refl; quiet = λ rest. refl; opens = record { on = λ rest ws more. reads_space _ _ (reads_spelled (Sign symbols.Unequal) _ _ tt refl (reads_space rest ws more)) } }
-compares model.Below = record { symbol = symbols.Less; is = refl; quiet = λ rest. refl; opens = record { on = λ rest ws more. reads_space _ _ (reads_spelled (Sign symbols.Less) _ _ tt refl (reads_space rest ws more)) } }
-compares model.At_most = record { symbol = symbols.AtMost; is = refl; quiet = λ rest. refl; opens = record { on = λ rest ws more. reads_space _ _ (reads_spelled (Sign symbols.AtMost) _ _ tt refl (reads_space rest ws more)) } }
-compares model.Above = record { symbol = symbols.More; is = refl; quiet = λ rest. refl; opens = record { on = λ rest ws more. reads_space _ _ (reads_spelled (Sign symbols.More) _ _ tt refl (reads_space rest ws more)) } }
-compares model.At_least = record { symbol = symbols.AtLeast; is = refl; quiet = λ rest. refl; opens = record { on = λ rest ws more. reads_space _ _ (reads_spelled (Sign symbols.AtLeast) _ _ tt refl (reads_space rest ws more)) } }
+compares model.Equal = record { symbol = symbols.Equal; is = refl; quiet = λ rest. refl; opens = record { on = λ rest ws more. reads_space _ _ (reads_spelled (Sign symbols.Equal) _ _ tt refl (reads_space rest ws more)) } }
+compares c = record { symbol = symbol_for c; is = refl; quiet = λ rest. refl; opens = record { on = λ rest ws more. reads_space _ _ (reads_spelled (Sign (symbol_for c)) _ _ tt refl (reads_space rest ws more)) } }
 
 record Tests (t : model.Test) : Type 0 where
   tokens : List Lexeme

@@ -8,7 +8,7 @@ use Rattle.query_tokens.specs.Words.{Lexeme, Name, Sign}
 use Rattle.query_grammar.specs.Grammar.{Named}
 use Rattle.query_checks.specs.Forms.{Written}
 use Rattle.query_tokens.specs.Reserved.{is_reserved}
-use Rattle.query_grammar.specs.Terminals.{function_named, is_word, is_sign, symbol_number}
+use Rattle.query_grammar.specs.Terminals.{function_named, comparison_named, is_word, is_sign, symbol_number}
 use Rattle.query_grammar.specs.Reading.{Read, after, name_at, prim_at, conditions}
 use Rattle.query_grammar.specs.Whole.{item_value_at, alias_or_none, alias_at, item_at, list_at, clause_at, keys_at, end_at, query_at}
 use Rattle.query_grammar.specs.Grammar as conditions
@@ -63,7 +63,7 @@ item_reads limit _ _ (grammar.item {x = x} {alias = alias} ts us p q) rest h =
     rw (append_assoc ts us rest, value_reads limit ts x p (us ++ rest) (alias_stops us alias q rest h), alias_reads us alias q rest h) refl
 
 comma_follows : (ts : List Lexeme) → Follows (Sign symbols.Comma ∷ ts)
-unfolding alias_or_none sign_rank
+unfolding alias_or_none sign_rank comparison_named
 comma_follows ts = record { no_as_word = refl; bare = refl; stops = record { at = omega arith } }
 
 from_follows : (ts : List Lexeme) → Follows (word (codes "from") ∷ ts)
@@ -124,7 +124,7 @@ record Rest (rest : List Lexeme) : Type 0 where
   where_ : after (is_word (codes "where")) rest ≡ None
 
 after_having : (es : List Lexeme) → IsEnd es → Rest es × (after (is_word (codes "having")) es ≡ None) × (after (is_word (codes "group")) es ≡ None)
-unfolding sign_rank symbol_number
+unfolding sign_rank comparison_named symbol_number
 after_having _ grammar.no_semicolon = (record { stops = record { at = tt {0} }; comma = refl; where_ = refl }, refl, refl)
 after_having _ grammar.semicolon = (record { stops = record { at = omega arith }; comma = refl; where_ = refl }, refl, refl)
 

@@ -25,17 +25,9 @@ other b h =
     record { name = three.0; quote = three.1; equal = two.1; more = one.1 }
 
 sign_before : (symbol : Symbol) (b : ℕ) → IsOther b → runs_into (Sign symbol) b ≡ false
-sign_before symbols.Open b h = refl
-sign_before symbols.Close b h = refl
-sign_before symbols.Comma b h = refl
-sign_before symbols.Star b h = refl
-sign_before symbols.Semicolon b h = refl
-sign_before symbols.Equal b h = refl
-sign_before symbols.Unequal b h = refl
 sign_before symbols.Less b h = or_from (b == 61) (b == 62) h.equal h.more
-sign_before symbols.AtMost b h = refl
 sign_before symbols.More b h = h.equal
-sign_before symbols.AtLeast b h = refl
+sign_before symbol b h = refl
 
 before_other : (w : Lexeme) (b : ℕ) → IsOther b → runs_into w b ≡ false
 before_other (Name name) b h = h.name

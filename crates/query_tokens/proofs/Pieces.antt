@@ -35,16 +35,7 @@ spell_solid (Integer (pos n)) rest fits = digits_solid (decimal n) rest (decimal
 spell_solid (Integer (negsuc n)) rest fits = record { some = omega arith; solid = refl }
 spell_solid (Text text) rest legal = record { some = omega arith; solid = refl }
 spell_solid (Sign symbols.Open) rest legal = record { some = omega arith; solid = refl }
-spell_solid (Sign symbols.Close) rest legal = record { some = omega arith; solid = refl }
-spell_solid (Sign symbols.Comma) rest legal = record { some = omega arith; solid = refl }
-spell_solid (Sign symbols.Star) rest legal = record { some = omega arith; solid = refl }
-spell_solid (Sign symbols.Semicolon) rest legal = record { some = omega arith; solid = refl }
-spell_solid (Sign symbols.Equal) rest legal = record { some = omega arith; solid = refl }
-spell_solid (Sign symbols.Unequal) rest legal = record { some = omega arith; solid = refl }
-spell_solid (Sign symbols.Less) rest legal = record { some = omega arith; solid = refl }
-spell_solid (Sign symbols.AtMost) rest legal = record { some = omega arith; solid = refl }
-spell_solid (Sign symbols.More) rest legal = record { some = omega arith; solid = refl }
-spell_solid (Sign symbols.AtLeast) rest legal = record { some = omega arith; solid = refl }
+spell_solid (Sign symbol) rest legal = record { some = omega arith; solid = refl }
 
 -- a word at the front is the first token, and the others are those of what it leaves
 record IsFirst (at : ℕ) (bytes : List ℕ) (w : Lexeme) (rest : List ℕ) : Type 0 where

@@ -138,25 +138,11 @@ text_again at text rest legal ends = text_read at text rest legal ends
 
 symbol_again : (at : ℕ) (symbol : Symbol) (rest : List ℕ) → EndsBefore (Sign symbol) rest → word_at at (spell_symbol symbol ++ rest) ≡ Ok (Sign symbol, rest)
 unfolding word_at symbol_at symbol_of_one symbol_of_two
-symbol_again at symbols.Open [] ends = refl
-symbol_again at symbols.Open (b ∷ bs) ends = refl
-symbol_again at symbols.Close [] ends = refl
-symbol_again at symbols.Close (b ∷ bs) ends = refl
-symbol_again at symbols.Comma [] ends = refl
-symbol_again at symbols.Comma (b ∷ bs) ends = refl
-symbol_again at symbols.Star [] ends = refl
-symbol_again at symbols.Star (b ∷ bs) ends = refl
-symbol_again at symbols.Semicolon [] ends = refl
-symbol_again at symbols.Semicolon (b ∷ bs) ends = refl
-symbol_again at symbols.Equal [] ends = refl
-symbol_again at symbols.Equal (b ∷ bs) ends = refl
-symbol_again at symbols.Unequal rest ends = refl
 symbol_again at symbols.Less [] ends = refl
 symbol_again at symbols.Less (b ∷ bs) ends = let no = or_parts (b == 61) (b == 62) ends in rw (no.0, no.1) refl
-symbol_again at symbols.AtMost rest ends = refl
-symbol_again at symbols.More [] ends = refl
 symbol_again at symbols.More (b ∷ bs) ends = rw ends refl
-symbol_again at symbols.AtLeast rest ends = refl
+symbol_again at symbol [] ends = refl
+symbol_again at symbol (b ∷ bs) ends = refl
 
 pub word_again : (at : ℕ) (w : Lexeme) (rest : List ℕ) → IsLexeme w → EndsBefore w rest → word_at at (spell w ++ rest) ≡ Ok (w, rest)
 word_again at (Name name) rest legal ends = name_again at name rest legal ends

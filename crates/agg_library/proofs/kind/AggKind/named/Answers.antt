@@ -1,7 +1,6 @@
-use Rattle.std.proofs.Common.{[], ◌∷◌, ap, ◌∙◌, option_map}
+use Rattle.std.proofs.Common.{ap, ◌∙◌, option_map}
 use Rattle.agg_protocol.specs.Signatures.{is_named, function_named}
-use Rattle.agg_library.specs.declared.kind.AggKind.TheVariants.{CountRows, Count, Sum, Min, Max, BitAnd, BitOr, BitXor, BoolAnd, BoolOr, Every}
-use Rattle.agg_library.specs.Kinds.{function_of}
+use Rattle.agg_library.specs.Kinds.{function_of, kinds}
 use Rattle.agg_library.proofs.NamedLaws.{find_mapped}
 use Rattle.agg_library.proofs.kind.AggKind.named.Goals as goal
 
@@ -10,4 +9,4 @@ unfolding function_named
 returns c =
     ap (option_map function_of) c.first_named.ensures
     ∙ find_mapped (is_named c.args.name.now) function_of
-    (CountRows ∷ Count ∷ Sum ∷ Min ∷ Max ∷ BitAnd ∷ BitOr ∷ BitXor ∷ BoolAnd ∷ BoolOr ∷ Every ∷ [])
+    kinds
