@@ -15,9 +15,10 @@ pub const CLASSES: usize = 11;
 /// The rooms of the classes.
 const ROOMS: [usize; CLASSES] = [8, 16, 32, 64, 128, 256, 512, 1024, 2048, 4096, 8192];
 
-/// The rooms of the smallest class and of the largest.
+/// The room of the smallest class.
 pub const SMALLEST: usize = 8;
 
+/// The room of the largest class.
 pub const LARGEST: usize = 8192;
 
 /// The size of a block, in bytes: of the first one of an `AllocSet`, and in the other kinds of each that is not larger for

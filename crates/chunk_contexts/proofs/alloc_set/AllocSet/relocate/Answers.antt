@@ -21,9 +21,6 @@ fill-requires-clause-len c = ap (λ (p : Piece). length p.bytes) (made-source c.
 pub fill-requires-clause-room : goal.fill-requires-clause-room
 fill-requires-clause-room c = omega (arith, c.in_ok-place.ensures.room, ap (λ (p : Piece). p.room) (made-piece c.args.self.now c.claim.new.self c.claim.new.self c.args.n c.in_ok-place.place c.args.from (set_room c.args.n) c.requires.there c.in_ok-place.ensures.fresh c.in_ok-place.ensures.taken))
 
-pub release-requires : goal.release-requires
-release-requires c = filled-from c.args.self.now c.claim.new.self c.fill.new.self c.args.n c.in_ok-place.place c.args.from (set_room c.args.n) c.requires.there c.in_ok-place.ensures.fresh c.in_ok-place.ensures.taken c.args.n c.fill.ensures
-
 pub returns-clause-moved : goal.returns-clause-moved
 returns-clause-moved c =
     let s = c.args.self.now in
@@ -45,3 +42,6 @@ returns-clause-held c =
     ap (λ (m : ChunkName). total (set_taken s n (record { place = place_of m; room = set_room n; is_live = true; bytes = bytes })).blocks) c.named.ensures
     ∙ ap total (taken-blocks s n place (set_room n) bytes [] ∙ ap (λ (z : SetState). z.blocks) (sym c.in_ok-place.ensures.taken))
     ∙ c.in_ok-place.ensures.held
+
+pub release-requires : goal.release-requires
+release-requires c = filled-from c.args.self.now c.claim.new.self c.fill.new.self c.args.n c.in_ok-place.place c.args.from (set_room c.args.n) c.requires.there c.in_ok-place.ensures.fresh c.in_ok-place.ensures.taken c.args.n c.fill.ensures
