@@ -1,9 +1,9 @@
 -- Rows of states, part by part.
-use Rattle.std.proofs.Common.{◌≡◌, refl, ℕ, zero, suc, ◌+◌, Some, ◌≤◌, ◌<◌, slice_get, slice_set, unwrap_or, append_assoc, List, [], ◌∷◌, ◌++◌, length, take, drop, sym, ap, subst, ◌∙◌, arith}
+use Rattle.std.proofs.Common.{◌≡◌, refl, ℕ, zero, suc, ◌+◌, Some, ◌≤◌, ◌<◌, slice_get, slice_set, append_assoc, List, [], ◌∷◌, ◌++◌, length, take, drop, sym, ap, subst, ◌∙◌, arith}
 use Rattle.std.proofs.Math.Seq.{take-append_seam, drop-append_seam, take-add}
 use Rattle.std.proofs.lemmas.List.{drop-drop, length-take}
 use Rattle.std.proofs.lemmas.List.Sums.{sum_by-cons}
-use Rattle.std.specs.Prelude.{Result, Ok, Err, OnOk, OnErr}
+use Rattle.std.proofs.lemmas.Option.{same_Some}
 use Rattle.grouping_model.specs.Aggregates.{Partial}
 use Rattle.grouping_model.specs.Combining.{combine, combine_all}
 use Rattle.agg_protocol.specs.States as states
@@ -12,16 +12,6 @@ use Rattle.agg_library.specs.declared.kind.AggKind.{AggKind}
 use Rattle.agg_library.specs.Kinds.{function_of, functions_of, kind_shape, kind_width, row_width}
 use Rattle.agg_library.specs.StateRows.{DenotesAll, AllWithin, with_part}
 use Rattle.agg_protocol.proofs.Denoting.{width_known}
-
--- a fact on success, from another
-pub on_ok : {X E P Q : Type 0} (r : Result X E) → (P → Q) → OnOk r P → OnOk r Q
-on_ok (Ok x) f h = f h
-on_ok (Err e) f h = tt
-
--- a fact on an error, from another
-pub on_error : {X E P Q : Type 0} (r : Result X E) → (P → Q) → OnErr r P → OnErr r Q
-on_error (Ok x) f h = tt
-on_error (Err e) f h = f h
 
 -- no states at all
 pub denotes_end : (m : ℕ) (kinds : List AggKind) (row : List ℕ) → kinds ≡ [] → row ≡ [] → DenotesAll m kinds row []
@@ -87,16 +77,9 @@ combined_cons m kind kinds ks front back p q ps qs e d ds =
     (sym (take-append_seam front back) ∙ ap (λ n. take n (front ++ back)) wide) (sym (drop-append_seam front back) ∙ ap (λ n. drop n (front ++ back)) wide) d ds)
 
 -- a list with no members
-pub no_members : {X : Type 0} (xs : List X) → length xs ≡ 0 → xs ≡ []
-no_members [] e = refl
-no_members (x ∷ xs) e = absurd (omega arith)
-
 -- nothing combined is nothing
 pub combined_end : (m : ℕ) (kinds : List AggKind) (row : List ℕ) → kinds ≡ [] → row ≡ [] → DenotesAll m kinds row (combine_all (functions_of kinds) [] [])
 combined_end m kinds row e none = subst (λ ks. DenotesAll m ks row (combine_all (functions_of ks) [] [])) (sym e) none
-
-some_same : {X : Type 0} (x y : X) → Some x ≡ Some y → x ≡ y
-some_same x y e = ap (λ o. unwrap_or o x) e
 
 -- the place of a part behind a first one
 place_behind : (k : AggKind) (ks : List AggKind) → row_width (k ∷ ks) ≡ kind_width k + row_width ks
@@ -112,8 +95,8 @@ part_read m [] row ps zero kind p d k e = cc
 part_read m [] row ps (suc i) kind p d k e = cc
 part_read m (k0 ∷ ks) row [] i kind p d k e = absurd d
 part_read m (k0 ∷ ks) row (p0 ∷ ps) zero kind p d k e =
-    subst (λ q. states.Denotes m (kind_shape kind) (take (kind_width kind) row) q) (some_same p0 p e)
-    (subst (λ j. states.Denotes m (kind_shape j) (take (kind_width j) row) p0) (some_same k0 kind k) d.0)
+    subst (λ q. states.Denotes m (kind_shape kind) (take (kind_width kind) row) q) (same_Some p0 p e)
+    (subst (λ j. states.Denotes m (kind_shape j) (take (kind_width j) row) p0) (same_Some k0 kind k) d.0)
 part_read m (k0 ∷ ks) row (p0 ∷ ps) (suc i) kind p d k e =
     subst (λ b. states.Denotes m (kind_shape kind) (take (kind_width kind) b) p) (behind k0 (take i ks) row) (part_read m ks (drop (kind_width k0) row) ps i kind p d.1 k e)
 
@@ -124,7 +107,7 @@ part_written m [] row ps zero kind part q d k e = cc
 part_written m [] row ps (suc i) kind part q d k e = cc
 part_written m (k0 ∷ ks) row [] i kind part q d k e = absurd d
 part_written m (k0 ∷ ks) row (p0 ∷ ps) zero kind part q d k e =
-    let same = some_same k0 kind k in
+    let same = same_Some k0 kind k in
     let wide : length part ≡ kind_width kind = width_known m (kind_shape kind) part q e in
     denotes_cons m kind (k0 ∷ ks) ks (part ++ drop (kind_width kind) row) part (drop (kind_width k0) row) q ps (ap (λ j. j ∷ ks) same)
     (sym (take-append_seam part (drop (kind_width kind) row)) ∙ ap (λ n. take n (part ++ drop (kind_width kind) row)) wide)

@@ -163,10 +163,6 @@ front_few chunks i =
     let both = length-append (on_end (take i chunks)) (on_end (drop i chunks)) in
     omega (arith, whole, both)
 
-pub none_there : {X : Type 0} (xs : List X) → length xs ≡ 0 → xs ≡ []
-none_there [] none = refl
-none_there (x ∷ xs) none = absurd (omega (arith, none))
-
 -- where there are groups there is a chunk
 pub some_end : (chunks : List (List Entry)) (ends : List ℕ) (place : ℕ) → ends ≡ counts 0 chunks → place < length (on_end chunks) → 0 < length ends
 some_end [] ends place are low = absurd (omega (arith, low))

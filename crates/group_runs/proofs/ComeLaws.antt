@@ -7,10 +7,11 @@ use Rattle.std.specs.declared.cmp.Ordering.TheVariants.{Less, Equal, Greater}
 use Rattle.std.specs.Ordering.{nat_cmp, ordering_reverse}
 use Rattle.std.specs.Cmp.Lexicographic.{slice_cmp}
 use Rattle.std.specs.List.{AllByRecursion}
+use Rattle.list_laws.specs.Each.{each_append, each_front, each_weaker}
 use Rattle.group_runs.specs.Runs.{Entry, Rises}
 use Rattle.group_runs.specs.Places.{IsBelow, IsNotBelow, AllBelow, IsPlaceOf}
 use Rattle.group_runs.specs.Chunks.{on_end, IsAmong, AreBefore, ComeInto}
-use Rattle.group_runs.proofs.PlaceLaws.{key_total, all_front, all_both, all_mapped, drop_at}
+use Rattle.group_runs.proofs.PlaceLaws.{key_total, drop_at}
 use Rattle.group_runs.proofs.StateLaws.{all_at}
 use Rattle.group_runs.proofs.JoinLaws.{rises_before}
 use Rattle.group_runs.proofs.ChunkLaws.{got, got_low, get_taken, get_dropped, next_start, front_on_end, back_on_end, front_few, on_end-append}
@@ -38,7 +39,7 @@ below_next key x y high low = cases (slice_cmp nat_cmp x.0 key) refl
 
 -- what is below a key is before what is not below it
 pub before_past : (key : List ℕ) (xs ys : List Entry) → AllBelow key xs → AllByRecursion (IsNotBelow key) ys → AreBefore xs ys
-before_past key xs ys below past = all_mapped (IsNotBelow key) (λ (y : Entry). AllBelow y.0 xs) ys (λ y high. all_mapped (IsBelow key) (IsBelow y.0) xs (λ x low. above_below key x y low high) below) past
+before_past key xs ys below past = each_weaker (IsNotBelow key) (λ (y : Entry). AllBelow y.0 xs) (λ y high. each_weaker (IsBelow key) (IsBelow y.0) (λ x low. above_below key x y low high) xs below) ys past
 
 -- what is below the key of a group is before all from there on
 pub before_from : (xs run : List Entry) (i : ℕ) (e : Entry) → Rises run → slice_get run i ≡ Some e → AllBelow e.0 xs → AreBefore xs (drop i run)
@@ -46,7 +47,7 @@ before_from xs run i e rises at below =
     let left : drop i run ≡ e ∷ drop (i + 1) run = drop_at run i e at in
     let behind : AreBefore (take (i + 1) run) (drop (i + 1) run) = rises_before (take (i + 1) run) (drop (i + 1) run) (subst Rises (sym (take-append-drop (i + 1) run)) rises) in
     subst (AreBefore xs) (sym left)
-    (below, all_mapped (λ (y : Entry). AllBelow y.0 (take (i + 1) run)) (λ (y : Entry). AllBelow y.0 xs) (drop (i + 1) run) (λ y all. all_mapped (IsBelow e.0) (IsBelow y.0) xs (λ x low. key_total.trans x.0 e.0 y.0 low (all_at (IsBelow y.0) (take (i + 1) run) i e all (taken_at run i e at))) below) behind)
+    (below, each_weaker (λ (y : Entry). AllBelow y.0 (take (i + 1) run)) (λ (y : Entry). AllBelow y.0 xs) (λ y all. each_weaker (IsBelow e.0) (IsBelow y.0) (λ x low. key_total.trans x.0 e.0 y.0 low (all_at (IsBelow y.0) (take (i + 1) run) i e all (taken_at run i e at))) xs below) (drop (i + 1) run) behind)
   where
     taken_at : (run : List Entry) (i : ℕ) (e : Entry) → slice_get run i ≡ Some e → slice_get (take (i + 1) run) i ≡ Some e
     taken_at run i e at = get_taken run (i + 1) i (omega arith) ∙ at
@@ -80,14 +81,14 @@ pub record IsFor (chunks : List (List Entry)) (first : ℕ) (key : List ℕ) (at
 below_place : (chunks : List (List Entry)) (first start : ℕ) (key : List ℕ) (place : ℕ) → start ≡ length (on_end (take first chunks)) → AllBelow key (on_end (take first chunks)) → IsPlaceOf (on_end chunks) start key place → AllBelow key (take place (on_end chunks))
 below_place chunks first start key place started before is =
     subst (AllBelow key) (sym (taken_parts (on_end chunks) start place is.behind))
-    (all_both (IsBelow key) (take start (on_end chunks)) (slice_range (on_end chunks) start place)
+    (each_append (IsBelow key) (take start (on_end chunks)) (slice_range (on_end chunks) start place)
     (subst (AllBelow key) (sym (ap (λ n. take n (on_end chunks)) started ∙ front_on_end chunks first)) before) is.below)
 
 front_below : (chunks : List (List Entry)) (at place : ℕ) (key : List ℕ) → length (on_end (take at chunks)) ≤ place → AllBelow key (take place (on_end chunks)) → AllBelow key (on_end (take at chunks))
 front_below chunks at place key low below =
     let n : ℕ = length (on_end (take at chunks)) in
     subst (AllBelow key) (front_on_end chunks at)
-    (all_front (IsBelow key) (take n (on_end chunks)) (slice_range (on_end chunks) n place) (subst (AllBelow key) (taken_parts (on_end chunks) n place low) below))
+    (each_front (IsBelow key) (take n (on_end chunks)) (slice_range (on_end chunks) n place) (subst (AllBelow key) (taken_parts (on_end chunks) n place low) below))
 
 -- the chunk of the place of a key
 pub for_place : (chunks : List (List Entry)) (first start : ℕ) (key : List ℕ) (place at : ℕ) → Rises (on_end chunks) → start ≡ length (on_end (take first chunks)) → AllBelow key (on_end (take first chunks)) → IsPlaceOf (on_end chunks) start key place → place < length (on_end chunks) → IsAmong chunks place at → IsFor chunks first key at

@@ -8,6 +8,7 @@ use Rattle.std.specs.Cmp.Lexicographic.{slice_cmp}
 use Rattle.std.specs.List.{AllByRecursion}
 use Rattle.std.specs.List.Sorted.{IsStrictlySortedBy}
 use Rattle.std.specs.BTreeMap.{insert_entry}
+use Rattle.list_laws.specs.Each.{each_weaker}
 use Rattle.grouping_model.specs.Datum.{Row, row_cmp, same_row}
 use Rattle.grouping_model.specs.Aggregates.{Partial}
 use Rattle.grouping_model.specs.Query.{Query}
@@ -22,7 +23,6 @@ use Rattle.group_runs.specs.Steps.{HasRoomForRun, AddsRun}
 use Rattle.group_runs.specs.Chunks.{AreBefore}
 use Rattle.group_runs.proofs.EntryLaws.{groups_raised}
 use Rattle.group_runs.proofs.MergeLaws.{puts_rise, puts_long, keys_of-groups_added}
-use Rattle.group_runs.proofs.PlaceLaws.{all_mapped}
 use Rattle.group_runs.proofs.RunLaws.{groups_long, keys_packed, keys_of_kinds, rises_keys}
 use Rattle.group_runs.proofs.SpliceLaws.{AllBelow, inserted_behind, found_behind, parted, together, packed_rise, groups_below}
 
@@ -68,8 +68,8 @@ found_before key (g ∷ front) back past =
 groups_added_before : (q : Query) (front back more : List Group) → GroupsBefore more back → groups_added q (front ++ back) more ≡ groups_added q front more ++ back
 groups_added_before q front back [] before = refl
 groups_added_before q front back (g ∷ more) before =
-    let past : AllPast g.0 back = all_mapped (λ (h : Group). AllBelow h.0 (g ∷ more)) (λ (h : Group). row_cmp h.0 g.0 ≡ Greater) back (λ h both. both.0) before in
-    let rest : GroupsBefore more back = all_mapped (λ (h : Group). AllBelow h.0 (g ∷ more)) (λ (h : Group). AllBelow h.0 more) back (λ h both. both.1) before in
+    let past : AllPast g.0 back = each_weaker (λ (h : Group). AllBelow h.0 (g ∷ more)) (λ (h : Group). row_cmp h.0 g.0 ≡ Greater) (λ h both. both.0) back before in
+    let rest : GroupsBefore more back = each_weaker (λ (h : Group). AllBelow h.0 (g ∷ more)) (λ (h : Group). AllBelow h.0 more) (λ h both. both.1) back before in
     ap (λ gs. groups_added q gs more) (ap (λ o. insert_entry row_cmp (front ++ back) g.0 (merged q o g.1)) (found_before g.0 front back past) ∙ inserted_before g.0 (merged q (partials_at g.0 front) g.1) front back past)
     ∙ groups_added_before q (group_added q front g) back more rest
 

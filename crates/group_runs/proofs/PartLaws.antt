@@ -5,12 +5,13 @@ use Rattle.std.proofs.lemmas.List.{take-append-drop, length-take, take_all}
 use Rattle.std.proofs.lemmas.List.Folds.{drop_split}
 use Rattle.std.proofs.Math.Seq.{take-add}
 use Rattle.std.specs.List.{AllByRecursion}
+use Rattle.list_laws.specs.Each.{each_append, each_behind, each_front, each_weaker}
 use Rattle.grouping_model.specs.Query.{Query}
 use Rattle.group_runs.specs.Runs.{Entry, Rises}
 use Rattle.group_runs.specs.Places.{IsBelow, AllBelow}
 use Rattle.group_runs.specs.Steps.{AddsRun}
 use Rattle.group_runs.specs.Chunks.{on_end, AreBefore, ComeInto, replaced, AddChunks}
-use Rattle.group_runs.proofs.PlaceLaws.{all_front, all_both, all_mapped, drop_at, range_more}
+use Rattle.group_runs.proofs.PlaceLaws.{drop_at, range_more}
 use Rattle.group_runs.proofs.RunLaws.{take_found}
 use Rattle.group_runs.proofs.JoinLaws.{adds_both, adds_nothing, rises_before}
 use Rattle.group_runs.proofs.ChunkLaws.{set_between, got_low, on_end-append, on_end-push, replaced_more}
@@ -20,16 +21,12 @@ use Rattle.group_runs.proofs.ChunkLaws.{set_between, got_low, on_end-append, on_
 pub taken_parts : {X : Type 0} (xs : List X) (a b : ℕ) → a ≤ b → take b xs ≡ take a xs ++ slice_range xs a b
 taken_parts xs a b low = let whole : b ≡ a + (b - a) = omega (arith, low) in ap (λ n. take n xs) whole ∙ take-add a (b - a) xs
 
-all_back : {X : Type 0} (P : X → Type 0) (xs ys : List X) → AllByRecursion P (xs ++ ys) → AllByRecursion P ys
-all_back P [] ys all = all
-all_back P (x ∷ xs) ys (p, all) = all_back P xs ys all
-
 -- parts of groups that are before others are before parts of these
 pub before_front : (xs ys zs : List Entry) → AreBefore xs (ys ++ zs) → AreBefore xs ys
-before_front xs ys zs before = all_front (λ (e : Entry). AllBelow e.0 xs) ys zs before
+before_front xs ys zs before = each_front (λ (e : Entry). AllBelow e.0 xs) ys zs before
 
 pub backs_before : (xs ys zs : List Entry) → AreBefore (xs ++ ys) zs → AreBefore ys zs
-backs_before xs ys zs before = all_mapped (λ (e : Entry). AllBelow e.0 (xs ++ ys)) (λ (e : Entry). AllBelow e.0 ys) zs (λ e all. all_back (IsBelow e.0) xs ys all) before
+backs_before xs ys zs before = each_weaker (λ (e : Entry). AllBelow e.0 (xs ++ ys)) (λ (e : Entry). AllBelow e.0 ys) (λ e all. each_behind (IsBelow e.0) xs ys all) zs before
 
 pub none_before : (ys : List Entry) → AreBefore [] ys
 none_before [] = tt
@@ -131,7 +128,7 @@ module _ (q : Query) (chunks : List (List Entry)) (more : List Entry) (first fro
       record {
         news = m.news ++ (slice_range chunks first at ++ new ∷ []);
         is = news_are;
-        there = all_both (λ (one : ℕ × List Entry). one.0 < length chunks) fresh ((at, new) ∷ []) m.there (got_low chunks at come.chunk come.is, tt);
+        there = each_append (λ (one : ℕ × List Entry). one.0 < length chunks) fresh ((at, new) ∷ []) m.there (got_low chunks at come.chunk come.is, tt);
         below = come.behind;
         above = come.beyond;
         added = subst (λ es. AddsRun q es (take to more) (on_end (m.news ++ (slice_range chunks first at ++ new ∷ [])))) (sym old)

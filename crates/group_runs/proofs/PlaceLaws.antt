@@ -14,6 +14,7 @@ use Rattle.std.proofs.Math.Seq.{take-add, take-append_seam}
 use Rattle.std.specs.Cmp.Lexicographic.{slice_cmp, on_texts}
 use Rattle.std.specs.List.{AllByRecursion}
 use Rattle.std.specs.List.Sorted.{IsStrictlySortedBy}
+use Rattle.list_laws.specs.Each.{each_append, each_dropped, each_weaker}
 use Rattle.group_runs.specs.Runs.{Entry, packed_keys, Rises}
 use Rattle.group_runs.specs.Places.{IsBelow, IsNotBelow, AllBelow, AllAbove, AreUpTo, HasKey, HasKeyAt, IsBetween, IsPlaceOf}
 
@@ -22,19 +23,6 @@ pub key_total : IsTotalOrder (slice_cmp nat_cmp)
 key_total = on_texts (λ (key : List ℕ). key)
 
 -- ---- parts of lists
-
-pub all_front : {X : Type 0} (P : X → Type 0) (xs ys : List X) → AllByRecursion P (xs ++ ys) → AllByRecursion P xs
-all_front P [] ys all = tt
-all_front P (x ∷ xs) ys (p, all) = (p, all_front P xs ys all)
-
-pub all_both : {X : Type 0} (P : X → Type 0) (xs ys : List X) → AllByRecursion P xs → AllByRecursion P ys → AllByRecursion P (xs ++ ys)
-all_both P [] ys all more = more
-all_both P (x ∷ xs) ys (p, all) more = (p, all_both P xs ys all more)
-
-pub all_drop : {X : Type 0} (P : X → Type 0) (n : ℕ) (xs : List X) → AllByRecursion P xs → AllByRecursion P (drop n xs)
-all_drop P zero xs all = all
-all_drop P (suc n) [] all = tt
-all_drop P (suc n) (x ∷ xs) (p, all) = all_drop P n xs all
 
 pub rises_drop : (n : ℕ) (run : List Entry) → Rises run → Rises (drop n run)
 unfolding IsStrictlySortedBy
@@ -68,7 +56,7 @@ pub below_to : (run : List Entry) (from i : ℕ) (e : Entry) (key : List ℕ) �
 below_to run from i e key rises low at below =
     let whole : from + (i + 1 - from) ≡ i + 1 = omega (arith, low) in
     subst (AllBelow key) (ap (λ n. drop from (take n run)) (sym whole) ∙ drop-take from (i + 1 - from) run)
-    (all_drop (IsBelow key) from (take (i + 1) run) (before_below run i e key rises at below))
+    (each_dropped (IsBelow key) from (take (i + 1) run) (before_below run i e key rises at below))
 
 -- what comes behind a group that is not below is not below
 pub not_below_from : (run : List Entry) (i : ℕ) (e : Entry) (key : List ℕ) → Rises run → slice_get run i ≡ Some e → IsNotBelow key e → AllByRecursion (IsNotBelow key) (drop i run)
@@ -145,7 +133,7 @@ pub below_front : (run : List Entry) (from : ℕ) (key : List ℕ) (place : ℕ)
 below_front run from key place below is =
     let low = is.behind in
     let whole : place ≡ from + (place - from) = omega (arith, low) in
-    subst (AllBelow key) (sym (ap (λ n. take n run) whole ∙ take-add from (place - from) run)) (all_both (IsBelow key) (take from run) (slice_range run from place) below is.below)
+    subst (AllBelow key) (sym (ap (λ n. take n run) whole ∙ take-add from (place - from) run)) (each_append (IsBelow key) (take from run) (slice_range run from place) below is.below)
 
 pub found_place : (run : List Entry) (from : ℕ) (key : List ℕ) (place : ℕ) → Rises run → AllBelow key (take from run) → IsPlaceOf run from key place → HasKey run key → HasKeyAt run place key
 found_place run from key place rises below is has = place_has run key place has.0 rises (below_front run from key place below is) is.not_below has.1
@@ -189,10 +177,6 @@ rises_between (e ∷ front) back key states (over, rises) (low, below) above = (
     through (x ∷ es) (first, all) = (first, through es all)
 
 -- ---- what is done of a merge, and what is left
-
-pub all_mapped : {X : Type 0} (P Q : X → Type 0) (xs : List X) → ((x : X) → P x → Q x) → AllByRecursion P xs → AllByRecursion Q xs
-all_mapped P Q [] gives all = tt
-all_mapped P Q (x ∷ xs) gives (p, all) = (gives x p, all_mapped P Q xs gives all)
 
 -- some groups move from what is left to what is done
 pub some_moved : (done old : List Entry) (from place : ℕ) → from ≤ place → done ++ drop from old ≡ (done ++ slice_range old from place) ++ drop place old
@@ -238,13 +222,13 @@ up_to_below key higher e low up = cases (slice_cmp nat_cmp e.0 key) refl
     cases Greater is = absurd (up is)
 
 pub all_up_to : (key higher : List ℕ) (run : List Entry) → slice_cmp nat_cmp key higher ≡ Less → AreUpTo key run → AllBelow higher run
-all_up_to key higher run low all = all_mapped (λ (e : Entry). slice_cmp nat_cmp e.0 key ≢ Greater) (IsBelow higher) run (λ e. up_to_below key higher e low) all
+all_up_to key higher run low all = each_weaker (λ (e : Entry). slice_cmp nat_cmp e.0 key ≢ Greater) (IsBelow higher) (λ e. up_to_below key higher e low) run all
 
 less_or_greater : Less ≢ Greater
 less_or_greater = λ e. false_is_not_true (sym (ap is_lt e))
 
 pub below_up_to : (key : List ℕ) (run : List Entry) → AllBelow key run → AreUpTo key run
-below_up_to key run all = all_mapped (IsBelow key) (λ (e : Entry). slice_cmp nat_cmp e.0 key ≢ Greater) run (λ e low high. less_or_greater (sym low ∙ high)) all
+below_up_to key run all = each_weaker (IsBelow key) (λ (e : Entry). slice_cmp nat_cmp e.0 key ≢ Greater) (λ e low high. less_or_greater (sym low ∙ high)) run all
 
 pub itself_up_to : (key : List ℕ) → slice_cmp nat_cmp key key ≢ Greater
 itself_up_to key high = not_itself key (key_total.antisymm key key ∙ ap ordering_reverse high)
@@ -276,7 +260,7 @@ moves done old from place key below is at =
       states = here.states;
       whole = some_moved done old from place is.behind ∙ ap (λ es. (done ++ slice_range old from place) ++ es) here.left;
       front = ap (λ es. done ++ es) (range_more old from place (key, here.states) is.behind here.left) ∙ sym (append_assoc done (slice_range old from place) ((key, here.states) ∷ []));
-      below = all_both (IsBelow key) done (slice_range old from place) below is.below;
+      below = each_append (IsBelow key) done (slice_range old from place) below is.below;
       low = here.low;
     }
 
@@ -290,7 +274,7 @@ pub passes : (done old : List Entry) (from place : ℕ) (key : List ℕ) → Ris
 passes done old from place key rises below is none =
     record {
       whole = some_moved done old from place is.behind;
-      below = all_both (IsBelow key) done (slice_range old from place) below is.below;
+      below = each_append (IsBelow key) done (slice_range old from place) below is.below;
       above = above_from old place key rises is.not_below none;
     }
 
@@ -300,7 +284,7 @@ up_to_here front back key states place long below =
     let some : List Entry = front ++ (key, states) ∷ [] in
     let more : place + 1 ≡ length some = let both = length-append front ((key, states) ∷ []) in omega (arith, both, long) in
     subst (AreUpTo key) (sym ((λ i. take (more i) (sym (append_assoc front ((key, states) ∷ []) back) i)) ∙ take-append_seam some back))
-    (all_both (λ (e : Entry). slice_cmp nat_cmp e.0 key ≢ Greater) front ((key, states) ∷ []) (below_up_to key front below) (itself_up_to key, tt))
+    (each_append (λ (e : Entry). slice_cmp nat_cmp e.0 key ≢ Greater) front ((key, states) ∷ []) (below_up_to key front below) (itself_up_to key, tt))
 
 -- ---- what a search narrows down
 
@@ -312,7 +296,7 @@ between_within run from low high low' high' key outer inner =
       behind = omega (arith, first, second);
       order = inner.order;
       within = inner.within;
-      below = subst (AllBelow key) (sym (range_parts run from low low' first second)) (all_both (IsBelow key) (slice_range run from low) (slice_range run low low') outer.below inner.below);
+      below = subst (AllBelow key) (sym (range_parts run from low low' first second)) (each_append (IsBelow key) (slice_range run from low) (slice_range run low low') outer.below inner.below);
       not_below = inner.not_below;
     }
 
@@ -323,6 +307,6 @@ place_within run from low high key place outer inner =
     record {
       behind = omega (arith, first, second);
       within = inner.within;
-      below = subst (AllBelow key) (sym (range_parts run from low place first second)) (all_both (IsBelow key) (slice_range run from low) (slice_range run low place) outer.below inner.below);
+      below = subst (AllBelow key) (sym (range_parts run from low place first second)) (each_append (IsBelow key) (slice_range run from low) (slice_range run low place) outer.below inner.below);
       not_below = inner.not_below;
     }

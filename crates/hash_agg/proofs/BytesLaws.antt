@@ -3,15 +3,13 @@ use Rattle.std.specs.Prelude.{◌≡◌, refl, ℕ, List, [], ◌∷◌, ◌++�
 use Rattle.std.proofs.Common.{sym, ◌∙◌, subst}
 use Rattle.std.proofs.lemmas.List.{take-append-drop}
 use Rattle.std.specs.List.{AllByRecursion}
-use Rattle.grouping_model.specs.Aggregates as model
 use Rattle.grouping_model.specs.Aggregates.{Function, Partial}
 use Rattle.grouping_model.specs.Query.{Query}
 use Rattle.grouping_model.specs.Grouping.{Group}
 use Rattle.grouping_model.specs.Parts.{functions}
 use Rattle.agg_protocol.specs.States.{IsState, shape_of, bytes_of}
 use Rattle.agg_library.specs.declared.kind.AggKind.{AggKind}
-use Rattle.agg_library.specs.declared.kind.AggKind.TheVariants as kind
-use Rattle.agg_library.specs.Kinds.{function_of, functions_of, kind_width}
+use Rattle.agg_library.specs.Kinds.{functions_of, kind_for, kind_for_names, kind_width}
 use Rattle.agg_library.specs.StateRows.{DenotesAll}
 use Rattle.hash_agg.specs.Bytes.{state_bytes, group_bytes, run_bytes, ArePartials, IsGroupOf}
 use Rattle.group_runs.specs.Runs.{Entry}
@@ -27,37 +25,9 @@ states_bytes m (k ∷ ks) bytes (p ∷ ps) (first, rest) =
     let more = states_bytes m ks (drop (kind_width k) bytes) ps rest in
     (sym (take-append-drop (kind_width k) bytes) ∙ (λ i. first.1 i ++ more.0 i), (first.0, more.1))
 
--- the kind that names a function
-kind_for : Function → AggKind
-kind_for model.Count_rows = kind.CountRows
-kind_for model.Count = kind.Count
-kind_for model.Sum = kind.Sum
-kind_for model.Min = kind.Min
-kind_for model.Max = kind.Max
-kind_for model.Bit_and = kind.BitAnd
-kind_for model.Bit_or = kind.BitOr
-kind_for model.Bit_xor = kind.BitXor
-kind_for model.Bool_and = kind.BoolAnd
-kind_for model.Bool_or = kind.BoolOr
-kind_for model.Every = kind.Every
-
-names_it : (f : Function) → function_of (kind_for f) ≡ f
-unfolding kind_for
-names_it model.Count_rows = refl
-names_it model.Count = refl
-names_it model.Sum = refl
-names_it model.Min = refl
-names_it model.Max = refl
-names_it model.Bit_and = refl
-names_it model.Bit_or = refl
-names_it model.Bit_xor = refl
-names_it model.Bool_and = refl
-names_it model.Bool_or = refl
-names_it model.Every = refl
-
 name_all : (fs : List Function) → functions_of (map kind_for fs) ≡ fs
 name_all [] = refl
-name_all (f ∷ fs) = λ i. names_it f i ∷ name_all fs i
+name_all (f ∷ fs) = λ i. kind_for_names f i ∷ name_all fs i
 
 bytes_states : (m : ℕ) (fs : List Function) (ps : List Partial) → ArePartials m fs ps → DenotesAll m (map kind_for fs) (state_bytes ps) ps
 bytes_states m [] [] all = refl
@@ -65,7 +35,7 @@ bytes_states m [] (p ∷ ps) all = absurd all
 bytes_states m (f ∷ fs) [] all = absurd all
 bytes_states m (f ∷ fs) (p ∷ ps) (one, all) =
     joined m (kind_for f) (kind_for f ∷ map kind_for fs) (map kind_for fs) (bytes_of p) (state_bytes ps) p ps refl
-    (subst (λ g. IsState m (shape_of g) p) (sym (names_it f)) one, refl) (bytes_states m fs ps all)
+    (subst (λ g. IsState m (shape_of g) p) (sym (kind_for_names f)) one, refl) (bytes_states m fs ps all)
 
 one_stands : (query : Query) (most : ℕ) (entry : Entry) (group : Group) → StandsFor query most entry group → (entry ≡ group_bytes group) × IsGroupOf query most group
 one_stands query most entry group stands =

@@ -2,6 +2,7 @@
 use Rattle.std.specs.Prelude.{refl, ℕ, ◌≤◌, true, false, cond, List, [], ◌∷◌, map, length}
 use Rattle.std.specs.List.{AllByRecursion}
 use Rattle.std.proofs.lemmas.List.Elements.{All-from_recursion}
+use Rattle.list_laws.specs.Each.{each_append}
 use Rattle.grouping_model.specs.Condition.{is_met}
 use Rattle.grouping_model.specs.Datum.{Row, HasKinds}
 use Rattle.grouping_model.specs.Query.{Query}
@@ -12,7 +13,6 @@ use Rattle.aggregation_cost.specs.Space.{Setting}
 use Rattle.aggregation_cost.proofs.CostLaws.{each_fits}
 use Rattle.aggregation_cost.proofs.Lists.{each_gives, each_of_flat_map}
 use Rattle.having_filter.specs.Kept.{IsWellFormed, key_kinds}
-use Rattle.query_checks.proofs.DistinctLaws.{all_append}
 use Rattle.group_runs.specs.Runs.{Entry}
 use Rattle.group_runs.specs.Standing.{AreGroups}
 use Rattle.hash_agg.specs.Inputs.{Brought, Packed, Counted}
@@ -56,7 +56,7 @@ all_have q [] [] formed give = tt
 all_have q [] (given ∷ givens) formed give = absurd give
 all_have q (input ∷ inputs) [] formed give = absurd give
 all_have q (input ∷ inputs) (given ∷ givens) formed (first, give) =
-    all_append (HasKey q) (given_pieces input given) (all_pieces inputs givens) (given_have q input given formed first) (all_have q inputs givens formed give)
+    each_append (HasKey q) (given_pieces input given) (all_pieces inputs givens) (given_have q input given formed first) (all_have q inputs givens formed give)
 
 pub all_fit : (q : Query) (s : Setting) (inputs : List Brought) (givens : List Given) → IsWellFormed q → 32768 ≤ s.limit → s.width ≤ 8184 → AllGive q inputs givens → cost.EachFits s (records_of q s.width (all_pieces inputs givens))
 all_fit q s inputs givens formed limit narrow give =

@@ -5,6 +5,7 @@ use Rattle.std.proofs.Common.{sym, ◌∙◌, ap, subst, inl, inr, arith}
 use Rattle.std.proofs.lemmas.Bool.Decides.{nat_tests}
 use Rattle.std.proofs.lemmas.List.{map-append}
 use Rattle.std.proofs.lemmas.List.Filters.{sum_by-filter_both}
+use Rattle.list_laws.specs.Each.{each_append}
 use Rattle.grouping_model.specs.Datum.{Row, same_row}
 use Rattle.grouping_model.specs.Aggregates.{Partial}
 use Rattle.grouping_model.specs.Condition.{is_met}
@@ -13,7 +14,6 @@ use Rattle.grouping_model.specs.Grouping.{Group, column_of}
 use Rattle.grouping_model.specs.Parts.{partials_at, with_row}
 use Rattle.grouping_model.proofs.DatumOrder.{same_row-is}
 use Rattle.packed_rows.specs.Packing.{packing}
-use Rattle.query_checks.proofs.DistinctLaws.{all_append}
 use Rattle.spill_tapes.specs.Records.{Record}
 use Rattle.spill_lists.specs.Lists.{LeftList, list_of, on_list, deeper, is_none, lists, left_by}
 use Rattle.group_runs.specs.Runs.{Entry}
@@ -35,7 +35,7 @@ none_parts [] ys gone = (tt, gone)
 none_parts (x ∷ xs) ys (first, gone) = let both = none_parts xs ys gone in ((first, both.0), both.1)
 
 none_append : (xs ys : List Found) → AreNone xs → AreNone ys → AreNone (xs ++ ys)
-none_append xs ys gone more = all_append (λ (o : Found). o ≡ None) xs ys gone more
+none_append xs ys gone more = each_append (λ (o : Found). o ≡ None) xs ys gone more
 
 one_none : (all : Found) (xs : List Found) → all ≡ None → IsOneOf all xs → AreNone xs
 one_none all [] none one = tt
@@ -375,7 +375,7 @@ module _ (q : Query) (hf : List ℕ → ℕ) (ps : List Piece) (es : List Entry)
         subst (λ o. IsOneOf all (o ∷ each_at q k (last.front ++ v.rests))) (sym (at_append k w.entered v.entered))
         (subst (λ os. IsOneOf all (or_else (partials_at k w.entered) (partials_at k v.entered) ∷ os)) (sym (map-append (λ rest. partials_at k (made_of q rest)) last.front v.rests)) one);
     fewer =
-        all_append (λ rest. (k : Row) → rows_at q k rest ≤ rows_at q k ps) last.front v.rests low.0
+        each_append (λ rest. (k : Row) → rows_at q k rest ≤ rows_at q k ps) last.front v.rests low.0
         (all_of_map (λ rest. (k : Row) → rows_at q k rest ≤ rows_at q k last.rest) (λ rest. (k : Row) → rows_at q k rest ≤ rows_at q k ps)
         (λ rest less k. let a = less k in let b = low.1 k in omega (arith, a, b)) v.rests v.fewer);
   }

@@ -8,7 +8,7 @@ use Rattle.std.proofs.lemmas.List.{length-append}
 use Rattle.std.proofs.lemmas.Nat.{mul-le}
 use Rattle.std.proofs.lemmas.List.Sums.{sum_by-cons}
 use Rattle.std.proofs.lemmas.List.Sorted.{IsPermutation-append_comm}
-use Rattle.query_checks.proofs.DistinctLaws.{all_append}
+use Rattle.list_laws.specs.Each.{each_append}
 use Rattle.grouping_model.specs.Query.{Query}
 use Rattle.grouping_model.specs.Datum.{Row}
 use Rattle.packed_rows.specs.Packing.{packing}
@@ -262,7 +262,7 @@ module _ (q : Query) (s : Setting) (pieces : List Piece) (made : Cost) (others :
       record {
         passes = last.front ++ cost.left_by s pass;
         left = left_append q s others (left_by level spilled) last.front (cost.left_by s pass) last.are (subst (λ level. AreLeft q s (left_by level spilled) (cost.left_by s pass)) (sym level_is) (lists_left q s pass spilled sent));
-        fit = all_append (λ (pass : cost.Pass). cost.EachFits s pass.records) last.front (cost.left_by s pass) fits.0 (recursion_from_All (λ (next : cost.Pass). cost.EachFits s next.records) (cost.left_by s pass) (fits_further_down s pass fits.1.0));
+        fit = each_append (λ (pass : cost.Pass). cost.EachFits s pass.records) last.front (cost.left_by s pass) fits.0 (recursion_from_All (λ (next : cost.Pass). cost.EachFits s next.records) (cost.left_by s pass) (fits_further_down s pass fits.1.0));
         whole =
             ap (λ one. both (both made one) (cost_of s (flat_map (cost.passes_from s) (last.front ++ cost.left_by s pass)))) (sym by)
             ∙ sym (one_made s made last.front pass fits.1.0)

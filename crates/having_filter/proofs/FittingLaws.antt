@@ -1,5 +1,5 @@
 -- The conditions of a checked query have operands that fit.
-use Rattle.std.proofs.Common.{◌≡◌, ◌<◌, ◌==◌, ◌&&◌, ℕ, Bool, true, false, List, [], ◌∷◌, ◌++◌, map, length, Option, Some, None, option_map, refl, ap, sym, ◌∙◌, subst}
+use Rattle.std.proofs.Common.{◌≡◌, ◌<◌, ◌==◌, ◌&&◌, ℕ, Bool, true, false, List, [], ◌∷◌, map, length, Option, Some, None, option_map, refl, ap, sym, ◌∙◌, subst}
 use Rattle.std.specs.Prelude.{nat_lt, not, unwrap_or}
 use Rattle.std.specs.List.{list_all, list_any, flat_map, AllByRecursion}
 use Rattle.std.specs.Option.{ForSome, option_map_or}
@@ -9,6 +9,7 @@ use Rattle.std.proofs.lemmas.Bool.Decides.{Decides-int_eq}
 use Rattle.std.proofs.lemmas.List.Folds.{list_any-append}
 use Rattle.std.specs.Prelude.{◌||◌}
 use Rattle.std.proofs.lemmas.Slice.Eq.{bytes_eq-Decides}
+use Rattle.list_laws.specs.Each.{each_append, each_front, each_behind}
 use Rattle.grouping_model.specs.Datum as datum
 use Rattle.grouping_model.specs.Datum.{Datum, Kind, Bigint_kind, Boolean_kind, Text_kind}
 use Rattle.grouping_model.specs.Condition as model
@@ -20,7 +21,7 @@ use Rattle.query_checks.specs.Reads.{reads, is_call, is_key, calls_in, is_plain,
 use Rattle.query_checks.specs.Sameness.{form_eq, option_same, literal_eq, unary_eq, binary_eq, test_number, comparison_number, with_one, with_each}
 use Rattle.query_checks.specs.Checks.{Checked, kind_of_form, kinds_agree, is_boolean, takes_one, takes_two, takes_column, operands_fit, condition_fits, kinds_fit, are_plain, is_grouped, is_column, place, placed}
 use Rattle.query_checks.specs.Calls.{calls_of, distinct_calls}
-use Rattle.query_checks.proofs.DistinctLaws.{all_append, all_distinct}
+use Rattle.query_checks.proofs.DistinctLaws.{all_distinct}
 use Rattle.query_checks.proofs.FormLaws.{columns_mapped}
 use Rattle.query_checks.proofs.ReadLaws.{both_pass, calls_in_two}
 use Rattle.having_filter.specs.Fitting.{OfOneKind, TakesOne, TakesTwo, OperandsFit, Fits, IsOfRow, IsOfGroup, HasFittingConditions}
@@ -51,14 +52,6 @@ takes_two_kinds (Comparing comparison) left right e = one_kind left right e
 
 -- ---- a condition whose columns and calls may be read, and whose operands fit by the checks
 
-all_left : {A : Type 0} (P : A → Type 0) (xs ys : List A) → AllByRecursion P (xs ++ ys) → AllByRecursion P xs
-all_left P [] ys all = tt
-all_left P (x ∷ xs) ys all = (all.0, all_left P xs ys all.1)
-
-all_right : {A : Type 0} (P : A → Type 0) (xs ys : List A) → AllByRecursion P (xs ++ ys) → AllByRecursion P ys
-all_right P [] ys all = all
-all_right P (x ∷ xs) ys all = all_right P xs ys all.1
-
 operands : (IsRead : Form ℕ → Type 0) (ks : List Kind) (x : Form ℕ) → AllByRecursion IsRead (reads x) → operands_fit ks x ≡ true → OperandsFit IsRead ks x
 operands IsRead ks (Column c) all e = all.0
 operands IsRead ks (Call f c) all e = all.0
@@ -70,8 +63,8 @@ operands IsRead ks (Unary operator x) all e =
 operands IsRead ks (Binary operator x y) all e =
     let parts = and_parts (operands_fit ks x && operands_fit ks y) (takes_two operator (kind_of_form ks x) (kind_of_form ks y)) e in
     let sides = and_parts (operands_fit ks x) (operands_fit ks y) parts.0 in (
-      operands IsRead ks x (all_left IsRead (reads x) (reads y) all) sides.0,
-      operands IsRead ks y (all_right IsRead (reads x) (reads y) all) sides.1,
+      operands IsRead ks x (each_front IsRead (reads x) (reads y) all) sides.0,
+      operands IsRead ks y (each_behind IsRead (reads x) (reads y) all) sides.1,
       takes_two_kinds operator (kind_of_form ks x) (kind_of_form ks y) parts.1,
     )
 
@@ -94,7 +87,7 @@ reads_rows ks (Unary operator x) plain range = reads_rows ks x plain range
 reads_rows ks (Binary operator x y) plain range =
     let plains = and_parts (is_plain x) (is_plain y) (sym (both_pass (λ leaf. not (is_call leaf)) x y) ∙ plain) in
     let ranges = and_parts (columns_pass (in_table ks) x) (columns_pass (in_table ks) y) range in
-    all_append (IsOfRow ks) (reads x) (reads y) (reads_rows ks x plains.0 ranges.0) (reads_rows ks y plains.1 ranges.1)
+    each_append (IsOfRow ks) (reads x) (reads y) (reads_rows ks x plains.0 ranges.0) (reads_rows ks y plains.1 ranges.1)
 
 abbrev FitsRow : List Kind → Form ℕ → Type 0
 FitsRow ks c = Fits (IsOfRow ks) ks c
@@ -121,7 +114,7 @@ calls_fit ks (Binary operator x y) plain range fit =
     let ranges = and_parts (columns_pass (in_table ks) x) (columns_pass (in_table ks) y) range in
     let sides = and_parts (operands_fit ks x) (operands_fit ks y) (and_parts (operands_fit ks x && operands_fit ks y) (takes_two operator (kind_of_form ks x) (kind_of_form ks y)) fit).0 in
     subst (AllByRecursion (FilterFits ks)) (sym (calls_in_two x y))
-    (all_append (FilterFits ks) (calls_in x) (calls_in y) (calls_fit ks x plains.0 ranges.0 sides.0) (calls_fit ks y plains.1 ranges.1 sides.1))
+    (each_append (FilterFits ks) (calls_in x) (calls_in y) (calls_fit ks x plains.0 ranges.0 sides.0) (calls_fit ks y plains.1 ranges.1 sides.1))
 
 -- ---- a call is the same as itself, so it is among the distinct ones
 
@@ -186,7 +179,7 @@ reads_groups q (Unary operator x) grouped all = reads_groups q x grouped all
 reads_groups q (Binary operator x y) grouped all =
     let sides = and_parts (is_grouped_by q.written.keys x) (is_grouped_by q.written.keys y) (sym (both_pass (is_key q.written.keys) x y) ∙ grouped) in
     let among = subst (AllByRecursion (IsAmong (distinct_calls ◌==◌ q.written))) (calls_in_two x y) all in
-    all_append (IsOfGroup q) (reads x) (reads y) (reads_groups q x sides.0 (all_left _ (calls_in x) (calls_in y) among)) (reads_groups q y sides.1 (all_right _ (calls_in x) (calls_in y) among))
+    each_append (IsOfGroup q) (reads x) (reads y) (reads_groups q x sides.0 (each_front _ (calls_in x) (calls_in y) among)) (reads_groups q y sides.1 (each_behind _ (calls_in x) (calls_in y) among))
 
 having_fits : (q : Checked) (clause : Option (Form ℕ)) → option_map_or (is_grouped_by q.written.keys) clause true ≡ true → option_map_or (condition_fits (kinds q.columns)) clause true ≡ true
     → AllByRecursion (IsAmong (distinct_calls ◌==◌ q.written)) (option_map_or calls_in clause []) → ForSome clause (Fits (IsOfGroup q) (kinds q.columns))
@@ -198,8 +191,8 @@ items_read : (q : Checked) (items : List (Form ℕ × Option (List ℕ))) → li
 items_read q [] grouped among = tt
 items_read q (item ∷ items) grouped among =
     let parts = and_parts (is_grouped_by q.written.keys item.0) (list_all (λ item. is_grouped_by q.written.keys item.0) items) grouped in (
-      reads_groups q item.0 parts.0 (all_left _ (calls_in item.0) (flat_map (λ item. calls_in item.0) items) among),
-      items_read q items parts.1 (all_right _ (calls_in item.0) (flat_map (λ item. calls_in item.0) items) among),
+      reads_groups q item.0 parts.0 (each_front _ (calls_in item.0) (flat_map (λ item. calls_in item.0) items) among),
+      items_read q items parts.1 (each_behind _ (calls_in item.0) (flat_map (λ item. calls_in item.0) items) among),
     )
 
 -- ---- over the places of columns
@@ -237,7 +230,7 @@ items_filters columns (item ∷ items) known fit plain =
     let knowns = and_parts (columns_pass (is_column columns) item.0) (list_all (λ item. columns_pass (is_column columns) item.0) items) known in
     let fitting = and_parts (operands_fit ks x) (list_all (λ item. operands_fit ks item.0) (map (placed_item columns) items)) fit in
     let plains = and_parts (filters_pass is_plain x) (list_all (λ item. filters_pass is_plain item.0) (map (placed_item columns) items)) plain in
-    all_append (FilterFits ks) (calls_in x) (flat_map (λ item. calls_in item.0) (map (placed_item columns) items))
+    each_append (FilterFits ks) (calls_in x) (flat_map (λ item. calls_in item.0) (map (placed_item columns) items))
     (calls_fit ks x plains.0 (placed_range columns item.0 knowns.0) fitting.0) (items_filters columns items knowns.1 fitting.1 plains.1)
 
 clause_filters : (columns : List packed.Column) (clause : Option (Form (List ℕ))) → option_map_or (columns_pass (is_column columns)) clause true ≡ true → option_map_or (condition_fits (kinds columns)) (option_map (map_form (place columns)) clause) true ≡ true
@@ -272,9 +265,9 @@ placed_fits columns w has plain fit grouped =
     record {
       condition = where_fits columns w.condition has.condition fit_clauses.0 plains.1;
       filters = all_distinct (FilterFits ks) (form_eq ◌==◌) (calls_of p)
-          (all_append (FilterFits ks) item_calls having_calls (items_filters columns w.items has.items fit_all.0 plain_parts.0) (clause_filters columns w.having has.having fit_clauses.1 plain_clauses.1));
-      having = having_fits q p.having groups.1 fit_clauses.1 (all_right (IsAmong (distinct_calls ◌==◌ p)) item_calls having_calls (all_among [] (calls_of p)));
-      items = items_read q p.items groups.0 (all_left (IsAmong (distinct_calls ◌==◌ p)) item_calls having_calls (all_among [] (calls_of p)));
+          (each_append (FilterFits ks) item_calls having_calls (items_filters columns w.items has.items fit_all.0 plain_parts.0) (clause_filters columns w.having has.having fit_clauses.1 plain_clauses.1));
+      having = having_fits q p.having groups.1 fit_clauses.1 (each_behind (IsAmong (distinct_calls ◌==◌ p)) item_calls having_calls (all_among [] (calls_of p)));
+      items = items_read q p.items groups.0 (each_front (IsAmong (distinct_calls ◌==◌ p)) item_calls having_calls (all_among [] (calls_of p)));
     }
 
 pub conditions_fit : (q : Checked) → IsCheckedQuery q → HasFittingConditions q

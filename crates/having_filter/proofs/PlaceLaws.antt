@@ -7,6 +7,7 @@ use Rattle.std.proofs.lemmas.Bool.{false≢true, eqb-true, eq-eqb}
 use Rattle.std.proofs.lemmas.List.Quantifiers.{position-Some}
 use Rattle.std.proofs.lemmas.Option.{slice_get-get_or}
 use Rattle.std.proofs.lemmas.Slice.Eq.{bytes_eq-Decides}
+use Rattle.std.specs.Cmp.{both_ways}
 use Rattle.grouping_model.specs.Datum.{Bigint_kind}
 use Rattle.packed_rows.specs.Columns.{Column, place_of}
 use Rattle.query_checks.specs.Checks.{is_column, place}
@@ -42,15 +43,10 @@ pub names_back : (columns : List Column) → TakenBack (is_column columns) (plac
 names_back columns = record { back = λ name t. (placed_name columns name t).named }
 
 -- columns have the same place where they have the same name
-alike : (x y : Bool) → (x ≡ true → y ≡ true) → (y ≡ true → x ≡ true) → x ≡ y
-alike true y to from = sym (to refl)
-alike false true to from = from refl
-alike false false to from = refl
-
 pub same_places : (columns : List Column) → Agrees (λ name. is_column columns name ≡ true) (place columns) ◌==◌ bytes_eq
 same_places columns =
     record {
-      agree = λ a b p q. alike (place columns a == place columns b) (bytes_eq a b)
+      agree = λ a b p q. both_ways (place columns a == place columns b) (bytes_eq a b)
           (λ e. (bytes_eq-Decides a b).1 (sym (placed_name columns a p).named ∙ ap (name_at columns) (eqb-true (place columns a) (place columns b) e) ∙ (placed_name columns b q).named))
           (λ e. eq-eqb (place columns a) (place columns b) (ap (place columns) ((bytes_eq-Decides a b).0 e)));
     }

@@ -6,6 +6,7 @@ use Rattle.std.specs.List.{AllByRecursion, list_all, flat_map}
 use Rattle.std.specs.Option.{option_map_or}
 use Rattle.std.proofs.lemmas.Bool.{and_parts, or_parts, ltb-false, false≢true}
 use Rattle.std.proofs.lemmas.List.{length-map, map-append}
+use Rattle.list_laws.specs.Each.{each_append}
 use Rattle.grouping_model.specs.Datum as datum
 use Rattle.grouping_model.specs.Datum.{Datum, Kind, Bigint_kind, Boolean_kind, Text_kind, Row, HasKind, HasKinds, at_place}
 use Rattle.grouping_model.specs.Aggregates.{Function}
@@ -22,7 +23,7 @@ use Rattle.query_checks.specs.Sameness.{form_eq, first_of_each}
 use Rattle.query_checks.specs.Spelling.{spelling}
 use Rattle.query_checks.specs.Calls.{calls_of, distinct_calls}
 use Rattle.query_checks.specs.Writable.{IsWritable}
-use Rattle.query_checks.proofs.DistinctLaws.{Agrees, all_append, all_distinct, distinct_image}
+use Rattle.query_checks.proofs.DistinctLaws.{Agrees, all_distinct, distinct_image}
 use Rattle.query_checks.proofs.ReadLaws.{Passes, calls_in_two, calls_mapped, calls_pass}
 use Rattle.query_checks.proofs.SameLaws.{form_image}
 use Rattle.having_filter.specs.Meaning.{meaning, aggregate_of, source_of_form}
@@ -83,13 +84,13 @@ calls_fit ks (Unary operator x) e = calls_fit ks x (and_parts (operands_fit ks x
 calls_fit ks (Binary operator x y) e =
     let whole = and_parts (operands_fit ks x && operands_fit ks y) (takes_two operator (kind_of_form ks x) (kind_of_form ks y)) e in
     let sides = and_parts (operands_fit ks x) (operands_fit ks y) whole.0 in
-    subst (AllByRecursion (CallFits ks)) (sym (calls_in_two x y)) (all_append (CallFits ks) (calls_in x) (calls_in y) (calls_fit ks x sides.0) (calls_fit ks y sides.1))
+    subst (AllByRecursion (CallFits ks)) (sym (calls_in_two x y)) (each_append (CallFits ks) (calls_in x) (calls_in y) (calls_fit ks x sides.0) (calls_fit ks y sides.1))
 
 items_fit : (ks : List Kind) (items : List (Form ℕ × Option (List ℕ))) → list_all (λ item. operands_fit ks item.0) items ≡ true → AllByRecursion (CallFits ks) (flat_map (λ item. calls_in item.0) items)
 items_fit ks [] e = tt
 items_fit ks (item ∷ items) e =
     let parts = and_parts (operands_fit ks item.0) (list_all (λ item. operands_fit ks item.0) items) e in
-    all_append (CallFits ks) (calls_in item.0) (flat_map (λ item. calls_in item.0) items) (calls_fit ks item.0 parts.0) (items_fit ks items parts.1)
+    each_append (CallFits ks) (calls_in item.0) (flat_map (λ item. calls_in item.0) items) (calls_fit ks item.0 parts.0) (items_fit ks items parts.1)
 
 clause_fits : (ks : List Kind) (clause : Option (Form ℕ)) → option_map_or (condition_fits ks) clause true ≡ true → AllByRecursion (CallFits ks) (option_map_or calls_in clause [])
 clause_fits ks None e = tt
@@ -105,7 +106,7 @@ aggregates_take ks q e =
     let clauses = and_parts (option_map_or (condition_fits ks) q.condition true) (option_map_or (condition_fits ks) q.having true) parts.1 in
     all_aggregates ks (distinct_calls ◌==◌ q)
     (all_distinct (CallFits ks) (form_eq ◌==◌) (calls_of q)
-    (all_append (CallFits ks) (flat_map (λ item. calls_in item.0) q.items) (option_map_or calls_in q.having []) (items_fit ks q.items parts.0) (clause_fits ks q.having clauses.1)))
+    (each_append (CallFits ks) (flat_map (λ item. calls_in item.0) q.items) (option_map_or calls_in q.having []) (items_fit ks q.items parts.0) (clause_fits ks q.having clauses.1)))
 
 -- the calls of a query over names, and over places
 items_placed : (columns : List Column) (items : List (Form (List ℕ) × Option (List ℕ))) → flat_map (λ item. calls_in item.0) (map (placed_item columns) items) ≡ map (map_form (place columns)) (flat_map (λ item. calls_in item.0) items)
@@ -129,7 +130,7 @@ items_pass : (P : List ℕ → Bool) (items : List (Form (List ℕ) × Option (L
 items_pass P [] e = tt
 items_pass P (item ∷ items) e =
     let parts = and_parts (columns_pass P item.0) (list_all (λ item. columns_pass P item.0) items) e in
-    all_append (Passes P) (calls_in item.0) (flat_map (λ item. calls_in item.0) items) (calls_pass P item.0 parts.0) (items_pass P items parts.1)
+    each_append (Passes P) (calls_in item.0) (flat_map (λ item. calls_in item.0) items) (calls_pass P item.0 parts.0) (items_pass P items parts.1)
 
 clause_passes : (P : List ℕ → Bool) (clause : Option (Form (List ℕ))) → option_map_or (columns_pass P) clause true ≡ true → AllByRecursion (Passes P) (option_map_or calls_in clause [])
 clause_passes P None e = tt
@@ -142,7 +143,7 @@ calls_alike : (columns : List Column) (q : Written (List ℕ)) → HasColumns co
 calls_alike columns q has =
     ap (first_of_each (form_eq ◌==◌)) (calls_placed columns q)
     ∙ distinct_image (Passes (is_column columns)) (map_form (place columns)) (form_eq ◌==◌) (form_eq bytes_eq) (same_calls columns) (calls_of q)
-    (all_append (Passes (is_column columns)) (flat_map (λ item. calls_in item.0) q.items) (option_map_or calls_in q.having []) (items_pass (is_column columns) q.items has.items) (clause_passes (is_column columns) q.having has.having))
+    (each_append (Passes (is_column columns)) (flat_map (λ item. calls_in item.0) q.items) (option_map_or calls_in q.having []) (items_pass (is_column columns) q.items has.items) (clause_passes (is_column columns) q.having has.having))
 
 -- the limits
 pub record IsWithin (q : Written (List ℕ)) : Type 0 where

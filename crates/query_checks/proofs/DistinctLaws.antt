@@ -6,6 +6,7 @@ use Rattle.std.proofs.Math.Seq.{take-suc}
 use Rattle.std.specs.List.{list_any, list_all, AllByRecursion}
 use Rattle.std.proofs.lemmas.Bool.{and_parts, and_from, ltb-true, ltb-false, lt-ltb}
 use Rattle.std.proofs.lemmas.List.{map-append, length-map, length-append, take-append-drop}
+use Rattle.list_laws.specs.Each.{each_append}
 use Rattle.query_checks.specs.Sameness.{with_one, with_each, first_of_each}
 
 -- a member more, where none is the same, and where one is
@@ -79,14 +80,10 @@ pub pass_all : {A : Type 0} (p : A → Bool) (xs : List A) → AllByRecursion (�
 pass_all p [] h = refl
 pass_all p (x ∷ xs) h = and_from (p x) (list_all p xs) h.0 (pass_all p xs h.1)
 
-pub all_append : {A : Type 0} (P : A → Type 0) (xs ys : List A) → AllByRecursion P xs → AllByRecursion P ys → AllByRecursion P (xs ++ ys)
-all_append P [] ys hs js = js
-all_append P (x ∷ xs) ys hs js = (hs.0, all_append P xs ys hs.1 js)
-
 -- distinct members are members
 all_one : {A : Type 0} (P : A → Type 0) (same : A → A → Bool) (members : List A) (x : A) (there : Bool) → list_any (same x) members ≡ there → AllByRecursion P members → P x → AllByRecursion P (with_one same members x)
 all_one P same members x true e all p = rw e all
-all_one P same members x false e all p = rw e (all_append P members (x ∷ []) all (p, tt))
+all_one P same members x false e all p = rw e (each_append P members (x ∷ []) all (p, tt))
 
 pub all_each : {A : Type 0} (P : A → Type 0) (same : A → A → Bool) (members xs : List A) → AllByRecursion P members → AllByRecursion P xs → AllByRecursion P (with_each same members xs)
 all_each P same members [] all more = all

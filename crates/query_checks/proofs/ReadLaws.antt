@@ -6,11 +6,11 @@ use Rattle.std.proofs.lemmas.Bool.{and_parts}
 use Rattle.std.proofs.lemmas.List.{map-append}
 use Rattle.std.proofs.lemmas.List.Elements.{filter-append}
 use Rattle.std.proofs.lemmas.List.Folds.{list_all-append}
+use Rattle.list_laws.specs.Each.{each_append}
 use Rattle.grouping_model.specs.Aggregates.{Function}
 use Rattle.query_checks.specs.declared.condition.Cond.{Cond, back-AggCall-filter}
 use Rattle.query_checks.specs.Forms.{Form, Column, Call, Call_where, Literal, Unary, Binary, map_form, with_filter}
 use Rattle.query_checks.specs.Reads.{reads, is_call, is_key, is_grouped_by, calls_in, column_read, columns_pass}
-use Rattle.query_checks.proofs.DistinctLaws.{all_append}
 
 -- a call in a condition is that call alone
 one_passes : {A : Type 0} (P : A → Bool) (x : A) (passes : Bool) → P x ≡ passes → list_all P (x ∷ []) ≡ P x
@@ -74,4 +74,4 @@ calls_pass P (Literal x) p = tt
 calls_pass P (Unary operator x) p = calls_pass P x p
 calls_pass P (Binary operator x y) p =
     let ps = and_parts (columns_pass P x) (columns_pass P y) p in
-    subst (AllByRecursion (Passes P)) (sym (calls_in_two x y)) (all_append (Passes P) (calls_in x) (calls_in y) (calls_pass P x ps.0) (calls_pass P y ps.1))
+    subst (AllByRecursion (Passes P)) (sym (calls_in_two x y)) (each_append (Passes P) (calls_in x) (calls_in y) (calls_pass P x ps.0) (calls_pass P y ps.1))

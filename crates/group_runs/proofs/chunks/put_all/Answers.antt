@@ -2,10 +2,10 @@ use Rattle.std.specs.Prelude.{◌≡◌, ℕ, ◌++◌, ◌∷◌, ◌<◌, List
 use Rattle.std.specs.List.{AllByRecursion}
 use Rattle.std.proofs.Common.{sym, ◌∙◌, ap, subst}
 use Rattle.std.proofs.lemmas.List.{length-set}
+use Rattle.list_laws.specs.Each.{each_front}
 use Rattle.group_runs.specs.Runs.{Entry}
 use Rattle.group_runs.specs.Chunks.{replaced}
 use Rattle.group_runs.proofs.ChunkLaws.{replaced_more}
-use Rattle.group_runs.proofs.PlaceLaws.{all_front}
 use Rattle.group_runs.proofs.chunks.put_all.Goals as goal
 
 pub loop-at-preserved : goal.loop-at-preserved
@@ -18,6 +18,6 @@ loop-at-preserved c =
           ∙ c.loop-at.invariant.left;
       there =
           subst (λ n. AllByRecursion (λ (one : ℕ × List Entry). one.0 < n) c.pop.new.self.items) (sym (length-set c.loop-at.chunks.items c.in-Some.at c.in-Some.chunk))
-          (all_front (λ (one : ℕ × List Entry). one.0 < length c.loop-at.chunks.items) c.pop.new.self.items ((c.in-Some.at, c.in-Some.chunk) ∷ [])
+          (each_front (λ (one : ℕ × List Entry). one.0 < length c.loop-at.chunks.items) c.pop.new.self.items ((c.in-Some.at, c.in-Some.chunk) ∷ [])
           (subst (AllByRecursion (λ (one : ℕ × List Entry). one.0 < length c.loop-at.chunks.items)) items c.loop-at.invariant.there));
     }

@@ -3,6 +3,7 @@ use Rattle.std.proofs.Common.{sym, ◌∙◌, ap, subst, arith, rules}
 use Rattle.std.proofs.lemmas.Bool.{eqb-true}
 use Rattle.std.proofs.lemmas.List.{length-take}
 use Rattle.std.proofs.lemmas.Result.{on_ok_weaker, on_err_weaker, IfOk-from_err}
+use Rattle.std.proofs.lemmas.List.{nil_from_length}
 use Rattle.packed_rows.specs.View.{row_of}
 use Rattle.grouping_model.specs.Datum.{Row}
 use Rattle.grouping_model.specs.Aggregates.{Partial}
@@ -14,7 +15,6 @@ use Rattle.agg_library.specs.Kinds.{kind_shape, kind_width}
 use Rattle.agg_library.specs.StateRows.{DenotesAll}
 use Rattle.having_filter.specs.Meaning.{meaning}
 use Rattle.group_runs.proofs.StateLaws.{first_and_rest, parted, first_named, dropped, joined}
-use Rattle.group_runs.proofs.ChunkLaws.{none_there}
 use Rattle.group_runs.proofs.states.+advance_from.Goals as goal
 
 -- the states of no aggregates are no bytes
@@ -89,7 +89,7 @@ returns-then-is_empty t c =
     let none = c.in_default.ensures.cases in
     record {
       moved = λ most ps low denoted. none_moved (drop c.args.place (meaning c.args.query.now).aggregates) c.args.kinds.now c.args.states.now (row_of c.args.row.now) most ps none denoted;
-      within = ([], none_within c.args.most c.args.kinds.now c.args.states.now none (none_there c.args.states.now (eqb-true (length c.args.states.now) 0 (sym c.is_empty.ensures ∙ c.if-is_empty.true))));
+      within = ([], none_within c.args.most c.args.kinds.now c.args.states.now none (nil_from_length c.args.states.now (eqb-true (length c.args.states.now) 0 (sym c.is_empty.ensures ∙ c.if-is_empty.true))));
       refused = tt;
     }
 

@@ -1,5 +1,6 @@
 use Rattle.std.specs.Prelude.{◌≡◌, ◌++◌, true, false, map}
 use Rattle.std.proofs.Common.{sym, ◌∙◌, ap, rules, append-nil}
+use Rattle.std.proofs.lemmas.Result.{on_ok_weaker}
 use Rattle.grouping_model.specs.Aggregates.{Plain, outcome}
 use Rattle.grouping_model.specs.Condition.{is_met}
 use Rattle.grouping_model.specs.Query.{Query}
@@ -7,7 +8,6 @@ use Rattle.grouping_model.specs.Parts.{functions, source_in}
 use Rattle.grouping_model.specs.Answer.{outcome_at}
 use Rattle.packed_rows.specs.View.{row_of}
 use Rattle.agg_protocol.specs.Results.{outcome_of}
-use Rattle.agg_library.proofs.RowLaws.{on_ok}
 use Rattle.having_filter.specs.Meaning.{meaning}
 use Rattle.group_runs.proofs.StateLaws.{states_by}
 use Rattle.replica_merge.proofs.ShownLaws.{sources_are, key_is, shown, not_shown}
@@ -37,7 +37,7 @@ returns-then-not-having_true c =
 
 pub returns : goal.returns
 returns c =
-    on_ok c.push.result
+    on_ok_weaker c.push.result
     (λ pushed most group low stands.
     let q : Query = meaning c.args.query.now in
     let same = key_is q most c.args.key.now c.args.states.now c.unpack.new.key.items group c.in_ok-unpack.ensures.0 c.in_ok-unpack.ensures.1 stands in

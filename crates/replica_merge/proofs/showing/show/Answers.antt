@@ -1,8 +1,8 @@
 use Rattle.std.specs.Prelude.{◌≡◌, ◌≢◌, ◌+◌, ◌∷◌, [], length, drop, flat_map}
 use Rattle.std.proofs.Common.{sym, ◌∙◌, ap, subst, arith, rules}
 use Rattle.std.proofs.lemmas.List.{drop_all}
+use Rattle.std.proofs.lemmas.List.{nil_from_length}
 use Rattle.grouping_model.specs.Query.{Query}
-use Rattle.agg_library.proofs.RowLaws.{no_members}
 use Rattle.having_filter.specs.Meaning.{meaning}
 use Rattle.group_runs.specs.Runs.{Entry}
 use Rattle.group_runs.proofs.RunLaws.{groups_long}
@@ -38,7 +38,7 @@ returns c =
     let q : Query = meaning c.args.query.now in
     let long : length c.args.run.now ≡ length groups = groups_long q most c.args.run.now groups are in
     let some : c.args.run.now ≢ [] = search rules in
-    let not_none : length groups ≢ 0 = λ e. some (no_members c.args.run.now (long ∙ e)) in
+    let not_none : length groups ≢ 0 = λ e. some (nil_from_length c.args.run.now (long ∙ e)) in
     let past = c.loop-place-test.false in
     let counted = c.len-place-end.ensures.length in
     none_left q most (drop c.loop-place.place c.args.run.now) c.loop-place.answer groups (drop_all c.loop-place.place c.args.run.now (omega (arith, past, counted))) (c.loop-place.invariant most groups low are)

@@ -1,6 +1,7 @@
 use Rattle.std.specs.Prelude.{◌+◌, ◌∷◌, ◌++◌, [], List, length, drop, slice_range}
 use Rattle.std.proofs.Common.{sym, ◌∙◌, ap, subst, arith, append_assoc, append-nil}
 use Rattle.std.proofs.lemmas.List.{length-append}
+use Rattle.list_laws.specs.Each.{each_append}
 use Rattle.grouping_model.specs.Query.{Query}
 use Rattle.grouping_model.proofs.Members.{false_is_not_true}
 use Rattle.having_filter.specs.Meaning.{meaning}
@@ -9,7 +10,7 @@ use Rattle.group_runs.specs.Places.{AreUpTo}
 use Rattle.group_runs.specs.Steps.{HasRoomForGroup, AddsGroup}
 use Rattle.group_runs.proofs.FlatLaws.{same_keys_rise}
 use Rattle.group_runs.proofs.RunLaws.{run_front_rises}
-use Rattle.group_runs.proofs.PlaceLaws.{moves, passes, some_moved, rises_between, all_both, below_up_to, itself_up_to}
+use Rattle.group_runs.proofs.PlaceLaws.{moves, passes, some_moved, rises_between, below_up_to, itself_up_to}
 use Rattle.group_runs.proofs.SpliceLaws.{present_room, present_added, absent_added}
 use Rattle.group_runs.proofs.chunk.Chunk.merge_group.Goals as goal
 
@@ -117,7 +118,7 @@ returns-then-has_at-clause-up_to c =
     let front : List Entry = done ++ slice_range old c.args.from place in
     let long = c.len.ensures.length ∙ ap length (c.in_ok-push_range.ensures.pushed ∙ here.front) ∙ length-append front ((key, here.states) ∷ []) in
     let given = c.combine_at.ensures front (key, here.states) [] (c.in_ok-push_range.ensures.pushed ∙ here.front) (omega (arith, long)) in
-    subst (AreUpTo key) (sym given.1) (all_both _ front ((key, given.0) ∷ []) (below_up_to key front here.below) (itself_up_to key, tt))
+    subst (AreUpTo key) (sym given.1) (each_append _ front ((key, given.0) ∷ []) (below_up_to key front here.below) (itself_up_to key, tt))
 
 pub returns-then-has_at-clause-added : goal.returns-then-has_at-clause-added
 returns-then-has_at-clause-added c =
@@ -177,7 +178,7 @@ returns-clause-up_to c =
     let here = passes done old c.args.from place key c.seek-place.ensures.rises c.requires.below c.seek-place.ensures.place (λ has. false_is_not_true (sym c.if-has_at.false ∙ c.has_at.ensures.1 has)) in
     let front : List Entry = done ++ slice_range old c.args.from place in
     let is = c.in_ok-push.ensures.pushed ∙ ap (λ run. run ++ (key, c.args.states.now) ∷ []) c.in_ok-push_range-2.ensures.pushed in
-    subst (AreUpTo key) (sym is) (all_both _ front ((key, c.args.states.now) ∷ []) (below_up_to key front here.below) (itself_up_to key, tt))
+    subst (AreUpTo key) (sym is) (each_append _ front ((key, c.args.states.now) ∷ []) (below_up_to key front here.below) (itself_up_to key, tt))
 
 pub returns-clause-added : goal.returns-clause-added
 returns-clause-added c =

@@ -1,18 +1,18 @@
 use Rattle.std.specs.Prelude.{◌≡◌, length}
 use Rattle.std.proofs.Common.{sym, ◌∙◌, ap, subst, arith}
+use Rattle.std.proofs.lemmas.List.{nil_from_length}
 use Rattle.grouping_model.specs.Query.{Query}
 use Rattle.having_filter.specs.Meaning.{meaning}
 use Rattle.group_runs.specs.Runs.{Rises}
 use Rattle.group_runs.specs.Steps.{HasRoomForRun, AddsRun}
 use Rattle.group_runs.specs.Chunks.{on_end, replaced}
-use Rattle.group_runs.proofs.ChunkLaws.{none_there}
 use Rattle.group_runs.proofs.JoinLaws.{adds_all, added_rises, added_few}
 use Rattle.group_runs.proofs.chunks.Chunks.absorb.Goals as goal
 
 pub returns-then-len-eq0-clause-added : goal.returns-then-len-eq0-clause-added
 returns-then-len-eq0-clause-added c =
     let q : Query = meaning c.args.query.now in
-    let none = none_there (on_end c.args.self.now) (sym c.len.ensures.length ∙ c.if-len-eq0.true) in
+    let none = nil_from_length (on_end c.args.self.now) (sym c.len.ensures.length ∙ c.if-len-eq0.true) in
     subst (λ new. AddsRun q (on_end c.args.self.now) (on_end c.args.more.now) (on_end new)) (sym c.in_ok-self.ensures)
     (subst (λ old. AddsRun q old (on_end c.args.more.now) (on_end c.args.more.now)) (sym none) (adds_all q (on_end c.args.more.now) c.requires.6))
 

@@ -2,11 +2,12 @@ use Rattle.std.specs.Prelude.{◌≡◌, ◌<◌, [], ◌∷◌, length, take}
 use Rattle.std.proofs.Common.{sym, subst, arith}
 use Rattle.std.proofs.lemmas.List.{take_all, length-map}
 use Rattle.std.specs.List.{AllByRecursion}
+use Rattle.list_laws.specs.Each.{each_append}
 use Rattle.group_runs.specs.Runs.{Entry, packed_keys}
 use Rattle.group_runs.specs.Places.{HasKey, HasKeyAt}
 use Rattle.group_runs.proofs.ChunkLaws.{got_low}
 use Rattle.group_runs.proofs.RunLaws.{take_found}
-use Rattle.group_runs.proofs.PlaceLaws.{key_at, all_both}
+use Rattle.group_runs.proofs.PlaceLaws.{key_at}
 use Rattle.group_runs.specs.Chunks.{on_end}
 use Rattle.group_runs.proofs.chunks.Chunks.has_all.Goals as goal
 
@@ -20,7 +21,7 @@ loop-place-preserved c =
       within = omega (arith, low, length-map (on_end c.args.self.now) (λ (e : Entry). e.0));
       there =
           subst (AllByRecursion (HasKey (on_end c.args.self.now))) (sym (take_found (packed_keys (on_end c.args.more.now)) c.loop-place.place key at))
-          (all_both (HasKey (on_end c.args.self.now)) (take c.loop-place.place (packed_keys (on_end c.args.more.now))) (key ∷ []) c.loop-place.invariant.there ((c.seek-from.result, here), tt));
+          (each_append (HasKey (on_end c.args.self.now)) (take c.loop-place.place (packed_keys (on_end c.args.more.now))) (key ∷ []) c.loop-place.invariant.there ((c.seek-from.result, here), tt));
     }
 
 pub returns : goal.returns
