@@ -1,6 +1,6 @@
 -- What an `AllocSet` computes is what its rules say.
 use Rattle.std.proofs.Common.{◌≡◌, ℕ, zero, suc, ◌+◌, ◌-◌, ◌*◌, ◌^◌, ◌<◌, ◌≤◌, inl, inr, Bool, true, false, List, [], ◌∷◌, ◌++◌, get_or, cond, refl, sym, ap, ◌∙◌, subst, arith, append_assoc}
-use Rattle.std.specs.Prelude.{◌||◌, nat_le, is_some, reverse}
+use Rattle.std.specs.Prelude.{◌||◌, min, nat_le, is_some, reverse}
 use Rattle.std.proofs.lemmas.Bool.{agree_below, agree_below_at, leb-true, leb-false, cases_lt, cases_Bool, or_cases, cond-true, cond-false, le-leb}
 use Rattle.std.proofs.lemmas.List.{get_or_past, reverse-append}
 use Rattle.chunk_layout.specs.Pieces.{Piece}
@@ -100,6 +100,18 @@ module _ (s : SetState) (n : ℕ) (small : n ≤ LARGEST) (some : 0 < set_growth
       let full : nat_le (p.room + 8) s.left ≡ false = ap (λ (r : ℕ). nat_le (r + 8) s.left) room ∙ new-block.1 in
       let after : (set_taken s n p).free ≡ cut_up rooms_down s.left s.free = λ i. (taken_by (classed i) (none i) (full i) s p).free in
       subst (IsCutUp s.left s.free) (sym after) (cut-rule rooms_down 16384 s.left s.free down-halves (omega (arith, leb-false (set_room n + 8) s.left new-block.1, room-small)))
+
+  pub rest-by_rule : (p : Piece) → p.room ≡ set_room n → (set_taken s n p).left ≡ set_growth s n - (set_room n + 8)
+  rest-by_rule p room =
+      let none : is_in p.room s.free ≡ false = ap (λ (r : ℕ). is_in r s.free) room ∙ new-block.0 in
+      let full : nat_le (p.room + 8) s.left ≡ false = ap (λ (r : ℕ). nat_le (r + 8) s.left) room ∙ new-block.1 in
+      (λ i. (taken_by (classed i) (none i) (full i) s p).left) ∙ ap (λ (r : ℕ). block_size s.next r - (r + 8)) room ∙ ap (λ (g : ℕ). g - (set_room n + 8)) (sym new-block.2)
+
+  pub doubles-by_rule : (p : Piece) → p.room ≡ set_room n → (set_taken s n p).next ≡ min (2 * s.next) 1048576
+  doubles-by_rule p room =
+      let none : is_in p.room s.free ≡ false = ap (λ (r : ℕ). is_in r s.free) room ∙ new-block.0 in
+      let full : nat_le (p.room + 8) s.left ≡ false = ap (λ (r : ℕ). nat_le (r + 8) s.left) room ∙ new-block.1 in
+      λ i. (taken_by (classed i) (none i) (full i) s p).next
 
   pub size-by_rule : 8192 ≤ s.next → IsDoubled s.next (set_room n + 8) (set_growth s n)
   size-by_rule least = elim (cases_Bool (nat_le (set_room n + 8) s.next)) [

@@ -1,6 +1,6 @@
 -- The rules of space of an `AllocSet` in words: what is cut of a block, and how long a block is. That `Set` computes just this is
 -- a law of `AllocSet`. All of this is our own.
-use Rattle.std.specs.Prelude.{◌≡◌, ℕ, ◌+◌, ◌-◌, ◌*◌, ◌^◌, ◌<◌, ◌≤◌, List, [], ◌∷◌, ◌++◌, reverse, IsTrue}
+use Rattle.std.specs.Prelude.{◌≡◌, ℕ, ◌+◌, ◌-◌, ◌*◌, ◌^◌, ◌<◌, ◌≤◌, List, [], ◌∷◌, ◌++◌, min, reverse, IsTrue}
 use Rattle.chunk_layout.specs.Pieces.{Piece}
 use Rattle.chunk_layout.specs.declared.blocks.TheConstants.{HEADER}
 use Rattle.chunk_contexts.specs.Rooms.{rooms}
@@ -40,9 +40,11 @@ pub record IsDoubled (first bytes size : ℕ) : Type 0 where
   pub least : (fewer : ℕ) → fewer < times → first * 2 ^ fewer < bytes
 
 -- how a set grows for a request of a class that takes a block: the block has the next size, doubled until it holds the chunk with
--- its header, and what was left of the block before is cut up
+-- its header; what was left of the block before is cut up; the chunk lies in the new one, whose rest is left; and the next size doubles
 pub record GrowsByRule (s : SetState) : Type 0 where
   pub next : (BLOCK ≤ s.next) × (s.next ≤ LARGEST_BLOCK)
   pub size : (n : ℕ) → n ≤ LARGEST → 0 < set_growth s n → IsDoubled s.next (set_room n + HEADER) (set_growth s n)
   pub most : (n : ℕ) → n ≤ LARGEST → set_growth s n ≤ LARGEST_BLOCK
   pub cut : (n : ℕ) → n ≤ LARGEST → 0 < set_growth s n → (p : Piece) → p.room ≡ set_room n → IsCutUp s.left s.free (set_taken s n p).free
+  pub rest : (n : ℕ) → n ≤ LARGEST → 0 < set_growth s n → (p : Piece) → p.room ≡ set_room n → (set_taken s n p).left ≡ set_growth s n - (set_room n + HEADER)
+  pub doubles : (n : ℕ) → n ≤ LARGEST → 0 < set_growth s n → (p : Piece) → p.room ≡ set_room n → (set_taken s n p).next ≡ min (2 * s.next) LARGEST_BLOCK

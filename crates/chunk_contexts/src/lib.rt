@@ -22,4 +22,5 @@ pub use chunk_layout::ChunkName;
 pub use context::ChunkContext;
 pub use error::ContextError;
 pub use generation::Generation;
+pub use rooms::sizes;
 pub use slab::Slab;

@@ -5,6 +5,7 @@ ghost use Rattle.chunk_contexts.specs.Free.{is_in};
 ghost use Rattle.std.specs.Prelude.{None};
 
 use crate::error::ContextError;
+use chunk_layout::HEADER;
 
 /// The longest chunk, in bytes.
 pub const MOST: usize = 1_073_741_823;
@@ -21,12 +22,20 @@ pub const SMALLEST: usize = 8;
 /// The room of the largest class.
 pub const LARGEST: usize = 8192;
 
-/// The size of a block, in bytes: of the first one of an `AllocSet`, and in the other kinds of each that is not larger for
-/// the sake of one chunk.
+/// The size of a block, in bytes: what an `AllocSet` begins with, and in the other kinds that of each block that is not larger
+/// for the sake of one chunk.
 pub const BLOCK: usize = 8192;
 
 /// The largest size of a block of an `AllocSet` that has chunks of the classes, in bytes.
 pub const LARGEST_BLOCK: usize = 1_048_576;
+
+/// A law: these are the sizes.
+pub fn sizes()
+    ensures header { HEADER ≡ 8 }
+    ensures most { MOST ≡ 1073741823 }
+    ensures classes { (CLASSES ≡ 11) × ((SMALLEST ≡ 8) × (LARGEST ≡ 8192)) }
+    ensures blocks { (BLOCK ≡ 8192) × (LARGEST_BLOCK ≡ 1048576) }
+{}
 
 /// Refuses a request that is too long for any kind.
 pub(crate) fn check_len(n: usize) -> Result<(), ContextError>

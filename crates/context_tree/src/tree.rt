@@ -170,7 +170,7 @@ impl Tree {
     }
 
     /// Whether there is a context of this id.
-    pub fn is_there(&self, id: ContextId) -> bool
+    pub fn is_live(&self, id: ContextId) -> bool
         ensures { result ≡ is_there self.now id }
     {
         match self.links.get(id.slot) {
@@ -183,7 +183,7 @@ impl Tree {
     fn check(&self, id: ContextId) -> Result<(), TreeError>
         ensures { MatchResult result (λ _. is_there self.now id ≡ true) (λ e. (is_there self.now id ≡ false) × (e ≡ NoSuchContext)) }
     {
-        if !self.is_there(id) {
+        if !self.is_live(id) {
             return Err(TreeError::NoSuchContext);
         }
         Ok(())

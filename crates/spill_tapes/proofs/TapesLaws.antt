@@ -1,5 +1,5 @@
 -- All tapes.
-use Rattle.std.specs.Prelude.{◌≡◌, ◌≢◌, ℕ, ◌+◌, ◌<◌, ◌≤◌, suc, zero, Bool, true, false, not, Option, List, [], ◌∷◌, ◌++◌, length, get_or}
+use Rattle.std.specs.Prelude.{◌≡◌, ◌≢◌, ℕ, ◌+◌, ◌*◌, ◌<◌, ◌≤◌, suc, zero, Bool, true, false, not, Option, List, [], ◌∷◌, ◌++◌, length, get_or}
 use Rattle.std.specs.List.{sum_by}
 use Rattle.std.proofs.Math.ListN.{set}
 use Rattle.std.proofs.Common.{refl, sym, ◌∙◌, ap, subst, arith}
@@ -9,7 +9,7 @@ use Rattle.spill_tapes.specs.Calls.{Keeps}
 use Rattle.spill_tapes.specs.Records.{Record, tape_bytes}
 use Rattle.spill_tapes.specs.Errors.{tape_error}
 use Rattle.spill_tapes.specs.Pages.{IsPool, HavePages, times, IsApart, IsBalanced, AreOn, KeepsPages}
-use Rattle.spill_tapes.specs.Tape.{TapeState, no_tape, new_tape, tape_len, is_in, IsGood, AreWritten, AreAhead, HasIn, Has, Gives}
+use Rattle.spill_tapes.specs.Tape.{TapeState, no_tape, new_tape, tape_len, is_in, IsGood, IsGoodIn, IsGoodRead, AreWritten, AreAhead, HasIn, Has, Gives}
 use Rattle.spill_tapes.specs.Tapes.{TapesState, tape_at, phase_of, is_written, is_read, IsTape, KeepsOthers, IsRefusal, IsReadRefusal, AreTapes}
 use Rattle.spill_tapes.specs.declared.disk.DiskError.{DiskError}
 use Rattle.spill_tapes.specs.declared.disk.DiskError.TheVariants as disk
@@ -173,6 +173,14 @@ pub bytes_written : (last : ℕ → ℕ → Type 0) (t : TapesState) (tape : Tap
 bytes_written last t tape rs written had =
     let here : AreWritten last (tape_at t tape) rs = subst (λ (ph : Phase). HasIn ph last (tape_at t tape) rs) (is_writing (tape_at t tape).phase written) had in
     sym (written_len last (tape_at t tape) (tape_bytes rs) here.bytes)
+
+-- how many pages a tape has that is being read
+pub pages_left : (last : ℕ → ℕ → Type 0) (t : TapesState) (tape : TapeId) (rs : List Record) → AreTapes t → t.is_dead ≡ false → is_read t tape ≡ true → IsTape last t tape rs → 8192 * length (tape_at t tape).pages < length (tape_bytes rs) + 8192
+pages_left last t tape rs are alive read had =
+    let phase = is_reading (tape_at t tape).phase read in
+    let here : AreAhead last (tape_at t tape) rs = subst (λ (ph : Phase). HasIn ph last (tape_at t tape) rs) phase had in
+    let good : IsGoodRead (tape_at t tape) = subst (λ (ph : Phase). IsGoodIn ph (tape_at t tape)) phase (are.good alive tape.index) in
+    omega (arith, good.pages, here.left)
 
 -- the pages of a tape and the free ones
 pub fits_at : (t : TapesState) (i : ℕ) → AreTapes t → length t.pool.free + length (get_or t.tapes i no_tape).pages ≤ t.pool.count

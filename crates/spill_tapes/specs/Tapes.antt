@@ -66,7 +66,7 @@ IsReadRefusal dead TapeFault = dead ≡ false
 IsReadRefusal dead TapeDamaged = dead ≡ false
 IsReadRefusal dead TapesDead = dead ≡ true
 
--- how a call ends that is handed the disk: dead tapes refuse it, and nothing is changed; and where living ones refuse it, for one of
+-- how a call ends that reads or writes the disk: dead tapes refuse it, and nothing is changed; and where living ones refuse it, for one of
 -- these reasons, they are dead from then on
 pub record DiesIfRefused {T D : Type 0} (IsReason : Bool → TapeError → Type 0) (result : Result T TapeError) (old new : TapesState) (before after : D) : Type 0 where
   pub dead : old.is_dead ≡ true → result ≡ Err TapesDead

@@ -1,5 +1,5 @@
 //! Tapes over a disk.
-ghost use Rattle.std.specs.Prelude.{◌≡◌, ◌≢◌, ◌+◌, ◌/◌, ◌<◌, ◌≤◌, ◌∷◌, ◌++◌, [], ℕ, List, Some, Err, true, false, IsTrue, IfOk, IfErr, IfSome, IfNone, OnOk, OnErr, length, get_or};
+ghost use Rattle.std.specs.Prelude.{◌≡◌, ◌≢◌, ◌+◌, ◌*◌, ◌/◌, ◌<◌, ◌≤◌, ◌∷◌, ◌++◌, [], ℕ, List, Some, Err, true, false, IsTrue, IfOk, IfErr, IfSome, IfNone, OnOk, OnErr, length, get_or};
 ghost use Rattle.spill_tapes.specs.Calls.{failed};
 ghost use Rattle.spill_tapes.specs.Disk.{Leaves, OnlyReads};
 ghost use Rattle.spill_tapes.specs.Errors.{tape_faults};
@@ -25,7 +25,7 @@ use std::marker::Model;
 /// A record is a hash, a tag, which is 0 or 1, and up to 65,535 bytes. Each call that reads or writes is handed the disk,
 /// which nothing else may write to as long as the tapes are in use.
 ///
-/// Where a call that was handed the disk fails, for memory, by the disk, or by bytes that are not those of a record, the
+/// Where a call that reads or writes the disk fails, for memory, by the disk, or by bytes that are not those of a record, the
 /// tapes are dead: every further call but `close` is refused.
 #[derive(Drop)]
 pub struct Tapes {
@@ -228,6 +228,17 @@ impl Tapes {
     pub fn bytes_written<D: TapeDisk>(&self, _disk: &D, _tape: TapeId)
         requires { is_written self.now _tape ≡ true }
         ensures { (rs : List Record) → IsTape (D.last _disk.now) self.now _tape rs → written_len self.now _tape ≡ length (tape_bytes rs) }
+    {
+        let _pool = &self.pool;
+    }
+
+    /// A law: a tape that is being read has no page more than what is left of it takes, as long as no call failed. So a page that
+    /// was read is free.
+    #[tactic(auto, using(crate::proofs::TapesLaws::pages_left))]
+    pub fn pages_left<D: TapeDisk>(&self, _disk: &D, _tape: TapeId)
+        requires read { is_read self.now _tape ≡ true }
+        requires alive { self.now.is_dead ≡ false }
+        ensures { (rs : List Record) → IsTape (D.last _disk.now) self.now _tape rs → 8192 * length (tape_at self.now _tape).pages < length (tape_bytes rs) + 8192 }
     {
         let _pool = &self.pool;
     }

@@ -75,7 +75,7 @@ fn two_children(tree: &mut Tree) -> Result<(ContextId, ContextId), TreeError>
     let root = tree.root();
     let first = tree.create(root, Kind::Bump)?;
     let second = tree.create(root, Kind::Generation)?;
-    if !tree.is_there(first) || !tree.is_there(second) {
+    if !tree.is_live(first) || !tree.is_live(second) {
         return Err(TreeError::NoSuchContext);
     }
     Ok((first, second))

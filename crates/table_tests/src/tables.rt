@@ -341,7 +341,7 @@ fn stamps_behind(tree: &Tree, first: u64) -> u32 {
     for slot in 1..4 {
         for step in 1..4 {
             let stamp = first.saturating_add(step);
-            if tree.is_there(ContextId { slot, stamp }) {
+            if tree.is_live(ContextId { slot, stamp }) {
                 number = number.saturating_add(1);
             }
         }

@@ -94,7 +94,7 @@ fn tell_refusals(
 
 /// Frees a chunk of a context, if that is gone.
 fn free(tree: &mut Tree, gone: ContextId, name: ChunkName) -> Result<(), TreeError> {
-    if tree.is_there(gone) {
+    if tree.is_live(gone) {
         return Ok(());
     }
     tree.free(gone, name)
@@ -102,7 +102,7 @@ fn free(tree: &mut Tree, gone: ContextId, name: ChunkName) -> Result<(), TreeErr
 
 /// Makes a chunk of a context longer, if that is gone.
 fn resize(tree: &mut Tree, gone: ContextId, name: ChunkName) -> Result<(), TreeError> {
-    if tree.is_there(gone) {
+    if tree.is_live(gone) {
         return Ok(());
     }
     tree.resize(gone, name, 5)?;
@@ -111,7 +111,7 @@ fn resize(tree: &mut Tree, gone: ContextId, name: ChunkName) -> Result<(), TreeE
 
 /// Changes a chunk of a context, if that is gone.
 fn change(tree: &mut Tree, gone: ContextId, name: ChunkName) -> Result<(), TreeError> {
-    if tree.is_there(gone) {
+    if tree.is_live(gone) {
         return Ok(());
     }
     tree.get_mut(gone, name)?.fill(0);
@@ -135,7 +135,7 @@ fn tell_chunk_refusals(
 
 /// Whether the id of a context that is gone reaches a chunk.
 fn reaches(tree: &Tree, gone: ContextId, name: ChunkName) -> bool {
-    tree.is_there(gone) || tree.get(gone, name).is_ok()
+    tree.is_live(gone) || tree.get(gone, name).is_ok()
 }
 
 /// Makes a child of the root and a chunk of it, and lets go of both.
@@ -268,9 +268,9 @@ fn tell_reset(
     text: &mut String,
 ) -> Result<(), TreeError> {
     tree.reset(reset)?;
-    tell(alloc, text, tree.is_there(reset))?;
-    tell(alloc, text, tree.is_there(child))?;
-    tell(alloc, text, tree.is_there(grandchild))
+    tell(alloc, text, tree.is_live(reset))?;
+    tell(alloc, text, tree.is_live(child))?;
+    tell(alloc, text, tree.is_live(grandchild))
 }
 
 /// Tells a context with a child and a grandchild, before and after its reset.
@@ -299,7 +299,7 @@ fn tell_deleted(
     tell(alloc, text, tree.held_below(pass))?;
     tell(alloc, text, tree.held_below(root))?;
     tree.delete(pass)?;
-    tell(alloc, text, tree.is_there(pass))?;
+    tell(alloc, text, tree.is_live(pass))?;
     tell(alloc, text, tree.held_below(root))
 }
 
@@ -313,7 +313,7 @@ fn tell_descendants(
     let pass = filled(tree, root, Kind::AllocSet, 1)?;
     let other = filled(tree, root, Kind::Slab(40), 40)?;
     tell_family(alloc, tree, root, pass, text)?;
-    tell(alloc, text, tree.is_there(other))?;
+    tell(alloc, text, tree.is_live(other))?;
     tell_deleted(alloc, tree, root, pass, text)
 }
 
