@@ -180,7 +180,8 @@ takes_batches (Took name fed delivered) = true
 takes_batches (Merged into from) = true
 takes_batches reply = false
 
--- a command by which a replica would take batches is refused, since one number was given to two batches
+-- a command by which a replica would take batches is refused, since one number was given to two batches, or as if it had been, over a
+-- disk that isn't honest
 pub record IsDisagreement (old : State) (request : Request) (owned : List Record) (reply : Reply) : Type 0 where
   pub instead : Reply
   pub would : Replies old request owned instead

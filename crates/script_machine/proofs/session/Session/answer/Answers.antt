@@ -18,7 +18,7 @@ returns-in-None-clause-answers g c = λ owned.
 pub returns-in-Ok-clause-answers : goal.returns-in-Ok-clause-answers
 returns-in-Ok-clause-answers g c = λ owned.
     subst (λ s. Steps (g.D.TapeDisk.honest c.args.disk.now) (ask.Answer c.args.name.now) owned s (says.Answer c.in-Ok.rows c.in-Ok.table) s) c.self.view_is
-    (answered _ c.args.name.now owned c.in-Some.replica.now c.in-Ok.rows c.in-Ok.table c.self.invariant (sym c.in-Some.ensures.value) c.in-Ok.ensures.answer)
+    (answered _ c.args.name.now owned c.in-Some.replica.now c.in-Ok.rows c.in-Ok.table c.self.invariant (sym c.in-Some.ensures.value) c.in-Ok.ensures.answer c.in-Ok.ensures.shown)
 
 pub returns-in-Err-clause-answers : goal.returns-in-Err-clause-answers
 returns-in-Err-clause-answers g c = λ owned. answer_refused c.args.self.now c.args.name.now owned c.in-Err.error c.from.result c.from.ensures c.in-Err.ensures.undamaged
