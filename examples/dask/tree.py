@@ -113,9 +113,9 @@ def cluster(work, workers):
             client.run(os.getpid)
             yield client, processes[1:]
     finally:
-        for process in reversed(processes):
-            process.terminate()
+        # They keep nothing, and a worker that is asked to end waits for its scheduler.
         for process in processes:
+            process.kill()
             process.wait()
 
 
