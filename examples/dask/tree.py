@@ -3,7 +3,7 @@
 
     examples/dask/tree.py                 runs by 1, 2 and 4 workers, one with a worker killed, one with each share twice
     examples/dask/tree.py --rows 1000     smaller batches; 16,384 rows where none are said
-    PROGRAM=/usr/bin/agg_tool examples/dask/tree.py    by an installed program, else by bin/agg_tool
+    PROGRAM=/usr/bin/agg_tool examples/dask/tree.py    by an installed program, else by a proved build (bin/agg_tool)
 
 It makes batch files of 16 origins, 4 each, and has one process feed them all. Then a scheduler and workers are started as processes of
 their own, which speak over the loopback address alone. Each share, the batches of an origin, is fed by a task, and the summaries are
@@ -16,6 +16,7 @@ is removed. The status is 0 where all bytes are equal, and 1 else.
 import argparse
 import contextlib
 import os
+import shutil
 import subprocess
 import sys
 import tempfile
@@ -28,7 +29,7 @@ try:
 except ImportError:
     sys.exit("tree.py: Dask's distributed is not installed for this Python: on Debian python3-distributed, run by /usr/bin/python3")
 
-HERE = Path(__file__).resolve().parent
+ROOT = Path(__file__).resolve().parent.parent.parent
 ORIGINS = 16
 BATCHES = 4
 CITIES = 1_000
@@ -151,6 +152,16 @@ def timed(work, program, empty, shares, workers, again=1, kill=False):
 # The example.
 
 
+def find_program():
+    """The program that is named, or a proved build, which is made first where there is none."""
+    named = os.environ.get("PROGRAM")
+    if named:
+        found = shutil.which(named) or sys.exit(f"tree.py: no program {named}")
+        return str(Path(found).resolve())
+    subprocess.run([ROOT / "bin" / "agg_tool", "--version"], env={**os.environ, "AGG_TOOL": "proved"}, check=True)
+    return str(ROOT / "crates" / "agg_tool" / "out" / "agg_tool")
+
+
 def make_batches(work, rows):
     """The batch files of each origin, always the same."""
     seed = 20240229
@@ -198,11 +209,10 @@ def main():
     words = argparse.ArgumentParser(description="One answer by Dask's distributed scheduler.")
     words.add_argument("--rows", type=int, default=16_384, help="rows a batch [default: 16384]")
     told = words.parse_args()
-    program = os.environ.get("PROGRAM", str(HERE.parent.parent / "bin" / "agg_tool"))
     with tempfile.TemporaryDirectory() as folder:
         work = Path(folder)
         (work / "runs").mkdir()
-        return 0 if compare(work, program, told.rows) else 1
+        return 0 if compare(work, find_program(), told.rows) else 1
 
 
 if __name__ == "__main__":
