@@ -10,7 +10,8 @@ their own, which speak over the loopback address alone. Each share, the batches 
 merged two by two by tasks above. What is left at the end is compared, byte for byte, with the summary of the one process.
 
 Needs Python 3.8 and Dask's distributed: on Debian python3-distributed, which is for /usr/bin/python3. All files lie in a new folder, which
-is removed. The status is 0 where all bytes are equal, and 1 else.
+is removed. Standard output has a line for each run; on standard error Dask may say that it lost a worker, which it did, or that closing took
+long. The status is 0 where all bytes are equal, and 1 else.
 """
 
 import argparse
