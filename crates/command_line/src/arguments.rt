@@ -29,11 +29,11 @@ static FORMATS: [&str; 2] = ["csv", "aligned"];
 const ABOUT: &str = "Groups numbered batches of rows, and merges what several sites know of them";
 
 const AFTER: &str = "\
-A summary file holds a query and what is known of the batches that it groups. Each
-origin numbers its batches from 1 on. An answer covers each origin's batches up to the
-first that is missing; those after it are kept until it comes. Files that know the same
-batches are equal byte for byte, and so are their answers, in whatever order the batches
-came, and however often.
+A summary file holds a query and what is known of the batches that it groups.
+Each origin numbers its batches from 1 on. An answer covers each origin's
+batches up to the first that is missing; those after it are kept until it
+comes. Files that know the same batches are equal byte for byte, and so are
+their answers, in whatever order the batches came, and however often.
 
 Example:
   agg_tool new empty.sum --columns 'city text, sales bigint' \\
@@ -43,127 +43,181 @@ Example:
   agg_tool merge all.sum oslo.sum rome.sum
   agg_tool answer all.sum --format aligned
 
-Replies and tables go to standard output, and a sentence for each refusal to standard
-error.
+Replies and tables go to standard output, and a sentence for each refusal to
+standard error.
 
 Status:
-  0  all was done
+  0  all was done, or help or the version was shown
   1  something was refused: a line 'refused NAME' stands in its place
-  2  the words are no command line
+  2  the words are no command line; standard error says why
   3  a file or a stream could not be read or written";
 
 const SCRIPT_ABOUT: &str = "Runs a script from standard input";
 
 const SCRIPT_AFTER: &str = "\
-The script is CSV, a command in each record, and is read whole before the first reply is
-written. Its commands are columns, query, limit, replica, feed, merge, known, answer, save
-and load. What it saves it keeps in memory, and ends with it.
+The script is CSV, a command in each record, and is read whole before the first
+reply is written:
 
-What doesn't keep within the limit of a script is spilled: to memory, or with --spill to a
-new file, which is removed at the end.
+  columns,SCHEMA                once, before the query; as with new
+  query,TEXT                    once, before the replicas; as with new
+  limit,BYTES                   limits a table of groups from then on:
+                                65536 to 1099511627776; 4194304 before
+  replica,NAME                  makes a replica that knows nothing
+  feed,NAME,ORIGIN,NUMBER,ROWS  adds a batch, the next ROWS records
+  merge,INTO,FROM               INTO knows what FROM does, too
+  known,NAME                    lists the batches that NAME knows
+  answer,NAME                   prints the answer of NAME, in CSV
+  save,NAME,SAVED               keeps what NAME knows, in memory
+  load,NAME,SAVED               makes or replaces NAME by what was saved
+
+Each has one reply. One that can't be done replies 'refused NAME' and changes
+nothing. A field with a comma stands in double quotes. Names are 1 to 63 ASCII
+letters, digits or _.
+
+What doesn't keep within the limit of a script is spilled: to memory, or with
+--spill to a new file, which is removed at the end.
 
 Example:
   agg_tool script < examples/sales.script
 
-Status: 0 all was done; 1 a command was refused, memory ran out or the script is longer
-than 67,108,864 bytes; 2 the words are no command line; 3 standard input could not be
-read, standard output not written or the file for what is spilled not made.";
+Status:
+  0  all was done
+  1  a command was refused, memory ran out or the script is longer than
+     67,108,864 bytes
+  2  the words are no command line
+  3  a stream failed, or the file for what is spilled could not be made";
 
 const NEW_ABOUT: &str = "Makes a summary file that knows no batch yet";
 
 const NEW_AFTER: &str = "\
-Columns are told as 'NAME KIND, NAME KIND, ..', 1 to 32 of them, of the kinds bigint,
-boolean and text. The query is one SELECT over the table batches with WHERE, GROUP BY,
-HAVING and the aggregates count, sum, min, max, bit_and, bit_or, bit_xor, bool_and,
-bool_or and every. Prints 'saved BYTES'.
+SCHEMA is 'NAME KIND, NAME KIND, ..': 1 to 32 columns, each of the kind bigint
+or int8, boolean or bool, or text. TEXT is one query, with or without a last ;
+
+  SELECT ITEM, .. FROM batches [WHERE CONDITION]
+      [GROUP BY COLUMN, ..] [HAVING CONDITION]
+
+An ITEM is a column of GROUP BY or a call, and may have another name behind AS.
+The calls are count(*), count of any column, sum, min, max, bit_and, bit_or and
+bit_xor of a bigint, and bool_and, bool_or and every of a boolean. Behind a call
+FILTER (WHERE CONDITION) may tell which rows it takes. A CONDITION has columns,
+integers, 'texts', TRUE, FALSE, NULL, = <> != < <= > >=, NOT, AND, OR, and
+IS [NOT] NULL, TRUE, FALSE or UNKNOWN; in HAVING it has calls, too.
+
+Prints 'saved BYTES'. A file OUT that is there is replaced.
 
 Example:
   agg_tool new empty.sum --columns 'city text, sales bigint' \\
-      --query 'SELECT city, sum(sales) FROM batches GROUP BY city'
+    --query 'SELECT city, sum(sales) AS total FROM batches GROUP BY city'
 
-Status: 0 all was done; 1 something was refused; 2 the words are no command line; 3 a
-file or a stream could not be read or written.";
+Status:
+  0  all was done
+  1  something was refused
+  2  the words are no command line
+  3  a file or a stream could not be read or written";
 
 const FEED_ABOUT: &str = "Adds the batches of batch files to a summary";
 
 const FEED_AFTER: &str = "\
-A batch file is CSV. Its first record is batch,ORIGIN,NUMBER,ROWS: who sent the batch (0
-to 1023), its number (1 to 2147483647), and how many records follow (0 to 65536), a
-field for each column; \\N stands for null. For each file, in the order given, a line
-tells what became of it:
+A batch file is CSV. Its first record is batch,ORIGIN,NUMBER,ROWS: who sent the
+batch (0 to 1023), its number (1 to 2147483647), and how many records follow (0
+to 65536), a field for each column. A field \\N is null; a bigint is digits, with
++ or - before them or not; a boolean is t, true, f or false, in any case of
+letters; a text is UTF-8 of at most 255 bytes. For each file, in the order
+given, a line tells what became of it:
 
   folded upto N  the origin's batches 1 to N are in the answer now
   early          it is kept until the batches before it have come
   known          its number was known, nothing changed
   refused NAME   it is passed over, nothing changed
 
-Then OUT is written and 'saved BYTES' printed. OUT may be IN. Where IN itself is refused, a
-file can't be read or OUT would be longer than 67,108,864 bytes, the command ends, and OUT
-isn't written.
+Then OUT is written and 'saved BYTES' printed. OUT may be IN. Where IN itself is
+refused, a file can't be read or OUT would be longer than 67,108,864 bytes, the
+command ends, and OUT isn't written.
 
-The groups of a batch take at most --limit bytes of blocks while they are counted; what
-doesn't keep within is spilled, and counted in later passes: to memory, or with --spill to
-a new file, which is removed at the end. The reply is the same, unless that file fails.
---explain tells on standard error what all of it took, as 'passes 2 spilled 1 pages 1
-held 57352 limit 65536': passes, records that were spilled, pages of 8192 bytes written
-for them, and the most bytes held at once.
+The groups of a batch take at most --limit bytes of blocks while they are
+counted, 65536 to 1099511627776; what doesn't keep within is spilled, and
+counted in later passes: to memory, or with --spill to a new file, which is
+removed at the end. The reply is the same, unless that file fails. --explain
+tells on standard error what all of it took, as
+'passes 2 spilled 1 pages 1 held 57352 limit 65536': passes, records that were
+spilled, pages of 8192 bytes written for them, and the most bytes held at once.
 
 Example:
   agg_tool feed oslo.sum oslo.sum oslo-3.csv
 
-Status: 0 all was done; 1 something was refused; 2 the words are no command line; 3 a
-file or a stream could not be read or written.";
+Status:
+  0  all was done
+  1  something was refused
+  2  the words are no command line
+  3  a file or a stream could not be read or written";
 
 const MERGE_ABOUT: &str = "Merges summary files of one query";
 
 const MERGE_AFTER: &str = "\
 OUT knows what any IN knew. For each IN after the first, 'merged' is printed, or
-'refused NAME' where it is passed over: another query, no summary file, or another batch
-under a number that is known. Then OUT is written and 'saved BYTES' printed. OUT may be
-one of the INs. Where the first IN is refused, a file can't be read or OUT would be longer
-than 67,108,864 bytes, the command ends, and OUT isn't written.
+'refused NAME' where it is passed over: another query, no summary file, or
+another batch under a number that is known. Then OUT is written and 'saved
+BYTES' printed. OUT may be one of the INs. Where the first IN is refused, a file
+can't be read or OUT would be longer than 67,108,864 bytes, the command ends,
+and OUT isn't written.
 
-Groups of early batches that follow now take at most --limit bytes of blocks while they
-are counted; what doesn't keep within is spilled, and counted in later passes: to memory,
-or with --spill to a new file, which is removed at the end. --explain
-tells on standard error what all of it took, as 'passes 2 spilled 1 pages 1 held 57352
-limit 65536': passes, records that were spilled, pages of 8192 bytes written for them, and
-the most bytes held at once.
+Groups of early batches that follow now take at most --limit bytes of blocks
+while they are counted, 65536 to 1099511627776; what doesn't keep within is
+spilled, and counted in later passes: to memory, or with --spill to a new file,
+which is removed at the end. --explain tells on standard error what all of it
+took, as 'passes 2 spilled 1 pages 1 held 57352 limit 65536': passes, records
+that were spilled, pages of 8192 bytes written for them, and the most bytes held
+at once.
 
 Example:
   agg_tool merge all.sum oslo.sum rome.sum
 
-Status: 0 all was done; 1 something was refused; 2 the words are no command line; 3 a
-file or a stream could not be read or written.";
+Status:
+  0  all was done
+  1  something was refused
+  2  the words are no command line
+  3  a file or a stream could not be read or written";
 
 const KNOWN_ABOUT: &str = "Lists the batches that a summary knows";
 
 const KNOWN_AFTER: &str = "\
-Prints a line for each origin of which a batch is known, as 'origin 7 upto 12 early 14
-15': batches 1 to 12 are in the answer, 14 and 15 wait for 13.
+Prints a line for each origin of which a batch is known, as
+'origin 7 upto 12 early 14 15': batches 1 to 12 are in the answer, 14 and 15
+wait for 13.
 
 Example:
   agg_tool known all.sum
 
-Status: 0 all was done; 1 something was refused; 2 the words are no command line; 3 a
-file or a stream could not be read or written.";
+Status:
+  0  all was done
+  1  something was refused
+  2  the words are no command line
+  3  a file or a stream could not be read or written";
 
 const ANSWER_ABOUT: &str = "Prints the query's answer over what a summary knows";
 
 const ANSWER_AFTER: &str = "\
-The rows stand in the order of the query's keys, null last. The groups of several origins
-take at most --limit bytes of blocks while they are combined; what doesn't keep within is
-spilled, and combined in later passes: to memory, or with --spill to a new file, which is
-removed at the end. The answer is the same, unless that file fails. --explain tells on standard
-error what that took, as 'passes 2 spilled 1 pages 1 held 57352 limit 65536': passes,
-records that were spilled, pages of 8192 bytes written for them, and the most bytes held
-at once; 'passes 0' where there is nothing to combine.
+The rows stand in the order of the query's keys, null last. Null is \\N, a
+boolean t or f. A column is named by its alias, or else by its column or
+function. The layout is csv, or aligned for people.
+
+The groups of several origins take at most --limit bytes of blocks while they
+are combined, 65536 to 1099511627776; what doesn't keep within is spilled, and
+combined in later passes: to memory, or with --spill to a new file, which is
+removed at the end. The answer is the same, unless that file fails. --explain
+tells on standard error what that took, as
+'passes 2 spilled 1 pages 1 held 57352 limit 65536': passes, records that were
+spilled, pages of 8192 bytes written for them, and the most bytes held at once;
+'passes 0' where there is nothing to combine.
 
 Example:
   agg_tool answer all.sum --format aligned
 
-Status: 0 all was done; 1 something was refused; 2 the words are no command line; 3 a
-file or a stream could not be read or written.";
+Status:
+  0  all was done
+  1  something was refused
+  2  the words are no command line
+  3  a file or a stream could not be read or written";
 
 /// A word of the command line that has its place.
 fn positional<'a>(alloc: Global, name: &'a str, help: &'a str) -> Arg<'a> {
@@ -200,7 +254,7 @@ fn limit_option<'a>(alloc: Global) -> Arg<'a> {
         alloc,
         LIMIT,
         "BYTES",
-        "What a table of groups may take, 65536 to 1099511627776 [default: 4194304]",
+        "Bytes a table of groups may take [default: 4194304]",
     )
     .allow_negative_numbers(true)
 }
@@ -211,7 +265,7 @@ fn spill_option<'a>(alloc: Global) -> Arg<'a> {
         alloc,
         SPILL,
         "PATH",
-        "A new file for what is spilled, removed at the end [default: memory]",
+        "A new file for what is spilled [default: memory]",
     )
 }
 
@@ -252,7 +306,7 @@ fn known_command<'a>(alloc: Global) -> Result<Command<'a>, AllocError> {
 
 /// The option of a table's format.
 fn format_option<'a>(alloc: Global) -> Arg<'a> {
-    option(alloc, FORMAT, "FORMAT", "How the table is written")
+    option(alloc, FORMAT, "FORMAT", "Layout")
         .value_parser(ValueParser::Names(FORMATS.as_slice()))
         .default_value("csv")
 }
