@@ -14,7 +14,7 @@ use Rattle.std.proofs.lemmas.Slice.Eq.{bytes_eq-Decides}
 use Rattle.std.proofs.lemmas.Bool.{true≢false, false_from_ne_true}
 use Rattle.grouping_model.specs.World.{World, IsWorld, Knowledge, nothing, learn, union}
 use Rattle.grouping_model.specs.Answer.{answer}
-use Rattle.grouping_model.specs.Datum.{Row}
+use Rattle.grouping_model.specs.Aggregates.{Outcome}
 use Rattle.packed_rows.specs.Columns.{Column, kinds, IsSchemaText, printed}
 use Rattle.query_checks.specs.Checks.{Checked}
 use Rattle.having_filter.specs.Meaning.{meaning}
@@ -651,7 +651,7 @@ module _ {honest : Bool} where
   pub answered : (store : Store) (name : List ℕ) (owned : List Record) (held : Held) (rows : ℕ) (table : Vec ℕ Global) → IsStore store → replica_at store name ≡ Some held
       → (IsTrue honest → (world : World) → IsWorld (kinds held.query.columns) world → Fits world held
       → (rows ≡ length (answer (meaning held.query) world (told held.parts))) × (table.items ≡ table_text (headers held.query) (answer (meaning held.query) world (told held.parts))))
-      → (some : (shown : List Row) × ((rows ≡ length shown) × (table.items ≡ table_text (headers held.query) shown))) → Steps honest (ask.Answer name) owned store (says.Answer rows table) store
+      → (some : (shown : List (List Outcome)) × ((rows ≡ length shown) × (table.items ≡ table_text (headers held.query) shown))) → Steps honest (ask.Answer name) owned store (says.Answer rows table) store
   answered store name owned held rows table is there shown some =
       let asks = held_asks store name held is there in
       record {
@@ -663,7 +663,7 @@ module _ {honest : Bool} where
           refused = refl;
           faulted = refl;
           fits = λ right world f agrees. f;
-          reads = (some.0, ap (λ n. answer_text n table.items) some.1 ∙ ap (λ bytes. answer_text (length some.0) bytes) some.2);
+          reads = (some.0, ap (λ n. answer_text n table.items) some.1.0 ∙ ap (λ bytes. answer_text (length some.0) bytes) some.1.1);
           text = λ right world f agrees.
               let of_world = subst (λ cs. IfSome cs (λ (columns : List Column). IsWorld (kinds columns) world)) asks.1 f.of_columns in
               let right = shown right world of_world (subst (λ o. IfSome o (λ (h : Held). Fits world h)) there (f.fit name)) in

@@ -1,7 +1,7 @@
 -- The text of replies: one line each, of an answer the table too. All of this is our own.
 use Rattle.std.specs.Prelude.{ℕ, ◌≡◌, List, [], ◌∷◌, ◌++◌, flat_map, length, codes, decimal}
 use Rattle.grouping_model.specs.Answer.{answer}
-use Rattle.grouping_model.specs.Datum.{Row}
+use Rattle.grouping_model.specs.Aggregates.{Outcome}
 use Rattle.grouping_model.specs.World.{World}
 use Rattle.having_filter.specs.Meaning.{meaning}
 use Rattle.query_checks.specs.Spelling.{spelling}
@@ -157,7 +157,7 @@ replies_text world replies = flat_map (reply_text world) replies
 -- length, and of any other reply the one text that it has for each world
 abbrev pub MayRead : Reply → List ℕ → Type 0
 MayRead (Saved saved query known) text = (count : ℕ) × (text ≡ line (codes "saved ") (decimal count))
-MayRead (Answered query known) text = (rows : List Row) × (text ≡ answer_text (length rows) (table_text (headers query) rows))
+MayRead (Answered query known) text = (rows : List (List Outcome)) × (text ≡ answer_text (length rows) (table_text (headers query) rows))
 MayRead reply text = (world : World) → text ≡ reply_text world reply
 
 -- the same reply by reply

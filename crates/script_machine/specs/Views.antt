@@ -1,5 +1,5 @@
 -- What a clause sees of the values of the code.
-use Rattle.std.specs.Prelude.{ℕ, ◌≡◌, ◌⊎◌, Bool, true, false, List, [], codes, decimal, Option, Some, None, IfSome, IsTrue, option_map, if◌then◌else◌, string_bytes, Result, Ok, Err}
+use Rattle.std.specs.Prelude.{ℕ, ◌≡◌, Bool, true, false, List, [], codes, decimal, Option, Some, None, IfSome, IsTrue, option_map, if◌then◌else◌, string_bytes, Result, Ok, Err}
 use Rattle.std.specs.declared.alloc.Global.{Global}
 use Rattle.std.specs.declared.vec.Vec.{Vec}
 use Rattle.std.specs.Map.{lookup}

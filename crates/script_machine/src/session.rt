@@ -5,7 +5,7 @@ ghost use Rattle.std.specs.HashMap.{UpdatesBy};
 ghost use Rattle.std.specs.Str.{bytes_eq};
 ghost use Rattle.csv.specs.Records.{fields_of};
 ghost use Rattle.grouping_model.specs.Answer.{answer};
-ghost use Rattle.grouping_model.specs.Datum.{Row};
+ghost use Rattle.grouping_model.specs.Aggregates.{Outcome};
 ghost use Rattle.grouping_model.specs.World.{World, IsWorld};
 ghost use Rattle.having_filter.specs.Meaning.{meaning};
 ghost use Rattle.query_checks.specs.Spelling.{spelling};
@@ -174,7 +174,7 @@ fn answer_of_replica<D: TapeDisk>(
         → Fits world replica.now → (found.0 ≡ length (answer (meaning replica.now.query) world
         (told replica.now.parts))) × (found.1.items ≡ table_text (headers replica.now.query) (answer
         (meaning replica.now.query) world (told replica.now.parts)))) }
-    ensures shown { IfOk result (λ found. (rows : List Row) × ((found.0 ≡ length rows) × (found.1.items ≡ table_text (headers replica.now.query) rows))) }
+    ensures shown { IfOk result (λ found. (rows : List (List Outcome)) × ((found.0 ≡ length rows) × (found.1.items ≡ table_text (headers replica.now.query) rows))) }
     ensures undamaged { IfErr result (λ error. IsTrue (D.honest disk.old) → error ≢ spill.TapeDamaged) }
     ensures disk { Leaves D.TapeDisk (failed spill_faults result) disk.old disk.new }
 {
