@@ -7,7 +7,7 @@ use Rattle.packed_rows.specs.declared.Value.{Value}
 use Rattle.packed_rows.specs.declared.Value.TheVariants as value
 use Rattle.agg_protocol.specs.Arguments.{Takes}
 use Rattle.agg_protocol.specs.States.{Denotes, shape_of, rows_of, most_rows}
-use Rattle.agg_protocol.proofs.Denoting.{within}
+use Rattle.agg_protocol.specs.DenotingLaws.{within}
 use Rattle.agg_library.specs.StateRows.{partial_after}
 
 -- a value that is no number is null where sum takes it

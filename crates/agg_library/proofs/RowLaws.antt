@@ -11,7 +11,7 @@ use Rattle.agg_protocol.specs.States.{rows_of}
 use Rattle.agg_library.specs.declared.kind.AggKind.{AggKind}
 use Rattle.agg_library.specs.Kinds.{function_of, functions_of, kind_shape, kind_width, row_width}
 use Rattle.agg_library.specs.StateRows.{DenotesAll, AllWithin, with_part}
-use Rattle.agg_protocol.proofs.Denoting.{width_known}
+use Rattle.agg_protocol.specs.DenotingLaws.{width_known}
 
 -- no states at all
 pub denotes_end : (m : ℕ) (kinds : List AggKind) (row : List ℕ) → kinds ≡ [] → row ≡ [] → DenotesAll m kinds row []

@@ -5,7 +5,7 @@ use Rattle.grouping_model.specs.Datum.{Datum, Null, Bigint, Boolean, Text, Kind,
 use Rattle.grouping_model.specs.Aggregates.{Function, Count_rows, Count, Sum, Partial, Counted, Summed, Number, Truth_value, partial, as_number, as_boolean}
 use Rattle.grouping_model.specs.Combining.{combine, transition, joined, of_numbers, of_truths}
 use Rattle.grouping_model.proofs.CombiningLaws.{partial_append}
-use Rattle.grouping_model.proofs.TransitionLaws.{one_more_argument}
+use Rattle.grouping_model.proofs.TransitionLaws.{one_more_argument, joined-none}
 use Rattle.packed_rows.specs.View.{datum_of, row_of}
 use Rattle.packed_rows.specs.declared.Value.{Value}
 use Rattle.agg_protocol.specs.Signatures.{Argument, Values_of, signature}
@@ -36,11 +36,6 @@ pub combined_lists : (f : Function) (p q r : Partial) → r ≡ combine f p q �
 combined_lists f p q r both xs ys is is' = both ∙ (λ j. combine f (is j) (is' j)) ∙ sym (partial_append f xs ys)
 
 -- ---- one more argument, by what the states of a function hold
-
-joined-none : {X : Type 0} (both : X → X → X) (x : Option X) → joined both x None ≡ x
-joined-none both None = refl
-joined-none both (Some x) = refl
-
 -- functions whose states hold numbers, or truth values, take these
 numbers_taken : (f : Function) → shape_of f ≡ A_number → (signature f).argument ≡ Values_of Bigint_kind
 numbers_taken Count_rows shape = cc
@@ -94,7 +89,6 @@ truth_first Count_rows shape = cc
 truth_first f shape = cc
 
 -- ---- one more argument is as much as the state of that argument alone, combined
-
 alone_number : (f : Function) (o : Option ℤ) (v : Datum) → HasKind Bigint_kind v → combine f (Number o) (transition f (Number None) v) ≡ transition f (Number o) v
 alone_number f o Null has = ap (combine f (Number o)) (number_passes f None) ∙ ap Number (joined-none (of_numbers f) o) ∙ sym (number_passes f o)
 alone_number f o (Bigint z) has = ap (combine f (Number o)) (number_moves f None z) ∙ sym (number_moves f o z)
@@ -135,7 +129,6 @@ alone f m p v known takes =
     sym (one_alone f p v (shape_known m (shape_of f) p known) takes) ∙ ap (combine f p) (sym (one_more f [] v takes))
 
 -- ---- rows
-
 -- a list counts no more rows than it has arguments
 pub rows_within : (f : Function) (xs : List Datum) → rows_of (partial f xs) ≤ length xs
 rows_within f [] = omega (arith, no_row f)
@@ -153,12 +146,7 @@ rows_of_both f p q xs ys is is' few =
     omega (arith, rows_within f (xs ++ ys), length-append xs ys)
 
 -- ---- the values of a list
-
 pub takes_at : (f : Function) (values : List Value) (i : ℕ) (default : Value) → i < length values → All (Takes f) (row_of values) → Takes f (datum_of (slice_index_or values i default))
 takes_at f [] i default in_range all = absurd (omega arith)
 takes_at f (v ∷ values) zero default in_range all = all 0 (datum_of default) (omega arith)
 takes_at f (v ∷ values) (suc i) default in_range all = takes_at f values i default (omega arith) (λ k d l. all (suc k) d (omega arith))
-
-pub length-row_of : (values : List Value) → length (row_of values) ≡ length values
-length-row_of [] = refl
-length-row_of (v ∷ values) = ap suc (length-row_of values)

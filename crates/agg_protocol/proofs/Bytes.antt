@@ -8,9 +8,10 @@ use mir.ValLaws.{of_z_fits}
 use borrow.Rule.Slice.PartMut.{put_mid, post_of}
 use Rattle.std.specs.Int.{w64, w128, cast_unsigned, cast_signed, byte_at, bytes_high_first}
 use Rattle.byteorder.specs.Endian.{big_from}
-use Rattle.byteorder.specs.Numbers.{big_from-cons, big_from-take, big_from-lt, big_number-reads_back, length-bytes_high_first}
+use Rattle.byteorder.specs.Numbers.{big_from-cons, big_from-take, big_from-lt, length-bytes_high_first}
 use Rattle.grouping_model.specs.Aggregates.{Partial, Counted, Summed, Number, Truth_value}
 use Rattle.agg_protocol.specs.States.{Denotes, IsTotal, A_sum, A_number, bytes_of, most_rows}
+use Rattle.agg_protocol.specs.ByteLaws.{reads}
 
 -- two lists of bytes of one length with one number are equal
 pub same_bytes : (n : ℕ) (xs ys : List ℕ) → ((i : ℕ) → slice_index xs i < 256) → ((i : ℕ) → slice_index ys i < 256) → length xs ≡ n → length ys ≡ n → big_from 0 n xs ≡ big_from 0 n ys → xs ≡ ys
@@ -57,10 +58,6 @@ take_below (suc k) (b ∷ bytes) fits (suc i) = take_below k bytes (λ j. fits (
 pub sliced : (k : ℕ) (bytes : List ℕ) → take (length bytes - k) (drop k bytes) ≡ drop k bytes
 sliced k bytes = take_all (length bytes - k) (drop k bytes) (omega (arith, length-drop k bytes))
 
--- the number that some bytes spell
-pub reads : (n x : ℕ) (bytes rest : List ℕ) → x < 256 ^ n → bytes ≡ bytes_high_first n x ++ rest → big_from 0 n bytes ≡ x
-reads n x bytes rest h e = ap (big_from 0 n) e ∙ big_number-reads_back n x rest h
-
 pub reads_all : (n x : ℕ) (bytes : List ℕ) → x < 256 ^ n → bytes ≡ bytes_high_first n x → big_from 0 n bytes ≡ x
 reads_all n x bytes h e = reads n x bytes [] h (e ∙ sym (append-nil (bytes_high_first n x)))
 
@@ -71,9 +68,7 @@ own_bytes n xs fits l =
     (sym (reads_all n (big_from 0 n xs) (bytes_high_first n (big_from 0 n xs)) (big_from-lt 0 n xs fits) refl))
 
 -- ---- counts
-
 -- ---- totals
-
 pub total_fits : (n : ℕ) (z : ℤ) → n ≤ most_rows → IsTotal n z → FitsSigned w128 z
 total_fits n (pos k) few t = let high = t.1 in record { sfits = omega (arith, ints) }
 total_fits n (negsuc k) few t = let low = t.0 in record { sfits = omega (arith, ints) }
@@ -112,7 +107,6 @@ total_made bytes n m z fits l count number total few bounds =
     ((few, bounds), sym (take-append-drop 8 bytes) ∙ (λ j. front j ++ back j))
 
 -- ---- numbers that may be absent
-
 -- the first byte, and the others
 parted : (bytes : List ℕ) → 1 ≤ length bytes → bytes ≡ slice_index bytes 0 ∷ drop 1 bytes
 parted [] l = absurd (omega arith)
@@ -128,7 +122,6 @@ number_made m bytes n z fits l one number value =
     (subst (λ y. FitsSigned w64 y) (sym value) (sfits_to_z {w = w64} (record { fits = wide })), parted bytes (omega arith) ∙ (λ j. one j ∷ back j))
 
 -- ---- truth values that may be absent
-
 -- the bytes of a number that is there, as they are written
 pub number_written : (bytes back : List ℕ) (z : ℤ) → length bytes ≡ 9 → back ≡ bytes_high_first 8 (cast_unsigned w64 z) ++ drop 8 (take (length (slice_set bytes 0 1) - 1) (drop 1 (slice_set bytes 0 1))) → put_mid 1 (length (slice_set bytes 0 1) - 1) (slice_set bytes 0 1) back ≡ bytes_of (Number (Some z))
 number_written [] back z l e = absurd (omega arith)

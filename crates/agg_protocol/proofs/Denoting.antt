@@ -1,15 +1,15 @@
 -- What it means that bytes denote a partial result.
-use Rattle.std.proofs.Common.{◌≡◌, refl, ℕ, ◌+◌, ◌≤◌, ◌<◌, ◌^◌, List, [], ◌∷◌, length, drop, slice_index, sym, ap, subst, ◌∙◌, arith, Some, None, true, false, ℤ, FitsSigned}
+use Rattle.std.proofs.Common.{◌≡◌, refl, ℕ, ◌+◌, ◌≤◌, ◌<◌, ◌^◌, List, [], ◌∷◌, drop, slice_index, sym, ap, subst, ◌∙◌, arith, Some, None, true, false, ℤ, FitsSigned}
 use Rattle.std.proofs.lemmas.Int.{to_z-of_z}
 use mir.ValLaws.{of_z_fits}
-use Rattle.std.specs.Prelude.{Result, Ok, Err, OnErr}
 use Rattle.std.specs.Int.{w64, w128, cast_unsigned, cast_signed, bytes_high_first}
 use Rattle.byteorder.specs.Endian.{big_from}
 use Rattle.grouping_model.specs.Datum.{Datum, Null, Bigint, Boolean, Text}
 use Rattle.grouping_model.specs.Aggregates.{Function, Count_rows, Partial, Counted, Summed, Number, Truth_value, partial}
 use Rattle.grouping_model.specs.Combining.{combine}
-use Rattle.agg_protocol.specs.States.{Shape, shape_of, width_of, rows_of, most_rows, Denotes, IsState, IsTotal, A_count, A_sum, A_number, A_truth}
-use Rattle.agg_protocol.proofs.Bytes.{reads, reads_all, total_fits}
+use Rattle.agg_protocol.specs.States.{Shape, shape_of, rows_of, most_rows, Denotes, IsState, IsTotal, A_count, A_sum, A_number, A_truth}
+use Rattle.agg_protocol.specs.ByteLaws.{reads}
+use Rattle.agg_protocol.proofs.Bytes.{reads_all, total_fits}
 
 -- what a partial result is made of
 abbrev pub shape_is : Partial → Shape
@@ -17,28 +17,6 @@ shape_is (Counted n) = A_count
 shape_is (Summed n z) = A_sum
 shape_is (Number o) = A_number
 shape_is (Truth_value o) = A_truth
-
--- how long the bytes are
-pub width_known : (m : ℕ) (s : Shape) (bytes : List ℕ) (p : Partial) → Denotes m s bytes p → length bytes ≡ width_of s
-width_known m A_count bytes (Counted n) d = ap length d.1
-width_known m A_count bytes (Summed n z) d = absurd d.0
-width_known m A_count bytes (Number o) d = absurd d.0
-width_known m A_count bytes (Truth_value o) d = absurd d.0
-width_known m A_sum bytes (Counted n) d = absurd d.0
-width_known m A_sum bytes (Summed n z) d = ap length d.1
-width_known m A_sum bytes (Number o) d = absurd d.0
-width_known m A_sum bytes (Truth_value o) d = absurd d.0
-width_known m A_number bytes (Counted n) d = absurd d.0
-width_known m A_number bytes (Summed n z) d = absurd d.0
-width_known m A_number bytes (Number None) d = ap length d.1
-width_known m A_number bytes (Number (Some z)) d = ap length d.1
-width_known m A_number bytes (Truth_value o) d = absurd d.0
-width_known m A_truth bytes (Counted n) d = absurd d.0
-width_known m A_truth bytes (Summed n z) d = absurd d.0
-width_known m A_truth bytes (Number o) d = absurd d.0
-width_known m A_truth bytes (Truth_value None) d = ap length d.1
-width_known m A_truth bytes (Truth_value (Some true)) d = ap length d.1
-width_known m A_truth bytes (Truth_value (Some false)) d = ap length d.1
 
 -- the shape of a partial result that is denoted
 pub shape_known : (m : ℕ) (s : Shape) (p : Partial) → IsState m s p → shape_is p ≡ s
@@ -58,26 +36,6 @@ shape_known m A_truth (Counted n) k = absurd k
 shape_known m A_truth (Summed n z) k = absurd k
 shape_known m A_truth (Number o) k = absurd k
 shape_known m A_truth (Truth_value o) k = refl
-
--- the same state with another bound on its rows
-pub within : (m most : ℕ) (s : Shape) (p : Partial) → IsState m s p → rows_of p ≤ most → IsState most s p
-within m most A_count (Counted n) k few = few
-within m most A_count (Summed n z) k few = absurd k
-within m most A_count (Number o) k few = absurd k
-within m most A_count (Truth_value o) k few = absurd k
-within m most A_sum (Counted n) k few = absurd k
-within m most A_sum (Summed n z) k few = (few, k.1)
-within m most A_sum (Number o) k few = absurd k
-within m most A_sum (Truth_value o) k few = absurd k
-within m most A_number (Counted n) k few = absurd k
-within m most A_number (Summed n z) k few = absurd k
-within m most A_number (Number None) k few = k
-within m most A_number (Number (Some z)) k few = k
-within m most A_number (Truth_value o) k few = absurd k
-within m most A_truth (Counted n) k few = absurd k
-within m most A_truth (Summed n z) k few = absurd k
-within m most A_truth (Number o) k few = absurd k
-within m most A_truth (Truth_value o) k few = k
 
 -- rows add up
 pub rows_add : (f : Function) (p q : Partial) → shape_is p ≡ shape_is q → rows_of (combine f p q) ≡ rows_of p + rows_of q
@@ -176,11 +134,6 @@ once m A_truth bytes (Truth_value (Some false)) (Truth_value (Some true)) small 
 once m A_truth bytes (Truth_value (Some true)) (Truth_value None) small d e = let clash : ◌≡◌ {A = ℕ} 2 0 = ap (λ b. slice_index b 0) (sym d.1 ∙ e.1) in absurd (omega arith)
 once m A_truth bytes (Truth_value (Some true)) (Truth_value (Some false)) small d e = let clash : ◌≡◌ {A = ℕ} 2 1 = ap (λ b. slice_index b 0) (sym d.1 ∙ e.1) in absurd (omega arith)
 once m A_truth bytes (Truth_value (Some true)) (Truth_value (Some true)) small d e = refl
-
--- what holds anyway holds on an error
-pub on_err : {X E : Type 0} (r : Result X E) {P : Type 0} → P → OnErr r P
-on_err (Ok x) h = tt
-on_err (Err e) h = h
 
 -- too many rows of the two that are denoted are too many of any
 pub too_many : (f : Function) (m : ℕ) (s : Shape) (a b : List ℕ) (x y : Partial) → m ≤ most_rows → Denotes m s a x → Denotes m s b y → m < rows_of (combine f x y) → (p q : Partial) → Denotes m s a p → Denotes m s b q → m < rows_of (combine f p q)

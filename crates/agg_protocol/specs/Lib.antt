@@ -2,3 +2,6 @@ pub mod Signatures
 pub mod Arguments
 pub mod States
 pub mod Results
+pub mod ArgumentLaws
+pub mod ByteLaws
+pub mod DenotingLaws

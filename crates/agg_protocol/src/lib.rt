@@ -164,7 +164,7 @@ pub fn moving()
 
 /// Bytes denote at most one partial result of a shape, and have its width. So `deserialize` undoes `serialize`, and no
 /// other bytes are read as that state.
-#[tactic(auto, using(crate::proofs::Denoting::width_known))]
+#[tactic(auto, using(crate::specs::DenotingLaws::width_known))]
 pub fn spelling()
     ensures one { (most : ℕ) (shape : Shape) (bytes : List ℕ) (p q : Partial) → most ≤ most_rows →
         Denotes most shape bytes p → Denotes most shape bytes q → p ≡ q }

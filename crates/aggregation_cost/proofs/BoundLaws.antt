@@ -4,10 +4,11 @@ use Rattle.std.specs.List.{AllByRecursion, sum_by, range_with_len}
 use Rattle.std.proofs.Common.{arith}
 use Rattle.std.proofs.Math.Nat.{suc-mul}
 use Rattle.std.proofs.lemmas.List.Sums.{sum_by-cons}
+use Rattle.list_laws.specs.Each.{each_weaker}
 use Rattle.aggregation_cost.specs.Cost.{cost}
 use Rattle.aggregation_cost.specs.Passes.{Record, Pass, is_empty, is_one_of, list_of, on_list, one_deeper, taken_from, spilled_by, left_by, down_to, passes}
 use Rattle.aggregation_cost.specs.Space.{Setting}
-use Rattle.aggregation_cost.proofs.Lists.{each_gives, each_of_flat_map}
+use Rattle.aggregation_cost.specs.ListLaws.{each_of_flat_map}
 use Rattle.aggregation_cost.proofs.PassLaws.{filter_short}
 
 -- passes over so many records at most
@@ -38,7 +39,7 @@ down_short zero setting most pass low = (low, tt)
 down_short (suc n) setting most pass low = (
   low,
   each_of_flat_map (down_to n setting) (λ (pass : Pass). length pass.records ≤ most) (left_by setting pass)
-      (each_gives (λ (pass : Pass). length pass.records ≤ most) (λ pass. AreShort most (down_to n setting pass)) (down_short n setting most) (left_by setting pass) (left_short setting most pass low)),
+      (each_weaker (λ (pass : Pass). length pass.records ≤ most) (λ pass. AreShort most (down_to n setting pass)) (down_short n setting most) (left_by setting pass) (left_short setting most pass low)),
 )
 
 some_spilled : (setting : Setting) (most : ℕ) (some : List Pass) → AreShort most some → sum_by (λ pass. length (spilled_by setting pass)) some ≤ length some * most

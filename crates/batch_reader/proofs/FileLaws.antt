@@ -1,5 +1,5 @@
 -- The head of a batch file, and the records after it.
-use Rattle.std.proofs.Common.{◌≡◌, ◌≢◌, ℕ, List, [], ◌∷◌, length, get_or, take, drop, Option, Some, None, is_some, false, true, MatchOption, option_map, refl, sym, ap, subst, arith, ◌∙◌}
+use Rattle.std.proofs.Common.{◌≡◌, ◌≢◌, ℕ, List, [], ◌∷◌, length, get_or, take, drop, Option, Some, None, is_some, true, MatchOption, option_map, refl, sym, ap, subst, arith, ◌∙◌}
 use Rattle.std.proofs.lemmas.List.{length-drop, take_all}
 use Rattle.std.proofs.lemmas.Bool.{false≢true}
 use Rattle.csv.specs.Records.{fields_of}
@@ -44,10 +44,6 @@ pub all_taken : (records : List Record) (told : ℕ) → drop told records ≡ [
 all_taken records told h =
     let left = length-drop told records in
     take_all told records (omega (arith, left, ap length h))
-
-pub no_value : {X : Type 0} (o : Option X) → is_some o ≡ false → o ≡ None
-no_value None h = refl
-no_value (Some x) h = absurd (false≢true (sym h))
 
 -- what a file tells, of which the first record is a head
 pub file_of : (records rest : List Record) (first : Record) (head : FileHead) → records ≡ first ∷ rest → Some head ≡ file_head first

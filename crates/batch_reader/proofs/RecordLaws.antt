@@ -2,22 +2,19 @@
 use Rattle.std.specs.Prelude.{◌≡◌, ◌≢◌, ℕ, suc, ◌+◌, ◌<◌, ◌≤◌, List, [], ◌∷◌, ◌++◌, drop, take, length, slice_index_or, Option, Some, None, is_some, false, true, MatchOption, Result, Ok, Err, IfErr, OnOk}
 use Rattle.std.proofs.Common.{refl, sym, ◌∙◌, ap, subst, add-zero, arith}
 use Rattle.std.proofs.lemmas.List.{map-append, take_more, take_all, drop_all, drop-drop, length-drop, length-map, length-take, get_or-drop, get_or-map, get_or-take}
-use Rattle.std.specs.List.{AllByRecursion}
 use Rattle.std.specs.Result.{result_err}
 use Rattle.std.proofs.lemmas.Bool.{false≢true}
-use Rattle.std.proofs.lemmas.List.Elements.{All-from_recursion}
 use Rattle.csv.specs.Records.{fields_of}
 use Rattle.csv.specs.declared.record.ByteRecord.{ByteRecord}
-use Rattle.grouping_model.specs.Datum.{Datum, Kind, Row, HasKinds, Bigint_kind}
+use Rattle.grouping_model.specs.Datum.{Datum, Kind, Row, Bigint_kind}
 use Rattle.grouping_model.specs.declared.limits.TheConstants.{MOST_ROWS}
-use Rattle.packed_rows.proofs.FieldLaws.{read_kinds}
 use Rattle.packed_rows.proofs.RowLaws.{PackedSoFar, packed_all, packed_more}
 use Rattle.packed_rows.specs.Field.{IsBadField, Reads, ReadsRow}
 use Rattle.packed_rows.specs.Packing.{packing, value_packing}
 use Rattle.packed_rows.specs.View.{kind_of, kinds_of}
 use Rattle.packed_rows.specs.declared.value.ValueKind.{ValueKind}
 use Rattle.packed_rows.specs.declared.value.ValueKind.TheVariants as kind
-use Rattle.batch_reader.specs.Rows.{ArePackedRows, ReadsRows, packings, records_of}
+use Rattle.batch_reader.specs.Rows.{ReadsRows, packings, records_of}
 use Rattle.batch_reader.specs.Refusal.{BuildFault, HeadReads, RecordFault, RowsFault}
 use Rattle.batch_reader.specs.declared.error.BatchError.{BatchError}
 use Rattle.batch_reader.specs.declared.error.BatchError.TheVariants.{NoMemory, WrongWidth, BadField}
@@ -152,15 +149,3 @@ pub kept_built : (kinds : List Kind) (origin number : List ℕ) (told : ℕ) (re
     → KeptSoFar kinds records i fault bytes → BuildFault kinds origin number told records why
 kept_built kinds origin number told records i fault bytes why head few long is kept =
     fault_built kinds origin number told records why head few long (subst (λ f. KeptSoFar kinds records i f bytes) is kept)
-
--- the rows that records stand for have the kinds of the columns
-rows_of_kinds : (kinds : List Kind) (records : List (List (List ℕ))) (rows : List Row) → ReadsRows kinds records rows → AllByRecursion (HasKinds kinds) rows
-rows_of_kinds kinds [] [] reads = tt
-rows_of_kinds kinds [] (row ∷ rows) reads = absurd reads
-rows_of_kinds kinds (fields ∷ records) [] reads = absurd reads
-rows_of_kinds kinds (fields ∷ records) (row ∷ rows) (first, reads) = (read_kinds kinds fields row first, rows_of_kinds kinds records rows reads)
-
--- and their packings are the packed rows of a batch, where they are few enough
-pub built_rows : (kinds : List Kind) (records : List (List (List ℕ))) (rows : List Row) (packed : List (List ℕ)) → ReadsRows kinds records rows → packed ≡ packings rows → length packed ≤ MOST_ROWS → ArePackedRows kinds packed
-built_rows kinds records rows packed reads is few =
-    record { few = few; rows = rows; of_kinds = All-from_recursion (HasKinds kinds) rows (rows_of_kinds kinds records rows reads); packings_are = is }

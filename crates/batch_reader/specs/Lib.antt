@@ -3,3 +3,4 @@ pub mod Rows
 pub mod Refusal
 pub mod File
 pub mod Views
+pub mod RecordLaws

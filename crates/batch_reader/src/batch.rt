@@ -12,8 +12,7 @@ use crate::error::BatchError;
 use crate::head::checked_head;
 use crate::rows::{pack_next, pack_records};
 use csv::ByteRecord;
-use flat_rows::PackedRows;
-use packed_rows::Schema;
+use packed_rows::{PackedRows, Schema};
 use script_io::Records;
 use std::alloc::{AllocError, Global};
 

@@ -16,8 +16,7 @@ use crate::error::BatchError;
 use crate::head::checked_head;
 use crate::rows::pack_next;
 use csv::ByteRecord;
-use flat_rows::PackedRows;
-use packed_rows::Schema;
+use packed_rows::{PackedRows, Schema};
 use script_io::{Records, field, read_row_count};
 use std::alloc::Global;
 

@@ -10,4 +10,4 @@ mod rows;
 pub use batch::{Batch, build_batch, read_rows};
 pub use error::BatchError;
 pub use file::read_batch;
-pub use flat_rows::PackedRows;
+pub use packed_rows::PackedRows;

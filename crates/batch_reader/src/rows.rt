@@ -12,8 +12,7 @@ ghost use Rattle.batch_reader.specs.Refusal.{BuildFault, HeadReads, RecordFault,
 
 use crate::error::BatchError;
 use csv::ByteRecord;
-use flat_rows::PackedRows;
-use packed_rows::{Schema, pack_value, read_value};
+use packed_rows::{PackedRows, Schema, pack_value, read_value};
 use script_io::{Records, field};
 use std::alloc::{AllocError, Global};
 

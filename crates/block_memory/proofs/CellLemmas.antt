@@ -1,26 +1,18 @@
 -- Laws of `Holds`, `IsWritten` and `with_bytes`, for whoever keeps track of what stands in a block.
-use Rattle.std.proofs.Common.{◌≡◌, ℕ, suc, ◌+◌, ◌-◌, ◌^◌, ◌<◌, ◌≤◌, ◌&&◌, ◌⊎◌, inl, inr, List, [], ◌∷◌, ◌++◌, Option, Some, None, length}
-use Rattle.std.proofs.Common.{take, drop, map, replicate, get_or, set, refl, sym, ap, ◌∙◌, subst, arith}
+use Rattle.std.proofs.Common.{◌≡◌, ℕ, suc, ◌+◌, ◌-◌, ◌^◌, ◌<◌, ◌≤◌, ◌&&◌, ◌⊎◌, inl, inr, List, [], ◌∷◌, ◌++◌, Option, Some, None, length, take, drop, map, replicate, get_or, set, refl, sym, ap, ◌∙◌, subst, arith}
 use Rattle.std.specs.Prelude.{IsTrue, is_some, unwrap_or}
 use Rattle.std.specs.List.{list_all, splice}
 use Rattle.std.proofs.lemmas.Bool.{false≢true, cases_lt}
-use Rattle.std.proofs.lemmas.List.{append_assoc, map-append, take-append-drop, length-take, length-take-le, length-append, length-replicate}
-use Rattle.std.proofs.lemmas.List.{length-map, length-drop, drop-drop, take_at, drop_at, get_or-take, get_or-drop, get_or-map}
-use Rattle.std.proofs.lemmas.List.{get_or_append_left, get_or-append_right, ext_get_or, same_lists, get_or_default, take_all, take_more}
-use Rattle.std.proofs.lemmas.List.{replicate_more, set_split, drop_more, drop_all}
+use Rattle.std.proofs.lemmas.List.{append_assoc, map-append, take-append-drop, length-take, length-take-le, length-append, length-replicate, length-map, length-drop, drop-drop, take_at, drop_at, get_or-take, get_or-drop, get_or-map, get_or_append_left, get_or-append_right, ext_get_or, same_lists, get_or_default, take_all, take_more, replicate_more, set_split, drop_more, drop_all}
 use Rattle.std.proofs.lemmas.Nat.{from_be_bytes-to_be_bytes_8, be_bytes_8}
 use Rattle.std.specs.Int.{w64, from_be_bytes}
-use Rattle.block_memory.specs.Cells.{Cells, IsWritten, Holds, blank_cells, with_bytes, zeros}
+use Rattle.block_memory.specs.Cells.{Cells, IsWritten, Holds, blank_cells, with_bytes}
 use Rattle.block_memory.specs.Words.{word_bytes}
 
 -- ---- the lists that do not unfold
 pub length-blank_cells : (n : ℕ) → length (blank_cells n) ≡ n
 unfolding blank_cells
 length-blank_cells n = length-replicate n None
-
-pub length-zeros : (n : ℕ) → length (zeros n) ≡ n
-unfolding zeros
-length-zeros n = length-replicate n 0
 
 -- ---- a list of which n elements from `at` on are replaced by as many
 module _ {X : Type 0} (xs : List X) (at n : ℕ) (ys : List X) (long : length ys ≡ n) (room : at + n ≤ length xs) where

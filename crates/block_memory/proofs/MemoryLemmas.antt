@@ -1,6 +1,5 @@
 -- The memory of a block, cut into parts and put together again. Assumes `Logic`.
-use Rattle.std.proofs.Common.{◌≡◌, ℕ, zero, suc, ◌+◌, ◌*◌, ◌^◌, ◌<◌, ◌≤◌, List, [], ◌∷◌, ◌++◌, Option, Some, None, length, take, drop, map}
-use Rattle.std.proofs.Common.{replicate, get_or, set, refl, sym, ap, ◌∙◌, arith, w8, drop-cons}
+use Rattle.std.proofs.Common.{◌≡◌, ℕ, zero, suc, ◌+◌, ◌*◌, ◌^◌, ◌<◌, ◌≤◌, List, [], ◌∷◌, ◌++◌, Option, Some, None, length, take, drop, map, replicate, get_or, set, refl, sym, ap, ◌∙◌, arith, w8, drop-cons}
 use Rattle.std.proofs.lemmas.List.{take-append-drop, length-take-le, length-map, set_split}
 use seplogic.Ra.Ura.{Ura}
 use base.Fraction.{full_share}

@@ -4,3 +4,4 @@ pub mod Fields
 pub mod Lends
 pub mod Ownership
 pub mod Words
+pub mod CellLaws

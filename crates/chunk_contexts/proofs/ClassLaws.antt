@@ -1,11 +1,8 @@
 -- Classes and their rooms.
-use Rattle.std.proofs.Common.{◌≡◌, ℕ, ◌<◌, ◌≤◌, get_or, inl, inr, sym, arith}
-use Rattle.std.specs.Prelude.{nat_le}
-use Rattle.std.proofs.lemmas.Bool.{le-leb, lt-leb}
+use Rattle.std.proofs.Common.{◌≡◌, ℕ, ◌<◌, ◌≤◌, get_or, inl, inr, sym, arith, true, List, [], ◌∷◌, suc, length, ap, ◌∙◌, refl}
+use Rattle.std.specs.Prelude.{nat_le, ◌==◌, ◌-◌}
+use Rattle.std.proofs.lemmas.Bool.{le-leb, lt-leb, agree_below_at, leb-true, eqb-true, cases_Bool, cond-false, false≢true}
 use Rattle.std.proofs.lemmas.List.Sums.{position_or_len_is}
-use Rattle.std.proofs.Common.{true, List, [], ◌∷◌, suc, length, ap, ◌∙◌, refl}
-use Rattle.std.specs.Prelude.{◌==◌, ◌-◌}
-use Rattle.std.proofs.lemmas.Bool.{agree_below_at, leb-true, eqb-true, cases_Bool, cond-false, false≢true}
 use Rattle.chunk_contexts.specs.Rooms.{rooms, rooms_down, class_of, room_of}
 use Rattle.chunk_contexts.specs.Free.{is_in}
 

@@ -7,9 +7,9 @@ use Rattle.std.proofs.Math.Seq.{take-append_seam}
 use Rattle.chunk_layout.specs.Pieces.{Piece, same_place, is_at, place_of, has, piece_at, without, rewritten, with_bytes_of, AreApart, IsInside, AreLaid}
 use Rattle.chunk_layout.specs.declared.place.Place.{Place}
 use Rattle.chunk_layout.specs.declared.place.ChunkName.{ChunkName}
-use Rattle.chunk_layout.proofs.Lists.{every_filter, pairwise_filter}
-use Rattle.chunk_layout.proofs.Finding.{same-place, place-same}
-use Rattle.chunk_layout.proofs.PieceLaws.{other-place, has-first, piece_at-first, has-later, piece_at-later, has-without, piece_at-without}
+use Rattle.chunk_layout.specs.ListLaws.{every_filter, pairwise_filter}
+use Rattle.chunk_layout.specs.FindingLaws.{same-place, place-same}
+use Rattle.chunk_layout.specs.PieceLaws.{other-place, has-first, piece_at-first, has-later, piece_at-later, has-without, piece_at-without}
 use Rattle.chunk_contexts.specs.Chunks.{live, is_live, bytes_of, chunk_of, Adds, Keeps, KeepsOthers, IsResized}
 
 -- ---- what a live name says

@@ -5,8 +5,8 @@ use Rattle.std.proofs.lemmas.Bool.{cases_eq, leb-true, false_from_ne_true}
 use Rattle.chunk_layout.specs.Every.{Every, Pairwise}
 use Rattle.chunk_layout.specs.Pieces.{Layout, Piece, is_at, has, size_at, IsClear}
 use Rattle.chunk_layout.specs.declared.place.Place.{Place}
-use Rattle.chunk_layout.proofs.Lists.{by_cond, every_weaker, every_both}
-use Rattle.chunk_layout.proofs.Finding.{same-place}
+use Rattle.chunk_layout.specs.ListLaws.{by_cond, every_weaker, every_both}
+use Rattle.chunk_layout.specs.FindingLaws.{same-place}
 use Rattle.chunk_contexts.specs.declared.active.Active.{Active}
 use Rattle.chunk_contexts.specs.Chunks.{live}
 use Rattle.chunk_contexts.specs.Rooms.{rooms, rooms_down}

@@ -3,12 +3,13 @@ use Rattle.std.proofs.Common.{◌≡◌, ◌≢◌, ℕ, inl, inr, Bool, true, f
 use Rattle.std.specs.Prelude.{◌&&◌, ◌==◌, is_some}
 use Rattle.std.specs.List.{filter}
 use Rattle.std.proofs.lemmas.Bool.{cases_Bool, cond-true, cond-false, not_from_false, not-true, true≢false, false≢true, and_parts, and_from, or_parts, eqb-true, eq-eqb, ne_eqb}
+use Rattle.std.proofs.lemmas.Option.{same_Some}
 use Rattle.chunk_layout.specs.Every.{Every, Pairwise}
 use Rattle.chunk_layout.specs.Pieces.{Piece, same_place, is_at, has, piece_at, no_piece, without, outside}
 use Rattle.chunk_layout.specs.declared.place.Place.{Place}
-use Rattle.chunk_layout.proofs.Lists.{every_weaker, every_passes, first_has, first_passes}
-use Rattle.chunk_layout.proofs.Finding.{same-place, place-same}
-use Rattle.chunk_layout.proofs.PieceLaws.{same_place-sym, has-first, piece_at-first, without-first, has-later, piece_at-later, without-later, without-none}
+use Rattle.chunk_layout.specs.ListLaws.{every_weaker, every_passes, first_has, first_passes}
+use Rattle.chunk_layout.specs.FindingLaws.{same-place, place-same}
+use Rattle.chunk_layout.specs.PieceLaws.{same_place-sym, has-first, piece_at-first, without-first, has-later, piece_at-later, without-later, without-none}
 use Rattle.chunk_contexts.specs.Chunks.{live}
 use Rattle.chunk_contexts.specs.Free.{by_room, is_free, free_rooms, first_free, is_in, minus, Linked, Elsewhere}
 use Rattle.chunk_layout.specs.Links.{link_bytes}
@@ -180,9 +181,6 @@ pub record Popped (key : Place → ℕ → ℕ) (ps : List Piece) (place : Place
   pub linked : Linked key (without ps place)
   pub lives : live (without ps place) ≡ live ps
 
-some-inj : (p q : Place) → Some p ≡ Some q → p ≡ q
-some-inj p q e = cc
-
 pub popped : (key : Place → ℕ → ℕ) (k : ℕ) (ps : List Piece) (place : Place) → Pairwise Elsewhere ps → Linked key ps → first_free key k ps ≡ Some place → Popped key ps place k
 popped key k [] place places linked first = absurd (cc)
 popped key k (p ∷ ps) place places linked first = elim (cases_Bool (is_free key k p)) [
@@ -190,7 +188,7 @@ popped key k (p ∷ ps) place places linked first = elim (cases_Bool (is_free ke
       let parts = and_parts (not p.is_live) (key p.place p.room == k) free in
       let dead : p.is_live ≡ false = not-true p.is_live parts.0 in
       let listed : key p.place p.room ≡ k = eqb-true (key p.place p.room) k parts.1 in
-      let is : p.place ≡ place = some-inj p.place place (sym (cond-true (is_free key k p) (Some p.place) (first_free key k ps) free) ∙ first) in
+      let is : p.place ≡ place = same_Some p.place place (sym (cond-true (is_free key k p) (Some p.place) (first_free key k ps) free) ∙ first) in
       let here : is_at place p ≡ true = ap (λ (q : Place). same_place p.place q) (sym is) ∙ place-same p.place in
       let none : has ps place ≡ false = subst (λ (q : Place). has ps q ≡ false) is (elsewhere-none p ps places.0) in
       let rest : without (p ∷ ps) place ≡ ps = without-first p ps place here ∙ without-none ps place none in
@@ -230,7 +228,7 @@ rooms-popped room (p ∷ ps) place places linked first = elim (cases_Bool (is_fr
   | inl free ↦
       let parts = and_parts (not p.is_live) (p.room == room) free in
       let dead : p.is_live ≡ false = not-true p.is_live parts.0 in
-      let is : p.place ≡ place = some-inj p.place place (sym (cond-true (is_free by_room room p) (Some p.place) (first_free by_room room ps) free) ∙ first) in
+      let is : p.place ≡ place = same_Some p.place place (sym (cond-true (is_free by_room room p) (Some p.place) (first_free by_room room ps) free) ∙ first) in
       let here : is_at place p ≡ true = ap (λ (q : Place). same_place p.place q) (sym is) ∙ place-same p.place in
       let none : has ps place ≡ false = subst (λ (q : Place). has ps q ≡ false) is (elsewhere-none p ps places.0) in
       ap free_rooms (without-first p ps place here ∙ without-none ps place none)

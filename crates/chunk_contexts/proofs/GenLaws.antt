@@ -6,10 +6,10 @@ use Rattle.std.proofs.lemmas.List.{get_or-set_same, get_or-set_other, length-set
 use Rattle.chunk_layout.specs.Every.{Every, Pairwise}
 use Rattle.chunk_layout.specs.Pieces.{Piece, is_at, has, without, outside}
 use Rattle.chunk_layout.specs.declared.place.Place.{Place}
-use Rattle.chunk_layout.proofs.Lists.{every_weaker}
-use Rattle.chunk_layout.proofs.Finding.{same-place}
-use Rattle.chunk_layout.proofs.Numbers.{length-with_block}
-use Rattle.chunk_layout.proofs.PieceLaws.{same_place-sym, without-first, without-later, without-none, has-later}
+use Rattle.chunk_layout.specs.ListLaws.{every_weaker}
+use Rattle.chunk_layout.specs.FindingLaws.{same-place}
+use Rattle.chunk_layout.specs.NumberLaws.{length-with_block}
+use Rattle.chunk_layout.specs.PieceLaws.{same_place-sym, without-first, without-later, without-none, has-later}
 use Rattle.chunk_contexts.specs.declared.runs.Runs.{Runs}
 use Rattle.chunk_contexts.specs.Free.{Elsewhere}
 use Rattle.chunk_contexts.specs.Run.{RunState, run_of, run_taken_by, run_growth_by, IsRun}

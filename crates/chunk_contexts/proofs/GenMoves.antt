@@ -1,17 +1,15 @@
 -- A `Generation` after a chunk is written or given up.
 use Rattle.std.proofs.Common.{◌≡◌, ◌≢◌, ℕ, ◌+◌, ◌-◌, ◌<◌, ◌≤◌, inl, inr, Bool, true, false, List, [], ◌∷◌, ◌++◌, Option, None, length, get_or, set, take, cond, refl, sym, ap, ◌∙◌, subst, arith}
 use Rattle.std.specs.Prelude.{IsTrue, is_some, unwrap_or, ◌==◌}
-use Rattle.std.proofs.lemmas.Bool.{cases_Bool, cases_eq, cases_lt, cond-true, cond-false, eq-eqb, ne_eqb}
+use Rattle.std.proofs.lemmas.Bool.{cases_Bool, cases_eq, cases_lt, cond-true, cond-false, eq-eqb, ne_eqb, false≢true}
 use Rattle.std.proofs.lemmas.List.{get_or-set_same, get_or-set_other, length-set, get_or_past}
 use Rattle.chunk_layout.specs.Every.{Every, Pairwise}
-use Rattle.chunk_layout.specs.Pieces.{Layout, Piece, is_at, has, piece_at, without, outside, put_at, rewritten, with_bytes_of, total}
+use Rattle.chunk_layout.specs.Pieces.{Layout, Piece, is_at, has, piece_at, without, outside, put_at, rewritten, with_bytes_of, total, no_piece}
 use Rattle.chunk_layout.specs.Lends.{layout_with}
 use Rattle.chunk_layout.specs.declared.place.Place.{Place}
-use Rattle.chunk_layout.specs.Pieces.{no_piece}
-use Rattle.chunk_layout.proofs.Numbers.{total-set_none}
-use Rattle.chunk_layout.proofs.Finding.{same-place}
-use Rattle.std.proofs.lemmas.Bool.{false≢true}
-use Rattle.chunk_layout.proofs.Lists.{first_has, first_passes, every_filter, every_weaker, every_both, pairwise_filter}
+use Rattle.chunk_layout.specs.NumberLaws.{total-set_none}
+use Rattle.chunk_layout.specs.FindingLaws.{same-place}
+use Rattle.chunk_layout.specs.ListLaws.{first_has, first_passes, every_filter, every_weaker, every_both, pairwise_filter}
 use Rattle.chunk_contexts.specs.declared.active.Active.{Active}
 use Rattle.chunk_contexts.specs.declared.runs.Runs.{Runs}
 use Rattle.chunk_contexts.specs.Free.{Elsewhere, IsRest}

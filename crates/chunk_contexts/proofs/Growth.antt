@@ -1,26 +1,17 @@
 -- What a context takes of blocks, and why it refuses a request.
 use Rattle.std.proofs.Common.{◌≡◌, ℕ, zero, suc, Bool, List, [], ◌∷◌, length, get_or, cond, set, refl, ◌+◌, ◌<◌, ◌≤◌, false, sym, ap, subst, ◌∙◌, arith}
-use Rattle.std.specs.Prelude.{unwrap_or, replicate, nat_le, nat_lt, is_some, OnErr, Result, Ok, Err}
+use Rattle.std.specs.Prelude.{unwrap_or, replicate, nat_le, nat_lt, is_some, Option, Some, None, true}
 use Rattle.std.proofs.lemmas.Bool.{le-leb, lt-leb, le-ltb, cond-false, cond-true}
 use Rattle.chunk_layout.specs.Pieces.{total, only}
-use Rattle.chunk_layout.proofs.Numbers.{total-set_none}
+use Rattle.chunk_layout.specs.NumberLaws.{total-set_none}
 use Rattle.chunk_contexts.specs.Rooms.{over_most, room_of, class_of, rounded}
 use Rattle.chunk_contexts.specs.Free.{is_in}
-use Rattle.std.specs.Prelude.{IfOk, Option, Some, None, true}
 use Rattle.chunk_contexts.specs.Chunks.{IsRefused, IsResizeRefused}
 use Rattle.chunk_contexts.specs.declared.error.ContextError.{ContextError}
 use Rattle.chunk_contexts.specs.declared.error.ContextError.TheVariants.{NoMemory}
 use Rattle.chunk_contexts.specs.Run.{RunState, run_growth, run_growth_by}
 use Rattle.chunk_contexts.specs.Set.{SetState, set_growth, growth_by, set_room, block_size}
 use Rattle.chunk_contexts.specs.declared.rooms.TheConstants.{BLOCK, LARGEST, MOST}
-
-pub always_err : {T E P : Type 0} (r : Result T E) → P → OnErr r P
-always_err (Ok x) p = tt
-always_err (Err e) p = p
-
-pub on_err : {T E P Q : Type 0} (r : Result T E) → (P → Q) → OnErr r P → OnErr r Q
-on_err (Ok x) f h = h
-on_err (Err e) f h = f h
 
 -- why a request is refused, and why a chunk is not resized
 pub refused-some : (o : Option ContextError) (growth : ℕ) (e f : ContextError) → o ≡ Some f → e ≡ f → IsRefused o growth e
@@ -88,10 +79,6 @@ total-only blocks None = omega (arith, total-none (length blocks))
 total-only blocks (Some k) = omega (arith, total-one (length blocks) k (get_or blocks k None), size-total blocks k)
 
 -- ---- chunks that lie one after the other
-pub if_ok : {T E : Type 0} {P Q : T → Type 0} (r : Result T E) → ((x : T) → P x → Q x) → IfOk r P → IfOk r Q
-if_ok (Ok x) f h = f x h
-if_ok (Err e) f h = h
-
 module _ (head : ℕ) (s : RunState) (n : ℕ) (low : n ≤ MOST) where
   size : ℕ
   size = head + rounded n

@@ -5,9 +5,9 @@ use Rattle.std.proofs.lemmas.Bool.{cond-true, cond-false, true≢false, eq-eqb, 
 use Rattle.chunk_layout.specs.Every.{Every}
 use Rattle.chunk_layout.specs.Pieces.{Layout, Piece, is_at, has, piece_at, no_piece, without, put_at, with_piece}
 use Rattle.chunk_layout.specs.declared.place.Place.{Place}
-use Rattle.chunk_layout.proofs.Lists.{every_filter, pairwise_filter, first_has, first_passes}
-use Rattle.chunk_layout.proofs.Finding.{same-place}
-use Rattle.chunk_layout.proofs.PieceLaws.{without-none, has_not-without}
+use Rattle.chunk_layout.specs.ListLaws.{every_filter, pairwise_filter, first_has, first_passes}
+use Rattle.chunk_layout.specs.FindingLaws.{same-place}
+use Rattle.chunk_layout.specs.PieceLaws.{without-none, has_not-without}
 use Rattle.chunk_contexts.specs.Chunks.{live}
 use Rattle.chunk_contexts.specs.Free.{is_free, first_free, Linked, Elsewhere, AreLinked}
 use Rattle.chunk_layout.specs.Links.{link_bytes, IsLinkable, IsLink}

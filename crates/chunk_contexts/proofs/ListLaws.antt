@@ -4,7 +4,7 @@ use Rattle.std.proofs.lemmas.Bool.{cases_eq, cond-true}
 use Rattle.std.proofs.lemmas.List.{get_or-set_same, get_or-set_other, length-set}
 use Rattle.chunk_layout.specs.Pieces.{Layout, Piece, has, piece_at, without, put_at, with_piece}
 use Rattle.chunk_layout.specs.declared.place.Place.{Place}
-use Rattle.chunk_layout.proofs.PieceLaws.{without-none}
+use Rattle.chunk_layout.specs.PieceLaws.{without-none}
 use Rattle.chunk_contexts.specs.Chunks.{live}
 use Rattle.chunk_contexts.specs.Rooms.{rooms, room_of, class_of}
 use Rattle.chunk_contexts.specs.Free.{by_room, is_in, minus, free_rooms, first_free, AreLists}

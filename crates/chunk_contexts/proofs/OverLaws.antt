@@ -6,8 +6,8 @@ use Rattle.chunk_layout.specs.Every.{Every, Pairwise}
 use Rattle.chunk_layout.specs.Pieces.{Layout, Piece, same_place, is_at, rewritten, with_bytes_of}
 use Rattle.chunk_layout.specs.Lends.{layout_with}
 use Rattle.chunk_layout.specs.declared.place.Place.{Place}
-use Rattle.chunk_layout.proofs.Lists.{every_map, every_weaker, pairwise_filter, filter_map_same}
-use Rattle.chunk_layout.proofs.Finding.{same-place}
+use Rattle.chunk_layout.specs.ListLaws.{every_map, every_weaker, pairwise_filter, filter_map_same}
+use Rattle.chunk_layout.specs.FindingLaws.{same-place}
 use Rattle.chunk_contexts.specs.declared.active.Active.{Active}
 use Rattle.chunk_contexts.specs.Chunks.{live}
 use Rattle.chunk_contexts.specs.Rooms.{room_of}

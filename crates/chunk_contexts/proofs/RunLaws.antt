@@ -5,9 +5,9 @@ use Rattle.std.proofs.lemmas.Bool.{false≢true}
 use Rattle.chunk_layout.specs.Every.{Every}
 use Rattle.chunk_layout.specs.Pieces.{Layout, Piece, has, with_piece, with_block, size_at, total, IsClear}
 use Rattle.chunk_layout.specs.declared.place.Place.{Place}
-use Rattle.chunk_layout.proofs.Lists.{every_weaker}
-use Rattle.chunk_layout.proofs.Numbers.{with_block-here, with_block-other, total-with_block}
-use Rattle.chunk_layout.proofs.PieceLaws.{without-none}
+use Rattle.chunk_layout.specs.ListLaws.{every_weaker}
+use Rattle.chunk_layout.specs.NumberLaws.{with_block-here, with_block-other, total-with_block}
+use Rattle.chunk_layout.specs.PieceLaws.{without-none}
 use Rattle.chunk_contexts.specs.declared.runs.Runs.{Runs}
 use Rattle.chunk_contexts.specs.Run.{IsRun}
 use Rattle.chunk_contexts.proofs.CutLaws.{none-at}

@@ -6,9 +6,9 @@ use Rattle.chunk_layout.specs.Every.{Every}
 use Rattle.chunk_layout.specs.Pieces.{Layout, Piece, is_at, has, piece_at, no_piece, without, put_at, rewritten, with_bytes_of}
 use Rattle.chunk_layout.specs.Lends.{layout_with}
 use Rattle.chunk_layout.specs.declared.place.Place.{Place}
-use Rattle.chunk_layout.proofs.Lists.{every_filter, first_has, first_passes}
-use Rattle.chunk_layout.proofs.Finding.{same-place, place-same}
-use Rattle.chunk_layout.proofs.PieceLaws.{has-first, piece_at-first, without-first, without-none}
+use Rattle.chunk_layout.specs.ListLaws.{every_filter, first_has, first_passes}
+use Rattle.chunk_layout.specs.FindingLaws.{same-place, place-same}
+use Rattle.chunk_layout.specs.PieceLaws.{has-first, piece_at-first, without-first, without-none}
 use Rattle.chunk_contexts.specs.declared.runs.Runs.{Runs}
 use Rattle.chunk_contexts.specs.Run.{RunState, run_taken, run_taken_by, run_put, IsRun}
 

@@ -7,10 +7,10 @@ use Rattle.std.proofs.lemmas.List.{get_or-set_other}
 use Rattle.chunk_layout.specs.Every.{Every, Pairwise}
 use Rattle.chunk_layout.specs.Pieces.{Layout, Piece, is_at, has, piece_at, no_piece, without, outside, put_at, with_block, size_at}
 use Rattle.chunk_layout.specs.declared.place.Place.{Place}
-use Rattle.chunk_layout.proofs.Lists.{every_passes, every_filter, every_weaker, every_both, pairwise_filter, first_has, first_passes}
-use Rattle.chunk_layout.proofs.Finding.{same-place}
-use Rattle.chunk_layout.proofs.Numbers.{with_block-here, with_block-other}
-use Rattle.chunk_layout.proofs.PieceLaws.{without-none, without-first, without-later}
+use Rattle.chunk_layout.specs.ListLaws.{every_passes, every_filter, every_weaker, every_both, pairwise_filter, first_has, first_passes}
+use Rattle.chunk_layout.specs.FindingLaws.{same-place}
+use Rattle.chunk_layout.specs.NumberLaws.{with_block-here, with_block-other}
+use Rattle.chunk_layout.specs.PieceLaws.{without-none, without-first, without-later}
 use Rattle.chunk_contexts.specs.declared.active.Active.{Active}
 use Rattle.chunk_contexts.specs.Rooms.{rooms, rooms_down, room_of}
 use Rattle.chunk_contexts.specs.Free.{by_room, is_in, first_free, Linked, Elsewhere, AreLists, IsRest, cut_pieces}

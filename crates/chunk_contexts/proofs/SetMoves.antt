@@ -3,12 +3,12 @@ use Rattle.std.proofs.Common.{◌≡◌, ℕ, ◌-◌, inl, inr, Bool, true, fal
 use Rattle.std.proofs.lemmas.Bool.{cases_lt, true≢false, false_from_ne_true}
 use Rattle.std.proofs.lemmas.List.{take_all, length-append, length-take-le}
 use Rattle.block_memory.specs.Cells.{zeros}
-use Rattle.block_memory.proofs.CellLemmas.{length-zeros}
+use Rattle.block_memory.specs.CellLaws.{length-zeros}
 use Rattle.chunk_layout.specs.Pieces.{Piece, same_place, is_at, place_of, has, piece_at, without, resized}
 use Rattle.chunk_layout.specs.declared.place.Place.{Place}
 use Rattle.chunk_layout.specs.declared.place.ChunkName.{ChunkName}
-use Rattle.chunk_layout.proofs.Finding.{same-place, place-same}
-use Rattle.chunk_layout.proofs.PieceLaws.{same_place-sym, has-first, piece_at-first, without-first, has-later, piece_at-later, without-later, without-none, has-without, piece_at-without, has_not-without}
+use Rattle.chunk_layout.specs.FindingLaws.{same-place, place-same}
+use Rattle.chunk_layout.specs.PieceLaws.{same_place-sym, has-first, piece_at-first, without-first, has-later, piece_at-later, without-later, without-none, has-without, piece_at-without, has_not-without}
 use Rattle.chunk_contexts.specs.Chunks.{bytes_of, IsResized}
 use Rattle.chunk_contexts.proofs.Content.{lives-first, apart-places}
 use Rattle.chunk_contexts.specs.Set.{SetState, set_taken, taken_by, set_put}

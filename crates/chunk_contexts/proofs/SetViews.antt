@@ -5,9 +5,9 @@ use Rattle.std.proofs.lemmas.Bool.{lt-ltb, le-ltb, cond-true, cond-false, cases_
 use Rattle.std.proofs.lemmas.List.{get_or_past}
 use Rattle.chunk_layout.specs.Pieces.{Layout, Piece, has, is_at, piece_at, no_piece, without, outside, put_at, total, with_block}
 use Rattle.chunk_layout.specs.declared.place.Place.{Place}
-use Rattle.chunk_layout.proofs.Lists.{first_has, first_passes}
-use Rattle.chunk_layout.proofs.Finding.{same-place}
-use Rattle.chunk_layout.proofs.Numbers.{total-with_block}
+use Rattle.chunk_layout.specs.ListLaws.{first_has, first_passes}
+use Rattle.chunk_layout.specs.FindingLaws.{same-place}
+use Rattle.chunk_layout.specs.NumberLaws.{total-with_block}
 use Rattle.chunk_layout.specs.Every.{Every}
 use Rattle.chunk_contexts.specs.Chunks.{live}
 use Rattle.chunk_contexts.specs.Rooms.{rooms}

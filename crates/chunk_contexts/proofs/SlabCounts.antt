@@ -5,7 +5,7 @@ use Rattle.std.proofs.lemmas.Bool.{cases_Bool, cases_eq, cases_lt, lt-ltb, le-lt
 use Rattle.std.proofs.lemmas.List.{get_or_past}
 use Rattle.chunk_layout.specs.Every.{Every}
 use Rattle.chunk_layout.specs.Pieces.{Piece}
-use Rattle.chunk_layout.proofs.Lists.{every_weaker}
+use Rattle.chunk_layout.specs.ListLaws.{every_weaker}
 use Rattle.chunk_contexts.specs.Generation.{in_block}
 use Rattle.chunk_contexts.specs.Slab.{spare_from, block_count}
 use Rattle.chunk_contexts.proofs.GenLaws.{in-none, in-here, in-other}

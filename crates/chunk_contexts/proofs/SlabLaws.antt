@@ -6,9 +6,9 @@ use Rattle.std.proofs.lemmas.Bool.{cases_Bool, cases_eq, cases_lt, cond-true, co
 use Rattle.chunk_layout.specs.Every.{Every, Pairwise}
 use Rattle.chunk_layout.specs.Pieces.{Layout, Piece, is_at, has, piece_at, no_piece, without, put_at, with_piece, size_at, IsClear}
 use Rattle.chunk_layout.specs.declared.place.Place.{Place}
-use Rattle.chunk_layout.proofs.Lists.{every_weaker, first_has, first_passes}
-use Rattle.chunk_layout.proofs.Finding.{same-place}
-use Rattle.chunk_layout.proofs.PieceLaws.{without-none}
+use Rattle.chunk_layout.specs.ListLaws.{every_weaker, first_has, first_passes}
+use Rattle.chunk_layout.specs.FindingLaws.{same-place}
+use Rattle.chunk_layout.specs.PieceLaws.{without-none}
 use Rattle.chunk_contexts.specs.Chunks.{live}
 use Rattle.chunk_contexts.specs.Rooms.{rounded}
 use Rattle.chunk_contexts.specs.Free.{by_block, is_free, first_free, Elsewhere, AreLinked}

@@ -7,10 +7,10 @@ use Rattle.chunk_layout.specs.Every.{Every, Pairwise}
 use Rattle.chunk_layout.specs.Pieces.{Layout, Piece, is_at, has, piece_at, no_piece, without, outside, put_at, rewritten, size_at, with_block}
 use Rattle.chunk_layout.specs.Lends.{layout_with}
 use Rattle.chunk_layout.specs.declared.place.Place.{Place}
-use Rattle.chunk_layout.proofs.Lists.{every_weaker, every_both, every_filter, every_passes, first_has, first_passes, pairwise_filter}
-use Rattle.chunk_layout.proofs.Finding.{same-place}
-use Rattle.chunk_layout.proofs.Numbers.{with_block-here, with_block-other, length-with_block}
-use Rattle.chunk_layout.proofs.PieceLaws.{without-first, without-later}
+use Rattle.chunk_layout.specs.ListLaws.{every_weaker, every_both, every_filter, every_passes, first_has, first_passes, pairwise_filter}
+use Rattle.chunk_layout.specs.FindingLaws.{same-place}
+use Rattle.chunk_layout.specs.NumberLaws.{with_block-here, with_block-other, length-with_block}
+use Rattle.chunk_layout.specs.PieceLaws.{without-first, without-later}
 use Rattle.chunk_contexts.specs.Chunks.{live}
 use Rattle.chunk_contexts.specs.Rooms.{rounded}
 use Rattle.chunk_contexts.specs.Free.{by_block, is_free, first_free, Linked, Elsewhere, AreLinked}

@@ -4,9 +4,9 @@ use Rattle.std.proofs.lemmas.Bool.{cond-true, cond-false}
 use Rattle.chunk_layout.specs.Pieces.{Layout, Piece, has, piece_at, place_of, without, put_at, total, with_block}
 use Rattle.chunk_layout.specs.declared.place.Place.{Place}
 use Rattle.chunk_layout.specs.declared.place.ChunkName.{ChunkName}
-use Rattle.chunk_layout.proofs.Finding.{place-same}
-use Rattle.chunk_layout.proofs.Numbers.{total-with_block}
-use Rattle.chunk_layout.proofs.PieceLaws.{has-first, without-first, without-none}
+use Rattle.chunk_layout.specs.FindingLaws.{place-same}
+use Rattle.chunk_layout.specs.NumberLaws.{total-with_block}
+use Rattle.chunk_layout.specs.PieceLaws.{has-first, without-first, without-none}
 use Rattle.chunk_contexts.specs.Chunks.{live, chunk_of, Adds}
 use Rattle.chunk_contexts.specs.Rooms.{rounded}
 use Rattle.chunk_contexts.specs.Slab.{SlabState, slab_block, has_spare, slab_grows, slab_taken, slab_of, IsSlab}

@@ -9,8 +9,8 @@ use Rattle.chunk_layout.specs.Every.{Every}
 use Rattle.chunk_layout.specs.Pieces.{Piece, is_at, has, piece_at, no_piece, place_of, resized, rewritten, with_bytes_of}
 use Rattle.chunk_layout.specs.declared.place.Place.{Place}
 use Rattle.chunk_layout.specs.declared.place.ChunkName.{ChunkName}
-use Rattle.chunk_layout.proofs.Lists.{by_cond, first_has, every_filter}
-use Rattle.chunk_layout.proofs.Finding.{place-same}
+use Rattle.chunk_layout.specs.ListLaws.{by_cond, first_has, every_filter}
+use Rattle.chunk_layout.specs.FindingLaws.{place-same}
 use Rattle.chunk_contexts.specs.Chunks.{live, is_live, bytes_of, Adds, IsResized}
 use Rattle.chunk_contexts.specs.Rooms.{rounded}
 use Rattle.chunk_contexts.specs.Slab.{SlabState, slab_refusal, slab_refusal_by, slab_grows, slab_growth, slab_of, AreChunks}

@@ -12,9 +12,9 @@ use Rattle.chunk_layout.specs.Pieces.{Piece, IsClear, without, outside}
 use Rattle.chunk_layout.specs.Spots.{Blocks, cells_of, block_at, poke, headed, read, piece_of, spot_is_at, without_spot, Stands, Apart, IsLayout}
 use Rattle.chunk_layout.specs.declared.place.Place.{Place}
 use Rattle.chunk_layout.specs.declared.place.Spot.{Spot}
-use Rattle.chunk_layout.proofs.Lists.{every_both, every_weaker, every_filter, every_passes, every_unmap, pairwise_filter, map_same, filter_map_same}
+use Rattle.chunk_layout.specs.ListLaws.{every_both, every_weaker, every_filter, every_passes, every_unmap, pairwise_filter, map_same, filter_map_same}
 use Rattle.chunk_layout.proofs.Pokes.{poke-here, length-poke, some-poke, piece-poke, stands-poke}
-use Rattle.chunk_layout.proofs.Finding.{without-spot}
+use Rattle.chunk_layout.specs.FindingLaws.{without-spot}
 
 -- a chunk whose block is the same stands there as before
 module _ (bs after : Blocks) (head : ℕ) where

@@ -1,7 +1,7 @@
 -- What is known of the fields of a layout at a chunk, and after they changed.
-use Rattle.std.proofs.Common.{◌≡◌, ℕ, ◌+◌, ◌-◌, ◌<◌, ◌≤◌, Bool, true, List, [], ◌∷◌, Option, Some, None, map, length, get_or, set, take, refl, sym, ap, ◌∙◌, subst, arith}
-use Rattle.std.specs.Prelude.{IsTrue, is_some, unwrap_or, option_map}
-use Rattle.std.proofs.lemmas.List.{get_or-map, length-map, length-set}
+use Rattle.std.proofs.Common.{◌≡◌, ℕ, ◌+◌, ◌-◌, ◌<◌, ◌≤◌, Bool, true, List, [], ◌∷◌, Option, Some, None, map, length, get_or, set, take, refl, sym, ap, ◌∙◌, subst, arith, ◌⊎◌, inl, inr}
+use Rattle.std.specs.Prelude.{IsTrue, is_some, unwrap_or, option_map, ◌==◌}
+use Rattle.std.proofs.lemmas.List.{get_or-map, length-map, length-set, get_or_past, map-set}
 use Rattle.block_memory.specs.Cells.{Cells, Holds, IsWritten}
 use Rattle.block_memory.specs.Words.{word_bytes}
 use Rattle.chunk_layout.specs.Every.{Every}
@@ -15,17 +15,15 @@ use Rattle.chunk_layout.specs.declared.place.Spot.{Spot}
 use Rattle.chunk_layout.specs.declared.place.Note.{Note}
 use Rattle.chunk_layout.specs.declared.place.Note.TheVariants.{Chunk, Written, Gone, Returned}
 use Rattle.chunk_layout.specs.declared.layout.ChunkLayout.TheInside.{Inside}
-use Rattle.chunk_layout.proofs.Lists.{every_get, every_weaker, every_map, pairwise_weaker, pairwise_through}
+use Rattle.chunk_layout.specs.ListLaws.{every_get, every_weaker, every_map, pairwise_weaker, pairwise_through}
 use Rattle.chunk_layout.proofs.Reading.{length-read, holds-read}
 use Rattle.chunk_layout.proofs.Pokes.{some-within, sizes-poke}
-use Rattle.chunk_layout.proofs.Finding.{without-spot, found-place, found-stands, piece-found}
+use Rattle.chunk_layout.specs.FindingLaws.{without-spot, found-place, found-stands, piece-found}
 use Rattle.chunk_layout.proofs.Puts.{laid-put, pieces-put}
 use Rattle.chunk_layout.proofs.Carves.{laid-fewer, laid-same, pieces-same, same-added, laid-dropped, pieces-dropped, laid-carved, pieces-carved}
-use Rattle.chunk_layout.proofs.Numbers.{map-with_block, total-with_block, total-bound, total-set_none, with_block-other, length-with_block, length-with_block_low, every-with_block, every-set}
-use Rattle.std.proofs.Common.{◌⊎◌, inl, inr}
-use Rattle.std.specs.Prelude.{◌==◌}
+use Rattle.chunk_layout.specs.NumberLaws.{total-with_block, total-set_none, with_block-other, length-with_block}
+use Rattle.chunk_layout.proofs.Numbers.{map-with_block, total-bound, length-with_block_low, every-with_block, every-set}
 use Rattle.std.proofs.lemmas.Bool.{cases_lt, cond-true, cond-false, eq-eqb, ne_eqb}
-use Rattle.std.proofs.lemmas.List.{get_or_past, map-set}
 use Rattle.chunk_layout.proofs.Lending.{laid-lent_back, pieces-lent_back}
 
 size-is : (o : Option Cells) → unwrap_or (option_map length o) 0 ≡ length (cells_of o)

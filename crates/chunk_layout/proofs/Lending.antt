@@ -11,10 +11,10 @@ use Rattle.chunk_layout.specs.Pieces.{Piece, has, piece_at, rewritten, with_byte
 use Rattle.chunk_layout.specs.Spots.{Blocks, block_at, poke, read, piece_of, spot_is_at, has_spot, spot_at, no_spot, Stands, Apart, IsLayout}
 use Rattle.chunk_layout.specs.declared.place.Place.{Place}
 use Rattle.chunk_layout.specs.declared.place.Spot.{Spot}
-use Rattle.chunk_layout.proofs.Lists.{first_has, every_both, map_same}
+use Rattle.chunk_layout.specs.ListLaws.{first_has, every_both, map_same}
 use Rattle.chunk_layout.proofs.Reading.{read-refilled, length-read}
 use Rattle.chunk_layout.proofs.Pokes.{poke-here, length-poke, some-poke, piece-poke, stands-poke}
-use Rattle.chunk_layout.proofs.Finding.{apart-sym, found-place, found-stands, some-spot, piece-found}
+use Rattle.chunk_layout.specs.FindingLaws.{apart-sym, found-place, found-stands, some-spot, piece-found}
 
 -- a chunk t of the blocks, of which other bytes come back
 module _ (head : ℕ) (bs : Blocks) (t : Spot) (stands : Stands head bs t) (ws : List ℕ) where

@@ -1,7 +1,5 @@
-pub mod Lists
 pub mod Reading
 pub mod Pokes
-pub mod Finding
 pub mod Puts
 pub mod Numbers
 pub mod Carves

@@ -1,6 +1,7 @@
 -- Laws of blocks by their numbers.
-use Rattle.std.proofs.Common.{◌≡◌, ◌≢◌, ℕ, zero, suc, ◌+◌, ◌*◌, ◌<◌, ◌≤◌, List, [], ◌∷◌, ◌++◌, Option, Some, None, map, length, get_or, set, refl, ap, arith}
+use Rattle.std.proofs.Common.{◌≡◌, ℕ, zero, suc, ◌*◌, ◌<◌, ◌≤◌, List, [], ◌∷◌, ◌++◌, Option, Some, map, length, set, refl, ap, arith}
 use Rattle.std.specs.Prelude.{unwrap_or, option_map}
+use Rattle.std.proofs.Math.Nat.{not-suc-le-zero, le_of_suc-le-suc}
 use Rattle.chunk_layout.specs.Every.{Every}
 use Rattle.chunk_layout.specs.Pieces.{with_block, total}
 
@@ -9,39 +10,19 @@ with_block-end [] x = refl
 with_block-end {X} (y ∷ xs) x = ap (λ (t : List (Option X)). y ∷ t) (with_block-end xs x)
 
 pub with_block-set : {X : Type 0} (xs : List (Option X)) (n : ℕ) (x : X) → n < length xs → set xs n (Some x) ≡ with_block xs n x
-with_block-set [] n x low = absurd (omega (arith, low))
+with_block-set [] n x low = absurd (not-suc-le-zero low)
 with_block-set (y ∷ xs) zero x low = refl
-with_block-set {X} (y ∷ xs) (suc n) x low = ap (λ (t : List (Option X)). y ∷ t) (with_block-set xs n x (omega (arith, low)))
-
-pub with_block-here : {X : Type 0} (xs : List (Option X)) (n : ℕ) (x : X) → n ≤ length xs → get_or (with_block xs n x) n None ≡ Some x
-with_block-here [] zero x low = refl
-with_block-here [] (suc n) x low = absurd (omega (arith, low))
-with_block-here (y ∷ xs) zero x low = refl
-with_block-here (y ∷ xs) (suc n) x low = with_block-here xs n x (omega (arith, low))
-
-pub with_block-other : {X : Type 0} (xs : List (Option X)) (n k : ℕ) (x : X) → n ≤ length xs → k ≢ n → get_or (with_block xs n x) k None ≡ get_or xs k None
-with_block-other [] zero zero x low ne = absurd (ne refl)
-with_block-other [] zero (suc k) x low ne = refl
-with_block-other [] (suc n) k x low ne = absurd (omega (arith, low))
-with_block-other (y ∷ xs) zero zero x low ne = absurd (ne refl)
-with_block-other (y ∷ xs) zero (suc k) x low ne = refl
-with_block-other (y ∷ xs) (suc n) zero x low ne = refl
-with_block-other (y ∷ xs) (suc n) (suc k) x low ne = with_block-other xs n k x (omega (arith, low)) (λ e. ne (ap suc e))
+with_block-set {X} (y ∷ xs) (suc n) x low = ap (λ (t : List (Option X)). y ∷ t) (with_block-set xs n x (le_of_suc-le-suc low))
 
 pub map-with_block : {X Y : Type 0} (f : X → Y) (xs : List (Option X)) (n : ℕ) (x : X) → map (option_map f) (with_block xs n x) ≡ with_block (map (option_map f) xs) n (f x)
 map-with_block f [] n x = refl
 map-with_block f (y ∷ xs) zero x = refl
 map-with_block {X} {Y} f (y ∷ xs) (suc n) x = ap (λ (t : List (Option Y)). option_map f y ∷ t) (map-with_block f xs n x)
 
-pub length-with_block : {X : Type 0} (xs : List (Option X)) (n : ℕ) (x : X) → length (with_block xs n x) ≤ length xs + 1
-length-with_block [] n x = omega arith
-length-with_block (y ∷ xs) zero x = omega arith
-length-with_block (y ∷ xs) (suc n) x = omega (arith, length-with_block xs n x)
-
 pub length-with_block_low : {X : Type 0} (xs : List (Option X)) (n : ℕ) (x : X) → n < length xs → length (with_block xs n x) ≡ length xs
-length-with_block_low [] n x low = absurd (omega (arith, low))
+length-with_block_low [] n x low = absurd (not-suc-le-zero low)
 length-with_block_low (y ∷ xs) zero x low = refl
-length-with_block_low (y ∷ xs) (suc n) x low = ap suc (length-with_block_low xs n x (omega (arith, low)))
+length-with_block_low (y ∷ xs) (suc n) x low = ap suc (length-with_block_low xs n x (le_of_suc-le-suc low))
 
 pub every-with_block : {X : Type 0} (P : Option X → Type 0) (xs : List (Option X)) (n : ℕ) (x : X) → P (Some x) → Every P xs → Every P (with_block xs n x)
 every-with_block P [] n x p e = (p, tt)
@@ -52,17 +33,6 @@ pub every-set : {X : Type 0} (P : X → Type 0) (xs : List X) (n : ℕ) (x : X) 
 every-set P [] n x p e = tt
 every-set P (y ∷ xs) zero x p e = (p, e.1)
 every-set P (y ∷ xs) (suc n) x p e = (e.0, every-set P xs n x p e.1)
-
--- what the blocks are together
-pub total-with_block : (xs : List (Option ℕ)) (n x : ℕ) → get_or xs n None ≡ None → total (with_block xs n x) ≡ total xs + x
-total-with_block [] n x none = omega arith
-total-with_block (y ∷ xs) zero x none = let e = ap (λ (o : Option ℕ). unwrap_or o 0) none in omega (arith, e)
-total-with_block (y ∷ xs) (suc n) x none = omega (arith, total-with_block xs n x none)
-
-pub total-set_none : (xs : List (Option ℕ)) (n : ℕ) → total (set xs n None) + unwrap_or (get_or xs n None) 0 ≡ total xs
-total-set_none [] n = refl
-total-set_none (y ∷ xs) zero = omega arith
-total-set_none (y ∷ xs) (suc n) = omega (arith, total-set_none xs n)
 
 pub total-bound : (xs : List (Option ℕ)) → Every (λ o. unwrap_or o 0 ≤ 2147483648) xs → total xs ≤ 2147483648 * length xs
 total-bound [] e = omega arith

@@ -1,75 +1,12 @@
 -- Laws of chunks by their places.
-use Rattle.std.proofs.Common.{◌≡◌, ℕ, ◌+◌, ◌-◌, min, ◌<◌, ◌≤◌, Bool, true, false, not, List, [], ◌∷◌, ◌++◌, Option, Some, None, length, get_or, take, drop, replicate, cond, refl, sym, ap, ◌∙◌, inl, inr, arith}
-use Rattle.std.specs.Prelude.{◌||◌}
-use Rattle.std.proofs.lemmas.Bool.{false≢true, cases_Bool, cases_lt, cond-true, cond-false, not_from_true, not_from_false, or_parts}
+use Rattle.std.proofs.Common.{◌≡◌, ℕ, ◌+◌, ◌-◌, min, ◌<◌, ◌≤◌, Bool, true, false, List, ◌∷◌, ◌++◌, Option, Some, None, length, get_or, take, drop, replicate, sym, ap, ◌∙◌, inl, inr, arith}
+use Rattle.std.proofs.lemmas.Bool.{cases_lt}
 use Rattle.std.proofs.lemmas.List.{length-replicate, length-set, length-take-le, take_all, take-take, drop-take, take-append-drop}
 use Rattle.block_memory.specs.Cells.{zeros}
-use Rattle.chunk_layout.specs.Pieces.{Layout, Piece, same_place, is_at, has, piece_at, without, put_at, only, resized}
+use Rattle.chunk_layout.specs.Pieces.{Layout, Piece, same_place, has, piece_at, without, put_at, only, resized}
 use Rattle.chunk_layout.specs.declared.place.Place.{Place}
-use Rattle.chunk_layout.proofs.Finding.{same-place, place-same}
-
-pub same_place-sym : (p q : Place) → same_place p q ≡ same_place q p
-same_place-sym p q = elim (cases_Bool (same_place p q)) [
-  | inl yes' ↦ yes' ∙ sym (ap (λ (r : Place). same_place q r) (same-place p q yes') ∙ place-same q)
-  | inr no' ↦ no' ∙ sym (elim (cases_Bool (same_place q p)) [
-    | inl yes' ↦ absurd (false≢true (sym no' ∙ ap (λ (r : Place). same_place p r) (same-place q p yes') ∙ place-same p))
-    | inr other ↦ other
-  ])
-]
-
--- a chunk is at one place alone
-pub other-place : (p : Piece) (a b : Place) → is_at a p ≡ true → same_place a b ≡ false → is_at b p ≡ false
-other-place p a b here ne = ap (λ (q : Place). same_place q b) (same-place p.place a here) ∙ ne
-
-module _ (p : Piece) (ps : List Piece) where
-  pub has-first : (place : Place) → is_at place p ≡ true → has (p ∷ ps) place ≡ true
-  has-first place here = ap (λ (b : Bool). b || has ps place) here
-
-  pub piece_at-first : (place : Place) → is_at place p ≡ true → piece_at (p ∷ ps) place ≡ p
-  piece_at-first place here = cond-true (is_at place p) p (piece_at ps place) here
-
-  pub without-first : (place : Place) → is_at place p ≡ true → without (p ∷ ps) place ≡ without ps place
-  without-first place here = cond-false (not (is_at place p)) (p ∷ without ps place) (without ps place) (not_from_true (is_at place p) here)
-
-  pub has-later : (place : Place) → is_at place p ≡ false → has (p ∷ ps) place ≡ has ps place
-  has-later place there = ap (λ (b : Bool). b || has ps place) there
-
-  pub piece_at-later : (place : Place) → is_at place p ≡ false → piece_at (p ∷ ps) place ≡ piece_at ps place
-  piece_at-later place there = cond-false (is_at place p) p (piece_at ps place) there
-
-  pub without-later : (place : Place) → is_at place p ≡ false → without (p ∷ ps) place ≡ p ∷ without ps place
-  without-later place there = cond-true (not (is_at place p)) (p ∷ without ps place) (without ps place) (not_from_false (is_at place p) there)
-
--- the chunks without one have all others
-pub has-without : (ps : List Piece) (place other : Place) → same_place place other ≡ false → has (without ps place) other ≡ has ps other
-has-without [] place other ne = refl
-has-without (p ∷ ps) place other ne = elim (cases_Bool (is_at place p)) [
-  | inl here ↦ ap (λ (t : List Piece). has t other) (without-first p ps place here) ∙ has-without ps place other ne ∙ sym (has-later p ps other (other-place p place other here ne))
-  | inr there ↦ ap (λ (t : List Piece). has t other) (without-later p ps place there) ∙ ap (λ (b : Bool). is_at other p || b) (has-without ps place other ne)
-]
-
-pub piece_at-without : (ps : List Piece) (place other : Place) → same_place place other ≡ false → piece_at (without ps place) other ≡ piece_at ps other
-piece_at-without [] place other ne = refl
-piece_at-without (p ∷ ps) place other ne = elim (cases_Bool (is_at place p)) [
-  | inl here ↦ ap (λ (t : List Piece). piece_at t other) (without-first p ps place here) ∙ piece_at-without ps place other ne ∙ sym (piece_at-later p ps other (other-place p place other here ne))
-  | inr there ↦ ap (λ (t : List Piece). piece_at t other) (without-later p ps place there) ∙ ap (λ (q : Piece). cond (is_at other p) p q) (piece_at-without ps place other ne)
-]
-
-pub has_not-without : (ps : List Piece) (place : Place) → has (without ps place) place ≡ false
-has_not-without [] place = refl
-has_not-without (p ∷ ps) place = elim (cases_Bool (is_at place p)) [
-  | inl here ↦ ap (λ (t : List Piece). has t place) (without-first p ps place here) ∙ has_not-without ps place
-  | inr there ↦ ap (λ (t : List Piece). has t place) (without-later p ps place there) ∙ has-later p (without ps place) place there ∙ has_not-without ps place
-]
-
--- where there is no chunk, none is left out
-pub without-none : (ps : List Piece) (place : Place) → has ps place ≡ false → without ps place ≡ ps
-without-none [] place none = refl
-without-none (p ∷ ps) place none = let parts = or_parts (is_at place p) (has ps place) none in
-    without-later p ps place parts.0 ∙ ap (λ (t : List Piece). p ∷ t) (without-none ps place parts.1)
-
-pub without-twice : (ps : List Piece) (place : Place) → without (without ps place) place ≡ without ps place
-without-twice ps place = without-none (without ps place) place (has_not-without ps place)
+use Rattle.chunk_layout.specs.FindingLaws.{place-same}
+use Rattle.chunk_layout.specs.PieceLaws.{has-first, has-later, has-without, piece_at-first, piece_at-later, piece_at-without, without-first, without-twice}
 
 -- ---- one call of `put` after another
 module _ (l : Layout) (place : Place) where

@@ -10,10 +10,10 @@ use Rattle.chunk_layout.specs.Pieces.{Piece, piece_at, has, without}
 use Rattle.chunk_layout.specs.Spots.{Blocks, block_at, poke, read, piece_of, spot_at, spot_with, without_spot, Stands, Apart, IsLayout}
 use Rattle.chunk_layout.specs.declared.place.Place.{Place}
 use Rattle.chunk_layout.specs.declared.place.Spot.{Spot}
-use Rattle.chunk_layout.proofs.Lists.{every_both, every_weaker, every_filter, pairwise_filter, map_same}
+use Rattle.chunk_layout.specs.ListLaws.{every_both, every_weaker, every_filter, pairwise_filter, map_same}
 use Rattle.chunk_layout.proofs.Reading.{read-holds, holds-read, length-read}
 use Rattle.chunk_layout.proofs.Pokes.{poke-here, length-poke, some-poke, piece-poke, stands-poke}
-use Rattle.chunk_layout.proofs.Finding.{found-place, piece-found, found-stands, some-spot, apart-found, without-spot}
+use Rattle.chunk_layout.specs.FindingLaws.{found-place, piece-found, found-stands, some-spot, apart-found, without-spot}
 
 -- bytes that stand one after the other
 pub holds_append : (cells : Cells) (at : ℕ) (xs ys : List ℕ) → Holds cells at xs → Holds cells (at + length xs) ys → Holds cells at (xs ++ ys)

@@ -1,9 +1,8 @@
 -- What is read of cells, after they were written.
-use Rattle.std.proofs.Common.{◌≡◌, ℕ, ◌+◌, ◌≤◌, ◌⊎◌, inl, inr, List, [], ◌∷◌, ◌++◌, Option, Some, map, length, take, drop, refl, sym, ap, ◌∙◌, subst, arith}
+use Rattle.std.proofs.Common.{◌≡◌, ℕ, ◌+◌, ◌≤◌, ◌⊎◌, inl, inr, List, [], ◌∷◌, ◌++◌, Option, Some, map, length, take, drop, refl, sym, ap, ◌∙◌, subst, arith, add-zero, zero-add}
 use Rattle.std.specs.Prelude.{unwrap_or}
 use Rattle.std.specs.List.{splice, refill}
 use Rattle.std.proofs.lemmas.List.{length-take-le, length-drop, take_all, drop_all, length-take, length-append, take-append-le, append-nil}
-use Rattle.std.proofs.Common.{add-zero, zero-add}
 use Rattle.std.proofs.lemmas.Bool.{cases_lt}
 use Rattle.block_memory.specs.Cells.{Cells, Holds, IsWritten, with_bytes}
 use Rattle.block_memory.proofs.CellLemmas.{bytes_of_written, written_of_holds, holds_kept, holds_over, length_over}

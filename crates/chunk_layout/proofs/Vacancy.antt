@@ -7,7 +7,8 @@ use Rattle.block_memory.specs.Cells.{Cells}
 use Rattle.chunk_layout.specs.Pieces.{with_block, AreTaken}
 use Rattle.chunk_layout.specs.Spots.{Blocks, sizes_of}
 use Rattle.chunk_layout.specs.Vacant.{AreVacant}
-use Rattle.chunk_layout.proofs.Numbers.{with_block-end, with_block-here, with_block-other, length-with_block_low}
+use Rattle.chunk_layout.specs.NumberLaws.{with_block-here, with_block-other}
+use Rattle.chunk_layout.proofs.Numbers.{with_block-end, length-with_block_low}
 
 -- a number has a size just where it has a block
 pub length-sizes : (bs : Blocks) → length (sizes_of bs) ≡ length bs

@@ -7,3 +7,7 @@ pub mod Marks
 pub mod Vacant
 pub mod MarkFields
 pub mod Links
+pub mod FindingLaws
+pub mod ListLaws
+pub mod NumberLaws
+pub mod PieceLaws

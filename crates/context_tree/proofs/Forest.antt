@@ -1,8 +1,11 @@
 -- Which slots are below another in a forest.
 use Rattle.std.proofs.Common.{◌≡◌, ◌≢◌, ℕ, zero, suc, ◌<◌, ◌≤◌, inl, inr, Bool, true, false, List, Option, Some, None, length, get_or, cond, refl, sym, ap, ◌∙◌, subst, arith}
-use Rattle.std.specs.Prelude.{◌==◌, ◌||◌, ◌&&◌, not, is_some, unwrap_or}
+use Rattle.std.specs.Prelude.{◌==◌, ◌||◌, ◌&&◌, not, is_some}
 use Rattle.std.proofs.lemmas.Bool.{cases_Bool, cases_eq, cond-true, cond-false, eq-eqb, ne_eqb, false≢true}
 use Rattle.std.proofs.lemmas.List.{get_or_past}
+use Rattle.std.proofs.lemmas.Option.{same_Some}
+use Rattle.std.proofs.Math.Bool.{and-true}
+use Rattle.context_tree.specs.SlotLaws.{tests-agree, parent-is}
 use Rattle.context_tree.specs.Links.{parent_of, stamp_of, is_true_of, leads_to, is_below, is_under, IsMadeBelow, IsForest}
 use Rattle.context_tree.specs.declared.links.Link.{Link}
 
@@ -13,19 +16,7 @@ module _ (ls : List (Option Link)) (forest : IsForest ls) where
   abbrev pub stamp_at : ℕ → ℕ
   stamp_at slot = stamp_of (get_or ls slot None)
 
-  -- a parent has a lower stamp, and is there
-  pub parent-is : (slot : ℕ) (link : Option Link) → get_or ls slot None ≡ link → (p : ℕ) → parent_of link ≡ Some p → (stamp_at p < stamp_at slot) × (is_some (get_or ls p None) ≡ true)
-  parent-is slot None is p e = absurd (false≢true (ap is_some e))
-  parent-is slot (Some link) is p e =
-      let made = subst (IsMadeBelow ls slot link.stamp) e (forest.below slot link is) in
-      let own : stamp_at slot ≡ link.stamp = ap stamp_of is in
-      (omega (arith, made.0, own), made.1)
-
   -- looking at more parents changes nothing
-  steps-of : (p : Option ℕ) (f g : ℕ → Bool) → ((x : ℕ) → p ≡ Some x → f x ≡ g x) → is_true_of p f ≡ is_true_of p g
-  steps-of None f g same = refl
-  steps-of (Some x) f g same = same x refl
-
   no-more : (p : Option ℕ) (f : ℕ → Bool) → ((x : ℕ) → p ≡ Some x → Unit {0} → x < 0) → is_true_of p f ≡ false
   no-more None f low = refl
   no-more (Some x) f low = absurd (omega (arith, low x refl tt))
@@ -39,21 +30,21 @@ module _ (ls : List (Option Link)) (forest : IsForest ls) where
   enough zero zero above slot low low2 = refl
   enough zero (suc other) above slot low low2 =
       sym (or-none (slot == above) (is_true_of (parent_of (link_at slot)) (leads_to other ls above))
-      (no-more (parent_of (link_at slot)) (leads_to other ls above) (λ p e _. omega (arith, (parent-is slot (link_at slot) refl p e).0, low))))
+      (no-more (parent_of (link_at slot)) (leads_to other ls above) (λ p e _. omega (arith, (parent-is ls forest slot (link_at slot) refl p e).0, low))))
   enough (suc steps) zero above slot low low2 =
       or-none (slot == above) (is_true_of (parent_of (link_at slot)) (leads_to steps ls above))
-      (no-more (parent_of (link_at slot)) (leads_to steps ls above) (λ p e _. omega (arith, (parent-is slot (link_at slot) refl p e).0, low2)))
+      (no-more (parent_of (link_at slot)) (leads_to steps ls above) (λ p e _. omega (arith, (parent-is ls forest slot (link_at slot) refl p e).0, low2)))
   enough (suc steps) (suc other) above slot low low2 =
       ap (λ (b : Bool). (slot == above) || b)
-      (steps-of (parent_of (link_at slot)) (leads_to steps ls above) (leads_to other ls above)
-      (λ p e. let less = (parent-is slot (link_at slot) refl p e).0 in enough steps other above p (omega (arith, less, low)) (omega (arith, less, low2))))
+      (tests-agree (parent_of (link_at slot)) (leads_to steps ls above) (leads_to other ls above)
+      (λ p e. let less = (parent-is ls forest slot (link_at slot) refl p e).0 in enough steps other above p (omega (arith, less, low)) (omega (arith, less, low2))))
 
   unfolded : (above slot : ℕ) → leads_to (suc (stamp_at slot)) ls above slot ≡ ((slot == above) || is_true_of (parent_of (get_or ls slot None)) (λ p. leads_to (stamp_at p) ls above p))
   unfolding leads_to
   unfolded above slot =
       ap (λ (b : Bool). (slot == above) || b)
-      (steps-of (parent_of (link_at slot)) (leads_to (stamp_at slot) ls above) (λ p. leads_to (stamp_at p) ls above p)
-      (λ p e. let less = (parent-is slot (link_at slot) refl p e).0 in enough (stamp_at slot) (stamp_at p) above p (omega (arith, less)) (omega arith)))
+      (tests-agree (parent_of (link_at slot)) (leads_to (stamp_at slot) ls above) (λ p. leads_to (stamp_at p) ls above p)
+      (λ p e. let less = (parent-is ls forest slot (link_at slot) refl p e).0 in enough (stamp_at slot) (stamp_at p) above p (omega (arith, less)) (omega arith)))
 
   -- a slot is below another just where it is the same, or its parent is below that
   pub below-is : (above slot : ℕ) → is_below ls above slot ≡ ((slot == above) || is_true_of (parent_of (get_or ls slot None)) (is_below ls above))
@@ -70,12 +61,12 @@ module _ (ls : List (Option Link)) (forest : IsForest ls) where
   not-below-by : (bound above slot : ℕ) → stamp_at slot ≤ bound → stamp_at slot ≤ stamp_at above → slot ≢ above → is_below ls above slot ≡ false
   not-below-by zero above slot low less ne =
       below-other above slot ne
-      ∙ no-more (parent_of (link_at slot)) (is_below ls above) (λ p e _. omega (arith, (parent-is slot (link_at slot) refl p e).0, low))
+      ∙ no-more (parent_of (link_at slot)) (is_below ls above) (λ p e _. omega (arith, (parent-is ls forest slot (link_at slot) refl p e).0, low))
   not-below-by (suc bound) above slot low less ne =
       below-other above slot ne
-      ∙ steps-of (parent_of (link_at slot)) (is_below ls above) (λ p. false)
+      ∙ tests-agree (parent_of (link_at slot)) (is_below ls above) (λ p. false)
       (λ p e.
-      let under = (parent-is slot (link_at slot) refl p e).0 in
+      let under = (parent-is ls forest slot (link_at slot) refl p e).0 in
       not-below-by bound above p (omega (arith, under, low)) (omega (arith, under, less)) (λ same. let one : stamp_at p ≡ stamp_at above = ap stamp_at same in omega (arith, one, under, less)))
       ∙ nothing (parent_of (link_at slot))
     where
@@ -94,10 +85,6 @@ module _ (ls : List (Option Link)) (forest : IsForest ls) where
 
   pub under-other : (above slot : ℕ) → slot ≢ above → is_under ls above slot ≡ is_below ls above slot
   under-other above slot ne = ap (λ (b : Bool). is_below ls above slot && not b) (ne_eqb slot above ne) ∙ and-true (is_below ls above slot)
-    where
-      and-true : (b : Bool) → (b && true) ≡ b
-      and-true true = refl
-      and-true false = refl
 
   pub not-under-itself : (above slot : ℕ) → slot ≡ above → is_under ls above slot ≡ false
   not-under-itself above slot same = ap (λ (b : Bool). is_below ls above slot && not b) (eq-eqb slot above same) ∙ and-false (is_below ls above slot)
@@ -166,7 +153,7 @@ module _ (ls : List (Option Link)) (forest : IsForest ls) where
         let below : is_below ls above p ≡ true = sym (under-other above p differ) ∙ under in
         elim (cases_eq slot above) [
           | inl same ↦
-              let less : stamp_at p < stamp_at above = subst (λ (k : ℕ). stamp_at p < stamp_at k) same (parent-is slot (get_or ls slot None) refl p up).0 in
+              let less : stamp_at p < stamp_at above = subst (λ (k : ℕ). stamp_at p < stamp_at k) same (parent-is ls forest slot (get_or ls slot None) refl p up).0 in
               absurd (false≢true (sym (not-below above p (omega (arith, less)) differ) ∙ below))
           | inr ne ↦ under-other above slot ne ∙ below-closed above slot p up below
         ]
@@ -194,11 +181,8 @@ module _ (ls : List (Option Link)) (forest : IsForest ls) where
       top = ap parent_of (still 0 forest.root) ∙ forest.top;
       below = λ k l e. elim (cases_eq k slot) [
         | inl same ↦
-            let it : link ≡ l = some-inj (sym here ∙ ap (λ (j : ℕ). get_or now j None) (sym same) ∙ e) in
+            let it : link ≡ l = same_Some link l (sym here ∙ ap (λ (j : ℕ). get_or now j None) (sym same) ∙ e) in
             subst (λ (j : ℕ). IsMadeBelow now j l.stamp l.parent) (sym same) (subst (λ (m : Link). IsMadeBelow now slot m.stamp m.parent) it (made-still slot link.stamp link.parent made))
         | inr ne ↦ made-still k l.stamp l.parent (forest.below k l (sym (other k ne) ∙ e))
       ];
     }
-      where
-        some-inj : {a b : Link} → Some a ≡ Some b → a ≡ b
-        some-inj {a} e = ap (λ (o : Option Link). unwrap_or o a) e

@@ -1,9 +1,10 @@
 -- Lists by slots, in which something is put.
-use Rattle.std.proofs.Common.{◌≡◌, ◌≢◌, ℕ, zero, suc, ◌<◌, ◌≤◌, inl, inr, Bool, true, false, List, [], ◌∷◌, ◌++◌, Option, Some, None, length, get_or, cond, set, take, refl, sym, ap, ◌∙◌, arith}
+use Rattle.std.proofs.Common.{◌≡◌, ℕ, zero, suc, ◌<◌, ◌≤◌, inl, inr, Bool, true, false, List, [], ◌∷◌, ◌++◌, Option, Some, None, length, get_or, cond, set, take, refl, sym, ap, ◌∙◌, arith}
 use Rattle.std.specs.Prelude.{◌==◌, is_some}
 use Rattle.std.specs.List.{refill}
 use Rattle.std.proofs.lemmas.Bool.{cases_eq, cases_lt, cond-false, ne_eqb, false≢true}
 use Rattle.std.proofs.lemmas.List.{take_all, drop_all, append-nil, length-append}
+use Rattle.context_tree.specs.SlotLaws.{placed-here, placed-other}
 use Rattle.context_tree.specs.Links.{placed, IsFull, AreFree}
 use Rattle.context_tree.specs.declared.links.Link.{Link}
 
@@ -22,21 +23,6 @@ module _ {X : Type 0} where
   placed-set [] n x low = absurd (omega (arith, low))
   placed-set (y ∷ xs) zero x low = refl
   placed-set (y ∷ xs) (suc n) x low = ap (λ (t : List X). y ∷ t) (placed-set xs n x (omega (arith, low)))
-
-  pub placed-here : (xs : List X) (n : ℕ) (x d : X) → n ≤ length xs → get_or (placed xs n x) n d ≡ x
-  placed-here [] zero x d low = refl
-  placed-here [] (suc n) x d low = absurd (omega (arith, low))
-  placed-here (y ∷ xs) zero x d low = refl
-  placed-here (y ∷ xs) (suc n) x d low = placed-here xs n x d (omega (arith, low))
-
-  pub placed-other : (xs : List X) (n k : ℕ) (x d : X) → n ≤ length xs → k ≢ n → get_or (placed xs n x) k d ≡ get_or xs k d
-  placed-other [] zero zero x d low ne = absurd (ne refl)
-  placed-other [] zero (suc k) x d low ne = refl
-  placed-other [] (suc n) k x d low ne = absurd (omega (arith, low))
-  placed-other (y ∷ xs) zero zero x d low ne = absurd (ne refl)
-  placed-other (y ∷ xs) zero (suc k) x d low ne = refl
-  placed-other (y ∷ xs) (suc n) zero x d low ne = refl
-  placed-other (y ∷ xs) (suc n) (suc k) x d low ne = placed-other xs n k x d (omega (arith, low)) (λ e. ne (ap suc e))
 
   -- two lists that are equally long stay so
   pub length-placed : {Y : Type 0} (xs : List X) (ys : List Y) (n : ℕ) (x : X) (y : Y) → length xs ≡ length ys → length (placed xs n x) ≡ length (placed ys n y)

@@ -9,6 +9,7 @@ use Rattle.context_tree.specs.Contexts.{no_context, new_context, refusal_of, gro
 use Rattle.context_tree.specs.Links.{stamp_of, is_below, cleared, placed}
 use Rattle.std.specs.List.{refill}
 use Rattle.std.proofs.lemmas.List.{get_or-set_same, get_or-set_other, get_or_default, get_or_read, length-set, set-get_or}
+use Rattle.context_tree.specs.SlotLaws.{placed-here, placed-other}
 use Rattle.context_tree.specs.Tree.{TreeState, Stamped, Emptied, IsRefusedBy, IsNotMade, has_stamp, is_there, context_at, with_context, without_slots, held_from, held_by_all, IsBounded}
 use Rattle.context_tree.specs.TreeFields.{tree_of, AreFields}
 use Rattle.context_tree.specs.declared.error.TreeError.{TreeError}
@@ -21,7 +22,7 @@ use Rattle.context_tree.proofs.Bounds.{growth-admitted, all-set, all-placed, all
 use Rattle.context_tree.proofs.Clearing.{length-cleared, get_or-cleared, is-cleared, low-there}
 use Rattle.context_tree.specs.declared.context.Context.{Context}
 use Rattle.context_tree.specs.declared.links.Link.{Link}
-use Rattle.context_tree.proofs.Slots.{refill-whole, placed-here, placed-other, length-placed}
+use Rattle.context_tree.proofs.Slots.{refill-whole, length-placed}
 
 -- no context has a later stamp than the last one
 pub stamp-low : (ls : List (Option Link)) (last slot : ℕ) → Stamped ls last → stamp_of (get_or ls slot None) ≤ last

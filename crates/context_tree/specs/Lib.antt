@@ -4,3 +4,4 @@ pub mod LinkFields
 pub mod Tree
 pub mod TreeFields
 pub mod TreeLends
+pub mod SlotLaws

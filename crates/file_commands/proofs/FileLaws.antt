@@ -12,7 +12,7 @@ use Rattle.group_parser.specs.Parsing.{Accepts}
 use Rattle.batch_reader.specs.File.{BatchFile}
 use Rattle.batch_reader.specs.Head.{ReadsOrigin, ReadsBatchNumber}
 use Rattle.batch_reader.specs.Rows.{ReadsRows, ArePackedRows, packings}
-use Rattle.batch_reader.proofs.RecordLaws.{built_rows}
+use Rattle.batch_reader.specs.RecordLaws.{built_rows}
 use Rattle.replica_merge.specs.Replicas.{Held, told, Fits, SameQuery, DisagreeSomewhere}
 use Rattle.packed_rows.specs.Refusal.{ParseFault}
 use Rattle.packed_rows.specs.declared.error.RowError.{RowError}

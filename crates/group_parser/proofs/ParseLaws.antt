@@ -8,7 +8,7 @@ use Rattle.query_tokens.specs.Tokens.{tokens_in}
 use Rattle.query_tokens.specs.Spelling.{IsLexeme, lexemes_of}
 use Rattle.query_tokens.proofs.Legal.{read_legal}
 use Rattle.packed_rows.specs.Columns.{Column}
-use Rattle.packed_rows.proofs.DescribedColumns.{all_members}
+use Rattle.packed_rows.specs.DescribedLaws.{all_members}
 use Rattle.query_checks.specs.declared.error.QueryError.{QueryError}
 use Rattle.query_checks.specs.Forms.{Written}
 use Rattle.query_checks.specs.Checks.{Checked, checked}

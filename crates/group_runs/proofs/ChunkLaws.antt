@@ -7,12 +7,16 @@ use Rattle.std.specs.List.{insert}
 use Rattle.std.proofs.lemmas.Grind.{flat_map-append}
 use Rattle.std.proofs.Math.Seq.{take-append_seam, drop-append_seam}
 use Rattle.std.specs.List.Sorted.{IsStrictlySortedBy}
+use Rattle.packed_rows.specs.RowsOnEndLaws.{ends_long, ends_append}
 use Rattle.grouping_model.specs.Aggregates.{Function}
 use Rattle.group_runs.specs.Runs.{Entry, Rises}
 use Rattle.group_runs.specs.Places.{HasStatesFor, CombinesAt}
-use Rattle.group_runs.specs.Chunks.{on_end, counts, AreChunks, IsAmong, replaced}
-use Rattle.group_runs.proofs.PlaceLaws.{drop_at, rises_drop}
-use Rattle.group_runs.proofs.RunLaws.{take_found, run_front_rises}
+use Rattle.packed_rows.specs.RowsOnEnd.{on_end, ends_of}
+use Rattle.group_runs.specs.Chunks.{AreChunks, IsAmong, replaced}
+use Rattle.group_runs.specs.PlaceLaws.{drop_at}
+use Rattle.group_runs.proofs.PlaceLaws.{rises_drop}
+use Rattle.group_runs.specs.RunLaws.{take_found}
+use Rattle.group_runs.proofs.RunLaws.{run_front_rises}
 
 -- ---- lists
 
@@ -102,11 +106,7 @@ longer (x ∷ xs) ys (z ∷ zs) ws same low =
 
 -- ---- where chunks end
 
-pub counts_long : (before : ℕ) (chunks : List (List Entry)) → length (counts before chunks) ≡ length chunks
-counts_long before [] = refl
-counts_long before (chunk ∷ chunks) = let rest : length (counts (before + length chunk) chunks) ≡ length chunks = counts_long (before + length chunk) chunks in omega (arith, rest)
-
-count_behind : (before : ℕ) (chunks : List (List Entry)) (i : ℕ) → i ≤ length chunks → slice_index_or (before ∷ counts before chunks) i 0 ≡ before + length (on_end (take i chunks))
+count_behind : (before : ℕ) (chunks : List (List Entry)) (i : ℕ) → i ≤ length chunks → slice_index_or (before ∷ ends_of before chunks) i 0 ≡ before + length (on_end (take i chunks))
 count_behind before chunks zero low = omega arith
 count_behind before [] (suc i) low = absurd (omega (arith, low))
 count_behind before (chunk ∷ chunks) (suc i) low =
@@ -115,16 +115,16 @@ count_behind before (chunk ∷ chunks) (suc i) low =
     count_behind (before + length chunk) chunks i (omega (arith, low)) ∙ same
 
 -- how many groups there are in the first chunks
-pub start_is : (chunks : List (List Entry)) (ends : List ℕ) (i : ℕ) → ends ≡ counts 0 chunks → i ≤ length chunks → slice_index_or (0 ∷ ends) i 0 ≡ length (on_end (take i chunks))
+pub start_is : (chunks : List (List Entry)) (ends : List ℕ) (i : ℕ) → ends ≡ ends_of 0 chunks → i ≤ length chunks → slice_index_or (0 ∷ ends) i 0 ≡ length (on_end (take i chunks))
 start_is chunks ends i are low =
     let none : 0 + length (on_end (take i chunks)) ≡ length (on_end (take i chunks)) = omega arith in
     ap (λ ends. slice_index_or (0 ∷ ends) i 0) are ∙ count_behind 0 chunks i low ∙ none
 
-pub ends_many : (chunks : List (List Entry)) (ends : List ℕ) → ends ≡ counts 0 chunks → length ends ≡ length chunks
-ends_many chunks ends are = ap length are ∙ counts_long 0 chunks
+pub ends_many : (chunks : List (List Entry)) (ends : List ℕ) → ends ≡ ends_of 0 chunks → length ends ≡ length chunks
+ends_many chunks ends are = ap length are ∙ ends_long 0 chunks
 
 -- in all of them
-pub whole_is : (chunks : List (List Entry)) (ends : List ℕ) → ends ≡ counts 0 chunks → slice_index_or (0 ∷ ends) (length ends) 0 ≡ length (on_end chunks)
+pub whole_is : (chunks : List (List Entry)) (ends : List ℕ) → ends ≡ ends_of 0 chunks → slice_index_or (0 ∷ ends) (length ends) 0 ≡ length (on_end chunks)
 whole_is chunks ends are =
     ap (λ n. slice_index_or (0 ∷ ends) n 0) (ends_many chunks ends are)
     ∙ start_is chunks ends (length chunks) are (omega arith)
@@ -164,17 +164,17 @@ front_few chunks i =
     omega (arith, whole, both)
 
 -- where there are groups there is a chunk
-pub some_end : (chunks : List (List Entry)) (ends : List ℕ) (place : ℕ) → ends ≡ counts 0 chunks → place < length (on_end chunks) → 0 < length ends
+pub some_end : (chunks : List (List Entry)) (ends : List ℕ) (place : ℕ) → ends ≡ ends_of 0 chunks → place < length (on_end chunks) → 0 < length ends
 some_end [] ends place are low = absurd (omega (arith, low))
 some_end (chunk ∷ chunks) ends place are low = let many = ends_many (chunk ∷ chunks) ends are in omega (arith, many)
 
 -- no chunks
 pub none_are : (chunks : List (List Entry)) (ends : List ℕ) → chunks ≡ [] → ends ≡ [] → AreChunks chunks ends
 unfolding IsStrictlySortedBy
-none_are chunks ends none e = record { ends_are = e ∙ ap (counts 0) (sym none); rises = subst (λ cs. Rises (on_end cs)) (sym none) tt }
+none_are chunks ends none e = record { ends_are = e ∙ ap (ends_of 0) (sym none); rises = subst (λ cs. Rises (on_end cs)) (sym none) tt }
 
 -- the chunk that was found
-pub among : (chunks : List (List Entry)) (ends : List ℕ) (place at : ℕ) → ends ≡ counts 0 chunks → at < length ends → slice_index_or (0 ∷ ends) at 0 ≤ place → place < slice_index_or (0 ∷ ends) (at + 1) 0 → IsAmong chunks place at
+pub among : (chunks : List (List Entry)) (ends : List ℕ) (place at : ℕ) → ends ≡ ends_of 0 chunks → at < length ends → slice_index_or (0 ∷ ends) at 0 ≤ place → place < slice_index_or (0 ∷ ends) (at + 1) 0 → IsAmong chunks place at
 among chunks ends place at are there behind within =
     let many = ends_many chunks ends are in
     let found = got chunks at (omega (arith, there, many)) in
@@ -192,35 +192,28 @@ group_in chunks place at chunk n is long low =
 
 -- ---- more groups
 
-pub one_more_count : (before : ℕ) (chunks : List (List Entry)) (chunk : List Entry) → counts before (chunks ++ chunk ∷ []) ≡ counts before chunks ++ (before + length (on_end chunks) + length chunk) ∷ []
-one_more_count before [] chunk = let same : before + length chunk ≡ before + 0 + length chunk = omega arith in ap (λ n. n ∷ []) same
-one_more_count before (one ∷ chunks) chunk =
-    let both : length (one ++ on_end chunks) ≡ length one + length (on_end chunks) = length-append one (on_end chunks) in
-    let same : before + length one + length (on_end chunks) + length chunk ≡ before + length (one ++ on_end chunks) + length chunk = omega (arith, both) in
-    ap (λ ns. (before + length one) ∷ ns) (one_more_count (before + length one) chunks chunk ∙ ap (λ n. counts (before + length one) chunks ++ n ∷ []) same)
-
 -- one chunk more
-pub pushed_chunk : (chunks : List (List Entry)) (ends : List ℕ) (chunk : List Entry) (end : ℕ) → ends ≡ counts 0 chunks → end ≡ length (on_end chunks) + length chunk → ends ++ end ∷ [] ≡ counts 0 (chunks ++ chunk ∷ [])
+pub pushed_chunk : (chunks : List (List Entry)) (ends : List ℕ) (chunk : List Entry) (end : ℕ) → ends ≡ ends_of 0 chunks → end ≡ length (on_end chunks) + length chunk → ends ++ end ∷ [] ≡ ends_of 0 (chunks ++ chunk ∷ [])
 pushed_chunk chunks ends chunk end are is =
     let same : end ≡ 0 + length (on_end chunks) + length chunk = omega (arith, is) in
-    (λ i. are i ++ same i ∷ []) ∙ sym (one_more_count 0 chunks chunk)
+    (λ i. are i ++ same i ∷ []) ∙ sym (ends_append 0 chunks (chunk ∷ []))
 
 pub more_are : (chunks chunks' : List (List Entry)) (ends ends' : List ℕ) (chunk : List Entry) (end : ℕ) → AreChunks chunks ends → chunks' ≡ chunks ++ chunk ∷ [] → ends' ≡ ends ++ end ∷ [] → end ≡ length (on_end chunks) + length chunk → Rises (on_end chunks ++ chunk) → AreChunks chunks' ends'
 more_are chunks chunks' ends ends' chunk end are more ends_more is rises =
     record {
-      ends_are = ends_more ∙ pushed_chunk chunks ends chunk end are.ends_are is ∙ ap (counts 0) (sym more);
+      ends_are = ends_more ∙ pushed_chunk chunks ends chunk end are.ends_are is ∙ ap (ends_of 0) (sym more);
       rises = subst Rises (sym (ap on_end more ∙ on_end-push chunks chunk)) rises;
     }
 
 -- the last chunk with one group more
 pub record LastMore (chunks' : List (List Entry)) (ends' : List ℕ) (run : List Entry) : Type 0 where
-  pub ends_are : ends' ≡ counts 0 chunks'
+  pub ends_are : ends' ≡ ends_of 0 chunks'
   pub is : on_end chunks' ≡ run
 
 pub last_whole : (chunks : List (List Entry)) (last : ℕ) (chunk : List Entry) → length chunks ≡ last + 1 → slice_get chunks last ≡ Some chunk → on_end chunks ≡ on_end (take last chunks) ++ chunk
 last_whole chunks last chunk many is = ap on_end (sym (take_all (last + 1) chunks (omega (arith, many)))) ∙ next_on_end chunks last chunk is
 
-pub last_more : (chunks : List (List Entry)) (ends : List ℕ) (last : ℕ) (chunk more : List Entry) (end : ℕ) → ends ≡ counts 0 chunks → length chunks ≡ last + 1 → slice_get chunks last ≡ Some chunk → end ≡ length (on_end chunks) + length more
+pub last_more : (chunks : List (List Entry)) (ends : List ℕ) (last : ℕ) (chunk more : List Entry) (end : ℕ) → ends ≡ ends_of 0 chunks → length chunks ≡ last + 1 → slice_get chunks last ≡ Some chunk → end ≡ length (on_end chunks) + length more
     → LastMore (slice_set chunks last (chunk ++ more)) (slice_set ends last end) (on_end chunks ++ more)
 last_more chunks ends last chunk more end are many is counted =
     let front : List (List Entry) = take last chunks in
@@ -228,27 +221,27 @@ last_more chunks ends last chunk more end are many is counted =
     let long = length-take last chunks in
     let taken : length front ≡ last = omega (arith, long, many) in
     let new : slice_set chunks last (chunk ++ more) ≡ front ++ (chunk ++ more) ∷ [] = ap (λ cs. slice_set cs last (chunk ++ more)) all ∙ set_between front [] chunk (chunk ++ more) last taken in
-    let old_ends : ends ≡ counts 0 front ++ (0 + length (on_end front) + length chunk) ∷ [] = are ∙ ap (counts 0) all ∙ one_more_count 0 front chunk in
-    let new_ends : slice_set ends last end ≡ counts 0 front ++ end ∷ [] =
-    ap (λ es. slice_set es last end) old_ends ∙ set_between (counts 0 front) [] (0 + length (on_end front) + length chunk) end last (counts_long 0 front ∙ taken) in
+    let old_ends : ends ≡ ends_of 0 front ++ (0 + length (on_end front) + length chunk) ∷ [] = are ∙ ap (ends_of 0) all ∙ ends_append 0 front (chunk ∷ []) in
+    let new_ends : slice_set ends last end ≡ ends_of 0 front ++ end ∷ [] =
+    ap (λ es. slice_set es last end) old_ends ∙ set_between (ends_of 0 front) [] (0 + length (on_end front) + length chunk) end last (ends_long 0 front ∙ taken) in
     let whole = ap length (last_whole chunks last chunk many is) ∙ length-append (on_end front) chunk in
     let both = length-append chunk more in
     let same : end ≡ 0 + length (on_end front) + length (chunk ++ more) = omega (arith, counted, whole, both) in
     record {
-      ends_are = new_ends ∙ ap (λ n. counts 0 front ++ n ∷ []) same ∙ sym (one_more_count 0 front (chunk ++ more)) ∙ ap (counts 0) (sym new);
+      ends_are = new_ends ∙ ap (λ n. ends_of 0 front ++ n ∷ []) same ∙ sym (ends_append 0 front ((chunk ++ more) ∷ [])) ∙ ap (ends_of 0) (sym new);
       is = ap on_end new ∙ on_end-push front (chunk ++ more) ∙ sym (append_assoc (on_end front) chunk more) ∙ ap (λ es. es ++ more) (sym (last_whole chunks last chunk many is));
     }
 
 -- another chunk in the place of one that has as many groups
-same_counts : (before : ℕ) (front back : List (List Entry)) (chunk new : List Entry) → length new ≡ length chunk → counts before (front ++ new ∷ back) ≡ counts before (front ++ chunk ∷ back)
-same_counts before [] back chunk new long = λ i. (before + long i) ∷ counts (before + long i) back
+same_counts : (before : ℕ) (front back : List (List Entry)) (chunk new : List Entry) → length new ≡ length chunk → ends_of before (front ++ new ∷ back) ≡ ends_of before (front ++ chunk ∷ back)
+same_counts before [] back chunk new long = λ i. (before + long i) ∷ ends_of (before + long i) back
 same_counts before (one ∷ front) back chunk new long = ap (λ ns. (before + length one) ∷ ns) (same_counts (before + length one) front back chunk new long)
 
-pub set_counts : (chunks : List (List Entry)) (at : ℕ) (chunk new : List Entry) → slice_get chunks at ≡ Some chunk → length new ≡ length chunk → counts 0 (slice_set chunks at new) ≡ counts 0 chunks
+pub set_counts : (chunks : List (List Entry)) (at : ℕ) (chunk new : List Entry) → slice_get chunks at ≡ Some chunk → length new ≡ length chunk → ends_of 0 (slice_set chunks at new) ≡ ends_of 0 chunks
 set_counts chunks at chunk new is long =
-    ap (counts 0) (set_at chunks at chunk new is)
+    ap (ends_of 0) (set_at chunks at chunk new is)
     ∙ same_counts 0 (take at chunks) (drop (at + 1) chunks) chunk new long
-    ∙ ap (counts 0) (sym (split_at chunks at chunk is))
+    ∙ ap (ends_of 0) (sym (split_at chunks at chunk is))
 
 pub set_on_end : (chunks : List (List Entry)) (at : ℕ) (chunk new : List Entry) → slice_get chunks at ≡ Some chunk → on_end (slice_set chunks at new) ≡ on_end (take at chunks) ++ (new ++ on_end (drop (at + 1) chunks))
 set_on_end chunks at chunk new is = ap on_end (set_at chunks at chunk new is) ∙ on_end-append (take at chunks) (new ∷ drop (at + 1) chunks)

@@ -10,9 +10,10 @@ use Rattle.std.specs.List.{AllByRecursion}
 use Rattle.list_laws.specs.Each.{each_append, each_front, each_weaker}
 use Rattle.group_runs.specs.Runs.{Entry, Rises}
 use Rattle.group_runs.specs.Places.{IsBelow, IsNotBelow, AllBelow, IsPlaceOf}
-use Rattle.group_runs.specs.Chunks.{on_end, IsAmong, AreBefore, ComeInto}
-use Rattle.group_runs.proofs.PlaceLaws.{key_total, drop_at}
-use Rattle.group_runs.proofs.StateLaws.{all_at}
+use Rattle.packed_rows.specs.RowsOnEnd.{on_end}
+use Rattle.group_runs.specs.Chunks.{IsAmong, AreBefore, ComeInto}
+use Rattle.group_runs.specs.PlaceLaws.{key_total, drop_at}
+use Rattle.group_runs.specs.StateLaws.{all_at}
 use Rattle.group_runs.proofs.JoinLaws.{rises_before}
 use Rattle.group_runs.proofs.ChunkLaws.{got, got_low, get_taken, get_dropped, next_start, front_on_end, back_on_end, front_few, on_end-append}
 use Rattle.group_runs.proofs.PartLaws.{taken_parts}

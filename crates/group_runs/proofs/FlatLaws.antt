@@ -9,15 +9,8 @@ use Rattle.std.specs.List.{flat_map, AllByRecursion}
 use Rattle.std.specs.List.Sorted.{IsStrictlySortedBy}
 use Rattle.std.specs.Ordering.{nat_cmp}
 use Rattle.std.specs.Cmp.Lexicographic.{slice_cmp}
+use Rattle.packed_rows.specs.RowsOnEndLaws.{between_seams}
 use Rattle.group_runs.specs.Runs.{Entry, packed_keys, keys_on_end, states_on_end, end_of, ends_of, cut, all_cut, LieAs, AreRun, Rises, IsEndFrom, moved}
-
--- what lies between two others
-pub between_seams : {X : Type 0} (xs ys zs : List X) → slice_range (xs ++ (ys ++ zs)) (length xs) (length xs + length ys) ≡ ys
-between_seams xs ys zs =
-    let long : length xs + length ys - length xs ≡ length ys = omega arith in
-    ap (take (length xs + length ys - length xs)) (drop-append_seam xs (ys ++ zs))
-    ∙ ap (λ n. take n (ys ++ zs)) long
-    ∙ take-append_seam ys zs
 
 cut_behind : (keys states : List ℕ) (run : List Entry) → cut (keys ++ keys_on_end run) (states ++ states_on_end run) (length keys, length states) (ends_of (length keys, length states) run) ≡ run
 cut_behind keys states [] = refl

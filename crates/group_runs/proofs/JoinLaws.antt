@@ -14,16 +14,18 @@ use Rattle.grouping_model.specs.Aggregates.{Partial}
 use Rattle.grouping_model.specs.Query.{Query}
 use Rattle.grouping_model.specs.Grouping.{Group}
 use Rattle.grouping_model.specs.Parts.{keys_of, partials_at}
-use Rattle.grouping_model.proofs.DatumOrder.{row_cmp_total}
+use Rattle.grouping_model.specs.DatumOrderLaws.{row_cmp_total}
 use Rattle.having_filter.specs.Kept.{key_kinds}
 use Rattle.group_runs.specs.Runs.{Entry, packed_keys, Rises}
 use Rattle.group_runs.specs.Standing.{AreGroups}
 use Rattle.group_runs.specs.Adding.{merged, group_added, groups_added}
 use Rattle.group_runs.specs.Steps.{HasRoomForRun, AddsRun}
 use Rattle.group_runs.specs.Chunks.{AreBefore}
-use Rattle.group_runs.proofs.EntryLaws.{groups_raised}
-use Rattle.group_runs.proofs.MergeLaws.{puts_rise, puts_long, keys_of-groups_added}
-use Rattle.group_runs.proofs.RunLaws.{groups_long, keys_packed, keys_of_kinds, rises_keys}
+use Rattle.group_runs.specs.EntryLaws.{groups_raised}
+use Rattle.group_runs.specs.MergeLaws.{puts_rise, keys_of-groups_added}
+use Rattle.group_runs.proofs.MergeLaws.{puts_long}
+use Rattle.group_runs.specs.RunLaws.{groups_long, keys_packed, keys_of_kinds}
+use Rattle.group_runs.proofs.RunLaws.{rises_keys}
 use Rattle.group_runs.proofs.SpliceLaws.{AllBelow, inserted_behind, found_behind, parted, together, packed_rise, groups_below}
 
 -- ---- groups before others

@@ -9,3 +9,4 @@ pub mod JoinLaws
 pub mod ChunkLaws
 pub mod PartLaws
 pub mod ComeLaws
+pub mod MergedLaws

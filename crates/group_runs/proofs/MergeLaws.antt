@@ -1,4 +1,5 @@
 -- Groups after more rows and more groups.
+-- ---- rows
 use Rattle.std.specs.Prelude.{◌≡◌, refl, ℕ, zero, suc, ◌+◌, ◌≤◌, Bool, true, false, cond, ◌||◌, List, [], ◌∷◌, ◌++◌, length, map, find, take, Some, None, option_map, slice_get}
 use Rattle.std.proofs.Common.{sym, ◌∙◌, ap, arith, append_assoc, append-nil}
 use Rattle.std.proofs.lemmas.List.{map-append}
@@ -17,14 +18,14 @@ use Rattle.grouping_model.specs.Condition.{is_met}
 use Rattle.grouping_model.specs.Query.{Query}
 use Rattle.grouping_model.specs.Grouping.{selected, key_of, keys, group, partials, column_of, Group, part}
 use Rattle.grouping_model.specs.Parts.{keys_of, partials_at, with_row}
-use Rattle.grouping_model.proofs.DatumOrder.{row_cmp_total, row_cmp_ties, same_row-is}
-use Rattle.grouping_model.proofs.Members.{false_is_not_true}
-use Rattle.grouping_model.proofs.KeyLaws.{group_append, keys_rise}
-use Rattle.grouping_model.proofs.PartLaws.{same_row-swap, found_at, empty_group, part_passes, partials-append}
+use Rattle.grouping_model.specs.DatumOrderLaws.{row_cmp_total, row_cmp_ties}
+use Rattle.grouping_model.specs.MemberLaws.{false_is_not_true}
+use Rattle.grouping_model.specs.KeyLaws.{group_append, keys_rise}
+use Rattle.grouping_model.specs.PartLaws.{same_row-swap, found_at, empty_group}
+use Rattle.grouping_model.proofs.PartLaws.{part_passes, partials-append}
 use Rattle.grouping_model.proofs.GroupLaws.{put-map, part_one_more}
 use Rattle.group_runs.specs.Adding.{row_added, rows_added, merged, group_added, groups_added}
-
--- ---- rows
+use Rattle.group_runs.specs.MergeLaws.{AreApart, apart_from, nothing_rises, puts, puts_rise, rising_apart}
 
 pub rows_added_more : (q : Query) (gs : List Group) (rows : List Row) (row : Row) → rows_added q gs (rows ++ row ∷ []) ≡ row_added q (rows_added q gs rows) row
 rows_added_more q gs [] row = refl
@@ -45,19 +46,9 @@ rows_added_part q kinds rows (row ∷ more) (first, has) =
     ∙ rows_added_part q kinds (rows ++ row ∷ []) more has
     ∙ ap (part q) (append_assoc rows (row ∷ []) more)
 
--- ---- keys that are put one after the other
-
-abbrev pub puts : List Row → List Row → List Row
-puts ks [] = ks
-puts ks (l ∷ ls) = puts (put row_cmp l ks) ls
-
 pub puts-append : (ks ls ms : List Row) → puts ks (ls ++ ms) ≡ puts (puts ks ls) ms
 puts-append ks [] ms = refl
 puts-append ks (l ∷ ls) ms = puts-append (put row_cmp l ks) ls ms
-
-pub puts_rise : (ks ls : List Row) → IsStrictlySortedBy row_cmp ks → IsStrictlySortedBy row_cmp (puts ks ls)
-puts_rise ks [] rising = rising
-puts_rise ks (l ∷ ls) rising = puts_rise (put row_cmp l ks) ls (put-rises row_cmp_total l ks rising)
 
 pub among-puts : (key : Row) (ks ls : List Row) → is_among row_cmp key (puts ks ls) ≡ (is_among row_cmp key ks || is_among row_cmp key ls)
 among-puts key ks [] = or_false (is_among row_cmp key ks)
@@ -70,36 +61,11 @@ among-puts key ks (l ∷ ls) =
     ∙ ap (λ b. b || is_among row_cmp key ls) (among-put row_cmp_total key l ks ∙ or_comm (eq_by_cmp row_cmp key l) (is_among row_cmp key ks))
     ∙ or_assoc (is_among row_cmp key ks) (eq_by_cmp row_cmp key l) (is_among row_cmp key ls)
 
-pub nothing_rises : IsStrictlySortedBy row_cmp []
-unfolding IsStrictlySortedBy
-nothing_rises = tt
-
 -- put from nothing, they are the distinct ones
 pub puts_all : (ls : List Row) → puts [] ls ≡ distinct row_cmp ls
 puts_all ls =
     same_members row_cmp_total row_cmp_ties (puts [] ls) (distinct row_cmp ls) (puts_rise [] ls nothing_rises) (distinct-rises row_cmp_total ls)
     (λ key. among-puts key [] ls ∙ sym (among-distinct row_cmp_total key ls))
-
-pub keys_of-insert : (gs : List Group) (k : Row) (ps : List Partial) → keys_of (insert_entry row_cmp gs k ps) ≡ put row_cmp k (keys_of gs)
-keys_of-insert [] k ps = refl
-keys_of-insert (g ∷ gs) k ps =
-    elim (row_cmp k g.0) as (λ r. keys_of (match_ordering r ((k, ps) ∷ g ∷ gs) ((g.0, ps) ∷ gs) (g ∷ insert_entry row_cmp gs k ps)) ≡ match_ordering r (k ∷ keys_of (g ∷ gs)) (keys_of (g ∷ gs)) (g.0 ∷ put row_cmp k (keys_of gs))) [
-      | Less ↦ refl
-      | Equal ↦ refl
-      | Greater ↦ ap (λ ks. g.0 ∷ ks) (keys_of-insert gs k ps)
-    ]
-
-pub keys_of-rows_added : (q : Query) (gs : List Group) (rows : List Row) → keys_of (rows_added q gs rows) ≡ puts (keys_of gs) (map (key_of q) (selected q rows))
-keys_of-rows_added q gs [] = refl
-keys_of-rows_added q gs (row ∷ rows) =
-    elim (is_met (column_of row) q.condition) as (λ b. keys_of (rows_added q (cond b (with_row q gs row) gs) rows) ≡ puts (keys_of gs) (map (key_of q) (cond b (row ∷ selected q rows) (selected q rows)))) [
-      | true ↦ keys_of-rows_added q (with_row q gs row) rows ∙ ap (λ ks. puts ks (map (key_of q) (selected q rows))) (keys_of-insert gs (key_of q row) _)
-      | false ↦ keys_of-rows_added q gs rows
-    ]
-
-pub keys_of-groups_added : (q : Query) (gs more : List Group) → keys_of (groups_added q gs more) ≡ puts (keys_of gs) (keys_of more)
-keys_of-groups_added q gs [] = refl
-keys_of-groups_added q gs (g ∷ more) = keys_of-groups_added q (group_added q gs g) more ∙ ap (λ ks. puts ks (keys_of more)) (keys_of-insert gs g.0 _)
 
 -- there are not more distinct ones than there are
 put_long : (k : Row) (ks : List Row) → length (put row_cmp k ks) ≤ length ks + 1
@@ -127,32 +93,9 @@ distinct_few (k ∷ ks) =
     omega (arith, rest, one)
 
 -- ---- groups
-
 pub groups_added_more : (q : Query) (gs more : List Group) (g : Group) → groups_added q gs (more ++ g ∷ []) ≡ group_added q (groups_added q gs more) g
 groups_added_more q gs [] g = refl
 groups_added_more q gs (h ∷ more) g = groups_added_more q (group_added q gs h) more g
-
--- each key is apart from those behind it
-abbrev pub AreApart : List Row → Type 0
-AreApart [] = Unit {0}
-AreApart (k ∷ ks) = (is_among row_cmp k ks ≡ false) × AreApart ks
-
-pub rising_apart : (ks : List Row) → IsStrictlySortedBy row_cmp ks → AreApart ks
-unfolding IsStrictlySortedBy
-rising_apart [] rising = tt
-rising_apart (k ∷ ks) (above, rising) = (none_among ks above, rising_apart ks rising)
-  where
-    none_among : (ls : List Row) → AllByRecursion (λ z. row_cmp k z ≡ Less) ls → is_among row_cmp k ls ≡ false
-    none_among [] all = refl
-    none_among (l ∷ ls) (below, all) = ap (λ r. is_eq r || is_among row_cmp k ls) below ∙ none_among ls all
-
--- what is among the keys behind one is not that one
-pub apart_from : (k key : Row) (ks : List Row) → is_among row_cmp k ks ≡ false → is_among row_cmp key ks ≡ true → same_row key k ≡ false
-apart_from k key ks none among =
-    elim (same_row key k) as (λ b. same_row key k ≡ b → b ≡ false) [
-      | true ↦ λ e. false_is_not_true (sym none ∙ ap (λ k. is_among row_cmp k ks) (sym ((same_row-is key k).0 e)) ∙ among)
-      | false ↦ λ e. refl
-    ] refl
 
 -- what is found at another key after an insertion
 pub found_others : (k l : Row) (v : List Partial) (gs : List Group) → same_row l k ≡ false → partials_at k (insert_entry row_cmp gs l v) ≡ partials_at k gs
@@ -200,7 +143,6 @@ none_before (h ∷ gs) (suc i) g (none, apart) e =
     ∙ none_before gs i g apart e
 
 -- ---- the part of two lists
-
 abbrev with_values : (Row → List Partial) → List Row → List Group
 with_values f ks = map (λ key. (key, f key)) ks
 

@@ -1,43 +1,30 @@
 -- Where keys stand in a run.
 use Rattle.std.specs.Prelude.{◌≡◌, ◌≢◌, refl, ℕ, zero, suc, ◌+◌, ◌-◌, ◌<◌, ◌≤◌, List, [], ◌∷◌, ◌++◌, length, take, drop, Some, slice_get, slice_range}
 use Rattle.std.proofs.Common.{sym, ◌∙◌, ap, subst, arith, add-one, append_assoc}
-use Rattle.std.proofs.lemmas.List.{drop-take}
+use Rattle.std.proofs.lemmas.List.{drop-take, take-append-drop, length-append, length-take}
 use Rattle.std.specs.declared.cmp.Ordering.TheVariants.{Less, Equal, Greater}
 use Rattle.std.specs.Ordering.{nat_cmp, ordering_reverse, is_lt}
 use Rattle.std.specs.declared.cmp.Ordering.{Ordering}
-use Rattle.grouping_model.proofs.Members.{false_is_not_true}
-use Rattle.std.specs.Cmp.{IsTotalOrder}
+use Rattle.grouping_model.specs.MemberLaws.{false_is_not_true}
 use Rattle.std.specs.FinMap.{nat_cmp-IsAntisymmetric, slice_cmp-IsAntisymmetric}
 use Rattle.std.proofs.lemmas.List.Folds.{drop_split}
-use Rattle.std.proofs.lemmas.List.{take-append-drop, length-append, length-take}
 use Rattle.std.proofs.Math.Seq.{take-add, take-append_seam}
-use Rattle.std.specs.Cmp.Lexicographic.{slice_cmp, on_texts}
+use Rattle.std.specs.Cmp.Lexicographic.{slice_cmp}
 use Rattle.std.specs.List.{AllByRecursion}
 use Rattle.std.specs.List.Sorted.{IsStrictlySortedBy}
 use Rattle.list_laws.specs.Each.{each_append, each_dropped, each_weaker}
 use Rattle.group_runs.specs.Runs.{Entry, packed_keys, Rises}
 use Rattle.group_runs.specs.Places.{IsBelow, IsNotBelow, AllBelow, AllAbove, AreUpTo, HasKey, HasKeyAt, IsBetween, IsPlaceOf}
-
--- packed keys are in a total order
-pub key_total : IsTotalOrder (slice_cmp nat_cmp)
-key_total = on_texts (λ (key : List ℕ). key)
+use Rattle.group_runs.specs.PlaceLaws.{drop_at, key_total}
 
 -- ---- parts of lists
-
 pub rises_drop : (n : ℕ) (run : List Entry) → Rises run → Rises (drop n run)
 unfolding IsStrictlySortedBy
 rises_drop zero run rises = rises
 rises_drop (suc n) [] rises = rises
 rises_drop (suc n) (e ∷ run) (above, rises) = rises_drop n run rises
 
--- a list from a place on, with the member there
-pub drop_at : {X : Type 0} (xs : List X) (n : ℕ) (x : X) → slice_get xs n ≡ Some x → drop n xs ≡ x ∷ drop (n + 1) xs
-drop_at [] n x e = absurd cc
-drop_at (y ∷ xs) zero x e = let same : y ≡ x = cc in ap (λ y. y ∷ xs) same
-drop_at (y ∷ xs) (suc n) x e = drop_at xs n x e ∙ ap (λ k. x ∷ drop k xs) (add-one n) ∙ ap (λ k. x ∷ drop k (y ∷ xs)) (sym (add-one (suc n)))
-
 -- ---- below a key
-
 -- the key of a group that is below one of a list that rises
 before_below : (run : List Entry) (i : ℕ) (e : Entry) (key : List ℕ) → Rises run → slice_get run i ≡ Some e → IsBelow key e → AllBelow key (take (i + 1) run)
 unfolding IsStrictlySortedBy
@@ -73,7 +60,6 @@ not_below_from (x ∷ run) zero e key (above, rises) at high =
 not_below_from (x ∷ run) (suc i) e key (above, rises) at high = not_below_from run i e key rises at high
 
 -- ---- a key that is there
-
 pub key_at : (run : List Entry) (place : ℕ) (e : Entry) → slice_get run place ≡ Some e → HasKeyAt run place e.0
 key_at [] place e at = absurd cc
 key_at (x ∷ run) zero e at = let same : x ≡ e = cc in ap (λ (x : Entry). Some x.0) same
@@ -139,7 +125,6 @@ pub found_place : (run : List Entry) (from : ℕ) (key : List ℕ) (place : ℕ)
 found_place run from key place rises below is has = place_has run key place has.0 rises (below_front run from key place below is) is.not_below has.1
 
 -- ---- a key that is not there
-
 above_all : (run : List Entry) (key : List ℕ) → Rises run → AllByRecursion (IsNotBelow key) run → (HasKeyAt run 0 key → ⊥) → AllAbove key run
 unfolding IsStrictlySortedBy
 above_all [] key rises high none = tt
@@ -177,7 +162,6 @@ rises_between (e ∷ front) back key states (over, rises) (low, below) above = (
     through (x ∷ es) (first, all) = (first, through es all)
 
 -- ---- what is done of a merge, and what is left
-
 -- some groups move from what is left to what is done
 pub some_moved : (done old : List Entry) (from place : ℕ) → from ≤ place → done ++ drop from old ≡ (done ++ slice_range old from place) ++ drop place old
 some_moved done old from place low = ap (λ es. done ++ es) (drop_split old from place low) ∙ sym (append_assoc done (slice_range old from place) (drop place old))
@@ -287,7 +271,6 @@ up_to_here front back key states place long below =
     (each_append (λ (e : Entry). slice_cmp nat_cmp e.0 key ≢ Greater) front ((key, states) ∷ []) (below_up_to key front below) (itself_up_to key, tt))
 
 -- ---- what a search narrows down
-
 pub between_within : (run : List Entry) (from low high low' high' : ℕ) (key : List ℕ) → IsBetween run from low high key → IsBetween run low low' high' key → IsBetween run from low' high' key
 between_within run from low high low' high' key outer inner =
     let first = outer.behind in

@@ -1,6 +1,7 @@
 -- Runs and the groups that they stand for.
-use Rattle.std.specs.Prelude.{◌≡◌, refl, ℕ, zero, suc, ◌+◌, true, false, cond, List, [], ◌∷◌, ◌++◌, length, map, find, take, Some, option_map, IfSome, slice_get}
-use Rattle.std.proofs.Common.{sym, ◌∙◌, ap, subst, arith, add-one, append-nil}
+-- ---- places in lists
+use Rattle.std.specs.Prelude.{◌≡◌, ℕ, true, false, cond, List, [], ◌∷◌, ◌++◌, map, find, take, Some, option_map, IfSome, slice_get}
+use Rattle.std.proofs.Common.{sym, ◌∙◌, subst, append-nil}
 use Rattle.std.proofs.lemmas.List.{map-append}
 use Rattle.std.specs.declared.cmp.Ordering.{Ordering}
 use Rattle.std.specs.declared.cmp.Ordering.TheVariants.{Less}
@@ -17,59 +18,16 @@ use Rattle.packed_rows.proofs.PackingOrder.{packed_order, row_apart}
 use Rattle.agg_library.specs.StateRows.{AllWithin}
 use Rattle.having_filter.specs.Kept.{key_kinds}
 use Rattle.group_runs.specs.Runs.{Entry, packed_keys, Rises}
-use Rattle.group_runs.specs.Standing.{StandsFor, AreGroups}
+use Rattle.group_runs.specs.Standing.{AreGroups}
 use Rattle.group_runs.specs.Adding.{groups_added}
 use Rattle.group_runs.proofs.StateLaws.{all_within}
-use Rattle.group_runs.proofs.MergeLaws.{AreApart, rising_apart, found_still, none_before}
-
--- ---- places in lists
-
-pub take_found : {X : Type 0} (xs : List X) (i : ℕ) (x : X) → slice_get xs i ≡ Some x → take (i + 1) xs ≡ take i xs ++ x ∷ []
-take_found [] i x e = absurd cc
-take_found (y ∷ xs) zero x e = let same : y ≡ x = cc in ap (λ y. y ∷ []) same
-take_found (y ∷ xs) (suc i) x e = ap (λ k. take k (y ∷ xs)) (add-one (suc i)) ∙ ap (λ k. y ∷ take k xs) (sym (add-one i)) ∙ ap (λ zs. y ∷ zs) (take_found xs i x e)
+use Rattle.group_runs.specs.MergeLaws.{AreApart, rising_apart}
+use Rattle.group_runs.proofs.MergeLaws.{found_still, none_before}
+use Rattle.group_runs.specs.RunLaws.{keys_of_kinds, keys_packed}
 
 -- ---- packed rows
-
 pub packed_once : (kinds : List Kind) (bytes : List ℕ) (x y : Row) → HasKinds kinds x → HasKinds kinds y → bytes ≡ packing x → bytes ≡ packing y → x ≡ y
 packed_once kinds bytes x y hx hy ex ey = (row_apart kinds x y [] [] hx hy (append-nil (packing x) ∙ sym ex ∙ ey ∙ sym (append-nil (packing y)))).0
-
--- ---- runs
-
--- an entry at a place, and the group that it stands for
-pub record GroupAt (q : Query) (most : ℕ) (groups : List Group) (i : ℕ) (entry : Entry) : Type 0 where
-  pub group : Group
-  pub at : slice_get groups i ≡ Some group
-  pub stands : StandsFor q most entry group
-
-pub group_at : (q : Query) (most : ℕ) (run : List Entry) (groups : List Group) (i : ℕ) (entry : Entry) → AreGroups q most run groups → slice_get run i ≡ Some entry → GroupAt q most groups i entry
-group_at q most [] groups i entry are at = absurd cc
-group_at q most (e ∷ run) [] i entry are at = absurd are
-group_at q most (e ∷ run) (g ∷ groups) zero entry (first, rest) at =
-    let same : e ≡ entry = cc in
-    record { group = g; at = refl; stands = subst (λ e. StandsFor q most e g) same first }
-group_at q most (e ∷ run) (g ∷ groups) (suc i) entry (first, rest) at =
-    let found = group_at q most run groups i entry rest at in
-    record { group = found.group; at = found.at; stands = found.stands }
-
-pub groups_long : (q : Query) (most : ℕ) (run : List Entry) (groups : List Group) → AreGroups q most run groups → length run ≡ length groups
-groups_long q most [] [] are = refl
-groups_long q most [] (g ∷ groups) are = absurd are
-groups_long q most (e ∷ run) [] are = absurd are
-groups_long q most (e ∷ run) (g ∷ groups) (first, rest) = let long : length run ≡ length groups = groups_long q most run groups rest in omega (arith, long)
-
--- the keys of a run
-pub keys_packed : (q : Query) (most : ℕ) (run : List Entry) (groups : List Group) → AreGroups q most run groups → packed_keys run ≡ map packing (keys_of groups)
-keys_packed q most [] [] are = refl
-keys_packed q most [] (g ∷ groups) are = absurd are
-keys_packed q most (e ∷ run) [] are = absurd are
-keys_packed q most (e ∷ run) (g ∷ groups) (first, rest) = λ i. first.key i ∷ keys_packed q most run groups rest i
-
-pub keys_of_kinds : (q : Query) (most : ℕ) (run : List Entry) (groups : List Group) → AreGroups q most run groups → AllByRecursion (HasKinds (key_kinds q)) (keys_of groups)
-keys_of_kinds q most [] [] are = tt
-keys_of_kinds q most [] (g ∷ groups) are = absurd are
-keys_of_kinds q most (e ∷ run) [] are = absurd are
-keys_of_kinds q most (e ∷ run) (g ∷ groups) (first, rest) = (first.of_kinds, keys_of_kinds q most run groups rest)
 
 -- rising packed keys are those of rising keys
 pub rises_keys : (kinds : List Kind) (ks : List Row) → AllByRecursion (HasKinds kinds) ks → IsStrictlySortedBy (slice_cmp nat_cmp) (map packing ks) → IsStrictlySortedBy row_cmp ks
@@ -103,7 +61,6 @@ within_at q m n old run groups more i g are new rises at =
     (found_within q m old groups g.0 are)
 
 -- ---- fronts
-
 -- the front of a rising list rises
 pub front_rises : {X : Type 0} (cmp : X → X → Ordering) (xs ys : List X) → IsStrictlySortedBy cmp (xs ++ ys) → IsStrictlySortedBy cmp xs
 unfolding IsStrictlySortedBy

@@ -14,8 +14,8 @@ use Rattle.grouping_model.specs.Combining.{combine_all}
 use Rattle.grouping_model.specs.Query.{Query}
 use Rattle.grouping_model.specs.Grouping.{Group}
 use Rattle.grouping_model.specs.Parts.{functions, keys_of, partials_at}
-use Rattle.grouping_model.proofs.DatumOrder.{row_cmp_total}
-use Rattle.grouping_model.proofs.PartLaws.{same_row-swap}
+use Rattle.grouping_model.specs.DatumOrderLaws.{row_cmp_total}
+use Rattle.grouping_model.specs.PartLaws.{same_row-swap}
 use Rattle.packed_rows.specs.Packing.{packing}
 use Rattle.packed_rows.proofs.PackingOrder.{packed_order}
 use Rattle.agg_library.specs.StateRows.{AllWithin}
@@ -25,9 +25,11 @@ use Rattle.group_runs.specs.Standing.{StandsFor, AreGroups}
 use Rattle.group_runs.specs.Adding.{merged, group_added}
 use Rattle.group_runs.specs.Steps.{HasRoomForGroup, AddsGroup, HaveRoomForMore, CombineWith}
 use Rattle.group_runs.specs.Places as places
-use Rattle.group_runs.proofs.StateLaws.{states_raised, states_lowered}
+use Rattle.group_runs.specs.StateLaws.{states_raised}
+use Rattle.group_runs.proofs.StateLaws.{states_lowered}
 use Rattle.group_runs.proofs.EntryLaws.{key_order}
-use Rattle.group_runs.proofs.RunLaws.{packed_once, keys_packed, keys_of_kinds}
+use Rattle.group_runs.specs.RunLaws.{keys_packed, keys_of_kinds}
+use Rattle.group_runs.proofs.RunLaws.{packed_once}
 
 -- ---- behind lower keys
 

@@ -1,23 +1,15 @@
 -- Runs in chunks. All of this is our own.
 use Rattle.std.specs.Prelude.{◌≡◌, ℕ, ◌+◌, ◌<◌, ◌≤◌, List, [], ◌∷◌, length, take, drop, Some, slice_get, slice_set}
-use Rattle.std.specs.List.{flat_map, AllByRecursion}
+use Rattle.std.specs.List.{AllByRecursion}
+use Rattle.packed_rows.specs.RowsOnEnd.{on_end, ends_of}
 use Rattle.grouping_model.specs.Query.{Query}
 use Rattle.group_runs.specs.Runs.{Entry, Rises}
 use Rattle.group_runs.specs.Places.{AllBelow}
 use Rattle.group_runs.specs.Steps.{AddsRun}
 
--- the groups of some chunks, one chunk after the other
-abbrev pub on_end : List (List Entry) → List Entry
-on_end chunks = flat_map (λ chunk. chunk) chunks
-
--- how many groups there are up to the end of each chunk, behind so many others
-abbrev pub counts : ℕ → List (List Entry) → List ℕ
-counts before [] = []
-counts before (chunk ∷ chunks) = (before + length chunk) ∷ counts (before + length chunk) chunks
-
 -- chunks make up a run, and this is where each ends
 pub record AreChunks (chunks : List (List Entry)) (ends : List ℕ) : Type 0 where
-  pub ends_are : ends ≡ counts 0 chunks
+  pub ends_are : ends ≡ ends_of 0 chunks
   pub rises : Rises (on_end chunks)
 
 -- the group at a place is in this chunk

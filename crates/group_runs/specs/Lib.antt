@@ -4,3 +4,8 @@ pub mod Adding
 pub mod Steps
 pub mod Places
 pub mod Chunks
+pub mod EntryLaws
+pub mod MergeLaws
+pub mod PlaceLaws
+pub mod RunLaws
+pub mod StateLaws

@@ -6,7 +6,8 @@ ghost use Rattle.having_filter.specs.Meaning.{meaning};
 ghost use Rattle.group_runs.specs.Runs.{packed_keys};
 ghost use Rattle.group_runs.specs.Places.{AllBelow, AreUpTo, HasKey};
 ghost use Rattle.group_runs.specs.Steps.{HasRoomForGroup, AddsGroup, HasRoomForRun, AddsRun};
-ghost use Rattle.group_runs.specs.Chunks.{on_end, AddChunks};
+ghost use Rattle.packed_rows.specs.RowsOnEnd.{on_end};
+ghost use Rattle.group_runs.specs.Chunks.{AddChunks};
 
 use crate::chunk::Chunk;
 use crate::chunks::Chunks;

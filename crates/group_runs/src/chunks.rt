@@ -6,11 +6,12 @@ ghost use Rattle.grouping_model.specs.Parts.{functions};
 ghost use Rattle.having_filter.specs.Meaning.{meaning};
 ghost use Rattle.group_runs.specs.Runs.{Entry, Rises};
 ghost use Rattle.group_runs.specs.Places.{HasStatesFor, CombinesAt};
-ghost use Rattle.group_runs.specs.Chunks.{on_end, counts, IsAmong, replaced};
+ghost use Rattle.packed_rows.specs.RowsOnEnd.{on_end, ends_of};
+ghost use Rattle.group_runs.specs.Chunks.{IsAmong, replaced};
 
 use crate::chunk::Chunk;
-use flat_rows::bound;
 use having_filter::Query;
+use packed_rows::bound;
 use std::alloc::{AllocError, Global};
 use std::marker::Model;
 
@@ -72,7 +73,7 @@ fn locate(ends: &[usize], place: usize) -> usize
 fn count_all(chunks: &[Chunk], ends: &mut Vec<usize>)
     requires one_each { length ends.old.items ≡ length chunks.now }
     requires few { length (on_end chunks.now) < 2 ^ 64 }
-    ensures { ends.new.items ≡ counts 0 chunks.now }
+    ensures { ends.new.items ≡ ends_of 0 chunks.now }
 {
     let mut count = 0;
     for at in 0..chunks.len() {

@@ -5,7 +5,7 @@ ghost use Rattle.having_filter.specs.Meaning.{meaning};
 ghost use Rattle.group_runs.specs.Runs.{Rises};
 ghost use Rattle.group_runs.specs.Places.{AllBelow, AreUpTo, HasKeyAt, IsPlaceOf};
 ghost use Rattle.group_runs.specs.Steps.{HasRoomForGroup, AddsGroup, HasRoomForRun, AddsRun};
-ghost use Rattle.group_runs.specs.Chunks.{on_end};
+ghost use Rattle.packed_rows.specs.RowsOnEnd.{on_end};
 
 use crate::chunk::Chunk;
 use crate::chunks::Chunks;

@@ -21,7 +21,7 @@ pub struct Run {
 impl Model for Run {
     ghost use Rattle.std.specs.Prelude.{List};
     ghost use Rattle.group_runs.specs.Runs.{Entry};
-    ghost use Rattle.group_runs.specs.Chunks.{on_end};
+    ghost use Rattle.packed_rows.specs.RowsOnEnd.{on_end};
 
     ghost Value = { List Entry };
 

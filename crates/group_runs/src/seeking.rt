@@ -3,7 +3,8 @@
 ghost use Rattle.std.specs.Prelude.{◌≡◌, ◌+◌, ◌^◌, ◌<◌, ◌≤◌, ◌↔◌, IsTrue, length, take, drop};
 ghost use Rattle.group_runs.specs.Runs.{Rises};
 ghost use Rattle.group_runs.specs.Places.{HasKeyAt, IsBetween, IsPlaceOf};
-ghost use Rattle.group_runs.specs.Chunks.{on_end, AreBefore, ComeInto};
+ghost use Rattle.packed_rows.specs.RowsOnEnd.{on_end};
+ghost use Rattle.group_runs.specs.Chunks.{AreBefore, ComeInto};
 
 use crate::chunks::Chunks;
 

@@ -1,12 +1,14 @@
 -- The contexts of a table in their tree, when they are made and taken back.
 use Rattle.std.specs.Prelude.{◌≡◌, ◌≢◌, refl, ℕ, zero, suc, ◌+◌, ◌<◌, ◌≤◌, ◌==◌, ◌&&◌, ◌||◌, not, nat_lt, if◌then◌else◌, Bool, true, false, cond, List, [], ◌∷◌, Option, Some, None, length, get_or, is_some}
-use Rattle.std.proofs.Common.{inl, inr, sym, ◌∙◌, ap, subst, arith}
+use Rattle.std.proofs.Common.{inl, inr, sym, ◌∙◌, ap, arith}
 use Rattle.std.proofs.lemmas.Bool.{cases_eq, cases_lt, cond-true, cond-false, eq-eqb, ne_eqb, leb-true, false_from_ne_true, false≢true}
 use Rattle.std.proofs.lemmas.List.{get_or_past}
+use Rattle.std.proofs.Math.Bool.{or-true}
+use Rattle.context_tree.specs.SlotLaws.{placed-here, placed-other, tests-agree, parent-is}
 use Rattle.chunk_contexts.specs.declared.error.ContextError.{ContextError}
 use Rattle.chunk_contexts.specs.declared.error.ContextError.TheVariants.{TooLarge}
 use Rattle.context_tree.specs.Contexts.{no_context, new_context, kind_refusal, held_by}
-use Rattle.context_tree.specs.Links.{parent_of, stamp_of, is_true_of, leads_to, is_below, is_under, cleared, placed, IsMadeBelow, IsForest}
+use Rattle.context_tree.specs.Links.{parent_of, stamp_of, is_true_of, leads_to, is_below, is_under, cleared, IsForest}
 use Rattle.context_tree.specs.Tree.{TreeState, IsWhole, IsNotMade, has_stamp, is_there, context_at, deleted, held_below, held_from}
 use Rattle.context_tree.specs.declared.context.Context.{Context}
 use Rattle.context_tree.specs.declared.error.TreeError.{TreeError}
@@ -19,23 +21,8 @@ use Rattle.group_table.specs.Standing.{IsChild, IsApart}
 use Rattle.group_table.specs.declared.children.Children.{Children}
 use Rattle.chunk_contexts.specs.declared.rooms.TheConstants.{MOST}
 
--- lists by slots, in which something is put, or some are cleared
+-- lists by slots, of which some are cleared
 module _ {X : Type 0} where
-  pub placed_here : (xs : List X) (n : ℕ) (x d : X) → n ≤ length xs → get_or (placed xs n x) n d ≡ x
-  placed_here [] zero x d low = refl
-  placed_here [] (suc n) x d low = absurd (omega (arith, low))
-  placed_here (y ∷ xs) zero x d low = refl
-  placed_here (y ∷ xs) (suc n) x d low = placed_here xs n x d (omega (arith, low))
-
-  pub placed_other : (xs : List X) (n k : ℕ) (x d : X) → n ≤ length xs → k ≢ n → get_or (placed xs n x) k d ≡ get_or xs k d
-  placed_other [] zero zero x d low ne = absurd (ne refl)
-  placed_other [] zero (suc k) x d low ne = refl
-  placed_other [] (suc n) k x d low ne = absurd (omega (arith, low))
-  placed_other (y ∷ xs) zero zero x d low ne = absurd (ne refl)
-  placed_other (y ∷ xs) zero (suc k) x d low ne = refl
-  placed_other (y ∷ xs) (suc n) zero x d low ne = refl
-  placed_other (y ∷ xs) (suc n) (suc k) x d low ne = placed_other xs n k x d (omega (arith, low)) (λ e. ne (ap suc e))
-
   cond_same : (b : Bool) (x : X) → cond b x x ≡ x
   cond_same true x = refl
   cond_same false x = refl
@@ -52,11 +39,7 @@ module _ {X : Type 0} where
   pub cleared_at : (gone : ℕ → Bool) (x : X) (ys : List X) (i : ℕ) → get_or (cleared gone x 0 ys) i x ≡ cond (gone i) x (get_or ys i x)
   cleared_at gone x ys i = let same : 0 + i ≡ i = omega arith in cleared_from gone x 0 ys i ∙ ap (λ (k : ℕ). cond (gone k) x (get_or ys i x)) same
 
--- a test of a parent
-test_same : (p : Option ℕ) (f g : ℕ → Bool) → ((x : ℕ) → p ≡ Some x → f x ≡ g x) → is_true_of p f ≡ is_true_of p g
-test_same None f g same = refl
-test_same (Some x) f g same = same x refl
-
+-- a test of a parent that fails
 test_fails : (p : Option ℕ) (f : ℕ → Bool) → ((x : ℕ) → p ≡ Some x → f x ≡ false) → is_true_of p f ≡ false
 test_fails None f fails = refl
 test_fails (Some x) f fails = fails x refl
@@ -73,19 +56,12 @@ unfolding leads_to
 leads_alike zero ls now same above slot = refl
 leads_alike (suc steps) ls now same above slot =
     ap (λ (l : Option Link). (slot == above) || is_true_of (parent_of l) (leads_to steps now above)) (same slot)
-    ∙ ap (λ (b : Bool). (slot == above) || b) (test_same (parent_of (get_or ls slot None)) (leads_to steps now above) (leads_to steps ls above) (λ p e. leads_alike steps ls now same above p))
+    ∙ ap (λ (b : Bool). (slot == above) || b) (tests-agree (parent_of (get_or ls slot None)) (leads_to steps now above) (leads_to steps ls above) (λ p e. leads_alike steps ls now same above p))
 
--- in a forest a parent has a lower stamp, and is there
+-- in a forest
 module _ (ls : List (Option Link)) (forest : IsForest ls) where
   abbrev stamp_at : ℕ → ℕ
   stamp_at slot = stamp_of (get_or ls slot None)
-
-  pub parent_is : (slot : ℕ) (link : Option Link) → get_or ls slot None ≡ link → (p : ℕ) → parent_of link ≡ Some p → (stamp_at p < stamp_at slot) × (is_some (get_or ls p None) ≡ true)
-  parent_is slot None is p e = absurd (false≢true (ap is_some e))
-  parent_is slot (Some link) is p e =
-      let made = subst (IsMadeBelow ls slot link.stamp) e (forest.below slot link is) in
-      let own : stamp_at slot ≡ link.stamp = ap stamp_of is in
-      (omega (arith, made.0, own), made.1)
 
   -- one never comes to a context that was made later
   pub not_above : (steps above slot : ℕ) → stamp_at slot < stamp_at above → leads_to steps ls above slot ≡ false
@@ -93,7 +69,7 @@ module _ (ls : List (Option Link)) (forest : IsForest ls) where
   not_above zero above slot less = ne_eqb slot above (λ e. omega (arith, ap stamp_at e, less))
   not_above (suc steps) above slot less =
       ap (λ (b : Bool). b || is_true_of (parent_of (get_or ls slot None)) (leads_to steps ls above)) (ne_eqb slot above (λ e. omega (arith, ap stamp_at e, less)))
-      ∙ test_fails (parent_of (get_or ls slot None)) (leads_to steps ls above) (λ p e. not_above steps above p (omega (arith, less, (parent_is slot (get_or ls slot None) refl p e).0)))
+      ∙ test_fails (parent_of (get_or ls slot None)) (leads_to steps ls above) (λ p e. not_above steps above p (omega (arith, less, (parent-is ls forest slot (get_or ls slot None) refl p e).0)))
 
   -- a context is below the one that it was made below
   child_by : (steps slot p : ℕ) → parent_of (get_or ls slot None) ≡ Some p → leads_to (suc steps) ls p slot ≡ true
@@ -101,11 +77,7 @@ module _ (ls : List (Option Link)) (forest : IsForest ls) where
   child_by steps slot p up =
       ap (λ (q : Option ℕ). (slot == p) || is_true_of q (leads_to steps ls p)) up
       ∙ ap (λ (b : Bool). (slot == p) || b) (leads_self steps ls p)
-      ∙ or_true (slot == p)
-    where
-      or_true : (b : Bool) → (b || true) ≡ true
-      or_true true = refl
-      or_true false = refl
+      ∙ or-true (slot == p)
 
   below_of : (steps slot p : ℕ) → (0 < steps) → parent_of (get_or ls slot None) ≡ Some p → leads_to steps ls p slot ≡ true
   below_of zero slot p some up = absurd (omega (arith, some))
@@ -113,7 +85,7 @@ module _ (ls : List (Option Link)) (forest : IsForest ls) where
 
   pub child_below : (slot p : ℕ) → parent_of (get_or ls slot None) ≡ Some p → is_below ls p slot ≡ true
   unfolding is_below
-  child_below slot p up = below_of (stamp_at slot) slot p (omega (arith, (parent_is slot (get_or ls slot None) refl p up).0)) up
+  child_below slot p up = below_of (stamp_at slot) slot p (omega (arith, (parent-is ls forest slot (get_or ls slot None) refl p up).0)) up
 
   -- and not below another that was made there
   beside_by : (steps a b p : ℕ) → stamp_at p < stamp_at a → parent_of (get_or ls b None) ≡ Some p → b ≢ a → leads_to steps ls a b ≡ false
@@ -127,7 +99,7 @@ module _ (ls : List (Option Link)) (forest : IsForest ls) where
   beside : (a b p : ℕ) → parent_of (get_or ls a None) ≡ Some p → parent_of (get_or ls b None) ≡ Some p → b ≢ a → is_under ls a b ≡ false
   unfolding is_below
   beside a b p first last differ =
-      ap (λ (c : Bool). c && not (b == a)) (beside_by (stamp_at b) a b p (parent_is a (get_or ls a None) refl p first).0 last differ)
+      ap (λ (c : Bool). c && not (b == a)) (beside_by (stamp_at b) a b p (parent-is ls forest a (get_or ls a None) refl p first).0 last differ)
 
   pub are_apart : (a b : ContextId) (p : ℕ) → parent_of (get_or ls a.slot None) ≡ Some p → parent_of (get_or ls b.slot None) ≡ Some p → a.slot ≢ b.slot → IsApart ls a b
   are_apart a b p first last differ = record {
@@ -148,8 +120,8 @@ module _ (ls : List (Option Link)) (forest : IsForest ls) where
     leads_other (suc steps) above k differ =
         ap (λ (l : Option Link). (k == above) || is_true_of (parent_of l) (leads_to steps now above)) (other k differ)
         ∙ ap (λ (b : Bool). (k == above) || b)
-        (test_same (parent_of (get_or ls k None)) (leads_to steps now above) (leads_to steps ls above)
-        (λ p e. leads_other steps above p (not_free p (parent_is k (get_or ls k None) refl p e).1)))
+        (tests-agree (parent_of (get_or ls k None)) (leads_to steps now above) (leads_to steps ls above)
+        (λ p e. leads_other steps above p (not_free p (parent-is ls forest k (get_or ls k None) refl p e).1)))
 
     -- and to that slot from none
     leads_none : (steps k : ℕ) → k ≢ free_slot → leads_to steps now free_slot k ≡ false
@@ -158,7 +130,7 @@ module _ (ls : List (Option Link)) (forest : IsForest ls) where
     leads_none (suc steps) k differ =
         ap (λ (b : Bool). b || is_true_of (parent_of (get_or now k None)) (leads_to steps now free_slot)) (ne_eqb k free_slot differ)
         ∙ ap (λ (l : Option Link). is_true_of (parent_of l) (leads_to steps now free_slot)) (other k differ)
-        ∙ test_fails (parent_of (get_or ls k None)) (leads_to steps now free_slot) (λ p e. leads_none steps p (not_free p (parent_is k (get_or ls k None) refl p e).1))
+        ∙ test_fails (parent_of (get_or ls k None)) (leads_to steps now free_slot) (λ p e. leads_none steps p (not_free p (parent-is ls forest k (get_or ls k None) refl p e).1))
 
     pub below_other : (above k : ℕ) → k ≢ free_slot → is_below now above k ≡ is_below ls above k
     unfolding is_below
@@ -241,7 +213,7 @@ nothing_held kind.Bump = refl
 -- a context is made in a whole tree
 module _ (before : TreeState) (whole : IsWhole before) (after : TreeState) (parent id : ContextId) (made : Kind) (new : IsNew before after parent made id) where
   pub link_is : get_or after.links id.slot None ≡ Some (record { stamp = id.stamp; parent = Some parent.slot })
-  link_is = ap (λ (t : TreeState). get_or t.links id.slot None) new.is ∙ placed_here before.links id.slot (Some (record { stamp = id.stamp; parent = Some parent.slot })) None new.low
+  link_is = ap (λ (t : TreeState). get_or t.links id.slot None) new.is ∙ placed-here before.links id.slot (Some (record { stamp = id.stamp; parent = Some parent.slot })) None new.low
 
   pub parent_made : parent_of (get_or after.links id.slot None) ≡ Some parent.slot
   parent_made = ap parent_of link_is
@@ -252,15 +224,15 @@ module _ (before : TreeState) (whole : IsWhole before) (after : TreeState) (pare
   pub context_made : context_at after id ≡ new_context made
   context_made =
       ap (λ (t : TreeState). get_or t.contexts id.slot no_context) new.is
-      ∙ placed_here before.contexts id.slot (new_context made) no_context (omega (arith, new.low, whole.long))
+      ∙ placed-here before.contexts id.slot (new_context made) no_context (omega (arith, new.low, whole.long))
 
   pub links_other : (k : ℕ) → k ≢ id.slot → get_or after.links k None ≡ get_or before.links k None
-  links_other k differ = ap (λ (t : TreeState). get_or t.links k None) new.is ∙ placed_other before.links id.slot k (Some (record { stamp = id.stamp; parent = Some parent.slot })) None new.low differ
+  links_other k differ = ap (λ (t : TreeState). get_or t.links k None) new.is ∙ placed-other before.links id.slot k (Some (record { stamp = id.stamp; parent = Some parent.slot })) None new.low differ
 
   pub contexts_other : (k : ℕ) → k ≢ id.slot → get_or after.contexts k no_context ≡ get_or before.contexts k no_context
   contexts_other k differ =
       ap (λ (t : TreeState). get_or t.contexts k no_context) new.is
-      ∙ placed_other before.contexts id.slot k (new_context made) no_context (omega (arith, new.low, whole.long)) differ
+      ∙ placed-other before.contexts id.slot k (new_context made) no_context (omega (arith, new.low, whole.long)) differ
 
   -- what is there is in another slot, and stays
   pub other_slot : (k : ContextId) → is_there before k ≡ true → k.slot ≢ id.slot

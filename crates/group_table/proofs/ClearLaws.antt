@@ -3,6 +3,7 @@ use Rattle.std.specs.Prelude.{◌≡◌, ◌≢◌, refl, ℕ, zero, suc, ◌+�
 use Rattle.std.proofs.Common.{inl, inr, sym, ◌∙◌, ap, subst, arith}
 use Rattle.std.proofs.lemmas.Bool.{cond-false, eq-eqb, false≢true}
 use Rattle.std.proofs.lemmas.List.{get_or-set_same, get_or-set_other}
+use Rattle.context_tree.specs.SlotLaws.{parent-is}
 use Rattle.chunk_layout.specs.Pieces.{size_at, total, only}
 use Rattle.chunk_contexts.specs.Set.{SetState, new_set, set_reset}
 use Rattle.context_tree.specs.Contexts.{no_context, reset_context, held_by}
@@ -17,7 +18,7 @@ use Rattle.group_table.specs.Standing.{IsChild, IsBump, IsSlabOf, IsFirst, HasSp
 use Rattle.group_table.specs.Children.{IsCleared}
 use Rattle.group_table.specs.declared.table.Slot.{Slot}
 use Rattle.group_table.proofs.StandLaws.{SetOf, set_of, set_with}
-use Rattle.group_table.proofs.ChildLaws.{cleared_at, is_child, are_apart, parent_is, not_above}
+use Rattle.group_table.proofs.ChildLaws.{cleared_at, is_child, are_apart, not_above}
 
 -- a context of a tree is reset
 module _ (tree : TreeState) (id : ContextId) where
@@ -55,7 +56,7 @@ module _ (tree : TreeState) (id : ContextId) where
   pub not_parent : IsWhole tree → (p : ℕ) → parent_of (get_or tree.links id.slot None) ≡ Some p → gone p ≡ false
   unfolding is_below
   not_parent whole p up =
-      ap (λ b. b && not (p == id.slot)) (not_above tree.links whole.forest (stamp_of (get_or tree.links p None)) id.slot p (parent_is tree.links whole.forest id.slot (get_or tree.links id.slot None) refl p up).0)
+      ap (λ b. b && not (p == id.slot)) (not_above tree.links whole.forest (stamp_of (get_or tree.links p None)) id.slot p (parent-is tree.links whole.forest id.slot (get_or tree.links id.slot None) refl p up).0)
 
 -- a table stays in its place when one of its contexts is reset
 module _ {H : Type 0} (t : TableState H) (tree : TreeState) (id : ContextId) (is : IsPlaced t tree) (after : IsWhole (reset tree id))

@@ -1,5 +1,5 @@
 -- A group is taken, step by step.
-use Rattle.std.specs.Prelude.{◌≡◌, refl, ℕ, zero, suc, ◌+◌, ◌/◌, ◌≤◌, List, [], ◌∷◌, ◌++◌, Option, Some, None, option_map, map, slice_get, Result, Ok, Err, OnErr, is_some, true, length, get_or}
+use Rattle.std.specs.Prelude.{◌≡◌, refl, ℕ, zero, suc, ◌+◌, ◌/◌, ◌≤◌, List, [], ◌∷◌, ◌++◌, Option, Some, None, option_map, map, slice_get, is_some, true, length, get_or}
 use Rattle.std.proofs.Common.{sym, ◌∙◌, ap, subst, arith}
 use Rattle.std.proofs.lemmas.List.{map_push}
 use Rattle.chunk_layout.specs.declared.place.ChunkName.{ChunkName}
@@ -159,10 +159,6 @@ next_kept t a b (Some name) same placed is = record {
   longer = is.longer;
   beside = subst (IsSetWith (λ s. (is_some s.first ≡ true) × IsBesideFirst s name)) (sym same) is.beside;
 }
-
-pub always_err : {T E P : Type 0} (r : Result T E) → P → OnErr r P
-always_err (Ok x) p = tt
-always_err (Err e) p = p
 
 -- up to where the next array is that of the table
 module _ {H : Type 0} (t : TableState H) (next : Option ChunkName) (tree a b e : TreeState) (placed : IsPlaced t tree) (first : OnlyIn t.buckets tree a)

@@ -1,8 +1,8 @@
 -- The least and the greatest member of a list, and the bits of a number.
-use Rattle.std.specs.Prelude.{◌≡◌, refl, ℕ, zero, suc, ◌+◌, ◌-◌, ◌*◌, ◌^◌, ◌<◌, ◌⊎◌, ◌==◌, Bool, true, false, T, cond, List, [], ◌∷◌, ℤ, pos, negsuc, FitsSigned, ◌≤ℤ◌, ◌<ℤ◌, int_le, int_lt, not, find, Contains, ◌↔◌, Some, is_some, IsSome}
+use Rattle.std.specs.Prelude.{◌≡◌, refl, ℕ, zero, suc, ◌+◌, ◌-◌, ◌*◌, ◌^◌, ◌<◌, ◌⊎◌, ◌==◌, Bool, true, false, T, cond, List, [], ◌∷◌, ℤ, pos, negsuc, FitsSigned, ◌≤ℤ◌, ◌<ℤ◌, int_le, int_lt, not, find, Contains, ◌↔◌, Some, is_some, IsSome, ◌++◌, ◌%◌, ◌&&◌, ◌||◌, count_by, None}
 use Rattle.std.proofs.Common.{sym, ◌∙◌, ap, subst, inl, inr, arith}
 use Rattle.std.specs.List.{list_all, list_any}
-use Rattle.std.specs.Int.{w64, cast_unsigned, cast_signed, bit_at}
+use Rattle.std.specs.Int.{w64, cast_unsigned, cast_signed, bit_at, int_min, int_max}
 use Rattle.std.specs.Int.Signed.{le_z_yes, lt_z_yes, lt_z_no, ≤ℤ_refl, <ℤ-≤ℤ_trans, clash_ℤ}
 use Rattle.std.specs.Cmp.{int_ranks, int_chain}
 use Rattle.std.specs.Ordering.{int_cmp, MatchOrdering}
@@ -11,13 +11,12 @@ use Rattle.std.proofs.lemmas.Int.{of_z-to_z, to_z-of_z}
 use Rattle.std.proofs.lemmas.Nat.Bits.{bit_at_cat_low, bit_at_cat_high, bit_at-lt, same_from_bits_below}
 use Rattle.std.proofs.Math.Nat.{pow-suc}
 use Rattle.std.proofs.Math.Facts.{sfits_to_z}
-use Rattle.std.specs.Int.{int_min, int_max}
-use Rattle.std.specs.Prelude.{◌++◌, ◌%◌, ◌&&◌, ◌||◌, count_by, None}
 use Rattle.std.proofs.lemmas.List.{append-nil}
 use Rattle.std.proofs.lemmas.List.Elements.{Contains-append_left, Contains-append_right, Contains-append_cases}
+use Rattle.std.proofs.Math.Bool.{and-true}
 use Rattle.grouping_model.specs.Combining.{joined}
 use Rattle.grouping_model.specs.Aggregates.{bits_of_all, bits_of_some, bits_of_odd, least, greatest, has_bit, unsigned_of_bits, number_of_bits}
-use Rattle.grouping_model.proofs.Members.{false_is_not_true, Member, from_contains, to_contains, all_member, member_all, found_member, found_some}
+use Rattle.grouping_model.specs.MemberLaws.{false_is_not_true, Member, from_contains, to_contains, all_member, member_all, found_member, found_some}
 
 -- one of two numbers is at most the other, and both only where they are equal
 order_of : {G : Type 0} (x y : ℤ) → (x <ℤ y → G) → (x ≡ y → G) → (y <ℤ x → G) → G
@@ -257,15 +256,11 @@ own_bits is_set z fits own = same_from_64_bits (number_of_bits is_set) z (bits_f
 
 pub bits_of_one : (z : ℤ) → FitsSigned w64 z → (bits_of_all (z ∷ []) ≡ z) × (bits_of_some (z ∷ []) ≡ z) × (bits_of_odd (z ∷ []) ≡ z)
 bits_of_one z fits = (
-  own_bits (λ i. list_all (has_bit i) (z ∷ [])) z fits (λ i. and_end (has_bit i z)),
+  own_bits (λ i. list_all (has_bit i) (z ∷ [])) z fits (λ i. and-true (has_bit i z)),
   own_bits (λ i. list_any (has_bit i) (z ∷ [])) z fits (λ i. or_end (has_bit i z)),
   own_bits (λ i. count_by (has_bit i) (z ∷ []) % 2 == 1) z fits (λ i. odd_end (has_bit i z)),
 )
   where
-    and_end : (b : Bool) → (b && true) ≡ b
-    and_end true = refl
-    and_end false = refl
-
     or_end : (b : Bool) → (b || false) ≡ b
     or_end true = refl
     or_end false = refl

@@ -4,8 +4,8 @@ use Rattle.std.proofs.Common.{sym, ◌∙◌, ap, inl, inr, arith}
 use Rattle.grouping_model.specs.Query.{Query}
 use Rattle.grouping_model.specs.World.{World, Batch, batch_cmp_total, Knowledge, knowing, knows, prefix, count_up, origins, origin_rows, batch_rows}
 use Rattle.grouping_model.specs.Answer.{answer, answer_over}
-use Rattle.grouping_model.proofs.Members.{Member, from_contains, to_contains, among_member}
-use Rattle.grouping_model.proofs.KnowledgeLaws.{batch_cmp_ties, knows_knowing, same_knowledge}
+use Rattle.grouping_model.specs.MemberLaws.{Member, from_contains, to_contains, among_member}
+use Rattle.grouping_model.specs.KnowledgeLaws.{batch_cmp_ties, knows_knowing, same_knowledge}
 use Rattle.grouping_model.proofs.PrefixLaws.{prefix_unbroken}
 
 -- a batch is known after a list of batches exactly if it is listed

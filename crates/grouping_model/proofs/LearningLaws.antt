@@ -5,8 +5,8 @@ use Rattle.std.proofs.lemmas.Bool.{cases_lt}
 use Rattle.std.specs.Ordering.{eq_by_cmp, is_eq}
 use Rattle.std.specs.Cmp.{tied_itself, Equal-is}
 use Rattle.grouping_model.specs.World.{Batch, batch_cmp, batch_cmp_total, Knowledge, knows, learn, IsUnbroken, prefix}
-use Rattle.grouping_model.proofs.Members.{false_is_not_true}
-use Rattle.grouping_model.proofs.KnowledgeLaws.{batch_cmp_ties, knows_learn, same_knowledge}
+use Rattle.grouping_model.specs.MemberLaws.{false_is_not_true}
+use Rattle.grouping_model.specs.KnowledgeLaws.{batch_cmp_ties, knows_learn, same_knowledge}
 use Rattle.grouping_model.proofs.PrefixLaws.{prefix_unbroken, prefix_largest}
 
 -- what is known stays known, and nothing but the new batch is learned

@@ -1,11 +1,6 @@
-pub mod Members
-pub mod DatumOrder
-pub mod KnowledgeLaws
 pub mod PrefixLaws
-pub mod KeyLaws
 pub mod AggregateLaws
 pub mod CombiningLaws
-pub mod EarlyLaws
 pub mod UnionLaws
 pub mod ConditionLaws
 pub mod PartLaws

@@ -1,5 +1,5 @@
 -- A function's partial result after one more argument, and an aggregate's after one more row.
-use Rattle.std.specs.Prelude.{◌≡◌, refl, ℕ, ◌+◌, ◌&&◌, Bool, true, false, cond, List, [], ◌∷◌, ◌++◌, length, map, filter, zero, suc, ℤ, pos, ◌+ℤ◌, FitsSigned, Option, Some, None}
+use Rattle.std.specs.Prelude.{◌≡◌, refl, ℕ, ◌+◌, Bool, true, false, cond, List, [], ◌∷◌, ◌++◌, length, map, filter, zero, suc, ℤ, pos, ◌+ℤ◌, FitsSigned, Option, Some, None}
 use Rattle.std.proofs.Common.{◌∙◌, ap, arith}
 use Rattle.std.specs.Int.{w64}
 use Rattle.std.proofs.Math.IntN.{+ℤ_idr}
@@ -8,6 +8,7 @@ use Rattle.std.proofs.lemmas.List.Elements.{filter-append}
 use Rattle.grouping_model.specs.Datum.{Datum, Null, Bigint, Boolean, Text, Kind, Bigint_kind, Boolean_kind, Text_kind, HasKind, HasKinds, Row, at_place}
 use Rattle.grouping_model.specs.Aggregates.{Function, Count_rows, Count, Sum, Min, Max, Bit_and, Bit_or, Bit_xor, Bool_and, Bool_or, Every, Counted, Summed, Number, Truth_value, partial, numbers, booleans, non_null, total, least, greatest, bits_of_all, bits_of_some, bits_of_odd, of_some}
 use Rattle.std.specs.List.{list_all, list_any}
+use Rattle.std.proofs.Math.Bool.{and-true}
 use Rattle.grouping_model.specs.Combining.{joined, combine, transition, of_numbers, of_truths}
 use Rattle.grouping_model.specs.Condition.{is_met}
 use Rattle.grouping_model.specs.Query.{Aggregate}
@@ -15,7 +16,7 @@ use Rattle.grouping_model.specs.Grouping.{argument, arguments, column_of}
 use Rattle.grouping_model.proofs.AggregateLaws.{bits_of_one, least_of_one, greatest_of_one}
 use Rattle.grouping_model.proofs.CombiningLaws.{partial_append}
 
-joined-none : {X : Type 0} (both : X → X → X) (x : Option X) → joined both x None ≡ x
+pub joined-none : {X : Type 0} (both : X → X → X) (x : Option X) → joined both x None ≡ x
 joined-none both None = refl
 joined-none both (Some x) = refl
 
@@ -59,10 +60,6 @@ taken_bigint Bool_and xs z fits = truth-none (of_truths Bool_and) (of_some (list
 taken_bigint Bool_or xs z fits = truth-none (of_truths Bool_or) (of_some (list_any (λ b. b)) (booleans xs))
 taken_bigint Every xs z fits = truth-none (of_truths Every) (of_some (list_all (λ b. b)) (booleans xs))
 
-and_true : (b : Bool) → (b && true) ≡ b
-and_true true = refl
-and_true false = refl
-
 -- a list of one truth value has it in all and in some members
 some_of_one : (b : Bool) → list_any (λ b. b) (b ∷ []) ≡ b
 some_of_one true = refl
@@ -77,9 +74,9 @@ taken_boolean Max xs b = number-none (of_numbers Max) (greatest (numbers xs))
 taken_boolean Bit_and xs b = number-none (of_numbers Bit_and) (of_some bits_of_all (numbers xs))
 taken_boolean Bit_or xs b = number-none (of_numbers Bit_or) (of_some bits_of_some (numbers xs))
 taken_boolean Bit_xor xs b = number-none (of_numbers Bit_xor) (of_some bits_of_odd (numbers xs))
-taken_boolean Bool_and xs b = ap (λ y. Truth_value (joined (of_truths Bool_and) (of_some (list_all (λ b. b)) (booleans xs)) (Some y))) (and_true b)
+taken_boolean Bool_and xs b = ap (λ y. Truth_value (joined (of_truths Bool_and) (of_some (list_all (λ b. b)) (booleans xs)) (Some y))) (and-true b)
 taken_boolean Bool_or xs b = ap (λ y. Truth_value (joined (of_truths Bool_or) (of_some (list_any (λ b. b)) (booleans xs)) (Some y))) (some_of_one b)
-taken_boolean Every xs b = ap (λ y. Truth_value (joined (of_truths Every) (of_some (list_all (λ b. b)) (booleans xs)) (Some y))) (and_true b)
+taken_boolean Every xs b = ap (λ y. Truth_value (joined (of_truths Every) (of_some (list_all (λ b. b)) (booleans xs)) (Some y))) (and-true b)
 
 passed_text : (function : Function) (xs : List Datum) (text : List ℕ) → combine function (partial function xs) (partial function (Text text ∷ [])) ≡ transition function (partial function xs) (Text text)
 passed_text Count_rows xs text = refl

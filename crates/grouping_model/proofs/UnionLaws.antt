@@ -1,20 +1,20 @@
 -- What a union tells of an origin: its prefix, its early numbers, its rows, and the origins.
-use Rattle.std.specs.Prelude.{◌≡◌, refl, ℕ, zero, suc, ◌+◌, ◌-◌, ◌≤◌, ◌<◌, nat_lt, Bool, true, false, ◌||◌, List, [], ◌∷◌, ◌++◌, ◌⊎◌, filter, IsTrue, ◌↔◌}
+use Rattle.std.specs.Prelude.{◌≡◌, refl, ℕ, zero, suc, ◌+◌, ◌-◌, ◌≤◌, ◌<◌, nat_lt, true, false, ◌||◌, List, [], ◌∷◌, ◌++◌, ◌⊎◌, filter, IsTrue, ◌↔◌}
 use Rattle.std.proofs.Common.{sym, ◌∙◌, ap, inl, inr, arith, append_assoc}
 use Rattle.std.proofs.lemmas.Bool.{cases_lt}
 use Rattle.std.specs.Ordering.{nat_cmp}
 use Rattle.std.specs.List.{flat_map}
 use Rattle.std.specs.List.Sorted.{IsStrictlySortedBy}
-use Rattle.std.specs.Cmp.{nat_cmp_total}
+use Rattle.std.specs.Cmp.{nat_cmp_total, both_ways}
 use Rattle.std.specs.FinMap.{nat_cmp-IsAntisymmetric}
 use Rattle.grouping_model.specs.Rising.{distinct, is_among}
 use Rattle.grouping_model.specs.Rising.Facts.{distinct-rises, same_members}
 use Rattle.grouping_model.specs.World.{World, Batch, Knowledge, knows, union, IsUnbroken, prefix, early, origins, count_up, batch_rows, origin_rows}
-use Rattle.grouping_model.proofs.Members.{Member, from_contains, to_contains, among_member, distinct_member, member_filter, filter_member}
-use Rattle.grouping_model.proofs.KnowledgeLaws.{knows_union}
+use Rattle.grouping_model.specs.MemberLaws.{Member, from_contains, to_contains, among_member, distinct_member, member_filter, filter_member}
+use Rattle.grouping_model.specs.KnowledgeLaws.{knows_union}
 use Rattle.grouping_model.proofs.PrefixLaws.{prefix_unbroken, prefix_largest}
 use Rattle.grouping_model.proofs.LearningLaws.{prefix_is}
-use Rattle.grouping_model.proofs.EarlyLaws.{early_are, early_rise, origins_are, origins_rise, filter_rises}
+use Rattle.grouping_model.specs.EarlyLaws.{early_are, early_rise, origins_are, origins_rise, filter_rises}
 
 -- the union knows what either side knows
 left_known : (a b : Knowledge) (batch : Batch) → IsTrue (knows a batch) → IsTrue (knows (union a b) batch)
@@ -53,17 +53,11 @@ united_prefix a b origin upto reaches_a reaches_b follow gap =
           | inr within ↦ left_known a b (origin, number) (prefix_unbroken a origin number low (omega (arith, within)))
         ]
 
--- two truth values that follow from each other are the same
-alike : (a b : Bool) → (a ≡ true → b ≡ true) → (b ≡ true → a ≡ true) → a ≡ b
-alike true b to back = sym (to refl)
-alike false true to back = back refl
-alike false false to back = refl
-
 -- rising lists of numbers with the same members are the same
 same_numbers : (xs ys : List ℕ) → IsStrictlySortedBy nat_cmp xs → IsStrictlySortedBy nat_cmp ys → ((n : ℕ) → Member xs n → Member ys n) → ((n : ℕ) → Member ys n → Member xs n) → xs ≡ ys
 same_numbers xs ys rising_x rising_y to back =
     same_members nat_cmp_total nat_cmp-IsAntisymmetric xs ys rising_x rising_y
-    (λ n. alike (is_among nat_cmp n xs) (is_among nat_cmp n ys)
+    (λ n. both_ways (is_among nat_cmp n xs) (is_among nat_cmp n ys)
     (λ e. (among_member nat_cmp_total nat_cmp-IsAntisymmetric ys n).1 (to n ((among_member nat_cmp_total nat_cmp-IsAntisymmetric xs n).0 e)))
     (λ e. (among_member nat_cmp_total nat_cmp-IsAntisymmetric xs n).1 (back n ((among_member nat_cmp_total nat_cmp-IsAntisymmetric ys n).0 e))))
 

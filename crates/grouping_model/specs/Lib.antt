@@ -10,3 +10,10 @@ pub mod World
 pub mod Replies
 pub mod Answer
 pub mod Examples
+pub mod DatumOrderLaws
+pub mod EarlyLaws
+pub mod GroupLaws
+pub mod KeyLaws
+pub mod KnowledgeLaws
+pub mod MemberLaws
+pub mod PartLaws

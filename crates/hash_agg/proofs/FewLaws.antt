@@ -5,26 +5,28 @@ use Rattle.std.proofs.Common.{sym, ◌∙◌, ap, subst, inl, inr, arith}
 use Rattle.std.proofs.lemmas.Bool.{both_ways, false_from_ne_true}
 use Rattle.std.proofs.lemmas.List.{map-append, length-map, length-append}
 use Rattle.std.proofs.lemmas.List.Sums.{sum_by-cons}
+use Rattle.list_laws.specs.Each.{each_weaker}
 use Rattle.grouping_model.specs.Condition.{is_met}
 use Rattle.grouping_model.specs.Datum.{Row, row_cmp}
 use Rattle.grouping_model.specs.Query.{Query}
 use Rattle.grouping_model.specs.Rising.{distinct}
 use Rattle.grouping_model.specs.Grouping.{Group, column_of, key_of, selected}
 use Rattle.grouping_model.specs.Parts.{keys_of}
-use Rattle.grouping_model.proofs.DatumOrder.{row_cmp_total, row_cmp_ties}
-use Rattle.grouping_model.proofs.Members.{Member, member_any, member_map, distinct_member}
+use Rattle.grouping_model.specs.DatumOrderLaws.{row_cmp_total, row_cmp_ties}
+use Rattle.grouping_model.specs.MemberLaws.{Member, member_any, member_map, distinct_member}
 use Rattle.packed_rows.specs.Packing.{packing}
 use Rattle.aggregation_cost.specs.Cost.{cost}
 use Rattle.aggregation_cost.specs.Passes as cost
 use Rattle.aggregation_cost.specs.Space.{Key, Setting}
 use Rattle.aggregation_cost.proofs.CostLaws.{passes_few}
-use Rattle.aggregation_cost.proofs.Keys.{same_key_itself, same_key-is, distinct-apart}
-use Rattle.aggregation_cost.proofs.Lists.{any-filter, each_gives, each_both, each_of_filter}
+use Rattle.aggregation_cost.specs.KeyLaws.{same_key_itself, same_key-is, distinct-apart}
+use Rattle.aggregation_cost.specs.ListLaws.{any-filter, each_both, each_of_filter}
 use Rattle.group_runs.specs.Runs.{Entry, packed_keys}
-use Rattle.hash_agg.specs.Inputs.{Brought, Packed, Counted, AllBring, IsAggregate, IsRunOver, on_end, rows_in, all_rows, groups_in, all_groups}
+use Rattle.packed_rows.specs.RowsOnEnd.{on_end}
+use Rattle.hash_agg.specs.Inputs.{Brought, Packed, Counted, AllBring, IsAggregate, IsRunOver, rows_in, all_rows, groups_in, all_groups}
 use Rattle.hash_agg.specs.Adding.{Given, Of_rows, Of_groups, AllGive}
 use Rattle.hash_agg.specs.Passes.{Piece, Of_row, Of_group, records_of, all_pieces}
-use Rattle.group_runs.proofs.RunLaws.{keys_packed, keys_of_kinds, groups_long}
+use Rattle.group_runs.specs.RunLaws.{keys_packed, keys_of_kinds, groups_long}
 use Rattle.hash_agg.proofs.SpillLaws.{records_more}
 
 -- ---- lists of which each member is in another
@@ -61,7 +63,7 @@ unfolding IsDistinct
 fewer_distinct [] ys apart all = omega arith
 fewer_distinct (x ∷ xs) ys (here, apart) (among, all) =
     let rest = fewer_distinct xs (Others x ys) apart
-    (each_gives (λ z. (cost.same_key x z ≡ false) × (cost.is_one_of ys z ≡ true)) (λ z. cost.is_one_of (Others x ys) z ≡ true) (λ z has. still_there x z ys has.0 has.1) xs
+    (each_weaker (λ z. (cost.same_key x z ≡ false) × (cost.is_one_of ys z ≡ true)) (λ z. cost.is_one_of (Others x ys) z ≡ true) (λ z has. still_there x z ys has.0 has.1) xs
     (each_both (λ z. cost.same_key x z ≡ false) (λ z. cost.is_one_of ys z ≡ true) xs here all)) in
     let less = fewer_without x ys among in
     omega (arith, rest, less)
@@ -69,7 +71,7 @@ fewer_distinct (x ∷ xs) ys (here, apart) (among, all) =
 each_distinct : (P : Key → Type 0) (keys : List Key) → AllByRecursion P keys → AllByRecursion P (cost.first_of_each keys)
 each_distinct P [] all = tt
 each_distinct P (key ∷ keys) (first, all) =
-    (first, each_gives (λ x. P x × (not (cost.same_key key x) ≡ true)) P (λ x has. has.0) (Others key (cost.first_of_each keys)) (each_of_filter P (λ x. not (cost.same_key key x)) (cost.first_of_each keys) (each_distinct P keys all)))
+    (first, each_weaker (λ x. P x × (not (cost.same_key key x) ≡ true)) P (λ x has. has.0) (Others key (cost.first_of_each keys)) (each_of_filter P (λ x. not (cost.same_key key x)) (cost.first_of_each keys) (each_distinct P keys all)))
 
 -- ---- the keys of what is given
 

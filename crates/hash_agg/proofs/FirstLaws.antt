@@ -1,6 +1,5 @@
 -- The first pass, over all inputs.
-use Rattle.std.specs.Prelude.{◌≡◌, refl, ℕ, zero, suc, ◌+◌, ◌≤◌, List, [], ◌∷◌, ◌++◌, length, slice_get, Some, IfOk, OnOk, Ok, Err}
-use Rattle.std.specs.declared.result.Result.{Result}
+use Rattle.std.specs.Prelude.{◌≡◌, refl, ℕ, zero, suc, ◌+◌, ◌≤◌, List, [], ◌∷◌, ◌++◌, length, slice_get, Some}
 use Rattle.std.specs.List.Sorted.{IsPermutation}
 use Rattle.std.proofs.Common.{sym, ap, subst, arith}
 use Rattle.std.proofs.lemmas.List.Sorted.{length_permutation}
@@ -21,11 +20,6 @@ use Rattle.hash_agg.proofs.SpillLaws.{nothing_spills}
 use Rattle.hash_agg.proofs.UnionLaws.{nothing_stands, ends}
 use Rattle.hash_agg.proofs.WaitLaws.{waits_first}
 use Rattle.hash_agg.proofs.WorkLaws.{costs_first}
-
--- what holds of a result, and what of all that a success leaves
-pub if_ok_on : {T E : Type 0} (r : Result T E) (P : T → Type 0) {A : Type 0} (R : T → Type 0) → ((x : T) → P x → A → R x) → IfOk r P → OnOk r A → IfOk r R
-if_ok_on (Ok x) P R gives p a = gives x p a
-if_ok_on (Err e) P R gives p a = p
 
 -- how many rows the input at a place counts
 pub input_few : (inputs : List Brought) (i : ℕ) (input : Brought) → slice_get inputs i ≡ Some input → rows_in input ≤ all_rows inputs

@@ -2,7 +2,7 @@
 use Rattle.std.specs.Prelude.{refl, ℕ, ◌≤◌, true, false, cond, List, [], ◌∷◌, map, length}
 use Rattle.std.specs.List.{AllByRecursion}
 use Rattle.std.proofs.lemmas.List.Elements.{All-from_recursion}
-use Rattle.list_laws.specs.Each.{each_append}
+use Rattle.list_laws.specs.Each.{each_append, each_weaker}
 use Rattle.grouping_model.specs.Condition.{is_met}
 use Rattle.grouping_model.specs.Datum.{Row, HasKinds}
 use Rattle.grouping_model.specs.Query.{Query}
@@ -11,7 +11,7 @@ use Rattle.packed_rows.specs.Packing.{packing}
 use Rattle.aggregation_cost.specs.Passes as cost
 use Rattle.aggregation_cost.specs.Space.{Setting}
 use Rattle.aggregation_cost.proofs.CostLaws.{each_fits}
-use Rattle.aggregation_cost.proofs.Lists.{each_gives, each_of_flat_map}
+use Rattle.aggregation_cost.specs.ListLaws.{each_of_flat_map}
 use Rattle.having_filter.specs.Kept.{IsWellFormed, key_kinds}
 use Rattle.group_runs.specs.Runs.{Entry}
 use Rattle.group_runs.specs.Standing.{AreGroups}
@@ -64,4 +64,4 @@ all_fit q s inputs givens formed limit narrow give =
     each_fits s (records_of q s.width pieces) limit narrow
     (All-from_recursion HasShort (records_of q s.width pieces)
     (each_of_flat_map (cost_records q s.width) HasShort pieces
-    (each_gives (HasKey q) (λ p. AllByRecursion HasShort (cost_records q s.width p)) (short_key q s.width formed) pieces (all_have q inputs givens formed give))))
+    (each_weaker (HasKey q) (λ p. AllByRecursion HasShort (cost_records q s.width p)) (short_key q s.width formed) pieces (all_have q inputs givens formed give))))

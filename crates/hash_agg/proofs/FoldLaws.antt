@@ -7,6 +7,7 @@ use Rattle.std.specs.declared.cmp.Ordering.TheVariants.{Less, Equal, Greater}
 use Rattle.std.specs.Ordering.{match_ordering}
 use Rattle.std.specs.List.{AllByRecursion}
 use Rattle.std.specs.List.Sorted.{IsStrictlySortedBy}
+use Rattle.list_laws.specs.Each.{each_append}
 use Rattle.grouping_model.specs.Datum.{Row, HasKinds, row_cmp}
 use Rattle.grouping_model.specs.Rising.{put, distinct, is_among}
 use Rattle.grouping_model.specs.Rising.Facts.{distinct-rises, among-distinct, among-append, same_members}
@@ -14,18 +15,21 @@ use Rattle.grouping_model.specs.Condition.{is_met}
 use Rattle.grouping_model.specs.Query.{Query}
 use Rattle.grouping_model.specs.Grouping.{Group, part, key_of, selected, column_of}
 use Rattle.grouping_model.specs.Parts.{keys_of}
-use Rattle.grouping_model.proofs.DatumOrder.{row_cmp_total, row_cmp_ties}
+use Rattle.grouping_model.specs.DatumOrderLaws.{row_cmp_total, row_cmp_ties}
 use Rattle.packed_rows.specs.Packing.{packing}
 use Rattle.agg_protocol.specs.States.{most_rows}
 use Rattle.having_filter.specs.Kept.{key_kinds}
 use Rattle.group_runs.specs.Runs.{Entry, packed_keys, Rises}
 use Rattle.group_runs.specs.Standing.{AreGroups, IsRun}
-use Rattle.hash_agg.specs.Inputs.{Brought, Packed, Counted, rows_in, all_rows, on_end, AreInputsOf, AllBring, IsAggregate, IsRunOver}
+use Rattle.packed_rows.specs.RowsOnEnd.{on_end}
+use Rattle.hash_agg.specs.Inputs.{Brought, Packed, Counted, rows_in, all_rows, AreInputsOf, AllBring, IsAggregate, IsRunOver}
 use Rattle.group_runs.specs.Adding.{groups_added}
 use Rattle.group_runs.specs.Steps.{AddsRun}
 use Rattle.hash_agg.proofs.KeyLaws.{key_has}
-use Rattle.group_runs.proofs.MergeLaws.{puts, puts_rise, puts_long, among-puts, keys_of-groups_added, groups_added_part}
-use Rattle.group_runs.proofs.RunLaws.{keys_packed, keys_of_kinds, rises_keys}
+use Rattle.group_runs.specs.MergeLaws.{puts, puts_rise, keys_of-groups_added}
+use Rattle.group_runs.proofs.MergeLaws.{puts_long, among-puts, groups_added_part}
+use Rattle.group_runs.specs.RunLaws.{keys_packed, keys_of_kinds}
+use Rattle.group_runs.proofs.RunLaws.{rises_keys}
 use Rattle.hash_agg.proofs.WholeLaws.{packings_once, keys_few}
 use Rattle.group_runs.proofs.SpliceLaws.{packed_rise}
 
@@ -33,10 +37,6 @@ pub run_keys_rise : (q : Query) (most : ℕ) (run : List Entry) (groups : List G
 run_keys_rise q most run groups are rises = rises_keys (key_kinds q) (keys_of groups) (keys_of_kinds q most run groups are) (subst (IsStrictlySortedBy _) (keys_packed q most run groups are) rises)
 
 -- ---- the kinds of keys
-
-all_append : {X : Type 0} (P : X → Type 0) (xs ys : List X) → AllByRecursion P xs → AllByRecursion P ys → AllByRecursion P (xs ++ ys)
-all_append P [] ys all more = more
-all_append P (x ∷ xs) ys (p, all) more = (p, all_append P xs ys all more)
 
 all_put : (P : Row → Type 0) (k : Row) (ks : List Row) → P k → AllByRecursion P ks → AllByRecursion P (put row_cmp k ks)
 all_put P k [] p all = (p, tt)
@@ -65,9 +65,9 @@ brought_kinds q [] [] within bring = tt
 brought_kinds q [] (ks ∷ lists) within bring = absurd bring
 brought_kinds q (x ∷ inputs) [] within bring = absurd bring
 brought_kinds q (Packed packed ∷ inputs) (ks ∷ lists) within (one, bring) =
-    all_append (HasKinds (key_kinds q)) ks (on_end lists) (subst (AllByRecursion (HasKinds (key_kinds q))) (sym one.2) (selected_keys q one.0 within one.1.of_kinds)) (brought_kinds q inputs lists within bring)
+    each_append (HasKinds (key_kinds q)) ks (on_end lists) (subst (AllByRecursion (HasKinds (key_kinds q))) (sym one.2) (selected_keys q one.0 within one.1.of_kinds)) (brought_kinds q inputs lists within bring)
 brought_kinds q (Counted run most ∷ inputs) (ks ∷ lists) within (one, bring) =
-    all_append (HasKinds (key_kinds q)) ks (on_end lists) one.of_kinds (brought_kinds q inputs lists within bring)
+    each_append (HasKinds (key_kinds q)) ks (on_end lists) one.of_kinds (brought_kinds q inputs lists within bring)
 
 -- ---- a run and what inputs gave
 

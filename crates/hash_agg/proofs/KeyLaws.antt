@@ -10,7 +10,7 @@ use Rattle.grouping_model.specs.Grouping.{key_of}
 use Rattle.packed_rows.specs.Packing.{packing, value_packing}
 use Rattle.packed_rows.specs.View.{datum_of, row_of}
 use Rattle.packed_rows.specs.declared.value.Value.{Value}
-use Rattle.agg_protocol.proofs.ArgumentLaws.{length-row_of}
+use Rattle.agg_protocol.specs.ArgumentLaws.{length-row_of}
 use Rattle.having_filter.specs.Kept.{key_kinds}
 
 pub all_index : {X : Type 0} (P : X → Type 0) (xs : List X) (i : ℕ) (d : X) → AllByRecursion P xs → i < length xs → P (slice_index_or xs i d)
@@ -57,11 +57,6 @@ key_more values so_far keys i default low within before =
     ∙ sym (flat_map-append value_packing front (at_place (row_of values) place ∷ []))
     ∙ ap packing (sym (map-append (at_place (row_of values)) (take i keys) (place ∷ [])))
     ∙ ap (λ places. packing (map (at_place (row_of values)) places)) (sym (take_more keys i 0 low))
-
--- what holds of a success gives what else holds of it
-pub if_ok : {T E : Type 0} (r : Result T E) (P Q : T → Type 0) → ((x : T) → P x → Q x) → IfOk r P → IfOk r Q
-if_ok (Ok x) P Q gives holds = gives x holds
-if_ok (Err e) P Q gives holds = holds
 
 pub if_ok_both : {T E : Type 0} (r : Result T E) (P Q R : T → Type 0) → ((x : T) → P x → Q x → R x) → IfOk r P → IfOk r Q → IfOk r R
 if_ok_both (Ok x) P Q R gives p q = gives x p q

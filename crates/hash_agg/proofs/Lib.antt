@@ -6,7 +6,6 @@ pub mod WaitLaws
 pub mod KeyLaws
 pub mod InputLaws
 pub mod WholeLaws
-pub mod BytesLaws
 pub mod FoldLaws
 pub mod StepLaws
 pub mod DiskLaws

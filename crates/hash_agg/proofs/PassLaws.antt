@@ -13,9 +13,9 @@ use Rattle.grouping_model.specs.Condition.{is_met}
 use Rattle.grouping_model.specs.Query.{Query}
 use Rattle.grouping_model.specs.Grouping.{Group, column_of, key_of, partials}
 use Rattle.grouping_model.specs.Parts.{functions, keys_of, partials_at, advanced, with_row}
-use Rattle.grouping_model.proofs.DatumOrder.{row_cmp_total, same_row-is}
-use Rattle.grouping_model.proofs.PartLaws.{same_row-swap}
-use Rattle.grouping_model.proofs.Members.{false_is_not_true}
+use Rattle.grouping_model.specs.DatumOrderLaws.{row_cmp_total, same_row-is}
+use Rattle.grouping_model.specs.PartLaws.{same_row-swap}
+use Rattle.grouping_model.specs.MemberLaws.{false_is_not_true}
 use Rattle.packed_rows.specs.Packing.{packing}
 use Rattle.having_filter.specs.Kept.{key_kinds}
 use Rattle.spill_tapes.specs.Records.{Record}
@@ -23,9 +23,10 @@ use Rattle.group_runs.specs.Runs.{Entry}
 use Rattle.group_runs.specs.Standing.{AreStates, StandsFor, AreGroups}
 use Rattle.group_runs.specs.Adding.{merged}
 use Rattle.hash_agg.specs.Passes.{Piece, Of_row, Of_group, IsPiece, ArePieces, piece_key, piece_added, pieces_added, made_of, weight, rows_at, AreOnce, IsParted, AreGroupsBy, Stands}
-use Rattle.group_runs.proofs.MergeLaws.{AreApart, apart_from, found_among, found_others}
+use Rattle.group_runs.specs.MergeLaws.{AreApart, apart_from}
+use Rattle.group_runs.proofs.MergeLaws.{found_among, found_others}
 use Rattle.group_runs.proofs.RunLaws.{packed_once}
-use Rattle.group_runs.proofs.StateLaws.{states_raised}
+use Rattle.group_runs.specs.StateLaws.{states_raised}
 use Rattle.hash_agg.proofs.TableLaws.{HasNoKey}
 
 -- ---- what is found at a key

@@ -6,7 +6,7 @@ use Rattle.std.proofs.Common.{sym, ◌∙◌, ap, subst, arith}
 use Rattle.group_table.specs.Table.{TableState}
 use Rattle.group_runs.specs.Runs.{Entry}
 use Rattle.group_runs.specs.Standing.{IsRun}
-use Rattle.group_runs.proofs.EntryLaws.{groups_raised}
+use Rattle.group_runs.specs.EntryLaws.{groups_raised}
 use Rattle.grouping_model.specs.Query.{Query}
 use Rattle.spill_lists.specs.Standing.{ListsState, KeepsRest, spilled_number}
 use Rattle.hash_agg.specs.Passes.{GroupsState, entries_of, IsSameTable, Proceeds}

@@ -16,13 +16,14 @@ use Rattle.std.specs.List.{All, AllByRecursion, IsDistinct}
 use Rattle.std.specs.List.Sorted.{IsPermutation, IsSorted, IsStrictlySortedBy}
 use Rattle.byteorder.specs.Endian.{big_from}
 use Rattle.byteorder.specs.Numbers.{big_from-cons, big_from-lt}
-use Rattle.grouping_model.proofs.Members.{false_is_not_true}
-use Rattle.packed_rows.proofs.PackingOrder.{less, tied}
+use Rattle.grouping_model.specs.MemberLaws.{false_is_not_true}
+use Rattle.packed_rows.specs.PackingOrderLaws.{less, tied}
 use Rattle.group_runs.specs.Runs.{Entry, packed_keys, Rises}
 use Rattle.group_runs.specs.Places.{AllBelow}
 use Rattle.hash_agg.specs.Passes.{AreOnce, Led, IsLed, pairs}
-use Rattle.group_runs.proofs.RunLaws.{take_found}
-use Rattle.group_runs.proofs.PlaceLaws.{key_total, below_to, rises_between}
+use Rattle.group_runs.specs.RunLaws.{take_found}
+use Rattle.group_runs.specs.PlaceLaws.{key_total}
+use Rattle.group_runs.proofs.PlaceLaws.{below_to, rises_between}
 use Rattle.hash_agg.proofs.TableLaws.{HasNoKey}
 
 -- ---- keys that differ

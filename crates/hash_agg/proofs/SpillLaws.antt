@@ -12,7 +12,7 @@ use Rattle.grouping_model.specs.Grouping.{column_of, key_of}
 use Rattle.packed_rows.specs.Packing.{packing}
 use Rattle.aggregation_cost.specs.Passes as cost
 use Rattle.aggregation_cost.specs.Space.{Key, Setting, fits}
-use Rattle.aggregation_cost.proofs.Keys.{same_key_itself, same_key-is}
+use Rattle.aggregation_cost.specs.KeyLaws.{same_key_itself, same_key-is}
 use Rattle.aggregation_cost.proofs.Steps.{taken_from-push, spilled_from-push}
 use Rattle.spill_tapes.specs.Records.{Record}
 use Rattle.spill_lists.specs.declared.lists.OnTape.{OnTape}
@@ -20,7 +20,7 @@ use Rattle.group_runs.specs.Runs.{Entry, packed_keys}
 use Rattle.group_runs.specs.Standing.{states_width}
 use Rattle.hash_agg.specs.Passes.{Piece, Of_row, Of_group, IsPiece, piece_key, cost_records, records_of, AreCosted, Spills}
 use Rattle.hash_agg.proofs.PassLaws.{IsKept}
-use Rattle.group_runs.proofs.StateLaws.{states_long}
+use Rattle.group_runs.specs.StateLaws.{states_long}
 use Rattle.hash_agg.proofs.TableLaws.{HasNoKey}
 
 -- ---- keys

@@ -1,5 +1,5 @@
 -- One step of a pass.
-use Rattle.std.specs.Prelude.{◌≡◌, refl, ℕ, zero, suc, ◌+◌, ◌*◌, ◌<◌, ◌≤◌, ◌&&◌, Bool, true, false, cond, List, [], ◌∷◌, ◌++◌, length, take, drop, slice_get, slice_index_or, slice_set, Some, None, OnOk, IfErr, IsErrAnd, Ok, Err}
+use Rattle.std.specs.Prelude.{◌≡◌, refl, ℕ, zero, suc, ◌+◌, ◌*◌, ◌<◌, ◌≤◌, ◌&&◌, Bool, true, false, cond, List, [], ◌∷◌, ◌++◌, length, take, drop, slice_get, slice_index_or, slice_set, Some, None, IfErr, IsErrAnd}
 use Rattle.std.specs.Int.{w16, to_be_bytes, from_be_bytes}
 use Rattle.std.specs.declared.result.Result.{Result}
 use Rattle.std.proofs.lemmas.Result.{err_from_is_err_and}
@@ -29,17 +29,17 @@ use Rattle.having_filter.specs.Kept.{key_kinds, IsWellFormed}
 use Rattle.having_filter.specs.Meaning.{meaning}
 use Rattle.hash_agg.specs.declared.plan.Plan.{Plan}
 use Rattle.group_runs.specs.Runs.{Entry, packed_keys}
-use Rattle.group_runs.specs.Standing.{AreStates, StandsFor}
+use Rattle.group_runs.specs.Standing.{AreStates, StandsFor, states_width}
 use Rattle.group_runs.specs.Steps.{AreWithin, AreAdvanced, AreCombined}
-use Rattle.group_runs.specs.Standing.{states_width}
 use Rattle.hash_agg.specs.Passes.{Piece, Of_row, Of_group, group_record, IsGroupRecord, IsPiece, piece_key, piece_added, weight, rows_at, CountUpTo, AreOnce, AreGroupsBy, GroupsState, entries_of, WritesAt, Stands, Spills, AreSafe, PassState, standing, setting_of, Holds, CanRead, Reads, AreRows, AreOfRun, total, brings, brought_by, Brings, Proceeds}
 use Rattle.hash_agg.specs.Added.{IsSelected}
 use Rattle.hash_agg.proofs.KeyLaws.{key_has}
 use Rattle.hash_agg.proofs.NeedLaws.{keys_set}
 use Rattle.hash_agg.proofs.SpillLaws.{among_entries, none_of, spills_there, spills_new, spills_left}
-use Rattle.group_runs.proofs.RunLaws.{packed_once, take_found, group_at, groups_long}
+use Rattle.group_runs.specs.RunLaws.{take_found, group_at, groups_long}
+use Rattle.group_runs.proofs.RunLaws.{packed_once}
 use Rattle.hash_agg.proofs.InputLaws.{flat_row_at}
-use Rattle.group_runs.proofs.StateLaws.{states_by, states_wide, narrow}
+use Rattle.group_runs.specs.StateLaws.{states_by, states_wide, narrow}
 use Rattle.hash_agg.proofs.TableLaws.{no_key, named_at, get_mapped}
 use Rattle.hash_agg.proofs.PassLaws.{IsKept, after, by_at, by_set, by_append, rows_append, rows_one, reads_there, reads_new, reads_left}
 
@@ -55,18 +55,6 @@ ReadsSome plan hash Are number old new =
 -- the piece at a place, alone
 abbrev pub IsAt : (List Piece → Type 0) → ℕ → (List Piece → Type 0) → Type 0
 IsAt Are place One = (more : List Piece) → Are more → (piece : Piece) × (slice_get more place ≡ Some piece) × One (piece ∷ [])
-
-pub on_ok : {T E : Type 0} (r : Result T E) {P Q : Type 0} → (P → Q) → OnOk r P → OnOk r Q
-on_ok (Ok x) gives holds = gives holds
-on_ok (Err e) gives holds = tt
-
-pub ok_both : {T E : Type 0} (r : Result T E) (P Q : Type 0) → OnOk r P → OnOk r Q → OnOk r (P × Q)
-ok_both (Ok x) P Q p q = (p, q)
-ok_both (Err e) P Q p q = tt
-
-pub on_error : {T E : Type 0} (r : Result T E) {P Q : E → Type 0} → ((e : E) → P e → Q e) → IfErr r P → IfErr r Q
-on_error (Ok x) gives holds = tt
-on_error (Err e) gives holds = gives e holds
 
 -- what holds of the error that a `?` hands on
 pub err_out : {T E : Type 0} (r : Result T E) (e : E) (P : E → Type 0) → IsErrAnd r (λ x. x ≡ e) → P e → IfErr r P

@@ -12,18 +12,18 @@ use Rattle.grouping_model.specs.Aggregates.{Partial}
 use Rattle.grouping_model.specs.Query.{Query}
 use Rattle.grouping_model.specs.Grouping.{Group}
 use Rattle.grouping_model.specs.Parts.{keys_of, partials_at}
-use Rattle.grouping_model.proofs.DatumOrder.{row_cmp_total, row_cmp_ties, same_row-is}
-use Rattle.grouping_model.proofs.Members.{Member, from_contains, to_contains}
-use Rattle.grouping_model.proofs.PartLaws.{same_row-swap}
+use Rattle.grouping_model.specs.DatumOrderLaws.{row_cmp_total, row_cmp_ties, same_row-is}
+use Rattle.grouping_model.specs.MemberLaws.{Member, from_contains, to_contains}
+use Rattle.grouping_model.specs.PartLaws.{same_row-swap}
 use Rattle.spill_tapes.specs.Records.{Record}
 use Rattle.group_runs.specs.Runs.{Entry, Rises}
 use Rattle.group_runs.specs.Standing.{StandsFor, AreGroups, IsRun}
-use Rattle.group_runs.specs.Chunks.{on_end}
+use Rattle.packed_rows.specs.RowsOnEnd.{on_end}
 use Rattle.hash_agg.specs.Passes.{Piece, made_of, rows_at, CountUpTo, AreOnce, IsParted, AreGroupsBy, AreSafe, Stands}
 use Rattle.hash_agg.proofs.FoldLaws.{run_keys_rise}
 use Rattle.having_filter.specs.Kept.{key_kinds}
 use Rattle.group_runs.proofs.RunLaws.{packed_once}
-use Rattle.group_runs.proofs.MergeLaws.{AreApart, apart_from, rising_apart}
+use Rattle.group_runs.specs.MergeLaws.{AreApart, apart_from, rising_apart}
 use Rattle.hash_agg.proofs.PassLaws.{set_with, at_cons, at_append, or_else, or_none, missing, by_raised, by_uniform, by_append, by_set, by_at, once_apart, no_pieces, same_itself}
 use Rattle.hash_agg.proofs.SortLaws.{once_permuted, rises_once}
 

@@ -5,14 +5,14 @@ use Rattle.std.proofs.Common.{sym, ◌∙◌, ap, subst, inl, inr, arith}
 use Rattle.std.proofs.lemmas.Bool.Decides.{nat_tests}
 use Rattle.std.proofs.lemmas.List.{map-append}
 use Rattle.std.proofs.lemmas.List.Filters.{sum_by-filter_both}
-use Rattle.list_laws.specs.Each.{each_append}
+use Rattle.list_laws.specs.Each.{each_append, each_weaker}
 use Rattle.grouping_model.specs.Datum.{Row, same_row}
 use Rattle.grouping_model.specs.Aggregates.{Partial}
 use Rattle.grouping_model.specs.Condition.{is_met}
 use Rattle.grouping_model.specs.Query.{Query}
 use Rattle.grouping_model.specs.Grouping.{Group, column_of}
 use Rattle.grouping_model.specs.Parts.{partials_at, with_row}
-use Rattle.grouping_model.proofs.DatumOrder.{same_row-is}
+use Rattle.grouping_model.specs.DatumOrderLaws.{same_row-is}
 use Rattle.packed_rows.specs.Packing.{packing}
 use Rattle.spill_tapes.specs.Records.{Record}
 use Rattle.spill_lists.specs.Lists.{LeftList, list_of, on_list, deeper, is_none, lists, left_by}
@@ -257,10 +257,6 @@ all_of {A} P t (x ∷ xs) (first, all) =
       | false ↦ all_of P t xs all
     ]
 
-all_of_map : {A : Type 0} (P Q : A → Type 0) → ((x : A) → P x → Q x) → (xs : List A) → AllByRecursion P xs → AllByRecursion Q xs
-all_of_map P Q from [] all = tt
-all_of_map P Q from (x ∷ xs) (first, all) = (from x first, all_of_map P Q from xs all)
-
 -- ---- after the first pass
 
 pub waits_first : (q : Query) (hf : List ℕ → ℕ) (ps : List Piece) (es : List Entry) (left : List Record) (level : ℕ) → Stands q hf ps es left → Waits q hf ps es (left_by level left)
@@ -273,7 +269,7 @@ waits_first q hf ps es left level s =
       read = listed_with q hf (lists level left) rests (some_listed q hf level left s.rest s.read 0 16);
       parted = λ k. parts k (s.parted k) (among k);
       fewer =
-          all_of_map (λ rest. (k : Row) → rows_at q k rest ≤ rows_at q k s.rest) (λ rest. (k : Row) → rows_at q k rest ≤ rows_at q k ps)
+          each_weaker (λ rest. (k : Row) → rows_at q k rest ≤ rows_at q k s.rest) (λ rest. (k : Row) → rows_at q k rest ≤ rows_at q k ps)
           (λ rest low k. let a = low k in let b = s.fewer k in omega (arith, a, b)) (with_pieces rests)
           (all_of (λ rest. (k : Row) → rows_at q k rest ≤ rows_at q k s.rest) (λ (rest : List Piece). not (has_none rest)) rests (some_fewer q hf level s.rest 0 16));
     }
@@ -376,7 +372,7 @@ module _ (q : Query) (hf : List ℕ → ℕ) (ps : List Piece) (es : List Entry)
         (subst (λ os. IsOneOf all (or_else (partials_at k w.entered) (partials_at k v.entered) ∷ os)) (sym (map-append (λ rest. partials_at k (made_of q rest)) last.front v.rests)) one);
     fewer =
         each_append (λ rest. (k : Row) → rows_at q k rest ≤ rows_at q k ps) last.front v.rests low.0
-        (all_of_map (λ rest. (k : Row) → rows_at q k rest ≤ rows_at q k last.rest) (λ rest. (k : Row) → rows_at q k rest ≤ rows_at q k ps)
+        (each_weaker (λ rest. (k : Row) → rows_at q k rest ≤ rows_at q k last.rest) (λ rest. (k : Row) → rows_at q k rest ≤ rows_at q k ps)
         (λ rest less k. let a = less k in let b = low.1 k in omega (arith, a, b)) v.rests v.fewer);
   }
 

@@ -1,6 +1,7 @@
 -- What is aggregated. All of this is our own.
-use Rattle.std.specs.Prelude.{◌≡◌, ℕ, ◌≤◌, List, [], ◌∷◌, map, flat_map, length, sum_by}
+use Rattle.std.specs.Prelude.{◌≡◌, ℕ, ◌≤◌, List, [], ◌∷◌, map, length, sum_by}
 use Rattle.std.specs.List.{AllByRecursion}
+use Rattle.packed_rows.specs.RowsOnEnd.{on_end}
 use Rattle.grouping_model.specs.Datum.{Row, Kind, HasKinds, row_cmp}
 use Rattle.grouping_model.specs.Rising.{distinct}
 use Rattle.grouping_model.specs.Query.{Query}
@@ -30,10 +31,6 @@ brought (Groups run rows) = Counted run.now rows
 abbrev pub packings_in : Packings → List (List ℕ)
 packings_in (Apart packed) = bytes_of packed.now
 packings_in (OnEnd packed) = packed.now
-
--- the members of some lists of rows, one list after the other
-abbrev pub on_end : List (List Row) → List Row
-on_end lists = flat_map (λ rows. rows) lists
 
 -- the packings of rows of columns of these kinds
 pub record ArePackings (kinds : List Kind) (packed : List (List ℕ)) (rows : List Row) : Type 0 where

@@ -6,3 +6,4 @@ pub mod Waiting
 pub mod Means
 pub mod Counting
 pub mod Added
+pub mod BytesLaws

@@ -3,8 +3,8 @@
 ghost use Rattle.std.specs.Prelude.{◌≡◌, ◌<◌, Some, length, slice_get};
 ghost use Rattle.hash_agg.specs.Inputs.{brought, rows_in, packings_in};
 
-use flat_rows::PackedRows;
 use group_runs::Run;
+use packed_rows::PackedRows;
 
 /// Rows, or the partial results of rows.
 #[derive(Clone, Copy)]

@@ -5,7 +5,7 @@ ghost use Rattle.std.specs.List.{All};
 ghost use Rattle.std.specs.List.Sorted.{IsPermutation};
 ghost use Rattle.spill_lists.specs.declared.error.SpillError.TheVariants.{TapeDamaged, TapeFault};
 ghost use Rattle.group_runs.specs.Runs.{Rises};
-ghost use Rattle.group_runs.specs.Chunks.{on_end};
+ghost use Rattle.packed_rows.specs.RowsOnEnd.{on_end};
 ghost use Rattle.hash_agg.specs.Passes.{AreOnce, IsLed, pairs};
 
 use group_runs::Run;

@@ -8,11 +8,12 @@ use Rattle.query_checks.specs.Parts.{written_of_parts, checked_of}
 use Rattle.query_checks.specs.Spelling.{spelling, canonical_item}
 use Rattle.query_checks.specs.Writable.{IsWritable}
 use Rattle.query_checks.specs.declared.parts.Parts.{Parts}
-use Rattle.query_checks.proofs.CheckedLaws.{reaches_places}
+use Rattle.query_checks.specs.CheckedLaws.{reaches_places}
 use Rattle.having_filter.specs.Plans.{IsKept, PlansFor}
 use Rattle.having_filter.specs.declared.plan.Plan.{Plan}
 use Rattle.having_filter.specs.Kept.{IsCheckedQuery, by_names, headers, label_of}
-use Rattle.having_filter.proofs.NormalLaws.{columns_of_query, named_again, spelled_alike, label_twice}
+use Rattle.having_filter.specs.NormalLaws.{columns_of_query, named_again}
+use Rattle.having_filter.proofs.NormalLaws.{spelled_alike, label_twice}
 use Rattle.having_filter.proofs.WellLaws.{passed_query}
 
 -- the labels of a query's items are those of the checked query

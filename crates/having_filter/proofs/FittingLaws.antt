@@ -1,13 +1,12 @@
 -- The conditions of a checked query have operands that fit.
 use Rattle.std.proofs.Common.{◌≡◌, ◌<◌, ◌==◌, ◌&&◌, ℕ, Bool, true, false, List, [], ◌∷◌, map, length, Option, Some, None, option_map, refl, ap, sym, ◌∙◌, subst}
-use Rattle.std.specs.Prelude.{nat_lt, not, unwrap_or}
+use Rattle.std.specs.Prelude.{nat_lt, not, unwrap_or, ◌||◌}
 use Rattle.std.specs.List.{list_all, list_any, flat_map, AllByRecursion}
 use Rattle.std.specs.Option.{ForSome, option_map_or}
 use Rattle.std.proofs.lemmas.Bool.{and_parts, and_from, ltb-true, lt-ltb, false≢true, eq-eqb}
 use Rattle.std.proofs.lemmas.List.{length-map}
 use Rattle.std.proofs.lemmas.Bool.Decides.{Decides-int_eq}
 use Rattle.std.proofs.lemmas.List.Folds.{list_any-append}
-use Rattle.std.specs.Prelude.{◌||◌}
 use Rattle.std.proofs.lemmas.Slice.Eq.{bytes_eq-Decides}
 use Rattle.list_laws.specs.Each.{each_append, each_front, each_behind}
 use Rattle.grouping_model.specs.Datum as datum
@@ -21,13 +20,13 @@ use Rattle.query_checks.specs.Reads.{reads, is_call, is_key, calls_in, is_plain,
 use Rattle.query_checks.specs.Sameness.{form_eq, option_same, literal_eq, unary_eq, binary_eq, test_number, comparison_number, with_one, with_each}
 use Rattle.query_checks.specs.Checks.{Checked, kind_of_form, kinds_agree, is_boolean, takes_one, takes_two, takes_column, operands_fit, condition_fits, kinds_fit, are_plain, is_grouped, is_column, place, placed}
 use Rattle.query_checks.specs.Calls.{calls_of, distinct_calls}
-use Rattle.query_checks.proofs.DistinctLaws.{all_distinct}
-use Rattle.query_checks.proofs.FormLaws.{columns_mapped}
-use Rattle.query_checks.proofs.ReadLaws.{both_pass, calls_in_two}
+use Rattle.query_checks.specs.DistinctLaws.{all_distinct}
+use Rattle.query_checks.specs.FormLaws.{columns_mapped}
+use Rattle.query_checks.specs.ReadLaws.{both_pass, calls_in_two}
 use Rattle.having_filter.specs.Fitting.{OfOneKind, TakesOne, TakesTwo, OperandsFit, Fits, IsOfRow, IsOfGroup, HasFittingConditions}
 use Rattle.having_filter.specs.Kept.{IsCheckedQuery, by_names}
-use Rattle.having_filter.proofs.PlaceLaws.{placed_name}
-use Rattle.having_filter.proofs.NormalLaws.{HasColumns, placed_item, columns_of_query}
+use Rattle.having_filter.specs.PlaceLaws.{placed_name}
+use Rattle.having_filter.specs.NormalLaws.{HasColumns, placed_item, columns_of_query}
 use Rattle.having_filter.proofs.PassedLaws.{passes_first, passes_places}
 
 -- ---- kinds

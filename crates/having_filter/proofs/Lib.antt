@@ -1,5 +1,4 @@
 pub mod ValueLaws
-pub mod PlaceLaws
 pub mod PlanLaws
 pub mod NormalLaws
 pub mod WellLaws

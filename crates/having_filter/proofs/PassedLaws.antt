@@ -4,7 +4,7 @@ use Rattle.packed_rows.specs.Columns.{Column, kinds}
 use Rattle.query_checks.specs.Forms.{Written}
 use Rattle.query_checks.specs.Reads.{filters_pass}
 use Rattle.query_checks.specs.Checks.{Checked, all_of, has_too_many, is_shallow, are_shallow, has_columns, placed, are_plain, kinds_fit, is_grouped, checked_places, checked, PassesFirst}
-use Rattle.query_checks.proofs.CheckedLaws.{reaches_places, gives_too_many, gives_too_deep, gives_no_column}
+use Rattle.query_checks.specs.CheckedLaws.{reaches_places, gives_too_many, gives_too_deep, gives_no_column}
 use Rattle.having_filter.specs.Kept.{by_names}
 
 -- it passes the first checks

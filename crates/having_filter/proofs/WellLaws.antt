@@ -23,13 +23,14 @@ use Rattle.query_checks.specs.Sameness.{form_eq, first_of_each}
 use Rattle.query_checks.specs.Spelling.{spelling}
 use Rattle.query_checks.specs.Calls.{calls_of, distinct_calls}
 use Rattle.query_checks.specs.Writable.{IsWritable}
-use Rattle.query_checks.proofs.DistinctLaws.{Agrees, all_distinct, distinct_image}
-use Rattle.query_checks.proofs.ReadLaws.{Passes, calls_in_two, calls_mapped, calls_pass}
-use Rattle.query_checks.proofs.SameLaws.{form_image}
+use Rattle.query_checks.specs.DistinctLaws.{Agrees, all_distinct, distinct_image}
+use Rattle.query_checks.specs.ReadLaws.{Passes, calls_in_two, calls_mapped, calls_pass}
+use Rattle.query_checks.specs.SameLaws.{form_image}
 use Rattle.having_filter.specs.Meaning.{meaning, aggregate_of, source_of_form}
 use Rattle.having_filter.specs.Kept.{TakesRows, IsWellFormed, IsCheckedQuery}
-use Rattle.having_filter.proofs.PlaceLaws.{same_places, distinct_places, places_in_range}
-use Rattle.having_filter.proofs.NormalLaws.{HasColumns, placed_item, columns_of_query, named_again, normal_writable, passes_again}
+use Rattle.having_filter.specs.PlaceLaws.{same_places, distinct_places, places_in_range}
+use Rattle.having_filter.specs.NormalLaws.{HasColumns, placed_item, columns_of_query, named_again}
+use Rattle.having_filter.proofs.NormalLaws.{normal_writable, passes_again}
 
 -- the value in a column of a kind, or beyond the last column
 abbrev pub KindAt : Option Kind → Datum → Type 0

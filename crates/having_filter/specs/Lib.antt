@@ -5,3 +5,5 @@ pub mod Coding
 pub mod Plans
 pub mod Answers
 pub mod Fitting
+pub mod NormalLaws
+pub mod PlaceLaws

@@ -5,7 +5,7 @@ ghost use Rattle.agg_protocol.specs.Results.{outcome_of};
 
 use crate::cells::Values;
 use agg_protocol::ResultValue;
-use flat_rows::bound;
+use packed_rows::bound;
 use std::alloc::{AllocError, Global};
 use std::marker::Model;
 
@@ -25,7 +25,7 @@ impl Model for Answer {
 
     ghost Value = { List (List Outcome) };
 
-    ghost use Rattle.flat_rows.specs.Rows.{cut, AreRows};
+    ghost use Rattle.packed_rows.specs.RowsOnEnd.{cut, AreRows};
 
     ghost view = { λ a. cut a.values 0 a.ends.items };
 

@@ -29,7 +29,7 @@ impl Mapping<usize, usize> for Unchanged {
 }
 
 /// A copy of a call.
-#[tactic(auto, using(query_checks::proofs::FormLaws::unchanged))]
+#[tactic(auto, using(query_checks::specs::FormLaws::unchanged))]
 fn copied_call(alloc: Global, call: &AggCall<usize>) -> Result<AggCall<usize>, AllocError>
     ensures { IfOk result (λ c. call_form c ≡ call_form call.now) }
 {
@@ -58,7 +58,7 @@ pub(crate) fn calls_of(alloc: Global, parts: &Parts) -> Result<Vec<AggCall<usize
 }
 
 /// A copy of an item and of its alias, if it has one.
-#[tactic(auto, using(query_checks::proofs::FormLaws::unchanged))]
+#[tactic(auto, using(query_checks::specs::FormLaws::unchanged))]
 fn copied_item(
     alloc: Global,
     item: &(Item<usize>, Option<String>),

@@ -9,13 +9,14 @@ use Rattle.std.specs.Ordering.{nat_cmp}
 use Rattle.std.specs.declared.cmp.Ordering.TheVariants.{Less}
 use Rattle.std.specs.BTreeMap.{insert_entry}
 use Rattle.std.proofs.lemmas.Result.{IfOk-weaker, IfErr-weaker}
+use Rattle.list_laws.specs.Each.{each_weaker}
 use Rattle.grouping_model.specs.Datum.{Kind}
 use Rattle.grouping_model.specs.Query.{Query}
 use Rattle.grouping_model.specs.declared.limits.TheConstants.{LAST_NUMBER}
 use Rattle.grouping_model.specs.declared.delivered.Delivered.{Delivered}
 use Rattle.grouping_model.specs.declared.delivered.Delivered.TheVariants.{Known, Early}
 use Rattle.packed_rows.specs.Columns.{kinds}
-use Rattle.packed_rows.proofs.PackingOrder.{less}
+use Rattle.packed_rows.specs.PackingOrderLaws.{less}
 use Rattle.batch_reader.specs.Rows.{ArePackedRows}
 use Rattle.query_checks.specs.Checks.{Checked}
 use Rattle.having_filter.specs.Meaning.{meaning}
@@ -25,7 +26,7 @@ use Rattle.origin_prefix.specs.declared.error.RefusedBatch.{RefusedBatch}
 use Rattle.origin_prefix.specs.declared.error.JoinError.TheVariants.{OriginDisagrees}
 use Rattle.origin_prefix.specs.Errors.{no_memory}
 use Rattle.origin_prefix.proofs.ByNumber.{numbers, some_is, found_holds, all_put}
-use Rattle.origin_prefix.proofs.PartLaws.{all_weaker, settled_part}
+use Rattle.origin_prefix.proofs.PartLaws.{settled_part}
 
 -- a number within the prefix isn't early
 pub within_prefix : (query : Checked) (part : Part) (number : ℕ) (rows kept : List (List ℕ)) → IsPartOf query part → number ≤ part.prefix → rows_at part.early number ≡ Some kept → kept ≡ rows
@@ -72,7 +73,7 @@ part_open query part is =
       is_run = is.run;
       few = is.few;
       rising = is.rising;
-      above = all_weaker (IsEarly (kinds query.columns) part.prefix) (IsBehind (kinds query.columns) part.prefix)
+      above = each_weaker (IsEarly (kinds query.columns) part.prefix) (IsBehind (kinds query.columns) part.prefix)
           (λ b e. record { behind = let low = e.behind in omega (arith, low); within = e.within; rows = e.rows }) part.early is.early;
     }
 

@@ -4,13 +4,13 @@ use Rattle.std.proofs.Common.{◌∙◌, sym, subst, ap, arith}
 use Rattle.std.specs.List.{AllByRecursion}
 use Rattle.std.specs.List.Sorted.{IsStrictlySortedBy}
 use Rattle.std.specs.Ordering.{nat_cmp}
+use Rattle.list_laws.specs.Each.{each_weaker}
 use Rattle.grouping_model.specs.Datum.{Kind}
 use Rattle.packed_rows.specs.Columns.{kinds}
 use Rattle.query_checks.specs.Checks.{Checked}
 use Rattle.origin_prefix.specs.Parts.{Batches, Part, rows_at, IsEarly, IsBehind, IsOpen, IsPartOf}
 use Rattle.origin_prefix.specs.Joins.{either, Unites}
 use Rattle.origin_prefix.proofs.ByNumber.{numbers}
-use Rattle.origin_prefix.proofs.PartLaws.{all_weaker}
 
 -- what was copied from a part, and then from another, behind a number
 abbrev pub Copied : ℕ → Batches → Batches → Batches → Type 0
@@ -39,10 +39,10 @@ module _ (query : Checked) (a b own shorter : Part) (start first both : Batches)
   behind_all : AllByRecursion (IsBehind (kinds query.columns) a.prefix) both
   behind_all =
       then_keeps (kinds query.columns)
-      (all_weaker (IsEarly (kinds query.columns) b.prefix) (λ (e : ℕ × List (List ℕ)). a.prefix < e.0 → IsBehind (kinds query.columns) a.prefix e)
+      (each_weaker (IsEarly (kinds query.columns) b.prefix) (λ (e : ℕ × List (List ℕ)). a.prefix < e.0 → IsBehind (kinds query.columns) a.prefix e)
       (λ e early low. record { behind = low; within = early.within; rows = early.rows }) b.early other.early)
       (keeps (kinds query.columns)
-      (all_weaker (IsEarly (kinds query.columns) a.prefix) (λ (e : ℕ × List (List ℕ)). a.prefix < e.0 → IsBehind (kinds query.columns) a.prefix e)
+      (each_weaker (IsEarly (kinds query.columns) a.prefix) (λ (e : ℕ × List (List ℕ)). a.prefix < e.0 → IsBehind (kinds query.columns) a.prefix e)
       (λ e early low. record { behind = low; within = early.within; rows = early.rows }) a.early is.early) tt)
 
   pub united_open : IsOpen query a.prefix a.run both
@@ -52,7 +52,7 @@ module _ (query : Checked) (a b own shorter : Part) (start first both : Batches)
   inside_united =
       record {
         rising = rising;
-        above = all_weaker (IsBehind (kinds query.columns) a.prefix) (λ (e : ℕ × List (List ℕ)). a.prefix < e.0) (λ e i. i.behind) both behind_all;
+        above = each_weaker (IsBehind (kinds query.columns) a.prefix) (λ (e : ℕ × List (List ℕ)). a.prefix < e.0) (λ e i. i.behind) both behind_all;
         rows = λ n low.
             let above : nat_lt a.prefix n ≡ true = grind arith in
             then_copied n

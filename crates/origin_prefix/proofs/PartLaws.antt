@@ -8,6 +8,7 @@ use Rattle.std.specs.List.{AllByRecursion}
 use Rattle.std.specs.List.Sorted.{IsStrictlySortedBy}
 use Rattle.std.specs.Ordering.{nat_cmp}
 use Rattle.std.proofs.lemmas.Bool.{cases_lt}
+use Rattle.list_laws.specs.Each.{each_weaker, each_both}
 use Rattle.grouping_model.specs.Condition.{is_met}
 use Rattle.grouping_model.specs.Datum.{Kind, Row, HasKinds}
 use Rattle.grouping_model.specs.Grouping.{key_of, selected, column_of}
@@ -19,11 +20,12 @@ use Rattle.packed_rows.specs.Columns.{kinds}
 use Rattle.batch_reader.specs.Rows.{ArePackedRows}
 use Rattle.query_checks.specs.Checks.{Checked}
 use Rattle.having_filter.specs.Meaning.{meaning}
-use Rattle.hash_agg.specs.Inputs.{Packed, Counted, IsInput, AllBring, on_end, all_rows, rows_in}
+use Rattle.packed_rows.specs.RowsOnEnd.{on_end}
+use Rattle.hash_agg.specs.Inputs.{Packed, Counted, IsInput, AllBring, all_rows, rows_in}
 use Rattle.group_runs.specs.Runs.{Entry, packed_keys}
 use Rattle.group_runs.specs.Standing.{IsRun}
-use Rattle.group_runs.proofs.EntryLaws.{groups_raised}
-use Rattle.group_runs.proofs.RunLaws.{keys_packed, keys_of_kinds}
+use Rattle.group_runs.specs.EntryLaws.{groups_raised}
+use Rattle.group_runs.specs.RunLaws.{keys_packed, keys_of_kinds}
 use Rattle.origin_prefix.proofs.ByNumber.{numbers, above_first, rising_rest}
 use Rattle.origin_prefix.specs.Parts.{Batches, Part, IsEarly, IsBehind, IsOpen, IsPartOf, following, rows_following, Folds, Settles}
 
@@ -94,14 +96,6 @@ all_drop P zero xs all = all
 all_drop P (suc k) [] all = tt
 all_drop P (suc k) (x ∷ xs) all = all_drop P k xs all.1
 
-pub all_both : {X : Type 0} (P Q R : X → Type 0) → ((x : X) → P x → Q x → R x) → (xs : List X) → AllByRecursion P xs → AllByRecursion Q xs → AllByRecursion R xs
-all_both P Q R both [] ps qs = tt
-all_both P Q R both (x ∷ xs) ps qs = (both x ps.0 qs.0, all_both P Q R both xs ps.1 qs.1)
-
-pub all_weaker : {X : Type 0} (P Q : X → Type 0) → ((x : X) → P x → Q x) → (xs : List X) → AllByRecursion P xs → AllByRecursion Q xs
-all_weaker P Q f [] all = tt
-all_weaker P Q f (x ∷ xs) all = (f x all.0, all_weaker P Q f xs all.1)
-
 -- behind those that follow there is a gap
 pub gap_behind : (n : ℕ) (batches : Batches) → IsStrictlySortedBy nat_cmp (numbers batches) → AllByRecursion (λ (batch : ℕ × List (List ℕ)). n < batch.0) batches
     → AllByRecursion (λ (batch : ℕ × List (List ℕ)). n + following n batches + 1 < batch.0) (drop (following n batches) batches)
@@ -111,7 +105,7 @@ gap_behind n (batch ∷ batches) rising above =
     → AllByRecursion (λ (other : ℕ × List (List ℕ)). n + (if b then suc (following (n + 1) batches) else 0) + 1 < other.0) (drop (if b then suc (following (n + 1) batches) else 0) (batch ∷ batches))) [
       | true ↦ λ e.
           let next : batch.0 ≡ n + 1 = grind arith in
-          all_weaker (λ (b : ℕ × List (List ℕ)). n + 1 + following (n + 1) batches + 1 < b.0) (λ (b : ℕ × List (List ℕ)). n + suc (following (n + 1) batches) + 1 < b.0)
+          each_weaker (λ (b : ℕ × List (List ℕ)). n + 1 + following (n + 1) batches + 1 < b.0) (λ (b : ℕ × List (List ℕ)). n + suc (following (n + 1) batches) + 1 < b.0)
           (λ b l. omega (arith, l)) (drop (following (n + 1) batches) batches)
           (gap_behind (n + 1) batches (rising_rest batch batches rising)
           (subst (λ m. AllByRecursion (λ (b : ℕ × List (List ℕ)). m < b.0) batches) next (above_first batch.0 batch.1 batches rising)))
@@ -119,7 +113,7 @@ gap_behind n (batch ∷ batches) rising above =
           let apart : batch.0 ≡ n + 1 → ⊥ = λ same. grind arith in
           let low : n < batch.0 = above.0 in
           let behind : n + 1 < batch.0 = elim (cases_lt (n + 1) batch.0) [ inl l ↦ l | inr h ↦ absurd (apart (omega (arith, h, low))) ] in
-          (omega (arith, behind), all_weaker (λ (b : ℕ × List (List ℕ)). batch.0 < b.0) (λ (b : ℕ × List (List ℕ)). n + 0 + 1 < b.0) (λ b l. omega (arith, l, behind)) batches (above_first batch.0 batch.1 batches rising))
+          (omega (arith, behind), each_weaker (λ (b : ℕ × List (List ℕ)). batch.0 < b.0) (λ (b : ℕ × List (List ℕ)). n + 0 + 1 < b.0) (λ b l. omega (arith, l, behind)) batches (above_first batch.0 batch.1 batches rising))
     ] refl
 
 -- ---- a part that settled
@@ -192,7 +186,7 @@ settled_part honest query prefix run batches new may settles =
       few = omega (arith, groups, had, few, most);
       rising = subst (λ bs. IsStrictlySortedBy nat_cmp (numbers bs)) (sym settles.early) (rising_drop k batches may.rising);
       early = subst (AllByRecursion (IsEarly (kinds query.columns) new.prefix)) (sym settles.early)
-          (all_both (λ (b : ℕ × List (List ℕ)). prefix + k + 1 < b.0) (IsBehind (kinds query.columns) prefix) (IsEarly (kinds query.columns) new.prefix)
+          (each_both (λ (b : ℕ × List (List ℕ)). prefix + k + 1 < b.0) (IsBehind (kinds query.columns) prefix) (IsEarly (kinds query.columns) new.prefix)
           (λ b low is. record { behind = subst (λ n. n + 1 < b.0) (sym upto) low; within = is.within; rows = is.rows })
           (drop k batches) (gap_behind prefix batches may.rising (all_above batches may.above)) (all_drop (IsBehind (kinds query.columns) prefix) k batches may.above));
     }

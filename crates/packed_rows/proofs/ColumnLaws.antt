@@ -1,11 +1,11 @@
 -- What a map from names to kinds says of a schema's columns.
-use Rattle.std.specs.Prelude.{◌≡◌, ℕ, zero, suc, ◌<◌, List, [], ◌∷◌, ◌++◌, map, length, slice_get, slice_index_or, option_map, Option, Some, None, string_bytes, position, cond, not, nat_lt, ◌+◌, take, codes, is_some, true, false}
+use Rattle.std.specs.Prelude.{◌≡◌, ℕ, zero, suc, ◌<◌, List, [], ◌∷◌, ◌++◌, map, length, slice_get, slice_index_or, option_map, Option, Some, None, string_bytes, position, cond, not, nat_lt, ◌+◌, take, codes, is_some, true, false, ◌||◌}
 use Rattle.std.specs.String.{string_eq}
 use Rattle.indexmap.specs.IndexMap.{IndexMap, get_by, insert_entry}
 use Rattle.indexmap.proofs.CallerLemmas.{insert_entry-new}
 use Rattle.std.proofs.lemmas.List.{take_more}
 use Rattle.std.proofs.lemmas.Option.{same_Some}
-use Rattle.std.specs.List.{position_or_len}
+use Rattle.std.specs.List.{position_or_len, list_any, AllByRecursion, AllZip, IsDistinct}
 use Rattle.std.proofs.Common.{refl, sym, ◌∙◌, ap, arith, append_assoc, subst, inl, inr}
 use Rattle.std.specs.Str.{bytes_eq}
 use Rattle.std.specs.declared.alloc.Global.{Global}
@@ -17,10 +17,9 @@ use Rattle.query_tokens.specs.Reserved.{is_reserved}
 use Rattle.packed_rows.specs.Refusal.{AddFault}
 use Rattle.packed_rows.specs.View.{kind_of, kinds_of}
 use Rattle.packed_rows.specs.Columns.{Column, columns_of, kinds, names, place_of, printed, column_text}
-use Rattle.std.specs.Prelude.{◌||◌}
-use Rattle.std.specs.List.{list_any, AllByRecursion, AllZip, IsDistinct}
 use Rattle.std.specs.Map.{lookup, keys_of}
 use Rattle.std.proofs.lemmas.Map.Made.{is_some-lookup}
+use Rattle.list_laws.specs.Outcomes.{none_there}
 
 pub kinds_are : (entries : List (String Global × ValueKind)) → kinds_of (map (λ e. e.1) entries) ≡ kinds (columns_of entries)
 kinds_are [] = refl
@@ -106,15 +105,11 @@ named_column name entries = is_some-lookup (λ k. bytes_eq name (string_bytes k)
     each [] = refl
     each (e ∷ es) = ap (λ b. bytes_eq name (string_bytes e.0) || b) (each es)
 
-none_is : {A : Type 0} (o : Option A) → is_some o ≡ false → o ≡ None
-none_is (Some x) e = absurd cc
-none_is None e = refl
-
 -- a map with a new name has one more column
 pub new_column : {S : Type 0} (m m' : IndexMap (String Global) ValueKind S) (name : List ℕ) (key : String Global) (kind : ValueKind) → string_bytes key ≡ name → is_some (lookup (λ k. bytes_eq name (string_bytes k)) m.entries) ≡ false → m'.entries ≡ insert_entry string_eq m.entries key kind → columns_of m'.entries ≡ columns_of m.entries ++ record { name = name; kind = kind_of kind } ∷ []
 new_column m m' name key kind named none entries =
     let absent : get_by (λ k. bytes_eq (string_bytes key) (string_bytes k)) m ≡ None =
-    subst (λ (w : List ℕ). get_by (λ k. bytes_eq w (string_bytes k)) m ≡ None) (sym named) (none_is _ none) in
+    subst (λ (w : List ℕ). get_by (λ k. bytes_eq w (string_bytes k)) m ≡ None) (sym named) (none_there _ none) in
     ap columns_of (entries ∙ insert_entry-new string_eq m key kind absent) ∙ column_new m.entries key kind
     ∙ ap (λ (w : List ℕ). columns_of m.entries ++ record { name = w; kind = kind_of kind } ∷ []) named
 

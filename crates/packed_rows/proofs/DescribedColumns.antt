@@ -1,7 +1,6 @@
 -- Reading columns from the front of lexemes that describe them.
-use Rattle.std.specs.Prelude.{◌≡◌, ◌≢◌, refl, ℕ, ◌+◌, ◌*◌, ◌<◌, ◌≤◌, ◌==◌, true, false, ◌||◌, List, [], ◌∷◌, ◌++◌, length, Contains, Option, Some, None, Ok}
-use Rattle.std.proofs.Common.{sym, ◌∙◌, ap, subst, inl, inr, arith, append_assoc, suc}
-use Rattle.std.proofs.lemmas.Option.{same_Some}
+use Rattle.std.specs.Prelude.{◌≡◌, ◌≢◌, refl, ℕ, ◌+◌, ◌*◌, ◌<◌, ◌≤◌, ◌==◌, true, false, ◌||◌, List, [], ◌∷◌, ◌++◌, length, Option, Some, None, Ok}
+use Rattle.std.proofs.Common.{sym, ◌∙◌, ap, subst, inl, inr, arith, append_assoc}
 use Rattle.std.proofs.lemmas.List.{length-append, length-map}
 use Rattle.std.specs.List.{AllByRecursion, IsDistinct, list_any}
 use Rattle.std.specs.Str.{bytes_eq}
@@ -19,6 +18,15 @@ use Rattle.packed_rows.specs.Columns.{Column, names, IsSchemaText, IsColumnName,
 use Rattle.packed_rows.specs.Refusal.{AddFault, ReadFault}
 use Rattle.packed_rows.specs.declared.error.RowError.{RowError}
 use Rattle.packed_rows.specs.declared.error.RowError.TheVariants.{NoMemory, BadSchema}
+use Rattle.packed_rows.specs.DescribedLaws.{column, column_is, none_described}
+
+-- the columns so far, and what is left to read
+pub record ReadSoFar (all rest : List Lexeme) (columns : List Column) : Type 0 where
+  pub only : (whole : List Column) → Describes all whole → (tail : List Column) × (whole ≡ columns ++ tail) × Describes rest tail
+  pub back : (tail : List Column) → Describes rest tail → Describes all (columns ++ tail)
+  pub legal : AllByRecursion IsLexeme rest
+  pub few : length columns ≤ MOST_COLUMNS
+  pub named : AllByRecursion IsColumnName (names columns)
 
 -- what may follow a column: nothing, or a comma and what describes more columns
 unfoldable pub Follows : List Lexeme → List Column → Type 0
@@ -40,19 +48,6 @@ join name word [] c (t ∷ ts) d f = absurd f
 join name word (Sign Comma ∷ lexemes) c tail d f = (d, f)
 join name word (x ∷ lexemes) c tail d f = absurd f
 
--- lexemes describe some columns or none at all
-pub none_described : (lexemes : List Lexeme) → Describes lexemes [] → ⊥
-unfolding Describes
-none_described (Name name ∷ Name word ∷ []) d = d
-none_described (Name name ∷ Name word ∷ Sign Comma ∷ more) d = d
-none_described lexemes d = d
-
-abbrev column : List ℕ → Kind → Column
-column name kind = record { name = name; kind = kind }
-
-pub column_is : (name word : List ℕ) (kind : Kind) (c : Column) → DescribesColumn name word c → kind_named word ≡ Some kind → c ≡ column name kind
-column_is name word kind c d e = let same : c.kind ≡ kind = same_Some c.kind kind (sym d.of_kind ∙ e) in λ i. record { name = d.named i; kind = same i }
-
 -- columns whose lexemes begin with a column begin with that column
 first_column : (rest : List Lexeme) (name : List ℕ) (kind : Kind) (after : List Lexeme) → BeginsWithColumn rest name kind after → (cs : List Column) → Describes rest cs → (tail : List Column) × (cs ≡ column name kind ∷ tail) × Follows after tail
 first_column rest name kind after b cs d = of_cases cs (subst (λ w. Describes w cs) b.begins d)
@@ -64,14 +59,6 @@ first_column rest name kind after b cs d = of_cases cs (subst (λ w. Describes w
 more_columns : (rest : List Lexeme) (name : List ℕ) (kind : Kind) (after : List Lexeme) → BeginsWithColumn rest name kind after → (tail : List Column) → Follows after tail → Describes rest (column name kind ∷ tail)
 more_columns rest name kind after b tail f =
     subst (λ w. Describes w (column name kind ∷ tail)) (sym b.begins) (join name b.word after (column name kind) tail (record { named = refl; of_kind = b.of_kind }) f)
-
--- the columns so far, and what is left to read
-pub record ReadSoFar (all rest : List Lexeme) (columns : List Column) : Type 0 where
-  pub only : (whole : List Column) → Describes all whole → (tail : List Column) × (whole ≡ columns ++ tail) × Describes rest tail
-  pub back : (tail : List Column) → Describes rest tail → Describes all (columns ++ tail)
-  pub legal : AllByRecursion IsLexeme rest
-  pub few : length columns ≤ MOST_COLUMNS
-  pub named : AllByRecursion IsColumnName (names columns)
 
 pub nothing_read : (all : List Lexeme) → AllByRecursion IsLexeme all → ReadSoFar all all []
 nothing_read all legal = record { only = λ whole d. (whole, refl, d); back = λ tail d. d; legal = legal; few = omega arith; named = tt }
@@ -176,11 +163,6 @@ no_comma all rest after name kind columns r b some none whole d = λ are.
     let found = r.only whole d in
     let first = first_column rest name kind after b found.0 found.2 in
     nothing_follows after first.0 some none first.2
-
--- from each member to each
-pub all_members : {X : Type 0} (P : X → Type 0) (xs : List X) → ((x : X) → Contains xs x → P x) → AllByRecursion P xs
-all_members P [] each = tt
-all_members P (x ∷ xs) each = (each x (0, omega arith, refl), all_members P xs (λ y c. each y (suc c.0, omega (arith, c.1), c.2)))
 
 -- what describes columns begins with two names, the second of a kind
 pub no_name : (lexemes : List Lexeme) → ((name : List ℕ) (rest : List Lexeme) → lexemes ≢ Name name ∷ rest) → (cs : List Column) → ¬ (Describes lexemes cs)

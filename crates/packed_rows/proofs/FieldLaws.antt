@@ -1,15 +1,14 @@
 -- What an input field stands for.
-use Rattle.std.specs.Prelude.{Result, Ok, Err, None, MatchResult}
+use Rattle.std.specs.Prelude.{Result, Ok, Err, None, MatchResult, slice_index, ℤ, codes, map, ◌≡◌, ℕ, Bool, true, false, List, [], ◌∷◌, drop, IsUtf8}
 use Rattle.std.specs.Result.{result_ok}
 use Rattle.std.specs.Char.{to_ascii_lowercase}
-use Rattle.std.specs.Prelude.{slice_index, ℤ, codes, map, ◌≡◌, ℕ, Bool, true, false, List, [], ◌∷◌, drop, IsUtf8}
 use Rattle.std.proofs.Common.{refl, sym, ap, subst, ◌∙◌, inl, inr, cond, eqb, arith}
 use Rattle.std.proofs.lemmas.Bool.{eqb-true}
 use Rattle.std.proofs.lemmas.Fmt.{IsAscii-from_digits}
 use Rattle.std.proofs.lemmas.Str.{IsUtf8-from_ascii}
 use Rattle.std.proofs.lemmas.Str.Ascii.{IsAscii-cons}
 use Rattle.std.specs.Str.{IsAscii}
-use Rattle.grouping_model.specs.Datum.{Datum, Kind, Null, Bigint, Boolean, Text, Bigint_kind, Boolean_kind, Text_kind, IsText, HasKind, HasKinds, Row, null_field}
+use Rattle.grouping_model.specs.Datum.{Datum, Kind, Null, Bigint, Boolean, Text, Bigint_kind, Boolean_kind, Text_kind, Row, null_field}
 use Rattle.packed_rows.specs.Field.{Reads, ReadsRow, IsBigintField, IsBooleanField, SpellsWord}
 use Rattle.std.specs.Str.Parse.{AllDigits, IsNumeral, without_leading_sign}
 
@@ -70,23 +69,10 @@ one_value Text_kind field Null (Text y) p q = absurd (q.0.3 p)
 one_value Text_kind field (Text x) Null p q = absurd (p.0.3 q)
 one_value kind field d e p q = absurd assumption
 
--- what is read has the column's kind
-pub read_kind : (kind : Kind) (field : List ℕ) (d : Datum) → Reads kind field d → HasKind kind d
-read_kind kind field Null p = tt
-read_kind Bigint_kind field (Bigint z) p = p.1
-read_kind Boolean_kind field (Boolean b) p = tt
-read_kind Text_kind field (Text x) p = subst IsText p.1 p.0
-read_kind kind field d p = absurd assumption
-
 pub one_row : (kinds : List Kind) (fields : List (List ℕ)) (x y : Row) → ReadsRow kinds fields x → ReadsRow kinds fields y → x ≡ y
 one_row [] [] [] [] p q = refl
 one_row (kind ∷ kinds) (field ∷ fields) (d ∷ x) (e ∷ y) p q = λ i. one_value kind field d e p.0 q.0 i ∷ one_row kinds fields x y p.1 q.1 i
 one_row kinds fields x y p q = absurd assumption
-
-pub read_kinds : (kinds : List Kind) (fields : List (List ℕ)) (row : Row) → ReadsRow kinds fields row → HasKinds kinds row
-read_kinds [] [] [] p = tt
-read_kinds (kind ∷ kinds) (field ∷ fields) (d ∷ row) p = (read_kind kind field d p.0, read_kinds kinds fields row p.1)
-read_kinds kinds fields row p = absurd assumption
 
 -- what an error says, where there is no value
 pub at_error : {X E N : Type 0} (P : X → Type 0) (Q : E → Type 0) (r : Result X E) → MatchResult r P (λ e. N × Q e) → None ≡ result_ok r → N

@@ -1,13 +1,12 @@
 -- Rows that are read or unpacked value by value.
-use Rattle.std.specs.Prelude.{◌≡◌, ◌≢◌, ℕ, ◌+◌, ◌<◌, ◌≤◌, List, [], ◌∷◌, ◌++◌, length, take, drop, Contains, slice_index_or, Result, Ok, Err, IsErr, OnErr, MatchResult}
+use Rattle.std.specs.Prelude.{◌≡◌, ◌≢◌, ℕ, ◌+◌, ◌<◌, ◌≤◌, List, [], ◌∷◌, ◌++◌, length, take, drop, Contains, slice_index_or, Result, Ok, Err, IsErr, MatchResult}
 use Rattle.std.proofs.Common.{refl, sym, ◌∙◌, ap, subst, arith, append_assoc, append-nil}
 use Rattle.grouping_model.specs.Datum.{Datum, Kind, Row, IsText, HasKind, HasKinds, null_field, Bigint_kind}
-use Rattle.packed_rows.specs.Field.{IsTextField}
+use Rattle.packed_rows.specs.Field.{IsTextField, Reads, ReadsRow, IsBadField, IsLeftmostBad}
 use Rattle.std.proofs.lemmas.List.Elements.{Contains-append_right}
 use Rattle.std.proofs.lemmas.List.Concat.{flat_map-append}
 use Rattle.packed_rows.specs.Packing.{value_packing, packing}
 use Rattle.std.proofs.lemmas.List.{map_more, map_push, take_more, take_all, drop_more, drop_all, get_or-map, length-map}
-use Rattle.packed_rows.specs.Field.{Reads, ReadsRow, IsBadField, IsLeftmostBad}
 use Rattle.packed_rows.specs.declared.value.Value.{Value}
 use Rattle.packed_rows.specs.declared.value.ValueKind.{ValueKind}
 use Rattle.packed_rows.specs.View.{datum_of, row_of, kind_of, kinds_of, texts_of}
@@ -152,11 +151,6 @@ next_column ks kinds fs i d bytes value e h width so_far reads =
     let w = same_width ks kinds e in let w' = length-map fs (λ (f : Bor (List ℕ)). f.now) in
     let reads' : Reads (slice_index_or kinds i Bigint_kind) (slice_index_or (texts_of fs) i []) value = rw (kind_is ks kinds i e h, field_is fs i d (omega (arith, w))) reads in
     packed_more kinds (texts_of fs) i bytes Bigint_kind [] value (omega (arith, w)) (omega (arith, w, w')) reads' so_far
-
--- what holds anyway holds at an error
-pub on_err : {X E : Type 0} (r : Result X E) {P : Type 0} → P → OnErr r P
-on_err (Ok x) p = tt
-on_err (Err e) p = p
 
 pub on_match : {X E : Type 0} (r : Result X E) (P : Type 0) {Q : Type 0} → IsErr r → Q → MatchResult r (λ _. P) (λ _. Q)
 on_match (Ok x) P failed q = cc

@@ -15,10 +15,11 @@ use Rattle.query_checks.specs.Reads.{calls_in}
 use Rattle.query_checks.specs.Sameness.{form_eq, first_of_each}
 use Rattle.query_checks.specs.Calls.{distinct_calls}
 use Rattle.query_checks.specs.Parts.{written_of_parts}
-use Rattle.query_checks.proofs.DistinctLaws.{Agrees, Anything, all_anything, distinct_image, next_front}
+use Rattle.query_checks.specs.DistinctLaws.{Agrees, distinct_image}
+use Rattle.query_checks.proofs.DistinctLaws.{Anything, all_anything, next_front}
 use Rattle.query_checks.proofs.FormLaws.{columns_pass_all}
-use Rattle.query_checks.proofs.ReadLaws.{calls_mapped}
-use Rattle.query_checks.proofs.SameLaws.{form_image}
+use Rattle.query_checks.specs.ReadLaws.{calls_mapped}
+use Rattle.query_checks.specs.SameLaws.{form_image}
 
 -- the calls that the code collects of items and of HAVING
 abbrev pub item_calls : {C : Type 0} → List (Item C × Option (String Global)) → List (Form C)

@@ -3,11 +3,11 @@ use Rattle.std.proofs.Common.{◌≡◌, ℕ, ◌+◌, ◌<◌, ◌≤◌, Bool,
 use Rattle.std.proofs.Math.Dec.{ltb}
 use Rattle.std.proofs.Math.Nat.{le_trans}
 use Rattle.std.proofs.Math.Seq.{take-suc}
-use Rattle.std.specs.List.{list_any, list_all, AllByRecursion}
-use Rattle.std.proofs.lemmas.Bool.{and_parts, and_from, ltb-true, ltb-false, lt-ltb}
+use Rattle.std.specs.List.{list_any, AllByRecursion}
+use Rattle.std.proofs.lemmas.Bool.{ltb-true, ltb-false, lt-ltb}
 use Rattle.std.proofs.lemmas.List.{map-append, length-map, length-append, take-append-drop}
-use Rattle.list_laws.specs.Each.{each_append}
 use Rattle.query_checks.specs.Sameness.{with_one, with_each, first_of_each}
+use Rattle.query_checks.specs.DistinctLaws.{distinct_image, with_each_append}
 
 -- a member more, where none is the same, and where one is
 pub with_one_more : {A : Type 0} (same : A → A → Bool) (xs : List A) (x : A) → list_any (same x) xs ≡ false → xs ++ x ∷ [] ≡ with_one same xs x
@@ -15,11 +15,6 @@ with_one_more same xs x e = rw e refl
 
 pub with_one_there : {A : Type 0} (same : A → A → Bool) (xs : List A) (x : A) → list_any (same x) xs ≡ true → xs ≡ with_one same xs x
 with_one_there same xs x e = rw e refl
-
--- the members of two lists, one list after the other
-with_each_append : {A : Type 0} (same : A → A → Bool) (members xs ys : List A) → with_each same members (xs ++ ys) ≡ with_each same (with_each same members xs) ys
-with_each_append same members [] ys = refl
-with_each_append same members (x ∷ xs) ys = with_each_append same (with_one same members x) xs ys
 
 pub one_more : {A : Type 0} (same : A → A → Bool) (xs : List A) (x : A) → first_of_each same (xs ++ x ∷ []) ≡ with_one same (first_of_each same xs) x
 one_more same xs x = with_each_append same [] xs (x ∷ [])
@@ -70,66 +65,6 @@ no_more same xs =
 pub maps_joined : {A B D : Type 0} (f : A → B) (g : B → D) (xs : List A) → map g (map f xs) ≡ map (λ x. g (f x)) xs
 maps_joined f g [] = refl
 maps_joined f g (x ∷ xs) = λ i. g (f x) ∷ maps_joined f g xs i
-
--- what passes a test is there for each member, and back
-pub all_pass : {A : Type 0} (p : A → Bool) (xs : List A) → list_all p xs ≡ true → AllByRecursion (λ x. p x ≡ true) xs
-all_pass p [] e = tt
-all_pass p (x ∷ xs) e = let parts = and_parts (p x) (list_all p xs) e in (parts.0, all_pass p xs parts.1)
-
-pub pass_all : {A : Type 0} (p : A → Bool) (xs : List A) → AllByRecursion (λ x. p x ≡ true) xs → list_all p xs ≡ true
-pass_all p [] h = refl
-pass_all p (x ∷ xs) h = and_from (p x) (list_all p xs) h.0 (pass_all p xs h.1)
-
--- distinct members are members
-all_one : {A : Type 0} (P : A → Type 0) (same : A → A → Bool) (members : List A) (x : A) (there : Bool) → list_any (same x) members ≡ there → AllByRecursion P members → P x → AllByRecursion P (with_one same members x)
-all_one P same members x true e all p = rw e all
-all_one P same members x false e all p = rw e (each_append P members (x ∷ []) all (p, tt))
-
-pub all_each : {A : Type 0} (P : A → Type 0) (same : A → A → Bool) (members xs : List A) → AllByRecursion P members → AllByRecursion P xs → AllByRecursion P (with_each same members xs)
-all_each P same members [] all more = all
-all_each P same members (x ∷ xs) all more = all_each P same (with_one same members x) xs (all_one P same members x (list_any (same x) members) refl all more.0) more.1
-
-pub all_distinct : {A : Type 0} (P : A → Type 0) (same : A → A → Bool) (xs : List A) → AllByRecursion P xs → AllByRecursion P (first_of_each same xs)
-all_distinct P same xs all = all_each P same [] xs tt all
-
--- the distinct members of distinct members are these
-one_again : {A : Type 0} (same : A → A → Bool) (members : List A) (x : A) (there : Bool) → list_any (same x) members ≡ there → first_of_each same members ≡ members → first_of_each same (with_one same members x) ≡ with_one same members x
-one_again same members x true e again = rw e again
-one_again same members x false e again =
-    let joined = with_each_append same [] members (x ∷ []) in
-    rw e (joined ∙ ap (λ those. with_one same those x) again ∙ rw e refl)
-
-each_again : {A : Type 0} (same : A → A → Bool) (members xs : List A) → first_of_each same members ≡ members → first_of_each same (with_each same members xs) ≡ with_each same members xs
-each_again same members [] again = again
-each_again same members (x ∷ xs) again = each_again same (with_one same members x) xs (one_again same members x (list_any (same x) members) refl again)
-
-pub distinct_again : {A : Type 0} (same : A → A → Bool) (xs : List A) → first_of_each same (first_of_each same xs) ≡ first_of_each same xs
-distinct_again same xs = each_again same [] xs refl
-
--- two ways to compare agree on the images of what passes
-pub record Agrees {A B : Type 0} (P : A → Type 0) (f : A → B) (after : B → B → Bool) (before : A → A → Bool) : Type 0 where
-  pub agree : (x y : A) → P x → P y → after (f x) (f y) ≡ before x y
-
-any_image : {A B : Type 0} (P : A → Type 0) (f : A → B) (after : B → B → Bool) (before : A → A → Bool) → Agrees P f after before → (x : A) (members : List A) → P x → AllByRecursion P members
-    → list_any (after (f x)) (map f members) ≡ list_any (before x) members
-any_image P f after before same x [] p all = refl
-any_image P f after before same x (y ∷ ys) p all = rw (same.agree x y p all.0, any_image P f after before same x ys p all.1) refl
-
-one_image : {A B : Type 0} (P : A → Type 0) (f : A → B) (after : B → B → Bool) (before : A → A → Bool) → Agrees P f after before → (members : List A) (x : A) (there : Bool) → list_any (before x) members ≡ there
-    → P x → AllByRecursion P members → with_one after (map f members) (f x) ≡ map f (with_one before members x)
-one_image P f after before same members x true e p all = rw (any_image P f after before same x members p all, e) refl
-one_image P f after before same members x false e p all = rw (any_image P f after before same x members p all, e) (sym (map-append f members (x ∷ [])))
-
--- the distinct images of such members
-each_image : {A B : Type 0} (P : A → Type 0) (f : A → B) (after : B → B → Bool) (before : A → A → Bool) → Agrees P f after before → (members xs : List A) → AllByRecursion P members → AllByRecursion P xs
-    → with_each after (map f members) (map f xs) ≡ map f (with_each before members xs)
-each_image P f after before same members [] all more = refl
-each_image P f after before same members (x ∷ xs) all more =
-    ap (λ those. with_each after those (map f xs)) (one_image P f after before same members x (list_any (before x) members) refl more.0 all)
-    ∙ each_image P f after before same (with_one before members x) xs (all_one P before members x (list_any (before x) members) refl all more.0) more.1
-
-pub distinct_image : {A B : Type 0} (P : A → Type 0) (f : A → B) (after : B → B → Bool) (before : A → A → Bool) → Agrees P f after before → (xs : List A) → AllByRecursion P xs → first_of_each after (map f xs) ≡ map f (first_of_each before xs)
-distinct_image P f after before same xs all = each_image P f after before same [] xs tt all
 
 -- of all members, two being the same where their images are
 abbrev pub Anything : {A : Type 0} → A → Type 0

@@ -1,7 +1,6 @@
 pub mod DistinctLaws
 pub mod FormLaws
 pub mod ReadLaws
-pub mod SameLaws
 pub mod QuoteLaws
 pub mod SpellingLaws
 pub mod CountLaws

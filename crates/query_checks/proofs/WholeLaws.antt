@@ -10,7 +10,8 @@ use Rattle.query_checks.specs.declared.condition.Item.{Item}
 use Rattle.query_checks.specs.Forms.{Form, form_of, item_form, names_of, items_of, places_of}
 use Rattle.query_checks.specs.Reads.{columns_pass, filters_pass}
 use Rattle.query_checks.specs.Checks.{is_shallow, is_column}
-use Rattle.query_checks.proofs.FormLaws.{filters_mapped, columns_mapped}
+use Rattle.query_checks.specs.FormLaws.{columns_mapped}
+use Rattle.query_checks.proofs.FormLaws.{filters_mapped}
 
 -- items, by what they stand for
 pub items_pass : {C : Type 0} (passes : Form C → Bool) (items : List (Item C × Option (String Global))) → list_all (λ item. passes item.0) (places_of items) ≡ list_all (λ item. passes (item_form item.0)) items

@@ -6,3 +6,8 @@ pub mod Spelling
 pub mod Writable
 pub mod Checks
 pub mod Parts
+pub mod CheckedLaws
+pub mod DistinctLaws
+pub mod FormLaws
+pub mod ReadLaws
+pub mod SameLaws

@@ -16,7 +16,7 @@ use grouping_model::limits::MOST_CALLS;
 use std::alloc::{AllocError, Global};
 
 /// Adds the calls in a condition behind others, from the left.
-#[tactic(auto, using(crate::proofs::ReadLaws::calls_in_call, crate::proofs::ReadLaws::calls_in_two))]
+#[tactic(auto, using(crate::proofs::ReadLaws::calls_in_call, crate::specs::ReadLaws::calls_in_two))]
 fn push_calls<'a, C>(
     calls: &mut Vec<&'a AggCall<C>>,
     condition: &'a Cond<C>,

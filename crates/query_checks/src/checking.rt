@@ -23,7 +23,7 @@ use std::alloc::Global;
 /// The first of these that is found anywhere in the query: `TooMany` for over 64 items, 16 distinct columns of GROUP BY, 32
 /// distinct aggregates among the items and in HAVING, or a canonical text of over 16,384 bytes; `TooDeep` for a condition
 /// that is nested more than 64 deep; `NoSuchColumn`. `NoMemory` may come at any time.
-#[tactic(auto, using(crate::proofs::CheckedLaws::gives_too_deep, crate::proofs::CheckedLaws::gives_no_column))]
+#[tactic(auto, using(crate::specs::CheckedLaws::gives_too_deep, crate::specs::CheckedLaws::gives_no_column))]
 pub fn text_of_known(alloc: Global, schema: &Schema, raw: &RawQuery) -> Result<String, QueryError>
     ensures text { IfOk result (λ text. string_bytes text ≡ spelling (written_of raw.now)) }
     ensures first { OnOk result (PassesFirst schema.now (written_of raw.now)) }

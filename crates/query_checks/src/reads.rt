@@ -23,7 +23,7 @@ pub(crate) trait Test<C> {
 }
 
 /// Whether all that a condition reads passes, what its FILTERs read aside.
-#[tactic(auto, using(crate::proofs::ReadLaws::reads_column, crate::proofs::ReadLaws::reads_call, crate::proofs::ReadLaws::both_pass))]
+#[tactic(auto, using(crate::proofs::ReadLaws::reads_column, crate::proofs::ReadLaws::reads_call, crate::specs::ReadLaws::both_pass))]
 pub(crate) fn all_read<C, T: Test<C>>(condition: &Cond<C>, test: &T) -> bool
     ensures { result ≡ list_all (T.passes test.now) (reads (form_of condition.now)) }
 {

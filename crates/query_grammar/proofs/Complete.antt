@@ -9,15 +9,14 @@ use Rattle.query_tokens.specs.Words.{Lexeme, Name, Integer, Text, Sign}
 use Rattle.query_checks.specs.Forms as form
 use Rattle.grouping_model.specs.Aggregates.{Function}
 use Rattle.grouping_model.specs.Condition.{Comparison, Test}
-use Rattle.query_grammar.specs.Grammar.{Named}
+use Rattle.query_grammar.specs.Grammar.{Named, opening, closing, word, IsTest, IsCallArgument, IsCondition, IsAnd, IsNot, IsTested, IsCompared, IsOperand, IsCall}
 use Rattle.query_tokens.specs.Reserved.{is_reserved}
 use Rattle.query_grammar.specs.Terminals.{function_named, comparison_named, is_word, is_sign, symbol_number}
 use Rattle.query_grammar.specs.Reading.{Read, Inner, ◌>>=◌, after, filter_at, is_count, argument_at, call_at, function_or_column, choose, word_at, enclosed_at, prim_at, with_rest, after_comparison, cmp_at, looked_for, tested, chain_at, test_at, not_at, joined, and_at, or_at, condition_at, conditions}
 use Rattle.query_grammar.specs.Grammar as grammar
-use Rattle.query_grammar.specs.Grammar.{opening, closing, word, IsTest, IsCallArgument, IsCondition, IsAnd, IsNot, IsTested, IsCompared, IsOperand, IsCall}
 use Rattle.query_grammar.proofs.Alike.{Within, Stays}
 use Rattle.query_grammar.proofs.Locality.{tested_stays, joined_stays, not_stays, and_stays, condition_step}
-use Rattle.query_grammar.proofs.Marks.{the_word, same_bytes, opening_sign}
+use Rattle.query_grammar.proofs.Marks.{the_word, same_bytes, the_sign}
 
 -- ---- what can follow
 
@@ -76,7 +75,7 @@ no_comparison (Sign s ∷ ts) h = no_comparison_sign s ts h.at
 
 no_opening : (rest : List Lexeme) → Stops 1 rest → after (is_sign symbols.Open) rest ≡ None
 unfolding sign_rank comparison_named
-no_opening rest h = no_mark opening (is_sign symbols.Open) opening_sign 1 rest (omega arith) h
+no_opening rest h = no_mark opening (is_sign symbols.Open) (the_sign symbols.Open) 1 rest (omega arith) h
 
 closing_stops : (k : ℕ) (rest : List Lexeme) → k ≤ 5 → Stops k (closing ∷ rest)
 unfolding sign_rank comparison_named

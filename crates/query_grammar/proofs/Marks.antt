@@ -1,7 +1,10 @@
 -- A token that passes a test is the one that is meant.
-use Rattle.std.proofs.Common.{◌≡◌, ℕ, true, List, refl, ap}
+use Rattle.std.specs.Prelude.{slice_index_or}
+use Rattle.std.proofs.Common.{◌≡◌, ◌∙◌, ℕ, true, List, [], ◌∷◌, refl, sym, ap}
 use Rattle.std.specs.Str.{bytes_eq}
+use Rattle.std.proofs.lemmas.Bool.{eqb-true, false≢true}
 use Rattle.std.proofs.lemmas.Slice.Eq.{bytes_eq-Decides}
+use Rattle.query_tokens.specs.declared.word.Symbol.{Symbol}
 use Rattle.query_tokens.specs.declared.word.Symbol.TheVariants as symbols
 use Rattle.query_tokens.specs.Words.{Lexeme, Name, Integer, Text, Sign}
 use Rattle.query_grammar.specs.Terminals.{symbol_number, is_word, is_sign}
@@ -11,46 +14,20 @@ same_bytes v w h = (bytes_eq-Decides v w).0 h
 
 pub the_word : (w : List ℕ) (t : Lexeme) → is_word w t ≡ true → t ≡ Name w
 the_word w (Name v) h = ap (λ (x : List ℕ). Name x) (same_bytes v w h)
-the_word w (Integer z) h = absurd cc
-the_word w (Text s) h = absurd cc
-the_word w (Sign s) h = absurd cc
+the_word w t h = absurd (false≢true h)
 
-pub opening_sign : (t : Lexeme) → is_sign symbols.Open t ≡ true → t ≡ Sign symbols.Open
-unfolding symbol_number
-opening_sign (Sign symbols.Open) h = refl
-opening_sign (Name v) h = absurd cc
-opening_sign (Integer z) h = absurd cc
-opening_sign (Text s) h = absurd cc
-opening_sign (Sign s) h = absurd cc
+-- the symbol that has a number
+numbered : ℕ → Symbol
+numbered number =
+    slice_index_or
+    (symbols.Open ∷ symbols.Close ∷ symbols.Comma ∷ symbols.Star ∷ symbols.Semicolon ∷ symbols.Equal ∷ symbols.Unequal ∷ symbols.Less ∷ symbols.AtMost ∷ symbols.More ∷ symbols.AtLeast ∷ [])
+    number symbols.Open
 
-pub closing_sign : (t : Lexeme) → is_sign symbols.Close t ≡ true → t ≡ Sign symbols.Close
-unfolding symbol_number
-closing_sign (Sign symbols.Close) h = refl
-closing_sign (Name v) h = absurd cc
-closing_sign (Integer z) h = absurd cc
-closing_sign (Text s) h = absurd cc
-closing_sign (Sign s) h = absurd cc
+numbered_back : (s : Symbol) → numbered (symbol_number s) ≡ s
+unfolding symbol_number numbered
+numbered_back symbols.Open = refl
+numbered_back s = refl
 
-pub star_sign : (t : Lexeme) → is_sign symbols.Star t ≡ true → t ≡ Sign symbols.Star
-unfolding symbol_number
-star_sign (Sign symbols.Star) h = refl
-star_sign (Name v) h = absurd cc
-star_sign (Integer z) h = absurd cc
-star_sign (Text s) h = absurd cc
-star_sign (Sign s) h = absurd cc
-
-pub comma_sign : (t : Lexeme) → is_sign symbols.Comma t ≡ true → t ≡ Sign symbols.Comma
-unfolding symbol_number
-comma_sign (Sign symbols.Comma) h = refl
-comma_sign (Name v) h = absurd cc
-comma_sign (Integer z) h = absurd cc
-comma_sign (Text s) h = absurd cc
-comma_sign (Sign s) h = absurd cc
-
-pub semicolon_sign : (t : Lexeme) → is_sign symbols.Semicolon t ≡ true → t ≡ Sign symbols.Semicolon
-unfolding symbol_number
-semicolon_sign (Sign symbols.Semicolon) h = refl
-semicolon_sign (Name v) h = absurd cc
-semicolon_sign (Integer z) h = absurd cc
-semicolon_sign (Text s) h = absurd cc
-semicolon_sign (Sign s) h = absurd cc
+pub the_sign : (s : Symbol) (t : Lexeme) → is_sign s t ≡ true → t ≡ Sign s
+the_sign s (Sign u) h = ap (λ (x : Symbol). Sign x) (sym (numbered_back u) ∙ ap numbered (eqb-true (symbol_number u) (symbol_number s) h) ∙ numbered_back s)
+the_sign s t h = absurd (false≢true h)

@@ -4,13 +4,14 @@ use Rattle.std.proofs.Common.{sym, ◌∙◌, ap, subst}
 use Rattle.query_tokens.specs.Tokens.{tokens_in}
 use Rattle.query_tokens.specs.Spelling.{lexemes_of}
 use Rattle.packed_rows.specs.Columns.{IsSchemaText, printed}
-use Rattle.packed_rows.proofs.PrintedColumns.{printed_again, one_schema}
+use Rattle.packed_rows.specs.PrintedLaws.{one_schema}
+use Rattle.packed_rows.proofs.PrintedColumns.{printed_again}
 use Rattle.query_checks.specs.Checks.{checked, Checked}
 use Rattle.having_filter.specs.Kept as kept
 use Rattle.having_filter.specs.Kept.{by_names}
 use Rattle.query_checks.specs.Spelling.{spelling}
 use Rattle.having_filter.proofs.PassedLaws.{passes_first, passes_places}
-use Rattle.having_filter.proofs.NormalLaws.{columns_of_query, named_again}
+use Rattle.having_filter.specs.NormalLaws.{columns_of_query, named_again}
 use Rattle.query_grammar.specs.Canonical.{canonical}
 use Rattle.query_grammar.specs.Laws.{IsSpelled}
 use Rattle.query_grammar.specs.Queries.{most_open, IsQuery}

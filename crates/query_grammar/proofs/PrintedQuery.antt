@@ -21,8 +21,8 @@ use Rattle.query_grammar.specs.Grammar.{Named, opening, closing, word}
 use Rattle.query_grammar.specs.Queries as grammar
 use Rattle.query_grammar.specs.Queries.{most_open, IsItemValue, IsAlias, IsItem, IsKey, IsListOf, IsClause, IsKeys, IsQuery}
 use Rattle.query_tokens.specs.Tokens.{tokens_in}
-use Rattle.packed_rows.proofs.PrintedColumns.{read_ok}
-use Rattle.query_checks.proofs.DistinctLaws.{all_distinct}
+use Rattle.packed_rows.specs.PrintedLaws.{read_ok}
+use Rattle.query_checks.specs.DistinctLaws.{all_distinct}
 use Rattle.query_grammar.specs.Laws.{IsSpelled}
 use Rattle.query_grammar.specs.Canonical.{canonical}
 use Rattle.query_grammar.proofs.Texts.{Reads, reads_nothing, reads_space, reads_spelled, Quiet, Spells, Opens, spells_lexeme, spells_two, opens_then, opens_two, opens_word, opens_between, spells_between, select_word, from_word, where_word, group_word, by_word, having_word, as_word}

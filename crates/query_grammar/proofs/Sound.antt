@@ -17,7 +17,7 @@ use Rattle.query_grammar.specs.Grammar as grammar
 use Rattle.query_grammar.specs.Grammar.{Named, opening, closing, word, IsTest, IsCallArgument, IsCondition, IsAnd, IsNot, IsTested, IsCompared, IsOperand, IsCall}
 use Rattle.query_grammar.specs.Reading.{Read, Inner, ◌>>=◌, unexpected, after, choose, expect, name_at, filter_at, argument_at, call_at, function_or_column, word_at, enclosed_at, prim_at, with_rest, after_comparison, right_side, cmp_at, looked_for, tested, chain_at, test_at, not_at, joined, and_at, or_at, nested_at, condition_at, conditions}
 use Rattle.query_grammar.specs.Laws.{Part, Means, CanBecome}
-use Rattle.query_grammar.proofs.Marks.{the_word, same_bytes, opening_sign, closing_sign, star_sign}
+use Rattle.query_grammar.proofs.Marks.{the_word, same_bytes, the_sign}
 use Rattle.query_grammar.proofs.Steps.{behind, done, refused, widen, weaken, bind, mapped, chosen, expected}
 
 -- ---- the parts of the grammar, with one parenthesis more or not
@@ -100,7 +100,7 @@ name_means (Name w ∷ ts) = name_or_refused (is_reserved w) w ts refl
 close_means : {A : Type 0} (Q : Part A) (ts : List Lexeme) (x : A) → ((b : Bool) → Q b (closing ∷ []) x)
     → Means Q ts (expect (is_sign symbols.Close) ts >>= λ closed. Ok (x, closed.1))
 close_means Q ts x q =
-    expected Q closing (is_sign symbols.Close) closing_sign ts (λ rest. Ok (x, rest)) (λ rest. done (λ b u y. Q b (closing ∷ u) y) rest x q) (λ b. ([], x, q b))
+    expected Q closing (is_sign symbols.Close) (the_sign symbols.Close) ts (λ rest. Ok (x, rest)) (λ rest. done (λ b u y. Q b (closing ∷ u) y) rest x q) (λ b. ([], x, q b))
 
 -- what a FILTER's parentheses hold, behind its WHERE
 filter_inside : (inner : Inner) (h : InnerMeans inner) (c : Function × Option (List ℕ)) (Q : Part Named)
@@ -121,7 +121,7 @@ filter_means inner h c Q plain q ts =
     chosen Q (word (codes "filter")) (is_word (codes "filter")) (word_law (codes "filter")) ts
     (λ rest. expect (is_sign symbols.Open) rest >>= λ opened. expect (is_word (codes "where")) opened.1 >>= λ where_. inner.inside inner.limit where_.1 >>= λ x. expect (is_sign symbols.Close) x.1 >>= λ closed. Ok (form.Call_where c.0 c.1 x.0, closed.1))
     (Ok (form.Call c.0 c.1, ts))
-    (λ rest. expected (λ b u x. Q b (word (codes "filter") ∷ u) x) opening (is_sign symbols.Open) opening_sign rest
+    (λ rest. expected (λ b u x. Q b (word (codes "filter") ∷ u) x) opening (is_sign symbols.Open) (the_sign symbols.Open) rest
     (λ rest2. expect (is_word (codes "where")) rest2 >>= λ where_. inner.inside inner.limit where_.1 >>= λ x. expect (is_sign symbols.Close) x.1 >>= λ closed. Ok (form.Call_where c.0 c.1 x.0, closed.1))
     (λ rest2. expected (λ b u x. Q b (word (codes "filter") ∷ opening ∷ u) x) (word (codes "where")) (is_word (codes "where")) (word_law (codes "where")) rest2
     (λ rest3. inner.inside inner.limit rest3 >>= λ x. expect (is_sign symbols.Close) x.1 >>= λ closed. Ok (form.Call_where c.0 c.1 x.0, closed.1))
@@ -138,7 +138,7 @@ name_argument_means f ts =
 pub argument_means : (f : Function) (ts : List Lexeme) → Means (Argument_part f) ts (argument_at f ts)
 unfolding argument_at
 argument_means function.Count ts =
-    chosen (Argument_part function.Count) (Sign symbols.Star) (is_sign symbols.Star) star_sign ts (λ rest. Ok ((function.Count_rows, None), rest))
+    chosen (Argument_part function.Count) (Sign symbols.Star) (is_sign symbols.Star) (the_sign symbols.Star) ts (λ rest. Ok ((function.Count_rows, None), rest))
     (name_at ts >>= λ name. Ok ((function.Count, Some name.0), name.1))
     (λ rest. done (λ b u x. IsCallArgument function.Count (Sign symbols.Star ∷ u) x) rest (function.Count_rows, None) (λ b. grammar.all_rows))
     (name_argument_means function.Count ts)
@@ -150,7 +150,7 @@ unfolding call_at
 call_means inner h w f free is_f ts =
     let Q : Part Named = λ b u x. Call_part inner.limit b (Name w ∷ opening ∷ u) x in
     bind (Argument_part f) Q ts (argument_at f ts) (λ argument. expect (is_sign symbols.Close) argument.1 >>= λ closed. filter_at inner argument.0 closed.1) (argument_means f ts)
-    (λ us rest c p. expected (behind us Q) closing (is_sign symbols.Close) closing_sign rest (λ rest2. filter_at inner c rest2)
+    (λ us rest c p. expected (behind us Q) closing (is_sign symbols.Close) (the_sign symbols.Close) rest (λ rest2. filter_at inner c rest2)
     (λ rest2. filter_means inner h c (λ b u x. Call_part inner.limit b (Name w ∷ opening ∷ (us ++ closing ∷ u)) x) (λ b. grammar.plain us free is_f (p b)) (λ b vs x q. grammar.filtered us vs free is_f (p b) q) rest2)
     (λ b. ([], form.Call c.0 c.1, grammar.plain us free is_f (p b))))
     (λ b us c p. (closing ∷ [], form.Call c.0 c.1, grammar.plain us free is_f p))
@@ -161,7 +161,7 @@ column_or_call : (inner : Inner) (h : InnerMeans inner) (room : ℕ) (w : List �
     → Means (λ b u x. Operand_part inner.limit room b (Name w ∷ u) x) ts (function_or_column inner w o ts)
 column_or_call inner h room w None free is_f ts = done (λ b u x. Operand_part inner.limit room b (Name w ∷ u) x) ts (form.Column w) (λ b. grammar.column free)
 column_or_call inner h room w (Some f) free is_f ts =
-    chosen (λ b u x. Operand_part inner.limit room b (Name w ∷ u) x) opening (is_sign symbols.Open) opening_sign ts (λ rest. call_at inner f rest) (Ok (form.Column w, ts))
+    chosen (λ b u x. Operand_part inner.limit room b (Name w ∷ u) x) opening (is_sign symbols.Open) (the_sign symbols.Open) ts (λ rest. call_at inner f rest) (Ok (form.Column w, ts))
     (λ rest. weaken (λ b u x. Call_part inner.limit b (Name w ∷ opening ∷ u) x) (λ b u x. Operand_part inner.limit room b (Name w ∷ opening ∷ u) x) rest (call_at inner f rest) (λ b u x p. grammar.call p) (call_means inner h w f free is_f rest))
     (done (λ b u x. Operand_part inner.limit room b (Name w ∷ u) x) ts (form.Column w) (λ b. grammar.column free))
 
@@ -208,7 +208,7 @@ enclosed_means inner h (suc room) ts =
 sign_means : (inner : Inner) (h : InnerMeans inner) (room : ℕ) (b : Bool) (s : Symbol) (ts : List Lexeme) → is_sign symbols.Open (Sign s) ≡ b
     → Means (Operand_part inner.limit room) (Sign s ∷ ts) (cond b (enclosed_at inner room ts) (unexpected (Sign s ∷ ts)))
 sign_means inner h room true s ts e =
-    subst (λ (t : Lexeme). Means (Operand_part inner.limit room) (t ∷ ts) (enclosed_at inner room ts)) (sym (opening_sign (Sign s) e)) (enclosed_means inner h room ts)
+    subst (λ (t : Lexeme). Means (Operand_part inner.limit room) (t ∷ ts) (enclosed_at inner room ts)) (sym (the_sign symbols.Open (Sign s) e)) (enclosed_means inner h room ts)
 sign_means inner h room false s ts e = refused (Operand_part inner.limit room) (Sign s ∷ ts) (null_operand inner.limit room)
 
 pub prim_means : (inner : Inner) (h : InnerMeans inner) (room : ℕ) (ts : List Lexeme) → Means (Operand_part inner.limit room) ts (prim_at inner room ts)

@@ -11,7 +11,7 @@ use Rattle.query_tokens.specs.Spelling.{IsLexeme, EndsBefore, spell, lexemes_rea
 use Rattle.query_tokens.proofs.Steps.{passes, word_end}
 use Rattle.query_tokens.proofs.Respelled.{word_again}
 use Rattle.query_tokens.proofs.Pieces.{IsSolid, spell_solid}
-use Rattle.query_tokens.proofs.Ends.{before_others}
+use Rattle.query_tokens.specs.EndLaws.{before_others}
 use Rattle.query_grammar.specs.Grammar.{opening, closing}
 
 -- these bytes are read as these lexemes, wherever they stand

@@ -5,14 +5,13 @@ use Rattle.std.specs.Str.{bytes_eq}
 use Rattle.std.proofs.lemmas.List.{length-append}
 use Rattle.query_tokens.specs.declared.word.Symbol.TheVariants as symbols
 use Rattle.query_tokens.specs.Words.{Lexeme, Name, Sign}
-use Rattle.query_grammar.specs.Grammar.{Named}
+use Rattle.query_grammar.specs.Grammar.{Named, word, IsCall}
 use Rattle.query_checks.specs.Forms.{Written}
 use Rattle.query_tokens.specs.Reserved.{is_reserved}
 use Rattle.query_grammar.specs.Terminals.{function_named, comparison_named, is_word, is_sign, symbol_number}
 use Rattle.query_grammar.specs.Reading.{Read, after, name_at, prim_at, conditions}
 use Rattle.query_grammar.specs.Whole.{item_value_at, alias_or_none, alias_at, item_at, list_at, clause_at, keys_at, end_at, query_at}
 use Rattle.query_grammar.specs.Grammar as conditions
-use Rattle.query_grammar.specs.Grammar.{word, IsCall}
 use Rattle.query_grammar.specs.Queries as grammar
 use Rattle.query_grammar.specs.Queries.{IsItemValue, IsAlias, IsItem, IsKey, IsListOf, IsClause, IsKeys, IsEnd, IsQuery}
 use Rattle.query_grammar.proofs.Complete.{sign_rank, rank, Stops, column_reads, not_this, word_free, condition_reads, function_call_reads}

@@ -15,7 +15,7 @@ use Rattle.query_grammar.specs.Queries.{IsItemValue, IsAlias, IsItem, IsKey, IsL
 use Rattle.query_grammar.specs.Reading.{Read, ◌>>=◌, unexpected, after, choose, expect, name_at, call_at, function_or_column, condition_at, conditions}
 use Rattle.query_grammar.specs.Whole.{item_value_at, alias_or_none, alias_at, item_at, list_at, clause_at, keys_at, nothing_at, end_at, query_at}
 use Rattle.query_grammar.specs.Laws.{Part, Means, CanBecome}
-use Rattle.query_grammar.proofs.Marks.{opening_sign, comma_sign, semicolon_sign}
+use Rattle.query_grammar.proofs.Marks.{the_sign}
 use Rattle.query_grammar.proofs.Steps.{behind, done, refused, widen, weaken, bind, mapped, chosen, expected}
 use Rattle.query_grammar.proofs.Sound.{allowed, Condition_part, Call_part, Name_part, a_name, word_law, name_means, call_means, condition_means}
 
@@ -52,7 +52,7 @@ value_or_call : (limit : ℕ) (w : List ℕ) (o : Option Function) → is_reserv
     → Means (λ b u x. Value_part limit b (Name w ∷ u) x) ts (function_or_column (conditions limit) w o ts)
 value_or_call limit w None free is_f ts = done (λ b u x. Value_part limit b (Name w ∷ u) x) ts (form.Column w) (λ b. grammar.item_column free)
 value_or_call limit w (Some f) free is_f ts =
-    chosen (λ b u x. Value_part limit b (Name w ∷ u) x) opening (is_sign symbols.Open) opening_sign ts (λ rest. call_at (conditions limit) f rest) (Ok (form.Column w, ts))
+    chosen (λ b u x. Value_part limit b (Name w ∷ u) x) opening (is_sign symbols.Open) (the_sign symbols.Open) ts (λ rest. call_at (conditions limit) f rest) (Ok (form.Column w, ts))
     (λ rest. weaken (λ b u x. Call_part limit b (Name w ∷ opening ∷ u) x) (λ b u x. Value_part limit b (Name w ∷ opening ∷ u) x) rest (call_at (conditions limit) f rest) (λ b u x p. grammar.item_call p) (call_means (conditions limit) (condition_means limit) w f free is_f rest))
     (done (λ b u x. Value_part limit b (Name w ∷ u) x) ts (form.Column w) (λ b. grammar.item_column free))
 
@@ -114,7 +114,7 @@ unfolding list_at
 list_means P one h zero ts = mapped P (List_part P) ts (one ts) (λ x. x ∷ []) (h ts) (λ b u x p. grammar.last p)
 list_means P one h (suc turns) ts =
     bind P (List_part P) ts (one ts) (λ x. choose (after (is_sign symbols.Comma) x.1) (λ rest. list_at one turns rest >>= λ xs. Ok (x.0 ∷ xs.0, xs.1)) (Ok (x.0 ∷ [], x.1))) (h ts)
-    (λ front rest x p. chosen (behind front (List_part P)) (Sign symbols.Comma) (is_sign symbols.Comma) comma_sign rest (λ rest2. list_at one turns rest2 >>= λ xs. Ok (x ∷ xs.0, xs.1)) (Ok (x ∷ [], rest))
+    (λ front rest x p. chosen (behind front (List_part P)) (Sign symbols.Comma) (is_sign symbols.Comma) (the_sign symbols.Comma) rest (λ rest2. list_at one turns rest2 >>= λ xs. Ok (x ∷ xs.0, xs.1)) (Ok (x ∷ [], rest))
     (λ rest2. mapped (List_part P) (λ b u xs. IsListOf (P b) (front ++ Sign symbols.Comma ∷ u) xs) rest2 (list_at one turns rest2) (λ xs. x ∷ xs) (list_means P one h turns rest2) (λ b u xs q. grammar.more front u (p b) q))
     (done (behind front (List_part P)) rest (x ∷ []) (λ b. one_more (P b) front x (p b))))
     (λ b front x p. ([], x ∷ [], one_more (P b) front x p))
@@ -142,7 +142,7 @@ nothing_means Q (t ∷ ts) q = refused Q (t ∷ ts) (λ b. ([], tt, q b))
 end_means : (ts : List Lexeme) → Means End_part ts (end_at ts)
 unfolding end_at
 end_means ts =
-    chosen End_part (Sign symbols.Semicolon) (is_sign symbols.Semicolon) semicolon_sign ts nothing_at (nothing_at ts)
+    chosen End_part (Sign symbols.Semicolon) (is_sign symbols.Semicolon) (the_sign symbols.Semicolon) ts nothing_at (nothing_at ts)
     (λ rest. nothing_means (λ b u x. IsEnd (Sign symbols.Semicolon ∷ u)) rest (λ b. grammar.semicolon)) (nothing_means End_part ts (λ b. grammar.no_semicolon))
 
 -- ---- the query from its parts

@@ -4,3 +4,4 @@ pub mod Tokens
 pub mod Spelling
 pub mod Reserved
 pub mod Wholes
+pub mod EndLaws

@@ -47,7 +47,7 @@ pub fn what_is_read()
 
 /// What ends before what: any lexeme at the end, before a space and before bytes that run into none, a name, an
 /// integer or a string before a symbol, and all symbols but `<` and `>` before anything.
-#[tactic(auto, using(crate::proofs::Ends::before_others, crate::proofs::Ends::before_lexeme))]
+#[tactic(auto, using(crate::specs::EndLaws::before_others, crate::proofs::Ends::before_lexeme))]
 pub fn ends_of_lexemes()
     ensures at_end { (w : Lexeme) → EndsBefore w [] }
     ensures before_space { (w : Lexeme) (rest : List ℕ) → EndsBefore w (32 ∷ rest) }

@@ -8,6 +8,7 @@ use Rattle.std.proofs.lemmas.List.Elements.{All-from_recursion}
 use Rattle.std.specs.List.{AllByRecursion}
 use Rattle.std.specs.List.Sorted.{IsStrictlySortedBy}
 use Rattle.std.specs.Ordering.{nat_cmp}
+use Rattle.list_laws.specs.Each.{each_weaker, each_both}
 use Rattle.grouping_model.specs.declared.limits.TheConstants.{LAST_ORIGIN, LAST_NUMBER, MOST_ROWS}
 use Rattle.grouping_model.specs.Datum.{Row, row_cmp, at_place}
 use Rattle.grouping_model.specs.Rising.{put, distinct}
@@ -18,7 +19,7 @@ use Rattle.grouping_model.specs.Grouping.{Group, part, key_of, selected, group, 
 use Rattle.grouping_model.specs.Parts.{answered, source_in}
 use Rattle.grouping_model.specs.World.{World, origin_rows, known_rows}
 use Rattle.grouping_model.specs.Answer.{answer}
-use Rattle.grouping_model.proofs.GroupLaws.{answer_of_part}
+use Rattle.grouping_model.specs.GroupLaws.{answer_of_part}
 use Rattle.agg_protocol.specs.States.{most_rows}
 use Rattle.query_checks.specs.Checks.{Checked}
 use Rattle.having_filter.specs.Meaning.{meaning}
@@ -28,14 +29,15 @@ use Rattle.hash_agg.specs.declared.input.Input.{Input}
 use Rattle.hash_agg.specs.declared.work.Work.{Work}
 use Rattle.aggregation_cost.specs.Space.{Setting}
 use Rattle.hash_agg.specs.Counting.{IsCounted, AreCounted}
-use Rattle.hash_agg.specs.Inputs.{Brought, brought, Counted, IsInput, AreInputsOf, IsAggregate, IsRunOver, all_rows, rows_in, on_end}
+use Rattle.packed_rows.specs.RowsOnEnd.{on_end}
+use Rattle.hash_agg.specs.Inputs.{Brought, brought, Counted, IsInput, AreInputsOf, IsAggregate, IsRunOver, all_rows, rows_in}
 use Rattle.origin_prefix.specs.Parts.{Part}
 use Rattle.origin_prefix.specs.Fitting.{rows_upto, FitsOrigin}
 use Rattle.origin_prefix.proofs.ByNumber.{numbers, above_first, rising_rest}
 use Rattle.replica_merge.specs.Counting.{aggregations_asked}
 use Rattle.replica_merge.specs.Groups.{answer_rows, shown_of_none, groups_shown}
 use Rattle.replica_merge.specs.Replicas.{Parts, part_at, part_of, told, Held, Fits, IsHeldPart, AreHeldParts, counted_part}
-use Rattle.group_runs.proofs.PlaceLaws.{drop_at}
+use Rattle.group_runs.specs.PlaceLaws.{drop_at}
 use Rattle.replica_merge.proofs.ToldLaws.{HasGap, part_gap, prefix_told, origins_told, each_at, part_here}
 
 -- ---- inputs
@@ -92,19 +94,11 @@ flat_same : (f : ℕ → List Row) (g : ℕ × Part → List Row) (es : Parts) �
 flat_same f g [] all = refl
 flat_same f g (e ∷ es) all = (λ i. all.0 i ++ flat_same f g es all.1 i)
 
-all_weak : {X : Type 0} (P Q : X → Type 0) → ((x : X) → P x → Q x) → (xs : List X) → AllByRecursion P xs → AllByRecursion Q xs
-all_weak P Q f [] all = tt
-all_weak P Q f (x ∷ xs) all = (f x all.0, all_weak P Q f xs all.1)
-
-all_two : {X : Type 0} (P Q R : X → Type 0) → ((x : X) → P x → Q x → R x) → (xs : List X) → AllByRecursion P xs → AllByRecursion Q xs → AllByRecursion R xs
-all_two P Q R both [] ps qs = tt
-all_two P Q R both (x ∷ xs) ps qs = (both x ps.0 qs.0, all_two P Q R both xs ps.1 qs.1)
-
 known_rows_are : (query : Checked) (world : World) (parts : Parts) → AreHeldParts query parts → known_rows world (told parts) ≡ on_end (map (part_rows world) parts)
 known_rows_are query world parts held =
     ap (flat_map (origin_rows world (told parts))) (origins_told query parts held)
     ∙ flat_same (origin_rows world (told parts)) (part_rows world) parts
-    (all_two (IsHeldPart query) (λ (e : ℕ × Part). part_at parts e.0 ≡ Some e.1) (λ (e : ℕ × Part). origin_rows world (told parts) e.0 ≡ part_rows world e)
+    (each_both (IsHeldPart query) (λ (e : ℕ × Part). part_at parts e.0 ≡ Some e.1) (λ (e : ℕ × Part). origin_rows world (told parts) e.0 ≡ part_rows world e)
     (λ e is there.
     let here : part_of parts e.0 ≡ e.1 = part_here parts e.0 e.1 there in
     ap (rows_upto world e.0) (prefix_told parts held.rising e.0 (subst HasGap (sym here) (part_gap query e.1 is.part)) ∙ ap (λ (p : Part). p.prefix) here))
@@ -112,7 +106,7 @@ known_rows_are query world parts held =
 
 pub fit_each : (world : World) (held : Held) → Fits world held → IsStrictlySortedBy nat_cmp (numbers held.parts) → AllByRecursion (λ (e : ℕ × Part). FitsOrigin (meaning held.query) world e.0 e.1) held.parts
 fit_each world held fits rising =
-    all_weak (λ (e : ℕ × Part). part_at held.parts e.0 ≡ Some e.1) (λ (e : ℕ × Part). FitsOrigin (meaning held.query) world e.0 e.1)
+    each_weaker (λ (e : ℕ × Part). part_at held.parts e.0 ≡ Some e.1) (λ (e : ℕ × Part). FitsOrigin (meaning held.query) world e.0 e.1)
     (λ e there. subst (FitsOrigin (meaning held.query) world e.0) (part_here held.parts e.0 e.1 there) (fits e.0)) held.parts (each_at held.parts rising)
 
 -- the groups of the rows of the unbroken prefixes

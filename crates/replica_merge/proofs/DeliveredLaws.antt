@@ -17,7 +17,7 @@ use Rattle.grouping_model.specs.declared.delivered.Delivered.{Delivered}
 use Rattle.grouping_model.specs.declared.delivered.Delivered.TheVariants.{Folded, Early, Known}
 use Rattle.grouping_model.specs.Replies.{InLimits, reply_of}
 use Rattle.grouping_model.specs.World.{World, IsWorld, knows, learn, prefix}
-use Rattle.grouping_model.proofs.KnowledgeLaws.{same_knowledge, knows_learn}
+use Rattle.grouping_model.specs.KnowledgeLaws.{same_knowledge, knows_learn}
 use Rattle.packed_rows.specs.Columns.{kinds}
 use Rattle.batch_reader.specs.Rows.{packings}
 use Rattle.batch_reader.specs.declared.batch.Batch.{Batch}

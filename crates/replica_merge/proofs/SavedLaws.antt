@@ -1,6 +1,7 @@
 -- What a replica saves.
 use Rattle.std.specs.Prelude.{◌≡◌, refl, ℕ, List, [], ◌∷◌, ◌*◌, map, Some, unwrap_or, Result, Ok, Err, IfOk}
 use Rattle.std.proofs.Common.{◌∙◌, sym, ap, subst}
+use Rattle.list_laws.specs.Each.{each_both}
 use Rattle.grouping_model.specs.World.{World, origins, prefix, early, batch_rows, origin_rows}
 use Rattle.grouping_model.specs.Grouping.{part}
 use Rattle.grouping_model.specs.declared.limits.TheConstants.{MOST_ROWS}
@@ -8,7 +9,7 @@ use Rattle.batch_reader.specs.Rows.{packings}
 use Rattle.query_checks.specs.Checks.{Checked}
 use Rattle.having_filter.specs.Meaning.{meaning}
 use Rattle.hash_agg.specs.Bytes.{run_bytes}
-use Rattle.hash_agg.proofs.BytesLaws.{stands_spelled}
+use Rattle.hash_agg.specs.BytesLaws.{stands_spelled}
 use Rattle.origin_prefix.specs.Parts.{Part}
 use Rattle.origin_prefix.specs.Fitting.{FitsOrigin, rows_upto}
 use Rattle.origin_prefix.proofs.ByNumber.{at, numbers}
@@ -18,7 +19,7 @@ use Rattle.summary_codec.specs.WorldFile.{world_part, world_file}
 use Rattle.summary_codec.proofs.OneReading.{one_reading}
 use Rattle.replica_merge.specs.Replicas.{Held, part_at, part_of, told, Fits, IsHeldPart, AreHeldParts}
 use Rattle.replica_merge.proofs.AnswerLaws.{fit_each}
-use Rattle.replica_merge.proofs.ToldLaws.{origins_told, early_told, prefix_told, map_same, all_with, each_at, part_here, HasGap, part_gap}
+use Rattle.replica_merge.proofs.ToldLaws.{origins_told, early_told, prefix_told, map_same, each_at, part_here, HasGap, part_gap}
 
 map_itself : {X : Type 0} (xs : List X) → map (λ (x : X). x) xs ≡ xs
 map_itself [] = refl
@@ -27,7 +28,7 @@ map_itself (x ∷ xs) = λ i. x ∷ map_itself xs i
 -- the early batches of a part that fits are the world's
 early_are : (query : Checked) (world : World) (o : ℕ) (p : Part) → IsHeldPart query (o, p) → FitsOrigin (meaning query) world o p → map (λ n. (n, packings (batch_rows world o n))) (numbers p.early) ≡ p.early
 early_are query world o p held fits =
-    map_same (λ n. (n, packings (batch_rows world o n))) (λ (b : ℕ × List (List ℕ)). b) p.early (all_with (λ (b : ℕ × List (List ℕ)). at p.early b.0 ≡ Some b.1) (λ (b : ℕ × List (List ℕ)). at p.early b.0 ≡ Some b.1) (λ (b : ℕ × List (List ℕ)). (b.0, packings (batch_rows world o b.0)) ≡ b)
+    map_same (λ n. (n, packings (batch_rows world o n))) (λ (b : ℕ × List (List ℕ)). b) p.early (each_both (λ (b : ℕ × List (List ℕ)). at p.early b.0 ≡ Some b.1) (λ (b : ℕ × List (List ℕ)). at p.early b.0 ≡ Some b.1) (λ (b : ℕ × List (List ℕ)). (b.0, packings (batch_rows world o b.0)) ≡ b)
     (λ b there _.
     let those = fits.early b.0 b.1 there in
     (λ i. (b.0, (ap (λ found. packings (unwrap_or found [])) those.1 ∙ sym those.2) i)))
@@ -52,9 +53,9 @@ pub world_parts : (held : Held) (world : World) → AreHeldParts held.query held
 world_parts held world are fits =
     ap (map (world_part held.query world (told held.parts))) (origins_told held.query held.parts are)
     ∙ map_same (world_part held.query world (told held.parts)) (λ (e : ℕ × Part). e) held.parts
-    (all_with (λ (e : ℕ × Part). IsHeldPart held.query e × FitsOrigin (meaning held.query) world e.0 e.1) (λ (e : ℕ × Part). part_at held.parts e.0 ≡ Some e.1) (λ (e : ℕ × Part). world_part held.query world (told held.parts) e.0 ≡ e)
+    (each_both (λ (e : ℕ × Part). IsHeldPart held.query e × FitsOrigin (meaning held.query) world e.0 e.1) (λ (e : ℕ × Part). part_at held.parts e.0 ≡ Some e.1) (λ (e : ℕ × Part). world_part held.query world (told held.parts) e.0 ≡ e)
     (λ e is there. part_is held world are e is.0 is.1 there) held.parts
-    (all_with (IsHeldPart held.query) (λ (e : ℕ × Part). FitsOrigin (meaning held.query) world e.0 e.1) (λ (e : ℕ × Part). IsHeldPart held.query e × FitsOrigin (meaning held.query) world e.0 e.1) (λ e is fit. (is, fit)) held.parts are.each (fit_each world held fits are.rising))
+    (each_both (IsHeldPart held.query) (λ (e : ℕ × Part). FitsOrigin (meaning held.query) world e.0 e.1) (λ (e : ℕ × Part). IsHeldPart held.query e × FitsOrigin (meaning held.query) world e.0 e.1) (λ e is fit. (is, fit)) held.parts are.each (fit_each world held fits are.rising))
     (each_at held.parts are.rising))
     ∙ map_itself held.parts
 

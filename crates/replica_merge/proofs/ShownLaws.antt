@@ -19,7 +19,7 @@ use Rattle.agg_library.specs.StateRows.{DenotesAll}
 use Rattle.having_filter.specs.Kept.{key_kinds}
 use Rattle.group_runs.specs.Runs.{Entry}
 use Rattle.group_runs.specs.Standing.{AreStates, StandsFor, AreGroups}
-use Rattle.group_runs.proofs.StateLaws.{first_and_rest, dropped}
+use Rattle.group_runs.specs.StateLaws.{first_and_rest, dropped}
 use Rattle.group_runs.proofs.RunLaws.{packed_once}
 use Rattle.replica_merge.specs.Groups.{answer_rows, groups_shown}
 

@@ -15,13 +15,14 @@ use Rattle.grouping_model.specs.Rising.{is_among}
 use Rattle.grouping_model.specs.Rising.Facts.{among-append, same_members}
 use Rattle.grouping_model.specs.Replies.{of_origin, known_list}
 use Rattle.grouping_model.specs.World.{batch_cmp, knows, prefix, early, origins, count_up}
-use Rattle.grouping_model.proofs.Members.{Member, from_contains, to_contains, among_member}
-use Rattle.grouping_model.proofs.KnowledgeLaws.{knows_knowing}
-use Rattle.grouping_model.proofs.EarlyLaws.{early_are, early_rise, origins_are, origins_rise}
+use Rattle.grouping_model.specs.MemberLaws.{Member, from_contains, to_contains, among_member}
+use Rattle.grouping_model.specs.KnowledgeLaws.{knows_knowing}
+use Rattle.grouping_model.specs.EarlyLaws.{early_are, early_rise, origins_are, origins_rise}
 use Rattle.grouping_model.proofs.LearningLaws.{prefix_is}
 use Rattle.packed_rows.specs.Columns.{kinds}
 use Rattle.query_checks.specs.Checks.{Checked}
 use Rattle.std.specs.Map.{lookup}
+use Rattle.list_laws.specs.Each.{each_both}
 use Rattle.origin_prefix.specs.Parts.{Part, empty, rows_at, IsEarly, IsPartOf}
 use Rattle.origin_prefix.specs.Fitting.{tells}
 use Rattle.origin_prefix.proofs.Lists.{is_itself, is_other, same_or_other}
@@ -265,10 +266,6 @@ pub map_same : {X Y : Type 0} (f : ℕ → Y) (g : ℕ × X → Y) (es : List (�
 map_same f g [] all = refl
 map_same f g (e ∷ es) all = (λ i. all.0 i ∷ map_same f g es all.1 i)
 
-pub all_with : {X : Type 0} (P Q R : X → Type 0) → ((x : X) → P x → Q x → R x) → (xs : List X) → AllByRecursion P xs → AllByRecursion Q xs → AllByRecursion R xs
-all_with P Q R both [] ps qs = tt
-all_with P Q R both (x ∷ xs) ps qs = (both x ps.0 qs.0, all_with P Q R both xs ps.1 qs.1)
-
 -- what holds of the part that is there
 pub part_here : (parts : Parts) (o : ℕ) (p : Part) → part_at parts o ≡ Some p → part_of parts o ≡ p
 part_here parts o p there = ap (λ found. unwrap_or found empty) there
@@ -278,7 +275,7 @@ pub known_told : (query : Checked) (parts : Parts) → AreHeldParts query parts 
 known_told query parts held =
     ap (map (of_origin (told parts))) (origins_told query parts held)
     ∙ map_same (of_origin (told parts)) known_part parts
-    (all_with (IsHeldPart query) (λ (e : ℕ × Part). part_at parts e.0 ≡ Some e.1) (λ (e : ℕ × Part). of_origin (told parts) e.0 ≡ known_part e)
+    (each_both (IsHeldPart query) (λ (e : ℕ × Part). part_at parts e.0 ≡ Some e.1) (λ (e : ℕ × Part). of_origin (told parts) e.0 ≡ known_part e)
     (λ e is there.
     let here : part_of parts e.0 ≡ e.1 = part_here parts e.0 e.1 there in
     let upto : prefix (told parts) e.0 ≡ e.1.prefix = prefix_told parts held.rising e.0 (subst HasGap (sym here) (part_gap query e.1 is.part)) ∙ ap (λ (q : Part). q.prefix) here in

@@ -1,6 +1,5 @@
 -- The fields of a record, and the commands of a list of records.
-use Rattle.std.proofs.Common.{◌≡◌, ◌≢◌, ℕ, zero, suc, List, [], ◌∷◌, length, drop, get_or, refl, ap, arith}
-use Rattle.std.proofs.Common.{◌&&◌, Bool, true, false, if◌then◌else◌, IsTrue, IsUtf8, Option, Some, None, codes, unwrap_or}
+use Rattle.std.proofs.Common.{◌≡◌, ◌≢◌, ℕ, zero, suc, List, [], ◌∷◌, length, drop, get_or, refl, ap, arith, ◌&&◌, Bool, true, false, if◌then◌else◌, IsTrue, IsUtf8, Option, Some, None, codes, unwrap_or}
 use Rattle.std.proofs.lemmas.Bool.{false_from_ne_true}
 use Rattle.std.proofs.lemmas.Str.{is_utf8-from_IsUtf8, IsUtf8-from_is_utf8}
 use Rattle.std.specs.Option.{option_map_or}

@@ -1,4 +1,3 @@
-pub mod InputFacts
 pub mod RecordFacts
 pub mod DigitFacts
 pub mod ListFacts

@@ -1,5 +1,5 @@
 -- What several writes took, one after the other.
-use Rattle.std.proofs.Common.{◌≡◌, ◌+◌, ◌-◌, ◌<◌, ◌≤◌, arith, length, ℕ, List, [], ◌++◌, take, drop, Option, Some, None, refl, sym, ap, subst, ◌∙◌, append_assoc}
+use Rattle.std.proofs.Common.{◌≡◌, ◌+◌, ◌-◌, ◌<◌, ◌≤◌, arith, length, ℕ, List, [], take, drop, Option, Some, None, refl, sym, ap, subst, ◌∙◌}
 use Rattle.std.proofs.lemmas.List.{append-nil, length-drop, take-append-drop, take_all}
 use Rattle.std.proofs.Math.Seq.{take-add}
 use Rattle.std.specs.Io.KnownBytes.{Appends, Keeps}
@@ -9,14 +9,6 @@ use Rattle.script_io.specs.Output.{TakesFront, StopsShort}
 -- the front of some bytes, and then nothing more
 pub front-kept : (a b c : Option (List ℕ)) (bytes : List ℕ) → TakesFront a b bytes → Keeps b c → TakesFront a c bytes
 front-kept a b c bytes p k = (p.0, p.1, p.2, Appends-kept a b c p.0 p.3 k)
-
--- the front of the first bytes is the front of both
-pub front-first : (a b : Option (List ℕ)) (xs ys : List ℕ) → TakesFront a b xs → TakesFront a b (xs ++ ys)
-front-first a b xs ys p = (p.0, p.1 ++ ys, ap (λ l. l ++ ys) p.2 ∙ append_assoc p.0 p.1 ys, p.3)
-
--- the first bytes and the front of the second are the front of both
-pub front-second : (a b c : Option (List ℕ)) (xs ys : List ℕ) → Appends a b xs → TakesFront b c ys → TakesFront a c (xs ++ ys)
-front-second a b c xs ys p q = (xs ++ q.0, q.1, ap (λ l. xs ++ l) q.2 ∙ sym (append_assoc xs q.0 q.1), Appends-trans a b c _ _ p q.3)
 
 -- what stopped short took a front
 pub front-short : (a b : Option (List ℕ)) (bytes : List ℕ) → StopsShort a b bytes → TakesFront a b bytes

@@ -1,16 +1,14 @@
 -- Each record takes a byte at least, so as many turns as a text has bytes read all of its records.
-use Rattle.std.proofs.Common.{◌≡◌, ◌≤◌, ◌<◌, ◌+◌, ℕ, zero, suc, List, [], ◌∷◌, length, get_or, Option, Some, None, Bool, true, false, not, MatchBool, if◌then◌else◌, refl, sym, ap, subst, arith, ◌∙◌}
+use Rattle.std.proofs.Common.{◌≡◌, ◌≤◌, ◌<◌, ◌+◌, ℕ, zero, suc, List, [], ◌∷◌, length, get_or, Option, Some, None, Bool, true, false, not, MatchBool, if◌then◌else◌, refl, sym, ap, subst, arith, ◌∙◌, add-one}
 use Rattle.csv.specs.Machine.{Read, ends_at_end, field_after, fields_after, is_end, next_record, step}
-use Rattle.csv.specs.Reading.{default_config, records_from, records_next}
+use Rattle.csv.specs.Reading.{default_config, records_from, records_next, Reached, ReadRecord, source_of, strip_bom}
 use Rattle.csv.specs.Records.{field_at}
 use Rattle.csv.specs.declared.parser.State.{State}
 use Rattle.csv.specs.declared.parser.State.TheVariants as st
 use Rattle.csv.specs.declared.reader.Reader.{Reader}
-use Rattle.csv.specs.Reading.{Reached, ReadRecord, source_of, strip_bom}
 use Rattle.csv.proofs.ReadFacts.{rows-end, rows-more}
 use Rattle.std.specs.Borrow.{Bor}
 use Rattle.std.specs.Prelude.{IsSome, unwrap_or}
-use Rattle.std.proofs.Common.{add-one}
 use Rattle.std.proofs.lemmas.Bool.{false≢true}
 use Rattle.script_io.specs.Records.{Record, records_of, records_on}
 

@@ -3,3 +3,5 @@ pub mod Records
 pub mod Digits
 pub mod Left
 pub mod Output
+pub mod InputLaws
+pub mod OutputLaws

@@ -8,7 +8,7 @@ use Rattle.std.specs.List.{AllByRecursion}
 use Rattle.grouping_model.specs.Datum.{Row, HasKinds}
 use Rattle.grouping_model.specs.declared.limits.TheConstants.{LAST_ORIGIN, LAST_NUMBER, MOST_ROWS}
 use Rattle.grouping_model.specs.World.{IsWorld, Knowledge}
-use Rattle.grouping_model.proofs.Members.{Member, from_contains, to_contains}
+use Rattle.grouping_model.specs.MemberLaws.{Member, from_contains, to_contains}
 use Rattle.packed_rows.specs.Columns.{Column, kinds}
 use Rattle.script_io.specs.Records.{Record}
 use Rattle.script_commands.specs.Commands as ask

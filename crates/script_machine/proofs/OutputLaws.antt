@@ -1,12 +1,11 @@
 -- What `?` passes on, and two pieces that a writer took in turn.
-use Rattle.std.specs.Prelude.{ℕ, List, ◌++◌, Option, Result, Ok, Err, MatchResult}
+use Rattle.std.specs.Prelude.{ℕ, List, ◌++◌, Option, Result, Ok, Err, MatchResult, ◌≡◌}
 use Rattle.std.specs.Io.KnownBytes.{Appends}
 use Rattle.std.proofs.lemmas.Bool.{false≢true}
 use Rattle.std.proofs.KnownBytes.{Appends-trans}
 use Rattle.script_io.specs.Output.{TakesFront}
-use Rattle.script_io.proofs.OutputFacts.{front-second}
+use Rattle.script_io.specs.OutputLaws.{front-second}
 use Rattle.std.specs.Result.{IsErr, IsErrAnd}
-use Rattle.std.specs.Prelude.{◌≡◌}
 use Rattle.std.proofs.Common.{subst, sym}
 
 -- an error passed on has what any error has

@@ -10,7 +10,7 @@ use Rattle.grouping_model.specs.World.{Knowledge}
 use Rattle.packed_rows.specs.Columns.{Column, kinds}
 use Rattle.packed_rows.specs.Field.{Reads, ReadsRow, IsLeftmostBad}
 use Rattle.packed_rows.proofs.FieldLaws.{one_row}
-use Rattle.packed_rows.proofs.PrintedColumns.{one_schema}
+use Rattle.packed_rows.specs.PrintedLaws.{one_schema}
 use Rattle.query_checks.specs.Checks.{Checked}
 use Rattle.group_parser.proofs.ParseLaws.{one_accepted, one_refused, not_both}
 use Rattle.script_io.specs.Digits.{number_of}

@@ -11,8 +11,8 @@ use Rattle.script_io.specs.Input.{StopsReading}
 use Rattle.script_io.specs.Output.{TakesFront}
 use Rattle.script_io.specs.declared.input.InputError.{InputError}
 use Rattle.script_io.specs.declared.input.InputError.TheVariants as input
-use Rattle.script_io.proofs.InputFacts.{consumes-all, consumes-longer}
-use Rattle.script_io.proofs.OutputFacts.{front-first, front-second}
+use Rattle.script_io.specs.InputLaws.{consumes-all, consumes-longer}
+use Rattle.script_io.specs.OutputLaws.{front-first, front-second}
 use Rattle.script_io.specs.Records.{Record}
 use Rattle.script_commands.specs.Commands.{Command, Request, request_of}
 use Rattle.script_machine.specs.Machine.{State, Reply, Refused, Run, StrictRun, MayReply, IsReply, Agrees, AgreesAt, start, after, is_refused, is_fault}

@@ -2,7 +2,7 @@
 use Rattle.std.specs.Prelude.{◌≡◌, List, ℕ, refl}
 use Rattle.std.proofs.Common.{sym}
 use Rattle.grouping_model.specs.World.{World}
-use Rattle.grouping_model.proofs.KnowledgeLaws.{same_knowledge}
+use Rattle.grouping_model.specs.KnowledgeLaws.{same_knowledge}
 use Rattle.grouping_model.proofs.AnswerLaws.{known_alone}
 use Rattle.having_filter.specs.Meaning.{meaning}
 use Rattle.script_machine.specs.Agreement.{KnowTheSame}

@@ -1,12 +1,11 @@
 -- What the code keeps, before and after a command.
-use Rattle.std.specs.Prelude.{◌≡◌, ◌≢◌, ◌<◌, ◌≤◌, ◌⊎◌, ◌&&◌, nat_le, refl, ℕ, Bool, true, false, if◌then◌else◌, List, [], length, Option, Some, None, IfSome, IsTrue, option_map, unwrap_or, string_bytes}
+use Rattle.std.specs.Prelude.{◌≡◌, ◌≢◌, ◌<◌, ◌≤◌, ◌⊎◌, ◌&&◌, nat_le, refl, ℕ, Bool, true, false, if◌then◌else◌, List, [], length, Option, Some, None, IfSome, IsTrue, option_map, unwrap_or, string_bytes, codes}
 use Rattle.std.proofs.Common.{◌∙◌, ap, sym, subst, inl, inr, arith}
 use Rattle.std.specs.declared.alloc.Global.{Global}
 use Rattle.std.specs.declared.vec.Vec.{Vec}
 use Rattle.std.specs.Borrow.{Bor}
 use Rattle.std.specs.Option.{is_some}
 use Rattle.std.specs.declared.string.String.{String}
-use Rattle.std.specs.Prelude.{codes}
 use Rattle.std.specs.Map.{lookup, KeepsOthers}
 use Rattle.std.specs.Str.{bytes_eq}
 use Rattle.std.specs.HashMap.{HashMap, UpdatesBy}

@@ -3,6 +3,7 @@ use Rattle.std.specs.Prelude.{◌≡◌, ℕ, ◌+◌, ◌<◌, ◌≤◌, ◌�
 use Rattle.std.proofs.Math.ListN.{set}
 use Rattle.std.proofs.Common.{refl, sym, ◌∙◌, ap, subst, arith, inl, inr, length-set}
 use Rattle.std.proofs.lemmas.Bool.{cases_lt}
+use Rattle.std.proofs.lemmas.List.{nil_from_length}
 use Rattle.spill_tapes.specs.Records.{Record}
 use Rattle.spill_tapes.specs.Tape.{Gives}
 use Rattle.spill_tapes.specs.Tapes.{TapesState, phase_of, is_open, is_read, IsTape, KeepsOthers}
@@ -176,10 +177,6 @@ lists_ended last last' t t' level parts source todo x is keeps alive are =
       filled = are.filled;
     }
 
-nothing : (rs : List Record) → length rs ≡ 0 → rs ≡ []
-nothing [] none = refl
-nothing (r ∷ rs) none = cc
-
 pub has_ended : (last last' : ℕ → ℕ → Type 0) (t t' : TapesState) (level : ℕ) (parts source todo : List OnTape) (spilled ahead : List Record) (left : List LeftList) (x : OnTape) → source ≡ x ∷ [] → x.records ≡ 0 → KeepsOthers last last' t t' x.tape → AreApart (parts ++ (source ++ todo)) → HasLists last (state t level parts source todo) spilled ahead left → (ahead ≡ []) × HasLists last' (state t' level parts [] todo) spilled [] left
 has_ended last last' t t' level parts source todo spilled ahead left x is none keeps apart had =
     let counts : times x.tape.index (parts ++ (source ++ todo)) ≡ times x.tape.index parts + (times x.tape.index source + times x.tape.index todo) = times_in x.tape.index parts source todo in
@@ -187,7 +184,7 @@ has_ended last last' t t' level parts source todo spilled ahead left x is none k
     let here : once x.tape x.tape.index ≡ 1 = once_here x.tape.index x.tape refl in
     let few : times x.tape.index (parts ++ (source ++ todo)) ≤ 1 = apart x.tape.index in
     let aheads : AreAhead last t (x ∷ []) ahead = subst (λ xs. AreAhead last t xs ahead) is had.ahead_are in (
-      nothing ahead (sym aheads.1 ∙ none),
+      nil_from_length ahead (sym aheads.1 ∙ none),
       record {
         spilled_are = kept_spilled last last' t t' level parts spilled x.tape keeps (omega (arith, counts, one, here, few)) had.spilled_are;
         ahead_are = refl;

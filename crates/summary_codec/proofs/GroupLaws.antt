@@ -11,7 +11,7 @@ use Rattle.agg_protocol.specs.States.{shape_of, width_of}
 use Rattle.agg_library.specs.declared.kind.AggKind.{AggKind}
 use Rattle.agg_library.specs.Kinds.{functions_of, kind_width, row_width}
 use Rattle.group_runs.specs.Runs.{Entry, Rises, packed_keys}
-use Rattle.group_runs.proofs.PlaceLaws.{key_total}
+use Rattle.group_runs.specs.PlaceLaws.{key_total}
 use Rattle.summary_codec.specs.Reading.{IsNext}
 use Rattle.summary_codec.proofs.RisingLaws.{rises_next}
 

@@ -7,6 +7,7 @@ use Rattle.std.specs.List.{AllByRecursion}
 use Rattle.std.specs.List.Sorted.{IsStrictlySortedBy}
 use Rattle.std.specs.Ordering.{nat_cmp}
 use Rattle.std.specs.declared.cmp.Ordering.TheVariants.{Less}
+use Rattle.list_laws.specs.Each.{each_weaker}
 use Rattle.grouping_model.specs.Datum.{Datum, Kind, Row, HasKind, HasKinds, Null, Bigint, Boolean, Text, Bigint_kind, Boolean_kind, Text_kind}
 use Rattle.grouping_model.specs.Grouping.{Group}
 use Rattle.grouping_model.specs.Query.{Query}
@@ -98,10 +99,6 @@ few_rising {X} low high (e ∷ es) rising above within most =
     behind [] all = tt
     behind (f ∷ fs) all = (less f.0 all.0, behind fs all.1)
 
-each_of : {X : Type 0} (P Q : X → Type 0) → ((x : X) → P x → Q x) → (xs : List X) → AllByRecursion P xs → AllByRecursion Q xs
-each_of P Q gives [] all = tt
-each_of P Q gives (x ∷ xs) all = (gives x all.0, each_of P Q gives xs all.1)
-
 none_below : {X : Type 0} (xs : List (ℕ × X)) → AllByRecursion (λ (e : ℕ × X). 0 ≤ e.0) xs
 none_below [] = tt
 none_below (e ∷ xs) = (omega arith, none_below xs)
@@ -114,7 +111,7 @@ short_part q part is of_query =
     let few = of_query.few in
     let columns = is.columns_are.most in
     let same = length-map q.columns (λ (c : Column). c.kind) in
-    let early = few_rising 0 LAST_NUMBER part.early of_query.rising (none_below part.early) (each_of (IsEarly (kinds q.columns) part.prefix) (λ (b : ℕ × List (List ℕ)). b.0 ≤ LAST_NUMBER) (λ b e. e.within) part.early of_query.early) (omega arith) in
+    let early = few_rising 0 LAST_NUMBER part.early of_query.rising (none_below part.early) (each_weaker (IsEarly (kinds q.columns) part.prefix) (λ (b : ℕ × List (List ℕ)). b.0 ≤ LAST_NUMBER) (λ b e. e.within) part.early of_query.early) (omega arith) in
     record {
       few_groups = omega (arith, within, few);
       groups = short_keys (meaning q) (part.prefix * MOST_ROWS) part.run of_query.run.groups (few_key_kinds q is) of_query.run.are;
@@ -123,11 +120,11 @@ short_part q part is of_query =
     }
 
 pub short_parts : (q : Checked) (parts : Parts) → IsCheckedQuery q → AreHeldParts q parts → AllByRecursion (λ (held : ℕ × Part). IsShortPart held.1) parts
-short_parts q parts is held = each_of (IsHeldPart q) (λ (p : ℕ × Part). IsShortPart p.1) (λ p h. short_part q p.1 is h.part) parts held.each
+short_parts q parts is held = each_weaker (IsHeldPart q) (λ (p : ℕ × Part). IsShortPart p.1) (λ p h. short_part q p.1 is h.part) parts held.each
 
 pub few_parts : (q : Checked) (parts : Parts) → AreHeldParts q parts → length parts ≤ LAST_ORIGIN + 1
 few_parts q parts held =
-    let all = few_rising 0 LAST_ORIGIN parts held.rising (none_below parts) (each_of (IsHeldPart q) (λ (p : ℕ × Part). p.0 ≤ LAST_ORIGIN) (λ p h. h.within) parts held.each) (omega arith) in
+    let all = few_rising 0 LAST_ORIGIN parts held.rising (none_below parts) (each_weaker (IsHeldPart q) (λ (p : ℕ × Part). p.0 ≤ LAST_ORIGIN) (λ p h. h.within) parts held.each) (omega arith) in
     omega (arith, all)
 
 -- ---- the text of a schema

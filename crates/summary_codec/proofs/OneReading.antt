@@ -8,7 +8,7 @@ use Rattle.grouping_model.specs.Datum.{Kind}
 use Rattle.grouping_model.specs.Query.{Query}
 use Rattle.grouping_model.specs.declared.limits.TheConstants.{LAST_NUMBER, LAST_ORIGIN, MOST_ROWS}
 use Rattle.packed_rows.specs.Columns.{Column, kinds, printed}
-use Rattle.packed_rows.proofs.PrintedColumns.{one_schema}
+use Rattle.packed_rows.specs.PrintedLaws.{one_schema}
 use Rattle.having_filter.specs.Kept.{by_names, key_kinds}
 use Rattle.query_checks.specs.Checks.{Checked}
 use Rattle.having_filter.specs.Meaning.{meaning}

@@ -4,7 +4,7 @@ use Rattle.std.proofs.lemmas.List.{length-append}
 use Rattle.std.proofs.Math.Seq.{take-append_seam, drop-append_seam}
 use Rattle.std.specs.Int.{bytes_high_first}
 use Rattle.byteorder.specs.Numbers.{length-bytes_high_first}
-use Rattle.agg_protocol.proofs.Bytes.{reads}
+use Rattle.agg_protocol.specs.ByteLaws.{reads}
 use Rattle.summary_codec.specs.File.{sized_bytes}
 use Rattle.summary_codec.specs.Reading.{Outcome, Reader, done, both, must, taken, number, number_within, sized, each}
 use Rattle.summary_codec.specs.declared.error.SummaryError.{SummaryError}

@@ -6,7 +6,7 @@ use Rattle.std.specs.Int.{bytes_high_first}
 use Rattle.std.specs.List.{AllByRecursion}
 use Rattle.std.specs.List.Sorted.{IsStrictlySortedBy}
 use Rattle.query_checks.specs.Reads.{filters_pass}
-use Rattle.group_runs.proofs.PlaceLaws.{key_total}
+use Rattle.group_runs.specs.PlaceLaws.{key_total}
 use Rattle.std.specs.Ordering.{nat_cmp}
 use Rattle.std.specs.Cmp.{IsTotalOrder, nat_cmp_total}
 use Rattle.std.specs.Cmp.Lexicographic.{slice_cmp}

@@ -19,7 +19,7 @@ use Rattle.batch_reader.specs.Rows.{packings}
 use Rattle.packed_rows.specs.Columns.{Column, kinds, printed, AreColumns}
 use Rattle.packed_rows.proofs.PrintedColumns.{printed_again}
 use Rattle.agg_protocol.specs.States.{shape_of, width_of}
-use Rattle.agg_protocol.proofs.Denoting.{width_known}
+use Rattle.agg_protocol.specs.DenotingLaws.{width_known}
 use Rattle.agg_library.specs.declared.kind.AggKind.{AggKind}
 use Rattle.agg_library.specs.Kinds.{kind_shape, kind_width, row_width}
 use Rattle.agg_library.specs.StateRows.{DenotesAll}

@@ -1,4 +1,4 @@
-use flat_rows::PackedRows;
+use packed_rows::PackedRows;
 use std::alloc::{AllocError, Global};
 
 /// Puts rows behind one another.

@@ -1,11 +1,12 @@
 use Rattle.grouping_model.proofs.PartLaws as laws
+use Rattle.grouping_model.specs.PartLaws.{partials_at-part}
 use Rattle.grouping_model.proofs.groups_as_map.Goals as goal
 
 pub returns-clause-keys : goal.returns-clause-keys
 returns-clause-keys c = laws.keys_of-part
 
 pub returns-clause-found : goal.returns-clause-found
-returns-clause-found c = laws.partials_at-part
+returns-clause-found c = partials_at-part
 
 pub returns-clause-appended : goal.returns-clause-appended
 returns-clause-appended c = laws.part-append

@@ -1,4 +1,4 @@
-use Rattle.grouping_model.proofs.KnowledgeLaws as laws
+use Rattle.grouping_model.specs.KnowledgeLaws as laws
 use Rattle.grouping_model.proofs.uniting.Goals as goal
 
 pub returns-clause-commutative : goal.returns-clause-commutative

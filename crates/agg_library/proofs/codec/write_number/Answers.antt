@@ -1,7 +1,6 @@
-use Rattle.std.proofs.Common.{◌≡◌, ap, ◌∙◌, sym}
+use Rattle.std.proofs.Common.{◌≡◌, ap, ◌∙◌, sym, rules, Some}
 use Rattle.std.specs.Int.{w64, cast_signed, cast_unsigned}
 use Rattle.std.proofs.lemmas.Int.{to_z-of_z}
-use Rattle.std.proofs.Common.{rules, Some}
 use Rattle.grouping_model.specs.Aggregates.{Number}
 use Rattle.agg_protocol.specs.States.{bytes_of}
 use Rattle.agg_protocol.proofs.Bytes.{number_written}

@@ -1,12 +1,14 @@
 use Rattle.std.proofs.Common.{◌<◌, ◌∙◌, sym, subst, arith}
+use Rattle.list_laws.specs.Outcomes.{always_err}
 use Rattle.agg_protocol.specs.States.{Denotes, shape_of, rows_of}
-use Rattle.agg_protocol.proofs.Denoting.{on_err, once, width_known}
+use Rattle.agg_protocol.specs.DenotingLaws.{width_known}
+use Rattle.agg_protocol.proofs.Denoting.{once}
 use Rattle.agg_library.specs.StateRows.{partial_after}
 use Rattle.agg_library.proofs.ArgumentSteps.{advanced}
 use Rattle.agg_library.proofs.parts.advance_part.Goals as goal
 
 pub returns-in_err-state-clause-err : goal.returns-in_err-state-clause-err
-returns-in_err-state-clause-err g c = on_err c.from_residual.result (λ p d. absurd (c.in_err-state.ensures.err p d))
+returns-in_err-state-clause-err g c = always_err c.from_residual.result (λ p d. absurd (c.in_err-state.ensures.err p d))
 
 pub returns-in_default-clause-ok : goal.returns-in_default-clause-ok
 returns-in_default-clause-ok g c =

@@ -1,17 +1,18 @@
 use Rattle.std.proofs.Common.{sym, ◌∙◌}
-use Rattle.batch_reader.proofs.FileLaws.{all_taken, no_value, one_more}
+use Rattle.list_laws.specs.Outcomes.{none_there}
+use Rattle.batch_reader.proofs.FileLaws.{all_taken, one_more}
 use Rattle.batch_reader.proofs.file.pack_left.Goals as goal
 
 pub returns-clause-packed : goal.returns-clause-packed
 returns-clause-packed c =
-    let none = no_value c.in_ok-next.field-0 (sym c.is_some.ensures ∙ c.if-is_some.false) in
+    let none = none_there c.in_ok-next.field-0 (sym c.is_some.ensures ∙ c.if-is_some.false) in
     let ended = rw none at c.in_ok-next.ensures in
     let all = all_taken c.args.records.now c.args.told (sym c.in_ok-rows.ensures.left ∙ ended.0) in
     rw all at c.in_ok-rows.ensures.packed
 
 pub returns-clause-refused : goal.returns-clause-refused
 returns-clause-refused c =
-    let none = no_value c.in_ok-next.field-0 (sym c.is_some.ensures ∙ c.if-is_some.false) in
+    let none = none_there c.in_ok-next.field-0 (sym c.is_some.ensures ∙ c.if-is_some.false) in
     let ended = rw none at c.in_ok-next.ensures in
     let all = all_taken c.args.records.now c.args.told (sym c.in_ok-rows.ensures.left ∙ ended.0) in
     rw all at c.in_ok-rows.ensures.refused

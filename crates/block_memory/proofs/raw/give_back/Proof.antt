@@ -1,13 +1,5 @@
 -- `give_back` hands the memory, as room for bytes, and the right to give it back to the allocator.
-use Rattle.block_memory.proofs.Steps.{◌≡◌, ◌<◌, ◌^◌, List, [], ◌∷◌, length, refl, sym, ap, ◌∙◌, subst, arith, lit<, w64, proved, full_share}
-use Rattle.block_memory.proofs.Steps.{id⊢, emp, ftrue, fat, froom, flft, ty_ptr, named, Val, vunit, vint, vptr, fact, fact_i, tables, ‵}
-use Rattle.block_memory.proofs.Steps.{raw, ◌⊛◌, some, later, at_ret, ◌$◌, ◌∵◌, !, qed, done, move, keep, use0, use1, split, join, fsplit}
-use Rattle.block_memory.proofs.Steps.{fjoin, fpick, feq_i, feq_l, pick, await, rewrite, suffices, group, enter, of_opd, lit, unit_lit}
-use Rattle.block_memory.proofs.Steps.{and_then, no_more, first, blocks, exec, returns, alloc_all, pass_all, free_all, look_at, take_at}
-use Rattle.block_memory.proofs.Steps.{give_at, get, sets, lands_last, env, usize, unit, yes, uint_vals, uint_Tells, uint_Makes, RawPtr}
-use Rattle.block_memory.proofs.Steps.{block_ptr, ptr_val, in_a_block, rawptr_vals, rawptr_Tells, rawptr_Lawful, ShrRef, shr_vals, shr_Tells}
-use Rattle.block_memory.proofs.Steps.{plain, nothing, owned, heard, only, calls_at_last, lasts, triple_of, framed, Stays, walk_of}
-use Rattle.block_memory.proofs.Steps.{stay_dropped, Goes-dropped, ends_at}
+use Rattle.block_memory.proofs.Steps.{◌≡◌, ◌<◌, ◌^◌, List, [], ◌∷◌, length, refl, sym, ap, ◌∙◌, subst, arith, lit<, w64, proved, full_share, id⊢, emp, ftrue, fat, froom, flft, ty_ptr, named, Val, vunit, vint, vptr, fact, fact_i, tables, ‵, raw, ◌⊛◌, some, later, at_ret, ◌$◌, ◌∵◌, !, qed, done, move, keep, use0, use1, split, join, fsplit, fjoin, fpick, feq_i, feq_l, pick, await, rewrite, suffices, group, enter, of_opd, lit, unit_lit, and_then, no_more, first, blocks, exec, returns, alloc_all, pass_all, free_all, look_at, take_at, give_at, get, sets, lands_last, env, usize, unit, yes, uint_vals, uint_Tells, uint_Makes, RawPtr, block_ptr, ptr_val, in_a_block, rawptr_vals, rawptr_Tells, rawptr_Lawful, ShrRef, shr_vals, shr_Tells, plain, nothing, owned, heard, only, calls_at_last, lasts, triple_of, framed, Stays, walk_of, stay_dropped, Goes-dropped, ends_at}
 use denote.Builtin.{RefOf}
 use lib.Dec.{T}
 use mir.Syntax.{ty_unit}

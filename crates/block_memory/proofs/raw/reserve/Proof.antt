@@ -1,13 +1,5 @@
 -- `reserve` takes a block from the allocator, and makes of it the right to a memory of which nothing was written.
-use Rattle.block_memory.proofs.Steps.{◌≡◌, ℕ, ◌<◌, ◌^◌, List, [], ◌∷◌, Option, Some, None, refl, sym, ap, ◌∙◌, arith, lit<, w64}
-use Rattle.block_memory.proofs.Steps.{proved, id⊢, ent, sep, emp, Fml, ftrue, fsep, froom, flft, named, Val, vint, vptr, fact, fact_i}
-use Rattle.block_memory.proofs.Steps.{tables, ‵, raw, ◌⊛◌, some, later, given, at_ret, ◌$◌, ◌∵◌, !, qed, done, move, keep, forgets, use0}
-use Rattle.block_memory.proofs.Steps.{use1, use2, split, join, fsplit, fjoin, fpack, feq_i, pick, learn, check, show, await, rewrite}
-use Rattle.block_memory.proofs.Steps.{suffices, group, enter, of_opd, lit, and_then, no_more, first, switches, exec, returns, agg}
-use Rattle.block_memory.proofs.Steps.{alloc_all, pass_all, free_all, look_at, get, get_in, get_tag, sets, sets_last, lands_as, env, usize}
-use Rattle.block_memory.proofs.Steps.{yes, shows, uint_vals, uint_Tells, uint_Makes, Ptr, RawPtr, block_ptr, in_a_block, ShrRef}
-use Rattle.block_memory.proofs.Steps.{shr_vals, shr_Tells, plain, nothing, owned, facts, heard, only, calls_at, lasts, triple_of, framed}
-use Rattle.block_memory.proofs.Steps.{Stays, walk_of, states, stay_dropped, Goes-dropped, ends_at}
+use Rattle.block_memory.proofs.Steps.{◌≡◌, ℕ, ◌<◌, ◌^◌, List, [], ◌∷◌, Option, Some, None, refl, sym, ap, ◌∙◌, arith, lit<, w64, proved, id⊢, ent, sep, emp, Fml, ftrue, fsep, froom, flft, named, Val, vint, vptr, fact, fact_i, tables, ‵, raw, ◌⊛◌, some, later, given, at_ret, ◌$◌, ◌∵◌, !, qed, done, move, keep, forgets, use0, use1, use2, split, join, fsplit, fjoin, fpack, feq_i, pick, learn, check, show, await, rewrite, suffices, group, enter, of_opd, lit, and_then, no_more, first, switches, exec, returns, agg, alloc_all, pass_all, free_all, look_at, get, get_in, get_tag, sets, sets_last, lands_as, env, usize, yes, shows, uint_vals, uint_Tells, uint_Makes, Ptr, RawPtr, block_ptr, in_a_block, ShrRef, shr_vals, shr_Tells, plain, nothing, owned, facts, heard, only, calls_at, lasts, triple_of, framed, Stays, walk_of, states, stay_dropped, Goes-dropped, ends_at}
 use seplogic.Ra.Ura.{Ura}
 use mir.Val.{vstruct, vnil, of_list}
 use base.Logic.{guard, ex, never, fst∗}

@@ -1,6 +1,5 @@
-use Rattle.std.proofs.Common.{◌≡◌, get_or}
+use Rattle.std.proofs.Common.{◌≡◌, get_or, ◌∙◌}
 use Rattle.std.proofs.lemmas.List.{get_or_read, length-set}
-use Rattle.std.proofs.Common.{◌∙◌}
 use Rattle.chunk_layout.proofs.MarkLaws.{arranged-exchange, places-exchange}
 use Rattle.chunk_layout.proofs.marks.exchange.Goals as goal
 

@@ -1,9 +1,10 @@
 use Rattle.std.specs.Prelude.{◌≡◌, ◌+◌, ◌++◌, ◌∷◌, [], length, take, slice_get, Some}
 use Rattle.std.proofs.Common.{sym, ◌∙◌, ap, arith}
 use Rattle.std.proofs.lemmas.List.{length-set, take_more_set}
-use Rattle.group_runs.specs.Chunks.{on_end, counts}
-use Rattle.group_runs.proofs.ChunkLaws.{got_by, next_start, front_few, one_more_count}
-use Rattle.group_runs.proofs.RunLaws.{take_found}
+use Rattle.packed_rows.specs.RowsOnEndLaws.{ends_append}
+use Rattle.packed_rows.specs.RowsOnEnd.{on_end, ends_of}
+use Rattle.group_runs.proofs.ChunkLaws.{got_by, next_start, front_few}
+use Rattle.group_runs.specs.RunLaws.{take_found}
 use Rattle.group_runs.proofs.chunks.count_all.Goals as goal
 
 pub overflow_add-count : goal.overflow_add-count
@@ -34,6 +35,6 @@ loop-at-preserved c =
       done =
           take_more_set c.loop-at.ends.items i (c.loop-at.count + c.len-count.result) (omega (arith, many, low))
           ∙ (λ j. c.loop-at.invariant.done j ++ same j ∷ [])
-          ∙ sym (one_more_count 0 (take i chunks) c.index-chunks-at.result)
-          ∙ ap (counts 0) (sym (take_found chunks i c.index-chunks-at.result at));
+          ∙ sym (ends_append 0 (take i chunks) (c.index-chunks-at.result ∷ []))
+          ∙ ap (ends_of 0) (sym (take_found chunks i c.index-chunks-at.result at));
     }

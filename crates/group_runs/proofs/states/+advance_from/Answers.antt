@@ -1,20 +1,20 @@
 use Rattle.std.specs.Prelude.{◌≡◌, ℕ, ◌+◌, List, [], ◌∷◌, ◌++◌, length, map, take, drop, Some, option_map, ◌==◌, Result, Ok, Err, OnErr}
 use Rattle.std.proofs.Common.{sym, ◌∙◌, ap, subst, arith, rules}
 use Rattle.std.proofs.lemmas.Bool.{eqb-true}
-use Rattle.std.proofs.lemmas.List.{length-take}
+use Rattle.std.proofs.lemmas.List.{length-take, nil_from_length}
 use Rattle.std.proofs.lemmas.Result.{on_ok_weaker, on_err_weaker, IfOk-from_err}
-use Rattle.std.proofs.lemmas.List.{nil_from_length}
 use Rattle.packed_rows.specs.View.{row_of}
 use Rattle.grouping_model.specs.Datum.{Row}
 use Rattle.grouping_model.specs.Aggregates.{Partial}
 use Rattle.grouping_model.specs.Query.{Aggregate, Query}
 use Rattle.grouping_model.specs.Parts.{advanced}
-use Rattle.agg_protocol.proofs.Denoting.{width_known}
+use Rattle.agg_protocol.specs.DenotingLaws.{width_known}
 use Rattle.agg_library.specs.declared.kind.AggKind.{AggKind}
 use Rattle.agg_library.specs.Kinds.{kind_shape, kind_width}
 use Rattle.agg_library.specs.StateRows.{DenotesAll}
 use Rattle.having_filter.specs.Meaning.{meaning}
-use Rattle.group_runs.proofs.StateLaws.{first_and_rest, parted, first_named, dropped, joined}
+use Rattle.group_runs.specs.StateLaws.{first_and_rest, dropped, joined}
+use Rattle.group_runs.proofs.StateLaws.{parted, first_named}
 use Rattle.group_runs.proofs.states.+advance_from.Goals as goal
 
 -- the states of no aggregates are no bytes

@@ -1,4 +1,5 @@
-use Rattle.group_runs.proofs.StateLaws.{all_at, found_aggregate, reach_taken, moved_on, has_room}
+use Rattle.group_runs.specs.StateLaws.{all_at}
+use Rattle.group_runs.proofs.StateLaws.{found_aggregate, reach_taken, moved_on, has_room}
 use Rattle.group_runs.proofs.states.advance_one.Goals as goal
 use Rattle.std.proofs.Common.{sym, ◌∙◌, ap, ◌≡◌, Some}
 use Rattle.std.proofs.lemmas.Result.{on_ok_weaker, on_err_weaker}

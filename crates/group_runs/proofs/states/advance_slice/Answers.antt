@@ -1,8 +1,9 @@
 use Rattle.std.proofs.lemmas.Result.{on_err_weaker}
+use Rattle.list_laws.specs.Outcomes.{ok_both}
 use Rattle.grouping_model.specs.Query.{Query}
 use Rattle.grouping_model.specs.Parts.{functions}
 use Rattle.having_filter.specs.Meaning.{meaning}
-use Rattle.group_runs.proofs.StateLaws.{ok_both, states_by}
+use Rattle.group_runs.specs.StateLaws.{states_by}
 use Rattle.group_runs.proofs.states.advance_slice.Goals as goal
 
 pub returns-clause-advanced : goal.returns-clause-advanced

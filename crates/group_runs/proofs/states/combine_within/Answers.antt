@@ -7,7 +7,8 @@ use Rattle.grouping_model.specs.Parts.{functions}
 use Rattle.agg_library.specs.StateRows.{DenotesAll}
 use Rattle.agg_library.specs.Kinds.{functions_of}
 use Rattle.having_filter.specs.Meaning.{meaning}
-use Rattle.group_runs.proofs.StateLaws.{states_by, combined, can_combine}
+use Rattle.group_runs.specs.StateLaws.{states_by}
+use Rattle.group_runs.proofs.StateLaws.{combined, can_combine}
 use Rattle.group_runs.proofs.states.combine_within.Goals as goal
 
 pub returns-clause-combined : goal.returns-clause-combined

@@ -1,6 +1,7 @@
 use Rattle.std.specs.Prelude.{◌≡◌, ◌+◌, ◌≤◌, max, ℕ, List, [], map, length, IsTrue}
 use Rattle.std.specs.List.{AllByRecursion}
 use Rattle.std.proofs.Common.{sym, ◌∙◌, ap, subst, arith}
+use Rattle.std.proofs.lemmas.Result.{IfOk-weaker, IfErr-weaker}
 use Rattle.spill_tapes.specs.DiskLaws.{leaves_twice}
 use Rattle.spill_lists.specs.declared.error.SpillError.TheVariants.{NoMemory}
 use Rattle.aggregation_cost.specs.Cost.{cost}
@@ -13,7 +14,8 @@ use Rattle.group_runs.specs.Standing.{AreGroups}
 use Rattle.hash_agg.specs.Added.{CountsWithin, IsSafeRun, query_of, setting_in}
 use Rattle.hash_agg.specs.Adding.{Given, AllGive}
 use Rattle.hash_agg.specs.Counting.{HasFewPasses, IsCounted, setting_by}
-use Rattle.hash_agg.specs.Inputs.{Brought, brought, all_rows, on_end, IsInput, IsAggregate, IsRunOver}
+use Rattle.packed_rows.specs.RowsOnEnd.{on_end}
+use Rattle.hash_agg.specs.Inputs.{Brought, brought, all_rows, IsInput, IsAggregate, IsRunOver}
 use Rattle.hash_agg.specs.Passes.{AreSafe, CountUpTo, IsPlan, Stands, setting_for, records_of, all_pieces}
 use Rattle.hash_agg.specs.Waiting.{AddsUp}
 use Rattle.hash_agg.specs.declared.pass.Pass.{Pass}
@@ -22,11 +24,10 @@ use Rattle.hash_agg.proofs.CountLaws.{all_made, made_rise, all_few, few_keys}
 use Rattle.hash_agg.proofs.DiskLaws.{left_out, still_out}
 use Rattle.hash_agg.proofs.FewLaws.{few_passes}
 use Rattle.hash_agg.proofs.FitLaws.{all_fit}
-use Rattle.hash_agg.proofs.KeyLaws.{if_ok}
 use Rattle.hash_agg.proofs.LaterLaws.{begun, made_all}
 use Rattle.hash_agg.proofs.NeedLaws.{ok_from}
 use Rattle.hash_agg.proofs.ReturnLaws.{no_ok, no_if_ok}
-use Rattle.hash_agg.proofs.StepLaws.{err_out, on_error}
+use Rattle.hash_agg.proofs.StepLaws.{err_out}
 use Rattle.hash_agg.proofs.UnionLaws.{all_stand, safe_run}
 use Rattle.hash_agg.proofs.WholeLaws.{all_added, all_given, lists_give, keys_give, keys_are, keys_few}
 use Rattle.hash_agg.proofs.aggregation.aggregated.Goals as goal
@@ -128,14 +129,14 @@ returns g c =
     let all = made_all g.H.KeyHash.hash_of g.D.TapeDisk inputs pass c.args.disk.now c.args.work.now c.in_ok-run.run' c.first_pass.new.pass c.first_pass.new.disk c.first_pass.new.work first in
     record {
       aggregate =
-          if_ok c.later_passes.result _ _
+          IfOk-weaker c.later_passes.result _ _
           (λ run later honest.
           let made = all run c.later_passes.new.disk c.later_passes.new.work honesty later in
           subst (λ (query : Checked). IsAggregate (meaning query) inputs run) queried
           (is_aggregate q set.hash inputs run are made.safe.rises (λ givens give. (made.whole honest givens give (plan_counts pass inputs givens most are give)).stands)))
           c.later_passes.ensures.made;
       run =
-          if_ok c.later_passes.result _ _
+          IfOk-weaker c.later_passes.result _ _
           (λ run later.
           let made = all run c.later_passes.new.disk c.later_passes.new.work honesty later in
           subst (λ (query : Checked). IsRunOver (meaning query) inputs run) queried
@@ -155,7 +156,7 @@ returns g c =
           }))
           c.later_passes.ensures.made;
       few =
-          if_ok c.later_passes.result _ _
+          IfOk-weaker c.later_passes.result _ _
           (λ run later honest.
           let made = all run c.later_passes.new.disk c.later_passes.new.work honesty later in
           subst (λ (query : Checked). HasFewPasses (meaning query) (setting_by g.H.KeyHash.hash_of (meaning query) c.args.means.now) inputs (length run)) queried
@@ -172,7 +173,7 @@ returns g c =
           subst (λ limit. CountsWithin limit c.args.work.now c.later_passes.new.work) limited made.within)
           c.later_passes.ensures.made;
       undamaged =
-          on_error c.later_passes.result
+          IfErr-weaker c.later_passes.result _ _
           (λ error right honest.
           let given = all_given q inputs are in
           right (subst IsTrue (sym honesty) honest) (all_pieces inputs given.0) c.args.work.now (g.D.TapeDisk.writes c.args.disk.now)

@@ -2,6 +2,7 @@ use Rattle.std.specs.Prelude.{◌≡◌, refl, ◌≤◌, ℕ, ◌∷◌, List, 
 use Rattle.std.proofs.Common.{sym, ◌∙◌, ap, subst, arith}
 use Rattle.std.proofs.lemmas.List.{length-map, take_all}
 use Rattle.std.proofs.lemmas.List.Sums.{sum_by-cons}
+use Rattle.std.proofs.lemmas.Result.{IfOk-weaker}
 use Rattle.spill_tapes.specs.DiskLaws.{leaves_none, leaves_twice}
 use Rattle.spill_lists.specs.Errors.{spill_faults}
 use Rattle.spill_lists.specs.Standing.{full_pages, written_pages}
@@ -9,7 +10,7 @@ use Rattle.spill_lists.specs.declared.error.SpillError.TheVariants.{NoMemory}
 use Rattle.aggregation_cost.specs.Space.{Setting}
 use Rattle.grouping_model.specs.Query.{Query}
 use Rattle.having_filter.specs.Meaning.{meaning}
-use Rattle.group_runs.proofs.StateLaws.{all_at}
+use Rattle.group_runs.specs.StateLaws.{all_at}
 use Rattle.hash_agg.specs.Added.{AreInputs, Finished, MadeFirst, query_of, setting_in, source_of}
 use Rattle.hash_agg.specs.Inputs.{Brought, brought, rows_in, IsInput}
 use Rattle.hash_agg.specs.Passes.{PassState, standing, entries_of, AreSafe, Holds, total, all_pieces, brought_by}
@@ -20,7 +21,6 @@ use Rattle.hash_agg.proofs.CountLaws.{can_read_input, input_read, input_brings}
 use Rattle.hash_agg.proofs.DiskLaws.{left_out, still_out}
 use Rattle.hash_agg.proofs.FirstLaws.{input_few, first_holds, first_total, first_waits, first_few}
 use Rattle.hash_agg.proofs.FitLaws.{all_fit}
-use Rattle.hash_agg.proofs.KeyLaws.{if_ok}
 use Rattle.hash_agg.proofs.NeedLaws.{held_by_both}
 use Rattle.hash_agg.proofs.ReturnLaws.{no_if_ok}
 use Rattle.hash_agg.proofs.StepLaws.{err_out, get_in}
@@ -128,7 +128,7 @@ returns g c =
     let counts = c.finish.ensures.counted in
     record {
       made =
-          if_ok c.finish.result (λ run. Finished g.D.TapeDisk c.loop-input.pass c.loop-input.disk run c.finish.new.self c.finish.new.disk)
+          IfOk-weaker c.finish.result (λ run. Finished g.D.TapeDisk c.loop-input.pass c.loop-input.disk run c.finish.new.self c.finish.new.disk)
           (λ run. MadeFirst g.H.KeyHash.hash_of g.D.TapeDisk inputs c.args.pass.now c.args.disk.now c.args.work.now run c.finish.new.self c.finish.new.disk c.finish.new.work)
           (λ run end.
           record {

@@ -2,8 +2,9 @@ use Rattle.std.specs.Prelude.{◌≡◌, refl, ◌≤◌, ◌++◌, ◌∷◌, �
 use Rattle.std.specs.List.Sorted.{IsPermutation}
 use Rattle.std.proofs.Common.{sym, ◌∙◌, ap, subst, arith, append-nil}
 use Rattle.std.proofs.lemmas.Grind.{common_steps}
-use Rattle.std.proofs.lemmas.List.{length-append}
+use Rattle.std.proofs.lemmas.List.{length-append, nil_from_length}
 use Rattle.std.proofs.lemmas.List.Sorted.{length_permutation}
+use Rattle.std.proofs.lemmas.Result.{IfErr-weaker}
 use Rattle.spill_tapes.specs.DiskLaws.{leaves_none, leaves_twice}
 use Rattle.spill_lists.specs.Errors.{spill_faults}
 use Rattle.spill_lists.specs.Standing.{count_of, waiting_number, full_pages, written_pages}
@@ -11,7 +12,7 @@ use Rattle.spill_lists.specs.declared.error.SpillError.TheVariants.{NoMemory}
 use Rattle.aggregation_cost.specs.Space.{Setting}
 use Rattle.grouping_model.specs.Query.{Query}
 use Rattle.group_runs.specs.Runs.{Entry, Rises}
-use Rattle.group_runs.specs.Chunks.{on_end}
+use Rattle.packed_rows.specs.RowsOnEnd.{on_end}
 use Rattle.hash_agg.specs.Added.{IsDone, query_of, setting_in}
 use Rattle.having_filter.specs.Meaning.{meaning}
 use Rattle.hash_agg.specs.Passes.{AreOnce, AreSafe, PassState, ReadsList, CanReadList, entries_of, standing}
@@ -23,7 +24,7 @@ use Rattle.hash_agg.proofs.LaterLaws.{IsWaiting, pass_can, pass_made, waiting_en
 use Rattle.hash_agg.proofs.NeedLaws.{held_by_both}
 use Rattle.hash_agg.proofs.ReturnLaws.{no_if_ok}
 use Rattle.hash_agg.proofs.SortLaws.{rises_once}
-use Rattle.hash_agg.proofs.StepLaws.{err_out, on_error}
+use Rattle.hash_agg.proofs.StepLaws.{err_out}
 use Rattle.hash_agg.proofs.UnionLaws.{one_run_more, safe_append, safe_moved, moved_stands}
 use Rattle.hash_agg.proofs.aggregation.later_passes.Goals as goal
 
@@ -157,20 +158,15 @@ returns g c =
           })
           c.united.ensures.sorted c.united.ensures.rises;
       undamaged =
-          on_error c.united.result
+          IfErr-weaker c.united.result _ _
           (λ error right honest pieces start writes underway count.
           right (subst (λ (rs : List (List Entry)). AreOnce (on_end (c.args.run ∷ rs))) (sym c.deref.ensures.value) (i.waits honest pieces start writes underway count).once))
           c.united.ensures.undamaged;
       disk = leaves_twice g.D.TapeDisk _ c.args.disk.now c.loop-pass.disk c.loop-pass.disk i.disk (still g.D.TapeDisk c.united.result c.loop-pass.disk c.united.ensures.faultless);
     }
 
--- where nothing was spilled, the groups are those of the first pass
-none_there : {X : Type 0} (xs : List X) → length xs ≡ 0 → xs ≡ []
-none_there [] none = refl
-none_there (x ∷ xs) none = absurd (omega (arith, none))
-
 alone : (run : List Entry) (others : List (List Entry)) → length others ≡ 0 → on_end (run ∷ others) ≡ run
-alone run others none = ap (λ runs. on_end (run ∷ runs)) (none_there others none) ∙ append-nil run
+alone run others none = ap (λ runs. on_end (run ∷ runs)) (nil_from_length others none) ∙ append-nil run
 
 pub returns-then-is_empty : goal.returns-then-is_empty
 returns-then-is_empty g c =

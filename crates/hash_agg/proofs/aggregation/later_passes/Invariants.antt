@@ -1,7 +1,7 @@
 use Rattle.std.specs.Prelude.{◌≡◌, ◌+◌, ◌≤◌, ◌∷◌, length}
 use Rattle.spill_tapes.specs.Disk.{Leaves}
 use Rattle.spill_lists.specs.Standing.{waiting_number}
-use Rattle.group_runs.specs.Chunks.{on_end}
+use Rattle.packed_rows.specs.RowsOnEnd.{on_end}
 use Rattle.hash_agg.specs.Added.{Continues, CountsWithin, IsOver, query_of, setting_in}
 use Rattle.hash_agg.specs.Passes.{AreSafe}
 use Rattle.hash_agg.proofs.LaterLaws.{IsWaiting}

@@ -1,6 +1,6 @@
 use Rattle.std.proofs.Common.{◌≡◌, rules, ap, ◌∙◌, option_map}
 use Rattle.query_checks.specs.Forms.{form_of, places_of}
-use Rattle.query_checks.proofs.FormLaws.{clause_unchanged}
+use Rattle.query_checks.specs.FormLaws.{clause_unchanged}
 use Rattle.having_filter.proofs.copying.copied_parts.Goals as goal
 
 pub returns : goal.returns

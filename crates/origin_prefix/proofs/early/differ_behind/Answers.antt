@@ -6,10 +6,10 @@ use Rattle.std.specs.Ordering.{nat_cmp}
 use Rattle.std.specs.BTreeMap.Range.{IsEntryInRange}
 use Rattle.std.specs.declared.ops.Bound.TheVariants.{Excluded, Unbounded}
 use Rattle.std.proofs.lemmas.List.Elements.{recursion_from_All}
+use Rattle.list_laws.specs.Each.{each_weaker}
 use Rattle.origin_prefix.specs.Parts.{Batches, rows_at}
 use Rattle.origin_prefix.specs.Joins.{DiffersBehind}
 use Rattle.origin_prefix.proofs.EarlyLaws.{behind_number, are_behind, differs_behind, differs_in_rest, none_differ}
-use Rattle.origin_prefix.proofs.PartLaws.{all_weaker}
 use Rattle.origin_prefix.proofs.early.differ_behind.Goals as goal
 
 pub loop-next-init : goal.loop-next-init
@@ -21,7 +21,7 @@ loop-next-init c =
     record {
       left = λ d. subst (λ bs. DiffersBehind c.args.number bs c.args.other.now.entries) (sym all) (differs_behind c.args.number one c.args.other.now.entries d);
       found = subst (AllByRecursion (λ (e : ℕ × List (List ℕ)). rows_at one e.0 ≡ Some e.1)) (sym c.into_iter-next-iterator.ensures.into_iter_gives)
-          (all_weaker (IsEntryInRange nat_cmp (Excluded c.args.number) Unbounded c.args.one.now) (λ (e : ℕ × List (List ℕ)). rows_at one e.0 ≡ Some e.1) (λ e is. is.1) c.range-next-items.result in_range);
+          (each_weaker (IsEntryInRange nat_cmp (Excluded c.args.number) Unbounded c.args.one.now) (λ (e : ℕ × List (List ℕ)). rows_at one e.0 ≡ Some e.1) (λ e is. is.1) c.range-next-items.result in_range);
       above = subst (AllByRecursion (λ (e : ℕ × List (List ℕ)). c.args.number < e.0)) (sym all) (are_behind c.args.number one);
       can = tt;
       finite = tt;

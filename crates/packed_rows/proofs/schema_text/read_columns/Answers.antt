@@ -5,7 +5,7 @@ use Rattle.query_tokens.specs.Spelling.{lexemes_of}
 use Rattle.packed_rows.specs.Columns.{columns_of, names, Describes, AreColumns}
 use Rattle.std.specs.List.{IsDistinct}
 use Rattle.std.specs.Str.{bytes_eq}
-use Rattle.packed_rows.proofs.DescribedColumns.{ReadSoFar, nothing_read, no_column, fault_read, last_read, no_comma, column_read, fewer_left, no_lexemes, some_lexemes}
+use Rattle.packed_rows.proofs.DescribedColumns.{nothing_read, no_column, fault_read, last_read, no_comma, column_read, fewer_left, no_lexemes, some_lexemes, ReadSoFar}
 use Rattle.packed_rows.proofs.schema_text.read_columns.Goals as goal
 
 pub loop-name-init : goal.loop-name-init

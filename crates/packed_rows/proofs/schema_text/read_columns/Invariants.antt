@@ -1,8 +1,8 @@
 use Rattle.std.specs.Prelude.{length}
+use Rattle.packed_rows.proofs.DescribedColumns.{ReadSoFar}
 use Rattle.query_tokens.specs.Words.{all_placed}
 use Rattle.query_tokens.specs.Spelling.{lexemes_of}
 use Rattle.packed_rows.specs.Columns.{columns_of}
-use Rattle.packed_rows.proofs.DescribedColumns.{ReadSoFar}
 use Rattle.packed_rows.proofs.schema_text.read_columns.Given as goal
 
 abbrev pub invariant-loop-name : goal.invariant-loop-name

@@ -1,7 +1,7 @@
 use Rattle.std.proofs.Common.{ap, sym, ◌∙◌}
 use Rattle.std.specs.Prelude.{Err}
 use Rattle.query_checks.specs.Forms.{written_of}
-use Rattle.query_checks.proofs.CheckedLaws.{gives_too_many, refused_as}
+use Rattle.query_checks.specs.CheckedLaws.{gives_too_many, refused_as}
 use Rattle.query_checks.proofs.checking.text_of_known.Goals as goal
 
 pub returns-in_err-canonical-clause-refused : goal.returns-in_err-canonical-clause-refused

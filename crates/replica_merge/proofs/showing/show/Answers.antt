@@ -1,13 +1,12 @@
 use Rattle.std.specs.Prelude.{◌≡◌, ◌≢◌, ◌+◌, ◌∷◌, [], length, drop, flat_map}
 use Rattle.std.proofs.Common.{sym, ◌∙◌, ap, subst, arith, rules}
-use Rattle.std.proofs.lemmas.List.{drop_all}
-use Rattle.std.proofs.lemmas.List.{nil_from_length}
+use Rattle.std.proofs.lemmas.List.{drop_all, nil_from_length}
 use Rattle.grouping_model.specs.Query.{Query}
 use Rattle.having_filter.specs.Meaning.{meaning}
 use Rattle.group_runs.specs.Runs.{Entry}
-use Rattle.group_runs.proofs.RunLaws.{groups_long}
+use Rattle.group_runs.specs.RunLaws.{groups_long}
 use Rattle.replica_merge.specs.Groups.{answer_rows}
-use Rattle.group_runs.proofs.PlaceLaws.{drop_at}
+use Rattle.group_runs.specs.PlaceLaws.{drop_at}
 use Rattle.replica_merge.proofs.ShownLaws.{LeftOver, first_left, none_left, all_left, shown_some}
 use Rattle.replica_merge.proofs.showing.show.Goals as goal
 

@@ -1,4 +1,4 @@
-use Rattle.script_io.proofs.InputFacts.{consumes-all, consumes-longer}
+use Rattle.script_io.specs.InputLaws.{consumes-all, consumes-longer}
 use Rattle.script_io.proofs.laws.reads_are_whole.Goals as goal
 
 pub returns : goal.returns

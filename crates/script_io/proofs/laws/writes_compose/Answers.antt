@@ -1,4 +1,5 @@
-use Rattle.script_io.proofs.OutputFacts.{front-first, front-kept, front-second}
+use Rattle.script_io.specs.OutputLaws.{front-first, front-second}
+use Rattle.script_io.proofs.OutputFacts.{front-kept}
 use Rattle.script_io.proofs.laws.writes_compose.Goals as goal
 
 pub returns-clause-first_stopped : goal.returns-clause-first_stopped

@@ -1,4 +1,4 @@
-use Rattle.script_io.proofs.OutputFacts.{front-first}
+use Rattle.script_io.specs.OutputLaws.{front-first}
 use Rattle.script_machine.proofs.OutputLaws.{passed_on, wrote_second}
 use Rattle.script_machine.proofs.output.put_two.Goals as goal
 

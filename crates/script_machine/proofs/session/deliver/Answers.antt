@@ -2,7 +2,7 @@ use Rattle.std.specs.Prelude.{◌≡◌, take}
 use Rattle.std.proofs.Common.{◌∙◌, ap, sym, subst}
 use Rattle.packed_rows.specs.Columns.{kinds}
 use Rattle.batch_reader.specs.Rows.{ReadsRows}
-use Rattle.batch_reader.proofs.RecordLaws.{built_rows}
+use Rattle.batch_reader.specs.RecordLaws.{built_rows}
 use Rattle.query_checks.specs.Checks.{Checked}
 use Rattle.script_machine.specs.Views.{IsOfBatch, refusal_faults}
 use Rattle.spill_tapes.specs.Disk.{Leaves}

@@ -1,6 +1,6 @@
 use Rattle.std.specs.Prelude.{drop, ◌+◌}
 use Rattle.group_runs.specs.Runs.{Entry}
-use Rattle.group_runs.proofs.PlaceLaws.{drop_at}
+use Rattle.group_runs.specs.PlaceLaws.{drop_at}
 use Rattle.summary_codec.specs.File.{group_bytes}
 use Rattle.summary_codec.specs.Short.{IsShort}
 use Rattle.summary_codec.proofs.WriteLaws.{pushed, of_others}

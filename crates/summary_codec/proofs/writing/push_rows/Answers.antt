@@ -1,5 +1,5 @@
 use Rattle.std.specs.Prelude.{drop, ◌+◌}
-use Rattle.group_runs.proofs.PlaceLaws.{drop_at}
+use Rattle.group_runs.specs.PlaceLaws.{drop_at}
 use Rattle.summary_codec.specs.File.{sized_bytes}
 use Rattle.summary_codec.specs.Short.{IsShort}
 use Rattle.summary_codec.proofs.WriteLaws.{pushed, of_others}

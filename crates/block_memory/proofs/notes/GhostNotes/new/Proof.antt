@@ -1,7 +1,5 @@
 -- `new` makes notes of nothing.
-use Rattle.block_memory.proofs.Steps.{List, [], ◌∷◌, refl, proved, emp, sep, ftrue, flft, Val, fact, raw, ‵, ◌⊛◌, ◌$◌, ◌∵◌, !, qed, done}
-use Rattle.block_memory.proofs.Steps.{move, keep, split, fjoin, fpack, feq_i, suffices, enter, agg, and_then, no_more, returns, alloc_all}
-use Rattle.block_memory.proofs.Steps.{pass_all, free_all, look_at, get, sets, nothing, owned, walk_of, says, ends_at}
+use Rattle.block_memory.proofs.Steps.{List, [], ◌∷◌, refl, proved, emp, sep, ftrue, flft, Val, fact, raw, ‵, ◌⊛◌, ◌$◌, ◌∵◌, !, qed, done, move, keep, split, fjoin, fpack, feq_i, suffices, enter, agg, and_then, no_more, returns, alloc_all, pass_all, free_all, look_at, get, sets, nothing, owned, walk_of, says, ends_at}
 use contract.BorrowLft.{◌⊑◌}
 use mir.MapTy.{inst_fn}
 use mir.Syntax.{a_type}

@@ -1,12 +1,5 @@
 -- `put` stores a byte in a cell of the memory that it was lent.
-use Rattle.block_memory.proofs.Steps.{◌≡◌, ℕ, ◌+◌, ◌<◌, List, [], ◌∷◌, Some, length, set, refl, sym, ap, ◌∙◌, w8, w64, proved, full_share}
-use Rattle.block_memory.proofs.Steps.{id⊢, ftrue, fat, froom, flft, ty_ptr, named, Val, vunit, fact, tables, ‵, raw, ◌⊛◌, at_ret, ◌$◌, ◌∵◌}
-use Rattle.block_memory.proofs.Steps.{ !, qed, done, move, keep, use1, use3, split, join, fsplit, fsplit3, fjoin, feq_i, rewrite, suffices}
-use Rattle.block_memory.proofs.Steps.{group, enter, of_opd, unit_lit, bin, init, stop, assigns_last, first, blocks, exec, returns}
-use Rattle.block_memory.proofs.Steps.{alloc_all, pass_all, free_all, look_at, take_at, give_at, get, through, sets, env, u8, usize, yes}
-use Rattle.block_memory.proofs.Steps.{uint_vals, uint_Tells, owns, Ptr, RawPtr, block_ptr, ptr_val, in_a_block, rawptr_vals, rawptr_Tells}
-use Rattle.block_memory.proofs.Steps.{rawptr_Lawful, MutRef, mut_vals, mut_Tells, plain, nothing, opens, closes, heard, Stays, walk_of}
-use Rattle.block_memory.proofs.Steps.{states, stay_dropped, Goes-dropped, stay_ref, Goes-ref, ends_at}
+use Rattle.block_memory.proofs.Steps.{◌≡◌, ℕ, ◌+◌, ◌<◌, List, [], ◌∷◌, Some, length, set, refl, sym, ap, ◌∙◌, w8, w64, proved, full_share, id⊢, ftrue, fat, froom, flft, ty_ptr, named, Val, vunit, fact, tables, ‵, raw, ◌⊛◌, at_ret, ◌$◌, ◌∵◌, !, qed, done, move, keep, use1, use3, split, join, fsplit, fsplit3, fjoin, feq_i, rewrite, suffices, group, enter, of_opd, unit_lit, bin, init, stop, assigns_last, first, blocks, exec, returns, alloc_all, pass_all, free_all, look_at, take_at, give_at, get, through, sets, env, u8, usize, yes, uint_vals, uint_Tells, owns, Ptr, RawPtr, block_ptr, ptr_val, in_a_block, rawptr_vals, rawptr_Tells, rawptr_Lawful, MutRef, mut_vals, mut_Tells, plain, nothing, opens, closes, heard, Stays, walk_of, states, stay_dropped, Goes-dropped, stay_ref, Goes-ref, ends_at}
 use Rattle.std.proofs.lemmas.List.{length-set}
 use Rattle.block_memory.specs.Ownership.{byte, cells_own, memory_owns, may_give_back}
 use Rattle.block_memory.specs.declared.raw.Memory.{Memory}

@@ -1,12 +1,5 @@
 -- `run` shows a run of written bytes as a slice.
-use Rattle.block_memory.proofs.Steps.{◌≡◌, ℕ, ◌+◌, ◌*◌, ◌<◌, ◌^◌, List, [], ◌∷◌, Some, length, map, refl, sym, ap, ◌∙◌, arith, w64, Bor}
-use Rattle.block_memory.proofs.Steps.{proved, full_share, id⊢, ftrue, fhide, fat, flft, ty_ptr, named, Val, fact, tables, ‵, raw, ◌⊛◌}
-use Rattle.block_memory.proofs.Steps.{at_ret, ◌$◌, ◌∵◌, !, qed, done, move, keep, use1, split, join, fsplit, fjoin, rewrite, suffices}
-use Rattle.block_memory.proofs.Steps.{group, enter, of_opd, bin, and_then, no_more, first, blocks, exec, returns, agg, is, alloc_all}
-use Rattle.block_memory.proofs.Steps.{pass_all, free_all, look_at, take_at, give_at, get, sets, sets_last, env, u8, usize, no, uint_vals}
-use Rattle.block_memory.proofs.Steps.{uint_Tells, owns, RawPtr, ptr_val, in_a_block, rawptr_vals, rawptr_Tells, rawptr_Lawful, ShrRef}
-use Rattle.block_memory.proofs.Steps.{shr_vals, shr_Tells, plain, nothing, heard, Stays, walk_of, states, stay_dropped, Goes-dropped}
-use Rattle.block_memory.proofs.Steps.{ends_at}
+use Rattle.block_memory.proofs.Steps.{◌≡◌, ℕ, ◌+◌, ◌*◌, ◌<◌, ◌^◌, List, [], ◌∷◌, Some, length, map, refl, sym, ap, ◌∙◌, arith, w64, Bor, proved, full_share, id⊢, ftrue, fhide, fat, flft, ty_ptr, named, Val, fact, tables, ‵, raw, ◌⊛◌, at_ret, ◌$◌, ◌∵◌, !, qed, done, move, keep, use1, split, join, fsplit, fjoin, rewrite, suffices, group, enter, of_opd, bin, and_then, no_more, first, blocks, exec, returns, agg, is, alloc_all, pass_all, free_all, look_at, take_at, give_at, get, sets, sets_last, env, u8, usize, no, uint_vals, uint_Tells, owns, RawPtr, ptr_val, in_a_block, rawptr_vals, rawptr_Tells, rawptr_Lawful, ShrRef, shr_vals, shr_Tells, plain, nothing, heard, Stays, walk_of, states, stay_dropped, Goes-dropped, ends_at}
 use denote.Builtin.{RefOf}
 use denote.Opens.{hide, unhide}
 use denote.Memory.{hidden_shr}

@@ -1,12 +1,5 @@
 -- `run_mut` lends a run of written bytes as a slice, and the memory ends with what the slice ends with.
-use Rattle.block_memory.proofs.Steps.{◌≡◌, ℕ, ◌+◌, ◌*◌, ◌<◌, ◌^◌, List, [], ◌∷◌, Some, length, map, refl, sym, ap, ◌∙◌, arith, w64, MutBor}
-use Rattle.block_memory.proofs.Steps.{proved, full_share, id⊢, ent, sep, SProp, ftrue, fsep, fat, flft, ty_ptr, named, Val, fact, tables, ‵}
-use Rattle.block_memory.proofs.Steps.{raw, ◌⊛◌, some, later, at_ret, ◌$◌, ◌∵◌, !, qed, done, move, keep, use1, split, split3, join, fsplit}
-use Rattle.block_memory.proofs.Steps.{fsplit3, fjoin, fpack, pick, await, rewrite, suffices, group, enter, of_opd, bin, and_then, no_more}
-use Rattle.block_memory.proofs.Steps.{first, blocks, exec, returns, agg, is, alloc_all, pass_all, free_all, look_at, take_at, give_at, get}
-use Rattle.block_memory.proofs.Steps.{sets, sets_last, env, u8, usize, no, uint_vals, uint_Tells, owns, Ptr, RawPtr, block_ptr, ptr_val}
-use Rattle.block_memory.proofs.Steps.{in_a_block, rawptr_vals, rawptr_Tells, rawptr_Lawful, MutRef, mut_vals, mut_Tells, plain, nothing}
-use Rattle.block_memory.proofs.Steps.{opens, heard, Stays, walk_of, states, stay_dropped, Goes-dropped, Goes-spent_ref, ends_at}
+use Rattle.block_memory.proofs.Steps.{◌≡◌, ℕ, ◌+◌, ◌*◌, ◌<◌, ◌^◌, List, [], ◌∷◌, Some, length, map, refl, sym, ap, ◌∙◌, arith, w64, MutBor, proved, full_share, id⊢, ent, sep, SProp, ftrue, fsep, fat, flft, ty_ptr, named, Val, fact, tables, ‵, raw, ◌⊛◌, some, later, at_ret, ◌$◌, ◌∵◌, !, qed, done, move, keep, use1, split, split3, join, fsplit, fsplit3, fjoin, fpack, pick, await, rewrite, suffices, group, enter, of_opd, bin, and_then, no_more, first, blocks, exec, returns, agg, is, alloc_all, pass_all, free_all, look_at, take_at, give_at, get, sets, sets_last, env, u8, usize, no, uint_vals, uint_Tells, owns, Ptr, RawPtr, block_ptr, ptr_val, in_a_block, rawptr_vals, rawptr_Tells, rawptr_Lawful, MutRef, mut_vals, mut_Tells, plain, nothing, opens, heard, Stays, walk_of, states, stay_dropped, Goes-dropped, Goes-spent_ref, ends_at}
 use seplogic.Ra.Ura.{Ura}
 use types.Logic.{Logic, sem}
 use types.SemTy.{cells as bytes_lie}

@@ -1,6 +1,6 @@
 use Rattle.std.proofs.Common.{add_assoc, ◌≡◌, ◌+◌, ◌∷◌, ℕ, [], true, refl, sym, ◌∙◌, subst}
 use Rattle.chunk_layout.specs.Pieces.{Layout, Piece}
-use Rattle.chunk_layout.proofs.PieceLaws.{without-none}
+use Rattle.chunk_layout.specs.PieceLaws.{without-none}
 use Rattle.chunk_layout.specs.declared.place.Place.{Place}
 use Rattle.chunk_contexts.specs.Free.{IsRest}
 use Rattle.chunk_contexts.proofs.CutLaws.{rest-none, rest-more}

@@ -2,8 +2,8 @@ use Rattle.std.proofs.Common.{◌≡◌, ◌≢◌, ◌+◌, ◌-◌, ◌∷◌,
 use Rattle.chunk_layout.specs.Every.{Every}
 use Rattle.chunk_layout.specs.Pieces.{Layout, Piece, has, with_piece, with_block, size_at, IsClear}
 use Rattle.chunk_layout.specs.declared.place.Place.{Place}
-use Rattle.chunk_layout.proofs.Lists.{every_weaker}
-use Rattle.chunk_layout.proofs.PieceLaws.{without-none}
+use Rattle.chunk_layout.specs.ListLaws.{every_weaker}
+use Rattle.chunk_layout.specs.PieceLaws.{without-none}
 use Rattle.chunk_contexts.specs.Chunks.{live}
 use Rattle.chunk_contexts.specs.Free.{free_rooms}
 use Rattle.chunk_contexts.specs.Set.{SetState, dedicated}

@@ -1,8 +1,8 @@
 use Rattle.std.proofs.Common.{◌≡◌, List, [], length, true, sym, ap, ◌∙◌, subst, arith}
 use Rattle.chunk_layout.specs.Pieces.{Piece, has, piece_at, place_of}
 use Rattle.chunk_layout.specs.declared.place.ChunkName.{ChunkName}
-use Rattle.chunk_layout.proofs.Finding.{place-same}
-use Rattle.chunk_layout.proofs.PieceLaws.{piece_at-first}
+use Rattle.chunk_layout.specs.FindingLaws.{place-same}
+use Rattle.chunk_layout.specs.PieceLaws.{piece_at-first}
 use Rattle.chunk_contexts.specs.Chunks.{chunk_of, IsNewBlock}
 use Rattle.chunk_contexts.specs.Set.{SetState, set_growth, set_room, set_taken, set_put}
 use Rattle.chunk_contexts.proofs.SetMoves.{taken-chunks, put-taken}

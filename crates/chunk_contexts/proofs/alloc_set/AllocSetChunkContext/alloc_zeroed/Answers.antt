@@ -1,10 +1,10 @@
 use Rattle.std.proofs.Common.{◌≡◌, List, [], true, sym, ap, ◌∙◌, subst, arith}
 use Rattle.block_memory.specs.Cells.{zeros}
-use Rattle.block_memory.proofs.CellLemmas.{length-zeros}
+use Rattle.block_memory.specs.CellLaws.{length-zeros}
 use Rattle.chunk_layout.specs.Pieces.{Piece, has, piece_at, place_of}
 use Rattle.chunk_layout.specs.declared.place.ChunkName.{ChunkName}
-use Rattle.chunk_layout.proofs.Finding.{place-same}
-use Rattle.chunk_layout.proofs.PieceLaws.{piece_at-first}
+use Rattle.chunk_layout.specs.FindingLaws.{place-same}
+use Rattle.chunk_layout.specs.PieceLaws.{piece_at-first}
 use Rattle.chunk_contexts.specs.Chunks.{chunk_of, IsNewBlock}
 use Rattle.chunk_contexts.specs.Set.{SetState, set_growth, set_room, set_taken, set_put}
 use Rattle.chunk_contexts.proofs.SetMoves.{taken-chunks, put-taken}

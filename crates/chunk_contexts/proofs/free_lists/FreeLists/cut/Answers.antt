@@ -1,7 +1,7 @@
 use Rattle.std.proofs.Common.{◌≡◌, ◌∷◌, [], true, false, refl, sym, ap, ◌∙◌, subst, arith}
 use Rattle.chunk_layout.specs.Pieces.{Layout, Piece, put_at, without}
-use Rattle.chunk_layout.proofs.Finding.{place-same}
-use Rattle.chunk_layout.proofs.PieceLaws.{piece_at-first, without-first, without-none, without-twice}
+use Rattle.chunk_layout.specs.FindingLaws.{place-same}
+use Rattle.chunk_layout.specs.PieceLaws.{piece_at-first, without-first, without-none, without-twice}
 use Rattle.chunk_contexts.specs.Free.{by_room, first_free, AreLists}
 use Rattle.chunk_layout.specs.Links.{link_bytes}
 use Rattle.chunk_contexts.proofs.ClassLaws.{in-some}

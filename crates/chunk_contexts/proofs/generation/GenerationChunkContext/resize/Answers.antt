@@ -1,11 +1,11 @@
 use Rattle.std.proofs.Common.{◌≡◌, ◌+◌, ◌∷◌, ℕ, List, true, false, refl, sym, ap, ◌∙◌, subst, arith}
 use Rattle.std.proofs.lemmas.Result.{err_from_is_err_and}
 use Rattle.block_memory.specs.Cells.{zeros}
-use Rattle.block_memory.proofs.CellLemmas.{length-zeros}
+use Rattle.block_memory.specs.CellLaws.{length-zeros}
 use Rattle.chunk_layout.specs.Pieces.{Piece, same_place, place_of, has, piece_at, without, resized, total}
 use Rattle.chunk_layout.specs.declared.place.Place.{Place}
 use Rattle.chunk_layout.specs.declared.place.ChunkName.{ChunkName}
-use Rattle.chunk_layout.proofs.PieceLaws.{same_place-sym, has-later, piece_at-later}
+use Rattle.chunk_layout.specs.PieceLaws.{same_place-sym, has-later, piece_at-later}
 use Rattle.chunk_contexts.specs.Chunks.{bytes_of, chunk_of, IsResized}
 use Rattle.chunk_contexts.specs.Rooms.{rounded, over_most}
 use Rattle.chunk_contexts.specs.Run.{RunState, run_growth, run_put, run_taken}

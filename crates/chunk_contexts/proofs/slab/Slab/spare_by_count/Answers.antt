@@ -2,7 +2,7 @@ use Rattle.std.proofs.Common.{◌≡◌, ◌*◌, ◌≤◌, ℕ, None, length, 
 use Rattle.std.specs.Prelude.{IsTrue, is_some, nat_lt}
 use Rattle.chunk_layout.specs.Every.{Every}
 use Rattle.chunk_layout.specs.Pieces.{Piece}
-use Rattle.chunk_layout.proofs.Lists.{every_filter}
+use Rattle.chunk_layout.specs.ListLaws.{every_filter}
 use Rattle.chunk_contexts.specs.Chunks.{live}
 use Rattle.chunk_contexts.specs.Generation.{in_block}
 use Rattle.chunk_contexts.specs.Rooms.{rounded}

@@ -1,7 +1,7 @@
 use Rattle.std.proofs.Common.{◌≡◌, ◌+◌, None, refl, length, sym, ap, ◌∙◌, subst, arith}
 use Rattle.std.proofs.lemmas.Result.{err_from_is_err_and}
 use Rattle.block_memory.specs.Cells.{zeros}
-use Rattle.block_memory.proofs.CellLemmas.{length-zeros}
+use Rattle.block_memory.specs.CellLaws.{length-zeros}
 use Rattle.chunk_layout.specs.Every.{Every}
 use Rattle.chunk_layout.specs.Pieces.{Piece, total}
 use Rattle.chunk_contexts.specs.Chunks.{live, chunk_of, Adds, IsNewBlock}

@@ -2,7 +2,7 @@ use Rattle.std.proofs.Common.{◌≡◌, length, sym, ap, ◌∙◌, subst, arit
 use Rattle.std.specs.Prelude.{◌==◌}
 use Rattle.chunk_layout.specs.Every.{Every}
 use Rattle.chunk_layout.specs.Pieces.{Piece, without, total}
-use Rattle.chunk_layout.proofs.Lists.{every_filter}
+use Rattle.chunk_layout.specs.ListLaws.{every_filter}
 use Rattle.chunk_contexts.specs.Chunks.{live}
 use Rattle.chunk_contexts.specs.Slab.{SlabState, slab_of}
 use Rattle.chunk_contexts.specs.Generation.{in_block}

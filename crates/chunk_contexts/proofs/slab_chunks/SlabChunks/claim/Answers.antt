@@ -1,10 +1,10 @@
 use Rattle.std.proofs.Common.{◌≡◌, ◌<◌, ℕ, None, get_or, sym, subst, [], true, false, ap, arith}
+use Rattle.list_laws.specs.Outcomes.{always_err}
 use Rattle.chunk_layout.specs.Pieces.{Piece, total}
 use Rattle.chunk_contexts.specs.Rooms.{rounded}
 use Rattle.chunk_contexts.specs.Slab.{SlabState, slab_of, slab_grows, has_spare}
 use Rattle.chunk_contexts.proofs.SlabMoves.{spare-unmarked, spare-marked}
 use Rattle.chunk_contexts.proofs.SlabStates.{taken-spare, grows-none, grows-block, taken-new, grown-total}
-use Rattle.chunk_contexts.proofs.Growth.{always_err}
 use Rattle.chunk_contexts.proofs.slab_chunks.SlabChunks.claim.Goals as goal
 
 pub returns-in-Some-clause-taken : goal.returns-in-Some-clause-taken

@@ -1,9 +1,10 @@
 use Rattle.std.proofs.Common.{◌≡◌, ◌+◌, ◌-◌, ◌++◌, ℕ, List, true, length, take, drop, refl, ap, ◌∙◌, arith}
 use Rattle.std.proofs.lemmas.List.{nil_from_length, length-take-le, take_at, length-append, length-drop}
 use Rattle.block_memory.specs.Cells.{zeros}
-use Rattle.block_memory.proofs.CellLemmas.{length-zeros}
+use Rattle.block_memory.specs.CellLaws.{length-zeros}
 use Rattle.chunk_layout.specs.Pieces.{Layout, Piece, has, piece_at, put_at}
-use Rattle.chunk_layout.proofs.PieceLaws.{has-put_other, piece_at-put_other, put-part, same_place-sym}
+use Rattle.chunk_layout.specs.PieceLaws.{same_place-sym}
+use Rattle.chunk_layout.proofs.PieceLaws.{has-put_other, piece_at-put_other, put-part}
 use Rattle.chunk_layout.proofs.layout.ChunkLayout.copy.Goals as goal
 
 pub loop-done-init : goal.loop-done-init

@@ -1,6 +1,6 @@
 use Rattle.std.proofs.Common.{◌≤◌, ◌+◌, ◌∷◌, ℕ, List, true, length, refl, sym, ap, ◌∙◌, arith}
 use Rattle.block_memory.specs.Cells.{zeros}
-use Rattle.block_memory.proofs.CellLemmas.{length-zeros}
+use Rattle.block_memory.specs.CellLaws.{length-zeros}
 use Rattle.chunk_layout.specs.Pieces.{piece_at}
 use Rattle.chunk_layout.specs.declared.place.Note.TheVariants.{Written}
 use Rattle.chunk_layout.proofs.Fields.{found-low, found-some, found-inside, found-small, fields-put, layout-put}

@@ -1,7 +1,6 @@
-use Rattle.std.specs.Prelude.{◌≡◌, length}
+use Rattle.std.specs.Prelude.{◌≡◌, length, ◌+◌, slice_range}
 use Rattle.std.proofs.Common.{sym, ◌∙◌, ap, arith}
 use Rattle.group_runs.specs.Runs.{all_cut, keys_on_end, states_on_end}
-use Rattle.std.specs.Prelude.{◌+◌, slice_range}
 use Rattle.group_runs.proofs.FlatLaws.{cut_long, group_is}
 use Rattle.group_runs.proofs.chunk.Chunk.group.Goals as goal
 

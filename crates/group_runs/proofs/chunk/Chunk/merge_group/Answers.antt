@@ -1,17 +1,15 @@
 use Rattle.std.specs.Prelude.{◌+◌, ◌∷◌, ◌++◌, [], List, length, drop, slice_range}
-use Rattle.std.proofs.Common.{sym, ◌∙◌, ap, subst, arith, append_assoc, append-nil}
+use Rattle.std.proofs.Common.{sym, ◌∙◌, ap, subst, arith, append-nil}
 use Rattle.std.proofs.lemmas.List.{length-append}
-use Rattle.list_laws.specs.Each.{each_append}
+use Rattle.group_runs.proofs.MergedLaws.{Merged, merged_there, merged_new}
 use Rattle.grouping_model.specs.Query.{Query}
-use Rattle.grouping_model.proofs.Members.{false_is_not_true}
+use Rattle.grouping_model.specs.MemberLaws.{false_is_not_true}
 use Rattle.having_filter.specs.Meaning.{meaning}
 use Rattle.group_runs.specs.Runs.{Entry, Rises}
-use Rattle.group_runs.specs.Places.{AreUpTo}
-use Rattle.group_runs.specs.Steps.{HasRoomForGroup, AddsGroup}
-use Rattle.group_runs.proofs.FlatLaws.{same_keys_rise}
+use Rattle.group_runs.specs.Steps.{HasRoomForGroup}
 use Rattle.group_runs.proofs.RunLaws.{run_front_rises}
-use Rattle.group_runs.proofs.PlaceLaws.{moves, passes, some_moved, rises_between, below_up_to, itself_up_to}
-use Rattle.group_runs.proofs.SpliceLaws.{present_room, present_added, absent_added}
+use Rattle.group_runs.proofs.PlaceLaws.{moves, passes, some_moved, rises_between}
+use Rattle.group_runs.proofs.SpliceLaws.{present_room}
 use Rattle.group_runs.proofs.chunk.Chunk.merge_group.Goals as goal
 
 pub overflow_add-place : goal.overflow_add-place
@@ -94,8 +92,9 @@ returns-then-has_at-clause-within c =
     let low = here.low in
     omega (arith, low)
 
-pub returns-then-has_at-clause-rises : goal.returns-then-has_at-clause-rises
-returns-then-has_at-clause-rises c =
+-- a group of the key was there
+there : (c : goal.After-combine_at) → Merged (meaning c.args.query.now) (c.args.self.now ++ drop c.args.from c.args.old.now) c.args.key.now c.args.states.now c.combine_at.new.self (drop (c.seek-place.result + 1) c.args.old.now)
+there c =
     let done : List Entry = c.args.self.now in
     let old : List Entry = c.args.old.now in
     let place = c.seek-place.result in
@@ -104,37 +103,16 @@ returns-then-has_at-clause-rises c =
     let front : List Entry = done ++ slice_range old c.args.from place in
     let long = c.len.ensures.length ∙ ap length (c.in_ok-push_range.ensures.pushed ∙ here.front) ∙ length-append front ((key, here.states) ∷ []) in
     let given = c.combine_at.ensures front (key, here.states) [] (c.in_ok-push_range.ensures.pushed ∙ here.front) (omega (arith, long)) in
-    subst (λ run. Rises (run ++ drop (place + 1) old)) (sym given.1)
-    (subst Rises (sym (append_assoc front ((key, given.0) ∷ []) (drop (place + 1) old)))
-    (same_keys_rise front key here.states given.0 (drop (place + 1) old) (subst Rises here.whole c.requires.rises)))
+    merged_there (meaning c.args.query.now) done old c.args.from place key c.args.states.now given.0 c.combine_at.new.self here c.requires.rises given.1 given.2
+
+pub returns-then-has_at-clause-rises : goal.returns-then-has_at-clause-rises
+returns-then-has_at-clause-rises c = (there c).rises
 
 pub returns-then-has_at-clause-up_to : goal.returns-then-has_at-clause-up_to
-returns-then-has_at-clause-up_to c =
-    let done : List Entry = c.args.self.now in
-    let old : List Entry = c.args.old.now in
-    let place = c.seek-place.result in
-    let key = c.args.key.now in
-    let here = moves done old c.args.from place key c.requires.below c.seek-place.ensures.place (c.has_at.ensures.0 c.if-has_at.true) in
-    let front : List Entry = done ++ slice_range old c.args.from place in
-    let long = c.len.ensures.length ∙ ap length (c.in_ok-push_range.ensures.pushed ∙ here.front) ∙ length-append front ((key, here.states) ∷ []) in
-    let given = c.combine_at.ensures front (key, here.states) [] (c.in_ok-push_range.ensures.pushed ∙ here.front) (omega (arith, long)) in
-    subst (AreUpTo key) (sym given.1) (each_append _ front ((key, given.0) ∷ []) (below_up_to key front here.below) (itself_up_to key, tt))
+returns-then-has_at-clause-up_to c = (there c).up_to
 
 pub returns-then-has_at-clause-added : goal.returns-then-has_at-clause-added
-returns-then-has_at-clause-added c =
-    let q : Query = meaning c.args.query.now in
-    let done : List Entry = c.args.self.now in
-    let old : List Entry = c.args.old.now in
-    let place = c.seek-place.result in
-    let key = c.args.key.now in
-    let here = moves done old c.args.from place key c.requires.below c.seek-place.ensures.place (c.has_at.ensures.0 c.if-has_at.true) in
-    let front : List Entry = done ++ slice_range old c.args.from place in
-    let long = c.len.ensures.length ∙ ap length (c.in_ok-push_range.ensures.pushed ∙ here.front) ∙ length-append front ((key, here.states) ∷ []) in
-    let given = c.combine_at.ensures front (key, here.states) [] (c.in_ok-push_range.ensures.pushed ∙ here.front) (omega (arith, long)) in
-    subst (λ run. AddsGroup q (done ++ drop c.args.from old) (key, c.args.states.now) (run ++ drop (place + 1) old)) (sym given.1)
-    (subst (AddsGroup q (done ++ drop c.args.from old) (key, c.args.states.now)) (sym (append_assoc front ((key, given.0) ∷ []) (drop (place + 1) old)))
-    (subst (λ run. AddsGroup q run (key, c.args.states.now) (front ++ (key, given.0) ∷ drop (place + 1) old)) (sym here.whole)
-    (present_added q key here.states c.args.states.now given.0 front (drop (place + 1) old) here.below given.2)))
+returns-then-has_at-clause-added c = (there c).added
 
 pub push_range-requires-2-clause-rises : goal.push_range-requires-2-clause-rises
 push_range-requires-2-clause-rises c =
@@ -156,41 +134,22 @@ push-requires c =
     subst (λ run. Rises (run ++ (key, c.args.states.now) ∷ [])) (sym c.in_ok-push_range-2.ensures.pushed)
     (rises_between front [] key c.args.states.now (subst Rises (sym (append-nil front)) rises) here.below tt)
 
-pub returns-clause-rises : goal.returns-clause-rises
-returns-clause-rises c =
+-- there was none
+new : (c : goal.In_ok-push) → Merged (meaning c.args.query.now) (c.args.self.now ++ drop c.args.from c.args.old.now) c.args.key.now c.args.states.now c.push.new.self (drop c.seek-place.result c.args.old.now)
+new c =
     let done : List Entry = c.args.self.now in
     let old : List Entry = c.args.old.now in
     let place = c.seek-place.result in
     let key = c.args.key.now in
     let here = passes done old c.args.from place key c.seek-place.ensures.rises c.requires.below c.seek-place.ensures.place (λ has. false_is_not_true (sym c.if-has_at.false ∙ c.has_at.ensures.1 has)) in
-    let front : List Entry = done ++ slice_range old c.args.from place in
-    let is = c.in_ok-push.ensures.pushed ∙ ap (λ run. run ++ (key, c.args.states.now) ∷ []) c.in_ok-push_range-2.ensures.pushed in
-    subst (λ run. Rises (run ++ drop place old)) (sym is)
-    (subst Rises (sym (append_assoc front ((key, c.args.states.now) ∷ []) (drop place old)))
-    (rises_between front (drop place old) key c.args.states.now (subst Rises here.whole c.requires.rises) here.below here.above))
+    merged_new (meaning c.args.query.now) done old c.args.from place key c.args.states.now c.push.new.self here c.requires.rises
+    (c.in_ok-push.ensures.pushed ∙ ap (λ run. run ++ (key, c.args.states.now) ∷ []) c.in_ok-push_range-2.ensures.pushed)
+
+pub returns-clause-rises : goal.returns-clause-rises
+returns-clause-rises c = (new c).rises
 
 pub returns-clause-up_to : goal.returns-clause-up_to
-returns-clause-up_to c =
-    let done : List Entry = c.args.self.now in
-    let old : List Entry = c.args.old.now in
-    let place = c.seek-place.result in
-    let key = c.args.key.now in
-    let here = passes done old c.args.from place key c.seek-place.ensures.rises c.requires.below c.seek-place.ensures.place (λ has. false_is_not_true (sym c.if-has_at.false ∙ c.has_at.ensures.1 has)) in
-    let front : List Entry = done ++ slice_range old c.args.from place in
-    let is = c.in_ok-push.ensures.pushed ∙ ap (λ run. run ++ (key, c.args.states.now) ∷ []) c.in_ok-push_range-2.ensures.pushed in
-    subst (AreUpTo key) (sym is) (each_append _ front ((key, c.args.states.now) ∷ []) (below_up_to key front here.below) (itself_up_to key, tt))
+returns-clause-up_to c = (new c).up_to
 
 pub returns-clause-added : goal.returns-clause-added
-returns-clause-added c =
-    let q : Query = meaning c.args.query.now in
-    let done : List Entry = c.args.self.now in
-    let old : List Entry = c.args.old.now in
-    let place = c.seek-place.result in
-    let key = c.args.key.now in
-    let here = passes done old c.args.from place key c.seek-place.ensures.rises c.requires.below c.seek-place.ensures.place (λ has. false_is_not_true (sym c.if-has_at.false ∙ c.has_at.ensures.1 has)) in
-    let front : List Entry = done ++ slice_range old c.args.from place in
-    let is = c.in_ok-push.ensures.pushed ∙ ap (λ run. run ++ (key, c.args.states.now) ∷ []) c.in_ok-push_range-2.ensures.pushed in
-    subst (λ run. AddsGroup q (done ++ drop c.args.from old) (key, c.args.states.now) (run ++ drop place old)) (sym is)
-    (subst (AddsGroup q (done ++ drop c.args.from old) (key, c.args.states.now)) (sym (append_assoc front ((key, c.args.states.now) ∷ []) (drop place old)))
-    (subst (λ run. AddsGroup q run (key, c.args.states.now) (front ++ (key, c.args.states.now) ∷ drop place old)) (sym here.whole)
-    (absent_added q key c.args.states.now front (drop place old) here.below here.above)))
+returns-clause-added c = (new c).added

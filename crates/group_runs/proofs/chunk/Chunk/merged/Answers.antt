@@ -4,13 +4,14 @@ use Rattle.std.proofs.lemmas.List.{take_all, take_rest}
 use Rattle.grouping_model.specs.Query.{Query}
 use Rattle.having_filter.specs.Meaning.{meaning}
 use Rattle.group_runs.specs.Runs.{Entry, Rises}
-use Rattle.group_runs.specs.Chunks.{on_end}
+use Rattle.packed_rows.specs.RowsOnEnd.{on_end}
 use Rattle.group_runs.specs.Places.{AllBelow}
 use Rattle.group_runs.specs.Standing.{AreGroups}
 use Rattle.group_runs.specs.Adding.{groups_added}
-use Rattle.group_runs.proofs.EntryLaws.{groups_raised}
+use Rattle.group_runs.specs.EntryLaws.{groups_raised}
 use Rattle.group_runs.proofs.MergeLaws.{groups_added_more}
-use Rattle.group_runs.proofs.RunLaws.{take_found, group_at, groups_long, within_at}
+use Rattle.group_runs.specs.RunLaws.{take_found, group_at, groups_long}
+use Rattle.group_runs.proofs.RunLaws.{within_at}
 use Rattle.group_runs.proofs.ChunkLaws.{get_range, range_long}
 use Rattle.group_runs.proofs.PlaceLaws.{all_up_to, keys_next}
 use Rattle.group_runs.proofs.chunk.Chunk.merged.Goals as goal

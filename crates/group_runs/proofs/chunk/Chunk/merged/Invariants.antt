@@ -3,7 +3,7 @@ use Rattle.grouping_model.specs.Grouping.{Group}
 use Rattle.agg_protocol.specs.States.{most_rows}
 use Rattle.having_filter.specs.Meaning.{meaning}
 use Rattle.group_runs.specs.Runs.{Entry, Rises}
-use Rattle.group_runs.specs.Chunks.{on_end}
+use Rattle.packed_rows.specs.RowsOnEnd.{on_end}
 use Rattle.group_runs.specs.Places.{AllBelow}
 use Rattle.group_runs.specs.Standing.{AreGroups}
 use Rattle.group_runs.specs.Adding.{groups_added}

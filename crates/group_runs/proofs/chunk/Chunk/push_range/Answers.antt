@@ -41,40 +41,27 @@ push_ends-requires-clause-within c =
     subst (AllByRecursion (IsEndFrom c.bound-start.result)) (sym (c.part.ensures ∙ ap (λ ends. slice_range ends c.args.from c.args.to) c.deref-5.ensures.value))
     (range_fits other.keys.items other.states.items other.ends.items c.args.other.now c.args.from c.args.to c.bound-start.result (subst (LieAs other.keys.items other.states.items other.ends.items) c.other.view_is c.other.invariant.lie) order within start (omega (arith, key_counted, key_few)) (omega (arith, state_counted, state_few)))
 
-pub invariant_of-self-2 : goal.invariant_of-self-2
-invariant_of-self-2 c =
+-- the groups with those of the other
+lie : (c : goal.In_ok-extend_from_slice-2) → LieAs c.extend_from_slice.new.self.items c.extend_from_slice-2.new.self.items c.push_ends.new.ends.items (c.args.self.now ++ slice_range c.args.other.now c.args.from c.args.to)
+lie c =
     let order = c.requires.order in
     let within = c.requires.within in
     let other = c.other.inside in
     let viewed = ap length c.other.view_is in
     let start : c.bound-start.result ≡ slice_index_or ((0, 0) ∷ other.ends.items) c.args.from (0, 0) = c.bound-start.ensures ∙ ap (λ ends. slice_index_or ((0, 0) ∷ ends) c.args.from (0, 0)) c.deref.ensures.value in
     let old = c.self.inside in
-    let lie : LieAs old.keys.items old.states.items old.ends.items c.args.self.now = subst (LieAs old.keys.items old.states.items old.ends.items) c.self.view_is c.self.invariant.lie in
+    let own : LieAs old.keys.items old.states.items old.ends.items c.args.self.now = subst (LieAs old.keys.items old.states.items old.ends.items) c.self.view_is c.self.invariant.lie in
     let lies : LieAs other.keys.items other.states.items other.ends.items c.args.other.now = subst (LieAs other.keys.items other.states.items other.ends.items) c.other.view_is c.other.invariant.lie in
     let whole = (λ i. all_cut (c.deref-2.ensures.value i) (c.deref-3.ensures.value i) (c.deref-4.ensures.value i)) ∙ c.other.view_is in
-    let pushed = pushed_range old.keys.items old.states.items old.ends.items c.args.self.now other.keys.items other.states.items other.ends.items c.args.other.now c.args.from c.args.to c.bound-start.result (c.len.result, c.len-2.result) c.parts.result.0.now c.parts.result.1.now c.extend_from_slice.new.self.items c.extend_from_slice-2.new.self.items c.push_ends.new.ends.items
-    lie lies order within start (search rules) (search rules)
+    pushed_range old.keys.items old.states.items old.ends.items c.args.self.now other.keys.items other.states.items other.ends.items c.args.other.now c.args.from c.args.to c.bound-start.result (c.len.result, c.len-2.result) c.parts.result.0.now c.parts.result.1.now c.extend_from_slice.new.self.items c.extend_from_slice-2.new.self.items c.push_ends.new.ends.items
+    own lies order within start (search rules) (search rules)
     (c.parts.ensures.keys ∙ ap (λ run. keys_on_end (slice_range run c.args.from c.args.to)) whole)
     (c.parts.ensures.states ∙ ap (λ run. states_on_end (slice_range run c.args.from c.args.to)) whole)
     (search rules) (search rules)
-    (c.in_ok-push_ends.ensures.pushed ∙ ap (λ ends. old.ends.items ++ map (moved c.bound-start.result (c.len.result, c.len-2.result)) ends) (c.part.ensures ∙ ap (λ ends. slice_range ends c.args.from c.args.to) c.deref-5.ensures.value)) in
-    are_run c.extend_from_slice.new.self.items c.extend_from_slice-2.new.self.items c.push_ends.new.ends.items (c.args.self.now ++ slice_range c.args.other.now c.args.from c.args.to) pushed c.requires.rises
+    (c.in_ok-push_ends.ensures.pushed ∙ ap (λ ends. old.ends.items ++ map (moved c.bound-start.result (c.len.result, c.len-2.result)) ends) (c.part.ensures ∙ ap (λ ends. slice_range ends c.args.from c.args.to) c.deref-5.ensures.value))
+
+pub invariant_of-self-2 : goal.invariant_of-self-2
+invariant_of-self-2 c = are_run c.extend_from_slice.new.self.items c.extend_from_slice-2.new.self.items c.push_ends.new.ends.items (c.args.self.now ++ slice_range c.args.other.now c.args.from c.args.to) (lie c) c.requires.rises
 
 pub returns-clause-pushed : goal.returns-clause-pushed
-returns-clause-pushed c =
-    let order = c.requires.order in
-    let within = c.requires.within in
-    let other = c.other.inside in
-    let viewed = ap length c.other.view_is in
-    let start : c.bound-start.result ≡ slice_index_or ((0, 0) ∷ other.ends.items) c.args.from (0, 0) = c.bound-start.ensures ∙ ap (λ ends. slice_index_or ((0, 0) ∷ ends) c.args.from (0, 0)) c.deref.ensures.value in
-    let old = c.self.inside in
-    let lie : LieAs old.keys.items old.states.items old.ends.items c.args.self.now = subst (LieAs old.keys.items old.states.items old.ends.items) c.self.view_is c.self.invariant.lie in
-    let lies : LieAs other.keys.items other.states.items other.ends.items c.args.other.now = subst (LieAs other.keys.items other.states.items other.ends.items) c.other.view_is c.other.invariant.lie in
-    let whole = (λ i. all_cut (c.deref-2.ensures.value i) (c.deref-3.ensures.value i) (c.deref-4.ensures.value i)) ∙ c.other.view_is in
-    let pushed = pushed_range old.keys.items old.states.items old.ends.items c.args.self.now other.keys.items other.states.items other.ends.items c.args.other.now c.args.from c.args.to c.bound-start.result (c.len.result, c.len-2.result) c.parts.result.0.now c.parts.result.1.now c.extend_from_slice.new.self.items c.extend_from_slice-2.new.self.items c.push_ends.new.ends.items
-    lie lies order within start (search rules) (search rules)
-    (c.parts.ensures.keys ∙ ap (λ run. keys_on_end (slice_range run c.args.from c.args.to)) whole)
-    (c.parts.ensures.states ∙ ap (λ run. states_on_end (slice_range run c.args.from c.args.to)) whole)
-    (search rules) (search rules)
-    (c.in_ok-push_ends.ensures.pushed ∙ ap (λ ends. old.ends.items ++ map (moved c.bound-start.result (c.len.result, c.len-2.result)) ends) (c.part.ensures ∙ ap (λ ends. slice_range ends c.args.from c.args.to) c.deref-5.ensures.value)) in
-    cut_is c.extend_from_slice.new.self.items c.extend_from_slice-2.new.self.items c.push_ends.new.ends.items (c.args.self.now ++ slice_range c.args.other.now c.args.from c.args.to) pushed
+returns-clause-pushed c = cut_is c.extend_from_slice.new.self.items c.extend_from_slice-2.new.self.items c.push_ends.new.ends.items (c.args.self.now ++ slice_range c.args.other.now c.args.from c.args.to) (lie c)

@@ -5,7 +5,8 @@ use Rattle.grouping_model.specs.Query.{Query}
 use Rattle.having_filter.specs.Meaning.{meaning}
 use Rattle.group_runs.specs.Runs.{Rises}
 use Rattle.group_runs.specs.Steps.{HasRoomForRun, AddsRun}
-use Rattle.group_runs.specs.Chunks.{on_end, replaced}
+use Rattle.packed_rows.specs.RowsOnEnd.{on_end}
+use Rattle.group_runs.specs.Chunks.{replaced}
 use Rattle.group_runs.proofs.JoinLaws.{adds_all, added_rises, added_few}
 use Rattle.group_runs.proofs.chunks.Chunks.absorb.Goals as goal
 

@@ -4,7 +4,7 @@ use Rattle.std.specs.List.{AllByRecursion}
 use Rattle.group_runs.specs.Runs.{Entry}
 use Rattle.group_runs.specs.Places.{IsBelow, IsNotBelow}
 use Rattle.group_runs.proofs.PlaceLaws.{below_to, not_below_from}
-use Rattle.group_runs.specs.Chunks.{on_end}
+use Rattle.packed_rows.specs.RowsOnEnd.{on_end}
 use Rattle.group_runs.proofs.chunks.Chunks.bisect.Goals as goal
 
 pub loop-low-preserved-then-is_lt : goal.loop-low-preserved-then-is_lt

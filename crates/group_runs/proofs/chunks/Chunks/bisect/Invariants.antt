@@ -1,6 +1,6 @@
 use Rattle.std.specs.Prelude.{◌-◌}
 use Rattle.group_runs.specs.Places.{IsBetween}
-use Rattle.group_runs.specs.Chunks.{on_end}
+use Rattle.packed_rows.specs.RowsOnEnd.{on_end}
 use Rattle.group_runs.proofs.chunks.Chunks.bisect.Given as goal
 
 abbrev pub invariant-loop-low : goal.invariant-loop-low

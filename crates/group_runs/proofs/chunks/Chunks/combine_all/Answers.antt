@@ -7,12 +7,13 @@ use Rattle.group_runs.specs.Runs.{packed_keys}
 use Rattle.group_runs.specs.Standing.{AreGroups}
 use Rattle.group_runs.specs.Adding.{groups_added}
 use Rattle.group_runs.specs.Places.{HasKey}
-use Rattle.group_runs.proofs.StateLaws.{all_at}
-use Rattle.group_runs.proofs.EntryLaws.{groups_raised}
+use Rattle.group_runs.specs.StateLaws.{all_at}
+use Rattle.group_runs.specs.EntryLaws.{groups_raised}
 use Rattle.group_runs.proofs.MergeLaws.{groups_added_more}
-use Rattle.group_runs.proofs.RunLaws.{take_found, group_at, groups_long, within_at}
+use Rattle.group_runs.specs.RunLaws.{take_found, group_at, groups_long}
+use Rattle.group_runs.proofs.RunLaws.{within_at}
 use Rattle.group_runs.proofs.PlaceLaws.{key_at, all_up_to, keys_next}
-use Rattle.group_runs.specs.Chunks.{on_end}
+use Rattle.packed_rows.specs.RowsOnEnd.{on_end}
 use Rattle.group_runs.proofs.chunks.Chunks.combine_all.Goals as goal
 
 pub loop-place-init : goal.loop-place-init

@@ -6,7 +6,8 @@ use Rattle.grouping_model.specs.Parts.{functions}
 use Rattle.having_filter.specs.Meaning.{meaning}
 use Rattle.group_runs.specs.Runs.{Entry, Rises}
 use Rattle.group_runs.specs.Places.{HasStatesFor, CombinesAt}
-use Rattle.group_runs.specs.Chunks.{on_end, IsAmong, AreChunks}
+use Rattle.packed_rows.specs.RowsOnEnd.{on_end}
+use Rattle.group_runs.specs.Chunks.{IsAmong, AreChunks}
 use Rattle.group_runs.proofs.ChunkLaws.{got_by, got_low, got_same, states_in, combined_in, set_counts}
 use Rattle.group_runs.proofs.FlatLaws.{same_keys_rise}
 use Rattle.group_runs.proofs.chunks.Chunks.combine_at.Goals as goal

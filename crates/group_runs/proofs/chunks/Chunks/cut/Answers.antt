@@ -2,7 +2,7 @@ use Rattle.std.specs.Prelude.{◌≡◌, ◌++◌, ◌∷◌, [], length, slice_
 use Rattle.std.proofs.Common.{sym, ◌∙◌, ap, subst, arith}
 use Rattle.std.proofs.lemmas.List.{length-append}
 use Rattle.group_runs.specs.Runs.{Rises}
-use Rattle.group_runs.specs.Chunks.{on_end, counts}
+use Rattle.packed_rows.specs.RowsOnEnd.{on_end, ends_of}
 use Rattle.group_runs.proofs.ChunkLaws.{ends_many, cut_is}
 use Rattle.group_runs.proofs.chunks.Chunks.cut.Goals as goal
 
@@ -32,7 +32,7 @@ invariant_of-self-2 c =
     let is = subst (λ cs. slice_get cs c.args.at ≡ Some c.chunk.result.now) (sym c.self.view_is) c.chunk.ensures in
     let m = cut_is chunks c.args.at c.chunk.result.now c.in_ok-first.first c.in_ok-first.second is c.in_ok-first.ensures in
     record {
-      ends_are = c.count_all.ensures ∙ ap (counts 0) c.deref.ensures.value;
+      ends_are = c.count_all.ensures ∙ ap (ends_of 0) c.deref.ensures.value;
       rises = subst (λ cs. Rises (on_end (slice_set cs c.args.at c.in_ok-first.first))) (sym c.in_ok-insert.ensures.items) (subst Rises (sym m.same) c.self.invariant.rises);
     }
 

@@ -3,7 +3,7 @@ use Rattle.std.proofs.Common.{sym, ◌∙◌, ap, arith}
 use Rattle.std.proofs.lemmas.Slice.Eq.{bytes_eq-Decides}
 use Rattle.group_runs.specs.Runs.{packed_keys}
 use Rattle.group_runs.proofs.PlaceLaws.{key_at, key_stands}
-use Rattle.group_runs.specs.Chunks.{on_end}
+use Rattle.packed_rows.specs.RowsOnEnd.{on_end}
 use Rattle.group_runs.proofs.chunks.Chunks.has_at.Goals as goal
 
 pub returns-then-place-len : goal.returns-then-place-len

@@ -1,5 +1,5 @@
 use Rattle.std.proofs.Common.{sym, subst, arith, rules}
-use Rattle.group_runs.specs.Chunks.{on_end}
+use Rattle.packed_rows.specs.RowsOnEnd.{on_end}
 use Rattle.group_runs.specs.Runs.{Entry}
 use Rattle.group_runs.specs.Places.{AllBelow, IsNotBelow}
 use Rattle.group_runs.proofs.PlaceLaws.{range_none, not_below_from}

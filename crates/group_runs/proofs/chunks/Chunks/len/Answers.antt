@@ -1,6 +1,6 @@
 use Rattle.std.specs.Prelude.{◌≡◌, ◌∷◌, length, slice_index_or}
 use Rattle.std.proofs.Common.{◌∙◌, ap, rules}
-use Rattle.group_runs.specs.Chunks.{on_end}
+use Rattle.packed_rows.specs.RowsOnEnd.{on_end}
 use Rattle.group_runs.proofs.ChunkLaws.{whole_is}
 use Rattle.group_runs.proofs.chunks.Chunks.len.Goals as goal
 

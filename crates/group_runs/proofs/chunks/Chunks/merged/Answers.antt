@@ -5,7 +5,7 @@ use Rattle.std.proofs.lemmas.List.Folds.{drop_split}
 use Rattle.grouping_model.specs.Query.{Query}
 use Rattle.having_filter.specs.Meaning.{meaning}
 use Rattle.group_runs.specs.Steps.{HasRoomForRun, AddsRun}
-use Rattle.group_runs.specs.Chunks.{on_end}
+use Rattle.packed_rows.specs.RowsOnEnd.{on_end}
 use Rattle.group_runs.proofs.ChunkLaws.{got_low, got_same, around, range_rises}
 use Rattle.group_runs.proofs.JoinLaws.{room_part}
 use Rattle.group_runs.proofs.PartLaws.{Merges, merges_none, merges_next, merges_end}

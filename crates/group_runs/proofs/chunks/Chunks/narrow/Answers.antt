@@ -2,7 +2,7 @@ use Rattle.std.specs.Prelude.{◌≡◌, ◌+◌, ◌-◌, ℕ, slice_range}
 use Rattle.std.proofs.Common.{subst, arith, rules}
 use Rattle.group_runs.specs.Runs.{Entry}
 use Rattle.group_runs.specs.Places.{IsBelow, IsNotBelow, AllBelow}
-use Rattle.group_runs.specs.Chunks.{on_end}
+use Rattle.packed_rows.specs.RowsOnEnd.{on_end}
 use Rattle.group_runs.proofs.PlaceLaws.{below_to, not_below_from}
 use Rattle.group_runs.proofs.chunks.Chunks.narrow.Goals as goal
 

@@ -2,10 +2,11 @@ use Rattle.std.specs.Prelude.{take}
 use Rattle.std.proofs.Common.{sym, subst, arith}
 use Rattle.group_runs.specs.Runs.{Entry}
 use Rattle.group_runs.specs.Places.{AllBelow}
-use Rattle.group_runs.specs.Chunks.{on_end, IsAmong, AreBefore, ComeInto}
+use Rattle.packed_rows.specs.RowsOnEnd.{on_end}
+use Rattle.group_runs.specs.Chunks.{IsAmong, AreBefore, ComeInto}
 use Rattle.group_runs.proofs.ChunkLaws.{front_few, got_low}
 use Rattle.group_runs.proofs.ComeLaws.{IsFor, for_place, for_last, comes_up_to, comes_all}
-use Rattle.group_runs.proofs.PlaceLaws.{drop_at}
+use Rattle.group_runs.specs.PlaceLaws.{drop_at}
 use Rattle.group_runs.proofs.chunks.Chunks.part.Goals as goal
 use Rattle.group_runs.proofs.chunks.Chunks.part.Goals.{then-place-count, else-place-count}
 

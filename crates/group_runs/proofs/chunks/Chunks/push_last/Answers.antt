@@ -1,8 +1,8 @@
 use Rattle.std.specs.Prelude.{◌≡◌, ◌+◌, ◌-◌, ◌++◌, ◌∷◌, List, [], length, take, slice_get, slice_set, Some}
 use Rattle.std.proofs.Common.{sym, ◌∙◌, ap, subst, arith, append_assoc, rules}
 use Rattle.group_runs.specs.Runs.{Entry, Rises}
-use Rattle.group_runs.specs.Chunks.{on_end, counts}
-use Rattle.group_runs.proofs.ChunkLaws.{got_by, ends_many, last_whole, last_more, rises_back}
+use Rattle.packed_rows.specs.RowsOnEnd.{on_end, ends_of}
+use Rattle.group_runs.proofs.ChunkLaws.{got_by, ends_many, last_whole, last_more, rises_back, LastMore}
 use Rattle.group_runs.proofs.chunks.Chunks.push_last.Goals as goal
 
 pub push-requires : goal.push-requires
@@ -28,32 +28,33 @@ index_mut-requires-2 c =
     let long = c.self.inside.ends.ok in
     omega (arith, counted, many, view, some, long)
 
+-- the last chunk with one group more
+more : (c : goal.After-self-2-1) → LastMore (slice_set c.self.inside.chunks.items (c.len-last.result - 1) (c.index_mut.result.now ++ (c.args.key.now, c.args.states.now) ∷ []))
+    (slice_set c.self.inside.ends.items (c.len-last.result - 1) (c.len-end.result + 1)) (on_end c.self.inside.chunks.items ++ (c.args.key.now, c.args.states.now) ∷ [])
+more c =
+    let chunks = c.self.inside.chunks.items in
+    let last = c.len-last.result - 1 in
+    let one : List Entry = (c.args.key.now, c.args.states.now) ∷ [] in
+    let counted : c.len-last.result ≡ length chunks = search rules in
+    let view = ap length c.self.view_is in
+    let some = c.requires.some in
+    let is : slice_get chunks last ≡ Some c.index_mut.result.now = got_by chunks last c.index_mut.result.now (omega (arith, counted, view, some)) c.index_mut.ensures.value in
+    let before = c.len-end.ensures.length ∙ ap (λ cs. length (on_end cs)) (sym c.self.view_is) in
+    last_more chunks c.self.inside.ends.items last c.index_mut.result.now one (c.len-end.result + 1) c.self.invariant.ends_are (omega (arith, counted, view, some)) is (omega (arith, before))
+
 pub invariant_of-self-2 : goal.invariant_of-self-2
 invariant_of-self-2 c =
     let chunks = c.self.inside.chunks.items in
     let last = c.len-last.result - 1 in
     let one : List Entry = (c.args.key.now, c.args.states.now) ∷ [] in
-    let counted : c.len-last.result ≡ length chunks = search rules in
-    let view = ap length c.self.view_is in
-    let some = c.requires.some in
-    let is : slice_get chunks last ≡ Some c.index_mut.result.now = got_by chunks last c.index_mut.result.now (omega (arith, counted, view, some)) c.index_mut.ensures.value in
-    let before = c.len-end.ensures.length ∙ ap (λ cs. length (on_end cs)) (sym c.self.view_is) in
-    let m = last_more chunks c.self.inside.ends.items last c.index_mut.result.now one (c.len-end.result + 1) c.self.invariant.ends_are (omega (arith, counted, view, some)) is (omega (arith, before)) in
     let pushed = c.in_ok-push.ensures.pushed in
     record {
-      ends_are = m.ends_are ∙ ap (λ chunk. counts 0 (slice_set chunks last chunk)) (sym pushed);
-      rises = subst (λ chunk. Rises (on_end (slice_set chunks last chunk))) (sym pushed) (subst Rises (sym m.is) (subst (λ cs. Rises (on_end cs ++ one)) (sym c.self.view_is) c.requires.rises));
+      ends_are = (more c).ends_are ∙ ap (λ chunk. ends_of 0 (slice_set chunks last chunk)) (sym pushed);
+      rises = subst (λ chunk. Rises (on_end (slice_set chunks last chunk))) (sym pushed) (subst Rises (sym (more c).is) (subst (λ cs. Rises (on_end cs ++ one)) (sym c.self.view_is) c.requires.rises));
     }
 
 pub returns-clause-pushed : goal.returns-clause-pushed
 returns-clause-pushed c =
-    let chunks = c.self.inside.chunks.items in
-    let last = c.len-last.result - 1 in
-    let one : List Entry = (c.args.key.now, c.args.states.now) ∷ [] in
-    let counted : c.len-last.result ≡ length chunks = search rules in
-    let view = ap length c.self.view_is in
-    let some = c.requires.some in
-    let is : slice_get chunks last ≡ Some c.index_mut.result.now = got_by chunks last c.index_mut.result.now (omega (arith, counted, view, some)) c.index_mut.ensures.value in
-    let before = c.len-end.ensures.length ∙ ap (λ cs. length (on_end cs)) (sym c.self.view_is) in
-    let m = last_more chunks c.self.inside.ends.items last c.index_mut.result.now one (c.len-end.result + 1) c.self.invariant.ends_are (omega (arith, counted, view, some)) is (omega (arith, before)) in
-    ap (λ chunk. on_end (slice_set chunks last chunk)) c.in_ok-push.ensures.pushed ∙ m.is ∙ ap (λ cs. on_end cs ++ one) c.self.view_is
+    ap (λ chunk. on_end (slice_set c.self.inside.chunks.items (c.len-last.result - 1) chunk)) c.in_ok-push.ensures.pushed
+    ∙ (more c).is
+    ∙ ap (λ cs. on_end cs ++ (c.args.key.now, c.args.states.now) ∷ []) c.self.view_is

@@ -1,6 +1,6 @@
 use Rattle.std.specs.Prelude.{◌+◌, ◌-◌, ℕ}
 use Rattle.std.proofs.Common.{arith, rules}
-use Rattle.group_runs.specs.Chunks.{on_end}
+use Rattle.packed_rows.specs.RowsOnEnd.{on_end}
 use Rattle.group_runs.specs.Runs.{Entry}
 use Rattle.group_runs.specs.Places.{IsBelow, IsNotBelow}
 use Rattle.group_runs.proofs.PlaceLaws.{below_to, not_below_from}

@@ -1,5 +1,5 @@
 use Rattle.std.specs.Prelude.{◌≤◌, ◌-◌, slice_range}
-use Rattle.group_runs.specs.Chunks.{on_end}
+use Rattle.packed_rows.specs.RowsOnEnd.{on_end}
 use Rattle.group_runs.specs.Places.{AllBelow}
 use Rattle.group_runs.proofs.chunks.Chunks.reach.Given as goal
 

@@ -1,5 +1,5 @@
 use Rattle.std.proofs.Common.{sym, subst, arith}
-use Rattle.group_runs.specs.Chunks.{on_end}
+use Rattle.packed_rows.specs.RowsOnEnd.{on_end}
 use Rattle.group_runs.specs.Places.{AllBelow}
 use Rattle.group_runs.proofs.PlaceLaws.{range_none, between_within, place_within}
 use Rattle.group_runs.proofs.chunks.Chunks.seek.Goals as goal

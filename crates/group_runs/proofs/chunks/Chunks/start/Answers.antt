@@ -1,6 +1,6 @@
 use Rattle.std.specs.Prelude.{◌∷◌, length, take, slice_index_or}
 use Rattle.std.proofs.Common.{◌∙◌, ap, arith}
-use Rattle.group_runs.specs.Chunks.{on_end}
+use Rattle.packed_rows.specs.RowsOnEnd.{on_end}
 use Rattle.group_runs.proofs.ChunkLaws.{start_is, ends_many}
 use Rattle.group_runs.proofs.chunks.Chunks.start.Goals as goal
 

@@ -1,5 +1,6 @@
 use Rattle.std.specs.Prelude.{◌≡◌, refl, ◌∷◌, ◌≤◌, [], length}
 use Rattle.std.proofs.Common.{sym, ◌∙◌, subst}
+use Rattle.std.proofs.lemmas.Result.{IfErr-weaker}
 use Rattle.spill_tapes.specs.DiskLaws.{leaves_none}
 use Rattle.spill_tapes.specs.Records.{Record}
 use Rattle.spill_lists.specs.declared.error.SpillError.TheVariants.{NoMemory}
@@ -12,7 +13,7 @@ use Rattle.hash_agg.specs.Passes.{group_record}
 use Rattle.hash_agg.proofs.AddedLaws.{same_pass, there_added, new_added, left_added}
 use Rattle.hash_agg.proofs.DiskLaws.{still_out}
 use Rattle.hash_agg.proofs.ReturnLaws.{no_ok, same_table, same_rest, moved_table}
-use Rattle.hash_agg.proofs.StepLaws.{on_error, err_out, key_brief, key_short, group_short, same_wide, entry_told, there_room, one_group, is_group_record}
+use Rattle.hash_agg.proofs.StepLaws.{err_out, key_brief, key_short, group_short, same_wide, entry_told, there_room, one_group, is_group_record}
 use Rattle.hash_agg.proofs.pass.Pass.add_group.Goals as goal
 
 pub returns-in-Ok : goal.returns-in-Ok
@@ -103,7 +104,7 @@ returns g c =
           (λ more are.
           is_group_record q (g.H.KeyHash.hash_of c.args.self.now.groups.table.hash) are.0 one c.args.key.now c.args.states.now (one_group q are.0 c.args.key.now c.args.states.now more are.1).0 refl written c.hash-hash.ensures (one_group q are.0 c.args.key.now c.args.states.now more are.1).2)
           c.spill.ensures.rest c.spill.ensures.spilled;
-      refused = on_error c.spill.result (λ error right. record { undamaged = λ can. right; kept = record { plan = refl; table = same_table _ _; lists = c.spill.ensures.rest } }) c.spill.ensures.undamaged;
+      refused = IfErr-weaker c.spill.result _ _ (λ error right. record { undamaged = λ can. right; kept = record { plan = refl; table = same_table _ _; lists = c.spill.ensures.rest } }) c.spill.ensures.undamaged;
       disk = c.spill.ensures.disk;
     }
 

@@ -1,5 +1,6 @@
 use Rattle.std.specs.Prelude.{refl, ◌∷◌, [], List, ℕ}
 use Rattle.std.proofs.Common.{sym, ◌∙◌}
+use Rattle.std.proofs.lemmas.Result.{IfErr-weaker}
 use Rattle.spill_tapes.specs.DiskLaws.{leaves_none}
 use Rattle.packed_rows.specs.Packing.{packing}
 use Rattle.hash_agg.specs.Added.{Entries, On_tape, query_of}
@@ -8,7 +9,7 @@ use Rattle.hash_agg.proofs.AddedLaws.{same_pass, added_by, refused_by}
 use Rattle.hash_agg.proofs.DiskLaws.{still_out}
 use Rattle.hash_agg.proofs.RecordLaws.{can_group_record, split_right, record_is_group}
 use Rattle.hash_agg.proofs.ReturnLaws.{no_ok, ok_any}
-use Rattle.hash_agg.proofs.StepLaws.{on_error, err_out, key_short, is_group_record}
+use Rattle.hash_agg.proofs.StepLaws.{err_out, key_short, is_group_record}
 use Rattle.hash_agg.proofs.pass.Pass.add_group_record.Goals as goal
 
 pub returns-in_default : goal.returns-in_default
@@ -75,7 +76,7 @@ returns g c =
             (is_group_record (query_of c.args.self.now) hf c.args.self.now.plan.most (record { hash = c.args.hash; tag = 1; bytes = c.args.bytes.now }) c.in-Some.key.now c.in-Some.states.now stands.0 refl c.in-Some.ensures.1 (c.if-hash.false ∙ c.hash.ensures) stands.1, tt),
           );
       refused =
-          on_error c.add_group.result
+          IfErr-weaker c.add_group.result _ _
           (refused_by g.H.KeyHash.hash_of g.D.TapeDisk (On_tape c.args.hash 1 c.args.bytes.now) (Entries ((c.in-Some.key.now, c.in-Some.states.now) ∷ [])) c.args.self.now c.args.disk.now
           (record_is_group (query_of c.args.self.now) hf c.args.hash c.args.bytes.now c.in-Some.key.now c.in-Some.states.now c.requires.ready.plan.formed c.in-Some.ensures.0 c.in-Some.ensures.1)
           c.add_group.new.self)

@@ -1,5 +1,6 @@
 use Rattle.std.specs.Prelude.{refl}
 use Rattle.std.proofs.Common.{sym, ◌∙◌, arith}
+use Rattle.std.proofs.lemmas.Result.{on_ok_weaker}
 use Rattle.spill_tapes.specs.DiskLaws.{leaves_none}
 use Rattle.packed_rows.specs.View.{row_of}
 use Rattle.hash_agg.specs.Passes.{standing}
@@ -7,7 +8,7 @@ use Rattle.hash_agg.proofs.AddedLaws.{same_pass}
 use Rattle.hash_agg.proofs.DiskLaws.{still_out}
 use Rattle.hash_agg.proofs.RecordLaws.{can_row, row_over}
 use Rattle.hash_agg.proofs.ReturnLaws.{no_ok}
-use Rattle.hash_agg.proofs.StepLaws.{on_ok, err_out}
+use Rattle.hash_agg.proofs.StepLaws.{err_out}
 use Rattle.hash_agg.proofs.pass.Pass.add_row.Goals as goal
 
 pub returns-in_err-select : goal.returns-in_err-select
@@ -45,4 +46,4 @@ returns-then-not-branch g c =
     }
 
 pub returns : goal.returns
-returns g c = record { added = on_ok c.add_selected.result (λ one. one.added) c.add_selected.ensures.added; refused = c.add_selected.ensures.refused; disk = c.add_selected.ensures.disk }
+returns g c = record { added = on_ok_weaker c.add_selected.result (λ one. one.added) c.add_selected.ensures.added; refused = c.add_selected.ensures.refused; disk = c.add_selected.ensures.disk }

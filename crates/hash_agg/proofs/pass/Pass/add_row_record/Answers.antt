@@ -1,5 +1,6 @@
 use Rattle.std.specs.Prelude.{refl, ◌∷◌, [], List, ℕ}
 use Rattle.std.proofs.Common.{sym, ◌∙◌, ap}
+use Rattle.std.proofs.lemmas.Result.{IfErr-weaker}
 use Rattle.spill_tapes.specs.DiskLaws.{leaves_none}
 use Rattle.spill_lists.specs.declared.error.SpillError.TheVariants.{NoMemory}
 use Rattle.packed_rows.specs.View.{row_of}
@@ -9,7 +10,7 @@ use Rattle.hash_agg.proofs.AddedLaws.{same_pass, added_by, refused_by}
 use Rattle.hash_agg.proofs.DiskLaws.{still_out}
 use Rattle.hash_agg.proofs.RecordLaws.{can_row_record, record_is_row, row_right}
 use Rattle.hash_agg.proofs.ReturnLaws.{no_ok, ok_any}
-use Rattle.hash_agg.proofs.StepLaws.{on_error, err_out}
+use Rattle.hash_agg.proofs.StepLaws.{err_out}
 use Rattle.hash_agg.proofs.pass.Pass.add_row_record.Goals as goal
 
 pub returns-in_err-row : goal.returns-in_err-row
@@ -97,7 +98,7 @@ returns g c =
             ),
           );
       refused =
-          on_error c.add_selected.result
+          IfErr-weaker c.add_selected.result _ _
           (refused_by g.H.KeyHash.hash_of g.D.TapeDisk (On_tape c.args.hash 0 c.args.packed.now) (Packed_rows (c.args.packed.now ∷ [])) c.args.self.now c.args.disk.now (record_is_row (query_of c.args.self.now) hf c.args.hash c.args.packed.now)
           c.add_selected.new.self)
           c.add_selected.ensures.refused;

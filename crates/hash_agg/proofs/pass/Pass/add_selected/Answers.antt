@@ -1,5 +1,6 @@
 use Rattle.std.specs.Prelude.{refl, ◌∷◌, ◌++◌, []}
 use Rattle.std.proofs.Common.{sym, ◌∙◌, ap, arith}
+use Rattle.std.proofs.lemmas.Result.{IfErr-weaker}
 use Rattle.spill_tapes.specs.DiskLaws.{leaves_none}
 use Rattle.grouping_model.specs.Grouping.{key_of, partials}
 use Rattle.grouping_model.specs.Query.{Query}
@@ -12,7 +13,7 @@ use Rattle.hash_agg.proofs.AddedLaws.{same_pass, there_added, new_added, left_ad
 use Rattle.hash_agg.proofs.DiskLaws.{still_out}
 use Rattle.hash_agg.proofs.KeyLaws.{key_has}
 use Rattle.hash_agg.proofs.ReturnLaws.{no_ok, same_table, same_rest, moved_table}
-use Rattle.hash_agg.proofs.StepLaws.{on_error, err_out, key_brief, key_short, packed_short, row_told, there_room, new_room}
+use Rattle.hash_agg.proofs.StepLaws.{err_out, key_brief, key_short, packed_short, row_told, there_room, new_room}
 use Rattle.hash_agg.proofs.pass.Pass.add_selected.Goals as goal
 
 pub returns-in-Ok : goal.returns-in-Ok
@@ -109,7 +110,7 @@ returns g c =
           (sym (c.in_default-room_for.ensures.exact (g.H.KeyHash.hash_of c.args.self.now.groups.table.hash)))
           (λ more are. record { tag = refl; of_kinds = c.requires.selected.has; bytes = c.requires.selected.is; met = c.requires.selected.met; hashed = c.hash-hash.ensures ∙ ap (g.H.KeyHash.hash_of c.args.self.now.groups.table.hash) c.requires.selected.named })
           c.spill.ensures.rest c.spill.ensures.spilled;
-      refused = on_error c.spill.result (λ error right. record { undamaged = λ can. right; kept = record { plan = refl; table = same_table _ _; lists = c.spill.ensures.rest } }) c.spill.ensures.undamaged;
+      refused = IfErr-weaker c.spill.result _ _ (λ error right. record { undamaged = λ can. right; kept = record { plan = refl; table = same_table _ _; lists = c.spill.ensures.rest } }) c.spill.ensures.undamaged;
       disk = c.spill.ensures.disk;
     }
 

@@ -1,6 +1,6 @@
 use Rattle.std.specs.Prelude.{◌≡◌, length}
 use Rattle.std.proofs.Common.{sym, ◌∙◌, ap, arith}
-use Rattle.flat_rows.proofs.RowLaws.{cut_long}
+use Rattle.packed_rows.specs.RowsOnEndLaws.{cut_long}
 use Rattle.having_filter.proofs.answer.Answer.len.Goals as goal
 
 pub returns : goal.returns

@@ -1,8 +1,8 @@
 use Rattle.std.specs.Prelude.{◌≡◌, ◌∷◌, length, slice_index_or, refl}
 use Rattle.std.proofs.Common.{sym, ◌∙◌, ap, subst, arith}
 use Rattle.agg_protocol.specs.Results.{outcome_of}
-use Rattle.flat_rows.specs.Rows.{LieAs}
-use Rattle.flat_rows.proofs.RowLaws.{cut_long, row_at, row_long, element_is}
+use Rattle.packed_rows.specs.RowsOnEnd.{LieAs}
+use Rattle.packed_rows.specs.RowsOnEndLaws.{cut_long, row_at, row_long, element_is}
 use Rattle.having_filter.proofs.answer.Answer.value.Goals as goal
 
 pub bound-requires : goal.bound-requires

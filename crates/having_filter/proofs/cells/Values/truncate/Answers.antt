@@ -1,7 +1,6 @@
-use Rattle.std.specs.Prelude.{take}
+use Rattle.std.specs.Prelude.{take, string_bytes}
 use Rattle.std.proofs.Common.{sym, ◌∙◌, ap}
 use Rattle.std.proofs.lemmas.List.{take-map}
-use Rattle.std.specs.Prelude.{string_bytes}
 use Rattle.having_filter.specs.Answers.{outcome_in, outcomes_in}
 use Rattle.having_filter.proofs.cells.Values.truncate.Goals as goal
 

@@ -2,7 +2,7 @@ use Rattle.std.proofs.Common.{◌∙◌, subst, map}
 use Rattle.std.specs.String.{string_bytes}
 use Rattle.packed_rows.specs.Columns.{AreColumns}
 use Rattle.query_checks.specs.Forms.{written_of}
-use Rattle.query_checks.proofs.CheckedLaws.{reaches_places, refused_as}
+use Rattle.query_checks.specs.CheckedLaws.{reaches_places, refused_as}
 use Rattle.having_filter.proofs.CheckedLaws.{kept, checked_here}
 use Rattle.having_filter.proofs.query.Query.check.Goals as goal
 

@@ -3,7 +3,7 @@ use Rattle.std.specs.List.{AllByRecursion}
 use Rattle.query_tokens.specs.Words.{all_placed}
 use Rattle.query_tokens.specs.Spelling.{IsLexeme, lexemes_of}
 use Rattle.query_tokens.proofs.Legal.{read_legal}
-use Rattle.packed_rows.proofs.DescribedColumns.{all_members}
+use Rattle.packed_rows.specs.DescribedLaws.{all_members}
 use Rattle.packed_rows.proofs.schema.Schema.parse.Goals as goal
 
 pub read_columns-requires : goal.read_columns-requires

@@ -1,8 +1,7 @@
-use Rattle.std.specs.Prelude.{◌≡◌, Some, []}
+use Rattle.std.specs.Prelude.{◌≡◌, Some, [], ℕ}
 use Rattle.std.proofs.Common.{◌∙◌, sym, subst}
 use Rattle.std.specs.declared.alloc.Global.{Global}
 use Rattle.std.specs.declared.vec.Vec.{Vec}
-use Rattle.std.specs.Prelude.{ℕ}
 use Rattle.std.specs.Str.{bytes_eq}
 use Rattle.std.specs.HashMap.{UpdatesBy}
 use Rattle.script_commands.specs.Commands as ask

@@ -1,17 +1,12 @@
-use Rattle.std.proofs.Common.{List, length, ◌≡◌, ◌∷◌, [], append-nil, refl, arith, ap, sym, subst, ◌∙◌}
-use Rattle.spill_lists.specs.declared.lists.OnTape.{OnTape}
+use Rattle.std.proofs.Common.{◌≡◌, ◌∷◌, [], append-nil, refl, arith, ap, sym, subst, ◌∙◌}
 use Rattle.spill_lists.specs.Fields.{one_or_none}
-use Rattle.spill_lists.specs.Standing.{ListsState, HasLists, count_of, waiting_number}
+use Rattle.spill_lists.specs.Standing.{ListsState, HasLists, count_of, waiting_number, HaveRecords}
 use Rattle.std.proofs.lemmas.Bool.{false≢true, true≢false}
+use Rattle.std.proofs.lemmas.List.{nil_from_length}
 use Rattle.spill_lists.proofs.ListLaws.{count-append}
 use Rattle.spill_lists.proofs.StandingLaws.{lists_begun, has_begun}
 use Rattle.spill_lists.proofs.EndLaws.{filled_front}
-use Rattle.spill_lists.specs.Standing.{HaveRecords}
 use Rattle.spill_lists.proofs.lists.SpillLists.begin_pass.Goals as goal
-
-none_long : (xs : List OnTape) → length xs ≡ 0 → xs ≡ []
-none_long [] none = refl
-none_long (x ∷ xs) none = absurd (omega (arith, none))
 
 pub invariant_of-self : goal.invariant_of-self
 invariant_of-self g c =
@@ -27,7 +22,7 @@ returns-in-None g c =
       begins = λ begins. absurd (false≢true begins);
       some = λ begins. absurd (false≢true begins);
       counted = sym (ap (λ (s : ListsState). waiting_number s) view) ∙ ap count_of (sym todo) ∙ omega (arith, ap count_of source);
-      none = λ is. sym (ap (λ (s : ListsState). s.todo) view) ∙ none_long x.todo.items (omega (arith, c.in-None.ensures.cases.0, x.todo.ok.0));
+      none = λ is. sym (ap (λ (s : ListsState). s.todo) view) ∙ nil_from_length x.todo.items (omega (arith, c.in-None.ensures.cases.0, x.todo.ok.0));
       unchanged = λ is. ap (λ xs. record { tapes = x.tapes; level = x.level; parts = x.parts.items; source = one_or_none x.source; todo = xs }) todo ∙ view;
       parts = ap (λ (s : ListsState). s.parts) view ∙ c.requires.parts;
       alive = ap (λ (s : ListsState). s.tapes.is_dead) view;

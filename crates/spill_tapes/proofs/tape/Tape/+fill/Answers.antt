@@ -1,11 +1,10 @@
 use Rattle.std.proofs.Common.{◌≡◌, ◌+◌, ◌-◌, ◌≤◌, ◌++◌, ℕ, IsTrue, refl, arith, ap, ◌∙◌, sym, subst, length, length-append, take, drop}
 use Rattle.std.proofs.lemmas.List.{length-take-le, length-drop}
-use Rattle.std.proofs.lemmas.Result.{err_from_is_err_and}
+use Rattle.std.proofs.lemmas.Result.{err_from_is_err_and, on_ok_weaker}
 use Rattle.spill_tapes.specs.Pages.{HavePages, GivesBack}
 use Rattle.spill_tapes.specs.Tape.{TapeState, HasAhead, spent}
 use Rattle.spill_tapes.proofs.PageLaws.{spent_from, filled_on}
 use Rattle.spill_tapes.proofs.PoolLaws.{gives_none, gives_twice}
-use Rattle.spill_tapes.proofs.Results.{ok_with}
 use Rattle.spill_tapes.proofs.TapeLaws.{same_self, same_spent, same_twice}
 use Rattle.spill_tapes.specs.Errors.{disk_faults}
 use Rattle.spill_tapes.specs.DiskLaws.{reads_none, reads_twice}
@@ -84,13 +83,13 @@ returns g t c =
       pages = gives_twice c.args.pool.now c.load.new.pool c.fill.new.pool now.pages c.load.new.self.pages after.pages moved told.pages;
       same = same_twice now c.load.new.self after (same_twice now c.spend-2.new.self c.load.new.self (same_spent now c.spend-2.new.self a tape) first.same) told.same;
       read = told.read;
-      ahead = ok_with r
+      ahead = on_ok_weaker r
           (λ e. omega (arith, e, first.start, first.full, first.shorter, ap (λ (x : TapeState). length x.pages) tape, ap (λ (x : TapeState). length x.buffer) c.self.view_is, ap (λ (x : TapeState). x.read) c.self.view_is))
           told.ahead;
-      len = ok_with r
+      len = on_ok_weaker r
           (λ e. omega (arith, e, ap length c.in_ok-spend-2.ensures.bytes, length-append c.args.bytes.now.items (take a (drop now.read now.buffer)), length-take-le a (drop now.read now.buffer) (omega (arith, fits, length-drop now.read now.buffer))))
           told.len;
-      filled = ok_with r
+      filled = on_ok_weaker r
           (λ f honest. filled_on (g.D.TapeDisk.last c.args.disk.now) (g.D.TapeDisk.last c.load.new.disk) (g.D.TapeDisk.last c.fill.new.disk) now c.spend-2.new.self c.load.new.self after a n c.args.bytes.now.items c.spend-2.new.bytes.items c.fill.new.bytes.items
           c.in_ok-spend-2.ensures.spent c.in_ok-spend-2.ensures.bytes fits (omega arith) (c.in_ok-load.ensures.loaded honest) (f (subst IsTrue (sym c.load.ensures.disk.honesty) honest)))
           c.fill.ensures.filled;

@@ -1,10 +1,9 @@
 use Rattle.std.proofs.Common.{◌≡◌, ◌∙◌, refl, ap, sym, subst, ◌+◌, ◌-◌, ◌++◌, ℕ, List, length, length-append, take, drop, arith}
 use Rattle.std.proofs.lemmas.List.{take-append-drop, take_rest, length-drop, length-take-le}
-use Rattle.std.proofs.lemmas.Result.{err_from_is_err_and}
+use Rattle.std.proofs.lemmas.Result.{err_from_is_err_and, on_ok_weaker}
 use Rattle.spill_tapes.specs.Tape.{TapeState}
 use Rattle.spill_tapes.proofs.PageLaws.{buffered, keeps_twice, written_parts}
 use Rattle.spill_tapes.proofs.PoolLaws.{takes_none, takes_twice}
-use Rattle.spill_tapes.proofs.Results.{ok_with}
 use Rattle.spill_tapes.proofs.TapeLaws.{same_now, same_twice}
 use Rattle.spill_tapes.specs.Errors.{disk_faults}
 use Rattle.spill_tapes.specs.DiskLaws.{leaves_none, leaves_twice}
@@ -69,13 +68,13 @@ returns g t c =
       same = same_twice now tape after first.same told.same;
       keeps = keeps_twice (g.D.TapeDisk.last c.args.disk.now) (g.D.TapeDisk.last c.put_page.new.disk) (g.D.TapeDisk.last c.put.new.disk) pool between first.pages.balanced.grows first.pages.frees first.keeps told.keeps;
       small = told.small;
-      longer = ok_with r
+      longer = on_ok_weaker r
           (λ e. omega (arith, e, first.longer, ap length first.empty, ap length (take_rest bytes room), length-drop room bytes, ap (λ (t : TapeState). length t.buffer) c.self.view_is))
           told.longer;
-      written = ok_with r
+      written = on_ok_weaker r
           (λ f before had. written_parts (g.D.TapeDisk.last c.put.new.disk) after before (take room bytes) rest bytes parts (f (before ++ take room bytes) (first.written before had)))
           told.written;
-      counted = ok_with r (λ e. omega (arith, e, first.counted, first.longer)) told.counted;
+      counted = on_ok_weaker r (λ e. omega (arith, e, first.counted, first.longer)) told.counted;
       disk = leaves_twice g.D.TapeDisk _ _ _ _ first.disk told.disk;
     }
 

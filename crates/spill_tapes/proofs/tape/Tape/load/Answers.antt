@@ -2,11 +2,11 @@ use Rattle.std.proofs.Common.{rules, ◌≡◌, ◌<◌, ◌*◌, ◌^◌, ◌�
 use Rattle.std.proofs.lemmas.Grind.{common_steps}
 use Rattle.std.proofs.lemmas.List.{with_items_is}
 use Rattle.std.specs.Vec.{with_items}
+use Rattle.std.proofs.lemmas.Result.{on_ok_weaker}
 use Rattle.spill_tapes.specs.Calls.{AreReadAt}
 use Rattle.spill_tapes.specs.Pages.{PoolState, GivesBack}
 use Rattle.spill_tapes.proofs.PoolLaws.{back, apart_first}
 use Rattle.spill_tapes.proofs.PageLaws.{loaded}
-use Rattle.spill_tapes.proofs.Results.{ok_with}
 use Rattle.spill_tapes.proofs.tape.Tape.load.Goals as goal
 
 pub overflow_mul-page : goal.overflow_mul-page
@@ -33,7 +33,7 @@ returns-clause-loaded g c =
     let len : length c.read_at.new.bytes ≡ c.resize.new.self.len = c.read_at.ensures.len ∙ c.deref_mut.ensures.len in
     let same : (with_items c.resize.new.self c.read_at.new.bytes).items ≡ c.read_at.new.bytes = with_items_is c.resize.new.self c.read_at.new.bytes len in
     let full : length c.read_at.new.bytes ≡ 8192 = c.read_at.ensures.len ∙ c.deref_mut.ensures.len ∙ c.in_ok-resize.ensures.len in
-    ok_with c.read_at.result
+    on_ok_weaker c.read_at.result
     (λ read honest bytes had. loaded (g.D.TapeDisk.last c.args.disk.now) (g.D.TapeDisk.last c.read_at.new.self) c.args.self.now _ c.in-Some.page first c.requires.spent refl (ap length same ∙ full)
     (subst (λ bs. AreReadAt (g.D.TapeDisk.last c.args.disk.now) (c.in-Some.page * 8192) bs) (sym same) (read honest)) c.read_at.ensures.keeps bytes had)
     c.read_at.ensures.read

@@ -1,10 +1,9 @@
 use Rattle.std.proofs.Common.{◌≡◌, ◌+◌, ◌++◌, OnOk, length, length-append, refl, sym, ap, ◌∙◌, subst}
-use Rattle.std.proofs.lemmas.Result.{err_from_is_err_and}
+use Rattle.std.proofs.lemmas.Result.{err_from_is_err_and, on_ok_weaker}
 use Rattle.spill_tapes.specs.Pages.{HavePages, TakesPages}
 use Rattle.spill_tapes.specs.Tape.{TapeState}
 use Rattle.spill_tapes.proofs.PageLaws.{buffered}
 use Rattle.spill_tapes.proofs.PoolLaws.{takes_none}
-use Rattle.spill_tapes.proofs.Results.{ok_with}
 use Rattle.spill_tapes.proofs.TapeLaws.{same_now}
 use Rattle.spill_tapes.specs.Errors.{disk_faults}
 use Rattle.spill_tapes.specs.DiskLaws.{leaves_none}
@@ -43,7 +42,7 @@ returns g c =
       keeps = told.keeps;
       empty = told.empty;
       longer = subst (λ (t : TapeState). OnOk c.flush.result (length after.pages ≡ length t.pages + 1)) view told.longer;
-      written = ok_with c.flush.result
+      written = on_ok_weaker c.flush.result
           (λ f before had. f (before ++ c.args.bytes.now) (buffered (g.D.TapeDisk.last c.args.disk.now) c.args.self.now _ c.args.bytes.now pages buffer before had))
           told.written;
       counted = told.counted;

@@ -1,10 +1,9 @@
 use Rattle.std.proofs.Common.{◌++◌, length, sym, ap, subst, arith}
-use Rattle.std.proofs.lemmas.Result.{err_from_is_err_and}
+use Rattle.std.proofs.lemmas.Result.{err_from_is_err_and, on_ok_weaker}
 use Rattle.spill_tapes.specs.Records.{header_of}
 use Rattle.spill_tapes.proofs.HeaderLaws.{header_len}
 use Rattle.spill_tapes.proofs.PageLaws.{keeps_twice, written_parts}
 use Rattle.spill_tapes.proofs.PoolLaws.{takes_twice, have_taken}
-use Rattle.spill_tapes.proofs.Results.{ok_with}
 use Rattle.spill_tapes.proofs.TapeLaws.{same_twice}
 use Rattle.spill_tapes.specs.Errors.{disk_faults}
 use Rattle.spill_tapes.specs.DiskLaws.{leaves_twice}
@@ -41,10 +40,10 @@ returns g c =
       keeps = keeps_twice (g.D.TapeDisk.last c.args.disk.now) (g.D.TapeDisk.last c.put.new.disk) (g.D.TapeDisk.last c.put-2.new.disk) pool between first.pages.balanced.grows first.pages.frees first.keeps told.keeps;
       same = same_twice now tape after first.same told.same;
       small = told.small;
-      longer = ok_with r (λ e. omega (arith, e, first.longer, ap length c.to_bytes.ensures, header_len c.args.header.hash c.args.header.tag c.args.header.len)) told.longer;
-      written = ok_with r
+      longer = on_ok_weaker r (λ e. omega (arith, e, first.longer, ap length c.to_bytes.ensures, header_len c.args.header.hash c.args.header.tag c.args.header.len)) told.longer;
+      written = on_ok_weaker r
           (λ f before had. written_parts (g.D.TapeDisk.last c.put-2.new.disk) after before c.to_bytes.result bytes (header ++ bytes) (ap (λ bs. bs ++ bytes) c.to_bytes.ensures) (f (before ++ c.to_bytes.result) (first.written before had)))
           told.written;
-      counted = ok_with r (λ e. omega (arith, e, first.counted)) told.counted;
+      counted = on_ok_weaker r (λ e. omega (arith, e, first.counted)) told.counted;
       disk = leaves_twice g.D.TapeDisk _ _ _ _ first.disk told.disk;
     }

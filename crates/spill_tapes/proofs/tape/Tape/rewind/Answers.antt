@@ -1,8 +1,8 @@
 use Rattle.std.proofs.Common.{◌≡◌, arith, ap, ◌∙◌}
 use Rattle.std.proofs.lemmas.Grind.{common_steps}
+use Rattle.list_laws.specs.Outcomes.{ok_both}
 use Rattle.spill_tapes.specs.Tape.{TapeState, tape_len}
 use Rattle.spill_tapes.proofs.TapeLaws.{rewound_records}
-use Rattle.spill_tapes.proofs.Results.{ok_both}
 use Rattle.spill_tapes.proofs.tape.Tape.rewind.Goals as goal
 
 pub returns-clause-rewound : goal.returns-clause-rewound

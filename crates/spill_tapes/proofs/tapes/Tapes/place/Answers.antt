@@ -1,11 +1,12 @@
 use Rattle.std.proofs.Common.{◌<◌, length, set, refl, sym, ap, subst, ◌∙◌}
 use Rattle.std.proofs.lemmas.List.{get_or-set_same}
+use Rattle.std.proofs.lemmas.Result.{IfOk-weaker}
+use Rattle.list_laws.specs.Outcomes.{if_ok_both}
 use Rattle.spill_tapes.specs.TapesFields.{tapes_of}
 use Rattle.spill_tapes.specs.declared.tape_id.TapeId.{TapeId}
 use Rattle.spill_tapes.specs.Tape.{TapeState, no_tape, new_tape}
 use Rattle.spill_tapes.specs.Tapes.{TapesState, tape_at}
 use Rattle.spill_tapes.proofs.TapesLaws.{none_past, at_push, same_at}
-use Rattle.spill_tapes.proofs.Results.{if_ok, if_ok_both}
 use Rattle.spill_tapes.proofs.tapes.Tapes.place.Goals as goal
 
 pub returns : goal.returns
@@ -15,7 +16,7 @@ returns c =
       refused = told.refused;
       unchanged = told.unchanged;
       alive = told.alive;
-      fresh = if_ok c.push.result (λ tape end. ap (λ (x : TapeState). x.phase) (none_past now tape end)) told.opened;
+      fresh = IfOk-weaker c.push.result _ _ (λ tape end. ap (λ (x : TapeState). x.phase) (none_past now tape end)) told.opened;
       opened = if_ok_both c.push.result (λ tape end longer. at_push now c.push.new.self tape new_tape longer end) told.opened told.longer;
       others = told.others;
       pages = told.pages;

@@ -1,0 +1,57 @@
+-- Laws: the chunk at a place; what is defined here, laws alone say.
+use Rattle.std.proofs.Common.{◌≡◌, ℕ, inl, inr, Bool, true, false, not, List, [], ◌∷◌, map, cond, refl, sym, ◌∙◌}
+use Rattle.std.specs.Prelude.{◌||◌, ◌==◌}
+use Rattle.std.proofs.lemmas.Bool.{and_parts, eqb-true, and_from, eq-eqb}
+use Rattle.chunk_layout.specs.Every.{Every, Pairwise}
+use Rattle.chunk_layout.specs.Pieces.{Piece, same_place, is_at, has, piece_at, no_piece, without}
+use Rattle.chunk_layout.specs.Spots.{Blocks, spot_is_at, no_spot, has_spot, spot_at, without_spot, piece_of, Stands, Apart}
+use Rattle.chunk_layout.specs.declared.place.Place.{Place}
+use Rattle.chunk_layout.specs.declared.place.Spot.{Spot}
+use Rattle.chunk_layout.specs.ListLaws.{first_has, first_passes, first_map, any_map, filter_map_same, every_weaker, every_filter}
+
+pub same-place : (p q : Place) → same_place p q ≡ true → p ≡ q
+same-place p q same = let parts = and_parts (p.block == q.block) (p.offset == q.offset) same in
+    let b = eqb-true p.block q.block parts.0 in let o = eqb-true p.offset q.offset parts.1 in
+    λ i. record { block = b i; offset = o i }
+
+pub place-same : (p : Place) → same_place p p ≡ true
+place-same p = and_from (p.block == p.block) (p.offset == p.offset) (eq-eqb p.block p.block refl) (eq-eqb p.offset p.offset refl)
+
+pub apart-sym : (head : ℕ) (s t : Spot) → Apart head s t → Apart head t s
+apart-sym head s t (inl ne) = inl (λ e. ne (sym e))
+apart-sym head s t (inr (inl before)) = inr (inr before)
+apart-sym head s t (inr (inr behind)) = inr (inl behind)
+
+-- all others are apart from the chunk at a place
+pub apart-found : (head : ℕ) (ss : List Spot) (place : Place) → has_spot ss place ≡ true → Pairwise (Apart head) ss → Every (λ s. Apart head s (spot_at ss place)) (without_spot ss place)
+apart-found head [] place some pairs = tt
+apart-found head (s ∷ ss) place some pairs =
+    let Goal : Bool → Type 0 = λ b. ((b || has_spot ss place) ≡ true) → Every (λ (x : Spot). Apart head x (cond b s (spot_at ss place))) (cond (not b) (s ∷ without_spot ss place) (without_spot ss place)) in
+    (elim (spot_is_at place s) as Goal [
+      | true ↦ λ _. every_filter (λ (x : Spot). Apart head x s) (λ (x : Spot). not (spot_is_at place x)) ss (every_weaker (Apart head s) (λ (x : Spot). Apart head x s) (apart-sym head s) ss pairs.0)
+      | false ↦ λ there. (first_has (Apart head s) (spot_is_at place) no_spot ss there pairs.0, apart-found head ss place there pairs.1)
+    ]) some
+
+-- the same, of the pieces that the spots are
+module _ (bs : Blocks) (ss : List Spot) (place : Place) where
+  abbrev pieces : List Piece
+  pieces = map (piece_of bs) ss
+
+  pub has-spot : has pieces place ≡ has_spot ss place
+  has-spot = any_map (is_at place) (piece_of bs) ss
+
+  pub without-spot : map (piece_of bs) (without_spot ss place) ≡ without pieces place
+  without-spot = filter_map_same (λ (p : Piece). not (is_at place p)) (piece_of bs) ss
+
+  module _ (some : has pieces place ≡ true) where
+    pub some-spot : has_spot ss place ≡ true
+    some-spot = sym has-spot ∙ some
+
+    pub found-place : (spot_at ss place).place ≡ place
+    found-place = same-place (spot_at ss place).place place (first_passes (spot_is_at place) no_spot ss some-spot)
+
+    pub piece-found : piece_at pieces place ≡ piece_of bs (spot_at ss place)
+    piece-found = first_map (is_at place) (piece_of bs) no_spot no_piece ss some
+
+    pub found-stands : (head : ℕ) → Every (Stands head bs) ss → Stands head bs (spot_at ss place)
+    found-stands head stand = first_has (Stands head bs) (spot_is_at place) no_spot ss some-spot stand

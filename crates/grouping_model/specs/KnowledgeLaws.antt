@@ -1,0 +1,58 @@
+-- Laws: the union of what is known, and the unbroken prefix; nothing here is a definition.
+use Rattle.std.specs.Prelude.{◌≡◌, refl, T, ◌||◌, List, ◌∷◌, ◌++◌}
+use Rattle.std.proofs.Common.{sym, ◌∙◌, ap, subst}
+use Rattle.std.specs.declared.cmp.Ordering.{Ordering}
+use Rattle.std.specs.declared.cmp.Ordering.TheVariants.{Less, Equal, Greater}
+use Rattle.std.specs.Ordering.{nat_cmp, ordering_then, eq_by_cmp, is_eq}
+use Rattle.std.specs.List.Sorted.{IsStrictlySortedBy, IsStrictlySortedBy-prop}
+use Rattle.std.specs.FinMap.{nat_cmp-IsAntisymmetric}
+use Rattle.grouping_model.specs.Rising.{is_among}
+use Rattle.grouping_model.specs.Rising.Facts.{among-append, among-distinct, same_members, or_comm, or_assoc, or_itself}
+use Rattle.grouping_model.specs.World.{Batch, batch_cmp, batch_cmp_total, Knowledge, knowing, nothing, knows, learn, union}
+
+then_ties : (r s : Ordering) → ordering_then r s ≡ Equal → (r ≡ Equal) × (s ≡ Equal)
+then_ties Less s e = absurd (subst (λ r. T (is_eq r)) (sym e) tt)
+then_ties Equal s e = (refl, e)
+then_ties Greater s e = absurd (subst (λ r. T (is_eq r)) (sym e) tt)
+
+pub batch_cmp_ties : (x y : Batch) → batch_cmp x y ≡ Equal → x ≡ y
+batch_cmp_ties (o, n) (p, m) e =
+    let ties = then_ties (nat_cmp o p) (nat_cmp n m) e in
+    λ i. (nat_cmp-IsAntisymmetric o p ties.0 i, nat_cmp-IsAntisymmetric n m ties.1 i)
+
+same_batches : (a b : Knowledge) → a.batches ≡ b.batches → a ≡ b
+same_batches a b e =
+    let P : List Batch → Type 0 = λ batches. (rising : IsStrictlySortedBy batch_cmp batches) → a ≡ record { batches = batches; rising = rising } in
+    let at_own : P a.batches = λ rising i. record { batches = a.batches; rising = IsStrictlySortedBy-prop batch_cmp a.batches a.rising rising i } in
+    subst P e at_own b.rising
+
+-- what is known determines the set
+pub same_knowledge : (a b : Knowledge) → ((batch : Batch) → knows a batch ≡ knows b batch) → a ≡ b
+same_knowledge a b same = same_batches a b (same_members batch_cmp_total batch_cmp_ties a.batches b.batches a.rising b.rising same)
+
+pub knows_knowing : (batches : List Batch) (batch : Batch) → knows (knowing batches) batch ≡ is_among batch_cmp batch batches
+knows_knowing batches batch = among-distinct batch_cmp_total batch batches
+
+pub knows_union : (a b : Knowledge) (batch : Batch) → knows (union a b) batch ≡ (knows a batch || knows b batch)
+knows_union a b batch = knows_knowing (a.batches ++ b.batches) batch ∙ among-append batch_cmp batch a.batches b.batches
+
+pub knows_learn : (a : Knowledge) (new batch : Batch) → knows (learn a new) batch ≡ (eq_by_cmp batch_cmp batch new || knows a batch)
+knows_learn a new batch = knows_knowing (new ∷ a.batches) batch
+
+pub union_commutes : (a b : Knowledge) → union a b ≡ union b a
+union_commutes a b = same_knowledge (union a b) (union b a) (λ batch. knows_union a b batch ∙ or_comm (knows a batch) (knows b batch) ∙ sym (knows_union b a batch))
+
+pub union_associates : (a b c : Knowledge) → union (union a b) c ≡ union a (union b c)
+union_associates a b c =
+    same_knowledge (union (union a b) c) (union a (union b c)) (λ batch.
+    knows_union (union a b) c batch
+    ∙ ap (λ x. x || knows c batch) (knows_union a b batch)
+    ∙ or_assoc (knows a batch) (knows b batch) (knows c batch)
+    ∙ ap (λ x. knows a batch || x) (sym (knows_union b c batch))
+    ∙ sym (knows_union a (union b c) batch))
+
+pub union_itself : (a : Knowledge) → union a a ≡ a
+union_itself a = same_knowledge (union a a) a (λ batch. knows_union a a batch ∙ or_itself (knows a batch))
+
+pub nothing_union : (a : Knowledge) → union nothing a ≡ a
+nothing_union a = same_knowledge (union nothing a) a (λ batch. knows_union nothing a batch)
