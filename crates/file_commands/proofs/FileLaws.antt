@@ -13,7 +13,7 @@ use Rattle.batch_reader.specs.File.{BatchFile}
 use Rattle.batch_reader.specs.Head.{ReadsOrigin, ReadsBatchNumber}
 use Rattle.batch_reader.specs.Rows.{ReadsRows, ArePackedRows, packings}
 use Rattle.batch_reader.specs.RecordLaws.{built_rows}
-use Rattle.replica_merge.specs.Replicas.{Held, told, Fits, SameQuery, DisagreeSomewhere}
+use Rattle.replica_merge.specs.Replicas.{Held, told, Fits}
 use Rattle.packed_rows.specs.Refusal.{ParseFault}
 use Rattle.packed_rows.specs.declared.error.RowError.{RowError}
 use Rattle.packed_rows.specs.declared.error.RowError.TheVariants as row
@@ -21,7 +21,7 @@ use Rattle.spill_lists.specs.declared.error.SpillError.TheVariants as spill
 use Rattle.origin_prefix.specs.declared.error.JoinError.TheVariants as join
 use Rattle.replica_merge.specs.declared.error.MergeError.{MergeError}
 use Rattle.replica_merge.specs.declared.error.MergeError.TheVariants as merge
-use Rattle.script_machine.specs.Refusals.{origin_disagrees, columns_refusal, merge_refusal, batch_refusal}
+use Rattle.script_machine.specs.Refusals.{columns_refusal, merge_refusal, batch_refusal}
 use Rattle.batch_reader.specs.declared.error.BatchError.{BatchError}
 use Rattle.batch_reader.specs.declared.error.BatchError.TheVariants as batch
 use Rattle.script_machine.specs.Views.{refusal_faults}
@@ -30,16 +30,7 @@ use Rattle.script_machine.specs.declared.refusal.Refusal.{Refusal}
 use Rattle.script_machine.specs.declared.refusal.Refusal.TheVariants as refuse
 use Rattle.script_machine.proofs.FeedLaws.{built_batch}
 use Rattle.script_machine.proofs.QueryLaws.{read_over}
-use Rattle.file_commands.specs.Commands.{IsNew, IsNotNew, IsNoSummary, IsApart, TakesFile, IsOtherFile, OfBatchFile}
-
--- a replica is not merged, by why it is not
-pub apart : (old other : Held) (e : MergeError) → (e ≡ merge.DifferentQuery → ¬ (SameQuery old.query other.query))
-    → (e ≡ merge.Join join.OriginDisagrees → DisagreeSomewhere old.parts other.parts) → IsApart old other (merge_refusal e)
-apart old other merge.DifferentQuery different disagrees = different refl
-apart old other (merge.Join join.OriginDisagrees) different disagrees = disagrees refl
-apart old other (merge.Join (join.Spill spill.NoMemory)) different disagrees = tt
-apart old other (merge.Join (join.Spill spill.TapeFault)) different disagrees = tt
-apart old other (merge.Join (join.Spill spill.TapeDamaged)) different disagrees = tt
+use Rattle.file_commands.specs.Commands.{IsNew, IsNotNew, IsNoSummary, TakesFile, IsOtherFile, OfBatchFile}
 
 -- neither the fault of a batch file nor that of a summary file is one of the disk
 pub no_batch_fault : (error : BatchError) → refusal_faults (batch_refusal error) ≡ 0
@@ -51,7 +42,7 @@ no_batch_fault (batch.WrongWidth row) = refl
 no_batch_fault (batch.BadField row column) = refl
 
 pub no_file_fault : (file : List ℕ) (why : Refusal) → IsNoSummary file why → refusal_faults why ≡ 0
-no_file_fault file (refuse.Merge error) is = absurd is
+no_file_fault file refuse.TapeFault is = absurd is
 no_file_fault file why is = refl
 
 -- what follows from why a call failed
@@ -65,12 +56,13 @@ on_ok (Ok x) P Q follows done = follows done
 on_ok (Err why) P Q follows done = done
 
 -- disagreement is told where a merge tells it
-pub told_disagreement : (e : MergeError) → merge_refusal e ≡ origin_disagrees → e ≡ merge.Join join.OriginDisagrees
-told_disagreement merge.DifferentQuery is = cc is
-told_disagreement (merge.Join join.OriginDisagrees) is = refl
-told_disagreement (merge.Join (join.Spill spill.NoMemory)) is = cc is
-told_disagreement (merge.Join (join.Spill spill.TapeFault)) is = cc is
-told_disagreement (merge.Join (join.Spill spill.TapeDamaged)) is = cc is
+pub told_disagreement : (e : MergeError) (of : ℕ) (at : Option ℕ) → merge_refusal e ≡ refuse.OriginDisagrees of at → e ≡ merge.Join of (join.OriginDisagrees at)
+told_disagreement merge.DifferentQuery of at is = cc is
+told_disagreement merge.NoMemory of at is = cc is
+told_disagreement (merge.Join origin (join.OriginDisagrees number)) of at is = cc is
+told_disagreement (merge.Join origin (join.Spill spill.NoMemory)) of at is = cc is
+told_disagreement (merge.Join origin (join.Spill spill.TapeFault)) of at is = cc is
+told_disagreement (merge.Join origin (join.Spill spill.TapeDamaged)) of at is = cc is
 
 -- the batch of a file, and the rows that its packed rows are of
 abbrev pub FileBatch : List Kind → Option BatchFile → (origin number : ℕ) → (packed : List (List ℕ)) → Type 0

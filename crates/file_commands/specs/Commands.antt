@@ -20,18 +20,17 @@ use Rattle.batch_reader.specs.Head.{ReadsOrigin, ReadsBatchNumber}
 use Rattle.batch_reader.specs.Rows.{ReadsRows, packings}
 use Rattle.batch_reader.specs.declared.error.BatchError.TheVariants as batch
 use Rattle.summary_codec.specs.Reading.{IsSummary, HasFault}
-use Rattle.replica_merge.specs.Replicas.{Held, part_of, told, Fits, SameQuery, DisagreeSomewhere}
+use Rattle.replica_merge.specs.Replicas.{Held, part_of, told, Fits, DisagreeSomewhere, MergeTells}
 use Rattle.replica_merge.specs.Counting.{MergeIsCounted}
-use Rattle.replica_merge.specs.declared.error.MergeError.TheVariants as merge
-use Rattle.origin_prefix.specs.declared.error.JoinError.TheVariants as join
-use Rattle.spill_lists.specs.declared.error.SpillError.TheVariants as spill
+use Rattle.replica_merge.specs.declared.error.MergeError.{MergeError}
+use Rattle.script_machine.specs.Refusals.{merge_refusal}
 use Rattle.table_print.specs.Aligned.{aligned_text, sides}
 use Rattle.table_print.specs.Table.{table_text}
 use Rattle.script_machine.specs.Machine.{IsNoQuery, IsNoBatch}
 use Rattle.script_machine.specs.Views.{Takes, IsOtherBatch}
 use Rattle.script_machine.specs.declared.error.RunError.TheVariants.{InputTooLong}
 use Rattle.script_machine.specs.declared.refusal.Refusal.{Refusal}
-use Rattle.script_machine.specs.declared.refusal.Refusal.TheVariants.{NoMemory, BadSchema, Batch, Summary, Merge, Run}
+use Rattle.script_machine.specs.declared.refusal.Refusal.TheVariants.{NoMemory, BadSchema, Batch, Summary, Run}
 use Rattle.file_commands.specs.declared.asking.Format.{Format}
 use Rattle.file_commands.specs.declared.asking.Format.TheVariants.{Csv, Aligned}
 
@@ -68,9 +67,9 @@ abbrev pub FeedIsCounted : Setting → Option BatchFile → Held → Work → �
 FeedIsCounted setting file held old writes new written =
     OfBatchFile held file (λ origin number packed. AreCounted (meaning held.query) setting (aggregations_on (part_of held.parts origin) number packed) old writes new written)
 
--- the batch of a file and the early one of its number have different rows; they have not
-abbrev pub FileDisagrees : Option BatchFile → Held → Type 0
-FileDisagrees file held = OfBatchFile held file (λ origin number packed. Disagrees (part_of held.parts origin) number packed)
+-- the batch of a file, which is of this origin and number, and the early one of its number have different rows; they have not
+abbrev pub FileDisagrees : Option BatchFile → Held → ℕ → Option ℕ → Type 0
+FileDisagrees file held of at = OfBatchFile held file (λ origin number packed. (of ≡ origin) × (at ≡ Some number) × Disagrees (part_of held.parts origin) number packed)
 
 abbrev pub FileAgrees : Option BatchFile → Held → Type 0
 FileAgrees file held = OfBatchFile held file (λ origin number packed. ¬ (Disagrees (part_of held.parts origin) number packed))
@@ -94,6 +93,7 @@ IsNoSummary file why = ⊥
 pub record MergesHeld (honest : Bool) (old other new : Held) : Type 0 where
   pub same : other.query ≡ old.query
   pub asked : new.query ≡ old.query
+  pub agree : ¬ (DisagreeSomewhere old.parts other.parts)
   pub knows : told new.parts ≡ union (told old.parts) (told other.parts)
   pub fits : IsTrue honest → (world : World) → IsWorld (kinds old.query.columns) world → Fits world old → Fits world other → Fits world new
 
@@ -106,15 +106,9 @@ abbrev pub FileMergeIsCounted : Setting → List ℕ → Held → Work → ℕ �
 FileMergeIsCounted setting file held old writes new written =
     (other : Held) × IsSummary file other.query other.parts × MergeIsCounted (meaning held.query) setting held.parts other.parts old writes new written
 
--- why a replica is not merged into another, unless memory ran out or the disk of tapes failed or is damaged: it has another query, or one
--- number of an origin has two batches
+-- why a replica is not merged into another
 abbrev pub IsApart : (old other : Held) → Refusal → Type 0
-IsApart old other NoMemory = Unit {0}
-IsApart old other (Merge (merge.Join (join.Spill spill.TapeFault))) = Unit {0}
-IsApart old other (Merge (merge.Join (join.Spill spill.TapeDamaged))) = Unit {0}
-IsApart old other (Merge (merge.Join join.OriginDisagrees)) = DisagreeSomewhere old.parts other.parts
-IsApart old other (Merge merge.DifferentQuery) = ¬ (SameQuery old.query other.query)
-IsApart old other why = ⊥
+IsApart old other why = (error : MergeError) × (why ≡ merge_refusal error) × MergeTells error old other
 
 -- why a file is not merged into a replica: it is no summary file, or its replica is not merged
 abbrev pub IsNotMerged : List ℕ → Held → Refusal → Type 0

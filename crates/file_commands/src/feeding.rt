@@ -1,11 +1,11 @@
 //! Batch files that are fed to a replica.
 
-ghost use Rattle.std.specs.Prelude.{◌≡◌, ◌≢◌, ◌<◌, IsTrue, IfOk, IfErr, OnOk, OnErr};
+ghost use Rattle.std.specs.Prelude.{◌≡◌, ◌≢◌, ◌<◌, ℕ, Option, IsTrue, IfOk, IfErr, OnOk, OnErr};
 ghost use Rattle.packed_rows.specs.Columns.{kinds};
 ghost use Rattle.batch_reader.specs.File.{read_file};
 ghost use Rattle.having_filter.specs.Meaning.{meaning};
 ghost use Rattle.hash_agg.specs.Counting.{setting_by};
-ghost use Rattle.script_machine.specs.Refusals.{origin_disagrees, tape_damaged};
+ghost use Rattle.script_machine.specs.declared.refusal.Refusal.TheVariants.{OriginDisagrees, TapeDamaged};
 ghost use Rattle.script_machine.specs.Views.{IsOfBatch, refusal_faults};
 ghost use Rattle.spill_tapes.specs.Calls.{failed};
 ghost use Rattle.spill_tapes.specs.Disk.{Leaves};
@@ -41,17 +41,17 @@ pub fn feed<H: KeyHash + Copy, D: TapeDisk>(
         IsNoBatchFile (kinds replica.old.query.columns) (read_file file.now) why) }
     // A batch that disagrees is never taken, and disagreement is told of no other.
     ensures agreed { OnOk result (FileAgrees (read_file file.now) replica.old) }
-    ensures disagree { IfErr result (λ why. why ≡ origin_disagrees →
-        FileDisagrees (read_file file.now) replica.old) }
-    ensures other { IfErr result (λ why. why ≡ origin_disagrees →
+    ensures disagree { IfErr result (λ why. (of : ℕ) (at : Option ℕ) → why ≡ OriginDisagrees of at →
+        FileDisagrees (read_file file.now) replica.old of at) }
+    ensures other { IfErr result (λ why. (of : ℕ) (at : Option ℕ) → why ≡ OriginDisagrees of at →
         IsOtherFile (read_file file.now) replica.old) }
-    ensures undamaged { IfErr result (λ why. IsTrue (D.honest disk.old) → why ≢ tape_damaged) }
+    ensures undamaged { IfErr result (λ why. IsTrue (D.honest disk.old) → why ≢ TapeDamaged) }
     ensures disk { Leaves D.TapeDisk (failed refusal_faults result) disk.old disk.new }
 {
     let schema = replica.query().schema();
     let batch = read_batch(alloc, schema, file)?;
     match replica.deliver(batch, means, disk, work) {
         Ok(delivered) => Ok(delivered),
-        Err(refused) => Err(Refusal::from(refused.why)),
+        Err(refused) => Err(Refusal::of_origin(refused.batch.origin, refused.why)),
     }
 }

@@ -1,13 +1,13 @@
 //! Summary files that are merged into a replica.
 
-ghost use Rattle.std.specs.Prelude.{◌≡◌, ◌≢◌, ◌<◌, IsTrue, IfErr, OnOk, OnErr};
+ghost use Rattle.std.specs.Prelude.{◌≡◌, ◌≢◌, ◌<◌, ℕ, Option, IsTrue, IfErr, OnOk, OnErr};
 ghost use Rattle.grouping_model.specs.World.{World};
 ghost use Rattle.having_filter.specs.Meaning.{meaning};
 ghost use Rattle.hash_agg.specs.Counting.{setting_by};
 ghost use Rattle.replica_merge.specs.Replicas.{Held, Fits};
 ghost use Rattle.replica_merge.specs.Counting.{MergeIsCounted};
 ghost use Rattle.summary_codec.specs.Reading.{IsSummary};
-ghost use Rattle.script_machine.specs.Refusals.{origin_disagrees, tape_damaged};
+ghost use Rattle.script_machine.specs.declared.refusal.Refusal.TheVariants.{OriginDisagrees, TapeDamaged};
 ghost use Rattle.spill_tapes.specs.Calls.{failed};
 ghost use Rattle.spill_tapes.specs.Disk.{Leaves};
 ghost use Rattle.script_machine.specs.Views.{refusal_faults};
@@ -34,9 +34,9 @@ fn take_in<H: KeyHash + Copy, D: TapeDisk>(
     ensures same { OnErr result (replica.new ≡ replica.old) }
     ensures uncounted { OnErr result (work.new ≡ work.old) }
     ensures why { IfErr result (IsApart replica.old other.now) }
-    ensures agree { IfErr result (λ why. why ≡ origin_disagrees → (world : World) →
+    ensures agree { IfErr result (λ why. (of : ℕ) (at : Option ℕ) → why ≡ OriginDisagrees of at → (world : World) →
         Fits world replica.old → ¬ (Fits world other.now)) }
-    ensures undamaged { IfErr result (λ why. IsTrue (D.honest disk.old) → why ≢ tape_damaged) }
+    ensures undamaged { IfErr result (λ why. IsTrue (D.honest disk.old) → why ≢ TapeDamaged) }
     ensures disk { Leaves D.TapeDisk (failed refusal_faults result) disk.old disk.new }
 {
     match replica.merge(other, means, disk, work) {
@@ -68,10 +68,10 @@ pub fn merge<H: KeyHash + Copy, D: TapeDisk>(
     ensures uncounted { OnErr result (work.new ≡ work.old) }
     ensures why { IfErr result (IsNotMerged file.now replica.old) }
     // Replicas that fit one world never disagree.
-    ensures agree { IfErr result (λ why. why ≡ origin_disagrees → (world : World) →
+    ensures agree { IfErr result (λ why. (of : ℕ) (at : Option ℕ) → why ≡ OriginDisagrees of at → (world : World) →
         Fits world replica.old → (other : Held) → IsSummary file.now other.query other.parts →
         ¬ (Fits world other)) }
-    ensures undamaged { IfErr result (λ why. IsTrue (D.honest disk.old) → why ≢ tape_damaged) }
+    ensures undamaged { IfErr result (λ why. IsTrue (D.honest disk.old) → why ≢ TapeDamaged) }
     ensures disk { Leaves D.TapeDisk (failed refusal_faults result) disk.old disk.new }
 {
     let other = load(alloc, file)?;

@@ -20,10 +20,11 @@ use Rattle.packed_rows.specs.PackingOrderLaws.{less}
 use Rattle.batch_reader.specs.Rows.{ArePackedRows}
 use Rattle.query_checks.specs.Checks.{Checked}
 use Rattle.having_filter.specs.Meaning.{meaning}
-use Rattle.origin_prefix.specs.Parts.{Batches, Part, rows_at, knows_number, IsEarly, IsBehind, IsOpen, IsPartOf, Delivers, Disagrees, Settles, behind}
+use Rattle.origin_prefix.specs.Parts.{Batches, Part, rows_at, knows_number, IsEarly, IsBehind, IsOpen, IsPartOf, Delivers, BatchTells, Settles, behind}
 use Rattle.batch_reader.specs.declared.batch.Batch.{Batch}
 use Rattle.origin_prefix.specs.declared.error.RefusedBatch.{RefusedBatch}
-use Rattle.origin_prefix.specs.declared.error.JoinError.TheVariants.{OriginDisagrees}
+use Rattle.origin_prefix.specs.declared.error.JoinError.TheVariants.{OriginDisagrees, Spill}
+use Rattle.spill_lists.specs.declared.error.SpillError.{SpillError}
 use Rattle.origin_prefix.specs.Errors.{no_memory}
 use Rattle.origin_prefix.proofs.ByNumber.{numbers, some_is, found_holds, all_put}
 use Rattle.origin_prefix.proofs.PartLaws.{settled_part}
@@ -107,20 +108,20 @@ reply_early honest q part number rows kept r there known =
     (λ reply e. subst (Delivers honest q part number rows part) (sym e.0) (known_early honest q part number rows kept there e.1)) known
 
 pub refused_early : (part : Part) (number : ℕ) (batch : Batch) (kept : List (List ℕ)) (r : Result Delivered RefusedBatch) → rows_at part.early number ≡ Some kept
-    → IfErr r (λ e. (e.batch ≡ batch) × (e.why ≡ OriginDisagrees) × (kept ≢ batch.rows)) → IfErr r (λ e. e.why ≡ OriginDisagrees → Disagrees part number batch.rows)
+    → IfErr r (λ e. (e.batch ≡ batch) × (e.why ≡ OriginDisagrees (Some number)) × (kept ≢ batch.rows)) → IfErr r (λ e. BatchTells e.why part number batch.rows)
 refused_early part number batch kept r there other =
-    IfErr-weaker r (λ e. (e.batch ≡ batch) × (e.why ≡ OriginDisagrees) × (kept ≢ batch.rows)) (λ e. e.why ≡ OriginDisagrees → Disagrees part number batch.rows)
-    (λ e is why. record { kept = kept; there = there; other = is.2 }) other
+    IfErr-weaker r (λ e. (e.batch ≡ batch) × (e.why ≡ OriginDisagrees (Some number)) × (kept ≢ batch.rows)) (λ e. BatchTells e.why part number batch.rows)
+    (λ e is. subst (λ why. BatchTells why part number batch.rows) (sym is.1) (refl, record { kept = kept; there = there; other = is.2 })) other
 
 -- a number behind the prefix that isn't early is not known
 pub unknown : (part : Part) (number : ℕ) → part.prefix < number → rows_at part.early number ≡ None → knows_number part number ≡ false
 unknown part number above none = grind (arith, above, ap is_some none)
 
--- and so whatever is refused
-pub unknown_refused : {T : Type 0} (r : Result T RefusedBatch) (part : Part) (number : ℕ) → part.prefix < number → rows_at part.early number ≡ None
-    → IfErr r (λ e. e.why ≢ OriginDisagrees → knows_number part number ≡ false)
-unknown_refused (Ok x) part number above none = tt
-unknown_refused (Err e) part number above none = λ _. unknown part number above none
+-- and so whatever is refused for want of memory, or by a disk
+pub unknown_refused : {T : Type 0} (r : Result T RefusedBatch) (part : Part) (number : ℕ) (rows : List (List ℕ)) → part.prefix < number → rows_at part.early number ≡ None
+    → IfErr r (λ e. (error : SpillError) × (e.why ≡ Spill error)) → IfErr r (λ e. BatchTells e.why part number rows)
+unknown_refused (Ok x) part number rows above none spills = tt
+unknown_refused (Err e) part number rows above none spills = subst (λ why. BatchTells why part number rows) (sym spills.1) (unknown part number above none)
 
 -- a batch was kept early, or handed back
 pub part_kept : (r : Result Delivered RefusedBatch) (query : Checked) (old new : Part) (batch : Batch) → IsPartOf query old → old.prefix + 1 < batch.number → batch.number ≤ LAST_NUMBER

@@ -3,15 +3,17 @@ use Rattle.std.specs.Option.{is_some}
 use Rattle.std.proofs.lemmas.Bool.{true≢false, cases_lt}
 use Rattle.std.proofs.lemmas.Map.Entries.{lookup-filter-keys}
 use Rattle.std.proofs.lemmas.List.Elements.{All-filter, All-from_recursion, recursion_from_All}
-use Rattle.std.specs.List.{AllByRecursion}
+use Rattle.std.specs.List.{AllByRecursion, filter}
+use Rattle.std.proofs.lemmas.List.Kept.{IsStrictlySortedBy-filter}
+use Rattle.std.specs.List.Sorted.{IsStrictlySortedBy}
 use Rattle.std.specs.BTreeMap.Range.{entries_between, range_contains}
 use Rattle.std.specs.declared.ops.Bound.TheVariants.{Excluded, Unbounded}
 use Rattle.std.specs.Prelude.{◌≡◌, ◌≢◌, ◌↔◌, refl, ℕ, ◌<◌, ◌≤◌, ◌⊎◌, nat_lt, Bool, true, false, not, cond, IsTrue, if◌then◌else◌, List, [], ◌∷◌, Option, Some, None, unwrap_or}
 use Rattle.std.proofs.Common.{◌∙◌, sym, ap, subst, inl, inr, arith}
 use Rattle.std.specs.Ordering.{eq_by_cmp, nat_cmp}
 use Rattle.origin_prefix.specs.Parts.{Batches, rows_at}
-use Rattle.origin_prefix.specs.Joins.{either, DiffersBehind}
-use Rattle.origin_prefix.proofs.ByNumber.{at_head, behind_head}
+use Rattle.origin_prefix.specs.Joins.{either, DiffersAt}
+use Rattle.origin_prefix.proofs.ByNumber.{numbers, some_is, at_head, behind_head, none_found, above_first}
 use Rattle.origin_prefix.proofs.Lists.{is_itself, is_same, is_other, same_or_other}
 
 -- a batch that was put under its number
@@ -38,41 +40,36 @@ copied number rows old new rest none put n = go (same_or_other n number)
 
 -- ---- batches that differ
 
--- the first of some batches doesn't differ: those behind it do, where any do
+-- the first of some batches doesn't differ: what does is behind it
 pub differs_later : (above number : ℕ) (rows : List (List ℕ)) (rest other : Batches)
     → (above < number → (those : List (List ℕ)) → rows_at other number ≡ Some those → rows ≢ those → ⊥)
-    → DiffersBehind above ((number, rows) ∷ rest) other → DiffersBehind above rest other
-differs_later above number rows rest other same d = go (same_or_other d.number number)
+    → (n : ℕ) → DiffersAt above ((number, rows) ∷ rest) other n → DiffersAt above rest other n
+differs_later above number rows rest other same n d = go (same_or_other n number)
   where
-    some_is : {X : Type 0} (x y : X) → Some x ≡ Some y → x ≡ y
-    some_is x y e = ap (λ o. unwrap_or o x) e
-
-    go : (d.number ≡ number) ⊎ (d.number ≢ number) → DiffersBehind above rest other
+    go : (n ≡ number) ⊎ (n ≢ number) → DiffersAt above rest other n
     go (inl e) =
         let here : d.rows ≡ rows = some_is d.rows rows (sym d.there ∙ ap (rows_at ((number, rows) ∷ rest)) e ∙ at_head number rows rest) in
-        absurd (same (subst (λ n. above < n) e d.behind) d.those (sym (ap (rows_at other) e) ∙ d.there_too) (λ equal. d.differ (here ∙ equal)))
+        absurd (same (subst (λ m. above < m) e d.behind) d.those (sym (ap (rows_at other) e) ∙ d.there_too) (λ equal. d.differ (here ∙ equal)))
     go (inr apart) =
         record {
-          number = d.number;
           behind = d.behind;
           rows = d.rows;
           those = d.those;
-          there = sym (behind_head d.number number rows rest apart) ∙ d.there;
+          there = sym (behind_head n number rows rest apart) ∙ d.there;
           there_too = d.there_too;
           differ = d.differ;
         }
 
--- the same of lists of which the first is taken
-pub differs_in_rest : (above number : ℕ) (rows : List (List ℕ)) (batches rest other : Batches) → batches ≡ (number, rows) ∷ rest
-    → (above < number → (those : List (List ℕ)) → rows_at other number ≡ Some those → rows ≢ those → ⊥)
-    → DiffersBehind above batches other → DiffersBehind above rest other
-differs_in_rest above number rows batches rest other is same d = differs_later above number rows rest other same (subst (λ bs. DiffersBehind above bs other) is d)
+pub none_differ : (above : ℕ) (other : Batches) (n : ℕ) → ¬ (DiffersAt above [] other n)
+none_differ above other n d = absurd (true≢false (sym (ap is_some d.there)))
 
-pub none_differ : (above : ℕ) (other : Batches) → ¬ (DiffersBehind above [] other)
-none_differ above other d = absurd (none_is d.there)
-  where
-    none_is : {X : Type 0} {x : X} → ◌≡◌ {A = Option X} None (Some x) → ⊥
-    none_is e = true≢false (sym (ap is_some e))
+-- none below the first of some rising batches does
+pub none_lower : (above number : ℕ) (rows : List (List ℕ)) (rest other : Batches) → IsStrictlySortedBy nat_cmp (numbers ((number, rows) ∷ rest))
+    → (lower : ℕ) → lower < number → ¬ (DiffersAt above ((number, rows) ∷ rest) other lower)
+none_lower above number rows rest other rising lower low d =
+    let apart : lower ≢ number = λ same. omega (arith, low, same) in
+    let none : rows_at rest lower ≡ None = none_found (λ (e : ℕ × List (List ℕ)). number < e.0) rest lower (above_first number rows rest rising) (λ x high. omega (arith, low, high)) in
+    absurd (true≢false (sym (ap is_some (sym none ∙ sym (behind_head lower number rows rest apart) ∙ d.there))))
 
 -- rows that are there are the same or not
 pub differ_from : (same : Bool) (rows those : List (List ℕ)) (found : Option (List (List ℕ))) → found ≡ Some those → IsTrue same ↔ (rows ≡ those)
@@ -144,15 +141,29 @@ are_behind above (batch ∷ batches) =
     low : range_contains nat_cmp (Excluded above) Unbounded batch.0 ≡ true → above < batch.0
     low e = grind arith
 
+-- they rise
+pub behind_rises : (above : ℕ) (batches : Batches) → IsStrictlySortedBy nat_cmp (numbers batches) → IsStrictlySortedBy nat_cmp (numbers (behind_number above batches))
+behind_rises above batches rising = subst (IsStrictlySortedBy nat_cmp) (sym (go batches)) (IsStrictlySortedBy-filter nat_cmp in_range (numbers batches) rising)
+  where
+    in_range : ℕ → Bool
+    in_range n = range_contains nat_cmp (Excluded above) Unbounded n
+
+    go : (bs : Batches) → numbers (behind_number above bs) ≡ filter in_range (numbers bs)
+    go [] = refl
+    go (b ∷ bs) =
+        elim (in_range b.0) as (λ t. numbers (cond t (b ∷ behind_number above bs) (behind_number above bs)) ≡ cond t (b.0 ∷ filter in_range (numbers bs)) (filter in_range (numbers bs))) [
+          | true ↦ ap (λ ns. b.0 ∷ ns) (go bs)
+          | false ↦ go bs
+        ]
+
 -- the same rows are behind it
-pub differs_behind : (above : ℕ) (one other : Batches) → DiffersBehind above one other → DiffersBehind above (behind_number above one) other
-differs_behind above one other d =
+pub differs_behind : (above : ℕ) (one other : Batches) (n : ℕ) → DiffersAt above one other n → DiffersAt above (behind_number above one) other n
+differs_behind above one other n d =
     record {
-      number = d.number;
       behind = d.behind;
       rows = d.rows;
       those = d.those;
-      there = found_behind above one d.number ∙ ap (λ b. if b then rows_at one d.number else None) (let low = d.behind in let e : nat_lt above d.number ≡ true = grind (arith, low) in e) ∙ d.there;
+      there = found_behind above one n ∙ ap (λ b. if b then rows_at one n else None) (let low = d.behind in let e : nat_lt above n ≡ true = grind (arith, low) in e) ∙ d.there;
       there_too = d.there_too;
       differ = d.differ;
     }

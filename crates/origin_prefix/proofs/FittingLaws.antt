@@ -235,6 +235,6 @@ agrees_joined q world origin a b fits_a fits_b (inl runs) =
     ∙ ap (λ rows. run_bytes (part q rows)) same
     ∙ sym (stands_spelled q (b.prefix * MOST_ROWS) b.run (part q (rows_upto world origin b.prefix)) fits_b.run).0))
 agrees_joined q world origin a b fits_a fits_b (inr d) =
-    let one = fits_a.early d.number d.rows d.there in
-    let two = fits_b.early d.number d.those d.there_too in
-    absurd (d.differ (one.2 ∙ ap (λ o. packings (unwrap_or o [])) (sym one.1 ∙ two.1) ∙ sym two.2))
+    let one = fits_a.early d.0 d.1.rows d.1.there in
+    let two = fits_b.early d.0 d.1.those d.1.there_too in
+    absurd (d.1.differ (one.2 ∙ ap (λ o. packings (unwrap_or o [])) (sym one.1 ∙ two.1) ∙ sym two.2))

@@ -12,7 +12,7 @@ no_memory = Spill NoMemory
 
 -- how often the disk failed in a call that is refused so; and in one that hands its batch back
 abbrev pub join_faults : JoinError → ℕ
-join_faults OriginDisagrees = 0
+join_faults (OriginDisagrees number) = 0
 join_faults (Spill error) = spill_faults error
 
 abbrev pub batch_faults : RefusedBatch → ℕ

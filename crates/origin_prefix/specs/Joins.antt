@@ -7,6 +7,8 @@ use Rattle.grouping_model.specs.Query.{Query}
 use Rattle.aggregation_cost.specs.Space.{Setting}
 use Rattle.hash_agg.specs.Counting.{AreCounted}
 use Rattle.hash_agg.specs.declared.work.Work.{Work}
+use Rattle.origin_prefix.specs.declared.error.JoinError.{JoinError}
+use Rattle.origin_prefix.specs.declared.error.JoinError.TheVariants.{OriginDisagrees, Spill}
 use Rattle.origin_prefix.specs.Parts.{Batches, Part, rows_at, Settles, aggregations_behind}
 
 -- the part whose prefix is the longer one, and the other
@@ -22,8 +24,7 @@ either None y = y
 either (Some x) y = Some x
 
 -- a number behind another one is there in both, with different rows
-pub record DiffersBehind (above : ℕ) (one other : Batches) : Type 0 where
-  pub number : ℕ
+pub record DiffersAt (above : ℕ) (one other : Batches) (number : ℕ) : Type 0 where
   pub behind : above < number
   pub rows : List (List ℕ)
   pub those : List (List ℕ)
@@ -31,9 +32,27 @@ pub record DiffersBehind (above : ℕ) (one other : Batches) : Type 0 where
   pub there_too : rows_at other number ≡ Some those
   pub differ : rows ≢ those
 
+abbrev pub DiffersBehind : ℕ → Batches → Batches → Type 0
+DiffersBehind above one other = (number : ℕ) × DiffersAt above one other number
+
+-- the first such number, or that there is none
+abbrev pub IsFirstDifference : ℕ → Batches → Batches → Option ℕ → Type 0
+IsFirstDifference above one other None = ¬ (DiffersBehind above one other)
+IsFirstDifference above one other (Some number) = DiffersAt above one other number × ((lower : ℕ) → lower < number → ¬ (DiffersAt above one other lower))
+
 -- two parts disagree: the same prefix has different groups, or a number behind both prefixes different rows
 abbrev pub PartsDisagree : Part → Part → Type 0
 PartsDisagree a b = ((a.prefix ≡ b.prefix) × (a.run ≢ b.run)) ⊎ DiffersBehind (max a.prefix b.prefix) a.early b.early
+
+-- where they do first: in the groups of the same prefix, or at the first such number
+abbrev pub DisagreeAt : Option ℕ → Part → Part → Type 0
+DisagreeAt None a b = (a.prefix ≡ b.prefix) × (a.run ≢ b.run)
+DisagreeAt (Some number) a b = (a.prefix ≡ b.prefix → a.run ≡ b.run) × IsFirstDifference (max a.prefix b.prefix) a.early b.early (Some number)
+
+-- what a refusal to join two parts says of them
+abbrev pub JoinTells : JoinError → Part → Part → Type 0
+JoinTells (OriginDisagrees number) a b = DisagreeAt number a b
+JoinTells (Spill error) a b = ¬ (PartsDisagree a b)
 
 -- the batches behind a number that are early in either of two parts, by rising number
 pub record Unites (prefix : ℕ) (a b : Part) (behind : Batches) : Type 0 where

@@ -14,6 +14,8 @@ use Rattle.grouping_model.specs.declared.delivered.Delivered.TheVariants as repl
 use Rattle.packed_rows.specs.Columns.{kinds}
 use Rattle.batch_reader.specs.Rows.{ArePackedRows}
 use Rattle.query_checks.specs.Checks.{Checked}
+use Rattle.origin_prefix.specs.declared.error.JoinError.{JoinError}
+use Rattle.origin_prefix.specs.declared.error.JoinError.TheVariants.{OriginDisagrees, Spill}
 use Rattle.having_filter.specs.Meaning.{meaning}
 use Rattle.group_runs.specs.Runs.{Entry}
 use Rattle.group_runs.specs.Standing.{IsRun}
@@ -122,6 +124,12 @@ pub record Disagrees (part : Part) (number : ℕ) (rows : List (List ℕ)) : Typ
   pub kept : List (List ℕ)
   pub there : rows_at part.early number ≡ Some kept
   pub other : kept ≢ rows
+
+-- what a refusal of a batch says of the part that doesn't take it: where it disagrees it is there with other rows, and anything else is a
+-- reason only for a number that is not known
+abbrev pub BatchTells : JoinError → Part → ℕ → List (List ℕ) → Type 0
+BatchTells (OriginDisagrees told) part number rows = (told ≡ Some number) × Disagrees part number rows
+BatchTells (Spill error) part number rows = knows_number part number ≡ false
 
 -- what becomes of a part to which a batch is delivered, and what is replied
 abbrev pub Delivers : (honest : Bool) → Query → Part → ℕ → List (List ℕ) → Part → Delivered → Type 0

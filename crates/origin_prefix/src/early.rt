@@ -8,7 +8,7 @@ ghost use Rattle.origin_prefix.specs.Parts.{rows_at, IsBehind, following, rows_f
 ghost use Rattle.grouping_model.specs.Datum.{Kind};
 ghost use Rattle.std.specs.List.Sorted.{IsStrictlySortedBy};
 ghost use Rattle.std.specs.Ordering.{nat_cmp};
-ghost use Rattle.origin_prefix.specs.Joins.{either, DiffersBehind};
+ghost use Rattle.origin_prefix.specs.Joins.{either, IsFirstDifference};
 ghost use Rattle.std.specs.Option.{option_copied};
 
 use batch_reader::PackedRows;
@@ -78,20 +78,20 @@ pub(crate) fn copy_above(
     Ok(())
 }
 
-/// Whether a number behind another one is there in both, with different rows.
-pub(crate) fn differ_behind(
+/// The first number behind another one that is there in both, with different rows.
+pub(crate) fn first_difference(
     number: u32,
     one: &BTreeMap<u32, PackedRows>,
     other: &BTreeMap<u32, PackedRows>,
-) -> bool
-    ensures { IsTrue result ↔ DiffersBehind number one.now.entries other.now.entries }
+) -> Option<u32>
+    ensures { IsFirstDifference number one.now.entries other.now.entries result }
 {
     for (next, rows) in one.range((Excluded(number), Unbounded)) {
         if differs_from(rows, other.get(next)) {
-            return true;
+            return Some(*next);
         }
     }
-    false
+    None
 }
 
 /// Whether there are rows, and others.

@@ -12,9 +12,13 @@ use thiserror::Error;
 /// Why a batch is not taken, or parts are not joined.
 #[derive(Clone, Copy, Debug, PartialEq, Eq, Error)]
 pub enum JoinError {
-    /// One number of the origin has two different batches, or equal prefixes have different groups.
+    /// A number of the origin has two different batches: this one, which is early, or where none is told, one within equal prefixes,
+    /// which have different groups.
     #[error("one number of an origin has two different batches")]
-    OriginDisagrees,
+    OriginDisagrees {
+        /// The number, if it is early.
+        number: Option<u32>,
+    },
     /// Memory was wanting, or the disk of tapes failed while batches were folded.
     #[error(transparent)]
     Spill(SpillError),

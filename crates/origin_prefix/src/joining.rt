@@ -1,10 +1,10 @@
 //! Joining two parts of one origin.
 
-ghost use Rattle.std.specs.Prelude.{◌≡◌, ◌≢◌, ◌≤◌, ◌↔◌, IsTrue, IfOk, IfErr, OnOk, OnErr};
+ghost use Rattle.std.specs.Prelude.{◌≡◌, ◌≢◌, ◌≤◌, ℕ, Option, None, false, IsTrue, IfOk, IfErr, OnOk, OnErr};
 ghost use Rattle.having_filter.specs.Meaning.{meaning};
 ghost use Rattle.hash_agg.specs.Counting.{AreCounted, setting_by};
 ghost use Rattle.origin_prefix.specs.Parts.{Batches, IsPartOf, Settles, aggregations_behind};
-ghost use Rattle.origin_prefix.specs.Joins.{PartsDisagree, Joins, Unites, JoinIsCounted};
+ghost use Rattle.origin_prefix.specs.Joins.{PartsDisagree, DisagreeAt, JoinTells, Joins, Unites, JoinIsCounted};
 ghost use Rattle.origin_prefix.specs.Errors.{join_faults};
 ghost use Rattle.spill_tapes.specs.Calls.{failed};
 ghost use Rattle.spill_tapes.specs.Disk.{Leaves};
@@ -12,7 +12,7 @@ ghost use Rattle.spill_lists.specs.Errors.{spill_faults};
 ghost use Rattle.spill_lists.specs.declared.error.SpillError.TheVariants.{TapeDamaged};
 ghost use Rattle.origin_prefix.specs.declared.error.JoinError.TheVariants.{OriginDisagrees, Spill};
 
-use crate::early::{copy_above, differ_behind};
+use crate::early::{copy_above, first_difference};
 use crate::error::JoinError;
 use crate::part::OriginPart;
 use hash_agg::{KeyHash, Means, SpillError, TapeDisk, Work};
@@ -41,16 +41,11 @@ impl OriginPart {
         ensures uncounted { OnErr result (work.new ≡ work.old) }
         ensures part { IfOk result (IsPartOf query.now) }
         ensures agree { IfOk result (λ _. ¬ (PartsDisagree self.now other.now)) }
-        ensures disagree { IfErr result (λ e. e ≡ OriginDisagrees →
-            PartsDisagree self.now other.now) }
-        ensures agree_else { IfErr result (λ e. e ≢ OriginDisagrees →
-            ¬ (PartsDisagree self.now other.now)) }
+        ensures tells { IfErr result (λ why. JoinTells why self.now other.now) }
         ensures undamaged { IfErr result (λ e. IsTrue (D.honest disk.old) → e ≢ Spill TapeDamaged) }
         ensures disk { Leaves D.TapeDisk (failed join_faults result) disk.old disk.new }
     {
-        if self.disagrees(other) {
-            return Err(JoinError::OriginDisagrees);
-        }
+        self.agree(other)?;
         Ok(self.joined(other, query, means, disk, work)?)
     }
 
@@ -80,14 +75,30 @@ impl OriginPart {
         self.united(other, query, means, disk, work)
     }
 
-    /// Whether the parts disagree.
-    fn disagrees(&self, other: &OriginPart) -> bool
-        ensures { IsTrue result ↔ PartsDisagree self.now other.now }
+    /// Whether the prefixes are equal, with other groups.
+    fn has_other_groups(&self, other: &OriginPart) -> bool
+        ensures other { IsTrue result → DisagreeAt None self.now other.now }
+        ensures same { result ≡ false → self.now.prefix ≡ other.now.prefix → self.now.run ≡ other.now.run }
     {
-        if self.prefix == other.prefix && !self.run.same_groups(&other.run) {
-            return true;
+        self.prefix == other.prefix && !self.run.same_groups(&other.run)
+    }
+
+    /// Refuses parts that disagree, and tells where they do first.
+    fn agree(&self, other: &OriginPart) -> Result<(), JoinError>
+        ensures agree { IfOk result (λ _. ¬ (PartsDisagree self.now other.now)) }
+        ensures disagree { IfErr result (λ why. (number : Option ℕ) × (why ≡ OriginDisagrees number)
+            × DisagreeAt number self.now other.now) }
+    {
+        if self.has_other_groups(other) {
+            return Err(JoinError::OriginDisagrees { number: None });
         }
-        differ_behind(self.prefix.max(other.prefix), &self.early, &other.early)
+        let above = self.prefix.max(other.prefix);
+        match first_difference(above, &self.early, &other.early) {
+            None => Ok(()),
+            Some(number) => Err(JoinError::OriginDisagrees {
+                number: Some(number),
+            }),
+        }
     }
 
     /// What this part and one whose prefix is not longer give.

@@ -9,7 +9,7 @@ ghost use Rattle.hash_agg.specs.Counting.{AreCounted, setting_by};
 ghost use Rattle.having_filter.specs.Meaning.{meaning};
 ghost use Rattle.packed_rows.specs.Columns.{kinds};
 ghost use Rattle.batch_reader.specs.Rows.{ArePackedRows};
-ghost use Rattle.origin_prefix.specs.Parts.{Part, empty, is_nothing, knows_number, IsOpen, IsPartOf, behind, following, rows_following, aggregations_behind, aggregations_on, Folds, Settles, Delivers, Disagrees};
+ghost use Rattle.origin_prefix.specs.Parts.{Part, empty, is_nothing, knows_number, IsOpen, IsPartOf, behind, following, rows_following, aggregations_behind, aggregations_on, Folds, Settles, Delivers, BatchTells};
 ghost use Rattle.spill_tapes.specs.Calls.{failed};
 ghost use Rattle.spill_tapes.specs.Disk.{Leaves};
 ghost use Rattle.spill_lists.specs.Errors.{spill_faults};
@@ -69,13 +69,14 @@ fn refused(batch: Batch, why: JoinError) -> RefusedBatch
 /// What is replied to a batch whose number is kept early, with these rows.
 fn known_again(kept: &PackedRows, batch: Batch) -> Result<Delivered, RefusedBatch>
     ensures known { IfOk result (λ reply. (reply ≡ Known) × (kept.now ≡ batch.rows)) }
-    ensures other { IfErr result (λ e. (e.batch ≡ batch) × (e.why ≡ OriginDisagrees)
-        × (kept.now ≢ batch.rows)) }
+    ensures other { IfErr result (λ e. (e.batch ≡ batch)
+        × (e.why ≡ OriginDisagrees (Some batch.number)) × (kept.now ≢ batch.rows)) }
 {
     if kept.same_rows(&batch.rows) {
         return Ok(Delivered::Known);
     }
-    Err(refused(batch, JoinError::OriginDisagrees))
+    let number = Some(batch.number);
+    Err(refused(batch, JoinError::OriginDisagrees { number }))
 }
 
 /// The rows of the batch next to a prefix, where they are given, and of the early batches that follow without a gap, as inputs, and
@@ -314,10 +315,7 @@ impl OriginPart {
         ensures uncounted { OnErr result (work.new ≡ work.old) }
         ensures part { IsPartOf query.now self.new }
         ensures refused { IfErr result (λ e. (e.batch ≡ batch) × (self.new ≡ self.old)) }
-        ensures why { IfErr result (λ e. e.why ≡ OriginDisagrees →
-            Disagrees self.old batch.number batch.rows) }
-        ensures unknown { IfErr result (λ e. e.why ≢ OriginDisagrees →
-            knows_number self.old batch.number ≡ false) }
+        ensures tells { IfErr result (λ e. BatchTells e.why self.old batch.number batch.rows) }
         ensures undamaged { IfErr result (λ e. IsTrue (D.honest disk.old) → e.why ≢ Spill TapeDamaged) }
         ensures disk { Leaves D.TapeDisk (failed batch_faults result) disk.old disk.new }
     {

@@ -23,8 +23,9 @@ use Rattle.batch_reader.specs.Rows.{packings}
 use Rattle.batch_reader.specs.declared.batch.Batch.{Batch}
 use Rattle.query_checks.specs.Checks.{Checked}
 use Rattle.having_filter.specs.Meaning.{meaning}
-use Rattle.origin_prefix.specs.Parts.{Part, empty, rows_at, knows_number, IsEarly, IsPartOf, Delivers, Disagrees}
-use Rattle.origin_prefix.specs.declared.error.JoinError.TheVariants.{OriginDisagrees}
+use Rattle.origin_prefix.specs.Parts.{Part, empty, rows_at, knows_number, IsEarly, IsPartOf, Delivers, Disagrees, BatchTells}
+use Rattle.origin_prefix.specs.declared.error.JoinError.TheVariants.{OriginDisagrees, Spill}
+use Rattle.spill_lists.specs.declared.error.SpillError.{SpillError}
 use Rattle.origin_prefix.specs.declared.error.RefusedBatch.{RefusedBatch}
 use Rattle.origin_prefix.specs.Fitting.{tells, FitsOrigin}
 use Rattle.origin_prefix.proofs.Lists.{is_itself, is_other, same_or_other}
@@ -61,9 +62,9 @@ when_fine (Err x) P p e = absurd (true≢false e)
 pub taken_at : (r : Result Delivered RefusedBatch) (honest : Bool) (query : Checked) (old new : BTreeMap ℕ Part) (batch : Batch) (before after : Part)
     → part_at old.entries batch.origin ≡ Some before → WritesThrough nat_cmp (nat_cmp batch.origin) old after new → IsPartOf query after
     → IfOk r (Delivers honest (meaning query) before batch.number batch.rows after) → IfErr r (λ e. (e.batch ≡ batch) × (after ≡ before))
-    → IfErr r (λ e. e.why ≡ OriginDisagrees → Disagrees before batch.number batch.rows) → IfErr r (λ e. e.why ≢ OriginDisagrees → knows_number before batch.number ≡ false)
+    → IfErr r (λ e. BatchTells e.why before batch.number batch.rows)
     → DeliveredTo honest query old.entries batch new.entries r
-taken_at (Ok reply) honest query old new batch before after there written is d refused other unknown =
+taken_at (Ok reply) honest query old new batch before after there written is d refused tells =
     let updates = written.3 (ap is_some there) in
     record {
       part = after;
@@ -73,13 +74,12 @@ taken_at (Ok reply) honest query old new batch before after there written is d r
       others = λ other apart. updates.2 other (is_other batch.origin other (λ e. apart (sym e)));
       rising = written.4;
     }
-taken_at (Err e) honest query old new batch before after there written is d refused other unknown =
+taken_at (Err e) honest query old new batch before after there written is d refused tells =
     let here : before ≡ part_of old.entries batch.origin = sym (part_here old.entries batch.origin before there) in
     record {
       back = refused.0;
       same = written.0 ∙ ap (set_value (is_at (nat_cmp batch.origin)) old.entries) refused.1 ∙ set_value_same (is_at (nat_cmp batch.origin)) old.entries before there;
-      other = λ why. subst (λ (p : Part). Disagrees p batch.number batch.rows) here (other why);
-      unknown = λ why. subst (λ (p : Part). knows_number p batch.number ≡ false) here (unknown why);
+      tells = subst (λ (p : Part). BatchTells e.why p batch.number batch.rows) here tells;
     }
 
 -- the part that was made for the first batch of an origin is nothing, as it was before
@@ -112,15 +112,14 @@ nothing_known old o n none low =
     let zero : nat_le n 0 ≡ false = grind arith in
     ap (λ found. knows_number (unwrap_or found empty) n) none ∙ ap (λ b. b || false) zero
 
-pub first_refused : (old between failed new : Parts) (batch : Batch) (e : RefusedBatch) → part_at old batch.origin ≡ None → 1 ≤ batch.number → between ≡ insert_entry nat_cmp old batch.origin empty
+pub first_refused : (old between failed new : Parts) (batch : Batch) (e : RefusedBatch) → part_at old batch.origin ≡ None → between ≡ insert_entry nat_cmp old batch.origin empty
     → RefusesAt between batch failed e → new ≡ remove_entry (is_at (nat_cmp batch.origin)) failed → RefusesAt old batch new e
-first_refused old between failed new batch e none low put r removed =
+first_refused old between failed new batch e none put r removed =
     let nothing : part_of between batch.origin ≡ part_of old batch.origin = made_part old between batch.origin none put in
     record {
       back = r.back;
       same = place_given_up old between failed new batch.origin none put r.same removed;
-      other = λ why. subst (λ (p : Part). Disagrees p batch.number batch.rows) nothing (r.other why);
-      unknown = λ why. nothing_known old batch.origin batch.number none low;
+      tells = subst (λ (p : Part). BatchTells e.why p batch.number batch.rows) nothing r.tells;
     }
 
 -- ---- the whole replica
@@ -284,7 +283,7 @@ never_disagrees query old o n rows d world those fits there same =
 
 module _ (r : Result Delivered RefusedBatch) (honest : Bool) (query : Checked) (old new : Parts) (batch : Batch) (held : AreHeldParts query old) (limits : InLimits (batch.origin, batch.number))
     (done : DeliveredTo honest query old batch new r) where
-  takes : IfOk r (DeliversAt honest query old batch.origin batch.number batch.rows new)
+  pub takes : IfOk r (DeliversAt honest query old batch.origin batch.number batch.rows new)
   takes = go r done
     where
       go : (s : Result Delivered RefusedBatch) → DeliveredTo honest query old batch new s → IfOk s (DeliversAt honest query old batch.origin batch.number batch.rows new)
@@ -320,19 +319,22 @@ module _ (r : Result Delivered RefusedBatch) (honest : Bool) (query : Checked) (
   pub handed_back : IfErr r (λ e. (e.batch ≡ batch) × ◌≡◌ {A = Held} (record { query = query; parts = new }) (record { query = query; parts = old }))
   handed_back = IfErr-weaker r (RefusesAt old batch new) _ (λ e d. (d.back, λ i. record { query = query; parts = d.same i })) refuses
 
-  pub disagreed : IfErr r (λ e. e.why ≡ OriginDisagrees → Disagrees (part_of old batch.origin) batch.number batch.rows)
-  disagreed = IfErr-weaker r (RefusesAt old batch new) _ (λ e d. d.other) refuses
+  pub why_told : IfErr r (λ e. BatchTells e.why (part_of old batch.origin) batch.number batch.rows)
+  why_told = IfErr-weaker r (RefusesAt old batch new) _ (λ e d. d.tells) refuses
 
   pub agreed_else : IfOk r (λ _. ¬ (Disagrees (part_of old batch.origin) batch.number batch.rows))
   agreed_else =
       IfOk-weaker r (DeliversAt honest query old batch.origin batch.number batch.rows new) _
       (λ reply d. taken_agrees honest query (part_of old batch.origin) d.part batch.number batch.rows reply (part_is query old held batch.origin) d.delivers) takes
 
-  pub unknown_else : IfErr r (λ e. e.why ≢ OriginDisagrees → knows (told old) (batch.origin, batch.number) ≡ false)
-  unknown_else = IfErr-weaker r (RefusesAt old batch new) _ (λ e d why. known_at old held.rising batch.origin batch.number limits.1 ∙ d.unknown why) refuses
+  pub unknown_else : IfErr r (λ e. (error : SpillError) → e.why ≡ Spill error → knows (told old) (batch.origin, batch.number) ≡ false)
+  unknown_else =
+      IfErr-weaker r (RefusesAt old batch new) _
+      (λ e d error why. known_at old held.rising batch.origin batch.number limits.1 ∙ subst (λ w. BatchTells w (part_of old batch.origin) batch.number batch.rows) why d.tells) refuses
 
-  pub world_agrees : IfErr r (λ e. e.why ≡ OriginDisagrees → (world : World) (those : List Row) → Fits world (record { query = query; parts = old }) → world batch.origin batch.number ≡ Some those
+  pub world_agrees : IfErr r (λ e. (told : Option ℕ) → e.why ≡ OriginDisagrees told → (world : World) (those : List Row) → Fits world (record { query = query; parts = old }) → world batch.origin batch.number ≡ Some those
       → batch.rows ≢ packings those)
   world_agrees =
       IfErr-weaker r (RefusesAt old batch new) _
-      (λ e d why world those fits there. never_disagrees query old batch.origin batch.number batch.rows (d.other why) world those fits there) refuses
+      (λ e d told why world those fits there.
+      never_disagrees query old batch.origin batch.number batch.rows (subst (λ w. BatchTells w (part_of old batch.origin) batch.number batch.rows) why d.tells).1 world those fits there) refuses

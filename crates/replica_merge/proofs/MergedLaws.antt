@@ -12,13 +12,15 @@ use Rattle.packed_rows.specs.Columns.{kinds}
 use Rattle.query_checks.specs.Checks.{Checked}
 use Rattle.having_filter.specs.Meaning.{meaning}
 use Rattle.origin_prefix.specs.Parts.{Part, empty, is_nothing, IsPartOf}
-use Rattle.origin_prefix.specs.Joins.{either, Joins, PartsDisagree}
+use Rattle.origin_prefix.specs.Joins.{either, Joins, PartsDisagree, DisagreeAt, JoinTells}
+use Rattle.origin_prefix.specs.declared.error.JoinError.{JoinError}
+use Rattle.origin_prefix.specs.declared.error.JoinError.TheVariants.{OriginDisagrees}
 use Rattle.origin_prefix.specs.Fitting.{tells, FitsOrigin}
 use Rattle.origin_prefix.proofs.Lists.{is_itself, is_other, same_or_other}
-use Rattle.origin_prefix.proofs.ByNumber.{numbers, at, at_head, behind_head, all_found, put_same, put_else, first_alone, some_is}
+use Rattle.origin_prefix.proofs.ByNumber.{numbers, at, at_head, behind_head, none_found, above_first, all_found, put_same, put_else, first_alone, some_is}
 use Rattle.origin_prefix.proofs.TellingLaws.{joined_tells}
 use Rattle.origin_prefix.proofs.FittingLaws.{fits_joined, agrees_joined}
-use Rattle.replica_merge.specs.Replicas.{Parts, part_at, part_of, told, Fits, IsHeldPart, AreHeldParts, AsideAt, JoinedAside, JoinsAt, Merges, DisagreeSomewhere, filled}
+use Rattle.replica_merge.specs.Replicas.{Parts, part_at, part_of, told, Fits, IsHeldPart, AreHeldParts, AsideAt, JoinedAside, JoinsAt, Merges, DisagreeSomewhere, IsFirstRefused, filled}
 use Rattle.replica_merge.proofs.ToldLaws.{told_is, some_told, empty_tells, part_here}
 use Rattle.replica_merge.proofs.HeldLaws.{held_part}
 use Rattle.replica_merge.proofs.DeliveredLaws.{part_is, some_if_tells}
@@ -81,12 +83,22 @@ joined_more honest query own old_parts all old rest n p new rising joins is agre
         subst (λ found. JoinedSoFar honest query (part_of own o) (part_at own o) (part_at all o) (part_at rest o) found) (sym (put_else old n new o other))
         (subst (λ left. JoinedSoFar honest query (part_of own o) (part_at own o) (part_at all o) left (part_at old o)) (behind_head o n p rest other) before)
 
--- the parts of an origin disagree
-pub found_disagreement : (honest : Bool) (query : Checked) (own all old : Parts) (n : ℕ) (p : Part) (rest : Parts) → JoinedSoFar honest query (part_of own n) (part_at own n) (part_at all n) (part_at ((n, p) ∷ rest) n) (part_at old n)
-    → PartsDisagree (part_of own n) p → DisagreeSomewhere own all
-found_disagreement honest query own all old n p rest before d =
-    let had = subst (λ left. JoinedSoFar honest query (part_of own n) (part_at own n) (part_at all n) left (part_at old n)) (at_head n p rest) before in
-    record { origin = n; theirs = p; there = had.0; parts = d }
+-- the parts of an origin are not joined, and those of all lower ones were
+pub found_refused : (honest : Bool) (query : Checked) (own all old : Parts) (n : ℕ) (p : Part) (rest : Parts) (why : JoinError) → IsStrictlySortedBy nat_cmp (numbers ((n, p) ∷ rest))
+    → ((o : ℕ) → JoinedSoFar honest query (part_of own o) (part_at own o) (part_at all o) (part_at ((n, p) ∷ rest) o) (part_at old o))
+    → JoinTells why (part_of own n) p → IsFirstRefused own all n why
+found_refused honest query own all old n p rest why rising before tells =
+    record {
+      part = p;
+      there = (subst (λ left. JoinedSoFar honest query (part_of own n) (part_at own n) (part_at all n) left (part_at old n)) (at_head n p rest) (before n)).0;
+      tells = tells;
+      below = λ lower low other there d.
+          let apart : lower ≢ n = λ same. omega (arith, low, same) in
+          let none : part_at rest lower ≡ None = none_found (λ (e : ℕ × Part). n < e.0) rest lower (above_first n p rest rising) (λ x high. omega (arith, low, high)) in
+          let aside : AsideAt honest query (part_of own lower) (part_at own lower) (part_at all lower) (part_at old lower) =
+          subst (λ left. JoinedSoFar honest query (part_of own lower) (part_at own lower) (part_at all lower) left (part_at old lower)) (behind_head lower n p rest apart ∙ none) (before lower) in
+          (subst (λ found. AsideAt honest query (part_of own lower) (part_at own lower) found (part_at old lower)) there aside).4 d;
+    }
 
 -- ---- putting back
 
@@ -179,6 +191,17 @@ merges_told honest query old other new held theirs rising merges =
     told_is new rising batch.0 batch.1 ∙ merges_tells honest query old other new held theirs merges batch.0 batch.1
     ∙ sym (knows_union (told old) (told other) batch ∙ (λ i. told_is old held.rising batch.0 batch.1 i || told_is other theirs.rising batch.0 batch.1 i)))
 
+-- it fits each world that both fitted
+pub merges_fit : (honest : Bool) → IsTrue honest → (query : Checked) (old other new : Parts) → Merges honest query old other new → (world : World) → IsWorld (kinds query.columns) world
+    → Fits world (record { query = query; parts = old }) → Fits world (record { query = query; parts = other }) → Fits world (record { query = query; parts = new })
+merges_fit honest so query old other new merges world is fits fits_other o = go (part_at other o) refl (merges o)
+  where
+    go : (found : Option Part) → part_at other o ≡ found → JoinsAt honest query (part_of old o) (part_at old o) found (part_at new o) → FitsOrigin (meaning query) world o (part_of new o)
+    go None e at = subst (λ x. FitsOrigin (meaning query) world o (unwrap_or x empty)) (sym at) (fits o)
+    go (Some t) e at =
+        subst (λ x. FitsOrigin (meaning query) world o (unwrap_or x empty)) (sym at.1)
+        (fits_joined honest so query world is o (part_of old o) t at.0 (fits o) (subst (FitsOrigin (meaning query) world o) (part_here other o t e) (fits_other o)) at.2)
+
 module _ (honest : Bool) (query : Checked) (old other joined new : Parts) (held : AreHeldParts query old) (theirs : AreHeldParts query other) (aside : JoinedAside honest query old other joined)
     (back : (o : ℕ) → part_at new o ≡ filled (part_at joined o) (part_at old o)) where
   merges_at : (o : ℕ) → JoinsAt honest query (part_of old o) (part_at old o) (part_at other o) (part_at new o)
@@ -228,13 +251,7 @@ module _ (honest : Bool) (query : Checked) (old other joined new : Parts) (held 
   merged_told rising = merges_told honest query old other new held theirs rising merges_at
 
   pub merged_fits : IsTrue honest → (world : World) → IsWorld (kinds query.columns) world → Fits world (record { query = query; parts = old }) → Fits world (record { query = query; parts = other }) → Fits world (record { query = query; parts = new })
-  merged_fits so world is fits fits_other o = go (part_at other o) refl (merges_at o)
-    where
-      go : (found : Option Part) → part_at other o ≡ found → JoinsAt honest query (part_of old o) (part_at old o) found (part_at new o) → FitsOrigin (meaning query) world o (part_of new o)
-      go None e at = subst (λ x. FitsOrigin (meaning query) world o (unwrap_or x empty)) (sym at) (fits o)
-      go (Some t) e at =
-          subst (λ x. FitsOrigin (meaning query) world o (unwrap_or x empty)) (sym at.1)
-          (fits_joined honest so query world is o (part_of old o) t at.0 (fits o) (subst (FitsOrigin (meaning query) world o) (part_here other o t e) (fits_other o)) at.2)
+  merged_fits so world is fits fits_other = merges_fit honest so query old other new merges_at world is fits fits_other
 
 -- where there are joined parts aside of each origin, none disagree
 pub aside_agree : (honest : Bool) (query : Checked) (old other joined : Parts) → JoinedAside honest query old other joined → ¬ (DisagreeSomewhere old other)
@@ -242,7 +259,12 @@ aside_agree honest query old other joined aside d =
     (subst (λ found. AsideAt honest query (part_of old d.origin) (part_at old d.origin) found (part_at joined d.origin)) d.there (aside.at d.origin)).4 d.parts
 
 -- replicas that fit one world never disagree
-pub never_somewhere : (query : Checked) (old other : Parts) → DisagreeSomewhere old other → (world : World) → Fits world (record { query = query; parts = old }) → Fits world (record { query = query; parts = other }) → ⊥
-never_somewhere query old other d world fits fits_other =
-    absurd (agrees_joined (meaning query) world d.origin (part_of old d.origin) d.theirs (fits d.origin)
-    (subst (FitsOrigin (meaning query) world d.origin) (part_here other d.origin d.theirs d.there) (fits_other d.origin)) d.parts)
+pub never_refused : (query : Checked) (own theirs : Parts) (origin : ℕ) (number : Option ℕ) → IsFirstRefused own theirs origin (OriginDisagrees number)
+    → (world : World) → Fits world (record { query = query; parts = own }) → Fits world (record { query = query; parts = theirs }) → ⊥
+never_refused query own theirs origin number d world fits fits_other =
+    absurd (agrees_joined (meaning query) world origin (part_of own origin) d.part (fits origin)
+    (subst (FitsOrigin (meaning query) world origin) (part_here theirs origin d.part d.there) (fits_other origin)) (go number d.tells))
+  where
+    go : (told : Option ℕ) → DisagreeAt told (part_of own origin) d.part → PartsDisagree (part_of own origin) d.part
+    go None groups = inl groups
+    go (Some n) first = inr (n, first.1.0)

@@ -1,5 +1,5 @@
 -- What a replica holds and tells, and when it fits a world. All of this is our own.
-use Rattle.std.specs.Prelude.{◌≡◌, ◌≢◌, ℕ, ◌*◌, List, ◌++◌, map, flat_map, Option, Some, None, option_map, unwrap_or, Bool, if◌then◌else◌, Result, Ok, Err, false, IsTrue, OnOk, OnErr, IfErr}
+use Rattle.std.specs.Prelude.{◌≡◌, ◌≢◌, ℕ, ◌*◌, ◌<◌, List, ◌++◌, map, flat_map, Option, Some, None, option_map, unwrap_or, Bool, if◌then◌else◌, Result, Ok, Err, true, IsTrue, OnOk, OnErr, IfErr}
 use Rattle.std.specs.List.Sorted.{IsStrictlySortedBy}
 use Rattle.std.specs.Map.{lookup}
 use Rattle.std.specs.Ordering.{eq_by_cmp, nat_cmp}
@@ -7,14 +7,14 @@ use Rattle.grouping_model.specs.declared.limits.TheConstants.{MOST_ROWS}
 use Rattle.grouping_model.specs.declared.delivered.Delivered.{Delivered}
 use Rattle.hash_agg.specs.Inputs.{Brought, Counted}
 use Rattle.grouping_model.specs.Replies.{KnownOrigin}
-use Rattle.grouping_model.specs.World.{World, Batch, Knowledge, knowing, count_up}
-use Rattle.packed_rows.specs.Columns.{printed}
+use Rattle.grouping_model.specs.World.{World, IsWorld, Batch, Knowledge, knowing, count_up}
+use Rattle.packed_rows.specs.Columns.{kinds, printed}
 use Rattle.having_filter.specs.Kept.{by_names}
 use Rattle.query_checks.specs.Checks.{Checked}
 use Rattle.having_filter.specs.Meaning.{meaning}
 use Rattle.query_checks.specs.Spelling.{spelling}
 use Rattle.batch_reader.specs.declared.batch.Batch as packed
-use Rattle.origin_prefix.specs.Parts.{Part, empty, knows_number, is_nothing, IsPartOf, Delivers, Disagrees, aggregations_on}
+use Rattle.origin_prefix.specs.Parts.{Part, empty, is_nothing, IsPartOf, Delivers, BatchTells, aggregations_on}
 use Rattle.aggregation_cost.specs.Space.{Setting}
 use Rattle.spill_tapes.specs.Calls.{failed}
 use Rattle.spill_tapes.specs.Disk.{Leaves}
@@ -23,12 +23,15 @@ use Rattle.spill_lists.specs.declared.error.SpillError.TheVariants.{TapeDamaged}
 use Rattle.hash_agg.specs.Counting.{AreCounted}
 use Rattle.hash_agg.specs.declared.work.Work.{Work}
 use Rattle.origin_prefix.specs.Errors.{batch_faults}
-use Rattle.origin_prefix.specs.declared.error.JoinError.TheVariants.{OriginDisagrees, Spill}
+use Rattle.origin_prefix.specs.declared.error.JoinError.{JoinError}
+use Rattle.origin_prefix.specs.declared.error.JoinError.TheVariants.{Spill}
 use Rattle.origin_prefix.specs.declared.error.RefusedBatch.{RefusedBatch}
-use Rattle.origin_prefix.specs.Joins.{Joins, PartsDisagree}
+use Rattle.origin_prefix.specs.Joins.{Joins, PartsDisagree, JoinTells}
 use Rattle.origin_prefix.specs.Fitting.{FitsOrigin}
 pub use Rattle.origin_prefix.specs.Held.{Parts, IsHeldPart, AreHeldParts}
 use Rattle.replica_merge.specs.declared.known_origin.KnownOrigin as code
+use Rattle.replica_merge.specs.declared.error.MergeError.{MergeError}
+use Rattle.replica_merge.specs.declared.error.MergeError.TheVariants.{DifferentQuery, NoMemory, Join}
 
 -- the part of an origin, if there is one
 abbrev pub part_at : Parts → ℕ → Option Part
@@ -67,6 +70,16 @@ JoinsAt honest query own old (Some theirs) new = (part : Part) × (new ≡ Some 
 abbrev pub Merges : (honest : Bool) → Checked → Parts → Parts → Parts → Type 0
 Merges honest query old other new = (origin : ℕ) → JoinsAt honest query (part_of old origin) (part_at old origin) (part_at other origin) (part_at new origin)
 
+-- replicas of a query that fit a world, and what becomes of the first where it takes the second, over an honest disk
+pub record MergesIn (world : World) (query : Checked) (own theirs new : Parts) : Type 0 where
+  pub of_columns : IsWorld (kinds query.columns) world
+  pub own_held : AreHeldParts query own
+  pub their_held : AreHeldParts query theirs
+  pub new_held : AreHeldParts query new
+  pub own_fits : Fits world (record { query = query; parts = own })
+  pub their_fits : Fits world (record { query = query; parts = theirs })
+  pub merges : Merges true query own theirs new
+
 -- what stands aside of an origin while two replicas are merged: the parts of both, joined, or where the other has none, a place for
 -- the own one
 abbrev pub AsideAt : (honest : Bool) → Checked → Part → Option Part → Option Part → Option Part → Type 0
@@ -84,11 +97,24 @@ filled (Some new) None = Some new
 filled (Some new) (Some old) = if is_nothing new then Some old else Some new
 
 -- the parts of an origin disagree
-pub record DisagreeSomewhere (old other : Parts) : Type 0 where
+pub record DisagreeSomewhere (own theirs : Parts) : Type 0 where
   pub origin : ℕ
-  pub theirs : Part
-  pub there : part_at other origin ≡ Some theirs
-  pub parts : PartsDisagree (part_of old origin) theirs
+  pub part : Part
+  pub there : part_at theirs origin ≡ Some part
+  pub parts : PartsDisagree (part_of own origin) part
+
+-- the parts of this origin are the first that are not joined, and why: those of no lower one disagree
+pub record IsFirstRefused (own theirs : Parts) (origin : ℕ) (why : JoinError) : Type 0 where
+  pub part : Part
+  pub there : part_at theirs origin ≡ Some part
+  pub tells : JoinTells why (part_of own origin) part
+  pub below : (lower : ℕ) → lower < origin → (other : Part) → part_at theirs lower ≡ Some other → ¬ (PartsDisagree (part_of own lower) other)
+
+-- what a refusal to merge two replicas says of them: first of their queries, and then of the parts
+abbrev pub MergeTells : MergeError → Held → Held → Type 0
+MergeTells DifferentQuery own theirs = ¬ (SameQuery own.query theirs.query)
+MergeTells NoMemory own theirs = theirs.query ≡ own.query
+MergeTells (Join origin why) own theirs = (theirs.query ≡ own.query) × IsFirstRefused own.parts theirs.parts origin why
 
 -- the part of a batch's origin takes the batch, and the others stay
 pub record DeliversAt (honest : Bool) (query : Checked) (old : Parts) (origin number : ℕ) (rows : List (List ℕ)) (new : Parts) (reply : Delivered) : Type 0 where
@@ -99,13 +125,11 @@ pub record DeliversAt (honest : Bool) (query : Checked) (old : Parts) (origin nu
   pub others : (other : ℕ) → other ≢ origin → part_at new other ≡ part_at old other
   pub rising : IsStrictlySortedBy nat_cmp (map (λ (held : ℕ × Part). held.0) new)
 
--- a batch is refused: it is handed back and the parts stay; where it disagrees it is there with other rows, and anything else is a
--- reason only for a number that is not known
+-- a batch is refused: it is handed back, the parts stay, and why
 pub record RefusesAt (old : Parts) (batch : packed.Batch) (new : Parts) (refused : RefusedBatch) : Type 0 where
   pub back : refused.batch ≡ batch
   pub same : new ≡ old
-  pub other : refused.why ≡ OriginDisagrees → Disagrees (part_of old batch.origin) batch.number batch.rows
-  pub unknown : refused.why ≢ OriginDisagrees → knows_number (part_of old batch.origin) batch.number ≡ false
+  pub tells : BatchTells refused.why (part_of old batch.origin) batch.number batch.rows
 
 -- what becomes of parts to which a batch is delivered: that of its origin takes it, or it is refused
 abbrev pub DeliveredTo : (honest : Bool) → Checked → Parts → packed.Batch → Parts → Result Delivered RefusedBatch → Type 0

@@ -1,6 +1,6 @@
 //! Merging two replicas: the parts of both are joined aside, and then moved in without taking memory.
 
-ghost use Rattle.std.specs.Prelude.{◌≡◌, ◌≢◌, ℕ, Bool, IsTrue, map, cond, option_map, unwrap_or, Some, IfOk, IfErr, OnOk, OnErr};
+ghost use Rattle.std.specs.Prelude.{◌≡◌, ◌≢◌, ℕ, Bool, Option, IsTrue, map, cond, option_map, unwrap_or, Some, IfOk, IfErr, OnOk, OnErr};
 ghost use Rattle.std.specs.List.Sorted.{IsStrictlySortedBy};
 ghost use Rattle.std.specs.BTreeMap.{insert_entry};
 ghost use Rattle.std.specs.Option.{option_copied};
@@ -10,22 +10,22 @@ ghost use Rattle.packed_rows.specs.Columns.{kinds};
 ghost use Rattle.having_filter.specs.Meaning.{meaning};
 ghost use Rattle.hash_agg.specs.Counting.{setting_by};
 ghost use Rattle.origin_prefix.specs.Parts.{Part, empty, IsPartOf};
-ghost use Rattle.origin_prefix.specs.Joins.{Joins, PartsDisagree, JoinIsCounted};
-ghost use Rattle.origin_prefix.specs.declared.error.JoinError.TheVariants as joins;
+ghost use Rattle.origin_prefix.specs.Joins.{Joins, PartsDisagree, JoinTells, JoinIsCounted};
+ghost use Rattle.origin_prefix.specs.declared.error.JoinError.{JoinError};
+ghost use Rattle.origin_prefix.specs.declared.error.JoinError.TheVariants.{OriginDisagrees, Spill};
 ghost use Rattle.replica_merge.specs.Counting.{MergeIsCounted};
-ghost use Rattle.replica_merge.specs.Replicas.{Parts, part_at, part_of, told, Fits, SameQuery, AreHeldParts, JoinedAside, Merges, DisagreeSomewhere, filled};
-ghost use Rattle.origin_prefix.specs.Errors.{join_faults};
+ghost use Rattle.replica_merge.specs.Replicas.{Parts, part_at, part_of, told, Fits, AreHeldParts, JoinedAside, Merges, DisagreeSomewhere, MergeTells, filled};
 ghost use Rattle.spill_lists.specs.declared.error.SpillError.TheVariants.{TapeDamaged};
 ghost use Rattle.spill_tapes.specs.Calls.{failed};
 ghost use Rattle.spill_tapes.specs.Disk.{Leaves};
-ghost use Rattle.replica_merge.specs.Errors.{origin_disagrees, tape_damaged, merge_faults};
-ghost use Rattle.replica_merge.specs.declared.error.MergeError.TheVariants.{DifferentQuery, Join};
+ghost use Rattle.replica_merge.specs.Errors.{merge_faults};
+ghost use Rattle.replica_merge.specs.declared.error.MergeError.TheVariants.{Join};
 
 use crate::error::MergeError;
 use crate::replica::Replica;
 use hash_agg::{KeyHash, Means, TapeDisk, Work};
 use having_filter::Query;
-use origin_prefix::{JoinError, OriginPart};
+use origin_prefix::OriginPart;
 use std::alloc::{AllocError, Global};
 use std::collections::BTreeMap;
 use std::marker::Model;
@@ -87,12 +87,13 @@ fn places(
 fn join_part<H: KeyHash + Copy, D: TapeDisk>(
     alloc: Global,
     query: &Query,
+    origin: u16,
     own: Option<&OriginPart>,
     theirs: &OriginPart,
     means: &Means<H>,
     disk: &mut D,
     work: &mut Work,
-) -> Result<OriginPart, JoinError>
+) -> Result<OriginPart, MergeError>
     requires own { IsPartOf query.now (unwrap_or (option_copied own) empty) }
     requires theirs { IsPartOf query.now theirs.now }
     ensures joins { IfOk result
@@ -105,14 +106,18 @@ fn join_part<H: KeyHash + Copy, D: TapeDisk>(
     ensures part { IfOk result (IsPartOf query.now) }
     ensures agree { IfOk result (λ _. ¬ (PartsDisagree (unwrap_or (option_copied own.entry) empty)
         theirs.now)) }
-    ensures disagree { IfErr result (λ e. e ≡ joins.OriginDisagrees →
-        PartsDisagree (unwrap_or (option_copied own.entry) empty) theirs.now) }
-    ensures undamaged { IfErr result (λ e. IsTrue (D.honest disk.old) → e ≢ joins.Spill TapeDamaged) }
-    ensures disk { Leaves D.TapeDisk (failed join_faults result) disk.old disk.new }
+    ensures tells { IfErr result (λ e. (why : JoinError) × (e ≡ Join origin why)
+        × JoinTells why (unwrap_or (option_copied own.entry) empty) theirs.now) }
+    ensures undamaged { IfErr result (λ e. IsTrue (D.honest disk.old) → (at : ℕ) → e ≢ Join at (Spill TapeDamaged)) }
+    ensures disk { Leaves D.TapeDisk (failed merge_faults result) disk.old disk.new }
 {
-    match own {
+    let joined = match own {
         Some(own) => own.join(theirs, query, means, disk, work),
         None => OriginPart::empty(alloc).join(theirs, query, means, disk, work),
+    };
+    match joined {
+        Ok(part) => Ok(part),
+        Err(why) => Err(MergeError::Join { origin, why }),
     }
 }
 
@@ -134,15 +139,24 @@ fn join_all<H: KeyHash + Copy, D: TapeDisk>(
         MergeIsCounted (meaning query.now) (setting_by H.hash_of (meaning query.now) means.now)
         own.now.entries theirs.now.entries
         work.old (D.writes disk.old) work.new (D.writes disk.new)) }
-    ensures disagree { IfErr result (λ e. e ≡ origin_disagrees →
-        DisagreeSomewhere own.now.entries theirs.now.entries) }
-    ensures same { IfErr result (λ e. e ≢ DifferentQuery) }
-    ensures undamaged { IfErr result (λ e. IsTrue (D.honest disk.old) → e ≢ tape_damaged) }
+    ensures tells { IfErr result (λ e. MergeTells e
+        (record { query = query.now; parts = own.now.entries })
+        (record { query = query.now; parts = theirs.now.entries })) }
+    ensures undamaged { IfErr result (λ e. IsTrue (D.honest disk.old) → (at : ℕ) → e ≢ Join at (Spill TapeDamaged)) }
     ensures disk { Leaves D.TapeDisk (failed merge_faults result) disk.old disk.new }
 {
     let mut joined = places(alloc, own)?;
     for (origin, part) in theirs {
-        let part = join_part(alloc, query, own.get(origin), part, means, disk, work)?;
+        let part = join_part(
+            alloc,
+            query,
+            *origin,
+            own.get(origin),
+            part,
+            means,
+            disk,
+            work,
+        )?;
         put(&mut joined, *origin, part)?;
     }
     Ok(joined)
@@ -182,8 +196,8 @@ impl Replica {
     ///
     /// # Errors
     ///
-    /// `DifferentQuery`, and then by rising origin `OriginDisagrees` where its parts disagree, and want of memory or the error of the
-    /// disk of tapes over which its batches are aggregated.
+    /// `DifferentQuery`, and then by rising origin `OriginDisagrees` where its parts disagree, with the first number where they do, and
+    /// want of memory or the error of the disk of tapes over which its batches are aggregated.
     pub fn join<H: KeyHash + Copy, D: TapeDisk>(
         &self,
         other: &Replica,
@@ -200,16 +214,13 @@ impl Replica {
         ensures uncounted { OnErr result (work.new ≡ work.old) }
         ensures held { IfOk result (λ _. AreHeldParts self.now.query other.now.parts) }
         ensures query { IfOk result (λ _. other.now.query ≡ self.now.query) }
-        ensures different { IfErr result (λ e. e ≡ DifferentQuery →
-            ¬ (SameQuery self.now.query other.now.query)) }
-        ensures same { IfErr result (λ e. e ≢ DifferentQuery →
-            other.now.query ≡ self.now.query) }
-        ensures disagree { IfErr result (λ e. e ≡ origin_disagrees →
-            DisagreeSomewhere self.now.parts other.now.parts) }
+        ensures agreed { OnOk result (¬ (DisagreeSomewhere self.now.parts other.now.parts)) }
+        ensures tells { IfErr result (λ e. MergeTells e self.now other.now) }
         // Replicas that fit one world never disagree.
-        ensures agree { IfErr result (λ e. e ≡ origin_disagrees → (world : World) →
+        ensures agree { IfErr result (λ e. (origin : ℕ) (number : Option ℕ) →
+            e ≡ Join origin (OriginDisagrees number) → (world : World) →
             Fits world self.now → Fits world other.now → ⊥) }
-        ensures undamaged { IfErr result (λ e. IsTrue (D.honest disk.old) → e ≢ tape_damaged) }
+        ensures undamaged { IfErr result (λ e. IsTrue (D.honest disk.old) → (at : ℕ) → e ≢ Join at (Spill TapeDamaged)) }
         ensures disk { Leaves D.TapeDisk (failed merge_faults result) disk.old disk.new }
     {
         if !self.query.same_query(&other.query) {
@@ -280,17 +291,13 @@ impl Replica {
         ensures fits { OnOk result (IsTrue (D.honest disk.old) → (world : World) → IsWorld (kinds self.old.query.columns) world →
             Fits world self.old → Fits world other.now → Fits world self.new) }
         ensures refused { OnErr result (self.new ≡ self.old) }
-        ensures different { IfErr result (λ e. e ≡ DifferentQuery →
-            ¬ (SameQuery self.old.query other.now.query)) }
         ensures same { OnOk result (other.now.query ≡ self.old.query) }
-        ensures same_else { IfErr result (λ e. e ≢ DifferentQuery →
-            other.now.query ≡ self.old.query) }
         ensures agreed { OnOk result (¬ (DisagreeSomewhere self.old.parts other.now.parts)) }
-        ensures disagree { IfErr result (λ e. e ≡ origin_disagrees →
-            DisagreeSomewhere self.old.parts other.now.parts) }
-        ensures agree { IfErr result (λ e. e ≡ origin_disagrees → (world : World) →
+        ensures tells { IfErr result (λ e. MergeTells e self.old other.now) }
+        ensures agree { IfErr result (λ e. (origin : ℕ) (number : Option ℕ) →
+            e ≡ Join origin (OriginDisagrees number) → (world : World) →
             Fits world self.old → Fits world other.now → ⊥) }
-        ensures undamaged { IfErr result (λ e. IsTrue (D.honest disk.old) → e ≢ tape_damaged) }
+        ensures undamaged { IfErr result (λ e. IsTrue (D.honest disk.old) → (at : ℕ) → e ≢ Join at (Spill TapeDamaged)) }
         ensures disk { Leaves D.TapeDisk (failed merge_faults result) disk.old disk.new }
     {
         let joined = self.join(other, means, disk, work)?;

@@ -1,6 +1,6 @@
 //! What a replica holds, and what it tells of it.
 
-ghost use Rattle.std.specs.Prelude.{◌≡◌, ◌≢◌, ◌+◌, ◌≤◌, ◌∷◌, ℕ, List, None, All, [], map, length, drop, Some, IsSome, IfSome, IsTrue, false, IfOk, IfErr, OnOk, OnErr};
+ghost use Rattle.std.specs.Prelude.{◌≡◌, ◌≢◌, ◌+◌, ◌≤◌, ◌∷◌, ℕ, List, Option, None, All, [], map, length, drop, Some, IsSome, IfSome, IsTrue, false, IfOk, IfErr, OnOk, OnErr};
 ghost use Rattle.std.specs.BTreeMap.{insert_entry};
 ghost use Rattle.std.specs.List.{AllByRecursion};
 ghost use Rattle.std.specs.Option.{option_copied};
@@ -8,7 +8,7 @@ ghost use Rattle.grouping_model.specs.declared.limits.TheConstants.{LAST_NUMBER}
 ghost use Rattle.grouping_model.specs.Answer.{answer};
 ghost use Rattle.grouping_model.specs.Datum.{Row};
 ghost use Rattle.grouping_model.specs.Replies.{InLimits, reply_of, known_list};
-ghost use Rattle.grouping_model.specs.World.{World, IsWorld, knows, learn, prefix};
+ghost use Rattle.grouping_model.specs.World.{World, IsWorld, knows, learn};
 ghost use Rattle.packed_rows.specs.Columns.{kinds};
 ghost use Rattle.batch_reader.specs.Rows.{ArePackedRows, packings};
 ghost use Rattle.agg_protocol.specs.States.{most_rows as most_counted};
@@ -16,15 +16,16 @@ ghost use Rattle.having_filter.specs.Meaning.{meaning};
 ghost use Rattle.hash_agg.specs.Inputs.{Counted, brought, all_rows, IsInput, IsAggregate, IsRunOver};
 ghost use Rattle.group_runs.specs.Standing.{IsRun};
 ghost use Rattle.hash_agg.specs.Counting.{IsCounted, AreCounted, setting_by};
-ghost use Rattle.origin_prefix.specs.Parts.{IsPartOf, Disagrees, aggregations_on};
+ghost use Rattle.origin_prefix.specs.Parts.{IsPartOf, Disagrees, BatchTells, aggregations_on};
 ghost use Rattle.origin_prefix.specs.Errors.{batch_faults};
 ghost use Rattle.origin_prefix.specs.declared.error.JoinError.TheVariants.{OriginDisagrees, Spill};
 ghost use Rattle.spill_tapes.specs.Calls.{failed};
 ghost use Rattle.spill_tapes.specs.Disk.{Leaves};
 ghost use Rattle.spill_lists.specs.Errors.{spill_faults};
+ghost use Rattle.spill_lists.specs.declared.error.SpillError.{SpillError};
 ghost use Rattle.spill_lists.specs.declared.error.SpillError.TheVariants.{TapeDamaged};
 ghost use Rattle.replica_merge.specs.Counting.{aggregations_asked};
-ghost use Rattle.replica_merge.specs.Replicas.{part_at, part_of, told, Fits, AreHeldParts, IsDelivery, known_of, known_part, counted_part};
+ghost use Rattle.replica_merge.specs.Replicas.{part_at, part_of, told, Fits, AreHeldParts, DeliversAt, IsDelivery, known_of, known_part, counted_part};
 
 use crate::known_origin::KnownOrigin;
 use crate::showing::{show, show_none};
@@ -230,28 +231,6 @@ impl Replica {
         &self.query
     }
 
-    /// The unbroken prefix of an origin.
-    pub fn prefix(&self, origin: u16) -> u32
-        ensures prefix { result ≡ prefix (told self.now.parts) origin }
-        ensures limit { result ≤ LAST_NUMBER }
-    {
-        match self.parts.get(&origin) {
-            Some(part) => part.prefix(),
-            None => 0,
-        }
-    }
-
-    /// Whether a batch is known.
-    pub fn knows(&self, origin: u16, number: u32) -> bool
-        ensures known { result ≡ knows (told self.now.parts) (origin, number) }
-        ensures limits { IsTrue result → InLimits (origin, number) }
-    {
-        match self.parts.get(&origin) {
-            Some(part) => number > 0 && part.knows(number),
-            None => false,
-        }
-    }
-
     /// What is known, by rising origin.
     pub fn known(&self) -> Result<Vec<KnownOrigin>, AllocError>
         ensures { IfOk result (λ list. map known_of list.items ≡ known_list (told self.now.parts)) }
@@ -278,6 +257,9 @@ impl Replica {
             ≡ reply_of (told self.old.parts) (batch.origin, batch.number)) }
         ensures told { OnOk result (told self.new.parts
             ≡ learn (told self.old.parts) (batch.origin, batch.number)) }
+        // What becomes of the part of the batch's origin; the others stay.
+        ensures delivers { IfOk result (DeliversAt (D.honest disk.old) self.old.query self.old.parts
+            batch.origin batch.number batch.rows self.new.parts) }
         // Over an honest disk, a replica that fits a world whose batch this is fits it still.
         ensures fits { OnOk result (IsTrue (D.honest disk.old) → (world : World) (those : List Row) →
             IsWorld (kinds self.old.query.columns) world → Fits world self.old →
@@ -290,16 +272,16 @@ impl Replica {
             work.old (D.writes disk.old) work.new (D.writes disk.new)) }
         ensures uncounted { OnErr result (work.new ≡ work.old) }
         ensures refused { IfErr result (λ e. (e.batch ≡ batch) × (self.new ≡ self.old)) }
-        ensures why { IfErr result (λ e. e.why ≡ OriginDisagrees →
-            Disagrees (part_of self.old.parts batch.origin) batch.number batch.rows) }
+        ensures tells { IfErr result (λ e.
+            BatchTells e.why (part_of self.old.parts batch.origin) batch.number batch.rows) }
         // Disagreement is told wherever there is one.
         ensures agreed { IfOk result (λ _.
             ¬ (Disagrees (part_of self.old.parts batch.origin) batch.number batch.rows)) }
-        // A number that is known already is refused for nothing else.
-        ensures unknown { IfErr result (λ e. e.why ≢ OriginDisagrees →
+        // Nothing but disagreement is told of a number that is known already.
+        ensures unknown { IfErr result (λ e. (error : SpillError) → e.why ≡ Spill error →
             knows (told self.old.parts) (batch.origin, batch.number) ≡ false) }
         // Such a world's batch never disagrees.
-        ensures agrees { IfErr result (λ e. e.why ≡ OriginDisagrees →
+        ensures agrees { IfErr result (λ e. (told : Option ℕ) → e.why ≡ OriginDisagrees told →
             (world : World) (those : List Row) → Fits world self.old →
             world batch.origin batch.number ≡ Some those → batch.rows ≢ packings those) }
         ensures undamaged { IfErr result (λ e. IsTrue (D.honest disk.old) → e.why ≢ Spill TapeDamaged) }

@@ -4,6 +4,7 @@ pub mod StoreLaws
 pub mod TextLaws
 pub mod RunLaws
 pub mod ReplyLaws
+pub mod SomeReply
 pub mod QueryLaws
 pub mod SameLaws
 pub mod AgreementLaws

@@ -22,7 +22,7 @@ use Rattle.having_filter.specs.Kept.{by_names, headers}
 use Rattle.group_parser.specs.Parsing.{Accepts}
 use Rattle.grouping_model.specs.Replies.{known_list, reply_of}
 use Rattle.grouping_model.specs.declared.delivered.Delivered.{Delivered}
-use Rattle.replica_merge.specs.Replicas.{Held, told, Fits, SameQuery}
+use Rattle.replica_merge.specs.Replicas.{Held, told, Fits, SameQuery, MergeTells}
 use Rattle.summary_codec.specs.Reading.{IsSummary}
 use Rattle.summary_codec.specs.WorldFile.{world_file}
 use Rattle.script_io.specs.Records.{Record}
@@ -42,7 +42,7 @@ use Rattle.packed_rows.specs.declared.error.RowError.TheVariants as row
 use Rattle.origin_prefix.specs.declared.error.JoinError.TheVariants as join
 use Rattle.replica_merge.specs.declared.error.MergeError.{MergeError}
 use Rattle.replica_merge.specs.declared.error.MergeError.TheVariants as merge
-use Rattle.script_machine.specs.Refusals.{limit_out_of_range, origin_disagrees, tape_fault, tape_damaged, columns_refusal, merge_refusal}
+use Rattle.script_machine.specs.Refusals.{limit_out_of_range, columns_refusal, spill_refusal, merge_refusal}
 use Rattle.script_machine.specs.declared.refusal.Refusal.{Refusal}
 use Rattle.script_machine.specs.declared.refusal.Refusal.TheVariants as why
 use Rattle.script_machine.specs.declared.reply.Reply.TheVariants as says
@@ -254,9 +254,9 @@ fed_of_world world state store name origin number told_rows owned held is there 
     subst (λ o. IfSome o (λ known. (other : Fed) → IsBatch (kinds (unwrap_or state.columns [])) origin number told_rows owned other → world other.origin other.number ≡ Some other.rows)) (known_there state store name held r there) agrees fed
     (subst (λ cs. IsBatch (kinds cs) origin number told_rows owned fed) (sym (feed_columns state store name held r is there)) batch)
 
-pub disagrees_or : (refusal : Refusal) → (refusal ≡ origin_disagrees) ⊎ (refusal ≢ origin_disagrees)
-disagrees_or (why.Merge (merge.Join join.OriginDisagrees)) = inl refl
-disagrees_or refusal = inr (λ e. cc)
+pub disagrees_or : (refusal : Refusal) → ((of : ℕ) × (at : Option ℕ) × (refusal ≡ why.OriginDisagrees of at)) ⊎ ((of : ℕ) (at : Option ℕ) → refusal ≢ why.OriginDisagrees of at)
+disagrees_or (why.OriginDisagrees of at) = inl (of, at, refl)
+disagrees_or refusal = inr (λ of at e. cc)
 
 -- ---- merging
 
@@ -270,20 +270,21 @@ same_texts a b same = (ap (λ (q : Checked). printed q.columns) same, ap (λ (q 
 
 -- why two replicas are not joined, from the error
 pub join_refused : (store : Store) (into from : List ℕ) (own theirs : Held) (error : MergeError) (refusal : Refusal) → IsStore store → replica_at store into ≡ Some own → replica_at store from ≡ Some theirs
-    → (error ≡ merge.DifferentQuery → ¬ (SameQuery own.query theirs.query)) → (error ≡ merge.Join join.OriginDisagrees → (world : World) → Fits world own → ¬ (Fits world theirs)) → refusal ≡ merge_refusal error
+    → MergeTells error own theirs → ((origin : ℕ) (told : Option ℕ) → error ≡ merge.Join origin (join.OriginDisagrees told) → (world : World) → Fits world own → ¬ (Fits world theirs)) → refusal ≡ merge_refusal error
     → JoinRefused (replica_at store into) (replica_at store from) refusal
-join_refused store into from own theirs error refusal is one two different never told =
+join_refused store into from own theirs error refusal is one two tells never told =
     subst (λ o. JoinRefused o (replica_at store from) refusal) (sym one)
     (subst (λ o. JoinRefused (Some own) o refusal) (sym two)
-    (subst (JoinRefused (Some own) (Some theirs)) (sym told) (go error different never)))
+    (subst (JoinRefused (Some own) (Some theirs)) (sym told) (go error tells never)))
   where
-    go : (error : MergeError) → (error ≡ merge.DifferentQuery → ¬ (SameQuery own.query theirs.query)) → (error ≡ merge.Join join.OriginDisagrees → (world : World) → Fits world own → ¬ (Fits world theirs))
+    go : (error : MergeError) → MergeTells error own theirs → ((origin : ℕ) (told : Option ℕ) → error ≡ merge.Join origin (join.OriginDisagrees told) → (world : World) → Fits world own → ¬ (Fits world theirs))
         → JoinRefused (Some own) (Some theirs) (merge_refusal error)
-    go merge.DifferentQuery different never = absurd (different refl (same_texts own.query theirs.query (one_query store into from own theirs is one two)))
-    go (merge.Join join.OriginDisagrees) different never = never refl
-    go (merge.Join (join.Spill spill.NoMemory)) different never = tt
-    go (merge.Join (join.Spill spill.TapeFault)) different never = tt
-    go (merge.Join (join.Spill spill.TapeDamaged)) different never = tt
+    go merge.DifferentQuery different never = absurd (different (same_texts own.query theirs.query (one_query store into from own theirs is one two)))
+    go merge.NoMemory tells never = tt
+    go (merge.Join origin (join.OriginDisagrees number)) tells never = never origin number refl
+    go (merge.Join origin (join.Spill spill.NoMemory)) tells never = tt
+    go (merge.Join origin (join.Spill spill.TapeFault)) tells never = tt
+    go (merge.Join origin (join.Spill spill.TapeDamaged)) tells never = tt
 
 -- what is there is one
 pub one_there : {o : Option Held} (a b : Held) → o ≡ Some a → o ≡ Some b → a ≡ b
@@ -352,11 +353,11 @@ module _ {honest : Bool} where
       }
 
   -- a refusal since the disk gave back what was not written to it
-  pub damaged : (request : Request) (owned : List Record) (old new : Store) → Same old new → (IsTrue honest → ⊥) → IsTrue (uses_tapes request) → Steps honest request owned old (says.Refused tape_damaged) new
+  pub damaged : (request : Request) (owned : List Record) (old new : Store) → Same old new → (IsTrue honest → ⊥) → IsTrue (uses_tapes request) → Steps honest request owned old (says.Refused why.TapeDamaged) new
   damaged request owned old new s never uses =
       record {
         steps = λ state r. record {
-          said = machine.Refused tape_damaged;
+          said = machine.Refused why.TapeDamaged;
           may = inr (record { dishonest = false_from_ne_true honest never; aggregates = uses; refused = refl });
           strict = λ right. absurd (never right);
           represents = still state old new s r;
@@ -536,16 +537,18 @@ module _ {honest : Bool} where
 
   -- a batch of another world
   pub feed_disagrees : (old new : Store) (name origin number : List ℕ) (told_rows : ℕ) (owned : List Record) (held : Held) → IsStore old → replica_at old name ≡ Some held → Same old new
-      → IsOtherBatch origin number told_rows owned held → Steps honest (ask.Feed name origin number told_rows) owned old (says.Refused origin_disagrees) new
-  feed_disagrees old new name origin number told_rows owned held is there s other =
+      → IsOtherBatch origin number told_rows owned held → (of : ℕ) (at : Option ℕ) → Steps honest (ask.Feed name origin number told_rows) owned old (says.Refused (why.OriginDisagrees of at)) new
+  feed_disagrees old new name origin number told_rows owned held is there s other of at =
       record {
         steps = λ state r. record {
-          said = machine.Refused origin_disagrees;
+          said = machine.Refused (why.OriginDisagrees of at);
           may = inl (inr (record {
             instead = machine.Took name other.fed (reply_of (told held.parts) (other.fed.origin, other.fed.number));
             would = subst (λ known. FeedReply (unwrap_or state.columns []) known name origin number told_rows owned (machine.Took name other.fed (reply_of (told held.parts) (other.fed.origin, other.fed.number)))) (sym (known_there state old name held r there))
                 (refl, subst (λ cs. IsBatch (kinds cs) origin number told_rows owned other.fed) (sym (feed_columns state old name held r is there)) other.is_batch, refl);
             takes = refl;
+            origin = of;
+            told = at;
             refused = refl;
           }));
           strict = λ right world f agrees.
@@ -567,7 +570,7 @@ module _ {honest : Bool} where
       (sym (known_nowhere state store name r none)) refl)
 
   pub feed_refused : (old new : Store) (name origin number : List ℕ) (told_rows : ℕ) (owned : List Record) (held : Held) (refusal : Refusal) → IsStore old
-      → replica_at old name ≡ Some held → Same old new → refusal ≢ origin_disagrees → (IsTrue honest → refusal ≢ tape_damaged) → (IsOfBatch refusal → IsNoBatch (kinds held.query.columns) origin number told_rows owned refusal)
+      → replica_at old name ≡ Some held → Same old new → ((of : ℕ) (at : Option ℕ) → refusal ≢ why.OriginDisagrees of at) → (IsTrue honest → refusal ≢ why.TapeDamaged) → (IsOfBatch refusal → IsNoBatch (kinds held.query.columns) origin number told_rows owned refusal)
       → Steps honest (ask.Feed name origin number told_rows) owned old (says.Refused refusal) new
   feed_refused old new name origin number told_rows owned held refusal is there s = go refusal
     where
@@ -580,12 +583,12 @@ module _ {honest : Bool} where
           (λ state r. inr (subst (λ known. FeedReply (unwrap_or state.columns []) known name origin number told_rows owned (machine.Refused refusal)) (sym (known_there state old name held r there))
           (subst (λ cs. IsNoBatch (kinds cs) origin number told_rows owned refusal) (sym (feed_columns state old name held r is there)) bad)))
 
-      go : (refusal : Refusal) → refusal ≢ origin_disagrees → (IsTrue honest → refusal ≢ tape_damaged) → (IsOfBatch refusal → IsNoBatch (kinds held.query.columns) origin number told_rows owned refusal)
+      go : (refusal : Refusal) → ((of : ℕ) (at : Option ℕ) → refusal ≢ why.OriginDisagrees of at) → (IsTrue honest → refusal ≢ why.TapeDamaged) → (IsOfBatch refusal → IsNoBatch (kinds held.query.columns) origin number told_rows owned refusal)
           → Steps honest request owned old (says.Refused refusal) new
       go why.NoMemory agreed undamaged bad = no_memory_same request owned old new s
-      go (why.Merge (merge.Join (join.Spill spill.TapeFault))) agreed undamaged bad = refused_for request owned old new tape_fault s (λ state r. inl (inr (refl, refl)))
-      go (why.Merge (merge.Join join.OriginDisagrees)) agreed undamaged bad = absurd (agreed refl)
-      go (why.Merge (merge.Join (join.Spill spill.TapeDamaged))) agreed undamaged bad = damaged request owned old new s (λ right. undamaged right refl) refl
+      go why.TapeFault agreed undamaged bad = refused_for request owned old new why.TapeFault s (λ state r. inl (inr (refl, refl)))
+      go (why.OriginDisagrees of at) agreed undamaged bad = absurd (agreed of at refl)
+      go why.TapeDamaged agreed undamaged bad = damaged request owned old new s (λ right. undamaged right refl) refl
       go refusal agreed undamaged bad = of_batch refusal (bad tt)
 
   pub feed_took : (old new : Store) (name origin number : List ℕ) (told_rows : ℕ) (owned : List Record) (held later : Held) (delivered : Delivered) → IsStore old
@@ -671,13 +674,13 @@ module _ {honest : Bool} where
       }
 
   -- an answer for which memory was wanting, or the disk of tapes failed
-  pub answer_refused : (store : Store) (name : List ℕ) (owned : List Record) (error : SpillError) (refusal : Refusal) → refusal ≡ merge_refusal (merge.Join (join.Spill error)) → (IsTrue honest → error ≢ spill.TapeDamaged)
+  pub answer_refused : (store : Store) (name : List ℕ) (owned : List Record) (error : SpillError) (refusal : Refusal) → refusal ≡ spill_refusal error → (IsTrue honest → error ≢ spill.TapeDamaged)
       → Steps honest (ask.Answer name) owned store (says.Refused refusal) store
   answer_refused store name owned error refusal is undamaged = subst (λ w. Steps honest (ask.Answer name) owned store (says.Refused w) store) (sym is) (go error undamaged)
     where
-      go : (error : SpillError) → (IsTrue honest → error ≢ spill.TapeDamaged) → Steps honest (ask.Answer name) owned store (says.Refused (merge_refusal (merge.Join (join.Spill error)))) store
+      go : (error : SpillError) → (IsTrue honest → error ≢ spill.TapeDamaged) → Steps honest (ask.Answer name) owned store (says.Refused (spill_refusal error)) store
       go spill.NoMemory undamaged = out_of_memory (ask.Answer name) owned store
-      go spill.TapeFault undamaged = refused_for (ask.Answer name) owned store store tape_fault (same store) (λ state r. inl (inr (refl, refl)))
+      go spill.TapeFault undamaged = refused_for (ask.Answer name) owned store store why.TapeFault (same store) (λ state r. inl (inr (refl, refl)))
       go spill.TapeDamaged undamaged = damaged (ask.Answer name) owned store store (same store) (λ right. undamaged right refl) refl
 
   pub merge_nowhere : (store : Store) (into from : List ℕ) (owned : List Record) → (replica_at store into ≡ None) ⊎ (replica_at store from ≡ None)
@@ -693,7 +696,7 @@ module _ {honest : Bool} where
       go state r (inl e) = sym (ap (λ known. merge_reply known (state.replicas from) into from) (known_nowhere state store into r e))
       go state r (inr e) = second (state.replicas into) ∙ sym (ap (λ known. merge_reply (state.replicas into) known into from) (known_nowhere state store from r e))
 
-  pub merge_refused : (store : Store) (into from : List ℕ) (owned : List Record) (refusal : Refusal) → JoinRefused (replica_at store into) (replica_at store from) refusal → (IsTrue honest → refusal ≢ tape_damaged)
+  pub merge_refused : (store : Store) (into from : List ℕ) (owned : List Record) (refusal : Refusal) → JoinRefused (replica_at store into) (replica_at store from) refusal → (IsTrue honest → refusal ≢ why.TapeDamaged)
       → Steps honest (ask.Merge into from) owned store (says.Refused refusal) store
   merge_refused store into from owned refusal refused_is undamaged = go (replica_at store into) (replica_at store from) refl refl refusal undamaged refused_is
     where
@@ -701,17 +704,17 @@ module _ {honest : Bool} where
           → machine.Merged into from ≡ merge_reply (state.replicas into) (state.replicas from) into from
       both own theirs one two state r = sym (λ i. merge_reply (known_there state store into own r one i) (known_there state store from theirs r two i) into from)
 
-      go : (own theirs : Option Held) → replica_at store into ≡ own → replica_at store from ≡ theirs → (refusal : Refusal) → (IsTrue honest → refusal ≢ tape_damaged) → JoinRefused own theirs refusal → Steps honest (ask.Merge into from) owned store (says.Refused refusal) store
+      go : (own theirs : Option Held) → replica_at store into ≡ own → replica_at store from ≡ theirs → (refusal : Refusal) → (IsTrue honest → refusal ≢ why.TapeDamaged) → JoinRefused own theirs refusal → Steps honest (ask.Merge into from) owned store (says.Refused refusal) store
       go None theirs one two refusal undamaged is = subst (λ w. Steps honest (ask.Merge into from) owned store (says.Refused w) store) (sym is) (merge_nowhere store into from owned (inl one))
       go (Some own) None one two refusal undamaged is = subst (λ w. Steps honest (ask.Merge into from) owned store (says.Refused w) store) (sym is) (merge_nowhere store into from owned (inr two))
       go (Some own) (Some theirs) one two why.NoMemory undamaged is = out_of_memory (ask.Merge into from) owned store
-      go (Some own) (Some theirs) one two (why.Merge (merge.Join (join.Spill spill.TapeFault))) undamaged is = refused_for (ask.Merge into from) owned store store tape_fault (same store) (λ state r. inl (inr (refl, refl)))
-      go (Some own) (Some theirs) one two (why.Merge (merge.Join (join.Spill spill.TapeDamaged))) undamaged is = damaged (ask.Merge into from) owned store store (same store) (λ right. undamaged right refl) refl
-      go (Some own) (Some theirs) one two (why.Merge (merge.Join join.OriginDisagrees)) undamaged never =
+      go (Some own) (Some theirs) one two why.TapeFault undamaged is = refused_for (ask.Merge into from) owned store store why.TapeFault (same store) (λ state r. inl (inr (refl, refl)))
+      go (Some own) (Some theirs) one two why.TapeDamaged undamaged is = damaged (ask.Merge into from) owned store store (same store) (λ right. undamaged right refl) refl
+      go (Some own) (Some theirs) one two (why.OriginDisagrees of at) undamaged never =
           record {
             steps = λ state r. record {
-              said = machine.Refused origin_disagrees;
-              may = inl (inr (record { instead = machine.Merged into from; would = both own theirs one two state r; takes = refl; refused = refl }));
+              said = machine.Refused (why.OriginDisagrees of at);
+              may = inl (inr (record { instead = machine.Merged into from; would = both own theirs one two state r; takes = refl; origin = of; told = at; refused = refl }));
               strict = λ right world f agrees.
                   absurd (never world (subst (λ o. IfSome o (Fits world)) one (f.fit into)) (subst (λ o. IfSome o (Fits world)) two (f.fit from)));
               represents = r;

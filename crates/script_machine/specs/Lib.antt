@@ -3,5 +3,6 @@ pub mod Machine
 pub mod Text
 pub mod Output
 pub mod Views
+pub mod Limits
 pub mod Agreement
 pub mod Coding

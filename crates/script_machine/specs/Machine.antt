@@ -19,8 +19,8 @@ use Rattle.hash_agg.specs.declared.means.TheConstants.{LEAST_LIMIT, GREATEST_LIM
 use Rattle.script_io.specs.Records.{Record}
 use Rattle.script_commands.specs.Commands.{Command, Request, Columns, Query, Limit, Replica, Feed, Known, Answer, Merge, Save, Load, Unknown, request_of}
 use Rattle.script_machine.specs.declared.refusal.Refusal.{Refusal}
-use Rattle.script_machine.specs.declared.refusal.Refusal.TheVariants.{NoMemory, BadSchema, BadCommand, NoSuchName, NameTaken}
-use Rattle.script_machine.specs.Refusals.{limit_out_of_range, origin_disagrees, tape_fault, tape_damaged, tells_fault, batch_refusal, query_refusal}
+use Rattle.script_machine.specs.declared.refusal.Refusal.TheVariants.{NoMemory, BadSchema, OriginDisagrees, TapeFault, TapeDamaged, BadCommand, NoSuchName, NameTaken}
+use Rattle.script_machine.specs.Refusals.{limit_out_of_range, tells_fault, batch_refusal, query_refusal}
 
 -- what is there: the columns and the query, once they were told, what each replica knows, by its name, what was saved, by the name
 -- that it was given, and the limit of aggregations
@@ -168,7 +168,7 @@ uses_tapes request = false
 
 -- a command is refused for want of memory, or since the disk of tapes failed
 abbrev pub IsRefusedStep : Request → Reply → Type 0
-IsRefusedStep request reply = (reply ≡ Refused NoMemory) ⊎ (IsTrue (uses_tapes request) × (reply ≡ Refused tape_fault))
+IsRefusedStep request reply = (reply ≡ Refused NoMemory) ⊎ (IsTrue (uses_tapes request) × (reply ≡ Refused TapeFault))
 
 -- how a command may be answered: in its one way, or by such a refusal
 abbrev pub IsReply : State → Request → List Record → Reply → Type 0
@@ -186,13 +186,15 @@ pub record IsDisagreement (old : State) (request : Request) (owned : List Record
   pub instead : Reply
   pub would : Replies old request owned instead
   pub takes : takes_batches instead ≡ true
-  pub refused : reply ≡ Refused origin_disagrees
+  pub origin : ℕ
+  pub told : Option ℕ
+  pub refused : reply ≡ Refused (OriginDisagrees origin told)
 
 -- a command that aggregates is refused, since the disk of tapes gave back what was not written to it: an honest one never does
 pub record IsDamage (honest : Bool) (request : Request) (reply : Reply) : Type 0 where
   pub dishonest : honest ≡ false
   pub aggregates : IsTrue (uses_tapes request)
-  pub refused : reply ≡ Refused tape_damaged
+  pub refused : reply ≡ Refused TapeDamaged
 
 -- the same where origins need not keep to one batch a number, and the disk of tapes may be honest or not
 abbrev pub MayReply : Bool → State → Request → List Record → Reply → Type 0

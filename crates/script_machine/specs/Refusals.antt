@@ -1,5 +1,5 @@
 -- What lower crates refuse, as replies name it: their own errors, but for want of memory. All of this is our own.
-use Rattle.std.specs.Prelude.{Bool, true, false}
+use Rattle.std.specs.Prelude.{ℕ, Bool, true, false}
 use Rattle.packed_rows.specs.declared.error.RowError.{RowError}
 use Rattle.packed_rows.specs.declared.error.RowError.TheVariants as row
 use Rattle.batch_reader.specs.declared.error.BatchError.{BatchError}
@@ -9,30 +9,22 @@ use Rattle.group_parser.specs.declared.error.ParseError.{ParseError}
 use Rattle.group_parser.specs.declared.error.ParseError.TheVariants as parse
 use Rattle.summary_codec.specs.declared.error.SummaryError.{SummaryError}
 use Rattle.summary_codec.specs.declared.error.SummaryError.TheVariants as summary
+use Rattle.spill_lists.specs.declared.error.SpillError.{SpillError}
 use Rattle.spill_lists.specs.declared.error.SpillError.TheVariants as spill
+use Rattle.origin_prefix.specs.declared.error.JoinError.{JoinError}
 use Rattle.origin_prefix.specs.declared.error.JoinError.TheVariants as join
 use Rattle.replica_merge.specs.declared.error.MergeError.{MergeError}
 use Rattle.replica_merge.specs.declared.error.MergeError.TheVariants as merge
 use Rattle.script_machine.specs.declared.refusal.Refusal.{Refusal}
-use Rattle.script_machine.specs.declared.refusal.Refusal.TheVariants.{NoMemory, BadSchema, Limit, Query, Batch, Summary, Merge}
+use Rattle.script_machine.specs.declared.refusal.Refusal.TheVariants.{NoMemory, BadSchema, Limit, Query, Batch, Summary, DifferentQuery, OriginDisagrees, TapeFault, TapeDamaged}
 
--- short names: a limit out of its range, one number of an origin with two batches, a disk of tapes that failed, and one that gave back
--- what was not written to it
+-- a limit out of its range
 abbrev pub limit_out_of_range : Refusal
 limit_out_of_range = Limit (record {})
 
-abbrev pub origin_disagrees : Refusal
-origin_disagrees = Merge (merge.Join join.OriginDisagrees)
-
-abbrev pub tape_fault : Refusal
-tape_fault = Merge (merge.Join (join.Spill spill.TapeFault))
-
-abbrev pub tape_damaged : Refusal
-tape_damaged = Merge (merge.Join (join.Spill spill.TapeDamaged))
-
 -- whether a refusal tells that the disk of tapes failed
 abbrev pub tells_fault : Refusal → Bool
-tells_fault (Merge (merge.Join (join.Spill spill.TapeFault))) = true
+tells_fault TapeFault = true
 tells_fault refusal = false
 
 -- the refusal of columns
@@ -55,7 +47,19 @@ abbrev pub summary_refusal : SummaryError → Refusal
 summary_refusal summary.NoMemory = NoMemory
 summary_refusal error = Summary error
 
--- the refusal of a replica that another does not take in, of a batch that it does not take, and of its answer
+-- the refusal of an aggregation
+abbrev pub spill_refusal : SpillError → Refusal
+spill_refusal spill.NoMemory = NoMemory
+spill_refusal spill.TapeFault = TapeFault
+spill_refusal spill.TapeDamaged = TapeDamaged
+
+-- the refusal of a batch or of a part of an origin
+abbrev pub join_refusal : (origin : ℕ) → JoinError → Refusal
+join_refusal origin (join.OriginDisagrees number) = OriginDisagrees origin number
+join_refusal origin (join.Spill error) = spill_refusal error
+
+-- the refusal of a replica that another does not take in
 abbrev pub merge_refusal : MergeError → Refusal
-merge_refusal (merge.Join (join.Spill spill.NoMemory)) = NoMemory
-merge_refusal error = Merge error
+merge_refusal merge.DifferentQuery = DifferentQuery
+merge_refusal merge.NoMemory = NoMemory
+merge_refusal (merge.Join origin why) = join_refusal origin why

@@ -18,16 +18,10 @@ use Rattle.grouping_model.specs.declared.delivered.Delivered.TheVariants.{Folded
 use Rattle.summary_codec.specs.WorldFile.{world_file}
 use Rattle.summary_codec.specs.declared.error.SummaryError.{SummaryError}
 use Rattle.summary_codec.specs.declared.error.SummaryError.TheVariants as summary
-use Rattle.spill_lists.specs.declared.error.SpillError.{SpillError}
-use Rattle.spill_lists.specs.declared.error.SpillError.TheVariants as spill
-use Rattle.origin_prefix.specs.declared.error.JoinError.{JoinError}
-use Rattle.origin_prefix.specs.declared.error.JoinError.TheVariants as join
-use Rattle.replica_merge.specs.declared.error.MergeError.{MergeError}
-use Rattle.replica_merge.specs.declared.error.MergeError.TheVariants as merge
 use Rattle.table_print.specs.Table.{table_text}
 use Rattle.script_machine.specs.Machine.{Reply, Has_columns, Has_query, Has_limit, Created, Took, Merged, Saved, Loaded, Listed, Answered, Refused}
 use Rattle.script_machine.specs.declared.refusal.Refusal.{Refusal}
-use Rattle.script_machine.specs.declared.refusal.Refusal.TheVariants.{NoMemory, BadSchema, Limit, Query, Batch, Summary, Merge, Run, BadCommand, NoSuchName, NameTaken}
+use Rattle.script_machine.specs.declared.refusal.Refusal.TheVariants.{NoMemory, BadSchema, Limit, Query, Batch, Summary, DifferentQuery, OriginDisagrees, TapeFault, TapeDamaged, Run, BadCommand, NoSuchName, NameTaken}
 use Rattle.script_machine.specs.declared.error.RunError.{RunError}
 use Rattle.script_machine.specs.declared.error.RunError.TheVariants as stop
 
@@ -67,19 +61,6 @@ summary_name summary.BadPacked = codes "BadPacked"
 summary_name summary.BadState = codes "BadState"
 summary_name (summary.Query error) = parse_name error
 
-abbrev pub spill_name : SpillError → List ℕ
-spill_name spill.NoMemory = codes "NoMemory"
-spill_name spill.TapeFault = codes "TapeFault"
-spill_name spill.TapeDamaged = codes "TapeDamaged"
-
-abbrev pub join_name : JoinError → List ℕ
-join_name join.OriginDisagrees = codes "OriginDisagrees"
-join_name (join.Spill error) = spill_name error
-
-abbrev pub merge_name : MergeError → List ℕ
-merge_name merge.DifferentQuery = codes "DifferentQuery"
-merge_name (merge.Join error) = join_name error
-
 abbrev pub run_name : RunError → List ℕ
 run_name stop.NoMemory = codes "NoMemory"
 run_name stop.InputTooLong = codes "InputTooLong"
@@ -93,7 +74,10 @@ refusal_name (Limit error) = codes "LimitOutOfRange"
 refusal_name (Query error) = parse_name error
 refusal_name (Batch error) = batch_name error
 refusal_name (Summary error) = summary_name error
-refusal_name (Merge error) = merge_name error
+refusal_name DifferentQuery = codes "DifferentQuery"
+refusal_name (OriginDisagrees origin number) = codes "OriginDisagrees"
+refusal_name TapeFault = codes "TapeFault"
+refusal_name TapeDamaged = codes "TapeDamaged"
 refusal_name (Run error) = run_name error
 refusal_name BadCommand = codes "BadCommand"
 refusal_name NoSuchName = codes "NoSuchName"

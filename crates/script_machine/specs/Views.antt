@@ -17,10 +17,7 @@ use Rattle.script_commands.specs.Commands.{Request}
 use Rattle.script_machine.specs.Machine as machine
 use Rattle.script_machine.specs.Machine.{State, Fed, IsBatch, IsReply, MayReply, AgreesAt, after}
 use Rattle.script_machine.specs.Text.{MayRead, line, delivered_text, refusal_name, answer_text, reply_text}
-use Rattle.spill_lists.specs.declared.error.SpillError.TheVariants as spill
-use Rattle.origin_prefix.specs.declared.error.JoinError.TheVariants as join
-use Rattle.replica_merge.specs.declared.error.MergeError.TheVariants as merge
-use Rattle.script_machine.specs.declared.refusal.Refusal.TheVariants.{NoMemory, Merge, NoSuchName}
+use Rattle.script_machine.specs.declared.refusal.Refusal.TheVariants.{NoMemory, OriginDisagrees, TapeFault, TapeDamaged, NoSuchName}
 use Rattle.script_machine.specs.Refusals.{tells_fault}
 use Rattle.script_machine.specs.declared.refusal.Refusal.{Refusal}
 use Rattle.script_machine.specs.declared.reply.Reply.{Reply}
@@ -171,9 +168,9 @@ pub record Takes (honest : Bool) (origin number : List ℕ) (told_rows : ℕ) (o
 -- a refusal that is of the batch itself
 abbrev pub IsOfBatch : Refusal → Type 0
 IsOfBatch NoMemory = ⊥
-IsOfBatch (Merge (merge.Join join.OriginDisagrees)) = ⊥
-IsOfBatch (Merge (merge.Join (join.Spill spill.TapeFault))) = ⊥
-IsOfBatch (Merge (merge.Join (join.Spill spill.TapeDamaged))) = ⊥
+IsOfBatch (OriginDisagrees origin told) = ⊥
+IsOfBatch TapeFault = ⊥
+IsOfBatch TapeDamaged = ⊥
 IsOfBatch why = Unit {0}
 
 -- a batch that was fed disagrees with what a replica holds: no world that this fits has the batch
@@ -189,9 +186,9 @@ pub record JoinsHeld (honest : Bool) (own theirs : Held) (joined : Parts) : Type
 
 abbrev pub JoinRefused : Option Held → Option Held → Refusal → Type 0
 JoinRefused (Some own) (Some theirs) NoMemory = Unit {0}
-JoinRefused (Some own) (Some theirs) (Merge (merge.Join (join.Spill spill.TapeFault))) = Unit {0}
-JoinRefused (Some own) (Some theirs) (Merge (merge.Join (join.Spill spill.TapeDamaged))) = Unit {0}
-JoinRefused (Some own) (Some theirs) (Merge (merge.Join join.OriginDisagrees)) = (world : World) → Fits world own → ¬ (Fits world theirs)
+JoinRefused (Some own) (Some theirs) TapeFault = Unit {0}
+JoinRefused (Some own) (Some theirs) TapeDamaged = Unit {0}
+JoinRefused (Some own) (Some theirs) (OriginDisagrees origin told) = (world : World) → Fits world own → ¬ (Fits world theirs)
 JoinRefused (Some own) (Some theirs) why = ⊥
 JoinRefused own theirs why = why ≡ NoSuchName
 

@@ -1,6 +1,8 @@
 //! Laws of the machine that a script runs.
 
 ghost use Rattle.std.specs.Prelude.{◌≡◌, List, ℕ};
+ghost use Rattle.grouping_model.specs.declared.limits.TheConstants.{LAST_ORIGIN, LAST_NUMBER, MOST_ROWS, MOST_COLUMNS, MOST_KEYS, MOST_CALLS, MOST_ITEMS, LONGEST_QUERY, DEEPEST_CONDITION, MOST_OPEN, LONGEST_NAME, LONGEST_TEXT, LONGEST_INPUT};
+ghost use Rattle.hash_agg.specs.declared.means.TheConstants.{LEAST_LIMIT, GREATEST_LIMIT, USUAL_LIMIT};
 ghost use Rattle.grouping_model.specs.World.{World};
 ghost use Rattle.script_io.specs.Records.{Record};
 ghost use Rattle.script_commands.specs.Commands.{Command, Request, Answer, Known};
@@ -8,10 +10,13 @@ ghost use Rattle.script_machine.specs.Agreement.{after_all, KnowTheSame, OneBatc
 ghost use Rattle.script_machine.specs.Machine.{State, Reply, Fed, Replies, Agrees, start};
 ghost use Rattle.script_machine.specs.Text.{reply_text};
 
-/// A command has one reply, memory being there: the machine's step is a function of what is there and the command.
+/// A command has one reply, memory being there: the machine's step is a function of what is there and the command. There are never
+/// two, nor is there ever none.
 pub fn one_reply()
-    ensures { (old : State) (request : Request) (owned : List Record) (a b : Reply) →
+    ensures not_two { (old : State) (request : Request) (owned : List Record) (a b : Reply) →
         Replies old request owned a → Replies old request owned b → a ≡ b }
+    ensures not_none { (old : State) (request : Request) (owned : List Record) →
+        ((reply : Reply) → ¬ (Replies old request owned reply)) → ⊥ }
 {}
 
 /// Two replicas that know the same batches print the same bytes, be they of one script or of two: whatever the order in
@@ -37,4 +42,24 @@ pub fn one_batch_each_agrees()
     ensures { (feds : List Fed) (commands : List Command) (replies : List Reply) →
         OneBatchEach feds → AreAmong feds start commands replies →
         Agrees (world_of feds) start commands replies }
+{}
+
+/// The limits, in digits. Definitions and code cite them by their names.
+pub fn limits_in_digits()
+    ensures origins { LAST_ORIGIN ≡ 1023 }
+    ensures numbers { LAST_NUMBER ≡ 2147483647 }
+    ensures rows_of_a_batch { MOST_ROWS ≡ 65536 }
+    ensures columns { MOST_COLUMNS ≡ 32 }
+    ensures keys { MOST_KEYS ≡ 16 }
+    ensures aggregates { MOST_CALLS ≡ 32 }
+    ensures items { MOST_ITEMS ≡ 64 }
+    ensures bytes_of_a_query { LONGEST_QUERY ≡ 16384 }
+    ensures depth_of_a_condition { DEEPEST_CONDITION ≡ 64 }
+    ensures open_parentheses { MOST_OPEN ≡ 64 }
+    ensures bytes_of_a_name { LONGEST_NAME ≡ 63 }
+    ensures bytes_of_a_text { LONGEST_TEXT ≡ 255 }
+    ensures bytes_of_an_input { LONGEST_INPUT ≡ 67108864 }
+    ensures least_limit { LEAST_LIMIT ≡ 65536 }
+    ensures greatest_limit { GREATEST_LIMIT ≡ 1099511627776 }
+    ensures usual_limit { USUAL_LIMIT ≡ 4194304 }
 {}

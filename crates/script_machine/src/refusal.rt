@@ -1,10 +1,8 @@
 //! Why a command, or a whole script, is refused.
 
 ghost use Rattle.std.specs.Prelude.{◌≡◌};
-ghost use Rattle.origin_prefix.specs.declared.error.JoinError.TheVariants as join;
-ghost use Rattle.replica_merge.specs.declared.error.MergeError.TheVariants as merge;
-ghost use Rattle.script_machine.specs.Refusals.{columns_refusal, batch_refusal, query_refusal, summary_refusal, merge_refusal};
-ghost use Rattle.script_machine.specs.Text.{refusal_name, query_name, parse_name, batch_name, summary_name, spill_name, join_name, merge_name, run_name};
+ghost use Rattle.script_machine.specs.Refusals.{columns_refusal, batch_refusal, query_refusal, summary_refusal, spill_refusal, join_refusal, merge_refusal};
+ghost use Rattle.script_machine.specs.Text.{refusal_name, query_name, parse_name, batch_name, summary_name, run_name};
 ghost use Rattle.script_machine.specs.declared.refusal.Refusal.TheVariants.{NoMemory, Limit};
 
 use crate::error::RunError;
@@ -39,10 +37,24 @@ pub enum Refusal {
     /// The bytes are those of no summary file.
     #[error(transparent)]
     Summary(SummaryError),
-    /// A replica does not take in another or a batch, or does not answer: it has another query, one number of an origin has two
-    /// different batches, or the disk of tapes failed.
-    #[error(transparent)]
-    Merge(MergeError),
+    /// A replica does not take in another one, which answers another query.
+    #[error("the replicas answer different queries")]
+    DifferentQuery,
+    /// A number of an origin has two different batches: this one, which is early, or where none is told, one within equal prefixes,
+    /// which have different groups.
+    #[error("one number of an origin has two different batches")]
+    OriginDisagrees {
+        /// The origin.
+        origin: u16,
+        /// The number, if it is early.
+        number: Option<u32>,
+    },
+    /// The disk of tapes failed.
+    #[error("the disk of tapes failed")]
+    TapeFault,
+    /// The disk of tapes gave back what was not written to it.
+    #[error("the disk of tapes gave back what was not written to it")]
+    TapeDamaged,
     /// The run stopped before the end of its script.
     #[error(transparent)]
     Run(RunError),
@@ -116,37 +128,6 @@ fn summary_name(error: SummaryError) -> &'static str
     }
 }
 
-/// The name of why an aggregation stopped.
-fn spill_name(error: SpillError) -> &'static str
-    ensures { result.now ≡ spill_name error }
-{
-    match error {
-        SpillError::NoMemory => "NoMemory",
-        SpillError::TapeFault => "TapeFault",
-        SpillError::TapeDamaged => "TapeDamaged",
-    }
-}
-
-/// The name of why a batch or what is held of an origin is not taken.
-fn join_name(error: JoinError) -> &'static str
-    ensures { result.now ≡ join_name error }
-{
-    match error {
-        JoinError::OriginDisagrees => "OriginDisagrees",
-        JoinError::Spill(error) => spill_name(error),
-    }
-}
-
-/// The name of why a replica is not taken in.
-fn merge_name(error: MergeError) -> &'static str
-    ensures { result.now ≡ merge_name error }
-{
-    match error {
-        MergeError::DifferentQuery => "DifferentQuery",
-        MergeError::Join(error) => join_name(error),
-    }
-}
-
 /// The name of what stopped a run.
 fn run_name(error: RunError) -> &'static str
     ensures { result.now ≡ run_name error }
@@ -170,7 +151,10 @@ pub fn name(refusal: Refusal) -> &'static str
         Refusal::Query(error) => parse_name(error),
         Refusal::Batch(error) => batch_name(error),
         Refusal::Summary(error) => summary_name(error),
-        Refusal::Merge(error) => merge_name(error),
+        Refusal::DifferentQuery => "DifferentQuery",
+        Refusal::OriginDisagrees { .. } => "OriginDisagrees",
+        Refusal::TapeFault => "TapeFault",
+        Refusal::TapeDamaged => "TapeDamaged",
         Refusal::Run(error) => run_name(error),
         Refusal::BadCommand => "BadCommand",
         Refusal::NoSuchName => "NoSuchName",
@@ -230,30 +214,39 @@ impl From<SummaryError> for Refusal {
     }
 }
 
+impl From<SpillError> for Refusal {
+    ghost from_gives = { λ error refusal. refusal ≡ spill_refusal error };
+
+    fn from(error: SpillError) -> Refusal {
+        match error {
+            SpillError::NoMemory => Refusal::NoMemory,
+            SpillError::TapeFault => Refusal::TapeFault,
+            SpillError::TapeDamaged => Refusal::TapeDamaged,
+        }
+    }
+}
+
 impl From<MergeError> for Refusal {
     ghost from_gives = { λ error refusal. refusal ≡ merge_refusal error };
 
     fn from(error: MergeError) -> Refusal {
         match error {
-            MergeError::Join(JoinError::Spill(SpillError::NoMemory)) => Refusal::NoMemory,
-            error => Refusal::Merge(error),
+            MergeError::DifferentQuery => Refusal::DifferentQuery,
+            MergeError::NoMemory => Refusal::NoMemory,
+            MergeError::Join { origin, why } => Refusal::of_origin(origin, why),
         }
     }
 }
 
-impl From<JoinError> for Refusal {
-    ghost from_gives = { λ error refusal. refusal ≡ merge_refusal (merge.Join error) };
-
-    fn from(error: JoinError) -> Refusal {
-        Refusal::from(MergeError::Join(error))
-    }
-}
-
-impl From<SpillError> for Refusal {
-    ghost from_gives = { λ error refusal. refusal ≡ merge_refusal (merge.Join (join.Spill error)) };
-
-    fn from(error: SpillError) -> Refusal {
-        Refusal::from(JoinError::Spill(error))
+impl Refusal {
+    /// Why a batch or a part of an origin is not taken.
+    pub fn of_origin(origin: u16, why: JoinError) -> Refusal
+        ensures { result ≡ join_refusal origin why }
+    {
+        match why {
+            JoinError::OriginDisagrees { number } => Refusal::OriginDisagrees { origin, number },
+            JoinError::Spill(error) => Refusal::from(error),
+        }
     }
 }
 

@@ -1,6 +1,6 @@
 //! What is there while a script runs, and how its commands are answered.
 
-ghost use Rattle.std.specs.Prelude.{◌≡◌, ◌≢◌, ◌+◌, ◌<◌, ◌≤◌, Bool, IsTrue, false, List, Some, None, [], IfOk, IfErr, OnOk, OnErr, drop, length, string_bytes, take, ℕ};
+ghost use Rattle.std.specs.Prelude.{◌≡◌, ◌≢◌, ◌+◌, ◌<◌, ◌≤◌, Bool, IsTrue, false, List, Option, Some, None, [], IfOk, IfErr, OnOk, OnErr, drop, length, string_bytes, take, ℕ};
 ghost use Rattle.std.specs.HashMap.{UpdatesBy};
 ghost use Rattle.std.specs.Str.{bytes_eq};
 ghost use Rattle.csv.specs.Records.{fields_of};
@@ -22,10 +22,11 @@ ghost use Rattle.packed_rows.specs.Columns.{kinds};
 ghost use Rattle.script_commands.specs.Commands as ask;
 ghost use Rattle.script_commands.specs.Commands.{owned_by, request_of};
 ghost use Rattle.script_machine.specs.Machine.{IsNoBatch, IsNoQuery};
+ghost use Rattle.replica_merge.specs.Counting.{aggregations_asked};
+ghost use Rattle.script_machine.specs.Limits.{Worked, FeedWorked, WorksAtLimit};
 ghost use Rattle.script_machine.specs.Views.{Store, IsStore, empty, faults_in, refusal_faults, is_tape_fault, Steps, Takes, IsOfBatch, IsOtherBatch, JoinsNames};
 ghost use Rattle.script_machine.specs.declared.reply.Reply.TheVariants as says;
-ghost use Rattle.script_machine.specs.declared.refusal.Refusal.TheVariants.{NoMemory};
-ghost use Rattle.script_machine.specs.Refusals.{origin_disagrees, tape_fault, tape_damaged};
+ghost use Rattle.script_machine.specs.declared.refusal.Refusal.TheVariants.{NoMemory, OriginDisagrees, TapeDamaged};
 ghost use Rattle.spill_tapes.specs.Calls.{failed};
 ghost use Rattle.spill_tapes.specs.Disk.{Leaves};
 ghost use Rattle.spill_lists.specs.Errors.{spill_faults};
@@ -63,7 +64,9 @@ pub(crate) struct Session {
 impl Model for Session {
     ghost use Rattle.std.specs.Coded.{codes};
     ghost use Rattle.script_machine.specs.Coding.{coded_store};
-    ghost use Rattle.script_machine.specs.Views.{Store, IsStore};
+    ghost use Rattle.replica_merge.specs.Counting.{aggregations_asked};
+ghost use Rattle.script_machine.specs.Limits.{Worked, FeedWorked, WorksAtLimit};
+ghost use Rattle.script_machine.specs.Views.{Store, IsStore};
 
     ghost Value = { Store };
 
@@ -107,10 +110,13 @@ fn deliver<D: TapeDisk>(
     ensures why { IfOk result (λ done. IfErr done (λ why. IsOfBatch why
         → IsNoBatch (kinds replica.old.query.columns) origin.now number.now told (take told
         records.old) why)) }
-    ensures other { IfOk result (λ done. IfErr done (λ why. why ≡ origin_disagrees → IsOtherBatch
-        origin.now number.now told (take told records.old) replica.old)) }
+    ensures other { IfOk result (λ done. IfErr done (λ why. (of : ℕ) (at : Option ℕ) → why ≡ OriginDisagrees of at →
+        IsOtherBatch origin.now number.now told (take told records.old) replica.old)) }
     ensures undamaged { IfOk result (λ done. IfErr done (λ why. IsTrue (D.honest disk.old)
-        → why ≢ tape_damaged)) }
+        → why ≢ TapeDamaged)) }
+    ensures limit { IfOk result (λ done. OnOk done (IsTrue (D.honest disk.old) →
+        FeedWorked replica.old means.now.limit origin.now number.now told (take told records.old)
+        (D.writes disk.old) (D.writes disk.new))) }
     ensures left { OnOk result (records.new ≡ drop told records.old) }
     ensures disk { IfOk result (λ done. Leaves D.TapeDisk (failed refusal_faults done) disk.old disk.new) }
     ensures stopped { OnErr result (Leaves D.TapeDisk 0 disk.old disk.new) }
@@ -122,7 +128,10 @@ fn deliver<D: TapeDisk>(
     };
     match replica.deliver(batch, means, disk, &mut Work::none()) {
         Ok(delivered) => Ok(Ok(delivered)),
-        Err(refused) => Ok(Err(Refusal::from(refused.why))),
+        Err(refused) => Ok(Err(Refusal::of_origin(
+            refused.batch.origin,
+            refused.why,
+        ))),
     }
 }
 
@@ -175,6 +184,9 @@ fn answer_of_replica<D: TapeDisk>(
         (told replica.now.parts))) × (found.1.items ≡ table_text (headers replica.now.query) (answer
         (meaning replica.now.query) world (told replica.now.parts)))) }
     ensures shown { IfOk result (λ found. (rows : List (List Outcome)) × ((found.0 ≡ length rows) × (found.1.items ≡ table_text (headers replica.now.query) rows))) }
+    ensures limit { OnOk result (IsTrue (D.honest disk.old) →
+        Worked (meaning replica.now.query) means.now.limit (aggregations_asked replica.now.parts)
+        (D.writes disk.old) (D.writes disk.new)) }
     ensures undamaged { IfErr result (λ error. IsTrue (D.honest disk.old) → error ≢ spill.TapeDamaged) }
     ensures disk { Leaves D.TapeDisk (failed spill_faults result) disk.old disk.new }
 {
@@ -332,6 +344,9 @@ impl Session {
     ) -> Result<Reply<'static>, AllocError>
         ensures answers { IfOk result (λ reply. Steps (D.honest disk.old) (ask.Feed name.now origin.now number.now told)
             (take told records.old) self.old reply self.new) }
+        ensures limit { IfOk result (λ reply. IsTrue (D.honest disk.old) →
+            WorksAtLimit self.old (ask.Feed name.now origin.now number.now told) (take told records.old) reply
+            (D.writes disk.old) (D.writes disk.new)) }
         ensures left { OnOk result (records.new ≡ drop told records.old) }
         ensures disk { IfOk result (λ reply. Leaves D.TapeDisk (faults_in reply) disk.old disk.new) }
         ensures stopped { OnErr result (Leaves D.TapeDisk 0 disk.old disk.new) }
@@ -366,6 +381,8 @@ impl Session {
     /// Answers `answer`.
     fn answer<D: TapeDisk>(&self, name: &[u8], disk: &mut D) -> Reply<'static>
         ensures answers { (owned : List Record) → Steps (D.honest disk.old) (ask.Answer name.now) owned self.now result self.now }
+        ensures limit { IsTrue (D.honest disk.old) → (owned : List Record) →
+            WorksAtLimit self.now (ask.Answer name.now) owned result (D.writes disk.old) (D.writes disk.new) }
         ensures disk { Leaves D.TapeDisk (faults_in result) disk.old disk.new }
     {
         match self.replicas.get(name) {
@@ -380,7 +397,9 @@ impl Session {
     /// What two replicas hold together, aside from both.
     fn join<D: TapeDisk>(&self, into: &[u8], from: &[u8], disk: &mut D) -> Result<Joined, Refusal>
         ensures joins { JoinsNames (D.honest disk.old) self.now into.now from.now result }
-        ensures undamaged { IfErr result (λ why. IsTrue (D.honest disk.old) → why ≢ tape_damaged) }
+        ensures limit { OnOk result (IsTrue (D.honest disk.old) → (owned : List Record) →
+            WorksAtLimit self.now (ask.Merge into.now from.now) owned says.Merged (D.writes disk.old) (D.writes disk.new)) }
+        ensures undamaged { IfErr result (λ why. IsTrue (D.honest disk.old) → why ≢ TapeDamaged) }
         ensures disk { Leaves D.TapeDisk (failed refusal_faults result) disk.old disk.new }
     {
         let Some(own) = self.replicas.get(into) else {
@@ -400,6 +419,8 @@ impl Session {
     fn merge<D: TapeDisk>(&mut self, into: &[u8], from: &[u8], disk: &mut D) -> Reply<'static>
         ensures answers { (owned : List Record) →
             Steps (D.honest disk.old) (ask.Merge into.now from.now) owned self.old result self.new }
+        ensures limit { IsTrue (D.honest disk.old) → (owned : List Record) →
+            WorksAtLimit self.old (ask.Merge into.now from.now) owned result (D.writes disk.old) (D.writes disk.new) }
         ensures disk { Leaves D.TapeDisk (faults_in result) disk.old disk.new }
     {
         let joined = match self.join(into, from, disk) {
@@ -462,6 +483,11 @@ impl Session {
     ) -> Result<Reply<'c>, AllocError>
         ensures answers { IfOk result (λ reply. Steps (D.honest disk.old) (request_of (fields_of command.now.head))
             (take (owned_by (fields_of command.now.head)) records.old) self.old reply self.new) }
+        // The limit that was told is the limit that works.
+        ensures limit { IfOk result (λ reply. IsTrue (D.honest disk.old) →
+            WorksAtLimit self.old (request_of (fields_of command.now.head))
+            (take (owned_by (fields_of command.now.head)) records.old) reply
+            (D.writes disk.old) (D.writes disk.new)) }
         ensures left { OnOk result (records.new
             ≡ drop (owned_by (fields_of command.now.head)) records.old) }
         ensures disk { IfOk result (λ reply. Leaves D.TapeDisk (faults_in reply) disk.old disk.new) }

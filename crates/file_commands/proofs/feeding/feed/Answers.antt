@@ -7,12 +7,12 @@ use Rattle.batch_reader.specs.Rows.{ReadsRows, packings}
 use Rattle.query_checks.specs.Checks.{Checked}
 use Rattle.std.proofs.lemmas.Result.{err_from_is_err_and}
 use Rattle.spill_tapes.specs.Disk.{Leaves}
+use Rattle.batch_reader.specs.declared.batch.Batch.{Batch}
+use Rattle.origin_prefix.specs.Parts.{BatchTells}
+use Rattle.replica_merge.specs.Replicas.{part_of}
 use Rattle.spill_tapes.specs.DiskLaws.{leaves_none}
-use Rattle.spill_lists.specs.declared.error.SpillError.TheVariants as spill
-use Rattle.origin_prefix.specs.declared.error.JoinError.TheVariants as join
-use Rattle.replica_merge.specs.declared.error.MergeError.TheVariants as merge
 use Rattle.script_machine.specs.Views.{IsOfBatch, refusal_faults}
-use Rattle.script_machine.proofs.FeedLaws.{other_why, same_faults, damage_told, not_of_batch}
+use Rattle.script_machine.proofs.FeedLaws.{other_why, told_of, join_tells, join_damage, not_of_batch}
 use Rattle.file_commands.proofs.FileLaws.{FileBatch, read_of_file, packed_of_file, takes_file, of_batch_file, other_file, no_batch_fault}
 use Rattle.file_commands.proofs.feeding.feed.Goals as goal
 
@@ -32,12 +32,12 @@ returns-in-Ok-clause-took g c =
     takes_file _ _ _ _ _ _ _ _ (subst (λ columns. FileBatch (kinds columns) (read_file c.args.file.now) c.in_ok-batch.batch.origin c.in_ok-batch.batch.number c.in_ok-batch.batch.rows) same found) done.reply done.told done.fits done.query
 
 pub returns-in-Err-clause-other : goal.returns-in-Err-clause-other
-returns-in-Err-clause-other g c = λ is.
+returns-in-Err-clause-other g c = λ of at is.
     let batch = c.in_ok-batch.ensures in
     let same : c.schema-schema.result.now ≡ c.args.replica.now.query.columns = c.schema-schema.ensures.columns ∙ ap (λ (q : Checked). q.columns) c.query.ensures in
     let found = read_of_file _ _ _ _ _ batch.origin batch.number batch.few batch.told batch.rows in
     other_file _ _ _ _ _ (subst (λ columns. FileBatch (kinds columns) (read_file c.args.file.now) c.in_ok-batch.batch.origin c.in_ok-batch.batch.number c.in_ok-batch.batch.rows) same found)
-    (c.in-Err.ensures.agrees (other_why c.in-Err.refused.why (sym c.from.ensures ∙ is)))
+    (c.in-Err.ensures.agrees at (other_why c.in-Err.refused.batch.origin c.in-Err.refused.why of at (sym c.of_origin.ensures ∙ is)))
 
 pub returns-in-Ok-clause-counted : goal.returns-in-Ok-clause-counted
 returns-in-Ok-clause-counted g c = λ honest.
@@ -48,7 +48,7 @@ returns-in-Ok-clause-counted g c = λ honest.
     (c.in-Ok.ensures.counted honest)
 
 pub returns-in-Err-clause-why : goal.returns-in-Err-clause-why
-returns-in-Err-clause-why g c = λ of. absurd (not_of_batch c.in-Err.refused.why (subst IsOfBatch c.from.ensures of))
+returns-in-Err-clause-why g c = λ of. absurd (not_of_batch c.in-Err.refused.batch.origin c.in-Err.refused.why (subst IsOfBatch c.of_origin.ensures of))
 
 pub returns-in_err-batch-clause-disk : goal.returns-in_err-batch-clause-disk
 returns-in_err-batch-clause-disk g c =
@@ -57,11 +57,11 @@ returns-in_err-batch-clause-disk g c =
 
 pub returns-in-Err-clause-disk : goal.returns-in-Err-clause-disk
 returns-in-Err-clause-disk g c =
-    subst (λ n. Leaves g.D.TapeDisk n c.args.disk.now c.deliver.new.disk) (same_faults (merge.Join c.in-Err.refused.why) ∙ ap refusal_faults (sym c.from.ensures)) c.in-Err.ensures.disk
+    subst (λ n. Leaves g.D.TapeDisk n c.args.disk.now c.deliver.new.disk) (join_tells c.in-Err.refused.batch.origin c.in-Err.refused.why ∙ ap refusal_faults (sym c.of_origin.ensures)) c.in-Err.ensures.disk
 
 pub returns-in-Err-clause-undamaged : goal.returns-in-Err-clause-undamaged
 returns-in-Err-clause-undamaged g c = λ honest is.
-    c.in-Err.ensures.undamaged honest (let error : merge.Join c.in-Err.refused.why ≡ merge.Join (join.Spill spill.TapeDamaged) = damage_told (merge.Join c.in-Err.refused.why) (sym c.from.ensures ∙ is) in cc)
+    c.in-Err.ensures.undamaged honest (join_damage c.in-Err.refused.batch.origin c.in-Err.refused.why (sym c.of_origin.ensures ∙ is))
 
 pub returns-in-Ok-clause-agreed : goal.returns-in-Ok-clause-agreed
 returns-in-Ok-clause-agreed g c =
@@ -72,9 +72,11 @@ returns-in-Ok-clause-agreed g c =
     c.in-Ok.ensures.agreed
 
 pub returns-in-Err-clause-disagree : goal.returns-in-Err-clause-disagree
-returns-in-Err-clause-disagree g c = λ is.
+returns-in-Err-clause-disagree g c = λ of at is.
     let batch = c.in_ok-batch.ensures in
     let same : c.schema-schema.result.now ≡ c.args.replica.now.query.columns = c.schema-schema.ensures.columns ∙ ap (λ (q : Checked). q.columns) c.query.ensures in
+    let tells = subst (λ why. BatchTells why (part_of c.args.replica.now.parts c.in_ok-batch.batch.origin) c.in_ok-batch.batch.number c.in_ok-batch.batch.rows)
+    (other_why c.in-Err.refused.batch.origin c.in-Err.refused.why of at (sym c.of_origin.ensures ∙ is)) c.in-Err.ensures.tells in
     of_batch_file _ c.args.replica.now _ _ _ _ batch.origin batch.number
     (subst (λ columns. IsSomeAnd (read_file c.args.file.now) (λ read. (rows : List Row) × ReadsRows (kinds columns) read.records rows × (c.in_ok-batch.batch.rows ≡ packings rows))) same batch.rows)
-    (c.in-Err.ensures.why (other_why c.in-Err.refused.why (sym c.from.ensures ∙ is)))
+    (told_of c.in-Err.refused.batch.origin c.in-Err.refused.why of at (sym c.of_origin.ensures ∙ is) ∙ ap (λ (b : Batch). b.origin) c.in-Err.ensures.refused.0, tells.0, tells.1)

@@ -1,4 +1,4 @@
-use Rattle.std.specs.Prelude.{◌≡◌}
+use Rattle.std.specs.Prelude.{◌≡◌, ℕ, Option}
 use Rattle.std.proofs.Common.{◌∙◌, ap, inr, sym, subst}
 use Rattle.std.proofs.lemmas.Result.{err_from_is_err_and}
 use Rattle.spill_tapes.specs.Disk.{Leaves}
@@ -6,7 +6,7 @@ use Rattle.spill_tapes.specs.DiskLaws.{leaves_none}
 use Rattle.script_machine.specs.Views.{refusal_faults}
 use Rattle.grouping_model.specs.World.{World}
 use Rattle.replica_merge.specs.Replicas.{Held, Fits}
-use Rattle.script_machine.specs.Refusals.{origin_disagrees}
+use Rattle.script_machine.specs.declared.refusal.Refusal.TheVariants.{OriginDisagrees}
 use Rattle.file_commands.specs.Commands.{MergesHeld, IsApart, MergesFile, FileMergeIsCounted, IsNotMerged}
 use Rattle.file_commands.proofs.FileLaws.{if_err, on_ok, no_file_fault}
 use Rattle.file_commands.proofs.merging.merge.Goals as goal
@@ -23,9 +23,9 @@ returns-clause-why g c =
 
 pub returns-clause-agree : goal.returns-clause-agree
 returns-clause-agree g c =
-    if_err c.take_in.result (λ why. why ≡ origin_disagrees → (world : World) → Fits world c.args.replica.now → ¬ (Fits world c.in_ok-other.other))
-    (λ why. why ≡ origin_disagrees → (world : World) → Fits world c.args.replica.now → (other : Held) → _ → ¬ (Fits world other))
-    (λ why agree is world own other is_file theirs. agree is world own (subst (Fits world) (sym (c.in_ok-other.ensures.saved other is_file)) theirs))
+    if_err c.take_in.result (λ why. (of : ℕ) (at : Option ℕ) → why ≡ OriginDisagrees of at → (world : World) → Fits world c.args.replica.now → ¬ (Fits world c.in_ok-other.other))
+    (λ why. (of : ℕ) (at : Option ℕ) → why ≡ OriginDisagrees of at → (world : World) → Fits world c.args.replica.now → (other : Held) → _ → ¬ (Fits world other))
+    (λ why agree of at is world own other is_file theirs. agree of at is world own (subst (Fits world) (sym (c.in_ok-other.ensures.saved other is_file)) theirs))
     c.take_in.ensures.agree
 
 pub returns-clause-counted : goal.returns-clause-counted

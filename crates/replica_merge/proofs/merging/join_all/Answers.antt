@@ -8,34 +8,42 @@ use Rattle.having_filter.specs.Meaning.{meaning}
 use Rattle.grouping_model.specs.Query.{Query}
 use Rattle.aggregation_cost.specs.Space.{Setting}
 use Rattle.hash_agg.specs.Counting.{setting_by}
-use Rattle.origin_prefix.specs.Joins.{Joins, PartsDisagree, JoinIsCounted}
+use Rattle.origin_prefix.specs.Joins.{Joins, PartsDisagree, JoinTells, JoinIsCounted}
+use Rattle.origin_prefix.specs.declared.error.JoinError.TheVariants.{Spill}
+use Rattle.spill_lists.specs.declared.error.SpillError.TheVariants.{TapeDamaged}
+use Rattle.replica_merge.specs.declared.error.MergeError.TheVariants.{Join}
 use Rattle.replica_merge.specs.Counting.{MergeIsCounted}
 use Rattle.origin_prefix.specs.Parts.{Part, empty, IsPartOf}
 use Rattle.origin_prefix.proofs.ByNumber.{numbers, rising_rest}
-use Rattle.replica_merge.specs.Replicas.{Parts, part_at, part_of, IsHeldPart, DisagreeSomewhere}
+use Rattle.replica_merge.specs.Replicas.{Parts, part_at, part_of, IsHeldPart, IsFirstRefused, MergeTells}
 use Rattle.spill_tapes.specs.Disk.{Leaves}
 use Rattle.spill_tapes.specs.DiskLaws.{leaves_twice}
-use Rattle.replica_merge.specs.Errors.{origin_disagrees, tape_damaged, merge_faults}
+use Rattle.replica_merge.specs.Errors.{merge_faults}
 use Rattle.replica_merge.proofs.DeliveredLaws.{part_is}
-use Rattle.replica_merge.proofs.MergedLaws.{JoinedSoFar, joined_more, found_disagreement}
+use Rattle.replica_merge.proofs.MergedLaws.{JoinedSoFar, joined_more, found_refused}
 use Rattle.replica_merge.proofs.merging.join_all.Goals as goal
 
 pub join_part-requires-clause-own : goal.join_part-requires-clause-own
 join_part-requires-clause-own g c =
     subst (λ o. IsPartOf c.args.query.now (unwrap_or o empty)) (sym c.get.ensures.value) (part_is c.args.query.now c.args.own.now.entries c.requires.own c.in-Some.origin.now)
 
-pub returns-in_err-part-clause-disagree : goal.returns-in_err-part-clause-disagree
-returns-in_err-part-clause-disagree g c =
+pub returns-in_err-part-clause-tells : goal.returns-in_err-part-clause-tells
+returns-in_err-part-clause-tells g c =
     let own : Parts = c.args.own.now.entries in
     let all : Parts = c.into_iter-origin-iterator.result in
+    let n : ℕ = c.in-Some.origin.now in
     let theirs : all ≡ c.args.theirs.now.entries = c.into_iter-origin-iterator.ensures.into_iter_gives.0 in
     let p = err_from_is_err_and c.from_residual-in_err-part.result c.from_residual-in_err-part.ensures.1 in
-    let had = subst (λ rest. JoinedSoFar (g.D.TapeDisk.honest c.args.disk.now) c.args.query.now (part_of own c.in-Some.origin.now) (part_at own c.in-Some.origin.now) (part_at all c.in-Some.origin.now) (part_at rest c.in-Some.origin.now) (part_at c.loop-origin.joined.entries c.in-Some.origin.now))
-    c.in-Some.ensures.steps (c.loop-origin.invariant.at c.in-Some.origin.now) in
-    subst (λ r. IfErr r (λ e. e ≡ origin_disagrees → DisagreeSomewhere own c.args.theirs.now.entries)) (sym p.1)
-    (λ is. subst (DisagreeSomewhere own) theirs
-    (found_disagreement (g.D.TapeDisk.honest c.args.disk.now) c.args.query.now own all c.loop-origin.joined.entries c.in-Some.origin.now c.in-Some.part.now c.next.new.self had
-    (subst (λ o. PartsDisagree (unwrap_or o empty) c.in-Some.part.now) c.get.ensures.value (c.in_err-part.ensures.disagree (let given = sym p.2 ∙ is in cc)))))
+    let rising = subst (λ rest. IsStrictlySortedBy nat_cmp (numbers rest)) c.in-Some.ensures.steps c.loop-origin.invariant.rest in
+    let had = λ (o : ℕ). subst (λ rest. JoinedSoFar (g.D.TapeDisk.honest c.args.disk.now) c.args.query.now (part_of own o) (part_at own o) (part_at all o) (part_at rest o) (part_at c.loop-origin.joined.entries o))
+    c.in-Some.ensures.steps (c.loop-origin.invariant.at o) in
+    let told = c.in_err-part.ensures.tells in
+    let first : IsFirstRefused own c.args.theirs.now.entries n told.0 =
+    subst (λ parts. IsFirstRefused own parts n told.0) theirs
+    (found_refused (g.D.TapeDisk.honest c.args.disk.now) c.args.query.now own all c.loop-origin.joined.entries n c.in-Some.part.now c.next.new.self told.0 rising had
+    (subst (λ o. JoinTells told.0 (unwrap_or o empty) c.in-Some.part.now) c.get.ensures.value told.2)) in
+    subst (λ r. IfErr r (λ e. MergeTells e (record { query = c.args.query.now; parts = own }) (record { query = c.args.query.now; parts = c.args.theirs.now.entries }))) (sym p.1)
+    (subst (λ e. MergeTells e (record { query = c.args.query.now; parts = own }) (record { query = c.args.query.now; parts = c.args.theirs.now.entries })) (sym (p.2 ∙ told.1)) (refl, first))
 
 pub loop-origin-preserved : goal.loop-origin-preserved
 loop-origin-preserved g c =
@@ -84,8 +92,8 @@ returns-clause-counted g c = λ so.
 pub returns-in_err-part-clause-undamaged : goal.returns-in_err-part-clause-undamaged
 returns-in_err-part-clause-undamaged g c =
     let p = err_from_is_err_and c.from_residual-in_err-part.result c.from_residual-in_err-part.ensures.1 in
-    subst (λ r. IfErr r (λ e. IsTrue (g.D.TapeDisk.honest c.args.disk.now) → e ≢ tape_damaged)) (sym p.1)
-    (λ honest is. c.in_err-part.ensures.undamaged (subst IsTrue (sym c.loop-origin.invariant.disk.honesty) honest) (let given = sym p.2 ∙ is in cc))
+    subst (λ r. IfErr r (λ e. IsTrue (g.D.TapeDisk.honest c.args.disk.now) → (at : ℕ) → e ≢ Join at (Spill TapeDamaged))) (sym p.1)
+    (λ honest at is. c.in_err-part.ensures.undamaged (subst IsTrue (sym c.loop-origin.invariant.disk.honesty) honest) at (sym p.2 ∙ is))
 
 pub returns-in_err-part-clause-disk : goal.returns-in_err-part-clause-disk
 returns-in_err-part-clause-disk g c =

@@ -33,7 +33,7 @@ returns-in-Err g c =
     let between : Parts = c.insert.new.self.entries in
     let made : between ≡ insert_entry nat_cmp old batch.origin c.empty.result = when_fine c.insert.result _ c.insert.ensures.entries (sym c.if-is_err.ensures.value) in
     record {
-      delivered = first_refused old between c.deliver_to.new.parts.entries c.remove.new.self.entries batch c.in-Err.refused c.requires.none c.requires.number.0
+      delivered = first_refused old between c.deliver_to.new.parts.entries c.remove.new.self.entries batch c.in-Err.refused c.requires.none
           (made ∙ ap (insert_entry nat_cmp old batch.origin) c.empty.ensures) told.delivered c.remove.ensures.entries;
       counted = tt;
       uncounted = told.uncounted;

@@ -13,7 +13,7 @@ returns g c =
     let own : c.in-Some.part.now ≡ part_of c.args.parts.now.entries batch.origin = ap (λ o. unwrap_or o empty) c.in-Some.ensures.value in
     record {
       delivered = taken_at c.deliver.result (g.D.TapeDisk.honest c.args.disk.now) c.args.query.now c.args.parts.now (c.get_mut.follows.lender c.deliver.new.self) batch c.in-Some.part.now c.deliver.new.self
-          (sym c.in-Some.ensures.value) (c.get_mut.follows.holds c.deliver.new.self) told.part told.delivers told.refused told.why told.unknown;
+          (sym c.in-Some.ensures.value) (c.get_mut.follows.holds c.deliver.new.self) told.part told.delivers told.refused told.tells;
       counted = subst (λ (part : Part). OnOk c.deliver.result (IsTrue (g.D.TapeDisk.honest c.args.disk.now) → AreCounted query (setting_by g.H.KeyHash.hash_of query c.args.means.now)
           (aggregations_on part batch.number batch.rows) c.args.work.now (g.D.TapeDisk.writes c.args.disk.now) c.deliver.new.work (g.D.TapeDisk.writes c.deliver.new.disk))) own told.counted;
       uncounted = told.uncounted;

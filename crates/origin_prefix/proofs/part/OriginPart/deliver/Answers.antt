@@ -1,5 +1,7 @@
 use Rattle.std.specs.Prelude.{◌≡◌, ◌+◌, ◌<◌, ◌≤◌, Some, None}
 use Rattle.std.proofs.Common.{◌∙◌, sym, ap, subst, arith}
+use Rattle.std.proofs.lemmas.Result.{IfErr-weaker}
+use Rattle.spill_lists.specs.declared.error.SpillError.TheVariants.{NoMemory}
 use Rattle.std.specs.Option.{option_copied}
 use Rattle.grouping_model.specs.declared.limits.TheConstants.{LAST_NUMBER}
 use Rattle.having_filter.specs.Meaning.{meaning}
@@ -7,6 +9,7 @@ use Rattle.origin_prefix.specs.Parts.{Part, rows_at, behind}
 use Rattle.origin_prefix.proofs.CountLaws.{on_ok, early_counted}
 use Rattle.origin_prefix.proofs.DeliverLaws.{known_within, reply_early, refused_early, unknown, unknown_refused, kept_delivers, part_kept, part_settled, behind_gap, next_open}
 use Rattle.origin_prefix.proofs.part.OriginPart.deliver.Goals as goal
+use Rattle.origin_prefix.proofs.part.OriginPart.deliver.Goals.{in-Ok, in-Err}
 
 pub returns-then-batch-self-clause-delivers : goal.returns-then-batch-self-clause-delivers
 returns-then-batch-self-clause-delivers g c =
@@ -20,8 +23,8 @@ returns-in-Some-clause-delivers g c =
     subst (λ (p : Part). rows_at p.early c.args.batch.number ≡ Some c.in-Some.kept.now) c.self.view_is (sym c.get.ensures.value ∙ ap option_copied c.in-Some.is) in
     reply_early (g.D.TapeDisk.honest c.args.disk.now) (meaning c.args.query.now) part c.args.batch.number c.args.batch.rows c.in-Some.kept.now c.known_again.result there c.known_again.ensures.known
 
-pub returns-in-Some-clause-why : goal.returns-in-Some-clause-why
-returns-in-Some-clause-why g c =
+pub returns-in-Some-clause-tells : goal.returns-in-Some-clause-tells
+returns-in-Some-clause-tells g c =
     let part : Part = c.args.self.now in
     let there : rows_at part.early c.args.batch.number ≡ Some c.in-Some.kept.now =
     subst (λ (p : Part). rows_at p.early c.args.batch.number ≡ Some c.in-Some.kept.now) c.self.view_is (sym c.get.ensures.value ∙ ap option_copied c.in-Some.is) in
@@ -73,18 +76,22 @@ returns-clause-part g c =
     (next_open c.args.query.now c.args.self.now c.args.batch.rows c.requires.part (omega (arith, above, next, prefix, high)) c.requires.rows)
     c.settle.ensures.settled c.settle.ensures.same
 
-pub returns-then-batch-self-2-clause-unknown : goal.returns-then-batch-self-2-clause-unknown
-returns-then-batch-self-2-clause-unknown g c =
+pub returns-then-batch-self-2-clause-tells : goal.returns-then-batch-self-2-clause-tells
+returns-then-batch-self-2-clause-tells g c =
     let part : Part = c.args.self.now in
     let above : part.prefix < c.args.batch.number = grind (arith, c.if-batch-self.false, ap (λ (p : Part). p.prefix) c.self.view_is) in
     let none : rows_at part.early c.args.batch.number ≡ None =
     subst (λ (p : Part). rows_at p.early c.args.batch.number ≡ None) c.self.view_is (sym c.get.ensures.value ∙ ap option_copied c.in_default.is) in
-    unknown_refused c.keep_early.result part c.args.batch.number above none
+    unknown_refused c.keep_early.result part c.args.batch.number c.args.batch.rows above none (IfErr-weaker c.keep_early.result _ _ (λ e is. (NoMemory, is.1)) c.keep_early.ensures.refused)
 
-pub returns-clause-unknown : goal.returns-clause-unknown
-returns-clause-unknown g c =
+pub returns-clause-tells : goal.returns-clause-tells
+returns-clause-tells g c =
     let part : Part = c.args.self.now in
     let above : part.prefix < c.args.batch.number = grind (arith, c.if-batch-self.false, ap (λ (p : Part). p.prefix) c.self.view_is) in
     let none : rows_at part.early c.args.batch.number ≡ None =
     subst (λ (p : Part). rows_at p.early c.args.batch.number ≡ None) c.self.view_is (sym c.get.ensures.value ∙ ap option_copied c.in_default.is) in
-    unknown_refused c.match-settle.result part c.args.batch.number above none
+    unknown_refused c.match-settle.result part c.args.batch.number c.args.batch.rows above none
+    (elim c.match-settle.branch [
+      | in-Ok w ↦ rw w.result-is tt
+      | in-Err w ↦ rw w.result-is (w.in-Err.error, w.refused.ensures.1 ∙ w.from.ensures)
+    ])

@@ -1,4 +1,4 @@
-use Rattle.std.specs.Prelude.{◌≡◌, ◌≢◌, List, Some, IfOk, IfErr, OnOk, IsTrue, false}
+use Rattle.std.specs.Prelude.{◌≡◌, ◌≢◌, ℕ, List, Option, Some, IfOk, IfErr, OnOk, IsTrue, false}
 use Rattle.std.proofs.Common.{subst}
 use Rattle.grouping_model.specs.Datum.{Row}
 use Rattle.grouping_model.specs.Replies.{reply_of}
@@ -7,10 +7,11 @@ use Rattle.packed_rows.specs.Columns.{kinds}
 use Rattle.batch_reader.specs.Rows.{packings}
 use Rattle.having_filter.specs.Meaning.{meaning}
 use Rattle.hash_agg.specs.Counting.{AreCounted, setting_by}
-use Rattle.origin_prefix.specs.Parts.{Disagrees, aggregations_on}
-use Rattle.origin_prefix.specs.declared.error.JoinError.TheVariants.{OriginDisagrees}
-use Rattle.replica_merge.specs.Replicas.{Held, part_of, told, Fits}
-use Rattle.replica_merge.proofs.DeliveredLaws.{still_held, reply_told, more_told, still_fits, handed_back, disagreed, agreed_else, unknown_else, world_agrees}
+use Rattle.origin_prefix.specs.Parts.{Disagrees, BatchTells, aggregations_on}
+use Rattle.origin_prefix.specs.declared.error.JoinError.TheVariants.{OriginDisagrees, Spill}
+use Rattle.spill_lists.specs.declared.error.SpillError.{SpillError}
+use Rattle.replica_merge.specs.Replicas.{Held, part_of, told, Fits, DeliversAt}
+use Rattle.replica_merge.proofs.DeliveredLaws.{takes, still_held, reply_told, more_told, still_fits, handed_back, why_told, agreed_else, unknown_else, world_agrees}
 use Rattle.replica_merge.proofs.replica.Replica.deliver.Goals as goal
 
 pub invariant_of-self : goal.invariant_of-self
@@ -26,6 +27,11 @@ returns-clause-told g c =
     subst (λ (h : Held). OnOk c.deliver_in.result (told c.deliver_in.new.parts.entries ≡ learn (told h.parts) (c.args.batch.origin, c.args.batch.number))) c.self.view_is
     (more_told c.deliver_in.result (g.D.TapeDisk.honest c.args.disk.now) c.self.inside.query c.self.inside.parts.entries c.deliver_in.new.parts.entries c.args.batch c.self.invariant c.requires.limits c.deliver_in.ensures.delivered)
 
+pub returns-clause-delivers : goal.returns-clause-delivers
+returns-clause-delivers g c =
+    subst (λ (h : Held). IfOk c.deliver_in.result (DeliversAt (g.D.TapeDisk.honest c.args.disk.now) h.query h.parts c.args.batch.origin c.args.batch.number c.args.batch.rows c.deliver_in.new.parts.entries)) c.self.view_is
+    (takes c.deliver_in.result (g.D.TapeDisk.honest c.args.disk.now) c.self.inside.query c.self.inside.parts.entries c.deliver_in.new.parts.entries c.args.batch c.self.invariant c.requires.limits c.deliver_in.ensures.delivered)
+
 pub returns-clause-fits : goal.returns-clause-fits
 returns-clause-fits g c =
     subst (λ (h : Held). OnOk c.deliver_in.result (IsTrue (g.D.TapeDisk.honest c.args.disk.now) → (world : World) (those : List Row) → IsWorld (kinds h.query.columns) world → Fits world h → world c.args.batch.origin c.args.batch.number ≡ Some those
@@ -37,10 +43,10 @@ returns-clause-refused g c =
     subst (λ (h : Held). IfErr c.deliver_in.result (λ e. (e.batch ≡ c.args.batch) × (record { query = c.self.inside.query; parts = c.deliver_in.new.parts.entries } ≡ h))) c.self.view_is
     (handed_back c.deliver_in.result (g.D.TapeDisk.honest c.args.disk.now) c.self.inside.query c.self.inside.parts.entries c.deliver_in.new.parts.entries c.args.batch c.self.invariant c.requires.limits c.deliver_in.ensures.delivered)
 
-pub returns-clause-why : goal.returns-clause-why
-returns-clause-why g c =
-    subst (λ (h : Held). IfErr c.deliver_in.result (λ e. e.why ≡ OriginDisagrees → Disagrees (part_of h.parts c.args.batch.origin) c.args.batch.number c.args.batch.rows)) c.self.view_is
-    (disagreed c.deliver_in.result (g.D.TapeDisk.honest c.args.disk.now) c.self.inside.query c.self.inside.parts.entries c.deliver_in.new.parts.entries c.args.batch c.self.invariant c.requires.limits c.deliver_in.ensures.delivered)
+pub returns-clause-tells : goal.returns-clause-tells
+returns-clause-tells g c =
+    subst (λ (h : Held). IfErr c.deliver_in.result (λ e. BatchTells e.why (part_of h.parts c.args.batch.origin) c.args.batch.number c.args.batch.rows)) c.self.view_is
+    (why_told c.deliver_in.result (g.D.TapeDisk.honest c.args.disk.now) c.self.inside.query c.self.inside.parts.entries c.deliver_in.new.parts.entries c.args.batch c.self.invariant c.requires.limits c.deliver_in.ensures.delivered)
 
 pub returns-clause-agreed : goal.returns-clause-agreed
 returns-clause-agreed g c =
@@ -49,12 +55,12 @@ returns-clause-agreed g c =
 
 pub returns-clause-unknown : goal.returns-clause-unknown
 returns-clause-unknown g c =
-    subst (λ (h : Held). IfErr c.deliver_in.result (λ e. e.why ≢ OriginDisagrees → knows (told h.parts) (c.args.batch.origin, c.args.batch.number) ≡ false)) c.self.view_is
+    subst (λ (h : Held). IfErr c.deliver_in.result (λ e. (error : SpillError) → e.why ≡ Spill error → knows (told h.parts) (c.args.batch.origin, c.args.batch.number) ≡ false)) c.self.view_is
     (unknown_else c.deliver_in.result (g.D.TapeDisk.honest c.args.disk.now) c.self.inside.query c.self.inside.parts.entries c.deliver_in.new.parts.entries c.args.batch c.self.invariant c.requires.limits c.deliver_in.ensures.delivered)
 
 pub returns-clause-agrees : goal.returns-clause-agrees
 returns-clause-agrees g c =
-    subst (λ (h : Held). IfErr c.deliver_in.result (λ e. e.why ≡ OriginDisagrees → (world : World) (those : List Row) → Fits world h → world c.args.batch.origin c.args.batch.number ≡ Some those
+    subst (λ (h : Held). IfErr c.deliver_in.result (λ e. (told : Option ℕ) → e.why ≡ OriginDisagrees told → (world : World) (those : List Row) → Fits world h → world c.args.batch.origin c.args.batch.number ≡ Some those
     → c.args.batch.rows ≢ packings those)) c.self.view_is
     (world_agrees c.deliver_in.result (g.D.TapeDisk.honest c.args.disk.now) c.self.inside.query c.self.inside.parts.entries c.deliver_in.new.parts.entries c.args.batch c.self.invariant c.requires.limits c.deliver_in.ensures.delivered)
 

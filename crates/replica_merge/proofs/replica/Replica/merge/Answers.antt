@@ -1,7 +1,6 @@
 use Rattle.std.proofs.Common.{subst}
 use Rattle.query_checks.specs.Checks.{Checked}
 use Rattle.replica_merge.specs.Replicas.{Fits}
-use Rattle.replica_merge.proofs.MergedLaws.{aside_agree}
 use Rattle.replica_merge.proofs.replica.Replica.merge.Goals as goal
 
 pub commit-requires : goal.commit-requires
@@ -18,7 +17,3 @@ returns-clause-fits g c =
     λ so world is fits fits_other.
     c.commit.ensures.fits (g.D.TapeDisk.honest c.args.disk.now) so c.args.other.now.parts c.in_ok-joined.ensures.held c.in_ok-joined.ensures.joined world is fits
     (subst (λ (q : Checked). Fits world (record { query = q; parts = c.args.other.now.parts })) c.in_ok-joined.ensures.query fits_other)
-
-pub returns-clause-agreed : goal.returns-clause-agreed
-returns-clause-agreed g c =
-    aside_agree (g.D.TapeDisk.honest c.args.disk.now) c.args.self.now.query c.args.self.now.parts c.args.other.now.parts c.in_ok-joined.joined c.in_ok-joined.ensures.joined

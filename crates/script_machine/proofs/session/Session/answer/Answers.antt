@@ -1,12 +1,11 @@
 use Rattle.std.proofs.Common.{ap, sym, subst, ◌∙◌}
 use Rattle.script_commands.specs.Commands as ask
-use Rattle.script_machine.specs.Views.{Steps, refusal_faults}
+use Rattle.script_machine.specs.Limits.{WorksAtLimit}
+use Rattle.script_machine.specs.Views.{Store, Steps, refusal_faults}
 use Rattle.script_machine.specs.declared.refusal.Refusal.TheVariants as why
 use Rattle.script_machine.specs.declared.reply.Reply.TheVariants as says
 use Rattle.spill_tapes.specs.Disk.{Leaves}
-use Rattle.origin_prefix.specs.declared.error.JoinError.TheVariants as join
-use Rattle.replica_merge.specs.declared.error.MergeError.TheVariants as merge
-use Rattle.script_machine.proofs.FeedLaws.{same_faults}
+use Rattle.script_machine.proofs.FeedLaws.{spill_tells}
 use Rattle.script_machine.proofs.StoreLaws.{answer_nowhere, answer_refused, answered}
 use Rattle.script_machine.proofs.session.Session.answer.Goals as goal
 
@@ -25,4 +24,9 @@ returns-in-Err-clause-answers g c = λ owned. answer_refused c.args.self.now c.a
 
 pub returns-in-Err-clause-disk : goal.returns-in-Err-clause-disk
 returns-in-Err-clause-disk g c =
-    subst (λ n. Leaves g.D.TapeDisk n c.args.disk.now c.answer_of_replica.new.disk) (same_faults (merge.Join (join.Spill c.in-Err.error)) ∙ ap refusal_faults (sym c.from.ensures)) c.in-Err.ensures.disk
+    subst (λ n. Leaves g.D.TapeDisk n c.args.disk.now c.answer_of_replica.new.disk) (spill_tells c.in-Err.error ∙ ap refusal_faults (sym c.from.ensures)) c.in-Err.ensures.disk
+
+pub returns-in-Ok-clause-limit : goal.returns-in-Ok-clause-limit
+returns-in-Ok-clause-limit g c = λ honest owned.
+    subst (λ (s : Store). WorksAtLimit s (ask.Answer c.args.name.now) owned (says.Answer c.in-Ok.rows c.in-Ok.table) (g.D.TapeDisk.writes c.args.disk.now) (g.D.TapeDisk.writes c.answer_of_replica.new.disk)) c.self.view_is
+    (c.in-Some.replica.now, sym c.in-Some.ensures.value, c.in-Ok.ensures.limit honest)

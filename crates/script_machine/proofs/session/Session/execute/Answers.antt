@@ -1,4 +1,4 @@
-use Rattle.std.specs.Prelude.{◌≡◌, false, ℕ, refl, drop, take}
+use Rattle.std.specs.Prelude.{◌≡◌, false, ℕ, refl, drop, take, IfOk, IsTrue}
 use Rattle.std.proofs.Common.{◌∙◌, ap, sym, subst}
 use Rattle.std.proofs.lemmas.Result.{err_from_is_err_and}
 use Rattle.csv.specs.Records.{fields_of}
@@ -9,6 +9,7 @@ use Rattle.script_commands.specs.declared.request.Request.{Request}
 use Rattle.script_commands.proofs.CommandLaws.{owned_told}
 use Rattle.spill_tapes.specs.Disk.{Leaves}
 use Rattle.spill_tapes.specs.DiskLaws.{leaves_none}
+use Rattle.script_machine.specs.Limits.{WorksAtLimit}
 use Rattle.script_machine.specs.Views.{Steps, is_tape_fault, faults_in}
 use Rattle.script_machine.specs.declared.reply.Reply.{Reply}
 use Rattle.script_machine.specs.declared.refusal.Refusal.TheVariants as why
@@ -98,3 +99,33 @@ returns-in_err-skip-clause-stopped g c =
       | in-Load w ↦ rw w.disk-is (0, none)
       | in-Unknown w ↦ rw w.disk-is (0, none)
     ])
+
+pub returns-in-Feed-clause-limit : goal.returns-in-Feed-clause-limit
+returns-in-Feed-clause-limit g c =
+    let head = fields_of c.args.command.now.head in
+    let asks = sym c.request.ensures ∙ ap request_view c.in-Feed.is in
+    let told = owned_told head _ _ _ _ asks in
+    let owned = λ (n : ℕ). take n c.args.records.now in
+    let works = λ (r : ask.Request) (n : ℕ). IfOk c.feed.result (λ reply. IsTrue (g.D.TapeDisk.honest c.args.disk.now) → WorksAtLimit c.args.self.now r (owned n) reply (g.D.TapeDisk.writes c.args.disk.now) (g.D.TapeDisk.writes c.feed.new.disk)) in
+    subst (λ r. works r (owned_by head)) (sym asks) (subst (works (ask.Feed c.in-Feed.name.now c.in-Feed.origin.now c.in-Feed.number.now c.in-Feed.told)) (sym told) c.feed.ensures.limit)
+
+pub returns-clause-limit : goal.returns-clause-limit
+returns-clause-limit g c = λ honest.
+    let head = fields_of c.args.command.now.head in
+    let owned = take (owned_by head) c.args.records.now in
+    let writes = g.D.TapeDisk.writes c.args.disk.now in
+    let asks : (r : Request) → c.request.result ≡ r → request_view r ≡ request_of head = λ r is. sym (ap request_view is) ∙ c.request.ensures in
+    elim c.match-request.branch [
+      | in-Columns w ↦ rw (w.reply-is, w.disk-is) (subst (λ r. WorksAtLimit c.args.self.now r owned w.tell_columns-reply.result writes writes) (asks _ w.in-Columns.is) refl)
+      | in-Query w ↦ rw (w.reply-is, w.disk-is) (subst (λ r. WorksAtLimit c.args.self.now r owned w.tell_query-reply.result writes writes) (asks _ w.in-Query.is) refl)
+      | in-Limit w ↦ rw (w.reply-is, w.disk-is) (subst (λ r. WorksAtLimit c.args.self.now r owned w.tell_limit-reply.result writes writes) (asks _ w.in-Limit.is) refl)
+      | in-Replica w ↦ rw (w.reply-is, w.disk-is) (subst (λ r. WorksAtLimit c.args.self.now r owned w.add_replica-reply.result writes writes) (asks _ w.in-Replica.is) refl)
+      | in-Known w ↦ rw (w.reply-is, w.disk-is) (subst (λ r. WorksAtLimit c.args.self.now r owned w.known-reply.result writes writes) (asks _ w.in-Known.is) refl)
+      | in-Answer w ↦ rw (w.reply-is, w.disk-is)
+          (subst (λ r. WorksAtLimit c.args.self.now r owned w.answer-reply.result writes (g.D.TapeDisk.writes w.answer-reply.new.disk)) (asks _ w.in-Answer.is) (w.answer-reply.ensures.limit honest owned))
+      | in-Merge w ↦ rw (w.reply-is, w.disk-is)
+          (subst (λ r. WorksAtLimit c.args.self.now r owned w.merge-reply.result writes (g.D.TapeDisk.writes w.merge-reply.new.disk)) (asks _ w.in-Merge.is) (w.merge-reply.ensures.limit honest owned))
+      | in-Save w ↦ rw (w.reply-is, w.disk-is) (subst (λ r. WorksAtLimit c.args.self.now r owned w.save-reply.result writes writes) (asks _ w.in-Save.is) refl)
+      | in-Load w ↦ rw (w.reply-is, w.disk-is) (subst (λ r. WorksAtLimit c.args.self.now r owned w.load-reply.result writes writes) (asks _ w.in-Load.is) refl)
+      | in-Unknown w ↦ rw (w.reply-is, w.disk-is) (subst (λ r. WorksAtLimit c.args.self.now r owned (says.Refused why.BadCommand) writes writes) (asks _ w.in-Unknown.is) refl)
+    ]

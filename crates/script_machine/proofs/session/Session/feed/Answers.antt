@@ -2,6 +2,7 @@ use Rattle.std.specs.Prelude.{Some, take}
 use Rattle.std.proofs.Common.{◌∙◌, ap, sym, subst, inl, inr}
 use Rattle.std.specs.Option.{is_some}
 use Rattle.script_commands.specs.Commands as ask
+use Rattle.script_machine.specs.Limits.{WorksAtLimit}
 use Rattle.script_machine.specs.Views.{Store, Steps, Updates}
 use Rattle.script_machine.specs.declared.refusal.Refusal.TheVariants as why
 use Rattle.script_machine.specs.declared.reply.Reply.TheVariants as says
@@ -64,9 +65,9 @@ returns-clause-answers g c =
           rw w.result-is
           (subst (λ s. Steps (g.D.TapeDisk.honest c.args.disk.now) request owned s (says.Refused w.in-Err.why) new) c.self.view_is
           (elim (disagrees_or w.in-Err.why) [
-            | inl is ↦ subst (λ why'. Steps (g.D.TapeDisk.honest c.args.disk.now) request owned old (says.Refused why') new) (sym is)
+            | inl is ↦ subst (λ why'. Steps (g.D.TapeDisk.honest c.args.disk.now) request owned old (says.Refused why') new) (sym is.2)
                 (feed_disagrees old new c.args.name.now c.args.origin.now c.args.number.now c.args.told owned c.in-Some.replica.now
-                c.self.invariant there (same_updated old new c.args.name.now c.in-Some.replica.now (subst (Updates old new c.args.name.now) stays u) there) (other is))
+                c.self.invariant there (same_updated old new c.args.name.now c.in-Some.replica.now (subst (Updates old new c.args.name.now) stays u) there) (other is.0 is.1 is.2) is.0 is.1)
             | inr agreed ↦
                 feed_refused old new c.args.name.now c.args.origin.now c.args.number.now c.args.told owned c.in-Some.replica.now w.in-Err.why
                 c.self.invariant there (same_updated old new c.args.name.now c.in-Some.replica.now (subst (Updates old new c.args.name.now) stays u) there) agreed undamaged is_none
@@ -78,4 +79,19 @@ returns-clause-disk g c =
     elim c.match-branch-3.branch [
       | in-Ok w ↦ rw w.result-is (rw w.in-Ok.is at c.in_ok-delivered.ensures.disk)
       | in-Err w ↦ rw w.result-is (rw w.in-Err.is at c.in_ok-delivered.ensures.disk)
+    ]
+
+pub returns-clause-limit : goal.returns-clause-limit
+returns-clause-limit g c =
+    let request = ask.Feed c.args.name.now c.args.origin.now c.args.number.now c.args.told in
+    let owned = take c.args.told c.args.records.now in
+    let writes = g.D.TapeDisk.writes c.args.disk.now in
+    let written = g.D.TapeDisk.writes c.deliver.new.disk in
+    elim c.match-branch-3.branch [
+      | in-Ok w ↦
+          let worked = rw w.in-Ok.is at c.in_ok-delivered.ensures.limit in
+          rw w.result-is
+          (λ honest. subst (λ (s : Store). WorksAtLimit s request owned (says.Delivered w.in-Ok.delivered) writes written) c.self.view_is
+          (c.in-Some.replica.now, sym c.in-Some.ensures.value, worked honest))
+      | in-Err w ↦ rw w.result-is (λ honest. tt)
     ]

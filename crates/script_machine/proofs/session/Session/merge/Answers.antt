@@ -42,3 +42,6 @@ returns-clause-answers g c = λ owned.
     (c.commit.ensures.told (g.D.TapeDisk.honest c.args.disk.now) theirs.parts joins.held joins.aside)
     (λ right world is fits fits_theirs. c.commit.ensures.fits (g.D.TapeDisk.honest c.args.disk.now) right theirs.parts joins.held joins.aside world is fits (subst (λ (q : Checked). Fits world (record { query = q; parts = theirs.parts })) (sym same) fits_theirs))
     u)
+
+pub returns-clause-limit : goal.returns-clause-limit
+returns-clause-limit g c = c.in-Ok.ensures.limit

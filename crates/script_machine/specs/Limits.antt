@@ -1,0 +1,58 @@
+-- At which limit the aggregations of a script work: the one that was told last, and the usual one before that. All of this is our own.
+use Rattle.std.specs.Prelude.{ℕ, ◌≡◌, List, Some}
+use Rattle.grouping_model.specs.Query.{Query}
+use Rattle.batch_reader.specs.Rows.{packings}
+use Rattle.packed_rows.specs.Columns.{kinds}
+use Rattle.having_filter.specs.Meaning.{meaning}
+use Rattle.aggregation_cost.specs.Space.{Setting}
+use Rattle.group_table.specs.Hashes.{fnv_1a}
+use Rattle.hash_agg.specs.Counting.{AreCounted}
+use Rattle.hash_agg.specs.Inputs.{Brought}
+use Rattle.hash_agg.specs.Passes.{setting_for}
+use Rattle.hash_agg.specs.declared.work.Work.{Work}
+use Rattle.origin_prefix.specs.Parts.{aggregations_on}
+use Rattle.replica_merge.specs.Counting.{MergeIsCounted, aggregations_asked}
+use Rattle.replica_merge.specs.Replicas.{Held, part_of}
+use Rattle.script_io.specs.Records.{Record}
+use Rattle.script_commands.specs.Commands.{Request, Feed, Answer, Merge}
+use Rattle.script_machine.specs.Machine.{Fed, IsBatch}
+use Rattle.script_machine.specs.Views.{Store, replica_at}
+use Rattle.script_machine.specs.declared.reply.Reply.{Reply}
+use Rattle.script_machine.specs.declared.reply.Reply.TheVariants as says
+
+-- a limit, and the hash function of scripts, for the groups of a query
+abbrev pub setting_at : ℕ → Query → Setting
+setting_at limit query = setting_for query limit fnv_1a
+
+-- nothing was done yet
+abbrev pub no_work : Work
+no_work = record { passes = 0; spilled = 0; most_held = 0 }
+
+-- at this limit just these aggregations were made, one after the other, by the pages that were written
+abbrev pub Worked : Query → ℕ → List (List Brought) → (writes written : ℕ) → Type 0
+Worked query limit aggregations writes written = (work : Work) × AreCounted query (setting_at limit query) aggregations no_work writes work written
+
+-- those of a batch that a replica takes
+pub record FeedWorked (held : Held) (limit : ℕ) (origin number : List ℕ) (told : ℕ) (owned : List Record) (writes written : ℕ) : Type 0 where
+  pub fed : Fed
+  pub is_batch : IsBatch (kinds held.query.columns) origin number told owned fed
+  pub worked : Worked (meaning held.query) limit (aggregations_on (part_of held.parts fed.origin) fed.number (packings fed.rows)) writes written
+
+-- those of a replica that takes in another
+abbrev pub MergeWorked : Held → Held → ℕ → (writes written : ℕ) → Type 0
+MergeWorked own theirs limit writes written =
+    (work : Work) × MergeIsCounted (meaning own.query) (setting_at limit (meaning own.query)) own.parts theirs.parts no_work writes work written
+
+-- those of a command that is answered so, at the limit of what was there before it: a feed, a merge and an answer that aren't refused make
+-- just the aggregations that they need, and any other command writes nothing
+abbrev pub WorksAtLimit : Store → Request → List Record → Reply → (writes written : ℕ) → Type 0
+WorksAtLimit old (Feed name origin number told) owned (says.Delivered delivered) writes written =
+    (held : Held) × (replica_at old name ≡ Some held) × FeedWorked held old.limit origin number told owned writes written
+WorksAtLimit old (Feed name origin number told) owned reply writes written = Unit {0}
+WorksAtLimit old (Merge into from) owned says.Merged writes written =
+    (own theirs : Held) × (replica_at old into ≡ Some own) × (replica_at old from ≡ Some theirs) × MergeWorked own theirs old.limit writes written
+WorksAtLimit old (Merge into from) owned reply writes written = Unit {0}
+WorksAtLimit old (Answer name) owned (says.Answer rows table) writes written =
+    (held : Held) × (replica_at old name ≡ Some held) × Worked (meaning held.query) old.limit (aggregations_asked held.parts) writes written
+WorksAtLimit old (Answer name) owned reply writes written = Unit {0}
+WorksAtLimit old request owned reply writes written = written ≡ writes
