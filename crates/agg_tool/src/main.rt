@@ -1,7 +1,8 @@
 //! `agg_tool` groups numbered batches of rows, and merges what several sites know of them: `agg_tool --help`.
 #![tactic(auto)]
 
-use command_line::command;
+use command_line::{Terminals, command};
+use std::io::IsTerminal;
 use std::process::ExitCode;
 use std::{env, io};
 
@@ -24,6 +25,10 @@ fn main(rt: HostRuntime) -> ExitCode {
         &mut rt.stdin(),
         &mut rt.stdout(),
         &mut rt.stderr(),
+        Terminals {
+            output: rt.stdout().is_terminal(),
+            errors: rt.stderr().is_terminal(),
+        },
     );
     ExitCode::from(status)
 }

@@ -24,6 +24,10 @@ pub(crate) const SPILL: &str = "spill";
 
 pub(crate) const EXPLAIN: &str = "explain";
 
+pub(crate) const NO_CLOBBER: &str = "no-clobber";
+
+pub(crate) const PROGRESS: &str = "progress";
+
 static FORMATS: [&str; 2] = ["csv", "aligned"];
 
 const ABOUT: &str = "Groups numbered batches of rows, and merges what several sites know of them";
@@ -245,7 +249,8 @@ fn new_command<'a>(alloc: Global) -> Result<Command<'a>, AllocError> {
     task(alloc, "new", NEW_ABOUT, NEW_AFTER)
         .arg(positional(alloc, OUT, "The summary file to write"))?
         .arg(option(alloc, COLUMNS, "SCHEMA", "The columns' names and kinds").required(true))?
-        .arg(option(alloc, QUERY, "TEXT", "The query that the summary answers").required(true))
+        .arg(option(alloc, QUERY, "TEXT", "The query that the summary answers").required(true))?
+        .arg(no_clobber_option(alloc))
 }
 
 /// The option of a limit.
@@ -277,6 +282,30 @@ fn explain_option<'a>(alloc: Global) -> Arg<'a> {
         .help("Also tells on standard error what the grouping took")
 }
 
+/// The option that keeps a file which OUT would replace.
+fn no_clobber_option<'a>(alloc: Global) -> Arg<'a> {
+    Arg::new(alloc, NO_CLOBBER)
+        .long(NO_CLOBBER)
+        .action(ArgAction::SetTrue)
+        .help("Keeps a file OUT that is none of the files read")
+}
+
+/// The option that asks how far the work is.
+fn progress_option<'a>(alloc: Global) -> Arg<'a> {
+    Arg::new(alloc, PROGRESS)
+        .long(PROGRESS)
+        .action(ArgAction::SetTrue)
+        .help("Also tells on standard error of each file, as it is taken")
+}
+
+/// The option that asks what a summary holds.
+fn holding_option<'a>(alloc: Global) -> Arg<'a> {
+    Arg::new(alloc, EXPLAIN)
+        .long(EXPLAIN)
+        .action(ArgAction::SetTrue)
+        .help("Also tells on standard error what the summary holds")
+}
+
 fn feed_command<'a>(alloc: Global) -> Result<Command<'a>, AllocError> {
     task(alloc, "feed", FEED_ABOUT, FEED_AFTER)
         .arg(positional(alloc, OUT, "The summary file to write"))?
@@ -284,7 +313,9 @@ fn feed_command<'a>(alloc: Global) -> Result<Command<'a>, AllocError> {
         .arg(positional(alloc, BATCH, "The batch files to add").num_args(1..))?
         .arg(limit_option(alloc))?
         .arg(spill_option(alloc))?
-        .arg(explain_option(alloc))
+        .arg(explain_option(alloc))?
+        .arg(no_clobber_option(alloc))?
+        .arg(progress_option(alloc))
 }
 
 fn merge_command<'a>(alloc: Global) -> Result<Command<'a>, AllocError> {
@@ -293,15 +324,15 @@ fn merge_command<'a>(alloc: Global) -> Result<Command<'a>, AllocError> {
         .arg(positional(alloc, IN, "The summary files to merge").num_args(1..))?
         .arg(limit_option(alloc))?
         .arg(spill_option(alloc))?
-        .arg(explain_option(alloc))
+        .arg(explain_option(alloc))?
+        .arg(no_clobber_option(alloc))?
+        .arg(progress_option(alloc))
 }
 
 fn known_command<'a>(alloc: Global) -> Result<Command<'a>, AllocError> {
-    task(alloc, "known", KNOWN_ABOUT, KNOWN_AFTER).arg(positional(
-        alloc,
-        IN,
-        "The summary file to read",
-    ))
+    task(alloc, "known", KNOWN_ABOUT, KNOWN_AFTER)
+        .arg(positional(alloc, IN, "The summary file to read"))?
+        .arg(holding_option(alloc))
 }
 
 /// The option of a table's format.

@@ -61,7 +61,10 @@ impl fmt::Display for Clash {
         match self {
             Clash::Compared(left, right) => {
                 let (left, right) = (left.as_str(), right.as_str());
-                write!(f, "a {left} is compared with a {right}, and only values of one kind are")
+                write!(
+                    f,
+                    "a {left} is compared with a {right}, and only values of one kind are"
+                )
             }
             Clash::Asked(asker, kind) => {
                 let (words, kind) = (asker.words(), kind.as_str());

@@ -145,7 +145,11 @@ impl Frame {
         let Some(operand) = self.value.take() else {
             return (None, None);
         };
-        let asked = if nots > 0 { Some(Asker::Not) } else { self.asker };
+        let asked = if nots > 0 {
+            Some(Asker::Not)
+        } else {
+            self.asker
+        };
         let clash = match asked {
             Some(asker) => truth_clash(asker, operand),
             None => None,

@@ -23,7 +23,7 @@ pub use batch::BatchText;
 pub use field::FieldFault;
 pub use foreign::no_summary;
 pub use query::say_query;
-pub use quoted::Quoted;
+pub use quoted::{Plain, Quoted};
 pub use reason::Reason;
 pub use schema::say_schema;
 pub use script::ScriptPlace;

@@ -45,7 +45,10 @@ fn is_of_word(byte: u8) -> bool {
 fn number_at(text: &str, at: usize) -> Option<&str> {
     let rest = text.get(at..)?;
     let digits = rest.strip_prefix('-').unwrap_or(rest);
-    let len = digits.bytes().take_while(|byte| byte.is_ascii_digit()).count();
+    let len = digits
+        .bytes()
+        .take_while(|byte| byte.is_ascii_digit())
+        .count();
     if len == 0 {
         return None;
     }

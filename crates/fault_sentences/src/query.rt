@@ -80,7 +80,9 @@ impl<'t> Refused<'t> {
             Some('-') if len > 1 && piece != "--" => "a letter stands directly behind digits",
             Some('0'..='9') => "a letter stands directly behind digits",
             Some('a'..='z' | 'A'..='Z' | '_') => {
-                let said = format!(in self.alloc; "a name of {len} bytes, and the longest has {LONGEST_NAME}")?;
+                let said = format!(in self.alloc;
+                    "a name of {len} bytes, and the longest has {LONGEST_NAME}"
+                )?;
                 return Ok(Some(said));
             }
             _ => return Ok(None),
@@ -97,7 +99,9 @@ impl<'t> Refused<'t> {
                 function: None,
             } if piece == "(" => return Some(of_function(name_at(self.tokens, place))),
             State::Right if piece == "=" => return Some("one = compares"),
-            State::Item if piece == "*" => return Some("name the columns of GROUP BY and the calls"),
+            State::Item if piece == "*" => return Some(
+                "name the columns of GROUP BY and the calls",
+            ),
             _ if piece == "*" => return of_word("+"),
             _ => {}
         }
@@ -166,7 +170,9 @@ impl<'t> Refused<'t> {
             return Ok(None);
         };
         let name = name_at(self.tokens, place);
-        let said = format!(in self.alloc; "{name} stands in WHERE or a FILTER, where each row is asked by itself: put it into HAVING")?;
+        let said = format!(in self.alloc;
+            "{name} stands in WHERE or a FILTER, where each row is asked by itself: put it into HAVING"
+        )?;
         Ok(Some(self.at(self.place_of(place), said)?))
     }
 
@@ -181,10 +187,8 @@ impl<'t> Refused<'t> {
 
     /// Whether a name is a column of GROUP BY.
     fn is_key(&self, name: &str) -> bool {
-        self.reader
-            .mentions
-            .iter()
-            .any(|other| other.role == Role::Key && name_at(self.tokens, other.place) == name)
+        self.reader.mentions.iter().any(|other| other.role == Role::Key
+            && name_at(self.tokens, other.place) == name)
     }
 
     /// Says which column is not in GROUP BY.
@@ -193,7 +197,9 @@ impl<'t> Refused<'t> {
             let name = name_at(self.tokens, mention.place);
             if mention.role == Role::Outside && !self.is_key(name) {
                 let shown = Quoted(name.as_bytes());
-                let said = format!(in self.alloc; "{shown} stands outside of calls, and is none of GROUP BY's columns: add it there, or put it into a call")?;
+                let said = format!(in self.alloc;
+                    "{shown} stands outside of calls, and is none of GROUP BY's columns: add it there, or put it into a call"
+                )?;
                 return Ok(Some(self.at(self.place_of(mention.place), said)?));
             }
         }
@@ -205,12 +211,9 @@ impl<'t> Refused<'t> {
         let mut count = 0usize;
         for (place, mention) in self.reader.mentions.iter().enumerate() {
             let name = name_at(self.tokens, mention.place);
-            let is_first = !self
-                .reader
-                .mentions
-                .iter()
-                .take(place)
-                .any(|other| other.role == Role::Key && name_at(self.tokens, other.place) == name);
+            let is_first = !self.reader.mentions.iter().take(place).any(|other| other.role
+                == Role::Key
+                && name_at(self.tokens, other.place) == name);
             if mention.role == Role::Key && is_first {
                 count = count.saturating_add(1);
             }
@@ -259,7 +262,9 @@ impl<'t> Refused<'t> {
             return self.at(at, said);
         }
         let (depth, at) = self.reader.deepest;
-        let said = format!(in self.alloc; "a condition that is {depth} deep, and may be {DEEPEST_CONDITION}: pair what stands in a long chain, as (a OR b) OR (c OR d)")?;
+        let said = format!(in self.alloc;
+            "a condition that is {depth} deep, and may be {DEEPEST_CONDITION}: pair what stands in a long chain, as (a OR b) OR (c OR d)"
+        )?;
         self.at(at, said)
     }
 
@@ -278,10 +283,10 @@ impl<'t> Refused<'t> {
 }
 
 /// Says why a text is no query over a schema: where, what stands there, and what is wanted. Nothing is said where that is not found.
-pub fn say_query(
+pub fn say_query<'t>(
     alloc: Global,
-    schema: &Schema,
-    text: &str,
+    schema: &'t Schema,
+    text: &'t str,
     why: ParseError,
 ) -> Result<Option<Reason>, AllocError> {
     if text.len() > LONGEST_QUERY {
@@ -333,6 +338,8 @@ fn say_large(
         return Ok(None);
     };
     let shown = Quoted(piece_at(text, at).as_bytes());
-    let said = format!(in alloc; "{shown} is out of range, which is -9223372036854775808 to 9223372036854775807")?;
+    let said = format!(in alloc;
+        "{shown} is out of range, which is -9223372036854775808 to 9223372036854775807"
+    )?;
     Ok(Some(Reason::at(alloc, text, at, said)?))
 }

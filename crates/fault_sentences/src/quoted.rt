@@ -20,7 +20,7 @@ pub(crate) fn is_hidden(c: char) -> bool {
 }
 
 /// Writes a character, or its number.
-pub(crate) fn write_shown<W: fmt::Write>(c: char, f: &mut fmt::Formatter<W>) -> fmt::Result {
+fn write_shown<W: fmt::Write>(c: char, f: &mut fmt::Formatter<W>) -> fmt::Result {
     if !is_hidden(c) {
         return f.write_char(c);
     }
@@ -61,6 +61,19 @@ fn write_bytes<W: fmt::Write>(bytes: &[u8], f: &mut fmt::Formatter<W>) -> fmt::R
         f.write_str("..")?;
     }
     Ok(())
+}
+
+/// A text as a sentence shows it whole, without quotes: what does not show on a line is told by numbers.
+#[derive(Clone, Copy)]
+pub struct Plain<'t>(pub &'t str);
+
+impl fmt::Display for Plain<'_> {
+    fn fmt<W: fmt::Write>(&self, f: &mut fmt::Formatter<W>) -> fmt::Result {
+        for c in self.0.chars() {
+            write_shown(c, f)?;
+        }
+        Ok(())
+    }
 }
 
 impl fmt::Display for Quoted<'_> {

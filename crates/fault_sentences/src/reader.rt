@@ -22,9 +22,15 @@ pub(crate) enum State {
         function: Option<AggKind>,
     },
     /// Behind a function's parenthesis.
-    Argument { place: usize, function: AggKind },
+    Argument {
+        place: usize,
+        function: AggKind,
+    },
     /// Behind what stands in it.
-    ArgumentEnd { place: usize, function: AggKind },
+    ArgumentEnd {
+        place: usize,
+        function: AggKind,
+    },
     /// Behind a call.
     Called,
     /// Behind FILTER, and its parenthesis.
@@ -178,9 +184,7 @@ impl<'t> Reader<'t> {
 
     /// Whether what stands here stands in WHERE or in a FILTER.
     fn is_in_condition(&self) -> bool {
-        self.frames
-            .iter()
-            .any(|frame| matches!(frame.context, Context::Where | Context::Filter))
+        self.frames.iter().any(|frame| matches!(frame.context, Context::Where | Context::Filter))
     }
 
     /// Keeps the first clash.

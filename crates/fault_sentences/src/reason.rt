@@ -4,7 +4,7 @@ use crate::picture::picture;
 use std::alloc::{AllocError, Global};
 
 /// What is said of a fault in a text, and the text with a caret under the place.
-#[derive(Drop)]
+#[derive(Debug, Drop)]
 pub struct Reason {
     /// What is wrong, on one line.
     pub said: String,
@@ -27,7 +27,7 @@ impl Reason {
     }
 
     /// What is said of a whole text.
-    pub(crate) fn whole(alloc: Global, said: String) -> Reason {
+    pub fn whole(alloc: Global, said: String) -> Reason {
         Reason {
             said,
             picture: String::new(alloc),

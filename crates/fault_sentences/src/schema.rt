@@ -76,13 +76,19 @@ impl<'t> Columns<'t> {
         let column = self.names.len().saturating_add(1);
         let shown = Quoted(name.as_bytes());
         if self.names.len() >= MOST_COLUMNS {
-            return Ok(Some(format!(in alloc; "column {column}, {shown}: there are at most {MOST_COLUMNS}")?));
+            return Ok(Some(format!(in alloc;
+                "column {column}, {shown}: there are at most {MOST_COLUMNS}"
+            )?));
         }
         if is_reserved(name) {
-            return Ok(Some(format!(in alloc; "column {column}: {shown} is a reserved word: take another name")?));
+            return Ok(Some(format!(in alloc;
+                "column {column}: {shown} is a reserved word: take another name"
+            )?));
         }
         if self.names.iter().any(|other| *other == name) {
-            return Ok(Some(format!(in alloc; "column {column}: {shown} is the name of a column before it")?));
+            return Ok(Some(format!(in alloc;
+                "column {column}: {shown} is the name of a column before it"
+            )?));
         }
         Ok(None)
     }
@@ -132,12 +138,7 @@ impl<'t> Columns<'t> {
 }
 
 /// What stands at a place, and what is wanted there.
-fn found_wanted(
-    alloc: Global,
-    text: &str,
-    at: usize,
-    next: Next,
-) -> Result<String, AllocError> {
+fn found_wanted(alloc: Global, text: &str, at: usize, next: Next) -> Result<String, AllocError> {
     let wanted = next.wanted();
     let piece = piece_at(text, at);
     if piece.is_empty() {
@@ -151,7 +152,9 @@ fn found_wanted(
 pub fn say_schema(alloc: Global, text: &str) -> Result<Reason, AllocError> {
     let len = text.len();
     if len > LONGEST_QUERY {
-        let said = format!(in alloc; "a text of {len} bytes, and a schema has 1 to {MOST_COLUMNS} columns")?;
+        let said = format!(in alloc;
+            "a text of {len} bytes, and a schema has 1 to {MOST_COLUMNS} columns"
+        )?;
         return Ok(Reason::whole(alloc, said));
     }
     let lexed = Lexed::of(alloc, text)?;

@@ -107,7 +107,9 @@ impl Part {
     fn fault(self, field: &[u8]) -> Option<&'static str> {
         match self {
             Part::Text if str::from_utf8(field).is_err() => Some("is no UTF-8"),
-            Part::Limit if read_limit(field).is_none() => Some("is no limit, which is 1 to 19 digits"),
+            Part::Limit if read_limit(field).is_none() => Some(
+                "is no limit, which is 1 to 19 digits",
+            ),
             Part::Name if !is_name(field) => {
                 Some("is no name, which is 1 to 63 ASCII letters, digits or _")
             }
@@ -292,19 +294,61 @@ impl ScriptPlace {
         rows.say(alloc, schema, why)
     }
 
-    /// A field of the command here, as a sentence shows it.
-    pub fn say_field(
+    /// Says of which name there is no replica, or nothing saved.
+    pub fn say_no_name(&self, alloc: Global, script: &[u8]) -> Result<Option<String>, AllocError> {
+        let Some(record) = self.record(alloc, script)? else {
+            return Ok(None);
+        };
+        let name = Quoted(record.get(1).unwrap_or_default());
+        let other = Quoted(record.get(2).unwrap_or_default());
+        let word = record.get(0).unwrap_or_default();
+        let said = if word == b"load".as_slice() {
+            format!(in alloc; "nothing is saved under {other}")?
+        } else if word == b"merge".as_slice() {
+            format!(in alloc; "there is no replica {name}, or no replica {other}")?
+        } else {
+            format!(in alloc; "there is no replica {name}")?
+        };
+        Ok(Some(said))
+    }
+
+    /// Says of which name there is a replica already.
+    pub fn say_taken(&self, alloc: Global, script: &[u8]) -> Result<Option<String>, AllocError> {
+        let Some(record) = self.record(alloc, script)? else {
+            return Ok(None);
+        };
+        let name = Quoted(record.get(1).unwrap_or_default());
+        Ok(Some(format!(in alloc; "there is a replica {name} already")?))
+    }
+
+    /// Says which limit is out of its range.
+    pub fn say_limit(&self, alloc: Global, script: &[u8]) -> Result<Option<String>, AllocError> {
+        let Some(record) = self.record(alloc, script)? else {
+            return Ok(None);
+        };
+        let told = Quoted(record.get(1).unwrap_or_default());
+        Ok(Some(format!(in alloc;
+            "{told} is out of range, which is 65,536 to 1,099,511,627,776 bytes"
+        )?))
+    }
+
+    /// Says which batch has other rows, or which replicas know one.
+    pub fn say_disagreement(
         &self,
         alloc: Global,
         script: &[u8],
-        place: usize,
     ) -> Result<Option<String>, AllocError> {
         let Some(record) = self.record(alloc, script)? else {
             return Ok(None);
         };
-        match record.get(place) {
-            Some(field) => Ok(Some(format!(in alloc; "{}", Quoted(field))?)),
-            None => Ok(None),
-        }
+        let first = Quoted(record.get(1).unwrap_or_default());
+        let second = Quoted(record.get(2).unwrap_or_default());
+        let third = Quoted(record.get(3).unwrap_or_default());
+        let said = if record.len() == 3 {
+            format!(in alloc; "{first} and {second} know a number of an origin with other rows")?
+        } else {
+            format!(in alloc; "number {third} of origin {second} is known with other rows")?
+        };
+        Ok(Some(said))
     }
 }

@@ -52,7 +52,8 @@ impl fmt::Display for Wanted<'_, '_> {
         let reader = self.0;
         match reader.state {
             State::Name {
-                function: Some(_), ..
+                function: Some(_),
+                ..
             } => f.write_str("(, ")?,
             State::Called => f.write_str("FILTER, ")?,
             _ => {}

@@ -1,6 +1,6 @@
 //! A folder of files in which commands run, and what they print there.
 
-use command_line::command;
+use command_line::{Terminals, command};
 use std::fs::Permissions;
 use std::os::unix::fs::{PermissionsExt, symlink};
 use std::test::*;
@@ -36,7 +36,14 @@ pub(crate) fn run(rt: &HostRuntime, words: &str, input: &str) -> Result<Done, Fa
     let words: Vec<&str> = line.split('|').collect(rt.alloc())?;
     let mut output = Vec::new(rt.alloc());
     let mut errors = Vec::new(rt.alloc());
-    let status = command(rt, &words, &mut input.as_bytes(), &mut output, &mut errors);
+    let status = command(
+        rt,
+        &words,
+        &mut input.as_bytes(),
+        &mut output,
+        &mut errors,
+        Terminals::none(),
+    );
     Ok(Done {
         status,
         output: String::from_utf8(output).ok().ok_or("not UTF-8")?,

@@ -1,7 +1,7 @@
 //! Help, scripts, and a standard output that fails.
 
 use crate::folder::run;
-use command_line::command;
+use command_line::{Terminals, command};
 use std::io::{Read, Write};
 use std::test::*;
 use std::{fs, process};
@@ -65,7 +65,7 @@ fn ended<I: Read, W: Write>(
     output: &mut W,
 ) -> Result<String, Fail> {
     let mut errors = Vec::new(rt.alloc());
-    let status = command(rt, words, input, output, &mut errors);
+    let status = command(rt, words, input, output, &mut errors, Terminals::none());
     let errors = String::from_utf8(errors).ok().ok_or("not UTF-8")?;
     Ok(format!(in rt.alloc(); "{status}|{errors}")?)
 }
