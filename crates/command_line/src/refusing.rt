@@ -2,6 +2,7 @@
 
 use crate::problem::{Problem, reason_of};
 use fault_sentences::{BatchText, Plain, Quoted, Reason, no_summary, say_query, say_schema};
+use origin_prefix::OriginPart;
 use packed_rows::Schema;
 use replica_merge::{JoinError, MergeError, Replica, SummaryError};
 use script_io::Records;
@@ -45,6 +46,9 @@ pub(crate) fn refused_query<'p>(
 fn summary_reason(alloc: Global, file: &[u8], why: Refusal) -> Result<Option<Reason>, AllocError> {
     match why {
         Refusal::Summary(SummaryError::NotASummary) => {
+            Ok(Some(Reason::whole(alloc, no_summary(alloc, file)?)))
+        }
+        Refusal::Summary(SummaryError::Truncated) if file.is_empty() => {
             Ok(Some(Reason::whole(alloc, no_summary(alloc, file)?)))
         }
         Refusal::Summary(SummaryError::Truncated) => {
@@ -136,6 +140,27 @@ fn other_query(alloc: Global, ours: &Replica, theirs: &Replica) -> Result<String
     }
 }
 
+/// Says of which numbers two files know other batches, if they do of one origin.
+fn part_disagreement(
+    alloc: Global,
+    origin: u16,
+    ours: &OriginPart,
+    theirs: &OriginPart,
+) -> Result<Option<String>, AllocError> {
+    let prefix = ours.prefix();
+    if prefix == theirs.prefix() && !ours.run().same_groups(theirs.run()) {
+        return Ok(Some(format!(in alloc; "numbers up to {prefix} of origin {origin} are known with other rows")?));
+    }
+    for (number, rows) in ours.early().iter() {
+        if let Some(others) = theirs.early().get(number) {
+            if !rows.same_rows(others) {
+                return Ok(Some(format!(in alloc; "number {number} of origin {origin} is known with other rows")?));
+            }
+        }
+    }
+    Ok(None)
+}
+
 /// Says of which origin two files know other batches, the first that is found.
 fn file_disagreement(
     alloc: Global,
@@ -147,23 +172,9 @@ fn file_disagreement(
         return Ok(None);
     };
     for (origin, part) in ours.iter() {
-        let Some(other) = theirs.get(origin) else {
-            continue;
-        };
-        let prefix = part.prefix();
-        if prefix == other.prefix() && !part.run().same_groups(other.run()) {
-            return Ok(Some(format!(in alloc;
-                "the numbers 1 to {prefix} of origin {origin} are known with other rows"
-            )?));
-        }
-        for (number, rows) in part.early().iter() {
-            let Some(others) = other.early().get(number) else {
-                continue;
-            };
-            if !rows.same_rows(others) {
-                return Ok(Some(format!(in alloc;
-                    "number {number} of origin {origin} is known with other rows"
-                )?));
+        if let Some(other) = theirs.get(origin) {
+            if let Some(said) = part_disagreement(alloc, *origin, part, other)? {
+                return Ok(Some(said));
             }
         }
     }

@@ -512,17 +512,21 @@ impl<'c, R: Files + AllocGlobal, W: Write, E: Write> Session<'c, R, W, E> {
         self.stop(problem, fate)
     }
 
-    /// Says that a file is there in the place of OUT which is none of those that are read, if one is. Whether it is kept.
-    fn keeps_standing(&mut self, task: Task, matches: &ArgMatches<'_>) -> bool {
-        let Some(out) = task.out(matches) else {
-            return false;
-        };
-        if !is_standing(self.rt, task, matches, out) {
-            return false;
+    /// OUT, where a file is there which is none of those that are read.
+    fn standing<'p>(&self, task: Task, matches: &ArgMatches<'p>) -> Option<&'p str> {
+        let out = task.out(matches)?;
+        if is_standing(self.rt, task, matches, out) {
+            Some(out)
+        } else {
+            None
         }
-        let is_kept = task.is_told(matches, NO_CLOBBER);
-        self.streams.say(&Standing { out, is_kept });
-        is_kept
+    }
+
+    /// Says that a file in the place of OUT is kept, or that it is replaced.
+    fn tell_standing(&mut self, standing: Option<&str>, is_kept: bool) {
+        if let Some(out) = standing {
+            self.streams.say(&Standing { out, is_kept });
+        }
     }
 
     /// Sends out what was gathered, and tells how the command ended.
@@ -541,11 +545,13 @@ impl<'c, R: Files + AllocGlobal, W: Write, E: Write> Session<'c, R, W, E> {
 
     /// Runs a command on files, and tells how it ended.
     pub(crate) fn run(mut self, task: Task, matches: &ArgMatches<'_>) -> Ending {
-        if self.keeps_standing(task, matches) {
+        let standing = self.standing(task, matches);
+        if task.is_told(matches, NO_CLOBBER) && standing.is_some() {
+            self.tell_standing(standing, true);
             return Ending::BadUsage;
         }
         let ending = match means_of(task, matches) {
-            Ok(means) => self.run_with(task, matches, &means),
+            Ok(means) => self.run_with(task, matches, &means, standing),
             Err(why) => self.refuse_limit(task, matches, why),
         };
         let fate = self.fate(task, matches);
@@ -553,7 +559,13 @@ impl<'c, R: Files + AllocGlobal, W: Write, E: Write> Session<'c, R, W, E> {
     }
 
     /// Runs a command on files by means, with the disk of tapes that it tells, and tells how it ended.
-    fn run_with(&mut self, task: Task, matches: &ArgMatches<'_>, means: &Means<Fnv1a>) -> Ending {
+    fn run_with(
+        &mut self,
+        task: Task,
+        matches: &ArgMatches<'_>,
+        means: &Means<Fnv1a>,
+        standing: Option<&str>,
+    ) -> Ending {
         self.tells_progress = task.is_told(matches, PROGRESS) || self.streams.terminals.errors;
         let spill = spill_of(task, matches);
         match open_disk(self.rt, spill) {
@@ -564,6 +576,7 @@ impl<'c, R: Files + AllocGlobal, W: Write, E: Write> Session<'c, R, W, E> {
             }
         }
         self.in_file = spill.is_some();
+        self.tell_standing(standing, false);
         let ending = self.run_by(task, matches, means);
         self.remove_spill(task, matches);
         ending

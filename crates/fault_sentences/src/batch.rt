@@ -71,6 +71,15 @@ impl<'b> BatchText<'b> {
         })
     }
 
+    /// What stands before what is said of a head: its line, where that isn't told already.
+    fn head_line(&self, alloc: Global, record: &ByteRecord) -> Result<String, AllocError> {
+        if !self.is_file {
+            return Ok(String::new(alloc));
+        }
+        let line = self.line_of(record);
+        format!(in alloc; "line {line}: ")
+    }
+
     /// Says of a batch whose head is refused which part of it that is.
     fn say_head(&self, alloc: Global, record: &ByteRecord) -> Result<Option<String>, AllocError> {
         let Some(head) = self.head(record) else {
@@ -79,26 +88,20 @@ impl<'b> BatchText<'b> {
         if self.is_file && record.get(0) != Some(b"batch".as_slice()) {
             return Ok(None);
         }
-        let line = self.line_of(record);
-        if read_row_count(head.rows).is_none() {
+        let line = self.head_line(alloc, record)?;
+        let said = if read_row_count(head.rows).is_none() {
             let shown = Quoted(head.rows);
-            return Ok(Some(format!(in alloc;
-                "line {line}: ROWS is {shown}, and wants 1 to 9 digits"
-            )?));
-        }
-        if !is_within(head.origin, 0, u64::from(LAST_ORIGIN)) {
+            format!(in alloc; "{line}ROWS is {shown}, and wants 1 to 9 digits")?
+        } else if !is_within(head.origin, 0, u64::from(LAST_ORIGIN)) {
             let shown = Quoted(head.origin);
-            return Ok(Some(format!(in alloc;
-                "line {line}: ORIGIN is {shown}, and wants 0 to {LAST_ORIGIN}"
-            )?));
-        }
-        if !is_within(head.number, 1, u64::from(LAST_NUMBER)) {
+            format!(in alloc; "{line}ORIGIN is {shown}, and wants 0 to {LAST_ORIGIN}")?
+        } else if !is_within(head.number, 1, u64::from(LAST_NUMBER)) {
             let shown = Quoted(head.number);
-            return Ok(Some(format!(in alloc;
-                "line {line}: NUMBER is {shown}, and wants 1 to {LAST_NUMBER}"
-            )?));
-        }
-        Ok(None)
+            format!(in alloc; "{line}NUMBER is {shown}, and wants 1 to {LAST_NUMBER}")?
+        } else {
+            return Ok(None);
+        };
+        Ok(Some(said))
     }
 
     /// Says of a file that its first line is no head of a batch.
@@ -186,8 +189,7 @@ impl<'b> BatchText<'b> {
     /// Says that too many rows are told.
     fn say_too_many(&self, alloc: Global) -> Result<String, AllocError> {
         let told = self.told(alloc)?;
-        let line = self.line;
-        format!(in alloc; "line {line}: rows told: {told}, and a batch has at most {MOST_ROWS}")
+        format!(in alloc; "rows told: {told}, and a batch has at most {MOST_ROWS}")
     }
 
     /// Says how many fields a record has, and which are wanted.

@@ -3,10 +3,10 @@
 use crate::quoted::is_hidden;
 use std::alloc::{AllocError, Global};
 
-/// How many bytes are shown before the place, and from it on.
-const BEFORE: usize = 48;
+/// How many bytes of a text are shown, and how many before the place.
+const MOST_SHOWN: usize = 72;
 
-const BEHIND: usize = 30;
+const BEFORE: usize = 48;
 
 /// A character as it takes one column.
 fn in_a_column(c: char) -> char {
@@ -15,8 +15,15 @@ fn in_a_column(c: char) -> char {
 
 /// Two lines: a text, or what stands of a long one round a place, and a caret under the place, which is counted in bytes.
 pub(crate) fn picture(alloc: Global, text: &str, at: usize) -> Result<String, AllocError> {
-    let front = at.saturating_sub(BEFORE);
-    let back = at.saturating_add(BEHIND);
+    if text.is_empty() {
+        return Ok(String::new(alloc));
+    }
+    let front = if text.len() <= MOST_SHOWN {
+        0
+    } else {
+        at.saturating_sub(BEFORE)
+    };
+    let back = front.saturating_add(MOST_SHOWN);
     let mut shown = String::from_str(alloc, "\n  ")?;
     let mut under = String::from_str(alloc, "\n  ")?;
     if front > 0 {

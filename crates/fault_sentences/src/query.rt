@@ -153,10 +153,10 @@ impl<'t> Refused<'t> {
     ) -> Result<Reason, AllocError> {
         let mut said = format!(in self.alloc; "{} is no column", Quoted(name.as_bytes()))?;
         if let Some(near) = nearest(self.alloc, name, names)? {
-            write!(said, "; is {near} meant?")?;
+            write!(said, ", and {near} may be meant")?;
         } else if let Some(hint) = of_word(name) {
             write!(said, "; {hint}")?;
-        } else if mention.role == Role::Condition || mention.role == Role::Outside {
+        } else if mention.role == Role::Condition {
             said.push_str("; a text stands in single quotes")?;
         }
         let columns = self.schema.print()?;

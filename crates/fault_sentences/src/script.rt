@@ -129,7 +129,7 @@ fn say_word(alloc: Global, word: &[u8]) -> Result<String, AllocError> {
     }
     let mut said = format!(in alloc; "{} is no command", Quoted(word))?;
     if let Some(near) = nearest(alloc, str::from_utf8(word).unwrap_or(""), &words)? {
-        write!(said, "; is {near} meant?")?;
+        write!(said, ", and {near} may be meant")?;
     }
     said.push_str("; the commands are")?;
     for (place, word) in words.iter().enumerate() {

@@ -19,7 +19,7 @@ pub(crate) struct Done {
 pub(crate) type File = (&'static str, &'static [u8]);
 
 /// A folder for the files of a test.
-fn new_folder(rt: &HostRuntime, test: &str, files: &[File]) -> Result<String, Fail> {
+pub(crate) fn new_folder(rt: &HostRuntime, test: &str, files: &[File]) -> Result<String, Fail> {
     let process = process::id(rt.process());
     let folder = format!(in rt.alloc(); "/tmp/agg_tool_{test}_{process}/")?;
     fs::create_dir_all(rt, folder.as_str())?;
@@ -140,6 +140,15 @@ fn part<'l>(line: &'l str, place: usize) -> &'l str {
     }
 }
 
+/// Whether what is said on standard error has a sentence, or, where that ends with the sign of an end of a line, is it.
+fn is_said(errors: &str, sentence: &str) -> bool {
+    if sentence.is_empty() || sentence.ends_with('\u{b6}') {
+        errors == sentence
+    } else {
+        errors.contains(sentence)
+    }
+}
+
 /// What a step does where it isn't what stands behind it, and else nothing.
 fn difference(rt: &HostRuntime, line: &str) -> Result<String, Fail> {
     let done = step(rt, part(line, 0))?;
@@ -147,10 +156,8 @@ fn difference(rt: &HostRuntime, line: &str) -> Result<String, Fail> {
     let said = format!(in rt.alloc(); "{output} => {}", done.status)?;
     let wanted = format!(in rt.alloc(); "{} => {}", part(line, 1), part(line, 2))?;
     let sentence = part(line, 3);
-    if said == wanted
-        && done.errors.contains(sentence)
-        && done.errors.is_empty() == sentence.is_empty()
-    {
+    let errors = done.errors.replace(rt.alloc(), "\n", "\u{b6}")?;
+    if said == wanted && is_said(&errors, sentence) {
         return Ok(String::new(rt.alloc()));
     }
     Ok(format!(in rt.alloc(); "{line}\n{said} => {}\n", done.errors)?)
