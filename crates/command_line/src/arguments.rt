@@ -107,7 +107,8 @@ FILTER (WHERE CONDITION) may tell which rows it takes. A CONDITION has columns,
 integers, 'texts', TRUE, FALSE, NULL, = <> != < <= > >=, NOT, AND, OR, and
 IS [NOT] NULL, TRUE, FALSE or UNKNOWN; in HAVING it has calls, too.
 
-Prints 'saved BYTES'. A file OUT that is there is replaced.
+Prints 'saved BYTES'. A file OUT that is there is replaced, and standard error
+says so; with --no-clobber it is kept, and the status is 2.
 
 Example:
   agg_tool new empty.sum --columns 'city text, sales bigint' \\
@@ -136,7 +137,11 @@ given, a line tells what became of it:
 
 Then OUT is written and 'saved BYTES' printed. OUT may be IN. Where IN itself is
 refused, a file can't be read or OUT would be longer than 67,108,864 bytes, the
-command ends, and OUT isn't written.
+command ends, and OUT isn't written. A file OUT that is there and is none of the
+files read is replaced, and standard error says so; with --no-clobber it is
+kept, nothing is read, and the status is 2. --progress tells on standard error
+of each file as it is taken, as '12 of 500 0-12.csv: folded upto 12'; where that
+is a terminal it is told without it.
 
 The groups of a batch take at most --limit bytes of blocks while they are
 counted, 65536 to 1099511627776; what doesn't keep within is spilled, and
@@ -163,7 +168,11 @@ OUT knows what any IN knew. For each IN after the first, 'merged' is printed, or
 another batch under a number that is known. Then OUT is written and 'saved
 BYTES' printed. OUT may be one of the INs. Where the first IN is refused, a file
 can't be read or OUT would be longer than 67,108,864 bytes, the command ends,
-and OUT isn't written.
+and OUT isn't written. A file OUT that is there and is none of the files read is
+replaced, and standard error says so; with --no-clobber it is kept, nothing is
+read, and the status is 2. --progress tells on standard error of each file as it
+is taken, as '1 of 2 rome.sum: merged'; where that is a terminal it is told
+without it.
 
 Groups of early batches that follow now take at most --limit bytes of blocks
 while they are counted, 65536 to 1099511627776; what doesn't keep within is
@@ -187,7 +196,9 @@ const KNOWN_ABOUT: &str = "Lists the batches that a summary knows";
 const KNOWN_AFTER: &str = "\
 Prints a line for each origin of which a batch is known, as
 'origin 7 upto 12 early 14 15': batches 1 to 12 are in the answer, 14 and 15
-wait for 13.
+wait for 13. --explain tells on standard error the columns, the query, and of
+each origin its groups, its bytes in the file and the numbers that are missing
+before an early one, as 'origin 7 upto 12 groups 3 early 2 bytes 190 missing 13'.
 
 Example:
   agg_tool known all.sum

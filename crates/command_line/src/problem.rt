@@ -7,7 +7,7 @@ use std::io::ErrorKind;
 use std::{fmt, io};
 
 /// What was refused, and why.
-#[derive(Debug, Drop)]
+#[derive(Drop)]
 pub(crate) struct Problem<'p> {
     /// A file, an option of the command line, or a stream.
     pub(crate) subject: &'p str,

@@ -149,12 +149,16 @@ fn part_disagreement(
 ) -> Result<Option<String>, AllocError> {
     let prefix = ours.prefix();
     if prefix == theirs.prefix() && !ours.run().same_groups(theirs.run()) {
-        return Ok(Some(format!(in alloc; "numbers up to {prefix} of origin {origin} are known with other rows")?));
+        return Ok(Some(format!(in alloc;
+            "numbers up to {prefix} of origin {origin} are known with other rows"
+        )?));
     }
     for (number, rows) in ours.early().iter() {
         if let Some(others) = theirs.early().get(number) {
             if !rows.same_rows(others) {
-                return Ok(Some(format!(in alloc; "number {number} of origin {origin} is known with other rows")?));
+                return Ok(Some(format!(in alloc;
+                    "number {number} of origin {origin} is known with other rows"
+                )?));
             }
         }
     }

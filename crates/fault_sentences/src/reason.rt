@@ -4,7 +4,7 @@ use crate::picture::picture;
 use std::alloc::{AllocError, Global};
 
 /// What is said of a fault in a text, and the text with a caret under the place.
-#[derive(Debug, Drop)]
+#[derive(Drop)]
 pub struct Reason {
     /// What is wrong, on one line.
     pub said: String,

@@ -42,6 +42,15 @@ fn feed_bytes(rt: &HostRuntime, folder: &str, fault: &Fault) -> Result<String, F
     Ok(told)
 }
 
+/// The batch files that differ from what is wanted of them.
+fn batches_told(rt: &HostRuntime, folder: &str, faults: &[Fault]) -> Result<String, Fail> {
+    let mut told = String::new(rt.alloc());
+    for fault in faults {
+        told.push_str(&feed_bytes(rt, folder, fault)?)?;
+    }
+    Ok(told)
+}
+
 /// Batch files over the columns `c text, d bigint`.
 const BATCHES: [Fault; 34] = [
     (
@@ -223,10 +232,7 @@ fn faults_of_batches_are_told(rt: HostRuntime) -> Result<(), Fail> {
         "new|{folder}e.sum|--columns|c text, d bigint|--query|SELECT count(*) FROM batches"
     )?;
     assert_eq!(rt; run(&rt, &words, "")?.status, 0);
-    let mut told = String::new(rt.alloc());
-    for fault in BATCHES {
-        told.push_str(&feed_bytes(&rt, &folder, &fault)?)?;
-    }
+    let told = batches_told(&rt, &folder, &BATCHES)?;
     fs::remove_dir_all(&rt, folder.as_str())?;
     assert_eq!(rt; told.as_str(), "");
     Ok(())
