@@ -117,7 +117,7 @@ Example:
 Status:
   0  all was done
   1  something was refused
-  2  the words are no command line
+  2  the words are no command line, or --no-clobber kept a file
   3  a file or a stream could not be read or written";
 
 const FEED_ABOUT: &str = "Adds the batches of batch files to a summary";
@@ -157,7 +157,7 @@ Example:
 Status:
   0  all was done
   1  something was refused
-  2  the words are no command line
+  2  the words are no command line, or --no-clobber kept a file
   3  a file or a stream could not be read or written";
 
 const MERGE_ABOUT: &str = "Merges summary files of one query";
@@ -188,7 +188,7 @@ Example:
 Status:
   0  all was done
   1  something was refused
-  2  the words are no command line
+  2  the words are no command line, or --no-clobber kept a file
   3  a file or a stream could not be read or written";
 
 const KNOWN_ABOUT: &str = "Lists the batches that a summary knows";
@@ -198,7 +198,8 @@ Prints a line for each origin of which a batch is known, as
 'origin 7 upto 12 early 14 15': batches 1 to 12 are in the answer, 14 and 15
 wait for 13. --explain tells on standard error the columns, the query, and of
 each origin its groups, its bytes in the file and the numbers that are missing
-before an early one, as 'origin 7 upto 12 groups 3 early 2 bytes 190 missing 13'.
+before an early one, as
+'origin 7 upto 12 groups 3 early 2 bytes 190 missing 13'.
 
 Example:
   agg_tool known all.sum
