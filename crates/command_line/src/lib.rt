@@ -131,18 +131,20 @@ pub fn command<R: Files + AllocGlobal, S: AsStr, I: Read, W: Write, E: Write>(
     let alloc = rt.alloc();
     let fault = Cell::new(None);
     let mut watched = Watched::new(&mut *writer, &fault);
-    if let Ok(mut gathered) = BufWriter::new(alloc, &mut watched) {
-        let streams = Streams {
-            alloc,
-            writer: &mut gathered,
-            errors: &mut *errors,
-            fault: &fault,
-            terminals,
-        };
-        let ending = run_words(rt, words, reader, streams);
-        return status(send_out(alloc, &mut gathered, ending, errors, &fault));
+    // Where a person looks at them, and where there is no memory to gather in, replies go out as they come.
+    if !terminals.output {
+        if let Ok(mut gathered) = BufWriter::new(alloc, &mut watched) {
+            let streams = Streams {
+                alloc,
+                writer: &mut gathered,
+                errors: &mut *errors,
+                fault: &fault,
+                terminals,
+            };
+            let ending = run_words(rt, words, reader, streams);
+            return status(send_out(alloc, &mut gathered, ending, errors, &fault));
+        }
     }
-    // With no memory to gather in, each piece of a reply goes out by itself.
     let streams = Streams {
         alloc,
         writer: &mut watched,

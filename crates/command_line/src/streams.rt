@@ -114,13 +114,4 @@ impl<W: Write, E: Write> Streams<'_, W, E> {
     pub(crate) fn output_fault(&self) -> Problem<'static> {
         Problem::output(self.fault.get())
     }
-
-    /// Sends out what was gathered, where a person waits for it.
-    pub(crate) fn show(&mut self) -> io::Result<()> {
-        if self.terminals.output {
-            self.writer.flush()
-        } else {
-            Ok(())
-        }
-    }
 }

@@ -248,10 +248,10 @@ impl<'c, R: Files + AllocGlobal, W: Write, E: Write> Session<'c, R, W, E> {
 
     /// Writes a reply.
     fn reply(&mut self, reply: &Reply<'_>) -> Result<(), Problem<'static>> {
-        if put_reply(self.streams.writer, reply).is_ok() && self.streams.show().is_ok() {
-            return Ok(());
+        match put_reply(self.streams.writer, reply) {
+            Ok(()) => Ok(()),
+            Err(_) => Err(self.streams.output_fault()),
         }
-        Err(self.streams.output_fault())
     }
 
     /// Writes a text.

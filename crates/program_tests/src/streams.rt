@@ -286,7 +286,9 @@ fn a_terminal_is_told_how_far_it_is(rt: HostRuntime) -> Result<(), Fail> {
     let wanted = format!(in rt.alloc(); "1 of 1 {out}: merged\n")?;
     assert_eq!(rt; errors.as_str(), wanted.as_str());
     let output = String::from_utf8(output.taken).ok().ok_or("not UTF-8")?;
-    assert_eq!(rt; output.as_str(), "|merged\n|saved 48\n");
+    let replies = output.replace(rt.alloc(), "|", "")?;
+    assert_eq!(rt; replies.as_str(), "merged\nsaved 48\n");
+    assert!(rt; output.matches('|').count() > 1);
     fs::remove_file(&rt, out.as_str())?;
     Ok(())
 }
