@@ -1,0 +1,102 @@
+//! Calls in rooms of more and more bytes, until none is refused.
+
+use crate::calls::{answer, deliver, keep, merge, read};
+use crate::hoard::Hoard;
+use crate::parts::{aggregate_rows, decode_file, encode_file, join_parts};
+use crate::room::{Met, Room, met};
+use crate::sites::Site;
+use hash_agg::{LEAST_LIMIT, USUAL_LIMIT};
+use script_machine::Refusal;
+use std::test::*;
+use test_tables::expect;
+
+/// How many rooms are tried at most.
+const MOST_ROOMS: u32 = 100_000;
+
+/// By how many bytes a room is larger than the one before.
+const STEP: usize = 16;
+
+/// Makes a trial in rooms of 0, 16, 32, .. bytes, until it meets no refusal.
+fn try_rooms<F: Fn(HostRuntime, &Site, u64, &mut Room<'_>) -> Result<Met, Refusal>>(
+    rt: HostRuntime,
+    hoard: &mut Hoard,
+    site: &Site,
+    limit: u64,
+    trial: &F,
+) -> Result<Met, Refusal>
+    requires { F.IsAlwaysCallable trial.now }
+{
+    for count in 0..MOST_ROOMS {
+        let mut room = Room::Small(&mut *hoard, STEP.saturating_mul(count as usize));
+        match trial(rt, site, limit, &mut room)? {
+            Met::Refusal => {}
+            Met::Nothing => return Ok(met(count > 0, Met::Refusal, "no growth was refused")),
+            wrong => return Ok(wrong),
+        }
+    }
+    Ok(Met::Wrong("rooms without an end"))
+}
+
+/// What becomes of a trial with all memory, and then in rooms, with the least limit and the usual one.
+fn tried<F: Fn(HostRuntime, &Site, u64, &mut Room<'_>) -> Result<Met, Refusal>>(
+    rt: HostRuntime,
+    trial: F,
+) -> Result<String, Fail>
+    requires { F.IsAlwaysCallable trial }
+{
+    let site = Site::few(rt.alloc())?;
+    let ample = trial(rt, &site, USUAL_LIMIT, &mut Room::Open)?;
+    let mut hoard = Hoard::new(&rt)?;
+    let least = try_rooms(rt, &mut hoard, &site, LEAST_LIMIT, &trial);
+    let usual = try_rooms(rt, &mut hoard, &site, USUAL_LIMIT, &trial);
+    drop(hoard);
+    Ok(format!(in rt.alloc(); "{ample:?} {:?} {:?}", least?, usual?)?)
+}
+
+/// What is told where each refusal leaves all as it was, and the call made again answers.
+const REFUSED: &str = "Nothing Refusal Refusal";
+
+#[test]
+fn deliveries_are_refused(rt: HostRuntime) -> Result<(), Fail> {
+    expect(tried(rt, deliver), REFUSED)
+}
+
+#[test]
+fn merges_are_refused(rt: HostRuntime) -> Result<(), Fail> {
+    expect(tried(rt, merge), REFUSED)
+}
+
+#[test]
+fn answers_are_refused(rt: HostRuntime) -> Result<(), Fail> {
+    expect(tried(rt, answer), REFUSED)
+}
+
+#[test]
+fn savings_are_refused(rt: HostRuntime) -> Result<(), Fail> {
+    expect(tried(rt, keep), REFUSED)
+}
+
+#[test]
+fn loadings_are_refused(rt: HostRuntime) -> Result<(), Fail> {
+    expect(tried(rt, read), REFUSED)
+}
+
+#[test]
+fn encodings_are_refused(rt: HostRuntime) -> Result<(), Fail> {
+    expect(tried(rt, encode_file), REFUSED)
+}
+
+#[test]
+fn decodings_are_refused(rt: HostRuntime) -> Result<(), Fail> {
+    expect(tried(rt, decode_file), REFUSED)
+}
+
+#[test]
+fn aggregations_are_refused(rt: HostRuntime) -> Result<(), Fail> {
+    expect(tried(rt, aggregate_rows), REFUSED)
+}
+
+#[test]
+fn joinings_are_refused(rt: HostRuntime) -> Result<(), Fail> {
+    expect(tried(rt, join_parts), REFUSED)
+}
