@@ -9,6 +9,8 @@ mod growths;
 #[cfg(test)]
 mod hoard;
 #[cfg(test)]
+mod nothing;
+#[cfg(test)]
 mod parts;
 #[cfg(test)]
 mod room;
