@@ -89,6 +89,9 @@ answer|@a.sum|--explain => town,count,sum/k0384,1,384/ => 0 => passes 0 spilled 
 answer|@m.sum|--limit|65536|--explain => town,count,sum/k0384,3,1152/ => 0 => passes 2 spilled 1 pages 1 held 57352 limit 65536
 answer|@m.sum => town,count,sum/k0384,3,1152/ => 0
 answer|@none.sum|--explain => refused ReadFault/ => 3 => none.sum: refused ReadFault
+?long|@bad.csv|3 => - => 0
+feed|@x.sum|@e.sum|@bad.csv|@0.csv|--limit|65536|--explain => refused BadBatchHead/folded upto 1/saved 15924/ => 1 => passes 2 spilled 1 pages 1 held 57352 limit 65536
+merge|@x.sum|@d.sum|@bad.csv|@c.sum|--explain => refused NotASummary/merged/saved 31727/ => 1 => passes 1 spilled 0 pages 0 held 90128 limit 4194304
 known|@m.sum|--explain => - => 2 => --explain
 ";
 

@@ -1,5 +1,6 @@
 //! A folder of files in which commands run, and what they print there.
 
+use crate::made::{write_aligned, write_csv, write_listed, write_wide};
 use command_line::command;
 use std::fs::Permissions;
 use std::os::unix::fs::{PermissionsExt, symlink};
@@ -90,10 +91,27 @@ fn is_private(rt: &HostRuntime, file: &str) -> Result<bool, Fail> {
     Ok(fs::metadata(rt, file)?.permissions().mode() & 0o777 == 0o600)
 }
 
-/// What a test does beside commands: whether files are the same, whether one is there, a link, a file that only its owner may read
-/// and write, whether one is so, a file of a length, a batch file of many rows, and a summary of many origins.
+/// Whether a folder has so many files.
+fn has_files(rt: &HostRuntime, folder: &str, told: &str) -> Result<bool, Fail> {
+    let mut count: u32 = 0;
+    for entry in fs::read_dir(rt, folder)? {
+        entry?;
+        count = count.saturating_add(1);
+    }
+    Ok(count == told.parse()?)
+}
+
+/// What a test does beside commands: whether files are the same, whether one is there, whether there are so many, a link, a file that
+/// only its owner may read and write, whether one is so, a file of a length, a batch file of many rows, a summary of many origins, and
+/// what commands are to print of these.
 fn aside(rt: &HostRuntime, word: &str, file: &str, rest: &str) -> Result<bool, Fail> {
     match word {
+        "files" => has_files(rt, file, rest),
+        "hard" => Ok(fs::hard_link(rt, rest, file).is_ok()),
+        "csv" => write_csv(rt, file, rest),
+        "aligned" => write_aligned(rt, file, rest),
+        "listed" => write_listed(rt, file, rest),
+        "wide" => write_wide(rt, file, rest),
         "same" => are_same(rt, file, rest),
         "there" => Ok(fs::exists(rt, file)?),
         "link" => Ok(symlink(rt, rest, file).is_ok()),
@@ -110,8 +128,20 @@ fn aside(rt: &HostRuntime, word: &str, file: &str, rest: &str) -> Result<bool, F
     }
 }
 
-/// What the words of a step do: a command, or what a test does beside commands, behind `?`.
+/// Runs a command, and keeps its output in a file.
+fn run_to_file(rt: &HostRuntime, words: &str) -> Result<Done, Fail> {
+    let (file, words) = words.split_once('|').ok_or("no command")?;
+    let mut done = run(rt, words, "")?;
+    fs::write(rt, file, done.output.as_bytes())?;
+    done.output.clear();
+    Ok(done)
+}
+
+/// What the words of a step do: a command, one whose output is kept, behind `>`, or what a test does beside commands, behind `?`.
 fn step(rt: &HostRuntime, words: &str) -> Result<Done, Fail> {
+    if let Some(words) = words.strip_prefix('>') {
+        return run_to_file(rt, words);
+    }
     let Some(words) = words.strip_prefix('?') else {
         return run(rt, words, "");
     };

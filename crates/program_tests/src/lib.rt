@@ -6,4 +6,8 @@ mod commands;
 #[cfg(test)]
 mod folder;
 #[cfg(test)]
+mod made;
+#[cfg(test)]
+mod sizes;
+#[cfg(test)]
 mod streams;
