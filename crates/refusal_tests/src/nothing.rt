@@ -9,9 +9,9 @@ use file_commands::load;
 use group_table::GroupTable;
 use hash_agg::{Fnv1a, Means, MemDisk, Work};
 use replica_merge::{Delivered, Replica};
-use script_machine::Refusal;
+use script_machine::{Refusal, Reply, put_reply};
 use spill_tapes::{TapeError, Tapes};
-use std::alloc::Global;
+use std::alloc::{AllocError, Global};
 use std::test::*;
 
 /// The bytes of a chunk.
@@ -185,5 +185,27 @@ fn known_batches_are_known(rt: HostRuntime) -> Result<(), Fail> {
     let told = knows_of(rt.alloc(), &site, &mut hoard);
     drop(hoard);
     assert!(rt; told == Ok(true));
+    Ok(())
+}
+
+/// What is replied to a command that was refused, and to one that was not, with no memory.
+fn replies(alloc: Global, hoard: &mut Hoard) -> Result<Vec<u8>, AllocError> {
+    let mut written = Vec::with_capacity(alloc, 100)?;
+    hoard.leave(0)?;
+    let refused = put_reply(&mut written, &Reply::Refused(Refusal::NoMemory));
+    let saved = put_reply(&mut written, &Reply::Saved(180));
+    hoard.give_back();
+    if refused.is_err() || saved.is_err() {
+        return Err(AllocError);
+    }
+    Ok(written)
+}
+
+#[test]
+fn replies_go_out(rt: HostRuntime) -> Result<(), Fail> {
+    let mut hoard = Hoard::new(&rt)?;
+    let written = replies(rt.alloc(), &mut hoard);
+    drop(hoard);
+    assert!(rt; written?.as_slice() == b"refused NoMemory\nsaved 180\n".as_slice());
     Ok(())
 }
