@@ -2,7 +2,6 @@
 
 use crate::room::{CHANGED, Met, OTHER_ANSWER, OTHER_REFUSAL, REFUSED_AGAIN, Room, met, twice};
 use crate::sites::Site;
-use batch_reader::read_batch;
 use file_commands::{Format, load, save, table};
 use hash_agg::{Fnv1a, Means, MemDisk, Work};
 use replica_merge::{RefusedBatch, Replica};
@@ -17,7 +16,7 @@ fn delivered(
     room: &mut Room<'_>,
     replica: &mut Replica,
 ) -> Result<Met, Refusal> {
-    let batch = read_batch(rt.alloc(), replica.query().schema(), &site.next)?;
+    let batch = site.next_batch(rt.alloc(), replica.query())?;
     let means = Means::new(limit, Fnv1a)?;
     let (mut disk, mut work) = (MemDisk::new(rt.alloc()), Work::none());
     room.enter()?;

@@ -2,7 +2,6 @@
 
 use crate::hoard::Hoard;
 use crate::sites::Site;
-use batch_reader::read_batch;
 use chunk_contexts::{AllocSet, Bump, ChunkContext, ContextError, Generation, Slab};
 use context_tree::{Kind, Tree, TreeError};
 use file_commands::load;
@@ -10,26 +9,24 @@ use group_table::GroupTable;
 use hash_agg::{Fnv1a, Means, MemDisk, Work};
 use replica_merge::{Delivered, Replica};
 use script_machine::{Refusal, Reply, put_reply};
-use spill_tapes::{TapeError, Tapes};
+use spill_tapes::{TapeError, TapeId, Tapes};
 use std::alloc::{AllocError, Global};
 use std::test::*;
 
 /// The bytes of a chunk.
 const CHUNK: &[u8] = b"8 bytes.";
 
-/// Whether a chunk is taken where no block is wanted, stays where it is when it is resized, is read and given up with another, and all then,
-/// with no memory.
+/// Whether a chunk is taken where no block is wanted, stays where it is when it is resized, is read and given up, and all then, with no memory.
 fn gives_up<C: ChunkContext>(context: &mut C, hoard: &mut Hoard) -> Result<bool, ContextError> {
     let first = context.alloc(CHUNK)?;
-    let second = context.alloc(CHUNK)?;
-    context.free(second)?;
+    context.free(first)?;
+    context.alloc(CHUNK)?;
     hoard.leave(0)?;
     let needs_none = context.growth_for(8) == 0;
-    let third = context.alloc(CHUNK)?;
-    let third = context.resize(third, 8)?;
-    let is_kept = context.get(third) == CHUNK && context.get(first) == CHUNK;
-    context.free(third)?;
-    context.free(first)?;
+    let second = context.alloc(CHUNK)?;
+    let second = context.resize(second, 8)?;
+    let is_kept = context.get(second) == CHUNK;
+    context.free(second)?;
     context.reset();
     Ok(needs_none && is_kept)
 }
@@ -101,9 +98,12 @@ fn clears(alloc: Global, tree: &mut Tree, hoard: &mut Hoard) -> Result<bool, Tre
     if !table.room_for(tree, b"oslo", u64::MAX) {
         return Ok(false);
     }
-    let slot = table.insert(tree, b"oslo", CHUNK)?;
+    table.insert(tree, b"oslo", CHUNK)?;
     hoard.leave(0)?;
-    let is_found = table.find(tree, b"oslo") == Some(slot) && table.state(tree, slot) == CHUNK;
+    let is_found = match table.find(tree, b"oslo") {
+        Some(slot) => table.state(tree, slot) == CHUNK,
+        None => false,
+    };
     let is_alone = table.find(tree, b"bergen").is_none() && table.len() == 1;
     table.clear(tree);
     Ok(is_found && is_alone && table.len() == 0)
@@ -120,23 +120,35 @@ fn tables_are_cleared(rt: HostRuntime) -> Result<(), Fail> {
     Ok(())
 }
 
-/// Whether tapes that are written, and that are read, are closed with no memory.
+/// Opens a tape and appends a record to it.
+fn write_tape(tapes: &mut Tapes, disk: &mut MemDisk) -> Result<TapeId, TapeError> {
+    let tape = tapes.open(disk)?;
+    tapes.append(disk, tape, 7, 0, CHUNK)?;
+    Ok(tape)
+}
+
+/// Closes a tape, and tells whether it was open.
+fn close(tapes: &mut Tapes, disk: &MemDisk, tape: TapeId) -> bool {
+    let was_open = tapes.is_open(tape);
+    if was_open {
+        tapes.close(disk, tape);
+    }
+    was_open
+}
+
+/// Whether a tape that is written, and one that is read, are closed with no memory.
 fn closes(alloc: Global, tapes: &mut Tapes, hoard: &mut Hoard) -> Result<bool, TapeError> {
     let mut disk = MemDisk::new(alloc);
-    let written = tapes.open(&disk)?;
-    let read = tapes.open(&disk)?;
-    if tapes.is_written(written) && tapes.is_written(read) {
-        tapes.append(&mut disk, read, 7, 0, CHUNK)?;
+    let written = write_tape(tapes, &mut disk)?;
+    let read = write_tape(tapes, &mut disk)?;
+    if !tapes.is_dead() && tapes.is_written(read) {
         tapes.rewind(&mut disk, read)?;
     }
-    hoard.leave(0)?;
-    if tapes.is_open(written) {
-        tapes.close(&disk, written);
-    }
-    if tapes.is_open(read) {
-        tapes.close(&disk, read);
-    }
-    Ok(!tapes.is_dead() && !tapes.is_open(written) && !tapes.is_open(read))
+    let Ok(()) = hoard.leave(0) else {
+        return Err(TapeError::NoMemory);
+    };
+    let were_open = close(tapes, &disk, written) && close(tapes, &disk, read);
+    Ok(were_open && !tapes.is_dead())
 }
 
 #[test]
@@ -157,7 +169,7 @@ fn knows(
     replica: &mut Replica,
     hoard: &mut Hoard,
 ) -> Result<bool, Refusal> {
-    let batch = read_batch(alloc, replica.query().schema(), &site.next)?;
+    let batch = site.next_batch(alloc, replica.query())?;
     let (origin, number) = (batch.origin, batch.number);
     let means = Means::usual(Fnv1a);
     let mut disk = MemDisk::new(alloc);

@@ -6,7 +6,7 @@ ghost use Rattle.packed_rows.specs.Columns.{kinds};
 
 use crate::room::{Met, OTHER_ANSWER, OTHER_REFUSAL, REFUSED_AGAIN, Room, met, twice};
 use crate::sites::Site;
-use batch_reader::{PackedRows, read_batch};
+use batch_reader::PackedRows;
 use hash_agg::{Fnv1a, Input, Means, MemDisk, Run, SpillError, Work, aggregate};
 use having_filter::Query;
 use origin_prefix::OriginPart;
@@ -113,7 +113,7 @@ fn aggregated_next(
     limit: u64,
     room: &mut Room<'_>,
 ) -> Result<Met, Refusal> {
-    let batch = read_batch(rt.alloc(), query.schema(), &site.next)?;
+    let batch = site.next_batch(rt.alloc(), query)?;
     let met = aggregated(rt, query, &batch.rows, limit, room);
     drop(batch);
     met

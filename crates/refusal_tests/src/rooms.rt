@@ -13,21 +13,24 @@ use test_tables::expect;
 /// How many rooms are tried at most.
 const MOST_ROOMS: u32 = 100_000;
 
-/// By how many bytes a room is larger than the one before.
+/// By how many bytes a room is larger than the one before, for a call over a few rows, and for one that spills groups.
 const STEP: usize = 16;
 
-/// Makes a trial in rooms of 0, 16, 32, .. bytes, until it meets no refusal.
+const LARGE_STEP: usize = 512;
+
+/// Makes a trial in larger and larger rooms, the first of no byte, until it meets no refusal.
 fn try_rooms<F: Fn(HostRuntime, &Site, u64, &mut Room<'_>) -> Result<Met, Refusal>>(
     rt: HostRuntime,
     hoard: &mut Hoard,
     site: &Site,
     limit: u64,
+    step: usize,
     trial: &F,
 ) -> Result<Met, Refusal>
     requires { F.IsAlwaysCallable trial.now }
 {
     for count in 0..MOST_ROOMS {
-        let mut room = Room::Small(&mut *hoard, STEP.saturating_mul(count as usize));
+        let mut room = Room::Small(&mut *hoard, step.saturating_mul(count as usize));
         match trial(rt, site, limit, &mut room)? {
             Met::Refusal => {}
             Met::Nothing => return Ok(met(count > 0, Met::Refusal, "no growth was refused")),
@@ -37,7 +40,7 @@ fn try_rooms<F: Fn(HostRuntime, &Site, u64, &mut Room<'_>) -> Result<Met, Refusa
     Ok(Met::Wrong("rooms without an end"))
 }
 
-/// What becomes of a trial with all memory, and then in rooms, with the least limit and the usual one.
+/// What becomes of a trial over a few rows with all memory, and then in rooms, with the least limit and the usual one.
 fn tried<F: Fn(HostRuntime, &Site, u64, &mut Room<'_>) -> Result<Met, Refusal>>(
     rt: HostRuntime,
     trial: F,
@@ -47,14 +50,31 @@ fn tried<F: Fn(HostRuntime, &Site, u64, &mut Room<'_>) -> Result<Met, Refusal>>(
     let site = Site::few(rt.alloc())?;
     let ample = trial(rt, &site, USUAL_LIMIT, &mut Room::Open)?;
     let mut hoard = Hoard::new(&rt)?;
-    let least = try_rooms(rt, &mut hoard, &site, LEAST_LIMIT, &trial);
-    let usual = try_rooms(rt, &mut hoard, &site, USUAL_LIMIT, &trial);
+    let least = try_rooms(rt, &mut hoard, &site, LEAST_LIMIT, STEP, &trial);
+    let usual = try_rooms(rt, &mut hoard, &site, USUAL_LIMIT, STEP, &trial);
     drop(hoard);
     Ok(format!(in rt.alloc(); "{ample:?} {:?} {:?}", least?, usual?)?)
 }
 
+/// The same over many rows with the least limit: groups are spilled.
+fn tried_spilling<F: Fn(HostRuntime, &Site, u64, &mut Room<'_>) -> Result<Met, Refusal>>(
+    rt: HostRuntime,
+    trial: F,
+) -> Result<String, Fail>
+    requires { F.IsAlwaysCallable trial }
+{
+    let site = Site::many(rt.alloc())?;
+    let ample = trial(rt, &site, LEAST_LIMIT, &mut Room::Open)?;
+    let mut hoard = Hoard::new(&rt)?;
+    let least = try_rooms(rt, &mut hoard, &site, LEAST_LIMIT, LARGE_STEP, &trial);
+    drop(hoard);
+    Ok(format!(in rt.alloc(); "{ample:?} {:?}", least?)?)
+}
+
 /// What is told where each refusal leaves all as it was, and the call made again answers.
 const REFUSED: &str = "Nothing Refusal Refusal";
+
+const SPILLING_REFUSED: &str = "Nothing Refusal";
 
 #[test]
 fn deliveries_are_refused(rt: HostRuntime) -> Result<(), Fail> {
@@ -99,4 +119,19 @@ fn aggregations_are_refused(rt: HostRuntime) -> Result<(), Fail> {
 #[test]
 fn joinings_are_refused(rt: HostRuntime) -> Result<(), Fail> {
     expect(tried(rt, join_parts), REFUSED)
+}
+
+#[test]
+fn deliveries_that_spill_are_refused(rt: HostRuntime) -> Result<(), Fail> {
+    expect(tried_spilling(rt, deliver), SPILLING_REFUSED)
+}
+
+#[test]
+fn merges_that_spill_are_refused(rt: HostRuntime) -> Result<(), Fail> {
+    expect(tried_spilling(rt, merge), SPILLING_REFUSED)
+}
+
+#[test]
+fn answers_that_spill_are_refused(rt: HostRuntime) -> Result<(), Fail> {
+    expect(tried_spilling(rt, answer), SPILLING_REFUSED)
 }

@@ -47,8 +47,8 @@ const LATER_STEP: usize = 64;
 #[derive(Drop)]
 struct Replies<'r, 'h> {
     written: Vec<u8>,
-    lines: u32,
-    enter_at: u32,
+    lines: usize,
+    enter_at: usize,
     room: &'r mut Room<'h>,
 }
 
@@ -91,7 +91,7 @@ fn run_in(
     alloc: Global,
     script: &str,
     room: &mut Room<'_>,
-    enter_at: u32,
+    enter_at: usize,
 ) -> Result<Ran, AllocError> {
     let mut replies = Replies {
         written: Vec::with_capacity(alloc, LONGEST)?,
@@ -195,19 +195,22 @@ struct Tally {
 impl Tally {
     /// Counts a run, and tells whether it met want of memory.
     fn count(&mut self, all: &[Wanted], ran: &Ran) -> bool {
-        let is_right = match ran.end {
-            End::Answered { refused } => all.iter().any(|it| it.is_answered(refused, &ran.written)),
-            End::WantedMemory => all.iter().any(|it| it.is_stopped(&ran.written)),
-            End::Otherwise => false,
-        };
-        self.wrong |= !is_right;
-        self.stopped |= ran.end == End::WantedMemory;
-        self.refused |= ran
-            .written
-            .as_slice()
-            .windows(REFUSED.len())
-            .any(|it| it == REFUSED);
-        ran.end != End::Answered { refused: 0 }
+        match ran.end {
+            End::Answered { refused } => {
+                self.refused |= refused > 0;
+                self.wrong |= !all.iter().any(|it| it.is_answered(refused, &ran.written));
+                refused > 0
+            }
+            End::WantedMemory => {
+                self.stopped = true;
+                self.wrong |= !all.iter().any(|it| it.is_stopped(&ran.written));
+                true
+            }
+            End::Otherwise => {
+                self.wrong = true;
+                true
+            }
+        }
     }
 }
 
@@ -217,7 +220,7 @@ fn try_rooms(
     hoard: &mut Hoard,
     script: &str,
     all: &[Wanted],
-    enter_at: u32,
+    enter_at: usize,
     tally: &mut Tally,
 ) -> Result<(), AllocError> {
     let step = if enter_at == 0 { STEP } else { LATER_STEP };
@@ -241,7 +244,7 @@ fn tallied(alloc: Global, hoard: &mut Hoard, commands: &str) -> Result<Tally, Al
         stopped: false,
         wrong: false,
     };
-    for enter_at in 0..commands.split(';').count() as u32 {
+    for enter_at in 0..commands.split(';').count() {
         try_rooms(alloc, hoard, &script, &all, enter_at, &mut tally)?;
     }
     Ok(tally)

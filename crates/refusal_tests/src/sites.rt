@@ -1,7 +1,14 @@
 //! Replicas to make calls of, and what these have to give.
 
+ghost use Rattle.std.specs.Prelude.{IfOk};
+ghost use Rattle.batch_reader.specs.Rows.{ArePackedRows};
+ghost use Rattle.grouping_model.specs.Replies.{InLimits};
+ghost use Rattle.packed_rows.specs.Columns.{kinds};
+
+use batch_reader::{Batch, read_batch};
 use file_commands::{Format, create, feed, load, origin_list, save, table};
 use hash_agg::{Fnv1a, Means, MemDisk, Work};
+use having_filter::Query;
 use replica_merge::Replica;
 use script_machine::Refusal;
 use std::alloc::Global;
@@ -17,6 +24,9 @@ const OTHERS: [Place; 6] = [(0, 1), (0, 2), (1, 2), (1, 3), (2, 1), (2, 3)];
 
 /// The batch that is delivered to the first: it is folded with those two.
 const NEXT: Place = (3, 1);
+
+/// How many towns are many.
+const MANY: u32 = 400;
 
 /// What a replica is to others: what it knows, and its file.
 #[derive(Drop)]
@@ -45,7 +55,7 @@ pub(crate) struct Site {
     pub(crate) own: Seen,
     pub(crate) other: Seen,
     /// The file of the batch that is delivered.
-    pub(crate) next: Vec<u8>,
+    next: Vec<u8>,
     pub(crate) delivered: Seen,
     pub(crate) merged: Seen,
     /// The first replica's answer.
@@ -129,5 +139,22 @@ impl Site {
     /// Replicas of a few rows.
     pub(crate) fn few(alloc: Global) -> Result<Site, Refusal> {
         Site::new(alloc, 3, "oslo,5;bergen,7;oslo,-2;")
+    }
+
+    /// Replicas of more towns than a table of 65,536 bytes holds.
+    pub(crate) fn many(alloc: Global) -> Result<Site, Refusal> {
+        let mut rows = String::new(alloc);
+        for town in 0..MANY {
+            rows.push_str(&format!(in alloc; "k{town:04},{town};")?)?;
+        }
+        Site::new(alloc, MANY, &rows)
+    }
+
+    /// The batch that is delivered, of a query's table.
+    pub(crate) fn next_batch(&self, alloc: Global, query: &Query) -> Result<Batch, Refusal>
+        ensures limits { IfOk result (λ batch. InLimits (batch.origin, batch.number)) }
+        ensures rows { IfOk result (λ batch. ArePackedRows (kinds query.now.columns) batch.rows) }
+    {
+        Ok(read_batch(alloc, query.schema(), &self.next)?)
     }
 }
