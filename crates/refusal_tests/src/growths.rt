@@ -8,73 +8,73 @@ use hash_agg::{LEAST_LIMIT, USUAL_LIMIT};
 use script_machine::Refusal;
 use std::test::*;
 
-/// What becomes of a trial of which growths may be refused, with the least limit and with the usual one.
-fn tried<F: Fn(HostRuntime, &Site, u64, &mut Room<'_>) -> Result<Met, Refusal>>(
+/// Whether a trial of which growths may be refused is right, with the least limit and with the usual one.
+fn is_right_on<F: Fn(HostRuntime, &Site, u64, &mut Room<'_>) -> Result<Met, Refusal>>(
     rt: HostRuntime,
-    trial: F,
-) -> Result<[Met; 2], Refusal>
-    requires { F.IsAlwaysCallable trial }
+    site: &Site,
+    trial: &F,
+) -> Result<bool, Refusal>
+    requires { F.IsAlwaysCallable trial.now }
 {
-    let site = Site::few(rt.alloc())?;
-    let least = trial(rt, &site, LEAST_LIMIT, &mut Room::Marked(rt.alloc()))?;
-    let usual = trial(rt, &site, USUAL_LIMIT, &mut Room::Marked(rt.alloc()))?;
-    Ok([least, usual])
+    let least = trial(rt, site, LEAST_LIMIT, &mut Room::Marked(rt.alloc()))?;
+    let usual = trial(rt, site, USUAL_LIMIT, &mut Room::Marked(rt.alloc()))?;
+    Ok(least.is_right() && usual.is_right())
 }
 
-/// Whether a trial is right.
+/// The same on a site of few rows.
 fn is_right<F: Fn(HostRuntime, &Site, u64, &mut Room<'_>) -> Result<Met, Refusal>>(
     rt: HostRuntime,
     trial: F,
-) -> bool
+) -> Result<bool, Refusal>
     requires { F.IsAlwaysCallable trial }
 {
-    match tried(rt, trial) {
-        Ok([least, usual]) => least.is_right() && usual.is_right(),
-        Err(_) => false,
-    }
+    let site = Site::few(rt.alloc())?;
+    let right = is_right_on(rt, &site, &trial);
+    drop(site);
+    right
 }
 
 #[test]
 fn a_delivery(rt: HostRuntime) {
-    assert!(rt; is_right(rt, deliver));
+    assert!(rt; is_right(rt, deliver) == Ok(true));
 }
 
 #[test]
 fn a_merge(rt: HostRuntime) {
-    assert!(rt; is_right(rt, merge));
+    assert!(rt; is_right(rt, merge) == Ok(true));
 }
 
 #[test]
 fn an_answer(rt: HostRuntime) {
-    assert!(rt; is_right(rt, answer));
+    assert!(rt; is_right(rt, answer) == Ok(true));
 }
 
 #[test]
 fn a_saving(rt: HostRuntime) {
-    assert!(rt; is_right(rt, keep));
+    assert!(rt; is_right(rt, keep) == Ok(true));
 }
 
 #[test]
 fn a_loading(rt: HostRuntime) {
-    assert!(rt; is_right(rt, read));
+    assert!(rt; is_right(rt, read) == Ok(true));
 }
 
 #[test]
 fn an_encoding(rt: HostRuntime) {
-    assert!(rt; is_right(rt, encode_file));
+    assert!(rt; is_right(rt, encode_file) == Ok(true));
 }
 
 #[test]
 fn a_decoding(rt: HostRuntime) {
-    assert!(rt; is_right(rt, decode_file));
+    assert!(rt; is_right(rt, decode_file) == Ok(true));
 }
 
 #[test]
 fn an_aggregation(rt: HostRuntime) {
-    assert!(rt; is_right(rt, aggregate_rows));
+    assert!(rt; is_right(rt, aggregate_rows) == Ok(true));
 }
 
 #[test]
 fn a_joining(rt: HostRuntime) {
-    assert!(rt; is_right(rt, join_parts));
+    assert!(rt; is_right(rt, join_parts) == Ok(true));
 }

@@ -40,7 +40,44 @@ fn try_rooms<F: Fn(HostRuntime, &Site, u64, &mut Room<'_>) -> Result<Met, Refusa
     Ok(Met::Wrong("rooms without an end"))
 }
 
-/// What becomes of a trial over a few rows with all memory, and then in rooms, with the least limit and the usual one.
+/// The same with each limit.
+fn try_limits<F: Fn(HostRuntime, &Site, u64, &mut Room<'_>) -> Result<Met, Refusal>>(
+    rt: HostRuntime,
+    hoard: &mut Hoard,
+    site: &Site,
+    limits: &[u64],
+    step: usize,
+    trial: &F,
+) -> Result<Met, Refusal>
+    requires { F.IsAlwaysCallable trial.now }
+{
+    for limit in limits {
+        let met = try_rooms(rt, hoard, site, *limit, step, trial)?;
+        if met != Met::Refusal {
+            return Ok(met);
+        }
+    }
+    Ok(Met::Refusal)
+}
+
+/// What becomes of a trial with all memory, after which the stack is as large as it has to be, and then in rooms, with each limit.
+fn told<F: Fn(HostRuntime, &Site, u64, &mut Room<'_>) -> Result<Met, Refusal>>(
+    rt: HostRuntime,
+    site: &Site,
+    limits: &[u64],
+    step: usize,
+    trial: &F,
+) -> Result<String, Fail>
+    requires { F.IsAlwaysCallable trial.now }
+{
+    let ample = trial(rt, site, LEAST_LIMIT, &mut Room::Open)?;
+    let mut hoard = Hoard::new(&rt)?;
+    let small = try_limits(rt, &mut hoard, site, limits, step, trial);
+    drop(hoard);
+    Ok(format!(in rt.alloc(); "{ample:?} {:?}", small?)?)
+}
+
+/// The same over a few rows, with the least limit and the usual one.
 fn tried<F: Fn(HostRuntime, &Site, u64, &mut Room<'_>) -> Result<Met, Refusal>>(
     rt: HostRuntime,
     trial: F,
@@ -48,15 +85,12 @@ fn tried<F: Fn(HostRuntime, &Site, u64, &mut Room<'_>) -> Result<Met, Refusal>>(
     requires { F.IsAlwaysCallable trial }
 {
     let site = Site::few(rt.alloc())?;
-    let ample = trial(rt, &site, USUAL_LIMIT, &mut Room::Open)?;
-    let mut hoard = Hoard::new(&rt)?;
-    let least = try_rooms(rt, &mut hoard, &site, LEAST_LIMIT, STEP, &trial);
-    let usual = try_rooms(rt, &mut hoard, &site, USUAL_LIMIT, STEP, &trial);
-    drop(hoard);
-    Ok(format!(in rt.alloc(); "{ample:?} {:?} {:?}", least?, usual?)?)
+    let told = told(rt, &site, &[LEAST_LIMIT, USUAL_LIMIT], STEP, &trial);
+    drop(site);
+    told
 }
 
-/// The same over many rows with the least limit: groups are spilled.
+/// The same over many rows with the least limit, so that groups are spilled.
 fn tried_spilling<F: Fn(HostRuntime, &Site, u64, &mut Room<'_>) -> Result<Met, Refusal>>(
     rt: HostRuntime,
     trial: F,
@@ -64,17 +98,13 @@ fn tried_spilling<F: Fn(HostRuntime, &Site, u64, &mut Room<'_>) -> Result<Met, R
     requires { F.IsAlwaysCallable trial }
 {
     let site = Site::many(rt.alloc())?;
-    let ample = trial(rt, &site, LEAST_LIMIT, &mut Room::Open)?;
-    let mut hoard = Hoard::new(&rt)?;
-    let least = try_rooms(rt, &mut hoard, &site, LEAST_LIMIT, LARGE_STEP, &trial);
-    drop(hoard);
-    Ok(format!(in rt.alloc(); "{ample:?} {:?}", least?)?)
+    let told = told(rt, &site, &[LEAST_LIMIT], LARGE_STEP, &trial);
+    drop(site);
+    told
 }
 
-/// What is told where each refusal leaves all as it was, and the call made again answers.
-const REFUSED: &str = "Nothing Refusal Refusal";
-
-const SPILLING_REFUSED: &str = "Nothing Refusal";
+/// What is told where the call is refused, each refusal leaves all as it was, and the call made again answers.
+const REFUSED: &str = "Nothing Refusal";
 
 #[test]
 fn deliveries_are_refused(rt: HostRuntime) -> Result<(), Fail> {
@@ -123,15 +153,15 @@ fn joinings_are_refused(rt: HostRuntime) -> Result<(), Fail> {
 
 #[test]
 fn deliveries_that_spill_are_refused(rt: HostRuntime) -> Result<(), Fail> {
-    expect(tried_spilling(rt, deliver), SPILLING_REFUSED)
+    expect(tried_spilling(rt, deliver), REFUSED)
 }
 
 #[test]
 fn merges_that_spill_are_refused(rt: HostRuntime) -> Result<(), Fail> {
-    expect(tried_spilling(rt, merge), SPILLING_REFUSED)
+    expect(tried_spilling(rt, merge), REFUSED)
 }
 
 #[test]
 fn answers_that_spill_are_refused(rt: HostRuntime) -> Result<(), Fail> {
-    expect(tried_spilling(rt, answer), SPILLING_REFUSED)
+    expect(tried_spilling(rt, answer), REFUSED)
 }
