@@ -1,6 +1,8 @@
 //! Trials of what stands below replicas: files, the parts of an origin, and groups of rows.
 
+ghost use Rattle.std.specs.Prelude.{IfSome};
 ghost use Rattle.batch_reader.specs.Rows.{ArePackedRows};
+ghost use Rattle.origin_prefix.specs.Held.{AreHeldParts};
 ghost use Rattle.origin_prefix.specs.Parts.{IsPartOf};
 ghost use Rattle.packed_rows.specs.Columns.{kinds};
 
@@ -13,6 +15,7 @@ use origin_prefix::OriginPart;
 use replica_merge::JoinError;
 use script_machine::Refusal;
 use std::alloc::AllocError;
+use std::collections::BTreeMap;
 use std::test::*;
 use summary_codec::{decode, encode};
 
@@ -83,6 +86,21 @@ fn grouped(first: Result<(Run, Work), SpillError>, wanted: &Run) -> Met {
     }
 }
 
+/// The groups of rows.
+fn group(
+    rt: HostRuntime,
+    query: &Query,
+    rows: &PackedRows,
+    means: &Means<Fnv1a>,
+) -> Result<(Run, Work), SpillError>
+    requires { ArePackedRows (kinds query.now.columns) rows.now }
+{
+    let mut disk = MemDisk::new(rt.alloc());
+    let grouped = aggregate(rt.alloc(), query, &[Input::Flat(rows)], means, &mut disk);
+    drop(disk);
+    grouped
+}
+
 /// Aggregates rows.
 fn aggregated(
     rt: HostRuntime,
@@ -93,13 +111,11 @@ fn aggregated(
 ) -> Result<Met, Refusal>
     requires { ArePackedRows (kinds query.now.columns) rows.now }
 {
-    let inputs = [Input::Flat(rows)];
     let means = Means::new(limit, Fnv1a)?;
-    let mut disk = MemDisk::new(rt.alloc());
     room.enter()?;
-    let first = aggregate(rt.alloc(), query, &inputs, &means, &mut disk);
+    let first = group(rt, query, rows, &means);
     room.leave();
-    match aggregate(rt.alloc(), query, &inputs, &means, &mut disk) {
+    match group(rt, query, rows, &means) {
         Ok((wanted, _)) => Ok(grouped(first, &wanted)),
         Err(_) => Ok(REFUSED_AGAIN),
     }
@@ -170,6 +186,18 @@ fn joined(
     }
 }
 
+/// The part of an origin.
+fn part_of<'p>(
+    query: &Query,
+    parts: &'p BTreeMap<u16, OriginPart>,
+    origin: u16,
+) -> Option<&'p OriginPart>
+    requires { AreHeldParts query.now parts.now.entries }
+    ensures { IfSome result (λ part. IsPartOf query.now part.now) }
+{
+    parts.get(&origin)
+}
+
 /// The parts of two origins are joined, as if they were of one: a prefix of one batch, and two early ones that follow it.
 pub(crate) fn join_parts(
     rt: HostRuntime,
@@ -178,7 +206,7 @@ pub(crate) fn join_parts(
     room: &mut Room<'_>,
 ) -> Result<Met, Refusal> {
     let (query, parts) = decode(rt.alloc(), &site.own.file)?;
-    let met = match (parts.get(&1), parts.get(&3)) {
+    let met = match (part_of(&query, &parts, 1), part_of(&query, &parts, 3)) {
         (Some(own), Some(other)) => joined(rt, &query, own, other, limit, room),
         _ => Ok(Met::Wrong("no parts")),
     };

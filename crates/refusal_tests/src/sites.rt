@@ -155,6 +155,8 @@ impl Site {
         ensures limits { IfOk result (λ batch. InLimits (batch.origin, batch.number)) }
         ensures rows { IfOk result (λ batch. ArePackedRows (kinds query.now.columns) batch.rows) }
     {
-        Ok(read_batch(alloc, query.schema(), &self.next)?)
+        let schema = query.schema();
+        let batch = read_batch(alloc, schema, &self.next)?;
+        Ok(batch)
     }
 }
