@@ -18,10 +18,10 @@ _agg_tool() {
     esac
     case ${COMP_WORDS[1]} in
     script) options='--spill --help' ;;
-    new) options='--columns --query --help' ;;
-    feed) options='--limit --spill --explain --help' ;;
-    merge) options='--limit --spill --explain --help' ;;
-    known) options='--help' ;;
+    new) options='--columns --query --no-clobber --help' ;;
+    feed) options='--limit --spill --explain --no-clobber --progress --help' ;;
+    merge) options='--limit --spill --explain --no-clobber --progress --help' ;;
+    known) options='--explain --help' ;;
     answer) options='--format --limit --spill --explain --help' ;;
     help) options='script new feed merge known answer' ;;
     esac

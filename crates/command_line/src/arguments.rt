@@ -24,6 +24,10 @@ pub(crate) const SPILL: &str = "spill";
 
 pub(crate) const EXPLAIN: &str = "explain";
 
+pub(crate) const NO_CLOBBER: &str = "no-clobber";
+
+pub(crate) const PROGRESS: &str = "progress";
+
 static FORMATS: [&str; 2] = ["csv", "aligned"];
 
 const ABOUT: &str = "Groups numbered batches of rows, and merges what several sites know of them";
@@ -103,7 +107,8 @@ FILTER (WHERE CONDITION) may tell which rows it takes. A CONDITION has columns,
 integers, 'texts', TRUE, FALSE, NULL, = <> != < <= > >=, NOT, AND, OR, and
 IS [NOT] NULL, TRUE, FALSE or UNKNOWN; in HAVING it has calls, too.
 
-Prints 'saved BYTES'. A file OUT that is there is replaced.
+Prints 'saved BYTES'. A file OUT that is there is replaced, and standard error
+says so; with --no-clobber it is kept, and the status is 2.
 
 Example:
   agg_tool new empty.sum --columns 'city text, sales bigint' \\
@@ -112,7 +117,7 @@ Example:
 Status:
   0  all was done
   1  something was refused
-  2  the words are no command line
+  2  the words are no command line, or --no-clobber kept a file
   3  a file or a stream could not be read or written";
 
 const FEED_ABOUT: &str = "Adds the batches of batch files to a summary";
@@ -132,7 +137,11 @@ given, a line tells what became of it:
 
 Then OUT is written and 'saved BYTES' printed. OUT may be IN. Where IN itself is
 refused, a file can't be read or OUT would be longer than 67,108,864 bytes, the
-command ends, and OUT isn't written.
+command ends, and OUT isn't written. A file OUT that is there and is none of the
+files read is replaced, and standard error says so; with --no-clobber it is
+kept, nothing is read, and the status is 2. --progress tells on standard error
+of each file as it is taken, as '12 of 500 0-12.csv: folded upto 12'; where that
+is a terminal it is told without it.
 
 The groups of a batch take at most --limit bytes of blocks while they are
 counted, 65536 to 1099511627776; what doesn't keep within is spilled, and
@@ -148,7 +157,7 @@ Example:
 Status:
   0  all was done
   1  something was refused
-  2  the words are no command line
+  2  the words are no command line, or --no-clobber kept a file
   3  a file or a stream could not be read or written";
 
 const MERGE_ABOUT: &str = "Merges summary files of one query";
@@ -159,7 +168,11 @@ OUT knows what any IN knew. For each IN after the first, 'merged' is printed, or
 another batch under a number that is known. Then OUT is written and 'saved
 BYTES' printed. OUT may be one of the INs. Where the first IN is refused, a file
 can't be read or OUT would be longer than 67,108,864 bytes, the command ends,
-and OUT isn't written.
+and OUT isn't written. A file OUT that is there and is none of the files read is
+replaced, and standard error says so; with --no-clobber it is kept, nothing is
+read, and the status is 2. --progress tells on standard error of each file as it
+is taken, as '1 of 2 rome.sum: merged'; where that is a terminal it is told
+without it.
 
 Groups of early batches that follow now take at most --limit bytes of blocks
 while they are counted, 65536 to 1099511627776; what doesn't keep within is
@@ -175,7 +188,7 @@ Example:
 Status:
   0  all was done
   1  something was refused
-  2  the words are no command line
+  2  the words are no command line, or --no-clobber kept a file
   3  a file or a stream could not be read or written";
 
 const KNOWN_ABOUT: &str = "Lists the batches that a summary knows";
@@ -183,7 +196,10 @@ const KNOWN_ABOUT: &str = "Lists the batches that a summary knows";
 const KNOWN_AFTER: &str = "\
 Prints a line for each origin of which a batch is known, as
 'origin 7 upto 12 early 14 15': batches 1 to 12 are in the answer, 14 and 15
-wait for 13.
+wait for 13. --explain tells on standard error the columns, the query, and of
+each origin its groups, its bytes in the file and the numbers that are missing
+before an early one, as
+'origin 7 upto 12 groups 3 early 2 bytes 190 missing 13'.
 
 Example:
   agg_tool known all.sum
@@ -245,7 +261,8 @@ fn new_command<'a>(alloc: Global) -> Result<Command<'a>, AllocError> {
     task(alloc, "new", NEW_ABOUT, NEW_AFTER)
         .arg(positional(alloc, OUT, "The summary file to write"))?
         .arg(option(alloc, COLUMNS, "SCHEMA", "The columns' names and kinds").required(true))?
-        .arg(option(alloc, QUERY, "TEXT", "The query that the summary answers").required(true))
+        .arg(option(alloc, QUERY, "TEXT", "The query that the summary answers").required(true))?
+        .arg(no_clobber_option(alloc))
 }
 
 /// The option of a limit.
@@ -277,6 +294,30 @@ fn explain_option<'a>(alloc: Global) -> Arg<'a> {
         .help("Also tells on standard error what the grouping took")
 }
 
+/// The option that keeps a file which OUT would replace.
+fn no_clobber_option<'a>(alloc: Global) -> Arg<'a> {
+    Arg::new(alloc, NO_CLOBBER)
+        .long(NO_CLOBBER)
+        .action(ArgAction::SetTrue)
+        .help("Keeps a file OUT that is none of the files read")
+}
+
+/// The option that asks how far the work is.
+fn progress_option<'a>(alloc: Global) -> Arg<'a> {
+    Arg::new(alloc, PROGRESS)
+        .long(PROGRESS)
+        .action(ArgAction::SetTrue)
+        .help("Also tells on standard error of each file, as it is taken")
+}
+
+/// The option that asks what a summary holds.
+fn holding_option<'a>(alloc: Global) -> Arg<'a> {
+    Arg::new(alloc, EXPLAIN)
+        .long(EXPLAIN)
+        .action(ArgAction::SetTrue)
+        .help("Also tells on standard error what the summary holds")
+}
+
 fn feed_command<'a>(alloc: Global) -> Result<Command<'a>, AllocError> {
     task(alloc, "feed", FEED_ABOUT, FEED_AFTER)
         .arg(positional(alloc, OUT, "The summary file to write"))?
@@ -284,7 +325,9 @@ fn feed_command<'a>(alloc: Global) -> Result<Command<'a>, AllocError> {
         .arg(positional(alloc, BATCH, "The batch files to add").num_args(1..))?
         .arg(limit_option(alloc))?
         .arg(spill_option(alloc))?
-        .arg(explain_option(alloc))
+        .arg(explain_option(alloc))?
+        .arg(no_clobber_option(alloc))?
+        .arg(progress_option(alloc))
 }
 
 fn merge_command<'a>(alloc: Global) -> Result<Command<'a>, AllocError> {
@@ -293,15 +336,15 @@ fn merge_command<'a>(alloc: Global) -> Result<Command<'a>, AllocError> {
         .arg(positional(alloc, IN, "The summary files to merge").num_args(1..))?
         .arg(limit_option(alloc))?
         .arg(spill_option(alloc))?
-        .arg(explain_option(alloc))
+        .arg(explain_option(alloc))?
+        .arg(no_clobber_option(alloc))?
+        .arg(progress_option(alloc))
 }
 
 fn known_command<'a>(alloc: Global) -> Result<Command<'a>, AllocError> {
-    task(alloc, "known", KNOWN_ABOUT, KNOWN_AFTER).arg(positional(
-        alloc,
-        IN,
-        "The summary file to read",
-    ))
+    task(alloc, "known", KNOWN_ABOUT, KNOWN_AFTER)
+        .arg(positional(alloc, IN, "The summary file to read"))?
+        .arg(holding_option(alloc))
 }
 
 /// The option of a table's format.

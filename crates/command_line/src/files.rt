@@ -1,16 +1,34 @@
 //! Reading and writing whole files.
 
 use crate::problem::Problem;
+use crate::streams::Watched;
+use fault_sentences::Reason;
 use grouping_model::limits::LONGEST_INPUT;
-use script_io::read_input;
+use script_io::{InputError, read_input};
 use script_machine::{Refusal, RunError};
-use std::fs::{File, OpenFile};
+use std::alloc::AllocError;
+use std::cell::Cell;
+use std::fs::{File, Metadata, OpenFile};
 use std::io::{ErrorKind, Write};
+use std::os::unix::fs::MetadataExt;
 use std::rt::Files;
 use std::{fs, io};
 
 /// How many names are tried for the new file that takes the place of an old one.
 const MOST_ATTEMPTS: u32 = 100;
+
+/// Says how long a file is that is too long, where that is known.
+fn say_length<R: Files + AllocGlobal>(rt: &R, path: &str) -> Result<Option<Reason>, AllocError> {
+    let Ok(found) = fs::metadata(rt, path) else {
+        return Ok(None);
+    };
+    if !found.is_file() {
+        return Ok(None);
+    }
+    let len = found.len();
+    let said = format!(in rt.alloc(); "more than 67,108,864 bytes: it has {len}")?;
+    Ok(Some(Reason::whole(rt.alloc(), said)))
+}
 
 /// The bytes of a file, where they are 67,108,864 or fewer.
 pub(crate) fn read_file<'p, R: Files + AllocGlobal>(
@@ -21,13 +39,50 @@ pub(crate) fn read_file<'p, R: Files + AllocGlobal>(
         Ok(file) => file,
         Err(cause) => return Err(Problem::failed(path, RunError::ReadFault, cause)),
     };
-    match read_input(rt.alloc(), &mut file, LONGEST_INPUT) {
-        Ok(bytes) => Ok(bytes),
-        Err(error) => {
+    let fault = Cell::new(None);
+    let read = read_input(
+        rt.alloc(),
+        &mut Watched::new(&mut file, &fault),
+        LONGEST_INPUT,
+    );
+    match (read, fault.get()) {
+        (Ok(bytes), _) => Ok(bytes),
+        (Err(InputError::ReadFault), Some(cause)) => {
+            Err(Problem::failed(path, RunError::ReadFault, cause))
+        }
+        (Err(InputError::TooLong), _) => {
+            let why = Refusal::Run(RunError::InputTooLong);
+            Err(Problem::because(path, why, say_length(rt, path)))
+        }
+        (Err(error), _) => {
             let why = Refusal::from(RunError::from(error));
             Err(Problem::refused(path, why))
         }
     }
+}
+
+/// Whether paths lead to one file.
+fn is_same_file<R: Files>(rt: &R, found: &Metadata, path: &str) -> bool {
+    match fs::metadata(rt, path) {
+        Ok(other) => found.dev() == other.dev() && found.ino() == other.ino(),
+        Err(_) => false,
+    }
+}
+
+/// Whether a regular file is there at a path, and is none of others.
+pub(crate) fn is_another<R: Files>(rt: &R, path: &str, others: &[&str]) -> bool {
+    let Ok(found) = fs::metadata(rt, path) else {
+        return false;
+    };
+    if !found.is_file() {
+        return false;
+    }
+    for other in others {
+        if is_same_file(rt, &found, other) {
+            return false;
+        }
+    }
+    true
 }
 
 /// Writes bytes to an opened file, and waits until the system has them on its disk.

@@ -4,86 +4,111 @@
 
 mod arguments;
 mod files;
+mod holding;
 mod problem;
+mod progress;
+mod refusing;
 mod script;
 mod spill;
+mod streams;
 mod tasks;
 
 use crate::arguments::{SPILL, parse_words};
-use crate::problem::output_fault;
+use crate::problem::Problem;
 use crate::script::run_script;
+use crate::streams::{Streams, Watched, say};
 use crate::tasks::{Session, Task};
 use clap::error::ErrorKind;
 use clap::{ArgMatches, Error};
 use exit_status::{Ending, status};
+use std::alloc::Global;
+use std::cell::Cell;
 use std::convert::AsStr;
+use std::io;
 use std::io::{BufWriter, Read, Write};
 use std::rt::Files;
+pub use streams::Terminals;
+
+/// Writes what the parser of words has to say, in one write where there is memory for that.
+fn write_error<E: Write>(alloc: Global, error: &Error, errors: &mut E) {
+    // Nothing is left to do where it can't be written.
+    match format!(in alloc; "{error}") {
+        Ok(text) => {
+            let _ = errors.write_all(text.as_bytes());
+        }
+        Err(_) => {
+            let _ = write!(errors, "{error}");
+        }
+    }
+}
 
 /// Says why the words are no command line, or shows help or the version.
 fn end_without_command<W: Write, E: Write>(
     error: &Error,
-    writer: &mut W,
-    errors: &mut E,
+    streams: &mut Streams<'_, W, E>,
 ) -> Ending {
     if error.kind() == ErrorKind::OutOfMemory {
-        let _ = writeln!(writer, "refused NoMemory");
-        let _ = write!(errors, "{error}");
+        let _ = writeln!(streams.writer, "refused NoMemory");
+        write_error(streams.alloc, error, streams.errors);
         return Ending::Refused;
     }
     if error.use_stderr() {
-        let _ = write!(errors, "{error}");
+        write_error(streams.alloc, error, streams.errors);
         return Ending::BadUsage;
     }
-    match write!(writer, "{error}") {
+    match write!(streams.writer, "{error}") {
         Ok(()) => Ending::Done,
         Err(_) => Ending::Fault,
     }
 }
 
 /// Runs a command on files, by its name.
-fn run_task<R: Files + AllocGlobal, W: Write, E: Write>(
-    rt: &R,
+fn run_task<'c, R: Files + AllocGlobal, W: Write, E: Write>(
+    rt: &'c R,
     name: &str,
     matches: &ArgMatches<'_>,
-    writer: &mut W,
-    errors: &mut E,
+    streams: Streams<'c, W, E>,
 ) -> Ending {
     match Task::named(name) {
-        Some(task) => Session::new(rt, writer, errors).run(task, matches),
+        Some(task) => Session::new(rt, streams).run(task, matches),
         // The parser knows no other.
         None => Ending::BadUsage,
     }
 }
 
 /// Runs the command that words ask for.
-fn run_words<R: Files + AllocGlobal, S: AsStr, I: Read, W: Write, E: Write>(
-    rt: &R,
+fn run_words<'c, R: Files + AllocGlobal, S: AsStr, I: Read, W: Write, E: Write>(
+    rt: &'c R,
     words: &[S],
     reader: &mut I,
-    writer: &mut W,
-    errors: &mut E,
+    mut streams: Streams<'c, W, E>,
 ) -> Ending {
     match parse_words(rt.alloc(), words) {
         Ok(matches) => match matches.subcommand() {
             Some(("script", matches)) => {
-                run_script(rt, matches.get_str(SPILL), reader, writer, errors)
+                run_script(rt, matches.get_str(SPILL), reader, &mut streams)
             }
-            Some((name, matches)) => run_task(rt, name, matches, writer, errors),
+            Some((name, matches)) => run_task(rt, name, matches, streams),
             // The parser wants a command.
             None => Ending::BadUsage,
         },
-        Err(error) => end_without_command(&error, writer, errors),
+        Err(error) => end_without_command(&error, &mut streams),
     }
 }
-
-/// Sends out what was gathered. A fault is told, unless one was told before.
-fn send_out<W: Write, E: Write>(gathered: &mut W, ending: Ending, errors: &mut E) -> Ending {
+/// Sends out what was gathered. A fault is told, unless one was told before, or nobody reads any more.
+fn send_out<W: Write, E: Write>(
+    alloc: Global,
+    gathered: &mut W,
+    ending: Ending,
+    errors: &mut E,
+    fault: &Cell<Option<io::Error>>,
+) -> Ending {
     match gathered.flush() {
         Ok(()) => ending,
         Err(_) => {
-            if ending != Ending::Fault {
-                let _ = writeln!(errors, "{}", output_fault());
+            let problem = Problem::output(fault.get());
+            if ending != Ending::Fault && !problem.is_unread() {
+                say(alloc, errors, &problem);
             }
             Ending::Fault
         }
@@ -92,20 +117,40 @@ fn send_out<W: Write, E: Write>(gathered: &mut W, ending: Ending, errors: &mut E
 
 /// Runs the command that words ask for, of which the first is the program's name.
 ///
-/// Replies and tables go to the writer, gathered in pieces of some 8 KiB, sentences for people to `errors`, and only
-/// `script` reads from the reader. The result is the status of the process: 0 where all was done, 1 where something was
-/// refused, 2 where the words are no command line, 3 where a file or a stream could not be read or written.
+/// Replies and tables go to the writer, gathered in pieces of some 8 KiB unless it is a terminal, sentences for people to `errors`, each
+/// in one write, and only `script` reads from the reader. The result is the status of the process: 0 where all was done, 1 where
+/// something was refused, 2 where the words are no command line, 3 where a file or a stream could not be read or written.
 pub fn command<R: Files + AllocGlobal, S: AsStr, I: Read, W: Write, E: Write>(
     rt: &R,
     words: &[S],
     reader: &mut I,
     writer: &mut W,
     errors: &mut E,
+    terminals: Terminals,
 ) -> u8 {
-    if let Ok(mut gathered) = BufWriter::new(rt.alloc(), &mut *writer) {
-        let ending = run_words(rt, words, reader, &mut gathered, errors);
-        return status(send_out(&mut gathered, ending, errors));
+    let alloc = rt.alloc();
+    let fault = Cell::new(None);
+    let mut watched = Watched::new(&mut *writer, &fault);
+    // Where a person looks at them, and where there is no memory to gather in, replies go out as they come.
+    if !terminals.output {
+        if let Ok(mut gathered) = BufWriter::new(alloc, &mut watched) {
+            let streams = Streams {
+                alloc,
+                writer: &mut gathered,
+                errors: &mut *errors,
+                fault: &fault,
+                terminals,
+            };
+            let ending = run_words(rt, words, reader, streams);
+            return status(send_out(alloc, &mut gathered, ending, errors, &fault));
+        }
     }
-    // With no memory to gather in, each piece of a reply goes out by itself.
-    status(run_words(rt, words, reader, writer, errors))
+    let streams = Streams {
+        alloc,
+        writer: &mut watched,
+        errors: &mut *errors,
+        fault: &fault,
+        terminals,
+    };
+    status(run_words(rt, words, reader, streams))
 }

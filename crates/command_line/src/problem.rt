@@ -1,16 +1,23 @@
 //! Why a command stopped, or passed over a file.
 
+use fault_sentences::{Plain, Reason};
 use script_machine::{Refusal, RunError, name};
+use std::alloc::Global;
+use std::io::ErrorKind;
 use std::{fmt, io};
 
 /// What was refused, and why.
-#[derive(Debug, Drop)]
+#[derive(Drop)]
 pub(crate) struct Problem<'p> {
     /// A file, an option of the command line, or a stream.
     pub(crate) subject: &'p str,
     pub(crate) why: Refusal,
     /// What the system said of it.
     cause: Option<io::Error>,
+    /// Why, of the bytes in which it is, in the place of what is said of all such refusals.
+    reason: Option<Reason>,
+    /// Whether it is standard output.
+    is_output: bool,
 }
 
 impl<'p> Problem<'p> {
@@ -20,6 +27,23 @@ impl<'p> Problem<'p> {
             subject,
             why,
             cause: None,
+            reason: None,
+            is_output: false,
+        }
+    }
+
+    /// Something was refused for a reason, where one was found and there was memory to say it.
+    pub(crate) fn because<E: Drop>(
+        subject: &'p str,
+        why: Refusal,
+        reason: Result<Option<Reason>, E>,
+    ) -> Problem<'p> {
+        Problem {
+            subject,
+            why,
+            cause: None,
+            reason: reason.unwrap_or(None),
+            is_output: false,
         }
     }
 
@@ -29,6 +53,19 @@ impl<'p> Problem<'p> {
             subject,
             why: Refusal::Run(error),
             cause: Some(cause),
+            reason: None,
+            is_output: false,
+        }
+    }
+
+    /// Standard output could not be written.
+    pub(crate) fn output(cause: Option<io::Error>) -> Problem<'p> {
+        Problem {
+            subject: "standard output",
+            why: Refusal::Run(RunError::WriteFault),
+            cause,
+            reason: None,
+            is_output: true,
         }
     }
 
@@ -39,24 +76,78 @@ impl<'p> Problem<'p> {
             Refusal::Run(RunError::ReadFault | RunError::WriteFault)
         )
     }
+
+    /// Whether nobody reads standard output any more, of which nothing is said.
+    pub(crate) fn is_unread(&self) -> bool {
+        self.is_output && is_closed(&self.cause)
+    }
 }
 
-/// Standard output could not be written.
-pub(crate) fn output_fault() -> Problem<'static> {
-    Problem::refused("standard output", Refusal::Run(RunError::WriteFault))
+/// Whether a stream failed since nobody reads it any more.
+pub(crate) fn is_closed(cause: &Option<io::Error>) -> bool {
+    match cause {
+        Some(error) => error.kind() == ErrorKind::BrokenPipe,
+        None => false,
+    }
+}
+
+/// A reason that is one text.
+pub(crate) fn reason_of(alloc: Global, said: Option<String>) -> Option<Reason> {
+    match said {
+        Some(said) => Some(Reason::whole(alloc, said)),
+        None => None,
+    }
+}
+
+/// What became of OUT.
+#[derive(Clone, Copy)]
+pub(crate) struct Fate<'o> {
+    pub(crate) out: &'o str,
+    pub(crate) is_written: bool,
+}
+
+/// What is said of a problem, and of OUT, if a command writes one.
+#[derive(Clone, Copy)]
+pub(crate) struct Told<'t, 'p> {
+    pub(crate) problem: &'t Problem<'p>,
+    pub(crate) fate: Option<Fate<'t>>,
+}
+
+impl fmt::Display for Fate<'_> {
+    fn fmt<W: fmt::Write>(&self, f: &mut fmt::Formatter<W>) -> fmt::Result {
+        let out = Plain(self.out);
+        if self.is_written {
+            write!(f, "; {out} is written")
+        } else {
+            write!(f, "; {out} is not written")
+        }
+    }
 }
 
 impl fmt::Display for Problem<'_> {
     fn fmt<W: fmt::Write>(&self, f: &mut fmt::Formatter<W>) -> fmt::Result {
-        write!(
-            f,
-            "{}: refused {}: {}",
-            self.subject,
-            name(self.why),
-            self.why
-        )?;
+        let (subject, name) = (Plain(self.subject), name(self.why));
+        write!(f, "{subject}: refused {name}: ")?;
+        match &self.reason {
+            Some(reason) => f.write_str(&reason.said)?,
+            None => write!(f, "{}", self.why)?,
+        }
         match &self.cause {
             Some(cause) => write!(f, " ({cause})"),
+            None => Ok(()),
+        }
+    }
+}
+
+impl fmt::Display for Told<'_, '_> {
+    fn fmt<W: fmt::Write>(&self, f: &mut fmt::Formatter<W>) -> fmt::Result {
+        let problem = self.problem;
+        write!(f, "{problem}")?;
+        if let Some(fate) = &self.fate {
+            write!(f, "{fate}")?;
+        }
+        match &problem.reason {
+            Some(reason) => f.write_str(&reason.picture),
             None => Ok(()),
         }
     }

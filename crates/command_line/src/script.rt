@@ -1,48 +1,200 @@
 //! Scripts, with a sentence for each refused command.
 
-use crate::problem::Problem;
+use crate::problem::{Problem, is_closed, reason_of};
 use crate::spill::{open_disk, remove_disk};
+use crate::streams::{Streams, say};
 use exit_status::{Ending, refusal_ending, run_ending};
+use fault_sentences::{Reason, ScriptPlace, say_disagreement};
 use hash_agg::TapeDisk;
-use script_machine::{Observer, Refusal, Reply, name, put_reply, run_observed};
-use std::alloc::Global;
+use script_machine::{Observer, Refusal, Reply, RunError, name, put_reply, run_observed};
+use std::alloc::{AllocError, Global};
+use std::cell::Cell;
 use std::io::{Read, Write};
 use std::rt::Files;
+use std::{fmt, io};
+
+/// A reader whose bytes are kept while there is memory for that, and why it failed.
+#[derive(Drop)]
+struct Kept<'k, I> {
+    reader: &'k mut I,
+    bytes: &'k Cell<Option<Vec<u8>>>,
+    fault: &'k Cell<Option<io::Error>>,
+}
+
+/// Bytes and more behind them, if there is memory for that.
+fn with_more(kept: Option<Vec<u8>>, more: &[u8]) -> Option<Vec<u8>> {
+    let mut bytes = kept?;
+    match bytes.extend_from_slice(more) {
+        Ok(()) => Some(bytes),
+        Err(_) => None,
+    }
+}
+
+impl<I: Read> Read for Kept<'_, I> {
+    fn read(&mut self, buf: &mut [u8]) -> io::Result<usize> {
+        match self.reader.read(buf) {
+            Ok(count) => {
+                let kept = self.bytes.replace(None);
+                let more = buf.get(..count).unwrap_or_default();
+                self.bytes.set(with_more(kept, more));
+                Ok(count)
+            }
+            Err(error) => {
+                self.fault.set(Some(error));
+                Err(error)
+            }
+        }
+    }
+}
+
+/// What is said of a refused command.
+#[derive(Drop)]
+struct Complaint {
+    line: u64,
+    why: Refusal,
+    reason: Option<Reason>,
+}
+
+impl fmt::Display for Complaint {
+    fn fmt<W: fmt::Write>(&self, f: &mut fmt::Formatter<W>) -> fmt::Result {
+        let (line, name) = (self.line, name(self.why));
+        match &self.reason {
+            Some(reason) => {
+                let (said, picture) = (reason.said.as_str(), reason.picture.as_str());
+                write!(f, "line {line}: refused {name}: {said}{picture}")
+            }
+            None => write!(f, "line {line}: refused {name}: {}", self.why),
+        }
+    }
+}
 
 /// Writes a sentence for each refused command.
 #[derive(Drop)]
 struct Complaints<'e, E> {
+    alloc: Global,
     errors: &'e mut E,
+    script: &'e Cell<Option<Vec<u8>>>,
+    place: ScriptPlace,
+}
+
+impl<E: Write> Complaints<'_, E> {
+    /// Why the command here is refused, where it is a text.
+    fn said(&self, script: &[u8], why: Refusal) -> Result<Option<String>, AllocError> {
+        let (place, alloc) = (&self.place, self.alloc);
+        match why {
+            Refusal::BadCommand => place.say_command(alloc, script),
+            Refusal::NoSuchName => place.say_no_name(alloc, script),
+            Refusal::NameTaken => place.say_taken(alloc, script),
+            Refusal::Limit(_) => place.say_limit(alloc, script),
+            Refusal::Batch(why) => place.say_batch(alloc, script, why),
+            Refusal::OriginDisagrees { origin, number } => {
+                Ok(Some(say_disagreement(alloc, origin, number, None)?))
+            }
+            _ => Ok(None),
+        }
+    }
+
+    /// Why the command of a line is refused, of the bytes of the script.
+    fn reason(
+        &mut self,
+        script: &[u8],
+        line: u64,
+        why: Refusal,
+    ) -> Result<Option<Reason>, AllocError> {
+        self.place.go_to(self.alloc, script, line)?;
+        match why {
+            Refusal::BadSchema => self.place.say_schema(self.alloc, script),
+            Refusal::Query(why) => self.place.say_query(self.alloc, script, why),
+            _ => Ok(reason_of(self.alloc, self.said(script, why)?)),
+        }
+    }
 }
 
 impl<E: Write> Observer for Complaints<'_, E> {
     fn refused(&mut self, line: u64, why: Refusal) {
-        // Nothing is left to do where the sentence can't be written.
-        let _ = writeln!(self.errors, "line {line}: refused {}: {why}", name(why));
+        let script = self.script.replace(None);
+        let reason = match &script {
+            Some(script) => self.reason(script, line, why).unwrap_or(None),
+            None => None,
+        };
+        self.script.set(script);
+        say(self.alloc, self.errors, &Complaint { line, why, reason });
     }
+}
+
+/// What stopped a script, and what the system said of it.
+#[derive(Clone, Copy)]
+struct Stopped {
+    error: RunError,
+    cause: Option<io::Error>,
+}
+
+impl fmt::Display for Stopped {
+    fn fmt<W: fmt::Write>(&self, f: &mut fmt::Formatter<W>) -> fmt::Result {
+        let (error, name) = (self.error, name(self.error.into()));
+        write!(f, "refused {name}: {error}")?;
+        match &self.cause {
+            Some(cause) => write!(f, " ({cause})"),
+            None => Ok(()),
+        }
+    }
+}
+
+/// Says what stopped a script. Nothing is said where nobody reads its replies any more.
+fn say_stopped<W: Write, E: Write>(
+    error: RunError,
+    read: Option<io::Error>,
+    streams: &mut Streams<'_, W, E>,
+) {
+    let cause = match error {
+        RunError::ReadFault => read,
+        RunError::WriteFault => streams.fault.get(),
+        RunError::NoMemory | RunError::InputTooLong => None,
+    };
+    if error == RunError::WriteFault && is_closed(&cause) {
+        return;
+    }
+    streams.say(&Stopped { error, cause });
 }
 
 /// Runs the script that a reader has left over a disk of tapes.
 fn run_over<I: Read, W: Write, E: Write, D: TapeDisk>(
-    alloc: Global,
     reader: &mut I,
-    writer: &mut W,
-    errors: &mut E,
+    streams: &mut Streams<'_, W, E>,
     disk: &mut D,
 ) -> Ending {
-    let mut complaints = Complaints { errors };
-    let run = run_observed(alloc, reader, writer, &mut complaints, disk);
+    let alloc = streams.alloc;
+    let script = Cell::new(Some(Vec::new(alloc)));
+    let fault = Cell::new(None);
+    let mut kept = Kept {
+        reader: &mut *reader,
+        bytes: &script,
+        fault: &fault,
+    };
+    let mut complaints = Complaints {
+        alloc,
+        errors: &mut *streams.errors,
+        script: &script,
+        place: ScriptPlace::new(),
+    };
+    let run = run_observed(
+        alloc,
+        &mut kept,
+        &mut *streams.writer,
+        &mut complaints,
+        disk,
+    );
+    drop(complaints);
     if let Err(error) = run {
-        let _ = writeln!(complaints.errors, "refused {}: {error}", name(error.into()));
+        say_stopped(error, fault.get(), streams);
     }
     run_ending(&run)
 }
 
 /// Ends a script whose file for what is spilled was not made. Nothing was read.
-fn stop<W: Write, E: Write>(problem: Problem<'_>, writer: &mut W, errors: &mut E) -> Ending {
-    // Nothing is left to do where the sentence can't be written.
-    let _ = writeln!(errors, "{problem}");
-    match put_reply(writer, &Reply::Refused(problem.why)) {
+fn stop<W: Write, E: Write>(problem: Problem<'_>, streams: &mut Streams<'_, W, E>) -> Ending {
+    streams.say(&problem);
+    match put_reply(streams.writer, &Reply::Refused(problem.why)) {
         Ok(()) => refusal_ending(problem.why),
         Err(_) => Ending::Fault,
     }
@@ -53,15 +205,14 @@ pub(crate) fn run_script<R: Files + AllocGlobal, I: Read, W: Write, E: Write>(
     rt: &R,
     spill: Option<&str>,
     reader: &mut I,
-    writer: &mut W,
-    errors: &mut E,
+    streams: &mut Streams<'_, W, E>,
 ) -> Ending {
     let mut disk = match open_disk(rt, spill) {
         Ok(disk) => disk,
-        Err(problem) => return stop(problem, writer, errors),
+        Err(problem) => return stop(problem, streams),
     };
-    let ending = run_over(rt.alloc(), reader, writer, errors, &mut disk);
+    let ending = run_over(reader, streams, &mut disk);
     drop(disk);
-    remove_disk(rt, spill, errors);
+    remove_disk(rt, rt.alloc(), spill, streams.errors);
     ending
 }

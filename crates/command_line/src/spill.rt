@@ -1,11 +1,14 @@
 //! The disk of tapes that a command takes.
 
 use crate::problem::Problem;
+use crate::streams::say;
+use fault_sentences::Plain;
 use script_machine::RunError;
 use spill_tapes::{FileDisk, MemDisk, SpillDisk};
-use std::fs;
+use std::alloc::Global;
 use std::io::Write;
 use std::rt::Files;
+use std::{fmt, fs, io};
 
 /// A disk of tapes: in a new file where its path is told, else in memory.
 pub(crate) fn open_disk<'p, R: Files + AllocGlobal>(
@@ -21,16 +24,34 @@ pub(crate) fn open_disk<'p, R: Files + AllocGlobal>(
     }
 }
 
+/// A file for what is spilled that stays.
+#[derive(Clone, Copy)]
+struct Left<'p> {
+    path: &'p str,
+    cause: io::Error,
+}
+
+impl fmt::Display for Left<'_> {
+    fn fmt<W: fmt::Write>(&self, f: &mut fmt::Formatter<W>) -> fmt::Result {
+        let (path, cause) = (Plain(self.path), self.cause);
+        write!(
+            f,
+            "{path}: the file for what is spilled can't be removed ({cause})"
+        )
+    }
+}
+
 /// Removes the file in which the tapes lay, if they did in one. A sentence says so where it can't be removed.
-pub(crate) fn remove_disk<R: Files, E: Write>(rt: &R, path: Option<&str>, errors: &mut E) {
+pub(crate) fn remove_disk<R: Files, E: Write>(
+    rt: &R,
+    alloc: Global,
+    path: Option<&str>,
+    errors: &mut E,
+) {
     let Some(path) = path else {
         return;
     };
     if let Err(cause) = fs::remove_file(rt, path) {
-        // Nothing is left to do where the sentence can't be written.
-        let _ = writeln!(
-            errors,
-            "{path}: the file for what is spilled can't be removed ({cause})"
-        );
+        say(alloc, errors, &Left { path, cause });
     }
 }

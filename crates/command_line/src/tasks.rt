@@ -1,18 +1,27 @@
 //! What each command does.
 
-use crate::arguments::{BATCH, COLUMNS, EXPLAIN, FORMAT, IN, LIMIT, OUT, QUERY, SPILL};
-use crate::files::{read_file, write_file};
-use crate::problem::{Problem, output_fault};
+use crate::arguments::{
+    BATCH, COLUMNS, EXPLAIN, FORMAT, IN, LIMIT, NO_CLOBBER, OUT, PROGRESS, QUERY, SPILL,
+};
+use crate::files::{is_another, read_file, write_file};
+use crate::holding::tell_holding;
+use crate::problem::{Fate, Problem, Told, reason_of};
+use crate::progress::{Explained, PassedOver, Progress, Standing, text_of};
+use crate::refusing::{
+    refused_batch, refused_columns, refused_merge, refused_query, refused_save, refused_summary,
+};
 use crate::spill::{open_disk, remove_disk};
+use crate::streams::Streams;
 use clap::ArgMatches;
 use exit_status::{Ending, refusal_ending};
+use fault_sentences::Quoted;
 use file_commands::Format;
 use hash_agg::{Fnv1a, Means, TapeDisk, Work};
 use replica_merge::{Delivered, Replica};
 use script_io::{put_all, read_limit};
-use script_machine::{Refusal, Reply, name, put_reply};
+use script_machine::{Refusal, Reply, put_reply};
 use spill_tapes::{MemDisk, SpillDisk};
-use std::alloc::Global;
+use std::alloc::{AllocError, Global};
 use std::io::Write;
 use std::rt::Files;
 
@@ -46,6 +55,24 @@ impl Task {
             Task::New | Task::Known => false,
         }
     }
+
+    /// The file that it writes, if it writes one.
+    fn out<'p>(self, matches: &ArgMatches<'p>) -> Option<&'p str> {
+        match self {
+            Task::New | Task::Feed | Task::Merge => matches.get_str(OUT),
+            Task::Known | Task::Answer => None,
+        }
+    }
+
+    /// Whether an option that it has stands on the command line.
+    fn is_told(self, matches: &ArgMatches<'_>, option: &str) -> bool {
+        let has_option = match option {
+            NO_CLOBBER => matches!(self, Task::New | Task::Feed | Task::Merge),
+            PROGRESS => matches!(self, Task::Feed | Task::Merge),
+            _ => !matches!(self, Task::New),
+        };
+        has_option && matches.get_flag(option)
+    }
 }
 
 /// The value of an argument. The parser has seen to it that there is one.
@@ -67,16 +94,17 @@ fn open_replica<'p, R: Files + AllocGlobal>(rt: &R, path: &'p str) -> Result<Rep
     let file = read_file(rt, path)?;
     match file_commands::load(rt.alloc(), &file) {
         Ok(replica) => Ok(replica),
-        Err(why) => Err(Problem::refused(path, why)),
+        Err(why) => Err(refused_summary(rt.alloc(), path, &file, why)),
     }
 }
 
 /// The replica of the texts of a command line, which knows nothing.
 fn new_replica<'p>(alloc: Global, matches: &ArgMatches<'p>) -> Result<Replica, Problem<'p>> {
-    match file_commands::create(alloc, value(matches, COLUMNS), value(matches, QUERY)) {
+    let (columns, query) = (value(matches, COLUMNS), value(matches, QUERY));
+    match file_commands::create(alloc, columns, query) {
         Ok(replica) => Ok(replica),
-        Err(Refusal::BadSchema) => Err(Problem::refused("--columns", Refusal::BadSchema)),
-        Err(why) => Err(Problem::refused("--query", why)),
+        Err(Refusal::BadSchema) => Err(refused_columns(alloc, columns)),
+        Err(why) => Err(refused_query(alloc, columns, query, why)),
     }
 }
 
@@ -133,7 +161,7 @@ fn feed_file<'p, R: Files + AllocGlobal, D: TapeDisk>(
     let file = read_file(rt, path)?;
     match file_commands::feed(rt.alloc(), replica, &file, means, disk, work) {
         Ok(delivered) => Ok(delivered),
-        Err(why) => Err(Problem::refused(path, why)),
+        Err(why) => Err(refused_batch(rt.alloc(), replica, path, &file, why)),
     }
 }
 
@@ -149,57 +177,120 @@ fn merge_file<'p, R: Files + AllocGlobal, D: TapeDisk>(
     let file = read_file(rt, path)?;
     match file_commands::merge(rt.alloc(), replica, &file, means, disk, work) {
         Ok(()) => Ok(()),
-        Err(why) => Err(Problem::refused(path, why)),
+        Err(why) => Err(refused_merge(rt.alloc(), replica, path, &file, why)),
+    }
+}
+
+/// The files that a command reads, in their order on the command line.
+fn files_read<'p>(
+    alloc: Global,
+    task: Task,
+    matches: &ArgMatches<'p>,
+) -> Result<Vec<&'p str>, AllocError> {
+    let mut paths = Vec::new(alloc);
+    match task {
+        Task::New => {}
+        Task::Feed => {
+            paths.push(value(matches, IN))?;
+            paths.extend_from_slice(matches.get_strs(BATCH).unwrap_or_default())?;
+        }
+        Task::Merge => paths.extend_from_slice(matches.get_strs(IN).unwrap_or_default())?,
+        Task::Known | Task::Answer => paths.push(value(matches, IN))?,
+    }
+    Ok(paths)
+}
+
+/// Whether a file is there in the place of OUT which is none of those that are read. Where there is no memory to look, none is.
+fn is_standing<R: Files + AllocGlobal>(
+    rt: &R,
+    task: Task,
+    matches: &ArgMatches<'_>,
+    out: &str,
+) -> bool {
+    match files_read(rt.alloc(), task, matches) {
+        Ok(paths) => is_another(rt, out, &paths),
+        Err(_) => false,
     }
 }
 
 /// A command that runs: the files that it reaches, its streams, its disk of tapes and whether that lies in a file, what its grouping
-/// took, and whether something was passed over.
+/// took, how many files were taken or passed over, and whether OUT was written.
 #[derive(Drop)]
 pub(crate) struct Session<'c, R: Files, W, E> {
     rt: &'c R,
-    writer: &'c mut W,
-    errors: &'c mut E,
+    streams: Streams<'c, W, E>,
     disk: SpillDisk<R::File>,
     in_file: bool,
     work: Work,
-    refused: bool,
+    taken: usize,
+    passed: usize,
+    files: usize,
+    tells_progress: bool,
+    is_written: bool,
 }
 
 impl<'c, R: Files + AllocGlobal, W: Write, E: Write> Session<'c, R, W, E> {
     /// Nothing was done yet. What is spilled lies in memory.
-    pub(crate) fn new(rt: &'c R, writer: &'c mut W, errors: &'c mut E) -> Session<'c, R, W, E> {
+    pub(crate) fn new(rt: &'c R, streams: Streams<'c, W, E>) -> Session<'c, R, W, E> {
         Session {
             rt,
-            writer,
-            errors,
+            streams,
             disk: SpillDisk::Memory(MemDisk::new(rt.alloc())),
             in_file: false,
             work: Work::none(),
-            refused: false,
+            taken: 0,
+            passed: 0,
+            files: 0,
+            tells_progress: false,
+            is_written: false,
         }
     }
 
     /// Writes a reply.
     fn reply(&mut self, reply: &Reply<'_>) -> Result<(), Problem<'static>> {
-        match put_reply(self.writer, reply) {
+        match put_reply(self.streams.writer, reply) {
             Ok(()) => Ok(()),
-            Err(_) => Err(output_fault()),
+            Err(_) => Err(self.streams.output_fault()),
         }
     }
 
     /// Writes a text.
     fn print(&mut self, text: &[u8]) -> Result<(), Problem<'static>> {
-        match put_all(self.writer, text) {
+        match put_all(self.streams.writer, text) {
             Ok(()) => Ok(()),
-            Err(_) => Err(output_fault()),
+            Err(_) => Err(self.streams.output_fault()),
         }
     }
 
-    /// Writes a sentence of what was refused.
-    fn complain(&mut self, problem: &Problem<'_>) {
-        // Nothing is left to do where the sentence can't be written.
-        let _ = writeln!(self.errors, "{problem}");
+    /// Says what was refused, and what became of OUT.
+    fn complain<'t>(&mut self, problem: &'t Problem<'_>, fate: Option<Fate<'t>>) {
+        if !problem.is_unread() {
+            self.streams.say(&Told { problem, fate });
+        }
+    }
+
+    /// Tells how far the command is: the reply to a file.
+    fn tell_progress(&mut self, path: &str, reply: &Reply<'_>) {
+        self.taken = self.taken.saturating_add(1);
+        if !self.tells_progress {
+            return;
+        }
+        // Nothing is left to do where there is no memory for the line.
+        if let Ok(text) = text_of(self.streams.alloc, reply) {
+            self.streams.say(&Progress {
+                place: self.taken,
+                files: self.files,
+                path,
+                reply: &text,
+            });
+        }
+    }
+
+    /// Replies to a file, and tells how far the command is.
+    fn reply_to(&mut self, path: &str, reply: &Reply<'_>) -> Result<(), Problem<'static>> {
+        self.reply(reply)?;
+        self.tell_progress(path, reply);
+        Ok(())
     }
 
     /// Goes on behind a file that was refused. One that could not be read ends the command.
@@ -207,16 +298,18 @@ impl<'c, R: Files + AllocGlobal, W: Write, E: Write> Session<'c, R, W, E> {
         if problem.is_fault() {
             return Err(problem);
         }
-        self.refused = true;
-        self.complain(&problem);
-        self.reply(&Reply::Refused(problem.why))
+        self.passed = self.passed.saturating_add(1);
+        self.complain(&problem, None);
+        self.reply_to(problem.subject, &Reply::Refused(problem.why))
     }
 
     /// Removes the file in which the tapes lay, when nothing is spilled any more.
     fn remove_spill(&mut self, task: Task, matches: &ArgMatches<'_>) {
         if self.in_file {
             self.in_file = false;
-            remove_disk(self.rt, spill_of(task, matches), self.errors);
+            let alloc = self.streams.alloc;
+            let spill = spill_of(task, matches);
+            remove_disk(self.rt, alloc, spill, self.streams.errors);
         }
     }
 
@@ -224,9 +317,10 @@ impl<'c, R: Files + AllocGlobal, W: Write, E: Write> Session<'c, R, W, E> {
     fn save<'p>(&mut self, replica: &Replica, path: &'p str) -> Result<(), Problem<'p>> {
         let file = match file_commands::save(replica) {
             Ok(file) => file,
-            Err(why) => return Err(Problem::refused(path, why)),
+            Err(why) => return Err(refused_save(self.rt.alloc(), replica, path, why)),
         };
         write_file(self.rt, path, &file)?;
+        self.is_written = true;
         self.reply(&Reply::Saved(file.len()))
     }
 
@@ -240,6 +334,7 @@ impl<'c, R: Files + AllocGlobal, W: Write, E: Write> Session<'c, R, W, E> {
         let Some(paths) = matches.get_strs(BATCH) else {
             return Ok(());
         };
+        self.files = paths.len();
         for path in paths {
             match feed_file(
                 self.rt,
@@ -249,7 +344,7 @@ impl<'c, R: Files + AllocGlobal, W: Write, E: Write> Session<'c, R, W, E> {
                 &mut self.disk,
                 &mut self.work,
             ) {
-                Ok(delivered) => self.reply(&Reply::Delivered(delivered))?,
+                Ok(delivered) => self.reply_to(*path, &Reply::Delivered(delivered))?,
                 Err(problem) => self.pass_over(problem)?,
             }
         }
@@ -266,6 +361,7 @@ impl<'c, R: Files + AllocGlobal, W: Write, E: Write> Session<'c, R, W, E> {
         let Some(paths) = matches.get_strs(IN) else {
             return Ok(());
         };
+        self.files = paths.len().saturating_sub(1);
         for path in paths.iter().skip(1) {
             match merge_file(
                 self.rt,
@@ -275,7 +371,7 @@ impl<'c, R: Files + AllocGlobal, W: Write, E: Write> Session<'c, R, W, E> {
                 &mut self.disk,
                 &mut self.work,
             ) {
-                Ok(()) => self.reply(&Reply::Merged)?,
+                Ok(()) => self.reply_to(*path, &Reply::Merged)?,
                 Err(problem) => self.pass_over(problem)?,
             }
         }
@@ -287,6 +383,14 @@ impl<'c, R: Files + AllocGlobal, W: Write, E: Write> Session<'c, R, W, E> {
         match file_commands::origin_list(self.rt.alloc(), replica) {
             Ok(lines) => self.print(&lines),
             Err(_) => Err(Problem::refused(path, Refusal::NoMemory)),
+        }
+    }
+
+    /// Tells what a replica holds. Nothing is told where there is no memory for that.
+    fn explain_holding(&mut self, replica: &Replica) {
+        let alloc = self.streams.alloc;
+        if let (Ok(file), Ok(known)) = (replica.save(), replica.known()) {
+            let _ = tell_holding(alloc, &file, &known, &mut self.streams);
         }
     }
 
@@ -320,7 +424,13 @@ impl<'c, R: Files + AllocGlobal, W: Write, E: Write> Session<'c, R, W, E> {
         means: &Means<Fnv1a>,
     ) -> Result<(), Problem<'p>> {
         match task {
-            Task::Known => return self.list(replica, value(matches, IN)),
+            Task::Known => {
+                self.list(replica, value(matches, IN))?;
+                if task.is_told(matches, EXPLAIN) {
+                    self.explain_holding(replica);
+                }
+                return Ok(());
+            }
             Task::Answer => return self.answer(replica, matches, means),
             Task::Feed => self.feed_files(replica, matches, means)?,
             Task::Merge => self.merge_files(replica, matches, means)?,
@@ -346,67 +456,159 @@ impl<'c, R: Files + AllocGlobal, W: Write, E: Write> Session<'c, R, W, E> {
 
     /// Tells what the grouping took, beside the limit.
     fn explain(&mut self, limit: u64) {
-        // Nothing is left to do where the line can't be written.
-        let _ = writeln!(
-            self.errors,
-            "passes {} spilled {} pages {} held {} limit {limit}",
-            self.work.passes,
-            self.work.spilled,
-            self.disk.writes(),
-            self.work.most_held
-        );
+        self.streams.say(&Explained {
+            passes: self.work.passes,
+            spilled: self.work.spilled,
+            pages: self.disk.writes(),
+            held: self.work.most_held,
+            limit,
+        });
+    }
+
+    /// What became of OUT, if a command writes one.
+    fn fate<'p>(&self, task: Task, matches: &ArgMatches<'p>) -> Option<Fate<'p>> {
+        match task.out(matches) {
+            Some(out) => Some(Fate {
+                out,
+                is_written: self.is_written,
+            }),
+            None => None,
+        }
     }
 
     /// Ends a command that stopped.
-    fn stop(&mut self, problem: Problem<'_>) -> Ending {
-        self.complain(&problem);
+    fn stop(&mut self, problem: Problem<'_>, fate: Option<Fate<'_>>) -> Ending {
+        self.complain(&problem, fate);
         match self.reply(&Reply::Refused(problem.why)) {
             Ok(()) => refusal_ending(problem.why),
             Err(_) => Ending::Fault,
         }
     }
 
-    /// Ends a command whose limit was refused. A text that is no number of bytes is no command line.
-    fn refuse_limit(&mut self, why: Refusal) -> Ending {
+    /// Says why a limit is none.
+    fn limit_reason(&self, matches: &ArgMatches<'_>, why: Refusal) -> Result<String, AllocError> {
+        let told = Quoted(matches.get_str(LIMIT).unwrap_or("").as_bytes());
         if matches!(why, Refusal::BadCommand) {
-            // Nothing is left to do where the sentence can't be written.
-            let _ = writeln!(
-                self.errors,
-                "--limit: refused {}: a number of bytes has 1 to 19 digits",
-                name(why)
-            );
+            format!(in self.streams.alloc; "{told}: a number of bytes has 1 to 19 digits")
+        } else {
+            format!(in self.streams.alloc;
+                "{told} is out of range, which is 65,536 to 1,099,511,627,776 bytes"
+            )
+        }
+    }
+
+    /// Ends a command whose limit was refused. A text that is no number of bytes is no command line.
+    fn refuse_limit(&mut self, task: Task, matches: &ArgMatches<'_>, why: Refusal) -> Ending {
+        let reason = match self.limit_reason(matches, why) {
+            Ok(said) => Ok(reason_of(self.streams.alloc, Some(said))),
+            Err(error) => Err(error),
+        };
+        let problem = Problem::because("--limit", why, reason);
+        let fate = self.fate(task, matches);
+        if matches!(why, Refusal::BadCommand) {
+            self.complain(&problem, fate);
             return Ending::BadUsage;
         }
-        self.stop(Problem::refused("--limit", why))
+        self.stop(problem, fate)
+    }
+
+    /// OUT, where a file is there which is none of those that are read.
+    fn standing<'p>(&self, task: Task, matches: &ArgMatches<'p>) -> Option<&'p str> {
+        let out = task.out(matches)?;
+        if is_standing(self.rt, task, matches, out) {
+            Some(out)
+        } else {
+            None
+        }
+    }
+
+    /// Says that a file in the place of OUT is kept, or that it is replaced.
+    fn tell_standing(&mut self, standing: Option<&str>, is_kept: bool) {
+        if let Some(out) = standing {
+            self.streams.say(&Standing { out, is_kept });
+        }
+    }
+
+    /// Sends out what was gathered, and tells how the command ended.
+    fn finish(&mut self, ending: Ending, fate: Option<Fate<'_>>) -> Ending {
+        match self.streams.writer.flush() {
+            Ok(()) => ending,
+            Err(_) => {
+                if ending != Ending::Fault {
+                    let problem = self.streams.output_fault();
+                    self.complain(&problem, fate);
+                }
+                Ending::Fault
+            }
+        }
     }
 
     /// Runs a command on files, and tells how it ended.
     pub(crate) fn run(mut self, task: Task, matches: &ArgMatches<'_>) -> Ending {
-        let means = match means_of(task, matches) {
-            Ok(means) => means,
-            Err(why) => return self.refuse_limit(why),
+        let standing = self.standing(task, matches);
+        if task.is_told(matches, NO_CLOBBER) && standing.is_some() {
+            self.tell_standing(standing, true);
+            return Ending::BadUsage;
+        }
+        let ending = match means_of(task, matches) {
+            Ok(means) => self.run_with(task, matches, &means, standing),
+            Err(why) => self.refuse_limit(task, matches, why),
         };
+        let fate = self.fate(task, matches);
+        self.finish(ending, fate)
+    }
+
+    /// Runs a command on files by means, with the disk of tapes that it tells, and tells how it ended.
+    fn run_with(
+        &mut self,
+        task: Task,
+        matches: &ArgMatches<'_>,
+        means: &Means<Fnv1a>,
+        standing: Option<&str>,
+    ) -> Ending {
+        self.tells_progress = task.is_told(matches, PROGRESS) || self.streams.terminals.errors;
         let spill = spill_of(task, matches);
         match open_disk(self.rt, spill) {
             Ok(disk) => self.disk = disk,
-            Err(problem) => return self.stop(problem),
+            Err(problem) => {
+                let fate = self.fate(task, matches);
+                return self.stop(problem, fate);
+            }
         }
         self.in_file = spill.is_some();
-        let ending = self.run_by(task, matches, &means);
+        self.tell_standing(standing, false);
+        let ending = self.run_by(task, matches, means);
         self.remove_spill(task, matches);
         ending
+    }
+
+    /// Says that files were passed over, though OUT was written.
+    fn tell_passed(&mut self, task: Task, matches: &ArgMatches<'_>) {
+        if let Some(out) = task.out(matches) {
+            self.streams.say(&PassedOver {
+                out,
+                passed: self.passed,
+                files: self.files,
+            });
+        }
     }
 
     /// Runs a command on files by means, and tells how it ended.
     fn run_by(&mut self, task: Task, matches: &ArgMatches<'_>, means: &Means<Fnv1a>) -> Ending {
         let done = self.run_command(task, matches, means);
-        if done.is_ok() && task.groups_rows() && matches.get_flag(EXPLAIN) {
+        if done.is_ok() && task.groups_rows() && task.is_told(matches, EXPLAIN) {
             self.explain(means.limit());
         }
         match done {
-            Ok(()) if self.refused => Ending::Refused,
+            Ok(()) if self.passed > 0 => {
+                self.tell_passed(task, matches);
+                Ending::Refused
+            }
             Ok(()) => Ending::Done,
-            Err(problem) => self.stop(problem),
+            Err(problem) => {
+                let fate = self.fate(task, matches);
+                self.stop(problem, fate)
+            }
         }
     }
 }

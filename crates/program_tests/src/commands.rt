@@ -60,8 +60,8 @@ new|@e.sum|--columns|c text, d bigint|--query|SELECT count(*) FROM batches => sa
 new|@o.sum|--columns|c text, d bigint|--query|SELECT sum(d) FROM batches => saved 56/ => 0
 feed|@f.sum|@e.sum|@empty.csv|@b.csv => refused BadBatchHead/folded upto 1/saved 86/ => 1 => empty.csv: refused BadBatchHead
 feed|@g.sum|@e.sum|@head.csv|@width.csv|@many.csv => refused BadBatchHead/refused BadBatchHead/refused TooManyRows/saved 58/ => 1 => many.csv: refused TooManyRows
-feed|@g.sum|@e.sum|@count.csv|@more.csv|@wide.csv => refused RowCount/refused RowCount/refused WrongWidth/saved 58/ => 1 => wide.csv: refused WrongWidth: row 0 has
-feed|@g.sum|@e.sum|@field.csv => refused BadField/saved 58/ => 1 => field.csv: refused BadField: in row 1 a field stands for no value of column 1, both counted from 0
+feed|@g.sum|@e.sum|@count.csv|@more.csv|@wide.csv => refused RowCount/refused RowCount/refused WrongWidth/saved 58/ => 1 => wide.csv: refused WrongWidth: line 2: fields found: 3, wanted: 2
+feed|@g.sum|@e.sum|@field.csv => refused BadField/saved 58/ => 1 => field.csv: refused BadField: line 3, column d bigint: 'x'
 merge|@g.sum|@f.sum|@o.sum|@b.csv|@e.sum => refused DifferentQuery/refused NotASummary/merged/saved 86/ => 1 => b.csv: refused NotASummary
 feed|@g.sum|@e.sum|@b.csv|@none.csv|@b.csv => folded upto 1/refused ReadFault/ => 3 => none.csv: refused ReadFault
 ";
@@ -88,8 +88,12 @@ merge|@m.sum|@d.sum|@c.sum|@b.sum|--limit|65536|--explain => merged/merged/saved
 answer|@a.sum|--explain => town,count,sum/k0384,1,384/ => 0 => passes 0 spilled 0 pages 0 held 0 limit 4194304
 answer|@m.sum|--limit|65536|--explain => town,count,sum/k0384,3,1152/ => 0 => passes 2 spilled 1 pages 1 held 57352 limit 65536
 answer|@m.sum => town,count,sum/k0384,3,1152/ => 0
+known|@m.sum|--limit|65536 => - => 2 => --limit
 answer|@none.sum|--explain => refused ReadFault/ => 3 => none.sum: refused ReadFault
-known|@m.sum|--explain => - => 2 => --explain
+known|@m.sum|--explain => origin 0 upto 1/origin 1 upto 2/ => 0 => origin 1 upto 2 groups 385 early 0 bytes 15803
+?long|@bad.csv|3 => - => 0
+feed|@x.sum|@e.sum|@bad.csv|@0.csv|--limit|65536|--explain => refused BadBatchHead/folded upto 1/saved 15924/ => 1 => passes 2 spilled 1 pages 1 held 57352 limit 65536
+merge|@x.sum|@d.sum|@bad.csv|@c.sum|--explain => refused NotASummary/merged/saved 31727/ => 1 => passes 1 spilled 0 pages 0 held 90128 limit 4194304
 ";
 
 #[test]
@@ -142,7 +146,7 @@ const REFUSED: &str = "\
 new|@e.sum|--columns|c text|--query|SELECT c FROM batches GROUP BY c => saved 52/ => 0
 new|@x.sum|--columns|c texts|--query|SELECT c FROM batches GROUP BY c => refused BadSchema/ => 1 => --columns: refused BadSchema
 new|@x.sum|--columns|c text|--query|SELECT d FROM batches GROUP BY d => refused NoSuchColumn/ => 1 => --query: refused NoSuchColumn
-new|@x.sum|--columns|c text|--query|SELECT c FROM => refused Syntax/ => 1 => --query: refused Syntax: syntax error at byte 13
+new|@x.sum|--columns|c text|--query|SELECT c FROM => refused Syntax/ => 1 => --query: refused Syntax: byte 13: found the end, wanted batches
 new|@none/x.sum|--columns|c text|--query|SELECT c FROM batches GROUP BY c => refused WriteFault/ => 3 => x.sum: refused WriteFault
 feed|@x.sum|@none.sum|@b.csv => refused ReadFault/ => 3 => none.sum: refused ReadFault
 feed|@x.sum|@b.csv|@b.csv => refused NotASummary/ => 1 => b.csv: refused NotASummary
@@ -153,7 +157,7 @@ answer|@ => refused ReadFault/ => 3 => refused ReadFault
 feed|@x.sum|@none.sum|@b.csv|--limit|65535 => refused LimitOutOfRange/ => 1 => --limit: refused LimitOutOfRange
 merge|@x.sum|@none.sum|--limit|9999999999999999999 => refused LimitOutOfRange/ => 1 => --limit: refused LimitOutOfRange
 answer|@none.sum|--limit|1099511627777 => refused LimitOutOfRange/ => 1 => --limit: refused LimitOutOfRange
-feed|@x.sum|@none.sum|@b.csv|--limit|x => - => 2 => --limit: refused BadCommand: a number of bytes has 1 to 19 digits
+feed|@x.sum|@none.sum|@b.csv|--limit|x => - => 2 => --limit: refused BadCommand: 'x': a number of bytes has 1 to 19 digits
 merge|@x.sum|@none.sum|--limit|00000000000000065536 => - => 2 => --limit: refused BadCommand
 answer|@none.sum|--limit| => - => 2 => --limit: refused BadCommand
 answer|@none.sum|--limit|-5 => - => 2 => --limit: refused BadCommand
@@ -216,7 +220,7 @@ merge|@ba.sum|@b.sum|@a.sum => merged/saved 170/ => 0
 known|@ab.sum => origin 0 upto 3/origin 1 upto 1/ => 0
 answer|@ba.sum => c,sum/oslo,10/ => 0
 feed|@a.sum|@a.sum|@other.csv => refused OriginDisagrees/saved 145/ => 1 => other.csv: refused OriginDisagrees
-feed|@link.sum|@a.sum|@4.csv|@2.csv => folded upto 1/folded upto 3/saved 170/ => 0
+feed|@link.sum|@a.sum|@4.csv|@2.csv => folded upto 1/folded upto 3/saved 170/ => 0 => link.sum: it is there
 ?same|@ab.sum|@ba.sum => - => 0
 ?same|@ab.sum|@target.sum => - => 0
 ";
@@ -256,11 +260,11 @@ new|@e.sum|--columns|c text, d bigint, b boolean|--query|SELECT c, bool_and(b), 
 feed|@a.sum|@e.sum|@a.csv => folded upto 1/saved 210/ => 0
 answer|@a.sum|--format|aligned => c          | bool_and | sum/-----------+----------+----/a\\x09b\\x7f | f        | -12/bl\u{e5}b\u{e6}r     | t        |   5/\\N         | \\N       |  \\N/ => 0
 answer|@a.sum => c,bool_and,sum/a\tb\u{7f},f,-12/bl\u{e5}b\u{e6}r,t,5/\\N,\\N,\\N/ => 0
-new|@e.sum|--columns|c text, d bigint, b boolean|--query|SELECT d, b, c FROM batches GROUP BY c, b, d => saved 85/ => 0
+new|@e.sum|--columns|c text, d bigint, b boolean|--query|SELECT d, b, c FROM batches GROUP BY c, b, d => saved 85/ => 0 => e.sum: it is there
 feed|@b.sum|@e.sum|@b.csv => folded upto 1/saved 139/ => 0
 answer|@b.sum|--format|aligned =>   d | b | c      /----+---+--------/ -7 | f | \\x1f\u{80}\u{65e5}|/100 | f | \\N     / => 0
 answer|@b.sum => d,b,c/-7,f,\u{1f}\u{80}\u{65e5}|/100,f,\\N/ => 0
-new|@e.sum|--columns|c text, d bigint, b boolean|--query|SELECT max(d) AS most FROM batches HAVING count(*) > 9 => saved 95/ => 0
+new|@e.sum|--columns|c text, d bigint, b boolean|--query|SELECT max(d) AS most FROM batches HAVING count(*) > 9 => saved 95/ => 0 => e.sum: it is there
 answer|@e.sum|--format|aligned => most/----/ => 0
 answer|@e.sum => most/ => 0
 ";

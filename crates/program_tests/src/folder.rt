@@ -1,6 +1,7 @@
 //! A folder of files in which commands run, and what they print there.
 
-use command_line::command;
+use crate::made::{write_aligned, write_csv, write_listed, write_wide};
+use command_line::{Terminals, command};
 use std::fs::Permissions;
 use std::os::unix::fs::{PermissionsExt, symlink};
 use std::test::*;
@@ -19,7 +20,7 @@ pub(crate) struct Done {
 pub(crate) type File = (&'static str, &'static [u8]);
 
 /// A folder for the files of a test.
-fn new_folder(rt: &HostRuntime, test: &str, files: &[File]) -> Result<String, Fail> {
+pub(crate) fn new_folder(rt: &HostRuntime, test: &str, files: &[File]) -> Result<String, Fail> {
     let process = process::id(rt.process());
     let folder = format!(in rt.alloc(); "/tmp/agg_tool_{test}_{process}/")?;
     fs::create_dir_all(rt, folder.as_str())?;
@@ -36,7 +37,14 @@ pub(crate) fn run(rt: &HostRuntime, words: &str, input: &str) -> Result<Done, Fa
     let words: Vec<&str> = line.split('|').collect(rt.alloc())?;
     let mut output = Vec::new(rt.alloc());
     let mut errors = Vec::new(rt.alloc());
-    let status = command(rt, &words, &mut input.as_bytes(), &mut output, &mut errors);
+    let status = command(
+        rt,
+        &words,
+        &mut input.as_bytes(),
+        &mut output,
+        &mut errors,
+        Terminals::none(),
+    );
     Ok(Done {
         status,
         output: String::from_utf8(output).ok().ok_or("not UTF-8")?,
@@ -90,10 +98,27 @@ fn is_private(rt: &HostRuntime, file: &str) -> Result<bool, Fail> {
     Ok(fs::metadata(rt, file)?.permissions().mode() & 0o777 == 0o600)
 }
 
-/// What a test does beside commands: whether files are the same, whether one is there, a link, a file that only its owner may read
-/// and write, whether one is so, a file of a length, a batch file of many rows, and a summary of many origins.
+/// Whether a folder has so many files.
+fn has_files(rt: &HostRuntime, folder: &str, told: &str) -> Result<bool, Fail> {
+    let mut count: u32 = 0;
+    for entry in fs::read_dir(rt, folder)? {
+        entry?;
+        count = count.saturating_add(1);
+    }
+    Ok(count == told.parse()?)
+}
+
+/// What a test does beside commands: whether files are the same, whether one is there, whether there are so many, a link, a file that
+/// only its owner may read and write, whether one is so, a file of a length, a batch file of many rows, a summary of many origins, and
+/// what commands are to print of these.
 fn aside(rt: &HostRuntime, word: &str, file: &str, rest: &str) -> Result<bool, Fail> {
     match word {
+        "files" => has_files(rt, file, rest),
+        "hard" => Ok(fs::hard_link(rt, rest, file).is_ok()),
+        "csv" => write_csv(rt, file, rest),
+        "aligned" => write_aligned(rt, file, rest),
+        "listed" => write_listed(rt, file, rest),
+        "wide" => write_wide(rt, file, rest),
         "same" => are_same(rt, file, rest),
         "there" => Ok(fs::exists(rt, file)?),
         "link" => Ok(symlink(rt, rest, file).is_ok()),
@@ -110,8 +135,20 @@ fn aside(rt: &HostRuntime, word: &str, file: &str, rest: &str) -> Result<bool, F
     }
 }
 
-/// What the words of a step do: a command, or what a test does beside commands, behind `?`.
+/// Runs a command, and keeps its output in a file.
+fn run_to_file(rt: &HostRuntime, words: &str) -> Result<Done, Fail> {
+    let (file, words) = words.split_once('|').ok_or("no command")?;
+    let mut done = run(rt, words, "")?;
+    fs::write(rt, file, done.output.as_bytes())?;
+    done.output.clear();
+    Ok(done)
+}
+
+/// What the words of a step do: a command, one whose output is kept, behind `>`, or what a test does beside commands, behind `?`.
 fn step(rt: &HostRuntime, words: &str) -> Result<Done, Fail> {
+    if let Some(words) = words.strip_prefix('>') {
+        return run_to_file(rt, words);
+    }
     let Some(words) = words.strip_prefix('?') else {
         return run(rt, words, "");
     };
@@ -133,6 +170,15 @@ fn part<'l>(line: &'l str, place: usize) -> &'l str {
     }
 }
 
+/// Whether what is said on standard error has a sentence, or, where that ends with the sign of an end of a line, is it.
+fn is_said(errors: &str, sentence: &str) -> bool {
+    if sentence.is_empty() || sentence.ends_with('\u{b6}') {
+        errors == sentence
+    } else {
+        errors.contains(sentence)
+    }
+}
+
 /// What a step does where it isn't what stands behind it, and else nothing.
 fn difference(rt: &HostRuntime, line: &str) -> Result<String, Fail> {
     let done = step(rt, part(line, 0))?;
@@ -140,10 +186,8 @@ fn difference(rt: &HostRuntime, line: &str) -> Result<String, Fail> {
     let said = format!(in rt.alloc(); "{output} => {}", done.status)?;
     let wanted = format!(in rt.alloc(); "{} => {}", part(line, 1), part(line, 2))?;
     let sentence = part(line, 3);
-    if said == wanted
-        && done.errors.contains(sentence)
-        && done.errors.is_empty() == sentence.is_empty()
-    {
+    let errors = done.errors.replace(rt.alloc(), "\n", "\u{b6}")?;
+    if said == wanted && is_said(&errors, sentence) {
         return Ok(String::new(rt.alloc()));
     }
     Ok(format!(in rt.alloc(); "{line}\n{said} => {}\n", done.errors)?)

@@ -4,6 +4,12 @@
 #[cfg(test)]
 mod commands;
 #[cfg(test)]
+mod faults;
+#[cfg(test)]
 mod folder;
+#[cfg(test)]
+mod made;
+#[cfg(test)]
+mod sizes;
 #[cfg(test)]
 mod streams;

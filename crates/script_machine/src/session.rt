@@ -65,8 +65,8 @@ impl Model for Session {
     ghost use Rattle.std.specs.Coded.{codes};
     ghost use Rattle.script_machine.specs.Coding.{coded_store};
     ghost use Rattle.replica_merge.specs.Counting.{aggregations_asked};
-ghost use Rattle.script_machine.specs.Limits.{Worked, FeedWorked, WorksAtLimit};
-ghost use Rattle.script_machine.specs.Views.{Store, IsStore};
+    ghost use Rattle.script_machine.specs.Limits.{Worked, FeedWorked, WorksAtLimit};
+    ghost use Rattle.script_machine.specs.Views.{Store, IsStore};
 
     ghost Value = { Store };
 
@@ -128,10 +128,7 @@ fn deliver<D: TapeDisk>(
     };
     match replica.deliver(batch, means, disk, &mut Work::none()) {
         Ok(delivered) => Ok(Ok(delivered)),
-        Err(refused) => Ok(Err(Refusal::of_origin(
-            refused.batch.origin,
-            refused.why,
-        ))),
+        Err(refused) => Ok(Err(Refusal::of_origin(refused.batch.origin, refused.why))),
     }
 }
 

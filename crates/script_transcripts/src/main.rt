@@ -6,7 +6,7 @@
 //! bytes it has.
 #![tactic(auto)]
 
-use command_line::command;
+use command_line::{Terminals, command};
 use std::alloc::{AllocError, Global};
 use std::io;
 use std::io::{Read, Write};
@@ -81,6 +81,7 @@ fn run<W: Write>(rt: &HostRuntime, script: &str, writer: &mut W) -> io::Result<(
         &mut script.as_bytes(),
         &mut replies,
         &mut sentences,
+        Terminals::none(),
     );
     write_lines(writer, &replies)?;
     write_lines(writer, &sentences)?;

@@ -85,8 +85,8 @@ returns-in-Ok-deliver-clause-limit g c = λ honest.
       fed = record { origin = c.in-Ok.batch.origin; number = c.in-Ok.batch.number; rows = rows.0 };
       is_batch = built_batch _ _ _ _ _ _ _ _ rows.0 origin number few told reads rows.2;
       worked = (
-          c.deliver.new.work,
-          subst (λ packed. AreCounted query setting (aggregations_on part c.in-Ok.batch.number packed) no_work writes c.deliver.new.work written) rows.2
-              (subst (λ old. AreCounted query setting (aggregations_on part c.in-Ok.batch.number c.in-Ok.batch.rows) old writes c.deliver.new.work written) c.none.ensures (c.in-Ok-deliver.ensures.counted honest)),
-        );
+        c.deliver.new.work,
+        subst (λ packed. AreCounted query setting (aggregations_on part c.in-Ok.batch.number packed) no_work writes c.deliver.new.work written) rows.2
+            (subst (λ old. AreCounted query setting (aggregations_on part c.in-Ok.batch.number c.in-Ok.batch.rows) old writes c.deliver.new.work written) c.none.ensures (c.in-Ok-deliver.ensures.counted honest)),
+      );
     }

@@ -1,0 +1,97 @@
+//! How far a command is, and what a summary holds, as lines on standard error.
+
+use fault_sentences::Plain;
+use script_machine::{Reply, put_reply};
+use std::alloc::{AllocError, Global};
+use std::{fmt, str};
+
+/// How far a command is: which of how many files was taken, and the reply to it.
+#[derive(Clone, Copy)]
+pub(crate) struct Progress<'p> {
+    pub(crate) place: usize,
+    pub(crate) files: usize,
+    pub(crate) path: &'p str,
+    pub(crate) reply: &'p str,
+}
+
+impl fmt::Display for Progress<'_> {
+    fn fmt<W: fmt::Write>(&self, f: &mut fmt::Formatter<W>) -> fmt::Result {
+        let (place, files) = (self.place, self.files);
+        let (path, reply) = (Plain(self.path), self.reply);
+        write!(f, "{place} of {files} {path}: {reply}")
+    }
+}
+
+/// A reply as a text without the end of its line.
+pub(crate) fn text_of(alloc: Global, reply: &Reply<'_>) -> Result<String, AllocError> {
+    let mut bytes = Vec::new(alloc);
+    if put_reply(&mut bytes, reply).is_err() {
+        return Err(AllocError);
+    }
+    let text = str::from_utf8(&bytes).unwrap_or("").trim_end();
+    String::from_str(alloc, text)
+}
+
+/// What became of OUT where files were passed over.
+#[derive(Clone, Copy)]
+pub(crate) struct PassedOver<'p> {
+    pub(crate) out: &'p str,
+    pub(crate) passed: usize,
+    pub(crate) files: usize,
+}
+
+impl fmt::Display for PassedOver<'_> {
+    fn fmt<W: fmt::Write>(&self, f: &mut fmt::Formatter<W>) -> fmt::Result {
+        let (out, passed, files) = (Plain(self.out), self.passed, self.files);
+        write!(
+            f,
+            "{out}: written, with {passed} of {files} files passed over"
+        )
+    }
+}
+
+/// That a file is there in the place of OUT which is none of those that are read.
+#[derive(Clone, Copy)]
+pub(crate) struct Standing<'p> {
+    pub(crate) out: &'p str,
+    /// Whether the command was told not to replace it.
+    pub(crate) is_kept: bool,
+}
+
+impl fmt::Display for Standing<'_> {
+    fn fmt<W: fmt::Write>(&self, f: &mut fmt::Formatter<W>) -> fmt::Result {
+        let out = Plain(self.out);
+        if self.is_kept {
+            write!(
+                f,
+                "{out}: it is there, and is none of the files read: --no-clobber keeps it, and nothing is read or written"
+            )
+        } else {
+            write!(
+                f,
+                "{out}: it is there, and is none of the files read: it is replaced"
+            )
+        }
+    }
+}
+
+/// What the grouping took, beside the limit.
+#[derive(Clone, Copy)]
+pub(crate) struct Explained {
+    pub(crate) passes: u64,
+    pub(crate) spilled: u128,
+    pub(crate) pages: u64,
+    pub(crate) held: u64,
+    pub(crate) limit: u64,
+}
+
+impl fmt::Display for Explained {
+    fn fmt<W: fmt::Write>(&self, f: &mut fmt::Formatter<W>) -> fmt::Result {
+        let (passes, spilled, pages) = (self.passes, self.spilled, self.pages);
+        let (held, limit) = (self.held, self.limit);
+        write!(
+            f,
+            "passes {passes} spilled {spilled} pages {pages} held {held} limit {limit}"
+        )
+    }
+}

@@ -1,0 +1,196 @@
+//! Why a command's files and texts are refused, said of their bytes.
+
+use crate::problem::{Problem, reason_of};
+use fault_sentences::{
+    BatchText, Plain, Reason, no_summary, say_disagreement, say_query, say_schema,
+};
+use packed_rows::Schema;
+use replica_merge::{Replica, SummaryError};
+use script_machine::{Refusal, RunError};
+use std::alloc::{AllocError, Global};
+
+/// Why the text of a schema is refused.
+pub(crate) fn refused_columns<'p>(alloc: Global, text: &str) -> Problem<'p> {
+    let reason = match say_schema(alloc, text) {
+        Ok(reason) => Ok(Some(reason)),
+        Err(error) => Err(error),
+    };
+    Problem::because("--columns", Refusal::BadSchema, reason)
+}
+
+/// Says why a text is no query over the columns of another.
+fn query_reason(
+    alloc: Global,
+    columns: &str,
+    text: &str,
+    why: Refusal,
+) -> Result<Option<Reason>, AllocError> {
+    match (why, Schema::parse(alloc, columns)) {
+        (Refusal::Query(why), Ok(schema)) => say_query(alloc, &schema, text, why),
+        _ => Ok(None),
+    }
+}
+
+/// Why the text of a query over the columns of another text is refused.
+pub(crate) fn refused_query<'p>(
+    alloc: Global,
+    columns: &str,
+    text: &str,
+    why: Refusal,
+) -> Problem<'p> {
+    Problem::because("--query", why, query_reason(alloc, columns, text, why))
+}
+
+/// Says why the bytes of a file are no summary.
+fn summary_reason(alloc: Global, file: &[u8], why: Refusal) -> Result<Option<Reason>, AllocError> {
+    match why {
+        Refusal::Summary(SummaryError::NotASummary) => {
+            Ok(Some(Reason::whole(alloc, no_summary(alloc, file)?)))
+        }
+        Refusal::Summary(SummaryError::Truncated) if file.is_empty() => {
+            Ok(Some(Reason::whole(alloc, no_summary(alloc, file)?)))
+        }
+        Refusal::Summary(SummaryError::Truncated) => {
+            let len = file.len();
+            let said = format!(in alloc;
+                "it ends too early, behind {len} bytes: it was cut on its way"
+            )?;
+            Ok(Some(Reason::whole(alloc, said)))
+        }
+        _ => Ok(None),
+    }
+}
+
+/// Why the bytes of a file are no summary.
+pub(crate) fn refused_summary<'p>(
+    alloc: Global,
+    path: &'p str,
+    file: &[u8],
+    why: Refusal,
+) -> Problem<'p> {
+    Problem::because(path, why, summary_reason(alloc, file, why))
+}
+
+/// Says why the bytes of a file are no batch for a replica.
+fn batch_reason(
+    alloc: Global,
+    replica: &Replica,
+    file: &[u8],
+    why: Refusal,
+) -> Result<Option<Reason>, AllocError> {
+    let said = match why {
+        Refusal::Batch(why) => {
+            BatchText::of_file(file).say(alloc, replica.query().schema(), why)?
+        }
+        Refusal::OriginDisagrees { origin, number } => {
+            Some(say_disagreement(alloc, origin, number, None)?)
+        }
+        _ => None,
+    };
+    Ok(reason_of(alloc, said))
+}
+
+/// Why a batch file is refused by a replica.
+pub(crate) fn refused_batch<'p>(
+    alloc: Global,
+    replica: &Replica,
+    path: &'p str,
+    file: &[u8],
+    why: Refusal,
+) -> Problem<'p> {
+    Problem::because(path, why, batch_reason(alloc, replica, file, why))
+}
+
+/// How many bytes of a query are shown.
+const MOST_OF_QUERY: usize = 400;
+
+/// The front of a text, whole where it is short.
+fn front_of(text: &str) -> &str {
+    match text.get(..text.floor_char_boundary(MOST_OF_QUERY)) {
+        Some(front) if text.len() > MOST_OF_QUERY => front,
+        _ => text,
+    }
+}
+
+/// Says in what the queries of two replicas differ.
+fn other_query(alloc: Global, ours: &Replica, theirs: &Replica) -> Result<String, AllocError> {
+    let columns = theirs.query().schema().print()?;
+    let our_columns = ours.query().schema().print()?;
+    let (one, other) = if columns.as_str() == our_columns.as_str() {
+        (theirs.query().spelling(), ours.query().spelling())
+    } else {
+        (columns.as_str(), our_columns.as_str())
+    };
+    let (one, other) = (Plain(front_of(one)), Plain(front_of(other)));
+    if columns.as_str() == our_columns.as_str() {
+        format!(in alloc; "it answers {one}, and the first IN answers {other}")
+    } else {
+        format!(in alloc; "its columns are {one}, and those of the first IN are {other}")
+    }
+}
+
+/// The prefix of an origin that a replica knows something of.
+fn prefix_of(replica: &Replica, origin: u16) -> Result<Option<u32>, AllocError> {
+    for known in &replica.known()? {
+        if known.origin == origin {
+            return Ok(Some(known.upto));
+        }
+    }
+    Ok(None)
+}
+
+/// Says why a file is not merged into a replica.
+fn merge_reason(
+    alloc: Global,
+    replica: &Replica,
+    file: &[u8],
+    why: Refusal,
+) -> Result<Option<Reason>, AllocError> {
+    let said = match why {
+        Refusal::DifferentQuery => match Replica::load(alloc, file) {
+            Ok(other) => Some(other_query(alloc, replica, &other)?),
+            Err(_) => None,
+        },
+        Refusal::OriginDisagrees { origin, number } => {
+            let prefix = prefix_of(replica, origin)?;
+            Some(say_disagreement(alloc, origin, number, prefix)?)
+        }
+        _ => return summary_reason(alloc, file, why),
+    };
+    Ok(reason_of(alloc, said))
+}
+
+/// Why a file is not merged into a replica.
+pub(crate) fn refused_merge<'p>(
+    alloc: Global,
+    replica: &Replica,
+    path: &'p str,
+    file: &[u8],
+    why: Refusal,
+) -> Problem<'p> {
+    Problem::because(path, why, merge_reason(alloc, replica, file, why))
+}
+
+/// Says how long a summary would be that is too long.
+fn length_reason(
+    alloc: Global,
+    replica: &Replica,
+    why: Refusal,
+) -> Result<Option<Reason>, AllocError> {
+    if why != Refusal::Run(RunError::InputTooLong) {
+        return Ok(None);
+    }
+    let len = replica.save()?.len();
+    let said = format!(in alloc; "more than 67,108,864 bytes: it would have {len}")?;
+    Ok(Some(Reason::whole(alloc, said)))
+}
+
+/// Why what a replica knows is not saved.
+pub(crate) fn refused_save<'p>(
+    alloc: Global,
+    replica: &Replica,
+    path: &'p str,
+    why: Refusal,
+) -> Problem<'p> {
+    Problem::because(path, why, length_reason(alloc, replica, why))
+}

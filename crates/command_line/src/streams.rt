@@ -1,0 +1,117 @@
+//! The streams of a command, and what is said on them.
+
+use crate::problem::Problem;
+use std::alloc::Global;
+use std::cell::Cell;
+use std::fmt::Display;
+use std::io;
+use std::io::{Read, Write};
+
+/// Which streams a person looks at.
+#[derive(Clone, Copy)]
+pub struct Terminals {
+    /// Standard output is a terminal: replies go out as they come.
+    pub output: bool,
+    /// Standard error is a terminal: it is told how far a command is.
+    pub errors: bool,
+}
+
+impl Terminals {
+    /// No stream is a terminal.
+    pub fn none() -> Terminals {
+        Terminals {
+            output: false,
+            errors: false,
+        }
+    }
+}
+
+/// A reader or a writer, and why it last failed.
+#[derive(Drop)]
+pub(crate) struct Watched<'s, S> {
+    stream: &'s mut S,
+    fault: &'s Cell<Option<io::Error>>,
+}
+
+impl<'s, S> Watched<'s, S> {
+    /// A stream whose failures are kept.
+    pub(crate) fn new(stream: &'s mut S, fault: &'s Cell<Option<io::Error>>) -> Watched<'s, S> {
+        Watched { stream, fault }
+    }
+
+    /// Keeps why a call failed.
+    fn keep<T>(&self, outcome: io::Result<T>) -> io::Result<T> {
+        match outcome {
+            Ok(value) => Ok(value),
+            Err(error) => {
+                self.fault.set(Some(error));
+                Err(error)
+            }
+        }
+    }
+}
+
+impl<S: Read> Read for Watched<'_, S> {
+    fn read(&mut self, buf: &mut [u8]) -> io::Result<usize> {
+        match self.stream.read(buf) {
+            Ok(count) => Ok(count),
+            Err(error) => {
+                self.fault.set(Some(error));
+                Err(error)
+            }
+        }
+    }
+}
+
+impl<S: Write> Write for Watched<'_, S> {
+    fn write(&mut self, buf: &[u8]) -> io::Result<usize> {
+        match self.stream.write(buf) {
+            Ok(count) => Ok(count),
+            Err(error) => {
+                self.fault.set(Some(error));
+                Err(error)
+            }
+        }
+    }
+
+    fn flush(&mut self) -> io::Result<()> {
+        let flushed = self.stream.flush();
+        self.keep(flushed)
+    }
+}
+
+/// Says a sentence, which ends a line, in one write. Where there is no memory for that it goes out in pieces.
+pub(crate) fn say<E: Write, T: Display>(alloc: Global, errors: &mut E, sentence: &T) {
+    // Nothing is left to do where the sentence can't be written.
+    match format!(in alloc; "{sentence}\n") {
+        Ok(line) => {
+            let _ = errors.write_all(line.as_bytes());
+        }
+        Err(_) => {
+            let _ = writeln!(errors, "{sentence}");
+        }
+    }
+}
+
+/// What a command writes to.
+#[derive(Drop)]
+pub(crate) struct Streams<'s, W, E> {
+    pub(crate) alloc: Global,
+    pub(crate) writer: &'s mut W,
+    pub(crate) errors: &'s mut E,
+    /// Why standard output last failed.
+    pub(crate) fault: &'s Cell<Option<io::Error>>,
+    pub(crate) terminals: Terminals,
+}
+
+impl<W: Write, E: Write> Streams<'_, W, E> {
+    /// Says a sentence.
+    pub(crate) fn say<T: Display>(&mut self, sentence: &T) {
+        say(self.alloc, self.errors, sentence);
+    }
+
+    /// Standard output could not be written.
+    pub(crate) fn output_fault(&self) -> Problem<'static> {
+        Problem::output(self.fault.get())
+    }
+}

@@ -1,0 +1,286 @@
+//! Why the records of a batch are refused.
+
+use crate::field::FieldFault;
+use crate::foreign::{is_header, known_by_front, other_separator};
+use crate::lines::{count_records, first_line, line_of, open_quote, record_at};
+use crate::quoted::Quoted;
+use batch_reader::BatchError;
+use csv::ByteRecord;
+use grouping_model::limits::{LAST_NUMBER, LAST_ORIGIN, MOST_ROWS};
+use packed_rows::Schema;
+use script_io::{read_digits, read_row_count};
+use std::alloc::{AllocError, Global};
+
+/// The records of a batch: its head is the first of a text.
+#[derive(Clone, Copy)]
+pub struct BatchText<'b> {
+    /// The text, from the head on.
+    pub text: &'b [u8],
+    /// The line of the head.
+    pub line: u64,
+    /// Whether it is a file, to whose end the records go.
+    pub is_file: bool,
+}
+
+/// What the head of a batch tells, as it is written.
+#[derive(Clone, Copy)]
+struct Head<'h> {
+    origin: &'h [u8],
+    number: &'h [u8],
+    rows: &'h [u8],
+}
+
+/// The most digits of an origin or a number.
+const MOST_DIGITS: usize = 10;
+
+/// Whether a field is a number of a range.
+fn is_within(field: &[u8], least: u64, most: u64) -> bool {
+    match read_digits(field, MOST_DIGITS) {
+        Some(number) => least <= number && number <= most,
+        None => false,
+    }
+}
+
+impl<'b> BatchText<'b> {
+    /// The batch of a file.
+    pub fn of_file(text: &'b [u8]) -> BatchText<'b> {
+        BatchText {
+            text,
+            line: 1,
+            is_file: true,
+        }
+    }
+
+    /// The line of a record.
+    fn line_of(&self, record: &ByteRecord) -> u64 {
+        self.line
+            .saturating_add(line_of(self.text, record).saturating_sub(1))
+    }
+
+    /// What a head tells, if it has as many fields as one.
+    fn head<'h>(&self, record: &'h ByteRecord) -> Option<Head<'h>> {
+        let first = if self.is_file { 1 } else { 2 };
+        let wanted = if self.is_file { 4 } else { 5 };
+        if record.len() != wanted {
+            return None;
+        }
+        Some(Head {
+            origin: record.get(first)?,
+            number: record.get(first + 1)?,
+            rows: record.get(first + 2)?,
+        })
+    }
+
+    /// What stands before what is said of a head: its line, where that isn't told already.
+    fn head_line(&self, alloc: Global, record: &ByteRecord) -> Result<String, AllocError> {
+        if !self.is_file {
+            return Ok(String::new(alloc));
+        }
+        let line = self.line_of(record);
+        format!(in alloc; "line {line}: ")
+    }
+
+    /// Says of a batch whose head is refused which part of it that is.
+    fn say_head(&self, alloc: Global, record: &ByteRecord) -> Result<Option<String>, AllocError> {
+        let Some(head) = self.head(record) else {
+            return Ok(None);
+        };
+        if self.is_file && record.get(0) != Some(b"batch".as_slice()) {
+            return Ok(None);
+        }
+        let line = self.head_line(alloc, record)?;
+        let said = if read_row_count(head.rows).is_none() {
+            let shown = Quoted(head.rows);
+            format!(in alloc; "{line}ROWS is {shown}, and wants 1 to 9 digits")?
+        } else if !is_within(head.origin, 0, u64::from(LAST_ORIGIN)) {
+            let shown = Quoted(head.origin);
+            format!(in alloc; "{line}ORIGIN is {shown}, and wants 0 to {LAST_ORIGIN}")?
+        } else if !is_within(head.number, 1, u64::from(LAST_NUMBER)) {
+            let shown = Quoted(head.number);
+            format!(in alloc; "{line}NUMBER is {shown}, and wants 1 to {LAST_NUMBER}")?
+        } else {
+            return Ok(None);
+        };
+        Ok(Some(said))
+    }
+
+    /// Says of a file that its first line is no head of a batch.
+    fn say_front(&self, alloc: Global, schema: &Schema) -> Result<String, AllocError> {
+        let line = first_line(self.text);
+        if line.is_empty() {
+            return format!(in alloc;
+                "the file is empty, and wants a first line batch,ORIGIN,NUMBER,ROWS"
+            );
+        }
+        let shown = Quoted(line);
+        let mut said = format!(in alloc;
+            "the first line is {shown}, and wants batch,ORIGIN,NUMBER,ROWS"
+        )?;
+        if let Some(hint) = self.front_hint(alloc, schema, line)? {
+            said.push_str("; ")?;
+            said.push_str(hint)?;
+        }
+        Ok(said)
+    }
+
+    /// What the front of a file tells of it.
+    fn front_hint(
+        &self,
+        alloc: Global,
+        schema: &Schema,
+        line: &[u8],
+    ) -> Result<Option<&'static str>, AllocError> {
+        if let Some(known) = known_by_front(self.text) {
+            return Ok(Some(known));
+        }
+        let mut fields = Vec::new(alloc);
+        for field in line.split(|byte| *byte == b',') {
+            fields.push(field)?;
+        }
+        if is_header(schema, &fields) {
+            return Ok(Some("it is a line of names, and no batch has one"));
+        }
+        Ok(other_separator(line))
+    }
+
+    /// Says why the head is refused.
+    fn say_bad_head(&self, alloc: Global, schema: &Schema) -> Result<String, AllocError> {
+        if let Some(record) = record_at(alloc, self.text, 0)? {
+            if let Some(said) = self.say_head(alloc, &record)? {
+                return Ok(said);
+            }
+        }
+        self.say_front(alloc, schema)
+    }
+
+    /// Adds that a quote is left open, if one is.
+    fn add_open_quote(&self, said: &mut String) -> Result<(), AllocError> {
+        // In a script other commands stand behind the rows.
+        let whole = if self.is_file { Some(self.text) } else { None };
+        if let Some(line) = whole.and_then(open_quote) {
+            write!(said, "; the quote of line {line} is never closed")?;
+        }
+        Ok(())
+    }
+
+    /// How many rows the head tells.
+    fn told(&self, alloc: Global) -> Result<u32, AllocError> {
+        let Some(record) = record_at(alloc, self.text, 0)? else {
+            return Ok(0);
+        };
+        match self.head(&record) {
+            Some(head) => Ok(read_row_count(head.rows).unwrap_or(0)),
+            None => Ok(0),
+        }
+    }
+
+    /// Says how many rows are told, and how many there are.
+    fn say_count(&self, alloc: Global) -> Result<String, AllocError> {
+        let found = count_records(alloc, self.text)?.saturating_sub(1);
+        let told = self.told(alloc)?;
+        let mut said = format!(in alloc; "rows told: {told}, found: {found}")?;
+        if let Some(line) = open_quote(self.text) {
+            let line = self.line.saturating_add(line.saturating_sub(1));
+            write!(said, "; the quote of line {line} is never closed")?;
+        }
+        Ok(said)
+    }
+
+    /// Says that too many rows are told.
+    fn say_too_many(&self, alloc: Global) -> Result<String, AllocError> {
+        let told = self.told(alloc)?;
+        format!(in alloc; "rows told: {told}, and a batch has at most {MOST_ROWS}")
+    }
+
+    /// Says how many fields a record has, and which are wanted.
+    fn say_width(
+        &self,
+        alloc: Global,
+        schema: &Schema,
+        record: &ByteRecord,
+    ) -> Result<String, AllocError> {
+        let line = self.line_of(record);
+        let found = record.len();
+        let wanted = schema.width();
+        let columns = schema.print()?;
+        let mut said = format!(in alloc;
+            "line {line}: fields found: {found}, wanted: {wanted}, as {columns}"
+        )?;
+        if let Some(only) = record.get(0) {
+            if found == 1 && wanted > 1 {
+                if let Some(hint) = other_separator(only) {
+                    said.push_str("; ")?;
+                    said.push_str(hint)?;
+                }
+            }
+        }
+        self.add_open_quote(&mut said)?;
+        Ok(said)
+    }
+
+    /// Says why a field is no value of its column.
+    fn say_field(
+        &self,
+        alloc: Global,
+        schema: &Schema,
+        record: &ByteRecord,
+        column: usize,
+    ) -> Result<String, AllocError> {
+        let line = self.line_of(record);
+        let field = record.get(column).unwrap_or_default();
+        if column >= schema.width() {
+            return format!(in alloc; "line {line}: {}", Quoted(field));
+        }
+        let kind = schema.kind(column);
+        let fault = FieldFault::of(field, kind);
+        let (name, kind, shown) = (schema.name(column), kind.as_str(), Quoted(field));
+        let mut said = format!(in alloc; "line {line}, column {name} {kind}: {shown}: {fault}")?;
+        if self.is_names(alloc, schema, record)? {
+            said.push_str("; it is a line of names, and no batch has one")?;
+        }
+        self.add_open_quote(&mut said)?;
+        Ok(said)
+    }
+
+    /// Whether a record has the names of the columns.
+    fn is_names(
+        &self,
+        alloc: Global,
+        schema: &Schema,
+        record: &ByteRecord,
+    ) -> Result<bool, AllocError> {
+        let mut fields = Vec::new(alloc);
+        for place in 0..record.len() {
+            fields.push(record.get(place).unwrap_or_default())?;
+        }
+        Ok(is_header(schema, &fields))
+    }
+
+    /// Says why the records are no batch of a schema. Nothing is said where that is not found.
+    pub fn say(
+        &self,
+        alloc: Global,
+        schema: &Schema,
+        why: BatchError,
+    ) -> Result<Option<String>, AllocError> {
+        let said = match why {
+            BatchError::NoMemory => return Ok(None),
+            BatchError::BadBatchHead => self.say_bad_head(alloc, schema)?,
+            BatchError::TooManyRows => self.say_too_many(alloc)?,
+            BatchError::RowCount => self.say_count(alloc)?,
+            BatchError::WrongWidth { row } => {
+                match record_at(alloc, self.text, row.saturating_add(1))? {
+                    Some(record) => self.say_width(alloc, schema, &record)?,
+                    None => return Ok(None),
+                }
+            }
+            BatchError::BadField { row, column } => {
+                match record_at(alloc, self.text, row.saturating_add(1))? {
+                    Some(record) => self.say_field(alloc, schema, &record, column)?,
+                    None => return Ok(None),
+                }
+            }
+        };
+        Ok(Some(said))
+    }
+}

@@ -1,0 +1,80 @@
+//! Kinds that don't fit, and what asks for a truth value.
+
+use agg_library::AggKind;
+use packed_rows::ValueKind;
+use std::fmt;
+
+/// What asks for a truth value.
+#[derive(Clone, Copy, PartialEq, Eq)]
+pub(crate) enum Asker {
+    Not,
+    And,
+    Or,
+    Is,
+    Where,
+    Having,
+    Filter,
+}
+
+impl Asker {
+    /// Its words.
+    pub(crate) fn words(self) -> &'static str {
+        match self {
+            Asker::Not => "NOT",
+            Asker::And => "AND",
+            Asker::Or => "OR",
+            Asker::Is => "IS",
+            Asker::Where => "WHERE",
+            Asker::Having => "HAVING",
+            Asker::Filter => "FILTER",
+        }
+    }
+}
+
+/// Kinds that don't fit.
+#[derive(Clone, Copy)]
+pub(crate) enum Clash {
+    /// Two kinds that are compared.
+    Compared(ValueKind, ValueKind),
+    /// A kind in the place of a truth value.
+    Asked(Asker, ValueKind),
+    /// A function, and the kind of its column.
+    Argument(AggKind, ValueKind),
+}
+
+/// The kind that a function takes, in words.
+fn taken(kind: AggKind) -> &'static str {
+    match kind {
+        AggKind::CountRows | AggKind::Count => "any kind",
+        AggKind::BoolAnd | AggKind::BoolOr | AggKind::Every => "a boolean",
+        AggKind::Sum
+        | AggKind::Min
+        | AggKind::Max
+        | AggKind::BitAnd
+        | AggKind::BitOr
+        | AggKind::BitXor => "a bigint",
+    }
+}
+
+impl fmt::Display for Clash {
+    fn fmt<W: fmt::Write>(&self, f: &mut fmt::Formatter<W>) -> fmt::Result {
+        match self {
+            Clash::Compared(left, right) => {
+                let (left, right) = (left.as_str(), right.as_str());
+                write!(
+                    f,
+                    "a {left} is compared with a {right}, and only values of one kind are"
+                )
+            }
+            Clash::Asked(asker, kind) => {
+                let (words, kind) = (asker.words(), kind.as_str());
+                write!(f, "{words} asks for a boolean, and this is a {kind}")
+            }
+            Clash::Argument(function, kind) => {
+                let (name, kind) = (function.name(), kind.as_str());
+                let taken = taken(*function);
+                write!(f, "{name} takes {taken}, and this is a {kind}")
+            }
+        }
+    }
+}

@@ -1,0 +1,96 @@
+//! What a file is that is not what was asked for.
+
+use packed_rows::Schema;
+use std::alloc::{AllocError, Global};
+use std::str;
+
+/// What begins files of other formats, and what they are.
+const BEGINNINGS: [(&[u8], &str); 10] = [
+    (b"\x1F\x8B", "it is compressed by gzip: gzip -dc FILE"),
+    (b"BZh", "it is compressed by bzip2: bzip2 -dc FILE"),
+    (b"\xFD7zXZ", "it is compressed by xz: xz -dc FILE"),
+    (
+        b"\x28\xB5\x2F\xFD",
+        "it is compressed by zstd: zstd -dc FILE",
+    ),
+    (b"PK\x03\x04", "it is a zip archive"),
+    (b"\xFF\xFE", "it is UTF-16: iconv -f UTF-16 -t UTF-8 FILE"),
+    (b"\xFE\xFF", "it is UTF-16: iconv -f UTF-16 -t UTF-8 FILE"),
+    (
+        b"AGGSUM01",
+        "it is a summary file: OUT and IN stand before the batch files",
+    ),
+    (b"{", "it looks like JSON"),
+    (b"PAR1", "it is Parquet"),
+];
+
+/// What a file is by its first bytes, where that is known.
+pub(crate) fn known_by_front(file: &[u8]) -> Option<&'static str> {
+    for (front, said) in &BEGINNINGS {
+        if file.starts_with(front) {
+            return Some(*said);
+        }
+    }
+    None
+}
+
+/// Separators that are no commas, and what is said of each.
+const SEPARATORS: [(u8, &str); 3] = [
+    (
+        b';',
+        "fields stand between commas, and not between semicolons",
+    ),
+    (b'\t', "fields stand between commas, and not between tabs"),
+    (b'|', "fields stand between commas, and not between bars"),
+];
+
+/// What is said of a line whose fields stand between something else than commas.
+pub(crate) fn other_separator(line: &[u8]) -> Option<&'static str> {
+    if line.contains(&b',') {
+        return None;
+    }
+    for (separator, said) in &SEPARATORS {
+        if line.contains(separator) {
+            return Some(*said);
+        }
+    }
+    None
+}
+
+/// Whether fields are the names of a schema's columns.
+pub(crate) fn is_header(schema: &Schema, fields: &[&[u8]]) -> bool {
+    let width = schema.width();
+    if fields.len() != width {
+        return false;
+    }
+    for (column, field) in fields.iter().enumerate() {
+        if column >= width || !field.eq_ignore_ascii_case(schema.name(column).as_bytes()) {
+            return false;
+        }
+    }
+    true
+}
+
+/// What begins a summary file.
+const SUMMARY: &[u8] = b"AGGSUM01";
+
+/// Why bytes are no summary file, where their front tells: they are none, those of a batch file, or of another format.
+pub fn no_summary(alloc: Global, file: &[u8]) -> Result<String, AllocError> {
+    let mut said = String::new(alloc);
+    if file.is_empty() {
+        said.push_str("the file is empty, and a summary begins with AGGSUM01")?;
+        return Ok(said);
+    }
+    said.push_str("it does not begin with AGGSUM01, as a summary does")?;
+    if file.starts_with(b"batch,") {
+        said.push_str("; it is a batch file, and those stand behind IN")?;
+    } else if !file.starts_with(SUMMARY) {
+        if let Some(known) = known_by_front(file) {
+            said.push_str("; ")?;
+            said.push_str(known)?;
+        } else if str::from_utf8(file.get(..file.len().min(64)).unwrap_or(file)).is_ok() {
+            said.push_str("; it is a text")?;
+        }
+    }
+    Ok(said)
+}

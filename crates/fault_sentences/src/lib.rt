@@ -1,0 +1,31 @@
+//! What is said of a fault so that one can mend it: sentences of one line, made of the bytes in which it is.
+#![tactic(auto)]
+
+mod batch;
+mod clash;
+mod disagreement;
+mod field;
+mod foreign;
+mod frame;
+mod hints;
+mod lines;
+mod nearest;
+mod picture;
+mod places;
+mod query;
+mod quoted;
+mod reader;
+mod reason;
+mod schema;
+mod script;
+mod wanted;
+
+pub use batch::BatchText;
+pub use disagreement::say_disagreement;
+pub use field::FieldFault;
+pub use foreign::no_summary;
+pub use query::say_query;
+pub use quoted::{Plain, Quoted};
+pub use reason::Reason;
+pub use schema::say_schema;
+pub use script::ScriptPlace;

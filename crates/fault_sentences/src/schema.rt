@@ -1,0 +1,173 @@
+//! Why a text is no schema.
+
+use crate::places::{Lexed, Sign, piece_at, sign_of};
+use crate::quoted::Quoted;
+use crate::reason::Reason;
+use grouping_model::limits::{LONGEST_QUERY, MOST_COLUMNS};
+use packed_rows::ValueKind;
+use query_tokens::{Symbol, Token, is_reserved};
+use std::alloc::{AllocError, Global};
+
+/// The kinds that there are, as a sentence has them.
+const KINDS: &str = "there are three kinds: bigint (or int8), boolean (or bool) and text";
+
+/// Other words for kinds, and what serves for each.
+const OTHER_KINDS: [(&str, &str); 16] = [
+    ("int", "bigint"),
+    ("int2", "bigint"),
+    ("int4", "bigint"),
+    ("integer", "bigint"),
+    ("smallint", "bigint"),
+    ("serial", "bigint"),
+    ("bigserial", "bigint"),
+    ("number", "bigint"),
+    ("varchar", "text"),
+    ("char", "text"),
+    ("character", "text"),
+    ("string", "text"),
+    ("uuid", "text"),
+    ("date", "text"),
+    ("timestamp", "text"),
+    ("logical", "boolean"),
+];
+
+/// What serves for a word that is no kind.
+fn kind_for(word: &str) -> Option<&'static str> {
+    for (other, kind) in &OTHER_KINDS {
+        if word == *other {
+            return Some(*kind);
+        }
+    }
+    None
+}
+
+/// What comes next in a schema.
+#[derive(Clone, Copy)]
+enum Next {
+    /// A column's name.
+    Name,
+    /// Its kind.
+    Kind,
+    /// A comma, or the end.
+    Comma,
+}
+
+impl Next {
+    /// What is wanted.
+    fn wanted(self) -> &'static str {
+        match self {
+            Next::Name => "the name of a column",
+            Next::Kind => "bigint, boolean or text",
+            Next::Comma => "a comma or the end",
+        }
+    }
+}
+
+/// The columns of a text that were gone through.
+#[derive(Drop)]
+struct Columns<'t> {
+    names: Vec<&'t str>,
+    next: Next,
+}
+
+impl<'t> Columns<'t> {
+    /// What is wrong with a name.
+    fn name_fault(&self, alloc: Global, name: &str) -> Result<Option<String>, AllocError> {
+        let column = self.names.len().saturating_add(1);
+        let shown = Quoted(name.as_bytes());
+        if self.names.len() >= MOST_COLUMNS {
+            return Ok(Some(format!(in alloc;
+                "column {column}, {shown}: there are at most {MOST_COLUMNS}"
+            )?));
+        }
+        if is_reserved(name) {
+            return Ok(Some(format!(in alloc;
+                "column {column}: {shown} is a reserved word: take another name"
+            )?));
+        }
+        if self.names.iter().any(|other| *other == name) {
+            return Ok(Some(format!(in alloc;
+                "column {column}: {shown} is the name of a column before it"
+            )?));
+        }
+        Ok(None)
+    }
+
+    /// What is wrong with a kind.
+    fn kind_fault(&self, alloc: Global, word: &str) -> Result<Option<String>, AllocError> {
+        if ValueKind::named(word).is_some() {
+            return Ok(None);
+        }
+        let column = self.names.len();
+        let name = self.names.last().copied().unwrap_or("");
+        let shown = Quoted(word.as_bytes());
+        let mut said = format!(in alloc; "column {column}, {name}: {shown} is no kind: {KINDS}")?;
+        if let Some(kind) = kind_for(word) {
+            write!(said, "; take {kind}")?;
+        }
+        Ok(Some(said))
+    }
+
+    /// Goes past a token, or says what is wrong with it.
+    fn step(
+        &mut self,
+        alloc: Global,
+        text: &str,
+        token: &'t Token,
+    ) -> Result<Option<String>, AllocError> {
+        let fault = match (self.next, sign_of(token)) {
+            (Next::Name, Sign::Name(name)) => {
+                let fault = self.name_fault(alloc, name)?;
+                self.names.push(name)?;
+                self.next = Next::Kind;
+                fault
+            }
+            (Next::Kind, Sign::Name(word)) => {
+                let fault = self.kind_fault(alloc, word)?;
+                self.next = Next::Comma;
+                fault
+            }
+            (Next::Comma, Sign::Symbol(Symbol::Comma)) => {
+                self.next = Next::Name;
+                None
+            }
+            (next, _) => Some(found_wanted(alloc, text, token.at, next)?),
+        };
+        Ok(fault)
+    }
+}
+
+/// What stands at a place, and what is wanted there.
+fn found_wanted(alloc: Global, text: &str, at: usize, next: Next) -> Result<String, AllocError> {
+    let wanted = next.wanted();
+    let piece = piece_at(text, at);
+    if piece.is_empty() {
+        return format!(in alloc; "found the end, wanted {wanted}");
+    }
+    let found = Quoted(piece.as_bytes());
+    format!(in alloc; "found {found}, wanted {wanted}")
+}
+
+/// Says why a text is no schema: which column fails, and why.
+pub fn say_schema(alloc: Global, text: &str) -> Result<Reason, AllocError> {
+    let len = text.len();
+    if len > LONGEST_QUERY {
+        let said = format!(in alloc;
+            "a text of {len} bytes, and a schema has 1 to {MOST_COLUMNS} columns"
+        )?;
+        return Ok(Reason::whole(alloc, said));
+    }
+    let lexed = Lexed::of(alloc, text)?;
+    let mut columns = Columns {
+        names: Vec::new(alloc),
+        next: Next::Name,
+    };
+    for token in lexed.tokens.iter() {
+        if let Some(said) = columns.step(alloc, text, token)? {
+            return Reason::at(alloc, text, token.at, said);
+        }
+    }
+    let at = lexed.fault.or(lexed.large).unwrap_or(text.len());
+    let said = found_wanted(alloc, text, at, columns.next)?;
+    Reason::at(alloc, text, at, said)
+}

@@ -1,0 +1,334 @@
+//! Why a command of a script is refused.
+
+use crate::batch::BatchText;
+use crate::lines::{ends_line, record_at};
+use crate::nearest::nearest;
+use crate::query::say_query;
+use crate::quoted::Quoted;
+use crate::reason::Reason;
+use crate::schema::say_schema;
+use batch_reader::BatchError;
+use csv::ByteRecord;
+use group_parser::ParseError;
+use grouping_model::limits::LONGEST_NAME;
+use packed_rows::Schema;
+use script_commands::{Request, next_command};
+use script_io::{Records, read_limit, read_row_count};
+use std::alloc::{AllocError, Global};
+use std::str;
+
+/// What a command has behind its word.
+#[derive(Clone, Copy, PartialEq, Eq)]
+enum Part {
+    Text,
+    Limit,
+    Name,
+    Rows,
+    /// What is looked at later.
+    Any,
+}
+
+/// A command: its word, what stands behind it, and its form.
+struct Form {
+    word: &'static str,
+    parts: &'static [Part],
+    form: &'static str,
+}
+
+static FORMS: [Form; 10] = [
+    Form {
+        word: "columns",
+        parts: &[Part::Text],
+        form: "columns,SCHEMA",
+    },
+    Form {
+        word: "query",
+        parts: &[Part::Text],
+        form: "query,TEXT",
+    },
+    Form {
+        word: "limit",
+        parts: &[Part::Limit],
+        form: "limit,BYTES",
+    },
+    Form {
+        word: "replica",
+        parts: &[Part::Name],
+        form: "replica,NAME",
+    },
+    Form {
+        word: "feed",
+        parts: &[Part::Name, Part::Any, Part::Any, Part::Rows],
+        form: "feed,NAME,ORIGIN,NUMBER,ROWS",
+    },
+    Form {
+        word: "merge",
+        parts: &[Part::Name, Part::Name],
+        form: "merge,INTO,FROM",
+    },
+    Form {
+        word: "known",
+        parts: &[Part::Name],
+        form: "known,NAME",
+    },
+    Form {
+        word: "answer",
+        parts: &[Part::Name],
+        form: "answer,NAME",
+    },
+    Form {
+        word: "save",
+        parts: &[Part::Name, Part::Name],
+        form: "save,NAME,SAVED",
+    },
+    Form {
+        word: "load",
+        parts: &[Part::Name, Part::Name],
+        form: "load,NAME,SAVED",
+    },
+];
+
+/// The command of a word.
+fn form_of(word: &[u8]) -> Option<&'static Form> {
+    FORMS.iter().find(|form| form.word.as_bytes() == word)
+}
+
+/// Whether a field is the name of a replica.
+fn is_name(field: &[u8]) -> bool {
+    !field.is_empty()
+        && field.len() <= LONGEST_NAME
+        && field
+            .iter()
+            .all(|byte| byte.is_ascii_alphanumeric() || *byte == b'_')
+}
+
+impl Part {
+    /// What is wrong with a field.
+    fn fault(self, field: &[u8]) -> Option<&'static str> {
+        match self {
+            Part::Text if str::from_utf8(field).is_err() => Some("is no UTF-8"),
+            Part::Limit if read_limit(field).is_none() => Some(
+                "is no limit, which is 1 to 19 digits",
+            ),
+            Part::Name if !is_name(field) => {
+                Some("is no name, which is 1 to 63 ASCII letters, digits or _")
+            }
+            Part::Rows if read_row_count(field).is_none() => {
+                Some("is no number of rows, which is 1 to 9 digits")
+            }
+            _ => None,
+        }
+    }
+}
+
+/// Says that a word is no command's, and which is near to it.
+fn say_word(alloc: Global, word: &[u8]) -> Result<String, AllocError> {
+    let mut words = Vec::new(alloc);
+    for form in &FORMS {
+        words.push(form.word)?;
+    }
+    let mut said = format!(in alloc; "{} is no command", Quoted(word))?;
+    if let Some(near) = nearest(alloc, str::from_utf8(word).unwrap_or(""), &words)? {
+        write!(said, ", and {near} may be meant")?;
+    }
+    said.push_str("; the commands are")?;
+    for (place, word) in words.iter().enumerate() {
+        said.push_str(if place == 0 { " " } else { ", " })?;
+        said.push_str(word)?;
+    }
+    Ok(said)
+}
+
+/// Says why a record is no command, or none at its place.
+fn say_command(
+    alloc: Global,
+    record: &ByteRecord,
+    has_columns: bool,
+) -> Result<String, AllocError> {
+    let word = record.get(0).unwrap_or_default();
+    let Some(form) = form_of(word) else {
+        return say_word(alloc, word);
+    };
+    let (found, wanted) = (record.len(), form.parts.len().saturating_add(1));
+    if found != wanted {
+        let form = form.form;
+        return format!(in alloc; "fields found: {found}, wanted: {wanted}, as {form}");
+    }
+    for (place, part) in form.parts.iter().enumerate() {
+        let field = record.get(place.saturating_add(1)).unwrap_or_default();
+        if let Some(fault) = part.fault(field) {
+            let shown = Quoted(field);
+            return format!(in alloc; "{shown} {fault}");
+        }
+    }
+    let said = match form.word {
+        "columns" => "the columns were told before",
+        "query" if has_columns => "the query was told before",
+        "query" => "the columns are told before the query",
+        _ => "the columns and the query are told before the replicas",
+    };
+    String::from_str(alloc, said)
+}
+
+/// The schema that the first command of a text tells that is right.
+fn schema_in(alloc: Global, text: &[u8]) -> Result<Option<Schema>, AllocError> {
+    let mut records = Records::new(alloc, text);
+    for _ in 0..u64::MAX {
+        let Some(command) = next_command(&mut records)? else {
+            break;
+        };
+        if let Request::Columns(text) = command.request() {
+            if let Ok(schema) = Schema::parse(alloc, text) {
+                return Ok(Some(schema));
+            }
+        }
+        records.skip(command.owned())?;
+    }
+    Ok(None)
+}
+
+/// How far a script was gone through: a command that begins a line, and the columns that were told before it.
+#[derive(Drop)]
+pub struct ScriptPlace {
+    at: usize,
+    line: u64,
+    schema: Option<Schema>,
+}
+
+impl ScriptPlace {
+    /// The beginning of a script.
+    pub fn new() -> ScriptPlace {
+        ScriptPlace {
+            at: 0,
+            line: 1,
+            schema: None,
+        }
+    }
+
+    /// Where a line that is further on begins.
+    fn begin_of(&self, script: &[u8], line: u64) -> usize {
+        let mut found = self.line;
+        let mut is_behind_return = false;
+        for (at, byte) in script.iter().enumerate().skip(self.at) {
+            if found >= line && !ends_line(*byte) {
+                return at;
+            }
+            if *byte == b'\r' || *byte == b'\n' && !is_behind_return {
+                found = found.saturating_add(1);
+            }
+            is_behind_return = *byte == b'\r';
+        }
+        script.len()
+    }
+
+    /// Goes on to the command that begins a line, which is no line before.
+    pub fn go_to(&mut self, alloc: Global, script: &[u8], line: u64) -> Result<(), AllocError> {
+        let at = self.begin_of(script, line);
+        if self.schema.is_none() {
+            let passed = script.get(self.at..at).unwrap_or_default();
+            self.schema = schema_in(alloc, passed)?;
+        }
+        self.at = at;
+        self.line = line;
+        Ok(())
+    }
+
+    /// The command here.
+    fn record(&self, alloc: Global, script: &[u8]) -> Result<Option<ByteRecord>, AllocError> {
+        record_at(alloc, script.get(self.at..).unwrap_or_default(), 0)
+    }
+
+    /// Says why the command here is none, or none at this place.
+    pub fn say_command(&self, alloc: Global, script: &[u8]) -> Result<Option<String>, AllocError> {
+        match self.record(alloc, script)? {
+            Some(record) => Ok(Some(say_command(alloc, &record, self.schema.is_some())?)),
+            None => Ok(None),
+        }
+    }
+
+    /// Says why the text of the command here is no schema.
+    pub fn say_schema(&self, alloc: Global, script: &[u8]) -> Result<Option<Reason>, AllocError> {
+        let Some(record) = self.record(alloc, script)? else {
+            return Ok(None);
+        };
+        match str::from_utf8(record.get(1).unwrap_or_default()) {
+            Ok(text) => Ok(Some(say_schema(alloc, text)?)),
+            Err(_) => Ok(None),
+        }
+    }
+
+    /// Says why the text of the command here is no query.
+    pub fn say_query(
+        &self,
+        alloc: Global,
+        script: &[u8],
+        why: ParseError,
+    ) -> Result<Option<Reason>, AllocError> {
+        let Some(schema) = &self.schema else {
+            return Ok(None);
+        };
+        let Some(record) = self.record(alloc, script)? else {
+            return Ok(None);
+        };
+        match str::from_utf8(record.get(1).unwrap_or_default()) {
+            Ok(text) => say_query(alloc, schema, text, why),
+            Err(_) => Ok(None),
+        }
+    }
+
+    /// Says why the records of the command here are no batch.
+    pub fn say_batch(
+        &self,
+        alloc: Global,
+        script: &[u8],
+        why: BatchError,
+    ) -> Result<Option<String>, AllocError> {
+        let Some(schema) = &self.schema else {
+            return Ok(None);
+        };
+        let rows = BatchText {
+            text: script.get(self.at..).unwrap_or_default(),
+            line: self.line,
+            is_file: false,
+        };
+        rows.say(alloc, schema, why)
+    }
+
+    /// Says of which name there is no replica, or nothing saved.
+    pub fn say_no_name(&self, alloc: Global, script: &[u8]) -> Result<Option<String>, AllocError> {
+        let Some(record) = self.record(alloc, script)? else {
+            return Ok(None);
+        };
+        let name = Quoted(record.get(1).unwrap_or_default());
+        let other = Quoted(record.get(2).unwrap_or_default());
+        let word = record.get(0).unwrap_or_default();
+        let said = if word == b"load".as_slice() {
+            format!(in alloc; "nothing is saved under {other}")?
+        } else if word == b"merge".as_slice() {
+            format!(in alloc; "there is no replica {name}, or no replica {other}")?
+        } else {
+            format!(in alloc; "there is no replica {name}")?
+        };
+        Ok(Some(said))
+    }
+
+    /// Says of which name there is a replica already.
+    pub fn say_taken(&self, alloc: Global, script: &[u8]) -> Result<Option<String>, AllocError> {
+        let Some(record) = self.record(alloc, script)? else {
+            return Ok(None);
+        };
+        let name = Quoted(record.get(1).unwrap_or_default());
+        Ok(Some(format!(in alloc; "there is a replica {name} already")?))
+    }
+
+    /// Says which limit is out of its range.
+    pub fn say_limit(&self, alloc: Global, script: &[u8]) -> Result<Option<String>, AllocError> {
+        let Some(record) = self.record(alloc, script)? else {
+            return Ok(None);
+        };
+        let told = Quoted(record.get(1).unwrap_or_default());
+        Ok(Some(format!(in alloc;
+            "{told} is out of range, which is 65,536 to 1,099,511,627,776 bytes"
+        )?))
+    }
+}

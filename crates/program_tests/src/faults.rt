@@ -1,0 +1,705 @@
+//! What is said of each fault: a table of batch files, of queries, of schemas, of files in one another's place, and of what becomes of OUT.
+
+use crate::folder::{Done, File, new_folder, play, run};
+use std::fs;
+use std::test::*;
+
+/// A fault: the bytes in which it is, its reply, and what is said behind the name of the file, or of the option, and of the reply.
+type Fault = (&'static [u8], &'static str, &'static str);
+
+/// Where what is said is not what is wanted: both.
+fn difference(
+    rt: &HostRuntime,
+    found: &Done,
+    status: u8,
+    output: &str,
+    errors: &str,
+) -> Result<String, Fail> {
+    if found.status == status
+        && found.output.as_str() == output
+        && found.errors.as_str() == errors
+    {
+        return Ok(String::new(rt.alloc()));
+    }
+    let (told, output, said) = (found.status, &found.output, &found.errors);
+    Ok(format!(in rt.alloc(); "wanted {errors}{told} {output}{said}\n")?)
+}
+
+/// Feeds a batch file of bytes to a summary, and tells what differs.
+fn feed_bytes(rt: &HostRuntime, folder: &str, fault: &Fault) -> Result<String, Fail> {
+    let (bytes, name, said) = *fault;
+    let path = format!(in rt.alloc(); "{folder}x.csv")?;
+    fs::write(rt, path.as_str(), bytes)?;
+    let words = format!(in rt.alloc(); "feed|{folder}f.sum|{folder}e.sum|{path}")?;
+    let found = run(rt, &words, "")?;
+    let output = format!(in rt.alloc(); "refused {name}\nsaved 58\n")?;
+    let errors = format!(in rt.alloc();
+        "{path}: refused {name}: {said}\n{folder}f.sum: written, with 1 of 1 files passed over\n"
+    )?;
+    let told = difference(rt, &found, 1, &output, &errors)?;
+    let out = format!(in rt.alloc(); "{folder}f.sum")?;
+    fs::remove_file(rt, out.as_str())?;
+    Ok(told)
+}
+
+/// The batch files that differ from what is wanted of them.
+fn batches_told(rt: &HostRuntime, folder: &str, faults: &[Fault]) -> Result<String, Fail> {
+    let mut told = String::new(rt.alloc());
+    for fault in faults {
+        told.push_str(&feed_bytes(rt, folder, fault)?)?;
+    }
+    Ok(told)
+}
+
+/// Batch files over the columns `c text, d bigint`.
+const BATCHES: [Fault; 34] = [
+    (
+        b"",
+        "BadBatchHead",
+        "the file is empty, and wants a first line batch,ORIGIN,NUMBER,ROWS",
+    ),
+    (
+        b"\r\n\n",
+        "BadBatchHead",
+        "the file is empty, and wants a first line batch,ORIGIN,NUMBER,ROWS",
+    ),
+    (
+        b"oslo,5\n",
+        "BadBatchHead",
+        "the first line is 'oslo,5', and wants batch,ORIGIN,NUMBER,ROWS",
+    ),
+    (
+        b"batch,0,1\n",
+        "BadBatchHead",
+        "the first line is 'batch,0,1', and wants batch,ORIGIN,NUMBER,ROWS",
+    ),
+    (
+        b"Batch,0,1,0\n",
+        "BadBatchHead",
+        "the first line is 'Batch,0,1,0', and wants batch,ORIGIN,NUMBER,ROWS",
+    ),
+    (
+        b"C,D\noslo,5\n",
+        "BadBatchHead",
+        "the first line is 'C,D', and wants batch,ORIGIN,NUMBER,ROWS; it is a line of names, and no batch has one",
+    ),
+    (
+        b"batch;0;1;1\noslo;5\n",
+        "BadBatchHead",
+        "the first line is 'batch;0;1;1', and wants batch,ORIGIN,NUMBER,ROWS; fields stand between commas, and not between semicolons",
+    ),
+    (
+        b"batch\t0\t1\t1\n",
+        "BadBatchHead",
+        "the first line is 'batch\\x090\\x091\\x091', and wants batch,ORIGIN,NUMBER,ROWS; fields stand between commas, and not between tabs",
+    ),
+    (
+        b"\x1f\x8b\x08\x00",
+        "BadBatchHead",
+        "the first line is '\\x1f\\x8b\\x08\\x00', and wants batch,ORIGIN,NUMBER,ROWS; it is compressed by gzip: gzip -dc FILE",
+    ),
+    (
+        b"\xff\xfeb\x00a\x00",
+        "BadBatchHead",
+        "the first line is '\\xff\\xfeb\\x00a\\x00', and wants batch,ORIGIN,NUMBER,ROWS; it is UTF-16: iconv -f UTF-16 -t UTF-8 FILE",
+    ),
+    (
+        b"AGGSUM01\x00\x10",
+        "BadBatchHead",
+        "the first line is 'AGGSUM01\\x00\\x10', and wants batch,ORIGIN,NUMBER,ROWS; it is a summary file: OUT and IN stand before the batch files",
+    ),
+    (
+        b"\nbatch,1024,1,0\n",
+        "BadBatchHead",
+        "line 2: ORIGIN is '1024', and wants 0 to 1023",
+    ),
+    (
+        b"batch,0,0,0\n",
+        "BadBatchHead",
+        "line 1: NUMBER is '0', and wants 1 to 2147483647",
+    ),
+    (
+        b"batch,0,1,1.0\n",
+        "BadBatchHead",
+        "line 1: ROWS is '1.0', and wants 1 to 9 digits",
+    ),
+    (
+        b"batch,0,1,65537\n",
+        "TooManyRows",
+        "rows told: 65537, and a batch has at most 65536",
+    ),
+    (
+        b"batch,0,1,2\noslo,5\n",
+        "RowCount",
+        "rows told: 2, found: 1",
+    ),
+    (
+        b"batch,0,1,1\noslo,5\noslo,6\noslo,7\n",
+        "RowCount",
+        "rows told: 1, found: 3",
+    ),
+    (
+        b"batch,0,1,3\noslo,5\n\"oslo,6\noslo,7\n",
+        "RowCount",
+        "rows told: 3, found: 2; the quote of line 3 is never closed",
+    ),
+    (
+        b"batch,0,1,1\noslo,5,6\n",
+        "WrongWidth",
+        "line 2: fields found: 3, wanted: 2, as c text, d bigint",
+    ),
+    (
+        b"batch,0,1,2\noslo,5\noslo;6\n",
+        "WrongWidth",
+        "line 3: fields found: 1, wanted: 2, as c text, d bigint; fields stand between commas, and not between semicolons",
+    ),
+    (
+        b"batch,0,1,1\n\"oslo,5\n",
+        "WrongWidth",
+        "line 2: fields found: 1, wanted: 2, as c text, d bigint; the quote of line 2 is never closed",
+    ),
+    (
+        b"batch,0,1,2\noslo,5\noslo,x\n",
+        "BadField",
+        "line 3, column d bigint: 'x': a bigint is an optional + or - and digits",
+    ),
+    (
+        b"\xef\xbb\xbfbatch,0,1,2\r\n\r\n\"os\rlo\",5\r\noslo,1_000\r\n",
+        "BadField",
+        "line 5, column d bigint: '1_000': a bigint is an optional + or - and digits",
+    ),
+    (
+        b"batch,0,1,1\noslo,\n",
+        "BadField",
+        "line 2, column d bigint: '': an empty field; null is \\N",
+    ),
+    (
+        b"batch,0,1,1\noslo, \n",
+        "BadField",
+        "line 2, column d bigint: ' ': an empty field; null is \\N",
+    ),
+    (
+        b"batch,0,1,1\noslo,NULL\n",
+        "BadField",
+        "line 2, column d bigint: 'NULL': null is \\N",
+    ),
+    (
+        b"batch,0,1,1\noslo,5 \n",
+        "BadField",
+        "line 2, column d bigint: '5 ': no white space stands round a value",
+    ),
+    (
+        b"batch,0,1,1\noslo,-9223372036854775809\n",
+        "BadField",
+        "line 2, column d bigint: '-9223372036854775809': out of range, which is -9223372036854775808 to 9223372036854775807",
+    ),
+    (
+        b"batch,0,1,1\noslo,\x1b[2J\xe2\x80\xaex\n",
+        "BadField",
+        "line 2, column d bigint: '\\x1b[2J\\u{202e}x': a bigint is an optional + or - and digits",
+    ),
+    (
+        b"batch,0,1,1\nc,d\n",
+        "BadField",
+        "line 2, column d bigint: 'd': a bigint is an optional + or - and digits; it is a line of names, and no batch has one",
+    ),
+    (
+        b"batch,0,1,1\nos\x00lo,5\n",
+        "BadField",
+        "line 2, column c text: 'os\\x00lo': the character 0 is in no text",
+    ),
+    (
+        b"batch,0,1,1\nosl\xf8,5\n",
+        "BadField",
+        "line 2, column c text: 'osl\\xf8': no UTF-8 from byte 4 of the field on, the first being byte 1",
+    ),
+    (
+        b"batch,0,1,1\n00000000010000000002000000000300000000040000000005000000000600000000070000000008000000000900000000100000000011000000001200000000130000000014000000001500000000160000000017000000001800000000190000000020000000002100000000220000000023000000002400000000250000000026,5\n",
+        "BadField",
+        "line 2, column c text: '0000000001000000000200000000030000000004..': a text of 260 bytes, and the longest has 255",
+    ),
+    (
+        b"batch,0,1,1\n\"\n\",x\n",
+        "BadField",
+        "line 2, column d bigint: 'x': a bigint is an optional + or - and digits",
+    ),
+];
+
+#[test]
+fn faults_of_batches_are_told(rt: HostRuntime) -> Result<(), Fail> {
+    let folder = new_folder(&rt, "batch_faults", &[])?;
+    let words = format!(in rt.alloc();
+        "new|{folder}e.sum|--columns|c text, d bigint|--query|SELECT count(*) FROM batches"
+    )?;
+    assert_eq!(rt; run(&rt, &words, "")?.status, 0);
+    let told = batches_told(&rt, &folder, &BATCHES)?;
+    fs::remove_dir_all(&rt, folder.as_str())?;
+    assert_eq!(rt; told.as_str(), "");
+    Ok(())
+}
+
+/// A refused text: the text, its reply, what is said of it, and the lines below, whose ends and those before them are told by `/`.
+type TextFault = (&'static str, &'static str, &'static str, &'static str);
+
+/// Makes a summary of a schema's or a query's text, and tells what differs.
+fn make_summary(
+    rt: &HostRuntime,
+    option: &str,
+    other: &str,
+    fault: &TextFault,
+) -> Result<String, Fail> {
+    let (text, name, said, below) = *fault;
+    let words = format!(in rt.alloc(); "new|/none/x.sum|{option}|{text}|{other}")?;
+    let found = run(rt, &words, "")?;
+    let output = format!(in rt.alloc(); "refused {name}\n")?;
+    let below = below.replace(rt.alloc(), "/", "\n")?;
+    let errors = format!(in rt.alloc();
+        "{option}: refused {name}: {said}; /none/x.sum is not written{below}\n"
+    )?;
+    difference(rt, &found, 1, &output, &errors)
+}
+
+/// The texts that differ from what is wanted of them.
+fn texts_told(
+    rt: &HostRuntime,
+    option: &str,
+    other: &str,
+    faults: &[TextFault],
+) -> Result<String, Fail> {
+    let mut told = String::new(rt.alloc());
+    for fault in faults {
+        told.push_str(&make_summary(rt, option, other, fault)?)?;
+    }
+    Ok(told)
+}
+
+/// Queries over the columns `city text, amount bigint, paid boolean`.
+const QUERIES: [TextFault; 44] = [
+    (
+        "SELECT city FROM sales GROUP BY city",
+        "Syntax",
+        "byte 17: found 'sales', wanted batches, which is the name of every table",
+        "/  SELECT city FROM sales GROUP BY city/                   ^",
+    ),
+    (
+        "SELECT avg(amount) FROM batches",
+        "Syntax",
+        "byte 10: found '(', wanted a comma, AS, another name or FROM; there is no avg: ask sum and count, and divide",
+        "/  SELECT avg(amount) FROM batches/            ^",
+    ),
+    (
+        "SELECT counter(*) FROM batches",
+        "Syntax",
+        "byte 14: found '(', wanted a comma, AS, another name or FROM; the functions are count, sum, min, max, bit_and, bit_or, bit_xor, bool_and, bool_or and every",
+        "/  SELECT counter(*) FROM batches/                ^",
+    ),
+    (
+        "SELECT city FROM batches WHERE city LIKE 'o%' GROUP BY city",
+        "Syntax",
+        "byte 36: found 'LIKE', wanted a comparison, IS, AND, OR, GROUP BY, HAVING, a semicolon or the end; there is no LIKE: texts are compared by = <> < <= > >=",
+        "/  SELECT city FROM batches WHERE city LIKE 'o%' GROUP BY city/                                      ^",
+    ),
+    (
+        "SELECT city FROM batches GROUP BY city HAVING city = \"oslo\"",
+        "Syntax",
+        "byte 53: found '\"', wanted a column, a call, an integer, a text, TRUE, FALSE, NULL or (; a text stands in single quotes, and a name in none",
+        "/  SELECT city FROM batches GROUP BY city HAVING city = \"oslo\"/                                                       ^",
+    ),
+    (
+        "SELECT city FROM batches WHERE city == 'oslo'",
+        "Syntax",
+        "byte 37: found '=', wanted a column, a call, an integer, a text, TRUE, FALSE, NULL or (; one = compares",
+        "/  SELECT city FROM batches WHERE city == 'oslo'/                                       ^",
+    ),
+    (
+        "SELECT city FROM batches GROUP BY city LIMIT 5",
+        "Syntax",
+        "byte 39: found 'LIMIT', wanted a comma, HAVING, a semicolon or the end; there is no LIMIT: HAVING leaves groups out",
+        "/  SELECT city FROM batches GROUP BY city LIMIT 5/                                         ^",
+    ),
+    (
+        "SELECT city FROM batches ORDER BY city",
+        "Syntax",
+        "byte 25: found 'ORDER', wanted WHERE, GROUP BY, HAVING, a semicolon or the end; there is no ORDER BY: rows come in the order of GROUP BY's columns",
+        "/  SELECT city FROM batches ORDER BY city/                           ^",
+    ),
+    (
+        "SELECT * FROM batches",
+        "Syntax",
+        "byte 7: found '*', wanted a column or a call, as count(*); name the columns of GROUP BY and the calls",
+        "/  SELECT * FROM batches/         ^",
+    ),
+    (
+        "SELECT count(DISTINCT city) FROM batches",
+        "Syntax",
+        "byte 22: found 'city', wanted ); there is no DISTINCT: GROUP BY has each group once",
+        "/  SELECT count(DISTINCT city) FROM batches/                        ^",
+    ),
+    (
+        "SELECT sum(*) FROM batches",
+        "Syntax",
+        "byte 11: found '*', wanted a column; there is no arithmetic: let the rows have what is counted",
+        "/  SELECT sum(*) FROM batches/             ^",
+    ),
+    (
+        "SELECT sum(amount) + 2 FROM batches",
+        "Syntax",
+        "byte 19: found '+', wanted FILTER, a comma, AS, another name or FROM; there is no arithmetic: let the rows have what is counted",
+        "/  SELECT sum(amount) + 2 FROM batches/                     ^",
+    ),
+    (
+        "SELECT b.city FROM batches",
+        "Syntax",
+        "byte 8: found '.', wanted a comma, AS, another name or FROM; no table's name stands before that of a column",
+        "/  SELECT b.city FROM batches/          ^",
+    ),
+    (
+        "SELECT count(*) FILTER (amount > 1) FROM batches",
+        "Syntax",
+        "byte 24: found 'amount', wanted WHERE",
+        "/  SELECT count(*) FILTER (amount > 1) FROM batches/                          ^",
+    ),
+    (
+        "SELECT count(*) FILTER WHERE FROM batches",
+        "Syntax",
+        "byte 23: found 'WHERE', wanted (",
+        "/  SELECT count(*) FILTER WHERE FROM batches/                         ^",
+    ),
+    (
+        "SELECT count(*) FILTER (WHERE paid FROM batches",
+        "Syntax",
+        "byte 35: found 'FROM', wanted a comparison, IS, AND, OR or )",
+        "/  SELECT count(*) FILTER (WHERE paid FROM batches/                                     ^",
+    ),
+    (
+        "SELECT count(*) FROM batches WHERE amount = 1 = 1",
+        "Syntax",
+        "byte 46: found '=', wanted IS, AND, OR, GROUP BY, HAVING, a semicolon or the end",
+        "/  SELECT count(*) FROM batches WHERE amount = 1 = 1/                                                ^",
+    ),
+    (
+        "SELECT count(*) FROM batches WHERE paid IS 1",
+        "Syntax",
+        "byte 43: found '1', wanted NOT, NULL, TRUE, FALSE or UNKNOWN",
+        "/  SELECT count(*) FROM batches WHERE paid IS 1/                                             ^",
+    ),
+    (
+        "SELECT count(*) FROM batches WHERE paid IS NOT 1",
+        "Syntax",
+        "byte 47: found '1', wanted NULL, TRUE, FALSE or UNKNOWN",
+        "/  SELECT count(*) FROM batches WHERE paid IS NOT 1/                                                 ^",
+    ),
+    (
+        "SELECT city FROM batches GROUP city",
+        "Syntax",
+        "byte 31: found 'city', wanted BY",
+        "/  SELECT city FROM batches GROUP city/                                 ^",
+    ),
+    (
+        "SELECT city FROM batches GROUP BY city HAVING paid GROUP BY paid",
+        "Syntax",
+        "byte 51: found 'GROUP', wanted a comparison, IS, AND, OR, a semicolon or the end",
+        "/  SELECT city FROM batches GROUP BY city HAVING paid GROUP BY paid/                                                     ^",
+    ),
+    (
+        "SELECT city AS FROM batches",
+        "Syntax",
+        "byte 15: found 'FROM', wanted a name",
+        "/  SELECT city AS FROM batches/                 ^",
+    ),
+    (
+        "SELECT city town country FROM batches",
+        "Syntax",
+        "byte 17: found 'country', wanted a comma or FROM",
+        "/  SELECT city town country FROM batches/                   ^",
+    ),
+    (
+        "SELECT count(*) FROM batches; SELECT",
+        "Syntax",
+        "byte 30: found 'SELECT', wanted the end",
+        "/  SELECT count(*) FROM batches; SELECT/                                ^",
+    ),
+    (
+        "city",
+        "Syntax",
+        "byte 0: found 'city', wanted SELECT",
+        "/  city/  ^",
+    ),
+    ("", "Syntax", "byte 0: found the end, wanted SELECT", ""),
+    (
+        "SELECT city FROM",
+        "Syntax",
+        "byte 16: found the end, wanted batches, which is the name of every table",
+        "/  SELECT city FROM/                  ^",
+    ),
+    (
+        "SELECT city FROM batches WHERE city = 'oslo",
+        "Syntax",
+        "the text that begins here is not closed, or has the character 0",
+        "/  SELECT city FROM batches WHERE city = 'oslo/                                        ^",
+    ),
+    (
+        "SELECT city FROM batches WHERE amount = 5x",
+        "Syntax",
+        "a letter stands directly behind digits",
+        "/  SELECT city FROM batches WHERE amount = 5x/                                          ^",
+    ),
+    (
+        "SELECT a123456789b123456789c123456789d123456789e123456789f123456789g123456789 FROM batches",
+        "Syntax",
+        "a name of 70 bytes, and the longest has 63",
+        "/  SELECT a123456789b123456789c123456789d123456789e123456789f123456789g1234 ../         ^",
+    ),
+    (
+        "SELECT city FROM batches WHERE amount = -9223372036854775809",
+        "NumberTooLarge",
+        "'-9223372036854775809' is out of range, which is -9223372036854775808 to 9223372036854775807",
+        "/  SELECT city FROM batches WHERE amount = -9223372036854775809/                                          ^",
+    ),
+    (
+        "SELECT amout FROM batches GROUP BY amout",
+        "NoSuchColumn",
+        "'amout' is no column, and amount may be meant; the columns are city text, amount bigint, paid boolean",
+        "/  SELECT amout FROM batches GROUP BY amout/         ^",
+    ),
+    (
+        "SELECT sum(price) FROM batches",
+        "NoSuchColumn",
+        "'price' is no column; the columns are city text, amount bigint, paid boolean",
+        "/  SELECT sum(price) FROM batches/             ^",
+    ),
+    (
+        "SELECT city FROM batches WHERE\ncity = oslo GROUP BY city",
+        "NoSuchColumn",
+        "'oslo' is no column; a text stands in single quotes; the columns are city text, amount bigint, paid boolean",
+        "/  SELECT city FROM batches WHERE city = oslo GROUP BY city/                                        ^",
+    ),
+    (
+        "SELECT city, amount FROM batches GROUP BY city",
+        "NotGrouped",
+        "'amount' stands outside of calls, and is none of GROUP BY's columns: add it there, or put it into a call",
+        "/  SELECT city, amount FROM batches GROUP BY city/               ^",
+    ),
+    (
+        "SELECT city FROM batches GROUP BY city HAVING amount > 5 AND count(*) > 1",
+        "NotGrouped",
+        "'amount' stands outside of calls, and is none of GROUP BY's columns: add it there, or put it into a call",
+        "/  SELECT city FROM batches GROUP BY city HAVING amount > 5 AND count(*) >  ../                                                ^",
+    ),
+    (
+        "SELECT sum(city) FROM batches",
+        "TypeMismatch",
+        "sum takes a bigint, and this is a text",
+        "/  SELECT sum(city) FROM batches/             ^",
+    ),
+    (
+        "SELECT every(amount) FROM batches",
+        "TypeMismatch",
+        "every takes a boolean, and this is a bigint",
+        "/  SELECT every(amount) FROM batches/               ^",
+    ),
+    (
+        "SELECT count(*) FROM batches WHERE amount = '5'",
+        "TypeMismatch",
+        "a bigint is compared with a text, and only values of one kind are",
+        "/  SELECT count(*) FROM batches WHERE amount = '5'/                                            ^",
+    ),
+    (
+        "SELECT count(*) FROM batches WHERE (paid) = (amount > 3) AND NOT (amount)",
+        "TypeMismatch",
+        "NOT asks for a boolean, and this is a bigint",
+        "/  .. ROM batches WHERE (paid) = (amount > 3) AND NOT (amount)/                                                     ^",
+    ),
+    (
+        "SELECT count(*) FROM batches WHERE amount IS TRUE",
+        "TypeMismatch",
+        "IS asks for a boolean, and this is a bigint",
+        "/  SELECT count(*) FROM batches WHERE amount IS TRUE/                                     ^",
+    ),
+    (
+        "SELECT count(*) FROM batches HAVING sum(amount)",
+        "TypeMismatch",
+        "HAVING asks for a boolean, and this is a bigint",
+        "/  SELECT count(*) FROM batches HAVING sum(amount)/                                      ^",
+    ),
+    (
+        "SELECT count(*) FROM batches WHERE count(*) > 3",
+        "AggregateHere",
+        "count stands in WHERE or a FILTER, where each row is asked by itself: put it into HAVING",
+        "/  SELECT count(*) FROM batches WHERE count(*) > 3/                                     ^",
+    ),
+    (
+        "SELECT count(*) FILTER (WHERE sum(amount) > 1) FROM batches",
+        "AggregateHere",
+        "sum stands in WHERE or a FILTER, where each row is asked by itself: put it into HAVING",
+        "/  SELECT count(*) FILTER (WHERE sum(amount) > 1) FROM batches/                                ^",
+    ),
+];
+
+#[test]
+fn faults_of_queries_are_told(rt: HostRuntime) -> Result<(), Fail> {
+    let other = "--columns|city text, amount bigint, paid boolean";
+    assert_eq!(rt; texts_told(&rt, "--query", other, &QUERIES)?.as_str(), "");
+    Ok(())
+}
+
+/// Schemas.
+const SCHEMAS: [TextFault; 14] = [
+    (
+        "",
+        "BadSchema",
+        "found the end, wanted the name of a column",
+        "",
+    ),
+    (
+        "city varchar, amount bigint",
+        "BadSchema",
+        "column 1, city: 'varchar' is no kind: there are three kinds: bigint (or int8), boolean (or bool) and text; take text",
+        "/  city varchar, amount bigint/       ^",
+    ),
+    (
+        "city text, amount int",
+        "BadSchema",
+        "column 2, amount: 'int' is no kind: there are three kinds: bigint (or int8), boolean (or bool) and text; take bigint",
+        "/  city text, amount int/                    ^",
+    ),
+    (
+        "amount INTEGER",
+        "BadSchema",
+        "column 1, amount: 'integer' is no kind: there are three kinds: bigint (or int8), boolean (or bool) and text; take bigint",
+        "/  amount INTEGER/         ^",
+    ),
+    (
+        "amount numeric",
+        "BadSchema",
+        "column 1, amount: 'numeric' is no kind: there are three kinds: bigint (or int8), boolean (or bool) and text",
+        "/  amount numeric/         ^",
+    ),
+    (
+        "city text amount bigint",
+        "BadSchema",
+        "found 'amount', wanted a comma or the end",
+        "/  city text amount bigint/            ^",
+    ),
+    (
+        "city text,",
+        "BadSchema",
+        "found the end, wanted the name of a column",
+        "/  city text,/            ^",
+    ),
+    (
+        "city",
+        "BadSchema",
+        "found the end, wanted bigint, boolean or text",
+        "/  city/      ^",
+    ),
+    (
+        "city text, city bigint",
+        "BadSchema",
+        "column 2: 'city' is the name of a column before it",
+        "/  city text, city bigint/             ^",
+    ),
+    (
+        "city text, from text",
+        "BadSchema",
+        "column 2: 'from' is a reserved word: take another name",
+        "/  city text, from text/             ^",
+    ),
+    (
+        "city text, 5 bigint",
+        "BadSchema",
+        "found '5', wanted the name of a column",
+        "/  city text, 5 bigint/             ^",
+    ),
+    (
+        "\"city\" text",
+        "BadSchema",
+        "found '\"', wanted the name of a column",
+        "/  \"city\" text/  ^",
+    ),
+    (
+        "city text; amount bigint",
+        "BadSchema",
+        "found ';', wanted a comma or the end",
+        "/  city text; amount bigint/           ^",
+    ),
+    (
+        "a text,b text,c text,d text,e text,f text,g text,h text,i text,j text,k text,l text,m text,n text,o text,p text,q text,r text,s text,t text,u text,v text,w text,x text,y text,z text,aa text,ab text,ac text,ad text,ae text,af text,ag text",
+        "BadSchema",
+        "column 33, 'ag': there are at most 32",
+        "/  .. aa text,ab text,ac text,ad text,ae text,af text,ag text/                                                     ^",
+    ),
+];
+
+#[test]
+fn faults_of_schemas_are_told(rt: HostRuntime) -> Result<(), Fail> {
+    let other = "--query|SELECT count(*) FROM batches";
+    assert_eq!(rt; texts_told(&rt, "--columns", other, &SCHEMAS)?.as_str(), "");
+    Ok(())
+}
+
+/// Files in one another's place, and what becomes of OUT. What is said stands whole where it ends with `\u{b6}`, which stands for the end of a line.
+const PLACES: &str = "\
+new|@e.sum|--columns|c text, d bigint|--query|SELECT c, count(*), sum(d) FROM batches GROUP BY c => saved 80/ => 0
+new|@o.sum|--columns|c text, d bigint|--query|SELECT count(*) FROM batches => saved 58/ => 0
+new|@w.sum|--columns|c text|--query|SELECT count(*) FROM batches => saved 48/ => 0
+feed|@f.sum|@e.sum|@1.csv|@3.csv => folded upto 1/early/saved 163/ => 0
+feed|@g.sum|@e.sum|@1b.csv => folded upto 1/saved 138/ => 0
+feed|@h.sum|@e.sum|@3b.csv => early/saved 123/ => 0
+feed|@x.sum|@f.sum|@3b.csv => refused OriginDisagrees/saved 163/ => 1 => @3b.csv: refused OriginDisagrees: number 3 of origin 0 is known with other rows\u{b6}@x.sum: written, with 1 of 1 files passed over\u{b6}
+merge|@y.sum|@f.sum|@h.sum|@e.sum => refused OriginDisagrees/merged/saved 163/ => 1 => @h.sum: refused OriginDisagrees: number 3 of origin 0 is known with other rows\u{b6}@y.sum: written, with 1 of 2 files passed over\u{b6}
+merge|@z.sum|@f.sum|@g.sum => refused OriginDisagrees/saved 163/ => 1 => @g.sum: refused OriginDisagrees: a number up to 1 of origin 0 is known with other rows\u{b6}@z.sum: written, with 1 of 1 files passed over\u{b6}
+merge|@u.sum|@f.sum|@o.sum|@w.sum => refused DifferentQuery/refused DifferentQuery/saved 163/ => 1 => @o.sum: refused DifferentQuery: it answers SELECT count(*) FROM batches, and the first IN answers SELECT c, count(*), sum(d) FROM batches GROUP BY c\u{b6}@w.sum: refused DifferentQuery: its columns are c text, and those of the first IN are c text, d bigint\u{b6}@u.sum: written, with 2 of 2 files passed over\u{b6}
+answer|@1.csv => refused NotASummary/ => 1 => @1.csv: refused NotASummary: it does not begin with AGGSUM01, as a summary does; it is a batch file, and those stand behind IN\u{b6}
+known|@text => refused NotASummary/ => 1 => @text: refused NotASummary: it does not begin with AGGSUM01, as a summary does; it is a text\u{b6}
+known|@gz => refused NotASummary/ => 1 => @gz: refused NotASummary: it does not begin with AGGSUM01, as a summary does; it is compressed by gzip: gzip -dc FILE\u{b6}
+answer|@empty => refused Truncated/ => 1 => @empty: refused Truncated: the file is empty, and a summary begins with AGGSUM01\u{b6}
+merge|@n.sum|@cut|@f.sum => refused Truncated/ => 1 => @cut: refused Truncated: it ends too early, behind 10 bytes: it was cut on its way; @n.sum is not written\u{b6}
+answer|@ => refused ReadFault/ => 3 => @: refused ReadFault: the input could not be read (Is a directory (os error 21))\u{b6}
+feed|@n.sum|@f.sum|@ => refused ReadFault/ => 3 => @: refused ReadFault: the input could not be read (Is a directory (os error 21)); @n.sum is not written\u{b6}
+feed|@n.sum|@f.sum|@none => refused ReadFault/ => 3 => @none: refused ReadFault: the input could not be read (No such file or directory (os error 2)); @n.sum is not written\u{b6}
+merge|@|@f.sum => refused WriteFault/ => 3 => @: refused WriteFault: the output could not be written (Is a directory (os error 21)); @ is not written\u{b6}
+merge|/dev/full|@f.sum => refused WriteFault/ => 3 => /dev/full: refused WriteFault: the output could not be written (No space left on device (os error 28)); /dev/full is not written\u{b6}
+feed|@n.sum|@f.sum|@1.csv|--limit|65535 => refused LimitOutOfRange/ => 1 => --limit: refused LimitOutOfRange: '65535' is out of range, which is 65,536 to 1,099,511,627,776 bytes; @n.sum is not written\u{b6}
+feed|@n.sum|@f.sum|@1.csv|--limit|-5 => - => 2 => --limit: refused BadCommand: '-5': a number of bytes has 1 to 19 digits; @n.sum is not written\u{b6}
+?there|@n.sum => - => 1
+merge|@x.sum|@f.sum|--no-clobber => - => 2 => @x.sum: it is there, and is none of the files read: --no-clobber keeps it, and nothing is read or written\u{b6}
+feed|@x.sum|@none|@1.csv|--no-clobber|--limit|x => - => 2 => @x.sum: it is there, and is none of the files read: --no-clobber keeps it, and nothing is read or written\u{b6}
+new|@x.sum|--columns|c int|--query|SELECT|--no-clobber => - => 2 => @x.sum: it is there, and is none of the files read: --no-clobber keeps it, and nothing is read or written\u{b6}
+merge|@x.sum|@g.sum => saved 138/ => 0 => @x.sum: it is there, and is none of the files read: it is replaced\u{b6}
+new|@x.sum|--columns|c text|--query|SELECT count(*) FROM batches => saved 48/ => 0 => @x.sum: it is there, and is none of the files read: it is replaced\u{b6}
+merge|@x.sum|@none => refused ReadFault/ => 3 => @x.sum: it is there, and is none of the files read: it is replaced\u{b6}@none: refused ReadFault: the input could not be read (No such file or directory (os error 2)); @x.sum is not written\u{b6}
+?link|@link.sum|@f.sum => - => 0
+merge|@f.sum|@link.sum|--no-clobber => saved 163/ => 0
+merge|@link.sum|@f.sum|--no-clobber => saved 163/ => 0
+merge|@made.sum|@f.sum|--no-clobber => saved 163/ => 0
+merge|/dev/null|@f.sum|--no-clobber => saved 163/ => 0
+feed|@f.sum|@f.sum|@1.csv|@text|@2.csv|--progress => known/refused BadBatchHead/folded upto 3/saved 138/ => 1 => 1 of 3 @1.csv: known\u{b6}@text: refused BadBatchHead: the first line is 'a text', and wants batch,ORIGIN,NUMBER,ROWS\u{b6}2 of 3 @text: refused BadBatchHead\u{b6}3 of 3 @2.csv: folded upto 3\u{b6}@f.sum: written, with 1 of 3 files passed over\u{b6}
+merge|@f.sum|@f.sum|@e.sum|--progress => merged/saved 138/ => 0 => 1 of 1 @e.sum: merged\u{b6}
+known|@f.sum|--explain => origin 0 upto 3/ => 0 => columns c text, d bigint\u{b6}query SELECT c, count(*), sum(d) FROM batches GROUP BY c\u{b6}origin 0 upto 3 groups 1 early 0 bytes 58\u{b6}
+feed|@k.sum|@e.sum|@3.csv|@5.csv|@9.csv => early/early/early/saved 173/ => 0
+known|@k.sum|--explain => origin 0 upto 0 early 3 5 9/ => 0 => columns c text, d bigint\u{b6}query SELECT c, count(*), sum(d) FROM batches GROUP BY c\u{b6}origin 0 upto 0 groups 0 early 3 bytes 93 missing 1-2 4 6-8\u{b6}
+known|@e.sum|--explain => - => 0 => columns c text, d bigint\u{b6}query SELECT c, count(*), sum(d) FROM batches GROUP BY c\u{b6}
+known|@1.csv|--explain => refused NotASummary/ => 1 => @1.csv: refused NotASummary
+";
+
+/// Batch files, and files that are none.
+const FILES: [File; 11] = [
+    ("1.csv", b"batch,0,1,1\noslo,1\n"),
+    ("1b.csv", b"batch,0,1,1\noslo,2\n"),
+    ("2.csv", b"batch,0,2,1\noslo,2\n"),
+    ("3.csv", b"batch,0,3,1\noslo,3\n"),
+    ("3b.csv", b"batch,0,3,1\noslo,4\n"),
+    ("5.csv", b"batch,0,5,1\noslo,5\n"),
+    ("9.csv", b"batch,0,9,1\noslo,9\n"),
+    ("text", b"a text\n"),
+    ("gz", b"\x1f\x8b\x08\x00\x00\x00\x00\x00"),
+    ("empty", b""),
+    ("cut", b"AGGSUM01\x00\x10"),
+];
+
+#[test]
+fn files_in_the_wrong_place_are_told(rt: HostRuntime) -> Result<(), Fail> {
+    assert_eq!(rt; play(&rt, "faults", &FILES, PLACES)?.as_str(), "");
+    Ok(())
+}
