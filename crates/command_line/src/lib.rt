@@ -115,6 +115,41 @@ fn send_out<W: Write, E: Write>(
     }
 }
 
+/// Runs the command of some words, over a writer whose failures are kept. Where a person looks at the replies, and where there is no
+/// memory to gather them in, they go out as they come.
+fn run_gathered<R: Files + AllocGlobal, S: AsStr, I: Read, W: Write, E: Write>(
+    rt: &R,
+    words: &[S],
+    reader: &mut I,
+    writer: &mut W,
+    errors: &mut E,
+    fault: &Cell<Option<io::Error>>,
+    terminals: Terminals,
+) -> Ending {
+    let alloc = rt.alloc();
+    if !terminals.output {
+        if let Ok(mut gathered) = BufWriter::new(alloc, &mut *writer) {
+            let streams = Streams {
+                alloc,
+                writer: &mut gathered,
+                errors: &mut *errors,
+                fault,
+                terminals,
+            };
+            let ending = run_words(rt, words, reader, streams);
+            return send_out(alloc, &mut gathered, ending, errors, fault);
+        }
+    }
+    let streams = Streams {
+        alloc,
+        writer,
+        errors,
+        fault,
+        terminals,
+    };
+    run_words(rt, words, reader, streams)
+}
+
 /// Runs the command that words ask for, of which the first is the program's name.
 ///
 /// Replies and tables go to the writer, gathered in pieces of some 8 KiB unless it is a terminal, sentences for people to `errors`, each
@@ -128,29 +163,8 @@ pub fn command<R: Files + AllocGlobal, S: AsStr, I: Read, W: Write, E: Write>(
     errors: &mut E,
     terminals: Terminals,
 ) -> u8 {
-    let alloc = rt.alloc();
     let fault = Cell::new(None);
     let mut watched = Watched::new(&mut *writer, &fault);
-    // Where a person looks at them, and where there is no memory to gather in, replies go out as they come.
-    if !terminals.output {
-        if let Ok(mut gathered) = BufWriter::new(alloc, &mut watched) {
-            let streams = Streams {
-                alloc,
-                writer: &mut gathered,
-                errors: &mut *errors,
-                fault: &fault,
-                terminals,
-            };
-            let ending = run_words(rt, words, reader, streams);
-            return status(send_out(alloc, &mut gathered, ending, errors, &fault));
-        }
-    }
-    let streams = Streams {
-        alloc,
-        writer: &mut watched,
-        errors: &mut *errors,
-        fault: &fault,
-        terminals,
-    };
-    status(run_words(rt, words, reader, streams))
+    let ending = run_gathered(rt, words, reader, &mut watched, errors, &fault, terminals);
+    status(ending)
 }

@@ -116,17 +116,14 @@ fn front_of(text: &str) -> &str {
 fn other_query(alloc: Global, ours: &Replica, theirs: &Replica) -> Result<String, AllocError> {
     let columns = theirs.query().schema().print()?;
     let our_columns = ours.query().schema().print()?;
-    let (one, other) = if columns.as_str() == our_columns.as_str() {
-        (theirs.query().spelling(), ours.query().spelling())
-    } else {
-        (columns.as_str(), our_columns.as_str())
-    };
-    let (one, other) = (Plain(front_of(one)), Plain(front_of(other)));
-    if columns.as_str() == our_columns.as_str() {
-        format!(in alloc; "it answers {one}, and the first IN answers {other}")
-    } else {
-        format!(in alloc; "its columns are {one}, and those of the first IN are {other}")
+    if columns.as_str() != our_columns.as_str() {
+        let one = Plain(front_of(columns.as_str()));
+        let other = Plain(front_of(our_columns.as_str()));
+        return format!(in alloc; "its columns are {one}, and those of the first IN are {other}");
     }
+    let one = Plain(front_of(theirs.query().spelling()));
+    let other = Plain(front_of(ours.query().spelling()));
+    format!(in alloc; "it answers {one}, and the first IN answers {other}")
 }
 
 /// The prefix of an origin that a replica knows something of.
