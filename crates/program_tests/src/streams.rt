@@ -214,7 +214,7 @@ impl Write for Barred {
 }
 
 /// What a command says, with a bar before what each write wrote.
-fn barred(rt: &HostRuntime, words: &[&str], input: &str) -> Result<String, Fail> {
+fn said_in_bars(rt: &HostRuntime, words: &[&str], input: &str) -> Result<String, Fail> {
     let mut errors = Barred {
         taken: Vec::new(rt.alloc()),
     };
@@ -233,11 +233,11 @@ fn barred(rt: &HostRuntime, words: &[&str], input: &str) -> Result<String, Fail>
 fn each_sentence_is_one_write(rt: HostRuntime) -> Result<(), Fail> {
     let script = "replica,a\ncolumns,c int\n";
     assert_eq!(rt;
-        barred(&rt, &["agg_tool", "script"], script)?.as_str(),
+        said_in_bars(&rt, &["agg_tool", "script"], script)?.as_str(),
         "|line 1: refused BadCommand: the columns and the query are told before the replicas\n|line 2: refused BadSchema: column 1, c: 'int' is no kind: there are three kinds: bigint (or int8), boolean (or bool) and text; take bigint\n  c int\n    ^\n"
     );
     assert_eq!(rt;
-        barred(
+        said_in_bars(
             &rt,
             &["agg_tool", "feed", "x", "/none", "x", "--limit", "y"],
             ""
@@ -245,7 +245,7 @@ fn each_sentence_is_one_write(rt: HostRuntime) -> Result<(), Fail> {
         .as_str(),
         "|--limit: refused BadCommand: 'y': a number of bytes has 1 to 19 digits; x is not written\n"
     );
-    let usage = barred(&rt, &["agg_tool", "feed"], "")?;
+    let usage = said_in_bars(&rt, &["agg_tool", "feed"], "")?;
     assert_eq!(rt; usage.matches('|').count(), 1);
     Ok(())
 }
