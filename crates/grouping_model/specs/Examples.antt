@@ -41,6 +41,7 @@ sums =
       keys = 0 ∷ [];
       aggregates = of_rows ∷ of_column Sum 1 ∷ [];
       having = None;
+      order = [];
     }
 
 -- one batch of three rows
@@ -121,6 +122,7 @@ bits_and_booleans =
       keys = [];
       aggregates = of_column Bool_and 0 ∷ of_column Bool_or 0 ∷ of_column Every 0 ∷ of_column Bit_and 1 ∷ of_column Bit_or 1 ∷ of_column Max 1 ∷ [];
       having = None;
+      order = [];
     }
 
 abbrev pub twelve_and_ten : List Row
@@ -129,3 +131,26 @@ twelve_and_ten = (Boolean true ∷ Bigint (pos 12) ∷ []) ∷ (Boolean false �
 -- an answer's number
 abbrev pub number : ℕ → Outcome
 number n = Plain (Bigint (pos n))
+
+-- four rows of a text and a number, of which one is null, and SELECT c, sum(d) FROM batches GROUP BY c ORDER BY 2 DESC, 1
+abbrev pub one_absent : List Row
+one_absent = pair a (pos 1) ∷ (Text (codes "b") ∷ Null ∷ []) ∷ pair (Text (codes "c")) (pos 5) ∷ pair (Text (codes "d")) (pos 1) ∷ []
+
+abbrev pub by_sum : Query
+by_sum =
+    record sums {
+      items = Key 0 ∷ Call 0 ∷ [];
+      aggregates = of_column Sum 1 ∷ [];
+      order = record { item = 1; descending = true; nulls_first = true } ∷ record { item = 0; descending = false; nulls_first = false } ∷ [];
+    }
+
+-- the same with NULLS LAST
+abbrev pub by_sum_nulls_last : Query
+by_sum_nulls_last = record by_sum { order = record { item = 1; descending = true; nulls_first = false } ∷ [] }
+
+-- a row of a text and a sum
+abbrev pub summed : List ℕ → ℤ → List Outcome
+summed text z = Plain (Text text) ∷ Numeric z ∷ []
+
+abbrev pub absent : List ℕ → List Outcome
+absent text = Plain (Text text) ∷ Plain Null ∷ []

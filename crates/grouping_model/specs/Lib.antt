@@ -12,8 +12,9 @@ pub mod Answer
 pub mod Examples
 pub mod DatumOrderLaws
 pub mod EarlyLaws
-pub mod GroupLaws
 pub mod KeyLaws
 pub mod KnowledgeLaws
 pub mod MemberLaws
 pub mod PartLaws
+pub mod Order
+pub mod OrderLaws

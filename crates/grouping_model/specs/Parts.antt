@@ -8,7 +8,6 @@ use Rattle.grouping_model.specs.Combining.{combine_all, transition}
 use Rattle.grouping_model.specs.Condition.{is_met}
 use Rattle.grouping_model.specs.Query.{Query, Aggregate, Source}
 use Rattle.grouping_model.specs.Grouping.{Group, partials, argument, column_of, key_of}
-use Rattle.grouping_model.specs.Answer.{outcome_at}
 
 -- the functions of a query's aggregates
 abbrev pub functions : Query → List Function
@@ -44,18 +43,3 @@ abbrev pub with_row : Query → List Group → Row → List Group
 with_row query groups row =
     insert_entry row_cmp groups (key_of query row)
     (advanced query.aggregates (partials_or_none query (key_of query row) groups) row)
-
--- the groups that are answered, of which there is one without GROUP BY
-abbrev pub answered : Query → List ℕ → List Group → List Group
-answered query [] groups = ([], partials_or_none query [] groups) ∷ []
-answered query (place ∷ places) groups = groups
-
--- what HAVING and the items read of a group
-abbrev pub source_in : Group → Source → Outcome
-source_in group = outcome_at (map Plain group.0) (map outcome group.1)
-
--- the answer that groups give
-abbrev pub answer_of : Query → List Group → List (List Outcome)
-answer_of query groups =
-    map (λ group. map (source_in group) query.items)
-    (filter (λ group. is_met (source_in group) query.having) (answered query query.keys groups))

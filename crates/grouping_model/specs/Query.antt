@@ -1,8 +1,9 @@
--- A query that was checked: its names are places, and its operands have kinds that fit (PostgreSQL 17, 2.7, 7.2 and 7.3).
+-- A query that was checked: its names are places, and its operands have kinds that fit (PostgreSQL 17, 2.7, 7.2, 7.3 and 7.5).
 use Rattle.std.specs.Prelude.{ℕ, List, Option}
 use Rattle.grouping_model.specs.Datum.{Kind}
 use Rattle.grouping_model.specs.Aggregates.{Function}
 use Rattle.grouping_model.specs.Condition.{Condition}
+use Rattle.grouping_model.specs.Order.{Term}
 
 -- an aggregate: its function, the place of its column (count(*) has none), and FILTER, which rows reach it
 -- (PostgreSQL 17, 4.2.7 Aggregate Expressions)
@@ -30,3 +31,5 @@ pub record Query : Type 0 where
   pub aggregates : List Aggregate
   -- HAVING, over keys and aggregates
   pub having : Option (Condition Source)
+  -- ORDER BY, over the items. No terms at all mean that there is none
+  pub order : List Term

@@ -86,9 +86,12 @@ origins knowledge = distinct nat_cmp (map (λ (batch : Batch). batch.0) knowledg
 abbrev pub batch_rows : World → ℕ → ℕ → List Row
 batch_rows world origin number = unwrap_or (world origin number) []
 
--- the rows of an origin's unbroken prefix, batch after batch
+-- the rows of an origin's batches 1 to n, batch after batch, and of its unbroken prefix
+abbrev pub rows_upto : World → (origin n : ℕ) → List Row
+rows_upto world origin n = flat_map (batch_rows world origin) (count_up 1 n)
+
 abbrev pub origin_rows : World → Knowledge → ℕ → List Row
-origin_rows world knowledge origin = flat_map (batch_rows world origin) (count_up 1 (prefix knowledge origin))
+origin_rows world knowledge origin = rows_upto world origin (prefix knowledge origin)
 
 -- the rows of all unbroken prefixes, by rising origin
 abbrev pub known_rows : World → Knowledge → List Row

@@ -8,10 +8,10 @@ ghost use Rattle.std.specs.Prelude.{◌≡◌, ◌-◌, nat_lt, filter, ◌+◌,
 ghost use Rattle.std.specs.Int.{w64};
 ghost use Rattle.std.specs.Ordering.{eq_by_cmp, nat_cmp};
 ghost use Rattle.std.specs.List.{flat_map};
-ghost use Rattle.std.specs.List.Sorted.{IsStrictlySortedBy};
+ghost use Rattle.std.specs.List.Sorted.{IsStrictlySortedBy, IsSortedBy, IsStableBy, IsPermutation};
 ghost use Rattle.grouping_model.specs.Query.{Query, Aggregate};
 ghost use Rattle.grouping_model.specs.Grouping.{argument, arguments, selected, key_of, keys, group, partials, column_of, part};
-ghost use Rattle.grouping_model.specs.Parts.{keys_of, partials_at, combine_parts, with_row, answer_of};
+ghost use Rattle.grouping_model.specs.Parts.{keys_of, partials_at, combine_parts, with_row};
 ghost use Rattle.grouping_model.specs.Rising.{put, distinct, is_among};
 ghost use Rattle.grouping_model.specs.Combining.{combine, transition};
 ghost use Rattle.grouping_model.specs.World.{World, Batch, Knowledge, batch_cmp, knowing, nothing, knows, learn, union, IsUnbroken, prefix, early, origins, count_up, batch_rows, origin_rows};
@@ -19,9 +19,10 @@ ghost use Rattle.std.specs.Cmp.{IsTotalOrder};
 ghost use Rattle.std.specs.declared.cmp.Ordering.TheVariants.{Less};
 ghost use Rattle.grouping_model.specs.Condition.{Truth, Unknown, Comparison, truth_not, truth_and, truth_or, outcome_cmp, compared, truth, as_outcome, is_met};
 ghost use Rattle.grouping_model.specs.Answer.{answer, answer_over};
+ghost use Rattle.grouping_model.specs.Order.{Term, comes_before, ordered};
 ghost use Rattle.grouping_model.specs.Datum.{Datum, Kind, HasKind, HasKinds, datum_cmp, Row, row_cmp, same_row, Null, Boolean, Text};
 ghost use Rattle.grouping_model.specs.Aggregates.{bits_of_all, bits_of_some, bits_of_odd, Function, partial, Outcome, Plain, Numeric, least, greatest, has_bit, number_of_bits};
-ghost use Rattle.grouping_model.specs.Examples.{sums, three_rows, three_batches, one_to_five, six_and_eight, triple, oslo, bergen, grand_total, any_rows, extremes, of_nulls, a, nulls_and_numbers, last_unknown, big_ones, not_itself, bits_and_booleans, twelve_and_ten, number};
+ghost use Rattle.grouping_model.specs.Examples.{sums, three_rows, three_batches, one_to_five, six_and_eight, triple, oslo, bergen, grand_total, any_rows, extremes, of_nulls, a, nulls_and_numbers, last_unknown, big_ones, not_itself, bits_and_booleans, twelve_and_ten, number, one_absent, by_sum, by_sum_nulls_last, summed, absent};
 
 pub use delivered::Delivered;
 
@@ -217,14 +218,26 @@ pub fn groups_as_map()
         keys query (rows ++ row ∷ []) ≡ put row_cmp (key_of query row) (keys query rows) }
 {}
 
-/// The groups tell the answer, and those of some rows tell those of one row more: a row that WHERE keeps moves on the
-/// partial results of its key alone, which has those of no rows before its first.
+/// The groups of some rows tell those of one row more: a row that WHERE keeps moves on the partial results of its key alone, which has
+/// those of no rows before its first.
 pub fn groups_of_rows()
     ensures one_more_row { (query : Query) (kinds : List Kind) (rows : List Row) (row : Row) →
         HasKinds kinds row → is_met (column_of row) query.condition ≡ true →
         part query (rows ++ row ∷ []) ≡ with_row query (part query rows) row }
-    ensures answered { (query : Query) (rows : List Row) →
-        answer_over query rows ≡ answer_of query (part query rows) }
+{}
+
+/// Rows in the order of the terms of ORDER BY: the same rows, none before one that comes before it by the terms, and those that
+/// the terms do not tell apart as they stood, which is key order. One list alone is so. Without terms they stand as they stood.
+pub fn ordering_rows()
+    ensures same_rows { (terms : List Term) (rows : List (List Outcome)) → IsPermutation rows (ordered terms rows) }
+    ensures in_order { (terms : List Term) (rows : List (List Outcome)) →
+        IsSortedBy (comes_before terms) (ordered terms rows) }
+    ensures ties { (terms : List Term) (rows : List (List Outcome)) →
+        IsStableBy (comes_before terms) rows (ordered terms rows) }
+    ensures one { (terms : List Term) (rows found : List (List Outcome)) →
+        IsSortedBy (comes_before terms) found → IsStableBy (comes_before terms) rows found →
+        found ≡ ordered terms rows }
+    ensures unordered { (rows : List (List Outcome)) → ordered [] rows ≡ rows }
 {}
 
 /// Groups over one batch, and over batches of which the second comes last.
@@ -247,7 +260,7 @@ pub fn known_numbers()
 {}
 
 /// Answers over given rows: none at all, sums of more than 64 bits, nulls, conditions that are unknown, bits and
-/// booleans.
+/// booleans, and rows by a sum, of which one is null.
 pub fn results()
     ensures of_nothing { answer_over grand_total [] ≡ (number 0 ∷ Plain Null ∷ []) ∷ [] }
     ensures none_of_nothing { answer_over any_rows [] ≡ [] }
@@ -262,4 +275,8 @@ pub fn results()
     ensures bits { answer_over bits_and_booleans twelve_and_ten
         ≡ (Plain (Boolean false) ∷ Plain (Boolean true) ∷ Plain (Boolean false) ∷ number 8 ∷ number
         14 ∷ number 12 ∷ []) ∷ [] }
+    ensures descending { answer_over by_sum one_absent ≡ absent (codes "b") ∷ summed (codes "c") (pos 5)
+        ∷ summed (codes "a") (pos 1) ∷ summed (codes "d") (pos 1) ∷ [] }
+    ensures nulls_last { answer_over by_sum_nulls_last one_absent ≡ summed (codes "c") (pos 5)
+        ∷ summed (codes "a") (pos 1) ∷ summed (codes "d") (pos 1) ∷ absent (codes "b") ∷ [] }
 {}

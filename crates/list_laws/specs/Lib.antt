@@ -1,2 +1,3 @@
 pub mod Each
 pub mod Outcomes
+pub mod Sorting
