@@ -2,4 +2,4 @@ use Rattle.grouping_model.proofs.GroupLaws as laws
 use Rattle.grouping_model.proofs.groups_of_rows.Goals as goal
 
 pub returns : goal.returns
-returns c = laws.part_one_more
+returns c = record { one_more_row = laws.part_one_more }
