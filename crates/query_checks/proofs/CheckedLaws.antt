@@ -16,6 +16,6 @@ pub gives_ungrouped : (columns : List Column) (q : Written ℕ) → are_plain q 
 unfolding checked_places
 gives_ungrouped columns q plain fit grouped _ = rw plain (rw fit (rw grouped refl))
 
-pub gives_checked : (columns : List Column) (q : Written ℕ) → are_plain q ≡ true → kinds_fit (kinds columns) q ≡ true → is_grouped q ≡ true → checked_places columns q ≡ Ok (record { columns = columns; written = q })
+pub gives_checked : (columns : List Column) (q : Written ℕ) → are_plain q ≡ true → kinds_fit (kinds columns) q ≡ true → is_grouped q ≡ true → checked_places columns q ≡ Ok q
 unfolding checked_places
 gives_checked columns q plain fit grouped = rw plain (rw fit (rw grouped refl))

@@ -42,6 +42,10 @@ clause_named (Some c) = calls_mapped string_bytes (form_of c)
 same_named : Agrees Anything names_of (form_eq bytes_eq) (form_eq string_eq)
 same_named = record { agree = λ x y p q. form_image (λ c. true) string_bytes bytes_eq string_eq (record { agree = λ a b p q. refl }) x y (columns_pass_all x) (columns_pass_all y) }
 
+-- two conditions are the same by the strings of the code, and by their bytes
+pub same_names : (x y : Form (String Global)) → form_eq string_eq x y ≡ form_eq bytes_eq (names_of x) (names_of y)
+same_names x y = sym (same_named.agree x y tt tt)
+
 pub calls_counted : (raw : RawQuery) → length (first_of_each (form_eq string_eq) (item_calls raw.items.items ++ clause_calls raw.having)) ≡ length (distinct_calls bytes_eq (written_of raw))
 calls_counted raw =
     let calls = item_calls raw.items.items ++ clause_calls raw.having in

@@ -6,3 +6,4 @@ pub mod SpellingLaws
 pub mod CountLaws
 pub mod WholeLaws
 pub mod CheckedLaws
+pub mod OrderLaws

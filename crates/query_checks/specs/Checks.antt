@@ -12,27 +12,30 @@ use Rattle.agg_protocol.specs.Signatures.{Argument, Values_of, signature}
 use Rattle.packed_rows.specs.Columns as packed
 use Rattle.packed_rows.specs.Columns.{place_of}
 use Rattle.query_checks.specs.declared.error.QueryError.{QueryError}
-use Rattle.query_checks.specs.declared.error.QueryError.TheVariants.{NoSuchColumn, NotGrouped, TypeMismatch, AggregateHere, TooMany, TooDeep}
+use Rattle.query_checks.specs.declared.error.QueryError.TheVariants.{NoSuchColumn, NotGrouped, TypeMismatch, AggregateHere, TooMany, TooDeep, AmbiguousOrder}
+use Rattle.query_checks.specs.declared.order.OrderTerm.{OrderTerm}
 use Rattle.query_checks.specs.Forms.{Unary_operator, Testing, Binary_operator, Comparing, Form, Column, Call, Call_where, Literal, Unary, Binary, Written, map_form}
 pub use Rattle.query_checks.specs.Reads.{is_plain, is_grouped_by, columns_pass, filters_pass}
 use Rattle.query_checks.specs.Sameness.{first_of_each}
+use Rattle.query_checks.specs.Order.{Asked, order_of, names_items, is_ambiguously_ordered}
 use Rattle.query_checks.specs.Spelling.{spelling, own_name, kept_alias}
 use Rattle.query_checks.specs.Calls.{distinct_calls}
 
--- a query over the columns of a schema, by their places (own)
+-- a query over the columns of a schema, by their places, and the order of its answer (own)
 pub record Checked : Type 0 where
   pub columns : List packed.Column
   pub written : Written ℕ
+  pub order : List OrderTerm
 
 -- whether all conditions of a query pass, WHERE and HAVING by a test of conditions, the items by one of their own
 abbrev pub all_of : {C : Type 0} → (Form C → Bool) → (Form C → Bool) → Written C → Bool
 all_of item_passes passes q = list_all (λ item. item_passes item.0) q.items && (option_map_or passes q.condition true && option_map_or passes q.having true)
 
 -- more items, keys, aggregates or bytes than there may be
-abbrev pub has_too_many : Written (List ℕ) → Bool
+abbrev pub has_too_many : Asked → Bool
 has_too_many q =
-    nat_lt MOST_ITEMS (length q.items) || (nat_lt MOST_KEYS (length (first_of_each bytes_eq q.keys))
-    || (nat_lt MOST_CALLS (length (distinct_calls bytes_eq q)) || nat_lt LONGEST_QUERY (length (spelling q))))
+    nat_lt MOST_ITEMS (length q.written.items) || (nat_lt MOST_KEYS (length (first_of_each bytes_eq q.written.keys))
+    || (nat_lt MOST_CALLS (length (distinct_calls bytes_eq q.written)) || nat_lt LONGEST_QUERY (length (spelling q))))
 
 -- how deep a condition is: an operand with nothing in it is 1, and a FILTER has a depth of its own
 abbrev pub depth : {C : Type 0} → Form C → ℕ
@@ -141,24 +144,34 @@ placed columns q =
       having = option_map (map_form (place columns)) q.having;
     }
 
--- the last three checks
-unfoldable pub checked_places : List packed.Column → Written ℕ → Result Checked QueryError
+-- the checks over places
+unfoldable pub checked_places : List packed.Column → Written ℕ → Result (Written ℕ) QueryError
 checked_places columns q =
     if not (are_plain q) then Err AggregateHere else
     if not (kinds_fit (packed.kinds columns) q) then Err TypeMismatch else
     if not (is_grouped q) then Err NotGrouped else
-    Ok (record { columns = columns; written = q })
+    Ok q
+
+-- the check of ORDER BY, which comes last
+unfoldable pub checked_order : Asked → Result (List OrderTerm) QueryError
+checked_order q = if is_ambiguously_ordered q then Err AmbiguousOrder else Ok (order_of q)
+
+abbrev pub with_order : List packed.Column → Result (Written ℕ) QueryError → Result (List OrderTerm) QueryError → Result Checked QueryError
+with_order columns (Err error) order = Err error
+with_order columns (Ok written) (Err error) = Err error
+with_order columns (Ok written) (Ok order) = Ok (record { columns = columns; written = written; order = order })
 
 -- the query that was checked, or the first of these that is found anywhere in it
-unfoldable pub checked : List packed.Column → Written (List ℕ) → Result Checked QueryError
+unfoldable pub checked : List packed.Column → Asked → Result Checked QueryError
 checked columns q =
     if has_too_many q then Err TooMany else
-    if not (all_of (filters_pass is_shallow) are_shallow q) then Err TooDeep else
-    if not (has_columns columns q) then Err NoSuchColumn else
-    checked_places columns (placed columns q)
+    if not (all_of (filters_pass is_shallow) are_shallow q.written) then Err TooDeep else
+    if not (has_columns columns q.written && names_items q) then Err NoSuchColumn else
+    with_order columns (checked_places columns (placed columns q.written)) (checked_order q)
 
 -- a query that passes the first three, which the others follow
-pub record PassesFirst (columns : List packed.Column) (q : Written (List ℕ)) : Type 0 where
+pub record PassesFirst (columns : List packed.Column) (q : Asked) : Type 0 where
   pub few : has_too_many q ≡ false
-  pub shallow : all_of (filters_pass is_shallow) are_shallow q ≡ true
-  pub columns_there : has_columns columns q ≡ true
+  pub shallow : all_of (filters_pass is_shallow) are_shallow q.written ≡ true
+  pub columns_there : has_columns columns q.written ≡ true
+  pub items_there : names_items q ≡ true

@@ -132,8 +132,11 @@ item_form (item.Call call) = call_form call
 abbrev pub names_of : Form (String Global) → Form (List ℕ)
 names_of c = map_form string_bytes c
 
+abbrev pub item_of : Item (String Global) × Option (String Global) → Form (List ℕ) × Option (List ℕ)
+item_of item = (names_of (item_form item.0), option_map string_bytes item.1)
+
 abbrev pub items_of : List (Item (String Global) × Option (String Global)) → List (Form (List ℕ) × Option (List ℕ))
-items_of items = map (λ item. (names_of (item_form item.0), option_map string_bytes item.1)) items
+items_of items = map item_of items
 
 abbrev pub places_of : {C : Type 0} → List (Item C × Option (String Global)) → List (Form C × Option (List ℕ))
 places_of items = map (λ item. (item_form item.0, option_map string_bytes item.1)) items

@@ -2,6 +2,8 @@ pub mod Forms
 pub mod Sameness
 pub mod Reads
 pub mod Calls
+pub mod Labels
+pub mod Order
 pub mod Spelling
 pub mod Writable
 pub mod Checks

@@ -5,7 +5,7 @@ use Rattle.query_checks.specs.declared.parts.Parts.{Parts}
 use Rattle.query_checks.specs.Forms.{Written, form_of, places_of}
 use Rattle.query_checks.specs.Checks.{Checked}
 
--- the query that they say, and the same over the columns of a schema
+-- the query that they say, and the same over the columns of a schema, in its order
 abbrev pub written_of_parts : Parts → Written ℕ
 written_of_parts parts =
     record {
@@ -16,4 +16,4 @@ written_of_parts parts =
     }
 
 abbrev pub checked_of : List Column → Parts → Checked
-checked_of columns parts = record { columns = columns; written = written_of_parts parts }
+checked_of columns parts = record { columns = columns; written = written_of_parts parts; order = parts.order.items }

@@ -1,5 +1,5 @@
 -- The canonical spelling of conditions and queries (own; the words are SQL's: PostgreSQL 17, SELECT).
-use Rattle.std.specs.Prelude.{ℕ, ◌+◌, nat_lt, Bool, true, false, if◌then◌else◌, List, [], ◌∷◌, ◌++◌, map, codes, Option, Some, None}
+use Rattle.std.specs.Prelude.{ℕ, ◌+◌, pos, nat_lt, Bool, true, false, if◌then◌else◌, List, [], ◌∷◌, ◌++◌, map, codes, Option, Some, None}
 use Rattle.std.specs.Str.{bytes_eq}
 use Rattle.query_tokens.specs.Words.{Integer}
 use Rattle.query_tokens.specs.Words as words
@@ -10,11 +10,10 @@ use Rattle.grouping_model.specs.Condition.{Comparison, Equal, Unequal, Less, At_
 pub use Rattle.agg_protocol.specs.Signatures.{Argument, Each_row, Any_value, Values_of, Signature, signature, functions, is_value, is_named}
 unfoldable pub use Rattle.agg_protocol.specs.Signatures.{function_named}
 use Rattle.query_checks.specs.Forms.{Unary_operator, Negation, Testing, Binary_operator, Conjunction, Disjunction, Comparing, Form, Column, Call, Call_where, Literal, Unary, Binary, Written}
+use Rattle.query_checks.specs.declared.order.OrderTerm.{OrderTerm}
+pub use Rattle.query_checks.specs.Labels.{function_name, own_name, kept_alias, label_of}
+use Rattle.query_checks.specs.Order.{By_place, Term, Asked, order_of}
 use Rattle.query_checks.specs.Sameness.{first_of_each}
-
--- the name of a function, which its result has too (PostgreSQL 17, 9.21 and 7.3.2 Column Labels)
-abbrev pub function_name : Function → List ℕ
-function_name function = (signature function).name
 
 abbrev pub comparison_text : Comparison → List ℕ
 comparison_text Equal = codes " = "
@@ -94,24 +93,25 @@ spelled (Literal value) = literal_text value
 spelled (Unary operator x) = unary_text operator (operand (unary_level operator) x (spelled x))
 spelled (Binary operator x y) = operand (left_level operator) x (spelled x) ++ operator_text operator ++ operand (right_level operator) y (spelled y)
 
--- an item's own name: that of the column or of the function (PostgreSQL 17, 7.3.2)
-abbrev pub own_name : Form (List ℕ) → List ℕ
-own_name (Column name) = name
-own_name (Call function column) = function_name function
-own_name (Call_where function column filter) = function_name function
-own_name other = []
-
--- an alias, which is none where it is the item's own name
-abbrev pub kept_alias : List ℕ → Option (List ℕ) → Option (List ℕ)
-kept_alias own None = None
-kept_alias own (Some alias) = if bytes_eq alias own then None else Some alias
-
--- the query that its canonical text says: each column of GROUP BY once, and no alias that is the item's own name (own)
+-- the query that its canonical text says: each column of GROUP BY once, no alias that is the item's own name, and of ORDER
+-- BY the terms that order, by their places, with NULLS only where it says what the direction doesn't (own)
 abbrev pub canonical_item : Form (List ℕ) × Option (List ℕ) → Form (List ℕ) × Option (List ℕ)
 canonical_item item = (item.0, kept_alias (own_name item.0) item.1)
 
-abbrev pub canonical : Written (List ℕ) → Written (List ℕ)
-canonical q = record { items = map canonical_item q.items; condition = q.condition; keys = first_of_each bytes_eq q.keys; having = q.having }
+abbrev pub canonical_written : Written (List ℕ) → Written (List ℕ)
+canonical_written q = record { items = map canonical_item q.items; condition = q.condition; keys = first_of_each bytes_eq q.keys; having = q.having }
+
+abbrev pub nulls_said : Bool → Bool → Option Bool
+nulls_said false false = None
+nulls_said false true = Some true
+nulls_said true true = None
+nulls_said true false = Some false
+
+abbrev pub canonical_term : OrderTerm → Term
+canonical_term term = record { target = By_place (pos (term.item + 1)); descending = term.descending; nulls_first = nulls_said term.descending term.nulls_first }
+
+abbrev pub canonical : Asked → Asked
+canonical q = record { written = canonical_written q.written; terms = map canonical_term (order_of q) }
 
 abbrev pub alias_text : Option (List ℕ) → List ℕ
 alias_text None = []
@@ -135,8 +135,26 @@ abbrev pub keys_text : List (List ℕ) → List ℕ
 keys_text [] = []
 keys_text (name ∷ names) = codes " GROUP BY " ++ parted (name ∷ names)
 
--- a query
-abbrev pub spelling : Written (List ℕ) → List ℕ
-spelling q =
+-- a query but its ORDER BY
+abbrev pub written_text : Written (List ℕ) → List ℕ
+written_text q =
     codes "SELECT " ++ parted (map item_text q.items) ++ codes " FROM batches" ++ clause_text (codes " WHERE ") q.condition
     ++ keys_text (first_of_each bytes_eq q.keys) ++ clause_text (codes " HAVING ") q.having
+
+-- the direction of a term, and where nulls come, unless that is the direction's default (PostgreSQL 17, 7.5)
+abbrev pub direction_text : Bool → Bool → List ℕ
+direction_text false false = []
+direction_text false true = codes " NULLS FIRST"
+direction_text true true = codes " DESC"
+direction_text true false = codes " DESC NULLS LAST"
+
+abbrev pub term_text : OrderTerm → List ℕ
+term_text term = spell (Integer (pos (term.item + 1))) ++ direction_text term.descending term.nulls_first
+
+abbrev pub order_text : List OrderTerm → List ℕ
+order_text [] = []
+order_text (term ∷ terms) = codes " ORDER BY " ++ parted (map term_text (term ∷ terms))
+
+-- a query. A term that is refused or orders by nothing more is as none
+abbrev pub spelling : Asked → List ℕ
+spelling q = written_text q.written ++ order_text (order_of q)

@@ -3,38 +3,39 @@
 ghost use Rattle.std.specs.Prelude.{◌≡◌, ◌≢◌, true, OnOk, IfOk, IfErr, Ok, Err, string_bytes};
 ghost use Rattle.packed_rows.specs.Columns.{kinds};
 ghost use Rattle.query_checks.specs.declared.error.QueryError.TheVariants.{NoMemory};
-ghost use Rattle.query_checks.specs.Forms.{written_of};
-ghost use Rattle.query_checks.specs.Checks.{PassesFirst, checked, checked_places, kinds_fit};
+ghost use Rattle.query_checks.specs.Order.{asked_of, order_of};
+ghost use Rattle.query_checks.specs.Checks.{PassesFirst, checked, checked_places, checked_order, kinds_fit};
 ghost use Rattle.query_checks.specs.Spelling.{spelling};
-ghost use Rattle.query_checks.specs.Parts.{written_of_parts, checked_of};
+ghost use Rattle.query_checks.specs.Parts.{written_of_parts};
 
 use crate::condition::RawQuery;
 use crate::error::QueryError;
 use crate::limits::text_within;
+use crate::order::is_ambiguously_ordered;
 use crate::parts::Parts;
-use crate::whole::{are_plain, has_columns, is_grouped, is_shallow_query, kinds_fit_in};
+use crate::whole::{are_plain, has_names, is_grouped, is_shallow_query, kinds_fit_in};
 use packed_rows::Schema;
 use std::alloc::Global;
 
-/// The canonical text of a query that keeps within the limits and whose columns are a schema's.
+/// The canonical text of a query that keeps within the limits, whose columns are a schema's, and whose terms of ORDER BY name items.
 ///
 /// # Errors
 ///
 /// The first of these that is found anywhere in the query: `TooMany` for over 64 items, 16 distinct columns of GROUP BY, 32
 /// distinct aggregates among the items and in HAVING, or a canonical text of over 16,384 bytes; `TooDeep` for a condition
-/// that is nested more than 64 deep; `NoSuchColumn`. `NoMemory` may come at any time.
+/// that is nested more than 64 deep; `NoSuchColumn`, also for a term of ORDER BY that names no item. `NoMemory` may come at any time.
 #[tactic(auto, using(crate::specs::CheckedLaws::gives_too_deep, crate::specs::CheckedLaws::gives_no_column))]
 pub fn text_of_known(alloc: Global, schema: &Schema, raw: &RawQuery) -> Result<String, QueryError>
-    ensures text { IfOk result (λ text. string_bytes text ≡ spelling (written_of raw.now)) }
-    ensures first { OnOk result (PassesFirst schema.now (written_of raw.now)) }
+    ensures text { IfOk result (λ text. string_bytes text ≡ spelling (asked_of raw.now)) }
+    ensures first { OnOk result (PassesFirst schema.now (asked_of raw.now)) }
     ensures refused { IfErr result (λ e. e ≢ NoMemory →
-        checked schema.now (written_of raw.now) ≡ Err e) }
+        checked schema.now (asked_of raw.now) ≡ Err e) }
 {
     let canonical = text_within(alloc, raw)?;
     if !is_shallow_query(raw) {
         return Err(QueryError::TooDeep);
     }
-    if !has_columns(schema, raw) {
+    if !has_names(schema, raw) {
         return Err(QueryError::NoSuchColumn);
     }
     Ok(canonical)
@@ -50,7 +51,7 @@ pub fn text_of_known(alloc: Global, schema: &Schema, raw: &RawQuery) -> Result<S
 #[tactic(auto, unfolding(crate::specs::Checks::checked_places), using(crate::proofs::CheckedLaws::gives_mismatch, crate::proofs::CheckedLaws::gives_ungrouped, crate::proofs::CheckedLaws::gives_checked))]
 pub fn check_parts(schema: &Schema, parts: &Parts) -> Result<(), QueryError>
     ensures passed { OnOk result (checked_places schema.now (written_of_parts parts.now)
-        ≡ Ok (checked_of schema.now parts.now)) }
+        ≡ Ok (written_of_parts parts.now)) }
     ensures fit { OnOk result (kinds_fit (kinds schema.now) (written_of_parts parts.now) ≡ true) }
     ensures refused { IfErr result (λ e.
         checked_places schema.now (written_of_parts parts.now) ≡ Err e) }
@@ -63,6 +64,23 @@ pub fn check_parts(schema: &Schema, parts: &Parts) -> Result<(), QueryError>
     }
     if !is_grouped(parts) {
         return Err(QueryError::NotGrouped);
+    }
+    Ok(())
+}
+
+/// Whether each term of ORDER BY that names an item by its name means just one.
+///
+/// # Errors
+///
+/// `AmbiguousOrder` for a name that two items have that aren't the same column or call.
+#[tactic(auto, unfolding(crate::specs::Checks::checked_order))]
+pub fn check_order(raw: &RawQuery) -> Result<(), QueryError>
+    ensures passed { OnOk result (checked_order (asked_of raw.now)
+        ≡ Ok (order_of (asked_of raw.now))) }
+    ensures refused { IfErr result (λ e. checked_order (asked_of raw.now) ≡ Err e) }
+{
+    if is_ambiguously_ordered(raw) {
+        return Err(QueryError::AmbiguousOrder);
     }
     Ok(())
 }

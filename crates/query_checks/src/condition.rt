@@ -1,5 +1,6 @@
 //! Conditions, aggregate calls and items, as they are read and as they are checked.
 
+use crate::order::RawTerm;
 use agg_library::AggKind;
 
 /// How two values are compared (PostgreSQL 17, Table 9.1).
@@ -89,4 +90,5 @@ pub struct RawQuery {
     pub condition: Option<Cond<String>>,
     pub keys: Vec<String>,
     pub having: Option<Cond<String>>,
+    pub order: Vec<RawTerm>,
 }

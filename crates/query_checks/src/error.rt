@@ -12,7 +12,7 @@ pub enum QueryError {
     /// An allocation failed.
     #[error("out of memory")]
     NoMemory,
-    /// It names a column that the schema doesn't have.
+    /// It names a column that the schema doesn't have, or in ORDER BY an item that it doesn't have.
     #[error("there is no such column")]
     NoSuchColumn,
     /// A column among the items or in HAVING is none of GROUP BY.
@@ -30,6 +30,9 @@ pub enum QueryError {
     /// A condition is nested too deeply.
     #[error("conditions are nested too deeply")]
     TooDeep,
+    /// A name in ORDER BY is that of two items that aren't the same column or call.
+    #[error("a name in ORDER BY is that of two different items")]
+    AmbiguousOrder,
 }
 
 impl From<AllocError> for QueryError {

@@ -4,7 +4,7 @@ ghost use Rattle.std.specs.Prelude.{◌≡◌, ◌≢◌, ◌<◌, ◌≤◌, ma
 ghost use Rattle.std.specs.Str.{bytes_eq};
 ghost use Rattle.packed_rows.specs.View.{texts_of};
 ghost use Rattle.query_checks.specs.declared.error.QueryError.TheVariants.{NoMemory, TooMany};
-ghost use Rattle.query_checks.specs.Forms.{written_of};
+ghost use Rattle.query_checks.specs.Order.{asked_of};
 ghost use Rattle.query_checks.specs.Sameness.{first_of_each};
 ghost use Rattle.query_checks.specs.Spelling.{spelling};
 ghost use Rattle.query_checks.specs.Checks.{has_too_many};
@@ -13,6 +13,7 @@ use crate::calls::has_too_many_calls;
 use crate::condition::RawQuery;
 use crate::distinct::distinct;
 use crate::error::QueryError;
+use crate::order::order_of;
 use crate::spelling::spelled;
 use grouping_model::limits::{LONGEST_QUERY, MOST_ITEMS, MOST_KEYS};
 use std::alloc::{AllocError, Global};
@@ -42,10 +43,10 @@ fn distinct_names(alloc: Global, names: &[String]) -> Result<Vec<&str>, AllocErr
 
 /// The canonical text of a query that keeps within the limits.
 pub(crate) fn text_within(alloc: Global, raw: &RawQuery) -> Result<String, QueryError>
-    ensures text { IfOk result (λ text. string_bytes text ≡ spelling (written_of raw.now)) }
-    ensures within { IfOk result (λ _. has_too_many (written_of raw.now) ≡ false) }
+    ensures text { IfOk result (λ text. string_bytes text ≡ spelling (asked_of raw.now)) }
+    ensures within { IfOk result (λ _. has_too_many (asked_of raw.now) ≡ false) }
     ensures refused { IfErr result (λ e. e ≢ NoMemory → e ≡ TooMany) }
-    ensures too_many { IfErr result (λ e. e ≢ NoMemory → has_too_many (written_of raw.now) ≡ true) }
+    ensures too_many { IfErr result (λ e. e ≢ NoMemory → has_too_many (asked_of raw.now) ≡ true) }
 {
     if raw.items.len() > MOST_ITEMS {
         return Err(QueryError::TooMany);
@@ -57,7 +58,8 @@ pub(crate) fn text_within(alloc: Global, raw: &RawQuery) -> Result<String, Query
     if has_too_many_calls(alloc, raw)? {
         return Err(QueryError::TooMany);
     }
-    let text = spelled(alloc, raw, &keys)?;
+    let order = order_of(alloc, raw)?;
+    let text = spelled(alloc, raw, &keys, &order)?;
     if text.len() > LONGEST_QUERY {
         return Err(QueryError::TooMany);
     }

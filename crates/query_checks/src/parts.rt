@@ -3,6 +3,7 @@
 ghost use Rattle.std.specs.Prelude.{◌≡◌, ◌==◌, map, option_map, IfOk, string_bytes};
 ghost use Rattle.query_checks.specs.Forms.{names_of, item_form, items_of, places_of, map_form, written_of};
 ghost use Rattle.query_checks.specs.Checks.{place, placed};
+ghost use Rattle.query_checks.specs.Order.{asked_of, order_of};
 ghost use Rattle.query_checks.specs.Sameness.{first_of_each};
 ghost use Rattle.query_checks.specs.Spelling.{own_name, kept_alias};
 ghost use Rattle.query_checks.specs.Parts.{written_of_parts};
@@ -10,6 +11,7 @@ ghost use Rattle.query_checks.specs.Parts.{written_of_parts};
 use crate::condition::{AggCall, Cond, Item, RawQuery};
 use crate::distinct::push_once;
 use crate::mapping::{Mapping, mapped_clause, mapped_item};
+use crate::order::{OrderTerm, order_of};
 use crate::spelling::{kept_alias, own_name};
 use packed_rows::Schema;
 use std::alloc::{AllocError, Global};
@@ -25,6 +27,8 @@ pub struct Parts {
     pub keys: Vec<usize>,
     /// HAVING, if there is one.
     pub having: Option<Cond<usize>>,
+    /// The order of the answer.
+    pub order: Vec<OrderTerm>,
 }
 
 /// The place of a column, which is there.
@@ -102,21 +106,25 @@ fn placed_keys(alloc: Global, schema: &Schema, names: &[String]) -> Result<Vec<u
 
 impl Parts {
     /// The parts of a query over the columns of a schema. A repeated column of GROUP BY counts once, by its first place, and an
-    /// alias that is the item's own name is as none. It is meant for a query whose columns are the schema's: any other name is
-    /// taken for column 0.
+    /// alias that is the item's own name is as none; so is a term of ORDER BY that doesn't mean just one item, or the item of an
+    /// earlier one. It is meant for a query whose columns are the schema's: any other name is taken for column 0.
     #[tactic(auto, using(crate::proofs::FormLaws::clause_placed))]
     pub fn placed(alloc: Global, schema: &Schema, raw: &RawQuery) -> Result<Parts, AllocError>
-        ensures { IfOk result (λ p. written_of_parts p ≡ placed schema.now (written_of raw.now)) }
+        ensures written { IfOk result (λ p.
+            written_of_parts p ≡ placed schema.now (written_of raw.now)) }
+        ensures order { IfOk result (λ p. p.order.items ≡ order_of (asked_of raw.now)) }
     {
         let keys = placed_keys(alloc, schema, &raw.keys)?;
         let condition = mapped_clause(alloc, schema, &raw.condition)?;
         let having = mapped_clause(alloc, schema, &raw.having)?;
         let items = placed_items(alloc, schema, &raw.items)?;
+        let order = order_of(alloc, raw)?;
         Ok(Parts {
             items,
             condition,
             keys,
             having,
+            order,
         })
     }
 }

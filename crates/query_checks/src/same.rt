@@ -3,10 +3,10 @@
 ghost use Rattle.std.specs.Prelude.{◌≡◌, ◌==◌};
 ghost use Rattle.agg_protocol.specs.Signatures.{function_eq};
 ghost use Rattle.agg_library.specs.Kinds.{function_of};
-ghost use Rattle.query_checks.specs.Forms.{form_of, call_form, test_of, comparison_of};
+ghost use Rattle.query_checks.specs.Forms.{form_of, call_form, item_form, test_of, comparison_of};
 ghost use Rattle.query_checks.specs.Sameness.{form_eq, test_number, comparison_number, option_same};
 
-use crate::condition::{AggCall, Comparison, Cond, IsTest};
+use crate::condition::{AggCall, Comparison, Cond, IsTest, Item};
 use agg_library::AggKind;
 
 /// Whether two functions are the same.
@@ -40,6 +40,17 @@ pub fn is_same_call<C: PartialEq>(a: &AggCall<C>, b: &AggCall<C>) -> bool
                 && is_same(x, y)
         }
         (None, None) => is_same_function(a.kind, b.kind) && is_same_column(&a.column, &b.column),
+        _ => false,
+    }
+}
+
+/// Whether two items are the same column or call.
+pub(crate) fn is_same_item<C: PartialEq>(a: &Item<C>, b: &Item<C>) -> bool
+    ensures { result ≡ form_eq C.eq (item_form a.now) (item_form b.now) }
+{
+    match (a, b) {
+        (Item::Column(a), Item::Column(b)) => a == b,
+        (Item::Call(a), Item::Call(b)) => is_same_call(a, b),
         _ => false,
     }
 }

@@ -8,10 +8,12 @@ ghost use Rattle.query_tokens.specs.Spelling.{spell, spell_byte};
 ghost use Rattle.agg_library.specs.Kinds.{function_of};
 ghost use Rattle.packed_rows.specs.View.{texts_of};
 ghost use Rattle.query_checks.specs.Forms.{form_of, call_form, item_form, names_of, items_of, comparison_of, test_of, written_of};
+ghost use Rattle.query_checks.specs.Order.{asked_of, order_of};
 ghost use Rattle.query_checks.specs.Sameness.{first_of_each};
-ghost use Rattle.query_checks.specs.Spelling.{comparison_text, test_text, call_text, level, operand, spelled, own_name, kept_alias, item_text, parted, clause_text, keys_text, spelling};
+ghost use Rattle.query_checks.specs.Spelling.{comparison_text, test_text, call_text, level, operand, spelled, own_name, kept_alias, item_text, parted, clause_text, keys_text, written_text, direction_text, term_text, order_text, spelling};
 
 use crate::condition::{AggCall, Comparison, Cond, IsTest, Item, RawQuery};
+use crate::order::OrderTerm;
 use agg_library::AggKind;
 use itoa::Buffer;
 use std::alloc::{AllocError, Global};
@@ -300,10 +302,58 @@ fn push_keys(text: &mut String, keys: &[&str]) -> Result<(), AllocError>
     push_names(text, keys)
 }
 
-/// The canonical text of a query, the distinct names of its columns of GROUP BY being given.
-pub(crate) fn spelled(alloc: Global, raw: &RawQuery, keys: &[&str]) -> Result<String, AllocError>
+/// The direction of a term of ORDER BY, and where nulls come, unless that is the direction's default.
+fn direction_text(descending: bool, nulls_first: bool) -> &'static str
+    ensures { result.now ≡ direction_text descending nulls_first }
+{
+    match (descending, nulls_first) {
+        (false, false) => "",
+        (false, true) => " NULLS FIRST",
+        (true, true) => " DESC",
+        (true, false) => " DESC NULLS LAST",
+    }
+}
+
+/// Appends a term of ORDER BY.
+fn push_term(text: &mut String, term: OrderTerm) -> Result<(), AllocError>
+    ensures { OnOk result (string_bytes text.new ≡ string_bytes text.old ++ term_text term) }
+{
+    text.push_str(Buffer::new().format(term.item as u128 + 1))?;
+    text.push_str(direction_text(term.descending, term.nulls_first))
+}
+
+/// Appends terms of ORDER BY, parted by commas.
+fn push_terms(text: &mut String, order: &[OrderTerm]) -> Result<(), AllocError>
+    ensures { OnOk result (string_bytes text.new
+        ≡ string_bytes text.old ++ parted (map term_text order.now)) }
+{
+    let Some((first, rest)) = order.split_first() else {
+        return Ok(());
+    };
+    push_term(text, *first)?;
+    for term in rest {
+        text.push_str(", ")?;
+        push_term(text, *term)?;
+    }
+    Ok(())
+}
+
+/// Appends ORDER BY and its terms, if there are some.
+fn push_order(text: &mut String, order: &[OrderTerm]) -> Result<(), AllocError>
+    ensures { OnOk result (string_bytes text.new
+        ≡ string_bytes text.old ++ order_text order.now) }
+{
+    if order.is_empty() {
+        return Ok(());
+    }
+    text.push_str(" ORDER BY ")?;
+    push_terms(text, order)
+}
+
+/// The text of a query but its ORDER BY, the distinct names of its columns of GROUP BY being given.
+fn written(alloc: Global, raw: &RawQuery, keys: &[&str]) -> Result<String, AllocError>
     requires { texts_of keys.now ≡ first_of_each bytes_eq (written_of raw.now).keys }
-    ensures { IfOk result (λ text. string_bytes text ≡ spelling (written_of raw.now)) }
+    ensures { IfOk result (λ text. string_bytes text ≡ written_text (written_of raw.now)) }
 {
     let mut text = String::from_str(alloc, "SELECT ")?;
     push_items(&mut text, &raw.items)?;
@@ -311,5 +361,21 @@ pub(crate) fn spelled(alloc: Global, raw: &RawQuery, keys: &[&str]) -> Result<St
     push_clause(&mut text, " WHERE ", &raw.condition)?;
     push_keys(&mut text, keys)?;
     push_clause(&mut text, " HAVING ", &raw.having)?;
+    Ok(text)
+}
+
+/// The canonical text of a query, the distinct names of its columns of GROUP BY and its order being given.
+pub(crate) fn spelled(
+    alloc: Global,
+    raw: &RawQuery,
+    keys: &[&str],
+    order: &[OrderTerm],
+) -> Result<String, AllocError>
+    requires keys { texts_of keys.now ≡ first_of_each bytes_eq (written_of raw.now).keys }
+    requires order { order.now ≡ order_of (asked_of raw.now) }
+    ensures { IfOk result (λ text. string_bytes text ≡ spelling (asked_of raw.now)) }
+{
+    let mut text = written(alloc, raw, keys)?;
+    push_order(&mut text, order)?;
     Ok(text)
 }

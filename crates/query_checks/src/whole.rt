@@ -1,6 +1,6 @@
 //! The checks of whole queries.
 
-ghost use Rattle.std.specs.Prelude.{◌≡◌, true, map, option_map, string_bytes};
+ghost use Rattle.std.specs.Prelude.{◌≡◌, ◌&&◌, true, map, option_map, string_bytes};
 ghost use Rattle.std.specs.List.{list_all};
 ghost use Rattle.std.specs.Option.{option_map_or};
 ghost use Rattle.packed_rows.specs.View.{kinds_of};
@@ -8,12 +8,14 @@ ghost use Rattle.packed_rows.specs.Columns.{kinds};
 ghost use Rattle.query_checks.specs.Forms.{form_of, item_form, names_of, items_of, places_of, written_of};
 ghost use Rattle.query_checks.specs.Reads.{columns_pass, filters_pass, is_grouped_by, is_plain};
 ghost use Rattle.query_checks.specs.Checks.{all_of, is_shallow, are_shallow, is_column, has_columns, operands_fit, condition_fits, are_plain, kinds_fit, is_grouped};
+ghost use Rattle.query_checks.specs.Order.{asked_of, names_items};
 ghost use Rattle.query_checks.specs.Parts.{written_of_parts};
 
 use crate::checks::{
     PlainFilters, ShallowFilters, are_shallow, call_fits, condition_fits, is_grouped_by, is_plain,
 };
 use crate::condition::{AggCall, Cond, Item, RawQuery};
+use crate::order::names_items;
 use crate::parts::Parts;
 use crate::reads::{Test, clause_everywhere, items_everywhere};
 use packed_rows::{Schema, ValueKind};
@@ -105,13 +107,21 @@ fn keys_are_known(schema: &Schema, names: &[String]) -> bool
 }
 
 /// Whether all columns that a query names are a schema's.
-pub(crate) fn has_columns(schema: &Schema, raw: &RawQuery) -> bool
+fn has_columns(schema: &Schema, raw: &RawQuery) -> bool
     ensures { result ≡ has_columns schema.now (written_of raw.now) }
 {
     items_are_known(schema, &raw.items)
         && clause_is_known(schema, &raw.condition)
         && clause_is_known(schema, &raw.having)
         && keys_are_known(schema, &raw.keys)
+}
+
+/// Whether all columns that a query names are a schema's, and all terms of its ORDER BY name items.
+pub(crate) fn has_names(schema: &Schema, raw: &RawQuery) -> bool
+    ensures { result ≡
+        (has_columns schema.now (written_of raw.now) && names_items (asked_of raw.now)) }
+{
+    has_columns(schema, raw) && names_items(raw)
 }
 
 /// Whether no aggregate stands in a clause, if there is one.

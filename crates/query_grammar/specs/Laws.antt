@@ -3,7 +3,7 @@ use Rattle.std.specs.Prelude.{◌≡◌, ℕ, suc, Bool, true, List, [], ◌∷�
 use Rattle.query_tokens.specs.Words.{Lexeme, Placed}
 use Rattle.query_tokens.specs.Tokens.{tokens_in}
 use Rattle.query_tokens.specs.Spelling.{lexemes_of}
-use Rattle.query_checks.specs.Forms.{Written}
+use Rattle.query_checks.specs.Order.{Asked}
 use Rattle.query_grammar.specs.Grammar.{opening}
 use Rattle.query_grammar.specs.Queries.{IsQuery, Begins, most_open}
 use Rattle.query_grammar.specs.Reading.{Read, Unexpected, Too_deep}
@@ -31,7 +31,7 @@ pub record Means {A : Type 0} (P : Part A) (ts : List Lexeme) (read : Read A) : 
 
 -- no query goes on behind the front as these tokens do: with the first of them, or by ending where there are none
 abbrev pub NoneGoesOn : ℕ → List Lexeme → List Lexeme → Type 0
-NoneGoesOn limit front [] = (q : Written (List ℕ)) → ¬ (IsQuery limit front q)
+NoneGoesOn limit front [] = (q : Asked) → ¬ (IsQuery limit front q)
 NoneGoesOn limit front (t ∷ rest) = ¬ (Begins limit (front ++ t ∷ []))
 
 -- The first token after which no query can follow, where `left` of the tokens are left: what stands before it begins a
@@ -56,7 +56,7 @@ pub record IsTooDeep (limit : ℕ) (ts : List Lexeme) (left : ℕ) : Type 0 wher
   pub allowed : Begins (suc limit) (front ++ opening ∷ [])
 
 -- a text says a query
-pub record IsSpelled (text : List ℕ) (q : Written (List ℕ)) : Type 0 where
+pub record IsSpelled (text : List ℕ) (q : Asked) : Type 0 where
   pub tokens : List Placed
   pub read : tokens_in text ≡ Ok tokens
   pub is_query : IsQuery most_open (lexemes_of tokens) q

@@ -1,5 +1,5 @@
 use Rattle.std.proofs.Common.{refl}
-use Rattle.query_checks.proofs.spelling.spelled.Goals as goal
+use Rattle.query_checks.proofs.spelling.written.Goals as goal
 
 pub returns : goal.returns
 returns c =

@@ -1,0 +1,88 @@
+-- ORDER BY: its terms as they are written, and the items that they mean (PostgreSQL 17, 7.5 Sorting Rows, and SELECT, ORDER
+-- BY Clause; that a term is the name or the place of an item, and no other expression, is our own).
+use Rattle.std.specs.Prelude.{ℕ, ◌-◌, ◌==◌, ◌&&◌, not, nat_le, ℤ, pos, Bool, true, false, if◌then◌else◌, List, length, map, string_bytes, Option, Some, None, option_map, is_some, unwrap_or, position, find}
+use Rattle.std.specs.List.{list_any, list_all, filter_map}
+use Rattle.std.specs.Option.{option_map_or}
+use Rattle.std.specs.Str.{bytes_eq}
+use Rattle.query_checks.specs.declared.condition.RawQuery.{RawQuery}
+use Rattle.query_checks.specs.declared.order.OrderBy.{OrderBy}
+use Rattle.query_checks.specs.declared.order.OrderBy.TheVariants as target
+use Rattle.query_checks.specs.declared.order.RawTerm.{RawTerm}
+use Rattle.query_checks.specs.declared.order.OrderTerm.{OrderTerm}
+use Rattle.query_checks.specs.Forms.{Form, Written, written_of}
+use Rattle.query_checks.specs.Labels.{label_of}
+use Rattle.query_checks.specs.Sameness.{form_eq, first_of_each}
+
+-- what a term names: an item by its name, or by its place, the first being 1
+pub data Target : Type 0 where
+  By_name : List ℕ → Target
+  By_place : ℤ → Target
+
+-- a term: what it names, whether it is descending, and whether nulls come first, if that is said
+pub record Term : Type 0 where
+  pub target : Target
+  pub descending : Bool
+  pub nulls_first : Option Bool
+
+-- a query with its terms
+pub record Asked : Type 0 where
+  pub written : Written (List ℕ)
+  pub terms : List Term
+
+-- the same of what the code reads
+abbrev pub target_of : OrderBy → Target
+target_of (target.Name name) = By_name (string_bytes name)
+target_of (target.Place place) = By_place place
+
+abbrev pub term_of : RawTerm → Term
+term_of term = record { target = target_of term.target; descending = term.descending; nulls_first = term.nulls_first }
+
+abbrev pub asked_of : RawQuery → Asked
+asked_of raw = record { written = written_of raw; terms = map term_of raw.order.items }
+
+-- whether this is an item's name
+abbrev pub has_name : List ℕ → Form (List ℕ) × Option (List ℕ) → Bool
+has_name name item = bytes_eq name (label_of item)
+
+-- the item at a place of so many, the first item being 0 and the first place 1
+abbrev pub item_at : ℕ → ℤ → Option ℕ
+item_at many (pos place) = if nat_le 1 place && nat_le place many then Some (place - 1) else None
+item_at many other = None
+
+-- the item that a term means: the one at its place, or of those with its name the leftmost
+abbrev pub item_meant : List (Form (List ℕ) × Option (List ℕ)) → Target → Option ℕ
+item_meant items (By_name name) = position (has_name name) items
+item_meant items (By_place place) = item_at (length items) place
+
+-- whether two items have the name and aren't the same column or call: whether one that has it isn't the same as the leftmost
+abbrev pub is_unlike : List ℕ → Form (List ℕ) → Form (List ℕ) × Option (List ℕ) → Bool
+is_unlike name leftmost item = has_name name item && not (form_eq bytes_eq leftmost item.0)
+
+abbrev pub is_ambiguous : List (Form (List ℕ) × Option (List ℕ)) → Target → Bool
+is_ambiguous items (By_name name) = option_map_or (λ leftmost. list_any (is_unlike name leftmost.0) items) (find (has_name name) items) false
+is_ambiguous items (By_place place) = false
+
+-- a term that orders by an item. Nulls count as greater than all else, unless it says otherwise: they come first where it is
+-- descending, and else last (PostgreSQL 17, 7.5)
+abbrev pub ordered_by : Term → ℕ → OrderTerm
+ordered_by term item = record { item = item; descending = term.descending; nulls_first = unwrap_or term.nulls_first term.descending }
+
+-- the same of the item that it means, if it means just one
+abbrev pub term_meant : List (Form (List ℕ) × Option (List ℕ)) → Term → Option OrderTerm
+term_meant items term = if is_ambiguous items term.target then None else option_map (ordered_by term) (item_meant items term.target)
+
+-- two terms order by one item
+abbrev pub same_item : OrderTerm → OrderTerm → Bool
+same_item a b = a.item == b.item
+
+-- the order of the answer: the terms that mean an item, each unless one before it orders by this item (own: what is equal by
+-- the earlier term is by the later one)
+abbrev pub order_of : Asked → List OrderTerm
+order_of q = first_of_each same_item (filter_map (term_meant q.written.items) q.terms)
+
+-- whether each term names an item, and whether one names two
+abbrev pub names_items : Asked → Bool
+names_items q = list_all (λ term. is_some (item_meant q.written.items term.target)) q.terms
+
+abbrev pub is_ambiguously_ordered : Asked → Bool
+is_ambiguously_ordered q = list_any (λ term. is_ambiguous q.written.items term.target) q.terms
