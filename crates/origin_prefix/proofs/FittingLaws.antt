@@ -13,7 +13,7 @@ use Rattle.std.specs.BTreeMap.{insert_entry}
 use Rattle.grouping_model.specs.Datum.{Row, Kind, HasKinds}
 use Rattle.grouping_model.specs.Query.{Query}
 use Rattle.grouping_model.specs.Grouping.{part}
-use Rattle.grouping_model.specs.World.{World, IsWorld, count_up, batch_rows}
+use Rattle.grouping_model.specs.World.{World, IsWorld, count_up, batch_rows, rows_upto}
 use Rattle.grouping_model.specs.declared.limits.TheConstants.{MOST_ROWS}
 use Rattle.grouping_model.specs.declared.delivered.Delivered.{Delivered}
 use Rattle.grouping_model.specs.declared.delivered.Delivered.TheVariants.{Folded, Early, Known}
@@ -32,7 +32,7 @@ use Rattle.group_runs.specs.EntryLaws.{groups_raised}
 use Rattle.hash_agg.specs.BytesLaws.{stands_spelled}
 use Rattle.origin_prefix.specs.Parts.{Batches, Part, rows_at, IsPartOf, following, rows_following, Folds, Settles, Disagrees, Delivers}
 use Rattle.origin_prefix.specs.Joins.{either, longer, shorter, PartsDisagree, Joins}
-use Rattle.origin_prefix.specs.Fitting.{rows_upto, FitsOrigin}
+use Rattle.origin_prefix.specs.Fitting.{FitsOrigin}
 use Rattle.origin_prefix.proofs.Lists.{same_or_other}
 use Rattle.origin_prefix.proofs.ByNumber.{found_holds, all_found, put_same, put_else}
 use Rattle.origin_prefix.proofs.PartLaws.{all_drop}

@@ -7,19 +7,19 @@ use Rattle.std.proofs.lemmas.List.Sums.{sum_by-cons}
 use Rattle.std.proofs.lemmas.List.Elements.{All-from_recursion}
 use Rattle.std.specs.List.{AllByRecursion}
 use Rattle.std.specs.List.Sorted.{IsStrictlySortedBy}
+use Rattle.std.proofs.lemmas.List.Sorted.{All-permutation}
 use Rattle.std.specs.Ordering.{nat_cmp}
 use Rattle.list_laws.specs.Each.{each_weaker, each_both}
+use Rattle.list_laws.specs.Sorting.{sorted_moves}
 use Rattle.grouping_model.specs.declared.limits.TheConstants.{LAST_ORIGIN, LAST_NUMBER, MOST_ROWS}
-use Rattle.grouping_model.specs.Datum.{Row, row_cmp, at_place}
-use Rattle.grouping_model.specs.Rising.{put, distinct}
+use Rattle.grouping_model.specs.Datum.{Row}
 use Rattle.grouping_model.specs.Aggregates.{Outcome}
 use Rattle.grouping_model.specs.Condition.{is_met}
 use Rattle.grouping_model.specs.Query.{Query}
-use Rattle.grouping_model.specs.Grouping.{Group, part, key_of, selected, group, partials}
-use Rattle.grouping_model.specs.Parts.{answered, source_in}
-use Rattle.grouping_model.specs.World.{World, origin_rows, known_rows}
-use Rattle.grouping_model.specs.Answer.{answer}
-use Rattle.grouping_model.specs.GroupLaws.{answer_of_part}
+use Rattle.grouping_model.specs.Grouping.{Group, part}
+use Rattle.grouping_model.specs.World.{World, origin_rows, known_rows, rows_upto}
+use Rattle.grouping_model.specs.Order.{comes_before}
+use Rattle.grouping_model.specs.Answer.{source_in, answered, rows_of, answer_of, answer}
 use Rattle.agg_protocol.specs.States.{most_rows}
 use Rattle.query_checks.specs.Checks.{Checked}
 use Rattle.having_filter.specs.Meaning.{meaning}
@@ -32,10 +32,9 @@ use Rattle.hash_agg.specs.Counting.{IsCounted, AreCounted}
 use Rattle.packed_rows.specs.RowsOnEnd.{on_end}
 use Rattle.hash_agg.specs.Inputs.{Brought, brought, Counted, IsInput, AreInputsOf, IsAggregate, IsRunOver, all_rows, rows_in}
 use Rattle.origin_prefix.specs.Parts.{Part}
-use Rattle.origin_prefix.specs.Fitting.{rows_upto, FitsOrigin}
+use Rattle.origin_prefix.specs.Fitting.{FitsOrigin}
 use Rattle.origin_prefix.proofs.ByNumber.{numbers, above_first, rising_rest}
 use Rattle.replica_merge.specs.Counting.{aggregations_asked}
-use Rattle.replica_merge.specs.Groups.{answer_rows, shown_of_none, groups_shown}
 use Rattle.replica_merge.specs.Replicas.{Parts, part_at, part_of, told, Held, Fits, IsHeldPart, AreHeldParts, counted_part}
 use Rattle.group_runs.specs.PlaceLaws.{drop_at}
 use Rattle.replica_merge.proofs.ToldLaws.{HasGap, part_gap, prefix_told, origins_told, each_at, part_here}
@@ -237,80 +236,34 @@ none_known held world is none = ap (part (meaning held.query)) (known_rows_are h
 
 -- ---- answers
 
--- the rows that are shown are those that HAVING keeps
-shown_rows : (q : Query) (groups : List Group) → flat_map (answer_rows q) groups ≡ map (λ (group : Group). map (source_in group) q.items) (filter (λ (group : Group). is_met (source_in group) q.having) groups)
-shown_rows q [] = refl
-shown_rows q (g ∷ groups) =
-    elim (is_met (source_in g) q.having) as (λ b. cond b (map (source_in g) q.items ∷ []) [] ++ flat_map (answer_rows q) groups ≡ map (λ (group : Group). map (source_in group) q.items) (cond b (g ∷ filter (λ (group : Group). is_met (source_in group) q.having) groups) (filter (λ (group : Group). is_met (source_in group) q.having) groups))) [
-      | true ↦ ap (λ rows. map (source_in g) q.items ∷ rows) (shown_rows q groups)
-      | false ↦ shown_rows q groups
-    ]
-
--- without GROUP BY, all rows have one key
-one_key : (q : Query) (rows : List Row) → q.keys ≡ [] → (distinct row_cmp (map (key_of q) rows) ≡ []) ⊎ (distinct row_cmp (map (key_of q) rows) ≡ [] ∷ [])
-one_key q [] none = inl refl
-one_key q (row ∷ rows) none =
-    let key : key_of q row ≡ [] = ap (map (at_place row)) none in
-    elim (one_key q rows none) [
-      | inl e ↦ inr (λ i. put row_cmp (key i) (e i))
-      | inr e ↦ inr (λ i. put row_cmp (key i) (e i))
-    ]
-
-answered_shown : (q : Query) (rows : List Row) → answered q q.keys (part q rows) ≡ groups_shown q (part q rows)
-answered_shown q rows = of_keys q.keys refl
-  where
-    with_keys : List Row → List Group
-    with_keys = λ ks. map (λ key. (key, partials q (group q rows key))) ks
-
-    some_keys : (place : ℕ) (places : List ℕ) (gs : List Group) → q.keys ≡ place ∷ places → answered q q.keys gs ≡ groups_shown q gs
-    some_keys place places [] is = ap (λ ks. answered q ks []) is ∙ sym (ap (shown_of_none q) is)
-    some_keys place places (g ∷ gs) is = ap (λ ks. answered q ks (g ∷ gs)) is
-
-    of_keys : (places : List ℕ) → q.keys ≡ places → answered q q.keys (part q rows) ≡ groups_shown q (part q rows)
-    of_keys (place ∷ places) is = some_keys place places (part q rows) is
-    of_keys [] is =
-        elim (one_key q (selected q rows) is) [
-          | inl e ↦ ap (λ ks. answered q ks (part q rows)) is ∙ ap (λ ks. answered q [] (with_keys ks)) e ∙ sym (ap (shown_of_none q) is) ∙ ap (λ ks. groups_shown q (with_keys ks)) (sym e)
-          | inr e ↦ ap (λ ks. answered q ks (part q rows)) is ∙ ap (λ ks. answered q [] (with_keys ks)) e ∙ ap (λ ks. groups_shown q (with_keys ks)) (sym e)
-        ]
-
--- the groups of what is known give the answer
-pub answer_shown : (q : Query) (world : World) (parts : Parts) → flat_map (answer_rows q) (groups_shown q (part q (known_rows world (told parts)))) ≡ answer q world (told parts)
-answer_shown q world parts =
-    let rows : List Row = known_rows world (told parts) in
-    shown_rows q (groups_shown q (part q rows))
-    ∙ ap (λ groups. map (λ (group : Group). map (source_in group) q.items) (filter (λ (group : Group). is_met (source_in group) q.having) groups)) (sym (answered_shown q rows))
-    ∙ sym (answer_of_part q rows)
-
 -- each row has the query's items
-pub rows_wide : (q : Query) (groups : List Group) → All (λ (row : List Outcome). length row ≡ length q.items) (flat_map (answer_rows q) groups)
-rows_wide q groups = All-from_recursion (λ (row : List Outcome). length row ≡ length q.items) (flat_map (answer_rows q) groups) (each groups)
+pub rows_wide : (q : Query) (groups : List Group) → All (λ (row : List Outcome). length row ≡ length q.items) (answer_of q groups)
+rows_wide q groups =
+    All-permutation (λ (row : List Outcome). length row ≡ length q.items) (rows_of q (answered q groups)) (answer_of q groups) (sorted_moves (comes_before q.order) (rows_of q (answered q groups)))
+    (All-from_recursion (λ (row : List Outcome). length row ≡ length q.items) (rows_of q (answered q groups)) (each (answered q groups)))
   where
-    each : (groups : List Group) → AllByRecursion (λ (row : List Outcome). length row ≡ length q.items) (flat_map (answer_rows q) groups)
+    each : (groups : List Group) → AllByRecursion (λ (row : List Outcome). length row ≡ length q.items) (rows_of q groups)
     each [] = tt
-    each (g ∷ groups) =
-        elim (is_met (source_in g) q.having) as (λ b. AllByRecursion (λ (row : List Outcome). length row ≡ length q.items) (cond b (map (source_in g) q.items ∷ []) [] ++ flat_map (answer_rows q) groups)) [
-          | true ↦ (length-map q.items (source_in g), each groups)
-          | false ↦ each groups
-        ]
+    each (g ∷ groups) = first (is_met (source_in g) q.having) (each groups)
+      where
+        first : (b : Bool) → AllByRecursion (λ (row : List Outcome). length row ≡ length q.items) (rows_of q groups) → AllByRecursion (λ (row : List Outcome). length row ≡ length q.items) (map (λ (group : Group). map (source_in group) q.items) (cond b (g ∷ filter (λ (group : Group). is_met (source_in group) q.having) groups) (filter (λ (group : Group). is_met (source_in group) q.having) groups)))
+        first true others = (length-map q.items (source_in g), others)
+        first false others = others
 
 -- rows that the groups of a run show
 abbrev pub ShownBy : Query → List Entry → List (List Outcome) → Type 0
-ShownBy q run rows = (most : ℕ) (groups : List Group) → most ≤ most_rows → AreGroups q most run groups → rows ≡ flat_map (answer_rows q) (groups_shown q groups)
+ShownBy q run rows = (most : ℕ) (groups : List Group) → most ≤ most_rows → AreGroups q most run groups → rows ≡ answer_of q groups
 
 -- what a replica shows of such a run
 pub shown_wide : (honest : Bool) (held : Held) (run : List Entry) (rows : List (List Outcome)) → IsOfParts honest held run → ShownBy (meaning held.query) run rows
     → All (λ (row : List Outcome). length row ≡ length (meaning held.query).items) rows
 shown_wide honest held run rows of shown =
-    subst (All (λ (row : List Outcome). length row ≡ length (meaning held.query).items)) (sym (shown of.most of.groups of.few of.are)) (rows_wide (meaning held.query) (groups_shown (meaning held.query) of.groups))
+    subst (All (λ (row : List Outcome). length row ≡ length (meaning held.query).items)) (sym (shown of.most of.groups of.few of.are)) (rows_wide (meaning held.query) of.groups)
 
 pub shown_answer : (honest : Bool) (held : Held) (run : List Entry) (rows : List (List Outcome)) → IsOfParts honest held run → ShownBy (meaning held.query) run rows
     → IsTrue honest → (world : World) → Fits world held → rows ≡ answer (meaning held.query) world (told held.parts)
 shown_answer honest held run rows of shown so world fits =
-    shown of.most (part (meaning held.query) (known_rows world (told held.parts))) of.few (of.known so world fits) ∙ answer_shown (meaning held.query) world held.parts
+    shown of.most (part (meaning held.query) (known_rows world (told held.parts))) of.few (of.known so world fits)
 
-pub none_answer : (held : Held) (rows : List (List Outcome)) (world : World) → AreHeldParts held.query held.parts → held.parts ≡ [] → rows ≡ flat_map (answer_rows (meaning held.query)) (groups_shown (meaning held.query) [])
-    → rows ≡ answer (meaning held.query) world (told held.parts)
-none_answer held rows world is none shown =
-    shown ∙ ap (λ groups. flat_map (answer_rows (meaning held.query)) (groups_shown (meaning held.query) groups)) (sym (none_known held world is none))
-    ∙ answer_shown (meaning held.query) world held.parts
+pub none_answer : (held : Held) (rows : List (List Outcome)) (world : World) → AreHeldParts held.query held.parts → held.parts ≡ [] → rows ≡ answer_of (meaning held.query) [] → rows ≡ answer (meaning held.query) world (told held.parts)
+none_answer held rows world is none shown = shown ∙ ap (answer_of (meaning held.query)) (sym (none_known held world is none))

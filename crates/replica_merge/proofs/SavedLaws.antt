@@ -2,7 +2,7 @@
 use Rattle.std.specs.Prelude.{◌≡◌, refl, ℕ, List, [], ◌∷◌, ◌*◌, map, Some, unwrap_or, Result, Ok, Err, IfOk}
 use Rattle.std.proofs.Common.{◌∙◌, sym, ap, subst}
 use Rattle.list_laws.specs.Each.{each_both}
-use Rattle.grouping_model.specs.World.{World, origins, prefix, early, batch_rows, origin_rows}
+use Rattle.grouping_model.specs.World.{World, origins, prefix, early, batch_rows, origin_rows, rows_upto}
 use Rattle.grouping_model.specs.Grouping.{part}
 use Rattle.grouping_model.specs.declared.limits.TheConstants.{MOST_ROWS}
 use Rattle.batch_reader.specs.Rows.{packings}
@@ -11,7 +11,7 @@ use Rattle.having_filter.specs.Meaning.{meaning}
 use Rattle.hash_agg.specs.Bytes.{run_bytes}
 use Rattle.hash_agg.specs.BytesLaws.{stands_spelled}
 use Rattle.origin_prefix.specs.Parts.{Part}
-use Rattle.origin_prefix.specs.Fitting.{FitsOrigin, rows_upto}
+use Rattle.origin_prefix.specs.Fitting.{FitsOrigin}
 use Rattle.origin_prefix.proofs.ByNumber.{at, numbers}
 use Rattle.summary_codec.specs.File.{file_bytes}
 use Rattle.summary_codec.specs.Reading.{IsSummary}

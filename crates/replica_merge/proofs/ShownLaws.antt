@@ -1,14 +1,13 @@
 -- The row of an answer that a group gives.
-use Rattle.std.specs.Prelude.{◌≡◌, ◌≢◌, refl, ℕ, zero, suc, ◌+◌, ◌<◌, true, false, cond, List, [], ◌∷◌, ◌++◌, map, flat_map, length, take, drop, slice_get, slice_index_or, Some}
+use Rattle.std.specs.Prelude.{◌≡◌, ◌≢◌, refl, ℕ, zero, suc, ◌+◌, ◌<◌, Bool, true, false, cond, List, [], ◌∷◌, ◌++◌, map, filter, length, take, drop, slice_get, slice_index_or, Some}
 use Rattle.std.proofs.Common.{sym, ◌∙◌, ap, subst, arith, append-nil, append_assoc}
-use Rattle.std.proofs.lemmas.List.Concat.{flat_map-cons}
 use Rattle.grouping_model.specs.Datum.{Bigint_kind, HasKinds}
 use Rattle.grouping_model.specs.Aggregates.{Partial, Outcome, Plain, outcome}
 use Rattle.grouping_model.specs.Condition.{is_met}
 use Rattle.grouping_model.specs.Query.{Query}
 use Rattle.grouping_model.specs.Grouping.{Group, partials}
-use Rattle.grouping_model.specs.Parts.{functions, source_in}
-use Rattle.grouping_model.specs.Answer.{outcome_at}
+use Rattle.grouping_model.specs.Parts.{functions}
+use Rattle.grouping_model.specs.Answer.{outcome_at, source_in, answered_of_none, answered, rows_of}
 use Rattle.packed_rows.specs.Packing.{packing}
 use Rattle.packed_rows.specs.View.{row_of}
 use Rattle.packed_rows.specs.declared.value.Value.{Value}
@@ -21,7 +20,6 @@ use Rattle.group_runs.specs.Runs.{Entry}
 use Rattle.group_runs.specs.Standing.{AreStates, StandsFor, AreGroups}
 use Rattle.group_runs.specs.StateLaws.{first_and_rest, dropped}
 use Rattle.group_runs.proofs.RunLaws.{packed_once}
-use Rattle.replica_merge.specs.Groups.{answer_rows, groups_shown}
 
 -- ---- the states of a group
 
@@ -66,11 +64,25 @@ pub key_is : (q : Query) (most : ℕ) (key states : List ℕ) (values : List Val
 key_is q most key states values group has is stands = packed_once (key_kinds q) key (row_of values) group.0 has stands.of_kinds is stands.key
 
 -- a group that is shown, and one that is not
-pub shown : (q : Query) (group : Group) (items : List Outcome) → is_met (source_in group) q.having ≡ true → items ≡ map (source_in group) q.items → items ∷ [] ≡ answer_rows q group
-shown q group items met are = ap (λ row. row ∷ []) are ∙ ap (λ b. cond b (map (source_in group) q.items ∷ []) []) (sym met)
+pub shown : (q : Query) (group : Group) (items : List Outcome) → is_met (source_in group) q.having ≡ true → items ≡ map (source_in group) q.items → items ∷ [] ≡ rows_of q (group ∷ [])
+shown q group items met are = ap (λ row. row ∷ []) are ∙ ap (λ b. map (λ (group : Group). map (source_in group) q.items) (cond b (group ∷ []) [])) (sym met)
 
-pub not_shown : (q : Query) (group : Group) → is_met (source_in group) q.having ≡ false → [] ≡ answer_rows q group
-not_shown q group met = ap (λ b. cond b (map (source_in group) q.items ∷ []) []) (sym met)
+pub not_shown : (q : Query) (group : Group) → is_met (source_in group) q.having ≡ false → [] ≡ rows_of q (group ∷ [])
+not_shown q group met = ap (λ b. map (λ (group : Group). map (source_in group) q.items) (cond b (group ∷ []) [])) (sym met)
+
+-- the rows of a group and of others
+rows_both : (q : Query) (group : Group) (groups : List Group) → rows_of q (group ∷ groups) ≡ rows_of q (group ∷ []) ++ rows_of q groups
+rows_both q group groups =
+    elim (is_met (source_in group) q.having) as (λ b. map (row q) (cond b (group ∷ filter (met q) groups) (filter (met q) groups)) ≡ map (row q) (cond b (group ∷ []) []) ++ map (row q) (filter (met q) groups)) [
+      | true ↦ refl
+      | false ↦ refl
+    ]
+  where
+    row : Query → Group → List Outcome
+    row q group = map (source_in group) q.items
+
+    met : Query → Group → Bool
+    met q group = is_met (source_in group) q.having
 
 -- ---- the groups of a run
 
@@ -78,18 +90,18 @@ not_shown q group met = ap (λ b. cond b (map (source_in group) q.items ∷ []) 
 pub record LeftOver (q : Query) (most : ℕ) (left : List Entry) (answer : List (List Outcome)) (groups : List Group) : Type 0 where
   pub others : List Group
   pub are : AreGroups q most left others
-  pub whole : answer ++ flat_map (answer_rows q) others ≡ flat_map (answer_rows q) groups
+  pub whole : answer ++ rows_of q others ≡ rows_of q groups
 
 -- the first group of what is left, and what is left behind it
 pub record FirstLeft (q : Query) (most : ℕ) (entry : Entry) (left : List Entry) (answer : List (List Outcome)) (groups : List Group) : Type 0 where
   pub group : Group
   pub stands : StandsFor q most entry group
-  pub behind : (more : List (List Outcome)) → more ≡ answer ++ answer_rows q group → LeftOver q most left more groups
+  pub behind : (more : List (List Outcome)) → more ≡ answer ++ rows_of q (group ∷ []) → LeftOver q most left more groups
 
 pub first_left : (q : Query) (most : ℕ) (entry : Entry) (left : List Entry) (answer : List (List Outcome)) (groups : List Group) → LeftOver q most (entry ∷ left) answer groups → FirstLeft q most entry left answer groups
 first_left q most entry left answer groups over = at over.others over.are over.whole
   where
-    at : (others : List Group) → AreGroups q most (entry ∷ left) others → answer ++ flat_map (answer_rows q) others ≡ flat_map (answer_rows q) groups → FirstLeft q most entry left answer groups
+    at : (others : List Group) → AreGroups q most (entry ∷ left) others → answer ++ rows_of q others ≡ rows_of q groups → FirstLeft q most entry left answer groups
     at [] are whole = absurd are
     at (group ∷ others) (first, rest) whole =
         record {
@@ -101,29 +113,34 @@ first_left q most entry left answer groups over = at over.others over.are over.w
                 others = others;
                 are = rest;
                 whole =
-                    ap (λ rows. rows ++ flat_map (answer_rows q) others) is
-                    ∙ append_assoc answer (answer_rows q group) (flat_map (answer_rows q) others)
-                    ∙ ap (λ rows. answer ++ rows) (sym (flat_map-cons (answer_rows q) group others))
+                    ap (λ rows. rows ++ rows_of q others) is
+                    ∙ append_assoc answer (rows_of q (group ∷ [])) (rows_of q others)
+                    ∙ ap (λ rows. answer ++ rows) (sym (rows_both q group others))
                     ∙ whole;
               };
         }
 
 -- nothing is left
-pub none_left : (q : Query) (most : ℕ) (left : List Entry) (answer : List (List Outcome)) (groups : List Group) → left ≡ [] → LeftOver q most left answer groups → answer ≡ flat_map (answer_rows q) groups
+pub none_left : (q : Query) (most : ℕ) (left : List Entry) (answer : List (List Outcome)) (groups : List Group) → left ≡ [] → LeftOver q most left answer groups → answer ≡ rows_of q groups
 none_left q most (entry ∷ left) answer groups none over = absurd cc
 none_left q most [] answer groups none over = at over.others over.are over.whole
   where
-    at : (others : List Group) → AreGroups q most [] others → answer ++ flat_map (answer_rows q) others ≡ flat_map (answer_rows q) groups → answer ≡ flat_map (answer_rows q) groups
+    at : (others : List Group) → AreGroups q most [] others → answer ++ rows_of q others ≡ rows_of q groups → answer ≡ rows_of q groups
     at [] are whole = sym (append-nil answer) ∙ whole
     at (group ∷ others) are whole = absurd are
 
 -- the whole of a run is left
 pub all_left : (q : Query) (most : ℕ) (run : List Entry) (answer : List (List Outcome)) (groups : List Group) → answer ≡ [] → AreGroups q most run groups → LeftOver q most run answer groups
-all_left q most run answer groups none are = record { others = groups; are = are; whole = ap (λ rows. rows ++ flat_map (answer_rows q) groups) none }
+all_left q most run answer groups none are = record { others = groups; are = are; whole = ap (λ rows. rows ++ rows_of q groups) none }
 
-pub shown_some : (q : Query) (groups : List Group) → length groups ≢ 0 → groups_shown q groups ≡ groups
-shown_some q [] some = absurd (some refl)
-shown_some q (g ∷ groups) some = refl
+-- groups that are there are answered, and those of an empty run are none
+pub answered_some : (q : Query) (groups : List Group) → length groups ≢ 0 → answered q groups ≡ groups
+answered_some q [] some = absurd (some refl)
+answered_some q (g ∷ groups) some = refl
+
+pub answered_none : (q : Query) (keys : List ℕ) → keys ≢ [] → answered_of_none q keys ≡ []
+answered_none q [] some = absurd (some refl)
+answered_none q (place ∷ places) some = refl
 
 -- the group of no rows, without GROUP BY
 pub empty_stands : (q : Query) (bytes : List ℕ) → q.keys ≡ [] → AreStates (functions q) 0 bytes (partials q []) → StandsFor q 0 ([], bytes) ([], partials q [])

@@ -1,10 +1,10 @@
 //! The rows of an answer, from the groups of a run.
 
-ghost use Rattle.std.specs.Prelude.{◌≡◌, ◌≤◌, ◌++◌, ℕ, List, [], map, flat_map, length, IfOk, OnOk};
+ghost use Rattle.std.specs.Prelude.{◌≡◌, ◌≤◌, ◌++◌, ◌∷◌, ℕ, List, [], map, IfOk, OnOk};
 ghost use Rattle.grouping_model.specs.Datum.{Row, HasKinds};
 ghost use Rattle.grouping_model.specs.Aggregates.{Partial, Plain, outcome};
 ghost use Rattle.grouping_model.specs.Grouping.{Group};
-ghost use Rattle.grouping_model.specs.Answer.{outcome_at};
+ghost use Rattle.grouping_model.specs.Answer.{outcome_at, answered, rows_of, answer_of};
 ghost use Rattle.packed_rows.specs.Packing.{packing};
 ghost use Rattle.packed_rows.specs.View.{row_of};
 ghost use Rattle.agg_protocol.specs.Results.{outcome_of};
@@ -14,12 +14,11 @@ ghost use Rattle.having_filter.specs.Kept.{key_kinds};
 ghost use Rattle.having_filter.specs.Meaning.{meaning};
 ghost use Rattle.having_filter.specs.Plans.{source_of};
 ghost use Rattle.group_runs.specs.Standing.{StandsFor, AreGroups};
-ghost use Rattle.replica_merge.specs.Groups.{answer_rows, groups_shown};
 
 use agg_library::{AggKind, StateRow};
 use agg_protocol::ResultValue;
 use hash_agg::{Run, first_states};
-use having_filter::{Answer, Query, Source};
+use having_filter::{Answer, AnswerRows, Query, Source};
 use packed_rows::{RowError, Value, unpack_into};
 use std::alloc::{AllocError, Global};
 
@@ -108,19 +107,19 @@ fn items_of<'r>(
     Ok(())
 }
 
-/// Adds the row that a group gives to an answer, if HAVING is true of the group. What `scratch` holds doesn't matter.
+/// Adds the row that a group gives to those of others, if HAVING is true of the group. What `scratch` holds doesn't matter.
 fn push_group<'r>(
     query: &Query,
     key: &'r [u8],
     states: &[u8],
     scratch: &mut Scratch<'r>,
-    answer: &mut Answer,
+    rows: &mut AnswerRows,
 ) -> Result<(), AllocError>
     requires { (most : ℕ) × (group : Group)
         × StandsFor (meaning query.now) most (key.now, states.now) group × (most ≤ most_rows) }
     ensures { OnOk result ((most : ℕ) (group : Group) → most ≤ most_rows →
         StandsFor (meaning query.now) most (key.now, states.now) group →
-        answer.new ≡ answer.old ++ answer_rows (meaning query.now) group) }
+        rows.new ≡ rows.old ++ rows_of (meaning query.now) (group ∷ [])) }
 {
     unpack(query, key, &mut scratch.values)?;
     key_values(&scratch.values, &mut scratch.key)?;
@@ -134,40 +133,57 @@ fn push_group<'r>(
         &scratch.results,
         &mut scratch.items,
     )?;
-    answer.push(&scratch.items)
+    rows.push(&scratch.items)
 }
 
-/// The answer of no groups. Without GROUP BY there is one all the same, that of no rows.
-pub(crate) fn show_none(alloc: Global, query: &Query) -> Result<Answer, AllocError>
-    ensures { IfOk result (λ rows. rows ≡ flat_map (answer_rows (meaning query.now))
-        (groups_shown (meaning query.now) [])) }
+/// The rows that no groups give. Without GROUP BY there is one group all the same, that of no rows.
+fn rows_of_none(alloc: Global, query: &Query) -> Result<AnswerRows, AllocError>
+    ensures { IfOk result (λ rows. rows ≡ rows_of (meaning query.now) (answered (meaning query.now) [])) }
 {
-    let mut answer = Answer::new(alloc);
+    let mut rows = AnswerRows::new(alloc);
     if !query.keys().is_empty() {
-        return Ok(answer);
+        return Ok(rows);
     }
     let states = first_states(alloc, query)?;
-    push_group(query, &[], &states, &mut Scratch::new(alloc), &mut answer)?;
-    Ok(answer)
+    push_group(query, &[], &states, &mut Scratch::new(alloc), &mut rows)?;
+    Ok(rows)
 }
 
-/// The answer that the groups of a run give, in their order. Without GROUP BY there is one group, over no rows too.
-pub(crate) fn show(alloc: Global, query: &Query, run: &Run) -> Result<Answer, AllocError>
+/// The rows that the groups of a run give, in their order.
+fn rows_of_run(alloc: Global, query: &Query, run: &Run) -> Result<AnswerRows, AllocError>
     requires { (most : ℕ) × (groups : List Group)
         × AreGroups (meaning query.now) most run.now groups × (most ≤ most_rows) }
     ensures { IfOk result (λ rows. (most : ℕ) (groups : List Group) → most ≤ most_rows →
+        AreGroups (meaning query.now) most run.now groups → rows ≡ rows_of (meaning query.now) groups) }
+{
+    let mut rows = AnswerRows::new(alloc);
+    let mut scratch = Scratch::new(alloc);
+    for place in 0..run.len() {
+        let (key, states) = run.group(place);
+        push_group(query, key, states, &mut scratch, &mut rows)?;
+    }
+    Ok(rows)
+}
+
+/// The answer that no groups give.
+pub(crate) fn show_none(alloc: Global, query: &Query) -> Result<Answer, AllocError>
+    ensures { IfOk result (λ answer. answer ≡ answer_of (meaning query.now) []) }
+{
+    let rows = rows_of_none(alloc, query)?;
+    Answer::in_order(alloc, rows, query.order())
+}
+
+/// The answer that the groups of a run give, in the order of the query. Without GROUP BY there is one group, over no rows too.
+pub(crate) fn show(alloc: Global, query: &Query, run: &Run) -> Result<Answer, AllocError>
+    requires { (most : ℕ) × (groups : List Group)
+        × AreGroups (meaning query.now) most run.now groups × (most ≤ most_rows) }
+    ensures { IfOk result (λ answer. (most : ℕ) (groups : List Group) → most ≤ most_rows →
         AreGroups (meaning query.now) most run.now groups →
-        rows ≡ flat_map (answer_rows (meaning query.now))
-        (groups_shown (meaning query.now) groups)) }
+        answer ≡ answer_of (meaning query.now) groups) }
 {
     if run.is_empty() {
         return show_none(alloc, query);
     }
-    let mut answer = Answer::new(alloc);
-    let mut scratch = Scratch::new(alloc);
-    for place in 0..run.len() {
-        let (key, states) = run.group(place);
-        push_group(query, key, states, &mut scratch, &mut answer)?;
-    }
-    Ok(answer)
+    let rows = rows_of_run(alloc, query, run)?;
+    Answer::in_order(alloc, rows, query.order())
 }

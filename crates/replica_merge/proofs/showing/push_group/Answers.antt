@@ -4,8 +4,8 @@ use Rattle.std.proofs.lemmas.Result.{on_ok_weaker}
 use Rattle.grouping_model.specs.Aggregates.{Plain, outcome}
 use Rattle.grouping_model.specs.Condition.{is_met}
 use Rattle.grouping_model.specs.Query.{Query}
-use Rattle.grouping_model.specs.Parts.{functions, source_in}
-use Rattle.grouping_model.specs.Answer.{outcome_at}
+use Rattle.grouping_model.specs.Parts.{functions}
+use Rattle.grouping_model.specs.Answer.{outcome_at, source_in}
 use Rattle.packed_rows.specs.View.{row_of}
 use Rattle.agg_protocol.specs.Results.{outcome_of}
 use Rattle.having_filter.specs.Meaning.{meaning}
@@ -33,7 +33,7 @@ returns-then-not-having_true c =
     let read : outcome_at (map outcome_of c.deref-2.result.now) (map outcome_of c.deref-3.result.now) ≡ source_in group =
     sources_are _ _ group (ap (map outcome_of) c.deref-2.ensures.value ∙ keys) (ap (map outcome_of) c.deref-3.ensures.value ∙ results) in
     let met : is_met (outcome_at (map outcome_of c.deref-2.result.now) (map outcome_of c.deref-3.result.now)) q.having ≡ false = search rules in
-    sym (append-nil c.args.answer.now) ∙ ap (λ rows. c.args.answer.now ++ rows) (not_shown q group (ap (λ read. is_met read q.having) (sym read) ∙ met))
+    sym (append-nil c.args.rows.now) ∙ ap (λ rows. c.args.rows.now ++ rows) (not_shown q group (ap (λ read. is_met read q.having) (sym read) ∙ met))
 
 pub returns : goal.returns
 returns c =
@@ -51,5 +51,5 @@ returns c =
     sources_are _ _ group (ap (map outcome_of) c.deref-4.ensures.value ∙ keys) (ap (map outcome_of) c.deref-5.ensures.value ∙ results) in
     let items : map outcome_of c.deref-6.result.now ≡ map (source_in group) q.items =
     ap (map outcome_of) c.deref-6.ensures.value ∙ c.in_ok-items_of.ensures ∙ (λ i. map (again i) (c.sources.ensures i)) in
-    pushed ∙ ap (λ rows. c.args.answer.now ++ rows) (shown q group (map outcome_of c.deref-6.result.now) (ap (λ read. is_met read q.having) (sym read) ∙ met) items))
+    pushed ∙ ap (λ rows. c.args.rows.now ++ rows) (shown q group (map outcome_of c.deref-6.result.now) (ap (λ read. is_met read q.having) (sym read) ∙ met) items))
     c.push.ensures.pushed

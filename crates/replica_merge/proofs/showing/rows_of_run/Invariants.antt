@@ -4,8 +4,8 @@ use Rattle.agg_protocol.specs.States.{most_rows}
 use Rattle.having_filter.specs.Meaning.{meaning}
 use Rattle.group_runs.specs.Standing.{AreGroups}
 use Rattle.replica_merge.proofs.ShownLaws.{LeftOver}
-use Rattle.replica_merge.proofs.showing.show.Given as goal
+use Rattle.replica_merge.proofs.showing.rows_of_run.Given as goal
 
 abbrev pub invariant-loop-place : goal.invariant-loop-place
 invariant-loop-place l =
-    (most : ℕ) (groups : List Group) → most ≤ most_rows → AreGroups (meaning l.query) most l.fn.run groups → LeftOver (meaning l.query) most (drop l.place l.fn.run) l.answer groups
+    (most : ℕ) (groups : List Group) → most ≤ most_rows → AreGroups (meaning l.query) most l.fn.run groups → LeftOver (meaning l.query) most (drop l.place l.fn.run) l.rows groups
