@@ -1,7 +1,7 @@
 //! What a query has no words for, and what serves in its place.
 
 /// Words and signs where they stand in the way, and what is said of each.
-const WORDS: [(&str, &str); 36] = [
+const WORDS: [(&str, &str); 35] = [
     (
         "like",
         "there is no LIKE: texts are compared by = <> < <= > >=",
@@ -19,10 +19,6 @@ const WORDS: [(&str, &str); 36] = [
     ("limit", "there is no LIMIT: HAVING leaves groups out"),
     ("offset", "there is no OFFSET: HAVING leaves groups out"),
     ("fetch", "there is no FETCH: HAVING leaves groups out"),
-    (
-        "order",
-        "there is no ORDER BY: rows come in the order of GROUP BY's columns",
-    ),
     (
         "join",
         "there are no joins: the rows of batches are the one table",

@@ -4,7 +4,7 @@ use crate::hints::{of_function, of_word};
 use crate::nearest::nearest;
 use crate::places::{Lexed, piece_at};
 use crate::quoted::Quoted;
-use crate::reader::{Call, Mention, Reader, Role, State, name_at};
+use crate::reader::{Mention, Reader, Role, Span, State, name_at};
 use crate::reason::Reason;
 use crate::wanted::Wanted;
 use group_parser::ParseError;
@@ -37,14 +37,14 @@ fn is_same(one: &Token, other: &Token) -> bool {
     }
 }
 
-/// The tokens of a call.
-fn tokens_of<'t>(tokens: &'t [Token], call: &Call) -> &'t [Token] {
+/// The tokens of an item or a call.
+fn tokens_of<'t>(tokens: &'t [Token], span: &Span) -> &'t [Token] {
     tokens
-        .get(call.first..call.last.saturating_add(1))
+        .get(span.first..span.last.saturating_add(1))
         .unwrap_or_default()
 }
 
-/// Whether two calls have the same tokens.
+/// Whether two items or calls have the same tokens.
 fn are_same(one: &[Token], other: &[Token]) -> bool {
     one.len() == other.len() && one.iter().zip(other.iter()).all(|(a, b)| is_same(a, b))
 }
@@ -99,6 +99,9 @@ impl<'t> Refused<'t> {
                 function: None,
             } if piece == "(" => return Some(of_function(name_at(self.tokens, place))),
             State::Right if piece == "=" => return Some("one = compares"),
+            State::Termed if piece == "(" => return Some(
+                "ORDER BY takes the name or the place of an item, as ORDER BY 2",
+            ),
             State::Item if piece == "*" => return Some(
                 "name the columns of GROUP BY and the calls",
             ),
@@ -139,6 +142,76 @@ impl<'t> Refused<'t> {
             let name = name_at(self.tokens, mention.place);
             if self.schema.place(name).is_none() {
                 return Ok(Some(self.say_name(mention, name, &names)?));
+            }
+        }
+        self.say_no_item()
+    }
+
+    /// How many items have a name, and whether they are all the same.
+    fn items_named(&self, name: &str) -> (usize, bool) {
+        let mut count = 0usize;
+        let mut are_alike = true;
+        let mut first: &[Token] = &[];
+        for (item, label) in self.reader.items.iter().zip(self.reader.labels.iter()) {
+            if name_at(self.tokens, *label) != name {
+                continue;
+            }
+            let found = tokens_of(self.tokens, item);
+            if count == 0 {
+                first = found;
+            }
+            are_alike = are_alike && are_same(first, found);
+            count = count.saturating_add(1);
+        }
+        (count, are_alike)
+    }
+
+    /// Says of a term of ORDER BY that it names no item, if it doesn't.
+    fn say_term(&self, place: usize) -> Result<Option<String>, AllocError> {
+        let many = self.reader.items.len();
+        match self.tokens.get(place) {
+            Some(Token {
+                word: Word::Name(name),
+                ..
+            }) if self.items_named(name.as_str()).0 == 0 => {
+                let shown = Quoted(name.as_bytes());
+                let said = format!(in self.alloc;
+                    "{shown} names no item: a term of ORDER BY is the name of an item in the answer, or its place"
+                )?;
+                Ok(Some(said))
+            }
+            Some(Token {
+                word: Word::Integer(number),
+                ..
+            }) if *number < 1 || *number as u64 > many as u64 => {
+                let said = format!(in self.alloc; "{number} is no item's place, which is 1 to {many}")?;
+                Ok(Some(said))
+            }
+            _ => Ok(None),
+        }
+    }
+
+    /// Says which term of ORDER BY names no item.
+    fn say_no_item(&self) -> Result<Option<Reason>, AllocError> {
+        for place in self.reader.terms.iter() {
+            if let Some(said) = self.say_term(*place)? {
+                return Ok(Some(self.at(self.place_of(*place), said)?));
+            }
+        }
+        Ok(None)
+    }
+
+    /// Says which term of ORDER BY names items that aren't the same.
+    fn say_ambiguous(&self) -> Result<Option<Reason>, AllocError> {
+        for place in self.reader.terms.iter() {
+            let name = name_at(self.tokens, *place);
+            let (count, are_alike) = self.items_named(name);
+            if count > 1 && !are_alike {
+                let shown = Quoted(name.as_bytes());
+                let said = format!(in self.alloc;
+                    "{shown} names {count} items that are not the same: give one another name by AS, or write its place"
+                )?;
+                return Ok(Some(self.at(self.place_of(*place), said)?));
             }
         }
         Ok(None)
@@ -242,7 +315,8 @@ impl<'t> Refused<'t> {
     /// Says of what there is too much, how much, and how much there may be.
     fn say_too_many(&self) -> Result<Reason, AllocError> {
         let alloc = self.alloc;
-        let (items, keys, calls) = (self.reader.items, self.count_keys(), self.count_calls());
+        let items = self.reader.items.len();
+        let (keys, calls) = (self.count_keys(), self.count_calls());
         let said = if items > MOST_ITEMS {
             format!(in alloc; "{items} items, and there may be {MOST_ITEMS}")?
         } else if keys > MOST_KEYS {
@@ -278,6 +352,7 @@ impl<'t> Refused<'t> {
             QueryError::AggregateHere => self.say_aggregate(),
             QueryError::TooMany => Ok(Some(self.say_too_many()?)),
             QueryError::TooDeep => Ok(Some(self.say_too_deep()?)),
+            QueryError::AmbiguousOrder => self.say_ambiguous(),
         }
     }
 }

@@ -58,6 +58,15 @@ pub(crate) enum State {
     /// Before a column of GROUP BY, and behind one.
     Key,
     Keys,
+    /// Behind ORDER.
+    Order,
+    /// Before what a term of ORDER BY names, behind that, and behind ASC or DESC.
+    Term,
+    Termed,
+    Directed,
+    /// Behind NULLS, and behind what stands there.
+    Nulls,
+    Ordered,
     /// Behind a semicolon.
     End,
 }
@@ -82,9 +91,9 @@ pub(crate) struct Mention {
     pub(crate) role: Role,
 }
 
-/// A call among the items or in HAVING: its first token and its last.
+/// An item, or a call among the items or in HAVING: its first token and its last.
 #[derive(Clone, Copy)]
-pub(crate) struct Call {
+pub(crate) struct Span {
     pub(crate) first: usize,
     pub(crate) last: usize,
 }
@@ -96,9 +105,13 @@ pub(crate) struct Reader<'t> {
     tokens: &'t [Token],
     pub(crate) state: State,
     pub(crate) frames: Vec<Frame>,
-    pub(crate) items: usize,
+    /// The items, and of each the token that names its column of the answer.
+    pub(crate) items: Vec<Span>,
+    pub(crate) labels: Vec<usize>,
+    /// What the terms of ORDER BY name: their tokens.
+    pub(crate) terms: Vec<usize>,
     pub(crate) mentions: Vec<Mention>,
-    pub(crate) calls: Vec<Call>,
+    pub(crate) calls: Vec<Span>,
     /// The first aggregate in WHERE or a FILTER: its token.
     pub(crate) misplaced: Option<usize>,
     /// The first kinds that don't fit.
@@ -141,7 +154,9 @@ impl<'t> Reader<'t> {
             tokens,
             state: State::Start,
             frames: Vec::new(alloc),
-            items: 0,
+            items: Vec::new(alloc),
+            labels: Vec::new(alloc),
+            terms: Vec::new(alloc),
             mentions: Vec::new(alloc),
             calls: Vec::new(alloc),
             misplaced: None,
@@ -265,12 +280,21 @@ impl<'t> Reader<'t> {
                 self.misplaced = Some(first);
             }
         } else {
-            self.calls.push(Call { first, last })?;
+            self.calls.push(Span { first, last })?;
         }
         let at = self.at(first);
         let kind = Some(function.result());
         self.operand(Operand { kind, depth: 1, at });
         Ok(())
+    }
+
+    /// Begins an item.
+    fn item(&mut self, place: usize) -> Result<(), AllocError> {
+        self.items.push(Span {
+            first: place,
+            last: place,
+        })?;
+        self.labels.push(place)
     }
 
     /// Begins a condition.
@@ -390,6 +414,9 @@ impl<'t> Reader<'t> {
         if !self.frames.is_empty() {
             return self.in_condition(place, sign);
         }
+        if let Some(item) = self.items.last_mut() {
+            item.last = place.saturating_sub(1);
+        }
         match sign {
             Sign::Symbol(Symbol::Comma) => self.go(State::Item),
             Sign::Name("as") => self.go(State::Alias),
@@ -475,13 +502,18 @@ impl<'t> Reader<'t> {
         match (self.state, sign) {
             (State::Start, _) => self.go(State::Item),
             (State::Item, Sign::Name(name)) => {
-                self.items = self.items.saturating_add(1);
+                self.item(place)?;
                 let function = AggKind::named(name);
                 self.go(State::Name { place, function })
             }
             (State::Filter, _) => self.go(State::FilterOpen),
             (State::FilterOpen, _) => self.open(Context::Filter, at),
-            (State::Alias, _) => self.go(State::Aliased),
+            (State::Alias, _) => {
+                if let Some(label) = self.labels.last_mut() {
+                    *label = place;
+                }
+                self.go(State::Aliased)
+            }
             (State::Aliased, Sign::Symbol(_)) => self.go(State::Item),
             (State::Aliased, _) => self.go(State::From),
             (State::From, _) => self.go(State::Batches),
@@ -495,6 +527,26 @@ impl<'t> Reader<'t> {
             (_, Sign::Name("where")) => self.open(Context::Where, at),
             (_, Sign::Name("group")) => self.go(State::Group),
             (_, Sign::Name("having")) => self.open(Context::Having, at),
+            (_, Sign::Name("order")) => self.go(State::Order),
+            _ => self.in_order(place, sign),
+        }
+    }
+
+    /// Reads a token of ORDER BY.
+    fn in_order(&mut self, place: usize, sign: Sign<'_>) -> Result<(), AllocError> {
+        let is_comma = matches!(sign, Sign::Symbol(Symbol::Comma));
+        match self.state {
+            State::Order => self.go(State::Term),
+            State::Term => {
+                self.terms.push(place)?;
+                self.go(State::Termed)
+            }
+            State::Termed | State::Directed | State::Ordered if is_comma => self.go(State::Term),
+            State::Termed if matches!(sign, Sign::Name("asc" | "desc")) => self.go(State::Directed),
+            State::Termed | State::Directed if matches!(sign, Sign::Name("nulls")) => {
+                self.go(State::Nulls)
+            }
+            State::Nulls => self.go(State::Ordered),
             _ => self.go(State::End),
         }
     }

@@ -12,8 +12,8 @@ pub(crate) struct Wanted<'r, 't>(pub(crate) &'r Reader<'t>);
 /// What may stand behind a test in a condition, and end it.
 fn behind_test(context: Context) -> &'static str {
     match context {
-        Context::Where => "IS, AND, OR, GROUP BY, HAVING, a semicolon or the end",
-        Context::Having => "IS, AND, OR, a semicolon or the end",
+        Context::Where => "IS, AND, OR, GROUP BY, HAVING, ORDER BY, a semicolon or the end",
+        Context::Having => "IS, AND, OR, ORDER BY, a semicolon or the end",
         Context::Filter | Context::Parenthesis => "IS, AND, OR or )",
     }
 }
@@ -35,14 +35,19 @@ fn at_state(state: State) -> &'static str {
         State::Alias => "a name",
         State::Aliased => "a comma or FROM",
         State::From => "batches, which is the name of every table",
-        State::Batches => "WHERE, GROUP BY, HAVING, a semicolon or the end",
+        State::Batches => "WHERE, GROUP BY, HAVING, ORDER BY, a semicolon or the end",
         State::Operand => "a column, a call, an integer, a text, TRUE, FALSE, NULL, NOT or (",
         State::Right => "a column, a call, an integer, a text, TRUE, FALSE, NULL or (",
         State::Is => "NOT, NULL, TRUE, FALSE or UNKNOWN",
         State::IsNot => "NULL, TRUE, FALSE or UNKNOWN",
-        State::Group => "BY",
+        State::Group | State::Order => "BY",
         State::Key => "a column",
-        State::Keys => "a comma, HAVING, a semicolon or the end",
+        State::Keys => "a comma, HAVING, ORDER BY, a semicolon or the end",
+        State::Term => "the name or the place of an item",
+        State::Termed => "a comma, ASC, DESC, NULLS, a semicolon or the end",
+        State::Directed => "a comma, NULLS, a semicolon or the end",
+        State::Nulls => "first or last",
+        State::Ordered => "a comma, a semicolon or the end",
         State::End => "the end",
     }
 }
