@@ -24,6 +24,8 @@ use Rattle.query_checks.specs.DistinctLaws.{all_distinct}
 use Rattle.query_checks.specs.FormLaws.{columns_mapped}
 use Rattle.query_checks.specs.ReadLaws.{both_pass, calls_in_two}
 use Rattle.having_filter.specs.Fitting.{OfOneKind, TakesOne, TakesTwo, OperandsFit, Fits, IsOfRow, IsOfGroup, HasFittingConditions}
+use Rattle.query_checks.specs.declared.order.OrderTerm.{OrderTerm}
+use Rattle.query_checks.specs.Order.{order_of}
 use Rattle.having_filter.specs.Kept.{IsCheckedQuery, by_names}
 use Rattle.having_filter.specs.PlaceLaws.{placed_name}
 use Rattle.having_filter.specs.NormalLaws.{HasColumns, placed_item, columns_of_query}
@@ -241,12 +243,12 @@ clause_filters columns (Some c) known fit plain =
 
 -- ---- the whole query
 
-placed_fits : (columns : List packed.Column) (w : Written (List ℕ)) → HasColumns columns w → are_plain (placed columns w) ≡ true → kinds_fit (kinds columns) (placed columns w) ≡ true → is_grouped (placed columns w) ≡ true
-    → HasFittingConditions (record { columns = columns; written = placed columns w })
-placed_fits columns w has plain fit grouped =
+placed_fits : (columns : List packed.Column) (w : Written (List ℕ)) (order : List OrderTerm) → HasColumns columns w → are_plain (placed columns w) ≡ true → kinds_fit (kinds columns) (placed columns w) ≡ true → is_grouped (placed columns w) ≡ true
+    → HasFittingConditions (record { columns = columns; written = placed columns w; order = order })
+placed_fits columns w order has plain fit grouped =
     let ks = kinds columns in
     let p = placed columns w in
-    let q : Checked = record { columns = columns; written = p } in
+    let q : Checked = record { columns = columns; written = p; order = order } in
     let fit_items = list_all (λ item. operands_fit ks item.0) p.items in
     let fit_where = option_map_or (condition_fits ks) p.condition true in
     let fit_having = option_map_or (condition_fits ks) p.having true in
@@ -274,4 +276,4 @@ conditions_fit q is =
     let w = by_names q in
     let first = passes_first q.columns w q is.passed in
     let places = passes_places q is.passed in
-    subst HasFittingConditions (sym places.same) (placed_fits q.columns w (columns_of_query q.columns w first.columns_there) places.plain places.fit places.grouped)
+    subst HasFittingConditions (sym places.same) (placed_fits q.columns w.written (order_of w) (columns_of_query q.columns w.written first.columns_there) places.plain places.fit places.grouped)

@@ -1,5 +1,6 @@
 pub mod ValueLaws
 pub mod PlanLaws
+pub mod OrderLaws
 pub mod NormalLaws
 pub mod WellLaws
 pub mod CheckedLaws

@@ -18,8 +18,10 @@ use Rattle.packed_rows.specs.Columns.{Column, AreColumns, kinds}
 use Rattle.query_checks.specs.Forms.{Form, Call, Call_where, Literal, Unary, Binary, Written, map_form}
 use Rattle.query_checks.specs.Forms as form
 use Rattle.query_checks.specs.Reads.{calls_in, columns_pass}
-use Rattle.query_checks.specs.Checks.{kinds_agree, kind_asked, kind_of_form, is_boolean, takes_column, takes_one, takes_two, operands_fit, condition_fits, kinds_fit, has_too_many, is_column, place, placed, checked_places, PassesFirst}
+use Rattle.query_checks.specs.Checks.{kinds_agree, kind_asked, kind_of_form, is_boolean, takes_column, takes_one, takes_two, operands_fit, condition_fits, kinds_fit, has_too_many, is_column, place, placed, checked_places, with_order, PassesFirst}
 use Rattle.query_checks.specs.Sameness.{form_eq, first_of_each}
+use Rattle.query_checks.specs.declared.order.OrderTerm.{OrderTerm}
+use Rattle.query_checks.specs.Order.{Asked, order_of}
 use Rattle.query_checks.specs.Spelling.{spelling}
 use Rattle.query_checks.specs.Calls.{calls_of, distinct_calls}
 use Rattle.query_checks.specs.Writable.{IsWritable}
@@ -30,6 +32,7 @@ use Rattle.having_filter.specs.Meaning.{meaning, aggregate_of, source_of_form}
 use Rattle.having_filter.specs.Kept.{TakesRows, IsWellFormed, IsCheckedQuery}
 use Rattle.having_filter.specs.PlaceLaws.{same_places, distinct_places, places_in_range}
 use Rattle.having_filter.specs.NormalLaws.{HasColumns, placed_item, columns_of_query, named_again}
+use Rattle.having_filter.proofs.OrderLaws.{same_length, order_in}
 use Rattle.having_filter.proofs.NormalLaws.{normal_writable, passes_again}
 
 -- the value in a column of a kind, or beyond the last column
@@ -152,26 +155,28 @@ pub record IsWithin (q : Written (List ℕ)) : Type 0 where
   pub keys : length (first_of_each bytes_eq q.keys) ≤ MOST_KEYS
   pub calls : length (distinct_calls bytes_eq q) ≤ MOST_CALLS
 
-within : (q : Written (List ℕ)) → has_too_many q ≡ false → IsWithin q
+within : (q : Asked) → has_too_many q ≡ false → IsWithin q.written
 within q e =
-    let items = nat_lt MOST_ITEMS (length q.items) in
-    let keys = nat_lt MOST_KEYS (length (first_of_each bytes_eq q.keys)) in
-    let calls = nat_lt MOST_CALLS (length (distinct_calls bytes_eq q)) in
+    let items = nat_lt MOST_ITEMS (length q.written.items) in
+    let keys = nat_lt MOST_KEYS (length (first_of_each bytes_eq q.written.keys)) in
+    let calls = nat_lt MOST_CALLS (length (distinct_calls bytes_eq q.written)) in
     let bytes = nat_lt LONGEST_QUERY (length (spelling q)) in
     let one = or_parts items (keys || (calls || bytes)) e in
     let two = or_parts keys (calls || bytes) one.1 in
     let three = or_parts calls bytes two.1 in
     record {
-      items = ltb-false MOST_ITEMS (length q.items) one.0;
-      keys = ltb-false MOST_KEYS (length (first_of_each bytes_eq q.keys)) two.0;
-      calls = ltb-false MOST_CALLS (length (distinct_calls bytes_eq q)) three.0;
+      items = ltb-false MOST_ITEMS (length q.written.items) one.0;
+      keys = ltb-false MOST_KEYS (length (first_of_each bytes_eq q.written.keys)) two.0;
+      calls = ltb-false MOST_CALLS (length (distinct_calls bytes_eq q.written)) three.0;
     }
 
 -- a query that passes the first checks and has kinds that fit is well formed
-well_formed : (columns : List Column) (q : Written (List ℕ)) → PassesFirst columns q → kinds_fit (kinds columns) (placed columns q) ≡ true → IsWellFormed (meaning (record { columns = columns; written = placed columns q }))
-well_formed columns q first fit =
+well_formed : (columns : List Column) (asked : Asked) (order : List OrderTerm) → PassesFirst columns asked → kinds_fit (kinds columns) (placed columns asked.written) ≡ true
+    → IsWellFormed (meaning (record { columns = columns; written = placed columns asked.written; order = order }))
+well_formed columns asked order first fit =
+    let q = asked.written in
     let has = columns_of_query columns q first.columns_there in
-    let few = within q first.few in
+    let few = within asked first.few in
     record {
       keys = subst (λ n. AllByRecursion (λ at. at < n) (first_of_each ◌==◌ (map (place columns) q.keys))) (sym (length-map columns (λ (c : Column). c.kind)))
           (all_distinct (λ at. at < length columns) ◌==◌ (map (place columns) q.keys) (places_in_range columns q.keys has.keys));
@@ -181,13 +186,14 @@ well_formed columns q first fit =
       few_aggregates = subst (λ n. n ≤ MOST_CALLS) (sym (length-map (distinct_calls ◌==◌ (placed columns q)) aggregate_of ∙ ap length (calls_alike columns q has) ∙ length-map (distinct_calls bytes_eq q) (map_form (place columns)))) few.calls;
     }
 
--- a query that passes all checks
-pub passed_query : (columns : List Column) (q : Written (List ℕ)) → AreColumns columns → IsWritable q → PassesFirst columns q → kinds_fit (kinds columns) (placed columns q) ≡ true
-    → checked_places columns (placed columns q) ≡ Ok (record { columns = columns; written = placed columns q }) → IsCheckedQuery (record { columns = columns; written = placed columns q })
+-- a query that passes all checks but that of ORDER BY
+pub passed_query : (columns : List Column) (q : Asked) → AreColumns columns → IsWritable q.written → PassesFirst columns q → kinds_fit (kinds columns) (placed columns q.written) ≡ true
+    → checked_places columns (placed columns q.written) ≡ Ok (placed columns q.written) → IsCheckedQuery (record { columns = columns; written = placed columns q.written; order = order_of q })
 passed_query columns q are writable first fit passed =
     record {
       columns_are = are;
-      writable = subst IsWritable (sym (named_again columns q (columns_of_query columns q first.columns_there))) (normal_writable q writable);
-      passed = passes_again columns q first ∙ passed;
-      well_formed = well_formed columns q first fit;
+      writable = subst IsWritable (sym (named_again columns q.written (columns_of_query columns q.written first.columns_there))) (normal_writable q.written writable);
+      passed = passes_again columns q first ∙ ap (λ r. with_order columns r (Ok (order_of q))) passed;
+      well_formed = well_formed columns q (order_of q) first fit;
+      ordered = same_length q.written.items (placed columns q.written).items (sym (length-map q.written.items (placed_item columns))) (order_of q) (order_in q);
     }

@@ -1,15 +1,16 @@
 -- Conditions as trees of numbers, which tell them apart. All of this is our own.
-use Rattle.std.specs.Prelude.{ℕ, zero, suc, ◌≡◌, pos, negsuc, true, false, List, [], ◌∷◌, map, Option, Some, None}
+use Rattle.std.specs.Prelude.{ℕ, zero, suc, ◌≡◌, pos, negsuc, Bool, true, false, List, [], ◌∷◌, map, Option, Some, None}
 use mathlib.Core.Path.{refl, ap}
 use base.Stored.{Gv, gnil, gnum, gcons, Coded}
 use denote.Struct.Codes.{itself}
-use Rattle.std.specs.Coded.{code_by, coded×, coded_list, coded_option, coded_ℕ}
+use Rattle.std.specs.Coded.{code_by, coded×, coded_list, coded_option, coded_ℕ, coded_bool}
 use Rattle.grouping_model.specs.Datum as datum
 use Rattle.grouping_model.specs.Datum.{Datum, Kind, Bigint_kind, Boolean_kind, Text_kind}
 use Rattle.packed_rows.specs.Columns as packed
 use Rattle.grouping_model.specs.Condition as model
 use Rattle.agg_protocol.specs.Signatures.{function_number, function_at, function_at_back}
 use Rattle.query_checks.specs.Forms.{Unary_operator, Negation, Testing, Binary_operator, Conjunction, Disjunction, Comparing, Form, Column, Call, Call_where, Literal, Unary, Binary, Written}
+use Rattle.query_checks.specs.declared.order.OrderTerm.{OrderTerm}
 use Rattle.query_checks.specs.Checks.{kind_number, Checked}
 use Rattle.query_checks.specs.Sameness.{comparison_number, comparison_at, comparison_at_back, test_number, test_at, test_at_back}
 
@@ -145,7 +146,7 @@ columns_back (x ∷ xs) = ap (λ rest. x ∷ rest) (columns_back xs)
 abbrev pub coded_form : Coded (Form ℕ)
 coded_form = code_by Gv itself tree_of form_at form_back
 
--- a query over places by its parts, and a checked query by its columns beside it
+-- a query over places by its parts, a term by its own, and a checked query by its columns and its order beside it
 abbrev pub coded_written : Coded (Written ℕ)
 coded_written =
     code_by (List (Form ℕ × Option (List ℕ)) × (Option (Form ℕ) × (List ℕ × Option (Form ℕ))))
@@ -155,7 +156,13 @@ coded_written =
 abbrev pub coded_kind : Coded Kind
 coded_kind = code_by ℕ coded_ℕ kind_number kind_of_number kind_back
 
+abbrev pub coded_term : Coded OrderTerm
+coded_term =
+    code_by (ℕ × (Bool × Bool)) (coded× coded_ℕ (coded× coded_bool coded_bool))
+    (λ t. (t.item, (t.descending, t.nulls_first))) (λ p. record { item = p.0; descending = p.1.0; nulls_first = p.1.1 }) (λ _. refl)
+
 abbrev pub coded_checked : Coded Checked
 coded_checked =
-    code_by (List (List ℕ × Kind) × Written ℕ) (coded× (coded_list (coded× (coded_list coded_ℕ) coded_kind)) coded_written)
-    (λ q. (map (λ c. (c.name, c.kind)) q.columns, q.written)) (λ p. record { columns = map (λ c. record { name = c.0; kind = c.1 }) p.0; written = p.1 }) (λ q i. record { columns = columns_back q.columns i; written = q.written })
+    code_by (List (List ℕ × Kind) × (Written ℕ × List OrderTerm)) (coded× (coded_list (coded× (coded_list coded_ℕ) coded_kind)) (coded× coded_written (coded_list coded_term)))
+    (λ q. (map (λ c. (c.name, c.kind)) q.columns, (q.written, q.order))) (λ p. record { columns = map (λ c. record { name = c.0; kind = c.1 }) p.0; written = p.1.0; order = p.1.1 })
+    (λ q i. record { columns = columns_back q.columns i; written = q.written; order = q.order })

@@ -1,5 +1,5 @@
 -- What a query keeps, and what HAVING reads.
-use Rattle.std.specs.Prelude.{◌≡◌, ℕ, ◌<◌, ◌≤◌, List, [], map, length, slice_get, slice_index_or, Option, Ok, option_map, unwrap_or}
+use Rattle.std.specs.Prelude.{◌≡◌, ℕ, ◌<◌, ◌≤◌, List, [], map, length, slice_get, slice_index_or, Ok, option_map, unwrap_or}
 use Rattle.std.specs.List.{AllByRecursion}
 use Rattle.grouping_model.specs.Datum.{Kind, Bigint_kind, Row, HasKinds}
 use Rattle.grouping_model.specs.Query as query
@@ -8,9 +8,12 @@ use Rattle.grouping_model.specs.Grouping.{argument}
 use Rattle.grouping_model.specs.declared.limits.TheConstants.{MOST_ITEMS, MOST_KEYS, MOST_CALLS}
 use Rattle.agg_protocol.specs.Arguments.{Takes}
 use Rattle.packed_rows.specs.Columns.{Column, AreColumns}
-use Rattle.query_checks.specs.Forms.{Form, Written, map_form}
+use Rattle.query_checks.specs.Forms.{Written, map_form}
 use Rattle.query_checks.specs.Checks.{Checked, checked}
-use Rattle.query_checks.specs.Spelling.{own_name, kept_alias}
+use Rattle.query_checks.specs.declared.order.OrderTerm.{OrderTerm}
+use Rattle.query_checks.specs.Order.{Asked}
+pub use Rattle.query_checks.specs.Spelling.{label_of}
+use Rattle.query_checks.specs.Spelling.{canonical_term}
 use Rattle.query_checks.specs.Writable.{IsWritable}
 use Rattle.having_filter.specs.Meaning.{meaning}
 
@@ -18,22 +21,22 @@ use Rattle.having_filter.specs.Meaning.{meaning}
 abbrev pub name_at : List Column → ℕ → List ℕ
 name_at columns place = unwrap_or (option_map (λ c. c.name) (slice_get columns place)) []
 
--- a checked query over the names of its columns again (own)
-abbrev pub by_names : Checked → Written (List ℕ)
-by_names q =
+-- a checked query over the names of its columns again, and its order by the places of items (own)
+abbrev pub written_by_names : List Column → Written ℕ → Written (List ℕ)
+written_by_names columns q =
     record {
-      items = map (λ item. (map_form (name_at q.columns) item.0, item.1)) q.written.items;
-      condition = option_map (map_form (name_at q.columns)) q.written.condition;
-      keys = map (name_at q.columns) q.written.keys;
-      having = option_map (map_form (name_at q.columns)) q.written.having;
+      items = map (λ item. (map_form (name_at columns) item.0, item.1)) q.items;
+      condition = option_map (map_form (name_at columns)) q.condition;
+      keys = map (name_at columns) q.keys;
+      having = option_map (map_form (name_at columns)) q.having;
     }
 
--- the names of the columns of an answer: an item's alias, or else its own name (PostgreSQL 17, 7.3.2 Column Labels)
-abbrev pub label_of : Form (List ℕ) × Option (List ℕ) → List ℕ
-label_of item = unwrap_or (kept_alias (own_name item.0) item.1) (own_name item.0)
+abbrev pub by_names : Checked → Asked
+by_names q = record { written = written_by_names q.columns q.written; terms = map canonical_term q.order }
 
+-- the names of the columns of an answer (PostgreSQL 17, 7.3.2 Column Labels)
 abbrev pub headers : Checked → List (List ℕ)
-headers q = map label_of (by_names q).items
+headers q = map label_of (by_names q).written.items
 
 -- the kinds of the columns of GROUP BY (PostgreSQL 17, 7.2.3)
 abbrev pub key_kinds : query.Query → List Kind
@@ -52,9 +55,14 @@ pub record IsWellFormed (q : query.Query) : Type 0 where
   pub few_keys : length q.keys ≤ MOST_KEYS
   pub few_aggregates : length q.aggregates ≤ MOST_CALLS
 
+-- a term orders by one of these items (own)
+pub record IsTermOf {A : Type 0} (items : List A) (term : OrderTerm) : Type 0 where
+  pub within : term.item < length items
+
 -- a query that passed all checks, over the columns of a schema: its own text passes them and says it again (own)
 pub record IsCheckedQuery (q : Checked) : Type 0 where
   pub columns_are : AreColumns q.columns
-  pub writable : IsWritable (by_names q)
+  pub writable : IsWritable (by_names q).written
   pub passed : checked q.columns (by_names q) ≡ Ok q
   pub well_formed : IsWellFormed (meaning q)
+  pub ordered : AllByRecursion (IsTermOf q.written.items) q.order

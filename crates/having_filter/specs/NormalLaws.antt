@@ -9,11 +9,11 @@ use Rattle.packed_rows.specs.Columns.{Column}
 use Rattle.query_checks.specs.Forms.{Form, Written, map_form}
 use Rattle.query_checks.specs.Checks.{all_of, is_column, has_columns, place, placed}
 use Rattle.query_checks.specs.Sameness.{first_of_each}
-use Rattle.query_checks.specs.Spelling.{own_name, kept_alias, canonical_item, canonical}
+use Rattle.query_checks.specs.Spelling.{own_name, kept_alias, canonical_item, canonical_written}
 use Rattle.query_checks.specs.Reads.{columns_pass}
 use Rattle.query_checks.specs.DistinctLaws.{all_pass, all_distinct}
 use Rattle.query_checks.specs.FormLaws.{form_back}
-use Rattle.having_filter.specs.Kept.{name_at, by_names}
+use Rattle.having_filter.specs.Kept.{name_at, written_by_names}
 use Rattle.having_filter.specs.PlaceLaws.{names_back, list_back, distinct_places}
 
 -- an item over the names of columns again, and over their places
@@ -53,7 +53,7 @@ clause_back columns (Some c) e = ap (λ x. Some x) (form_back (is_column columns
 keys_back : (columns : List Column) (keys : List (List ℕ)) → AllByRecursion (λ name. is_column columns name ≡ true) keys → map (name_at columns) (first_of_each ◌==◌ (map (place columns) keys)) ≡ first_of_each bytes_eq keys
 keys_back columns keys all = ap (map (name_at columns)) (distinct_places columns keys all) ∙ list_back columns (first_of_each bytes_eq keys) (all_distinct (λ name. is_column columns name ≡ true) bytes_eq keys all)
 
-pub named_again : (columns : List Column) (q : Written (List ℕ)) → HasColumns columns q → by_names (record { columns = columns; written = placed columns q }) ≡ canonical q
+pub named_again : (columns : List Column) (q : Written (List ℕ)) → HasColumns columns q → written_by_names columns (placed columns q) ≡ canonical_written q
 named_again columns q has =
     λ i. record {
       items = items_back columns q.items has.items i;

@@ -89,9 +89,11 @@ fn copied_items(
 
 /// The same parts again.
 pub(crate) fn copied_parts(alloc: Global, parts: &Parts) -> Result<Parts, AllocError>
-    ensures { IfOk result (λ copy. written_of_parts copy ≡ written_of_parts parts.now) }
+    ensures written { IfOk result (λ copy. written_of_parts copy ≡ written_of_parts parts.now) }
+    ensures order { IfOk result (λ copy. copy.order.items ≡ parts.now.order.items) }
 {
     let keys = parts.keys.to_vec(alloc)?;
+    let order = parts.order.to_vec(alloc)?;
     let condition = mapped_clause(alloc, &Unchanged, &parts.condition)?;
     let having = mapped_clause(alloc, &Unchanged, &parts.having)?;
     let items = copied_items(alloc, &parts.items)?;
@@ -100,5 +102,6 @@ pub(crate) fn copied_parts(alloc: Global, parts: &Parts) -> Result<Parts, AllocE
         condition,
         keys,
         having,
+        order,
     })
 }

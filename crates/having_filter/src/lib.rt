@@ -16,4 +16,6 @@ pub use answer::Answer;
 pub use laws::conditions_of_checked_queries;
 pub use plan::Source;
 pub use query::Query;
-pub use query_checks::{AggCall, Comparison, Cond, IsTest, Item, QueryError, RawQuery};
+pub use query_checks::{
+    AggCall, Comparison, Cond, IsTest, Item, OrderBy, OrderTerm, QueryError, RawQuery, RawTerm,
+};

@@ -9,7 +9,7 @@ ghost use Rattle.agg_protocol.specs.Results.{outcome_of};
 ghost use Rattle.agg_library.specs.Kinds.{function_of};
 ghost use Rattle.query_checks.specs.Forms.{call_form, form_of, item_form};
 ghost use Rattle.query_checks.specs.Sameness.{form_eq};
-ghost use Rattle.query_checks.specs.Parts.{written_of_parts};
+ghost use Rattle.query_checks.specs.Parts.{checked_of};
 ghost use Rattle.having_filter.specs.Meaning.{place_in, source_of_form, group_condition};
 ghost use Rattle.having_filter.specs.Plans.{PlansFor, source_of, by_sources};
 
@@ -203,10 +203,7 @@ fn having_with_sources(
 impl Plan {
     /// What evaluation needs of a query over the columns of a schema.
     pub(crate) fn new(alloc: Global, schema: &Schema, parts: &Parts) -> Result<Plan, AllocError>
-        ensures { IfOk result (PlansFor (record {
-          columns = schema.now;
-          written = written_of_parts parts.now;
-        })) }
+        ensures { IfOk result (PlansFor (checked_of schema.now parts.now)) }
     {
         let calls = calls_of(alloc, parts)?;
         let kinds = kinds_of_calls(alloc, &calls)?;

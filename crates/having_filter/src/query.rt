@@ -11,6 +11,7 @@ ghost use Rattle.agg_library.specs.Kinds.{function_of};
 ghost use Rattle.query_checks.specs.declared.error.QueryError.TheVariants.{NoMemory};
 ghost use Rattle.query_checks.specs.Forms.{form_of, call_form, items_of, places_of, written_of};
 ghost use Rattle.query_checks.specs.Checks.{Checked, PassesFirst, placed, checked, checked_places, kinds_fit};
+ghost use Rattle.query_checks.specs.Order.{asked_of, order_of};
 ghost use Rattle.query_checks.specs.Calls.{distinct_calls};
 ghost use Rattle.query_checks.specs.Spelling.{spelling};
 ghost use Rattle.query_checks.specs.Writable.{IsWritable};
@@ -26,7 +27,10 @@ use crate::texts::{Texts, labels_of};
 use agg_library::AggKind;
 use agg_protocol::ResultValue;
 use packed_rows::{Schema, Value, ValueKind};
-use query_checks::{AggCall, Cond, Item, Parts, QueryError, RawQuery, check_parts, text_of_known};
+use query_checks::{
+    AggCall, Cond, Item, OrderTerm, Parts, QueryError, RawQuery, check_order, check_parts,
+    text_of_known,
+};
 use std::alloc::{AllocError, Global};
 use std::marker::Model;
 
@@ -59,13 +63,13 @@ impl Model for Query {
 
 /// The texts of a query that passes the first checks: the first of these that it fails is told.
 fn texts_of_known(alloc: Global, schema: &Schema, raw: &RawQuery) -> Result<Texts, QueryError>
-    ensures query { IfOk result (λ texts. string_bytes texts.query ≡ spelling (written_of raw.now)) }
+    ensures query { IfOk result (λ texts. string_bytes texts.query ≡ spelling (asked_of raw.now)) }
     ensures labels { IfOk result (λ texts. map string_bytes texts.labels.items
         ≡ map label_of (items_of raw.now.items.items)) }
     ensures schema { IfOk result (λ texts. string_bytes texts.schema ≡ printed schema.now) }
-    ensures first { OnOk result (PassesFirst schema.now (written_of raw.now)) }
+    ensures first { OnOk result (PassesFirst schema.now (asked_of raw.now)) }
     ensures refused { IfErr result (λ e. e ≢ NoMemory →
-        checked schema.now (written_of raw.now) ≡ Err e) }
+        checked schema.now (asked_of raw.now) ≡ Err e) }
 {
     let query = text_of_known(alloc, schema, raw)?;
     let text = schema.print()?;
@@ -81,7 +85,7 @@ fn texts_of_known(alloc: Global, schema: &Schema, raw: &RawQuery) -> Result<Text
 fn checked_plan(alloc: Global, schema: &Schema, parts: &Parts) -> Result<Plan, QueryError>
     ensures fit { OnOk result (kinds_fit (kinds schema.now) (written_of_parts parts.now) ≡ true) }
     ensures passed { OnOk result (checked_places schema.now (written_of_parts parts.now)
-        ≡ Ok (checked_of schema.now parts.now)) }
+        ≡ Ok (written_of_parts parts.now)) }
     ensures plans { IfOk result (PlansFor (checked_of schema.now parts.now)) }
     ensures refused { IfErr result (λ e. e ≢ NoMemory →
         checked_places schema.now (written_of_parts parts.now) ≡ Err e) }
@@ -99,10 +103,11 @@ fn placed_with_plan(
 ) -> Result<(Parts, Plan), QueryError>
     ensures placed { IfOk result (λ made.
         written_of_parts made.0 ≡ placed schema.now (written_of raw.now)) }
+    ensures ordered { IfOk result (λ made. made.0.order.items ≡ order_of (asked_of raw.now)) }
     ensures fit { IfOk result (λ made.
         kinds_fit (kinds schema.now) (written_of_parts made.0) ≡ true) }
     ensures passed { IfOk result (λ made. checked_places schema.now (written_of_parts made.0)
-        ≡ Ok (checked_of schema.now made.0)) }
+        ≡ Ok (written_of_parts made.0)) }
     ensures plans { IfOk result (λ made. PlansFor (checked_of schema.now made.0) made.1) }
     ensures refused { IfErr result (λ e. e ≢ NoMemory →
         checked_places schema.now (placed schema.now (written_of raw.now)) ≡ Err e) }
@@ -124,6 +129,7 @@ fn copied_with_plan(
     parts: &Parts,
 ) -> Result<(Parts, Plan), AllocError>
     ensures same { IfOk result (λ made. written_of_parts made.0 ≡ written_of_parts parts.now) }
+    ensures ordered { IfOk result (λ made. made.0.order.items ≡ parts.now.order.items) }
     ensures plans { IfOk result (λ made. PlansFor (checked_of schema.now made.0) made.1) }
 {
     let parts = copied_parts(alloc, parts)?;
@@ -137,25 +143,27 @@ fn copied_with_plan(
 }
 
 impl Query {
-    /// The query that a text says, over the columns of a schema. A repeated column of GROUP BY counts once, and an alias
-    /// that is the item's own name is as none.
+    /// The query that a text says, over the columns of a schema. A repeated column of GROUP BY counts once, an alias that is
+    /// the item's own name is as none, and so is a term of ORDER BY whose item an earlier one names.
     ///
     /// # Errors
     ///
     /// The first of these that is found anywhere in the query: `TooMany` for over 64 items, 16 distinct columns of GROUP
     /// BY, 32 distinct aggregates among the items and in HAVING, or a canonical text of over 16,384 bytes; `TooDeep` for
-    /// a condition that is nested more than 64 deep; `NoSuchColumn`; `AggregateHere` for an aggregate in WHERE or in a
+    /// a condition that is nested more than 64 deep; `NoSuchColumn`, also for a name or a place in ORDER BY that no item has; `AggregateHere` for an aggregate in WHERE or in a
     /// FILTER; `TypeMismatch` for an argument, an operand or a condition of the wrong kind; `NotGrouped` for a column
-    /// among the items or in HAVING that stands outside aggregates and isn't in GROUP BY.
+    /// among the items or in HAVING that stands outside aggregates and isn't in GROUP BY; `AmbiguousOrder` for a name in
+    /// ORDER BY that two items have which aren't the same column or call.
     pub fn check(alloc: Global, schema: &Schema, raw: &RawQuery) -> Result<Query, QueryError>
         requires { IsWritable (written_of raw.now) }
-        ensures checked { IfOk result (λ q. checked schema.now (written_of raw.now) ≡ Ok q) }
+        ensures checked { IfOk result (λ q. checked schema.now (asked_of raw.now) ≡ Ok q) }
         ensures refused { IfErr result (λ e. e ≢ NoMemory →
-            checked schema.now (written_of raw.now) ≡ Err e) }
+            checked schema.now (asked_of raw.now) ≡ Err e) }
     {
         let texts = texts_of_known(alloc, schema, raw)?;
         let columns = schema.try_clone()?;
         let (parts, plan) = placed_with_plan(alloc, schema, raw)?;
+        check_order(raw)?;
         Ok(Query {
             alloc,
             schema: columns,
@@ -207,6 +215,14 @@ impl Query {
         ensures { option_map form_of result.now ≡ self.now.written.having }
     {
         &self.parts.having
+    }
+
+    /// The order of the answer: the terms of ORDER BY that are left, each by an item of its own.
+    pub fn order(&self) -> &[OrderTerm]
+        ensures order { result.now ≡ self.now.order }
+        ensures query { IsCheckedQuery self.now }
+    {
+        &self.parts.order
     }
 
     /// The distinct calls of the items and of HAVING, by the first of each.

@@ -4,7 +4,7 @@ ghost use Rattle.std.specs.Prelude.{◌≡◌, map, option_map, IfOk, string_byt
 ghost use Rattle.query_checks.specs.Forms.{names_of, item_form, items_of};
 ghost use Rattle.having_filter.specs.Kept.{label_of};
 
-use query_checks::{Item, kept_alias, own_name};
+use query_checks::{Item, label};
 use std::alloc::{AllocError, Global};
 
 /// The texts that are kept of a query.
@@ -42,8 +42,7 @@ fn label_of(alloc: Global, item: &(Item<String>, Option<String>)) -> Result<Stri
     ensures { IfOk result (λ label. string_bytes label ≡ label_of
         (names_of (item_form item.now.0), option_map string_bytes item.now.1)) }
 {
-    let own = own_name(&item.0);
-    String::from_str(alloc, kept_alias(own, &item.1).unwrap_or(own))
+    String::from_str(alloc, label(item))
 }
 
 /// The names of the answer's columns.

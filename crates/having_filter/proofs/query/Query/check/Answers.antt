@@ -1,28 +1,36 @@
 use Rattle.std.proofs.Common.{◌∙◌, subst, map}
 use Rattle.std.specs.String.{string_bytes}
 use Rattle.packed_rows.specs.Columns.{AreColumns}
-use Rattle.query_checks.specs.Forms.{written_of}
-use Rattle.query_checks.specs.CheckedLaws.{reaches_places, refused_as}
-use Rattle.having_filter.proofs.CheckedLaws.{kept, checked_here}
+use Rattle.query_checks.specs.Order.{asked_of}
+use Rattle.query_checks.specs.CheckedLaws.{refused_as}
+use Rattle.having_filter.proofs.CheckedLaws.{kept, checked_here, refused_places, refused_order}
 use Rattle.having_filter.proofs.query.Query.check.Goals as goal
 
 pub returns-in_err-texts-clause-refused : goal.returns-in_err-texts-clause-refused
 returns-in_err-texts-clause-refused c =
-    refused_as c.args.schema.now (written_of c.args.raw.now) c.from_residual.result c.in_err-texts.field-0.0 c.from_residual.ensures.1 c.in_err-texts.ensures.refused
+    refused_as c.args.schema.now (asked_of c.args.raw.now) c.from_residual.result c.in_err-texts.field-0.0 c.from_residual.ensures.1 c.in_err-texts.ensures.refused
 
 pub returns-in_err-parts-clause-refused : goal.returns-in_err-parts-clause-refused
 returns-in_err-parts-clause-refused c =
-    let q = written_of c.args.raw.now in
+    let q = asked_of c.args.raw.now in
     refused_as c.args.schema.now q c.from_residual-in_err-parts.result c.in_err-parts.field-0.0 c.from_residual-in_err-parts.ensures.1
-    (λ other. reaches_places c.args.schema.now q c.in_ok-texts.ensures.first ∙ c.in_err-parts.ensures.refused other)
+    (λ other. refused_places c.args.schema.now q c.in_err-parts.field-0.0 c.in_ok-texts.ensures.first (c.in_err-parts.ensures.refused other))
 
 pub invariant_of-result : goal.invariant_of-result
 invariant_of-result c =
     let texts = c.in_ok-texts.texts in
-    kept c.in_ok-columns.columns c.args.schema.now (written_of c.args.raw.now) c.in_ok-parts.parts c.in_ok-parts.plan (string_bytes texts.query) (map string_bytes texts.labels.items) (string_bytes texts.schema)
-    c.in_ok-columns.ensures.same c.in_ok-parts.ensures.placed (subst AreColumns c.in_ok-columns.ensures.same c.in_ok-columns.ensures.columns) c.requires c.in_ok-texts.ensures.first c.in_ok-texts.ensures.query
+    kept c.in_ok-columns.columns c.args.schema.now (asked_of c.args.raw.now) c.in_ok-parts.parts c.in_ok-parts.plan (string_bytes texts.query) (map string_bytes texts.labels.items) (string_bytes texts.schema)
+    c.in_ok-columns.ensures.same c.in_ok-parts.ensures.placed c.in_ok-parts.ensures.ordered (subst AreColumns c.in_ok-columns.ensures.same c.in_ok-columns.ensures.columns) c.requires c.in_ok-texts.ensures.first c.in_ok-texts.ensures.query
     c.in_ok-texts.ensures.labels c.in_ok-texts.ensures.schema c.in_ok-parts.ensures.fit c.in_ok-parts.ensures.passed c.in_ok-parts.ensures.plans
 
 pub returns-clause-checked : goal.returns-clause-checked
 returns-clause-checked c =
-    checked_here c.in_ok-columns.columns c.args.schema.now (written_of c.args.raw.now) c.in_ok-parts.parts c.in_ok-columns.ensures.same c.in_ok-parts.ensures.placed c.in_ok-texts.ensures.first c.in_ok-parts.ensures.passed
+    checked_here c.in_ok-columns.columns c.args.schema.now (asked_of c.args.raw.now) c.in_ok-parts.parts c.in_ok-columns.ensures.same c.in_ok-parts.ensures.placed c.in_ok-parts.ensures.ordered c.in_ok-texts.ensures.first
+    c.in_ok-parts.ensures.passed c.in_ok-check_order.ensures.passed
+
+pub returns-in_err-check_order-clause-refused : goal.returns-in_err-check_order-clause-refused
+returns-in_err-check_order-clause-refused c =
+    let q = asked_of c.args.raw.now in
+    let error = c.in_err-check_order.field-0.0 in
+    refused_as c.args.schema.now q c.from_residual-in_err-check_order.result error c.from_residual-in_err-check_order.ensures.1
+    (λ other. refused_order c.args.schema.now q c.in_ok-parts.parts error c.in_ok-parts.ensures.placed c.in_ok-texts.ensures.first c.in_ok-parts.ensures.passed c.in_err-check_order.ensures.refused)
