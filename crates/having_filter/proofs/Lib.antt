@@ -7,3 +7,4 @@ pub mod CheckedLaws
 pub mod AnswerLaws
 pub mod PassedLaws
 pub mod FittingLaws
+pub mod OrderingLaws

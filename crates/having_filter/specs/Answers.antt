@@ -1,10 +1,14 @@
 -- The values of an answer. All of this is our own.
-use Rattle.std.specs.Prelude.{◌≡◌, ℕ, ◌≤◌, List, ◌++◌, map, slice_range}
+use Rattle.std.specs.Prelude.{◌≡◌, ℕ, ◌≤◌, ◌<◌, List, [], ◌++◌, map, length, slice_range, slice_index_or, Option, Some, None}
+use Rattle.std.specs.declared.alloc.Global.{Global}
+use Rattle.std.specs.declared.vec.Vec.{Vec}
 use Rattle.std.specs.List.{All}
 use Rattle.std.specs.Str.{IsCharBoundary, IsUtf8}
 use Rattle.grouping_model.specs.Datum as datum
 use Rattle.grouping_model.specs.Aggregates as model
 use Rattle.grouping_model.specs.Aggregates.{Outcome, Plain}
+use Rattle.having_filter.specs.Order.{Term}
+use Rattle.having_filter.specs.declared.order.OrderTerm.{OrderTerm}
 use Rattle.having_filter.specs.declared.cells.Cell.{Cell}
 use Rattle.having_filter.specs.declared.cells.Cell.TheVariants.{Null, Bigint, Numeric, Boolean, Text}
 
@@ -38,3 +42,17 @@ LiesIn texts _ = Unit {0}
 
 abbrev pub AllLieIn : List ℕ → List Cell → Type 0
 AllLieIn texts cells = All (LiesIn texts) cells
+
+-- a term of ORDER BY, as the model has it
+abbrev pub term_of : OrderTerm → Term
+term_of term = record { item = term.item; descending = term.descending; nulls_first = term.nulls_first }
+
+-- rows by their places, where these are told, and else as they are
+abbrev pub rows_at : List (List Outcome) → Option (Vec ℕ Global) → List (List Outcome)
+rows_at rows None = rows
+rows_at rows (Some places) = map (λ place. slice_index_or rows place []) places.items
+
+-- places are those of rows
+abbrev pub AreBelow : List (List Outcome) → Option (Vec ℕ Global) → Type 0
+AreBelow rows None = Unit {0}
+AreBelow rows (Some places) = All (λ place. place < length rows) places.items

@@ -1,25 +1,31 @@
 //! Answers.
 
-ghost use Rattle.std.specs.Prelude.{◌≡◌, ◌<◌, ◌++◌, ◌∷◌, [], map, length, slice_get, slice_index_or, Some, IsTrue, ◌↔◌, OnOk, OnErr};
+ghost use Rattle.std.specs.Prelude.{◌≡◌, ◌<◌, ◌++◌, ◌∷◌, [], map, length, slice_get, slice_index_or, All, List, Some, IfSome, IsTrue, ◌↔◌, IfOk, OnOk, OnErr};
+ghost use Rattle.grouping_model.specs.Aggregates.{Outcome, Plain};
+ghost use Rattle.grouping_model.specs.Datum.{Null};
 ghost use Rattle.agg_protocol.specs.Results.{outcome_of};
+ghost use Rattle.having_filter.specs.Answers.{term_of, rows_at, AreBelow};
+ghost use Rattle.having_filter.specs.Order.{terms_cmp, ordered};
 
 use crate::cells::Values;
+use crate::order::OrderTerm;
 use agg_protocol::ResultValue;
 use packed_rows::bound;
 use std::alloc::{AllocError, Global};
+use std::cmp::Ordering;
 use std::marker::Model;
 
-/// The rows of an answer, in their order, with the values of the query's items in each.
+/// The rows of an answer as they are made, which is by rising key, with the values of the query's items in each.
 ///
 /// The values of all rows lie in one run, so that a row takes no block of memory of its own.
 #[derive(Drop)]
-pub struct Answer {
+pub struct AnswerRows {
     values: Values,
     /// Where each row ends.
     ends: Vec<usize>,
 }
 
-impl Model for Answer {
+impl Model for AnswerRows {
     ghost use Rattle.std.specs.Prelude.{List};
     ghost use Rattle.grouping_model.specs.Aggregates.{Outcome};
 
@@ -32,12 +38,12 @@ impl Model for Answer {
     ghost invariant = { λ a. AreRows a.values a.ends.items };
 }
 
-impl Answer {
-    /// An answer of no rows.
-    pub fn new(alloc: Global) -> Answer
+impl AnswerRows {
+    /// No rows.
+    pub fn new(alloc: Global) -> AnswerRows
         ensures { result ≡ [] }
     {
-        Answer {
+        AnswerRows {
             values: Values::new(alloc),
             ends: Vec::new(alloc),
         }
@@ -84,5 +90,145 @@ impl Answer {
         ensures { slice_get (slice_index_or self.now row []) item ≡ Some (outcome_of result) }
     {
         self.values.value(bound(&self.ends, row), item)
+    }
+
+    /// The item at a place of a row, and null where there is none.
+    fn value_or_null(&self, row: usize, item: usize) -> ResultValue<'_>
+        ensures { outcome_of result ≡ slice_index_or (slice_index_or self.now row []) item (Plain Null) }
+    {
+        if row < self.len() && item < self.width(row) {
+            self.value(row, item)
+        } else {
+            ResultValue::Null
+        }
+    }
+
+    /// How two rows compare by the terms of ORDER BY: by the first that tells them apart.
+    fn compare(&self, terms: &[OrderTerm], a: usize, b: usize) -> Ordering
+        ensures { result ≡ terms_cmp (map term_of terms.now) (slice_index_or self.now a []) (slice_index_or self.now b []) }
+    {
+        for term in terms {
+            match term.compare(
+                self.value_or_null(a, term.item),
+                self.value_or_null(b, term.item),
+            ) {
+                Ordering::Equal => {}
+                order => return order,
+            }
+        }
+        Ordering::Equal
+    }
+
+    /// The places of the rows, from the first on.
+    fn all_places(&self, alloc: Global) -> Result<Vec<usize>, AllocError>
+        ensures rows { IfOk result (λ places. map (λ place. slice_index_or self.now place []) places.items ≡ self.now) }
+        ensures below { IfOk result (λ places. All (λ place. place < length self.now) places.items) }
+    {
+        let count = self.len();
+        let mut places = Vec::with_capacity(alloc, count)?;
+        for place in 0..count {
+            places.push(place)?;
+        }
+        Ok(places)
+    }
+
+    /// The places of the rows in the order of the terms of ORDER BY.
+    fn places_in_order(&self, alloc: Global, terms: &[OrderTerm]) -> Result<Vec<usize>, AllocError>
+        ensures rows { IfOk result (λ places. map (λ place. slice_index_or self.now place []) places.items
+            ≡ ordered (map term_of terms.now) self.now) }
+        ensures below { IfOk result (λ places. All (λ place. place < length self.now) places.items) }
+    {
+        let mut places = self.all_places(alloc)?;
+        places.sort_by(|a, b| self.compare(terms, *a, *b))?;
+        Ok(places)
+    }
+}
+
+/// Where a row stands among the rows as they were made.
+fn place_of(places: &Option<Vec<usize>>, row: usize) -> usize
+    requires { IfSome places.now (λ places. row < length places.items) }
+    ensures row { (rows : List (List Outcome)) → row < length (rows_at rows places.now) →
+        slice_index_or (rows_at rows places.now) row [] ≡ slice_index_or rows result [] }
+    ensures below { (rows : List (List Outcome)) → AreBelow rows places.now →
+        row < length (rows_at rows places.now) → result < length rows }
+{
+    match places {
+        None => row,
+        Some(places) => places[row],
+    }
+}
+
+/// The rows of an answer, in the order in which they are shown, with the values of the query's items in each.
+#[derive(Drop)]
+pub struct Answer {
+    rows: AnswerRows,
+    /// With ORDER BY, the places of the rows in its order.
+    places: Option<Vec<usize>>,
+}
+
+impl Model for Answer {
+    ghost use Rattle.std.specs.Prelude.{List};
+    ghost use Rattle.grouping_model.specs.Aggregates.{Outcome};
+    ghost use Rattle.having_filter.specs.Answers.{rows_at, AreBelow};
+
+    ghost Value = { List (List Outcome) };
+
+    ghost view = { λ a. rows_at a.rows a.places };
+
+    ghost invariant = { λ a. AreBelow a.rows a.places };
+}
+
+impl Answer {
+    /// Rows, by the terms of ORDER BY in their order. Rows that no term tells apart stay as they were made. Without terms it takes
+    /// no memory.
+    pub fn in_order(
+        alloc: Global,
+        rows: AnswerRows,
+        terms: &[OrderTerm],
+    ) -> Result<Answer, AllocError>
+        ensures { IfOk result (λ answer. answer ≡ ordered (map term_of terms.now) rows) }
+    {
+        if terms.is_empty() {
+            return Ok(Answer { rows, places: None });
+        }
+        let places = rows.places_in_order(alloc, terms)?;
+        Ok(Answer {
+            rows,
+            places: Some(places),
+        })
+    }
+
+    /// How many rows there are.
+    pub fn len(&self) -> usize
+        ensures { result ≡ length self.now }
+    {
+        match &self.places {
+            None => self.rows.len(),
+            Some(places) => places.len(),
+        }
+    }
+
+    /// Whether there are no rows.
+    pub fn is_empty(&self) -> bool
+        ensures { IsTrue result ↔ (self.now ≡ []) }
+    {
+        self.len() == 0
+    }
+
+    /// How many items a row has, the first row being 0.
+    pub fn width(&self, row: usize) -> usize
+        requires { row < length self.now }
+        ensures { result ≡ length (slice_index_or self.now row []) }
+    {
+        self.rows.width(place_of(&self.places, row))
+    }
+
+    /// The item at a place of a row, the first row and the first item being 0.
+    pub fn value(&self, row: usize, item: usize) -> ResultValue<'_>
+        requires row { row < length self.now }
+        requires item { item < length (slice_index_or self.now row []) }
+        ensures { slice_get (slice_index_or self.now row []) item ≡ Some (outcome_of result) }
+    {
+        self.rows.value(place_of(&self.places, row), item)
     }
 }

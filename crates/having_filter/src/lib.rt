@@ -6,14 +6,16 @@ mod cells;
 mod copying;
 mod laws;
 mod leaves;
+mod order;
 mod plan;
 mod query;
 mod texts;
 mod truth;
 mod value;
 
-pub use answer::Answer;
+pub use answer::{Answer, AnswerRows};
 pub use laws::conditions_of_checked_queries;
+pub use order::OrderTerm;
 pub use plan::Source;
 pub use query::Query;
 pub use query_checks::{

@@ -2,7 +2,7 @@ use Rattle.std.specs.Prelude.{◌≡◌, ◌∷◌, length, slice_index_or}
 use Rattle.std.proofs.Common.{sym, ◌∙◌, ap, subst, arith}
 use Rattle.packed_rows.specs.RowsOnEnd.{LieAs}
 use Rattle.packed_rows.specs.RowsOnEndLaws.{RowAt, cut_long, row_at, row_long}
-use Rattle.having_filter.proofs.answer.Answer.width.Goals as goal
+use Rattle.having_filter.proofs.answer.AnswerRows.width.Goals as goal
 
 pub index-requires : goal.index-requires
 index-requires c =

@@ -1,7 +1,7 @@
 use Rattle.std.specs.Prelude.{◌≡◌, length}
 use Rattle.std.proofs.Common.{sym, ◌∙◌, ap, arith}
 use Rattle.packed_rows.specs.RowsOnEndLaws.{cut_long}
-use Rattle.having_filter.proofs.answer.Answer.len.Goals as goal
+use Rattle.having_filter.proofs.answer.AnswerRows.len.Goals as goal
 
 pub returns : goal.returns
 returns c =

@@ -3,7 +3,7 @@ use Rattle.std.proofs.Common.{sym, ◌∙◌, ap, subst, arith}
 use Rattle.agg_protocol.specs.Results.{outcome_of}
 use Rattle.packed_rows.specs.RowsOnEnd.{LieAs}
 use Rattle.packed_rows.specs.RowsOnEndLaws.{cut_long, row_at, row_long, element_is}
-use Rattle.having_filter.proofs.answer.Answer.value.Goals as goal
+use Rattle.having_filter.proofs.answer.AnswerRows.value.Goals as goal
 
 pub bound-requires : goal.bound-requires
 bound-requires c =

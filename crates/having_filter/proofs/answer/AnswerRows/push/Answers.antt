@@ -3,7 +3,7 @@ use Rattle.std.proofs.Common.{subst, rules}
 use Rattle.agg_protocol.specs.Results.{outcome_of}
 use Rattle.packed_rows.specs.RowsOnEnd.{LieAs}
 use Rattle.packed_rows.specs.RowsOnEndLaws.{cut_is, are_rows, pushed}
-use Rattle.having_filter.proofs.answer.Answer.push.Goals as goal
+use Rattle.having_filter.proofs.answer.AnswerRows.push.Goals as goal
 
 -- the rows with one more
 lie : (c : goal.In_ok-push) → LieAs c.extend.new.self c.push.new.self.items (c.args.self.now ++ map outcome_of c.args.row.now ∷ [])
