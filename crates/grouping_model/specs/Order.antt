@@ -35,9 +35,12 @@ directed false x y = value_cmp x y
 abbrev pub value_of : Term → List Outcome → Outcome
 value_of term row = slice_index_or row term.item (Plain Null)
 
--- two rows by a term
+-- two values, and two rows, by a term
+abbrev pub by_term : Term → Outcome → Outcome → Ordering
+by_term term = then_cmp (on (null_rank term.nulls_first) nat_cmp) (directed term.descending)
+
 abbrev pub term_cmp : Term → List Outcome → List Outcome → Ordering
-term_cmp term = on (value_of term) (then_cmp (on (null_rank term.nulls_first) nat_cmp) (directed term.descending))
+term_cmp term = on (value_of term) (by_term term)
 
 -- by the first term that tells them apart
 abbrev pub terms_cmp : List Term → List Outcome → List Outcome → Ordering

@@ -4,25 +4,21 @@ use Rattle.std.proofs.Common.{sym, ◌∙◌, ap, subst, get_or}
 use Rattle.std.proofs.lemmas.List.{at_drop_more, drop_all}
 use Rattle.std.specs.declared.cmp.Ordering.{Ordering}
 use Rattle.std.specs.declared.cmp.Ordering.TheVariants.{Less, Equal, Greater}
-use Rattle.std.specs.Ordering.{nat_cmp, then_cmp, on, ordering_then}
+use Rattle.std.specs.Ordering.{ordering_then}
 use Rattle.grouping_model.specs.Aggregates.{Outcome, Plain}
 use Rattle.grouping_model.specs.Datum.{Null}
-use Rattle.having_filter.specs.Order.{Term, null_rank, directed, terms_cmp, ordered}
-use Rattle.having_filter.specs.OrderLaws.{unordered}
-use Rattle.having_filter.specs.Answers.{term_of}
-use Rattle.having_filter.specs.declared.order.OrderTerm.{OrderTerm}
-
--- two values by a term
-abbrev pub by_term : OrderTerm → Outcome → Outcome → Ordering
-by_term term = then_cmp (on (null_rank term.nulls_first) nat_cmp) (directed term.descending)
+use Rattle.grouping_model.specs.Order.{by_term, terms_cmp, ordered}
+use Rattle.grouping_model.specs.OrderLaws.{unordered}
+use Rattle.having_filter.specs.Meaning.{order_term}
+use Rattle.query_checks.specs.declared.order.OrderTerm.{OrderTerm}
 
 -- the terms from one on
 pub terms_from : (terms : List OrderTerm) (i : ℕ) (term : OrderTerm) (a b : List Outcome) (x y : Outcome) → i < length terms
     → x ≡ slice_index_or a (get_or terms i term).item (Plain Null) → y ≡ slice_index_or b (get_or terms i term).item (Plain Null)
-    → terms_cmp (map term_of (drop i terms)) a b ≡ ordering_then (by_term (get_or terms i term) x y) (terms_cmp (map term_of (drop (i + 1) terms)) a b)
+    → terms_cmp (map order_term (drop i terms)) a b ≡ ordering_then (by_term (order_term (get_or terms i term)) x y) (terms_cmp (map order_term (drop (i + 1) terms)) a b)
 terms_from terms i term a b x y low first second =
-    at_drop_more (λ those. terms_cmp (map term_of those) a b) terms i term low
-    ∙ (λ j. ordering_then (by_term (get_or terms i term) (sym first j) (sym second j)) (terms_cmp (map term_of (drop (i + 1) terms)) a b))
+    at_drop_more (λ those. terms_cmp (map order_term those) a b) terms i term low
+    ∙ (λ j. ordering_then (by_term (order_term (get_or terms i term)) (sym first j) (sym second j)) (terms_cmp (map order_term (drop (i + 1) terms)) a b))
 
 -- a term that tells two apart
 told_apart : (order rest : Ordering) → order ≢ Equal → order ≡ ordering_then order rest
@@ -30,28 +26,28 @@ told_apart Less rest apart = refl
 told_apart Equal rest apart = absurd (apart refl)
 told_apart Greater rest apart = refl
 
-pub apart_at : (terms : List OrderTerm) (i : ℕ) (term : OrderTerm) (a b : List Outcome) (x y : Outcome) (order : Ordering) → terms_cmp (map term_of terms) a b ≡ terms_cmp (map term_of (drop i terms)) a b
+pub apart_at : (terms : List OrderTerm) (i : ℕ) (term : OrderTerm) (a b : List Outcome) (x y : Outcome) (order : Ordering) → terms_cmp (map order_term terms) a b ≡ terms_cmp (map order_term (drop i terms)) a b
     → i < length terms → x ≡ slice_index_or a (get_or terms i term).item (Plain Null) → y ≡ slice_index_or b (get_or terms i term).item (Plain Null)
-    → order ≡ by_term (get_or terms i term) x y → order ≢ Equal → order ≡ terms_cmp (map term_of terms) a b
+    → order ≡ by_term (order_term (get_or terms i term)) x y → order ≢ Equal → order ≡ terms_cmp (map order_term terms) a b
 apart_at terms i term a b x y order same low first second is apart =
-    told_apart order (terms_cmp (map term_of (drop (i + 1) terms)) a b) apart
-    ∙ ap (λ o. ordering_then o (terms_cmp (map term_of (drop (i + 1) terms)) a b)) is
+    told_apart order (terms_cmp (map order_term (drop (i + 1) terms)) a b) apart
+    ∙ ap (λ o. ordering_then o (terms_cmp (map order_term (drop (i + 1) terms)) a b)) is
     ∙ sym (terms_from terms i term a b x y low first second)
     ∙ sym same
 
 -- one that does not
-pub alike_at : (terms : List OrderTerm) (i : ℕ) (term : OrderTerm) (a b : List Outcome) (x y : Outcome) (order : Ordering) → terms_cmp (map term_of terms) a b ≡ terms_cmp (map term_of (drop i terms)) a b
+pub alike_at : (terms : List OrderTerm) (i : ℕ) (term : OrderTerm) (a b : List Outcome) (x y : Outcome) (order : Ordering) → terms_cmp (map order_term terms) a b ≡ terms_cmp (map order_term (drop i terms)) a b
     → i < length terms → x ≡ slice_index_or a (get_or terms i term).item (Plain Null) → y ≡ slice_index_or b (get_or terms i term).item (Plain Null)
-    → order ≡ by_term (get_or terms i term) x y → order ≡ Equal → terms_cmp (map term_of terms) a b ≡ terms_cmp (map term_of (drop (i + 1) terms)) a b
+    → order ≡ by_term (order_term (get_or terms i term)) x y → order ≡ Equal → terms_cmp (map order_term terms) a b ≡ terms_cmp (map order_term (drop (i + 1) terms)) a b
 alike_at terms i term a b x y order same low first second is alike =
     same
     ∙ terms_from terms i term a b x y low first second
-    ∙ ap (λ o. ordering_then o (terms_cmp (map term_of (drop (i + 1) terms)) a b)) (sym is ∙ alike)
+    ∙ ap (λ o. ordering_then o (terms_cmp (map order_term (drop (i + 1) terms)) a b)) (sym is ∙ alike)
 
 -- none is left
-pub none_apart : (terms : List OrderTerm) (i : ℕ) (a b : List Outcome) → terms_cmp (map term_of terms) a b ≡ terms_cmp (map term_of (drop i terms)) a b → length terms ≤ i → Equal ≡ terms_cmp (map term_of terms) a b
-none_apart terms i a b same past = sym (same ∙ ap (λ those. terms_cmp (map term_of those) a b) (drop_all i terms past))
+pub none_apart : (terms : List OrderTerm) (i : ℕ) (a b : List Outcome) → terms_cmp (map order_term terms) a b ≡ terms_cmp (map order_term (drop i terms)) a b → length terms ≤ i → Equal ≡ terms_cmp (map order_term terms) a b
+none_apart terms i a b same past = sym (same ∙ ap (λ those. terms_cmp (map order_term those) a b) (drop_all i terms past))
 
 -- without terms rows stand as they were made
-pub as_made : (terms : List OrderTerm) (rows : List (List Outcome)) → terms ≡ [] → rows ≡ ordered (map term_of terms) rows
-as_made terms rows none = sym (unordered rows) ∙ ap (λ those. ordered (map term_of those) rows) (sym none)
+pub as_made : (terms : List OrderTerm) (rows : List (List Outcome)) → terms ≡ [] → rows ≡ ordered (map order_term terms) rows
+as_made terms rows none = sym (unordered rows) ∙ ap (λ those. ordered (map order_term those) rows) (sym none)

@@ -7,8 +7,6 @@ use Rattle.std.specs.Str.{IsCharBoundary, IsUtf8}
 use Rattle.grouping_model.specs.Datum as datum
 use Rattle.grouping_model.specs.Aggregates as model
 use Rattle.grouping_model.specs.Aggregates.{Outcome, Plain}
-use Rattle.having_filter.specs.Order.{Term}
-use Rattle.having_filter.specs.declared.order.OrderTerm.{OrderTerm}
 use Rattle.having_filter.specs.declared.cells.Cell.{Cell}
 use Rattle.having_filter.specs.declared.cells.Cell.TheVariants.{Null, Bigint, Numeric, Boolean, Text}
 
@@ -42,10 +40,6 @@ LiesIn texts _ = Unit {0}
 
 abbrev pub AllLieIn : List ℕ → List Cell → Type 0
 AllLieIn texts cells = All (LiesIn texts) cells
-
--- a term of ORDER BY, as the model has it
-abbrev pub term_of : OrderTerm → Term
-term_of term = record { item = term.item; descending = term.descending; nulls_first = term.nulls_first }
 
 -- rows by their places, where these are told, and else as they are
 abbrev pub rows_at : List (List Outcome) → Option (Vec ℕ Global) → List (List Outcome)

@@ -7,6 +7,3 @@ pub mod Answers
 pub mod Fitting
 pub mod NormalLaws
 pub mod PlaceLaws
-pub mod Sorting
-pub mod Order
-pub mod OrderLaws

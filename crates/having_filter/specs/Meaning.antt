@@ -6,12 +6,14 @@ use Rattle.grouping_model.specs.Condition as model
 use Rattle.grouping_model.specs.Condition.{Condition}
 use Rattle.grouping_model.specs.Query.{Query, Aggregate, Source}
 use Rattle.grouping_model.specs.Query as query
+use Rattle.grouping_model.specs.Order.{Term}
 use Rattle.packed_rows.specs.Columns.{kinds}
 use Rattle.query_checks.specs.Forms as form
 use Rattle.query_checks.specs.Forms.{Unary_operator, Negation, Testing, Binary_operator, Conjunction, Disjunction, Comparing, Form, Call, Call_where, Literal, Unary, Binary}
 use Rattle.query_checks.specs.Sameness.{form_eq}
 use Rattle.query_checks.specs.Calls.{distinct_calls}
 use Rattle.query_checks.specs.Checks.{Checked}
+use Rattle.query_checks.specs.declared.order.OrderTerm.{OrderTerm}
 
 -- what operators mean (PostgreSQL 17, 9.1 and 9.2)
 abbrev pub unary_of : {Leaf : Type 0} → Unary_operator → Condition Leaf → Condition Leaf
@@ -58,6 +60,10 @@ source_of_form keys calls call = query.Call (place_in (form_eq ◌==◌) calls c
 abbrev pub group_condition : List ℕ → List (Form ℕ) → Form ℕ → Condition Source
 group_condition keys calls c = condition_by (λ leaf. model.At (source_of_form keys calls leaf)) c
 
+-- a term of ORDER BY (PostgreSQL 17, 7.5 Sorting Rows)
+abbrev pub order_term : OrderTerm → Term
+order_term term = record { item = term.item; descending = term.descending; nulls_first = term.nulls_first }
+
 -- what a checked query means (PostgreSQL 17, SELECT)
 abbrev pub meaning : Checked → Query
 meaning q =
@@ -69,4 +75,5 @@ meaning q =
       keys = q.written.keys;
       aggregates = map aggregate_of calls;
       having = option_map (group_condition q.written.keys calls) q.written.having;
+      order = map order_term q.order;
     }

@@ -4,13 +4,15 @@ ghost use Rattle.std.specs.Prelude.{◌≡◌, ◌<◌, ◌++◌, ◌∷◌, [],
 ghost use Rattle.grouping_model.specs.Aggregates.{Outcome, Plain};
 ghost use Rattle.grouping_model.specs.Datum.{Null};
 ghost use Rattle.agg_protocol.specs.Results.{outcome_of};
-ghost use Rattle.having_filter.specs.Answers.{term_of, rows_at, AreBelow};
-ghost use Rattle.having_filter.specs.Order.{terms_cmp, ordered};
+ghost use Rattle.grouping_model.specs.Order.{terms_cmp, ordered};
+ghost use Rattle.having_filter.specs.Answers.{rows_at, AreBelow};
+ghost use Rattle.having_filter.specs.Meaning.{order_term};
 
 use crate::cells::Values;
-use crate::order::OrderTerm;
+use crate::ordering::compare_by;
 use agg_protocol::ResultValue;
 use packed_rows::bound;
+use query_checks::OrderTerm;
 use std::alloc::{AllocError, Global};
 use std::cmp::Ordering;
 use std::marker::Model;
@@ -105,10 +107,11 @@ impl AnswerRows {
 
     /// How two rows compare by the terms of ORDER BY: by the first that tells them apart.
     fn compare(&self, terms: &[OrderTerm], a: usize, b: usize) -> Ordering
-        ensures { result ≡ terms_cmp (map term_of terms.now) (slice_index_or self.now a []) (slice_index_or self.now b []) }
+        ensures { result ≡ terms_cmp (map order_term terms.now) (slice_index_or self.now a []) (slice_index_or self.now b []) }
     {
         for term in terms {
-            match term.compare(
+            match compare_by(
+                *term,
                 self.value_or_null(a, term.item),
                 self.value_or_null(b, term.item),
             ) {
@@ -135,7 +138,7 @@ impl AnswerRows {
     /// The places of the rows in the order of the terms of ORDER BY.
     fn places_in_order(&self, alloc: Global, terms: &[OrderTerm]) -> Result<Vec<usize>, AllocError>
         ensures rows { IfOk result (λ places. map (λ place. slice_index_or self.now place []) places.items
-            ≡ ordered (map term_of terms.now) self.now) }
+            ≡ ordered (map order_term terms.now) self.now) }
         ensures below { IfOk result (λ places. All (λ place. place < length self.now) places.items) }
     {
         let mut places = self.all_places(alloc)?;
@@ -186,7 +189,7 @@ impl Answer {
         rows: AnswerRows,
         terms: &[OrderTerm],
     ) -> Result<Answer, AllocError>
-        ensures { IfOk result (λ answer. answer ≡ ordered (map term_of terms.now) rows) }
+        ensures { IfOk result (λ answer. answer ≡ ordered (map order_term terms.now) rows) }
     {
         if terms.is_empty() {
             return Ok(Answer { rows, places: None });

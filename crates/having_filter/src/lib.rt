@@ -6,7 +6,7 @@ mod cells;
 mod copying;
 mod laws;
 mod leaves;
-mod order;
+mod ordering;
 mod plan;
 mod query;
 mod texts;
@@ -15,7 +15,6 @@ mod value;
 
 pub use answer::{Answer, AnswerRows};
 pub use laws::conditions_of_checked_queries;
-pub use order::OrderTerm;
 pub use plan::Source;
 pub use query::Query;
 pub use query_checks::{

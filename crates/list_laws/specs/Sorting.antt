@@ -1,6 +1,6 @@
 -- Insertion sort, which leaves what ties in its order, and that it is the one list which rises so.
 use Rattle.std.proofs.Common.{sym, ◌∙◌, ap, subst, refl, arith, true≢false}
-use Rattle.std.specs.Prelude.{◌≡◌, ℕ, zero, suc, ◌+◌, ◌<◌, Bool, true, false, not, ◌&&◌, List, [], ◌∷◌, filter, length, slice_index_or, if◌then◌else◌}
+use Rattle.std.specs.Prelude.{◌≡◌, ℕ, zero, suc, ◌+◌, ◌<◌, Bool, true, false, not, ◌&&◌, List, [], ◌∷◌, map, filter, length, slice_index_or, if◌then◌else◌}
 use Rattle.std.specs.Cmp.{IsStrictWeakOrder}
 use Rattle.std.specs.List.{AllByRecursion}
 use Rattle.std.specs.List.Sorted.{ties, IsSortedBy, IsStableBy, IsPermutation}
@@ -209,3 +209,18 @@ pub sorted_once : {X : Type 0} (lt : X → X → Bool) → IsStrictWeakOrder lt 
 sorted_once lt order xs ys sorted stable =
     rises_once lt order ys (sorted_by lt xs) (index_rises lt order ys sorted) (sorted_rises lt order xs)
     (λ x. stable x ∙ sym (sorted_stable lt order xs x))
+
+-- ---- members that stand for others
+
+put_mapped : {X Y : Type 0} (lt : Y → Y → Bool) (f : X → Y) (x : X) (ys : List X) → map f (put_before (λ a b. lt (f a) (f b)) x ys) ≡ put_before lt (f x) (map f ys)
+put_mapped lt f x [] = refl
+put_mapped lt f x (y ∷ ys) =
+    elim (lt (f y) (f x)) as (λ b. map f (if b then y ∷ put_before (λ a b. lt (f a) (f b)) x ys else x ∷ y ∷ ys) ≡ (if b then f y ∷ put_before lt (f x) (map f ys) else f x ∷ f y ∷ map f ys)) [
+      | true ↦ ap (λ zs. f y ∷ zs) (put_mapped lt f x ys)
+      | false ↦ refl
+    ]
+
+-- they are sorted as what they stand for
+pub sorted_mapped : {X Y : Type 0} (lt : Y → Y → Bool) (f : X → Y) (xs : List X) → map f (sorted_by (λ a b. lt (f a) (f b)) xs) ≡ sorted_by lt (map f xs)
+sorted_mapped lt f [] = refl
+sorted_mapped lt f (x ∷ xs) = put_mapped lt f x (sorted_by (λ a b. lt (f a) (f b)) xs) ∙ ap (put_before lt (f x)) (sorted_mapped lt f xs)

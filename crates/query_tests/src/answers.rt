@@ -1,7 +1,7 @@
 ghost use Rattle.std.specs.Prelude.{◌<◌, length};
 
 use agg_protocol::ResultValue;
-use having_filter::Answer;
+use having_filter::{Answer, AnswerRows, OrderTerm};
 use std::alloc::{AllocError, Global};
 use std::test::*;
 use test_tables::expect;
@@ -49,32 +49,73 @@ const ROWS: [&[ResultValue<'static>]; 4] = [
     ],
 ];
 
-/// Puts these rows into an answer, and tells them.
-fn tell_pushed(alloc: Global, answer: &mut Answer, shown: &mut String) -> Result<(), AllocError> {
-    for row in ROWS {
-        answer.push(row)?;
+/// Puts rows into those of an answer.
+fn push_rows(rows: &mut AnswerRows, those: &[&[ResultValue<'static>]]) -> Result<(), AllocError> {
+    for row in those {
+        rows.push(*row)?;
     }
-    tell_rows(alloc, answer, shown)
+    Ok(())
 }
 
-/// Tells a new answer once these rows are put into it, and whether it was empty before, and has four rows then.
-fn kept(alloc: Global) -> Result<String, Fail> {
-    let mut answer = Answer::new(alloc);
-    let mut shown = String::new(alloc);
-    let empty = answer.is_empty();
-    let told = tell_pushed(alloc, &mut answer, &mut shown);
-    let full = answer.len() == 4 && !answer.is_empty();
+/// Tells the answer of rows in the order of terms, and how many rows it has.
+fn in_order(
+    alloc: Global,
+    those: &[&[ResultValue<'static>]],
+    terms: &[OrderTerm],
+) -> Result<String, AllocError> {
+    let mut rows = AnswerRows::new(alloc);
+    push_rows(&mut rows, those)?;
+    let answer = Answer::in_order(alloc, rows, terms)?;
+    let mut shown = format!(in alloc; "{}, {}: ", answer.len(), answer.is_empty())?;
+    let told = tell_rows(alloc, &answer, &mut shown);
     drop(answer);
     told?;
-    shown.push_str(if empty && full { "true" } else { "false" })?;
     Ok(shown)
 }
 
 #[test]
 fn answers_are_kept(rt: HostRuntime) -> Result<(), Fail> {
     expect(
-        kept(rt.alloc()),
-        "Boolean(true) Text(\"a\") Null //Bigint(-9223372036854775808) \
-         Numeric(170141183460469231731687303715884105727) /Text(\"\") Text(\"é€\") Text(\"b\") /true",
+        in_order(rt.alloc(), &ROWS, &[]),
+        "4, false: Boolean(true) Text(\"a\") Null //Bigint(-9223372036854775808) \
+         Numeric(170141183460469231731687303715884105727) /Text(\"\") Text(\"é€\") Text(\"b\") /",
+    )?;
+    expect(in_order(rt.alloc(), &[], &[]), "0, true: ")
+}
+
+/// Rows of a sum and a text, as they are made.
+const PAIRS: [&[ResultValue<'static>]; 5] = [
+    &[ResultValue::Numeric(9), ResultValue::Text("a")],
+    &[ResultValue::Null, ResultValue::Text("b")],
+    &[ResultValue::Numeric(10), ResultValue::Text("c")],
+    &[ResultValue::Numeric(9), ResultValue::Text("d")],
+    &[ResultValue::Numeric(-1), ResultValue::Null],
+];
+
+/// A term of ORDER BY.
+const fn term(item: usize, descending: bool, nulls_first: bool) -> OrderTerm {
+    OrderTerm {
+        item,
+        descending,
+        nulls_first,
+    }
+}
+
+#[test]
+fn rows_stand_in_the_order_of_terms(rt: HostRuntime) -> Result<(), Fail> {
+    expect(
+        in_order(rt.alloc(), &PAIRS, &[term(0, true, true), term(1, true, true)]),
+        "5, false: Null Text(\"b\") /Numeric(10) Text(\"c\") /Numeric(9) Text(\"d\") \
+         /Numeric(9) Text(\"a\") /Numeric(-1) Null /",
+    )?;
+    expect(
+        in_order(rt.alloc(), &PAIRS, &[term(0, false, false)]),
+        "5, false: Numeric(-1) Null /Numeric(9) Text(\"a\") /Numeric(9) Text(\"d\") \
+         /Numeric(10) Text(\"c\") /Null Text(\"b\") /",
+    )?;
+    expect(
+        in_order(rt.alloc(), &PAIRS, &[term(1, false, true)]),
+        "5, false: Numeric(-1) Null /Numeric(9) Text(\"a\") /Null Text(\"b\") \
+         /Numeric(10) Text(\"c\") /Numeric(9) Text(\"d\") /",
     )
 }

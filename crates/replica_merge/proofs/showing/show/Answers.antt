@@ -1,11 +1,11 @@
-use Rattle.std.specs.Prelude.{◌≡◌, ◌≢◌, [], length}
+use Rattle.std.specs.Prelude.{◌≡◌, ◌≢◌, [], map, length}
 use Rattle.std.proofs.Common.{sym, ◌∙◌, ap, rules}
 use Rattle.std.proofs.lemmas.List.{nil_from_length}
 use Rattle.std.proofs.lemmas.Result.{if_ok_then}
 use Rattle.grouping_model.specs.Query.{Query}
 use Rattle.grouping_model.specs.Order.{ordered}
 use Rattle.grouping_model.specs.Answer.{rows_of, answer_of}
-use Rattle.having_filter.specs.Meaning.{meaning}
+use Rattle.having_filter.specs.Meaning.{meaning, order_term}
 use Rattle.group_runs.specs.RunLaws.{groups_long}
 use Rattle.replica_merge.proofs.ShownLaws.{answered_some}
 use Rattle.replica_merge.proofs.showing.show.Goals as goal
@@ -26,5 +26,5 @@ returns c =
     (λ answer is most groups low are.
     let left : length groups ≢ 0 = λ e. some (nil_from_length c.args.run.now (groups_long q most c.args.run.now groups are ∙ e)) in
     let rows = c.in_ok-rows.ensures most groups low are ∙ ap (rows_of q) (sym (answered_some q groups left)) in
-    is ∙ (λ i. ordered (c.order.ensures i) (rows i)))
+    is ∙ (λ i. ordered (map order_term (c.order.ensures.order i)) (rows i)))
     c.in_order.ensures

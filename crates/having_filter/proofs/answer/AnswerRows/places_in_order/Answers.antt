@@ -6,16 +6,16 @@ use Rattle.std.proofs.lemmas.Fn.{always_returns_same}
 use Rattle.std.proofs.lemmas.List.MinMax.{ranks_by}
 use Rattle.std.proofs.lemmas.List.Sorted.{All-permutation}
 use Rattle.grouping_model.specs.Aggregates.{Outcome}
-use Rattle.having_filter.specs.Answers.{term_of}
-use Rattle.having_filter.specs.Order.{Term, terms_cmp, comes_before}
-use Rattle.having_filter.specs.OrderLaws.{terms_cmp_total}
-use Rattle.having_filter.specs.Sorting.{sorted_by, sorted_once, sorted_mapped}
+use Rattle.having_filter.specs.Meaning.{order_term}
+use Rattle.grouping_model.specs.Order.{Term, terms_cmp, comes_before}
+use Rattle.grouping_model.specs.OrderLaws.{terms_cmp_total}
+use Rattle.list_laws.specs.Sorting.{sorted_by, sorted_once, sorted_mapped}
 use Rattle.having_filter.proofs.answer.AnswerRows.places_in_order.Goals as goal
 
 pub returns-clause-rows : goal.returns-clause-rows
 returns-clause-rows c =
     let rows : List (List Outcome) = c.args.self.now in
-    let terms : List Term = map term_of c.args.terms.now in
+    let terms : List Term = map order_term c.args.terms.now in
     let row : ℕ → List Outcome = λ place. slice_index_or rows place [] in
     let before : ℕ → ℕ → Bool = λ a b. is_lt (terms_cmp terms (row a) (row b)) in
     let any : IsStrictWeakOrder before = ranks_by (terms_cmp_total terms) row in

@@ -1,21 +1,13 @@
-//! The terms of ORDER BY.
+//! How values compare by a term of ORDER BY.
 
 ghost use Rattle.std.specs.Prelude.{◌≡◌};
-ghost use Rattle.std.specs.Ordering.{nat_cmp, then_cmp, on};
+ghost use Rattle.grouping_model.specs.Order.{null_rank, value_cmp, by_term};
 ghost use Rattle.agg_protocol.specs.Results.{outcome_of};
-ghost use Rattle.having_filter.specs.Order.{null_rank, value_cmp, directed};
+ghost use Rattle.having_filter.specs.Meaning.{order_term};
 
 use agg_protocol::ResultValue;
+use query_checks::OrderTerm;
 use std::cmp::Ordering;
-
-/// A term of ORDER BY: an item of the query, the first being 0, whether the greatest value comes first, and whether nulls come before
-/// all other values.
-#[derive(Clone, Copy, Debug, PartialEq, Eq)]
-pub struct OrderTerm {
-    pub item: usize,
-    pub descending: bool,
-    pub nulls_first: bool,
-}
 
 /// Where a value stands among nulls and others.
 fn null_rank(nulls_first: bool, value: ResultValue<'_>) -> u8
@@ -49,18 +41,15 @@ fn compare_values(x: ResultValue<'_>, y: ResultValue<'_>) -> Ordering
     }
 }
 
-impl OrderTerm {
-    /// How two values of the term's item compare.
-    pub(crate) fn compare(&self, x: ResultValue<'_>, y: ResultValue<'_>) -> Ordering
-        ensures { result ≡ then_cmp (on (null_rank self.now.nulls_first) nat_cmp) (directed self.now.descending)
-            (outcome_of x.entry) (outcome_of y.entry) }
-    {
-        let ranks = null_rank(self.nulls_first, x).cmp(&null_rank(self.nulls_first, y));
-        let values = if self.descending {
-            compare_values(y, x)
-        } else {
-            compare_values(x, y)
-        };
-        ranks.then(values)
-    }
+/// How two values of a term's item compare by the term.
+pub(crate) fn compare_by(term: OrderTerm, x: ResultValue<'_>, y: ResultValue<'_>) -> Ordering
+    ensures { result ≡ by_term (order_term term) (outcome_of x.entry) (outcome_of y.entry) }
+{
+    let ranks = null_rank(term.nulls_first, x).cmp(&null_rank(term.nulls_first, y));
+    let values = if term.descending {
+        compare_values(y, x)
+    } else {
+        compare_values(x, y)
+    };
+    ranks.then(values)
 }
