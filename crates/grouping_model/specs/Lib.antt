@@ -16,5 +16,6 @@ pub mod KeyLaws
 pub mod KnowledgeLaws
 pub mod MemberLaws
 pub mod PartLaws
+pub mod Sorting
 pub mod Order
 pub mod OrderLaws

@@ -3,7 +3,7 @@ use Rattle.std.specs.Prelude.{ℕ, Bool, true, false, if◌then◌else◌, List,
 use Rattle.std.specs.declared.cmp.Ordering.{Ordering}
 use Rattle.std.specs.declared.cmp.Ordering.TheVariants.{Less, Equal, Greater}
 use Rattle.std.specs.Ordering.{nat_cmp, int_cmp, then_cmp, on, is_lt}
-use Rattle.list_laws.specs.Sorting.{sorted_by}
+use Rattle.grouping_model.specs.Sorting.{sorted_by}
 use Rattle.grouping_model.specs.Datum.{Null, datum_cmp}
 use Rattle.grouping_model.specs.Aggregates.{Outcome, Plain, Numeric}
 

@@ -7,7 +7,7 @@ use Rattle.std.specs.Ordering.{nat_cmp, int_cmp, then_cmp, on, is_lt, ordering_t
 use Rattle.std.specs.Cmp.{IsTotalOrder, IsStrictWeakOrder, then_total, on_total, nat_cmp_total, int_cmp_total}
 use Rattle.std.proofs.lemmas.List.MinMax.{ranks_by}
 use Rattle.std.specs.List.Sorted.{IsSortedBy, IsStableBy}
-use Rattle.list_laws.specs.Sorting.{put_before, sorted_once}
+use Rattle.grouping_model.specs.Sorting.{put_before, sorted_once}
 use Rattle.grouping_model.specs.Datum.{Datum, Null, datum_cmp}
 use Rattle.grouping_model.specs.DatumOrderLaws.{datum_cmp_total}
 use Rattle.grouping_model.specs.Aggregates.{Outcome, Plain, Numeric}

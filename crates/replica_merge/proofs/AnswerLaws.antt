@@ -10,7 +10,7 @@ use Rattle.std.specs.List.Sorted.{IsStrictlySortedBy}
 use Rattle.std.proofs.lemmas.List.Sorted.{All-permutation}
 use Rattle.std.specs.Ordering.{nat_cmp}
 use Rattle.list_laws.specs.Each.{each_weaker, each_both}
-use Rattle.list_laws.specs.Sorting.{sorted_moves}
+use Rattle.grouping_model.specs.Sorting.{sorted_moves}
 use Rattle.grouping_model.specs.declared.limits.TheConstants.{LAST_ORIGIN, LAST_NUMBER, MOST_ROWS}
 use Rattle.grouping_model.specs.Datum.{Row}
 use Rattle.grouping_model.specs.Aggregates.{Outcome}

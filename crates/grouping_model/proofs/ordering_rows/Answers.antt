@@ -1,4 +1,4 @@
-use Rattle.list_laws.specs.Sorting.{sorted_moves, sorted_in_order, sorted_stable}
+use Rattle.grouping_model.specs.Sorting.{sorted_moves, sorted_in_order, sorted_stable}
 use Rattle.grouping_model.specs.Order.{comes_before}
 use Rattle.grouping_model.specs.OrderLaws.{any_compare, ordered_once, unordered as without_terms}
 use Rattle.grouping_model.proofs.ordering_rows.Goals as goal

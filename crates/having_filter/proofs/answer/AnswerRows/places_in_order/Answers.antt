@@ -9,7 +9,7 @@ use Rattle.grouping_model.specs.Aggregates.{Outcome}
 use Rattle.having_filter.specs.Meaning.{order_term}
 use Rattle.grouping_model.specs.Order.{Term, terms_cmp, comes_before}
 use Rattle.grouping_model.specs.OrderLaws.{terms_cmp_total}
-use Rattle.list_laws.specs.Sorting.{sorted_by, sorted_once, sorted_mapped}
+use Rattle.grouping_model.specs.Sorting.{sorted_by, sorted_once, sorted_mapped}
 use Rattle.having_filter.proofs.answer.AnswerRows.places_in_order.Goals as goal
 
 pub returns-clause-rows : goal.returns-clause-rows
