@@ -98,14 +98,16 @@ SCHEMA is 'NAME KIND, NAME KIND, ..': 1 to 32 columns, each of the kind bigint
 or int8, boolean or bool, or text. TEXT is one query, with or without a last ;
 
   SELECT ITEM, .. FROM batches [WHERE CONDITION]
-      [GROUP BY COLUMN, ..] [HAVING CONDITION]
+      [GROUP BY COLUMN, ..] [HAVING CONDITION] [ORDER BY TERM, ..]
 
 An ITEM is a column of GROUP BY or a call, and may have another name behind AS.
 The calls are count(*), count of any column, sum, min, max, bit_and, bit_or and
 bit_xor of a bigint, and bool_and, bool_or and every of a boolean. Behind a call
 FILTER (WHERE CONDITION) may tell which rows it takes. A CONDITION has columns,
 integers, 'texts', TRUE, FALSE, NULL, = <> != < <= > >=, NOT, AND, OR, and
-IS [NOT] NULL, TRUE, FALSE or UNKNOWN; in HAVING it has calls, too.
+IS [NOT] NULL, TRUE, FALSE or UNKNOWN; in HAVING it has calls, too. A TERM is
+the name of an ITEM or its place, from 1, and ASC, DESC, NULLS FIRST or NULLS
+LAST behind it. Without ORDER BY rows stand in the order of their keys.
 
 Prints 'saved BYTES'. A file OUT that is there is replaced, and standard error
 says so; with --no-clobber it is kept, and the status is 2.

@@ -298,9 +298,10 @@ impl Replica {
         )
     }
 
-    /// The answer of the query over the rows of the unbroken prefixes, in the order of its keys: a row of the query's
-    /// items for each group of which HAVING is true. Without GROUP BY there is one group, over no rows too. The groups of several
-    /// origins are aggregated by `means` and over a disk, which is added to `work`; those of one are shown as they stand.
+    /// The answer of the query over the rows of the unbroken prefixes, by the terms of ORDER BY in their order, and else in the order of
+    /// its keys: a row of the query's items for each group of which HAVING is true. Without GROUP BY there is one group, over no rows
+    /// too. The groups of several origins are aggregated by `means` and over a disk, which is added to `work`; those of one are shown
+    /// as they stand.
     ///
     /// # Errors
     ///
