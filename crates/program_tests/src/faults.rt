@@ -274,7 +274,7 @@ fn texts_told(
 }
 
 /// Queries over the columns `city text, amount bigint, paid boolean`.
-const QUERIES: [TextFault; 44] = [
+const QUERIES: [TextFault; 52] = [
     (
         "SELECT city FROM sales GROUP BY city",
         "Syntax",
@@ -296,7 +296,7 @@ const QUERIES: [TextFault; 44] = [
     (
         "SELECT city FROM batches WHERE city LIKE 'o%' GROUP BY city",
         "Syntax",
-        "byte 36: found 'LIKE', wanted a comparison, IS, AND, OR, GROUP BY, HAVING, a semicolon or the end; there is no LIKE: texts are compared by = <> < <= > >=",
+        "byte 36: found 'LIKE', wanted a comparison, IS, AND, OR, GROUP BY, HAVING, ORDER BY, a semicolon or the end; there is no LIKE: texts are compared by = <> < <= > >=",
         "/  SELECT city FROM batches WHERE city LIKE 'o%' GROUP BY city/                                      ^",
     ),
     (
@@ -314,14 +314,62 @@ const QUERIES: [TextFault; 44] = [
     (
         "SELECT city FROM batches GROUP BY city LIMIT 5",
         "Syntax",
-        "byte 39: found 'LIMIT', wanted a comma, HAVING, a semicolon or the end; there is no LIMIT: HAVING leaves groups out",
+        "byte 39: found 'LIMIT', wanted a comma, HAVING, ORDER BY, a semicolon or the end; there is no LIMIT: HAVING leaves groups out",
         "/  SELECT city FROM batches GROUP BY city LIMIT 5/                                         ^",
     ),
     (
-        "SELECT city FROM batches ORDER BY city",
+        "SELECT city FROM batches ORDER city",
         "Syntax",
-        "byte 25: found 'ORDER', wanted WHERE, GROUP BY, HAVING, a semicolon or the end; there is no ORDER BY: rows come in the order of GROUP BY's columns",
-        "/  SELECT city FROM batches ORDER BY city/                           ^",
+        "byte 31: found 'city', wanted BY",
+        "/  SELECT city FROM batches ORDER city/                                 ^",
+    ),
+    (
+        "SELECT city FROM batches GROUP BY city ORDER BY count(*)",
+        "Syntax",
+        "byte 53: found '(', wanted a comma, ASC, DESC, NULLS, a semicolon or the end; ORDER BY takes the name or the place of an item, as ORDER BY 2",
+        "/  SELECT city FROM batches GROUP BY city ORDER BY count(*)/                                                       ^",
+    ),
+    (
+        "SELECT city FROM batches GROUP BY city ORDER BY DESC",
+        "Syntax",
+        "byte 48: found 'DESC', wanted the name or the place of an item",
+        "/  SELECT city FROM batches GROUP BY city ORDER BY DESC/                                                  ^",
+    ),
+    (
+        "SELECT city FROM batches GROUP BY city ORDER BY city DESC city",
+        "Syntax",
+        "byte 58: found 'city', wanted a comma, NULLS, a semicolon or the end",
+        "/  SELECT city FROM batches GROUP BY city ORDER BY city DESC city/                                                            ^",
+    ),
+    (
+        "SELECT city FROM batches GROUP BY city ORDER BY city NULLS high",
+        "Syntax",
+        "byte 59: found 'high', wanted first or last",
+        "/  SELECT city FROM batches GROUP BY city ORDER BY city NULLS high/                                                             ^",
+    ),
+    (
+        "SELECT city FROM batches GROUP BY city ORDER BY city NULLS LAST DESC",
+        "Syntax",
+        "byte 64: found 'DESC', wanted a comma, a semicolon or the end",
+        "/  SELECT city FROM batches GROUP BY city ORDER BY city NULLS LAST DESC/                                                                  ^",
+    ),
+    (
+        "SELECT city, sum(amount) FROM batches GROUP BY city ORDER BY 1, amount",
+        "NoSuchColumn",
+        "'amount' names no item: a term of ORDER BY is the name of an item in the answer, or its place",
+        "/  SELECT city, sum(amount) FROM batches GROUP BY city ORDER BY 1, amount/                                                                  ^",
+    ),
+    (
+        "SELECT city, sum(amount) FROM batches GROUP BY city ORDER BY 3 DESC",
+        "NoSuchColumn",
+        "3 is no item's place, which is 1 to 2",
+        "/  SELECT city, sum(amount) FROM batches GROUP BY city ORDER BY 3 DESC/                                                               ^",
+    ),
+    (
+        "SELECT city AS x, sum(amount) AS x FROM batches GROUP BY city ORDER BY x",
+        "AmbiguousOrder",
+        "'x' names 2 items that are not the same: give one another name by AS, or write its place",
+        "/  SELECT city AS x, sum(amount) AS x FROM batches GROUP BY city ORDER BY x/                                                                         ^",
     ),
     (
         "SELECT * FROM batches",
@@ -374,7 +422,7 @@ const QUERIES: [TextFault; 44] = [
     (
         "SELECT count(*) FROM batches WHERE amount = 1 = 1",
         "Syntax",
-        "byte 46: found '=', wanted IS, AND, OR, GROUP BY, HAVING, a semicolon or the end",
+        "byte 46: found '=', wanted IS, AND, OR, GROUP BY, HAVING, ORDER BY, a semicolon or the end",
         "/  SELECT count(*) FROM batches WHERE amount = 1 = 1/                                                ^",
     ),
     (
@@ -398,7 +446,7 @@ const QUERIES: [TextFault; 44] = [
     (
         "SELECT city FROM batches GROUP BY city HAVING paid GROUP BY paid",
         "Syntax",
-        "byte 51: found 'GROUP', wanted a comparison, IS, AND, OR, a semicolon or the end",
+        "byte 51: found 'GROUP', wanted a comparison, IS, AND, OR, ORDER BY, a semicolon or the end",
         "/  SELECT city FROM batches GROUP BY city HAVING paid GROUP BY paid/                                                     ^",
     ),
     (

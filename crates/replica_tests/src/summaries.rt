@@ -283,7 +283,14 @@ c text|SELECT c FROM batches GROUP BY c; => NotCanonical
 c text|SELECT  c FROM batches GROUP BY c => NotCanonical
 c text|select c FROM batches GROUP BY c => NotCanonical
 c text|SELECT c FROM batches GROUP BY c, c => NotCanonical
-c text|SELECT c AS c FROM batches GROUP BY c => NotCanonical";
+c text|SELECT c AS c FROM batches GROUP BY c => NotCanonical
+c text|SELECT c FROM batches GROUP BY c ORDER BY 2 => Query(Query(NoSuchColumn))
+c text|SELECT c AS x, count(*) AS x FROM batches GROUP BY c ORDER BY x => Query(Query(AmbiguousOrder))
+c text|SELECT c FROM batches GROUP BY c ORDER BY c => NotCanonical
+c text|SELECT c FROM batches GROUP BY c ORDER BY 1 ASC => NotCanonical
+c text|SELECT c FROM batches GROUP BY c ORDER BY 1 NULLS LAST => NotCanonical
+c text|SELECT c FROM batches GROUP BY c ORDER BY 1 DESC NULLS FIRST => NotCanonical
+c text|SELECT c FROM batches GROUP BY c ORDER BY 1, 1 DESC => NotCanonical";
 
 /// Appends a text behind its length.
 fn push_text(bytes: &mut Vec<u8>, text: &str) -> Result<(), Fail> {
