@@ -254,7 +254,7 @@ const PRINTED: [File; 2] = [
 ];
 
 /// Answers as tables in columns and in CSV: texts are as wide as their characters are many, and those that don't show are told; numbers
-/// stand on the right; of no group the header is left.
+/// stand on the right; of no group the header is left. With ORDER BY the rows stand in its order, and the query is another one.
 const TABLES: &str = "\
 new|@e.sum|--columns|c text, d bigint, b boolean|--query|SELECT c, bool_and(b), sum(d) FROM batches GROUP BY c => saved 94/ => 0
 feed|@a.sum|@e.sum|@a.csv => folded upto 1/saved 210/ => 0
@@ -267,6 +267,11 @@ answer|@b.sum => d,b,c/-7,f,\u{1f}\u{80}\u{65e5}|/100,f,\\N/ => 0
 new|@e.sum|--columns|c text, d bigint, b boolean|--query|SELECT max(d) AS most FROM batches HAVING count(*) > 9 => saved 95/ => 0 => e.sum: it is there
 answer|@e.sum|--format|aligned => most/----/ => 0
 answer|@e.sum => most/ => 0
+new|@o.sum|--columns|c text, d bigint, b boolean|--query|SELECT c, bool_and(b), sum(d) FROM batches GROUP BY c ORDER BY sum DESC => saved 110/ => 0
+merge|@m.sum|@a.sum|@o.sum => refused DifferentQuery/saved 210/ => 1 => o.sum: refused DifferentQuery
+feed|@p.sum|@o.sum|@a.csv => folded upto 1/saved 226/ => 0
+answer|@p.sum => c,bool_and,sum/\\N,\\N,\\N/bl\u{e5}b\u{e6}r,t,5/a\tb\u{7f},f,-12/ => 0
+answer|@p.sum|--format|aligned => c          | bool_and | sum/-----------+----------+----/\\N         | \\N       |  \\N/bl\u{e5}b\u{e6}r     | t        |   5/a\\x09b\\x7f | f        | -12/ => 0
 ";
 
 #[test]
