@@ -1,9 +1,9 @@
 -- Laws: the order of an answer's rows is one in which any two rows compare, and one list of these rows is in it.
-use Rattle.std.specs.Prelude.{◌≡◌, refl, ℕ, Bool, true, false, ◌==◌, List, [], ◌∷◌, ℤ, pos}
+use Rattle.std.specs.Prelude.{◌≡◌, refl, ℕ, Bool, true, false, List, [], ◌∷◌, ℤ, pos}
 use Rattle.std.proofs.Common.{sym, ◌∙◌, ap, subst}
 use Rattle.std.specs.declared.cmp.Ordering.{Ordering}
 use Rattle.std.specs.declared.cmp.Ordering.TheVariants.{Less, Equal, Greater}
-use Rattle.std.specs.Ordering.{nat_cmp, int_cmp, then_cmp, on, is_lt, ordering_then, ordering_reverse}
+use Rattle.std.specs.Ordering.{nat_cmp, int_cmp, then_cmp, on, ordering_then, ordering_reverse}
 use Rattle.std.specs.Cmp.{IsTotalOrder, IsStrictWeakOrder, then_total, on_total, nat_cmp_total, int_cmp_total}
 use Rattle.std.proofs.lemmas.List.MinMax.{ranks_by}
 use Rattle.std.specs.List.Sorted.{IsSortedBy, IsStableBy}
@@ -11,7 +11,7 @@ use Rattle.grouping_model.specs.Sorting.{put_before, sorted_once}
 use Rattle.grouping_model.specs.Datum.{Datum, Null, datum_cmp}
 use Rattle.grouping_model.specs.DatumOrderLaws.{datum_cmp_total}
 use Rattle.grouping_model.specs.Aggregates.{Outcome, Plain, Numeric}
-use Rattle.grouping_model.specs.Order.{Term, value_cmp, null_rank, directed, value_of, term_cmp, terms_cmp, comes_before, ordered}
+use Rattle.grouping_model.specs.Order.{Term, value_cmp, null_rank, directed, value_of, terms_cmp, comes_before, ordered}
 
 -- what a value has as a plain one, and as a numeric
 is_plain : Outcome → ℕ

@@ -1,12 +1,12 @@
 -- Groups as a map from keys to partial results, and the groups of two lists of rows on end. All of this is our own.
-use Rattle.std.specs.Prelude.{ℕ, List, [], ◌∷◌, ◌++◌, map, filter, find, Option, option_map, unwrap_or, if◌then◌else◌}
+use Rattle.std.specs.Prelude.{List, [], ◌∷◌, ◌++◌, map, find, Option, option_map, unwrap_or, if◌then◌else◌}
 use Rattle.std.specs.BTreeMap.{insert_entry}
 use Rattle.grouping_model.specs.Datum.{Row, row_cmp, same_row}
 use Rattle.grouping_model.specs.Rising.{distinct}
-use Rattle.grouping_model.specs.Aggregates.{Function, Partial, Outcome, Plain, outcome}
+use Rattle.grouping_model.specs.Aggregates.{Function, Partial}
 use Rattle.grouping_model.specs.Combining.{combine_all, transition}
 use Rattle.grouping_model.specs.Condition.{is_met}
-use Rattle.grouping_model.specs.Query.{Query, Aggregate, Source}
+use Rattle.grouping_model.specs.Query.{Query, Aggregate}
 use Rattle.grouping_model.specs.Grouping.{Group, partials, argument, column_of, key_of}
 
 -- the functions of a query's aggregates
