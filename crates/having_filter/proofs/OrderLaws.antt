@@ -1,6 +1,10 @@
 -- The order of a query is that of its canonical text.
 use Rattle.std.proofs.Common.{◌≡◌, ◌<◌, ◌≤◌, ◌+◌, ◌-◌, ◌&&◌, ℕ, pos, ℤ, Bool, true, false, cond, List, [], ◌∷◌, map, length, position, Option, Some, None, option_map, refl, ap, sym, ◌∙◌, subst, arith}
-use Rattle.std.specs.Prelude.{nat_le, unwrap_or, is_some, Ok}
+use Rattle.std.specs.Prelude.{nat_le, unwrap_or, is_some, Ok, FitsSigned}
+use Rattle.std.specs.Int.{w64}
+use Rattle.std.proofs.lemmas.Int.{ints}
+use Rattle.grouping_model.specs.declared.limits.TheConstants.{MOST_ITEMS}
+use Rattle.query_checks.specs.Writable.{IsTerm}
 use Rattle.std.proofs.Math.Dec.{leb}
 use Rattle.std.specs.List.{AllByRecursion, list_any, list_all, filter_map, cons_option}
 use Rattle.std.proofs.lemmas.Bool.{le-leb, leb-true, and_parts, and_from, cond-true, cond-false}
@@ -74,6 +78,14 @@ order_in q = all_distinct (IsTermOf q.written.items) same_item (filter_map (term
 pub same_length : {A B : Type 0} (items : List A) (others : List B) → length items ≡ length others → (terms : List OrderTerm) → AllByRecursion (IsTermOf items) terms → AllByRecursion (IsTermOf others) terms
 same_length items others e [] all = tt
 same_length items others e (term ∷ terms) all = (record { within = subst (λ n. term.item < n) e all.0.within }, same_length items others e terms all.1)
+
+-- the place of one of so few items is a number that a text can have
+place_fits : (many item : ℕ) → many ≤ MOST_ITEMS → item < many → FitsSigned w64 (pos (item + 1))
+place_fits many item few h = omega (arith, ints, few, h)
+
+pub terms_fit : {A : Type 0} (items : List A) → length items ≤ MOST_ITEMS → (terms : List OrderTerm) → AllByRecursion (IsTermOf items) terms → AllByRecursion IsTerm (map canonical_term terms)
+terms_fit items few [] all = tt
+terms_fit items few (term ∷ terms) all = (record { target = place_fits (length items) term.item few all.0.within }, terms_fit items few terms all.1)
 
 -- ---- a term by the place of its item means this item again
 

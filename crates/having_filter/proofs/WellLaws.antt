@@ -32,7 +32,7 @@ use Rattle.having_filter.specs.Meaning.{meaning, aggregate_of, source_of_form}
 use Rattle.having_filter.specs.Kept.{TakesRows, IsWellFormed, IsCheckedQuery}
 use Rattle.having_filter.specs.PlaceLaws.{same_places, distinct_places, places_in_range}
 use Rattle.having_filter.specs.NormalLaws.{HasColumns, placed_item, columns_of_query, named_again}
-use Rattle.having_filter.proofs.OrderLaws.{same_length, order_in}
+use Rattle.having_filter.proofs.OrderLaws.{same_length, order_in, terms_fit}
 use Rattle.having_filter.proofs.NormalLaws.{normal_writable, passes_again}
 
 -- the value in a column of a kind, or beyond the last column
@@ -192,7 +192,10 @@ pub passed_query : (columns : List Column) (q : Asked) → AreColumns columns �
 passed_query columns q are writable first fit passed =
     record {
       columns_are = are;
-      writable = subst IsWritable (sym (named_again columns q.written (columns_of_query columns q.written first.columns_there))) (normal_writable q.written writable);
+      writable = record {
+        written = subst IsWritable (sym (named_again columns q.written (columns_of_query columns q.written first.columns_there))) (normal_writable q.written writable);
+        terms = terms_fit q.written.items (within q first.few).items (order_of q) (order_in q);
+      };
       passed = passes_again columns q first ∙ ap (λ r. with_order columns r (Ok (order_of q))) passed;
       well_formed = well_formed columns q (order_of q) first fit;
       ordered = same_length q.written.items (placed columns q.written).items (sym (length-map q.written.items (placed_item columns))) (order_of q) (order_in q);

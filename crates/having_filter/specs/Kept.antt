@@ -14,7 +14,7 @@ use Rattle.query_checks.specs.declared.order.OrderTerm.{OrderTerm}
 use Rattle.query_checks.specs.Order.{Asked}
 pub use Rattle.query_checks.specs.Spelling.{label_of}
 use Rattle.query_checks.specs.Spelling.{canonical_term}
-use Rattle.query_checks.specs.Writable.{IsWritable}
+use Rattle.query_checks.specs.Writable.{CanBeAsked}
 use Rattle.having_filter.specs.Meaning.{meaning}
 
 -- the name of the column at a place (own)
@@ -62,7 +62,7 @@ pub record IsTermOf {A : Type 0} (items : List A) (term : OrderTerm) : Type 0 wh
 -- a query that passed all checks, over the columns of a schema: its own text passes them and says it again (own)
 pub record IsCheckedQuery (q : Checked) : Type 0 where
   pub columns_are : AreColumns q.columns
-  pub writable : IsWritable (by_names q).written
+  pub writable : CanBeAsked (by_names q)
   pub passed : checked q.columns (by_names q) ≡ Ok q
   pub well_formed : IsWellFormed (meaning q)
   pub ordered : AllByRecursion (IsTermOf q.written.items) q.order

@@ -4,14 +4,14 @@ use Rattle.std.specs.Prelude.{codes}
 use Rattle.std.proofs.lemmas.List.{append-nil}
 use Rattle.query_tokens.specs.declared.word.Symbol.TheVariants as symbols
 use Rattle.query_tokens.specs.Words.{Lexeme}
-use Rattle.query_checks.specs.Forms.{Written}
+use Rattle.query_checks.specs.Order.{Asked}
 use Rattle.query_grammar.specs.Terminals.{is_word, is_sign}
 use Rattle.query_grammar.specs.Grammar.{Named, opening}
 use Rattle.query_grammar.specs.Queries.{IsQuery, Begins}
 use Rattle.query_grammar.specs.Reading.{Read, Unexpected, Too_deep, ◌>>=◌, after, choose, expect}
-use Rattle.query_grammar.specs.Whole.{item_at, list_at, clause_at, keys_at, nothing_at, end_at, query_at}
+use Rattle.query_grammar.specs.Whole.{item_at, list_at, clause_at, keys_at, order_at, nothing_at, end_at, query_at}
 use Rattle.query_grammar.specs.Laws.{Means, CanBecome, IsUnexpected, IsTooDeep}
-use Rattle.query_grammar.proofs.Whole_sound.{Query_part, from_having, from_keys, from_where, from_items, made, query_means}
+use Rattle.query_grammar.proofs.Whole_sound.{Query_part, from_order, from_having, from_keys, from_where, from_items, made, query_means}
 use Rattle.query_grammar.proofs.Whole_locality.{none_goes_on, none_goes_deeper}
 
 -- ---- a query is read to its end
@@ -39,10 +39,14 @@ whole_end : (ts : List Lexeme) → Whole (end_at ts)
 unfolding end_at
 whole_end ts = whole_choose (after (is_sign symbols.Semicolon) ts) nothing_at (nothing_at ts) whole_nothing (whole_nothing ts)
 
+whole_order : (items : List (Named × Option (List ℕ))) (condition : Option Named) (names : List (List ℕ)) (having : Option Named) (ts : List Lexeme) → Whole (from_order items condition names having ts)
+whole_order items condition names having ts =
+    whole_bind (order_at ts) (λ order. end_at order.1 >>= λ end. Ok (made items condition names having order.0, end.1))
+    (λ order. whole_last (end_at order.1) (λ _. made items condition names having order.0) (whole_end order.1))
+
 whole_having : (limit : ℕ) (items : List (Named × Option (List ℕ))) (condition : Option Named) (names : List (List ℕ)) (ts : List Lexeme) → Whole (from_having limit items condition names ts)
 whole_having limit items condition names ts =
-    whole_bind (clause_at limit (codes "having") ts) (λ having. end_at having.1 >>= λ end. Ok (made items condition names having.0, end.1))
-    (λ having. whole_last (end_at having.1) (λ _. made items condition names having.0) (whole_end having.1))
+    whole_bind (clause_at limit (codes "having") ts) (λ having. from_order items condition names having.0 having.1) (λ having. whole_order items condition names having.0 having.1)
 
 whole_query : (limit : ℕ) (ts : List Lexeme) → Whole (query_at limit ts)
 unfolding query_at
@@ -57,10 +61,10 @@ whole_query limit ts =
 -- ---- what is read
 
 -- the meaning of what is read, where it is known what is
-read_means : (limit : ℕ) (ts : List Lexeme) (r : Read (Written (List ℕ))) → query_at limit ts ≡ r → Means (Query_part limit) ts r
-read_means limit ts r e = subst (λ (s : Read (Written (List ℕ))). Means (Query_part limit) ts s) e (query_means limit ts)
+read_means : (limit : ℕ) (ts : List Lexeme) (r : Read Asked) → query_at limit ts ≡ r → Means (Query_part limit) ts r
+read_means limit ts r e = subst (λ (s : Read Asked). Means (Query_part limit) ts s) e (query_means limit ts)
 
-pub is_query : (limit : ℕ) (ts : List Lexeme) (q : Written (List ℕ)) (rest : List Lexeme) → query_at limit ts ≡ Ok (q, rest) → IsQuery limit ts q
+pub is_query : (limit : ℕ) (ts : List Lexeme) (q : Asked) (rest : List Lexeme) → query_at limit ts ≡ Ok (q, rest) → IsQuery limit ts q
 is_query limit ts q rest e =
     let m = (read_means limit ts (Ok (q, rest)) e).that in
     let none : rest ≡ [] = (whole_query limit ts).all (q, rest) e in
@@ -68,7 +72,7 @@ is_query limit ts q rest e =
     subst (λ (u : List Lexeme). IsQuery limit u q) same (m.2 false)
 
 begins : (limit : ℕ) (front : List Lexeme) → CanBecome (λ ts q. IsQuery limit ts q) front → Begins limit front
-begins limit front can = record { more = can.0; written = can.1; is_query = can.2 }
+begins limit front can = record { more = can.0; asked = can.1; is_query = can.2 }
 
 pub is_unexpected : (limit : ℕ) (ts : List Lexeme) (left : ℕ) → query_at limit ts ≡ Err (Unexpected left) → IsUnexpected limit ts left
 is_unexpected limit ts left e =

@@ -2,7 +2,7 @@
 use Rattle.std.proofs.Common.{◌≡◌, ℕ, suc, List, [], ◌∷◌, ◌++◌, ◌+◌, length, Ok, Err, refl, sym, ap, subst, ◌∙◌, arith, append_assoc}
 use Rattle.std.proofs.lemmas.List.{append-nil, length-append}
 use Rattle.query_tokens.specs.Words.{Lexeme}
-use Rattle.query_checks.specs.Forms.{Written}
+use Rattle.query_checks.specs.Order.{Asked}
 use Rattle.query_grammar.specs.Grammar.{opening}
 use Rattle.query_grammar.specs.Queries.{IsQuery, Begins}
 use Rattle.query_grammar.specs.Reading.{Read, Unexpected, Too_deep}
@@ -11,18 +11,18 @@ use Rattle.query_grammar.specs.Laws.{NoneGoesOn, IsUnexpected, IsTooDeep}
 use Rattle.query_grammar.proofs.Faults.{is_query, is_unexpected, is_too_deep}
 
 -- a query doesn't go on as it does where none goes on
-pub goes_on : (limit : ℕ) (ts front rest : List Lexeme) (written : Written (List ℕ)) → IsQuery limit ts written → ts ≡ front ++ rest → NoneGoesOn limit front rest → ⊥
-goes_on limit ts front [] written is split none = none written (subst (λ (u : List Lexeme). IsQuery limit u written) (split ∙ append-nil front) is)
-goes_on limit ts front (t ∷ rest) written is split none =
-    none (record { more = rest; written = written; is_query = subst (λ (u : List Lexeme). IsQuery limit u written) (split ∙ sym (append_assoc front (t ∷ []) rest)) is })
+pub goes_on : (limit : ℕ) (ts front rest : List Lexeme) (asked : Asked) → IsQuery limit ts asked → ts ≡ front ++ rest → NoneGoesOn limit front rest → ⊥
+goes_on limit ts front [] asked is split none = none asked (subst (λ (u : List Lexeme). IsQuery limit u asked) (split ∙ append-nil front) is)
+goes_on limit ts front (t ∷ rest) asked is split none =
+    none (record { more = rest; asked = asked; is_query = subst (λ (u : List Lexeme). IsQuery limit u asked) (split ∙ sym (append_assoc front (t ∷ []) rest)) is })
 
 -- what begins a query begins one without its last tokens
 begins_before : (limit : ℕ) (front : List Lexeme) (t : Lexeme) (more : List Lexeme) → Begins limit (front ++ t ∷ more) → Begins limit (front ++ t ∷ [])
 begins_before limit front t more b =
     record {
       more = more ++ b.more;
-      written = b.written;
-      is_query = subst (λ (u : List Lexeme). IsQuery limit u b.written) (append_assoc front (t ∷ more) b.more ∙ sym (append_assoc front (t ∷ []) (more ++ b.more))) b.is_query;
+      asked = b.asked;
+      is_query = subst (λ (u : List Lexeme). IsQuery limit u b.asked) (append_assoc front (t ∷ more) b.more ∙ sym (append_assoc front (t ∷ []) (more ++ b.more))) b.is_query;
     }
 
 -- none goes on so, but one does
@@ -77,12 +77,12 @@ one_kind limit ts left other a b =
 
 -- ---- reading finds the first fault
 
-finds_unexpected : (limit : ℕ) (ts : List Lexeme) (left : ℕ) (r : Read (Written (List ℕ))) → query_at limit ts ≡ r → IsUnexpected limit ts left → query_at limit ts ≡ Err (Unexpected left)
+finds_unexpected : (limit : ℕ) (ts : List Lexeme) (left : ℕ) (r : Read Asked) → query_at limit ts ≡ r → IsUnexpected limit ts left → query_at limit ts ≡ Err (Unexpected left)
 finds_unexpected limit ts left (Ok x) e a = absurd (goes_on limit ts a.front a.rest x.0 (is_query limit ts x.0 x.1 e) a.split a.ends)
 finds_unexpected limit ts left (Err (Unexpected other)) e a = e ∙ ap (λ n. Err (Unexpected n)) (one_unexpected limit ts other left (is_unexpected limit ts other e) a)
 finds_unexpected limit ts left (Err (Too_deep other)) e a = absurd (one_kind limit ts left other a (is_too_deep limit ts other e))
 
-finds_too_deep : (limit : ℕ) (ts : List Lexeme) (left : ℕ) (r : Read (Written (List ℕ))) → query_at limit ts ≡ r → IsTooDeep limit ts left → query_at limit ts ≡ Err (Too_deep left)
+finds_too_deep : (limit : ℕ) (ts : List Lexeme) (left : ℕ) (r : Read Asked) → query_at limit ts ≡ r → IsTooDeep limit ts left → query_at limit ts ≡ Err (Too_deep left)
 finds_too_deep limit ts left (Ok x) e a = absurd (goes_on limit ts a.front (opening ∷ a.rest) x.0 (is_query limit ts x.0 x.1 e) a.split a.ends)
 finds_too_deep limit ts left (Err (Unexpected other)) e a = absurd (one_kind limit ts other left (is_unexpected limit ts other e) a)
 finds_too_deep limit ts left (Err (Too_deep other)) e a = e ∙ ap (λ n. Err (Too_deep n)) (one_too_deep limit ts other left (is_too_deep limit ts other e) a)

@@ -1,9 +1,10 @@
 pub mod Marks
 pub mod Steps
 pub mod Sound
-pub mod Whole_sound
 pub mod Alike
 pub mod Locality
+pub mod Terms
+pub mod Whole_sound
 pub mod Complete
 pub mod Whole_complete
 pub mod Whole_locality

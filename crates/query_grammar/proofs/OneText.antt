@@ -11,7 +11,11 @@ use Rattle.having_filter.specs.Kept as kept
 use Rattle.having_filter.specs.Kept.{by_names}
 use Rattle.query_checks.specs.Spelling.{spelling}
 use Rattle.having_filter.proofs.PassedLaws.{passes_first, passes_places}
-use Rattle.having_filter.specs.NormalLaws.{columns_of_query, named_again}
+use Rattle.having_filter.specs.NormalLaws.{columns_of_query}
+use Rattle.having_filter.proofs.NormalLaws.{asked_again}
+use Rattle.std.specs.List.{AllByRecursion}
+use Rattle.query_checks.specs.Order.{Asked}
+use Rattle.query_checks.specs.Writable.{IsTerm}
 use Rattle.query_grammar.specs.Canonical.{canonical}
 use Rattle.query_grammar.specs.Laws.{IsSpelled}
 use Rattle.query_grammar.specs.Queries.{most_open, IsQuery}
@@ -24,11 +28,14 @@ is_canonical q passed =
     let w = by_names q in
     let first = passes_first q.columns w q passed in
     let same = (passes_places q passed).same in
-    sym (ap by_names same ∙ named_again q.columns w (columns_of_query q.columns w first.columns_there))
+    sym (ap by_names same ∙ asked_again q.columns w (columns_of_query q.columns w.written first.columns_there))
 
 spelled : (q : Checked) → kept.IsCheckedQuery q → IsSpelled (spelling (by_names q)) (by_names q)
 spelled q is =
-    let says = text_says (by_names q) is.writable (passes_first q.columns (by_names q) q is.passed).shallow in
+    let w = by_names q in
+    let first = passes_first q.columns w q is.passed in
+    let fits = subst (λ (a : Asked). AllByRecursion IsTerm a.terms) (sym (is_canonical q is.passed)) is.writable.terms in
+    let says = text_says w is.writable.written first.shallow fits in
     record { tokens = says.tokens; read = says.read; is_query = subst (IsQuery most_open (lexemes_of says.tokens)) (is_canonical q is.passed) says.is_query }
 
 ok_is : {T E : Type 0} (x y : T) → ◌≡◌ {A = Result T E} (Ok x) (Ok y) → x ≡ y

@@ -1,5 +1,5 @@
 -- The canonical text of a query is read as the query.
-use Rattle.std.proofs.Common.{◌≡◌, ℕ, ◌≤◌, Bool, true, false, cond, List, [], ◌∷◌, ◌++◌, map, Option, Some, None, refl, ap, sym, subst, append_assoc, arith}
+use Rattle.std.proofs.Common.{◌≡◌, ℕ, pos, ◌+◌, ◌≤◌, Bool, true, false, cond, List, [], ◌∷◌, ◌++◌, map, Option, Some, None, refl, ap, sym, subst, append_assoc, arith}
 use Rattle.std.specs.Prelude.{codes, ◌&&◌, ◌≢◌}
 use Rattle.std.specs.Str.{bytes_eq}
 use Rattle.std.specs.List.{AllByRecursion, list_all}
@@ -7,25 +7,27 @@ use Rattle.std.specs.Option.{ForSome, option_map_or}
 use Rattle.std.proofs.lemmas.Bool.{leb-true, and_parts}
 use Rattle.std.proofs.lemmas.List.{append-nil}
 use Rattle.query_tokens.specs.declared.word.Symbol.TheVariants as symbols
-use Rattle.query_tokens.specs.Words.{Lexeme, Name, Sign}
+use Rattle.query_tokens.specs.Words.{Lexeme, Name, Integer, Sign}
+use Rattle.query_tokens.specs.Spelling.{spell}
 use Rattle.packed_rows.specs.Columns.{IsColumnName}
 use Rattle.query_checks.specs.Forms as form
-use Rattle.query_checks.specs.Forms.{Written}
+use Rattle.query_checks.specs.declared.order.OrderTerm.{OrderTerm}
+use Rattle.query_checks.specs.Order.{Asked, order_of}
 use Rattle.grouping_model.specs.declared.limits.TheConstants.{DEEPEST_CONDITION}
 use Rattle.query_checks.specs.Sameness.{first_of_each}
-use Rattle.query_checks.specs.Spelling.{function_name, spelled, own_name, kept_alias, alias_text, item_text, parted, clause_text, keys_text, spelling}
+use Rattle.query_checks.specs.Spelling.{function_name, spelled, own_name, kept_alias, alias_text, item_text, parted, clause_text, keys_text, nulls_said, canonical_term, direction_text, term_text, order_text, spelling}
 use Rattle.query_checks.specs.Checks.{depth, is_shallow, are_shallow, filters_pass, all_of}
 use Rattle.query_checks.specs.Writable as writable
 use Rattle.query_checks.specs.Writable.{IsForm, IsColumnOrCall, IsWritable}
 use Rattle.query_grammar.specs.Grammar.{Named, opening, closing, word}
 use Rattle.query_grammar.specs.Queries as grammar
-use Rattle.query_grammar.specs.Queries.{most_open, IsItemValue, IsAlias, IsItem, IsKey, IsListOf, IsClause, IsKeys, IsQuery}
+use Rattle.query_grammar.specs.Queries.{most_open, IsItemValue, IsAlias, IsItem, IsKey, IsListOf, IsClause, IsKeys, IsDirection, IsNulls, IsTerm, IsOrder, IsQuery}
 use Rattle.query_tokens.specs.Tokens.{tokens_in}
 use Rattle.packed_rows.specs.PrintedLaws.{read_ok}
 use Rattle.query_checks.specs.DistinctLaws.{all_distinct}
 use Rattle.query_grammar.specs.Laws.{IsSpelled}
 use Rattle.query_grammar.specs.Canonical.{canonical}
-use Rattle.query_grammar.proofs.Texts.{Reads, reads_nothing, reads_space, reads_spelled, Quiet, Spells, Opens, spells_lexeme, spells_two, opens_then, opens_two, opens_word, opens_between, spells_between, select_word, from_word, where_word, group_word, by_word, having_word, as_word}
+use Rattle.query_grammar.proofs.Texts.{Reads, reads_nothing, reads_space, reads_spelled, Quiet, Spells, Opens, spells_lexeme, IsWord, spells_two, opens_then, opens_two, spells_word, spells_behind, opens_word, opens_between, spells_between, select_word, from_word, where_word, group_word, by_word, having_word, as_word, order_word, desc_word, nulls_word, first_word, last_word}
 use Rattle.query_grammar.proofs.Printed.{printed, the_calls, call_is, filtered_spelled, filtered_is}
 
 -- each FILTER in a condition is at most as deep as may be
@@ -199,15 +201,90 @@ keys (w ∷ ws) all =
       is = grammar.keys (subst (λ (names : List (List ℕ)). IsListOf IsKey m.tokens names) same m.is);
     }
 
+-- ---- ORDER BY
+
+record Direction (descending nulls_first : Bool) : Type 0 where
+  tokens : List Lexeme
+  nulls : List Lexeme
+  part : Part (direction_text descending nulls_first) (tokens ++ nulls)
+  is : IsDirection tokens descending
+  are : IsNulls nulls (nulls_said descending nulls_first)
+
+desc_spelled : Part (codes " DESC") (word (codes "desc") ∷ [])
+desc_spelled = record { spells = spells_behind (codes "DESC") (codes "desc") desc_word; quiet = λ rest q. refl }
+
+nulls_spelled : (text w : List ℕ) → IsWord text w → Part (codes " NULLS " ++ text) (word (codes "nulls") ∷ word w ∷ [])
+nulls_spelled text w h = record {
+  spells = opens_then (codes " NULLS ") text (word (codes "nulls") ∷ []) (word w ∷ []) (opens_between (codes "NULLS") (codes "nulls") nulls_word) (spells_word text w h);
+  quiet = λ rest q. refl;
+}
+
+direction : (descending nulls_first : Bool) → Direction descending nulls_first
+direction false false = record { tokens = []; nulls = []; part = nothing; is = grammar.no_direction; are = grammar.no_nulls }
+direction false true = record {
+  tokens = [];
+  nulls = word (codes "nulls") ∷ word (codes "first") ∷ [];
+  part = nulls_spelled (codes "FIRST") (codes "first") first_word;
+  is = grammar.no_direction;
+  are = grammar.first;
+}
+direction true true = record { tokens = word (codes "desc") ∷ []; nulls = []; part = desc_spelled; is = grammar.descending; are = grammar.no_nulls }
+direction true false = record {
+  tokens = word (codes "desc") ∷ [];
+  nulls = word (codes "nulls") ∷ word (codes "last") ∷ [];
+  part = two_parts (codes " DESC") (codes " NULLS LAST") (word (codes "desc") ∷ []) (word (codes "nulls") ∷ word (codes "last") ∷ []) desc_spelled (nulls_spelled (codes "LAST") (codes "last") last_word);
+  is = grammar.descending;
+  are = grammar.last_;
+}
+
+-- a term whose place is a number that a text can have
+pub record TermFits (term : OrderTerm) : Type 0 where
+  pub fits : writable.IsTerm (canonical_term term)
+
+terms_fit : (terms : List OrderTerm) → AllByRecursion writable.IsTerm (map canonical_term terms) → AllByRecursion TermFits terms
+terms_fit [] all = tt
+terms_fit (term ∷ terms) all = (record { fits = all.0 }, terms_fit terms all.1)
+
+one_term : (term : OrderTerm) → TermFits term → One IsTerm term_text canonical_term term
+one_term term h =
+    let d = direction term.descending term.nulls_first in
+    let place : Lexeme = Integer (pos (term.item + 1)) in
+    record {
+      tokens = (place ∷ []) ++ (d.tokens ++ d.nulls);
+      spells = spells_two (spell place) (direction_text term.descending term.nulls_first) (place ∷ []) (d.tokens ++ d.nulls) (spells_lexeme place h.fits.target) d.part.quiet d.part.spells;
+      is = grammar.term (place ∷ []) d.tokens d.nulls grammar.by_place d.is d.are;
+    }
+
+record Order (terms : List OrderTerm) : Type 0 where
+  tokens : List Lexeme
+  part : Part (order_text terms) tokens
+  is : IsOrder tokens (map canonical_term terms)
+
+opens_order : Opens (codes " ORDER BY ") (word (codes "order") ∷ word (codes "by") ∷ [])
+opens_order = opens_two (codes " ORDER ") (codes "BY ") (word (codes "order") ∷ []) (word (codes "by") ∷ []) (opens_between (codes "ORDER") (codes "order") order_word) (opens_word (codes "BY") (codes "by") by_word)
+
+order : (terms : List OrderTerm) → AllByRecursion TermFits terms → Order terms
+order [] all = record { tokens = []; part = nothing; is = grammar.no_order }
+order (term ∷ terms) all =
+    let m = many IsTerm term_text canonical_term TermFits one_term term terms all.0 all.1 in
+    record {
+      tokens = word (codes "order") ∷ word (codes "by") ∷ m.tokens;
+      part = record {
+        spells = opens_then (codes " ORDER BY ") (parted (map term_text (term ∷ terms))) (word (codes "order") ∷ word (codes "by") ∷ []) m.tokens opens_order m.spells;
+        quiet = λ rest q. refl;
+      };
+      is = grammar.order m.is;
+    }
+
 -- ---- the query
 
-pub record PrintedQuery (q : Written (List ℕ)) : Type 0 where
+pub record PrintedQuery (q : Asked) : Type 0 where
   pub tokens : List Lexeme
   pub reads : Reads (spelling q) tokens
   pub is : IsQuery most_open tokens (canonical q)
 
-joined : (a b c d e f : List ℕ) → a ++ b ++ c ++ d ++ e ++ f ≡ a ++ (b ++ (c ++ (d ++ (e ++ f))))
-joined a b c d e f = simp append_assoc
+joined : (a b c d e f g : List ℕ) → a ++ b ++ c ++ d ++ e ++ f ++ g ≡ a ++ (b ++ (c ++ (d ++ (e ++ (f ++ g)))))
+joined a b c d e f g = simp append_assoc
 
 batches_spelled : Part (codes " FROM batches") (word (codes "from") ∷ word (codes "batches") ∷ [])
 batches_spelled = record {
@@ -216,36 +293,43 @@ batches_spelled = record {
   quiet = λ rest q. refl;
 }
 
-pub query_printed : (q : Written (List ℕ)) → IsWritable q → AllByRecursion IsColumnName (first_of_each bytes_eq q.keys) → all_of (filters_pass is_shallow) are_shallow q ≡ true → PrintedQuery q
-query_printed q legal names shallow =
+pub query_printed : (asked : Asked) → IsWritable asked.written → AllByRecursion IsColumnName (first_of_each bytes_eq asked.written.keys) → all_of (filters_pass is_shallow) are_shallow asked.written ≡ true
+    → AllByRecursion TermFits (order_of asked) → PrintedQuery asked
+query_printed asked legal names shallow fits =
+    let q = asked.written in
     let whole = and_parts (list_all (λ item. filters_pass is_shallow item.0) q.items) (option_map_or are_shallow q.condition true && option_map_or are_shallow q.having true) shallow in
     let clauses = and_parts (option_map_or are_shallow q.condition true) (option_map_or are_shallow q.having true) whole.1 in
     let i = the_items q.items legal.some (items_fit q.items legal.items whole.0) in
     let w = clause (codes " WHERE ") (codes "where") (opens_between (codes "WHERE") (codes "where") where_word) (λ rest. refl) q.condition legal.condition clauses.0 in
     let k = keys (first_of_each bytes_eq q.keys) names in
     let h = clause (codes " HAVING ") (codes "having") (opens_between (codes "HAVING") (codes "having") having_word) (λ rest. refl) q.having legal.having clauses.1 in
-    let tail = two_parts (clause_text (codes " WHERE ") q.condition) (keys_text (first_of_each bytes_eq q.keys) ++ clause_text (codes " HAVING ") q.having) w.tokens (k.tokens ++ h.tokens) w.part
-    (two_parts (keys_text (first_of_each bytes_eq q.keys)) (clause_text (codes " HAVING ") q.having) k.tokens h.tokens k.part h.part) in
-    let behind = two_parts (codes " FROM batches") (clause_text (codes " WHERE ") q.condition ++ (keys_text (first_of_each bytes_eq q.keys) ++ clause_text (codes " HAVING ") q.having)) (word (codes "from") ∷ word (codes "batches") ∷ []) (w.tokens ++ (k.tokens ++ h.tokens)) batches_spelled tail in
-    let text : List ℕ = codes " FROM batches" ++ (clause_text (codes " WHERE ") q.condition ++ (keys_text (first_of_each bytes_eq q.keys) ++ clause_text (codes " HAVING ") q.having)) in
-    let all = opens_then (codes "SELECT ") (parted (map item_text q.items) ++ text) (word (codes "select") ∷ []) (i.tokens ++ (word (codes "from") ∷ word (codes "batches") ∷ (w.tokens ++ (k.tokens ++ h.tokens))))
+    let o = order (order_of asked) fits in
+    let where_text : List ℕ = clause_text (codes " WHERE ") q.condition in
+    let group_text : List ℕ = keys_text (first_of_each bytes_eq q.keys) in
+    let having_text : List ℕ = clause_text (codes " HAVING ") q.having in
+    let sorted_text : List ℕ = order_text (order_of asked) in
+    let last = two_parts having_text sorted_text h.tokens o.tokens h.part o.part in
+    let tail = two_parts where_text (group_text ++ (having_text ++ sorted_text)) w.tokens (k.tokens ++ (h.tokens ++ o.tokens)) w.part (two_parts group_text (having_text ++ sorted_text) k.tokens (h.tokens ++ o.tokens) k.part last) in
+    let behind = two_parts (codes " FROM batches") (where_text ++ (group_text ++ (having_text ++ sorted_text))) (word (codes "from") ∷ word (codes "batches") ∷ []) (w.tokens ++ (k.tokens ++ (h.tokens ++ o.tokens))) batches_spelled tail in
+    let text : List ℕ = codes " FROM batches" ++ (where_text ++ (group_text ++ (having_text ++ sorted_text))) in
+    let all = opens_then (codes "SELECT ") (parted (map item_text q.items) ++ text) (word (codes "select") ∷ []) (i.tokens ++ (word (codes "from") ∷ word (codes "batches") ∷ (w.tokens ++ (k.tokens ++ (h.tokens ++ o.tokens)))))
     (opens_word (codes "SELECT") (codes "select") select_word)
-    (spells_two (parted (map item_text q.items)) text i.tokens (word (codes "from") ∷ word (codes "batches") ∷ (w.tokens ++ (k.tokens ++ h.tokens))) i.spells behind.quiet behind.spells) in
-    let tokens : List Lexeme = word (codes "select") ∷ (i.tokens ++ (word (codes "from") ∷ word (codes "batches") ∷ (w.tokens ++ (k.tokens ++ h.tokens)))) in
-    let parts = joined (codes "SELECT ") (parted (map item_text q.items)) (codes " FROM batches") (clause_text (codes " WHERE ") q.condition) (keys_text (first_of_each bytes_eq q.keys)) (clause_text (codes " HAVING ") q.having) in
+    (spells_two (parted (map item_text q.items)) text i.tokens (word (codes "from") ∷ word (codes "batches") ∷ (w.tokens ++ (k.tokens ++ (h.tokens ++ o.tokens)))) i.spells behind.quiet behind.spells) in
+    let tokens : List Lexeme = word (codes "select") ∷ (i.tokens ++ (word (codes "from") ∷ word (codes "batches") ∷ (w.tokens ++ (k.tokens ++ (h.tokens ++ o.tokens))))) in
+    let parts = joined (codes "SELECT ") (parted (map item_text q.items)) (codes " FROM batches") where_text group_text having_text sorted_text in
     let long : List ℕ = codes "SELECT " ++ (parted (map item_text q.items) ++ text) in
     let read : Reads (long ++ []) (tokens ++ []) = all.on [] [] refl reads_nothing in
-    let is : IsQuery most_open (word (codes "select") ∷ (i.tokens ++ (word (codes "from") ∷ word (codes "batches") ∷ (w.tokens ++ (k.tokens ++ (h.tokens ++ [])))))) (canonical q) =
-    grammar.query i.tokens w.tokens k.tokens h.tokens [] i.is w.is k.is h.is grammar.no_semicolon in
+    let is : IsQuery most_open (word (codes "select") ∷ (i.tokens ++ (word (codes "from") ∷ word (codes "batches") ∷ (w.tokens ++ (k.tokens ++ (h.tokens ++ (o.tokens ++ []))))))) (canonical asked) =
+    grammar.query i.tokens w.tokens k.tokens h.tokens o.tokens [] i.is w.is k.is h.is o.is grammar.no_semicolon in
     record {
       tokens = tokens;
       reads = subst (λ (t : List ℕ). Reads t tokens) (sym parts) (subst (λ (t : List ℕ). Reads t tokens) (append-nil long) (subst (λ (ts : List Lexeme). Reads (long ++ []) ts) (append-nil tokens) read));
-      is = subst (λ (hs : List Lexeme). IsQuery most_open (word (codes "select") ∷ (i.tokens ++ (word (codes "from") ∷ word (codes "batches") ∷ (w.tokens ++ (k.tokens ++ hs))))) (canonical q)) (append-nil h.tokens) is;
+      is = subst (λ (os : List Lexeme). IsQuery most_open (word (codes "select") ∷ (i.tokens ++ (word (codes "from") ∷ word (codes "batches") ∷ (w.tokens ++ (k.tokens ++ (h.tokens ++ os)))))) (canonical asked)) (append-nil o.tokens) is;
     }
 
 -- the canonical text says the query
-pub text_says : (q : Written (List ℕ)) → IsWritable q → all_of (filters_pass is_shallow) are_shallow q ≡ true → IsSpelled (spelling q) (canonical q)
-text_says q legal shallow =
-    let p = query_printed q legal (all_distinct IsColumnName bytes_eq q.keys legal.keys) shallow in
+pub text_says : (q : Asked) → IsWritable q.written → all_of (filters_pass is_shallow) are_shallow q.written ≡ true → AllByRecursion writable.IsTerm (canonical q).terms → IsSpelled (spelling q) (canonical q)
+text_says q legal shallow fits =
+    let p = query_printed q legal (all_distinct IsColumnName bytes_eq q.written.keys legal.keys) shallow (terms_fit (order_of q) fits) in
     let read = read_ok (tokens_in (spelling q)) p.tokens (p.reads.from 0) in
     record { tokens = read.0; read = read.1; is_query = subst (λ (ts : List Lexeme). IsQuery most_open ts (canonical q)) (sym read.2) p.is }

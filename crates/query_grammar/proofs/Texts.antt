@@ -108,6 +108,10 @@ opens_word text w h = record { on = λ rest ws more. rw (append_assoc text (32 �
 pub opens_between : (text w : List ℕ) → IsWord text w → Opens (32 ∷ (text ++ 32 ∷ [])) (Name w ∷ [])
 opens_between text w h = record { on = λ rest ws more. reads_space ((text ++ 32 ∷ []) ++ rest) (Name w ∷ ws) ((opens_word text w h).on rest ws more) }
 
+-- and with one before it alone
+pub spells_behind : (text w : List ℕ) → IsWord text w → Spells (32 ∷ text) (Name w ∷ [])
+spells_behind text w h = record { on = λ rest ws q more. reads_space (text ++ rest) (Name w ∷ ws) ((spells_word text w h).on rest ws q more) }
+
 -- one that opens behind another
 pub opens_two : (a b : List ℕ) (ts us : List Lexeme) → Opens a ts → Opens b us → Opens (a ++ b) (ts ++ us)
 opens_two a b ts us s t = record { on = λ rest ws more. rw (append_assoc a b rest, append_assoc ts us ws) (s.on (b ++ rest) (us ++ ws) (t.on rest ws more)) }
@@ -244,5 +248,45 @@ unfolding word_at name_at
 unknown_word = record { at = go; solid = λ rest. record { some = omega arith; solid = refl } }
   where
     go : (at : ℕ) (rest : List ℕ) → Quiet rest → word_at at (codes "UNKNOWN" ++ rest) ≡ Ok (Name (codes "unknown"), rest)
+    go at [] q = refl
+    go at (b ∷ bs) q = rw (quiet_name b bs q) refl
+
+pub order_word : IsWord (codes "ORDER") (codes "order")
+unfolding word_at name_at
+order_word = record { at = go; solid = λ rest. record { some = omega arith; solid = refl } }
+  where
+    go : (at : ℕ) (rest : List ℕ) → Quiet rest → word_at at (codes "ORDER" ++ rest) ≡ Ok (Name (codes "order"), rest)
+    go at [] q = refl
+    go at (b ∷ bs) q = rw (quiet_name b bs q) refl
+
+pub desc_word : IsWord (codes "DESC") (codes "desc")
+unfolding word_at name_at
+desc_word = record { at = go; solid = λ rest. record { some = omega arith; solid = refl } }
+  where
+    go : (at : ℕ) (rest : List ℕ) → Quiet rest → word_at at (codes "DESC" ++ rest) ≡ Ok (Name (codes "desc"), rest)
+    go at [] q = refl
+    go at (b ∷ bs) q = rw (quiet_name b bs q) refl
+
+pub nulls_word : IsWord (codes "NULLS") (codes "nulls")
+unfolding word_at name_at
+nulls_word = record { at = go; solid = λ rest. record { some = omega arith; solid = refl } }
+  where
+    go : (at : ℕ) (rest : List ℕ) → Quiet rest → word_at at (codes "NULLS" ++ rest) ≡ Ok (Name (codes "nulls"), rest)
+    go at [] q = refl
+    go at (b ∷ bs) q = rw (quiet_name b bs q) refl
+
+pub first_word : IsWord (codes "FIRST") (codes "first")
+unfolding word_at name_at
+first_word = record { at = go; solid = λ rest. record { some = omega arith; solid = refl } }
+  where
+    go : (at : ℕ) (rest : List ℕ) → Quiet rest → word_at at (codes "FIRST" ++ rest) ≡ Ok (Name (codes "first"), rest)
+    go at [] q = refl
+    go at (b ∷ bs) q = rw (quiet_name b bs q) refl
+
+pub last_word : IsWord (codes "LAST") (codes "last")
+unfolding word_at name_at
+last_word = record { at = go; solid = λ rest. record { some = omega arith; solid = refl } }
+  where
+    go : (at : ℕ) (rest : List ℕ) → Quiet rest → word_at at (codes "LAST" ++ rest) ≡ Ok (Name (codes "last"), rest)
     go at [] q = refl
     go at (b ∷ bs) q = rw (quiet_name b bs q) refl

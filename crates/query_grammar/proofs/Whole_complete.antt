@@ -6,15 +6,16 @@ use Rattle.std.proofs.lemmas.List.{length-append}
 use Rattle.query_tokens.specs.declared.word.Symbol.TheVariants as symbols
 use Rattle.query_tokens.specs.Words.{Lexeme, Name, Sign}
 use Rattle.query_grammar.specs.Grammar.{Named, word, IsCall}
-use Rattle.query_checks.specs.Forms.{Written}
+use Rattle.query_checks.specs.Order.{Term, Asked}
 use Rattle.query_tokens.specs.Reserved.{is_reserved}
 use Rattle.query_grammar.specs.Terminals.{function_named, comparison_named, is_word, is_sign, symbol_number}
 use Rattle.query_grammar.specs.Reading.{Read, after, name_at, prim_at, conditions}
-use Rattle.query_grammar.specs.Whole.{item_value_at, alias_or_none, alias_at, item_at, list_at, clause_at, keys_at, end_at, query_at}
+use Rattle.query_grammar.specs.Whole.{item_value_at, alias_or_none, alias_at, item_at, list_at, clause_at, keys_at, term_at, order_at, end_at, query_at}
 use Rattle.query_grammar.specs.Grammar as conditions
 use Rattle.query_grammar.specs.Queries as grammar
-use Rattle.query_grammar.specs.Queries.{IsItemValue, IsAlias, IsItem, IsKey, IsListOf, IsClause, IsKeys, IsEnd, IsQuery}
+use Rattle.query_grammar.specs.Queries.{IsItemValue, IsAlias, IsItem, IsKey, IsListOf, IsClause, IsKeys, IsTerm, IsOrder, IsEnd, IsQuery}
 use Rattle.query_grammar.proofs.Complete.{sign_rank, rank, Stops, column_reads, not_this, word_free, condition_reads, function_call_reads}
+use Rattle.query_grammar.proofs.Terms.{Closes, term_reads}
 
 -- ---- items
 
@@ -69,6 +70,9 @@ from_follows : (ts : List Lexeme) → Follows (word (codes "from") ∷ ts)
 unfolding alias_or_none is_reserved
 from_follows ts = record { no_as_word = refl; bare = refl; stops = record { at = omega arith } }
 
+comma_closes : (ts : List Lexeme) → Closes (Sign symbols.Comma ∷ ts)
+comma_closes ts = record { no_desc = refl; no_asc = refl; no_nulls = refl }
+
 less_one : (n : ℕ) → 0 < n → (m : ℕ) × (n ≡ suc m)
 less_one zero h = absurd (omega (arith, h))
 less_one (suc m) h = (m, refl)
@@ -111,6 +115,12 @@ keys_read _ _ grammar.no_keys rest none comma = rw none refl
 keys_read _ _ (grammar.keys {ts = ts} {names = names} p) rest none comma =
     list_reads IsKey name_at (λ _. Unit {0}) name_reads (λ _. tt {0}) ts names p (length (ts ++ rest)) (omega (arith, length-append ts rest)) rest (tt {0}) comma
 
+order_read : (os : List Lexeme) (terms : List Term) → IsOrder os terms → (rest : List Lexeme) → after (is_word (codes "order")) rest ≡ None → after (is_sign symbols.Comma) rest ≡ None → Closes rest → order_at (os ++ rest) ≡ Ok (terms, rest)
+unfolding order_at
+order_read _ _ grammar.no_order rest none comma closes = rw none refl
+order_read _ _ (grammar.order {ts = ts} {terms = terms} p) rest none comma closes =
+    list_reads IsTerm term_at Closes term_reads comma_closes ts terms p (length (ts ++ rest)) (omega (arith, length-append ts rest)) rest closes comma
+
 end_reads : (es : List Lexeme) → IsEnd es → end_at es ≡ Ok (tt, [])
 unfolding end_at symbol_number
 end_reads _ grammar.no_semicolon = refl
@@ -122,36 +132,61 @@ record Rest (rest : List Lexeme) : Type 0 where
   comma : after (is_sign symbols.Comma) rest ≡ None
   where_ : after (is_word (codes "where")) rest ≡ None
 
-after_having : (es : List Lexeme) → IsEnd es → Rest es × (after (is_word (codes "having")) es ≡ None) × (after (is_word (codes "group")) es ≡ None)
+record After_order (es : List Lexeme) : Type 0 where
+  rest : Rest es
+  closes : Closes es
+  order : after (is_word (codes "order")) es ≡ None
+  having : after (is_word (codes "having")) es ≡ None
+  group : after (is_word (codes "group")) es ≡ None
+
+after_order : (es : List Lexeme) → IsEnd es → After_order es
 unfolding sign_rank comparison_named symbol_number
-after_having _ grammar.no_semicolon = (record { stops = record { at = tt {0} }; comma = refl; where_ = refl }, refl, refl)
-after_having _ grammar.semicolon = (record { stops = record { at = omega arith }; comma = refl; where_ = refl }, refl, refl)
+after_order _ grammar.no_semicolon = record {
+  rest = record { stops = record { at = tt {0} }; comma = refl; where_ = refl };
+  closes = record { no_desc = refl; no_asc = refl; no_nulls = refl };
+  order = refl;
+  having = refl;
+  group = refl;
+}
+after_order _ grammar.semicolon = record {
+  rest = record { stops = record { at = omega arith }; comma = refl; where_ = refl };
+  closes = record { no_desc = refl; no_asc = refl; no_nulls = refl };
+  order = refl;
+  having = refl;
+  group = refl;
+}
 
-after_keys : (limit : ℕ) (hs es : List Lexeme) (c : Option Named) → IsClause limit (codes "having") hs c → IsEnd es → Rest (hs ++ es) × (after (is_word (codes "group")) (hs ++ es) ≡ None)
-after_keys limit _ es _ grammar.no_clause e = let h = after_having es e in (h.0, h.2)
-after_keys limit _ es _ (grammar.clause p) e = (record { stops = record { at = omega arith }; comma = refl; where_ = refl }, refl)
+after_having : (os es : List Lexeme) (terms : List Term) → IsOrder os terms → IsEnd es → Rest (os ++ es) × (after (is_word (codes "having")) (os ++ es) ≡ None) × (after (is_word (codes "group")) (os ++ es) ≡ None)
+after_having _ es _ grammar.no_order e = let h = after_order es e in (h.rest, h.having, h.group)
+after_having _ es _ (grammar.order p) e = (record { stops = record { at = omega arith }; comma = refl; where_ = refl }, refl, refl)
 
-after_where : (limit : ℕ) (gs hs es : List Lexeme) (names : List (List ℕ)) (c : Option Named) → IsKeys gs names → IsClause limit (codes "having") hs c → IsEnd es → Rest (gs ++ (hs ++ es))
-after_where limit _ hs es _ c grammar.no_keys p e = (after_keys limit hs es c p e).0
-after_where limit _ hs es _ c (grammar.keys q) p e = record { stops = record { at = omega arith }; comma = refl; where_ = refl }
+after_keys : (limit : ℕ) (hs os es : List Lexeme) (c : Option Named) (terms : List Term) → IsClause limit (codes "having") hs c → IsOrder os terms → IsEnd es → Rest (hs ++ (os ++ es)) × (after (is_word (codes "group")) (hs ++ (os ++ es)) ≡ None)
+after_keys limit _ os es _ terms grammar.no_clause o e = let h = after_having os es terms o e in (h.0, h.2)
+after_keys limit _ os es _ terms (grammar.clause p) o e = (record { stops = record { at = omega arith }; comma = refl; where_ = refl }, refl)
 
-pub query_reads : (limit : ℕ) (ts : List Lexeme) (q : Written (List ℕ)) → IsQuery limit ts q → query_at limit ts ≡ Ok (q, [])
+after_where : (limit : ℕ) (gs hs os es : List Lexeme) (names : List (List ℕ)) (c : Option Named) (terms : List Term) → IsKeys gs names → IsClause limit (codes "having") hs c → IsOrder os terms → IsEnd es → Rest (gs ++ (hs ++ (os ++ es)))
+after_where limit _ hs os es _ c terms grammar.no_keys p o e = (after_keys limit hs os es c terms p o e).0
+after_where limit _ hs os es _ c terms (grammar.keys q) p o e = record { stops = record { at = omega arith }; comma = refl; where_ = refl }
+
+pub query_reads : (limit : ℕ) (ts : List Lexeme) (q : Asked) → IsQuery limit ts q → query_at limit ts ≡ Ok (q, [])
 unfolding query_at
-query_reads limit _ _ (grammar.query {items = items} {condition = condition} {having = having} {names = names} is ws gs hs es p q r h e) =
-    let tail = ws ++ (gs ++ (hs ++ es)) in
-    let w = after_where limit gs hs es names having r h e in
-    let k = after_keys limit hs es having h e in
-    let v = after_having es e in
+query_reads limit _ _ (grammar.query {items = items} {condition = condition} {having = having} {names = names} {terms = terms} is ws gs hs os es p q r h o e) =
+    let tail = ws ++ (gs ++ (hs ++ (os ++ es))) in
+    let w = after_where limit gs hs os es names having terms r h o e in
+    let k = after_keys limit hs os es having terms h o e in
+    let v = after_having os es terms o e in
+    let l = after_order es e in
     let e1 = list_reads (IsItem limit) (item_at limit) Follows (item_reads limit) comma_follows is items p (length (is ++ word (codes "from") ∷ word (codes "batches") ∷ tail)) (omega (arith, length-append is (word (codes "from") ∷ word (codes "batches") ∷ tail))) (word (codes "from") ∷ word (codes "batches") ∷ tail) (from_follows (word (codes "batches") ∷ tail)) refl in
-    let e2 = clause_reads limit (codes "where") ws condition q refl (gs ++ (hs ++ es)) w.stops w.where_ in
-    let e3 = keys_read gs names r (hs ++ es) k.1 k.0.comma in
-    let e4 = clause_reads limit (codes "having") hs having h refl es v.0.stops v.1 in
-    rw (e1, e2, e3, e4, end_reads es e) refl
+    let e2 = clause_reads limit (codes "where") ws condition q refl (gs ++ (hs ++ (os ++ es))) w.stops w.where_ in
+    let e3 = keys_read gs names r (hs ++ (os ++ es)) k.1 k.0.comma in
+    let e4 = clause_reads limit (codes "having") hs having h refl (os ++ es) v.0.stops v.1 in
+    let e5 = order_read os terms o es l.order l.rest.comma l.closes in
+    rw (e1, e2, e3, e4, e5, end_reads es e) refl
 
-abbrev read_query : Read (Written (List ℕ)) → Written (List ℕ) → Written (List ℕ)
+abbrev read_query : Read Asked → Asked → Asked
 read_query (Ok x) other = x.0
 read_query (Err e) other = other
 
 -- tokens stand for one query
-pub one_query : (limit : ℕ) (ts : List Lexeme) (q r : Written (List ℕ)) → IsQuery limit ts q → IsQuery limit ts r → q ≡ r
-one_query limit ts q r a b = ap (λ (x : Read (Written (List ℕ))). read_query x q) (sym (query_reads limit ts q a) ∙ query_reads limit ts r b)
+pub one_query : (limit : ℕ) (ts : List Lexeme) (q r : Asked) → IsQuery limit ts q → IsQuery limit ts r → q ≡ r
+one_query limit ts q r a b = ap (λ (x : Read Asked). read_query x q) (sym (query_reads limit ts q a) ∙ query_reads limit ts r b)

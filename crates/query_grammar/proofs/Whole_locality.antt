@@ -5,14 +5,15 @@ use Rattle.std.proofs.lemmas.List.{length-append, append-nil}
 use Rattle.query_tokens.specs.declared.word.Symbol.TheVariants as symbols
 use Rattle.query_tokens.specs.Words.{Lexeme, Name, Integer, Text, Sign}
 use Rattle.query_tokens.specs.Reserved.{is_reserved}
-use Rattle.query_checks.specs.Forms.{Written}
+use Rattle.query_checks.specs.Order.{Term, Asked}
 use Rattle.query_grammar.specs.Terminals.{is_word, is_sign}
 use Rattle.query_grammar.specs.Grammar.{Named}
 use Rattle.query_grammar.specs.Queries.{Begins}
 use Rattle.query_grammar.specs.Reading.{Read, Unexpected, Too_deep, ◌>>=◌, after, choose, expect, name_at, condition_at, conditions}
-use Rattle.query_grammar.specs.Whole.{item_value_at, alias_or_none, alias_at, item_at, list_at, clause_at, keys_at, nothing_at, end_at, query_at}
+use Rattle.query_grammar.specs.Whole.{item_value_at, alias_or_none, alias_at, item_at, list_at, clause_at, keys_at, term_at, order_at, nothing_at, end_at, query_at}
 use Rattle.query_grammar.specs.Laws.{NoneGoesOn}
-use Rattle.query_grammar.proofs.Whole_sound.{Value_part, Alias_part, value_means, alias_or_none_means, from_having, from_keys, from_where, from_items, made}
+use Rattle.query_grammar.proofs.Whole_sound.{Value_part, Alias_part, value_means, alias_or_none_means, from_order, from_having, from_keys, from_where, from_items, made}
+use Rattle.query_grammar.proofs.Terms.{terms_agree}
 use Rattle.query_grammar.proofs.Whole_complete.{query_reads}
 use Rattle.query_grammar.proofs.Alike.{Tails, none, both, Within, Stays, Past, Alike, same, refused, deep, past, deeper, Agree, within_bind, within_chosen, alike_bind, alike_choose, done, binds, chooses, expects, maps}
 use Rattle.query_grammar.proofs.Locality.{Rooms, stays_of, names_agree, free_word_in, free_word_past, conditions_agree}
@@ -163,6 +164,14 @@ keys_agree d one two tails most =
     (expects d one two tails most (is_word (codes "by")) names names (lists_agree d one two tails most name_at name_at (names_agree d one two tails most)))
     (done d one two most [])
 
+orders_agree : (d : Bool) (one two : List Lexeme) (tails : Tails one two) (most : ℕ) → Agree d one two most order_at order_at
+unfolding order_at
+orders_agree d one two tails most =
+    let terms : List Lexeme → Read (List Term) = λ ts. list_at term_at (length ts) ts in
+    chooses d one two tails most (is_word (codes "order")) (λ rest. expect (is_word (codes "by")) rest >>= λ by. terms by.1) (λ rest. expect (is_word (codes "by")) rest >>= λ by. terms by.1) (λ ts. Ok ([], ts)) (λ ts. Ok ([], ts))
+    (expects d one two tails most (is_word (codes "by")) terms terms (lists_agree d one two tails most term_at term_at (terms_agree d one two tails most)))
+    (done d one two most [])
+
 nothing_alike : (d : Bool) (one two : List Lexeme) → Tails one two → (u : List Lexeme) → Alike d one two (nothing_at (u ++ one)) (nothing_at (u ++ two))
 nothing_alike d one two tails (t ∷ us) = refused (t ∷ us)
 nothing_alike d _ _ none [] = same tt []
@@ -185,12 +194,17 @@ ends_agree d one two tails most =
 
 -- ---- the query
 
+order_agrees : (d : Bool) (one two : List Lexeme) (tails : Tails one two) (most : ℕ) (items : List (Named × Option (List ℕ))) (condition : Option Named) (names : List (List ℕ)) (having : Option Named)
+    → Agree d one two most (from_order items condition names having) (from_order items condition names having)
+order_agrees d one two tails most items condition names having =
+    let last : List Term → List Lexeme → Read Asked = λ terms ts. end_at ts >>= λ end. Ok (made items condition names having terms, end.1) in
+    binds d one two most order_at order_at last last (orders_agree d one two tails most) (λ terms. maps d one two most end_at end_at (λ _. made items condition names having terms) (ends_agree d one two tails most))
+
 having_agree : (d : Bool) (one two : List Lexeme) (tails : Tails one two) (limit upper : ℕ) → Rooms d limit upper → (most : ℕ) (items : List (Named × Option (List ℕ))) (condition : Option Named) (names : List (List ℕ))
     → Agree d one two most (from_having limit items condition names) (from_having upper items condition names)
 having_agree d one two tails limit upper h most items condition names =
-    let last : Option Named → List Lexeme → Read (Written (List ℕ)) = λ having ts. end_at ts >>= λ end. Ok (made items condition names having, end.1) in
-    binds d one two most (clause_at limit (codes "having")) (clause_at upper (codes "having")) last last (clauses_agree d one two tails limit upper h most (codes "having"))
-    (λ having. maps d one two most end_at end_at (λ _. made items condition names having) (ends_agree d one two tails most))
+    binds d one two most (clause_at limit (codes "having")) (clause_at upper (codes "having")) (from_order items condition names) (from_order items condition names) (clauses_agree d one two tails limit upper h most (codes "having"))
+    (order_agrees d one two tails most items condition names)
 
 keys_on_agree : (d : Bool) (one two : List Lexeme) (tails : Tails one two) (limit upper : ℕ) → Rooms d limit upper → (most : ℕ) (items : List (Named × Option (List ℕ))) (condition : Option Named)
     → Agree d one two most (from_keys limit items condition) (from_keys upper items condition)
@@ -207,8 +221,8 @@ where_agree d one two tails limit upper h most items =
 queries_agree : (d : Bool) (one two : List Lexeme) (tails : Tails one two) (limit upper : ℕ) → Rooms d limit upper → (most : ℕ) → Agree d one two most (query_at limit) (query_at upper)
 unfolding query_at
 queries_agree d one two tails limit upper h most =
-    let behind_from : ℕ → List (Named × Option (List ℕ)) → List Lexeme → Read (Written (List ℕ)) = λ l items ts. expect (is_word (codes "batches")) ts >>= λ batches. from_where l items batches.1 in
-    let behind_items : ℕ → List (Named × Option (List ℕ)) → List Lexeme → Read (Written (List ℕ)) = λ l items ts. expect (is_word (codes "from")) ts >>= λ from. behind_from l items from.1 in
+    let behind_from : ℕ → List (Named × Option (List ℕ)) → List Lexeme → Read Asked = λ l items ts. expect (is_word (codes "batches")) ts >>= λ batches. from_where l items batches.1 in
+    let behind_items : ℕ → List (Named × Option (List ℕ)) → List Lexeme → Read Asked = λ l items ts. expect (is_word (codes "from")) ts >>= λ from. behind_from l items from.1 in
     expects d one two tails most (is_word (codes "select")) (from_items limit) (from_items upper)
     (binds d one two most (λ ts. list_at (item_at limit) (length ts) ts) (λ ts. list_at (item_at upper) (length ts) ts) (behind_items limit) (behind_items upper)
     (lists_agree d one two tails most (item_at limit) (item_at upper) (items_agree d one two tails limit upper h most))
@@ -234,8 +248,8 @@ never_before one two _ _ (deeper t l s) left x e f = absurd cc
 never_before one two _ _ (past r s p) left x e f = subst (Past one) e p
 
 -- a query that begins so is read
-is_read : (limit : ℕ) (front : List Lexeme) (t : Lexeme) (b : Begins limit (front ++ t ∷ [])) → query_at limit (front ++ t ∷ b.more) ≡ Ok (b.written, [])
-is_read limit front t b = subst (λ (u : List Lexeme). query_at limit u ≡ Ok (b.written, [])) (append_assoc front (t ∷ []) b.more) (query_reads limit ((front ++ t ∷ []) ++ b.more) b.written b.is_query)
+is_read : (limit : ℕ) (front : List Lexeme) (t : Lexeme) (b : Begins limit (front ++ t ∷ [])) → query_at limit (front ++ t ∷ b.more) ≡ Ok (b.asked, [])
+is_read limit front t b = subst (λ (u : List Lexeme). query_at limit u ≡ Ok (b.asked, [])) (append_assoc front (t ∷ []) b.more) (query_reads limit ((front ++ t ∷ []) ++ b.more) b.asked b.is_query)
 
 read_alike : (d : Bool) (limit upper : ℕ) → Rooms d limit upper → (front : List Lexeme) (t : Lexeme) (rest more : List Lexeme) → Alike d (t ∷ rest) (t ∷ more) (query_at limit (front ++ t ∷ rest)) (query_at upper (front ++ t ∷ more))
 read_alike d limit upper h front t rest more = (queries_agree d (t ∷ rest) (t ∷ more) (both t rest more) limit upper h (suc (length front))).alike front (omega arith)
@@ -243,18 +257,18 @@ read_alike d limit upper h front t rest more = (queries_agree d (t ∷ rest) (t 
 pub none_goes_on : (limit upper : ℕ) → limit ≤ upper → (front rest : List Lexeme) (left : ℕ) → query_at limit (front ++ rest) ≡ Err (Unexpected left) → length rest ≡ left → NoneGoesOn upper front rest
 none_goes_on limit upper h front [] left e place = λ q p. go (query_reads upper front q p)
   where
-    go : {q : Written (List ℕ)} → query_at upper front ≡ Ok (q, []) → ⊥
+    go : {q : Asked} → query_at upper front ≡ Ok (q, []) → ⊥
     go {q} r =
         let a = (queries_agree true [] [] none limit upper h (suc (length front))).alike front (omega arith) in
         let b = not_before true [] [] (query_at limit (front ++ [])) (query_at upper (front ++ [])) a left (q, []) e (subst (λ (u : List Lexeme). query_at upper u ≡ Ok (q, [])) (sym (append-nil front)) r) in
         omega (arith, b)
 none_goes_on limit upper h front (t ∷ rest) left e place = λ b.
-    let c = not_before true (t ∷ rest) (t ∷ b.more) (query_at limit (front ++ t ∷ rest)) (query_at upper (front ++ t ∷ b.more)) (read_alike true limit upper h front t rest b.more) left (b.written, []) e (is_read upper front t b) in
+    let c = not_before true (t ∷ rest) (t ∷ b.more) (query_at limit (front ++ t ∷ rest)) (query_at upper (front ++ t ∷ b.more)) (read_alike true limit upper h front t rest b.more) left (b.asked, []) e (is_read upper front t b) in
     omega (arith, c, place)
 
 pub none_goes_deeper : (limit : ℕ) (front : List Lexeme) (t : Lexeme) (rest : List Lexeme) (left : ℕ) → query_at limit (front ++ t ∷ rest) ≡ Err (Too_deep left) → length (t ∷ rest) ≡ left → NoneGoesOn limit front (t ∷ rest)
 none_goes_deeper limit front t rest left e place = λ b.
-    let c = never_before (t ∷ rest) (t ∷ b.more) (query_at limit (front ++ t ∷ rest)) (query_at limit (front ++ t ∷ b.more)) (read_alike false limit limit refl front t rest b.more) left (b.written, []) e (is_read limit front t b) in
+    let c = never_before (t ∷ rest) (t ∷ b.more) (query_at limit (front ++ t ∷ rest)) (query_at limit (front ++ t ∷ b.more)) (read_alike false limit limit refl front t rest b.more) left (b.asked, []) e (is_read limit front t b) in
     omega (arith, c, place)
 
 -- ---- what is left never grows
@@ -264,3 +278,6 @@ items_stay limit = (items_agree false [] [] none limit limit refl 0).stays
 
 pub names_stay : Stays name_at
 names_stay = (names_agree false [] [] none 0).stays
+
+pub terms_stay : Stays term_at
+terms_stay = (terms_agree false [] [] none 0).stays

@@ -1,5 +1,5 @@
 -- What is read as a query is in the grammar, and what stands before a token that is refused can be completed.
-use Rattle.std.proofs.Common.{◌≡◌, ℕ, zero, suc, Bool, true, false, cond, List, [], ◌∷◌, ◌++◌, length, Option, Some, None, Ok, refl, sym, subst}
+use Rattle.std.proofs.Common.{◌≡◌, ℕ, zero, suc, pos, Bool, true, false, cond, List, [], ◌∷◌, ◌++◌, length, Option, Some, None, Ok, refl, sym, subst}
 use Rattle.std.specs.Prelude.{codes}
 use Rattle.std.proofs.lemmas.List.{append-nil}
 use Rattle.query_tokens.specs.declared.word.Symbol.TheVariants as symbols
@@ -7,17 +7,18 @@ use Rattle.query_tokens.specs.Words.{Lexeme, Name, Integer, Text, Sign}
 use Rattle.query_tokens.specs.Reserved.{is_reserved}
 use Rattle.grouping_model.specs.Aggregates.{Function}
 use Rattle.query_checks.specs.Forms as form
-use Rattle.query_checks.specs.Forms.{Written}
+use Rattle.query_checks.specs.Order.{By_place, Term, Asked}
 use Rattle.query_grammar.specs.Terminals.{function_named, is_word, is_sign}
 use Rattle.query_grammar.specs.Grammar.{Named, opening, word}
 use Rattle.query_grammar.specs.Queries as grammar
-use Rattle.query_grammar.specs.Queries.{IsItemValue, IsAlias, IsItem, IsKey, IsListOf, IsClause, IsKeys, IsEnd, IsQuery}
+use Rattle.query_grammar.specs.Queries.{IsItemValue, IsAlias, IsItem, IsKey, IsListOf, IsClause, IsKeys, IsOrder, IsEnd, IsQuery}
 use Rattle.query_grammar.specs.Reading.{Read, ◌>>=◌, unexpected, after, choose, expect, name_at, call_at, function_or_column, condition_at, conditions}
-use Rattle.query_grammar.specs.Whole.{item_value_at, alias_or_none, alias_at, item_at, list_at, clause_at, keys_at, nothing_at, end_at, query_at}
+use Rattle.query_grammar.specs.Whole.{item_value_at, alias_or_none, alias_at, item_at, list_at, clause_at, keys_at, term_at, order_at, nothing_at, end_at, query_at}
 use Rattle.query_grammar.specs.Laws.{Part, Means, CanBecome}
 use Rattle.query_grammar.proofs.Marks.{the_sign}
 use Rattle.query_grammar.proofs.Steps.{behind, done, refused, widen, weaken, bind, mapped, chosen, expected}
 use Rattle.query_grammar.proofs.Sound.{allowed, Condition_part, Call_part, Name_part, a_name, word_law, name_means, call_means, condition_means}
+use Rattle.query_grammar.proofs.Terms.{Term_part, term_means}
 
 abbrev pub Value_part : ℕ → Part Named
 Value_part limit = λ b ts x. IsItemValue (allowed b limit) ts x
@@ -40,10 +41,13 @@ Clause_part limit w = λ b ts x. IsClause (allowed b limit) w ts x
 abbrev Keys_part : Part (List (List ℕ))
 Keys_part = λ b ts x. IsKeys ts x
 
+abbrev Order_part : Part (List Term)
+Order_part = λ b ts x. IsOrder ts x
+
 abbrev End_part : Part (Unit {0})
 End_part = λ b u x. IsEnd u
 
-abbrev pub Query_part : ℕ → Part (Written (List ℕ))
+abbrev pub Query_part : ℕ → Part Asked
 Query_part limit = λ b ts q. IsQuery (allowed b limit) ts q
 
 -- ---- items
@@ -135,6 +139,15 @@ keys_means ts =
     (λ b. (Name (codes "a") ∷ [], codes "a" ∷ [], grammar.keys (grammar.last (grammar.name a_name)))))
     (done Keys_part ts [] (λ b. grammar.no_keys))
 
+order_means : (ts : List Lexeme) → Means Order_part ts (order_at ts)
+unfolding order_at
+order_means ts =
+    chosen Order_part (word (codes "order")) (is_word (codes "order")) (word_law (codes "order")) ts (λ rest. expect (is_word (codes "by")) rest >>= λ by. list_at term_at (length by.1) by.1) (Ok ([], ts))
+    (λ rest. expected (λ b u x. IsOrder (word (codes "order") ∷ u) x) (word (codes "by")) (is_word (codes "by")) (word_law (codes "by")) rest (λ rest2. list_at term_at (length rest2) rest2)
+    (λ rest2. weaken (List_part Term_part) (λ b u x. IsOrder (word (codes "order") ∷ word (codes "by") ∷ u) x) rest2 (list_at term_at (length rest2) rest2) (λ b u x p. grammar.order p) (list_means Term_part term_at term_means (length rest2) rest2))
+    (λ b. (Integer (pos 1) ∷ [], record { target = By_place (pos 1); descending = false; nulls_first = None } ∷ [], grammar.order (grammar.last (grammar.term (Integer (pos 1) ∷ []) [] [] grammar.by_place grammar.no_direction grammar.no_nulls)))))
+    (done Order_part ts [] (λ b. grammar.no_order))
+
 nothing_means : (Q : Part (Unit {0})) (ts : List Lexeme) → ((b : Bool) → Q b [] tt) → Means Q ts (nothing_at ts)
 nothing_means Q [] q = done Q [] tt q
 nothing_means Q (t ∷ ts) q = refused Q (t ∷ ts) (λ b. ([], tt, q b))
@@ -147,49 +160,61 @@ end_means ts =
 
 -- ---- the query from its parts
 
-abbrev pub made : List (Named × Option (List ℕ)) → Option Named → List (List ℕ) → Option Named → Written (List ℕ)
-made items condition names having = record { items = items; condition = condition; keys = names; having = having }
+abbrev pub made : List (Named × Option (List ℕ)) → Option Named → List (List ℕ) → Option Named → List Term → Asked
+made items condition names having terms = record { written = record { items = items; condition = condition; keys = names; having = having }; terms = terms }
 
 -- reading on from each part
-abbrev pub from_having : ℕ → List (Named × Option (List ℕ)) → Option Named → List (List ℕ) → List Lexeme → Read (Written (List ℕ))
-from_having limit items condition names ts = clause_at limit (codes "having") ts >>= λ having. end_at having.1 >>= λ end. Ok (made items condition names having.0, end.1)
+abbrev pub from_order : List (Named × Option (List ℕ)) → Option Named → List (List ℕ) → Option Named → List Lexeme → Read Asked
+from_order items condition names having ts = order_at ts >>= λ order. end_at order.1 >>= λ end. Ok (made items condition names having order.0, end.1)
 
-abbrev pub from_keys : ℕ → List (Named × Option (List ℕ)) → Option Named → List Lexeme → Read (Written (List ℕ))
+abbrev pub from_having : ℕ → List (Named × Option (List ℕ)) → Option Named → List (List ℕ) → List Lexeme → Read Asked
+from_having limit items condition names ts = clause_at limit (codes "having") ts >>= λ having. from_order items condition names having.0 having.1
+
+abbrev pub from_keys : ℕ → List (Named × Option (List ℕ)) → Option Named → List Lexeme → Read Asked
 from_keys limit items condition ts = keys_at ts >>= λ keys. from_having limit items condition keys.0 keys.1
 
-abbrev pub from_where : ℕ → List (Named × Option (List ℕ)) → List Lexeme → Read (Written (List ℕ))
+abbrev pub from_where : ℕ → List (Named × Option (List ℕ)) → List Lexeme → Read Asked
 from_where limit items ts = clause_at limit (codes "where") ts >>= λ condition. from_keys limit items condition.0 condition.1
 
-abbrev pub from_items : ℕ → List Lexeme → Read (Written (List ℕ))
+abbrev pub from_items : ℕ → List Lexeme → Read Asked
 from_items limit ts = list_at (item_at limit) (length ts) ts >>= λ items. expect (is_word (codes "from")) items.1 >>= λ from. expect (is_word (codes "batches")) from.1 >>= λ batches. from_where limit items.0 batches.1
+
+order_mean : (limit : ℕ) (items : List (Named × Option (List ℕ))) (condition : Option Named) (names : List (List ℕ)) (having : Option Named) (is ws gs hs : List Lexeme)
+    → ((b : Bool) → List_part (Item_part limit) b is items) → ((b : Bool) → Clause_part limit (codes "where") b ws condition) → IsKeys gs names → ((b : Bool) → Clause_part limit (codes "having") b hs having)
+    → (ts : List Lexeme) → Means (λ b u q. Query_part limit b (word (codes "select") ∷ (is ++ word (codes "from") ∷ word (codes "batches") ∷ (ws ++ (gs ++ (hs ++ u))))) q) ts (from_order items condition names having ts)
+order_mean limit items condition names having is ws gs hs p q r h ts =
+    bind Order_part (λ b u x. Query_part limit b (word (codes "select") ∷ (is ++ word (codes "from") ∷ word (codes "batches") ∷ (ws ++ (gs ++ (hs ++ u))))) x) ts (order_at ts)
+    (λ order. end_at order.1 >>= λ end. Ok (made items condition names having order.0, end.1)) (order_means ts)
+    (λ os rest terms o. mapped End_part (λ b u x. Query_part limit b (word (codes "select") ∷ (is ++ word (codes "from") ∷ word (codes "batches") ∷ (ws ++ (gs ++ (hs ++ (os ++ u)))))) x) rest (end_at rest)
+    (λ _. made items condition names having terms) (end_means rest) (λ b es _ e. grammar.query is ws gs hs os es (p b) (q b) r (h b) (o b) e))
+    (λ b os terms o. ([], made items condition names having terms, grammar.query is ws gs hs os [] (p b) (q b) r (h b) o grammar.no_semicolon))
 
 having_means : (limit : ℕ) (items : List (Named × Option (List ℕ))) (condition : Option Named) (names : List (List ℕ)) (is ws gs : List Lexeme)
     → ((b : Bool) → List_part (Item_part limit) b is items) → ((b : Bool) → Clause_part limit (codes "where") b ws condition) → IsKeys gs names
     → (ts : List Lexeme) → Means (λ b u q. Query_part limit b (word (codes "select") ∷ (is ++ word (codes "from") ∷ word (codes "batches") ∷ (ws ++ (gs ++ u)))) q) ts (from_having limit items condition names ts)
 having_means limit items condition names is ws gs p q r ts =
     bind (Clause_part limit (codes "having")) (λ b u x. Query_part limit b (word (codes "select") ∷ (is ++ word (codes "from") ∷ word (codes "batches") ∷ (ws ++ (gs ++ u)))) x) ts (clause_at limit (codes "having") ts)
-    (λ having. end_at having.1 >>= λ end. Ok (made items condition names having.0, end.1)) (clause_means limit (codes "having") ts)
-    (λ hs rest having h. mapped End_part (λ b u x. Query_part limit b (word (codes "select") ∷ (is ++ word (codes "from") ∷ word (codes "batches") ∷ (ws ++ (gs ++ (hs ++ u))))) x) rest (end_at rest)
-    (λ _. made items condition names having) (end_means rest) (λ b es _ e. grammar.query is ws gs hs es (p b) (q b) r (h b) e))
-    (λ b hs having h. ([], made items condition names having, grammar.query is ws gs hs [] (p b) (q b) r h grammar.no_semicolon))
+    (λ having. from_order items condition names having.0 having.1) (clause_means limit (codes "having") ts)
+    (λ hs rest having h. order_mean limit items condition names having is ws gs hs p q r h rest)
+    (λ b hs having h. ([], made items condition names having [], grammar.query is ws gs hs [] [] (p b) (q b) r h grammar.no_order grammar.no_semicolon))
 
 keys_mean : (limit : ℕ) (items : List (Named × Option (List ℕ))) (condition : Option Named) (is ws : List Lexeme) → ((b : Bool) → List_part (Item_part limit) b is items) → ((b : Bool) → Clause_part limit (codes "where") b ws condition)
     → (ts : List Lexeme) → Means (λ b u q. Query_part limit b (word (codes "select") ∷ (is ++ word (codes "from") ∷ word (codes "batches") ∷ (ws ++ u))) q) ts (from_keys limit items condition ts)
 keys_mean limit items condition is ws p q ts =
     bind Keys_part (λ b u x. Query_part limit b (word (codes "select") ∷ (is ++ word (codes "from") ∷ word (codes "batches") ∷ (ws ++ u))) x) ts (keys_at ts) (λ keys. from_having limit items condition keys.0 keys.1) (keys_means ts)
     (λ gs rest names r. having_means limit items condition names is ws gs p q (r false) rest)
-    (λ b gs names r. ([], made items condition names None, grammar.query is ws gs [] [] (p b) (q b) r grammar.no_clause grammar.no_semicolon))
+    (λ b gs names r. ([], made items condition names None [], grammar.query is ws gs [] [] [] (p b) (q b) r grammar.no_clause grammar.no_order grammar.no_semicolon))
 
 where_means : (limit : ℕ) (items : List (Named × Option (List ℕ))) (is : List Lexeme) → ((b : Bool) → List_part (Item_part limit) b is items)
     → (ts : List Lexeme) → Means (λ b u q. Query_part limit b (word (codes "select") ∷ (is ++ word (codes "from") ∷ word (codes "batches") ∷ u)) q) ts (from_where limit items ts)
 where_means limit items is p ts =
     bind (Clause_part limit (codes "where")) (λ b u x. Query_part limit b (word (codes "select") ∷ (is ++ word (codes "from") ∷ word (codes "batches") ∷ u)) x) ts (clause_at limit (codes "where") ts) (λ condition. from_keys limit items condition.0 condition.1) (clause_means limit (codes "where") ts)
     (λ ws rest condition q. keys_mean limit items condition is ws p q rest)
-    (λ b ws condition q. ([], made items condition [] None, grammar.query is ws [] [] [] (p b) q grammar.no_keys grammar.no_clause grammar.no_semicolon))
+    (λ b ws condition q. ([], made items condition [] None [], grammar.query is ws [] [] [] [] (p b) q grammar.no_keys grammar.no_clause grammar.no_order grammar.no_semicolon))
 
 least : (limit : ℕ) (b : Bool) (is : List Lexeme) (items : List (Named × Option (List ℕ))) → List_part (Item_part limit) b is items
-    → Query_part limit b (word (codes "select") ∷ (is ++ word (codes "from") ∷ word (codes "batches") ∷ [])) (made items None [] None)
-least limit b is items p = grammar.query is [] [] [] [] p grammar.no_clause grammar.no_keys grammar.no_clause grammar.no_semicolon
+    → Query_part limit b (word (codes "select") ∷ (is ++ word (codes "from") ∷ word (codes "batches") ∷ [])) (made items None [] None [])
+least limit b is items p = grammar.query is [] [] [] [] [] p grammar.no_clause grammar.no_keys grammar.no_clause grammar.no_order grammar.no_semicolon
 
 items_mean : (limit : ℕ) (ts : List Lexeme) → Means (λ b u q. Query_part limit b (word (codes "select") ∷ u) q) ts (from_items limit ts)
 items_mean limit ts =
@@ -199,9 +224,9 @@ items_mean limit ts =
     (λ is rest items p. expected (λ b u x. Query_part limit b (word (codes "select") ∷ (is ++ u)) x) (word (codes "from")) (is_word (codes "from")) (word_law (codes "from")) rest
     (λ rest2. expect (is_word (codes "batches")) rest2 >>= λ batches. from_where limit items batches.1)
     (λ rest2. expected (λ b u x. Query_part limit b (word (codes "select") ∷ (is ++ word (codes "from") ∷ u)) x) (word (codes "batches")) (is_word (codes "batches")) (word_law (codes "batches")) rest2 (λ rest3. from_where limit items rest3)
-    (λ rest3. where_means limit items is p rest3) (λ b. ([], made items None [] None, least limit b is items (p b))))
-    (λ b. (word (codes "batches") ∷ [], made items None [] None, least limit b is items (p b))))
-    (λ b is items p. (word (codes "from") ∷ word (codes "batches") ∷ [], made items None [] None, least limit b is items p))
+    (λ rest3. where_means limit items is p rest3) (λ b. ([], made items None [] None [], least limit b is items (p b))))
+    (λ b. (word (codes "batches") ∷ [], made items None [] None [], least limit b is items (p b))))
+    (λ b is items p. (word (codes "from") ∷ word (codes "batches") ∷ [], made items None [] None [], least limit b is items p))
 
 pub query_means : (limit : ℕ) (ts : List Lexeme) → Means (Query_part limit) ts (query_at limit ts)
 unfolding query_at
@@ -210,6 +235,6 @@ query_means limit ts =
     (λ ts1. items_mean limit ts1)
     (λ b. (
       Name (codes "a") ∷ word (codes "from") ∷ word (codes "batches") ∷ [],
-      made ((form.Column (codes "a"), None) ∷ []) None [] None,
-      grammar.query (Name (codes "a") ∷ []) [] [] [] [] (grammar.last (grammar.item (Name (codes "a") ∷ []) [] (grammar.item_column a_name) grammar.no_alias)) grammar.no_clause grammar.no_keys grammar.no_clause grammar.no_semicolon,
+      made ((form.Column (codes "a"), None) ∷ []) None [] None [],
+      grammar.query (Name (codes "a") ∷ []) [] [] [] [] [] (grammar.last (grammar.item (Name (codes "a") ∷ []) [] (grammar.item_column a_name) grammar.no_alias)) grammar.no_clause grammar.no_keys grammar.no_clause grammar.no_order grammar.no_semicolon,
     ))

@@ -11,14 +11,14 @@ use Rattle.query_tokens.specs.Spelling.{IsLexeme}
 use Rattle.grouping_model.specs.Aggregates.{Function}
 use Rattle.query_checks.specs.Spelling.{Argument, Each_row, Any_value, Values_of, signature, functions, is_value, is_named}
 use Rattle.packed_rows.specs.Columns.{IsColumnName}
-use Rattle.query_checks.specs.Forms.{Written}
+use Rattle.query_checks.specs.Order.{Target, Term, Asked}
 use Rattle.query_checks.specs.Writable as writable
-use Rattle.query_checks.specs.Writable.{IsForm, IsColumnOrCall, IsWritable}
+use Rattle.query_checks.specs.Writable.{IsForm, IsColumnOrCall, CanBeAsked}
 use Rattle.query_grammar.specs.Terminals.{function_named}
 use Rattle.query_grammar.specs.Grammar as grammar
 use Rattle.query_grammar.specs.Grammar.{Named, opening, closing, word, IsCallArgument, IsCondition, IsAnd, IsNot, IsTested, IsCompared, IsOperand, IsCall}
 use Rattle.query_grammar.specs.Queries as queries
-use Rattle.query_grammar.specs.Queries.{IsItemValue, IsAlias, IsItem, IsKey, IsListOf, IsClause, IsKeys, IsQuery}
+use Rattle.query_grammar.specs.Queries.{IsItemValue, IsAlias, IsItem, IsKey, IsListOf, IsClause, IsKeys, IsTarget, IsTerm, IsOrder, IsQuery}
 
 abbrev Legal : List Lexeme → Type 0
 Legal ts = AllByRecursion IsLexeme ts
@@ -148,15 +148,30 @@ keys_writable : {ts : List Lexeme} {names : List (List ℕ)} → IsKeys ts names
 keys_writable queries.no_keys l = tt
 keys_writable (queries.keys {ts = ts} {names = names} p) l = list_writable IsKey IsColumnName name_writable ts names p l.1.1
 
-pub query_writable : (limit : ℕ) (ts : List Lexeme) (q : Written (List ℕ)) → IsQuery limit ts q → AllByRecursion IsLexeme ts → IsWritable q
-query_writable limit _ _ (queries.query {items = items} is ws gs hs es p q r h e) l =
-    let tail = ws ++ (gs ++ (hs ++ es)) in
+target_writable : {ts : List Lexeme} {x : Target} → IsTarget ts x → Legal ts → writable.IsTarget x
+target_writable (queries.by_name free) l = record { legal = l.0; free = free }
+target_writable queries.by_place l = l.0
+
+term_writable : (ts : List Lexeme) (x : Term) → IsTerm ts x → Legal ts → writable.IsTerm x
+term_writable _ _ (queries.term ts ds ns p q r) l = record { target = target_writable p (left ts (ds ++ ns) l) }
+
+order_writable : {ts : List Lexeme} {terms : List Term} → IsOrder ts terms → Legal ts → AllByRecursion writable.IsTerm terms
+order_writable queries.no_order l = tt
+order_writable (queries.order {ts = ts} {terms = terms} p) l = list_writable IsTerm writable.IsTerm term_writable ts terms p l.1.1
+
+pub query_writable : (limit : ℕ) (ts : List Lexeme) (q : Asked) → IsQuery limit ts q → AllByRecursion IsLexeme ts → CanBeAsked q
+query_writable limit _ _ (queries.query {items = items} is ws gs hs os es p q r h o e) l =
+    let tail = ws ++ (gs ++ (hs ++ (os ++ es))) in
     let behind = (right is (word (codes "from") ∷ word (codes "batches") ∷ tail) l.1).1.1 in
-    let keyed = right ws (gs ++ (hs ++ es)) behind in
+    let keyed = right ws (gs ++ (hs ++ (os ++ es))) behind in
+    let grouped = right gs (hs ++ (os ++ es)) keyed in
     record {
-      some = some_member (IsItem limit) is items p;
-      items = list_writable (IsItem limit) writable.IsItem item_writable is items p (left is (word (codes "from") ∷ word (codes "batches") ∷ tail) l.1);
-      condition = clause_writable q (left ws (gs ++ (hs ++ es)) behind);
-      keys = keys_writable r (left gs (hs ++ es) keyed);
-      having = clause_writable h (left hs es (right gs (hs ++ es) keyed));
+      written = record {
+        some = some_member (IsItem limit) is items p;
+        items = list_writable (IsItem limit) writable.IsItem item_writable is items p (left is (word (codes "from") ∷ word (codes "batches") ∷ tail) l.1);
+        condition = clause_writable q (left ws (gs ++ (hs ++ (os ++ es))) behind);
+        keys = keys_writable r (left gs (hs ++ (os ++ es)) keyed);
+        having = clause_writable h (left hs (os ++ es) grouped);
+      };
+      terms = order_writable o (left os es (right hs (os ++ es) grouped));
     }

@@ -8,9 +8,9 @@ ghost use Rattle.packed_rows.specs.Columns.{printed};
 ghost use Rattle.having_filter.specs.Kept as kept;
 ghost use Rattle.having_filter.specs.Kept.{by_names};
 ghost use Rattle.query_checks.specs.Checks.{Checked, all_of, filters_pass, is_shallow, are_shallow};
-ghost use Rattle.query_checks.specs.Writable.{IsWritable};
+ghost use Rattle.query_checks.specs.Writable.{IsTerm, IsWritable, CanBeAsked};
 ghost use Rattle.query_checks.specs.Spelling.{spelling};
-ghost use Rattle.query_checks.specs.Forms.{Written};
+ghost use Rattle.query_checks.specs.Order.{Asked};
 ghost use Rattle.query_grammar.specs.Queries.{IsQuery};
 ghost use Rattle.query_grammar.specs.Reading.{Unexpected, Too_deep};
 ghost use Rattle.query_grammar.specs.Whole.{query_at};
@@ -20,21 +20,21 @@ ghost use Rattle.query_grammar.specs.Canonical.{canonical};
 /// What is read is in the grammar, all of it.
 #[tactic(auto, using(crate::proofs::Faults::is_query))]
 pub fn what_is_read_is_a_query()
-    ensures { (limit : ℕ) (ts : List Lexeme) (q : Written (List ℕ)) (rest : List Lexeme) →
+    ensures { (limit : ℕ) (ts : List Lexeme) (q : Asked) (rest : List Lexeme) →
         query_at limit ts ≡ Ok (q, rest) → IsQuery limit ts q }
 {}
 
 /// What is in the grammar is read.
 #[tactic(auto, using(crate::proofs::Whole_complete::query_reads))]
 pub fn what_is_a_query_is_read()
-    ensures { (limit : ℕ) (ts : List Lexeme) (q : Written (List ℕ)) → IsQuery limit ts q →
+    ensures { (limit : ℕ) (ts : List Lexeme) (q : Asked) → IsQuery limit ts q →
         query_at limit ts ≡ Ok (q, []) }
 {}
 
 /// Tokens say one query at most.
 #[tactic(auto, using(crate::proofs::Whole_complete::one_query))]
 pub fn one_query()
-    ensures { (limit : ℕ) (ts : List Lexeme) (q r : Written (List ℕ)) → IsQuery limit ts q →
+    ensures { (limit : ℕ) (ts : List Lexeme) (q r : Asked) → IsQuery limit ts q →
         IsQuery limit ts r → q ≡ r }
 {}
 
@@ -57,16 +57,17 @@ pub fn refused_tokens()
 /// character 0, and only a count of rows has no column.
 #[tactic(auto, using(crate::proofs::Writables::query_writable))]
 pub fn what_is_a_query_can_be_written()
-    ensures { (limit : ℕ) (ts : List Lexeme) (q : Written (List ℕ)) → IsQuery limit ts q →
-        AllByRecursion IsLexeme ts → IsWritable q }
+    ensures { (limit : ℕ) (ts : List Lexeme) (q : Asked) → IsQuery limit ts q →
+        AllByRecursion IsLexeme ts → CanBeAsked q }
 {}
 
-/// The canonical text of a query says the query, each column of GROUP BY once and no alias that is the item's own name,
-/// if its conditions are nested at most 64 deep.
+/// The canonical text of a query says the query, each column of GROUP BY once, no alias that is the item's own name, and of
+/// ORDER BY the terms that order, by their places, if its conditions are nested at most 64 deep and these places have 64 bits.
 #[tactic(auto, using(crate::proofs::PrintedQuery::text_says))]
 pub fn canonical_text_is_read()
-    ensures { (q : Written (List ℕ)) → IsWritable q →
-        all_of (filters_pass is_shallow) are_shallow q ≡ true →
+    ensures { (q : Asked) → IsWritable q.written →
+        all_of (filters_pass is_shallow) are_shallow q.written ≡ true →
+        AllByRecursion IsTerm (canonical q).terms →
         IsSpelled (spelling q) (canonical q) }
 {}
 
