@@ -12,7 +12,7 @@ use Rattle.grouping_model.specs.declared.limits.TheConstants.{LONGEST_QUERY}
 use Rattle.packed_rows.specs.Columns.{Column}
 use Rattle.query_checks.specs.declared.error.QueryError.{QueryError}
 use Rattle.query_checks.specs.declared.error.QueryError.TheVariants as checks
-use Rattle.query_checks.specs.Forms.{Written}
+use Rattle.query_checks.specs.Order.{Asked}
 use Rattle.query_checks.specs.Checks.{Checked, checked}
 use Rattle.query_grammar.specs.Queries.{most_open, IsQuery}
 use Rattle.query_grammar.specs.Reading.{Read, Unexpected, Too_deep}
@@ -45,11 +45,11 @@ place_of_left end ts left = unwrap_or (option_map (λ t. t.at) (slice_get ts (le
 -- a text is a query over these columns: it isn't too long, its tokens are in the grammar, and the query passes the checks
 pub record Accepts (columns : List Column) (text : List ℕ) (q : Checked) : Type 0 where
   pub tokens : List Placed
-  pub written : Written (List ℕ)
+  pub asked : Asked
   pub short : length text ≤ most_bytes
   pub read : tokens_in text ≡ Ok tokens
-  pub is_query : IsQuery most_open (lexemes_of tokens) written
-  pub passed : checked columns written ≡ Ok q
+  pub is_query : IsQuery most_open (lexemes_of tokens) asked
+  pub passed : checked columns asked ≡ Ok q
 
 -- a text is no query over these columns, in the order in which that is found
 pub data Refuses (columns : List Column) (text : List ℕ) : ParseError → Type 0 where
@@ -64,30 +64,30 @@ pub data Refuses (columns : List Column) (text : List ℕ) : ParseError → Type
   too_deep : (ts : List Placed) (left : ℕ) → length text ≤ most_bytes → tokens_in text ≡ Ok ts → IsTooDeep most_open (lexemes_of ts) left
       → Refuses columns text (Query checks.TooDeep)
   -- a check doesn't pass
-  unchecked : (ts : List Placed) (written : Written (List ℕ)) (error : QueryError) → length text ≤ most_bytes → tokens_in text ≡ Ok ts
-      → IsQuery most_open (lexemes_of ts) written → checked columns written ≡ Err error → Refuses columns text (Query error)
+  unchecked : (ts : List Placed) (asked : Asked) (error : QueryError) → length text ≤ most_bytes → tokens_in text ≡ Ok ts
+      → IsQuery most_open (lexemes_of ts) asked → checked columns asked ≡ Err error → Refuses columns text (Query error)
 
 -- the same by functions: the query that a text says, or the first fault
-abbrev pub query_read : ℕ → List Placed → Read (Written (List ℕ)) → Result (Written (List ℕ)) ParseError
+abbrev pub query_read : ℕ → List Placed → Read Asked → Result Asked ParseError
 query_read end ts (Ok x) = Ok x.0
 query_read end ts (Err (Unexpected left)) = Err (Syntax (place_of_left end ts left))
 query_read end ts (Err (Too_deep left)) = Err (Query checks.TooDeep)
 
-abbrev pub tokens_read : ℕ → Result (List Placed) Fault → Result (Written (List ℕ)) ParseError
+abbrev pub tokens_read : ℕ → Result (List Placed) Fault → Result Asked ParseError
 tokens_read end (Err fault) = Err (of_fault fault)
 tokens_read end (Ok ts) = query_read end ts (query_at most_open (lexemes_of ts))
 
-unfoldable pub written_in : List ℕ → Result (Written (List ℕ)) ParseError
-written_in text = if nat_lt most_bytes (length text) then Err (Query checks.TooMany) else tokens_read (length text) (tokens_in text)
+unfoldable pub asked_in : List ℕ → Result Asked ParseError
+asked_in text = if nat_lt most_bytes (length text) then Err (Query checks.TooMany) else tokens_read (length text) (tokens_in text)
 
 -- and the query that passed the checks
 abbrev pub query_checked : Result Checked QueryError → Result Checked ParseError
 query_checked (Ok q) = Ok q
 query_checked (Err error) = Err (Query error)
 
-abbrev pub written_checked : List Column → Result (Written (List ℕ)) ParseError → Result Checked ParseError
-written_checked columns (Ok written) = query_checked (checked columns written)
-written_checked columns (Err error) = Err error
+abbrev pub asked_checked : List Column → Result Asked ParseError → Result Checked ParseError
+asked_checked columns (Ok asked) = query_checked (checked columns asked)
+asked_checked columns (Err error) = Err error
 
 abbrev pub parsing : List Column → List ℕ → Result Checked ParseError
-parsing columns text = written_checked columns (written_in text)
+parsing columns text = asked_checked columns (asked_in text)

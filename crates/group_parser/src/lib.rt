@@ -7,6 +7,7 @@ mod error;
 mod fault;
 mod laws;
 mod operands;
+mod order;
 mod parsing;
 mod printing;
 mod query;

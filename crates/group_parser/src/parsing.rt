@@ -5,11 +5,12 @@ ghost use Rattle.std.specs.List.{AllByRecursion};
 ghost use Rattle.query_tokens.specs.Words.{all_placed};
 ghost use Rattle.query_tokens.specs.Spelling.{IsLexeme};
 ghost use Rattle.query_checks.specs.Forms.{written_of};
+ghost use Rattle.query_checks.specs.Order.{asked_of};
 ghost use Rattle.query_checks.specs.Writable.{IsWritable};
 ghost use Rattle.query_grammar.specs.Queries.{most_open};
 ghost use Rattle.query_grammar.specs.Whole.{query_at};
 ghost use Rattle.group_parser.specs.Views.{lexemes};
-ghost use Rattle.group_parser.specs.Parsing.{no_memory, Accepts, Refuses, place_of_left, query_read, tokens_read, written_in};
+ghost use Rattle.group_parser.specs.Parsing.{no_memory, Accepts, Refuses, place_of_left, query_read, tokens_read, asked_in};
 
 use crate::error::ParseError;
 use crate::fault::ReadError;
@@ -33,7 +34,7 @@ fn place_of_left(end: usize, tokens: &[Token], left: usize) -> usize
 /// The query that tokens of a text of this length say.
 fn read_tokens(alloc: Global, end: usize, tokens: &[Token]) -> Result<RawQuery, ParseError>
     ensures read { IfOk result (λ raw. query_read end (all_placed tokens.now)
-        (query_at most_open (lexemes tokens.now)) ≡ Ok (written_of raw)) }
+        (query_at most_open (lexemes tokens.now)) ≡ Ok (asked_of raw)) }
     ensures refused { IfErr result (λ e. e ≢ no_memory → query_read end (all_placed tokens.now)
         (query_at most_open (lexemes tokens.now)) ≡ Err e) }
 {
@@ -48,10 +49,10 @@ fn read_tokens(alloc: Global, end: usize, tokens: &[Token]) -> Result<RawQuery, 
 }
 
 /// The query that a text says, before it is checked.
-#[tactic(auto, unfolding(crate::specs::Parsing::written_in))]
+#[tactic(auto, unfolding(crate::specs::Parsing::asked_in))]
 fn read_text(alloc: Global, text: &str) -> Result<RawQuery, ParseError>
-    ensures read { IfOk result (λ raw. written_in text.now ≡ Ok (written_of raw)) }
-    ensures refused { IfErr result (λ e. e ≢ no_memory → written_in text.now ≡ Err e) }
+    ensures read { IfOk result (λ raw. asked_in text.now ≡ Ok (asked_of raw)) }
+    ensures refused { IfErr result (λ e. e ≢ no_memory → asked_in text.now ≡ Err e) }
 {
     if text.len() > LONGEST_QUERY {
         return Err(ParseError::Query(QueryError::TooMany));

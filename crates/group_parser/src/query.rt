@@ -1,7 +1,8 @@
 //! Reading a whole query.
 
 ghost use Rattle.std.specs.Prelude.{◌≡◌, ◌<◌, ◌≤◌, [], map, option_map, IfOk, length, string_bytes, codes};
-ghost use Rattle.query_checks.specs.Forms.{written_of, items_of};
+ghost use Rattle.query_checks.specs.Forms.{items_of};
+ghost use Rattle.query_checks.specs.Order.{asked_of};
 ghost use Rattle.query_grammar.specs.Queries.{most_open};
 ghost use Rattle.query_grammar.specs.Reading.{name_at};
 ghost use Rattle.query_grammar.specs.Whole.{item_value_at, alias_or_none, alias_at, item_at, list_at, clause_at, keys_at, end_at, query_at};
@@ -11,6 +12,7 @@ use crate::conditions::condition;
 use crate::cursor::{after_symbol, after_word, expect_word, name};
 use crate::fault::{Read, ReadError};
 use crate::operands::column_or_call;
+use crate::order::order;
 use grouping_model::limits::MOST_OPEN;
 use having_filter::{Cond, Item, RawQuery};
 use query_tokens::{Symbol, Token, Word, is_reserved};
@@ -167,7 +169,7 @@ fn end(tokens: &[Token]) -> Result<(), ReadError>
 /// and FILTERs stand in one another.
 #[tactic(auto, unfolding(query_grammar::specs::Whole::query_at))]
 pub(crate) fn query(alloc: Global, tokens: &[Token]) -> Result<RawQuery, ReadError>
-    ensures { Gives (λ q. (written_of q, [])) result (query_at most_open (lexemes tokens.now)) }
+    ensures { Gives (λ q. (asked_of q, [])) result (query_at most_open (lexemes tokens.now)) }
 {
     let rest = expect_word(tokens, "select")?;
     let (items, rest) = items(alloc, rest)?;
@@ -176,11 +178,13 @@ pub(crate) fn query(alloc: Global, tokens: &[Token]) -> Result<RawQuery, ReadErr
     let (condition, rest) = clause(alloc, "where", rest)?;
     let (keys, rest) = keys(alloc, rest)?;
     let (having, rest) = clause(alloc, "having", rest)?;
+    let (order, rest) = order(alloc, rest)?;
     end(rest)?;
     Ok(RawQuery {
         items,
         condition,
         keys,
         having,
+        order,
     })
 }

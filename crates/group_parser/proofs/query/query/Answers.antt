@@ -4,7 +4,7 @@ use Rattle.std.proofs.lemmas.Result.{err_from_is_err_and}
 use Rattle.query_grammar.specs.Queries.{most_open}
 use Rattle.query_grammar.specs.Terminals.{is_word}
 use Rattle.query_grammar.specs.Reading.{expect}
-use Rattle.query_grammar.specs.Whole.{item_at, list_at, clause_at, keys_at, end_at, query_at}
+use Rattle.query_grammar.specs.Whole.{item_at, list_at, clause_at, keys_at, order_at, end_at, query_at}
 use Rattle.group_parser.specs.Views.{lexemes}
 use Rattle.group_parser.proofs.Readers.{fails_on}
 use Rattle.group_parser.proofs.query.query.Goals as goal
@@ -58,13 +58,20 @@ returns-in_err-having c =
     let ts = lexemes c.args.tokens.now in
     rw (p.1, p.2) (fails_on c.in_err-having.field-0.0 (clause_at most_open (codes "having") (lexemes c.in_ok-keys.rest.now)) (query_at most_open ts) (λ f h. rw (c.in_ok-rest.ensures.read, c.in_ok-items.ensures.read, c.in_ok-rest-2.ensures.read, c.in_ok-rest-3.ensures.read, c.in_ok-condition.ensures, c.in_ok-keys.ensures, h) refl) c.in_err-having.ensures)
 
+pub returns-in_err-order : goal.returns-in_err-order
+unfolding query_at
+returns-in_err-order c =
+    let p = err_from_is_err_and c.from_residual-in_err-order.result c.from_residual-in_err-order.ensures.1 in
+    let ts = lexemes c.args.tokens.now in
+    rw (p.1, p.2) (fails_on c.in_err-order.field-0.0 (order_at (lexemes c.in_ok-having.rest.now)) (query_at most_open ts) (λ f h. rw (c.in_ok-rest.ensures.read, c.in_ok-items.ensures.read, c.in_ok-rest-2.ensures.read, c.in_ok-rest-3.ensures.read, c.in_ok-condition.ensures, c.in_ok-keys.ensures, c.in_ok-having.ensures, h) refl) c.in_err-order.ensures)
+
 pub returns-in_err-end : goal.returns-in_err-end
 unfolding query_at
 returns-in_err-end c =
     let p = err_from_is_err_and c.from_residual-in_err-end.result c.from_residual-in_err-end.ensures.1 in
     let ts = lexemes c.args.tokens.now in
-    rw (p.1, p.2) (fails_on c.in_err-end.field-0.0 (end_at (lexemes c.in_ok-having.rest.now)) (query_at most_open ts) (λ f h. rw (c.in_ok-rest.ensures.read, c.in_ok-items.ensures.read, c.in_ok-rest-2.ensures.read, c.in_ok-rest-3.ensures.read, c.in_ok-condition.ensures, c.in_ok-keys.ensures, c.in_ok-having.ensures, h) refl) c.in_err-end.ensures)
+    rw (p.1, p.2) (fails_on c.in_err-end.field-0.0 (end_at (lexemes c.in_ok-order.rest.now)) (query_at most_open ts) (λ f h. rw (c.in_ok-rest.ensures.read, c.in_ok-items.ensures.read, c.in_ok-rest-2.ensures.read, c.in_ok-rest-3.ensures.read, c.in_ok-condition.ensures, c.in_ok-keys.ensures, c.in_ok-having.ensures, c.in_ok-order.ensures, h) refl) c.in_err-end.ensures)
 
 pub returns : goal.returns
 unfolding query_at
-returns c = rw (c.in_ok-rest.ensures.read, c.in_ok-items.ensures.read, c.in_ok-rest-2.ensures.read, c.in_ok-rest-3.ensures.read, c.in_ok-condition.ensures, c.in_ok-keys.ensures, c.in_ok-having.ensures, c.in_ok-end.ensures) refl
+returns c = rw (c.in_ok-rest.ensures.read, c.in_ok-items.ensures.read, c.in_ok-rest-2.ensures.read, c.in_ok-rest-3.ensures.read, c.in_ok-condition.ensures, c.in_ok-keys.ensures, c.in_ok-having.ensures, c.in_ok-order.ensures, c.in_ok-end.ensures) refl

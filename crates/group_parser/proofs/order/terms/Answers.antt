@@ -1,0 +1,43 @@
+use Rattle.std.proofs.Common.{length, arith}
+use Rattle.query_checks.specs.Order.{term_of}
+use Rattle.std.proofs.lemmas.Result.{err_from_is_err_and}
+use Rattle.query_grammar.specs.Whole.{term_at, list_at}
+use Rattle.query_grammar.proofs.Whole_locality.{terms_stay}
+use Rattle.query_grammar.proofs.Chains.{list_fails}
+use Rattle.group_parser.specs.Views.{lexemes}
+use Rattle.group_parser.proofs.Readers.{fails_on, list_init, list_next, list_next_fails, list_ends}
+use Rattle.group_parser.proofs.order.terms.Goals as goal
+
+pub returns-in_err-first-clause-read : goal.returns-in_err-first-clause-read
+returns-in_err-first-clause-read c =
+    let p = err_from_is_err_and c.from_residual.result c.from_residual.ensures.1 in
+    let ts = lexemes c.args.tokens.now in
+    rw (p.1, p.2) (fails_on c.in_err-first.field-0.0 (term_at ts) (list_at term_at (length ts) ts) (list_fails term_at ts) c.in_err-first.ensures.read)
+
+pub loop-behind-init : goal.loop-behind-init
+loop-behind-init c = record {
+  lists = list_init term_at terms_stay term_of (lexemes c.args.tokens.now) (lexemes c.in_ok-first.rest.now) c.new-found.result.items c.push.new.self.items c.in_ok-first.first c.new-found.ensures.items c.in_ok-push.ensures.items c.in_ok-first.ensures.read;
+  shorter = c.in_ok-first.ensures.shorter;
+}
+
+pub returns-in_err-more-clause-read : goal.returns-in_err-more-clause-read
+returns-in_err-more-clause-read c =
+    let p = err_from_is_err_and c.from_residual-in_err-more.result c.from_residual-in_err-more.ensures.1 in
+    let ts = lexemes c.args.tokens.now in
+    let whole = list_at term_at (length ts) ts in
+    let behind = lexemes c.in-Some.behind.now in
+    rw (p.1, p.2) (fails_on c.in_err-more.field-0.0 (term_at behind) whole
+    (λ f h. list_next_fails term_at whole _ (lexemes c.loop-behind.rest.now) behind f c.loop-behind.invariant.lists c.in-Some.ensures.found h) c.in_err-more.ensures.read)
+
+pub loop-behind-preserved : goal.loop-behind-preserved
+loop-behind-preserved c =
+    let ts = lexemes c.args.tokens.now in
+    record {
+      lists = list_next term_at terms_stay term_of (list_at term_at (length ts) ts) c.loop-behind.found.items c.push-in-Some.new.self.items c.in_ok-more.more (lexemes c.loop-behind.rest.now) (lexemes c.in-Some.behind.now) (lexemes c.in_ok-more.next.now) c.loop-behind.invariant.lists c.in-Some.ensures.found c.in_ok-more.ensures.read c.in_ok-push-2.ensures.items;
+      shorter = omega (arith, c.loop-behind.invariant.shorter, c.in-Some.ensures.shorter, c.in_ok-more.ensures.shorter);
+    }
+
+pub returns-clause-read : goal.returns-clause-read
+returns-clause-read c =
+    let ts = lexemes c.args.tokens.now in
+    list_ends term_at (list_at term_at (length ts) ts) _ (lexemes c.loop-behind.rest.now) c.loop-behind.invariant.lists c.in_default.ensures.found

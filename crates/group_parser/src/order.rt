@@ -1,0 +1,128 @@
+//! Reading ORDER BY.
+
+ghost use Rattle.std.specs.Prelude.{◌≡◌, ◌<◌, ◌≤◌, map, length, IfOk, Ok};
+ghost use Rattle.query_checks.specs.Order.{target_of, term_of};
+ghost use Rattle.query_grammar.specs.Whole.{target_at, direction_at, first_or_last, nulls_at, term_at, list_at, order_at};
+ghost use Rattle.group_parser.specs.Views.{lexemes, Gives};
+
+use crate::cursor::{after_symbol, after_word, expect_word};
+use crate::fault::{Read, ReadError};
+use having_filter::{OrderBy, RawTerm};
+use query_tokens::{Symbol, Token, Word, is_reserved};
+use std::alloc::Global;
+
+/// The name or the place of an item.
+#[tactic(auto, unfolding(query_grammar::specs::Whole::target_at))]
+fn target<'a>(alloc: Global, tokens: &'a [Token]) -> Read<'a, OrderBy>
+    ensures read { Gives (λ x. (target_of x.0, lexemes x.1.now)) result
+        (target_at (lexemes tokens.now)) }
+    ensures shorter { IfOk result (λ x. length x.1.now < length tokens.now) }
+{
+    match tokens {
+        [first, rest @ ..] => match &first.word {
+            Word::Name(name) => {
+                if is_reserved(name.as_str()) {
+                    return Err(ReadError::Unexpected(tokens.len()));
+                }
+                Ok((OrderBy::Name(String::from_str(alloc, name.as_str())?), rest))
+            }
+            Word::Integer(place) => Ok((OrderBy::Place(*place), rest)),
+            _ => Err(ReadError::Unexpected(tokens.len())),
+        },
+        _ => Err(ReadError::Unexpected(tokens.len())),
+    }
+}
+
+/// Whether DESC stands here, or else ASC or nothing.
+#[tactic(auto, unfolding(query_grammar::specs::Whole::direction_at))]
+fn direction(tokens: &[Token]) -> (bool, &[Token])
+    ensures read { direction_at (lexemes tokens.now) ≡ Ok (result.0, lexemes result.1.now) }
+    ensures shorter { length result.1.now ≤ length tokens.now }
+{
+    if let Some(rest) = after_word(tokens, "desc") {
+        return (true, rest);
+    }
+    if let Some(rest) = after_word(tokens, "asc") {
+        return (false, rest);
+    }
+    (false, tokens)
+}
+
+/// What stands behind NULLS: whether they come first.
+#[tactic(auto, unfolding(query_grammar::specs::Whole::first_or_last))]
+fn first_or_last(tokens: &[Token]) -> Read<'_, Option<bool>>
+    ensures read { Gives (λ x. (x.0, lexemes x.1.now)) result (first_or_last (lexemes tokens.now)) }
+    ensures shorter { IfOk result (λ x. length x.1.now < length tokens.now) }
+{
+    if let Some(rest) = after_word(tokens, "first") {
+        return Ok((Some(true), rest));
+    }
+    if let Some(rest) = after_word(tokens, "last") {
+        return Ok((Some(false), rest));
+    }
+    Err(ReadError::Unexpected(tokens.len()))
+}
+
+/// Whether nulls come first, if that is said.
+#[tactic(auto, unfolding(query_grammar::specs::Whole::nulls_at))]
+fn nulls(tokens: &[Token]) -> Read<'_, Option<bool>>
+    ensures read { Gives (λ x. (x.0, lexemes x.1.now)) result (nulls_at (lexemes tokens.now)) }
+    ensures shorter { IfOk result (λ x. length x.1.now ≤ length tokens.now) }
+{
+    match after_word(tokens, "nulls") {
+        Some(behind) => first_or_last(behind),
+        None => Ok((None, tokens)),
+    }
+}
+
+/// A term of ORDER BY.
+#[tactic(auto, unfolding(query_grammar::specs::Whole::term_at))]
+fn term<'a>(alloc: Global, tokens: &'a [Token]) -> Read<'a, RawTerm>
+    ensures read { Gives (λ x. (term_of x.0, lexemes x.1.now)) result
+        (term_at (lexemes tokens.now)) }
+    ensures shorter { IfOk result (λ x. length x.1.now < length tokens.now) }
+{
+    let (target, rest) = target(alloc, tokens)?;
+    let (descending, rest) = direction(rest);
+    let (nulls_first, rest) = nulls(rest)?;
+    Ok((
+        RawTerm {
+            target,
+            descending,
+            nulls_first,
+        },
+        rest,
+    ))
+}
+
+/// Terms, one or more, between commas.
+fn terms<'a>(alloc: Global, tokens: &'a [Token]) -> Read<'a, Vec<RawTerm>>
+    ensures read { Gives (λ x. (map term_of x.0.items, lexemes x.1.now)) result
+        (list_at term_at (length (lexemes tokens.now)) (lexemes tokens.now)) }
+    ensures shorter { IfOk result (λ x. length x.1.now < length tokens.now) }
+{
+    let (first, mut rest) = term(alloc, tokens)?;
+    let mut found = Vec::new(alloc);
+    found.push(first)?;
+    while let Some(behind) = after_symbol(rest, Symbol::Comma) {
+        let (more, next) = term(alloc, behind)?;
+        found.push(more)?;
+        rest = next;
+    }
+    Ok((found, rest))
+}
+
+/// The terms of ORDER BY, or none.
+#[tactic(auto, unfolding(query_grammar::specs::Whole::order_at))]
+pub(crate) fn order<'a>(alloc: Global, tokens: &'a [Token]) -> Read<'a, Vec<RawTerm>>
+    ensures { Gives (λ x. (map term_of x.0.items, lexemes x.1.now)) result
+        (order_at (lexemes tokens.now)) }
+{
+    match after_word(tokens, "order") {
+        Some(behind) => {
+            let behind = expect_word(behind, "by")?;
+            terms(alloc, behind)
+        }
+        None => Ok((Vec::new(alloc), tokens)),
+    }
+}
