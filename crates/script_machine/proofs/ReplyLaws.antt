@@ -24,8 +24,9 @@ use Rattle.script_io.specs.Records.{Record}
 use Rattle.script_commands.specs.Commands as ask
 use Rattle.script_commands.specs.Commands.{Request}
 use Rattle.script_machine.specs.Machine as machine
-use Rattle.script_machine.specs.Machine.{State, Fed, IsBatch, ColumnsReply, QueryReply, FeedReply, Replies}
-use Rattle.script_machine.specs.Refusals.{batch_refusal, query_refusal}
+use Rattle.replies.specs.Batches.{Fed, IsBatch}
+use Rattle.script_machine.specs.Machine.{State, ColumnsReply, QueryReply, FeedReply, Replies}
+use Rattle.replies.specs.Refusals.{batch_refusal, query_refusal}
 
 -- ---- batches
 

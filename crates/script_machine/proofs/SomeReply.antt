@@ -24,10 +24,11 @@ use Rattle.script_io.specs.Records.{Record}
 use Rattle.script_commands.specs.Commands as ask
 use Rattle.script_commands.specs.Commands.{Request}
 use Rattle.script_machine.specs.Machine as machine
-use Rattle.script_machine.specs.Machine.{State, Fed, IsBatch, IsNoBatch, ColumnsReply, QueryReply, FeedReply, Replies, limit_reply, replica_reply, known_reply, answer_reply, merge_reply, save_reply, load_reply}
-use Rattle.script_machine.specs.Refusals.{batch_refusal, query_refusal}
-use Rattle.script_machine.specs.declared.refusal.Refusal.{Refusal}
-use Rattle.script_machine.specs.declared.refusal.Refusal.TheVariants as why
+use Rattle.replies.specs.Batches.{Fed, IsBatch, IsNoBatch}
+use Rattle.script_machine.specs.Machine.{State, ColumnsReply, QueryReply, FeedReply, Replies, limit_reply, replica_reply, known_reply, answer_reply, merge_reply, save_reply, load_reply}
+use Rattle.replies.specs.Refusals.{batch_refusal, query_refusal}
+use Rattle.replies.specs.declared.refusal.Refusal.{Refusal}
+use Rattle.replies.specs.declared.refusal.Refusal.TheVariants as why
 
 -- fields as many as kinds stand for a row, or there is a leftmost bad one
 row_or_bad : (ks : List Kind) (fields : List (List ℕ)) → length fields ≡ length ks → ((row : Row) → ¬ (ReadsRow ks fields row)) → ((column : ℕ) → ¬ (IsLeftmostBad ks fields column)) → ⊥

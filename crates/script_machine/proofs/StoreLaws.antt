@@ -1,5 +1,5 @@
 -- What the code keeps, before and after a command.
-use Rattle.std.specs.Prelude.{◌≡◌, ◌≢◌, ◌<◌, ◌≤◌, ◌⊎◌, ◌&&◌, nat_le, refl, ℕ, Bool, true, false, if◌then◌else◌, List, [], length, Option, Some, None, IfSome, IsTrue, option_map, unwrap_or, string_bytes, codes}
+use Rattle.std.specs.Prelude.{◌≡◌, ◌≢◌, ◌<◌, ◌≤◌, ◌⊎◌, ◌&&◌, nat_le, refl, ℕ, Bool, true, false, if◌then◌else◌, List, [], length, Option, Some, None, IfSome, IsTrue, option_map, unwrap_or, string_bytes, codes, Result, Ok, Err, IfOk, IfErr}
 use Rattle.std.proofs.Common.{◌∙◌, ap, sym, subst, inl, inr, arith}
 use Rattle.std.specs.declared.alloc.Global.{Global}
 use Rattle.std.specs.declared.vec.Vec.{Vec}
@@ -22,7 +22,7 @@ use Rattle.having_filter.specs.Kept.{by_names, headers}
 use Rattle.group_parser.specs.Parsing.{Accepts}
 use Rattle.grouping_model.specs.Replies.{known_list, reply_of}
 use Rattle.grouping_model.specs.declared.delivered.Delivered.{Delivered}
-use Rattle.replica_merge.specs.Replicas.{Held, told, Fits, SameQuery, MergeTells}
+use Rattle.replica_merge.specs.Replicas.{Parts, Held, told, Fits, SameQuery, MergeTells}
 use Rattle.summary_codec.specs.Reading.{IsSummary}
 use Rattle.summary_codec.specs.WorldFile.{world_file}
 use Rattle.script_io.specs.Records.{Record}
@@ -30,9 +30,11 @@ use Rattle.script_commands.specs.Commands as ask
 use Rattle.script_commands.specs.Commands.{Request}
 use Rattle.table_print.specs.Table.{table_text}
 use Rattle.script_machine.specs.Machine as machine
-use Rattle.script_machine.specs.Machine.{State, Fed, IsBatch, IsNoBatch, ColumnsReply, IsNoQuery, QueryReply, limit_reply, replica_reply, FeedReply, known_reply, answer_reply, merge_reply, save_reply, load_reply, Replies, IsReply, FeedAgrees, uses_tapes, with_replica}
-use Rattle.script_machine.specs.Text.{line, known_text, answer_text}
-use Rattle.script_machine.specs.Views.{Store, IsStore, IsFileOf, AreSaved, IsFitting, Represents, FitsWorld, Answers, Steps, Takes, IsOfBatch, IsOtherBatch, JoinRefused, Updates, Files, replica_at, saved_at, knowledge_of, said_text}
+use Rattle.replies.specs.Batches.{Fed, IsBatch, IsNoBatch, IsNoQuery, Takes, IsOfBatch, IsOtherBatch}
+use Rattle.script_machine.specs.Machine.{State, ColumnsReply, QueryReply, limit_reply, replica_reply, FeedReply, known_reply, answer_reply, merge_reply, save_reply, load_reply, Replies, IsReply, FeedAgrees, uses_tapes, with_replica}
+use Rattle.replies.specs.Joining.{JoinsHeld, IsApart}
+use Rattle.replies.specs.Text.{line, known_text, answer_text, said_text}
+use Rattle.script_machine.specs.Views.{Store, IsStore, IsFileOf, AreSaved, IsFitting, Represents, FitsWorld, Answers, Steps, JoinRefused, JoinsNames, Updates, Files, replica_at, saved_at, knowledge_of}
 use Rattle.spill_lists.specs.declared.error.SpillError.{SpillError}
 use Rattle.spill_lists.specs.declared.error.SpillError.TheVariants as spill
 use Rattle.hash_agg.specs.declared.means.TheConstants.{LEAST_LIMIT, GREATEST_LIMIT}
@@ -42,10 +44,10 @@ use Rattle.packed_rows.specs.declared.error.RowError.TheVariants as row
 use Rattle.origin_prefix.specs.declared.error.JoinError.TheVariants as join
 use Rattle.replica_merge.specs.declared.error.MergeError.{MergeError}
 use Rattle.replica_merge.specs.declared.error.MergeError.TheVariants as merge
-use Rattle.script_machine.specs.Refusals.{limit_out_of_range, columns_refusal, spill_refusal, merge_refusal}
-use Rattle.script_machine.specs.declared.refusal.Refusal.{Refusal}
-use Rattle.script_machine.specs.declared.refusal.Refusal.TheVariants as why
-use Rattle.script_machine.specs.declared.reply.Reply.TheVariants as says
+use Rattle.replies.specs.Refusals.{limit_out_of_range, columns_refusal, spill_refusal, merge_refusal}
+use Rattle.replies.specs.declared.refusal.Refusal.{Refusal}
+use Rattle.replies.specs.declared.refusal.Refusal.TheVariants as why
+use Rattle.replies.specs.declared.reply.Reply.TheVariants as says
 
 -- ---- names
 
@@ -268,16 +270,18 @@ one_query store into from own theirs is one two =
 pub same_texts : (a b : Checked) → a ≡ b → SameQuery a b
 same_texts a b same = (ap (λ (q : Checked). printed q.columns) same, ap (λ (q : Checked). spelling (by_names q)) same)
 
--- why two replicas are not joined, from the error
-pub join_refused : (store : Store) (into from : List ℕ) (own theirs : Held) (error : MergeError) (refusal : Refusal) → IsStore store → replica_at store into ≡ Some own → replica_at store from ≡ Some theirs
-    → MergeTells error own theirs → ((origin : ℕ) (told : Option ℕ) → error ≡ merge.Join origin (join.OriginDisagrees told) → (world : World) → Fits world own → ¬ (Fits world theirs)) → refusal ≡ merge_refusal error
-    → JoinRefused (replica_at store into) (replica_at store from) refusal
-join_refused store into from own theirs error refusal is one two tells never told =
+-- what two replicas hold together, or why they are not joined, by their names
+pub joins_names : {honest : Bool} (store : Store) (into from : List ℕ) (own theirs : Held) (result : Result Parts Refusal) → IsStore store → replica_at store into ≡ Some own → replica_at store from ≡ Some theirs
+    → IfOk result (JoinsHeld honest own theirs) → IfErr result (IsApart own theirs)
+    → IfErr result (λ refusal. (of : ℕ) (at : Option ℕ) → refusal ≡ why.OriginDisagrees of at → (world : World) → Fits world own → ¬ (Fits world theirs)) → JoinsNames honest store into from result
+joins_names store into from own theirs (Ok joined) is one two joins is_apart never = (own, theirs, one, two, joins)
+joins_names store into from own theirs (Err refusal) is one two joins is_apart never =
     subst (λ o. JoinRefused o (replica_at store from) refusal) (sym one)
     (subst (λ o. JoinRefused (Some own) o refusal) (sym two)
-    (subst (JoinRefused (Some own) (Some theirs)) (sym told) (go error tells never)))
+    (subst (JoinRefused (Some own) (Some theirs)) (sym is_apart.1)
+    (go is_apart.0 is_apart.2 (λ of at told. never of at (is_apart.1 ∙ told)))))
   where
-    go : (error : MergeError) → MergeTells error own theirs → ((origin : ℕ) (told : Option ℕ) → error ≡ merge.Join origin (join.OriginDisagrees told) → (world : World) → Fits world own → ¬ (Fits world theirs))
+    go : (error : MergeError) → MergeTells error own theirs → ((of : ℕ) (at : Option ℕ) → merge_refusal error ≡ why.OriginDisagrees of at → (world : World) → Fits world own → ¬ (Fits world theirs))
         → JoinRefused (Some own) (Some theirs) (merge_refusal error)
     go merge.DifferentQuery different never = absurd (different (same_texts own.query theirs.query (one_query store into from own theirs is one two)))
     go merge.NoMemory tells never = tt
