@@ -89,7 +89,9 @@ batch_or_not ks origin number told owned no_batch none = no batch.BadBatchHead (
 
 columns_answered : (told : Option (List Column)) (text : List ℕ) → ((reply : machine.Reply) → ¬ (ColumnsReply told text reply)) → ⊥
 columns_answered (Some columns) text none = none (machine.Refused why.BadCommand) refl
-columns_answered None text none = none (machine.Refused why.BadSchema) (refl, λ columns is. none (machine.Has_columns columns) is)
+columns_answered None text none =
+    none (machine.Refused why.BadSchema)
+    (inr (record { refusal = why.BadSchema; is_so = (refl, λ columns is. none (machine.Has_columns columns) (inl (record { what = columns; is_so = is; says = refl }))); says = refl }))
 
 query_answered : (columns : Option (List Column)) (query : Option Checked) (text : List ℕ) → ((reply : machine.Reply) → ¬ (QueryReply columns query text reply)) → ⊥
 query_answered None query text none = none (machine.Refused why.BadCommand) refl
@@ -97,16 +99,18 @@ query_answered (Some columns) (Some query) text none = none (machine.Refused why
 query_answered (Some columns) None text none = go (parsing columns text) refl
   where
     go : (result : Result Checked ParseError) → parsing columns text ≡ result → ⊥
-    go (Ok query) is = none (machine.Has_query query) (parses_accepts columns text query is)
-    go (Err error) is = none (machine.Refused (query_refusal error)) (record { error = error; fault = parses_refuses columns text error is; named = refl })
+    go (Ok query) is = none (machine.Has_query query) (inl (record { what = query; is_so = parses_accepts columns text query is; says = refl }))
+    go (Err error) is =
+        none (machine.Refused (query_refusal error))
+        (inr (record { refusal = query_refusal error; is_so = record { error = error; fault = parses_refuses columns text error is; named = refl }; says = refl }))
 
 feed_answered : (columns : List Column) (known : Option Knowledge) (name origin number : List ℕ) (told : ℕ) (owned : List Record)
     → ((reply : machine.Reply) → ¬ (FeedReply columns known name origin number told owned reply)) → ⊥
 feed_answered columns None name origin number told owned none = none (machine.Refused why.NoSuchName) refl
 feed_answered columns (Some known) name origin number told owned none =
     batch_or_not (kinds columns) origin number told owned
-    (λ fed is. none (machine.Took name fed (reply_of known (fed.origin, fed.number))) (refl, is, refl))
-    (λ w is. none (machine.Refused w) is)
+    (λ fed is. none (machine.Took name fed (reply_of known (fed.origin, fed.number))) (inl (record { what = fed; is_so = is; says = refl })))
+    (λ w is. none (machine.Refused w) (inr (record { refusal = w; is_so = is; says = refl })))
 
 pub some_reply : (old : State) (request : Request) (owned : List Record) → ((reply : machine.Reply) → ¬ (Replies old request owned reply)) → ⊥
 some_reply old (ask.Columns text) owned none = columns_answered old.columns text none

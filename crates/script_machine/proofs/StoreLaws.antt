@@ -410,7 +410,7 @@ module _ {honest : Bool} where
       go row.NoMemory bad = out_of_memory (ask.Columns text) owned store
       go row.BadSchema bad =
           refused (ask.Columns text) owned store why.BadSchema
-          (λ state r. subst (λ cs. ColumnsReply cs text (machine.Refused why.BadSchema)) (sym (r.columns ∙ none_there store.columns none)) (refl, bad))
+          (λ state r. subst (λ cs. ColumnsReply cs text (machine.Refused why.BadSchema)) (sym (r.columns ∙ none_there store.columns none)) (inr (record { refusal = why.BadSchema; is_so = (refl, bad); says = refl })))
       go (row.BadField column) bad = absurd bad
       go row.WrongWidth bad = absurd bad
       go row.BadPacked bad = absurd bad
@@ -421,8 +421,8 @@ module _ {honest : Bool} where
       record {
         steps = λ state r. record {
           said = machine.Has_columns columns;
-          may = inl (inl (inr (subst (λ cs. ColumnsReply cs text (machine.Has_columns columns)) (sym (r.columns ∙ none_there store.columns none)) is)));
-          strict = λ right world f agrees. inr (subst (λ cs. ColumnsReply cs text (machine.Has_columns columns)) (sym (r.columns ∙ none_there store.columns none)) is);
+          may = inl (inl (inr (subst (λ cs. ColumnsReply cs text (machine.Has_columns columns)) (sym (r.columns ∙ none_there store.columns none)) (inl (record { what = columns; is_so = is; says = refl })))));
+          strict = λ right world f agrees. inr (subst (λ cs. ColumnsReply cs text (machine.Has_columns columns)) (sym (r.columns ∙ none_there store.columns none)) (inl (record { what = columns; is_so = is; says = refl })));
           represents = record { columns = refl; query = r.query; replicas = r.replicas; saved = r.saved; limit = r.limit };
           refused = refl;
           faulted = refl;
@@ -450,7 +450,7 @@ module _ {honest : Bool} where
       → (refusal ≢ why.NoMemory → IsNoQuery columns text refusal) → Steps honest (ask.Query text) owned store (says.Refused refusal) store
   query_refused store text owned columns refusal told none bad =
       refused_or_memory (ask.Query text) owned store store refusal (same store)
-      (λ other state r. query_says state store text columns None (machine.Refused refusal) r told (none_there store.query none) (bad other))
+      (λ other state r. query_says state store text columns None (machine.Refused refusal) r told (none_there store.query none) (inr (record { refusal = refusal; is_so = bad other; says = refl })))
 
   pub query_told : (store : Store) (text : List ℕ) (owned : List Record) (columns : List Column) (query : Checked) (shown : String Global)
       → store.columns ≡ Some columns → is_some store.query ≡ false → Accepts columns text query → string_bytes shown ≡ spelling (by_names query)
@@ -459,8 +459,8 @@ module _ {honest : Bool} where
       record {
         steps = λ state r. record {
           said = machine.Has_query query;
-          may = inl (inl (inr (query_says state store text columns None (machine.Has_query query) r told (none_there store.query none) is)));
-          strict = λ right world f agrees. inr (query_says state store text columns None (machine.Has_query query) r told (none_there store.query none) is);
+          may = inl (inl (inr (query_says state store text columns None (machine.Has_query query) r told (none_there store.query none) (inl (record { what = query; is_so = is; says = refl })))));
+          strict = λ right world f agrees. inr (query_says state store text columns None (machine.Has_query query) r told (none_there store.query none) (inl (record { what = query; is_so = is; says = refl })));
           represents = record { columns = r.columns; query = refl; replicas = r.replicas; saved = r.saved; limit = r.limit };
           refused = refl;
           faulted = refl;
@@ -549,7 +549,7 @@ module _ {honest : Bool} where
           may = inl (inr (record {
             instead = machine.Took name other.fed (reply_of (told held.parts) (other.fed.origin, other.fed.number));
             would = subst (λ known. FeedReply (unwrap_or state.columns []) known name origin number told_rows owned (machine.Took name other.fed (reply_of (told held.parts) (other.fed.origin, other.fed.number)))) (sym (known_there state old name held r there))
-                (refl, subst (λ cs. IsBatch (kinds cs) origin number told_rows owned other.fed) (sym (feed_columns state old name held r is there)) other.is_batch, refl);
+                (inl (record { what = other.fed; is_so = subst (λ cs. IsBatch (kinds cs) origin number told_rows owned other.fed) (sym (feed_columns state old name held r is there)) other.is_batch; says = refl }));
             takes = refl;
             origin = of;
             told = at;
@@ -585,7 +585,7 @@ module _ {honest : Bool} where
       of_batch refusal bad =
           refused_for request owned old new refusal s
           (λ state r. inr (subst (λ known. FeedReply (unwrap_or state.columns []) known name origin number told_rows owned (machine.Refused refusal)) (sym (known_there state old name held r there))
-          (subst (λ cs. IsNoBatch (kinds cs) origin number told_rows owned refusal) (sym (feed_columns state old name held r is there)) bad)))
+          (inr (record { refusal = refusal; is_so = subst (λ cs. IsNoBatch (kinds cs) origin number told_rows owned refusal) (sym (feed_columns state old name held r is there)) bad; says = refl }))))
 
       go : (refusal : Refusal) → ((of : ℕ) (at : Option ℕ) → refusal ≢ why.OriginDisagrees of at) → (IsTrue honest → refusal ≢ why.TapeDamaged) → (IsOfBatch refusal → IsNoBatch (kinds held.query.columns) origin number told_rows owned refusal)
           → Steps honest request owned old (says.Refused refusal) new
@@ -603,9 +603,9 @@ module _ {honest : Bool} where
         steps = λ state r. record {
           said = machine.Took name takes.fed delivered;
           may = inl (inl (inr (subst (λ known. FeedReply (unwrap_or state.columns []) known name origin number told_rows owned (machine.Took name takes.fed delivered)) (sym (known_there state old name held r there))
-              (refl, subst (λ cs. IsBatch (kinds cs) origin number told_rows owned takes.fed) (sym (feed_columns state old name held r is there)) takes.is_batch, takes.reply))));
+              (inl (record { what = takes.fed; is_so = subst (λ cs. IsBatch (kinds cs) origin number told_rows owned takes.fed) (sym (feed_columns state old name held r is there)) takes.is_batch; says = ap (machine.Took name takes.fed) takes.reply })))));
           strict = λ right world f agrees. inr (subst (λ known. FeedReply (unwrap_or state.columns []) known name origin number told_rows owned (machine.Took name takes.fed delivered)) (sym (known_there state old name held r there))
-              (refl, subst (λ cs. IsBatch (kinds cs) origin number told_rows owned takes.fed) (sym (feed_columns state old name held r is there)) takes.is_batch, takes.reply));
+              (inl (record { what = takes.fed; is_so = subst (λ cs. IsBatch (kinds cs) origin number told_rows owned takes.fed) (sym (feed_columns state old name held r is there)) takes.is_batch; says = ap (machine.Took name takes.fed) takes.reply })));
           represents = record {
             columns = r.columns ∙ sym u.columns;
             query = r.query ∙ sym u.query;

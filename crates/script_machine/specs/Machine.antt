@@ -53,20 +53,32 @@ pub data Reply : Type 0 where
   -- nothing changed
   Refused : Refusal → Reply
 
+-- a reply accepts something of which this holds
+pub record IsAccepted {X : Type 0} (saying : X → Reply) (holds : X → Type 0) (reply : Reply) : Type 0 where
+  pub what : X
+  pub is_so : holds what
+  pub says : reply ≡ saying what
+
+-- a reply refuses something, for a refusal that applies
+pub record IsRefusedFor (applies : Refusal → Type 0) (reply : Reply) : Type 0 where
+  pub refusal : Refusal
+  pub is_so : applies refusal
+  pub says : reply ≡ Refused refusal
+
+-- why a text tells no columns
+abbrev pub IsNoSchema : List ℕ → Refusal → Type 0
+IsNoSchema text why = (why ≡ BadSchema) × ((columns : List Column) → ¬ (IsSchemaText text columns))
+
 -- the reply to a schema's text: columns are told once
 abbrev pub ColumnsReply : Option (List Column) → List ℕ → Reply → Type 0
 ColumnsReply (Some columns) text reply = reply ≡ Refused BadCommand
-ColumnsReply None text (Has_columns columns) = IsSchemaText text columns
-ColumnsReply None text (Refused why) = (why ≡ BadSchema) × ((columns : List Column) → ¬ (IsSchemaText text columns))
-ColumnsReply None text reply = ⊥
+ColumnsReply None text reply = IsAccepted Has_columns (IsSchemaText text) reply ⊎ IsRefusedFor (IsNoSchema text) reply
 
 -- the reply to a query's text: a query is told once, after the columns
 abbrev pub QueryReply : Option (List Column) → Option Checked → List ℕ → Reply → Type 0
 QueryReply None query text reply = reply ≡ Refused BadCommand
 QueryReply (Some columns) (Some query) text reply = reply ≡ Refused BadCommand
-QueryReply (Some columns) None text (Has_query query) = Accepts columns text query
-QueryReply (Some columns) None text (Refused why) = IsNoQuery columns text why
-QueryReply (Some columns) None text reply = ⊥
+QueryReply (Some columns) None text reply = IsAccepted Has_query (Accepts columns text) reply ⊎ IsRefusedFor (IsNoQuery columns text) reply
 
 -- the reply to a limit
 abbrev pub limit_reply : ℕ → Reply
@@ -81,10 +93,9 @@ replica_reply (Some query) None name = Created name
 -- the reply to a batch for the replica of a name
 abbrev pub FeedReply : List Column → Option Knowledge → (name origin number : List ℕ) → ℕ → List Record → Reply → Type 0
 FeedReply columns None name origin number told owned reply = reply ≡ Refused NoSuchName
-FeedReply columns (Some known) name origin number told owned (Took named fed delivered) =
-    (named ≡ name) × IsBatch (kinds columns) origin number told owned fed × (delivered ≡ reply_of known (fed.origin, fed.number))
-FeedReply columns (Some known) name origin number told owned (Refused why) = IsNoBatch (kinds columns) origin number told owned why
-FeedReply columns (Some known) name origin number told owned reply = ⊥
+FeedReply columns (Some known) name origin number told owned reply =
+    IsAccepted (λ (fed : Fed). Took name fed (reply_of known (fed.origin, fed.number))) (IsBatch (kinds columns) origin number told owned) reply
+    ⊎ IsRefusedFor (IsNoBatch (kinds columns) origin number told owned) reply
 
 -- the reply to a question about a replica
 abbrev pub known_reply : Option Knowledge → Reply
