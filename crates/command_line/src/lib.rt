@@ -1,5 +1,5 @@
 //! The commands of `agg_tool`: its command line, the files that it reads and writes, what it says on which stream, and its
-//! status. What the commands make of the files' bytes is proved below, in `file_commands` and `script_machine`.
+//! status. What the commands make of bytes, and what they say, is proved below, in `script_machine`, `file_commands` and `replies`.
 #![tactic(auto)]
 
 mod arguments;
@@ -20,7 +20,7 @@ use crate::streams::{Streams, Watched, say};
 use crate::tasks::{Session, Task};
 use clap::error::ErrorKind;
 use clap::{ArgMatches, Error};
-use exit_status::{Ending, status};
+use replies::{Ending, status};
 use std::alloc::Global;
 use std::cell::Cell;
 use std::convert::AsStr;

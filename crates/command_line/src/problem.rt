@@ -1,7 +1,7 @@
 //! Why a command stopped, or passed over a file.
 
 use fault_sentences::{Plain, Reason};
-use script_machine::{Refusal, RunError, name};
+use replies::{Refusal, RunError, name};
 use std::alloc::Global;
 use std::io::ErrorKind;
 use std::{fmt, io};

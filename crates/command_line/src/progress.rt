@@ -1,7 +1,7 @@
 //! How far a command is, and what a summary holds, as lines on standard error.
 
 use fault_sentences::Plain;
-use script_machine::{Reply, put_reply};
+use replies::{Reply, put_reply};
 use std::alloc::{AllocError, Global};
 use std::{fmt, str};
 

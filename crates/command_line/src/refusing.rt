@@ -6,7 +6,7 @@ use fault_sentences::{
 };
 use packed_rows::Schema;
 use replica_merge::{Replica, SummaryError};
-use script_machine::{Refusal, RunError};
+use replies::{Refusal, RunError};
 use std::alloc::{AllocError, Global};
 
 /// Why the text of a schema is refused.

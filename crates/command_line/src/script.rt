@@ -3,10 +3,12 @@
 use crate::problem::{Problem, is_closed, reason_of};
 use crate::spill::{open_disk, remove_disk};
 use crate::streams::{Streams, say};
-use exit_status::{Ending, refusal_ending, run_ending};
 use fault_sentences::{Reason, ScriptPlace, say_disagreement};
 use hash_agg::TapeDisk;
-use script_machine::{Observer, Refusal, Reply, RunError, name, put_reply, run_observed};
+use replies::{
+    Ending, Refusal, Reply, RunError, name, put_reply, refusal_ending, run_ending,
+};
+use script_machine::{Observer, run_observed};
 use std::alloc::{AllocError, Global};
 use std::cell::Cell;
 use std::io::{Read, Write};

@@ -3,7 +3,7 @@
 use crate::problem::Problem;
 use crate::streams::say;
 use fault_sentences::Plain;
-use script_machine::RunError;
+use replies::RunError;
 use spill_tapes::{FileDisk, MemDisk, SpillDisk};
 use std::alloc::Global;
 use std::io::Write;

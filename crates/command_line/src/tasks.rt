@@ -13,13 +13,11 @@ use crate::refusing::{
 use crate::spill::{open_disk, remove_disk};
 use crate::streams::Streams;
 use clap::ArgMatches;
-use exit_status::{Ending, refusal_ending};
 use fault_sentences::Quoted;
-use file_commands::Format;
 use hash_agg::{Fnv1a, Means, TapeDisk, Work};
 use replica_merge::{Delivered, Replica};
+use replies::{Ending, Format, Refusal, Reply, origin_lines, put_reply, refusal_ending, table};
 use script_io::{put_all, read_limit};
-use script_machine::{Refusal, Reply, put_reply};
 use spill_tapes::{MemDisk, SpillDisk};
 use std::alloc::{AllocError, Global};
 use std::io::Write;
@@ -380,7 +378,7 @@ impl<'c, R: Files + AllocGlobal, W: Write, E: Write> Session<'c, R, W, E> {
 
     /// Lists what a replica knows.
     fn list<'p>(&mut self, replica: &Replica, path: &'p str) -> Result<(), Problem<'p>> {
-        match file_commands::origin_list(self.rt.alloc(), replica) {
+        match origin_lines(self.rt.alloc(), replica) {
             Ok(lines) => self.print(&lines),
             Err(_) => Err(Problem::refused(path, Refusal::NoMemory)),
         }
@@ -402,7 +400,7 @@ impl<'c, R: Files + AllocGlobal, W: Write, E: Write> Session<'c, R, W, E> {
         means: &Means<Fnv1a>,
     ) -> Result<(), Problem<'p>> {
         let format = format_named(value(matches, FORMAT));
-        match file_commands::table(
+        match table(
             self.rt.alloc(),
             replica,
             format,
@@ -410,7 +408,7 @@ impl<'c, R: Files + AllocGlobal, W: Write, E: Write> Session<'c, R, W, E> {
             &mut self.disk,
             &mut self.work,
         ) {
-            Ok(table) => self.print(&table),
+            Ok((_, table)) => self.print(&table),
             Err(error) => Err(Problem::refused(value(matches, IN), Refusal::from(error))),
         }
     }

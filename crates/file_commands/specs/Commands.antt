@@ -1,14 +1,11 @@
 -- What the program's commands make of files. A batch file means what a feed of its batch means in a script, and a summary file what
 -- the replica means that it is of. All of this is our own.
 use Rattle.std.specs.Prelude.{Bool, IsTrue, ℕ, ◌≡◌, ◌<◌, ◌⊎◌, List, [], length, Option, Some, None, IsSomeAnd}
-use Rattle.grouping_model.specs.Aggregates.{Outcome}
 use Rattle.grouping_model.specs.Datum.{Kind, Row}
 use Rattle.grouping_model.specs.World.{World, IsWorld, union}
 use Rattle.grouping_model.specs.declared.delivered.Delivered.{Delivered}
 use Rattle.grouping_model.specs.declared.limits.TheConstants.{LONGEST_INPUT}
 use Rattle.packed_rows.specs.Columns.{Column, kinds, IsSchemaText}
-use Rattle.having_filter.specs.Kept.{headers}
-use Rattle.query_checks.specs.Checks.{Checked}
 use Rattle.having_filter.specs.Meaning.{meaning}
 use Rattle.aggregation_cost.specs.Space.{Setting}
 use Rattle.hash_agg.specs.Counting.{AreCounted}
@@ -20,19 +17,13 @@ use Rattle.batch_reader.specs.Head.{ReadsOrigin, ReadsBatchNumber}
 use Rattle.batch_reader.specs.Rows.{ReadsRows, packings}
 use Rattle.batch_reader.specs.declared.error.BatchError.TheVariants as batch
 use Rattle.summary_codec.specs.Reading.{IsSummary, HasFault}
-use Rattle.replica_merge.specs.Replicas.{Held, part_of, told, Fits, DisagreeSomewhere, MergeTells}
+use Rattle.replica_merge.specs.Replicas.{Held, part_of, told, Fits, DisagreeSomewhere}
 use Rattle.replica_merge.specs.Counting.{MergeIsCounted}
-use Rattle.replica_merge.specs.declared.error.MergeError.{MergeError}
-use Rattle.script_machine.specs.Refusals.{merge_refusal}
-use Rattle.table_print.specs.Aligned.{aligned_text, sides}
-use Rattle.table_print.specs.Table.{table_text}
-use Rattle.script_machine.specs.Machine.{IsNoQuery, IsNoBatch}
-use Rattle.script_machine.specs.Views.{Takes, IsOtherBatch}
-use Rattle.script_machine.specs.declared.error.RunError.TheVariants.{InputTooLong}
-use Rattle.script_machine.specs.declared.refusal.Refusal.{Refusal}
-use Rattle.script_machine.specs.declared.refusal.Refusal.TheVariants.{NoMemory, BadSchema, Batch, Summary, Run}
-use Rattle.file_commands.specs.declared.asking.Format.{Format}
-use Rattle.file_commands.specs.declared.asking.Format.TheVariants.{Csv, Aligned}
+use Rattle.replies.specs.Batches.{IsNoQuery, IsNoBatch, Takes, IsOtherBatch}
+use Rattle.replies.specs.Joining.{IsApart}
+use Rattle.replies.specs.declared.error.RunError.TheVariants.{InputTooLong}
+use Rattle.replies.specs.declared.refusal.Refusal.{Refusal}
+use Rattle.replies.specs.declared.refusal.Refusal.TheVariants.{NoMemory, BadSchema, Batch, Summary, Run}
 
 -- a replica that knows nothing, of a query over columns, as two texts say them
 pub record IsNew (columns query : List ℕ) (held : Held) : Type 0 where
@@ -106,10 +97,6 @@ abbrev pub FileMergeIsCounted : Setting → List ℕ → Held → Work → ℕ �
 FileMergeIsCounted setting file held old writes new written =
     (other : Held) × IsSummary file other.query other.parts × MergeIsCounted (meaning held.query) setting held.parts other.parts old writes new written
 
--- why a replica is not merged into another
-abbrev pub IsApart : (old other : Held) → Refusal → Type 0
-IsApart old other why = (error : MergeError) × (why ≡ merge_refusal error) × MergeTells error old other
-
 -- why a file is not merged into a replica: it is no summary file, or its replica is not merged
 abbrev pub IsNotMerged : List ℕ → Held → Refusal → Type 0
 IsNotMerged file old why = IsNoSummary file why ⊎ ((other : Held) × IsSummary file other.query other.parts × IsApart old other why)
@@ -119,8 +106,3 @@ abbrev pub IsTooLong : Held → Refusal → Type 0
 IsTooLong held NoMemory = Unit {0}
 IsTooLong held (Run InputTooLong) = (file : List ℕ) × IsSummary file held.query held.parts × (LONGEST_INPUT < length file)
 IsTooLong held why = ⊥
-
--- the text of an answer in a format
-abbrev pub text_of : Format → Checked → List (List Outcome) → List ℕ
-text_of Csv query rows = table_text (headers query) rows
-text_of Aligned query rows = aligned_text (sides query) (headers query) rows

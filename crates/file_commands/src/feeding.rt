@@ -5,8 +5,9 @@ ghost use Rattle.packed_rows.specs.Columns.{kinds};
 ghost use Rattle.batch_reader.specs.File.{read_file};
 ghost use Rattle.having_filter.specs.Meaning.{meaning};
 ghost use Rattle.hash_agg.specs.Counting.{setting_by};
-ghost use Rattle.script_machine.specs.declared.refusal.Refusal.TheVariants.{OriginDisagrees, TapeDamaged};
-ghost use Rattle.script_machine.specs.Views.{IsOfBatch, refusal_faults};
+ghost use Rattle.replies.specs.declared.refusal.Refusal.TheVariants.{OriginDisagrees, TapeDamaged};
+ghost use Rattle.replies.specs.Batches.{IsOfBatch};
+ghost use Rattle.replies.specs.Refusals.{refusal_faults};
 ghost use Rattle.spill_tapes.specs.Calls.{failed};
 ghost use Rattle.spill_tapes.specs.Disk.{Leaves};
 ghost use Rattle.file_commands.specs.Commands.{TakesFile, FeedIsCounted, FileAgrees, FileDisagrees, IsNoBatchFile, IsOtherFile};
@@ -14,7 +15,7 @@ ghost use Rattle.file_commands.specs.Commands.{TakesFile, FeedIsCounted, FileAgr
 use batch_reader::read_batch;
 use hash_agg::{KeyHash, Means, TapeDisk, Work};
 use replica_merge::{Delivered, Replica};
-use script_machine::Refusal;
+use replies::{Refusal, take_batch};
 use std::alloc::Global;
 
 /// Feeds the batch of a batch file to a replica, as `feed` does in a script, by `means` and over a disk of tapes. A batch that is
@@ -22,7 +23,7 @@ use std::alloc::Global;
 ///
 /// # Errors
 ///
-/// Those of [`read_batch`], and then those of [`Replica::deliver`].
+/// Those of [`read_batch`], and then those of [`take_batch`].
 pub fn feed<H: KeyHash + Copy, D: TapeDisk>(
     alloc: Global,
     replica: &mut Replica,
@@ -50,8 +51,5 @@ pub fn feed<H: KeyHash + Copy, D: TapeDisk>(
 {
     let schema = replica.query().schema();
     let batch = read_batch(alloc, schema, file)?;
-    match replica.deliver(batch, means, disk, work) {
-        Ok(delivered) => Ok(delivered),
-        Err(refused) => Err(Refusal::of_origin(refused.batch.origin, refused.why)),
-    }
+    take_batch(replica, batch, means, disk, work)
 }

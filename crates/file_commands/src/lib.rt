@@ -1,13 +1,11 @@
-//! What the program's commands make of files: replicas out of summary files and batch files, and summary files, lists and
-//! tables out of replicas. All of it is over bytes; who reads and writes the files is the program.
+//! What the program's commands make of files: replicas out of summary files and batch files, and summary files out of replicas. All of
+//! it is over bytes; who reads and writes the files is the program.
 #![tactic(auto)]
 
-mod asking;
 mod feeding;
 mod making;
 mod merging;
 
-pub use asking::{Format, origin_list, table};
 pub use feeding::feed;
 pub use making::{create, load, save};
 pub use merging::merge;

@@ -6,14 +6,14 @@ ghost use Rattle.grouping_model.specs.declared.limits.TheConstants.{LONGEST_INPU
 ghost use Rattle.summary_codec.specs.Reading.{IsSummary};
 ghost use Rattle.summary_codec.specs.WorldFile.{world_file};
 ghost use Rattle.replica_merge.specs.Replicas.{Held, told, Fits};
-ghost use Rattle.script_machine.specs.declared.refusal.Refusal.TheVariants.{NoMemory};
+ghost use Rattle.replies.specs.declared.refusal.Refusal.TheVariants.{NoMemory};
 ghost use Rattle.file_commands.specs.Commands.{IsNew, IsNotNew, IsNoSummary, IsTooLong};
 
 use group_parser::parse;
 use grouping_model::limits::LONGEST_INPUT;
 use packed_rows::Schema;
 use replica_merge::Replica;
-use script_machine::{Refusal, RunError};
+use replies::{Refusal, RunError};
 use std::alloc::Global;
 
 /// A replica that knows nothing, of the query that one text says over the columns that another tells, as `columns` and

@@ -7,16 +7,17 @@ ghost use Rattle.hash_agg.specs.Counting.{setting_by};
 ghost use Rattle.replica_merge.specs.Replicas.{Held, Fits};
 ghost use Rattle.replica_merge.specs.Counting.{MergeIsCounted};
 ghost use Rattle.summary_codec.specs.Reading.{IsSummary};
-ghost use Rattle.script_machine.specs.declared.refusal.Refusal.TheVariants.{OriginDisagrees, TapeDamaged};
+ghost use Rattle.replies.specs.declared.refusal.Refusal.TheVariants.{OriginDisagrees, TapeDamaged};
 ghost use Rattle.spill_tapes.specs.Calls.{failed};
 ghost use Rattle.spill_tapes.specs.Disk.{Leaves};
-ghost use Rattle.script_machine.specs.Views.{refusal_faults};
-ghost use Rattle.file_commands.specs.Commands.{MergesHeld, IsApart, MergesFile, FileMergeIsCounted, IsNotMerged};
+ghost use Rattle.replies.specs.Refusals.{refusal_faults};
+ghost use Rattle.replies.specs.Joining.{IsApart};
+ghost use Rattle.file_commands.specs.Commands.{MergesHeld, MergesFile, FileMergeIsCounted, IsNotMerged};
 
 use crate::making::load;
 use hash_agg::{KeyHash, Means, TapeDisk, Work};
 use replica_merge::Replica;
-use script_machine::Refusal;
+use replies::{Refusal, join};
 use std::alloc::Global;
 
 /// Merges a replica into another.
@@ -39,10 +40,9 @@ fn take_in<H: KeyHash + Copy, D: TapeDisk>(
     ensures undamaged { IfErr result (λ why. IsTrue (D.honest disk.old) → why ≢ TapeDamaged) }
     ensures disk { Leaves D.TapeDisk (failed refusal_faults result) disk.old disk.new }
 {
-    match replica.merge(other, means, disk, work) {
-        Ok(()) => Ok(()),
-        Err(error) => Err(Refusal::from(error)),
-    }
+    let joined = join(replica, other, means, disk, work)?;
+    replica.commit(joined);
+    Ok(())
 }
 
 /// Merges the replica that a summary file is of into another, as `merge` does in a script: afterwards this knows what either
@@ -51,7 +51,7 @@ fn take_in<H: KeyHash + Copy, D: TapeDisk>(
 ///
 /// # Errors
 ///
-/// Those of [`load`], and then those of [`Replica::merge`].
+/// Those of [`load`], and then those of [`join`].
 pub fn merge<H: KeyHash + Copy, D: TapeDisk>(
     alloc: Global,
     replica: &mut Replica,

@@ -14,7 +14,8 @@ use Rattle.script_io.specs.Records.{Record}
 use Rattle.script_commands.specs.Commands as ask
 use Rattle.script_commands.specs.Commands.{Command, Request, request_of}
 use Rattle.script_machine.specs.Machine as machine
-use Rattle.script_machine.specs.Machine.{State, Reply, Fed, IsBatch, AgreesWith, FeedAgrees, Agrees, after}
+use Rattle.replies.specs.Batches.{Fed, IsBatch}
+use Rattle.script_machine.specs.Machine.{State, Reply, AgreesWith, FeedAgrees, Agrees, after}
 use Rattle.script_machine.specs.Agreement.{world_of, OneBatchEach, IsOfColumns, ColumnsOf, FeedsAmong, AreAmong}
 
 some_is : {X : Type 0} (x y : X) → ◌≡◌ {A = Option X} (Some x) (Some y) → x ≡ y

@@ -1,111 +1,55 @@
--- What a feed stands for.
-use Rattle.std.specs.Prelude.{◌≡◌, ◌≤◌, ℕ, suc, refl, false, if◌then◌else◌, List, [], ◌∷◌, length, Option}
-use Rattle.std.proofs.Common.{◌∙◌, ap, sym, arith}
-use Rattle.std.proofs.lemmas.List.{length-map}
-use Rattle.grouping_model.specs.Datum.{Kind, Row}
+-- The batch that is read of the records of a feed, and what a replica made of it took.
+use Rattle.std.specs.Prelude.{◌≡◌, ◌≤◌, ℕ, List, length, Result, Ok, IfOk}
+use Rattle.std.proofs.Common.{subst}
+use Rattle.std.proofs.lemmas.Result.{IfOk-at_ok}
+use Rattle.grouping_model.specs.Datum.{Row}
 use Rattle.grouping_model.specs.declared.limits.TheConstants.{MOST_ROWS}
-use Rattle.packed_rows.specs.Columns.{kinds}
-use Rattle.packed_rows.specs.Packing.{packing}
+use Rattle.packed_rows.specs.Columns.{Column, kinds}
 use Rattle.batch_reader.specs.Head.{ReadsOrigin, ReadsBatchNumber}
 use Rattle.batch_reader.specs.Rows.{ReadsRows, packings}
-use Rattle.origin_prefix.specs.declared.error.JoinError.{JoinError}
-use Rattle.origin_prefix.specs.declared.error.JoinError.TheVariants as join
-use Rattle.origin_prefix.specs.Errors.{join_faults}
-use Rattle.spill_lists.specs.Errors.{spill_faults}
-use Rattle.spill_lists.specs.declared.error.SpillError.{SpillError}
-use Rattle.replica_merge.specs.Errors.{merge_faults}
-use Rattle.spill_lists.specs.declared.error.SpillError.TheVariants as spill
-use Rattle.replica_merge.specs.declared.error.MergeError.{MergeError}
-use Rattle.replica_merge.specs.declared.error.MergeError.TheVariants as merge
-use Rattle.packed_rows.specs.declared.error.RowError.{RowError}
-use Rattle.packed_rows.specs.declared.error.RowError.TheVariants as row
-use Rattle.script_machine.specs.Refusals.{columns_refusal, spill_refusal, join_refusal, merge_refusal}
-use Rattle.script_machine.specs.declared.refusal.Refusal.TheVariants.{OriginDisagrees, TapeDamaged}
-use Rattle.script_machine.specs.Machine.{IsBatch}
-use Rattle.script_machine.specs.Views.{IsOfBatch, is_tape_fault, faults_in, refusal_faults}
-use Rattle.script_machine.specs.declared.reply.Reply.{Reply}
-use Rattle.script_machine.specs.declared.reply.Reply.TheVariants as says
+use Rattle.batch_reader.specs.declared.batch.Batch.{Batch}
+use Rattle.batch_reader.specs.declared.error.BatchError.{BatchError}
+use Rattle.having_filter.specs.Meaning.{meaning}
+use Rattle.hash_agg.specs.Counting.{AreCounted}
+use Rattle.hash_agg.specs.declared.work.Work.{Work}
+use Rattle.origin_prefix.specs.Parts.{aggregations_on}
+use Rattle.replica_merge.specs.Replicas.{Held, part_of}
+use Rattle.script_io.specs.Records.{Record}
+use Rattle.replies.specs.Batches.{IsRead}
+use Rattle.replies.specs.BatchLaws.{fed_of, read_is_fed}
+use Rattle.script_machine.specs.Limits.{setting_at, no_work, FeedWorked}
 
--- as many records as rows
-reads_length : (kinds : List Kind) (records : List (List (List ℕ))) (rows : List Row) → ReadsRows kinds records rows → length records ≡ length rows
-reads_length kinds [] [] reads = refl
-reads_length kinds [] (row ∷ rows) reads = absurd reads
-reads_length kinds (fields ∷ records) [] reads = absurd reads
-reads_length kinds (fields ∷ records) (row ∷ rows) reads = ap suc (reads_length kinds records rows reads.1)
-
--- the batch that was built of records is the one that was fed
-pub built_batch : (ks : List Kind) (origin number : List ℕ) (told : ℕ) (records : List (List (List ℕ))) (o n : ℕ) (packed : List (List ℕ)) (rows : List Row)
-    → ReadsOrigin origin o → ReadsBatchNumber number n → length packed ≤ MOST_ROWS → length packed ≡ told → ReadsRows ks records rows → packed ≡ packings rows
-    → IsBatch ks origin number told records (record { origin = o; number = n; rows = rows })
-built_batch ks origin number told records o n packed rows reads_o reads_n few counted reads is =
-    let many : length packed ≡ length rows = ap length is ∙ length-map rows packing in
+-- what reading records tells, by columns that are a replica's, is that the batch was read of them
+pub read_of_feed : (asked columns : List Column) (origin number : List ℕ) (told : ℕ) (owned : List Record) (result : Result Batch BatchError) (read : Batch) → asked ≡ columns → result ≡ Ok read
+    → IfOk result (λ r. ReadsOrigin origin r.origin) → IfOk result (λ r. ReadsBatchNumber number r.number) → IfOk result (λ r. length r.rows ≤ MOST_ROWS) → IfOk result (λ r. length r.rows ≡ told)
+    → IfOk result (λ r. (rows : List Row) × ReadsRows (kinds asked) owned rows × (r.rows ≡ packings rows)) → IsRead (kinds columns) origin number told owned read
+read_of_feed asked columns origin number told owned result read same is reads_origin reads_number few whole reads_rows =
+    let rows = IfOk-at_ok (λ (r : Batch). (rows : List Row) × ReadsRows (kinds asked) owned rows × (r.rows ≡ packings rows)) is reads_rows in
     record {
-      origin_is = reads_o;
-      number_is = reads_n;
-      few = omega (arith, few, counted);
-      whole = reads_length ks records rows reads ∙ sym many ∙ counted;
-      rows_are = reads;
+      origin_is = IfOk-at_ok (λ (r : Batch). ReadsOrigin origin r.origin) is reads_origin;
+      number_is = IfOk-at_ok (λ (r : Batch). ReadsBatchNumber number r.number) is reads_number;
+      few = IfOk-at_ok (λ (r : Batch). length r.rows ≤ MOST_ROWS) is few;
+      whole = IfOk-at_ok (λ (r : Batch). length r.rows ≡ told) is whole;
+      rows = rows.0;
+      rows_are = subst (λ columns. ReadsRows (kinds columns) owned rows.0) same rows.1;
+      packed = rows.2;
     }
 
--- why a batch was not taken, from the refusal
-pub other_why : (origin : ℕ) (why : JoinError) (of : ℕ) (at : Option ℕ) → join_refusal origin why ≡ OriginDisagrees of at → why ≡ join.OriginDisagrees at
-other_why origin (join.OriginDisagrees number) of at e = cc
-other_why origin (join.Spill spill.NoMemory) of at e = cc
-other_why origin (join.Spill spill.TapeFault) of at e = cc
-other_why origin (join.Spill spill.TapeDamaged) of at e = cc
-
--- and of which origin
-pub told_of : (origin : ℕ) (why : JoinError) (of : ℕ) (at : Option ℕ) → join_refusal origin why ≡ OriginDisagrees of at → of ≡ origin
-told_of origin (join.OriginDisagrees number) of at e = cc
-told_of origin (join.Spill spill.NoMemory) of at e = cc
-told_of origin (join.Spill spill.TapeFault) of at e = cc
-told_of origin (join.Spill spill.TapeDamaged) of at e = cc
-
--- a refusal tells a failure of the disk where the error does
-pub spill_tells : (error : SpillError) → spill_faults error ≡ refusal_faults (spill_refusal error)
-spill_tells spill.NoMemory = refl
-spill_tells spill.TapeFault = refl
-spill_tells spill.TapeDamaged = refl
-
-pub join_tells : (origin : ℕ) (why : JoinError) → join_faults why ≡ refusal_faults (join_refusal origin why)
-join_tells origin (join.OriginDisagrees number) = refl
-join_tells origin (join.Spill error) = spill_tells error
-
-pub merge_tells : (error : MergeError) → merge_faults error ≡ refusal_faults (merge_refusal error)
-merge_tells merge.DifferentQuery = refl
-merge_tells merge.NoMemory = refl
-merge_tells (merge.Join origin why) = join_tells origin why
-
--- and damage
-pub spill_damage : (error : SpillError) → spill_refusal error ≡ TapeDamaged → error ≡ spill.TapeDamaged
-spill_damage spill.NoMemory e = cc
-spill_damage spill.TapeFault e = cc
-spill_damage spill.TapeDamaged e = refl
-
-pub join_damage : (origin : ℕ) (why : JoinError) → join_refusal origin why ≡ TapeDamaged → why ≡ join.Spill spill.TapeDamaged
-join_damage origin (join.OriginDisagrees number) e = cc
-join_damage origin (join.Spill error) e = ap join.Spill (spill_damage error e)
-
-pub merge_damage : (error : MergeError) → merge_refusal error ≡ TapeDamaged → (origin : ℕ) × (error ≡ merge.Join origin (join.Spill spill.TapeDamaged))
-merge_damage merge.DifferentQuery e = cc
-merge_damage merge.NoMemory e = cc
-merge_damage (merge.Join origin why) e = (origin, ap (merge.Join origin) (join_damage origin why e))
-
--- one that is of the batch isn't one of these
-pub not_of_batch : (origin : ℕ) (why : JoinError) → IsOfBatch (join_refusal origin why) → ⊥
-not_of_batch origin (join.OriginDisagrees number) of = of
-not_of_batch origin (join.Spill spill.NoMemory) of = of
-not_of_batch origin (join.Spill spill.TapeFault) of = of
-not_of_batch origin (join.Spill spill.TapeDamaged) of = of
-
--- a reply that tells no failure of the disk
-pub no_fault_in : (reply : Reply) → is_tape_fault reply ≡ false → faults_in reply ≡ 0
-no_fault_in reply none = ap (λ b. if b then 1 else 0) none
-
--- columns that are refused tell none
-pub row_tells : (error : RowError) → is_tape_fault (says.Refused (columns_refusal error)) ≡ false
-row_tells row.NoMemory = refl
-row_tells row.BadSchema = refl
-row_tells (row.BadField column) = refl
-row_tells row.WrongWidth = refl
-row_tells row.BadPacked = refl
+-- what taking it took, begun with no work, is what its feed takes
+pub feed_worked : (held : Held) (limit : ℕ) (origin number : List ℕ) (told : ℕ) (owned : List Record) (read : Batch) (begun done : Work) (writes written : ℕ)
+    → IsRead (kinds held.query.columns) origin number told owned read → begun ≡ no_work
+    → AreCounted (meaning held.query) (setting_at limit (meaning held.query)) (aggregations_on (part_of held.parts read.origin) read.number read.rows) begun writes done written
+    → FeedWorked held limit origin number told owned writes written
+feed_worked held limit origin number told owned read begun done writes written is none counted =
+    let query = meaning held.query in
+    let setting = setting_at limit query in
+    let part = part_of held.parts read.origin in
+    record {
+      fed = fed_of read is.rows;
+      is_batch = read_is_fed (kinds held.query.columns) origin number told owned read is;
+      worked = (
+        done,
+        subst (λ packed. AreCounted query setting (aggregations_on part read.number packed) no_work writes done written) is.packed
+            (subst (λ old. AreCounted query setting (aggregations_on part read.number read.rows) old writes done written) none counted),
+      );
+    }

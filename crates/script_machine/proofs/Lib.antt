@@ -1,10 +1,7 @@
-pub mod OutputLaws
 pub mod FeedLaws
 pub mod StoreLaws
-pub mod TextLaws
 pub mod RunLaws
 pub mod ReplyLaws
 pub mod SomeReply
-pub mod QueryLaws
 pub mod SameLaws
 pub mod AgreementLaws

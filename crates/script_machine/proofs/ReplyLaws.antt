@@ -7,11 +7,12 @@ use Rattle.std.proofs.lemmas.Option.{same_Some}
 use Rattle.grouping_model.specs.declared.limits.TheConstants.{MOST_ROWS}
 use Rattle.grouping_model.specs.Datum.{Datum, Kind, Row, Bigint_kind}
 use Rattle.grouping_model.specs.World.{Knowledge}
-use Rattle.packed_rows.specs.Columns.{Column, kinds}
+use Rattle.packed_rows.specs.Columns.{Column, kinds, IsSchemaText}
 use Rattle.packed_rows.specs.Field.{Reads, ReadsRow, IsLeftmostBad}
 use Rattle.packed_rows.proofs.FieldLaws.{one_row}
 use Rattle.packed_rows.specs.PrintedLaws.{one_schema}
 use Rattle.query_checks.specs.Checks.{Checked}
+use Rattle.group_parser.specs.Parsing.{Accepts}
 use Rattle.group_parser.proofs.ParseLaws.{one_accepted, one_refused, not_both}
 use Rattle.script_io.specs.Digits.{number_of}
 use Rattle.batch_reader.specs.Rows.{ReadsRows}
@@ -19,13 +20,14 @@ use Rattle.batch_reader.specs.Refusal.{RecordFault, FirstFault, BuildFault}
 use Rattle.batch_reader.specs.declared.error.BatchError.{BatchError}
 use Rattle.batch_reader.specs.declared.error.BatchError.TheVariants as batch
 use Rattle.grouping_model.specs.Replies.{reply_of}
-use Rattle.grouping_model.specs.declared.delivered.Delivered.{Delivered}
 use Rattle.script_io.specs.Records.{Record}
 use Rattle.script_commands.specs.Commands as ask
 use Rattle.script_commands.specs.Commands.{Request}
 use Rattle.script_machine.specs.Machine as machine
-use Rattle.script_machine.specs.Machine.{State, Fed, IsBatch, ColumnsReply, QueryReply, FeedReply, Replies}
-use Rattle.script_machine.specs.Refusals.{batch_refusal, query_refusal}
+use Rattle.replies.specs.Batches.{Fed, IsBatch, IsNoBatch, IsNoQuery}
+use Rattle.script_machine.specs.Machine.{State, IsAccepted, IsRefusedFor, IsNoSchema, ColumnsReply, QueryReply, FeedReply, Replies}
+use Rattle.replies.specs.Refusals.{batch_refusal, query_refusal}
+use Rattle.replies.specs.declared.refusal.Refusal.{Refusal}
 
 -- ---- batches
 
@@ -47,11 +49,6 @@ one_fed ks origin number told records x y a b =
       number = one_number number x.number y.number a.number_is.reads b.number_is.reads i;
       rows = one_rows ks records x.rows y.rows a.rows_are b.rows_are i;
     }
-
-same_took : (name n m : List ℕ) (f g : Fed) (d e : Delivered) (reply : Fed → Delivered) → n ≡ name → m ≡ name → f ≡ g → d ≡ reply f → e ≡ reply g
-    → machine.Took n f d ≡ machine.Took m g e
-same_took name n m f g d e reply p q same x y =
-    λ i. machine.Took ((p ∙ sym q) i) (same i) ((x ∙ ap reply same ∙ sym y) i)
 
 -- the row of a record, and the value of a field, that were read
 row_at : (ks : List Kind) (records : List (List (List ℕ))) (rows : List Row) (place : ℕ) → ReadsRows ks records rows → place < length records
@@ -193,109 +190,36 @@ one_build_fault ks origin number told records (batch.BadField r c) (batch.BadFie
 
 -- ---- one reply
 
+-- what is accepted is one thing, and what is refused is refused for one refusal, which applies to nothing that is accepted
+one_answer : {X : Type 0} (saying : X → machine.Reply) (holds : X → Type 0) (applies : Refusal → Type 0) (a b : machine.Reply)
+    → ((x y : X) → holds x → holds y → x ≡ y) → ((v w : Refusal) → applies v → applies w → v ≡ w) → ((x : X) (w : Refusal) → holds x → applies w → ⊥)
+    → IsAccepted saying holds a ⊎ IsRefusedFor applies a → IsAccepted saying holds b ⊎ IsRefusedFor applies b → a ≡ b
+one_answer saying holds applies a b one_thing one_refusal never (inl x) (inl y) = x.says ∙ ap saying (one_thing x.what y.what x.is_so y.is_so) ∙ sym y.says
+one_answer saying holds applies a b one_thing one_refusal never (inl x) (inr w) = absurd (never x.what w.refusal x.is_so w.is_so)
+one_answer saying holds applies a b one_thing one_refusal never (inr v) (inl y) = absurd (never y.what v.refusal y.is_so v.is_so)
+one_answer saying holds applies a b one_thing one_refusal never (inr v) (inr w) = v.says ∙ ap machine.Refused (one_refusal v.refusal w.refusal v.is_so w.is_so) ∙ sym w.says
+
 one_columns : (told : Option (List Column)) (text : List ℕ) (a b : machine.Reply) → ColumnsReply told text a → ColumnsReply told text b → a ≡ b
 one_columns (Some columns) text a b x y = x ∙ sym y
-one_columns None text (machine.Has_columns cs) (machine.Has_columns cs') x y = ap machine.Has_columns (one_schema text cs cs' x y)
-one_columns None text (machine.Has_columns cs) (machine.Has_query q') x y = absurd y
-one_columns None text (machine.Has_columns cs) (machine.Created n') x y = absurd y
-one_columns None text (machine.Has_columns cs) (machine.Has_limit m') x y = absurd y
-one_columns None text (machine.Has_columns cs) (machine.Took n' f' d') x y = absurd y
-one_columns None text (machine.Has_columns cs) (machine.Listed l') x y = absurd y
-one_columns None text (machine.Has_columns cs) (machine.Merged i' j') x y = absurd y
-one_columns None text (machine.Has_columns cs) (machine.Saved i' j' k') x y = absurd y
-one_columns None text (machine.Has_columns cs) (machine.Loaded i' j') x y = absurd y
-one_columns None text (machine.Has_columns cs) (machine.Answered q' k') x y = absurd y
-one_columns None text (machine.Has_columns cs) (machine.Refused w') x y = absurd (y.1 cs x)
-one_columns None text (machine.Has_query q) b x y = absurd x
-one_columns None text (machine.Created n) b x y = absurd x
-one_columns None text (machine.Has_limit m) b x y = absurd x
-one_columns None text (machine.Took n f d) b x y = absurd x
-one_columns None text (machine.Listed l) b x y = absurd x
-one_columns None text (machine.Merged i j) b x y = absurd x
-one_columns None text (machine.Saved i j k) b x y = absurd x
-one_columns None text (machine.Loaded i j) b x y = absurd x
-one_columns None text (machine.Answered q k) b x y = absurd x
-one_columns None text (machine.Refused w) (machine.Has_columns cs') x y = absurd (x.1 cs' y)
-one_columns None text (machine.Refused w) (machine.Has_query q') x y = absurd y
-one_columns None text (machine.Refused w) (machine.Created n') x y = absurd y
-one_columns None text (machine.Refused w) (machine.Has_limit m') x y = absurd y
-one_columns None text (machine.Refused w) (machine.Took n' f' d') x y = absurd y
-one_columns None text (machine.Refused w) (machine.Listed l') x y = absurd y
-one_columns None text (machine.Refused w) (machine.Merged i' j') x y = absurd y
-one_columns None text (machine.Refused w) (machine.Saved i' j' k') x y = absurd y
-one_columns None text (machine.Refused w) (machine.Loaded i' j') x y = absurd y
-one_columns None text (machine.Refused w) (machine.Answered q' k') x y = absurd y
-one_columns None text (machine.Refused w) (machine.Refused w') x y = ap machine.Refused (x.0 ∙ sym y.0)
+one_columns None text a b x y =
+    one_answer machine.Has_columns (IsSchemaText text) (IsNoSchema text) a b (one_schema text) (λ v w p q. p.0 ∙ sym q.0) (λ columns w is none. none.1 columns is) x y
 
 one_asked : (told : Option (List Column)) (asked : Option Checked) (text : List ℕ) (a b : machine.Reply) → QueryReply told asked text a → QueryReply told asked text b → a ≡ b
 one_asked None asked text a b x y = x ∙ sym y
 one_asked (Some columns) (Some query) text a b x y = x ∙ sym y
-one_asked (Some columns) None text (machine.Has_columns cs) b x y = absurd x
-one_asked (Some columns) None text (machine.Has_query q) (machine.Has_columns cs') x y = absurd y
-one_asked (Some columns) None text (machine.Has_query q) (machine.Has_query q') x y = ap machine.Has_query (one_accepted columns text q q' x y)
-one_asked (Some columns) None text (machine.Has_query q) (machine.Created n') x y = absurd y
-one_asked (Some columns) None text (machine.Has_query q) (machine.Has_limit m') x y = absurd y
-one_asked (Some columns) None text (machine.Has_query q) (machine.Took n' f' d') x y = absurd y
-one_asked (Some columns) None text (machine.Has_query q) (machine.Listed l') x y = absurd y
-one_asked (Some columns) None text (machine.Has_query q) (machine.Merged i' j') x y = absurd y
-one_asked (Some columns) None text (machine.Has_query q) (machine.Saved i' j' k') x y = absurd y
-one_asked (Some columns) None text (machine.Has_query q) (machine.Loaded i' j') x y = absurd y
-one_asked (Some columns) None text (machine.Has_query q) (machine.Answered q' k') x y = absurd y
-one_asked (Some columns) None text (machine.Has_query q) (machine.Refused w') x y = absurd (not_both columns text q y.error x y.fault)
-one_asked (Some columns) None text (machine.Created n) b x y = absurd x
-one_asked (Some columns) None text (machine.Has_limit m) b x y = absurd x
-one_asked (Some columns) None text (machine.Took n f d) b x y = absurd x
-one_asked (Some columns) None text (machine.Listed l) b x y = absurd x
-one_asked (Some columns) None text (machine.Merged i j) b x y = absurd x
-one_asked (Some columns) None text (machine.Saved i j k) b x y = absurd x
-one_asked (Some columns) None text (machine.Loaded i j) b x y = absurd x
-one_asked (Some columns) None text (machine.Answered q k) b x y = absurd x
-one_asked (Some columns) None text (machine.Refused w) (machine.Has_columns cs') x y = absurd y
-one_asked (Some columns) None text (machine.Refused w) (machine.Has_query q') x y = absurd (not_both columns text q' x.error y x.fault)
-one_asked (Some columns) None text (machine.Refused w) (machine.Created n') x y = absurd y
-one_asked (Some columns) None text (machine.Refused w) (machine.Has_limit m') x y = absurd y
-one_asked (Some columns) None text (machine.Refused w) (machine.Took n' f' d') x y = absurd y
-one_asked (Some columns) None text (machine.Refused w) (machine.Listed l') x y = absurd y
-one_asked (Some columns) None text (machine.Refused w) (machine.Merged i' j') x y = absurd y
-one_asked (Some columns) None text (machine.Refused w) (machine.Saved i' j' k') x y = absurd y
-one_asked (Some columns) None text (machine.Refused w) (machine.Loaded i' j') x y = absurd y
-one_asked (Some columns) None text (machine.Refused w) (machine.Answered q' k') x y = absurd y
-one_asked (Some columns) None text (machine.Refused w) (machine.Refused w') x y = ap machine.Refused (x.named ∙ ap query_refusal (one_refused columns text x.error y.error x.fault y.fault) ∙ sym y.named)
+one_asked (Some columns) None text a b x y =
+    one_answer machine.Has_query (Accepts columns text) (IsNoQuery columns text) a b (one_accepted columns text)
+    (λ v w p q. p.named ∙ ap query_refusal (one_refused columns text p.error q.error p.fault q.fault) ∙ sym q.named)
+    (λ query w is none. not_both columns text query none.error is none.fault) x y
 
 one_feed : (columns : List Column) (known : Option Knowledge) (name origin number : List ℕ) (told_rows : ℕ) (owned : List Record) (a b : machine.Reply)
     → FeedReply columns known name origin number told_rows owned a → FeedReply columns known name origin number told_rows owned b → a ≡ b
 one_feed columns None name origin number told_rows owned a b x y = x ∙ sym y
-one_feed columns (Some known) name origin number told_rows owned (machine.Has_columns cs) b x y = absurd x
-one_feed columns (Some known) name origin number told_rows owned (machine.Has_query q) b x y = absurd x
-one_feed columns (Some known) name origin number told_rows owned (machine.Created n) b x y = absurd x
-one_feed columns (Some known) name origin number told_rows owned (machine.Has_limit m) b x y = absurd x
-one_feed columns (Some known) name origin number told_rows owned (machine.Took n f d) (machine.Has_columns cs') x y = absurd y
-one_feed columns (Some known) name origin number told_rows owned (machine.Took n f d) (machine.Has_query q') x y = absurd y
-one_feed columns (Some known) name origin number told_rows owned (machine.Took n f d) (machine.Created n') x y = absurd y
-one_feed columns (Some known) name origin number told_rows owned (machine.Took n f d) (machine.Has_limit m') x y = absurd y
-one_feed columns (Some known) name origin number told_rows owned (machine.Took n f d) (machine.Took n' f' d') x y = same_took name n n' f f' d d' (λ fed. reply_of known (fed.origin, fed.number)) x.0 y.0 (one_fed (kinds columns) origin number told_rows owned f f' x.1 y.1) x.2 y.2
-one_feed columns (Some known) name origin number told_rows owned (machine.Took n f d) (machine.Listed l') x y = absurd y
-one_feed columns (Some known) name origin number told_rows owned (machine.Took n f d) (machine.Merged i' j') x y = absurd y
-one_feed columns (Some known) name origin number told_rows owned (machine.Took n f d) (machine.Saved i' j' k') x y = absurd y
-one_feed columns (Some known) name origin number told_rows owned (machine.Took n f d) (machine.Loaded i' j') x y = absurd y
-one_feed columns (Some known) name origin number told_rows owned (machine.Took n f d) (machine.Answered q' k') x y = absurd y
-one_feed columns (Some known) name origin number told_rows owned (machine.Took n f d) (machine.Refused w') x y = absurd (no_fault (kinds columns) origin number told_rows owned f y.error x.1 y.found y.fault)
-one_feed columns (Some known) name origin number told_rows owned (machine.Listed l) b x y = absurd x
-one_feed columns (Some known) name origin number told_rows owned (machine.Merged i j) b x y = absurd x
-one_feed columns (Some known) name origin number told_rows owned (machine.Saved i j k) b x y = absurd x
-one_feed columns (Some known) name origin number told_rows owned (machine.Loaded i j) b x y = absurd x
-one_feed columns (Some known) name origin number told_rows owned (machine.Answered q k) b x y = absurd x
-one_feed columns (Some known) name origin number told_rows owned (machine.Refused w) (machine.Has_columns cs') x y = absurd y
-one_feed columns (Some known) name origin number told_rows owned (machine.Refused w) (machine.Has_query q') x y = absurd y
-one_feed columns (Some known) name origin number told_rows owned (machine.Refused w) (machine.Created n') x y = absurd y
-one_feed columns (Some known) name origin number told_rows owned (machine.Refused w) (machine.Has_limit m') x y = absurd y
-one_feed columns (Some known) name origin number told_rows owned (machine.Refused w) (machine.Took n' f' d') x y = absurd (no_fault (kinds columns) origin number told_rows owned f' x.error y.1 x.found x.fault)
-one_feed columns (Some known) name origin number told_rows owned (machine.Refused w) (machine.Listed l') x y = absurd y
-one_feed columns (Some known) name origin number told_rows owned (machine.Refused w) (machine.Merged i' j') x y = absurd y
-one_feed columns (Some known) name origin number told_rows owned (machine.Refused w) (machine.Saved i' j' k') x y = absurd y
-one_feed columns (Some known) name origin number told_rows owned (machine.Refused w) (machine.Loaded i' j') x y = absurd y
-one_feed columns (Some known) name origin number told_rows owned (machine.Refused w) (machine.Answered q' k') x y = absurd y
-one_feed columns (Some known) name origin number told_rows owned (machine.Refused w) (machine.Refused w') x y = ap machine.Refused (x.named ∙ ap batch_refusal (one_build_fault (kinds columns) origin number told_rows owned x.error y.error x.found y.found x.fault y.fault) ∙ sym y.named)
+one_feed columns (Some known) name origin number told_rows owned a b x y =
+    one_answer (λ (fed : Fed). machine.Took name fed (reply_of known (fed.origin, fed.number))) (IsBatch (kinds columns) origin number told_rows owned) (IsNoBatch (kinds columns) origin number told_rows owned) a b
+    (one_fed (kinds columns) origin number told_rows owned)
+    (λ v w p q. p.named ∙ ap batch_refusal (one_build_fault (kinds columns) origin number told_rows owned p.error q.error p.found q.found p.fault q.fault) ∙ sym q.named)
+    (λ fed w is none. no_fault (kinds columns) origin number told_rows owned fed none.error is none.found none.fault) x y
 
 pub one_reply : (old : State) (request : Request) (owned : List Record) (a b : machine.Reply) → Replies old request owned a → Replies old request owned b → a ≡ b
 one_reply old (ask.Columns text) owned a b x y = one_columns old.columns text a b x y

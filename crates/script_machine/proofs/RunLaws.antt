@@ -5,6 +5,7 @@ use Rattle.std.proofs.lemmas.List.{append-nil}
 use Rattle.std.proofs.lemmas.List.Sums.{sum_by-append}
 use Rattle.std.proofs.lemmas.Grind.{flat_map-append}
 use Rattle.std.specs.Io.KnownBytes.{Appends, Consumes, IsAtEnd}
+use Rattle.std.specs.Result.{IsErrAnd}
 use Rattle.std.proofs.KnownBytes.{Appends-nil, Appends-trans, Keeps-refl}
 use Rattle.grouping_model.specs.World.{World}
 use Rattle.script_io.specs.Input.{StopsReading}
@@ -16,13 +17,20 @@ use Rattle.script_io.specs.OutputLaws.{front-first, front-second}
 use Rattle.script_io.specs.Records.{Record}
 use Rattle.script_commands.specs.Commands.{Command, Request, request_of}
 use Rattle.script_machine.specs.Machine.{State, Reply, Refused, Run, StrictRun, MayReply, IsReply, Agrees, AgreesAt, start, after, is_refused, is_fault}
-use Rattle.script_machine.specs.Text.{MayRead, AllMayRead, joined, line, refusal_name, reply_text, replies_text}
-use Rattle.script_machine.specs.Output.{Disk, IsOutput, WritesFront, WritesBefore, WritesSome, StopsAt, commands_in, run_error}
-use Rattle.script_machine.specs.Views.{Store, empty, Represents, FitsWorld, Answers, Steps, said_text, is_refusal, faults_in}
-use Rattle.script_machine.specs.declared.refusal.Refusal.TheVariants.{NoMemory}
-use Rattle.script_machine.specs.declared.error.RunError.{RunError}
-use Rattle.script_machine.specs.declared.error.RunError.TheVariants as stop
-use Rattle.script_machine.specs.declared.reply.Reply as code
+use Rattle.replies.specs.Text.{line, refusal_name, said_text, is_refusal, faults_in}
+use Rattle.script_machine.specs.Text.{MayRead, AllMayRead, joined, reply_text, replies_text}
+use Rattle.replies.specs.Refusals.{run_error}
+use Rattle.script_machine.specs.Output.{Disk, IsOutput, WritesFront, WritesBefore, WritesSome, StopsAt, commands_in}
+use Rattle.script_machine.specs.Views.{Store, empty, Represents, FitsWorld, Answers, Steps}
+use Rattle.replies.specs.declared.refusal.Refusal.TheVariants.{NoMemory}
+use Rattle.replies.specs.declared.error.RunError.{RunError}
+use Rattle.replies.specs.declared.error.RunError.TheVariants as stop
+use Rattle.replies.specs.declared.reply.Reply as code
+
+-- an error passed on has what the error that it is has
+pub passed_as : {T E : Type 0} (result : Result T E) (e : E) (P : T → Type 0) (Q : E → Type 0) → IsErrAnd result (λ x. x ≡ e) → Q e → MatchResult result P Q
+passed_as (Ok x) e P Q failed q = absurd failed
+passed_as (Err x) e P Q failed q = subst Q (sym failed) q
 
 -- what is there after replies
 abbrev pub state_after : State → List Reply → State

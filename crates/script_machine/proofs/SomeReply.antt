@@ -24,10 +24,11 @@ use Rattle.script_io.specs.Records.{Record}
 use Rattle.script_commands.specs.Commands as ask
 use Rattle.script_commands.specs.Commands.{Request}
 use Rattle.script_machine.specs.Machine as machine
-use Rattle.script_machine.specs.Machine.{State, Fed, IsBatch, IsNoBatch, ColumnsReply, QueryReply, FeedReply, Replies, limit_reply, replica_reply, known_reply, answer_reply, merge_reply, save_reply, load_reply}
-use Rattle.script_machine.specs.Refusals.{batch_refusal, query_refusal}
-use Rattle.script_machine.specs.declared.refusal.Refusal.{Refusal}
-use Rattle.script_machine.specs.declared.refusal.Refusal.TheVariants as why
+use Rattle.replies.specs.Batches.{Fed, IsBatch, IsNoBatch}
+use Rattle.script_machine.specs.Machine.{State, ColumnsReply, QueryReply, FeedReply, Replies, limit_reply, replica_reply, known_reply, answer_reply, merge_reply, save_reply, load_reply}
+use Rattle.replies.specs.Refusals.{batch_refusal, query_refusal}
+use Rattle.replies.specs.declared.refusal.Refusal.{Refusal}
+use Rattle.replies.specs.declared.refusal.Refusal.TheVariants as why
 
 -- fields as many as kinds stand for a row, or there is a leftmost bad one
 row_or_bad : (ks : List Kind) (fields : List (List ℕ)) → length fields ≡ length ks → ((row : Row) → ¬ (ReadsRow ks fields row)) → ((column : ℕ) → ¬ (IsLeftmostBad ks fields column)) → ⊥
@@ -88,7 +89,9 @@ batch_or_not ks origin number told owned no_batch none = no batch.BadBatchHead (
 
 columns_answered : (told : Option (List Column)) (text : List ℕ) → ((reply : machine.Reply) → ¬ (ColumnsReply told text reply)) → ⊥
 columns_answered (Some columns) text none = none (machine.Refused why.BadCommand) refl
-columns_answered None text none = none (machine.Refused why.BadSchema) (refl, λ columns is. none (machine.Has_columns columns) is)
+columns_answered None text none =
+    none (machine.Refused why.BadSchema)
+    (inr (record { refusal = why.BadSchema; is_so = (refl, λ columns is. none (machine.Has_columns columns) (inl (record { what = columns; is_so = is; says = refl }))); says = refl }))
 
 query_answered : (columns : Option (List Column)) (query : Option Checked) (text : List ℕ) → ((reply : machine.Reply) → ¬ (QueryReply columns query text reply)) → ⊥
 query_answered None query text none = none (machine.Refused why.BadCommand) refl
@@ -96,16 +99,18 @@ query_answered (Some columns) (Some query) text none = none (machine.Refused why
 query_answered (Some columns) None text none = go (parsing columns text) refl
   where
     go : (result : Result Checked ParseError) → parsing columns text ≡ result → ⊥
-    go (Ok query) is = none (machine.Has_query query) (parses_accepts columns text query is)
-    go (Err error) is = none (machine.Refused (query_refusal error)) (record { error = error; fault = parses_refuses columns text error is; named = refl })
+    go (Ok query) is = none (machine.Has_query query) (inl (record { what = query; is_so = parses_accepts columns text query is; says = refl }))
+    go (Err error) is =
+        none (machine.Refused (query_refusal error))
+        (inr (record { refusal = query_refusal error; is_so = record { error = error; fault = parses_refuses columns text error is; named = refl }; says = refl }))
 
 feed_answered : (columns : List Column) (known : Option Knowledge) (name origin number : List ℕ) (told : ℕ) (owned : List Record)
     → ((reply : machine.Reply) → ¬ (FeedReply columns known name origin number told owned reply)) → ⊥
 feed_answered columns None name origin number told owned none = none (machine.Refused why.NoSuchName) refl
 feed_answered columns (Some known) name origin number told owned none =
     batch_or_not (kinds columns) origin number told owned
-    (λ fed is. none (machine.Took name fed (reply_of known (fed.origin, fed.number))) (refl, is, refl))
-    (λ w is. none (machine.Refused w) is)
+    (λ fed is. none (machine.Took name fed (reply_of known (fed.origin, fed.number))) (inl (record { what = fed; is_so = is; says = refl })))
+    (λ w is. none (machine.Refused w) (inr (record { refusal = w; is_so = is; says = refl })))
 
 pub some_reply : (old : State) (request : Request) (owned : List Record) → ((reply : machine.Reply) → ¬ (Replies old request owned reply)) → ⊥
 some_reply old (ask.Columns text) owned none = columns_answered old.columns text none

@@ -1,5 +1,5 @@
 -- What the code keeps, before and after a command.
-use Rattle.std.specs.Prelude.{◌≡◌, ◌≢◌, ◌<◌, ◌≤◌, ◌⊎◌, ◌&&◌, nat_le, refl, ℕ, Bool, true, false, if◌then◌else◌, List, [], length, Option, Some, None, IfSome, IsTrue, option_map, unwrap_or, string_bytes, codes}
+use Rattle.std.specs.Prelude.{◌≡◌, ◌≢◌, ◌<◌, ◌≤◌, ◌⊎◌, ◌&&◌, nat_le, refl, ℕ, Bool, true, false, if◌then◌else◌, List, [], length, Option, Some, None, IfSome, IsTrue, option_map, unwrap_or, string_bytes, codes, Result, Ok, Err, IfOk, IfErr}
 use Rattle.std.proofs.Common.{◌∙◌, ap, sym, subst, inl, inr, arith}
 use Rattle.std.specs.declared.alloc.Global.{Global}
 use Rattle.std.specs.declared.vec.Vec.{Vec}
@@ -22,7 +22,7 @@ use Rattle.having_filter.specs.Kept.{by_names, headers}
 use Rattle.group_parser.specs.Parsing.{Accepts}
 use Rattle.grouping_model.specs.Replies.{known_list, reply_of}
 use Rattle.grouping_model.specs.declared.delivered.Delivered.{Delivered}
-use Rattle.replica_merge.specs.Replicas.{Held, told, Fits, SameQuery, MergeTells}
+use Rattle.replica_merge.specs.Replicas.{Parts, Held, told, Fits, SameQuery, MergeTells}
 use Rattle.summary_codec.specs.Reading.{IsSummary}
 use Rattle.summary_codec.specs.WorldFile.{world_file}
 use Rattle.script_io.specs.Records.{Record}
@@ -30,9 +30,11 @@ use Rattle.script_commands.specs.Commands as ask
 use Rattle.script_commands.specs.Commands.{Request}
 use Rattle.table_print.specs.Table.{table_text}
 use Rattle.script_machine.specs.Machine as machine
-use Rattle.script_machine.specs.Machine.{State, Fed, IsBatch, IsNoBatch, ColumnsReply, IsNoQuery, QueryReply, limit_reply, replica_reply, FeedReply, known_reply, answer_reply, merge_reply, save_reply, load_reply, Replies, IsReply, FeedAgrees, uses_tapes, with_replica}
-use Rattle.script_machine.specs.Text.{line, known_text, answer_text}
-use Rattle.script_machine.specs.Views.{Store, IsStore, IsFileOf, AreSaved, IsFitting, Represents, FitsWorld, Answers, Steps, Takes, IsOfBatch, IsOtherBatch, JoinRefused, Updates, Files, replica_at, saved_at, knowledge_of, said_text}
+use Rattle.replies.specs.Batches.{Fed, IsBatch, IsNoBatch, IsNoQuery, Takes, IsOfBatch, IsOtherBatch}
+use Rattle.script_machine.specs.Machine.{State, ColumnsReply, QueryReply, limit_reply, replica_reply, FeedReply, known_reply, answer_reply, merge_reply, save_reply, load_reply, Replies, IsReply, FeedAgrees, uses_tapes, with_replica}
+use Rattle.replies.specs.Joining.{JoinsHeld, IsApart}
+use Rattle.replies.specs.Text.{line, known_text, answer_text, said_text}
+use Rattle.script_machine.specs.Views.{Store, IsStore, IsFileOf, AreSaved, IsFitting, Represents, FitsWorld, Answers, Steps, JoinRefused, JoinsNames, Updates, Files, replica_at, saved_at, knowledge_of}
 use Rattle.spill_lists.specs.declared.error.SpillError.{SpillError}
 use Rattle.spill_lists.specs.declared.error.SpillError.TheVariants as spill
 use Rattle.hash_agg.specs.declared.means.TheConstants.{LEAST_LIMIT, GREATEST_LIMIT}
@@ -42,10 +44,10 @@ use Rattle.packed_rows.specs.declared.error.RowError.TheVariants as row
 use Rattle.origin_prefix.specs.declared.error.JoinError.TheVariants as join
 use Rattle.replica_merge.specs.declared.error.MergeError.{MergeError}
 use Rattle.replica_merge.specs.declared.error.MergeError.TheVariants as merge
-use Rattle.script_machine.specs.Refusals.{limit_out_of_range, columns_refusal, spill_refusal, merge_refusal}
-use Rattle.script_machine.specs.declared.refusal.Refusal.{Refusal}
-use Rattle.script_machine.specs.declared.refusal.Refusal.TheVariants as why
-use Rattle.script_machine.specs.declared.reply.Reply.TheVariants as says
+use Rattle.replies.specs.Refusals.{limit_out_of_range, columns_refusal, spill_refusal, merge_refusal}
+use Rattle.replies.specs.declared.refusal.Refusal.{Refusal}
+use Rattle.replies.specs.declared.refusal.Refusal.TheVariants as why
+use Rattle.replies.specs.declared.reply.Reply.TheVariants as says
 
 -- ---- names
 
@@ -268,16 +270,18 @@ one_query store into from own theirs is one two =
 pub same_texts : (a b : Checked) → a ≡ b → SameQuery a b
 same_texts a b same = (ap (λ (q : Checked). printed q.columns) same, ap (λ (q : Checked). spelling (by_names q)) same)
 
--- why two replicas are not joined, from the error
-pub join_refused : (store : Store) (into from : List ℕ) (own theirs : Held) (error : MergeError) (refusal : Refusal) → IsStore store → replica_at store into ≡ Some own → replica_at store from ≡ Some theirs
-    → MergeTells error own theirs → ((origin : ℕ) (told : Option ℕ) → error ≡ merge.Join origin (join.OriginDisagrees told) → (world : World) → Fits world own → ¬ (Fits world theirs)) → refusal ≡ merge_refusal error
-    → JoinRefused (replica_at store into) (replica_at store from) refusal
-join_refused store into from own theirs error refusal is one two tells never told =
+-- what two replicas hold together, or why they are not joined, by their names
+pub joins_names : {honest : Bool} (store : Store) (into from : List ℕ) (own theirs : Held) (result : Result Parts Refusal) → IsStore store → replica_at store into ≡ Some own → replica_at store from ≡ Some theirs
+    → IfOk result (JoinsHeld honest own theirs) → IfErr result (IsApart own theirs)
+    → IfErr result (λ refusal. (of : ℕ) (at : Option ℕ) → refusal ≡ why.OriginDisagrees of at → (world : World) → Fits world own → ¬ (Fits world theirs)) → JoinsNames honest store into from result
+joins_names store into from own theirs (Ok joined) is one two joins is_apart never = (own, theirs, one, two, joins)
+joins_names store into from own theirs (Err refusal) is one two joins is_apart never =
     subst (λ o. JoinRefused o (replica_at store from) refusal) (sym one)
     (subst (λ o. JoinRefused (Some own) o refusal) (sym two)
-    (subst (JoinRefused (Some own) (Some theirs)) (sym told) (go error tells never)))
+    (subst (JoinRefused (Some own) (Some theirs)) (sym is_apart.1)
+    (go is_apart.0 is_apart.2 (λ of at told. never of at (is_apart.1 ∙ told)))))
   where
-    go : (error : MergeError) → MergeTells error own theirs → ((origin : ℕ) (told : Option ℕ) → error ≡ merge.Join origin (join.OriginDisagrees told) → (world : World) → Fits world own → ¬ (Fits world theirs))
+    go : (error : MergeError) → MergeTells error own theirs → ((of : ℕ) (at : Option ℕ) → merge_refusal error ≡ why.OriginDisagrees of at → (world : World) → Fits world own → ¬ (Fits world theirs))
         → JoinRefused (Some own) (Some theirs) (merge_refusal error)
     go merge.DifferentQuery different never = absurd (different (same_texts own.query theirs.query (one_query store into from own theirs is one two)))
     go merge.NoMemory tells never = tt
@@ -406,7 +410,7 @@ module _ {honest : Bool} where
       go row.NoMemory bad = out_of_memory (ask.Columns text) owned store
       go row.BadSchema bad =
           refused (ask.Columns text) owned store why.BadSchema
-          (λ state r. subst (λ cs. ColumnsReply cs text (machine.Refused why.BadSchema)) (sym (r.columns ∙ none_there store.columns none)) (refl, bad))
+          (λ state r. subst (λ cs. ColumnsReply cs text (machine.Refused why.BadSchema)) (sym (r.columns ∙ none_there store.columns none)) (inr (record { refusal = why.BadSchema; is_so = (refl, bad); says = refl })))
       go (row.BadField column) bad = absurd bad
       go row.WrongWidth bad = absurd bad
       go row.BadPacked bad = absurd bad
@@ -417,8 +421,8 @@ module _ {honest : Bool} where
       record {
         steps = λ state r. record {
           said = machine.Has_columns columns;
-          may = inl (inl (inr (subst (λ cs. ColumnsReply cs text (machine.Has_columns columns)) (sym (r.columns ∙ none_there store.columns none)) is)));
-          strict = λ right world f agrees. inr (subst (λ cs. ColumnsReply cs text (machine.Has_columns columns)) (sym (r.columns ∙ none_there store.columns none)) is);
+          may = inl (inl (inr (subst (λ cs. ColumnsReply cs text (machine.Has_columns columns)) (sym (r.columns ∙ none_there store.columns none)) (inl (record { what = columns; is_so = is; says = refl })))));
+          strict = λ right world f agrees. inr (subst (λ cs. ColumnsReply cs text (machine.Has_columns columns)) (sym (r.columns ∙ none_there store.columns none)) (inl (record { what = columns; is_so = is; says = refl })));
           represents = record { columns = refl; query = r.query; replicas = r.replicas; saved = r.saved; limit = r.limit };
           refused = refl;
           faulted = refl;
@@ -446,7 +450,7 @@ module _ {honest : Bool} where
       → (refusal ≢ why.NoMemory → IsNoQuery columns text refusal) → Steps honest (ask.Query text) owned store (says.Refused refusal) store
   query_refused store text owned columns refusal told none bad =
       refused_or_memory (ask.Query text) owned store store refusal (same store)
-      (λ other state r. query_says state store text columns None (machine.Refused refusal) r told (none_there store.query none) (bad other))
+      (λ other state r. query_says state store text columns None (machine.Refused refusal) r told (none_there store.query none) (inr (record { refusal = refusal; is_so = bad other; says = refl })))
 
   pub query_told : (store : Store) (text : List ℕ) (owned : List Record) (columns : List Column) (query : Checked) (shown : String Global)
       → store.columns ≡ Some columns → is_some store.query ≡ false → Accepts columns text query → string_bytes shown ≡ spelling (by_names query)
@@ -455,8 +459,8 @@ module _ {honest : Bool} where
       record {
         steps = λ state r. record {
           said = machine.Has_query query;
-          may = inl (inl (inr (query_says state store text columns None (machine.Has_query query) r told (none_there store.query none) is)));
-          strict = λ right world f agrees. inr (query_says state store text columns None (machine.Has_query query) r told (none_there store.query none) is);
+          may = inl (inl (inr (query_says state store text columns None (machine.Has_query query) r told (none_there store.query none) (inl (record { what = query; is_so = is; says = refl })))));
+          strict = λ right world f agrees. inr (query_says state store text columns None (machine.Has_query query) r told (none_there store.query none) (inl (record { what = query; is_so = is; says = refl })));
           represents = record { columns = r.columns; query = refl; replicas = r.replicas; saved = r.saved; limit = r.limit };
           refused = refl;
           faulted = refl;
@@ -545,7 +549,7 @@ module _ {honest : Bool} where
           may = inl (inr (record {
             instead = machine.Took name other.fed (reply_of (told held.parts) (other.fed.origin, other.fed.number));
             would = subst (λ known. FeedReply (unwrap_or state.columns []) known name origin number told_rows owned (machine.Took name other.fed (reply_of (told held.parts) (other.fed.origin, other.fed.number)))) (sym (known_there state old name held r there))
-                (refl, subst (λ cs. IsBatch (kinds cs) origin number told_rows owned other.fed) (sym (feed_columns state old name held r is there)) other.is_batch, refl);
+                (inl (record { what = other.fed; is_so = subst (λ cs. IsBatch (kinds cs) origin number told_rows owned other.fed) (sym (feed_columns state old name held r is there)) other.is_batch; says = refl }));
             takes = refl;
             origin = of;
             told = at;
@@ -581,7 +585,7 @@ module _ {honest : Bool} where
       of_batch refusal bad =
           refused_for request owned old new refusal s
           (λ state r. inr (subst (λ known. FeedReply (unwrap_or state.columns []) known name origin number told_rows owned (machine.Refused refusal)) (sym (known_there state old name held r there))
-          (subst (λ cs. IsNoBatch (kinds cs) origin number told_rows owned refusal) (sym (feed_columns state old name held r is there)) bad)))
+          (inr (record { refusal = refusal; is_so = subst (λ cs. IsNoBatch (kinds cs) origin number told_rows owned refusal) (sym (feed_columns state old name held r is there)) bad; says = refl }))))
 
       go : (refusal : Refusal) → ((of : ℕ) (at : Option ℕ) → refusal ≢ why.OriginDisagrees of at) → (IsTrue honest → refusal ≢ why.TapeDamaged) → (IsOfBatch refusal → IsNoBatch (kinds held.query.columns) origin number told_rows owned refusal)
           → Steps honest request owned old (says.Refused refusal) new
@@ -599,9 +603,9 @@ module _ {honest : Bool} where
         steps = λ state r. record {
           said = machine.Took name takes.fed delivered;
           may = inl (inl (inr (subst (λ known. FeedReply (unwrap_or state.columns []) known name origin number told_rows owned (machine.Took name takes.fed delivered)) (sym (known_there state old name held r there))
-              (refl, subst (λ cs. IsBatch (kinds cs) origin number told_rows owned takes.fed) (sym (feed_columns state old name held r is there)) takes.is_batch, takes.reply))));
+              (inl (record { what = takes.fed; is_so = subst (λ cs. IsBatch (kinds cs) origin number told_rows owned takes.fed) (sym (feed_columns state old name held r is there)) takes.is_batch; says = ap (machine.Took name takes.fed) takes.reply })))));
           strict = λ right world f agrees. inr (subst (λ known. FeedReply (unwrap_or state.columns []) known name origin number told_rows owned (machine.Took name takes.fed delivered)) (sym (known_there state old name held r there))
-              (refl, subst (λ cs. IsBatch (kinds cs) origin number told_rows owned takes.fed) (sym (feed_columns state old name held r is there)) takes.is_batch, takes.reply));
+              (inl (record { what = takes.fed; is_so = subst (λ cs. IsBatch (kinds cs) origin number told_rows owned takes.fed) (sym (feed_columns state old name held r is there)) takes.is_batch; says = ap (machine.Took name takes.fed) takes.reply })));
           represents = record {
             columns = r.columns ∙ sym u.columns;
             query = r.query ∙ sym u.query;

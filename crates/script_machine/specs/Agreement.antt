@@ -7,7 +7,8 @@ use Rattle.script_io.specs.Records.{Record}
 use Rattle.script_commands.specs.Commands.{Command, Request, Feed, request_of}
 use Rattle.grouping_model.specs.World.{World, Batch, Knowledge, knows}
 use Rattle.query_checks.specs.Checks.{Checked}
-use Rattle.script_machine.specs.Machine.{State, Reply, Has_columns, Fed, IsBatch, after}
+use Rattle.replies.specs.Batches.{Fed, IsBatch}
+use Rattle.script_machine.specs.Machine.{State, Reply, Has_columns, after}
 
 -- what is there after replies, one after the other
 abbrev pub after_all : State → List Reply → State

@@ -15,10 +15,10 @@ use Rattle.replica_merge.specs.Counting.{MergeIsCounted, aggregations_asked}
 use Rattle.replica_merge.specs.Replicas.{Held, part_of}
 use Rattle.script_io.specs.Records.{Record}
 use Rattle.script_commands.specs.Commands.{Request, Feed, Answer, Merge}
-use Rattle.script_machine.specs.Machine.{Fed, IsBatch}
+use Rattle.replies.specs.Batches.{Fed, IsBatch}
+use Rattle.replies.specs.declared.reply.Reply.{Reply}
+use Rattle.replies.specs.declared.reply.Reply.TheVariants as says
 use Rattle.script_machine.specs.Views.{Store, replica_at}
-use Rattle.script_machine.specs.declared.reply.Reply.{Reply}
-use Rattle.script_machine.specs.declared.reply.Reply.TheVariants as says
 
 -- a limit, and the hash function of scripts, for the groups of a query
 abbrev pub setting_at : ℕ → Query → Setting

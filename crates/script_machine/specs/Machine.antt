@@ -1,26 +1,19 @@
 -- The machine that a script runs: what is known under each name, and how each command is answered. All of this is our own.
-use Rattle.std.specs.Prelude.{ℕ, ◌≡◌, ◌≢◌, ◌≤◌, ◌⊎◌, nat_le, ◌&&◌, Bool, true, false, IsTrue, List, [], ◌∷◌, length, Option, Some, None, IfSome, unwrap_or, if◌then◌else◌}
+use Rattle.std.specs.Prelude.{ℕ, ◌≡◌, ◌⊎◌, nat_le, ◌&&◌, Bool, true, false, IsTrue, List, [], ◌∷◌, Option, Some, None, IfSome, unwrap_or, if◌then◌else◌}
 use Rattle.std.specs.Str.{bytes_eq}
-use Rattle.grouping_model.specs.Datum.{Kind, Row}
-use Rattle.grouping_model.specs.declared.limits.TheConstants.{MOST_ROWS}
 use Rattle.grouping_model.specs.Replies.{KnownOrigin, known_list, reply_of}
 use Rattle.grouping_model.specs.World.{World, IsWorld, Knowledge, nothing, learn, union}
 use Rattle.grouping_model.specs.declared.delivered.Delivered.{Delivered}
 use Rattle.packed_rows.specs.Columns.{Column, kinds, IsSchemaText}
 use Rattle.query_checks.specs.Checks.{Checked}
-use Rattle.group_parser.specs.Parsing.{Accepts, Refuses}
-use Rattle.group_parser.specs.declared.error.ParseError.{ParseError}
-use Rattle.batch_reader.specs.Head.{ReadsOrigin, ReadsBatchNumber}
-use Rattle.batch_reader.specs.Rows.{ReadsRows}
-use Rattle.batch_reader.specs.Refusal.{BuildFault}
-use Rattle.batch_reader.specs.declared.error.BatchError.{BatchError}
-use Rattle.batch_reader.specs.declared.error.BatchError.TheVariants as batch
+use Rattle.group_parser.specs.Parsing.{Accepts}
 use Rattle.hash_agg.specs.declared.means.TheConstants.{LEAST_LIMIT, GREATEST_LIMIT, USUAL_LIMIT}
 use Rattle.script_io.specs.Records.{Record}
 use Rattle.script_commands.specs.Commands.{Command, Request, Columns, Query, Limit, Replica, Feed, Known, Answer, Merge, Save, Load, Unknown, request_of}
-use Rattle.script_machine.specs.declared.refusal.Refusal.{Refusal}
-use Rattle.script_machine.specs.declared.refusal.Refusal.TheVariants.{NoMemory, BadSchema, OriginDisagrees, TapeFault, TapeDamaged, BadCommand, NoSuchName, NameTaken}
-use Rattle.script_machine.specs.Refusals.{limit_out_of_range, tells_fault, batch_refusal, query_refusal}
+use Rattle.replies.specs.Batches.{Fed, IsBatch, IsNoBatch, IsNoQuery}
+use Rattle.replies.specs.Refusals.{limit_out_of_range, tells_fault}
+use Rattle.replies.specs.declared.refusal.Refusal.{Refusal}
+use Rattle.replies.specs.declared.refusal.Refusal.TheVariants.{NoMemory, BadSchema, OriginDisagrees, TapeFault, TapeDamaged, BadCommand, NoSuchName, NameTaken}
 
 -- what is there: the columns and the query, once they were told, what each replica knows, by its name, what was saved, by the name
 -- that it was given, and the limit of aggregations
@@ -34,12 +27,6 @@ pub record State : Type 0 where
 -- nothing is there but the usual limit
 abbrev pub start : State
 start = record { columns = None; query = None; replicas = λ name. None; saved = λ name. None; limit = USUAL_LIMIT }
-
--- a batch as it was fed
-pub record Fed : Type 0 where
-  pub origin : ℕ
-  pub number : ℕ
-  pub rows : List Row
 
 -- how a command is answered
 pub data Reply : Type 0 where
@@ -66,41 +53,32 @@ pub data Reply : Type 0 where
   -- nothing changed
   Refused : Refusal → Reply
 
--- a batch of these columns: what the fields and the records of a feed stand for
-pub record IsBatch (kinds : List Kind) (origin number : List ℕ) (told : ℕ) (owned : List Record) (fed : Fed) : Type 0 where
-  pub origin_is : ReadsOrigin origin fed.origin
-  pub number_is : ReadsBatchNumber number fed.number
-  pub few : told ≤ MOST_ROWS
-  pub whole : length owned ≡ told
-  pub rows_are : ReadsRows kinds owned fed.rows
+-- a reply accepts something of which this holds
+pub record IsAccepted {X : Type 0} (saying : X → Reply) (holds : X → Type 0) (reply : Reply) : Type 0 where
+  pub what : X
+  pub is_so : holds what
+  pub says : reply ≡ saying what
 
--- why a feed is no batch of these columns: the first refusal of a batch that applies
-pub record IsNoBatch (kinds : List Kind) (origin number : List ℕ) (told : ℕ) (owned : List Record) (why : Refusal) : Type 0 where
-  pub error : BatchError
-  pub found : error ≢ batch.NoMemory
-  pub fault : BuildFault kinds origin number told owned error
-  pub named : why ≡ batch_refusal error
+-- a reply refuses something, for a refusal that applies
+pub record IsRefusedFor (applies : Refusal → Type 0) (reply : Reply) : Type 0 where
+  pub refusal : Refusal
+  pub is_so : applies refusal
+  pub says : reply ≡ Refused refusal
+
+-- why a text tells no columns
+abbrev pub IsNoSchema : List ℕ → Refusal → Type 0
+IsNoSchema text why = (why ≡ BadSchema) × ((columns : List Column) → ¬ (IsSchemaText text columns))
 
 -- the reply to a schema's text: columns are told once
 abbrev pub ColumnsReply : Option (List Column) → List ℕ → Reply → Type 0
 ColumnsReply (Some columns) text reply = reply ≡ Refused BadCommand
-ColumnsReply None text (Has_columns columns) = IsSchemaText text columns
-ColumnsReply None text (Refused why) = (why ≡ BadSchema) × ((columns : List Column) → ¬ (IsSchemaText text columns))
-ColumnsReply None text reply = ⊥
-
--- why a text is no query over these columns: its first fault
-pub record IsNoQuery (columns : List Column) (text : List ℕ) (why : Refusal) : Type 0 where
-  pub error : ParseError
-  pub fault : Refuses columns text error
-  pub named : why ≡ query_refusal error
+ColumnsReply None text reply = IsAccepted Has_columns (IsSchemaText text) reply ⊎ IsRefusedFor (IsNoSchema text) reply
 
 -- the reply to a query's text: a query is told once, after the columns
 abbrev pub QueryReply : Option (List Column) → Option Checked → List ℕ → Reply → Type 0
 QueryReply None query text reply = reply ≡ Refused BadCommand
 QueryReply (Some columns) (Some query) text reply = reply ≡ Refused BadCommand
-QueryReply (Some columns) None text (Has_query query) = Accepts columns text query
-QueryReply (Some columns) None text (Refused why) = IsNoQuery columns text why
-QueryReply (Some columns) None text reply = ⊥
+QueryReply (Some columns) None text reply = IsAccepted Has_query (Accepts columns text) reply ⊎ IsRefusedFor (IsNoQuery columns text) reply
 
 -- the reply to a limit
 abbrev pub limit_reply : ℕ → Reply
@@ -115,10 +93,9 @@ replica_reply (Some query) None name = Created name
 -- the reply to a batch for the replica of a name
 abbrev pub FeedReply : List Column → Option Knowledge → (name origin number : List ℕ) → ℕ → List Record → Reply → Type 0
 FeedReply columns None name origin number told owned reply = reply ≡ Refused NoSuchName
-FeedReply columns (Some known) name origin number told owned (Took named fed delivered) =
-    (named ≡ name) × IsBatch (kinds columns) origin number told owned fed × (delivered ≡ reply_of known (fed.origin, fed.number))
-FeedReply columns (Some known) name origin number told owned (Refused why) = IsNoBatch (kinds columns) origin number told owned why
-FeedReply columns (Some known) name origin number told owned reply = ⊥
+FeedReply columns (Some known) name origin number told owned reply =
+    IsAccepted (λ (fed : Fed). Took name fed (reply_of known (fed.origin, fed.number))) (IsBatch (kinds columns) origin number told owned) reply
+    ⊎ IsRefusedFor (IsNoBatch (kinds columns) origin number told owned) reply
 
 -- the reply to a question about a replica
 abbrev pub known_reply : Option Knowledge → Reply

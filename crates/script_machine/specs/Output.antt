@@ -5,15 +5,11 @@ use Rattle.grouping_model.specs.World.{World}
 use Rattle.grouping_model.specs.declared.limits.TheConstants.{LONGEST_INPUT}
 use Rattle.script_io.specs.Output.{TakesFront}
 use Rattle.script_io.specs.Records.{records_of}
-use Rattle.script_io.specs.declared.input.InputError.{InputError}
-use Rattle.script_io.specs.declared.input.InputError.TheVariants as input
 use Rattle.script_commands.specs.Commands.{Command, commands_of}
+use Rattle.replies.specs.declared.error.RunError.{RunError}
+use Rattle.replies.specs.declared.error.RunError.TheVariants.{InputTooLong, ReadFault, NoMemory, WriteFault}
 use Rattle.script_machine.specs.Machine.{Reply, Run, StrictRun, start, is_refused, is_fault, Agrees}
 use Rattle.script_machine.specs.Text.{AllMayRead, joined, replies_text}
-use Rattle.script_machine.specs.declared.refusal.Refusal.{Refusal}
-use Rattle.script_machine.specs.declared.refusal.Refusal.TheVariants as refusal
-use Rattle.script_machine.specs.declared.error.RunError.{RunError}
-use Rattle.script_machine.specs.declared.error.RunError.TheVariants.{InputTooLong, ReadFault, NoMemory, WriteFault}
 
 -- the commands of a script
 abbrev pub commands_in : List ℕ → List Command
@@ -89,14 +85,3 @@ abbrev pub KeepsUnread : Option (List ℕ) → Option (List ℕ) → RunError �
 KeepsUnread old new InputTooLong = Keeps old new
 KeepsUnread old new ReadFault = Keeps old new
 KeepsUnread old new error = Unit {0}
-
--- why a run stops that could not read its script
-abbrev pub run_error : InputError → RunError
-run_error input.NoMemory = NoMemory
-run_error input.TooLong = InputTooLong
-run_error input.ReadFault = ReadFault
-
--- the refusal of a run that stopped
-abbrev pub run_refusal : RunError → Refusal
-run_refusal NoMemory = refusal.NoMemory
-run_refusal error = refusal.Run error

@@ -1,57 +1,25 @@
 -- What a clause sees of the values of the code.
-use Rattle.std.specs.Prelude.{ℕ, ◌≡◌, Bool, true, false, List, [], codes, decimal, Option, Some, None, IfSome, IsTrue, option_map, if◌then◌else◌, string_bytes, Result, Ok, Err}
+use Rattle.std.specs.Prelude.{ℕ, ◌≡◌, Bool, false, List, [], Option, Some, None, IfSome, IsTrue, option_map, Result, Ok, Err}
 use Rattle.std.specs.declared.alloc.Global.{Global}
 use Rattle.std.specs.declared.vec.Vec.{Vec}
 use Rattle.std.specs.Map.{lookup}
 use Rattle.std.specs.Str.{bytes_eq}
 use Rattle.hash_agg.specs.declared.means.TheConstants.{USUAL_LIMIT}
-use Rattle.grouping_model.specs.World.{World, IsWorld, Knowledge, learn}
+use Rattle.grouping_model.specs.World.{World, IsWorld, Knowledge}
 use Rattle.packed_rows.specs.Columns.{Column, kinds}
 use Rattle.query_checks.specs.Checks.{Checked}
-use Rattle.grouping_model.specs.Replies.{reply_of}
-use Rattle.grouping_model.specs.declared.delivered.Delivered.{Delivered}
-use Rattle.replica_merge.specs.Replicas.{Parts, Held, told, Fits, AreHeldParts, JoinedAside}
+use Rattle.replica_merge.specs.Replicas.{Parts, Held, told, Fits}
 use Rattle.summary_codec.specs.Reading.{IsSummary}
 use Rattle.script_io.specs.Records.{Record}
 use Rattle.script_commands.specs.Commands.{Request}
+use Rattle.replies.specs.Joining.{JoinsHeld}
+use Rattle.replies.specs.Text.{said_text, is_refusal, is_tape_fault}
+use Rattle.replies.specs.declared.refusal.Refusal.{Refusal}
+use Rattle.replies.specs.declared.refusal.Refusal.TheVariants.{NoMemory, OriginDisagrees, TapeFault, TapeDamaged, NoSuchName}
+use Rattle.replies.specs.declared.reply.Reply.{Reply}
 use Rattle.script_machine.specs.Machine as machine
-use Rattle.script_machine.specs.Machine.{State, Fed, IsBatch, IsReply, MayReply, AgreesAt, after}
-use Rattle.script_machine.specs.Text.{MayRead, line, delivered_text, refusal_name, answer_text, reply_text}
-use Rattle.script_machine.specs.declared.refusal.Refusal.TheVariants.{NoMemory, OriginDisagrees, TapeFault, TapeDamaged, NoSuchName}
-use Rattle.script_machine.specs.Refusals.{tells_fault}
-use Rattle.script_machine.specs.declared.refusal.Refusal.{Refusal}
-use Rattle.script_machine.specs.declared.reply.Reply.{Reply}
-use Rattle.script_machine.specs.declared.reply.Reply.TheVariants as says
-
--- the text of a reply of the code
-abbrev pub said_text : Reply → List ℕ
-said_text (says.Columns count) = line (codes "columns ") (decimal count)
-said_text (says.Query text) = line (codes "query ") (string_bytes text)
-said_text (says.Limit bytes) = line (codes "limit ") (decimal bytes)
-said_text (says.Created name) = line (codes "replica ") name.now
-said_text (says.Delivered delivered) = delivered_text delivered
-said_text says.Merged = line (codes "merged") []
-said_text (says.Saved count) = line (codes "saved ") (decimal count)
-said_text says.Loaded = line (codes "loaded") []
-said_text (says.Listed lines) = lines.items
-said_text (says.Answer rows table) = answer_text rows table.items
-said_text (says.Refused why) = line (codes "refused ") (refusal_name why)
-
-abbrev pub is_refusal : Reply → Bool
-is_refusal (says.Refused why) = true
-is_refusal reply = false
-
--- whether a reply tells that the disk of tapes failed, and how often it does
-abbrev pub is_tape_fault : Reply → Bool
-is_tape_fault (says.Refused why) = tells_fault why
-is_tape_fault reply = false
-
-abbrev pub faults_in : Reply → ℕ
-faults_in reply = if is_tape_fault reply then 1 else 0
-
--- how often it failed in a call that is refused so
-abbrev pub refusal_faults : Refusal → ℕ
-refusal_faults why = faults_in (says.Refused why)
+use Rattle.script_machine.specs.Machine.{State, IsReply, MayReply, AgreesAt, after}
+use Rattle.script_machine.specs.Text.{MayRead, reply_text}
 
 -- what the code keeps: the columns and the query, once they were told, the replicas by their names, the summary files by theirs, and the
 -- limit of aggregations
@@ -156,34 +124,7 @@ pub record Files (old new : Store) (name : List ℕ) (bytes : Vec ℕ Global) : 
   pub others : (other : List ℕ) → bytes_eq name other ≡ false → saved_at new other ≡ saved_at old other
   pub limit : new.limit ≡ old.limit
 
--- a replica took a batch that was fed, over a disk of tapes that may be honest
-pub record Takes (honest : Bool) (origin number : List ℕ) (told_rows : ℕ) (owned : List Record) (old new : Held) (delivered : Delivered) : Type 0 where
-  pub fed : Fed
-  pub is_batch : IsBatch (kinds old.query.columns) origin number told_rows owned fed
-  pub reply : delivered ≡ reply_of (told old.parts) (fed.origin, fed.number)
-  pub learns : told new.parts ≡ learn (told old.parts) (fed.origin, fed.number)
-  pub fits : IsTrue honest → (world : World) → IsWorld (kinds old.query.columns) world → Fits world old → world fed.origin fed.number ≡ Some fed.rows → Fits world new
-  pub asked : new.query ≡ old.query
-
--- a refusal that is of the batch itself
-abbrev pub IsOfBatch : Refusal → Type 0
-IsOfBatch NoMemory = ⊥
-IsOfBatch (OriginDisagrees origin told) = ⊥
-IsOfBatch TapeFault = ⊥
-IsOfBatch TapeDamaged = ⊥
-IsOfBatch why = Unit {0}
-
--- a batch that was fed disagrees with what a replica holds: no world that this fits has the batch
-pub record IsOtherBatch (origin number : List ℕ) (told_rows : ℕ) (owned : List Record) (held : Held) : Type 0 where
-  pub fed : Fed
-  pub is_batch : IsBatch (kinds held.query.columns) origin number told_rows owned fed
-  pub never : (world : World) → Fits world held → ¬ (world fed.origin fed.number ≡ Some fed.rows)
-
 -- what the replicas of two names hold together, or why it is refused
-pub record JoinsHeld (honest : Bool) (own theirs : Held) (joined : Parts) : Type 0 where
-  pub held : AreHeldParts own.query theirs.parts
-  pub aside : JoinedAside honest own.query own.parts theirs.parts joined
-
 abbrev pub JoinRefused : Option Held → Option Held → Refusal → Type 0
 JoinRefused (Some own) (Some theirs) NoMemory = Unit {0}
 JoinRefused (Some own) (Some theirs) TapeFault = Unit {0}

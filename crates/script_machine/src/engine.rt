@@ -6,25 +6,15 @@ ghost use Rattle.script_commands.specs.Commands.{commands_of};
 ghost use Rattle.script_machine.specs.Views.{empty};
 ghost use Rattle.script_machine.specs.Output.{AnswersAll, AnswersSome, KeepsUnread, WritesAll, WritesSome, commands_in};
 
-use crate::error::RunError;
 use crate::lines::Lines;
-use crate::output::put_reply;
-use crate::refusal::Refusal;
-use crate::reply::Reply;
 use crate::session::Session;
 use grouping_model::limits::LONGEST_INPUT;
 use hash_agg::TapeDisk;
+use replies::{Outcome, Refusal, Reply, RunError, put_reply};
 use script_commands::{Command, next_command};
 use script_io::{Records, read_input};
 use std::alloc::Global;
 use std::io::{Read, Write};
-
-/// How a run ended that answered each command.
-#[derive(Clone, Copy, Debug, PartialEq, Eq)]
-pub struct Outcome {
-    /// How many commands were refused.
-    pub refused: u64,
-}
 
 /// Is told of each command that is refused, beside the reply. What it does of that is its own.
 pub trait Observer {

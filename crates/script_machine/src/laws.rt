@@ -6,8 +6,9 @@ ghost use Rattle.hash_agg.specs.declared.means.TheConstants.{LEAST_LIMIT, GREATE
 ghost use Rattle.grouping_model.specs.World.{World};
 ghost use Rattle.script_io.specs.Records.{Record};
 ghost use Rattle.script_commands.specs.Commands.{Command, Request, Answer, Known};
+ghost use Rattle.replies.specs.Batches.{Fed};
 ghost use Rattle.script_machine.specs.Agreement.{after_all, KnowTheSame, OneBatchEach, AreAmong, world_of};
-ghost use Rattle.script_machine.specs.Machine.{State, Reply, Fed, Replies, Agrees, start};
+ghost use Rattle.script_machine.specs.Machine.{State, Reply, Replies, Agrees, start};
 ghost use Rattle.script_machine.specs.Text.{reply_text};
 
 /// A command has one reply, memory being there: the machine's step is a function of what is there and the command. There are never

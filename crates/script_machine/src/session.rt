@@ -4,49 +4,39 @@ ghost use Rattle.std.specs.Prelude.{◌≡◌, ◌≢◌, ◌+◌, ◌<◌, ◌�
 ghost use Rattle.std.specs.HashMap.{UpdatesBy};
 ghost use Rattle.std.specs.Str.{bytes_eq};
 ghost use Rattle.csv.specs.Records.{fields_of};
-ghost use Rattle.grouping_model.specs.Answer.{answer};
-ghost use Rattle.grouping_model.specs.Aggregates.{Outcome};
-ghost use Rattle.grouping_model.specs.World.{World, IsWorld};
-ghost use Rattle.having_filter.specs.Meaning.{meaning};
+ghost use Rattle.grouping_model.specs.World.{World};
 ghost use Rattle.query_checks.specs.Spelling.{spelling};
-ghost use Rattle.having_filter.specs.Kept.{by_names, headers};
+ghost use Rattle.having_filter.specs.Kept.{by_names};
 ghost use Rattle.group_parser.specs.Parsing.{Accepts};
-ghost use Rattle.grouping_model.specs.Replies.{known_list};
 ghost use Rattle.summary_codec.specs.Reading.{IsSummary};
 ghost use Rattle.summary_codec.specs.WorldFile.{world_file};
-ghost use Rattle.replica_merge.specs.Replicas.{Held, Parts, told, Fits, AreHeldParts, JoinedAside};
+ghost use Rattle.replica_merge.specs.Replicas.{Held, told, Fits};
 ghost use Rattle.script_io.specs.Records.{Record};
-ghost use Rattle.table_print.specs.Table.{table_text};
-ghost use Rattle.script_machine.specs.Text.{known_text};
 ghost use Rattle.packed_rows.specs.Columns.{kinds};
 ghost use Rattle.script_commands.specs.Commands as ask;
 ghost use Rattle.script_commands.specs.Commands.{owned_by, request_of};
-ghost use Rattle.script_machine.specs.Machine.{IsNoBatch, IsNoQuery};
-ghost use Rattle.replica_merge.specs.Counting.{aggregations_asked};
-ghost use Rattle.script_machine.specs.Limits.{Worked, FeedWorked, WorksAtLimit};
-ghost use Rattle.script_machine.specs.Views.{Store, IsStore, empty, faults_in, refusal_faults, is_tape_fault, Steps, Takes, IsOfBatch, IsOtherBatch, JoinsNames};
-ghost use Rattle.script_machine.specs.declared.reply.Reply.TheVariants as says;
-ghost use Rattle.script_machine.specs.declared.refusal.Refusal.TheVariants.{NoMemory, OriginDisagrees, TapeDamaged};
+ghost use Rattle.replies.specs.Batches.{IsNoBatch, IsNoQuery, IsOfBatch, IsOtherBatch, Takes};
+ghost use Rattle.replies.specs.Refusals.{refusal_faults};
+ghost use Rattle.replies.specs.Text.{faults_in, is_tape_fault};
+ghost use Rattle.replies.specs.declared.reply.Reply.TheVariants as says;
+ghost use Rattle.replies.specs.declared.refusal.Refusal.TheVariants.{NoMemory, OriginDisagrees, TapeDamaged};
+ghost use Rattle.script_machine.specs.Limits.{FeedWorked, WorksAtLimit};
+ghost use Rattle.script_machine.specs.Views.{Store, IsStore, empty, Steps, JoinsNames};
 ghost use Rattle.spill_tapes.specs.Calls.{failed};
 ghost use Rattle.spill_tapes.specs.Disk.{Leaves};
-ghost use Rattle.spill_lists.specs.Errors.{spill_faults};
-ghost use Rattle.spill_lists.specs.declared.error.SpillError.TheVariants as spill;
 
-use crate::refusal::Refusal;
-use crate::reply::Reply;
-use crate::texts::known_lines;
 use batch_reader::read_rows;
 use group_parser::{parse, print};
-use hash_agg::{Fnv1a, Means, SpillError, TapeDisk, Work};
+use hash_agg::{Fnv1a, Means, TapeDisk, Work};
 use having_filter::Query;
 use indexmap::IndexMap;
 use packed_rows::Schema;
 use replica_merge::{Delivered, Joined, Replica};
+use replies::{Format, Refusal, Reply, join, known_lines, table, take_batch};
 use script_commands::{Command, Request};
 use script_io::Records;
 use std::alloc::{AllocError, Global};
 use std::marker::Model;
-use table_print::print_csv;
 
 /// The columns and the query, once they were told, the replicas by their names, what was saved of them, and the means of
 /// aggregations.
@@ -126,14 +116,11 @@ fn deliver<D: TapeDisk>(
         Ok(batch) => batch,
         Err(why) => return Ok(Err(Refusal::from(why))),
     };
-    match replica.deliver(batch, means, disk, &mut Work::none()) {
-        Ok(delivered) => Ok(Ok(delivered)),
-        Err(refused) => Ok(Err(Refusal::of_origin(refused.batch.origin, refused.why))),
-    }
+    Ok(take_batch(replica, batch, means, disk, &mut Work::none()))
 }
 
 /// The query that a text says, and its canonical text.
-#[tactic(auto, using(crate::proofs::QueryLaws::read_over))]
+#[tactic(auto, using(replies::specs::QueryLaws::read_over))]
 fn read_query(alloc: Global, schema: &Schema, text: &str) -> Result<(Query, String), Refusal>
     ensures read { IfOk result (λ found. Accepts schema.now text.now found.0
         × (string_bytes found.1 ≡ spelling (by_names found.0))) }
@@ -159,39 +146,6 @@ fn new_replica(alloc: Global, name: &[u8], query: &Query) -> Result<(Vec<u8>, Re
     let key = name.to_vec(alloc)?;
     let query = query.try_clone()?;
     Ok((key, Replica::new(alloc, query)))
-}
-
-/// The lines of what a replica knows.
-fn known_of_replica(alloc: Global, replica: &Replica) -> Result<Vec<u8>, AllocError>
-    ensures { IfOk result (λ lines. lines.items ≡ known_text (known_list (told replica.now.parts))) }
-{
-    let list = replica.known()?;
-    known_lines(alloc, &list)
-}
-
-/// How many rows a replica's answer has, and its table.
-fn answer_of_replica<D: TapeDisk>(
-    alloc: Global,
-    replica: &Replica,
-    means: &Means<Fnv1a>,
-    disk: &mut D,
-) -> Result<(usize, Vec<u8>), SpillError>
-    ensures answer { IfOk result (λ found. IsTrue (D.honest disk.old) → (world : World) → IsWorld (kinds replica.now.query.columns) world
-        → Fits world replica.now → (found.0 ≡ length (answer (meaning replica.now.query) world
-        (told replica.now.parts))) × (found.1.items ≡ table_text (headers replica.now.query) (answer
-        (meaning replica.now.query) world (told replica.now.parts)))) }
-    ensures shown { IfOk result (λ found. (rows : List (List Outcome)) × ((found.0 ≡ length rows) × (found.1.items ≡ table_text (headers replica.now.query) rows))) }
-    ensures limit { OnOk result (IsTrue (D.honest disk.old) →
-        Worked (meaning replica.now.query) means.now.limit (aggregations_asked replica.now.parts)
-        (D.writes disk.old) (D.writes disk.new)) }
-    ensures undamaged { IfErr result (λ error. IsTrue (D.honest disk.old) → error ≢ spill.TapeDamaged) }
-    ensures disk { Leaves D.TapeDisk (failed spill_faults result) disk.old disk.new }
-{
-    let answer = replica.answer(means, disk, &mut Work::none())?;
-    let table = print_csv(alloc, replica.query(), &answer);
-    let rows = answer.len();
-    drop(answer);
-    Ok((rows, table?))
 }
 
 /// The summary file of a replica, behind a copy of the name that it is saved under.
@@ -368,7 +322,7 @@ impl Session {
     {
         match self.replicas.get(name) {
             None => Reply::Refused(Refusal::NoSuchName),
-            Some(replica) => match known_of_replica(self.alloc, replica) {
+            Some(replica) => match known_lines(self.alloc, replica) {
                 Ok(lines) => Reply::Listed(lines),
                 Err(_) => Reply::Refused(Refusal::NoMemory),
             },
@@ -384,7 +338,14 @@ impl Session {
     {
         match self.replicas.get(name) {
             None => Reply::Refused(Refusal::NoSuchName),
-            Some(replica) => match answer_of_replica(self.alloc, replica, &self.means, disk) {
+            Some(replica) => match table(
+                self.alloc,
+                replica,
+                Format::Csv,
+                &self.means,
+                disk,
+                &mut Work::none(),
+            ) {
                 Ok((rows, table)) => Reply::Answer { rows, table },
                 Err(error) => Reply::Refused(Refusal::from(error)),
             },
@@ -405,11 +366,8 @@ impl Session {
         let Some(theirs) = self.replicas.get(from) else {
             return Err(Refusal::NoSuchName);
         };
-        match own.join(theirs, &self.means, disk, &mut Work::none()) {
-            Ok(joined) => Ok(joined),
-            // Since all replicas have the query that was told, it is never `DifferentQuery`.
-            Err(error) => Err(Refusal::from(error)),
-        }
+        // Since all replicas have the query that was told, it is never `DifferentQuery`.
+        join(own, theirs, &self.means, disk, &mut Work::none())
     }
 
     /// Answers `merge`.

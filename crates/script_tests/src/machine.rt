@@ -1,6 +1,7 @@
 use batch_reader::BatchError;
 use hash_agg::MemDisk;
-use script_machine::{Refusal, RunError, name, run};
+use replies::{Refusal, RunError, name};
+use script_machine::run;
 use std::alloc::{AllocError, Global};
 use std::io;
 use std::io::{Error, ErrorKind, Read};

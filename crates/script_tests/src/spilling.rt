@@ -1,7 +1,8 @@
 //! Groups that a limit has spilled, to disks some of which fail.
 
 use hash_agg::{MemDisk, TapeDisk};
-use script_machine::{Outcome, RunError, run};
+use replies::{Outcome, RunError};
+use script_machine::run;
 use spill_tapes::{FailDisk, FileDisk};
 use std::alloc::{AllocError, Global};
 use std::test::*;

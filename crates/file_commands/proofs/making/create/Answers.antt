@@ -1,7 +1,7 @@
 use Rattle.std.specs.Prelude.{◌≢◌, IfErr}
 use Rattle.std.proofs.Common.{◌∙◌, sym, subst}
 use Rattle.std.proofs.lemmas.Result.{err_from_is_err_and}
-use Rattle.script_machine.specs.declared.refusal.Refusal.TheVariants.{NoMemory}
+use Rattle.replies.specs.declared.refusal.Refusal.TheVariants.{NoMemory}
 use Rattle.file_commands.specs.Commands.{IsNew, IsNotNew}
 use Rattle.file_commands.proofs.FileLaws.{no_columns, new_replica}
 use Rattle.file_commands.proofs.making.create.Goals as goal

@@ -3,11 +3,12 @@ use Rattle.std.proofs.Common.{◌∙◌, ap, inr, sym, subst}
 use Rattle.std.proofs.lemmas.Result.{err_from_is_err_and}
 use Rattle.spill_tapes.specs.Disk.{Leaves}
 use Rattle.spill_tapes.specs.DiskLaws.{leaves_none}
-use Rattle.script_machine.specs.Views.{refusal_faults}
+use Rattle.replies.specs.Refusals.{refusal_faults}
 use Rattle.grouping_model.specs.World.{World}
 use Rattle.replica_merge.specs.Replicas.{Held, Fits}
-use Rattle.script_machine.specs.declared.refusal.Refusal.TheVariants.{OriginDisagrees}
-use Rattle.file_commands.specs.Commands.{MergesHeld, IsApart, MergesFile, FileMergeIsCounted, IsNotMerged}
+use Rattle.replies.specs.declared.refusal.Refusal.TheVariants.{OriginDisagrees}
+use Rattle.replies.specs.Joining.{IsApart}
+use Rattle.file_commands.specs.Commands.{MergesHeld, MergesFile, FileMergeIsCounted, IsNotMerged}
 use Rattle.file_commands.proofs.FileLaws.{if_err, on_ok, no_file_fault}
 use Rattle.file_commands.proofs.merging.merge.Goals as goal
 

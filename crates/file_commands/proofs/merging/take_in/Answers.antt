@@ -1,25 +1,23 @@
-use Rattle.std.specs.Prelude.{refl}
-use Rattle.std.proofs.Common.{◌∙◌, ap, sym, subst}
-use Rattle.spill_tapes.specs.Disk.{Leaves}
-use Rattle.script_machine.specs.Views.{refusal_faults}
-use Rattle.file_commands.specs.Commands.{IsApart}
-use Rattle.script_machine.proofs.FeedLaws.{merge_tells, merge_damage}
-use Rattle.file_commands.proofs.FileLaws.{told_disagreement}
+use Rattle.std.specs.Prelude.{◌≡◌}
+use Rattle.std.proofs.Common.{subst}
+use Rattle.query_checks.specs.Checks.{Checked}
+use Rattle.replica_merge.specs.Replicas.{Held, Fits}
 use Rattle.file_commands.proofs.merging.take_in.Goals as goal
 
-pub returns-in-Err-clause-why : goal.returns-in-Err-clause-why
-returns-in-Err-clause-why g c =
-    subst (IsApart c.args.replica.now c.args.other.now) (sym c.from.ensures)
-    (c.in-Err.error, refl, c.in-Err.ensures.tells)
+pub commit-requires : goal.commit-requires
+commit-requires g c =
+    let joins = c.in_ok-joined.ensures.joined in (g.D.TapeDisk.honest c.args.disk.now, c.args.other.now.parts, joins.held, joins.aside)
 
-pub returns-in-Err-clause-agree : goal.returns-in-Err-clause-agree
-returns-in-Err-clause-agree g c =
-    λ of at is world own theirs. c.in-Err.ensures.agree of at (told_disagreement c.in-Err.error of at (sym c.from.ensures ∙ is)) world own theirs
-
-pub returns-in-Err-clause-disk : goal.returns-in-Err-clause-disk
-returns-in-Err-clause-disk g c =
-    subst (λ n. Leaves g.D.TapeDisk n c.args.disk.now c.merge.new.disk) (merge_tells c.in-Err.error ∙ ap refusal_faults (sym c.from.ensures)) c.in-Err.ensures.disk
-
-pub returns-in-Err-clause-undamaged : goal.returns-in-Err-clause-undamaged
-returns-in-Err-clause-undamaged g c = λ honest is.
-    let damaged = merge_damage c.in-Err.error (sym c.from.ensures ∙ is) in c.in-Err.ensures.undamaged honest damaged.0 damaged.1
+pub returns-clause-merged : goal.returns-clause-merged
+returns-clause-merged g c =
+    let honest = g.D.TapeDisk.honest c.args.disk.now in
+    let joins = c.in_ok-joined.ensures.joined in
+    let other : Held = c.args.other.now in
+    record {
+      same = joins.same;
+      asked = c.commit.ensures.query;
+      agree = joins.agree;
+      knows = c.commit.ensures.told honest other.parts joins.held joins.aside;
+      fits = λ right world is fits theirs.
+          c.commit.ensures.fits honest right other.parts joins.held joins.aside world is fits (subst (λ (q : Checked). Fits world (record { query = q; parts = other.parts })) joins.same theirs);
+    }

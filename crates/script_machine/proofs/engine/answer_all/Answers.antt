@@ -4,10 +4,9 @@ use Rattle.std.proofs.Math.Nat.{le_of_eq}
 use Rattle.std.proofs.lemmas.List.{length-drop}
 use Rattle.csv.specs.Records.{fields_of}
 use Rattle.script_commands.specs.Commands.{command_at, owned_by}
-use Rattle.script_machine.specs.Views.{is_refusal}
-use Rattle.script_machine.specs.declared.error.RunError.TheVariants as stop
-use Rattle.script_machine.proofs.OutputLaws.{passed_as}
-use Rattle.script_machine.proofs.RunLaws.{honest_steps, ran_front, ran_more, ran_start, ran_stop}
+use Rattle.replies.specs.Text.{is_refusal}
+use Rattle.replies.specs.declared.error.RunError.TheVariants as stop
+use Rattle.script_machine.proofs.RunLaws.{passed_as, honest_steps, ran_front, ran_more, ran_start, ran_stop}
 use Rattle.script_machine.proofs.engine.answer_all.Goals as goal
 use Rattle.script_machine.proofs.engine.answer_all.Goals.{then-is_refused, else-is_refused}
 

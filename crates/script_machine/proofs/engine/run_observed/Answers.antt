@@ -1,7 +1,6 @@
 use Rattle.std.proofs.Common.{arith}
-use Rattle.script_machine.specs.Output.{run_error}
-use Rattle.script_machine.proofs.OutputLaws.{passed_as}
-use Rattle.script_machine.proofs.RunLaws.{stops_unread, stops_read}
+use Rattle.replies.specs.Refusals.{run_error}
+use Rattle.script_machine.proofs.RunLaws.{passed_as, stops_unread, stops_read}
 use Rattle.script_machine.proofs.engine.run_observed.Goals as goal
 
 pub returns-in_err-script-clause-stopped : goal.returns-in_err-script-clause-stopped

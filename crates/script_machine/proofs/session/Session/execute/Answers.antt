@@ -10,11 +10,12 @@ use Rattle.script_commands.proofs.CommandLaws.{owned_told}
 use Rattle.spill_tapes.specs.Disk.{Leaves}
 use Rattle.spill_tapes.specs.DiskLaws.{leaves_none}
 use Rattle.script_machine.specs.Limits.{WorksAtLimit}
-use Rattle.script_machine.specs.Views.{Steps, is_tape_fault, faults_in}
-use Rattle.script_machine.specs.declared.reply.Reply.{Reply}
-use Rattle.script_machine.specs.declared.refusal.Refusal.TheVariants as why
-use Rattle.script_machine.specs.declared.reply.Reply.TheVariants as says
-use Rattle.script_machine.proofs.FeedLaws.{no_fault_in}
+use Rattle.replies.specs.Text.{is_tape_fault, faults_in}
+use Rattle.script_machine.specs.Views.{Steps}
+use Rattle.replies.specs.declared.reply.Reply.{Reply}
+use Rattle.replies.specs.declared.refusal.Refusal.TheVariants as why
+use Rattle.replies.specs.declared.reply.Reply.TheVariants as says
+use Rattle.replies.specs.RefusalLaws.{no_fault_in}
 use Rattle.script_machine.proofs.StoreLaws.{refused}
 use Rattle.script_machine.proofs.session.Session.execute.Goals as goal
 use Rattle.script_machine.proofs.session.Session.execute.Goals.{in-Columns, in-Query, in-Limit, in-Replica, in-Known, in-Answer, in-Merge, in-Save, in-Load, in-Unknown}

@@ -1,8 +1,8 @@
 use Rattle.std.proofs.Common.{sym, subst}
 use Rattle.script_commands.specs.Commands as ask
 use Rattle.script_machine.specs.Views.{Steps}
-use Rattle.script_machine.specs.declared.refusal.Refusal.TheVariants as why
-use Rattle.script_machine.specs.declared.reply.Reply.TheVariants as says
+use Rattle.replies.specs.declared.refusal.Refusal.TheVariants as why
+use Rattle.replies.specs.declared.reply.Reply.TheVariants as says
 use Rattle.script_machine.proofs.StoreLaws.{known_nowhere_at, known_listed, out_of_memory}
 use Rattle.script_machine.proofs.session.Session.known.Goals as goal
 

@@ -8,8 +8,8 @@ use Rattle.summary_codec.specs.Reading.{IsSummary}
 use Rattle.replica_merge.specs.Replicas.{Held}
 use Rattle.script_commands.specs.Commands as ask
 use Rattle.script_machine.specs.Views.{Store, Steps}
-use Rattle.script_machine.specs.declared.refusal.Refusal.TheVariants as why
-use Rattle.script_machine.specs.declared.reply.Reply.TheVariants as says
+use Rattle.replies.specs.declared.refusal.Refusal.TheVariants as why
+use Rattle.replies.specs.declared.reply.Reply.TheVariants as says
 use Rattle.script_machine.proofs.StoreLaws.{load_nowhere, loaded, loaded_asks, updated, store_updated, same_entries, no_memory_same, out_of_memory}
 use Rattle.script_machine.proofs.session.Session.load.Goals as goal
 

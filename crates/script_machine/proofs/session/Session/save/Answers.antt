@@ -6,8 +6,8 @@ use Rattle.std.specs.Str.{bytes_eq}
 use Rattle.std.specs.HashMap.{UpdatesBy}
 use Rattle.script_commands.specs.Commands as ask
 use Rattle.script_machine.specs.Views.{Store, Steps}
-use Rattle.script_machine.specs.declared.refusal.Refusal.TheVariants as why
-use Rattle.script_machine.specs.declared.reply.Reply.TheVariants as says
+use Rattle.replies.specs.declared.refusal.Refusal.TheVariants as why
+use Rattle.replies.specs.declared.reply.Reply.TheVariants as says
 use Rattle.script_machine.proofs.StoreLaws.{save_nowhere, saved_as, filed, store_filed, same_files, held_asks, no_memory_same, out_of_memory}
 use Rattle.script_machine.proofs.session.Session.save.Goals as goal
 

@@ -2,7 +2,7 @@ use Rattle.std.proofs.Common.{sym, ap, subst}
 use Rattle.hash_agg.specs.Means.{MeansState}
 use Rattle.script_commands.specs.Commands as ask
 use Rattle.script_machine.specs.Views.{Store, Steps}
-use Rattle.script_machine.specs.declared.reply.Reply.TheVariants as says
+use Rattle.replies.specs.declared.reply.Reply.TheVariants as says
 use Rattle.script_machine.proofs.StoreLaws.{limit_refused, limit_told}
 use Rattle.script_machine.proofs.session.Session.tell_limit.Goals as goal
 

@@ -1,0 +1,84 @@
+-- What lower crates refuse, as replies name it: their own errors, but for want of memory. All of this is our own.
+use Rattle.std.specs.Prelude.{ℕ, Bool, true, false, if◌then◌else◌}
+use Rattle.packed_rows.specs.declared.error.RowError.{RowError}
+use Rattle.packed_rows.specs.declared.error.RowError.TheVariants as row
+use Rattle.batch_reader.specs.declared.error.BatchError.{BatchError}
+use Rattle.batch_reader.specs.declared.error.BatchError.TheVariants as batch
+use Rattle.query_checks.specs.declared.error.QueryError.TheVariants as checks
+use Rattle.group_parser.specs.declared.error.ParseError.{ParseError}
+use Rattle.group_parser.specs.declared.error.ParseError.TheVariants as parse
+use Rattle.summary_codec.specs.declared.error.SummaryError.{SummaryError}
+use Rattle.summary_codec.specs.declared.error.SummaryError.TheVariants as summary
+use Rattle.spill_lists.specs.declared.error.SpillError.{SpillError}
+use Rattle.spill_lists.specs.declared.error.SpillError.TheVariants as spill
+use Rattle.origin_prefix.specs.declared.error.JoinError.{JoinError}
+use Rattle.origin_prefix.specs.declared.error.JoinError.TheVariants as join
+use Rattle.replica_merge.specs.declared.error.MergeError.{MergeError}
+use Rattle.replica_merge.specs.declared.error.MergeError.TheVariants as merge
+use Rattle.script_io.specs.declared.input.InputError.{InputError}
+use Rattle.script_io.specs.declared.input.InputError.TheVariants as input
+use Rattle.replies.specs.declared.error.RunError.{RunError}
+use Rattle.replies.specs.declared.error.RunError.TheVariants as stop
+use Rattle.replies.specs.declared.refusal.Refusal.{Refusal}
+use Rattle.replies.specs.declared.refusal.Refusal.TheVariants.{NoMemory, BadSchema, Limit, Query, Batch, Summary, DifferentQuery, OriginDisagrees, TapeFault, TapeDamaged, Run}
+
+-- a limit out of its range
+abbrev pub limit_out_of_range : Refusal
+limit_out_of_range = Limit (record {})
+
+-- whether a refusal tells that the disk of tapes failed
+abbrev pub tells_fault : Refusal → Bool
+tells_fault TapeFault = true
+tells_fault refusal = false
+
+-- how often it failed in a call that is refused so
+abbrev pub refusal_faults : Refusal → ℕ
+refusal_faults why = if tells_fault why then 1 else 0
+
+-- the refusal of columns
+abbrev pub columns_refusal : RowError → Refusal
+columns_refusal row.NoMemory = NoMemory
+columns_refusal error = BadSchema
+
+-- the refusal of a batch
+abbrev pub batch_refusal : BatchError → Refusal
+batch_refusal batch.NoMemory = NoMemory
+batch_refusal error = Batch error
+
+-- the refusal of a query's text
+abbrev pub query_refusal : ParseError → Refusal
+query_refusal (parse.Query checks.NoMemory) = NoMemory
+query_refusal error = Query error
+
+-- the refusal of bytes that are no summary file
+abbrev pub summary_refusal : SummaryError → Refusal
+summary_refusal summary.NoMemory = NoMemory
+summary_refusal error = Summary error
+
+-- the refusal of an aggregation
+abbrev pub spill_refusal : SpillError → Refusal
+spill_refusal spill.NoMemory = NoMemory
+spill_refusal spill.TapeFault = TapeFault
+spill_refusal spill.TapeDamaged = TapeDamaged
+
+-- the refusal of a batch or of a part of an origin
+abbrev pub join_refusal : (origin : ℕ) → JoinError → Refusal
+join_refusal origin (join.OriginDisagrees number) = OriginDisagrees origin number
+join_refusal origin (join.Spill error) = spill_refusal error
+
+-- the refusal of a replica that another does not take in
+abbrev pub merge_refusal : MergeError → Refusal
+merge_refusal merge.DifferentQuery = DifferentQuery
+merge_refusal merge.NoMemory = NoMemory
+merge_refusal (merge.Join origin why) = join_refusal origin why
+
+-- why a run stops that could not read its script
+abbrev pub run_error : InputError → RunError
+run_error input.NoMemory = stop.NoMemory
+run_error input.TooLong = stop.InputTooLong
+run_error input.ReadFault = stop.ReadFault
+
+-- the refusal of a run that stopped
+abbrev pub run_refusal : RunError → Refusal
+run_refusal stop.NoMemory = NoMemory
+run_refusal error = Run error

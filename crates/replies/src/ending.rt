@@ -1,0 +1,61 @@
+//! How a command of the program ends, and the status of the process that tells it.
+
+ghost use Rattle.std.specs.Prelude.{◌≡◌};
+ghost use Rattle.replies.specs.Status.{status_of, run_ending, refusal_ending};
+
+use crate::error::RunError;
+use crate::refusal::Refusal;
+
+/// How a run ended that answered each command of its script.
+#[derive(Clone, Copy, Debug, PartialEq, Eq)]
+pub struct Outcome {
+    /// How many commands were refused.
+    pub refused: u64,
+}
+
+/// How a command ended.
+#[derive(Clone, Copy, Debug, PartialEq, Eq)]
+pub enum Ending {
+    /// All was done, or help or the version was shown.
+    Done,
+    /// Something was refused.
+    Refused,
+    /// The words are no command line.
+    BadUsage,
+    /// A file or a stream could not be read or written.
+    Fault,
+}
+
+/// The status of the process after a command.
+pub fn status(ending: Ending) -> u8
+    ensures { result ≡ status_of ending }
+{
+    match ending {
+        Ending::Done => 0,
+        Ending::Refused => 1,
+        Ending::BadUsage => 2,
+        Ending::Fault => 3,
+    }
+}
+
+/// How a command ends that was refused.
+pub fn refusal_ending(why: Refusal) -> Ending
+    ensures { result ≡ refusal_ending why }
+{
+    match why {
+        Refusal::Run(RunError::ReadFault | RunError::WriteFault) => Ending::Fault,
+        _ => Ending::Refused,
+    }
+}
+
+/// How a script's run ends.
+pub fn run_ending(run: &Result<Outcome, RunError>) -> Ending
+    ensures { result ≡ run_ending run.now }
+{
+    match run {
+        Ok(outcome) if outcome.refused == 0 => Ending::Done,
+        Ok(_) => Ending::Refused,
+        Err(RunError::NoMemory | RunError::InputTooLong) => Ending::Refused,
+        Err(RunError::ReadFault | RunError::WriteFault) => Ending::Fault,
+    }
+}

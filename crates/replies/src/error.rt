@@ -1,0 +1,66 @@
+//! Why a script, or another file, could not be read whole or be written.
+
+ghost use Rattle.std.specs.Prelude.{◌≡◌};
+ghost use Rattle.replies.specs.Refusals.{run_error, run_refusal};
+ghost use Rattle.replies.specs.declared.error.RunError.TheVariants.{NoMemory, WriteFault};
+
+use crate::refusal::Refusal;
+use script_io::{InputError, WriteFault};
+use std::alloc::AllocError;
+use thiserror::Error;
+
+/// Why a run stopped before the end of its script; of a file that is read or written whole, why it was not.
+#[derive(Clone, Copy, Debug, PartialEq, Eq, Error)]
+pub enum RunError {
+    /// Memory ran out for the script or for its next command. The commands before were answered.
+    #[error("out of memory")]
+    NoMemory,
+    /// The script, or the file, has more than 67,108,864 bytes. Nothing was written.
+    #[error("more than 67,108,864 bytes")]
+    InputTooLong,
+    /// The reader failed, or was interrupted. Nothing was written.
+    #[error("the input could not be read")]
+    ReadFault,
+    /// The writer failed, was interrupted or took no byte. What was written is the front of the output.
+    #[error("the output could not be written")]
+    WriteFault,
+}
+
+impl From<InputError> for RunError {
+    ghost from_gives = { λ error e. e ≡ run_error error };
+
+    fn from(error: InputError) -> RunError {
+        match error {
+            InputError::NoMemory => RunError::NoMemory,
+            InputError::TooLong => RunError::InputTooLong,
+            InputError::ReadFault => RunError::ReadFault,
+        }
+    }
+}
+
+impl From<AllocError> for RunError {
+    ghost from_gives = { λ _ e. e ≡ NoMemory };
+
+    fn from(_error: AllocError) -> RunError {
+        RunError::NoMemory
+    }
+}
+
+impl From<WriteFault> for RunError {
+    ghost from_gives = { λ _ e. e ≡ WriteFault };
+
+    fn from(_error: WriteFault) -> RunError {
+        RunError::WriteFault
+    }
+}
+
+impl From<RunError> for Refusal {
+    ghost from_gives = { λ error refusal. refusal ≡ run_refusal error };
+
+    fn from(error: RunError) -> Refusal {
+        match error {
+            RunError::NoMemory => Refusal::NoMemory,
+            error => Refusal::Run(error),
+        }
+    }
+}

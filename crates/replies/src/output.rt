@@ -1,0 +1,94 @@
+//! Writing replies.
+
+ghost use Rattle.std.specs.Prelude.{◌≡◌, ◌++◌, decimal, MatchResult};
+ghost use Rattle.std.specs.Io.KnownBytes.{Appends};
+ghost use Rattle.script_io.specs.Output.{TakesFront};
+ghost use Rattle.replies.specs.Text.{line, delivered_text, answer_text, said_text};
+
+use crate::refusal::name;
+use crate::reply::Reply;
+use itoa::Buffer;
+use replica_merge::Delivered;
+use script_io::{WriteFault, put_all};
+use std::io::Write;
+
+/// Writes two pieces, one after the other.
+fn put_two<W: Write>(writer: &mut W, first: &[u8], second: &[u8]) -> Result<(), WriteFault>
+    ensures { MatchResult result
+        (λ _. Appends (W.contents writer.old) (W.contents writer.new) (first.now ++ second.now))
+        (λ _. TakesFront (W.contents writer.old) (W.contents writer.new)
+        (first.now ++ second.now)) }
+{
+    put_all(writer, first)?;
+    put_all(writer, second)
+}
+
+/// Writes a line of a word and what follows it.
+fn put_line<W: Write>(writer: &mut W, word: &[u8], rest: &[u8]) -> Result<(), WriteFault>
+    ensures { MatchResult result
+        (λ _. Appends (W.contents writer.old) (W.contents writer.new) (line word.now rest.now))
+        (λ _. TakesFront (W.contents writer.old) (W.contents writer.new)
+        (line word.now rest.now)) }
+{
+    put_two(writer, word, rest)?;
+    put_all(writer, b"\n")
+}
+
+/// Writes a line of a word and a number.
+fn put_count<W: Write>(writer: &mut W, word: &[u8], count: usize) -> Result<(), WriteFault>
+    ensures { MatchResult result
+        (λ _. Appends (W.contents writer.old) (W.contents writer.new)
+        (line word.now (decimal count)))
+        (λ _. TakesFront (W.contents writer.old) (W.contents writer.new)
+        (line word.now (decimal count))) }
+{
+    put_line(writer, word, Buffer::new().format(count).as_bytes())
+}
+
+/// Writes what became of a batch.
+fn put_delivered<W: Write>(writer: &mut W, delivered: Delivered) -> Result<(), WriteFault>
+    ensures { MatchResult result
+        (λ _. Appends (W.contents writer.old) (W.contents writer.new) (delivered_text delivered))
+        (λ _. TakesFront (W.contents writer.old) (W.contents writer.new)
+        (delivered_text delivered)) }
+{
+    match delivered {
+        Delivered::Folded { upto } => put_count(writer, b"folded upto ", upto as usize),
+        Delivered::Early => put_line(writer, b"early", b""),
+        Delivered::Known => put_line(writer, b"known", b""),
+    }
+}
+
+/// Writes an answer: how many rows it has, and its table.
+fn put_answer<W: Write>(writer: &mut W, rows: usize, table: &[u8]) -> Result<(), WriteFault>
+    ensures { MatchResult result
+        (λ _. Appends (W.contents writer.old) (W.contents writer.new)
+        (answer_text rows table.now))
+        (λ _. TakesFront (W.contents writer.old) (W.contents writer.new)
+        (answer_text rows table.now)) }
+{
+    put_count(writer, b"answer ", rows)?;
+    put_all(writer, table)
+}
+
+/// Writes the text of a reply. It takes no memory.
+pub fn put_reply<W: Write>(writer: &mut W, reply: &Reply<'_>) -> Result<(), WriteFault>
+    ensures { MatchResult result
+        (λ _. Appends (W.contents writer.old) (W.contents writer.new) (said_text reply.now))
+        (λ _. TakesFront (W.contents writer.old) (W.contents writer.new)
+        (said_text reply.now)) }
+{
+    match reply {
+        Reply::Columns(count) => put_count(writer, b"columns ", *count),
+        Reply::Query(text) => put_line(writer, b"query ", text.as_bytes()),
+        Reply::Limit(bytes) => put_count(writer, b"limit ", *bytes as usize),
+        Reply::Created(name) => put_line(writer, b"replica ", *name),
+        Reply::Delivered(delivered) => put_delivered(writer, *delivered),
+        Reply::Merged => put_line(writer, b"merged", b""),
+        Reply::Saved(count) => put_count(writer, b"saved ", *count),
+        Reply::Loaded => put_line(writer, b"loaded", b""),
+        Reply::Listed(lines) => put_all(writer, lines),
+        Reply::Answer { rows, table } => put_answer(writer, *rows, table),
+        Reply::Refused(why) => put_line(writer, b"refused ", name(*why).as_bytes()),
+    }
+}

@@ -1,0 +1,43 @@
+//! The reply to a command.
+
+ghost use Rattle.std.specs.Prelude.{◌≡◌};
+ghost use Rattle.replies.specs.Text.{is_refusal};
+
+use crate::refusal::Refusal;
+use replica_merge::Delivered;
+
+/// The reply to a command.
+#[derive(Drop)]
+pub enum Reply<'c> {
+    /// There are so many columns.
+    Columns(usize),
+    /// The query, in its canonical text.
+    Query(String),
+    /// The limit is so many bytes.
+    Limit(u64),
+    /// There is a replica of this name now.
+    Created(&'c [u8]),
+    /// What became of a batch.
+    Delivered(Delivered),
+    /// A replica knows what another knew, too.
+    Merged,
+    /// What a replica knows was saved as a file of so many bytes.
+    Saved(usize),
+    /// A replica knows what was saved.
+    Loaded,
+    /// What a replica knows, in its lines.
+    Listed(Vec<u8>),
+    /// An answer: how many rows it has, and its table.
+    Answer { rows: usize, table: Vec<u8> },
+    /// The command changed nothing.
+    Refused(Refusal),
+}
+
+impl Reply<'_> {
+    /// Whether the command was refused.
+    pub fn is_refused(&self) -> bool
+        ensures { result ≡ is_refusal self.now }
+    {
+        matches!(self, Reply::Refused(_))
+    }
+}
