@@ -37,6 +37,7 @@ query_name checks.TypeMismatch = codes "TypeMismatch"
 query_name checks.AggregateHere = codes "AggregateHere"
 query_name checks.TooMany = codes "TooMany"
 query_name checks.TooDeep = codes "TooDeep"
+query_name checks.AmbiguousOrder = codes "AmbiguousOrder"
 
 abbrev pub parse_name : ParseError → List ℕ
 parse_name (parse.Syntax at) = codes "Syntax"

@@ -82,6 +82,7 @@ fn query_name(error: QueryError) -> &'static str
         QueryError::AggregateHere => "AggregateHere",
         QueryError::TooMany => "TooMany",
         QueryError::TooDeep => "TooDeep",
+        QueryError::AmbiguousOrder => "AmbiguousOrder",
     }
 }
 
