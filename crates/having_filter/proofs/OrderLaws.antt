@@ -7,12 +7,12 @@ use Rattle.grouping_model.specs.declared.limits.TheConstants.{MOST_ITEMS}
 use Rattle.query_checks.specs.Writable.{IsTerm}
 use Rattle.std.proofs.Math.Dec.{leb}
 use Rattle.std.specs.List.{AllByRecursion, list_any, list_all, filter_map, cons_option}
-use Rattle.std.proofs.lemmas.Bool.{le-leb, leb-true, and_parts, and_from, cond-true, cond-false}
+use Rattle.std.proofs.lemmas.Bool.{le-leb, leb-true, and_parts, and_from, cond-true}
 use Rattle.std.proofs.lemmas.List.{length-map}
 use Rattle.std.proofs.lemmas.List.Quantifiers.{position-Some}
 use Rattle.query_checks.specs.declared.order.OrderTerm.{OrderTerm}
 use Rattle.query_checks.specs.Forms.{Form, Column}
-use Rattle.query_checks.specs.Order.{Target, By_name, By_place, Term, Asked, has_name, item_at, item_meant, is_ambiguous, ordered_by, term_meant, same_item, order_of, names_items, is_ambiguously_ordered}
+use Rattle.query_checks.specs.Order.{Target, By_name, By_place, Term, Asked, has_name, item_at, item_meant, is_ambiguous, ordered_by, term_meant, same_item, order_of, names_items}
 use Rattle.query_checks.specs.Sameness.{first_of_each}
 use Rattle.query_checks.specs.Spelling.{nulls_said, canonical_item, canonical_term, canonical}
 use Rattle.query_checks.specs.Checks.{checked_order}

@@ -1,6 +1,5 @@
 -- The terms of ORDER BY, as the code goes over them.
 use Rattle.std.proofs.Common.{◌≡◌, ℕ, ◌+◌, ◌<◌, take, get_or, Bool, true, false, cond, not, List, [], ◌∷◌, ◌++◌, map, length, find, position, Option, Some, None, option_map, refl, ap, sym, ◌∙◌, String, Global}
-use Rattle.std.proofs.Math.Dec.{ltb}
 use Rattle.std.specs.List.{list_any, list_all, filter_map, cons_option, prefix_len}
 use Rattle.std.specs.Option.{option_map_or}
 use Rattle.std.proofs.lemmas.List.{length-map, append-nil}

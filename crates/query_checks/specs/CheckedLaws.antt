@@ -1,11 +1,10 @@
 -- Laws: what each check that fails gives; nothing here is a definition.
-use Rattle.std.proofs.Common.{◌≡◌, ◌≢◌, ℕ, true, false, List, sym, subst, ◌∙◌, ap, not}
+use Rattle.std.proofs.Common.{◌≡◌, ◌≢◌, true, false, List, sym, subst, ◌∙◌, ap, not}
 use Rattle.std.specs.Prelude.{◌&&◌, Result, Ok, Err, IfErr}
 use Rattle.std.specs.Result.{IsErrAnd}
 use Rattle.std.proofs.lemmas.Bool.{cond-true, cond-false, and_from}
 use Rattle.packed_rows.specs.Columns.{Column}
 use Rattle.query_checks.specs.declared.error.QueryError.{QueryError}
-use Rattle.query_checks.specs.declared.error.QueryError.TheVariants as error
 use Rattle.query_checks.specs.declared.error.QueryError.TheVariants.{NoMemory, TooMany, TooDeep, NoSuchColumn}
 use Rattle.query_checks.specs.Order.{Asked, names_items}
 use Rattle.query_checks.specs.Reads.{filters_pass}

@@ -1,6 +1,6 @@
 -- ORDER BY: its terms as they are written, and the items that they mean (PostgreSQL 17, 7.5 Sorting Rows, and SELECT, ORDER
 -- BY Clause; that a term is the name or the place of an item, and no other expression, is our own).
-use Rattle.std.specs.Prelude.{ℕ, ◌-◌, ◌==◌, ◌&&◌, not, nat_le, ℤ, pos, Bool, true, false, if◌then◌else◌, List, length, map, string_bytes, Option, Some, None, option_map, is_some, unwrap_or, position, find}
+use Rattle.std.specs.Prelude.{ℕ, ◌-◌, ◌==◌, ◌&&◌, not, nat_le, ℤ, pos, Bool, false, if◌then◌else◌, List, length, map, string_bytes, Option, Some, None, option_map, is_some, unwrap_or, position, find}
 use Rattle.std.specs.List.{list_any, list_all, filter_map}
 use Rattle.std.specs.Option.{option_map_or}
 use Rattle.std.specs.Str.{bytes_eq}

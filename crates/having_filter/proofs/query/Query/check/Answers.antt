@@ -1,4 +1,4 @@
-use Rattle.std.proofs.Common.{◌∙◌, subst, map}
+use Rattle.std.proofs.Common.{subst, map}
 use Rattle.std.specs.String.{string_bytes}
 use Rattle.packed_rows.specs.Columns.{AreColumns}
 use Rattle.query_checks.specs.Order.{asked_of}
