@@ -6,7 +6,7 @@ use Rattle.std.proofs.lemmas.Bool.{eqb-true, false≢true}
 use Rattle.std.proofs.lemmas.Slice.Eq.{bytes_eq-Decides}
 use Rattle.query_tokens.specs.declared.word.Symbol.{Symbol}
 use Rattle.query_tokens.specs.declared.word.Symbol.TheVariants as symbols
-use Rattle.query_tokens.specs.Words.{Lexeme, Name, Integer, Text, Sign}
+use Rattle.query_tokens.specs.Words.{Lexeme, Name, Sign}
 use Rattle.query_grammar.specs.Terminals.{symbol_number, is_word, is_sign}
 
 pub same_bytes : (v w : List ℕ) → bytes_eq v w ≡ true → v ≡ w

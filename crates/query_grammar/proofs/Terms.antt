@@ -1,11 +1,10 @@
 -- What is read as a term of ORDER BY is in the grammar and the other way round, and it is read alike before two tails.
-use Rattle.std.proofs.Common.{◌≡◌, ◌<◌, ℕ, Bool, true, false, cond, List, [], ◌∷◌, ◌++◌, length, Option, Some, None, Ok, refl, append_assoc, arith}
+use Rattle.std.proofs.Common.{◌≡◌, ℕ, Bool, true, false, cond, List, [], ◌∷◌, ◌++◌, Option, Some, None, Ok, refl, append_assoc, arith}
 use Rattle.std.specs.Prelude.{codes}
-use Rattle.query_tokens.specs.declared.word.Symbol.TheVariants as symbols
 use Rattle.query_tokens.specs.Words.{Lexeme, Name, Integer, Text, Sign}
 use Rattle.query_tokens.specs.Reserved.{is_reserved}
 use Rattle.query_checks.specs.Order.{Target, By_name, By_place, Term}
-use Rattle.query_grammar.specs.Terminals.{is_word, is_sign}
+use Rattle.query_grammar.specs.Terminals.{is_word}
 use Rattle.query_grammar.specs.Grammar.{word}
 use Rattle.query_grammar.specs.Queries as grammar
 use Rattle.query_grammar.specs.Queries.{IsTarget, IsDirection, IsNulls, IsTerm}

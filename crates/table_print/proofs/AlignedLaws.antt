@@ -155,7 +155,7 @@ pub length-sides : (q : Checked) → length (sides q) ≡ length q.written.items
 length-sides q = length-map q.written.items (λ item. side_of (kind_of_form (kinds q.columns) item.0))
 
 pub length-headers : (q : Checked) → length (headers q) ≡ length q.written.items
-length-headers q = length-map (by_names q).items label_of ∙ length-map q.written.items (λ item. (map_form (name_at q.columns) item.0, item.1))
+length-headers q = length-map (by_names q).written.items label_of ∙ length-map q.written.items (λ item. (map_form (name_at q.columns) item.0, item.1))
 
 pub length-items : (q : Checked) → length (meaning q).items ≡ length q.written.items
 length-items q = length-map q.written.items (λ item. source_of_form q.written.keys (distinct_calls ◌==◌ q.written) item.0)
