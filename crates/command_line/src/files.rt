@@ -3,6 +3,7 @@
 use crate::problem::Problem;
 use crate::streams::Watched;
 use fault_sentences::Reason;
+use file_commands::SummaryFile;
 use grouping_model::limits::LONGEST_INPUT;
 use replies::{Refusal, RunError};
 use script_io::{InputError, read_input};
@@ -144,22 +145,28 @@ fn write_through<R: Files + AllocGlobal>(rt: &R, link: &str, bytes: &[u8]) -> io
     match fs::canonicalize(rt, link) {
         Ok(target) => write_at(rt, target.as_str(), bytes),
         // It leads to no file yet.
-        Err(_) => fs::write(rt, link, bytes),
+        Err(error) if error.kind() == ErrorKind::NotFound => fs::write(rt, link, bytes),
+        Err(error) => Err(error),
     }
 }
 
-/// Writes the bytes of a file. One that is there is replaced at once, or, where it is a device or a pipe, written to.
-pub(crate) fn write_file<'p, R: Files + AllocGlobal>(
+/// Writes OUT, which nothing else does: a summary file. One that is there is replaced at once, or, where it is a device or a pipe, written to. Where there is no
+/// memory for the name of the new file that takes its place, `NoMemory` is told, and for any other failure `WriteFault`.
+pub(crate) fn write_out<'p, R: Files + AllocGlobal>(
     rt: &R,
     path: &'p str,
-    bytes: &[u8],
+    file: &SummaryFile,
 ) -> Result<(), Problem<'p>> {
+    let bytes = file.bytes();
     let written = match fs::symlink_metadata(rt, path) {
         Ok(found) if found.is_symlink() => write_through(rt, path, bytes),
         _ => write_at(rt, path, bytes),
     };
     match written {
         Ok(()) => Ok(()),
+        Err(cause) if cause.kind() == ErrorKind::OutOfMemory => {
+            Err(Problem::refused(path, Refusal::NoMemory))
+        }
         Err(cause) => Err(Problem::failed(path, RunError::WriteFault, cause)),
     }
 }

@@ -2,6 +2,10 @@
 //! status. What the commands make of bytes, and what they say, is proved below, in `script_machine`, `file_commands` and `replies`.
 #![tactic(auto)]
 
+ghost use Rattle.std.specs.Prelude.{◌≡◌};
+ghost use Rattle.replies.specs.Status.{status_of};
+ghost use Rattle.replies.specs.declared.ending.Ending.{Ending};
+
 mod arguments;
 mod files;
 mod holding;
@@ -162,7 +166,9 @@ pub fn command<R: Files + AllocGlobal, S: AsStr, I: Read, W: Write, E: Write>(
     writer: &mut W,
     errors: &mut E,
     terminals: Terminals,
-) -> u8 {
+) -> u8
+    ensures status { (ending : Ending) × (result ≡ status_of ending) }
+{
     let fault = Cell::new(None);
     let mut watched = Watched::new(&mut *writer, &fault);
     let ending = run_gathered(rt, words, reader, &mut watched, errors, &fault, terminals);

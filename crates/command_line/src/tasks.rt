@@ -3,7 +3,7 @@
 use crate::arguments::{
     BATCH, COLUMNS, EXPLAIN, FORMAT, IN, LIMIT, NO_CLOBBER, OUT, PROGRESS, QUERY, SPILL,
 };
-use crate::files::{is_another, read_file, write_file};
+use crate::files::{is_another, read_file, write_out};
 use crate::holding::tell_holding;
 use crate::problem::{Fate, Problem, Told, reason_of};
 use crate::progress::{Explained, PassedOver, Progress, Standing, text_of};
@@ -317,9 +317,9 @@ impl<'c, R: Files + AllocGlobal, W: Write, E: Write> Session<'c, R, W, E> {
             Ok(file) => file,
             Err(why) => return Err(refused_save(self.rt.alloc(), replica, path, why)),
         };
-        write_file(self.rt, path, &file)?;
+        write_out(self.rt, path, &file)?;
         self.is_written = true;
-        self.reply(&Reply::Saved(file.len()))
+        self.reply(&Reply::Saved(file.bytes().len()))
     }
 
     /// Feeds the batches of files to a replica, each with its reply.

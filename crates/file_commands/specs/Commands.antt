@@ -1,6 +1,6 @@
 -- What the program's commands make of files. A batch file means what a feed of its batch means in a script, and a summary file what
 -- the replica means that it is of. All of this is our own.
-use Rattle.std.specs.Prelude.{Bool, IsTrue, ℕ, ◌≡◌, ◌<◌, ◌⊎◌, List, [], length, Option, Some, None, IsSomeAnd}
+use Rattle.std.specs.Prelude.{Bool, IsTrue, ℕ, ◌≡◌, ◌<◌, ◌≤◌, ◌⊎◌, List, [], length, Option, Some, None, IsSomeAnd}
 use Rattle.grouping_model.specs.Datum.{Kind, Row}
 use Rattle.grouping_model.specs.World.{World, IsWorld, union}
 use Rattle.grouping_model.specs.declared.delivered.Delivered.{Delivered}
@@ -100,6 +100,12 @@ FileMergeIsCounted setting file held old writes new written =
 -- why a file is not merged into a replica: it is no summary file, or its replica is not merged
 abbrev pub IsNotMerged : List ℕ → Held → Refusal → Type 0
 IsNotMerged file old why = IsNoSummary file why ⊎ ((other : Held) × IsSummary file other.query other.parts × IsApart old other why)
+
+-- bytes that are read as a summary file: those of what is held for a query, and no more than are read
+pub record IsReadable (file : List ℕ) : Type 0 where
+  pub held : Held
+  pub is : IsSummary file held.query held.parts
+  pub short : length file ≤ LONGEST_INPUT
 
 -- why a replica is not saved, unless memory ran out: its file would be longer than what is read
 abbrev pub IsTooLong : Held → Refusal → Type 0

@@ -5,7 +5,9 @@
 mod feeding;
 mod making;
 mod merging;
+mod summary;
 
 pub use feeding::feed;
 pub use making::{create, load, save};
 pub use merging::merge;
+pub use summary::SummaryFile;

@@ -9,6 +9,7 @@ ghost use Rattle.replica_merge.specs.Replicas.{Held, told, Fits};
 ghost use Rattle.replies.specs.declared.refusal.Refusal.TheVariants.{NoMemory};
 ghost use Rattle.file_commands.specs.Commands.{IsNew, IsNotNew, IsNoSummary, IsTooLong};
 
+use crate::summary::SummaryFile;
 use group_parser::parse;
 use grouping_model::limits::LONGEST_INPUT;
 use packed_rows::Schema;
@@ -46,18 +47,17 @@ pub fn load(alloc: Global, file: &[u8]) -> Result<Replica, Refusal>
 
 /// The summary file of a replica: the one spelling of its query and of what it knows. A file that would be longer than the
 /// 67,108,864 bytes that are read is `InputTooLong`, want of memory `NoMemory`.
-pub fn save(replica: &Replica) -> Result<Vec<u8>, Refusal>
-    ensures file { IfOk result (λ bytes.
-        IsSummary bytes.items replica.now.query replica.now.parts) }
-    ensures short { IfOk result (λ bytes. length bytes.items ≤ LONGEST_INPUT) }
+pub fn save(replica: &Replica) -> Result<SummaryFile, Refusal>
+    ensures file { IfOk result (λ file. IsSummary file replica.now.query replica.now.parts) }
+    ensures short { IfOk result (λ file. length file ≤ LONGEST_INPUT) }
     // So replicas that tell the same batches of a world are saved as equal bytes.
-    ensures world { IfOk result (λ bytes. (world : World) → Fits world replica.now →
-        bytes.items ≡ world_file replica.now.query world (told replica.now.parts)) }
+    ensures world { IfOk result (λ file. (world : World) → Fits world replica.now →
+        file ≡ world_file replica.now.query world (told replica.now.parts)) }
     ensures why { IfErr result (IsTooLong replica.now) }
 {
     let file = replica.save()?;
     if file.len() > LONGEST_INPUT {
         return Err(Refusal::Run(RunError::InputTooLong));
     }
-    Ok(file)
+    Ok(SummaryFile::new(file))
 }

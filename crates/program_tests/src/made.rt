@@ -63,12 +63,14 @@ const LONGEST_TEXT: usize = 255;
 
 const LONGEST_FILE: usize = 67_108_864;
 
-/// Writes a batch file of so many rows of four of the longest texts, and empty lines behind them, up to the most bytes that a file may have.
+/// Writes a batch file, the `NUMBER|ROWS` of origin 0: so many rows of four of the longest texts, and empty lines behind them, up to the most
+/// bytes that a file may have.
 pub(crate) fn write_wide(rt: &HostRuntime, file: &str, told: &str) -> Result<bool, Fail> {
+    let (number, told) = told.split_once('|').ok_or("no rows")?;
     let text = "x".repeat(rt.alloc(), LONGEST_TEXT)?;
     let row = format!(in rt.alloc(); "{text},{text},{text},{text}\n")?;
     let rows: usize = told.parse()?;
-    let mut bytes = format!(in rt.alloc(); "batch,0,1,{told}\n")?.into_bytes();
+    let mut bytes = format!(in rt.alloc(); "batch,0,{number},{told}\n")?.into_bytes();
     for _ in 0..rows {
         bytes.extend_from_slice(row.as_bytes())?;
     }
