@@ -294,7 +294,7 @@ impl<'t> Reader<'t> {
             first: place,
             last: place,
         })?;
-        self.labels.push(place)
+        Ok(self.labels.push(place)?)
     }
 
     /// Begins a condition.
