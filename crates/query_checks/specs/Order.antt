@@ -1,8 +1,7 @@
 -- ORDER BY: its terms as they are written, and the items that they mean (PostgreSQL 17, 7.5 Sorting Rows, and SELECT, ORDER
 -- BY Clause; that a term is the name or the place of an item, and no other expression, is our own).
-use Rattle.std.specs.Prelude.{ℕ, ◌-◌, ◌==◌, ◌&&◌, not, nat_le, ℤ, pos, Bool, false, if◌then◌else◌, List, length, map, string_bytes, Option, Some, None, option_map, is_some, unwrap_or, position, find}
+use Rattle.std.specs.Prelude.{ℕ, ◌-◌, ◌==◌, ◌&&◌, not, nat_le, ℤ, pos, Bool, false, if◌then◌else◌, List, length, map, string_bytes, Option, Some, None, option_map, is_some, unwrap_or, filter, position}
 use Rattle.std.specs.List.{list_any, list_all, filter_map}
-use Rattle.std.specs.Option.{option_map_or}
 use Rattle.std.specs.Str.{bytes_eq}
 use Rattle.query_checks.specs.declared.condition.RawQuery.{RawQuery}
 use Rattle.query_checks.specs.declared.order.OrderBy.{OrderBy}
@@ -54,12 +53,13 @@ abbrev pub item_meant : List (Form (List ℕ) × Option (List ℕ)) → Target �
 item_meant items (By_name name) = position (has_name name) items
 item_meant items (By_place place) = item_at (length items) place
 
--- whether two items have the name and aren't the same column or call: whether one that has it isn't the same as the leftmost
-abbrev pub is_unlike : List ℕ → Form (List ℕ) → Form (List ℕ) × Option (List ℕ) → Bool
-is_unlike name leftmost item = has_name name item && not (form_eq bytes_eq leftmost item.0)
+-- whether two of some items aren't the same column or call
+abbrev pub differ : List (Form (List ℕ) × Option (List ℕ)) → Bool
+differ items = list_any (λ a. list_any (λ b. not (form_eq bytes_eq a.0 b.0)) items) items
 
+-- whether a term names two items that differ
 abbrev pub is_ambiguous : List (Form (List ℕ) × Option (List ℕ)) → Target → Bool
-is_ambiguous items (By_name name) = option_map_or (λ leftmost. list_any (is_unlike name leftmost.0) items) (find (has_name name) items) false
+is_ambiguous items (By_name name) = differ (filter (has_name name) items)
 is_ambiguous items (By_place place) = false
 
 -- a term that orders by an item. Nulls count as greater than all else, unless it says otherwise: they come first where it is

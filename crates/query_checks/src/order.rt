@@ -1,11 +1,13 @@
 //! ORDER BY: its terms, and the items that they mean.
 
-ghost use Rattle.std.specs.Prelude.{◌≡◌, false, find, option_map, position, IfOk};
+ghost use Rattle.std.specs.Prelude.{◌≡◌, ◌&&◌, not, find, option_map, position, IfOk};
 ghost use Rattle.std.specs.List.{list_any};
+ghost use Rattle.std.specs.Str.{bytes_eq};
 ghost use Rattle.std.specs.Option.{option_map_or};
 ghost use Rattle.query_checks.specs.Forms.{item_form, names_of, item_of, items_of};
 ghost use Rattle.query_checks.specs.Labels.{label_of};
-ghost use Rattle.query_checks.specs.Order.{target_of, term_of, asked_of, has_name, item_at, item_meant, is_unlike, is_ambiguous, term_meant, order_of, names_items, is_ambiguously_ordered};
+ghost use Rattle.query_checks.specs.Sameness.{form_eq};
+ghost use Rattle.query_checks.specs.Order.{target_of, term_of, asked_of, By_name, has_name, item_at, item_meant, is_ambiguous, term_meant, order_of, names_items, is_ambiguously_ordered};
 
 use crate::condition::{Item, RawQuery};
 use crate::distinct::{Same, push_once};
@@ -40,6 +42,7 @@ pub struct OrderTerm {
 }
 
 impl Same for OrderTerm {
+    ghost use Rattle.query_checks.specs.Sameness.{form_eq};
     ghost use Rattle.query_checks.specs.Order.{same_item};
 
     ghost same = { same_item };
@@ -95,20 +98,21 @@ fn item_meant(items: &[(Item<String>, Option<String>)], target: &OrderBy) -> Opt
     }
 }
 
-/// Whether an item has a name and isn't the same as another.
+/// Whether an item has a name and isn't the same column or call as another item.
 #[tactic(auto, using(crate::proofs::CountLaws::same_names))]
-fn is_unlike(name: &str, leftmost: &Item<String>, item: &(Item<String>, Option<String>)) -> bool
-    ensures { result ≡ is_unlike name.now (names_of (item_form leftmost.now)) (item_of item.now) }
+fn is_unlike(name: &str, other: &Item<String>, item: &(Item<String>, Option<String>)) -> bool
+    ensures { result ≡ (has_name name.now (item_of item.now)
+        && not (form_eq bytes_eq (names_of (item_form other.now)) (item_of item.now).0)) }
 {
-    has_name(name, item) && !is_same_item(leftmost, &item.0)
+    has_name(name, item) && !is_same_item(other, &item.0)
 }
 
-/// Whether an item has a name and isn't the same as another, of all items.
-fn has_unlike(items: &[(Item<String>, Option<String>)], name: &str, leftmost: &Item<String>) -> bool
-    ensures { result ≡ list_any
-        (λ item. is_unlike name.now (names_of (item_form leftmost.now)) (item_of item)) items.now }
+/// Whether one of some items has a name and isn't the same column or call as another item.
+fn has_unlike(items: &[(Item<String>, Option<String>)], name: &str, other: &Item<String>) -> bool
+    ensures { result ≡ list_any (λ item. has_name name.now (item_of item)
+        && not (form_eq bytes_eq (names_of (item_form other.now)) (item_of item).0)) items.now }
 {
-    items.iter().any(|item| is_unlike(name, leftmost, item))
+    items.iter().any(|item| is_unlike(name, other, item))
 }
 
 /// The leftmost item of a name.
@@ -122,11 +126,9 @@ fn item_of_name<'a>(
     items.iter().find(|item| has_name(name, *item))
 }
 
-/// Whether two items have a name, and aren't the same column or call.
+/// Whether two items have a name and aren't the same column or call. Then one of them isn't the same as the leftmost that has it.
 fn is_ambiguous_name(items: &[(Item<String>, Option<String>)], name: &str) -> bool
-    ensures { result ≡ option_map_or
-        (λ leftmost. list_any (λ item. is_unlike name.now leftmost.0 (item_of item)) items.now)
-        (option_map item_of (find (λ item. has_name name.now (item_of item)) items.now)) false }
+    ensures { result ≡ is_ambiguous (items_of items.now) (By_name name.now) }
 {
     match item_of_name(items, name) {
         Some(leftmost) => has_unlike(items, name, &leftmost.0),
@@ -134,7 +136,7 @@ fn is_ambiguous_name(items: &[(Item<String>, Option<String>)], name: &str) -> bo
     }
 }
 
-/// Whether two items have the name that a term names, and aren't the same column or call.
+/// Whether two items have the name that a term names and aren't the same column or call.
 fn is_ambiguous(items: &[(Item<String>, Option<String>)], target: &OrderBy) -> bool
     ensures { result ≡ is_ambiguous (items_of items.now) (target_of target.now) }
 {
