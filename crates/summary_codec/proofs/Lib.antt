@@ -11,3 +11,7 @@ pub mod WrittenRead
 pub mod SpelledRead
 pub mod TotalLaws
 pub mod KnownLaws
+pub mod RowGroups
+pub mod TextLaws
+pub mod ReadQueries
+pub mod WorldLaws

@@ -2,3 +2,4 @@ pub mod File
 pub mod Short
 pub mod Reading
 pub mod WorldFile
+pub mod Worlds

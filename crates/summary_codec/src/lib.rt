@@ -8,6 +8,6 @@ mod reading;
 mod writing;
 
 pub use error::SummaryError;
-pub use laws::{files_of_the_known, one_spelling};
+pub use laws::{files_of_the_known, files_of_worlds, one_spelling};
 pub use reading::decode;
 pub use writing::encode;

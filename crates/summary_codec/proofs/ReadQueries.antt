@@ -1,0 +1,77 @@
+-- A query that was read passed the checks, and its text is UTF-8.
+use Rattle.std.specs.Prelude.{◌≡◌, refl, ℕ, Bool, true, false, List, Result, Ok, Err, IsUtf8}
+use Rattle.std.proofs.Common.{sym, ◌∙◌, ap, subst}
+use Rattle.packed_rows.specs.Columns.{Column, AreColumns, kinds}
+use Rattle.query_checks.specs.declared.error.QueryError.{QueryError}
+use Rattle.query_checks.specs.Forms.{Written}
+use Rattle.query_checks.specs.Checks.{Checked, checked, checked_places, are_plain, is_grouped, kinds_fit, placed}
+use Rattle.query_checks.specs.CheckedLaws.{reaches_places}
+use Rattle.query_checks.specs.Spelling.{spelling}
+use Rattle.query_checks.specs.Writable.{IsWritable}
+use Rattle.having_filter.specs.Kept.{IsCheckedQuery, by_names}
+use Rattle.having_filter.proofs.PassedLaws.{passes_first}
+use Rattle.having_filter.proofs.WellLaws.{passed_query}
+use Rattle.group_parser.specs.declared.error.ParseError.{ParseError}
+use Rattle.group_parser.specs.Parsing.{Accepts, query_checked, written_checked, written_in}
+use Rattle.group_parser.proofs.ParseLaws.{accepts_parses, can_be_written}
+use Rattle.origin_prefix.specs.Held.{Parts}
+use Rattle.summary_codec.specs.Reading.{text, schema, query, heading, summary, IsSummary}
+
+-- ---- a text that is a query says one that passed the checks
+
+-- what passes the last checks has kinds that fit, and is what was checked
+record PassesLast (columns : List Column) (p : Written ℕ) (q : Checked) : Type 0 where
+  same : q ≡ record { columns = columns; written = p }
+  fit : kinds_fit (kinds columns) p ≡ true
+
+passes_last : (columns : List Column) (p : Written ℕ) (q : Checked) (a b c : Bool) → are_plain p ≡ a → kinds_fit (kinds columns) p ≡ b → is_grouped p ≡ c → checked_places columns p ≡ Ok q → PassesLast columns p q
+unfolding checked_places
+passes_last columns p q false b c e f g passed = let clash = rw e at passed in absurd cc
+passes_last columns p q true false c e f g passed = let clash = rw (e, f) at passed in absurd cc
+passes_last columns p q true true false e f g passed = let clash = rw (e, f, g) at passed in absurd cc
+passes_last columns p q true true true e f g passed = let same = rw (e, f, g) at passed in record { same = cc; fit = f }
+
+passed_checks : (columns : List Column) (w : Written (List ℕ)) (q : Checked) → AreColumns columns → IsWritable w → checked columns w ≡ Ok q → IsCheckedQuery q
+passed_checks columns w q are writable passed =
+    let p : Written ℕ = placed columns w in
+    let first = passes_first columns w q passed in
+    let last : checked_places columns p ≡ Ok q = sym (reaches_places columns w first) ∙ passed in
+    let is : PassesLast columns p q = passes_last columns p q (are_plain p) (kinds_fit (kinds columns) p) (is_grouped p) refl refl refl last in
+    subst IsCheckedQuery (sym is.same) (passed_query columns w are writable first is.fit (last ∙ ap (λ (x : Checked). Ok x) is.same))
+
+module _ (columns : List Column) (said : List ℕ) (q : Checked) (are : AreColumns columns) where
+  by_written : (r : Result (Written (List ℕ)) ParseError) → written_in said ≡ r → written_checked columns r ≡ Ok q → IsCheckedQuery q
+  by_written (Err error) e f = absurd cc
+  by_written (Ok w) e f = by_checks (checked columns w) refl f
+    where
+      by_checks : (c : Result Checked QueryError) → checked columns w ≡ c → query_checked c ≡ Ok q → IsCheckedQuery q
+      by_checks (Err error) g h = absurd cc
+      by_checks (Ok p) g h = let same : p ≡ q = cc in subst IsCheckedQuery same (passed_checks columns w p are (can_be_written said w e) g)
+
+  accepted_query : Accepts columns said q → IsCheckedQuery q
+  accepted_query accepts = by_written (written_in said) refl (accepts_parses columns said q accepts)
+
+-- ---- a heading
+
+columns_read : (bytes : List ℕ) (found : List Column × List ℕ) → schema bytes (Ok found) → AreColumns found.0
+unfolding schema
+columns_read bytes found (said, r, there, (columns, s, (is, stays), (canonical, (same, rests)))) = subst AreColumns (sym same) is.columns_are
+
+text_read : (bytes : List ℕ) (found : List ℕ × List ℕ) → text bytes (Ok found) → IsUtf8 found.0
+unfolding text
+text_read bytes found (said, r, there, (utf8, (same, rests))) = subst IsUtf8 (sym same) utf8
+
+-- what is known of a query that was read
+pub record IsReadQuery (q : Checked) : Type 0 where
+  pub passed : IsCheckedQuery q
+  pub utf8 : IsUtf8 (spelling (by_names q))
+
+query_read : (columns : List Column) (bytes : List ℕ) (found : Checked × List ℕ) → AreColumns columns → query columns bytes (Ok found) → IsReadQuery found.0
+unfolding query
+query_read columns bytes found are (said, r, there, (q, s, (is, stays), (canonical, (same, rests)))) =
+    subst IsReadQuery (sym same) (record { passed = accepted_query columns said q are is; utf8 = subst IsUtf8 (sym canonical) (text_read bytes (said, r) there) })
+
+pub summary_query : (bytes : List ℕ) (q : Checked) (held : Parts) → IsSummary bytes q held → IsReadQuery q
+unfolding summary heading
+summary_query bytes q held (found, r, (x, s, begins, (columns, t, there, told)), (these, u, kept, (same, none))) =
+    subst (λ (f : Checked × Parts). IsReadQuery f.0) (sym same) (query_read columns t (found, r) (columns_read s (columns, t) there) told)
