@@ -40,7 +40,7 @@ pub record PassesPlaces (columns : List Column) (p : Written ℕ) (w : Asked) (q
   pub fit : kinds_fit (kinds columns) p ≡ true
   pub grouped : is_grouped p ≡ true
 
-by_places : (columns : List Column) (p : Written ℕ) (w : Asked) (q : Checked) (a b c d : Bool) → are_plain p ≡ a → kinds_fit (kinds columns) p ≡ b → is_grouped p ≡ c → is_ambiguously_ordered w ≡ d
+pub by_places : (columns : List Column) (p : Written ℕ) (w : Asked) (q : Checked) (a b c d : Bool) → are_plain p ≡ a → kinds_fit (kinds columns) p ≡ b → is_grouped p ≡ c → is_ambiguously_ordered w ≡ d
     → with_order columns (checked_places columns p) (checked_order w) ≡ Ok q → PassesPlaces columns p w q
 unfolding checked_places checked_order
 by_places columns p w q false b c d e f g h passed = let clash = rw e at passed in absurd cc
