@@ -4,43 +4,32 @@ use Rattle.std.proofs.Common.{sym, ◌∙◌, ap, subst}
 use Rattle.packed_rows.specs.Columns.{Column, AreColumns, kinds}
 use Rattle.query_checks.specs.declared.error.QueryError.{QueryError}
 use Rattle.query_checks.specs.Forms.{Written}
-use Rattle.query_checks.specs.Checks.{Checked, checked, checked_places, are_plain, is_grouped, kinds_fit, placed}
+use Rattle.query_checks.specs.Order.{Asked, is_ambiguously_ordered}
+use Rattle.query_checks.specs.Checks.{Checked, checked, are_plain, is_grouped, kinds_fit, placed}
+use Rattle.query_checks.proofs.CheckedLaws.{gives_checked}
 use Rattle.query_checks.specs.CheckedLaws.{reaches_places}
 use Rattle.query_checks.specs.Spelling.{spelling}
 use Rattle.query_checks.specs.Writable.{IsWritable}
 use Rattle.having_filter.specs.Kept.{IsCheckedQuery, by_names}
-use Rattle.having_filter.proofs.PassedLaws.{passes_first}
+use Rattle.having_filter.proofs.PassedLaws.{passes_first, by_places}
 use Rattle.having_filter.proofs.WellLaws.{passed_query}
 use Rattle.group_parser.specs.declared.error.ParseError.{ParseError}
-use Rattle.group_parser.specs.Parsing.{Accepts, query_checked, written_checked, written_in}
+use Rattle.group_parser.specs.Parsing.{Accepts, query_checked, asked_checked, asked_in}
 use Rattle.group_parser.proofs.ParseLaws.{accepts_parses, can_be_written}
 use Rattle.origin_prefix.specs.Held.{Parts}
 use Rattle.summary_codec.specs.Reading.{text, schema, query, heading, summary, IsSummary}
 
 -- ---- a text that is a query says one that passed the checks
 
--- what passes the last checks has kinds that fit, and is what was checked
-record PassesLast (columns : List Column) (p : Written ℕ) (q : Checked) : Type 0 where
-  same : q ≡ record { columns = columns; written = p }
-  fit : kinds_fit (kinds columns) p ≡ true
-
-passes_last : (columns : List Column) (p : Written ℕ) (q : Checked) (a b c : Bool) → are_plain p ≡ a → kinds_fit (kinds columns) p ≡ b → is_grouped p ≡ c → checked_places columns p ≡ Ok q → PassesLast columns p q
-unfolding checked_places
-passes_last columns p q false b c e f g passed = let clash = rw e at passed in absurd cc
-passes_last columns p q true false c e f g passed = let clash = rw (e, f) at passed in absurd cc
-passes_last columns p q true true false e f g passed = let clash = rw (e, f, g) at passed in absurd cc
-passes_last columns p q true true true e f g passed = let same = rw (e, f, g) at passed in record { same = cc; fit = f }
-
-passed_checks : (columns : List Column) (w : Written (List ℕ)) (q : Checked) → AreColumns columns → IsWritable w → checked columns w ≡ Ok q → IsCheckedQuery q
+passed_checks : (columns : List Column) (w : Asked) (q : Checked) → AreColumns columns → IsWritable w.written → checked columns w ≡ Ok q → IsCheckedQuery q
 passed_checks columns w q are writable passed =
-    let p : Written ℕ = placed columns w in
+    let p : Written ℕ = placed columns w.written in
     let first = passes_first columns w q passed in
-    let last : checked_places columns p ≡ Ok q = sym (reaches_places columns w first) ∙ passed in
-    let is : PassesLast columns p q = passes_last columns p q (are_plain p) (kinds_fit (kinds columns) p) (is_grouped p) refl refl refl last in
-    subst IsCheckedQuery (sym is.same) (passed_query columns w are writable first is.fit (last ∙ ap (λ (x : Checked). Ok x) is.same))
+    let places = by_places columns p w q (are_plain p) (kinds_fit (kinds columns) p) (is_grouped p) (is_ambiguously_ordered w) refl refl refl refl (sym (reaches_places columns w first) ∙ passed) in
+    subst IsCheckedQuery (sym places.same) (passed_query columns w are writable first places.fit (gives_checked columns p places.plain places.fit places.grouped))
 
 module _ (columns : List Column) (said : List ℕ) (q : Checked) (are : AreColumns columns) where
-  by_written : (r : Result (Written (List ℕ)) ParseError) → written_in said ≡ r → written_checked columns r ≡ Ok q → IsCheckedQuery q
+  by_written : (r : Result Asked ParseError) → asked_in said ≡ r → asked_checked columns r ≡ Ok q → IsCheckedQuery q
   by_written (Err error) e f = absurd cc
   by_written (Ok w) e f = by_checks (checked columns w) refl f
     where
@@ -49,7 +38,7 @@ module _ (columns : List Column) (said : List ℕ) (q : Checked) (are : AreColum
       by_checks (Ok p) g h = let same : p ≡ q = cc in subst IsCheckedQuery same (passed_checks columns w p are (can_be_written said w e) g)
 
   accepted_query : Accepts columns said q → IsCheckedQuery q
-  accepted_query accepts = by_written (written_in said) refl (accepts_parses columns said q accepts)
+  accepted_query accepts = by_written (asked_in said) refl (accepts_parses columns said q accepts)
 
 -- ---- a heading
 

@@ -12,7 +12,7 @@ use Rattle.grouping_model.specs.Datum.{Row, Kind, HasKinds}
 use Rattle.grouping_model.specs.EarlyLaws.{early_are, early_rise, origins_are, origins_rise}
 use Rattle.grouping_model.specs.Grouping.{part}
 use Rattle.grouping_model.specs.MemberLaws.{Member, from_contains, to_contains, false_is_not_true}
-use Rattle.grouping_model.specs.World.{World, IsWorld, Knowledge, knows, origins, prefix, early, count_up, batch_rows}
+use Rattle.grouping_model.specs.World.{World, IsWorld, Knowledge, knows, origins, prefix, early, count_up, batch_rows, rows_upto}
 use Rattle.grouping_model.specs.declared.limits.TheConstants.{LAST_NUMBER, MOST_ROWS}
 use Rattle.grouping_model.proofs.LearningLaws.{next_unknown}
 use Rattle.grouping_model.proofs.PrefixLaws.{prefix_unbroken}
@@ -25,7 +25,7 @@ use Rattle.having_filter.specs.Kept.{IsCheckedQuery, by_names}
 use Rattle.having_filter.specs.Meaning.{meaning}
 use Rattle.group_runs.specs.Standing.{AreGroups}
 use Rattle.hash_agg.specs.Bytes.{run_bytes}
-use Rattle.origin_prefix.specs.Fitting.{FitsOrigin, rows_upto}
+use Rattle.origin_prefix.specs.Fitting.{FitsOrigin}
 use Rattle.origin_prefix.specs.Held.{IsHeldPart, AreHeldParts}
 use Rattle.origin_prefix.specs.Parts.{IsEarly, IsPartOf}
 use Rattle.origin_prefix.proofs.ByNumber.{found_holds}
