@@ -5,3 +5,4 @@ pub mod HeldLaws
 pub mod DeliveredLaws
 pub mod MergedLaws
 pub mod SavedLaws
+pub mod WorldLaws

@@ -1,10 +1,14 @@
 //! Laws of merging.
 
-ghost use Rattle.std.specs.Prelude.{◌≡◌, ℕ, Bool, List};
-ghost use Rattle.grouping_model.specs.World.{World};
+ghost use Rattle.std.specs.Prelude.{◌≡◌, ◌↔◌, ℕ, Bool, List, IsUtf8};
+ghost use Rattle.grouping_model.specs.World.{World, IsWorld, Knowledge};
+ghost use Rattle.packed_rows.specs.Columns.{kinds};
+ghost use Rattle.having_filter.specs.Kept.{IsCheckedQuery, by_names};
 ghost use Rattle.summary_codec.specs.Reading.{IsSummary};
+ghost use Rattle.summary_codec.specs.Worlds.{IsWorldFile};
 ghost use Rattle.query_checks.specs.Checks.{Checked};
-ghost use Rattle.replica_merge.specs.Replicas.{Parts, told, Fits, AreHeldParts, Merges, MergesIn};
+ghost use Rattle.query_checks.specs.Spelling.{spelling};
+ghost use Rattle.replica_merge.specs.Replicas.{Parts, Held, told, Fits, AreHeldParts, Merges, MergesIn};
 
 /// In what is told, merging depends neither on which replica takes the other, nor on how several are grouped, and once more
 /// gives nothing new.
@@ -37,4 +41,17 @@ pub fn merged_files()
         IsSummary bytes query left → IsSummary those query right → bytes ≡ those }
     ensures idempotent { (world : World) (query : Checked) (a aa : Parts) (bytes those : List ℕ) →
         MergesIn world query a a aa → IsSummary bytes query aa → IsSummary those query a → bytes ≡ those }
+{}
+
+/// The file of a query, a world and what is known of this world is read as a replica of the query that fits the world and tells what is
+/// known, and as no other. A query's text is UTF-8. A replica fits a world exactly where its own file is that of its query, the world and
+/// what it tells.
+pub fn files_that_fit()
+    ensures loaded { (query : Checked) (world : World) (known : Knowledge) (bytes : List ℕ) (held : Held) →
+        IsCheckedQuery query → IsUtf8 (spelling (by_names query)) → IsWorld (kinds query.columns) world →
+        IsWorldFile query world known bytes → IsSummary bytes held.query held.parts →
+        (held.query ≡ query) × Fits world held × (told held.parts ≡ known) }
+    ensures exactly { (world : World) (held : Held) (bytes : List ℕ) →
+        IsWorld (kinds held.query.columns) world → IsSummary bytes held.query held.parts →
+        (Fits world held ↔ IsWorldFile held.query world (told held.parts) bytes) }
 {}
