@@ -106,8 +106,8 @@ bit_xor of a bigint, and bool_and, bool_or and every of a boolean. Behind a call
 FILTER (WHERE CONDITION) may tell which rows it takes. A CONDITION has columns,
 integers, 'texts', TRUE, FALSE, NULL, = <> != < <= > >=, NOT, AND, OR, and
 IS [NOT] NULL, TRUE, FALSE or UNKNOWN; in HAVING it has calls, too. A TERM is
-the name of an ITEM or its place, from 1, and ASC, DESC, NULLS FIRST or NULLS
-LAST behind it. Without ORDER BY rows stand in the order of their keys.
+the name of an ITEM or its place, from 1, and may have ASC or DESC behind it,
+and NULLS FIRST or NULLS LAST. Without ORDER BY rows are in the order of keys.
 
 Prints 'saved BYTES'. A file OUT that is there is replaced, and standard error
 says so; with --no-clobber it is kept, and the status is 2.

@@ -140,7 +140,8 @@ fn write_at<R: Files + AllocGlobal>(rt: &R, path: &str, bytes: &[u8]) -> io::Res
     }
 }
 
-/// Writes the file that a link leads to.
+/// Writes the file that a link leads to. Where its path can't be found out, the link is refused, and never written through: so the file is
+/// replaced at once, or stays.
 fn write_through<R: Files + AllocGlobal>(rt: &R, link: &str, bytes: &[u8]) -> io::Result<()> {
     match fs::canonicalize(rt, link) {
         Ok(target) => write_at(rt, target.as_str(), bytes),
@@ -150,8 +151,9 @@ fn write_through<R: Files + AllocGlobal>(rt: &R, link: &str, bytes: &[u8]) -> io
     }
 }
 
-/// Writes OUT, which nothing else does: a summary file. One that is there is replaced at once, or, where it is a device or a pipe, written to. Where there is no
-/// memory for the name of the new file that takes its place, `NoMemory` is told, and for any other failure `WriteFault`.
+/// Writes OUT, which nothing else does: a summary file. One that is there is replaced at once, or, where it is a device or a pipe, written
+/// to. Where there is no memory for the name of the new file that takes its place, or the system says that it has none, `NoMemory` is told,
+/// and for any other failure `WriteFault`.
 pub(crate) fn write_out<'p, R: Files + AllocGlobal>(
     rt: &R,
     path: &'p str,

@@ -147,7 +147,7 @@ impl<'t> Refused<'t> {
         self.say_no_item()
     }
 
-    /// How many items have a name, and whether they are all the same.
+    /// How many items have a name, and whether all of them are written alike.
     fn items_named(&self, name: &str) -> (usize, bool) {
         let mut count = 0usize;
         let mut are_alike = true;

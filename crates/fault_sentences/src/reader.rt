@@ -421,8 +421,16 @@ impl<'t> Reader<'t> {
             Sign::Symbol(Symbol::Comma) => self.go(State::Item),
             Sign::Name("as") => self.go(State::Alias),
             Sign::Name("from") => self.go(State::From),
-            _ => self.go(State::Aliased),
+            _ => self.alias(place),
         }
+    }
+
+    /// Reads the name that an item has in the answer.
+    fn alias(&mut self, place: usize) -> Result<(), AllocError> {
+        if let Some(label) = self.labels.last_mut() {
+            *label = place;
+        }
+        self.go(State::Aliased)
     }
 
     /// Reads a token behind an operand of a condition.
@@ -508,12 +516,7 @@ impl<'t> Reader<'t> {
             }
             (State::Filter, _) => self.go(State::FilterOpen),
             (State::FilterOpen, _) => self.open(Context::Filter, at),
-            (State::Alias, _) => {
-                if let Some(label) = self.labels.last_mut() {
-                    *label = place;
-                }
-                self.go(State::Aliased)
-            }
+            (State::Alias, _) => self.alias(place),
             (State::Aliased, Sign::Symbol(_)) => self.go(State::Item),
             (State::Aliased, _) => self.go(State::From),
             (State::From, _) => self.go(State::Batches),

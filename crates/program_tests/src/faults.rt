@@ -274,7 +274,7 @@ fn texts_told(
 }
 
 /// Queries over the columns `city text, amount bigint, paid boolean`.
-const QUERIES: [TextFault; 52] = [
+const QUERIES: [TextFault; 54] = [
     (
         "SELECT city FROM sales GROUP BY city",
         "Syntax",
@@ -364,6 +364,18 @@ const QUERIES: [TextFault; 52] = [
         "NoSuchColumn",
         "3 is no item's place, which is 1 to 2",
         "/  SELECT city, sum(amount) FROM batches GROUP BY city ORDER BY 3 DESC/                                                               ^",
+    ),
+    (
+        "SELECT city c, sum(amount) s FROM batches GROUP BY city ORDER BY s, zone",
+        "NoSuchColumn",
+        "'zone' names no item: a term of ORDER BY is the name of an item in the answer, or its place",
+        "/  SELECT city c, sum(amount) s FROM batches GROUP BY city ORDER BY s, zone/                                                                      ^",
+    ),
+    (
+        "SELECT city x, sum(amount) x FROM batches GROUP BY city ORDER BY x",
+        "AmbiguousOrder",
+        "'x' names 2 items that are not the same: give one another name by AS, or write its place",
+        "/  SELECT city x, sum(amount) x FROM batches GROUP BY city ORDER BY x/                                                                   ^",
     ),
     (
         "SELECT city AS x, sum(amount) AS x FROM batches GROUP BY city ORDER BY x",

@@ -1,5 +1,5 @@
 -- Why a replica did not take a batch or another replica, by the refusal.
-use Rattle.std.specs.Prelude.{◌≡◌, ℕ, refl, Option}
+use Rattle.std.specs.Prelude.{◌≡◌, ◌≢◌, ℕ, refl, Option}
 use Rattle.std.proofs.Common.{ap}
 use Rattle.spill_lists.specs.declared.error.SpillError.{SpillError}
 use Rattle.spill_lists.specs.declared.error.SpillError.TheVariants as spill
@@ -48,6 +48,11 @@ pub merge_damage : (error : MergeError) → merge_refusal error ≡ TapeDamaged 
 merge_damage merge.DifferentQuery e = cc
 merge_damage merge.NoMemory e = cc
 merge_damage (merge.Join origin why) e = (origin, ap (merge.Join origin) (join_damage origin why e))
+
+-- one that tells no disagreement
+pub by_spill : (origin : ℕ) (why : JoinError) → ((of : ℕ) (at : Option ℕ) → join_refusal origin why ≢ OriginDisagrees of at) → (error : SpillError) × (why ≡ join.Spill error)
+by_spill origin (join.OriginDisagrees number) other = absurd (other origin number refl)
+by_spill origin (join.Spill error) other = (error, refl)
 
 -- one that is of the batch isn't one of these
 pub not_of_batch : (origin : ℕ) (why : JoinError) → IsOfBatch (join_refusal origin why) → ⊥

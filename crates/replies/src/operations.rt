@@ -1,15 +1,15 @@
 //! What a command does with one replica, with why it is refused.
 
-ghost use Rattle.std.specs.Prelude.{◌≡◌, ◌≢◌, ℕ, Option, Some, IsTrue, IfOk, IfErr, OnOk, OnErr};
-ghost use Rattle.grouping_model.specs.Replies.{InLimits};
-ghost use Rattle.grouping_model.specs.World.{World};
+ghost use Rattle.std.specs.Prelude.{◌≡◌, ◌≢◌, ℕ, false, Option, Some, IsTrue, IfOk, IfErr, OnOk, OnErr};
+ghost use Rattle.grouping_model.specs.Replies.{InLimits, reply_of};
+ghost use Rattle.grouping_model.specs.World.{World, knows, learn};
 ghost use Rattle.packed_rows.specs.Columns.{kinds};
 ghost use Rattle.batch_reader.specs.Rows.{ArePackedRows};
 ghost use Rattle.having_filter.specs.Meaning.{meaning};
 ghost use Rattle.hash_agg.specs.Counting.{AreCounted, setting_by};
 ghost use Rattle.origin_prefix.specs.Parts.{Disagrees, aggregations_on};
 ghost use Rattle.replica_merge.specs.Counting.{MergeIsCounted};
-ghost use Rattle.replica_merge.specs.Replicas.{part_of, Fits};
+ghost use Rattle.replica_merge.specs.Replicas.{part_of, told, Fits};
 ghost use Rattle.spill_tapes.specs.Calls.{failed};
 ghost use Rattle.spill_tapes.specs.Disk.{Leaves};
 ghost use Rattle.replies.specs.declared.refusal.Refusal.TheVariants.{OriginDisagrees, TapeDamaged};
@@ -38,6 +38,10 @@ pub fn take_batch<H: KeyHash + Copy, D: TapeDisk>(
     requires limits { InLimits (batch.origin, batch.number) }
     requires rows { ArePackedRows (kinds replica.old.query.columns) batch.rows }
     ensures query { replica.new.query ≡ replica.old.query }
+    ensures reply { IfOk result (λ reply. reply
+        ≡ reply_of (told replica.old.parts) (batch.origin, batch.number)) }
+    ensures told { OnOk result (told replica.new.parts
+        ≡ learn (told replica.old.parts) (batch.origin, batch.number)) }
     // Whatever fields and records the batch was read of, it is their batch that the replica takes.
     ensures took { IfOk result (TakesRead (D.honest disk.old) batch replica.old replica.new) }
     ensures counted { OnOk result (IsTrue (D.honest disk.old) →
@@ -46,6 +50,9 @@ pub fn take_batch<H: KeyHash + Copy, D: TapeDisk>(
         work.old (D.writes disk.old) work.new (D.writes disk.new)) }
     ensures same { OnErr result (replica.new ≡ replica.old) }
     ensures uncounted { OnErr result (work.new ≡ work.old) }
+    // Nothing but disagreement is told of a number that is known already.
+    ensures unknown { IfErr result (λ why. ((of : ℕ) (at : Option ℕ) → why ≢ OriginDisagrees of at) →
+        knows (told replica.old.parts) (batch.origin, batch.number) ≡ false) }
     // It is never refused for what it says, but for what the replica holds, or for want of memory or by the disk.
     ensures why { IfErr result (λ why. ¬ (IsOfBatch why)) }
     // A batch that disagrees is never taken, and disagreement is told of no other.

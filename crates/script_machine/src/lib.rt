@@ -8,4 +8,4 @@ mod lines;
 mod session;
 
 pub use engine::{Observer, run, run_observed};
-pub use laws::{one_batch_each_agrees, one_reply, same_batches_same_bytes};
+pub use laws::{limits_in_digits, one_batch_each_agrees, one_reply, same_batches_same_bytes};

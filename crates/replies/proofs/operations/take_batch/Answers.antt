@@ -1,3 +1,4 @@
+use Rattle.std.specs.Prelude.{ℕ, ◌≢◌, Option}
 use Rattle.std.proofs.Common.{◌∙◌, ap, sym, subst}
 use Rattle.batch_reader.specs.declared.batch.Batch.{Batch}
 use Rattle.origin_prefix.specs.Parts.{BatchTells}
@@ -7,7 +8,8 @@ use Rattle.replies.specs.BatchLaws.{fed_of, read_is_fed}
 use Rattle.replies.specs.Batches.{IsOfBatch}
 use Rattle.replies.specs.Refusals.{refusal_faults}
 use Rattle.replies.specs.RefusalLaws.{join_tells}
-use Rattle.replies.proofs.UntakenLaws.{other_why, told_of, join_damage, not_of_batch}
+use Rattle.replies.proofs.UntakenLaws.{other_why, told_of, by_spill, join_damage, not_of_batch}
+use Rattle.replies.specs.declared.refusal.Refusal.TheVariants.{OriginDisagrees}
 use Rattle.replies.proofs.operations.take_batch.Goals as goal
 
 pub returns-in-Ok-clause-took : goal.returns-in-Ok-clause-took
@@ -21,6 +23,11 @@ returns-in-Ok-clause-took g c = λ origin number told_rows owned read.
       fits = λ honest world is fits there. done.fits honest world read.rows is fits there read.packed;
       asked = done.query;
     }
+
+pub returns-in-Err-clause-unknown : goal.returns-in-Err-clause-unknown
+returns-in-Err-clause-unknown g c = λ other.
+    let spill = by_spill c.in-Err.refused.batch.origin c.in-Err.refused.why (subst (λ why. (of : ℕ) (at : Option ℕ) → why ≢ OriginDisagrees of at) c.of_origin.ensures other) in
+    c.in-Err.ensures.unknown spill.0 spill.1
 
 pub returns-in-Err-clause-why : goal.returns-in-Err-clause-why
 returns-in-Err-clause-why g c = λ of. not_of_batch c.in-Err.refused.batch.origin c.in-Err.refused.why (subst IsOfBatch c.of_origin.ensures of)
