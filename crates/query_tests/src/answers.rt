@@ -73,14 +73,26 @@ fn in_order(
     Ok(shown)
 }
 
+/// What an answer tells is what is wanted.
+fn expect_order(
+    rt: HostRuntime,
+    those: &[&[ResultValue<'static>]],
+    terms: &[OrderTerm],
+    wanted: &str,
+) -> Result<(), Fail> {
+    expect(Ok(in_order(rt.alloc(), those, terms)?), wanted)
+}
+
 #[test]
 fn answers_are_kept(rt: HostRuntime) -> Result<(), Fail> {
-    expect(
-        in_order(rt.alloc(), &ROWS, &[]),
+    expect_order(
+        rt,
+        &ROWS,
+        &[],
         "4, false: Boolean(true) Text(\"a\") Null //Bigint(-9223372036854775808) \
          Numeric(170141183460469231731687303715884105727) /Text(\"\") Text(\"é€\") Text(\"b\") /",
     )?;
-    expect(in_order(rt.alloc(), &[], &[]), "0, true: ")
+    expect_order(rt, &[], &[], "0, true: ")
 }
 
 /// Rows of a sum and a text, as they are made.
@@ -103,18 +115,24 @@ const fn term(item: usize, descending: bool, nulls_first: bool) -> OrderTerm {
 
 #[test]
 fn rows_stand_in_the_order_of_terms(rt: HostRuntime) -> Result<(), Fail> {
-    expect(
-        in_order(rt.alloc(), &PAIRS, &[term(0, true, true), term(1, true, true)]),
+    expect_order(
+        rt,
+        &PAIRS,
+        &[term(0, true, true), term(1, true, true)],
         "5, false: Null Text(\"b\") /Numeric(10) Text(\"c\") /Numeric(9) Text(\"d\") \
          /Numeric(9) Text(\"a\") /Numeric(-1) Null /",
     )?;
-    expect(
-        in_order(rt.alloc(), &PAIRS, &[term(0, false, false)]),
+    expect_order(
+        rt,
+        &PAIRS,
+        &[term(0, false, false)],
         "5, false: Numeric(-1) Null /Numeric(9) Text(\"a\") /Numeric(9) Text(\"d\") \
          /Numeric(10) Text(\"c\") /Null Text(\"b\") /",
     )?;
-    expect(
-        in_order(rt.alloc(), &PAIRS, &[term(1, false, true)]),
+    expect_order(
+        rt,
+        &PAIRS,
+        &[term(1, false, true)],
         "5, false: Numeric(-1) Null /Numeric(9) Text(\"a\") /Null Text(\"b\") \
          /Numeric(10) Text(\"c\") /Numeric(9) Text(\"d\") /",
     )
