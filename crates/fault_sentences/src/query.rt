@@ -170,21 +170,27 @@ impl<'t> Refused<'t> {
     fn say_term(&self, place: usize) -> Result<Option<String>, AllocError> {
         let many = self.reader.items.len();
         match self.tokens.get(place) {
-            Some(Token {
-                word: Word::Name(name),
-                ..
-            }) if self.items_named(name.as_str()).0 == 0 => {
+            Some(
+                Token {
+                    word: Word::Name(name),
+                    ..
+                },
+            ) if self.items_named(name.as_str()).0 == 0 => {
                 let shown = Quoted(name.as_bytes());
                 let said = format!(in self.alloc;
                     "{shown} names no item: a term of ORDER BY is the name of an item in the answer, or its place"
                 )?;
                 Ok(Some(said))
             }
-            Some(Token {
-                word: Word::Integer(number),
-                ..
-            }) if *number < 1 || *number as u64 > many as u64 => {
-                let said = format!(in self.alloc; "{number} is no item's place, which is 1 to {many}")?;
+            Some(
+                Token {
+                    word: Word::Integer(number),
+                    ..
+                },
+            ) if *number < 1 || *number as u64 > many as u64 => {
+                let said = format!(in self.alloc;
+                    "{number} is no item's place, which is 1 to {many}"
+                )?;
                 Ok(Some(said))
             }
             _ => Ok(None),

@@ -17,7 +17,9 @@ use Rattle.grouping_model.specs.Query.{Query}
 use Rattle.grouping_model.specs.declared.limits.TheConstants.{LAST_NUMBER, LAST_ORIGIN, MOST_ROWS}
 use Rattle.packed_rows.specs.Columns.{Column, kinds, printed}
 use Rattle.batch_reader.specs.Rows.{packings}
-use Rattle.query_checks.specs.Checks.{checked, checked_places, all_of, has_too_many, is_shallow, are_shallow, has_columns, placed, are_plain, kinds_fit, is_grouped, Checked}
+use Rattle.query_checks.specs.declared.order.OrderTerm.{OrderTerm}
+use Rattle.query_checks.specs.Order.{Asked, names_items}
+use Rattle.query_checks.specs.Checks.{checked, checked_places, checked_order, with_order, all_of, has_too_many, is_shallow, are_shallow, has_columns, placed, Checked}
 use Rattle.query_checks.specs.Forms.{Written}
 use Rattle.having_filter.specs.Kept.{by_names, key_kinds}
 use Rattle.having_filter.specs.Meaning.{meaning}
@@ -210,16 +212,19 @@ one_test : (columns : List Column) (b : Bool) (then otherwise : Result Checked Q
 one_test columns true then otherwise one other = one
 one_test columns false then otherwise one other = other
 
-checked_over : (columns : List Column) (w : Written (List ℕ)) (q : Checked) → checked columns w ≡ Ok q → q.columns ≡ columns
-unfolding checked checked_places columns_or
+in_order : (columns : List Column) (written : Result (Written ℕ) QueryError) (order : Result (List OrderTerm) QueryError) → columns_or columns (with_order columns written order) ≡ columns
+in_order columns (Err e) order = refl
+in_order columns (Ok written) (Err e) = refl
+in_order columns (Ok written) (Ok order) = refl
+
+checked_over : (columns : List Column) (w : Asked) (q : Checked) → checked columns w ≡ Ok q → q.columns ≡ columns
+unfolding checked
 checked_over columns w q is =
     sym (ap (columns_or columns) is)
     ∙ one_test columns (has_too_many w) (Err _) _ refl
-    (one_test columns (not (all_of (filters_pass is_shallow) are_shallow w)) (Err _) _ refl
-    (one_test columns (not (has_columns columns w)) (Err _) _ refl
-    (one_test columns (not (are_plain (placed columns w))) (Err _) _ refl
-    (one_test columns (not (kinds_fit (kinds columns) (placed columns w))) (Err _) _ refl
-    (one_test columns (not (is_grouped (placed columns w))) (Err _) _ refl refl)))))
+    (one_test columns (not (all_of (filters_pass is_shallow) are_shallow w.written)) (Err _) _ refl
+    (one_test columns (not (has_columns columns w.written && names_items w)) (Err _) _ refl
+    (in_order columns (checked_places columns (placed columns w.written)) (checked_order w))))
 
 spells_text : (bytes : List ℕ) (found : List ℕ × List ℕ) → text bytes (Ok found) → bytes ≡ sized_bytes found.0 ++ found.1
 unfolding text
