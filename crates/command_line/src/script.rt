@@ -5,9 +5,7 @@ use crate::spill::{open_disk, remove_disk};
 use crate::streams::{Streams, say};
 use fault_sentences::{Reason, ScriptPlace, say_disagreement};
 use hash_agg::TapeDisk;
-use replies::{
-    Ending, Refusal, Reply, RunError, name, put_reply, refusal_ending, run_ending,
-};
+use replies::{Ending, Refusal, Reply, RunError, name, put_reply, refusal_ending, run_ending};
 use script_machine::{Observer, run_observed};
 use std::alloc::{AllocError, Global};
 use std::cell::Cell;
