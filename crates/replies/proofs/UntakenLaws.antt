@@ -19,11 +19,11 @@ other_why origin (join.Spill spill.TapeFault) of at e = cc
 other_why origin (join.Spill spill.TapeDamaged) of at e = cc
 
 -- and of which origin
-pub told_of : (origin : ℕ) (why : JoinError) (of : ℕ) (at : Option ℕ) → join_refusal origin why ≡ OriginDisagrees of at → of ≡ origin
-told_of origin (join.OriginDisagrees number) of at e = cc
-told_of origin (join.Spill spill.NoMemory) of at e = cc
-told_of origin (join.Spill spill.TapeFault) of at e = cc
-told_of origin (join.Spill spill.TapeDamaged) of at e = cc
+pub told_of : (origin asked : ℕ) (why : JoinError) (of : ℕ) (at : Option ℕ) → join_refusal origin why ≡ OriginDisagrees of at → origin ≡ asked → of ≡ asked
+told_of origin asked (join.OriginDisagrees number) of at e same = cc
+told_of origin asked (join.Spill spill.NoMemory) of at e same = cc
+told_of origin asked (join.Spill spill.TapeFault) of at e same = cc
+told_of origin asked (join.Spill spill.TapeDamaged) of at e same = cc
 
 -- disagreement is told where a merge tells it
 pub told_disagreement : (e : MergeError) (of : ℕ) (at : Option ℕ) → merge_refusal e ≡ OriginDisagrees of at → e ≡ merge.Join of (join.OriginDisagrees at)

@@ -1,5 +1,5 @@
 -- Laws: how often the disk of tapes failed, by what was refused.
-use Rattle.std.specs.Prelude.{◌≡◌, ℕ, refl, false, if◌then◌else◌, Option}
+use Rattle.std.specs.Prelude.{◌≡◌, ℕ, refl, false, if◌then◌else◌}
 use Rattle.std.proofs.Common.{ap}
 use Rattle.packed_rows.specs.declared.error.RowError.{RowError}
 use Rattle.packed_rows.specs.declared.error.RowError.TheVariants as row

@@ -1,6 +1,6 @@
 //! Writing replies.
 
-ghost use Rattle.std.specs.Prelude.{◌≡◌, ◌++◌, decimal, MatchResult};
+ghost use Rattle.std.specs.Prelude.{◌++◌, decimal, MatchResult};
 ghost use Rattle.std.specs.Io.KnownBytes.{Appends};
 ghost use Rattle.script_io.specs.Output.{TakesFront};
 ghost use Rattle.replies.specs.Text.{line, delivered_text, answer_text, said_text};

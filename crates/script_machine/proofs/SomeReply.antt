@@ -1,6 +1,6 @@
 -- A command is never without a reply, memory being there.
 use Rattle.std.specs.Prelude.{◌≡◌, ◌≢◌, ◌≤◌, ◌<◌, ◌+◌, ◌⊎◌, refl, ℕ, zero, suc, List, [], length, Option, Some, None, slice_index_or, unwrap_or, Result, Ok, Err}
-use Rattle.std.proofs.Common.{◌∙◌, sym, subst, arith, inl, inr}
+use Rattle.std.proofs.Common.{subst, arith, inl, inr}
 use Rattle.std.proofs.lemmas.Bool.{cases_lt}
 use Rattle.grouping_model.specs.declared.limits.TheConstants.{MOST_ROWS}
 use Rattle.grouping_model.specs.Datum.{Kind, Row, Bigint_kind}

@@ -271,11 +271,11 @@ pub same_texts : (a b : Checked) → a ≡ b → SameQuery a b
 same_texts a b same = (ap (λ (q : Checked). printed q.columns) same, ap (λ (q : Checked). spelling (by_names q)) same)
 
 -- what two replicas hold together, or why they are not joined, by their names
-pub joins_names : {honest : Bool} (store : Store) (into from : List ℕ) (own theirs : Held) (result : Result Parts Refusal) → IsStore store → replica_at store into ≡ Some own → replica_at store from ≡ Some theirs
+pub joins_names : (honest : Bool) (store : Store) (into from : List ℕ) (own theirs : Held) (result : Result Parts Refusal) → IsStore store → replica_at store into ≡ Some own → replica_at store from ≡ Some theirs
     → IfOk result (JoinsHeld honest own theirs) → IfErr result (IsApart own theirs)
     → IfErr result (λ refusal. (of : ℕ) (at : Option ℕ) → refusal ≡ why.OriginDisagrees of at → (world : World) → Fits world own → ¬ (Fits world theirs)) → JoinsNames honest store into from result
-joins_names store into from own theirs (Ok joined) is one two joins is_apart never = (own, theirs, one, two, joins)
-joins_names store into from own theirs (Err refusal) is one two joins is_apart never =
+joins_names honest store into from own theirs (Ok joined) is one two joins is_apart never = (own, theirs, one, two, joins)
+joins_names honest store into from own theirs (Err refusal) is one two joins is_apart never =
     subst (λ o. JoinRefused o (replica_at store from) refusal) (sym one)
     (subst (λ o. JoinRefused (Some own) o refusal) (sym two)
     (subst (JoinRefused (Some own) (Some theirs)) (sym is_apart.1)

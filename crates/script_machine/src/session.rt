@@ -1,6 +1,6 @@
 //! What is there while a script runs, and how its commands are answered.
 
-ghost use Rattle.std.specs.Prelude.{◌≡◌, ◌≢◌, ◌+◌, ◌<◌, ◌≤◌, Bool, IsTrue, false, List, Option, Some, None, [], IfOk, IfErr, OnOk, OnErr, drop, length, string_bytes, take, ℕ};
+ghost use Rattle.std.specs.Prelude.{◌≡◌, ◌≢◌, Bool, IsTrue, false, List, Option, Some, None, [], IfOk, IfErr, OnOk, OnErr, drop, string_bytes, take, ℕ};
 ghost use Rattle.std.specs.HashMap.{UpdatesBy};
 ghost use Rattle.std.specs.Str.{bytes_eq};
 ghost use Rattle.csv.specs.Records.{fields_of};

@@ -36,7 +36,7 @@ pub returns-in-Err-clause-disagree : goal.returns-in-Err-clause-disagree
 returns-in-Err-clause-disagree g c = λ of at is.
     let tells = subst (λ why. BatchTells why (part_of c.args.replica.now.parts c.args.batch.origin) c.args.batch.number c.args.batch.rows)
     (other_why c.in-Err.refused.batch.origin c.in-Err.refused.why of at (sym c.of_origin.ensures ∙ is)) c.in-Err.ensures.tells in
-    (told_of c.in-Err.refused.batch.origin c.in-Err.refused.why of at (sym c.of_origin.ensures ∙ is) ∙ ap (λ (b : Batch). b.origin) c.in-Err.ensures.refused.0, tells.0, tells.1)
+    (told_of c.in-Err.refused.batch.origin c.args.batch.origin c.in-Err.refused.why of at (sym c.of_origin.ensures ∙ is) (ap (λ (b : Batch). b.origin) c.in-Err.ensures.refused.0), tells.0, tells.1)
 
 pub returns-in-Err-clause-other : goal.returns-in-Err-clause-other
 returns-in-Err-clause-other g c = λ of at is origin number told_rows owned read.

@@ -14,7 +14,7 @@ pub returns-clause-joins : goal.returns-clause-joins
 returns-clause-joins g c =
     let store : Store = record { columns = c.self.inside.columns; query = c.self.inside.query; replicas = c.self.inside.replicas.entries; saved = c.self.inside.saved.entries; limit = c.self.inside.means.limit } in
     subst (λ (s : Store). JoinsNames (g.D.TapeDisk.honest c.args.disk.now) s c.args.into.now c.args.from.now c.join.result) c.self.view_is
-    (joins_names store c.args.into.now c.args.from.now c.in-Some.own.now c.in-Some-get.theirs.now c.join.result c.self.invariant
+    (joins_names (g.D.TapeDisk.honest c.args.disk.now) store c.args.into.now c.args.from.now c.in-Some.own.now c.in-Some-get.theirs.now c.join.result c.self.invariant
     (sym c.get.ensures.value ∙ ap option_copied c.in-Some.is) (sym c.get-2.ensures.value ∙ ap option_copied c.in-Some-get.is)
     c.join.ensures.joined c.join.ensures.why c.join.ensures.agree)
 
