@@ -240,7 +240,7 @@ spells_query : (columns : List Column) (bytes : List ℕ) (found : Checked × Li
 unfolding query
 spells_query columns bytes found (said, r, there, (q, s, (is, stays), (canonical, (same, rests)))) = (
   spells_text bytes (said, r) there ∙ (λ i. sized_bytes ((sym canonical ∙ ap (λ (c : Checked). spelling (by_names c)) (sym same)) i) ++ (sym stays ∙ sym rests) i),
-  ap (λ (c : Checked). c.columns) same ∙ checked_over columns is.written q is.passed,
+  ap (λ (c : Checked). c.columns) same ∙ checked_over columns is.asked q is.passed,
 )
 
 -- what is read of all origins, to the end
