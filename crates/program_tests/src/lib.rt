@@ -8,6 +8,8 @@ mod faults;
 #[cfg(test)]
 mod folder;
 #[cfg(test)]
+mod longest;
+#[cfg(test)]
 mod made;
 #[cfg(test)]
 mod sizes;

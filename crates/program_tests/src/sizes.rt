@@ -33,20 +33,16 @@ fn many_keys_are_answered(rt: HostRuntime) -> Result<(), Fail> {
     Ok(())
 }
 
-/// A summary of 1,000 origins, and the longest file, a batch of 65,535 long rows; where it comes early, a summary has these rows, and would
-/// be longer than a file may be: it is not written.
+/// A summary of 1,000 origins, and the longest file, a batch of 65,535 long rows.
 const LONG: &str = "\
 ?origins|@k.sum|1000 => - => 0
 ?listed|@k.txt|1000 => - => 0
 >@k.out|known|@k.sum => - => 0
 ?same|@k.out|@k.txt => - => 0
 ?wide|@w.csv|1|65535 => - => 0
-?wide|@early.csv|2|65535 => - => 0
 new|@e.sum|--columns|a text, b text, c text, d text|--query|SELECT count(*) FROM batches => saved 72/ => 0
 feed|@f.sum|@e.sum|@w.csv => folded upto 1/saved 100/ => 0
 answer|@f.sum => count/65535/ => 0
-feed|@g.sum|@e.sum|@early.csv => early/refused InputTooLong/ => 1 => g.sum: refused InputTooLong: more than 67,108,864 bytes: it would have NNN; @g.sum is not written
-?there|@g.sum => - => 1
 ";
 
 #[test]
