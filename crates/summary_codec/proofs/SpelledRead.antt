@@ -214,12 +214,13 @@ one_test columns true then otherwise one other = one
 one_test columns false then otherwise one other = other
 
 in_order : (columns : List Column) (written : Result (Written ℕ) QueryError) (order : Result (List OrderTerm) QueryError) → columns_or columns (with_order columns written order) ≡ columns
+unfolding columns_or
 in_order columns (Err e) order = refl
 in_order columns (Ok written) (Err e) = refl
 in_order columns (Ok written) (Ok order) = refl
 
 checked_over : (columns : List Column) (w : Asked) (q : Checked) → checked columns w ≡ Ok q → q.columns ≡ columns
-unfolding checked
+unfolding checked columns_or
 checked_over columns w q is =
     sym (ap (columns_or columns) is)
     ∙ one_test columns (has_too_many w) (Err _) _ refl
