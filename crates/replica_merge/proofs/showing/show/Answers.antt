@@ -1,7 +1,7 @@
 use Rattle.std.specs.Prelude.{◌≡◌, ◌≢◌, [], map, length}
 use Rattle.std.proofs.Common.{sym, ◌∙◌, ap, rules}
 use Rattle.std.proofs.lemmas.List.{nil_from_length}
-use Rattle.std.proofs.lemmas.Result.{if_ok_then}
+use Rattle.std.proofs.lemmas.Result.{IfOk-weaker}
 use Rattle.grouping_model.specs.Query.{Query}
 use Rattle.grouping_model.specs.Order.{ordered}
 use Rattle.grouping_model.specs.Answer.{rows_of, answer_of}
@@ -14,7 +14,7 @@ pub returns-then-is_empty : goal.returns-then-is_empty
 returns-then-is_empty c =
     let q : Query = meaning c.args.query.now in
     let none : c.args.run.now ≡ [] = search rules in
-    if_ok_then c.show_none.result _ _
+    IfOk-weaker c.show_none.result _ _
     (λ answer is most groups low are. is ∙ ap (answer_of q) (sym (nil_from_length groups (sym (groups_long q most c.args.run.now groups are) ∙ ap length none))))
     c.show_none.ensures
 
@@ -22,7 +22,7 @@ pub returns : goal.returns
 returns c =
     let q : Query = meaning c.args.query.now in
     let some : c.args.run.now ≢ [] = search rules in
-    if_ok_then c.in_order.result _ _
+    IfOk-weaker c.in_order.result _ _
     (λ answer is most groups low are.
     let left : length groups ≢ 0 = λ e. some (nil_from_length c.args.run.now (groups_long q most c.args.run.now groups are ∙ e)) in
     let rows = c.in_ok-rows.ensures most groups low are ∙ ap (rows_of q) (sym (answered_some q groups left)) in
