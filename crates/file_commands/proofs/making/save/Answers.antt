@@ -5,4 +5,4 @@ pub new-requires : goal.new-requires
 new-requires c =
     let low = c.if-len-gt-LONGEST_INPUT.false in
     let counted = c.in_ok-file.file.ok in
-    record { held = c.args.replica.now; is = c.in_ok-file.ensures.file; short = omega (arith, low, counted, c.len.ensures) }
+    record { held = c.args.replica.now; is = c.in_ok-file.ensures.summary; short = omega (arith, low, counted, c.len.ensures) }
