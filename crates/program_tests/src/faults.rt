@@ -273,8 +273,8 @@ fn texts_told(
     Ok(told)
 }
 
-/// Queries over the columns `city text, amount bigint, paid boolean`.
-const QUERIES: [TextFault; 54] = [
+/// Texts that are none of the grammar's, but for ORDER BY.
+const TEXTS: [TextFault; 30] = [
     (
         "SELECT city FROM sales GROUP BY city",
         "Syntax",
@@ -316,72 +316,6 @@ const QUERIES: [TextFault; 54] = [
         "Syntax",
         "byte 39: found 'LIMIT', wanted a comma, HAVING, ORDER BY, a semicolon or the end; there is no LIMIT: HAVING leaves groups out",
         "/  SELECT city FROM batches GROUP BY city LIMIT 5/                                         ^",
-    ),
-    (
-        "SELECT city FROM batches ORDER city",
-        "Syntax",
-        "byte 31: found 'city', wanted BY",
-        "/  SELECT city FROM batches ORDER city/                                 ^",
-    ),
-    (
-        "SELECT city FROM batches GROUP BY city ORDER BY count(*)",
-        "Syntax",
-        "byte 53: found '(', wanted a comma, ASC, DESC, NULLS, a semicolon or the end; ORDER BY takes the name or the place of an item, as ORDER BY 2",
-        "/  SELECT city FROM batches GROUP BY city ORDER BY count(*)/                                                       ^",
-    ),
-    (
-        "SELECT city FROM batches GROUP BY city ORDER BY DESC",
-        "Syntax",
-        "byte 48: found 'DESC', wanted the name or the place of an item",
-        "/  SELECT city FROM batches GROUP BY city ORDER BY DESC/                                                  ^",
-    ),
-    (
-        "SELECT city FROM batches GROUP BY city ORDER BY city DESC city",
-        "Syntax",
-        "byte 58: found 'city', wanted a comma, NULLS, a semicolon or the end",
-        "/  SELECT city FROM batches GROUP BY city ORDER BY city DESC city/                                                            ^",
-    ),
-    (
-        "SELECT city FROM batches GROUP BY city ORDER BY city NULLS high",
-        "Syntax",
-        "byte 59: found 'high', wanted first or last",
-        "/  SELECT city FROM batches GROUP BY city ORDER BY city NULLS high/                                                             ^",
-    ),
-    (
-        "SELECT city FROM batches GROUP BY city ORDER BY city NULLS LAST DESC",
-        "Syntax",
-        "byte 64: found 'DESC', wanted a comma, a semicolon or the end",
-        "/  SELECT city FROM batches GROUP BY city ORDER BY city NULLS LAST DESC/                                                                  ^",
-    ),
-    (
-        "SELECT city, sum(amount) FROM batches GROUP BY city ORDER BY 1, amount",
-        "NoSuchColumn",
-        "'amount' names no item: a term of ORDER BY is the name of an item in the answer, or its place",
-        "/  SELECT city, sum(amount) FROM batches GROUP BY city ORDER BY 1, amount/                                                                  ^",
-    ),
-    (
-        "SELECT city, sum(amount) FROM batches GROUP BY city ORDER BY 3 DESC",
-        "NoSuchColumn",
-        "3 is no item's place, which is 1 to 2",
-        "/  SELECT city, sum(amount) FROM batches GROUP BY city ORDER BY 3 DESC/                                                               ^",
-    ),
-    (
-        "SELECT city c, sum(amount) s FROM batches GROUP BY city ORDER BY s, zone",
-        "NoSuchColumn",
-        "'zone' names no item: a term of ORDER BY is the name of an item in the answer, or its place",
-        "/  SELECT city c, sum(amount) s FROM batches GROUP BY city ORDER BY s, zone/                                                                      ^",
-    ),
-    (
-        "SELECT city x, sum(amount) x FROM batches GROUP BY city ORDER BY x",
-        "AmbiguousOrder",
-        "'x' names 2 items that are not the same: give one another name by AS, or write its place",
-        "/  SELECT city x, sum(amount) x FROM batches GROUP BY city ORDER BY x/                                                                   ^",
-    ),
-    (
-        "SELECT city AS x, sum(amount) AS x FROM batches GROUP BY city ORDER BY x",
-        "AmbiguousOrder",
-        "'x' names 2 items that are not the same: give one another name by AS, or write its place",
-        "/  SELECT city AS x, sum(amount) AS x FROM batches GROUP BY city ORDER BY x/                                                                         ^",
     ),
     (
         "SELECT * FROM batches",
@@ -516,6 +450,80 @@ const QUERIES: [TextFault; 54] = [
         "'-9223372036854775809' is out of range, which is -9223372036854775808 to 9223372036854775807",
         "/  SELECT city FROM batches WHERE amount = -9223372036854775809/                                          ^",
     ),
+];
+
+/// Faults of ORDER BY, in what is written and in what is asked.
+const ORDERS: [TextFault; 11] = [
+    (
+        "SELECT city FROM batches ORDER city",
+        "Syntax",
+        "byte 31: found 'city', wanted BY",
+        "/  SELECT city FROM batches ORDER city/                                 ^",
+    ),
+    (
+        "SELECT city FROM batches GROUP BY city ORDER BY count(*)",
+        "Syntax",
+        "byte 53: found '(', wanted a comma, ASC, DESC, NULLS, a semicolon or the end; ORDER BY takes the name or the place of an item, as ORDER BY 2",
+        "/  SELECT city FROM batches GROUP BY city ORDER BY count(*)/                                                       ^",
+    ),
+    (
+        "SELECT city FROM batches GROUP BY city ORDER BY DESC",
+        "Syntax",
+        "byte 48: found 'DESC', wanted the name or the place of an item",
+        "/  SELECT city FROM batches GROUP BY city ORDER BY DESC/                                                  ^",
+    ),
+    (
+        "SELECT city FROM batches GROUP BY city ORDER BY city DESC city",
+        "Syntax",
+        "byte 58: found 'city', wanted a comma, NULLS, a semicolon or the end",
+        "/  SELECT city FROM batches GROUP BY city ORDER BY city DESC city/                                                            ^",
+    ),
+    (
+        "SELECT city FROM batches GROUP BY city ORDER BY city NULLS high",
+        "Syntax",
+        "byte 59: found 'high', wanted first or last",
+        "/  SELECT city FROM batches GROUP BY city ORDER BY city NULLS high/                                                             ^",
+    ),
+    (
+        "SELECT city FROM batches GROUP BY city ORDER BY city NULLS LAST DESC",
+        "Syntax",
+        "byte 64: found 'DESC', wanted a comma, a semicolon or the end",
+        "/  SELECT city FROM batches GROUP BY city ORDER BY city NULLS LAST DESC/                                                                  ^",
+    ),
+    (
+        "SELECT city, sum(amount) FROM batches GROUP BY city ORDER BY 1, amount",
+        "NoSuchColumn",
+        "'amount' names no item: a term of ORDER BY is the name of an item in the answer, or its place",
+        "/  SELECT city, sum(amount) FROM batches GROUP BY city ORDER BY 1, amount/                                                                  ^",
+    ),
+    (
+        "SELECT city, sum(amount) FROM batches GROUP BY city ORDER BY 3 DESC",
+        "NoSuchColumn",
+        "3 is no item's place, which is 1 to 2",
+        "/  SELECT city, sum(amount) FROM batches GROUP BY city ORDER BY 3 DESC/                                                               ^",
+    ),
+    (
+        "SELECT city c, sum(amount) s FROM batches GROUP BY city ORDER BY s, zone",
+        "NoSuchColumn",
+        "'zone' names no item: a term of ORDER BY is the name of an item in the answer, or its place",
+        "/  SELECT city c, sum(amount) s FROM batches GROUP BY city ORDER BY s, zone/                                                                      ^",
+    ),
+    (
+        "SELECT city x, sum(amount) x FROM batches GROUP BY city ORDER BY x",
+        "AmbiguousOrder",
+        "'x' names 2 items that are not the same: give one another name by AS, or write its place",
+        "/  SELECT city x, sum(amount) x FROM batches GROUP BY city ORDER BY x/                                                                   ^",
+    ),
+    (
+        "SELECT city AS x, sum(amount) AS x FROM batches GROUP BY city ORDER BY x",
+        "AmbiguousOrder",
+        "'x' names 2 items that are not the same: give one another name by AS, or write its place",
+        "/  SELECT city AS x, sum(amount) AS x FROM batches GROUP BY city ORDER BY x/                                                                         ^",
+    ),
+];
+
+/// Queries of the grammar that do not pass the checks.
+const QUERIES: [TextFault; 13] = [
     (
         "SELECT amout FROM batches GROUP BY amout",
         "NoSuchColumn",
@@ -596,10 +604,31 @@ const QUERIES: [TextFault; 54] = [
     ),
 ];
 
+/// The queries that differ from what is wanted of them.
+fn queries_told(rt: &HostRuntime, faults: &[TextFault]) -> Result<String, Fail> {
+    texts_told(
+        rt,
+        "--query",
+        "--columns|city text, amount bigint, paid boolean",
+        faults,
+    )
+}
+
+#[test]
+fn faults_of_texts_are_told(rt: HostRuntime) -> Result<(), Fail> {
+    assert_eq!(rt; queries_told(&rt, &TEXTS)?.as_str(), "");
+    Ok(())
+}
+
+#[test]
+fn faults_of_orders_are_told(rt: HostRuntime) -> Result<(), Fail> {
+    assert_eq!(rt; queries_told(&rt, &ORDERS)?.as_str(), "");
+    Ok(())
+}
+
 #[test]
 fn faults_of_queries_are_told(rt: HostRuntime) -> Result<(), Fail> {
-    let other = "--columns|city text, amount bigint, paid boolean";
-    assert_eq!(rt; texts_told(&rt, "--query", other, &QUERIES)?.as_str(), "");
+    assert_eq!(rt; queries_told(&rt, &QUERIES)?.as_str(), "");
     Ok(())
 }
 
