@@ -3,6 +3,7 @@
 use crate::folder::{Done, File, new_folder, play, run};
 use std::fs;
 use std::test::*;
+use test_tables::{cut, halves};
 
 /// A fault: the bytes in which it is, its reply, and what is said behind the name of the file, or of the option, and of the reply.
 type Fault = (&'static [u8], &'static str, &'static str);
@@ -238,17 +239,13 @@ fn faults_of_batches_are_told(rt: HostRuntime) -> Result<(), Fail> {
     Ok(())
 }
 
-/// A refused text: the text, its reply, what is said of it, and the lines below, whose ends and those before them are told by `/`.
-type TextFault = (&'static str, &'static str, &'static str, &'static str);
-
-/// Makes a summary of a schema's or a query's text, and tells what differs.
-fn make_summary(
-    rt: &HostRuntime,
-    option: &str,
-    other: &str,
-    fault: &TextFault,
-) -> Result<String, Fail> {
-    let (text, name, said, below) = *fault;
+/// Makes a summary of a schema's or a query's text, and tells what differs from its line of a table: the text, its reply, what is said of it, and
+/// the lines below, whose ends and those before them are told by `/`. The end of a line of the text is told by `\u{b6}`.
+fn make_summary(rt: &HostRuntime, option: &str, other: &str, line: &str) -> Result<String, Fail> {
+    let (text, fault) = halves(line, " => ")?;
+    let (name, fault) = halves(fault, " => ")?;
+    let (said, below) = cut(fault, " => ");
+    let text = text.replace(rt.alloc(), "\u{b6}", "\n")?;
     let words = format!(in rt.alloc(); "new|/none/x.sum|{option}|{text}|{other}")?;
     let found = run(rt, &words, "")?;
     let output = format!(in rt.alloc(); "refused {name}\n")?;
@@ -259,471 +256,131 @@ fn make_summary(
     difference(rt, &found, 1, &output, &errors)
 }
 
-/// The texts that differ from what is wanted of them.
-fn texts_told(
-    rt: &HostRuntime,
-    option: &str,
-    other: &str,
-    faults: &[TextFault],
-) -> Result<String, Fail> {
+/// The texts of a table that differ from what is wanted of them.
+fn texts_told(rt: &HostRuntime, option: &str, other: &str, table: &str) -> Result<String, Fail> {
     let mut told = String::new(rt.alloc());
-    for fault in faults {
-        told.push_str(&make_summary(rt, option, other, fault)?)?;
+    for line in table.lines() {
+        told.push_str(&make_summary(rt, option, other, line)?)?;
     }
     Ok(told)
 }
 
 /// Texts that are none of the grammar's, but for ORDER BY.
-const TEXTS: [TextFault; 30] = [
-    (
-        "SELECT city FROM sales GROUP BY city",
-        "Syntax",
-        "byte 17: found 'sales', wanted batches, which is the name of every table",
-        "/  SELECT city FROM sales GROUP BY city/                   ^",
-    ),
-    (
-        "SELECT avg(amount) FROM batches",
-        "Syntax",
-        "byte 10: found '(', wanted a comma, AS, another name or FROM; there is no avg: ask sum and count, and divide",
-        "/  SELECT avg(amount) FROM batches/            ^",
-    ),
-    (
-        "SELECT counter(*) FROM batches",
-        "Syntax",
-        "byte 14: found '(', wanted a comma, AS, another name or FROM; the functions are count, sum, min, max, bit_and, bit_or, bit_xor, bool_and, bool_or and every",
-        "/  SELECT counter(*) FROM batches/                ^",
-    ),
-    (
-        "SELECT city FROM batches WHERE city LIKE 'o%' GROUP BY city",
-        "Syntax",
-        "byte 36: found 'LIKE', wanted a comparison, IS, AND, OR, GROUP BY, HAVING, ORDER BY, a semicolon or the end; there is no LIKE: texts are compared by = <> < <= > >=",
-        "/  SELECT city FROM batches WHERE city LIKE 'o%' GROUP BY city/                                      ^",
-    ),
-    (
-        "SELECT city FROM batches GROUP BY city HAVING city = \"oslo\"",
-        "Syntax",
-        "byte 53: found '\"', wanted a column, a call, an integer, a text, TRUE, FALSE, NULL or (; a text stands in single quotes, and a name in none",
-        "/  SELECT city FROM batches GROUP BY city HAVING city = \"oslo\"/                                                       ^",
-    ),
-    (
-        "SELECT city FROM batches WHERE city == 'oslo'",
-        "Syntax",
-        "byte 37: found '=', wanted a column, a call, an integer, a text, TRUE, FALSE, NULL or (; one = compares",
-        "/  SELECT city FROM batches WHERE city == 'oslo'/                                       ^",
-    ),
-    (
-        "SELECT city FROM batches GROUP BY city LIMIT 5",
-        "Syntax",
-        "byte 39: found 'LIMIT', wanted a comma, HAVING, ORDER BY, a semicolon or the end; there is no LIMIT: HAVING leaves groups out",
-        "/  SELECT city FROM batches GROUP BY city LIMIT 5/                                         ^",
-    ),
-    (
-        "SELECT * FROM batches",
-        "Syntax",
-        "byte 7: found '*', wanted a column or a call, as count(*); name the columns of GROUP BY and the calls",
-        "/  SELECT * FROM batches/         ^",
-    ),
-    (
-        "SELECT count(DISTINCT city) FROM batches",
-        "Syntax",
-        "byte 22: found 'city', wanted ); there is no DISTINCT: GROUP BY has each group once",
-        "/  SELECT count(DISTINCT city) FROM batches/                        ^",
-    ),
-    (
-        "SELECT sum(*) FROM batches",
-        "Syntax",
-        "byte 11: found '*', wanted a column; there is no arithmetic: let the rows have what is counted",
-        "/  SELECT sum(*) FROM batches/             ^",
-    ),
-    (
-        "SELECT sum(amount) + 2 FROM batches",
-        "Syntax",
-        "byte 19: found '+', wanted FILTER, a comma, AS, another name or FROM; there is no arithmetic: let the rows have what is counted",
-        "/  SELECT sum(amount) + 2 FROM batches/                     ^",
-    ),
-    (
-        "SELECT b.city FROM batches",
-        "Syntax",
-        "byte 8: found '.', wanted a comma, AS, another name or FROM; no table's name stands before that of a column",
-        "/  SELECT b.city FROM batches/          ^",
-    ),
-    (
-        "SELECT count(*) FILTER (amount > 1) FROM batches",
-        "Syntax",
-        "byte 24: found 'amount', wanted WHERE",
-        "/  SELECT count(*) FILTER (amount > 1) FROM batches/                          ^",
-    ),
-    (
-        "SELECT count(*) FILTER WHERE FROM batches",
-        "Syntax",
-        "byte 23: found 'WHERE', wanted (",
-        "/  SELECT count(*) FILTER WHERE FROM batches/                         ^",
-    ),
-    (
-        "SELECT count(*) FILTER (WHERE paid FROM batches",
-        "Syntax",
-        "byte 35: found 'FROM', wanted a comparison, IS, AND, OR or )",
-        "/  SELECT count(*) FILTER (WHERE paid FROM batches/                                     ^",
-    ),
-    (
-        "SELECT count(*) FROM batches WHERE amount = 1 = 1",
-        "Syntax",
-        "byte 46: found '=', wanted IS, AND, OR, GROUP BY, HAVING, ORDER BY, a semicolon or the end",
-        "/  SELECT count(*) FROM batches WHERE amount = 1 = 1/                                                ^",
-    ),
-    (
-        "SELECT count(*) FROM batches WHERE paid IS 1",
-        "Syntax",
-        "byte 43: found '1', wanted NOT, NULL, TRUE, FALSE or UNKNOWN",
-        "/  SELECT count(*) FROM batches WHERE paid IS 1/                                             ^",
-    ),
-    (
-        "SELECT count(*) FROM batches WHERE paid IS NOT 1",
-        "Syntax",
-        "byte 47: found '1', wanted NULL, TRUE, FALSE or UNKNOWN",
-        "/  SELECT count(*) FROM batches WHERE paid IS NOT 1/                                                 ^",
-    ),
-    (
-        "SELECT city FROM batches GROUP city",
-        "Syntax",
-        "byte 31: found 'city', wanted BY",
-        "/  SELECT city FROM batches GROUP city/                                 ^",
-    ),
-    (
-        "SELECT city FROM batches GROUP BY city HAVING paid GROUP BY paid",
-        "Syntax",
-        "byte 51: found 'GROUP', wanted a comparison, IS, AND, OR, ORDER BY, a semicolon or the end",
-        "/  SELECT city FROM batches GROUP BY city HAVING paid GROUP BY paid/                                                     ^",
-    ),
-    (
-        "SELECT city AS FROM batches",
-        "Syntax",
-        "byte 15: found 'FROM', wanted a name",
-        "/  SELECT city AS FROM batches/                 ^",
-    ),
-    (
-        "SELECT city town country FROM batches",
-        "Syntax",
-        "byte 17: found 'country', wanted a comma or FROM",
-        "/  SELECT city town country FROM batches/                   ^",
-    ),
-    (
-        "SELECT count(*) FROM batches; SELECT",
-        "Syntax",
-        "byte 30: found 'SELECT', wanted the end",
-        "/  SELECT count(*) FROM batches; SELECT/                                ^",
-    ),
-    (
-        "city",
-        "Syntax",
-        "byte 0: found 'city', wanted SELECT",
-        "/  city/  ^",
-    ),
-    ("", "Syntax", "byte 0: found the end, wanted SELECT", ""),
-    (
-        "SELECT city FROM",
-        "Syntax",
-        "byte 16: found the end, wanted batches, which is the name of every table",
-        "/  SELECT city FROM/                  ^",
-    ),
-    (
-        "SELECT city FROM batches WHERE city = 'oslo",
-        "Syntax",
-        "the text that begins here is not closed, or has the character 0",
-        "/  SELECT city FROM batches WHERE city = 'oslo/                                        ^",
-    ),
-    (
-        "SELECT city FROM batches WHERE amount = 5x",
-        "Syntax",
-        "a letter stands directly behind digits",
-        "/  SELECT city FROM batches WHERE amount = 5x/                                          ^",
-    ),
-    (
-        "SELECT a123456789b123456789c123456789d123456789e123456789f123456789g123456789 FROM batches",
-        "Syntax",
-        "a name of 70 bytes, and the longest has 63",
-        "/  SELECT a123456789b123456789c123456789d123456789e123456789f123456789g1234 ../         ^",
-    ),
-    (
-        "SELECT city FROM batches WHERE amount = -9223372036854775809",
-        "NumberTooLarge",
-        "'-9223372036854775809' is out of range, which is -9223372036854775808 to 9223372036854775807",
-        "/  SELECT city FROM batches WHERE amount = -9223372036854775809/                                          ^",
-    ),
-];
+const TEXTS: &str = "\
+SELECT city FROM sales GROUP BY city => Syntax => byte 17: found 'sales', wanted batches, which is the name of every table => /  SELECT city FROM sales GROUP BY city/                   ^
+SELECT avg(amount) FROM batches => Syntax => byte 10: found '(', wanted a comma, AS, another name or FROM; there is no avg: ask sum and count, and divide => /  SELECT avg(amount) FROM batches/            ^
+SELECT counter(*) FROM batches => Syntax => byte 14: found '(', wanted a comma, AS, another name or FROM; the functions are count, sum, min, max, bit_and, bit_or, bit_xor, bool_and, bool_or and every => /  SELECT counter(*) FROM batches/                ^
+SELECT city FROM batches WHERE city LIKE 'o%' GROUP BY city => Syntax => byte 36: found 'LIKE', wanted a comparison, IS, AND, OR, GROUP BY, HAVING, ORDER BY, a semicolon or the end; there is no LIKE: texts are compared by = <> < <= > >= => /  SELECT city FROM batches WHERE city LIKE 'o%' GROUP BY city/                                      ^
+SELECT city FROM batches GROUP BY city HAVING city = \"oslo\" => Syntax => byte 53: found '\"', wanted a column, a call, an integer, a text, TRUE, FALSE, NULL or (; a text stands in single quotes, and a name in none => /  SELECT city FROM batches GROUP BY city HAVING city = \"oslo\"/                                                       ^
+SELECT city FROM batches WHERE city == 'oslo' => Syntax => byte 37: found '=', wanted a column, a call, an integer, a text, TRUE, FALSE, NULL or (; one = compares => /  SELECT city FROM batches WHERE city == 'oslo'/                                       ^
+SELECT city FROM batches GROUP BY city LIMIT 5 => Syntax => byte 39: found 'LIMIT', wanted a comma, HAVING, ORDER BY, a semicolon or the end; there is no LIMIT: HAVING leaves groups out => /  SELECT city FROM batches GROUP BY city LIMIT 5/                                         ^
+SELECT * FROM batches => Syntax => byte 7: found '*', wanted a column or a call, as count(*); name the columns of GROUP BY and the calls => /  SELECT * FROM batches/         ^
+SELECT count(DISTINCT city) FROM batches => Syntax => byte 22: found 'city', wanted ); there is no DISTINCT: GROUP BY has each group once => /  SELECT count(DISTINCT city) FROM batches/                        ^
+SELECT sum(*) FROM batches => Syntax => byte 11: found '*', wanted a column; there is no arithmetic: let the rows have what is counted => /  SELECT sum(*) FROM batches/             ^
+SELECT sum(amount) + 2 FROM batches => Syntax => byte 19: found '+', wanted FILTER, a comma, AS, another name or FROM; there is no arithmetic: let the rows have what is counted => /  SELECT sum(amount) + 2 FROM batches/                     ^
+SELECT b.city FROM batches => Syntax => byte 8: found '.', wanted a comma, AS, another name or FROM; no table's name stands before that of a column => /  SELECT b.city FROM batches/          ^
+SELECT count(*) FILTER (amount > 1) FROM batches => Syntax => byte 24: found 'amount', wanted WHERE => /  SELECT count(*) FILTER (amount > 1) FROM batches/                          ^
+SELECT count(*) FILTER WHERE FROM batches => Syntax => byte 23: found 'WHERE', wanted ( => /  SELECT count(*) FILTER WHERE FROM batches/                         ^
+SELECT count(*) FILTER (WHERE paid FROM batches => Syntax => byte 35: found 'FROM', wanted a comparison, IS, AND, OR or ) => /  SELECT count(*) FILTER (WHERE paid FROM batches/                                     ^
+SELECT count(*) FROM batches WHERE amount = 1 = 1 => Syntax => byte 46: found '=', wanted IS, AND, OR, GROUP BY, HAVING, ORDER BY, a semicolon or the end => /  SELECT count(*) FROM batches WHERE amount = 1 = 1/                                                ^
+SELECT count(*) FROM batches WHERE paid IS 1 => Syntax => byte 43: found '1', wanted NOT, NULL, TRUE, FALSE or UNKNOWN => /  SELECT count(*) FROM batches WHERE paid IS 1/                                             ^
+SELECT count(*) FROM batches WHERE paid IS NOT 1 => Syntax => byte 47: found '1', wanted NULL, TRUE, FALSE or UNKNOWN => /  SELECT count(*) FROM batches WHERE paid IS NOT 1/                                                 ^
+SELECT city FROM batches GROUP city => Syntax => byte 31: found 'city', wanted BY => /  SELECT city FROM batches GROUP city/                                 ^
+SELECT city FROM batches GROUP BY city HAVING paid GROUP BY paid => Syntax => byte 51: found 'GROUP', wanted a comparison, IS, AND, OR, ORDER BY, a semicolon or the end => /  SELECT city FROM batches GROUP BY city HAVING paid GROUP BY paid/                                                     ^
+SELECT city AS FROM batches => Syntax => byte 15: found 'FROM', wanted a name => /  SELECT city AS FROM batches/                 ^
+SELECT city town country FROM batches => Syntax => byte 17: found 'country', wanted a comma or FROM => /  SELECT city town country FROM batches/                   ^
+SELECT count(*) FROM batches; SELECT => Syntax => byte 30: found 'SELECT', wanted the end => /  SELECT count(*) FROM batches; SELECT/                                ^
+city => Syntax => byte 0: found 'city', wanted SELECT => /  city/  ^
+ => Syntax => byte 0: found the end, wanted SELECT
+SELECT city FROM => Syntax => byte 16: found the end, wanted batches, which is the name of every table => /  SELECT city FROM/                  ^
+SELECT city FROM batches WHERE city = 'oslo => Syntax => the text that begins here is not closed, or has the character 0 => /  SELECT city FROM batches WHERE city = 'oslo/                                        ^
+SELECT city FROM batches WHERE amount = 5x => Syntax => a letter stands directly behind digits => /  SELECT city FROM batches WHERE amount = 5x/                                          ^
+SELECT a123456789b123456789c123456789d123456789e123456789f123456789g123456789 FROM batches => Syntax => a name of 70 bytes, and the longest has 63 => /  SELECT a123456789b123456789c123456789d123456789e123456789f123456789g1234 ../         ^
+SELECT city FROM batches WHERE amount = -9223372036854775809 => NumberTooLarge => '-9223372036854775809' is out of range, which is -9223372036854775808 to 9223372036854775807 => /  SELECT city FROM batches WHERE amount = -9223372036854775809/                                          ^
+";
 
 /// Faults of ORDER BY, in what is written and in what is asked.
-const ORDERS: [TextFault; 11] = [
-    (
-        "SELECT city FROM batches ORDER city",
-        "Syntax",
-        "byte 31: found 'city', wanted BY",
-        "/  SELECT city FROM batches ORDER city/                                 ^",
-    ),
-    (
-        "SELECT city FROM batches GROUP BY city ORDER BY count(*)",
-        "Syntax",
-        "byte 53: found '(', wanted a comma, ASC, DESC, NULLS, a semicolon or the end; ORDER BY takes the name or the place of an item, as ORDER BY 2",
-        "/  SELECT city FROM batches GROUP BY city ORDER BY count(*)/                                                       ^",
-    ),
-    (
-        "SELECT city FROM batches GROUP BY city ORDER BY DESC",
-        "Syntax",
-        "byte 48: found 'DESC', wanted the name or the place of an item",
-        "/  SELECT city FROM batches GROUP BY city ORDER BY DESC/                                                  ^",
-    ),
-    (
-        "SELECT city FROM batches GROUP BY city ORDER BY city DESC city",
-        "Syntax",
-        "byte 58: found 'city', wanted a comma, NULLS, a semicolon or the end",
-        "/  SELECT city FROM batches GROUP BY city ORDER BY city DESC city/                                                            ^",
-    ),
-    (
-        "SELECT city FROM batches GROUP BY city ORDER BY city NULLS high",
-        "Syntax",
-        "byte 59: found 'high', wanted first or last",
-        "/  SELECT city FROM batches GROUP BY city ORDER BY city NULLS high/                                                             ^",
-    ),
-    (
-        "SELECT city FROM batches GROUP BY city ORDER BY city NULLS LAST DESC",
-        "Syntax",
-        "byte 64: found 'DESC', wanted a comma, a semicolon or the end",
-        "/  SELECT city FROM batches GROUP BY city ORDER BY city NULLS LAST DESC/                                                                  ^",
-    ),
-    (
-        "SELECT city, sum(amount) FROM batches GROUP BY city ORDER BY 1, amount",
-        "NoSuchColumn",
-        "'amount' names no item: a term of ORDER BY is the name of an item in the answer, or its place",
-        "/  SELECT city, sum(amount) FROM batches GROUP BY city ORDER BY 1, amount/                                                                  ^",
-    ),
-    (
-        "SELECT city, sum(amount) FROM batches GROUP BY city ORDER BY 3 DESC",
-        "NoSuchColumn",
-        "3 is no item's place, which is 1 to 2",
-        "/  SELECT city, sum(amount) FROM batches GROUP BY city ORDER BY 3 DESC/                                                               ^",
-    ),
-    (
-        "SELECT city c, sum(amount) s FROM batches GROUP BY city ORDER BY s, zone",
-        "NoSuchColumn",
-        "'zone' names no item: a term of ORDER BY is the name of an item in the answer, or its place",
-        "/  SELECT city c, sum(amount) s FROM batches GROUP BY city ORDER BY s, zone/                                                                      ^",
-    ),
-    (
-        "SELECT city x, sum(amount) x FROM batches GROUP BY city ORDER BY x",
-        "AmbiguousOrder",
-        "'x' names 2 items that are not the same: give one another name by AS, or write its place",
-        "/  SELECT city x, sum(amount) x FROM batches GROUP BY city ORDER BY x/                                                                   ^",
-    ),
-    (
-        "SELECT city AS x, sum(amount) AS x FROM batches GROUP BY city ORDER BY x",
-        "AmbiguousOrder",
-        "'x' names 2 items that are not the same: give one another name by AS, or write its place",
-        "/  SELECT city AS x, sum(amount) AS x FROM batches GROUP BY city ORDER BY x/                                                                         ^",
-    ),
-];
+const ORDERS: &str = "\
+SELECT city FROM batches ORDER city => Syntax => byte 31: found 'city', wanted BY => /  SELECT city FROM batches ORDER city/                                 ^
+SELECT city FROM batches GROUP BY city ORDER BY count(*) => Syntax => byte 53: found '(', wanted a comma, ASC, DESC, NULLS, a semicolon or the end; ORDER BY takes the name or the place of an item, as ORDER BY 2 => /  SELECT city FROM batches GROUP BY city ORDER BY count(*)/                                                       ^
+SELECT city FROM batches GROUP BY city ORDER BY DESC => Syntax => byte 48: found 'DESC', wanted the name or the place of an item => /  SELECT city FROM batches GROUP BY city ORDER BY DESC/                                                  ^
+SELECT city FROM batches GROUP BY city ORDER BY city DESC city => Syntax => byte 58: found 'city', wanted a comma, NULLS, a semicolon or the end => /  SELECT city FROM batches GROUP BY city ORDER BY city DESC city/                                                            ^
+SELECT city FROM batches GROUP BY city ORDER BY city NULLS high => Syntax => byte 59: found 'high', wanted first or last => /  SELECT city FROM batches GROUP BY city ORDER BY city NULLS high/                                                             ^
+SELECT city FROM batches GROUP BY city ORDER BY city NULLS LAST DESC => Syntax => byte 64: found 'DESC', wanted a comma, a semicolon or the end => /  SELECT city FROM batches GROUP BY city ORDER BY city NULLS LAST DESC/                                                                  ^
+SELECT city, sum(amount) FROM batches GROUP BY city ORDER BY 1, amount => NoSuchColumn => 'amount' names no item: a term of ORDER BY is the name of an item in the answer, or its place => /  SELECT city, sum(amount) FROM batches GROUP BY city ORDER BY 1, amount/                                                                  ^
+SELECT city, sum(amount) FROM batches GROUP BY city ORDER BY 3 DESC => NoSuchColumn => 3 is no item's place, which is 1 to 2 => /  SELECT city, sum(amount) FROM batches GROUP BY city ORDER BY 3 DESC/                                                               ^
+SELECT city c, sum(amount) s FROM batches GROUP BY city ORDER BY s, zone => NoSuchColumn => 'zone' names no item: a term of ORDER BY is the name of an item in the answer, or its place => /  SELECT city c, sum(amount) s FROM batches GROUP BY city ORDER BY s, zone/                                                                      ^
+SELECT city x, sum(amount) x FROM batches GROUP BY city ORDER BY x => AmbiguousOrder => 'x' names 2 items that are not the same: give one another name by AS, or write its place => /  SELECT city x, sum(amount) x FROM batches GROUP BY city ORDER BY x/                                                                   ^
+SELECT city AS x, sum(amount) AS x FROM batches GROUP BY city ORDER BY x => AmbiguousOrder => 'x' names 2 items that are not the same: give one another name by AS, or write its place => /  SELECT city AS x, sum(amount) AS x FROM batches GROUP BY city ORDER BY x/                                                                         ^
+";
 
 /// Queries of the grammar that do not pass the checks.
-const QUERIES: [TextFault; 13] = [
-    (
-        "SELECT amout FROM batches GROUP BY amout",
-        "NoSuchColumn",
-        "'amout' is no column, and amount may be meant; the columns are city text, amount bigint, paid boolean",
-        "/  SELECT amout FROM batches GROUP BY amout/         ^",
-    ),
-    (
-        "SELECT sum(price) FROM batches",
-        "NoSuchColumn",
-        "'price' is no column; the columns are city text, amount bigint, paid boolean",
-        "/  SELECT sum(price) FROM batches/             ^",
-    ),
-    (
-        "SELECT city FROM batches WHERE\ncity = oslo GROUP BY city",
-        "NoSuchColumn",
-        "'oslo' is no column; a text stands in single quotes; the columns are city text, amount bigint, paid boolean",
-        "/  SELECT city FROM batches WHERE city = oslo GROUP BY city/                                        ^",
-    ),
-    (
-        "SELECT city, amount FROM batches GROUP BY city",
-        "NotGrouped",
-        "'amount' stands outside of calls, and is none of GROUP BY's columns: add it there, or put it into a call",
-        "/  SELECT city, amount FROM batches GROUP BY city/               ^",
-    ),
-    (
-        "SELECT city FROM batches GROUP BY city HAVING amount > 5 AND count(*) > 1",
-        "NotGrouped",
-        "'amount' stands outside of calls, and is none of GROUP BY's columns: add it there, or put it into a call",
-        "/  SELECT city FROM batches GROUP BY city HAVING amount > 5 AND count(*) >  ../                                                ^",
-    ),
-    (
-        "SELECT sum(city) FROM batches",
-        "TypeMismatch",
-        "sum takes a bigint, and this is a text",
-        "/  SELECT sum(city) FROM batches/             ^",
-    ),
-    (
-        "SELECT every(amount) FROM batches",
-        "TypeMismatch",
-        "every takes a boolean, and this is a bigint",
-        "/  SELECT every(amount) FROM batches/               ^",
-    ),
-    (
-        "SELECT count(*) FROM batches WHERE amount = '5'",
-        "TypeMismatch",
-        "a bigint is compared with a text, and only values of one kind are",
-        "/  SELECT count(*) FROM batches WHERE amount = '5'/                                            ^",
-    ),
-    (
-        "SELECT count(*) FROM batches WHERE (paid) = (amount > 3) AND NOT (amount)",
-        "TypeMismatch",
-        "NOT asks for a boolean, and this is a bigint",
-        "/  .. ROM batches WHERE (paid) = (amount > 3) AND NOT (amount)/                                                     ^",
-    ),
-    (
-        "SELECT count(*) FROM batches WHERE amount IS TRUE",
-        "TypeMismatch",
-        "IS asks for a boolean, and this is a bigint",
-        "/  SELECT count(*) FROM batches WHERE amount IS TRUE/                                     ^",
-    ),
-    (
-        "SELECT count(*) FROM batches HAVING sum(amount)",
-        "TypeMismatch",
-        "HAVING asks for a boolean, and this is a bigint",
-        "/  SELECT count(*) FROM batches HAVING sum(amount)/                                      ^",
-    ),
-    (
-        "SELECT count(*) FROM batches WHERE count(*) > 3",
-        "AggregateHere",
-        "count stands in WHERE or a FILTER, where each row is asked by itself: put it into HAVING",
-        "/  SELECT count(*) FROM batches WHERE count(*) > 3/                                     ^",
-    ),
-    (
-        "SELECT count(*) FILTER (WHERE sum(amount) > 1) FROM batches",
-        "AggregateHere",
-        "sum stands in WHERE or a FILTER, where each row is asked by itself: put it into HAVING",
-        "/  SELECT count(*) FILTER (WHERE sum(amount) > 1) FROM batches/                                ^",
-    ),
-];
+const QUERIES: &str = "\
+SELECT amout FROM batches GROUP BY amout => NoSuchColumn => 'amout' is no column, and amount may be meant; the columns are city text, amount bigint, paid boolean => /  SELECT amout FROM batches GROUP BY amout/         ^
+SELECT sum(price) FROM batches => NoSuchColumn => 'price' is no column; the columns are city text, amount bigint, paid boolean => /  SELECT sum(price) FROM batches/             ^
+SELECT city FROM batches WHERE\u{b6}city = oslo GROUP BY city => NoSuchColumn => 'oslo' is no column; a text stands in single quotes; the columns are city text, amount bigint, paid boolean => /  SELECT city FROM batches WHERE city = oslo GROUP BY city/                                        ^
+SELECT city, amount FROM batches GROUP BY city => NotGrouped => 'amount' stands outside of calls, and is none of GROUP BY's columns: add it there, or put it into a call => /  SELECT city, amount FROM batches GROUP BY city/               ^
+SELECT city FROM batches GROUP BY city HAVING amount > 5 AND count(*) > 1 => NotGrouped => 'amount' stands outside of calls, and is none of GROUP BY's columns: add it there, or put it into a call => /  SELECT city FROM batches GROUP BY city HAVING amount > 5 AND count(*) >  ../                                                ^
+SELECT sum(city) FROM batches => TypeMismatch => sum takes a bigint, and this is a text => /  SELECT sum(city) FROM batches/             ^
+SELECT every(amount) FROM batches => TypeMismatch => every takes a boolean, and this is a bigint => /  SELECT every(amount) FROM batches/               ^
+SELECT count(*) FROM batches WHERE amount = '5' => TypeMismatch => a bigint is compared with a text, and only values of one kind are => /  SELECT count(*) FROM batches WHERE amount = '5'/                                            ^
+SELECT count(*) FROM batches WHERE (paid) = (amount > 3) AND NOT (amount) => TypeMismatch => NOT asks for a boolean, and this is a bigint => /  .. ROM batches WHERE (paid) = (amount > 3) AND NOT (amount)/                                                     ^
+SELECT count(*) FROM batches WHERE amount IS TRUE => TypeMismatch => IS asks for a boolean, and this is a bigint => /  SELECT count(*) FROM batches WHERE amount IS TRUE/                                     ^
+SELECT count(*) FROM batches HAVING sum(amount) => TypeMismatch => HAVING asks for a boolean, and this is a bigint => /  SELECT count(*) FROM batches HAVING sum(amount)/                                      ^
+SELECT count(*) FROM batches WHERE count(*) > 3 => AggregateHere => count stands in WHERE or a FILTER, where each row is asked by itself: put it into HAVING => /  SELECT count(*) FROM batches WHERE count(*) > 3/                                     ^
+SELECT count(*) FILTER (WHERE sum(amount) > 1) FROM batches => AggregateHere => sum stands in WHERE or a FILTER, where each row is asked by itself: put it into HAVING => /  SELECT count(*) FILTER (WHERE sum(amount) > 1) FROM batches/                                ^
+";
 
 /// The queries that differ from what is wanted of them.
-fn queries_told(rt: &HostRuntime, faults: &[TextFault]) -> Result<String, Fail> {
+fn queries_told(rt: &HostRuntime, table: &str) -> Result<String, Fail> {
     texts_told(
         rt,
         "--query",
         "--columns|city text, amount bigint, paid boolean",
-        faults,
+        table,
     )
 }
 
 #[test]
 fn faults_of_texts_are_told(rt: HostRuntime) -> Result<(), Fail> {
-    assert_eq!(rt; queries_told(&rt, &TEXTS)?.as_str(), "");
+    assert_eq!(rt; queries_told(&rt, TEXTS)?.as_str(), "");
     Ok(())
 }
 
 #[test]
 fn faults_of_orders_are_told(rt: HostRuntime) -> Result<(), Fail> {
-    assert_eq!(rt; queries_told(&rt, &ORDERS)?.as_str(), "");
+    assert_eq!(rt; queries_told(&rt, ORDERS)?.as_str(), "");
     Ok(())
 }
 
 #[test]
 fn faults_of_queries_are_told(rt: HostRuntime) -> Result<(), Fail> {
-    assert_eq!(rt; queries_told(&rt, &QUERIES)?.as_str(), "");
+    assert_eq!(rt; queries_told(&rt, QUERIES)?.as_str(), "");
     Ok(())
 }
 
 /// Schemas.
-const SCHEMAS: [TextFault; 14] = [
-    (
-        "",
-        "BadSchema",
-        "found the end, wanted the name of a column",
-        "",
-    ),
-    (
-        "city varchar, amount bigint",
-        "BadSchema",
-        "column 1, city: 'varchar' is no kind: there are three kinds: bigint (or int8), boolean (or bool) and text; take text",
-        "/  city varchar, amount bigint/       ^",
-    ),
-    (
-        "city text, amount int",
-        "BadSchema",
-        "column 2, amount: 'int' is no kind: there are three kinds: bigint (or int8), boolean (or bool) and text; take bigint",
-        "/  city text, amount int/                    ^",
-    ),
-    (
-        "amount INTEGER",
-        "BadSchema",
-        "column 1, amount: 'integer' is no kind: there are three kinds: bigint (or int8), boolean (or bool) and text; take bigint",
-        "/  amount INTEGER/         ^",
-    ),
-    (
-        "amount numeric",
-        "BadSchema",
-        "column 1, amount: 'numeric' is no kind: there are three kinds: bigint (or int8), boolean (or bool) and text",
-        "/  amount numeric/         ^",
-    ),
-    (
-        "city text amount bigint",
-        "BadSchema",
-        "found 'amount', wanted a comma or the end",
-        "/  city text amount bigint/            ^",
-    ),
-    (
-        "city text,",
-        "BadSchema",
-        "found the end, wanted the name of a column",
-        "/  city text,/            ^",
-    ),
-    (
-        "city",
-        "BadSchema",
-        "found the end, wanted bigint, boolean or text",
-        "/  city/      ^",
-    ),
-    (
-        "city text, city bigint",
-        "BadSchema",
-        "column 2: 'city' is the name of a column before it",
-        "/  city text, city bigint/             ^",
-    ),
-    (
-        "city text, from text",
-        "BadSchema",
-        "column 2: 'from' is a reserved word: take another name",
-        "/  city text, from text/             ^",
-    ),
-    (
-        "city text, 5 bigint",
-        "BadSchema",
-        "found '5', wanted the name of a column",
-        "/  city text, 5 bigint/             ^",
-    ),
-    (
-        "\"city\" text",
-        "BadSchema",
-        "found '\"', wanted the name of a column",
-        "/  \"city\" text/  ^",
-    ),
-    (
-        "city text; amount bigint",
-        "BadSchema",
-        "found ';', wanted a comma or the end",
-        "/  city text; amount bigint/           ^",
-    ),
-    (
-        "a text,b text,c text,d text,e text,f text,g text,h text,i text,j text,k text,l text,m text,n text,o text,p text,q text,r text,s text,t text,u text,v text,w text,x text,y text,z text,aa text,ab text,ac text,ad text,ae text,af text,ag text",
-        "BadSchema",
-        "column 33, 'ag': there are at most 32",
-        "/  .. aa text,ab text,ac text,ad text,ae text,af text,ag text/                                                     ^",
-    ),
-];
+const SCHEMAS: &str = "\
+city varchar, amount bigint => BadSchema => column 1, city: 'varchar' is no kind: there are three kinds: bigint (or int8), boolean (or bool) and text; take text => /  city varchar, amount bigint/       ^
+ => BadSchema => found the end, wanted the name of a column
+city text, amount int => BadSchema => column 2, amount: 'int' is no kind: there are three kinds: bigint (or int8), boolean (or bool) and text; take bigint => /  city text, amount int/                    ^
+amount INTEGER => BadSchema => column 1, amount: 'integer' is no kind: there are three kinds: bigint (or int8), boolean (or bool) and text; take bigint => /  amount INTEGER/         ^
+amount numeric => BadSchema => column 1, amount: 'numeric' is no kind: there are three kinds: bigint (or int8), boolean (or bool) and text => /  amount numeric/         ^
+city text amount bigint => BadSchema => found 'amount', wanted a comma or the end => /  city text amount bigint/            ^
+city text, => BadSchema => found the end, wanted the name of a column => /  city text,/            ^
+city => BadSchema => found the end, wanted bigint, boolean or text => /  city/      ^
+city text, city bigint => BadSchema => column 2: 'city' is the name of a column before it => /  city text, city bigint/             ^
+city text, from text => BadSchema => column 2: 'from' is a reserved word: take another name => /  city text, from text/             ^
+city text, 5 bigint => BadSchema => found '5', wanted the name of a column => /  city text, 5 bigint/             ^
+\"city\" text => BadSchema => found '\"', wanted the name of a column => /  \"city\" text/  ^
+city text; amount bigint => BadSchema => found ';', wanted a comma or the end => /  city text; amount bigint/           ^
+a text,b text,c text,d text,e text,f text,g text,h text,i text,j text,k text,l text,m text,n text,o text,p text,q text,r text,s text,t text,u text,v text,w text,x text,y text,z text,aa text,ab text,ac text,ad text,ae text,af text,ag text => BadSchema => column 33, 'ag': there are at most 32 => /  .. aa text,ab text,ac text,ad text,ae text,af text,ag text/                                                     ^
+";
 
 #[test]
 fn faults_of_schemas_are_told(rt: HostRuntime) -> Result<(), Fail> {
     let other = "--query|SELECT count(*) FROM batches";
-    assert_eq!(rt; texts_told(&rt, "--columns", other, &SCHEMAS)?.as_str(), "");
+    assert_eq!(rt; texts_told(&rt, "--columns", other, SCHEMAS)?.as_str(), "");
     Ok(())
 }
 
