@@ -21,9 +21,9 @@ use std::alloc::{AllocError, Global};
 pub struct Batch {
     /// The origin, 0 to 1,023.
     pub origin: u16,
-    /// The number, 1 to 2,147,483,647.
+    /// The number, 1 to 4,294,967,295.
     pub number: u32,
-    /// The rows, packed by the schema that read them; at most 65,536.
+    /// The rows, packed by the schema that read them; at most 1,048,576.
     pub rows: PackedRows,
 }
 

@@ -13,11 +13,11 @@ pub enum BatchError {
     /// An allocation failed.
     #[error("out of memory")]
     NoMemory,
-    /// The origin isn't 0 to 1,023, or the number isn't 1 to 2,147,483,647, in 1 to 10 digits each.
+    /// The origin isn't 0 to 1,023, or the number isn't 1 to 4,294,967,295, in 1 to 10 digits each.
     #[error("no head of a batch, or an origin or a number out of range")]
     BadBatchHead,
-    /// More than 65,536 rows are told.
-    #[error("more than 65,536 rows are told")]
+    /// More than 1,048,576 rows are told.
+    #[error("more than 1,048,576 rows are told")]
     TooManyRows,
     /// There are more or fewer rows than told.
     #[error("more or fewer rows than told")]

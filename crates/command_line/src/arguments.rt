@@ -126,10 +126,10 @@ const FEED_ABOUT: &str = "Adds the batches of batch files to a summary";
 
 const FEED_AFTER: &str = "\
 A batch file is CSV. Its first record is batch,ORIGIN,NUMBER,ROWS: who sent the
-batch (0 to 1023), its number (1 to 2147483647), and how many records follow (0
-to 65536), a field for each column. A field \\N is null; a bigint is digits, with
-+ or - before them or not; a boolean is t, true, f or false, in any case of
-letters; a text is UTF-8 of at most 255 bytes. For each file, in the order
+batch (0 to 1023), its number (1 to 4294967295), and how many records follow (0
+to 1048576), a field for each column. A field \\N is null; a bigint is digits,
+with + or - before them or not; a boolean is t, true, f or false, in any case
+of letters; a text is UTF-8 of at most 255 bytes. For each file, in the order
 given, a line tells what became of it:
 
   folded upto N  the origin's batches 1 to N are in the answer now

@@ -4,6 +4,9 @@ use packed_rows::Schema;
 use std::alloc::{AllocError, Global};
 use std::str;
 
+/// What begins a summary file, in front of the digits of its version.
+const SUMMARY: &[u8] = b"AGGSUM";
+
 /// What begins files of other formats, and what they are.
 const BEGINNINGS: [(&[u8], &str); 10] = [
     (b"\x1F\x8B", "it is compressed by gzip: gzip -dc FILE"),
@@ -17,7 +20,7 @@ const BEGINNINGS: [(&[u8], &str); 10] = [
     (b"\xFF\xFE", "it is UTF-16: iconv -f UTF-16 -t UTF-8 FILE"),
     (b"\xFE\xFF", "it is UTF-16: iconv -f UTF-16 -t UTF-8 FILE"),
     (
-        b"AGGSUM01",
+        SUMMARY,
         "it is a summary file: OUT and IN stand before the batch files",
     ),
     (b"{", "it looks like JSON"),
@@ -71,26 +74,23 @@ pub(crate) fn is_header(schema: &Schema, fields: &[&[u8]]) -> bool {
     true
 }
 
-/// What begins a summary file.
-const SUMMARY: &[u8] = b"AGGSUM01";
-
 /// Why bytes are no summary file, where their front tells: they are none, those of a batch file, or of another format.
 pub fn no_summary(alloc: Global, file: &[u8]) -> Result<String, AllocError> {
     let mut said = String::new(alloc);
     if file.is_empty() {
-        said.push_str("the file is empty, and a summary begins with AGGSUM01")?;
+        said.push_str("the file is empty, and a summary begins with AGGSUM01 or AGGSUM02")?;
         return Ok(said);
     }
-    said.push_str("it does not begin with AGGSUM01, as a summary does")?;
+    said.push_str("it does not begin with AGGSUM01 or AGGSUM02, as a summary does")?;
     if file.starts_with(b"batch,") {
         said.push_str("; it is a batch file, and those stand behind IN")?;
-    } else if !file.starts_with(SUMMARY) {
-        if let Some(known) = known_by_front(file) {
-            said.push_str("; ")?;
-            said.push_str(known)?;
-        } else if str::from_utf8(file.get(..file.len().min(64)).unwrap_or(file)).is_ok() {
-            said.push_str("; it is a text")?;
-        }
+    } else if file.starts_with(SUMMARY) {
+        said.push_str("; it may be one that a later agg_tool wrote")?;
+    } else if let Some(known) = known_by_front(file) {
+        said.push_str("; ")?;
+        said.push_str(known)?;
+    } else if str::from_utf8(file.get(..file.len().min(64)).unwrap_or(file)).is_ok() {
+        said.push_str("; it is a text")?;
     }
     Ok(said)
 }

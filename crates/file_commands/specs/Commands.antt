@@ -16,7 +16,7 @@ use Rattle.batch_reader.specs.File.{BatchFile}
 use Rattle.batch_reader.specs.Head.{ReadsOrigin, ReadsBatchNumber}
 use Rattle.batch_reader.specs.Rows.{ReadsRows, packings}
 use Rattle.batch_reader.specs.declared.error.BatchError.TheVariants as batch
-use Rattle.summary_codec.specs.Reading.{IsSummary, HasFault}
+use Rattle.summary_codec.specs.Reading.{IsSummary, IsSaved, HasFault}
 use Rattle.replica_merge.specs.Replicas.{Held, part_of, told, Fits, DisagreeSomewhere}
 use Rattle.replica_merge.specs.Counting.{MergeIsCounted}
 use Rattle.replies.specs.Batches.{IsNoQuery, IsNoBatch, Takes, IsOtherBatch}
@@ -101,14 +101,14 @@ FileMergeIsCounted setting file held old writes new written =
 abbrev pub IsNotMerged : List ℕ → Held → Refusal → Type 0
 IsNotMerged file old why = IsNoSummary file why ⊎ ((other : Held) × IsSummary file other.query other.parts × IsApart old other why)
 
--- bytes that are read as a summary file: those of what is held for a query, and no more than are read
+-- bytes that are written as a summary file, which can be read: those of what is held for a query, and no more than are read
 pub record IsReadable (file : List ℕ) : Type 0 where
   pub held : Held
-  pub is : IsSummary file held.query held.parts
+  pub is : IsSaved file held.query held.parts
   pub short : length file ≤ LONGEST_INPUT
 
 -- why a replica is not saved, unless memory ran out: its file would be longer than what is read
 abbrev pub IsTooLong : Held → Refusal → Type 0
 IsTooLong held NoMemory = Unit {0}
-IsTooLong held (Run InputTooLong) = (file : List ℕ) × IsSummary file held.query held.parts × (LONGEST_INPUT < length file)
+IsTooLong held (Run InputTooLong) = (file : List ℕ) × IsSaved file held.query held.parts × (LONGEST_INPUT < length file)
 IsTooLong held why = ⊥

@@ -3,7 +3,7 @@
 ghost use Rattle.std.specs.Prelude.{◌≡◌, ◌≢◌, ◌≤◌, IfOk, IfErr, length};
 ghost use Rattle.grouping_model.specs.World.{World};
 ghost use Rattle.grouping_model.specs.declared.limits.TheConstants.{LONGEST_INPUT};
-ghost use Rattle.summary_codec.specs.Reading.{IsSummary};
+ghost use Rattle.summary_codec.specs.Reading.{IsSummary, IsSaved};
 ghost use Rattle.summary_codec.specs.WorldFile.{world_file};
 ghost use Rattle.replica_merge.specs.Replicas.{Held, told, Fits};
 ghost use Rattle.replies.specs.declared.refusal.Refusal.TheVariants.{NoMemory};
@@ -32,7 +32,7 @@ pub fn create(alloc: Global, columns: &str, query: &str) -> Result<Replica, Refu
     Ok(Replica::new(alloc, query))
 }
 
-/// The replica that a summary file is of. Any bytes are read: those that are no summary file are refused by their first fault. Want of memory
+/// The replica that a summary file of either version is of. Any bytes are read: those that are no summary file are refused by their first fault. Want of memory
 /// is `NoMemory`.
 pub fn load(alloc: Global, file: &[u8]) -> Result<Replica, Refusal>
     ensures loaded { IfOk result (λ replica.
@@ -45,10 +45,10 @@ pub fn load(alloc: Global, file: &[u8]) -> Result<Replica, Refusal>
     Ok(Replica::load(alloc, file)?)
 }
 
-/// The summary file of a replica: the one spelling of its query and of what it knows. A file that would be longer than the
+/// The summary file of a replica: the one spelling of its query and of what it knows, in the second version. A file that would be longer than the
 /// 67,108,864 bytes that are read is `InputTooLong`, want of memory `NoMemory`.
 pub fn save(replica: &Replica) -> Result<SummaryFile, Refusal>
-    ensures file { IfOk result (λ file. IsSummary file replica.now.query replica.now.parts) }
+    ensures file { IfOk result (λ file. IsSaved file replica.now.query replica.now.parts) }
     ensures short { IfOk result (λ file. length file ≤ LONGEST_INPUT) }
     // So replicas that tell the same batches of a world are saved as equal bytes.
     ensures world { IfOk result (λ file. (world : World) → Fits world replica.now →

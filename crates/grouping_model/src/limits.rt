@@ -4,10 +4,10 @@
 pub const LAST_ORIGIN: u16 = 1_023;
 
 /// The greatest number of a batch. The least is 1.
-pub const LAST_NUMBER: u32 = 2_147_483_647;
+pub const LAST_NUMBER: u32 = 4_294_967_295;
 
 /// The most rows of a batch.
-pub const MOST_ROWS: u32 = 65_536;
+pub const MOST_ROWS: u32 = 1_048_576;
 
 /// The most columns of a table.
 pub const MOST_COLUMNS: usize = 32;

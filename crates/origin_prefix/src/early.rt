@@ -33,11 +33,11 @@ pub(crate) fn add_following<'a>(
 {
     let mut upto = number;
     for (next, rows) in early {
-        if *next != upto + 1 {
+        if next.checked_sub(upto) != Some(1) {
             return Ok(upto);
         }
         inputs.push(Input::Flat(rows))?;
-        upto += 1;
+        upto = *next;
     }
     Ok(upto)
 }

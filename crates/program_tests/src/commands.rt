@@ -8,7 +8,7 @@ const BATCHES: [File; 10] = [
     ("b.csv", b"batch,0,1,3\noslo,5\nbergen,7\noslo,-2\n"),
     (
         "told.sum",
-        b"AGGSUM01\x00\x10c text, d bigint\x00\x32SELECT c, count(*), sum(d) FROM batches GROUP BY c\
+        b"AGGSUM02\x00\x10c text, d bigint\x00\x32SELECT c, count(*), sum(d) FROM batches GROUP BY c\
         \x00\x01\x00\x00\x00\x00\x00\x01\x00\x00\x00\x00\x00\x00\x00\x02\
         \x00\x08\x01bergen\x00\x00\x00\x00\x00\x00\x00\x00\x01\
         \x00\x00\x00\x00\x00\x00\x00\x01\x00\x00\x00\x00\x00\x00\x00\x00\x00\x00\x00\x00\x00\x00\x00\x07\
@@ -19,7 +19,7 @@ const BATCHES: [File; 10] = [
     ("empty.csv", b""),
     ("head.csv", b"batch,1024,1,0\n"),
     ("width.csv", b"batch,0,1\n"),
-    ("many.csv", b"batch,0,1,65537\n"),
+    ("many.csv", b"batch,0,1,1048577\n"),
     ("count.csv", b"batch,0,1,2\noslo,5\n"),
     ("more.csv", b"batch,0,1,1\noslo,5\noslo,6\n"),
     ("wide.csv", b"batch,0,1,1\noslo,5,6\n"),
@@ -46,6 +46,14 @@ merge|@h.sum|@e.sum|@f.sum|@g.sum => merged/merged/saved 180/ => 0
 ?same|@f.sum|@h.sum => - => 0
 ?there|@f.sum.part0 => - => 1
 answer|@told.sum => c,count,sum/bergen,1,7/oslo,2,3/ => 0
+?first|@first.sum|@told.sum => - => 0
+answer|@first.sum => c,count,sum/bergen,1,7/oslo,2,3/ => 0
+known|@first.sum => origin 0 upto 1/ => 0
+merge|@second.sum|@first.sum => saved 180/ => 0
+?same|@second.sum|@told.sum => - => 0
+merge|@both.sum|@told.sum|@first.sum => merged/saved 180/ => 0
+feed|@first.sum|@first.sum|@b.csv => known/saved 180/ => 0
+?same|@first.sum|@told.sum => - => 0
 ";
 
 #[test]
@@ -298,17 +306,33 @@ merge|@h.sum|@f.sum|/dev/zero => refused InputTooLong/saved 86/ => 1 => /dev/zer
 answer|/dev/zero => refused InputTooLong/ => 1 => /dev/zero: refused InputTooLong
 ";
 
-/// A file that nobody's batches gave, in which each of all origins counts as many rows as it may: it is read, and summed as it stands.
+/// Batches of the first and of the last number, and of the number behind it.
+const LAST: [File; 3] = [
+    ("one.csv", b"batch,0,1,1\n5\n"),
+    ("last.csv", b"batch,0,4294967295,1\n5\n"),
+    ("over.csv", b"batch,0,4294967296,1\n5\n"),
+];
+
+/// Files that nobody's batches gave, in which each of all origins counts as many rows as it may: they are read, and summed as they stand. Of
+/// an origin whose batches are all there each number is known.
 const FULL: &str = "\
+?first_origins|@first.sum|1024 => - => 0
+answer|@first.sum => count/144115188008747008/ => 0
+answer|@first.sum|--limit|65536 => count/144115188008747008/ => 0
 ?origins|@full.sum|1024 => - => 0
-answer|@full.sum => count/144115188008747008/ => 0
-answer|@full.sum|--limit|65536 => count/144115188008747008/ => 0
-merge|@m.sum|@full.sum|@full.sum => merged/saved 28722/ => 0
+answer|@full.sum => count,sum/4611686017353646080,-42535295855213787618638783729778032640/ => 0
+answer|@full.sum|--limit|65536 => count,sum/4611686017353646080,-42535295855213787618638783729778032640/ => 0
+merge|@m.sum|@full.sum|@full.sum => merged/saved 53306/ => 0
 ?same|@m.sum|@full.sum => - => 0
+feed|@n.sum|@full.sum|@last.csv|@one.csv => known/known/saved 53306/ => 0
+?same|@n.sum|@full.sum => - => 0
+new|@e.sum|--columns|d bigint|--query|SELECT count(*), sum(d) FROM batches => saved 58/ => 0
+feed|@l.sum|@e.sum|@last.csv|@over.csv => early/refused BadBatchHead/saved 95/ => 1 => over.csv: refused BadBatchHead: line 1: NUMBER is '4294967296', and wants 1 to 4294967295
+known|@l.sum => origin 0 upto 0 early 4294967295/ => 0
 ";
 
 #[test]
 fn the_greatest_counts_are_summed(rt: HostRuntime) -> Result<(), Fail> {
-    assert_eq!(rt; play(&rt, "full", &[], FULL)?.as_str(), "");
+    assert_eq!(rt; play(&rt, "full", &LAST, FULL)?.as_str(), "");
     Ok(())
 }

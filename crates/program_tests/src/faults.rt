@@ -117,7 +117,7 @@ const BATCHES: [Fault; 34] = [
     (
         b"batch,0,0,0\n",
         "BadBatchHead",
-        "line 1: NUMBER is '0', and wants 1 to 2147483647",
+        "line 1: NUMBER is '0', and wants 1 to 4294967295",
     ),
     (
         b"batch,0,1,1.0\n",
@@ -125,9 +125,9 @@ const BATCHES: [Fault; 34] = [
         "line 1: ROWS is '1.0', and wants 1 to 9 digits",
     ),
     (
-        b"batch,0,1,65537\n",
+        b"batch,0,1,1048577\n",
         "TooManyRows",
-        "rows told: 65537, and a batch has at most 65536",
+        "rows told: 1048577, and a batch has at most 1048576",
     ),
     (
         b"batch,0,1,2\noslo,5\n",
@@ -396,10 +396,10 @@ feed|@x.sum|@f.sum|@3b.csv => refused OriginDisagrees/saved 163/ => 1 => @3b.csv
 merge|@y.sum|@f.sum|@h.sum|@e.sum => refused OriginDisagrees/merged/saved 163/ => 1 => @h.sum: refused OriginDisagrees: number 3 of origin 0 is known with other rows\u{b6}@y.sum: written, with 1 of 2 files passed over\u{b6}
 merge|@z.sum|@f.sum|@g.sum => refused OriginDisagrees/saved 163/ => 1 => @g.sum: refused OriginDisagrees: a number up to 1 of origin 0 is known with other rows\u{b6}@z.sum: written, with 1 of 1 files passed over\u{b6}
 merge|@u.sum|@f.sum|@o.sum|@w.sum => refused DifferentQuery/refused DifferentQuery/saved 163/ => 1 => @o.sum: refused DifferentQuery: it answers SELECT count(*) FROM batches, and the first IN answers SELECT c, count(*), sum(d) FROM batches GROUP BY c\u{b6}@w.sum: refused DifferentQuery: its columns are c text, and those of the first IN are c text, d bigint\u{b6}@u.sum: written, with 2 of 2 files passed over\u{b6}
-answer|@1.csv => refused NotASummary/ => 1 => @1.csv: refused NotASummary: it does not begin with AGGSUM01, as a summary does; it is a batch file, and those stand behind IN\u{b6}
-known|@text => refused NotASummary/ => 1 => @text: refused NotASummary: it does not begin with AGGSUM01, as a summary does; it is a text\u{b6}
-known|@gz => refused NotASummary/ => 1 => @gz: refused NotASummary: it does not begin with AGGSUM01, as a summary does; it is compressed by gzip: gzip -dc FILE\u{b6}
-answer|@empty => refused Truncated/ => 1 => @empty: refused Truncated: the file is empty, and a summary begins with AGGSUM01\u{b6}
+answer|@1.csv => refused NotASummary/ => 1 => @1.csv: refused NotASummary: it does not begin with AGGSUM01 or AGGSUM02, as a summary does; it is a batch file, and those stand behind IN\u{b6}
+known|@text => refused NotASummary/ => 1 => @text: refused NotASummary: it does not begin with AGGSUM01 or AGGSUM02, as a summary does; it is a text\u{b6}
+known|@gz => refused NotASummary/ => 1 => @gz: refused NotASummary: it does not begin with AGGSUM01 or AGGSUM02, as a summary does; it is compressed by gzip: gzip -dc FILE\u{b6}
+answer|@empty => refused Truncated/ => 1 => @empty: refused Truncated: the file is empty, and a summary begins with AGGSUM01 or AGGSUM02\u{b6}
 merge|@n.sum|@cut|@f.sum => refused Truncated/ => 1 => @cut: refused Truncated: it ends too early, behind 10 bytes: it was cut on its way; @n.sum is not written\u{b6}
 answer|@ => refused ReadFault/ => 3 => @: refused ReadFault: the input could not be read (Is a directory (os error 21))\u{b6}
 feed|@n.sum|@f.sum|@ => refused ReadFault/ => 3 => @: refused ReadFault: the input could not be read (Is a directory (os error 21)); @n.sum is not written\u{b6}

@@ -74,22 +74,50 @@ fn push_text(bytes: &mut Vec<u8>, text: &[u8]) -> Result<(), Fail> {
     Ok(())
 }
 
-/// An origin of a summary of `count(*)`: its prefix is the last number, and its one group counts as many rows as these batches may have.
-const FULL_ORIGIN: &[u8] =
-    b"\x7f\xff\xff\xff\x00\x00\x00\x00\x00\x00\x00\x01\x00\x00\x00\x00\x7f\xff\xff\xff\x00\x00\x00\x00\x00\x00";
+/// A summary whose origins count as many rows as they may.
+struct Full {
+    opening: &'static [u8],
+    query: &'static [u8],
+    /// The prefix, which is the last number, one group without a key, and no early batch.
+    origin: &'static [u8],
+}
 
-/// Makes a summary file of `count(*)` in which so many origins count as many rows as they may.
-fn write_origins(rt: &HostRuntime, file: &str, told: &str) -> Result<bool, Fail> {
+/// One of the first version, of `count(*)`.
+const FIRST: Full = Full {
+    opening: b"AGGSUM01",
+    query: b"SELECT count(*) FROM batches",
+    origin: b"\x7f\xff\xff\xff\x00\x00\x00\x00\x00\x00\x00\x01\x00\x00\x00\x00\x7f\xff\xff\xff\x00\x00\
+        \x00\x00\x00\x00",
+};
+
+/// One of the second version, of `count(*)` and of the sum of as many of the least numbers.
+const SECOND: Full = Full {
+    opening: b"AGGSUM02",
+    query: b"SELECT count(*), sum(d) FROM batches",
+    origin: b"\xff\xff\xff\xff\x00\x00\x00\x00\x00\x00\x00\x01\x00\x00\x00\x0f\xff\xff\xff\xf0\x00\x00\
+        \x00\x0f\xff\xff\xff\xf0\x00\x00\xff\xf8\x00\x00\x00\x08\x00\x00\x00\x00\x00\x00\x00\x00\x00\x00\
+        \x00\x00\x00\x00",
+};
+
+/// Makes a summary file in which so many origins count as many rows as they may.
+fn write_origins(rt: &HostRuntime, file: &str, full: &Full, told: &str) -> Result<bool, Fail> {
     let origins: u16 = told.parse()?;
     let mut bytes = Vec::new(rt.alloc());
-    bytes.extend_from_slice(b"AGGSUM01")?;
+    bytes.extend_from_slice(full.opening)?;
     push_text(&mut bytes, b"d bigint")?;
-    push_text(&mut bytes, b"SELECT count(*) FROM batches")?;
+    push_text(&mut bytes, full.query)?;
     bytes.extend_from_slice(&origins.to_be_bytes())?;
     for origin in 0..origins {
         bytes.extend_from_slice(&origin.to_be_bytes())?;
-        bytes.extend_from_slice(FULL_ORIGIN)?;
+        bytes.extend_from_slice(full.origin)?;
     }
+    Ok(fs::write(rt, file, bytes.as_slice()).is_ok())
+}
+
+/// Makes a summary file of the first version of one of the second: they differ in a digit.
+fn write_first(rt: &HostRuntime, file: &str, second: &str) -> Result<bool, Fail> {
+    let mut bytes = fs::read(rt, second)?;
+    *bytes.get_mut(7).ok_or("too short")? = b'1';
     Ok(fs::write(rt, file, bytes.as_slice()).is_ok())
 }
 
@@ -109,8 +137,8 @@ fn has_files(rt: &HostRuntime, folder: &str, told: &str) -> Result<bool, Fail> {
 }
 
 /// What a test does beside commands: whether files are the same, whether one is there, whether there are so many, a link, a file that
-/// only its owner may read and write, whether one is so, a file of a length, a batch file of many rows, a summary of many origins, and
-/// what commands are to print of these.
+/// only its owner may read and write, whether one is so, a file of a length, a batch file of many rows, a summary of many origins or of the
+/// first version, and what commands are to print of these.
 fn aside(rt: &HostRuntime, word: &str, file: &str, rest: &str) -> Result<bool, Fail> {
     match word {
         "files" => has_files(rt, file, rest),
@@ -130,7 +158,9 @@ fn aside(rt: &HostRuntime, word: &str, file: &str, rest: &str) -> Result<bool, F
                 .is_ok(),
         ),
         "rows" => write_rows(rt, file, rest),
-        "origins" => write_origins(rt, file, rest),
+        "origins" => write_origins(rt, file, &SECOND, rest),
+        "first_origins" => write_origins(rt, file, &FIRST, rest),
+        "first" => write_first(rt, file, rest),
         _ => Err("no such word")?,
     }
 }

@@ -1,4 +1,4 @@
-//! A summary that would be longer than a file may be.
+//! A summary that would be longer than a file may be, and batches of as many rows as there may be.
 
 use crate::folder::play;
 use std::test::*;
@@ -14,5 +14,24 @@ feed|@g.sum|@e.sum|@early.csv => early/refused InputTooLong/ => 1 => g.sum: refu
 #[test]
 fn a_summary_that_is_too_long_is_not_written(rt: HostRuntime) -> Result<(), Fail> {
     assert_eq!(rt; play(&rt, "longest", &[], LONGER)?.as_str(), "");
+    Ok(())
+}
+
+/// Two batches of 1,048,576 rows each, the second of which comes first, and one that tells a row more.
+const FULL_BATCHES: &str = "\
+?rows|@1.csv|0|1|1048576 => - => 0
+?rows|@2.csv|0|2|1048576 => - => 0
+?rows|@3.csv|0|3|1048577 => - => 0
+new|@e.sum|--columns|c text, d bigint|--query|SELECT count(*), sum(d) FROM batches => saved 66/ => 0
+feed|@a.sum|@e.sum|@2.csv|@3.csv => early/refused TooManyRows/saved 19931038/ => 1 => 3.csv: refused TooManyRows: rows told: 1048577, and a batch has at most 1048576
+feed|@b.sum|@e.sum|@1.csv => folded upto 1/saved 110/ => 0
+answer|@b.sum => count,sum/1048576,549755289600/ => 0
+merge|@c.sum|@b.sum|@a.sum|--limit|65536 => merged/saved 110/ => 0
+answer|@c.sum => count,sum/2097152,1099510579200/ => 0
+";
+
+#[test]
+fn batches_of_the_most_rows_are_taken(rt: HostRuntime) -> Result<(), Fail> {
+    assert_eq!(rt; play(&rt, "full_batches", &[], FULL_BATCHES)?.as_str(), "");
     Ok(())
 }

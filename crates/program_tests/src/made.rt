@@ -52,7 +52,7 @@ pub(crate) fn write_listed(rt: &HostRuntime, file: &str, told: &str) -> Result<b
     let origins: u32 = told.parse()?;
     let mut text = String::new(rt.alloc());
     for origin in 0..origins {
-        let line = format!(in rt.alloc(); "origin {origin} upto 2147483647\n")?;
+        let line = format!(in rt.alloc(); "origin {origin} upto 4294967295\n")?;
         text.push_str(&line)?;
     }
     Ok(fs::write(rt, file, text.as_bytes()).is_ok())

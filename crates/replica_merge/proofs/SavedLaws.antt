@@ -13,9 +13,11 @@ use Rattle.hash_agg.specs.BytesLaws.{stands_spelled}
 use Rattle.origin_prefix.specs.Parts.{Part}
 use Rattle.origin_prefix.specs.Fitting.{FitsOrigin}
 use Rattle.origin_prefix.proofs.ByNumber.{at, numbers}
-use Rattle.summary_codec.specs.File.{file_bytes}
+use Rattle.summary_codec.specs.File.{file_in, file_bytes}
 use Rattle.summary_codec.specs.Reading.{IsSummary}
-use Rattle.summary_codec.specs.WorldFile.{world_part, world_file}
+use Rattle.summary_codec.specs.WorldFile.{world_part, world_file_in, world_file}
+use Rattle.summary_codec.specs.declared.version.Version.{Version}
+use Rattle.summary_codec.specs.declared.version.Version.TheVariants.{Second}
 use Rattle.summary_codec.proofs.OneReading.{one_reading}
 use Rattle.replica_merge.specs.Replicas.{Held, part_at, part_of, told, Fits, IsHeldPart, AreHeldParts}
 use Rattle.replica_merge.proofs.AnswerLaws.{fit_each}
@@ -59,8 +61,12 @@ world_parts held world are fits =
     (each_at held.parts are.rising))
     ∙ map_itself held.parts
 
+pub saved_in : (version : Version) (held : Held) (world : World) (bytes : List ℕ) → AreHeldParts held.query held.parts → Fits world held → bytes ≡ file_in version held.query held.parts
+    → bytes ≡ world_file_in version held.query world (told held.parts)
+saved_in version held world bytes are fits is = is ∙ ap (file_in version held.query) (sym (world_parts held world are fits))
+
 pub saved_world : (held : Held) (world : World) (bytes : List ℕ) → AreHeldParts held.query held.parts → Fits world held → bytes ≡ file_bytes held.query held.parts → bytes ≡ world_file held.query world (told held.parts)
-saved_world held world bytes are fits is = is ∙ ap (file_bytes held.query) (sym (world_parts held world are fits))
+saved_world = saved_in Second
 
 -- a file is of one replica
 pub one_held : (bytes : List ℕ) (held those : Held) → IsSummary bytes held.query held.parts → IsSummary bytes those.query those.parts → held ≡ those

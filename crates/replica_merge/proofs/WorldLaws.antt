@@ -1,5 +1,5 @@
 -- What the file of a world is loaded as, and when a replica's file is that of a world.
-use Rattle.std.specs.Prelude.{◌≡◌, refl, ℕ, ◌<◌, ◌≤◌, ◌||◌, ◌&&◌, ◌↔◌, nat_le, Bool, true, false, List, Option, Some, None, IsSome, IsTrue, IsUtf8, unwrap_or}
+use Rattle.std.specs.Prelude.{◌≡◌, refl, ℕ, ◌<◌, ◌≤◌, ◌++◌, ◌||◌, ◌&&◌, ◌↔◌, nat_le, Bool, true, false, List, Option, Some, None, IsSome, IsTrue, IsUtf8, unwrap_or}
 use Rattle.std.proofs.Common.{◌∙◌, sym, ap, subst, inl, inr, arith}
 use Rattle.std.proofs.lemmas.Bool.{true≢false, cases_lt}
 use Rattle.std.proofs.lemmas.Map.Made.{is_some-lookup}
@@ -24,15 +24,20 @@ use Rattle.having_filter.specs.Meaning.{meaning}
 use Rattle.origin_prefix.specs.Fitting.{FitsOrigin, tells}
 use Rattle.origin_prefix.specs.Parts.{Part, empty, rows_at}
 use Rattle.origin_prefix.proofs.ByNumber.{found_holds}
-use Rattle.summary_codec.specs.Reading.{IsSummary}
+use Rattle.summary_codec.specs.File.{file_in, body_bytes}
+use Rattle.summary_codec.specs.Reading.{IsSummaryIn, IsSummary, IsSaved}
+use Rattle.summary_codec.specs.Versions.{opening}
+use Rattle.summary_codec.specs.declared.version.Version.{Version}
+use Rattle.summary_codec.specs.declared.version.Version.TheVariants.{Second}
 use Rattle.summary_codec.specs.WorldFile.{world_part, world_file}
 use Rattle.summary_codec.specs.Worlds.{IsKnownOf, IsWorldFile, world_parts}
-use Rattle.summary_codec.proofs.ReadQueries.{summary_query}
+use Rattle.summary_codec.proofs.ReadQueries.{summary_query, written_again}
 use Rattle.summary_codec.proofs.RowGroups.{each_mapped}
 use Rattle.summary_codec.proofs.SpelledRead.{spelled}
-use Rattle.summary_codec.proofs.WorldLaws.{are_held, known_from_one, numbers_back, part_fits, world_read}
+use Rattle.summary_codec.proofs.VersionLaws.{one_body}
+use Rattle.summary_codec.proofs.WorldLaws.{are_held, known_from_one, numbers_back, part_fits, second_keeps, world_read}
 use Rattle.replica_merge.specs.Replicas.{Parts, part_at, part_of, Held, told, Fits, AreHeldParts}
-use Rattle.replica_merge.proofs.SavedLaws.{one_held, saved_world}
+use Rattle.replica_merge.proofs.SavedLaws.{one_held, saved_in}
 use Rattle.replica_merge.proofs.ToldLaws.{empty_tells, told_is}
 
 -- ---- truth values
@@ -162,16 +167,26 @@ module _ (query : Checked) (world : World) (known : Knowledge) (is_query : IsChe
       told_is parts (are_held query world known is_query is_world of_world).rising batch.0 batch.1 ∙ parts_tell batch.0 batch.1)
 
   -- the file is read as these alone
-  loaded_is : IsUtf8 (spelling (by_names query)) → (held : Held) → IsSummary (world_file query world known) held.query held.parts → (held.query ≡ query) × Fits world held × (told held.parts ≡ known)
+  loaded_is : IsUtf8 (spelling (by_names query)) → (held : Held) → IsSaved (world_file query world known) held.query held.parts → (held.query ≡ query) × Fits world held × (told held.parts ≡ known)
   loaded_is utf8 held read =
       let own : Held = record { query = query; parts = parts } in
-      let same : held ≡ own = one_held (world_file query world known) held own read (world_read query world known is_query is_world of_world utf8) in
+      let same : held ≡ own =
+      one_held (world_file query world known) held own (Second, read) (Second, world_read query world known is_query is_world of_world Second (second_keeps query world known is_world) utf8) in
       subst (λ (h : Held). (h.query ≡ query) × Fits world h × (told h.parts ≡ known)) (sym same) (refl, parts_fit, parts_told)
 
-pub loaded : (query : Checked) (world : World) (known : Knowledge) (bytes : List ℕ) (held : Held) → IsCheckedQuery query → IsUtf8 (spelling (by_names query)) → IsWorld (kinds query.columns) world
-    → IsWorldFile query world known bytes → IsSummary bytes held.query held.parts → (held.query ≡ query) × Fits world held × (told held.parts ≡ known)
-loaded query world known bytes held is_query utf8 is_world is read =
-    loaded_is query world known is_query is_world is.of_world utf8 held (subst (λ b. IsSummary b held.query held.parts) is.bytes_are read)
+-- what is read of a world's file in any version is read of its file in the second
+read_in_second : (version : Version) (query : Checked) (world : World) (known : Knowledge) (bytes : List ℕ) (held : Held) → IsWorldFile version query world known bytes → IsSummary bytes held.query held.parts
+    → IsSaved (world_file query world known) held.query held.parts
+read_in_second version query world known bytes held is (own, read) =
+    let file : bytes ≡ file_in own held.query held.parts = (spelled own bytes held.query held.parts read).0 in
+    let same : body_bytes held.query held.parts ≡ body_bytes query (world_parts query world known) =
+    one_body own version (body_bytes held.query held.parts) (body_bytes query (world_parts query world known)) (sym file ∙ is.bytes_are) in
+    subst (λ rest. IsSaved (opening Second ++ rest) held.query held.parts) same (written_again own bytes held.query held.parts read)
+
+pub loaded : (version : Version) (query : Checked) (world : World) (known : Knowledge) (bytes : List ℕ) (held : Held) → IsCheckedQuery query → IsUtf8 (spelling (by_names query)) → IsWorld (kinds query.columns) world
+    → IsWorldFile version query world known bytes → IsSummary bytes held.query held.parts → (held.query ≡ query) × Fits world held × (told held.parts ≡ known)
+loaded version query world known bytes held is_query utf8 is_world is read =
+    loaded_is query world known is_query is_world is.of_world utf8 held (read_in_second version query world known bytes held is read)
 
 -- ---- a replica fits a world where its file is the world's
 
@@ -189,11 +204,11 @@ fits_known world held are fits = record { there = λ origin number known. go ori
         let those = (fits origin).early number rows.0 rows.1 in
         ap is_some those.1)
 
-pub fits_by_file : (world : World) (held : Held) (bytes : List ℕ) → IsWorld (kinds held.query.columns) world → IsSummary bytes held.query held.parts
-    → Fits world held ↔ IsWorldFile held.query world (told held.parts) bytes
-fits_by_file world held bytes is_world read =
-    let file = spelled bytes held.query held.parts read in
-    let of_query = summary_query bytes held.query held.parts read in (
-      (λ fits. record { of_world = fits_known world held file.1 fits; bytes_are = saved_world held world bytes file.1 fits file.0 }),
-      (λ is. (loaded held.query world (told held.parts) bytes held of_query.passed of_query.utf8 is_world is read).1),
+pub fits_by_file : (version : Version) (world : World) (held : Held) (bytes : List ℕ) → IsWorld (kinds held.query.columns) world → IsSummaryIn version bytes held.query held.parts
+    → Fits world held ↔ IsWorldFile version held.query world (told held.parts) bytes
+fits_by_file version world held bytes is_world read =
+    let file = spelled version bytes held.query held.parts read in
+    let of_query = summary_query bytes held.query held.parts (version, read) in (
+      (λ fits. record { of_world = fits_known world held file.1 fits; bytes_are = saved_in version held world bytes file.1 fits file.0 }),
+      (λ is. (loaded version held.query world (told held.parts) bytes held of_query.passed of_query.utf8 is_world is (version, read)).1),
     )

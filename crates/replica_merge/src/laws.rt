@@ -4,8 +4,9 @@ ghost use Rattle.std.specs.Prelude.{◌≡◌, ◌↔◌, ℕ, Bool, List, IsUtf
 ghost use Rattle.grouping_model.specs.World.{World, IsWorld, Knowledge};
 ghost use Rattle.packed_rows.specs.Columns.{kinds};
 ghost use Rattle.having_filter.specs.Kept.{IsCheckedQuery, by_names};
-ghost use Rattle.summary_codec.specs.Reading.{IsSummary};
+ghost use Rattle.summary_codec.specs.Reading.{IsSummaryIn, IsSummary, IsSaved};
 ghost use Rattle.summary_codec.specs.Worlds.{IsWorldFile};
+ghost use Rattle.summary_codec.specs.declared.version.Version.{Version};
 ghost use Rattle.query_checks.specs.Checks.{Checked};
 ghost use Rattle.query_checks.specs.Spelling.{spelling};
 ghost use Rattle.replica_merge.specs.Replicas.{Parts, Held, told, Fits, AreHeldParts, Merges, MergesIn};
@@ -31,27 +32,27 @@ pub fn merged_files()
     ensures same { (world : World) (query : Checked) (a b : Parts) (bytes those : List ℕ) →
         AreHeldParts query a → AreHeldParts query b →
         Fits world (record { query = query; parts = a }) → Fits world (record { query = query; parts = b }) →
-        told a ≡ told b → IsSummary bytes query a → IsSummary those query b → bytes ≡ those }
+        told a ≡ told b → IsSaved bytes query a → IsSaved those query b → bytes ≡ those }
     ensures commutative { (world : World) (query : Checked) (a b ab ba : Parts) (bytes those : List ℕ) →
         MergesIn world query a b ab → MergesIn world query b a ba →
-        IsSummary bytes query ab → IsSummary those query ba → bytes ≡ those }
+        IsSaved bytes query ab → IsSaved those query ba → bytes ≡ those }
     ensures associative { (world : World) (query : Checked) (a b c ab bc left right : Parts) (bytes those : List ℕ) →
         MergesIn world query a b ab → MergesIn world query ab c left →
         MergesIn world query b c bc → MergesIn world query a bc right →
-        IsSummary bytes query left → IsSummary those query right → bytes ≡ those }
+        IsSaved bytes query left → IsSaved those query right → bytes ≡ those }
     ensures idempotent { (world : World) (query : Checked) (a aa : Parts) (bytes those : List ℕ) →
-        MergesIn world query a a aa → IsSummary bytes query aa → IsSummary those query a → bytes ≡ those }
+        MergesIn world query a a aa → IsSaved bytes query aa → IsSaved those query a → bytes ≡ those }
 {}
 
-/// The file of a query, a world and what is known of this world is read as a replica of the query that fits the world and tells what is
-/// known, and as no other. A query's text is UTF-8. A replica fits a world exactly where its own file is that of its query, the world and
-/// what it tells.
+/// The file of a query, a world and what is known of this world is read, in each version, as a replica of the query that fits the world and
+/// tells what is known, and as no other. A query's text is UTF-8. A replica fits a world exactly where a file that is read as it is that of
+/// its query, the world and what it tells.
 pub fn files_that_fit()
-    ensures loaded { (query : Checked) (world : World) (known : Knowledge) (bytes : List ℕ) (held : Held) →
+    ensures loaded { (version : Version) (query : Checked) (world : World) (known : Knowledge) (bytes : List ℕ) (held : Held) →
         IsCheckedQuery query → IsUtf8 (spelling (by_names query)) → IsWorld (kinds query.columns) world →
-        IsWorldFile query world known bytes → IsSummary bytes held.query held.parts →
+        IsWorldFile version query world known bytes → IsSummary bytes held.query held.parts →
         (held.query ≡ query) × Fits world held × (told held.parts ≡ known) }
-    ensures exactly { (world : World) (held : Held) (bytes : List ℕ) →
-        IsWorld (kinds held.query.columns) world → IsSummary bytes held.query held.parts →
-        (Fits world held ↔ IsWorldFile held.query world (told held.parts) bytes) }
+    ensures exactly { (version : Version) (world : World) (held : Held) (bytes : List ℕ) →
+        IsWorld (kinds held.query.columns) world → IsSummaryIn version bytes held.query held.parts →
+        (Fits world held ↔ IsWorldFile version held.query world (told held.parts) bytes) }
 {}

@@ -2,7 +2,7 @@
 
 ghost use Rattle.std.specs.Prelude.{◌≡◌, ◌≢◌, IfOk, IfErr};
 ghost use Rattle.grouping_model.specs.World.{World};
-ghost use Rattle.summary_codec.specs.Reading.{IsSummary, HasFault};
+ghost use Rattle.summary_codec.specs.Reading.{IsSummary, IsSaved, HasFault};
 ghost use Rattle.summary_codec.specs.WorldFile.{world_file};
 ghost use Rattle.summary_codec.specs.declared.error.SummaryError.TheVariants.{NoMemory};
 ghost use Rattle.replica_merge.specs.Replicas.{Held, told, Fits};
@@ -12,9 +12,9 @@ use std::alloc::{AllocError, Global};
 use summary_codec::{SummaryError, decode, encode};
 
 impl Replica {
-    /// The summary file of the query and of what is known: the one spelling of both. The only error is a failed allocation.
+    /// The summary file of the query and of what is known: the one spelling of both, in the second version. The only error is a failed allocation.
     pub fn save(&self) -> Result<Vec<u8>, AllocError>
-        ensures summary { IfOk result (λ bytes. IsSummary bytes.items self.now.query self.now.parts) }
+        ensures summary { IfOk result (λ bytes. IsSaved bytes.items self.now.query self.now.parts) }
         // So replicas that tell the same batches of a world save equal bytes.
         ensures world { IfOk result (λ bytes. (world : World) → Fits world self.now →
             bytes.items ≡ world_file self.now.query world (told self.now.parts)) }
@@ -22,7 +22,7 @@ impl Replica {
         encode(self.alloc, &self.query, &self.parts)
     }
 
-    /// The replica that a summary file is of. Any bytes are read: those that are no such file are refused, by the first fault.
+    /// The replica that a summary file is of, of either version. Any bytes are read: those that are no such file are refused, by the first fault.
     pub fn load(alloc: Global, bytes: &[u8]) -> Result<Replica, SummaryError>
         ensures summary { IfOk result (λ replica.
             IsSummary bytes.now replica.query replica.parts) }

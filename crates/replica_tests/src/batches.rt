@@ -24,20 +24,21 @@ fn build(
 
 /// Origins, numbers, how many rows are told and the rows, and the bytes of the batch's rows or why it is refused.
 const BATCHES: &str = "\
-1024 1 70000 oslo => BadBatchHead
- 1 70000 oslo => BadBatchHead
-0  70000 oslo => BadBatchHead
-0 0 70000 oslo => BadBatchHead
-0 2147483648 70000 oslo => BadBatchHead
-00000000000 1 70000 oslo => BadBatchHead
-0 00000000001 70000 oslo => BadBatchHead
-+1 1 70000 oslo => BadBatchHead
--0 1 70000 oslo => BadBatchHead
-0 1x 70000 oslo => BadBatchHead
-9999999999 1 70000 oslo => BadBatchHead
-0 1 65537 oslo => TooManyRows
+1024 1 2000000 oslo => BadBatchHead
+ 1 2000000 oslo => BadBatchHead
+0  2000000 oslo => BadBatchHead
+0 0 2000000 oslo => BadBatchHead
+0 4294967296 2000000 oslo => BadBatchHead
+00000000000 1 2000000 oslo => BadBatchHead
+0 00000000001 2000000 oslo => BadBatchHead
++1 1 2000000 oslo => BadBatchHead
+-0 1 2000000 oslo => BadBatchHead
+0 1x 2000000 oslo => BadBatchHead
+9999999999 1 2000000 oslo => BadBatchHead
+0 1 1048577 oslo => TooManyRows
 0 1 4294967295 oslo => TooManyRows
-0 1 65536 oslo => RowCount
+0 1 1048576 oslo => RowCount
+0 1 65537 oslo => RowCount
 0 1 0 oslo => RowCount
 0 1 2 oslo => RowCount
 0 1 1 oslo;oslo => RowCount
@@ -48,7 +49,7 @@ const BATCHES: &str = "\
 0 1 3 oslo,1,t;oslo,1,t;oslo,1,t,t => WrongWidth { row: 2 }
 0 1 0  => 0/1
 0 1 2 oslo,5,t;\\N,-2,F => 0/1 016f736c6f000180000000000000050101 02017ffffffffffffffe0100
-1023 2147483647 1 oslo,1,t => 1023/2147483647 016f736c6f000180000000000000010101";
+1023 4294967295 1 oslo,1,t => 1023/4294967295 016f736c6f000180000000000000010101";
 
 /// What becomes of a batch.
 fn told(rt: HostRuntime, case: &str) -> Result<String, Fail> {
@@ -73,19 +74,19 @@ fn batches_are_built_or_refused_in_order(rt: HostRuntime) -> Result<(), Fail> {
 /// As many rows as a batch may have.
 fn most_rows(rt: HostRuntime) -> Result<String, Fail> {
     let mut rows = String::new(rt.alloc());
-    for _ in 0..65_536 {
+    for _ in 0..1_048_576 {
         rows.push_str("oslo,5,t;")?;
     }
     Ok(rows)
 }
 
-/// How many rows a batch has that tells 65,536.
+/// How many rows a batch has that tells 1,048,576.
 fn rows_built(rt: HostRuntime, rows: &str) -> Result<usize, Fail> {
-    Ok(build(rt, "0", "0000000001", 65_536, rows)??.rows.len())
+    Ok(build(rt, "0", "0000000001", 1_048_576, rows)??.rows.len())
 }
 
 #[test]
-fn batches_have_65536_rows(rt: HostRuntime) -> Result<(), Fail> {
-    assert_eq!(rt; rows_built(rt, &most_rows(rt)?)?, 65_536);
+fn batches_have_1048576_rows(rt: HostRuntime) -> Result<(), Fail> {
+    assert_eq!(rt; rows_built(rt, &most_rows(rt)?)?, 1_048_576);
     Ok(())
 }

@@ -23,7 +23,7 @@ use Rattle.group_parser.specs.Parsing.{Accepts}
 use Rattle.grouping_model.specs.Replies.{known_list, reply_of}
 use Rattle.grouping_model.specs.declared.delivered.Delivered.{Delivered}
 use Rattle.replica_merge.specs.Replicas.{Parts, Held, told, Fits, SameQuery, MergeTells}
-use Rattle.summary_codec.specs.Reading.{IsSummary}
+use Rattle.summary_codec.specs.Reading.{IsSaved}
 use Rattle.summary_codec.specs.WorldFile.{world_file}
 use Rattle.script_io.specs.Records.{Record}
 use Rattle.script_commands.specs.Commands as ask
@@ -328,7 +328,7 @@ store_filed old new name bytes u file is =
     }
 
 -- what is loaded has the query
-pub loaded_asks : (store : Store) (saved : List ℕ) (bytes : Vec ℕ Global) (later : Held) → IsStore store → saved_at store saved ≡ Some bytes → ((held : Held) → IsSummary bytes.items held.query held.parts → later ≡ held)
+pub loaded_asks : (store : Store) (saved : List ℕ) (bytes : Vec ℕ Global) (later : Held) → IsStore store → saved_at store saved ≡ Some bytes → ((held : Held) → IsSaved bytes.items held.query held.parts → later ≡ held)
     → store.query ≡ Some later.query
 loaded_asks store saved bytes later is there same =
     let file = subst (λ o. IfSome o (IsFileOf store.query)) there (is.files saved) in
@@ -772,7 +772,7 @@ module _ {honest : Bool} where
       go (Some q) = refl
 
   pub saved_as : (old new : Store) (name saved : List ℕ) (owned : List Record) (held : Held) (bytes : Vec ℕ Global) (count : ℕ) → IsStore old → replica_at old name ≡ Some held
-      → IsSummary bytes.items held.query held.parts → ((world : World) → Fits world held → bytes.items ≡ world_file held.query world (told held.parts)) → count ≡ length bytes.items
+      → IsSaved bytes.items held.query held.parts → ((world : World) → Fits world held → bytes.items ≡ world_file held.query world (told held.parts)) → count ≡ length bytes.items
       → Files old new saved bytes → Steps honest (ask.Save name saved) owned old (says.Saved count) new
   saved_as old new name saved owned held bytes count is there file world_is counted u =
       let asks = held_asks old name held is there in
@@ -816,7 +816,7 @@ module _ {honest : Bool} where
       go (Some known) are = absurd are
 
   pub loaded : (old new : Store) (name saved : List ℕ) (owned : List Record) (bytes : Vec ℕ Global) (later : Held) → saved_at old saved ≡ Some bytes
-      → ((held : Held) → IsSummary bytes.items held.query held.parts → later ≡ held) → Updates old new name later → Steps honest (ask.Load name saved) owned old says.Loaded new
+      → ((held : Held) → IsSaved bytes.items held.query held.parts → later ≡ held) → Updates old new name later → Steps honest (ask.Load name saved) owned old says.Loaded new
   loaded old new name saved owned bytes later there is u =
       record { steps = λ state r. go state r (state.saved saved) refl (subst (AreSaved (state.saved saved)) there (r.saved saved)) }
     where

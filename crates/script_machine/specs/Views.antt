@@ -9,7 +9,7 @@ use Rattle.grouping_model.specs.World.{World, IsWorld, Knowledge}
 use Rattle.packed_rows.specs.Columns.{Column, kinds}
 use Rattle.query_checks.specs.Checks.{Checked}
 use Rattle.replica_merge.specs.Replicas.{Parts, Held, told, Fits}
-use Rattle.summary_codec.specs.Reading.{IsSummary}
+use Rattle.summary_codec.specs.Reading.{IsSaved}
 use Rattle.script_io.specs.Records.{Record}
 use Rattle.script_commands.specs.Commands.{Request}
 use Rattle.replies.specs.Joining.{JoinsHeld}
@@ -46,7 +46,7 @@ saved_at store name = lookup (λ (key : Vec ℕ Global). bytes_eq name key.items
 pub record IsFileOf (query : Option Checked) (bytes : Vec ℕ Global) : Type 0 where
   pub held : Held
   pub asked : query ≡ Some held.query
-  pub is : IsSummary bytes.items held.query held.parts
+  pub is : IsSaved bytes.items held.query held.parts
 
 -- the query is over the columns, and each replica and each file has it
 pub record IsStore (store : Store) : Type 0 where
@@ -61,7 +61,7 @@ knowledge_of held = told held.parts
 -- a file has what was saved
 pub record HasSaved (known : Knowledge) (bytes : Vec ℕ Global) : Type 0 where
   pub held : Held
-  pub is : IsSummary bytes.items held.query held.parts
+  pub is : IsSaved bytes.items held.query held.parts
   pub tells : knowledge_of held ≡ known
 
 abbrev pub AreSaved : Option Knowledge → Option (Vec ℕ Global) → Type 0
@@ -80,7 +80,7 @@ pub record Represents (state : State) (store : Store) : Type 0 where
 -- the file of what fits a world
 pub record IsFitting (world : World) (bytes : Vec ℕ Global) : Type 0 where
   pub held : Held
-  pub is : IsSummary bytes.items held.query held.parts
+  pub is : IsSaved bytes.items held.query held.parts
   pub fits : Fits world held
 
 -- what is held and what was saved fits a world of the columns

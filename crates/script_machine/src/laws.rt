@@ -48,8 +48,8 @@ pub fn one_batch_each_agrees()
 /// The limits, in digits. Definitions and code cite them by their names.
 pub fn limits_in_digits()
     ensures origins { LAST_ORIGIN ≡ 1023 }
-    ensures numbers { LAST_NUMBER ≡ 2147483647 }
-    ensures rows_of_a_batch { MOST_ROWS ≡ 65536 }
+    ensures numbers { LAST_NUMBER ≡ 4294967295 }
+    ensures rows_of_a_batch { MOST_ROWS ≡ 1048576 }
     ensures columns { MOST_COLUMNS ≡ 32 }
     ensures keys { MOST_KEYS ≡ 16 }
     ensures aggregates { MOST_CALLS ≡ 32 }

@@ -8,7 +8,7 @@ ghost use Rattle.grouping_model.specs.World.{World};
 ghost use Rattle.query_checks.specs.Spelling.{spelling};
 ghost use Rattle.having_filter.specs.Kept.{by_names};
 ghost use Rattle.group_parser.specs.Parsing.{Accepts};
-ghost use Rattle.summary_codec.specs.Reading.{IsSummary};
+ghost use Rattle.summary_codec.specs.Reading.{IsSummary, IsSaved};
 ghost use Rattle.summary_codec.specs.WorldFile.{world_file};
 ghost use Rattle.replica_merge.specs.Replicas.{Held, told, Fits};
 ghost use Rattle.script_io.specs.Records.{Record};
@@ -156,7 +156,7 @@ fn file_of_replica(
 ) -> Result<(Vec<u8>, Vec<u8>), AllocError>
     ensures name { IfOk result (λ made. made.0.items ≡ saved.now) }
     ensures file { IfOk result (λ made.
-        IsSummary made.1.items replica.now.query replica.now.parts) }
+        IsSaved made.1.items replica.now.query replica.now.parts) }
     ensures world { IfOk result (λ made. (world : World) → Fits world replica.now →
         made.1.items ≡ world_file replica.now.query world (told replica.now.parts)) }
 {

@@ -11,8 +11,9 @@ use Rattle.batch_reader.specs.Rows.{packings}
 use Rattle.query_checks.specs.Checks.{Checked}
 use Rattle.having_filter.specs.Meaning.{meaning}
 use Rattle.hash_agg.specs.Bytes.{run_bytes}
-use Rattle.summary_codec.specs.File.{file_bytes}
-use Rattle.summary_codec.specs.WorldFile.{world_part, world_file}
+use Rattle.summary_codec.specs.File.{file_in}
+use Rattle.summary_codec.specs.WorldFile.{world_part, world_file_in}
+use Rattle.summary_codec.specs.declared.version.Version.{Version}
 
 map_members : {X Y : Type 0} (f g : X → Y) (xs : List X) → ((x : X) → Member xs x → f x ≡ g x) → map f xs ≡ map g xs
 map_members f g [] same = refl
@@ -39,5 +40,5 @@ module _ (query : Checked) (world other : World) (known : Knowledge) (same : (or
   same_part origin =
       (λ i. (origin, record { prefix = prefix known origin; run = run_bytes (part (meaning query) (same_prefix origin i)); early = same_early origin i }))
 
-  pub known_file : world_file query world known ≡ world_file query other known
-  known_file = ap (file_bytes query) (map_members (world_part query world known) (world_part query other known) (origins known) (λ origin listed. same_part origin))
+  pub known_file : (version : Version) → world_file_in version query world known ≡ world_file_in version query other known
+  known_file version = ap (file_in version query) (map_members (world_part query world known) (world_part query other known) (origins known) (λ origin listed. same_part origin))

@@ -105,13 +105,17 @@ none_below (e ∷ xs) = (omega arith, none_below xs)
 
 -- ---- parts
 
+from_one : (prefix n : ℕ) → prefix + 1 < n → 1 ≤ n
+from_one prefix n behind = omega (arith, behind)
+
 pub short_part : (q : Checked) (part : Part) → IsCheckedQuery q → IsPartOf q part → IsShortPart part
 short_part q part is of_query =
     let within = of_query.within in
     let few = of_query.few in
     let columns = is.columns_are.most in
     let same = length-map q.columns (λ (c : Column). c.kind) in
-    let early = few_rising 0 LAST_NUMBER part.early of_query.rising (none_below part.early) (each_weaker (IsEarly (kinds q.columns) part.prefix) (λ (b : ℕ × List (List ℕ)). b.0 ≤ LAST_NUMBER) (λ b e. e.within) part.early of_query.early) (omega arith) in
+    let some = each_weaker (IsEarly (kinds q.columns) part.prefix) (λ (b : ℕ × List (List ℕ)). 1 ≤ b.0) (λ b e. from_one part.prefix b.0 e.behind) part.early of_query.early in
+    let early = few_rising 1 LAST_NUMBER part.early of_query.rising some (each_weaker (IsEarly (kinds q.columns) part.prefix) (λ (b : ℕ × List (List ℕ)). b.0 ≤ LAST_NUMBER) (λ b e. e.within) part.early of_query.early) (omega arith) in
     record {
       few_groups = omega (arith, within, few);
       groups = short_keys (meaning q) (part.prefix * MOST_ROWS) part.run of_query.run.groups (few_key_kinds q is) of_query.run.are;

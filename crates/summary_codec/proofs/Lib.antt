@@ -1,3 +1,4 @@
+pub mod VersionLaws
 pub mod FieldLaws
 pub mod FaultLaws
 pub mod RisingLaws

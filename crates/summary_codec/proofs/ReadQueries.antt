@@ -17,7 +17,14 @@ use Rattle.group_parser.specs.declared.error.ParseError.{ParseError}
 use Rattle.group_parser.specs.Parsing.{Accepts, query_checked, asked_checked, asked_in}
 use Rattle.group_parser.proofs.ParseLaws.{accepts_parses, can_be_written}
 use Rattle.origin_prefix.specs.Held.{Parts}
-use Rattle.summary_codec.specs.Reading.{text, schema, query, heading, summary, IsSummary}
+use Rattle.summary_codec.specs.Reading.{text, schema, query, heading, body, IsSummaryIn, IsSummary, IsSaved}
+use Rattle.summary_codec.specs.File.{file_bytes}
+use Rattle.summary_codec.specs.declared.version.Version.{Version}
+use Rattle.summary_codec.specs.declared.version.Version.TheVariants.{Second}
+use Rattle.summary_codec.proofs.SpelledRead.{spelled}
+use Rattle.summary_codec.proofs.TextLaws.{schema_text}
+use Rattle.summary_codec.proofs.VersionLaws.{held_within}
+use Rattle.summary_codec.proofs.WrittenRead.{read_again}
 
 -- ---- a text that is a query says one that passed the checks
 
@@ -61,6 +68,13 @@ query_read columns bytes found are (said, r, there, (q, s, (is, stays), (canonic
     subst IsReadQuery (sym same) (record { passed = accepted_query columns said q are is; utf8 = subst IsUtf8 (sym canonical) (text_read bytes (said, r) there) })
 
 pub summary_query : (bytes : List ℕ) (q : Checked) (held : Parts) → IsSummary bytes q held → IsReadQuery q
-unfolding summary heading
-summary_query bytes q held (found, r, (x, s, begins, (columns, t, there, told)), (these, u, kept, (same, none))) =
-    subst (λ (f : Checked × Parts). IsReadQuery f.0) (sym same) (query_read columns t (found, r) (columns_read s (columns, t) there) told)
+unfolding body heading
+summary_query bytes q held (version, (behind, begins, (found, r, (columns, t, there, told), (these, u, kept, (same, none))))) =
+    subst (λ (f : Checked × Parts). IsReadQuery f.0) (sym same) (query_read columns t (found, r) (columns_read behind (columns, t) there) told)
+
+-- what was read of a file is written as one of the second version
+pub written_again : (version : Version) (bytes : List ℕ) (q : Checked) (held : Parts) → IsSummaryIn version bytes q held → IsSaved (file_bytes q held) q held
+written_again version bytes q held is =
+    let of_query = summary_query bytes q held (version, is) in
+    let are = (spelled version bytes q held is).1 in
+    read_again Second q held of_query.passed (schema_text q.columns of_query.passed.columns_are) of_query.utf8 are (held_within q held are)

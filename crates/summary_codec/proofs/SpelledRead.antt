@@ -16,6 +16,7 @@ use Rattle.grouping_model.specs.Datum.{Kind, Row, HasKinds}
 use Rattle.grouping_model.specs.Grouping.{Group}
 use Rattle.grouping_model.specs.Query.{Query}
 use Rattle.grouping_model.specs.declared.limits.TheConstants.{LAST_NUMBER, LAST_ORIGIN, MOST_ROWS}
+use Rattle.group_runs.specs.EntryLaws.{groups_raised}
 use Rattle.packed_rows.specs.Columns.{Column, kinds, printed}
 use Rattle.batch_reader.specs.Rows.{packings}
 use Rattle.query_checks.specs.declared.order.OrderTerm.{OrderTerm}
@@ -27,12 +28,15 @@ use Rattle.having_filter.specs.Meaning.{meaning}
 use Rattle.query_checks.specs.Spelling.{spelling}
 use Rattle.query_checks.specs.declared.error.QueryError.{QueryError}
 use Rattle.group_runs.specs.Runs.{Entry, packed_keys}
-use Rattle.group_runs.specs.Standing.{AreGroups}
+use Rattle.group_runs.specs.Standing.{AreGroups, IsRun}
 use Rattle.origin_prefix.specs.Parts.{Part, IsEarly, IsPartOf}
 use Rattle.origin_prefix.specs.Held.{Parts, IsHeldPart, AreHeldParts}
-use Rattle.summary_codec.specs.File.{opening, sized_bytes, group_bytes, batch_bytes, part_bytes, file_bytes}
-use Rattle.summary_codec.specs.Reading.{IsNext, IsPacking, AreStateBytes, MayFollow, number, group, row, batch, batches, contents, part, text, schema, query, opened, parts, heading, rest, summary, IsSummary}
+use Rattle.summary_codec.specs.File.{sized_bytes, group_bytes, batch_bytes, part_bytes, body_bytes, file_in}
+use Rattle.summary_codec.specs.Reading.{IsNext, IsPacking, AreStateBytes, MayFollow, number, group, row, batch, batches, contents, part, text, schema, query, opened, parts, heading, rest, body, IsSummaryIn}
+use Rattle.summary_codec.specs.Versions.{opening, last_number, most_batch_rows, IsBatchWithin, IsWithin, AreWithin}
+use Rattle.summary_codec.specs.declared.version.Version.{Version}
 use Rattle.summary_codec.proofs.RisingLaws.{rises_next}
+use Rattle.summary_codec.proofs.VersionLaws.{number_low, rows_low, product_low}
 use Rattle.summary_codec.proofs.ReaderLaws.{AreRight, Spells, spells_within, spells_sized, spells_each}
 
 -- ---- lists that are right one behind the other
@@ -91,19 +95,24 @@ rows_read ks (p ∷ packed) before (is, are) =
     let more = rows_read ks packed (before ++ p ∷ []) are in
     (is.0 ∷ more.0, (is.1, more.1), λ i. is.2 i ∷ more.2 i)
 
-abbrev IsBatchRead : List Kind → ℕ → List (ℕ × List (List ℕ)) → ℕ × List (List ℕ) → Type 0
-IsBatchRead ks prefix before b = MayFollow prefix before b.0 × IsEarly ks prefix b
+abbrev IsBatchRead : Version → List Kind → ℕ → List (ℕ × List (List ℕ)) → ℕ × List (List ℕ) → Type 0
+IsBatchRead version ks prefix before b = MayFollow prefix before b.0 × IsEarly ks prefix b × IsBatchWithin version b
 
-spells_batch : (ks : List Kind) (prefix : ℕ) (before : List (ℕ × List (List ℕ))) (bytes : List ℕ) (found : (ℕ × List (List ℕ)) × List ℕ) → batch ks prefix before bytes (Ok found) → Spells batch_bytes (IsBatchRead ks prefix before) bytes found
+spells_batch : (version : Version) (ks : List Kind) (prefix : ℕ) (before : List (ℕ × List (List ℕ))) (bytes : List ℕ) (found : (ℕ × List (List ℕ)) × List ℕ) → batch version ks prefix before bytes (Ok found)
+    → Spells batch_bytes (IsBatchRead version ks prefix before) bytes found
 unfolding batch
-spells_batch ks prefix before bytes found (n, r, there, (follows, (count, s, told, (packed, t, rows, (same, rests))))) =
-    let first = spells_within 4 LAST_NUMBER bytes (n, r) there in
-    let second = spells_within 4 MOST_ROWS r (count, s) told in
+spells_batch version ks prefix before bytes found (n, r, there, (follows, (count, s, told, (packed, t, rows, (same, rests))))) =
+    let first = spells_within 4 (last_number version) bytes (n, r) there in
+    let second = spells_within 4 (most_batch_rows version) r (count, s) told in
     let third = spells_each (row ks) sized_bytes (IsRowRead ks) (spells_row ks) count [] s (packed, t) rows in
     let few : length packed ≡ count = ap length third.all ∙ third.count in
     let these = rows_read ks packed [] (subst (AreRight (IsRowRead ks) []) (sym third.all) third.are) in
     let behind : s ≡ flat_map sized_bytes packed ++ t = third.is ∙ ap (λ l. flat_map sized_bytes l ++ t) (sym third.all) in
-    subst (Spells batch_bytes (IsBatchRead ks prefix before) bytes) (λ i. (sym same i, sym rests i))
+    let number : n ≤ last_number version = first.right.1 in
+    let low = number_low version in
+    let counted : length packed ≤ most_batch_rows version = subst (λ k. k ≤ most_batch_rows version) (sym few) second.right.1 in
+    let most = rows_low version in
+    subst (Spells batch_bytes (IsBatchRead version ks prefix before) bytes) (λ i. (sym same i, sym rests i))
     (record {
       is = first.is ∙ ap (λ l. bytes_high_first 4 n ++ l) (second.is ∙ (λ i. bytes_high_first 4 (sym few i) ++ behind i))
           ∙ sym (append_assoc (bytes_high_first 4 n ++ bytes_high_first 4 (length packed)) (flat_map sized_bytes packed) t ∙ append_assoc (bytes_high_first 4 n) (bytes_high_first 4 (length packed)) (flat_map sized_bytes packed ++ t));
@@ -111,35 +120,38 @@ spells_batch ks prefix before bytes found (n, r, there, (follows, (count, s, tol
         follows,
         record {
           behind = follows.0;
-          within = first.right.1;
-          rows = record { few = subst (λ k. k ≤ MOST_ROWS) (sym few) second.right.1; rows = these.0; of_kinds = All-from_recursion (HasKinds ks) these.0 these.1; packings_are = these.2 };
+          within = omega (arith, number, low);
+          rows = record { few = omega (arith, counted, most); rows = these.0; of_kinds = All-from_recursion (HasKinds ks) these.0 these.1; packings_are = these.2 };
         },
+        record { number = number; rows = counted },
       );
     })
 
 -- what is read of the batches behind a prefix
-record BatchesRead (ks : List Kind) (prefix : ℕ) (bytes : List ℕ) (found : List (ℕ × List (List ℕ)) × List ℕ) : Type 0 where
+record BatchesRead (version : Version) (ks : List Kind) (prefix : ℕ) (bytes : List ℕ) (found : List (ℕ × List (List ℕ)) × List ℕ) : Type 0 where
   is : bytes ≡ bytes_high_first 4 (length found.0) ++ (flat_map batch_bytes found.0 ++ found.1)
   some : (0 < prefix) ⊎ (found.0 ≢ [])
   rising : IsStrictlySortedBy nat_cmp (map (λ (b : ℕ × List (List ℕ)). b.0) found.0)
   early : AllByRecursion (IsEarly ks prefix) found.0
+  within : AllByRecursion (IsBatchWithin version) found.0
 
 not_none : {X : Type 0} (xs : List X) → 0 < length xs → xs ≢ []
 not_none [] low same = absurd (omega (arith, low))
 not_none (x ∷ xs) low same = absurd (let e = ap length same in omega (arith, e))
 
-spells_batches : (ks : List Kind) (prefix : ℕ) (bytes : List ℕ) (found : List (ℕ × List (List ℕ)) × List ℕ) → batches ks prefix bytes (Ok found) → BatchesRead ks prefix bytes found
+spells_batches : (version : Version) (ks : List Kind) (prefix : ℕ) (bytes : List ℕ) (found : List (ℕ × List (List ℕ)) × List ℕ) → batches version ks prefix bytes (Ok found) → BatchesRead version ks prefix bytes found
 unfolding batches number
-spells_batches ks prefix bytes found (count, r, there, (some, rest)) =
-    let all = spells_each (batch ks prefix) batch_bytes (IsBatchRead ks prefix) (spells_batch ks prefix) count [] r found rest in
+spells_batches version ks prefix bytes found (count, r, there, (some, rest)) =
+    let all = spells_each (batch version ks prefix) batch_bytes (IsBatchRead version ks prefix) (spells_batch version ks prefix) count [] r found rest in
     let few : length found.0 ≡ count = ap length all.all ∙ all.count in
-    let are : AreRight (IsBatchRead ks prefix) [] found.0 = subst (AreRight (IsBatchRead ks prefix) []) (sym all.all) all.are in
+    let are : AreRight (IsBatchRead version ks prefix) [] found.0 = subst (AreRight (IsBatchRead version ks prefix) []) (sym all.all) all.are in
     let behind : r ≡ flat_map batch_bytes found.0 ++ found.1 = all.is ∙ ap (λ l. flat_map batch_bytes l ++ found.1) (sym all.all) in
     record {
       is = there.0 ∙ (λ i. bytes_high_first 4 (sym few i) ++ behind i);
       some = cases few some;
-      rising = rising_right nat_cmp nat_cmp_total (λ (b : ℕ × List (List ℕ)). b.0) (IsBatchRead ks prefix) (λ before b is. is.0.1) found.0 [] are (none_rise nat_cmp);
-      early = each_right (IsBatchRead ks prefix) (IsEarly ks prefix) (λ before b is. is.1) found.0 [] are;
+      rising = rising_right nat_cmp nat_cmp_total (λ (b : ℕ × List (List ℕ)). b.0) (IsBatchRead version ks prefix) (λ before b is. is.0.1) found.0 [] are (none_rise nat_cmp);
+      early = each_right (IsBatchRead version ks prefix) (IsEarly ks prefix) (λ before b is. is.1) found.0 [] are;
+      within = each_right (IsBatchRead version ks prefix) (IsBatchWithin version) (λ before b is. is.2) found.0 [] are;
     }
   where
     cases : length found.0 ≡ count → (0 < prefix) ⊎ (0 < count) → (0 < prefix) ⊎ (found.0 ≢ [])
@@ -149,57 +161,63 @@ spells_batches ks prefix bytes found (count, r, there, (some, rest)) =
 -- ---- parts
 
 -- what is read of a prefix
-record ContentsRead (q : Checked) (prefix : ℕ) (bytes : List ℕ) (found : Part × List ℕ) : Type 0 where
+record ContentsRead (version : Version) (q : Checked) (prefix : ℕ) (bytes : List ℕ) (found : Part × List ℕ) : Type 0 where
   same : found.0.prefix ≡ prefix
   is : bytes ≡ bytes_high_first 8 (length found.0.run) ++ (flat_map group_bytes found.0.run ++ (bytes_high_first 4 (length found.0.early) ++ (flat_map batch_bytes found.0.early ++ found.1)))
   part : IsPartOf q found.0
+  within : IsWithin version q found.0
   some : (0 < found.0.prefix) ⊎ (found.0.early ≢ [])
 
-spells_contents : (q : Checked) (prefix : ℕ) (bytes : List ℕ) (found : Part × List ℕ) → prefix ≤ LAST_NUMBER → contents q prefix bytes (Ok found) → ContentsRead q prefix bytes found
+spells_contents : (version : Version) (q : Checked) (prefix : ℕ) (bytes : List ℕ) (found : Part × List ℕ) → prefix ≤ last_number version → contents version q prefix bytes (Ok found) → ContentsRead version q prefix bytes found
 unfolding contents
-spells_contents q prefix bytes found within (count, r, there, (run, s, groups, (early, t, others, (same, rests)))) =
-    let most = prefix * MOST_ROWS in
+spells_contents version q prefix bytes found within (count, r, there, (run, s, groups, (early, t, others, (same, rests)))) =
+    let most : ℕ = prefix * most_batch_rows version in
     let first = spells_within 8 most bytes (count, r) there in
     let all = spells_each (group (meaning q) most) group_bytes (IsGroupRead (meaning q) most) (spells_group (meaning q) most) count [] r (run, s) groups in
     let few : length run ≡ count = ap length all.all ∙ all.count in
     let are : AreRight (IsGroupRead (meaning q) most) [] run = subst (AreRight (IsGroupRead (meaning q) most) []) (sym all.all) all.are in
     let behind : r ≡ flat_map group_bytes run ++ s = all.is ∙ ap (λ l. flat_map group_bytes l ++ s) (sym all.all) in
-    let last = spells_batches (kinds q.columns) prefix s (early, t) others in
+    let last = spells_batches version (kinds q.columns) prefix s (early, t) others in
     let stood = groups_read (meaning q) most run [] are in
-    subst (ContentsRead q prefix bytes) (λ i. (sym same i, sym rests i))
+    let rises = rising_right (slice_cmp nat_cmp) key_total (λ (e : Entry). e.0) (IsGroupRead (meaning q) most) (λ before e is. is.1) run [] are (none_rise (slice_cmp nat_cmp)) in
+    let number = number_low version in
+    let counted : length run ≤ most = subst (λ n. n ≤ most) (sym few) first.right.1 in
+    let raised : most ≤ prefix * MOST_ROWS = product_low version prefix in
+    subst (ContentsRead version q prefix bytes) (λ i. (sym same i, sym rests i))
     (record {
       same = refl;
       is = first.is ∙ (λ i. bytes_high_first 8 (sym few i) ++ (behind ∙ ap (λ l. flat_map group_bytes run ++ l) last.is) i);
       part = record {
-        within = within;
-        run = record { groups = stood.0; are = stood.1; rises = rising_right (slice_cmp nat_cmp) key_total (λ (e : Entry). e.0) (IsGroupRead (meaning q) most) (λ before e is. is.1) run [] are (none_rise (slice_cmp nat_cmp)) };
-        few = subst (λ n. n ≤ most) (sym few) first.right.1;
+        within = omega (arith, within, number);
+        run = record { groups = stood.0; are = groups_raised (meaning q) most (prefix * MOST_ROWS) run stood.0 raised stood.1; rises = rises };
+        few = omega (arith, counted, raised);
         rising = last.rising;
         early = last.early;
       };
+      within = record { prefix = within; run = record { groups = stood.0; are = stood.1; rises = rises }; few = counted; early = last.within };
       some = last.some;
     })
 
-abbrev IsPartRead : Checked → Parts → ℕ × Part → Type 0
-IsPartRead q before held = IsNext nat_cmp (map (λ (p : ℕ × Part). p.0) before) held.0 × IsHeldPart q held
+abbrev IsPartRead : Version → Checked → Parts → ℕ × Part → Type 0
+IsPartRead version q before held = IsNext nat_cmp (map (λ (p : ℕ × Part). p.0) before) held.0 × IsHeldPart q held × IsWithin version q held.1
 
-spells_part : (q : Checked) (before : Parts) (bytes : List ℕ) (found : (ℕ × Part) × List ℕ) → part q before bytes (Ok found) → Spells part_bytes (IsPartRead q before) bytes found
+spells_part : (version : Version) (q : Checked) (before : Parts) (bytes : List ℕ) (found : (ℕ × Part) × List ℕ) → part version q before bytes (Ok found) → Spells part_bytes (IsPartRead version q before) bytes found
 unfolding part part_bytes
-spells_part q before bytes found (origin, r, there, (above, (prefix, s, told, (held, t, rest, (same, rests))))) =
+spells_part version q before bytes found (origin, r, there, (above, (prefix, s, told, (held, t, rest, (same, rests))))) =
     let first = spells_within 2 LAST_ORIGIN bytes (origin, r) there in
-    let second = spells_within 4 LAST_NUMBER r (prefix, s) told in
-    let all = spells_contents q prefix s (held, t) second.right.1 rest in
+    let second = spells_within 4 (last_number version) r (prefix, s) told in
+    let all = spells_contents version q prefix s (held, t) second.right.1 rest in
     let o : List ℕ = bytes_high_first 2 origin in
     let f : List ℕ = bytes_high_first 4 held.prefix in
     let n : List ℕ = bytes_high_first 8 (length held.run) in
     let g : List ℕ = flat_map group_bytes held.run in
     let m : List ℕ = bytes_high_first 4 (length held.early) in
     let e : List ℕ = flat_map batch_bytes held.early in
-    subst (Spells part_bytes (IsPartRead q before) bytes) (λ i. (sym same i, sym rests i))
+    subst (Spells part_bytes (IsPartRead version q before) bytes) (λ i. (sym same i, sym rests i))
     (record {
       is = first.is ∙ ap (λ l. o ++ l) (second.is ∙ (λ i. bytes_high_first 4 (sym all.same i) ++ all.is i))
           ∙ sym (append_assoc (o ++ f ++ n ++ g ++ m) e t ∙ append_assoc (o ++ f ++ n ++ g) m (e ++ t) ∙ append_assoc (o ++ f ++ n) g (m ++ (e ++ t)) ∙ append_assoc (o ++ f) n (g ++ (m ++ (e ++ t))) ∙ append_assoc o f (n ++ (g ++ (m ++ (e ++ t)))));
-      right = (above, record { within = first.right.1; part = all.part; some = all.some });
+      right = (above, record { within = first.right.1; part = all.part; some = all.some }, all.within);
     })
 
 -- ---- the whole file
@@ -246,33 +264,40 @@ spells_query columns bytes found (said, r, there, (q, s, (is, stays), (canonical
 )
 
 -- what is read of all origins, to the end
-spells_parts : (q : Checked) (bytes : List ℕ) (held : Parts) → parts q bytes (Ok (held, [])) → (bytes ≡ bytes_high_first 2 (length held) ++ flat_map part_bytes held) × AreHeldParts q held
+spells_parts : (version : Version) (q : Checked) (bytes : List ℕ) (held : Parts) → parts version q bytes (Ok (held, [])) → (bytes ≡ bytes_high_first 2 (length held) ++ flat_map part_bytes held) × AreHeldParts q held × AreWithin version q held
 unfolding parts
-spells_parts q bytes held (count, r, there, items) =
+spells_parts version q bytes held (count, r, there, items) =
     let first = spells_within 2 (LAST_ORIGIN + 1) bytes (count, r) there in
-    let all = spells_each (part q) part_bytes (IsPartRead q) (spells_part q) count [] r (held, []) items in
+    let all = spells_each (part version q) part_bytes (IsPartRead version q) (spells_part version q) count [] r (held, []) items in
     let few : length held ≡ count = ap length all.all ∙ all.count in
-    let are : AreRight (IsPartRead q) [] held = subst (AreRight (IsPartRead q) []) (sym all.all) all.are in
+    let are : AreRight (IsPartRead version q) [] held = subst (AreRight (IsPartRead version q) []) (sym all.all) all.are in
     let behind : r ≡ flat_map part_bytes held = all.is ∙ append-nil (flat_map part_bytes all.more) ∙ ap (flat_map part_bytes) (sym all.all) in (
       first.is ∙ (λ i. bytes_high_first 2 (sym few i) ++ behind i),
       record {
-        rising = rising_right nat_cmp nat_cmp_total (λ (p : ℕ × Part). p.0) (IsPartRead q) (λ before p is. is.0) held [] are (none_rise nat_cmp);
-        each = each_right (IsPartRead q) (IsHeldPart q) (λ before p is. is.1) held [] are;
+        rising = rising_right nat_cmp nat_cmp_total (λ (p : ℕ × Part). p.0) (IsPartRead version q) (λ before p is. is.0) held [] are (none_rise nat_cmp);
+        each = each_right (IsPartRead version q) (IsHeldPart q) (λ before p is. is.1) held [] are;
       },
+      each_right (IsPartRead version q) (λ (p : ℕ × Part). IsWithin version q p.1) (λ before p is. is.2) held [] are,
     )
 
--- what is read as a file may be held, and its bytes are the one spelling
-pub spelled : (bytes : List ℕ) (q : Checked) (held : Parts) → IsSummary bytes q held → (bytes ≡ file_bytes q held) × AreHeldParts q held
-unfolding summary heading rest opened
-spelled bytes q held (found, r, (x, s, begins, (columns, t, there, told)), (these, u, (kept, v, counted, (y, w, (end, last), (is, rests))), (same, none))) =
-    let one = spells_schema s (columns, t) there in
+-- what is read behind an opening may be held, and its bytes are the one spelling
+spells_body : (version : Version) (bytes : List ℕ) (q : Checked) (held : Parts) → body version bytes (Ok ((q, held), [])) → (bytes ≡ body_bytes q held) × AreHeldParts q held × AreWithin version q held
+unfolding body heading rest
+spells_body version bytes q held (found, r, (columns, t, there, told), (these, u, (kept, v, counted, (y, w, (end, last), (is, rests))), (same, none))) =
+    let one = spells_schema bytes (columns, t) there in
     let two = spells_query columns t (found, r) told in
-    let three = spells_parts found r kept (subst (λ l. parts found r (Ok (kept, l))) end counted) in
+    let three = spells_parts version found r kept (subst (λ l. parts version found r (Ok (kept, l))) end counted) in
     let c : List ℕ = sized_bytes (printed found.columns) in
     let m : List ℕ = sized_bytes (spelling (by_names found)) in
     let n : List ℕ = bytes_high_first 2 (length kept) in
     let p : List ℕ = flat_map part_bytes kept in
-    let all : bytes ≡ file_bytes found kept =
-    begins ∙ ap (λ l. opening ++ l) (one ∙ (λ i. sized_bytes (printed (sym two.1 i)) ++ (two.0 ∙ ap (λ l. m ++ l) three.0) i))
-    ∙ sym (append_assoc (opening ++ c ++ m) n p ∙ append_assoc (opening ++ c) m (n ++ p) ∙ append_assoc opening c (m ++ (n ++ p))) in
-    subst (λ (f : Checked × Parts). (bytes ≡ file_bytes f.0 f.1) × AreHeldParts f.0 f.1) (sym (same ∙ (λ i. (found, is i)))) (all, three.1)
+    let all : bytes ≡ body_bytes found kept =
+    one ∙ (λ i. sized_bytes (printed (sym two.1 i)) ++ (two.0 ∙ ap (λ l. m ++ l) three.0) i)
+    ∙ sym (append_assoc (c ++ m) n p ∙ append_assoc c m (n ++ p)) in
+    subst (λ (f : Checked × Parts). (bytes ≡ body_bytes f.0 f.1) × AreHeldParts f.0 f.1 × AreWithin version f.0 f.1) (sym (same ∙ (λ i. (found, is i)))) (all, three.1, three.2)
+
+pub spelled : (version : Version) (bytes : List ℕ) (q : Checked) (held : Parts) → IsSummaryIn version bytes q held → (bytes ≡ file_in version q held) × AreHeldParts q held × AreWithin version q held
+unfolding opened
+spelled version bytes q held (behind, begins, read) =
+    let all = spells_body version behind q held read in
+    (begins ∙ ap (λ rest. opening version ++ rest) all.0, all.1, all.2)

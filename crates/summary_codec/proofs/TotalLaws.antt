@@ -11,7 +11,7 @@ use Rattle.query_checks.specs.Checks.{Checked}
 use Rattle.group_parser.specs.Parsing.{parsing}
 use Rattle.group_parser.specs.declared.error.ParseError.{ParseError}
 use Rattle.group_parser.proofs.ParseLaws.{parses_accepts, parses_refuses}
-use Rattle.summary_codec.specs.File.{opening}
+use Rattle.summary_codec.specs.Versions.{opening}
 use Rattle.summary_codec.specs.Reading.{Outcome, Reader, done, both, must, taken, number, each, columns_in, query_in, opened, ended}
 use Rattle.summary_codec.specs.declared.error.SummaryError.{SummaryError}
 use Rattle.summary_codec.specs.declared.error.SummaryError.TheVariants as fault
@@ -103,7 +103,7 @@ pub some_opened : HasOutcome opened
 unfolding opened
 some_opened bytes are never =
     never (Err NotASummary)
-    ((λ rest is. never (Ok (tt, rest)) is (rest_of opening rest (subst AreBytes is are))), (λ short. never (Err Truncated) short tt)) tt
+    ((λ version rest is. never (Ok (version, rest)) is (rest_of (opening version) rest (subst AreBytes is are))), (λ short. never (Err Truncated) short tt)) tt
 
 pub some_ended : HasOutcome ended
 some_ended [] are never = never (Ok (tt, [])) (refl, refl) are

@@ -27,11 +27,14 @@ use Rattle.group_runs.specs.Standing.{AreGroups}
 use Rattle.hash_agg.specs.Bytes.{run_bytes}
 use Rattle.origin_prefix.specs.Fitting.{FitsOrigin}
 use Rattle.origin_prefix.specs.Held.{IsHeldPart, AreHeldParts}
-use Rattle.origin_prefix.specs.Parts.{IsEarly, IsPartOf}
+use Rattle.origin_prefix.specs.Parts.{Part, IsEarly, IsPartOf}
 use Rattle.origin_prefix.proofs.ByNumber.{found_holds}
-use Rattle.summary_codec.specs.Reading.{IsSummary}
-use Rattle.summary_codec.specs.WorldFile.{world_part, world_file}
-use Rattle.summary_codec.specs.Worlds.{IsKnownOf, world_parts}
+use Rattle.summary_codec.specs.Reading.{IsSummaryIn}
+use Rattle.summary_codec.specs.Versions.{last_number, most_batch_rows, IsBatchWithin, IsWithin, AreWithin}
+use Rattle.summary_codec.specs.WorldFile.{world_part, world_file_in}
+use Rattle.summary_codec.specs.Worlds.{IsKnownOf, IsKnownWithin, world_parts}
+use Rattle.summary_codec.specs.declared.version.Version.{Version}
+use Rattle.summary_codec.specs.declared.version.Version.TheVariants.{Second}
 use Rattle.summary_codec.proofs.RowGroups.{each_mapped, groups_few, groups_rise, groups_stand}
 use Rattle.summary_codec.proofs.TextLaws.{schema_text}
 use Rattle.summary_codec.proofs.WrittenRead.{read_again}
@@ -76,6 +79,21 @@ module _ (ks : List Kind) (world : World) (is : IsWorld ks world) (origin : ℕ)
 
   upto_few : (n : ℕ) → length (rows_upto world origin n) ≤ n * MOST_ROWS
   upto_few n = subst (λ m. length (rows_upto world origin n) ≤ m * MOST_ROWS) (count_length 1 n) (rows_few (count_up 1 n))
+
+-- batches one behind the other, of each of which so many rows are known at most
+few_counted : (world : World) (origin most first n : ℕ) → ((number : ℕ) → first ≤ number → number < first + n → length (batch_rows world origin number) ≤ most)
+    → length (flat_map (batch_rows world origin) (count_up first n)) ≤ length (count_up first n) * most
+few_counted world origin most first zero few = omega arith
+few_counted world origin most first (suc n) few =
+    let one : length (batch_rows world origin first) ≤ most = few first (omega arith) (omega arith) in
+    let rest : length (flat_map (batch_rows world origin) (count_up (first + 1) n)) ≤ length (count_up (first + 1) n) * most =
+    few_counted world origin most (first + 1) n (λ number low high. few number (omega (arith, low)) (omega (arith, high))) in
+    let both : length (batch_rows world origin first ++ flat_map (batch_rows world origin) (count_up (first + 1) n)) ≡ length (batch_rows world origin first) + length (flat_map (batch_rows world origin) (count_up (first + 1) n)) =
+    length-append (batch_rows world origin first) (flat_map (batch_rows world origin) (count_up (first + 1) n)) in
+    sum_low (length (batch_rows world origin first)) (length (flat_map (batch_rows world origin) (count_up (first + 1) n))) _ (length (count_up (first + 1) n)) one rest both
+  where
+    sum_low : (a b c k : ℕ) → a ≤ most → b ≤ k * most → c ≡ a + b → c ≤ suc k * most
+    sum_low a b c k one rest both = let product : suc k * most ≡ most + k * most = refl in omega (arith, one, rest, both, product)
 
 -- ---- batches under their numbers
 
@@ -197,6 +215,53 @@ module _ (query : Checked) (world : World) (known : Knowledge) (is_query : IsChe
         each = each_mapped (IsHeldPart query) (world_part query world known) (origins known) is_held;
       }
 
+  -- within the bounds of a version, if the known batches keep them
+  rows_within : (version : Version) → IsKnownWithin version world known → (origin number : ℕ) → IsTrue (knows known (origin, number)) → (number ≤ last_number version) × (length (batch_rows world origin number) ≤ most_batch_rows version)
+  rows_within version keeps origin number knows_it =
+      let found = known_rows origin number knows_it in
+      let here : batch_rows world origin number ≡ found.0 = ap (λ o. unwrap_or o []) found.1 in
+      let bounds = keeps origin number found.0 knows_it found.1 in
+      (bounds.0, subst (λ (rows : List Row). length rows ≤ most_batch_rows version) (sym here) bounds.1)
+
+  number_within : (version : Version) → IsKnownWithin version world known → (origin : ℕ) → prefix known origin ≤ last_number version
+  number_within version keeps origin =
+      elim (cases_lt 0 (prefix known origin)) [
+        | inl some ↦ (rows_within version keeps origin (prefix known origin) (prefix_unbroken known origin (prefix known origin) (omega (arith, some)) (omega arith))).0
+        | inr none ↦ omega (arith, none)
+      ]
+
+  few_within : (version : Version) → IsKnownWithin version world known → (origin : ℕ) → length (rows_of_prefix origin) ≤ prefix known origin * most_batch_rows version
+  few_within version keeps origin =
+      subst (λ m. length (rows_of_prefix origin) ≤ m * most_batch_rows version) (count_length 1 (prefix known origin))
+      (few_counted world origin (most_batch_rows version) 1 (prefix known origin) (λ number low high. (rows_within version keeps origin number (prefix_unbroken known origin number low (omega (arith, high)))).1))
+
+  part_within : (version : Version) → IsKnownWithin version world known → (origin : ℕ) → IsWithin version query (world_part query world known origin).1
+  part_within version keeps origin =
+      let most : ℕ = prefix known origin * most_batch_rows version in
+      let have : AllByRecursion (HasKinds (kinds query.columns)) (rows_of_prefix origin) = rows_kinds (kinds query.columns) world is_world origin (count_up 1 (prefix known origin)) in
+      let few : length (rows_of_prefix origin) ≤ most = few_within version keeps origin in
+      record {
+        prefix = number_within version keeps origin;
+        run = record {
+          groups = part (meaning query) (rows_of_prefix origin);
+          are = groups_stand (meaning query) most (rows_of_prefix origin) is_query.well_formed have few;
+          rises = groups_rise (meaning query) most (rows_of_prefix origin) is_query.well_formed have few;
+        };
+        few = groups_few (meaning query) most (rows_of_prefix origin) is_query.well_formed have few;
+        early = each_mapped (IsBatchWithin version) (numbered world origin) (early known origin) (λ number listed.
+            let bounds = rows_within version keeps origin number (early_known origin number listed).0 in
+            record { number = bounds.0; rows = subst (λ n. n ≤ most_batch_rows version) (sym (length-map (batch_rows world origin number) packing)) bounds.1 });
+      }
+
+  pub parts_within : (version : Version) → IsKnownWithin version world known → AreWithin version query (world_parts query world known)
+  parts_within version keeps = each_mapped (λ (held : ℕ × Part). IsWithin version query held.1) (world_part query world known) (origins known) (λ origin listed. part_within version keeps origin)
+
   -- the file is read as these parts
-  pub world_read : IsUtf8 (spelling (by_names query)) → IsSummary (world_file query world known) query (world_parts query world known)
-  world_read utf8 = read_again query (world_parts query world known) is_query (schema_text query.columns is_query.columns_are) utf8 are_held
+  pub world_read : (version : Version) → IsKnownWithin version world known → IsUtf8 (spelling (by_names query)) → IsSummaryIn version (world_file_in version query world known) query (world_parts query world known)
+  world_read version keeps utf8 = read_again version query (world_parts query world known) is_query (schema_text query.columns is_query.columns_are) utf8 are_held (parts_within version keeps)
+
+-- each world's batches keep the bounds of the second version
+pub second_keeps : (query : Checked) (world : World) (known : Knowledge) → IsWorld (kinds query.columns) world → IsKnownWithin Second world known
+second_keeps query world known is_world origin number rows knows_it there =
+    let limits = is_world origin number rows there in
+    (limits.2, limits.3)

@@ -13,7 +13,7 @@ use Rattle.grouping_model.specs.Aggregates.{Function, Partial}
 use Rattle.grouping_model.specs.Datum.{Kind, Row, HasKinds}
 use Rattle.grouping_model.specs.Grouping.{Group}
 use Rattle.grouping_model.specs.Query.{Query}
-use Rattle.grouping_model.specs.declared.limits.TheConstants.{LAST_NUMBER, LAST_ORIGIN, MOST_ROWS, MOST_COLUMNS}
+use Rattle.grouping_model.specs.declared.limits.TheConstants.{LAST_ORIGIN, MOST_COLUMNS}
 use Rattle.packed_rows.specs.Packing.{packing}
 use Rattle.batch_reader.specs.Rows.{packings}
 use Rattle.packed_rows.specs.Columns.{Column, kinds, printed, AreColumns}
@@ -33,12 +33,15 @@ use Rattle.group_runs.specs.Runs.{Entry, Rises, packed_keys}
 use Rattle.group_runs.specs.Standing.{AreGroups}
 use Rattle.origin_prefix.specs.Parts.{Part, IsEarly, IsPartOf}
 use Rattle.origin_prefix.specs.Held.{Parts, IsHeldPart, AreHeldParts}
-use Rattle.summary_codec.specs.File.{opening, sized_bytes, group_bytes, batch_bytes, part_bytes, file_bytes}
+use Rattle.summary_codec.specs.File.{sized_bytes, group_bytes, batch_bytes, part_bytes, body_bytes, file_in}
 use Rattle.summary_codec.specs.Short.{IsShort, IsShortPart}
-use Rattle.summary_codec.specs.Reading.{IsNext, IsPacking, AreStateBytes, states_width, MayFollow, group, row, batch, batches, contents, part, text, schema, query, parts, heading, rest, opened, summary, IsSummary}
+use Rattle.summary_codec.specs.Reading.{IsNext, IsPacking, AreStateBytes, states_width, MayFollow, group, row, batch, batches, contents, part, text, schema, query, parts, heading, rest, opened, body, IsSummaryIn}
+use Rattle.summary_codec.specs.Versions.{opening, last_number, most_batch_rows, IsBatchWithin, IsWithin, AreWithin}
+use Rattle.summary_codec.specs.declared.version.Version.{Version}
 use Rattle.summary_codec.proofs.GroupLaws.{width_by_functions}
 use Rattle.summary_codec.proofs.LengthLaws.{short_packing, short_part, few_key_kinds, few_parts, short_schema}
 use Rattle.summary_codec.proofs.RisingLaws.{next_of}
+use Rattle.summary_codec.proofs.VersionLaws.{number_fits, rows_fit}
 use Rattle.summary_codec.proofs.ReaderLaws.{AreRight, read_number, read_within, read_sized, read_each}
 
 -- ---- groups
@@ -101,98 +104,96 @@ rows_next ks [] before few has = tt
 rows_next ks (r ∷ rows) before few has = (((r, has.0, refl), short_packing ks r few has.0), rows_next ks rows (before ++ packing r ∷ []) few has.1)
 
 -- a batch may stand behind others in a file
-pub record IsBatchNext (ks : List Kind) (prefix : ℕ) (before : List (ℕ × List (List ℕ))) (b : ℕ × List (List ℕ)) : Type 0 where
+pub record IsBatchNext (version : Version) (ks : List Kind) (prefix : ℕ) (before : List (ℕ × List (List ℕ))) (b : ℕ × List (List ℕ)) : Type 0 where
   pub follows : MayFollow prefix before b.0
-  pub within : b.0 ≤ LAST_NUMBER
-  pub few : length b.1 ≤ MOST_ROWS
+  pub within : IsBatchWithin version b
   pub rows : AreRight (λ _ packed. IsPacking ks packed × IsShort packed) [] b.1
 
-read_batch : (ks : List Kind) (prefix : ℕ) (before : List (ℕ × List (List ℕ))) (b : ℕ × List (List ℕ)) (behind : List ℕ) → IsBatchNext ks prefix before b → batch ks prefix before (batch_bytes b ++ behind) (Ok (b, behind))
+read_batch : (version : Version) (ks : List Kind) (prefix : ℕ) (before : List (ℕ × List (List ℕ))) (b : ℕ × List (List ℕ)) (behind : List ℕ) → IsBatchNext version ks prefix before b
+    → batch version ks prefix before (batch_bytes b ++ behind) (Ok (b, behind))
 unfolding batch
-read_batch ks prefix before b behind is =
+read_batch version ks prefix before b behind is =
     let n : List ℕ = bytes_high_first 4 b.0 in
     let m : List ℕ = bytes_high_first 4 (length b.1) in
     let rows : List ℕ = flat_map sized_bytes b.1 in
-    let within = is.within in
-    let few = is.few in
-    subst (λ bytes. batch ks prefix before bytes (Ok (b, behind))) (sym (append_assoc (n ++ m) rows behind ∙ append_assoc n m (rows ++ behind))) (
+    subst (λ bytes. batch version ks prefix before bytes (Ok (b, behind))) (sym (append_assoc (n ++ m) rows behind ∙ append_assoc n m (rows ++ behind))) (
       b.0,
       m ++ (rows ++ behind),
-      read_within 4 LAST_NUMBER b.0 (m ++ (rows ++ behind)) (omega (arith, within)) is.within,
+      read_within 4 (last_number version) b.0 (m ++ (rows ++ behind)) (number_fits version b.0 is.within.number) is.within.number,
       (
         is.follows,
         (
           length b.1,
           rows ++ behind,
-          read_within 4 MOST_ROWS (length b.1) (rows ++ behind) (omega (arith, few)) is.few,
+          read_within 4 (most_batch_rows version) (length b.1) (rows ++ behind) (rows_fit version (length b.1) is.within.rows) is.within.rows,
           (b.1, behind, read_each (row ks) sized_bytes (λ _ packed. IsPacking ks packed × IsShort packed) (read_row ks) b.1 [] behind is.rows, (refl, refl)),
         ),
       ),
     )
 
-batches_next : (ks : List Kind) (prefix : ℕ) (early before : List (ℕ × List (List ℕ))) → length ks ≤ MOST_COLUMNS → AllByRecursion (IsEarly ks prefix) early → IsStrictlySortedBy nat_cmp (map (λ (b : ℕ × List (List ℕ)). b.0) (before ++ early))
-    → AreRight (IsBatchNext ks prefix) before early
-batches_next ks prefix [] before few all rising = tt
-batches_next ks prefix (b ∷ early) before few all rising =
+batches_next : (version : Version) (ks : List Kind) (prefix : ℕ) (early before : List (ℕ × List (List ℕ))) → length ks ≤ MOST_COLUMNS → AllByRecursion (IsEarly ks prefix) early → AllByRecursion (IsBatchWithin version) early
+    → IsStrictlySortedBy nat_cmp (map (λ (b : ℕ × List (List ℕ)). b.0) (before ++ early)) → AreRight (IsBatchNext version ks prefix) before early
+batches_next version ks prefix [] before few all within rising = tt
+batches_next version ks prefix (b ∷ early) before few all within rising =
     let keys = λ (x : ℕ × List (List ℕ)). x.0 in (
       record {
         follows = (all.0.behind, next_of nat_cmp (map keys before) b.0 (map keys early) (subst (IsStrictlySortedBy nat_cmp) (map-append keys before (b ∷ early)) rising));
-        within = all.0.within;
-        few = all.0.rows.few;
+        within = within.0;
         rows = subst (AreRight (λ _ packed. IsPacking ks packed × IsShort packed) []) (sym all.0.rows.packings_are) (rows_next ks all.0.rows.rows [] few (recursion_from_All (HasKinds ks) all.0.rows.rows all.0.rows.of_kinds));
       },
-      batches_next ks prefix early (before ++ b ∷ []) few all.1 (subst (λ es. IsStrictlySortedBy nat_cmp (map keys es)) (sym (append_assoc before (b ∷ []) early)) rising),
+      batches_next version ks prefix early (before ++ b ∷ []) few all.1 within.1 (subst (λ es. IsStrictlySortedBy nat_cmp (map keys es)) (sym (append_assoc before (b ∷ []) early)) rising),
     )
 
-read_batches : (ks : List Kind) (prefix : ℕ) (early : List (ℕ × List (List ℕ))) (behind : List ℕ) → length early < 256 ^ 4 → (0 < prefix) ⊎ (0 < length early) → AreRight (IsBatchNext ks prefix) [] early
-    → batches ks prefix (bytes_high_first 4 (length early) ++ (flat_map batch_bytes early ++ behind)) (Ok (early, behind))
+read_batches : (version : Version) (ks : List Kind) (prefix : ℕ) (early : List (ℕ × List (List ℕ))) (behind : List ℕ) → length early < 256 ^ 4 → (0 < prefix) ⊎ (0 < length early) → AreRight (IsBatchNext version ks prefix) [] early
+    → batches version ks prefix (bytes_high_first 4 (length early) ++ (flat_map batch_bytes early ++ behind)) (Ok (early, behind))
 unfolding batches
-read_batches ks prefix early behind few some are = (
+read_batches version ks prefix early behind few some are = (
   length early,
   flat_map batch_bytes early ++ behind,
   read_number 4 (length early) (flat_map batch_bytes early ++ behind) few,
-  (some, read_each (batch ks prefix) batch_bytes (IsBatchNext ks prefix) (read_batch ks prefix) early [] behind are),
+  (some, read_each (batch version ks prefix) batch_bytes (IsBatchNext version ks prefix) (read_batch version ks prefix) early [] behind are),
 )
 
 -- ---- parts
 
-read_contents : (q : Checked) (p : Part) (behind : List ℕ) → IsCheckedQuery q → IsPartOf q p → (0 < p.prefix) ⊎ (0 < length p.early)
-    → contents q p.prefix (bytes_high_first 8 (length p.run) ++ (flat_map group_bytes p.run ++ (bytes_high_first 4 (length p.early) ++ (flat_map batch_bytes p.early ++ behind)))) (Ok (p, behind))
+read_contents : (version : Version) (q : Checked) (p : Part) (behind : List ℕ) → IsCheckedQuery q → IsPartOf q p → IsWithin version q p → (0 < p.prefix) ⊎ (0 < length p.early)
+    → contents version q p.prefix (bytes_high_first 8 (length p.run) ++ (flat_map group_bytes p.run ++ (bytes_high_first 4 (length p.early) ++ (flat_map batch_bytes p.early ++ behind)))) (Ok (p, behind))
 unfolding contents
-read_contents q p behind is_query is some =
+read_contents version q p behind is_query is within some =
     let short : IsShortPart p = short_part q p is_query is in
-    let most = p.prefix * MOST_ROWS in
+    let most : ℕ = p.prefix * most_batch_rows version in
     let columns : length (kinds q.columns) ≤ MOST_COLUMNS = subst (λ n. n ≤ MOST_COLUMNS) (sym (length-map q.columns (λ (c : Column). c.kind))) is_query.columns_are.most in
     let early : List ℕ = bytes_high_first 4 (length p.early) ++ (flat_map batch_bytes p.early ++ behind) in (
       length p.run,
       flat_map group_bytes p.run ++ early,
-      read_within 8 most (length p.run) (flat_map group_bytes p.run ++ early) short.few_groups is.few,
+      read_within 8 most (length p.run) (flat_map group_bytes p.run ++ early) short.few_groups within.few,
       (
         p.run,
         early,
         read_each (group (meaning q) most) group_bytes (IsGroupNext (meaning q) most) (read_group (meaning q) most) p.run [] early
-            (groups_next (meaning q) most p.run is.run.groups [] (few_key_kinds q is_query) is.run.are is.run.rises),
+            (groups_next (meaning q) most p.run within.run.groups [] (few_key_kinds q is_query) within.run.are within.run.rises),
         (
           p.early,
           behind,
-          read_batches (kinds q.columns) p.prefix p.early behind short.few_batches some (batches_next (kinds q.columns) p.prefix p.early [] columns is.early is.rising),
+          read_batches version (kinds q.columns) p.prefix p.early behind short.few_batches some (batches_next version (kinds q.columns) p.prefix p.early [] columns is.early within.early is.rising),
           (refl, refl),
         ),
       ),
     )
 
 -- a part may stand behind others in a file
-pub record IsPartNext (q : Checked) (before : Parts) (held : ℕ × Part) : Type 0 where
+pub record IsPartNext (version : Version) (q : Checked) (before : Parts) (held : ℕ × Part) : Type 0 where
   pub above : IsNext nat_cmp (map (λ (p : ℕ × Part). p.0) before) held.0
   pub is : IsHeldPart q held
+  pub within : IsWithin version q held.1
 
 some_batches : {X : Type 0} (xs : List X) → xs ≢ [] → 0 < length xs
 some_batches [] some = absurd (some refl)
 some_batches (x ∷ xs) some = omega arith
 
-read_part : (q : Checked) → IsCheckedQuery q → (before : Parts) (held : ℕ × Part) (behind : List ℕ) → IsPartNext q before held → part q before (part_bytes held ++ behind) (Ok (held, behind))
+read_part : (version : Version) (q : Checked) → IsCheckedQuery q → (before : Parts) (held : ℕ × Part) (behind : List ℕ) → IsPartNext version q before held → part version q before (part_bytes held ++ behind) (Ok (held, behind))
 unfolding part part_bytes
-read_part q is_query before held behind is =
+read_part version q is_query before held behind is =
     let p = held.1 in
     let o : List ℕ = bytes_high_first 2 held.0 in
     let f : List ℕ = bytes_high_first 4 p.prefix in
@@ -201,9 +202,8 @@ read_part q is_query before held behind is =
     let m : List ℕ = bytes_high_first 4 (length p.early) in
     let e : List ℕ = flat_map batch_bytes p.early in
     let low = is.is.within in
-    let within = is.is.part.within in
     let rest : List ℕ = n ++ (g ++ (m ++ (e ++ behind))) in
-    subst (λ bytes. part q before bytes (Ok (held, behind)))
+    subst (λ bytes. part version q before bytes (Ok (held, behind)))
     (sym (append_assoc (o ++ f ++ n ++ g ++ m) e behind ∙ append_assoc (o ++ f ++ n ++ g) m (e ++ behind) ∙ append_assoc (o ++ f ++ n) g (m ++ (e ++ behind)) ∙ append_assoc (o ++ f) n (g ++ (m ++ (e ++ behind))) ∙ append_assoc o f rest)) (
       held.0,
       f ++ rest,
@@ -213,8 +213,8 @@ read_part q is_query before held behind is =
         (
           p.prefix,
           rest,
-          read_within 4 LAST_NUMBER p.prefix rest (omega (arith, within)) is.is.part.within,
-          (p, behind, read_contents q p behind is_query is.is.part (some is.is.some), (refl, refl)),
+          read_within 4 (last_number version) p.prefix rest (number_fits version p.prefix is.within.prefix) is.within.prefix,
+          (p, behind, read_contents version q p behind is_query is.is.part is.within (some is.is.some), (refl, refl)),
         ),
       ),
     )
@@ -223,22 +223,24 @@ read_part q is_query before held behind is =
     some (inl low) = inl low
     some (inr there) = inr (some_batches held.1.early there)
 
-parts_next : (q : Checked) (held before : Parts) → AllByRecursion (IsHeldPart q) held → IsStrictlySortedBy nat_cmp (map (λ (p : ℕ × Part). p.0) (before ++ held)) → AreRight (IsPartNext q) before held
-parts_next q [] before all rising = tt
-parts_next q (p ∷ held) before all rising =
+parts_next : (version : Version) (q : Checked) (held before : Parts) → AllByRecursion (IsHeldPart q) held → AreWithin version q held → IsStrictlySortedBy nat_cmp (map (λ (p : ℕ × Part). p.0) (before ++ held))
+    → AreRight (IsPartNext version q) before held
+parts_next version q [] before all within rising = tt
+parts_next version q (p ∷ held) before all within rising =
     let keys = λ (x : ℕ × Part). x.0 in (
-      record { above = next_of nat_cmp (map keys before) p.0 (map keys held) (subst (IsStrictlySortedBy nat_cmp) (map-append keys before (p ∷ held)) rising); is = all.0 },
-      parts_next q held (before ++ p ∷ []) all.1 (subst (λ ps. IsStrictlySortedBy nat_cmp (map keys ps)) (sym (append_assoc before (p ∷ []) held)) rising),
+      record { above = next_of nat_cmp (map keys before) p.0 (map keys held) (subst (IsStrictlySortedBy nat_cmp) (map-append keys before (p ∷ held)) rising); is = all.0; within = within.0 },
+      parts_next version q held (before ++ p ∷ []) all.1 within.1 (subst (λ ps. IsStrictlySortedBy nat_cmp (map keys ps)) (sym (append_assoc before (p ∷ []) held)) rising),
     )
 
-read_parts : (q : Checked) (held : Parts) (behind : List ℕ) → IsCheckedQuery q → AreHeldParts q held → parts q (bytes_high_first 2 (length held) ++ (flat_map part_bytes held ++ behind)) (Ok (held, behind))
+read_parts : (version : Version) (q : Checked) (held : Parts) (behind : List ℕ) → IsCheckedQuery q → AreHeldParts q held → AreWithin version q held
+    → parts version q (bytes_high_first 2 (length held) ++ (flat_map part_bytes held ++ behind)) (Ok (held, behind))
 unfolding parts
-read_parts q held behind is_query are =
+read_parts version q held behind is_query are within =
     let few = few_parts q held are in (
       length held,
       flat_map part_bytes held ++ behind,
       read_within 2 (LAST_ORIGIN + 1) (length held) (flat_map part_bytes held ++ behind) (omega (arith, few)) few,
-      read_each (part q) part_bytes (IsPartNext q) (read_part q is_query) held [] behind (parts_next q held [] are.each are.rising),
+      read_each (part version q) part_bytes (IsPartNext version q) (read_part version q is_query) held [] behind (parts_next version q held [] are.each within are.rising),
     )
 
 -- ---- the whole file
@@ -259,23 +261,30 @@ read_query q behind is utf8 =
     let short = accepts.short in
     (spelling (by_names q), behind, read_text (spelling (by_names q)) behind (omega (arith, short)) utf8, (q, behind, (accepts, refl), (refl, (refl, refl))))
 
--- the file of a query whose texts are UTF-8, and of what is held for it, is read as these
-pub read_again : (q : Checked) (held : Parts) → IsCheckedQuery q → IsUtf8 (printed q.columns) → IsUtf8 (spelling (by_names q)) → AreHeldParts q held → IsSummary (file_bytes q held) q held
-unfolding summary heading rest opened
-read_again q held is columns spelled are =
+-- what stands behind the opening of the file of a query whose texts are UTF-8, and of what is held for it within a version's bounds, is read
+-- as these
+pub body_again : (version : Version) (q : Checked) (held : Parts) → IsCheckedQuery q → IsUtf8 (printed q.columns) → IsUtf8 (spelling (by_names q)) → AreHeldParts q held → AreWithin version q held
+    → body version (body_bytes q held) (Ok ((q, held), []))
+unfolding body heading rest
+body_again version q held is columns spelled are within =
     let c : List ℕ = sized_bytes (printed q.columns) in
     let t : List ℕ = sized_bytes (spelling (by_names q)) in
     let n : List ℕ = bytes_high_first 2 (length held) in
     let p : List ℕ = flat_map part_bytes held in
-    subst (λ bytes. IsSummary bytes q held)
-    (sym (append_assoc (opening ++ c ++ t) n p ∙ append_assoc (opening ++ c) t (n ++ p) ∙ append_assoc opening c (t ++ (n ++ p)))) (
+    subst (λ bytes. body version bytes (Ok ((q, held), [])))
+    (sym (append_assoc (c ++ t) n p ∙ append_assoc c t (n ++ p))) (
       q,
       n ++ p,
-      (tt, c ++ (t ++ (n ++ p)), refl, (q.columns, t ++ (n ++ p), read_schema q.columns (t ++ (n ++ p)) is.columns_are columns, read_query q (n ++ p) is spelled)),
+      (q.columns, t ++ (n ++ p), read_schema q.columns (t ++ (n ++ p)) is.columns_are columns, read_query q (n ++ p) is spelled),
       (
         held,
         [],
-        (held, [], subst (λ bytes. parts q bytes (Ok (held, []))) (ap (λ r. n ++ r) (append-nil p)) (read_parts q held [] is are), (tt, [], (refl, refl), (refl, refl))),
+        (held, [], subst (λ bytes. parts version q bytes (Ok (held, []))) (ap (λ r. n ++ r) (append-nil p)) (read_parts version q held [] is are within), (tt, [], (refl, refl), (refl, refl))),
         (refl, refl),
       ),
     )
+
+pub read_again : (version : Version) (q : Checked) (held : Parts) → IsCheckedQuery q → IsUtf8 (printed q.columns) → IsUtf8 (spelling (by_names q)) → AreHeldParts q held → AreWithin version q held
+    → IsSummaryIn version (file_in version q held) q held
+unfolding opened
+read_again version q held is columns spelled are within = (body_bytes q held, refl, body_again version q held is columns spelled are within)

@@ -1,6 +1,7 @@
--- Summary files: the bytes of a query and of what is held of some origins. There is one spelling of each, and the layout is our own.
+-- Summary files: the bytes of a query and of what is held of some origins. There is one spelling of each in each version, and the layout is
+-- our own.
 -- Numbers are unsigned, their highest byte first.
-use Rattle.std.specs.Prelude.{ℕ, List, ◌++◌, length, flat_map, codes}
+use Rattle.std.specs.Prelude.{ℕ, List, ◌++◌, length, flat_map}
 use Rattle.std.specs.Int.{bytes_high_first}
 use Rattle.packed_rows.specs.Columns.{printed}
 use Rattle.having_filter.specs.Kept.{by_names}
@@ -9,10 +10,9 @@ use Rattle.query_checks.specs.Spelling.{spelling}
 use Rattle.group_runs.specs.Runs.{Entry}
 use Rattle.origin_prefix.specs.Parts.{Part}
 use Rattle.origin_prefix.specs.Held.{Parts}
-
--- what each file begins with
-abbrev pub opening : List ℕ
-opening = codes "AGGSUM01"
+use Rattle.summary_codec.specs.Versions.{opening}
+use Rattle.summary_codec.specs.declared.version.Version.{Version}
+use Rattle.summary_codec.specs.declared.version.Version.TheVariants.{Second}
 
 -- bytes behind their length, which has two bytes
 abbrev pub sized_bytes : List ℕ → List ℕ
@@ -34,11 +34,18 @@ part_bytes held =
     ++ bytes_high_first 8 (length held.1.run) ++ flat_map group_bytes held.1.run
     ++ bytes_high_first 4 (length held.1.early) ++ flat_map batch_bytes held.1.early
 
--- a file: what each begins with, the canonical texts of the schema and of the query, how many origins there are, and what is held of
--- each
-abbrev pub file_bytes : Checked → Parts → List ℕ
-file_bytes query parts =
-    opening
-    ++ sized_bytes (printed query.columns)
+-- what stands behind a file's opening: the canonical texts of the schema and of the query, how many origins there are, and what is held
+-- of each
+abbrev pub body_bytes : Checked → Parts → List ℕ
+body_bytes query parts =
+    sized_bytes (printed query.columns)
     ++ sized_bytes (spelling (by_names query))
     ++ bytes_high_first 2 (length parts) ++ flat_map part_bytes parts
+
+-- a file of a version, which its opening alone tells
+abbrev pub file_in : Version → Checked → Parts → List ℕ
+file_in version query parts = opening version ++ body_bytes query parts
+
+-- the file that is written
+abbrev pub file_bytes : Checked → Parts → List ℕ
+file_bytes = file_in Second

@@ -1,3 +1,4 @@
+pub mod Versions
 pub mod File
 pub mod Short
 pub mod Reading

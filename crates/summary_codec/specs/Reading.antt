@@ -1,5 +1,4 @@
--- What bytes read as, from the left: a query and what is held of some origins, or the first fault. The bounds and the order of the
--- faults are our own.
+-- What bytes read as, from the left: a query and what is held of some origins, or the first fault. The order of the faults is our own.
 use Rattle.std.specs.Prelude.{◌≡◌, ◌≢◌, ℕ, zero, suc, ◌+◌, ◌-◌, ◌*◌, ◌^◌, ◌<◌, ◌≤◌, ◌⊎◌, List, [], ◌∷◌, ◌++◌, map, length, slice_get, IfSome, Result, Ok, Err, IsUtf8}
 use Rattle.std.specs.Int.{bytes_high_first}
 use Rattle.std.specs.Cmp.Lexicographic.{slice_cmp}
@@ -10,7 +9,7 @@ use Rattle.grouping_model.specs.Aggregates.{Partial}
 use Rattle.grouping_model.specs.Datum.{Kind, Row, HasKinds}
 use Rattle.grouping_model.specs.Parts.{functions}
 use Rattle.grouping_model.specs.Query.{Query}
-use Rattle.grouping_model.specs.declared.limits.TheConstants.{LAST_NUMBER, LAST_ORIGIN, MOST_ROWS}
+use Rattle.grouping_model.specs.declared.limits.TheConstants.{LAST_ORIGIN}
 use Rattle.packed_rows.specs.Columns.{Column, kinds, printed, IsSchemaText}
 use Rattle.packed_rows.specs.Packing.{packing}
 use Rattle.having_filter.specs.Kept.{by_names, key_kinds}
@@ -24,7 +23,9 @@ pub use Rattle.group_runs.specs.Standing.{states_width}
 use Rattle.group_runs.specs.Standing.{AreStates}
 use Rattle.origin_prefix.specs.Parts.{Part}
 use Rattle.origin_prefix.specs.Held.{Parts}
-use Rattle.summary_codec.specs.File.{opening}
+use Rattle.summary_codec.specs.Versions.{opening, last_number, most_batch_rows}
+use Rattle.summary_codec.specs.declared.version.Version.{Version}
+use Rattle.summary_codec.specs.declared.version.Version.TheVariants.{Second}
 use Rattle.summary_codec.specs.declared.error.SummaryError.{SummaryError}
 use Rattle.summary_codec.specs.declared.error.SummaryError.TheVariants.{NotASummary, Truncated, Trailing, NotCanonical, OutOfRange, BadSchema, BadPacked, BadState}
 use Rattle.summary_codec.specs.declared.error.SummaryError.TheVariants as fault
@@ -110,36 +111,36 @@ abbrev pub MayFollow : ℕ → List (ℕ × List (List ℕ)) → ℕ → Type 0
 MayFollow prefix before n = (prefix + 1 < n) × IsNext nat_cmp (map (λ (batch : ℕ × List (List ℕ)). batch.0) before) n
 
 -- an early batch behind others
-unfoldable pub batch : List Kind → ℕ → List (ℕ × List (List ℕ)) → Reader (ℕ × List (List ℕ))
-batch kinds prefix before =
-    number_within 4 LAST_NUMBER >>= λ n.
+unfoldable pub batch : Version → List Kind → ℕ → List (ℕ × List (List ℕ)) → Reader (ℕ × List (List ℕ))
+batch version kinds prefix before =
+    number_within 4 (last_number version) >>= λ n.
     must (MayFollow prefix before n) NotCanonical
-    (number_within 4 MOST_ROWS >>= λ rows.
+    (number_within 4 (most_batch_rows version) >>= λ rows.
     each (row kinds) rows [] >>= λ packed.
     done (n, packed))
 
 -- the early batches behind a prefix, which are there where the prefix is 0
-unfoldable pub batches : List Kind → ℕ → Reader (List (ℕ × List (List ℕ)))
-batches kinds prefix =
+unfoldable pub batches : Version → List Kind → ℕ → Reader (List (ℕ × List (List ℕ)))
+batches version kinds prefix =
     number 4 >>= λ count.
     must ((0 < prefix) ⊎ (0 < count)) NotCanonical
-    (each (batch kinds prefix) count [])
+    (each (batch version kinds prefix) count [])
 
 -- the groups of a prefix, and the early batches behind it
-unfoldable pub contents : Checked → ℕ → Reader Part
-contents query prefix =
-    number_within 8 (prefix * MOST_ROWS) >>= λ groups.
-    each (group (meaning query) (prefix * MOST_ROWS)) groups [] >>= λ run.
-    batches (kinds query.columns) prefix >>= λ early.
+unfoldable pub contents : Version → Checked → ℕ → Reader Part
+contents version query prefix =
+    number_within 8 (prefix * most_batch_rows version) >>= λ groups.
+    each (group (meaning query) (prefix * most_batch_rows version)) groups [] >>= λ run.
+    batches version (kinds query.columns) prefix >>= λ early.
     done (record { prefix = prefix; run = run; early = early })
 
 -- what is held of an origin behind others
-unfoldable pub part : Checked → Parts → Reader (ℕ × Part)
-part query before =
+unfoldable pub part : Version → Checked → Parts → Reader (ℕ × Part)
+part version query before =
     number_within 2 LAST_ORIGIN >>= λ origin.
     must (IsNext nat_cmp (map (λ (held : ℕ × Part). held.0) before) origin) NotCanonical
-    (number_within 4 LAST_NUMBER >>= λ prefix.
-    contents query prefix >>= λ held.
+    (number_within 4 (last_number version) >>= λ prefix.
+    contents version query prefix >>= λ held.
     done (origin, held))
 
 -- the columns that a text says
@@ -164,15 +165,15 @@ schema = text >>= λ bytes. columns_in bytes >>= λ columns. must (printed colum
 unfoldable pub query : List Column → Reader Checked
 query columns = text >>= λ bytes. query_in columns bytes >>= λ found. must (spelling (by_names found) ≡ bytes) NotCanonical (done found)
 
--- bytes are cut short within what each file begins with
+-- bytes are cut short within what a file of some version begins with
 abbrev pub IsCutShort : List ℕ → Type 0
-IsCutShort bytes = (more : List ℕ) × (more ≢ []) × (opening ≡ bytes ++ more)
+IsCutShort bytes = (version : Version) × (more : List ℕ) × (more ≢ []) × (opening version ≡ bytes ++ more)
 
--- what each file begins with
-unfoldable pub opened : Reader (Unit {0})
-opened bytes (Ok found) = bytes ≡ opening ++ found.1
+-- what a file begins with, which tells its version
+unfoldable pub opened : Reader Version
+opened bytes (Ok found) = bytes ≡ opening found.0 ++ found.1
 opened bytes (Err Truncated) = IsCutShort bytes
-opened bytes (Err NotASummary) = ((rest : List ℕ) → bytes ≢ opening ++ rest) × (¬ (IsCutShort bytes))
+opened bytes (Err NotASummary) = ((version : Version) (rest : List ℕ) → bytes ≢ opening version ++ rest) × (¬ (IsCutShort bytes))
 opened bytes (Err e) = ⊥
 
 -- nothing follows
@@ -181,24 +182,36 @@ ended bytes (Ok found) = (bytes ≡ []) × (found.1 ≡ [])
 ended bytes (Err e) = (bytes ≢ []) × (e ≡ Trailing)
 
 -- what is held of all origins
-unfoldable pub parts : Checked → Reader Parts
-parts found = number_within 2 (LAST_ORIGIN + 1) >>= λ origins. each (part found) origins []
+unfoldable pub parts : Version → Checked → Reader Parts
+parts version found = number_within 2 (LAST_ORIGIN + 1) >>= λ origins. each (part version found) origins []
 
--- what each file begins with, the schema and the query
+-- the schema and the query
 unfoldable pub heading : Reader Checked
-heading = opened >>= λ _. schema >>= λ columns. query columns
+heading = schema >>= λ columns. query columns
 
 -- what is held of all origins, and nothing behind it
-unfoldable pub rest : Checked → Reader Parts
-rest found = parts found >>= λ held. ended >>= λ _. done held
+unfoldable pub rest : Version → Checked → Reader Parts
+rest version found = parts version found >>= λ held. ended >>= λ _. done held
+
+-- what stands behind the opening of a file
+unfoldable pub body : Version → Reader (Checked × Parts)
+body version = heading >>= λ found. rest version found >>= λ held. done (found, held)
 
 -- a whole file
 unfoldable pub summary : Reader (Checked × Parts)
-summary = heading >>= λ found. rest found >>= λ held. done (found, held)
+summary = opened >>= λ version. body version
 
--- bytes are a summary file of a query and parts
+-- bytes are a summary file of a version, of a query and parts
+abbrev pub IsSummaryIn : Version → List ℕ → Checked → Parts → Type 0
+IsSummaryIn version bytes query parts = (behind : List ℕ) × opened bytes (Ok (version, behind)) × body version behind (Ok ((query, parts), []))
+
+-- they are one of any version, as files are read
 abbrev pub IsSummary : List ℕ → Checked → Parts → Type 0
-IsSummary bytes query parts = summary bytes (Ok ((query, parts), []))
+IsSummary bytes query parts = (version : Version) × IsSummaryIn version bytes query parts
+
+-- they are one of the second version, as files are written
+abbrev pub IsSaved : List ℕ → Checked → Parts → Type 0
+IsSaved = IsSummaryIn Second
 
 -- bytes are none, by their first fault
 abbrev pub HasFault : List ℕ → SummaryError → Type 0

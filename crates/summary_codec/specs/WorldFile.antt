@@ -8,7 +8,9 @@ use Rattle.query_checks.specs.Checks.{Checked}
 use Rattle.having_filter.specs.Meaning.{meaning}
 use Rattle.hash_agg.specs.Bytes.{run_bytes}
 use Rattle.origin_prefix.specs.Parts.{Part}
-use Rattle.summary_codec.specs.File.{file_bytes}
+use Rattle.summary_codec.specs.File.{file_in}
+use Rattle.summary_codec.specs.declared.version.Version.{Version}
+use Rattle.summary_codec.specs.declared.version.Version.TheVariants.{Second}
 
 -- what is known of an origin: its unbroken prefix, the bytes of the groups of the prefix's rows, and its early batches
 abbrev pub world_part : Checked → World → Knowledge → ℕ → ℕ × Part
@@ -21,6 +23,10 @@ world_part query world known origin = (
   },
 )
 
--- the file of these, by rising origin
+-- the file of these, by rising origin, in a version
+abbrev pub world_file_in : Version → Checked → World → Knowledge → List ℕ
+world_file_in version query world known = file_in version query (map (world_part query world known) (origins known))
+
+-- the file of these that is written
 abbrev pub world_file : Checked → World → Knowledge → List ℕ
-world_file query world known = file_bytes query (map (world_part query world known) (origins known))
+world_file = world_file_in Second

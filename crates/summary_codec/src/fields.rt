@@ -1,15 +1,14 @@
 //! Fields of a summary file, from the left.
 
-ghost use Rattle.std.specs.Prelude.{◌≡◌, ◌≤◌, ◌<◌, ◌^◌, ℕ, List, length, Ok, Err, IfOk, IfErr, OnOk};
+ghost use Rattle.std.specs.Prelude.{◌≡◌, ◌≢◌, ◌≤◌, ◌<◌, ◌^◌, ◌++◌, ◌↔◌, ℕ, List, true, false, length, Ok, Err, IfOk, IfErr, OnOk, IsTrue};
 ghost use Rattle.std.specs.Int.{bytes_high_first};
 ghost use Rattle.summary_codec.specs.Reading.{taken, number, number_within, sized, ended, opened};
+ghost use Rattle.summary_codec.specs.Versions.{opening};
 
 use crate::error::SummaryError;
+use crate::version::Version;
 use byteorder::{BigEndian, ByteOrder};
 use std::marker::Model;
-
-/// What each file begins with.
-pub(crate) const OPENING: &[u8] = b"AGGSUM01";
 
 /// The bytes that are still to be read.
 #[derive(Drop)]
@@ -91,17 +90,43 @@ impl<'a> Fields<'a> {
         self.take(length as usize)
     }
 
-    /// What each file begins with.
-    #[tactic(auto, unfolding(crate::specs::Reading::opened), using(crate::proofs::FieldLaws::cut_short, crate::proofs::FieldLaws::no_opening))]
-    pub(crate) fn open(&mut self) -> Result<(), SummaryError>
-        ensures opened { OnOk result (opened self.old (Ok (tt, self.new))) }
+    /// Whether what a file of a version begins with is there. If so, it is taken.
+    fn opens(&mut self, version: Version) -> bool
+        ensures opens { result ≡ true → self.old ≡ opening version ++ self.new }
+        ensures other { result ≡ false → (self.new ≡ self.old)
+            × ((rest : List ℕ) → self.old ≢ opening version ++ rest) }
+    {
+        match self.left.strip_prefix(version.opening()) {
+            Some(rest) => {
+                self.left = rest;
+                true
+            }
+            None => false,
+        }
+    }
+
+    /// Whether a file of a version may go on behind these bytes, which are the front of what it begins with.
+    fn is_front(&self, version: Version) -> bool
+        ensures { IsTrue result ↔ ((more : List ℕ) × (opening version ≡ self.now ++ more)) }
+    {
+        version.opening().starts_with(self.left)
+    }
+
+    /// What a file begins with, which tells its version.
+    pub(crate) fn open(&mut self) -> Result<Version, SummaryError>
+        ensures opened { IfOk result (λ version. opened self.old (Ok (version, self.new))) }
         ensures fault { IfErr result (λ e. opened self.old (Err e)) }
     {
-        if let Some(rest) = self.left.strip_prefix(OPENING) {
-            self.left = rest;
-            return Ok(());
+        if self.opens(Version::Second) {
+            return Ok(Version::Second);
         }
-        if OPENING.starts_with(self.left) {
+        if self.opens(Version::First) {
+            return Ok(Version::First);
+        }
+        if self.is_front(Version::Second) {
+            return Err(SummaryError::Truncated);
+        }
+        if self.is_front(Version::First) {
             return Err(SummaryError::Truncated);
         }
         Err(SummaryError::NotASummary)

@@ -1,28 +1,52 @@
 //! Laws of summary files.
 
-ghost use Rattle.std.specs.Prelude.{◌≡◌, ◌<◌, ℕ, List, slice_index, IsUtf8, IsTrue};
+ghost use Rattle.std.specs.Prelude.{◌≡◌, ◌<◌, ◌++◌, ℕ, List, codes, slice_index, IsUtf8, IsTrue};
 ghost use Rattle.packed_rows.specs.Columns.{kinds, printed};
 ghost use Rattle.having_filter.specs.Kept.{IsCheckedQuery, by_names};
 ghost use Rattle.query_checks.specs.Checks.{Checked};
 ghost use Rattle.query_checks.specs.Spelling.{spelling};
 ghost use Rattle.origin_prefix.specs.Held.{Parts, AreHeldParts};
-ghost use Rattle.summary_codec.specs.File.{file_bytes};
+ghost use Rattle.summary_codec.specs.File.{file_in, file_bytes, body_bytes};
 ghost use Rattle.having_filter.specs.Meaning.{meaning};
 ghost use Rattle.origin_prefix.specs.Fitting.{FitsOrigin};
 ghost use Rattle.grouping_model.specs.World.{World, IsWorld, Knowledge, knows};
-ghost use Rattle.summary_codec.specs.WorldFile.{world_part, world_file};
-ghost use Rattle.summary_codec.specs.Worlds.{IsKnownOf, IsWorldFile, world_parts};
-ghost use Rattle.summary_codec.specs.Reading.{IsSummary, HasFault};
+ghost use Rattle.summary_codec.specs.WorldFile.{world_part, world_file_in};
+ghost use Rattle.summary_codec.specs.Worlds.{IsKnownOf, IsKnownWithin, IsWorldFile, world_parts};
+ghost use Rattle.summary_codec.specs.Reading.{IsSummaryIn, IsSummary, IsSaved, HasFault};
+ghost use Rattle.summary_codec.specs.Versions.{opening, last_number, most_batch_rows, AreWithin};
 ghost use Rattle.summary_codec.specs.declared.error.SummaryError.{SummaryError};
+ghost use Rattle.summary_codec.specs.declared.version.Version.{Version};
+ghost use Rattle.summary_codec.specs.declared.version.Version.TheVariants.{First, Second};
 
-/// Each query, with what is held for it, has one spelling, which is read as it was, and bytes that are read are such a spelling. No
-/// bytes are read in two ways, or have two first faults, or are read and have a fault, or neither. A query's texts are UTF-8.
+/// What a file begins with, and its bounds, by its version. A file is of one version, and what may be held is within the bounds of the second.
+/// Files of one query and of the same parts are equal but for what they begin with, whatever their versions; so what is read of a file of
+/// the first version is written as the same bytes with another opening.
+pub fn versions()
+    ensures first { opening First ≡ codes "AGGSUM01" }
+    ensures first_number { last_number First ≡ 2147483647 }
+    ensures first_rows { most_batch_rows First ≡ 65536 }
+    ensures second { opening Second ≡ codes "AGGSUM02" }
+    ensures second_number { last_number Second ≡ 4294967295 }
+    ensures second_rows { most_batch_rows Second ≡ 1048576 }
+    ensures one { (bytes : List ℕ) (version other : Version) (query those : Checked) (held parts : Parts) →
+        IsSummaryIn version bytes query held → IsSummaryIn other bytes those parts → version ≡ other }
+    ensures within { (query : Checked) (held : Parts) → AreHeldParts query held → AreWithin Second query held }
+    ensures same { (version : Version) (query : Checked) (held : Parts) →
+        file_in version query held ≡ opening version ++ body_bytes query held }
+    ensures written_again { (version : Version) (bytes : List ℕ) (query : Checked) (held : Parts) →
+        IsSummaryIn version bytes query held → IsSaved (file_bytes query held) query held }
+{}
+
+/// Each query, with what is held for it, has one spelling in each version within whose bounds it is, which is read as it was, and bytes
+/// that are read are such a spelling. No bytes are read in two ways, or have two first faults, or are read and have a fault, or neither. A
+/// query's texts are UTF-8.
 pub fn one_spelling()
-    ensures read_again { (query : Checked) (held : Parts) → IsCheckedQuery query → IsUtf8 (printed query.columns) →
-        IsUtf8 (spelling (by_names query)) → AreHeldParts query held →
-        IsSummary (file_bytes query held) query held }
-    ensures spelled { (bytes : List ℕ) (query : Checked) (held : Parts) → IsSummary bytes query held →
-        (bytes ≡ file_bytes query held) × AreHeldParts query held }
+    ensures read_again { (version : Version) (query : Checked) (held : Parts) → IsCheckedQuery query →
+        IsUtf8 (printed query.columns) → IsUtf8 (spelling (by_names query)) → AreHeldParts query held →
+        AreWithin version query held → IsSummaryIn version (file_in version query held) query held }
+    ensures spelled { (version : Version) (bytes : List ℕ) (query : Checked) (held : Parts) →
+        IsSummaryIn version bytes query held → (bytes ≡ file_in version query held)
+        × AreHeldParts query held × AreWithin version query held }
     ensures one_reading { (bytes : List ℕ) (query other : Checked) (held those : Parts) →
         IsSummary bytes query held → IsSummary bytes other those → (query ≡ other) × (held ≡ those) }
     ensures one_fault { (bytes : List ℕ) (fault other : SummaryError) → HasFault bytes fault →
@@ -37,18 +61,22 @@ pub fn one_spelling()
 /// The file of a query, a world and what is known of it depends on the rows of the batches that are known alone. So replicas that know the
 /// same batches have equal files.
 pub fn files_of_the_known()
-    ensures { (query : Checked) (world other : World) (known : Knowledge) →
+    ensures { (version : Version) (query : Checked) (world other : World) (known : Knowledge) →
         ((origin number : ℕ) → IsTrue (knows known (origin, number)) →
         world origin number ≡ other origin number) →
-        world_file query world known ≡ world_file query other known }
+        world_file_in version query world known ≡ world_file_in version query other known }
 {}
 
 /// The file of a query, a world and what is known of this world is a summary file, of the query and of the parts that the world has of
-/// what is known. These fit the world. A query's text is UTF-8.
+/// what is known, in each version whose bounds the known batches keep: in the second, each world's batches do. These parts fit the world. A
+/// query's text is UTF-8.
 pub fn files_of_worlds()
-    ensures read { (query : Checked) (world : World) (known : Knowledge) (bytes : List ℕ) → IsCheckedQuery query →
-        IsUtf8 (spelling (by_names query)) → IsWorld (kinds query.columns) world →
-        IsWorldFile query world known bytes → IsSummary bytes query (world_parts query world known) }
+    ensures read { (version : Version) (query : Checked) (world : World) (known : Knowledge) (bytes : List ℕ) →
+        IsCheckedQuery query → IsUtf8 (spelling (by_names query)) → IsWorld (kinds query.columns) world →
+        IsKnownWithin version world known → IsWorldFile version query world known bytes →
+        IsSummaryIn version bytes query (world_parts query world known) }
+    ensures second { (query : Checked) (world : World) (known : Knowledge) → IsWorld (kinds query.columns) world →
+        IsKnownWithin Second world known }
     ensures fits { (query : Checked) (world : World) (known : Knowledge) → IsCheckedQuery query →
         IsWorld (kinds query.columns) world → IsKnownOf world known → (origin : ℕ) →
         FitsOrigin (meaning query) world origin (world_part query world known origin).1 }

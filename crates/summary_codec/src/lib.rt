@@ -5,9 +5,11 @@ mod error;
 mod fields;
 mod laws;
 mod reading;
+mod version;
 mod writing;
 
 pub use error::SummaryError;
-pub use laws::{files_of_the_known, files_of_worlds, one_spelling};
+pub use laws::{files_of_the_known, files_of_worlds, one_spelling, versions};
 pub use reading::decode;
+pub use version::{FIRST_LAST_NUMBER, FIRST_MOST_ROWS, Version};
 pub use writing::encode;

@@ -1,7 +1,7 @@
 //! From a file to a query and what is held of some origins.
 
 ghost use Rattle.std.specs.Prelude.{◌≡◌, ◌≢◌, ◌≤◌, ◌++◌, ◌∷◌, ◌*◌, ◌⊎◌, ◌<◌, ℕ, List, [], Ok, Err, IfOk, IfErr, OnOk, IfNone, length, map, IsTrue, ◌↔◌};
-ghost use Rattle.grouping_model.specs.declared.limits.TheConstants.{LAST_NUMBER, LAST_ORIGIN, MOST_ROWS};
+ghost use Rattle.grouping_model.specs.declared.limits.TheConstants.{LAST_ORIGIN};
 ghost use Rattle.packed_rows.specs.Columns.{Column, kinds, IsSchemaText};
 ghost use Rattle.group_parser.specs.Parsing.{Accepts, Refuses};
 ghost use Rattle.group_parser.specs.declared.error.ParseError.{ParseError};
@@ -16,18 +16,19 @@ ghost use Rattle.agg_protocol.specs.States.{most_rows};
 ghost use Rattle.group_runs.specs.Runs.{Entry, Rises, packed_keys};
 ghost use Rattle.origin_prefix.specs.Parts.{Part, IsPartOf};
 ghost use Rattle.origin_prefix.specs.Held.{AreHeldParts};
-ghost use Rattle.summary_codec.specs.Reading.{IsNext, MayFollow, IsPacking, AreStateBytes, states_width, each, group, row, batch, batches, contents, part, parts, text, heading, rest, schema, query, columns_in, query_in, IsSummary, HasFault};
+ghost use Rattle.summary_codec.specs.Reading.{IsNext, MayFollow, IsPacking, AreStateBytes, states_width, each, group, row, batch, batches, contents, part, parts, text, heading, rest, body, schema, query, columns_in, query_in, IsSummary, HasFault};
 ghost use Rattle.summary_codec.specs.declared.error.SummaryError.TheVariants.{NoMemory, BadPacked, BadState, BadSchema, NotCanonical};
 
 use crate::error::SummaryError;
 use crate::fields::Fields;
+use crate::version::Version;
 use agg_library::StateRow;
 use batch_reader::PackedRows;
 use group_parser::{ParseError, parse};
-use grouping_model::limits::{LAST_NUMBER, LAST_ORIGIN, MOST_ROWS};
+use grouping_model::limits::LAST_ORIGIN;
 use hash_agg::Run;
 use having_filter::{Query, QueryError};
-use origin_prefix::{OriginPart, most_rows};
+use origin_prefix::OriginPart;
 use packed_rows::{RowError, Schema, Value, ValueKind, unpack_into};
 use std::alloc::{AllocError, Global};
 use std::collections::BTreeMap;
@@ -179,10 +180,9 @@ fn read_rows(
 
 /// Whether a number may be that of an early batch behind a prefix and behind other early batches.
 fn may_follow(prefix: u32, early: &BTreeMap<u32, PackedRows>, number: u32) -> bool
-    requires { prefix ≤ LAST_NUMBER }
     ensures { IsTrue result ↔ MayFollow prefix early.now.entries number }
 {
-    if number <= prefix + 1 {
+    if u64::from(number) <= u64::from(prefix) + 1 {
         return false;
     }
     match early.last_key_value() {
@@ -210,23 +210,23 @@ fn put_batch(
 #[tactic(auto, unfolding(crate::specs::Reading::batch))]
 fn read_batch(
     alloc: Global,
+    version: Version,
     schema: &Schema,
     prefix: u32,
     fields: &mut Fields<'_>,
     early: &mut BTreeMap<u32, PackedRows>,
 ) -> Result<(), SummaryError>
-    requires { prefix ≤ LAST_NUMBER }
     ensures read { OnOk result ((found : ℕ × List (List ℕ))
-        × batch (kinds schema.now) prefix early.old.entries fields.old (Ok (found, fields.new))
+        × batch version (kinds schema.now) prefix early.old.entries fields.old (Ok (found, fields.new))
         × (early.new.entries ≡ early.old.entries ++ found ∷ [])) }
     ensures fault { IfErr result (λ e. e ≢ NoMemory →
-        batch (kinds schema.now) prefix early.old.entries fields.old (Err e)) }
+        batch version (kinds schema.now) prefix early.old.entries fields.old (Err e)) }
 {
-    let number = fields.number_within(4, u64::from(LAST_NUMBER))? as u32;
+    let number = fields.number_within(4, u64::from(version.last_number()))? as u32;
     if !may_follow(prefix, early, number) {
         return Err(SummaryError::NotCanonical);
     }
-    let count = fields.number_within(4, u64::from(MOST_ROWS))?;
+    let count = fields.number_within(4, u64::from(version.most_batch_rows()))?;
     let rows = read_rows(alloc, schema.kinds(), count, fields)?;
     put_batch(early, number, rows)?;
     Ok(())
@@ -235,20 +235,20 @@ fn read_batch(
 /// Reads so many early batches.
 fn read_early(
     alloc: Global,
+    version: Version,
     schema: &Schema,
     prefix: u32,
     count: u64,
     fields: &mut Fields<'_>,
 ) -> Result<BTreeMap<u32, PackedRows>, SummaryError>
-    requires { prefix ≤ LAST_NUMBER }
     ensures read { IfOk result (λ early.
-        each (batch (kinds schema.now) prefix) count [] fields.old (Ok (early.entries, fields.new))) }
+        each (batch version (kinds schema.now) prefix) count [] fields.old (Ok (early.entries, fields.new))) }
     ensures fault { IfErr result (λ e. e ≢ NoMemory →
-        each (batch (kinds schema.now) prefix) count [] fields.old (Err e)) }
+        each (batch version (kinds schema.now) prefix) count [] fields.old (Err e)) }
 {
     let mut early = BTreeMap::new(alloc);
     for _ in 0..count {
-        read_batch(alloc, schema, prefix, fields, &mut early)?;
+        read_batch(alloc, version, schema, prefix, fields, &mut early)?;
     }
     Ok(early)
 }
@@ -257,40 +257,40 @@ fn read_early(
 #[tactic(auto, unfolding(crate::specs::Reading::batches))]
 fn read_batches(
     alloc: Global,
+    version: Version,
     schema: &Schema,
     prefix: u32,
     fields: &mut Fields<'_>,
 ) -> Result<BTreeMap<u32, PackedRows>, SummaryError>
-    requires { prefix ≤ LAST_NUMBER }
     ensures read { IfOk result (λ early.
-        batches (kinds schema.now) prefix fields.old (Ok (early.entries, fields.new))) }
+        batches version (kinds schema.now) prefix fields.old (Ok (early.entries, fields.new))) }
     ensures fault { IfErr result (λ e. e ≢ NoMemory →
-        batches (kinds schema.now) prefix fields.old (Err e)) }
+        batches version (kinds schema.now) prefix fields.old (Err e)) }
 {
     let count = fields.number(4)?;
     if prefix == 0 && count == 0 {
         return Err(SummaryError::NotCanonical);
     }
-    read_early(alloc, schema, prefix, count, fields)
+    read_early(alloc, version, schema, prefix, count, fields)
 }
 
 /// Reads the groups of a prefix, and the early batches behind it.
 #[tactic(auto, unfolding(crate::specs::Reading::contents))]
 fn read_contents(
     alloc: Global,
+    version: Version,
     query: &Query,
     prefix: u32,
     fields: &mut Fields<'_>,
 ) -> Result<OriginPart, SummaryError>
-    requires { prefix ≤ LAST_NUMBER }
-    ensures read { IfOk result (λ part. contents query.now prefix fields.old (Ok (part, fields.new))) }
+    ensures read { IfOk result (λ part. contents version query.now prefix fields.old (Ok (part, fields.new))) }
     ensures fault { IfErr result (λ e. e ≢ NoMemory →
-        contents query.now prefix fields.old (Err e)) }
+        contents version query.now prefix fields.old (Err e)) }
 {
-    let most = most_rows(prefix);
+    let most = version.rows_upto(prefix);
     let groups = fields.number_within(8, most)?;
     let run = read_run(alloc, query, most, groups, fields)?;
-    let early = read_batches(alloc, query.schema(), prefix, fields)?;
+    let early = read_batches(alloc, version, query.schema(), prefix, fields)?;
     Ok(OriginPart::from_fields(alloc, prefix, run, early))
 }
 
@@ -324,22 +324,23 @@ fn put_part(
 #[tactic(auto, unfolding(crate::specs::Reading::part))]
 fn read_part(
     alloc: Global,
+    version: Version,
     query: &Query,
     fields: &mut Fields<'_>,
     parts: &mut BTreeMap<u16, OriginPart>,
 ) -> Result<(), SummaryError>
     ensures read { OnOk result ((found : ℕ × Part)
-        × part query.now parts.old.entries fields.old (Ok (found, fields.new))
+        × part version query.now parts.old.entries fields.old (Ok (found, fields.new))
         × (parts.new.entries ≡ parts.old.entries ++ found ∷ [])) }
     ensures fault { IfErr result (λ e. e ≢ NoMemory →
-        part query.now parts.old.entries fields.old (Err e)) }
+        part version query.now parts.old.entries fields.old (Err e)) }
 {
     let origin = fields.number_within(2, u64::from(LAST_ORIGIN))? as u16;
     if !is_origin_above(parts, origin) {
         return Err(SummaryError::NotCanonical);
     }
-    let prefix = fields.number_within(4, u64::from(LAST_NUMBER))? as u32;
-    let part = read_contents(alloc, query, prefix, fields)?;
+    let prefix = fields.number_within(4, u64::from(version.last_number()))? as u32;
+    let part = read_contents(alloc, version, query, prefix, fields)?;
     put_part(parts, origin, part)?;
     Ok(())
 }
@@ -347,18 +348,19 @@ fn read_part(
 /// Reads what is held of so many origins.
 fn read_held(
     alloc: Global,
+    version: Version,
     query: &Query,
     count: u64,
     fields: &mut Fields<'_>,
 ) -> Result<BTreeMap<u16, OriginPart>, SummaryError>
     ensures read { IfOk result (λ parts.
-        each (part query.now) count [] fields.old (Ok (parts.entries, fields.new))) }
+        each (part version query.now) count [] fields.old (Ok (parts.entries, fields.new))) }
     ensures fault { IfErr result (λ e. e ≢ NoMemory →
-        each (part query.now) count [] fields.old (Err e)) }
+        each (part version query.now) count [] fields.old (Err e)) }
 {
     let mut parts = BTreeMap::new(alloc);
     for _ in 0..count {
-        read_part(alloc, query, fields, &mut parts)?;
+        read_part(alloc, version, query, fields, &mut parts)?;
     }
     Ok(parts)
 }
@@ -367,14 +369,15 @@ fn read_held(
 #[tactic(auto, unfolding(crate::specs::Reading::parts))]
 fn read_parts(
     alloc: Global,
+    version: Version,
     query: &Query,
     fields: &mut Fields<'_>,
 ) -> Result<BTreeMap<u16, OriginPart>, SummaryError>
-    ensures read { IfOk result (λ held. parts query.now fields.old (Ok (held.entries, fields.new))) }
-    ensures fault { IfErr result (λ e. e ≢ NoMemory → parts query.now fields.old (Err e)) }
+    ensures read { IfOk result (λ held. parts version query.now fields.old (Ok (held.entries, fields.new))) }
+    ensures fault { IfErr result (λ e. e ≢ NoMemory → parts version query.now fields.old (Err e)) }
 {
     let count = fields.number_within(2, u64::from(LAST_ORIGIN) + 1)?;
-    read_held(alloc, query, count, fields)
+    read_held(alloc, version, query, count, fields)
 }
 
 /// Reads a text.
@@ -459,13 +462,12 @@ fn read_query(
     Ok(query)
 }
 
-/// Reads what each file begins with, the schema and the query.
+/// Reads the schema and the query.
 #[tactic(auto, unfolding(crate::specs::Reading::heading))]
 fn read_heading(alloc: Global, fields: &mut Fields<'_>) -> Result<Query, SummaryError>
     ensures read { IfOk result (λ query. heading fields.old (Ok (query, fields.new))) }
     ensures fault { IfErr result (λ e. e ≢ NoMemory → heading fields.old (Err e)) }
 {
-    fields.open()?;
     let schema = read_schema(alloc, fields)?;
     read_query(alloc, &schema, fields)
 }
@@ -474,27 +476,44 @@ fn read_heading(alloc: Global, fields: &mut Fields<'_>) -> Result<Query, Summary
 #[tactic(auto, unfolding(crate::specs::Reading::rest))]
 fn read_rest(
     alloc: Global,
+    version: Version,
     query: &Query,
     fields: &mut Fields<'_>,
 ) -> Result<BTreeMap<u16, OriginPart>, SummaryError>
-    ensures read { IfOk result (λ held. rest query.now fields.old (Ok (held.entries, fields.new))) }
-    ensures fault { IfErr result (λ e. e ≢ NoMemory → rest query.now fields.old (Err e)) }
+    ensures read { IfOk result (λ held. rest version query.now fields.old (Ok (held.entries, fields.new))) }
+    ensures fault { IfErr result (λ e. e ≢ NoMemory → rest version query.now fields.old (Err e)) }
     ensures end { OnOk result (fields.new ≡ []) }
 {
-    let parts = read_parts(alloc, query, fields)?;
+    let parts = read_parts(alloc, version, query, fields)?;
     fields.end()?;
     Ok(parts)
 }
 
-/// The query and what is held of each origin, by rising origin, that a summary file has. Any bytes are read: those that are no such
-/// file are refused, by the first fault from the left. It takes time by the length of the bytes, and memory for what it has read.
+/// Reads what stands behind the opening of a file of a version, to its end.
+#[tactic(auto, unfolding(crate::specs::Reading::body))]
+fn read_body(
+    alloc: Global,
+    version: Version,
+    fields: &mut Fields<'_>,
+) -> Result<(Query, BTreeMap<u16, OriginPart>), SummaryError>
+    ensures read { IfOk result (λ found. body version fields.old (Ok ((found.0, found.1.entries), []))) }
+    ensures fault { IfErr result (λ e. e ≢ NoMemory → body version fields.old (Err e)) }
+{
+    let query = read_heading(alloc, fields)?;
+    let parts = read_rest(alloc, version, &query, fields)?;
+    Ok((query, parts))
+}
+
+/// The query and what is held of each origin, by rising origin, that a summary file of either version has. Any bytes are read: those that
+/// are no such file are refused, by the first fault from the left. It takes time by the length of the bytes, and memory for what it has
+/// read.
 ///
 /// # Errors
 ///
 /// The first of these that is met: `NotASummary` for other first bytes; `Truncated` where a field isn't there in full; `BadSchema`,
-/// and the errors of [`parse`], for the texts; `OutOfRange` for a number above its limit; `BadPacked` for a key or a row; `BadState`
-/// for states that no rows of so many batches give; `NotCanonical` for a text that isn't canonical, for origins, keys or early batches
-/// that don't rise, and for an origin of which nothing is held; `Trailing` for bytes behind the last field. Or `NoMemory`.
+/// and the errors of [`parse`], for the texts; `OutOfRange` for a number above its limit in the file's version; `BadPacked` for a key or a
+/// row; `BadState` for states that no rows of so many batches give; `NotCanonical` for a text that isn't canonical, for origins, keys or
+/// early batches that don't rise, and for an origin of which nothing is held; `Trailing` for bytes behind the last field. Or `NoMemory`.
 #[tactic(auto, unfolding(crate::specs::Reading::summary))]
 pub fn decode(
     alloc: Global,
@@ -506,7 +525,6 @@ pub fn decode(
     ensures fault { IfErr result (λ e. e ≢ NoMemory → HasFault bytes.now e) }
 {
     let mut fields = Fields::new(bytes);
-    let query = read_heading(alloc, &mut fields)?;
-    let parts = read_rest(alloc, &query, &mut fields)?;
-    Ok((query, parts))
+    let version = fields.open()?;
+    read_body(alloc, version, &mut fields)
 }

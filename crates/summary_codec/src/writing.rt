@@ -8,11 +8,13 @@ ghost use Rattle.query_checks.specs.Spelling.{spelling};
 ghost use Rattle.origin_prefix.specs.Held.{AreHeldParts};
 ghost use Rattle.origin_prefix.specs.Parts.{Part};
 ghost use Rattle.packed_rows.specs.Columns.{printed};
-ghost use Rattle.summary_codec.specs.File.{batch_bytes, file_bytes, group_bytes, opening, part_bytes, sized_bytes};
-ghost use Rattle.summary_codec.specs.Reading.{IsSummary};
+ghost use Rattle.summary_codec.specs.File.{batch_bytes, file_bytes, group_bytes, part_bytes, sized_bytes};
+ghost use Rattle.summary_codec.specs.Reading.{IsSaved};
 ghost use Rattle.summary_codec.specs.Short.{IsShort, HaveShortKeys, IsShortBatch, IsShortPart};
+ghost use Rattle.summary_codec.specs.Versions.{opening};
+ghost use Rattle.summary_codec.specs.declared.version.Version.TheVariants.{Second};
 
-use crate::fields::OPENING;
+use crate::version::Version;
 use batch_reader::PackedRows;
 use byteorder::{BigEndian, ByteOrder};
 use hash_agg::Run;
@@ -119,9 +121,9 @@ fn push_parts(out: &mut Vec<u8>, parts: &BTreeMap<u16, OriginPart>) -> Result<()
     Ok(())
 }
 
-/// Appends what each file begins with, and the canonical texts of the schema and of the query.
+/// Appends what a file begins with, and the canonical texts of the schema and of the query.
 fn push_heading(out: &mut Vec<u8>, query: &Query) -> Result<(), AllocError>
-    ensures heading { OnOk result (out.new.items ≡ out.old.items ++ opening
+    ensures heading { OnOk result (out.new.items ≡ out.old.items ++ opening Second
         ++ sized_bytes (printed query.now.columns)
         ++ sized_bytes (spelling (by_names query.now))) }
     ensures query { OnOk result (IsCheckedQuery query.now) }
@@ -129,12 +131,12 @@ fn push_heading(out: &mut Vec<u8>, query: &Query) -> Result<(), AllocError>
         × IsUtf8 (spelling (by_names query.now))) }
 {
     let schema = query.schema().print()?;
-    out.extend_from_slice(OPENING)?;
+    out.extend_from_slice(Version::Second.opening())?;
     push_sized(out, schema.as_str().as_bytes())?;
     push_sized(out, query.spelling().as_bytes())
 }
 
-/// The file of a query and of what is held of some origins for it. The only error is a failed allocation.
+/// The file of a query and of what is held of some origins for it, in the second version. The only error is a failed allocation.
 pub fn encode(
     alloc: Global,
     query: &Query,
@@ -142,7 +144,7 @@ pub fn encode(
 ) -> Result<Vec<u8>, AllocError>
     requires { AreHeldParts query.now parts.now.entries }
     ensures spelled { IfOk result (λ bytes. bytes.items ≡ file_bytes query.now parts.now.entries) }
-    ensures read_again { IfOk result (λ bytes. IsSummary bytes.items query.now parts.now.entries) }
+    ensures read_again { IfOk result (λ bytes. IsSaved bytes.items query.now parts.now.entries) }
 {
     let mut out = Vec::new(alloc);
     push_heading(&mut out, query)?;

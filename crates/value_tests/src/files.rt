@@ -25,10 +25,12 @@ batch,0,1, => BadBatchHead
 batch,0,1,+1/oslo,5 => BadBatchHead
 batch,0,1,0000000001/oslo,5 => BadBatchHead
 batch,1024,1,99999999 => BadBatchHead
-batch,0,0,65537 => BadBatchHead
-batch,0,1,65537 => TooManyRows
+batch,0,0,1048577 => BadBatchHead
+batch,0,4294967296,0 => BadBatchHead
+batch,0,1,1048577 => TooManyRows
 batch,0,1,999999999/oslo => TooManyRows
-batch,0,1,65536/oslo => RowCount
+batch,0,1,1048576/oslo => RowCount
+batch,0,1,65537 => RowCount
 batch,0,1,0/oslo,5 => RowCount
 batch,0,1,2/oslo,x => RowCount
 batch,0,1,1/oslo,5/oslo,x => RowCount
@@ -37,7 +39,7 @@ batch,0,1,2/oslo,x/oslo => BadField { row: 0, column: 1 }
 batch,0,1,0 => 0 1
 batch,0,1,0/ => 0 1
 batch,0,1,2\r/oslo,5\r/\"a/b\",\\N\r/ => 0 1 016f736c6f00018000000000000005 01610a620002
-batch,1023,2147483647,000000002/oslo,5/\"a,\"\"b\",\\N/ => 1023 2147483647 016f736c6f00018000000000000005 01612c22620002
+batch,1023,4294967295,000000002/oslo,5/\"a,\"\"b\",\\N/ => 1023 4294967295 016f736c6f00018000000000000005 01612c22620002
 \u{feff}batch,0000000007,0000000001,1//oslo,5 => 7 1 016f736c6f00018000000000000005";
 
 /// Tells the bytes of rows.
@@ -82,10 +84,10 @@ fn files_are_read_or_refused_in_order(rt: HostRuntime) -> Result<(), Fail> {
     expect_lines(rt, FILES, told)
 }
 
-/// A file of 65,536 rows.
+/// A file of 1,048,576 rows.
 fn longest(rt: HostRuntime) -> Result<String, Fail> {
-    let mut file = String::from_str(rt.alloc(), "batch,0,1,65536\n")?;
-    for _ in 0..65_536 {
+    let mut file = String::from_str(rt.alloc(), "batch,0,1,1048576\n")?;
+    for _ in 0..1_048_576 {
         file.push_str("oslo,5\n")?;
     }
     Ok(file)
@@ -104,10 +106,10 @@ fn rows_read(rt: HostRuntime, file: &str) -> Result<usize, Fail> {
 }
 
 #[test]
-fn files_have_65536_rows(rt: HostRuntime) -> Result<(), Fail> {
+fn files_have_1048576_rows(rt: HostRuntime) -> Result<(), Fail> {
     let file = longest(rt)?;
     let rows = rows_read(rt, &file);
     drop(file);
-    assert!(rt; rows? == 65_536);
+    assert!(rt; rows? == 1_048_576);
     Ok(())
 }

@@ -3,7 +3,8 @@ use Rattle.std.proofs.Common.{◌∙◌, ap, sym}
 use Rattle.grouping_model.specs.World.{World, union}
 use Rattle.grouping_model.specs.KnowledgeLaws.{union_commutes, union_associates, union_itself}
 use Rattle.query_checks.specs.Checks.{Checked}
-use Rattle.summary_codec.specs.Reading.{IsSummary}
+use Rattle.summary_codec.specs.Reading.{IsSaved}
+use Rattle.summary_codec.specs.declared.version.Version.TheVariants.{Second}
 use Rattle.summary_codec.specs.WorldFile.{world_file}
 use Rattle.summary_codec.proofs.SpelledRead.{spelled}
 use Rattle.replica_merge.specs.Replicas.{Parts, Held, told, Fits, AreHeldParts, MergesIn}
@@ -12,13 +13,13 @@ use Rattle.replica_merge.proofs.SavedLaws.{saved_world}
 use Rattle.replica_merge.proofs.laws.merged_files.Goals as goal
 
 -- a saved file is the world's
-of_world : (world : World) (query : Checked) (parts : Parts) (bytes : List ℕ) → AreHeldParts query parts → Fits world (record { query = query; parts = parts }) → IsSummary bytes query parts
+of_world : (world : World) (query : Checked) (parts : Parts) (bytes : List ℕ) → AreHeldParts query parts → Fits world (record { query = query; parts = parts }) → IsSaved bytes query parts
     → bytes ≡ world_file query world (told parts)
-of_world world query parts bytes held fits is = saved_world (record { query = query; parts = parts }) world bytes held fits (spelled bytes query parts is).0
+of_world world query parts bytes held fits is = saved_world (record { query = query; parts = parts }) world bytes held fits (spelled Second bytes query parts is).0
 
 -- equal knowledge, equal bytes
 same_bytes : (world : World) (query : Checked) (a b : Parts) (bytes those : List ℕ) → AreHeldParts query a → AreHeldParts query b → Fits world (record { query = query; parts = a }) → Fits world (record { query = query; parts = b })
-    → told a ≡ told b → IsSummary bytes query a → IsSummary those query b → bytes ≡ those
+    → told a ≡ told b → IsSaved bytes query a → IsSaved those query b → bytes ≡ those
 same_bytes world query a b bytes those is_a is_b fits_a fits_b same one two =
     of_world world query a bytes is_a fits_a one ∙ ap (world_file query world) same ∙ sym (of_world world query b those is_b fits_b two)
 

@@ -1,21 +1,21 @@
-use Rattle.std.proofs.Common.{inr, inl, refl, sym, subst}
-use Rattle.summary_codec.specs.Reading.{summary, IsSummary, HasFault}
-use Rattle.summary_codec.proofs.FaultLaws.{handed_on}
+use Rattle.std.proofs.Common.{inr, subst, Ok}
+use Rattle.std.proofs.lemmas.Result.{IfOk-weaker, IfErr-weaker}
+use Rattle.summary_codec.specs.Reading.{opened, summary}
 use Rattle.summary_codec.proofs.SpelledRead.{spelled}
 use Rattle.summary_codec.proofs.reading.decode.Goals as goal
 
-pub returns-in_err-parts-clause-fault : goal.returns-in_err-parts-clause-fault
-unfolding summary
-returns-in_err-parts-clause-fault c =
-    handed_on c.from_residual-in_err-parts.result c.in_err-parts.field-0.0 _ c.from_residual-in_err-parts.ensures.1
-    (λ memory. subst (λ bytes. HasFault bytes c.in_err-parts.field-0.0) c.new-fields.ensures
-    (inr (c.in_ok-query.query, c.read_heading.new.fields, c.in_ok-query.ensures.read, inl (c.in_err-parts.ensures.fault memory))))
+pub returns-clause-read : goal.returns-clause-read
+returns-clause-read c =
+    let begins = subst (λ bytes. opened bytes (Ok (c.in_ok-version.version, c.«open».new.self))) c.new-fields.ensures c.in_ok-version.ensures.opened in
+    IfOk-weaker c.read_body.result _ _ (λ found read. (c.in_ok-version.version, (c.«open».new.self, begins, read))) c.read_body.ensures.read
 
 pub returns-clause-held : goal.returns-clause-held
-unfolding summary
 returns-clause-held c =
-    let q = c.in_ok-query.query in
-    let held = c.in_ok-parts.parts.entries in
-    let read : IsSummary c.new-fields.result q held =
-    (q, c.read_heading.new.fields, c.in_ok-query.ensures.read, (held, c.read_rest.new.fields, c.in_ok-parts.ensures.read, (refl, sym c.in_ok-parts.ensures.end))) in
-    (spelled c.new-fields.result q held read).1
+    let begins = subst (λ bytes. opened bytes (Ok (c.in_ok-version.version, c.«open».new.self))) c.new-fields.ensures c.in_ok-version.ensures.opened in
+    IfOk-weaker c.read_body.result _ _ (λ found read. (spelled c.in_ok-version.version c.args.bytes.now found.0 found.1.entries (c.«open».new.self, begins, read)).1) c.read_body.ensures.read
+
+pub returns-clause-fault : goal.returns-clause-fault
+unfolding summary
+returns-clause-fault c =
+    let begins = subst (λ bytes. opened bytes (Ok (c.in_ok-version.version, c.«open».new.self))) c.new-fields.ensures c.in_ok-version.ensures.opened in
+    IfErr-weaker c.read_body.result _ _ (λ e fault memory. inr (c.in_ok-version.version, c.«open».new.self, begins, fault memory)) c.read_body.ensures.fault

@@ -4,4 +4,4 @@ use Rattle.summary_codec.proofs.LoopLaws.{ReadSoFar}
 use Rattle.summary_codec.proofs.reading.read_early.Given as goal
 
 abbrev pub invariant-loop : goal.invariant-loop
-invariant-loop l = ReadSoFar (batch (kinds l.schema) l.prefix) l.count l.initial.fields l.counter l.early.entries l.fields
+invariant-loop l = ReadSoFar (batch l.version (kinds l.schema) l.prefix) l.count l.initial.fields l.counter l.early.entries l.fields

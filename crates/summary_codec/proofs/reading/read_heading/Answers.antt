@@ -7,4 +7,4 @@ pub returns-clause-fault : goal.returns-clause-fault
 unfolding heading
 returns-clause-fault c =
     says c.read_query.result _ _ c.read_query.ensures.fault
-    (λ e fault memory. inr (tt, c.open.new.self, c.in_ok-open.ensures.opened, inr (c.in_ok-schema.schema, c.read_schema.new.fields, c.in_ok-schema.ensures.read, fault memory)))
+    (λ e fault memory. inr (c.in_ok-schema.schema, c.read_schema.new.fields, c.in_ok-schema.ensures.read, fault memory))

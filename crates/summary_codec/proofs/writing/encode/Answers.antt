@@ -1,7 +1,9 @@
 use Rattle.std.proofs.Common.{◌≡◌, rules, arith, sym, subst}
 use Rattle.summary_codec.proofs.LengthLaws.{short_parts, few_parts}
 use Rattle.summary_codec.specs.File.{file_bytes}
-use Rattle.summary_codec.specs.Reading.{IsSummary}
+use Rattle.summary_codec.specs.Reading.{IsSaved}
+use Rattle.summary_codec.specs.declared.version.Version.TheVariants.{Second}
+use Rattle.summary_codec.proofs.VersionLaws.{held_within}
 use Rattle.summary_codec.proofs.WrittenRead.{read_again}
 use Rattle.summary_codec.proofs.writing.encode.Goals as goal
 
@@ -20,4 +22,4 @@ returns-clause-read_again c =
     let held = c.args.parts.now.entries in
     let texts = c.in_ok-push_heading.ensures.texts in
     let spelled : c.push_parts.new.out.items ≡ file_bytes q held = search rules in
-    subst (λ bytes. IsSummary bytes q held) (sym spelled) (read_again q held c.in_ok-push_heading.ensures.query texts.0 texts.1 c.requires)
+    subst (λ bytes. IsSaved bytes q held) (sym spelled) (read_again Second q held c.in_ok-push_heading.ensures.query texts.0 texts.1 c.requires (held_within q held c.requires))

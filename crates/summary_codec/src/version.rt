@@ -1,0 +1,63 @@
+//! The versions of a summary file.
+
+ghost use Rattle.std.specs.Prelude.{◌≡◌, ◌≤◌, ◌*◌};
+ghost use Rattle.agg_protocol.specs.States.{most_rows};
+ghost use Rattle.summary_codec.specs.Versions.{opening, most_batch_rows, last_number};
+
+use grouping_model::limits::{LAST_NUMBER, MOST_ROWS};
+
+/// The greatest number of a batch in a file of the first version.
+pub const FIRST_LAST_NUMBER: u32 = 2_147_483_647;
+
+/// The most rows of a batch in a file of the first version.
+pub const FIRST_MOST_ROWS: u32 = 65_536;
+
+/// A version of a summary file: what it begins with, and its bounds. All else is one layout. Files are written in the second.
+#[derive(Clone, Copy)]
+pub enum Version {
+    /// `AGGSUM01`: numbers go to 2,147,483,647, and a batch has at most 65,536 rows.
+    First,
+    /// `AGGSUM02`: numbers go to 4,294,967,295, and a batch has at most 1,048,576 rows.
+    Second,
+}
+
+impl Version {
+    /// What a file of the version begins with.
+    pub(crate) fn opening(self) -> &'static [u8]
+        ensures { result.now ≡ opening self }
+    {
+        match self {
+            Version::First => b"AGGSUM01",
+            Version::Second => b"AGGSUM02",
+        }
+    }
+
+    /// The greatest number of a batch.
+    pub(crate) fn last_number(self) -> u32
+        ensures { result ≡ last_number self }
+    {
+        match self {
+            Version::First => FIRST_LAST_NUMBER,
+            Version::Second => LAST_NUMBER,
+        }
+    }
+
+    /// The most rows of a batch.
+    pub(crate) fn most_batch_rows(self) -> u32
+        ensures rows { result ≡ most_batch_rows self }
+        ensures limit { result ≤ MOST_ROWS }
+    {
+        match self {
+            Version::First => FIRST_MOST_ROWS,
+            Version::Second => MOST_ROWS,
+        }
+    }
+
+    /// The most rows that the batches 1 to a number have.
+    pub(crate) fn rows_upto(self, number: u32) -> u64
+        ensures rows { result ≡ number * most_batch_rows self }
+        ensures few { result ≤ most_rows }
+    {
+        u64::from(number) * u64::from(self.most_batch_rows())
+    }
+}
