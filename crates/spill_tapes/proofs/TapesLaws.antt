@@ -8,9 +8,9 @@ use Rattle.std.proofs.lemmas.List.Sums.{sum_by-cons, sum_by-set}
 use Rattle.spill_tapes.specs.Calls.{Keeps}
 use Rattle.spill_tapes.specs.Records.{Record, tape_bytes}
 use Rattle.spill_tapes.specs.Errors.{tape_error}
-use Rattle.spill_tapes.specs.Pages.{IsPool, HavePages, times, IsApart, IsBalanced, AreOn, KeepsPages}
+use Rattle.spill_tapes.specs.Pages.{IsPool, HavePages, times, IsApart, IsBalanced, GivesBack, AreOn, KeepsPages}
 use Rattle.spill_tapes.specs.Tape.{TapeState, no_tape, new_tape, tape_len, is_in, IsGood, IsGoodIn, IsGoodRead, AreWritten, AreAhead, HasIn, Has, Gives}
-use Rattle.spill_tapes.specs.Tapes.{TapesState, tape_at, phase_of, is_written, is_read, IsTape, KeepsOthers, IsRefusal, IsReadRefusal, AreTapes}
+use Rattle.spill_tapes.specs.Tapes.{TapesState, tape_at, phase_of, is_written, is_read, IsTape, KeepsOthers, IsRefusal, IsReadRefusal, FreesPages, HasNoPageMore, AreTapes}
 use Rattle.spill_tapes.specs.declared.disk.DiskError.{DiskError}
 use Rattle.spill_tapes.specs.declared.disk.DiskError.TheVariants as disk
 use Rattle.spill_tapes.specs.declared.error.TapeError.{TapeError}
@@ -214,6 +214,24 @@ phases_kept t s t' tape id x same put phase =
 
 pub put_at : (t s t' : TapesState) (tape : TapeId) (x : TapeState) → t ≡ s → phase_of s tape ≢ Closed → t'.tapes ≡ set t.tapes tape.index x → tape_at t' tape ≡ x
 put_at t s t' tape x same is put = ap (λ ts. get_or ts tape.index no_tape) put ∙ get_or-set_same t.tapes tape.index x no_tape (open_within t s tape same is)
+
+-- the pages that the tape no longer has are free
+pub frees_pages : (t s t' : TapesState) (tape : TapeId) (y x : TapeState) → t ≡ s → phase_of s tape ≢ Closed → y ≡ tape_at t tape → t'.tapes ≡ set t.tapes tape.index x → GivesBack t.pool y.pages t'.pool x.pages → FreesPages s t' tape
+frees_pages t s t' tape y x same is slot put moved =
+    let here : length (tape_at t' tape).pages ≡ length x.pages = ap (λ (z : TapeState). length z.pages) (put_at t s t' tape x same is put) in
+    let was : length y.pages ≡ length (tape_at s tape).pages = ap (λ (z : TapeState). length z.pages) slot ∙ ap (λ (z : TapesState). length (tape_at z tape).pages) same in
+    let free : length t.pool.free ≡ length s.pool.free = ap (λ (z : TapesState). length z.pool.free) same in
+    record {
+      free = omega (arith, moved.count, moved.balanced.all, here, was, free);
+      count = moved.count ∙ ap (λ (z : TapesState). z.pool.count) same;
+    }
+
+-- a tape that is read has no page more than it needs
+pub no_page_more : (t s t' : TapesState) (tape : TapeId) (x : TapeState) → t ≡ s → phase_of s tape ≢ Closed → t'.tapes ≡ set t.tapes tape.index x → x.phase ≡ Read → IsGood x → HasNoPageMore (tape_at t' tape)
+no_page_more t s t' tape x same is put phase good =
+    let read : IsGoodRead x = subst (λ (ph : Phase). IsGoodIn ph x) phase good in
+    let here : HasNoPageMore x = omega (arith, read.pages) in
+    subst HasNoPageMore (sym (put_at t s t' tape x same is put)) here
 
 pub has_written : (last : ℕ → ℕ → Type 0) (t : TapeState) (rs : List Record) → t.phase ≡ Written → AreWritten last t rs → Has last t rs
 has_written last t rs phase had = subst (λ (ph : Phase). HasIn ph last t rs) (sym phase) had

@@ -1,5 +1,5 @@
 -- Tapes as their users see them: some are open, each is written first and then read, and each is a list of records. All of this is our own.
-use Rattle.std.specs.Prelude.{◌≡◌, ◌≢◌, ℕ, ◌+◌, Bool, true, false, not, List, [], length, get_or, Result, Err, IfErr, OnOk, OnErr}
+use Rattle.std.specs.Prelude.{◌≡◌, ◌≢◌, ℕ, ◌+◌, ◌*◌, ◌<◌, Bool, true, false, not, List, [], length, get_or, Result, Err, IfErr, OnOk, OnErr}
 use Rattle.std.specs.List.{sum_by}
 use Rattle.spill_tapes.specs.Records.{Record}
 use Rattle.spill_tapes.specs.Pages.{PoolState, IsPool, times, below}
@@ -74,6 +74,15 @@ pub record DiesIfRefused {T D : Type 0} (IsReason : Bool → TapeError → Type 
   pub refused : IfErr result (IsReason old.is_dead)
   pub alive : OnOk result (new.is_dead ≡ false)
   pub dies : OnErr result (new.is_dead ≡ true)
+
+-- the pages that a tape no longer has are free, and no new page number was given out
+pub record FreesPages (before after : TapesState) (tape : TapeId) : Type 0 where
+  pub free : length after.pool.free + length (tape_at after tape).pages ≡ length before.pool.free + length (tape_at before tape).pages
+  pub count : after.pool.count ≡ before.pool.count
+
+-- a tape that is read has no page more than what is left of it takes, so a page that was read isn't one of its pages
+abbrev pub HasNoPageMore : TapeState → Type 0
+HasNoPageMore t = 8192 * length t.pages < t.left + 8192
 
 -- what is true of all tapes: each page that was given out is free or one tape's, and there is no tape that is not open with
 -- pages; and what is true of each by its phase, as long as no call failed

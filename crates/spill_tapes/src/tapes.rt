@@ -6,7 +6,7 @@ ghost use Rattle.spill_tapes.specs.Errors.{tape_faults};
 ghost use Rattle.spill_tapes.specs.Pages.{UsesAgain};
 ghost use Rattle.spill_tapes.specs.Records.{Record, tape_bytes};
 ghost use Rattle.spill_tapes.specs.Tape.{Gives, new_tape, no_tape};
-ghost use Rattle.spill_tapes.specs.Tapes.{tape_at, phase_of, is_open, is_written, is_read, written_len, IsTape, KeepsOthers, DiesIfRefused, IsOpenRefusal, IsRefusal, IsReadRefusal};
+ghost use Rattle.spill_tapes.specs.Tapes.{tape_at, phase_of, is_open, is_written, is_read, written_len, IsTape, KeepsOthers, DiesIfRefused, IsOpenRefusal, IsRefusal, IsReadRefusal, FreesPages, HasNoPageMore};
 ghost use Rattle.spill_tapes.specs.declared.error.TapeError.TheVariants.{TapeDamaged, TapesDead};
 ghost use Rattle.spill_tapes.specs.declared.tape.Phase.TheVariants.{Closed, Written, Read};
 ghost use Rattle.spill_tapes.specs.declared.tape_id.TapeId.{TapeId};
@@ -271,7 +271,7 @@ impl Tapes {
     }
 
     /// Reads the next record of a tape, if there is one: its hash and its tag are answered, and its bytes are put in the
-    /// place of those in `bytes`. Without a record there are none.
+    /// place of those in `bytes`. Without a record there are none. A page of which all was read, or that lies in the buffer, is free.
     pub fn next<D: TapeDisk>(
         &mut self,
         disk: &mut D,
@@ -287,7 +287,8 @@ impl Tapes {
         ensures none { IfOk result (λ found. IfNone found (bytes.new.items ≡ [])) }
         ensures nothing { OnErr result (bytes.new.items ≡ []) }
         ensures others { KeepsOthers (D.last disk.old) (D.last disk.new) self.old self.new tape }
-        ensures frees { self.new.pool.count ≡ self.old.pool.count }
+        ensures frees { FreesPages self.old self.new tape }
+        ensures few { OnOk result (HasNoPageMore (tape_at self.new tape)) }
         ensures disk { OnlyReads D.TapeDisk (failed tape_faults result) disk.old disk.new }
     {
         bytes.clear();
@@ -305,12 +306,13 @@ impl Tapes {
         }
     }
 
-    /// Gives up a tape. Its pages are used again.
+    /// Gives up a tape. Its pages are free.
     pub fn close<D: TapeDisk>(&mut self, _disk: &D, tape: TapeId)
         requires open { is_open self.old tape ≡ true }
         ensures alive { self.new.is_dead ≡ self.old.is_dead }
         ensures closed { is_open self.new tape ≡ false }
-        ensures frees { self.new.pool.count ≡ self.old.pool.count }
+        ensures frees { FreesPages self.old self.new tape }
+        ensures none { (tape_at self.new tape).pages ≡ [] }
         ensures others { KeepsOthers (D.last _disk.now) (D.last _disk.now) self.old self.new tape }
     {
         let slot = &mut self.tapes[tape.index];

@@ -4,7 +4,7 @@ use Rattle.spill_tapes.specs.Tape.{TapeState, IsGood}
 use Rattle.spill_tapes.specs.Tapes.{TapesState, tape_at, phase_of}
 use Rattle.spill_tapes.specs.TapesFields.{tapes_of}
 use Rattle.spill_tapes.specs.declared.tape.Phase.TheVariants.{Closed, Read}
-use Rattle.spill_tapes.proofs.TapesLaws.{tapes_put, others_kept_all, is_reading, read_open, open_within, slot_is, have_at, phases_kept, read_ahead, read_gives, read_refusal}
+use Rattle.spill_tapes.proofs.TapesLaws.{tapes_put, others_kept_all, is_reading, read_open, open_within, slot_is, have_at, phases_kept, read_ahead, read_gives, read_refusal, frees_pages, no_page_more}
 use Rattle.spill_tapes.proofs.tapes.Tapes.next.Goals as goal
 
 pub index_mut-slot-requires : goal.index_mut-slot-requires
@@ -51,6 +51,7 @@ returns-in-Err g c =
     let last = g.D.TapeDisk.last c.args.disk.now in let last' = g.D.TapeDisk.last c.next.new.disk in
     let alive : s.is_dead ≡ false = sym c.is_dead.ensures ∙ c.if-is_dead.false in
     let reading : phase_of s tape ≡ Read = is_reading (phase_of s tape) (c.requires.read alive) in
+    let differ : phase_of s tape ≢ Closed = read_open (phase_of s tape) reading in let y = c.index_mut-slot.result.now in
     record {
       dies = record { dead = λ is. absurd (cc (is, alive)); unchanged = λ is. absurd (cc (is, alive)); refused = read_refusal c.in-Err.error s.is_dead alive told.refused.alive; alive = tt; dies = refl };
       undamaged = λ honest rs had. told.refused.undamaged honest rs (read_ahead last t s tape c.index_mut-slot.result.now rs c.self.view_is (c.requires.read alive) c.index_mut-slot.ensures.value had);
@@ -60,7 +61,8 @@ returns-in-Err g c =
       none = tt;
       nothing = c.clear-in-Err.ensures.items;
       others = others_kept_all last last' t s t' tape x c.self.view_is told.disk.keeps refl;
-      frees = told.pages.count ∙ ap (λ (z : TapesState). z.pool.count) c.self.view_is;
+      frees = frees_pages t s t' tape y x c.self.view_is differ (slot_is t s tape y c.self.view_is differ c.index_mut-slot.ensures.value) refl told.pages;
+      few = tt;
       disk = told.disk;
     }
 
@@ -71,6 +73,7 @@ returns-in-Ok g c =
     let last = g.D.TapeDisk.last c.args.disk.now in let last' = g.D.TapeDisk.last c.next.new.disk in
     let alive : s.is_dead ≡ false = sym c.is_dead.ensures ∙ c.if-is_dead.false in
     let reading : phase_of s tape ≡ Read = is_reading (phase_of s tape) (c.requires.read alive) in
+    let differ : phase_of s tape ≢ Closed = read_open (phase_of s tape) reading in let y = c.index_mut-slot.result.now in
     record {
       dies = record { dead = λ is. absurd (cc (is, alive)); unchanged = λ is. absurd (cc (is, alive)); refused = tt; alive = ap (λ (z : TapesState). z.is_dead) c.self.view_is ∙ alive; dies = tt };
       undamaged = tt;
@@ -81,6 +84,7 @@ returns-in-Ok g c =
       none = told.given.none;
       nothing = tt;
       others = others_kept_all last last' t s t' tape x c.self.view_is told.disk.keeps refl;
-      frees = told.pages.count ∙ ap (λ (z : TapesState). z.pool.count) c.self.view_is;
+      frees = frees_pages t s t' tape y x c.self.view_is differ (slot_is t s tape y c.self.view_is differ c.index_mut-slot.ensures.value) refl told.pages;
+      few = no_page_more t s t' tape x c.self.view_is differ refl told.phase told.given.good;
       disk = told.disk;
     }
