@@ -3,11 +3,12 @@
 use Rattle.std.specs.Prelude.{ℕ, ◌+◌, ◌-◌, ◌/◌, ◌%◌, ◌^◌, ◌==◌, nat_lt, if◌then◌else◌, Bool, true, false, not, List, [], ◌∷◌, map, filter}
 use Rattle.std.specs.List.{range_with_len}
 use Rattle.spill_tapes.specs.Records.{Record}
+use Rattle.spill_lists.specs.declared.lists.TheConstants.{LISTS, LAST_LEVEL}
 
 -- the list on which a hash of 32 bits falls at a level: its digit to base 16 there, from the top; below its eight digits, the
 -- one list
 abbrev pub list_of : ℕ → ℕ → ℕ
-list_of level hash = if nat_lt level 8 then hash / 16 ^ (7 - level) % 16 else 0
+list_of level hash = if nat_lt level LAST_LEVEL then hash / LISTS ^ (LAST_LEVEL - 1 - level) % LISTS else 0
 
 -- the records that fall on one of the 16 lists, in their order
 abbrev pub on_list : ℕ → List Record → ℕ → List Record
@@ -19,7 +20,7 @@ pub record LeftList : Type 0 where
   pub records : List Record
 
 abbrev pub deeper : ℕ → ℕ
-deeper level = if nat_lt level 8 then level + 1 else 8
+deeper level = if nat_lt level LAST_LEVEL then level + 1 else LAST_LEVEL
 
 abbrev pub is_none : List Record → Bool
 is_none [] = true
@@ -27,7 +28,7 @@ is_none (entry ∷ records) = false
 
 -- the 16 lists of what a pass spills, and those of them that a later pass is to read
 abbrev pub lists : ℕ → List Record → List LeftList
-lists level spilled = map (λ i. record { level = deeper level; records = on_list level spilled i }) (range_with_len 0 16)
+lists level spilled = map (λ i. record { level = deeper level; records = on_list level spilled i }) (range_with_len 0 LISTS)
 
 abbrev pub left_by : ℕ → List Record → List LeftList
 left_by level spilled = filter (λ (list : LeftList). not (is_none list.records)) (lists level spilled)

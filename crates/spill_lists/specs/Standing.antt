@@ -1,6 +1,9 @@
 -- Lists on tapes. All of this is our own.
 use Rattle.std.specs.Prelude.{◌≡◌, ℕ, ◌+◌, ◌/◌, ◌<◌, ◌≤◌, ◌⊎◌, ◌==◌, cond, true, false, not, List, [], ◌∷◌, ◌++◌, length, sum_by, filter}
+use Rattle.spill_tapes.specs.Pages.{pages_for}
 use Rattle.spill_tapes.specs.Records.{Record, tape_bytes}
+use Rattle.spill_tapes.specs.declared.limits.TheConstants.{PAGE}
+use Rattle.spill_lists.specs.declared.lists.TheConstants.{LISTS}
 use Rattle.spill_tapes.specs.Tapes.{TapesState, IsTape, is_written, is_read, written_len}
 use Rattle.spill_tapes.specs.declared.disk.TapeDisk.{Ghosts}
 use Rattle.spill_tapes.specs.declared.tape_id.TapeId.{TapeId}
@@ -29,16 +32,16 @@ ahead_number s = count_of s.source
 abbrev pub waiting_number : ListsState → ℕ
 waiting_number s = count_of s.todo
 
--- the pages of 8,192 bytes of a tape of some records, and of the tapes of some lists
+-- the pages of a tape of some records, and of the tapes of some lists
 abbrev pub list_pages : List Record → ℕ
-list_pages records = (length (tape_bytes records) + 8191) / 8192
+list_pages records = pages_for (length (tape_bytes records))
 
 abbrev pub pages_of : List LeftList → ℕ
 pages_of lists = sum_by (λ (list : LeftList). list_pages list.records) lists
 
 -- how many pages of tapes were written so far: those that are full
 abbrev pub full_pages : TapesState → List OnTape → ℕ
-full_pages t tapes = sum_by (λ (list : OnTape). written_len t list.tape / 8192) tapes
+full_pages t tapes = sum_by (λ (list : OnTape). written_len t list.tape / PAGE) tapes
 
 abbrev pub written_pages : ListsState → ℕ
 written_pages s = full_pages s.tapes s.parts
@@ -121,7 +124,7 @@ pub record IsNewList (last : ℕ → ℕ → Type 0) (t : TapesState) (level : �
 -- what is true of all lists
 pub record AreLists (s : ListsState) : Type 0 where
   pub apart : AreApart (s.parts ++ (s.source ++ s.todo))
-  pub sixteen : (s.parts ≡ []) ⊎ (length s.parts ≡ 16)
+  pub sixteen : (s.parts ≡ []) ⊎ (length s.parts ≡ LISTS)
   pub written : s.tapes.is_dead ≡ false → AreWritten s.tapes s.parts
   pub read : s.tapes.is_dead ≡ false → AreRead s.tapes (s.source ++ s.todo)
   pub filled : HaveRecords s.todo

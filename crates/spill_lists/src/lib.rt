@@ -8,4 +8,4 @@ mod error;
 mod lists;
 
 pub use error::SpillError;
-pub use lists::SpillLists;
+pub use lists::{SpillLists, sizes};

@@ -13,16 +13,23 @@ ghost use Rattle.spill_lists.specs.declared.error.SpillError.TheVariants.{NoMemo
 ghost use Rattle.spill_tapes.specs.declared.error.TapeError.TheVariants.{TapesDead};
 
 use crate::error::SpillError;
+use spill_tapes::limits::{LONGEST_RECORD, PAGE};
 use spill_tapes::{TapeDisk, TapeError, TapeId, Tapes};
 use std::alloc::Global;
 use std::marker::Model;
 use std::mem::replace;
 
 /// How many lists a pass spills to: as many as four bits tell apart.
-const LISTS: usize = 16;
+pub const LISTS: usize = 16;
 
 /// The level from which on all records fall on one list: a hash has eight digits to base 16.
-const LAST_LEVEL: u32 = 8;
+pub const LAST_LEVEL: u32 = 8;
+
+/// A law: there are 16 lists, and one from the eighth level on.
+pub fn sizes()
+    ensures lists { LISTS ≡ 16 }
+    ensures last { LAST_LEVEL ≡ 8 }
+{}
 
 /// A list: its tape, how many records there are on it, and how deep the pass is that is to read them.
 #[derive(Clone, Copy)]
@@ -59,7 +66,7 @@ impl Model for SpillLists {
 /// The list on which a hash falls at a level.
 fn list_of(level: u32, hash: u32) -> usize
     ensures is { result ≡ list_of level hash }
-    ensures within { result < 16 }
+    ensures within { result < LISTS }
 {
     if level < LAST_LEVEL {
         (hash / 16u32.pow(7 - level)) as usize % LISTS
@@ -141,7 +148,7 @@ impl SpillLists {
     ) -> Result<(), SpillError>
         requires alive { self.old.tapes.is_dead ≡ false }
         requires tag { tag < 2 }
-        requires len { length bytes.now ≤ 65535 }
+        requires len { length bytes.now ≤ LONGEST_RECORD }
         ensures spilled { OnOk result (Spilled D.TapeDisk (record { hash = hash; tag = tag; bytes = bytes.now }) self.old disk.old self.new disk.new) }
         ensures rest { KeepsRest self.old self.new }
         ensures undamaged { IfErr result (λ error. error ≢ TapeDamaged) }
@@ -159,7 +166,7 @@ impl SpillLists {
         requires alive { self.old.tapes.is_dead ≡ false }
         requires none { self.old.parts ≡ [] }
         ensures opened { OnOk result ((spilled ahead : List Record) (todo : List LeftList) → HasLists (D.last disk.now) self.old spilled ahead todo → HasLists (D.last disk.now) self.new spilled ahead todo) }
-        ensures sixteen { OnOk result (length self.new.parts ≡ 16) }
+        ensures sixteen { OnOk result (length self.new.parts ≡ LISTS) }
         ensures counted { OnOk result (spilled_number self.new ≡ 0) }
         ensures paged { OnOk result (written_pages self.new ≡ 0) }
         ensures alive { self.new.tapes.is_dead ≡ false }
@@ -210,7 +217,7 @@ impl SpillLists {
         requires parts { place < length self.old.parts }
         requires place { place ≡ list_of self.old.level hash }
         requires tag { tag < 2 }
-        requires len { length bytes.now ≤ 65535 }
+        requires len { length bytes.now ≤ LONGEST_RECORD }
         ensures spilled { OnOk result (Spilled D.TapeDisk (record { hash = hash; tag = tag; bytes = bytes.now }) self.old disk.old self.new disk.new) }
         ensures rest { KeepsRest self.old self.new }
         ensures undamaged { IfErr result (λ error. error ≢ TapeDamaged) }
@@ -256,7 +263,7 @@ impl SpillLists {
         requires parts { self.old.parts ≡ [] }
         requires apart { times list.tape.index (self.old.source ++ self.old.todo) ≡ 0 }
         ensures left { OnOk result (self.new.todo ≡ self.old.todo ++ those_with_records (list ∷ [])) }
-        ensures paged { OnOk result ((records : List Record) → IsTape (D.last disk.old) self.old.tapes list.tape records → list.records ≡ length records → D.writes disk.new + written_len self.old.tapes list.tape / 8192 ≡ D.writes disk.old + list_pages records) }
+        ensures paged { OnOk result ((records : List Record) → IsTape (D.last disk.old) self.old.tapes list.tape records → list.records ≡ length records → D.writes disk.new + written_len self.old.tapes list.tape / PAGE ≡ D.writes disk.old + list_pages records) }
         ensures kept { OnOk result (0 < list.records → (records : List Record) → IsTape (D.last disk.old) self.old.tapes list.tape records → IsTape (D.last disk.new) self.new.tapes list.tape records) }
         ensures others { KeepsOthers (D.last disk.old) (D.last disk.new) self.old.tapes self.new.tapes list.tape }
         ensures alive { OnOk result (self.new.tapes.is_dead ≡ false) }
@@ -314,7 +321,7 @@ impl SpillLists {
         ensures undamaged { IfErr result (λ error. IsTrue (D.honest disk.old) → (spilled ahead : List Record) (todo : List LeftList) → HasLists (D.last disk.old) self.old spilled ahead todo → error ≢ TapeDamaged) }
         ensures counted { IfOk result (λ found. IfSome found (λ _. ahead_number self.old ≡ ahead_number self.new + 1)) }
         ensures ended { IfOk result (λ found. IfNone found ((ahead_number self.old ≡ 0) × (self.new.source ≡ []))) }
-        ensures framed { IfOk result (λ found. IfSome found (λ told. (told.1 < 2) × (length bytes.new.items ≤ 65535))) }
+        ensures framed { IfOk result (λ found. IfSome found (λ told. (told.1 < 2) × (length bytes.new.items ≤ LONGEST_RECORD))) }
         ensures none { IfOk result (λ found. IfNone found (bytes.new.items ≡ [])) }
         ensures nothing { OnErr result (bytes.new.items ≡ []) }
         ensures alive { OnOk result (self.new.tapes.is_dead ≡ false) }

@@ -6,6 +6,7 @@ use Rattle.std.specs.Ordering.{nat_cmp}
 use Rattle.chunk_layout.specs.Pieces.{Piece, place_of, same_place}
 use Rattle.chunk_layout.specs.declared.place.ChunkName.{ChunkName}
 use Rattle.chunk_contexts.specs.Chunks.{is_live, bytes_of}
+use Rattle.spill_tapes.specs.declared.limits.TheConstants.{PAGE}
 
 -- the chunks; the name of each page's chunk, by the page's number; and how often it was written
 pub record MemoryState : Type 0 where
@@ -23,7 +24,7 @@ byte_in chunks None k = 0
 byte_in chunks (Some name) k = get_or (bytes_of chunks name) k 0
 
 abbrev pub byte_at : MemoryState → ℕ → ℕ
-byte_at m place = byte_in m.chunks (name_of m.pages (place / 8192)) (place % 8192)
+byte_at m place = byte_in m.chunks (name_of m.pages (place / PAGE)) (place % PAGE)
 
 -- all bytes are as before, and all but those from a place on
 abbrev pub IsSame : MemoryState → MemoryState → Type 0
@@ -39,5 +40,5 @@ AreAt m at bytes = (k : ℕ) → k < length bytes → byte_at m (at + k) ≡ get
 -- each page has a chunk of its own
 pub record ArePages (m : MemoryState) : Type 0 where
   pub live : (page : ℕ) → (name : ChunkName) → name_of m.pages page ≡ Some name → IsTrue (is_live m.chunks name)
-  pub len : (page : ℕ) → (name : ChunkName) → name_of m.pages page ≡ Some name → name.len ≡ 8192
+  pub len : (page : ℕ) → (name : ChunkName) → name_of m.pages page ≡ Some name → name.len ≡ PAGE
   pub apart : (page other : ℕ) → (name name' : ChunkName) → name_of m.pages page ≡ Some name → name_of m.pages other ≡ Some name' → page ≢ other → same_place (place_of name) (place_of name') ≡ false

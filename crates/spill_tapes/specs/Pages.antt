@@ -1,5 +1,10 @@
--- The pages of tapes, by their numbers. Page n of a disk are the 8,192 bytes from the place 8,192 n on. All of this is our own.
-use Rattle.std.specs.Prelude.{◌≡◌, ℕ, ◌+◌, ◌*◌, ◌^◌, ◌<◌, ◌≤◌, ◌⊎◌, ◌==◌, nat_lt, cond, List, [], ◌∷◌, ◌++◌, length, get_or}
+-- The pages of tapes, by their numbers. Page n of a disk are its PAGE bytes from the place PAGE * n on. All of this is our own.
+use Rattle.std.specs.Prelude.{◌≡◌, ℕ, ◌+◌, ◌-◌, ◌*◌, ◌/◌, ◌<◌, ◌≤◌, ◌⊎◌, ◌==◌, nat_lt, cond, List, [], ◌∷◌, ◌++◌, length, get_or}
+use Rattle.spill_tapes.specs.declared.limits.TheConstants.{PAGE, MOST_PAGES}
+
+-- how many pages so many bytes take
+abbrev pub pages_for : ℕ → ℕ
+pages_for n = (n + (PAGE - 1)) / PAGE
 
 -- the numbers of the pages that are free, how many page numbers were ever given out, and how many there is room for in the
 -- list of the free ones
@@ -8,9 +13,9 @@ pub record PoolState : Type 0 where
   pub count : ℕ
   pub room : ℕ
 
--- there is room for all numbers, and fewer than 2^49 are given out
+-- there is room for all numbers, and at most MOST_PAGES are given out
 pub record IsPool (pool : PoolState) : Type 0 where
-  pub few : pool.count < 2 ^ 49
+  pub few : pool.count ≤ MOST_PAGES
   pub room : pool.count ≤ pool.room
 
 -- one page more is free
@@ -70,8 +75,8 @@ pub record GivesBack (before : PoolState) (pages : List ℕ) (after : PoolState)
 
 -- a page has these bytes, and pages have
 pub record IsOn (last : ℕ → ℕ → Type 0) (page : ℕ) (bytes : List ℕ) : Type 0 where
-  pub len : length bytes ≡ 8192
-  pub each : (k : ℕ) → k < 8192 → last (page * 8192 + k) (get_or bytes k 0)
+  pub len : length bytes ≡ PAGE
+  pub each : (k : ℕ) → k < PAGE → last (page * PAGE + k) (get_or bytes k 0)
 
 abbrev pub AreOn : (ℕ → ℕ → Type 0) → List ℕ → List (List ℕ) → Type 0
 AreOn last [] [] = Unit {0}
@@ -81,4 +86,4 @@ AreOn last (page ∷ pages) (bytes ∷ contents) = IsOn last page bytes × AreOn
 
 -- each page that is given out and not free has the bytes that it had
 abbrev pub KeepsPages : PoolState → (ℕ → ℕ → Type 0) → (ℕ → ℕ → Type 0) → Type 0
-KeepsPages pool before after = (page : ℕ) → page < pool.count → times page pool.free ≡ 0 → (k byte : ℕ) → k < 8192 → before (page * 8192 + k) byte → after (page * 8192 + k) byte
+KeepsPages pool before after = (page : ℕ) → page < pool.count → times page pool.free ≡ 0 → (k byte : ℕ) → k < PAGE → before (page * PAGE + k) byte → after (page * PAGE + k) byte

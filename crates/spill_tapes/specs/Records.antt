@@ -2,6 +2,7 @@
 use Rattle.std.specs.Prelude.{ℕ, ◌+◌, ◌^◌, ◌<◌, ◌≤◌, List, [], ◌∷◌, ◌++◌, length, get_or}
 use Rattle.std.specs.Int.{w32, from_be_bytes, to_be_bytes}
 use Rattle.std.specs.List.{flat_map}
+use Rattle.spill_tapes.specs.declared.limits.TheConstants.{LONGEST_RECORD}
 
 -- a record: a hash, a tag, and bytes
 pub record Record : Type 0 where
@@ -13,7 +14,7 @@ pub record Record : Type 0 where
 pub record IsRecord (r : Record) : Type 0 where
   pub hash : r.hash < 2 ^ 32
   pub tag : r.tag < 2
-  pub len : length r.bytes ≤ 65535
+  pub len : length r.bytes ≤ LONGEST_RECORD
 
 abbrev pub AreRecords : List Record → Type 0
 AreRecords [] = Unit {0}

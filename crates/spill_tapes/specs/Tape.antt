@@ -8,6 +8,7 @@ use Rattle.spill_tapes.specs.declared.error.TapeError.TheVariants.{TapeDamaged, 
 use Rattle.spill_tapes.specs.declared.header.Header.{Header}
 use Rattle.spill_tapes.specs.declared.tape.Phase.{Phase}
 use Rattle.spill_tapes.specs.declared.tape.Phase.TheVariants.{Closed, Written, Read}
+use Rattle.spill_tapes.specs.declared.limits.TheConstants.{PAGE, LONGEST_RECORD}
 
 -- whether a tape is in a phase
 abbrev pub is_in : Phase → Phase → Bool
@@ -34,11 +35,11 @@ new_tape = record { phase = Written; pages = []; buffer = []; read = 0; left = 0
 
 -- how many bytes were written to it
 abbrev pub tape_len : TapeState → ℕ
-tape_len t = 8192 * length t.pages + length t.buffer
+tape_len t = PAGE * length t.pages + length t.buffer
 
 -- how many bytes there are to read
 abbrev pub ahead : TapeState → ℕ
-ahead t = (length t.buffer - t.read) + 8192 * length t.pages
+ahead t = (length t.buffer - t.read) + PAGE * length t.pages
 
 abbrev pub join : List (List ℕ) → List ℕ
 join contents = flat_map (λ bytes. bytes) contents
@@ -67,7 +68,7 @@ spent t n = record { phase = t.phase; pages = t.pages; buffer = t.buffer; read =
 
 -- what is true of a tape that is being written: no whole page waits in its buffer, and it has bytes only of records
 pub record IsGoodWritten (t : TapeState) : Type 0 where
-  pub small : length t.buffer < 8192
+  pub small : length t.buffer < PAGE
   pub number : t.records ≤ tape_len t
   pub begun : t.records ≡ 0 → tape_len t ≡ 0
 
@@ -76,7 +77,7 @@ pub record IsGoodWritten (t : TapeState) : Type 0 where
 pub record IsGoodRead (t : TapeState) : Type 0 where
   pub read : t.read ≤ length t.buffer
   pub left : t.left ≤ ahead t
-  pub pages : ahead t < t.left + 8192
+  pub pages : ahead t < t.left + PAGE
   pub end : t.records ≡ 0 → t.left ≡ 0
 
 -- what is true of a tape by its phase
@@ -144,7 +145,7 @@ pub record IsGiven (honest : Bool) (last : ℕ → ℕ → Type 0) (before : Tap
   pub good : IsGood after
   pub gives : IsTrue honest → (rs : List Record) → AreAhead last before rs → Gives (AreAhead last' after) rs bytes found
   pub none : IfNone found (bytes ≡ [])
-  pub framed : IfSome found (λ told. (told.1 < 2) × (length bytes ≤ 65535))
+  pub framed : IfSome found (λ told. (told.1 < 2) × (length bytes ≤ LONGEST_RECORD))
 
 -- why it told none
 pub record IsNotGiven (honest : Bool) (last : ℕ → ℕ → Type 0) (before : TapeState) (error : TapeError) : Type 0 where

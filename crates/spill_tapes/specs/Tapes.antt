@@ -9,6 +9,7 @@ use Rattle.spill_tapes.specs.declared.error.TapeError.TheVariants.{NoMemory, Tap
 use Rattle.spill_tapes.specs.declared.tape.Phase.{Phase}
 use Rattle.spill_tapes.specs.declared.tape.Phase.TheVariants.{Closed, Written, Read}
 use Rattle.spill_tapes.specs.declared.tape_id.TapeId.{TapeId}
+use Rattle.spill_tapes.specs.declared.limits.TheConstants.{PAGE}
 
 -- whether a call failed; the tapes; and their pages
 pub record TapesState : Type 0 where
@@ -82,7 +83,7 @@ pub record FreesPages (before after : TapesState) (tape : TapeId) : Type 0 where
 
 -- a tape that is read has no page more than what is left of it takes, so a page that was read isn't one of its pages
 abbrev pub HasNoPageMore : TapeState → Type 0
-HasNoPageMore t = 8192 * length t.pages < t.left + 8192
+HasNoPageMore t = PAGE * length t.pages < t.left + PAGE
 
 -- what is true of all tapes: each page that was given out is free or one tape's, and there is no tape that is not open with
 -- pages; and what is true of each by its phase, as long as no call failed

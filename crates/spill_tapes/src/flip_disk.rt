@@ -3,7 +3,7 @@ ghost use Rattle.std.specs.Prelude.{◌≡◌, ◌≢◌, ◌+◌, ◌<◌, ◌^
 ghost use Rattle.spill_tapes.specs.Faulty.{flipped};
 
 use crate::disk::{DiskError, TapeDisk};
-use crate::pool::PAGE;
+use crate::limits::PAGE;
 use std::marker::Model;
 
 /// A disk that gives back other bytes than were written: in all that is read, some bits of one byte of each page of 8,192 bytes
@@ -26,7 +26,7 @@ impl<D: TapeDisk + Drop> Model for FlipDisk<D> {
 impl<D: TapeDisk + Drop> FlipDisk<D> {
     /// A disk of which byte `at` of each page is changed in each read by exclusive or with `mask`.
     pub fn new(inner: D, at: u64, mask: u8) -> FlipDisk<D>
-        requires place { at < 8192 }
+        requires place { at < PAGE }
         requires mask { mask ≢ 0 }
         ensures { result ≡ record { inner = inner; at = at; mask = mask } }
     {

@@ -2,8 +2,7 @@
 ghost use Rattle.std.specs.Prelude.{◌≡◌, ◌+◌, ◌≤◌, ◌<◌, ℕ, length, get_or};
 ghost use Rattle.spill_tapes.specs.Records.{number_at, header_of};
 
-/// How many bytes the front of a record has.
-pub(crate) const HEADER: usize = 9;
+use crate::limits::FRONT;
 
 /// What the front of a record tells: its hash, its tag, and how many bytes follow.
 #[derive(Clone, Copy)]
@@ -25,7 +24,7 @@ fn number(bytes: &[u8], at: usize) -> u32
 impl Header {
     /// The front of a record that has these bytes.
     pub(crate) fn read(bytes: &[u8]) -> Header
-        requires { length bytes.now ≡ 9 }
+        requires { length bytes.now ≡ FRONT }
         ensures hash { result.hash ≡ number_at bytes.now 0 }
         ensures tag { result.tag ≡ get_or bytes.now 4 0 }
         ensures len { result.len ≡ number_at bytes.now 5 }
@@ -39,7 +38,7 @@ impl Header {
 
     /// Its bytes.
     #[tactic(auto, unfolding(crate::specs::Records::header_of))]
-    pub(crate) fn to_bytes(self) -> [u8; HEADER]
+    pub(crate) fn to_bytes(self) -> [u8; FRONT]
         ensures { result ≡ header_of self.hash self.tag self.len }
     {
         let [a, b, c, d] = self.hash.to_be_bytes();

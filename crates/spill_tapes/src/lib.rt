@@ -10,6 +10,7 @@ mod fail_disk;
 mod file_disk;
 mod flip_disk;
 mod header;
+pub mod limits;
 mod mem_disk;
 mod pool;
 mod spill_disk;

@@ -5,7 +5,7 @@ ghost use Rattle.spill_tapes.specs.Memory.{name_of, byte_at, IsSame, IsSameBesid
 ghost use Rattle.spill_tapes.specs.declared.disk.DiskError.TheVariants as disk_error;
 
 use crate::disk::{DiskError, TapeDisk};
-use crate::pool::PAGE;
+use crate::limits::PAGE;
 use chunk_contexts::{ChunkContext, Generation};
 use chunk_layout::ChunkName;
 use std::alloc::Global;
@@ -111,7 +111,7 @@ impl MemDisk {
 
     /// Writes bytes that lie in one page.
     fn write_part(&mut self, at: u64, bytes: &[u8]) -> Result<(), DiskError>
-        requires { at % 8192 + length bytes.now ≤ 8192 }
+        requires { at % PAGE + length bytes.now ≤ PAGE }
         ensures written { OnOk result (AreAt self.new at bytes.now) }
         ensures same { IsSameBeside self.old self.new at (length bytes.now) }
         ensures count { self.new.count ≡ self.old.count }
@@ -124,8 +124,8 @@ impl MemDisk {
 
     /// Writes bytes to the page of a place, which has this chunk.
     fn put(&mut self, name: ChunkName, at: u64, bytes: &[u8])
-        requires page { name_of self.old.pages (at / 8192) ≡ Some name }
-        requires fits { at % 8192 + length bytes.now ≤ 8192 }
+        requires page { name_of self.old.pages (at / PAGE) ≡ Some name }
+        requires fits { at % PAGE + length bytes.now ≤ PAGE }
         ensures written { AreAt self.new at bytes.now }
         ensures same { IsSameBeside self.old self.new at (length bytes.now) }
         ensures count { self.new.count ≡ self.old.count }
@@ -135,7 +135,7 @@ impl MemDisk {
 
     /// Reads bytes that lie in one page.
     fn read_part(&self, at: u64, bytes: &mut [u8])
-        requires { at % 8192 + length bytes.old ≤ 8192 }
+        requires { at % PAGE + length bytes.old ≤ PAGE }
         ensures len { length bytes.new ≡ length bytes.old }
         ensures read { AreAt self.now at bytes.new }
     {
@@ -154,7 +154,7 @@ impl MemDisk {
 fn part_len(at: u64, left: usize) -> usize
     requires { 0 < left }
     ensures some { 0 < result }
-    ensures within { at % 8192 + result ≤ 8192 }
+    ensures within { at % PAGE + result ≤ PAGE }
     ensures most { result ≤ left }
 {
     (PAGE - (at % PAGE as u64) as usize).min(left)

@@ -2,15 +2,10 @@
 ghost use Rattle.std.specs.Prelude.{◌≡◌, ◌+◌, ◌<◌, ◌≤◌, ◌^◌, ◌∷◌, ◌++◌, [], ℕ, IfOk, OnOk, IfSome, IfNone, OnErr, length};
 ghost use Rattle.spill_tapes.specs.Pages.{IsPool, HavePages, IsApart, IsBalanced, TakesPages, IsFresh, given_back};
 
+use crate::limits::MOST_PAGES;
 use std::alloc::{AllocError, Global};
 use std::collections::VecDeque;
 use std::marker::Model;
-
-/// How many bytes a page has.
-pub(crate) const PAGE: usize = 8192;
-
-/// How many pages there are at most.
-const MOST_PAGES: u64 = 562_949_953_421_311;
 
 /// The pages that are free, and how many page numbers were ever given out.
 #[derive(Drop)]
@@ -44,7 +39,7 @@ impl PagePool {
     /// Makes room for one page more in the list of free ones.
     fn make_room(&mut self) -> Result<(), AllocError>
         requires none { length self.old.free ≡ 0 }
-        requires few { self.old.count < 2 ^ 49 }
+        requires few { self.old.count ≤ MOST_PAGES }
         ensures free { self.new.free ≡ self.old.free }
         ensures count { self.new.count ≡ self.old.count }
         ensures room { self.old.room ≤ self.new.room }

@@ -4,14 +4,15 @@ ghost use Rattle.spill_tapes.specs.Disk.{Leaves, OnlyReads};
 ghost use Rattle.spill_tapes.specs.Calls.{failed};
 ghost use Rattle.spill_tapes.specs.Errors.{disk_faults, tape_faults};
 ghost use Rattle.spill_tapes.specs.Records.{Record, IsRecord, header_of};
-ghost use Rattle.spill_tapes.specs.Pages.{HavePages, TakesPages, GivesBack, KeepsPages};
+ghost use Rattle.spill_tapes.specs.Pages.{pages_for, HavePages, TakesPages, GivesBack, KeepsPages};
 ghost use Rattle.spill_tapes.specs.Tape.{TapeState, new_tape, no_tape, tape_len, ahead, HasWritten, HasAhead, IsSameTape, IsGood, IsGoodRead, IsAfterHeader, Gives, IsGiven, IsNotGiven, spent, ended, AreWritten, AreAhead};
 ghost use Rattle.spill_tapes.specs.declared.tape.Phase.TheVariants as phase;
 
 use crate::disk::{DiskError, TapeDisk};
 use crate::error::TapeError;
-use crate::header::{HEADER, Header};
-use crate::pool::{PAGE, PagePool};
+use crate::header::Header;
+use crate::limits::{FRONT, LONGEST_RECORD, PAGE};
+use crate::pool::PagePool;
 use std::alloc::{AllocError, Global};
 use std::collections::VecDeque;
 use std::marker::Model;
@@ -64,7 +65,7 @@ impl Tape {
     /// Writes the buffer, which is full, to a page more.
     fn flush<D: TapeDisk>(&mut self, disk: &mut D, pool: &mut PagePool) -> Result<(), DiskError>
         requires pages { HavePages pool.old self.old.pages }
-        requires full { length self.old.buffer ≡ 8192 }
+        requires full { length self.old.buffer ≡ PAGE }
         ensures pages { TakesPages pool.old self.old.pages pool.new self.new.pages }
         ensures same { IsSameTape self.old self.new }
         ensures read { self.new.read ≡ self.old.read }
@@ -89,7 +90,7 @@ impl Tape {
         bytes: &[u8],
     ) -> Result<(), DiskError>
         requires pages { HavePages pool.old self.old.pages }
-        requires full { length self.old.buffer + length bytes.now ≡ 8192 }
+        requires full { length self.old.buffer + length bytes.now ≡ PAGE }
         ensures pages { TakesPages pool.old self.old.pages pool.new self.new.pages }
         ensures same { IsSameTape self.old self.new }
         ensures keeps { KeepsPages pool.old (D.last disk.old) (D.last disk.new) }
@@ -111,11 +112,11 @@ impl Tape {
         bytes: &[u8],
     ) -> Result<(), DiskError>
         requires pages { HavePages pool.old self.old.pages }
-        requires small { length self.old.buffer < 8192 }
+        requires small { length self.old.buffer < PAGE }
         ensures pages { TakesPages pool.old self.old.pages pool.new self.new.pages }
         ensures same { IsSameTape self.old self.new }
         ensures keeps { KeepsPages pool.old (D.last disk.old) (D.last disk.new) }
-        ensures small { OnOk result (length self.new.buffer < 8192) }
+        ensures small { OnOk result (length self.new.buffer < PAGE) }
         ensures longer { OnOk result (tape_len self.new ≡ tape_len self.old + length bytes.now) }
         ensures written { OnOk result ((before : List ℕ) → HasWritten (D.last disk.old) self.old before → HasWritten (D.last disk.new) self.new (before ++ bytes.now)) }
         ensures counted { OnOk result (D.writes disk.new + length self.old.pages ≡ D.writes disk.old + length self.new.pages) }
@@ -139,12 +140,12 @@ impl Tape {
         bytes: &[u8],
     ) -> Result<(), DiskError>
         requires pages { HavePages pool.old self.old.pages }
-        requires small { length self.old.buffer < 8192 }
+        requires small { length self.old.buffer < PAGE }
         ensures pages { TakesPages pool.old self.old.pages pool.new self.new.pages }
         ensures keeps { KeepsPages pool.old (D.last disk.old) (D.last disk.new) }
         ensures same { IsSameTape self.old self.new }
-        ensures small { OnOk result (length self.new.buffer < 8192) }
-        ensures longer { OnOk result (tape_len self.new ≡ tape_len self.old + (9 + length bytes.now)) }
+        ensures small { OnOk result (length self.new.buffer < PAGE) }
+        ensures longer { OnOk result (tape_len self.new ≡ tape_len self.old + (FRONT + length bytes.now)) }
         ensures written { OnOk result ((before : List ℕ) → HasWritten (D.last disk.old) self.old before → HasWritten (D.last disk.new) self.new (before ++ (header_of header.hash header.tag header.len ++ bytes.now))) }
         ensures counted { OnOk result (D.writes disk.new + length self.old.pages ≡ D.writes disk.old + length self.new.pages) }
         ensures disk { Leaves D.TapeDisk (failed disk_faults result) disk.old disk.new }
@@ -170,9 +171,9 @@ impl Tape {
         ensures keeps { KeepsPages pool.old (D.last disk.old) (D.last disk.new) }
         ensures phase { self.new.phase ≡ phase.Written }
         ensures good { OnOk result (IsGood self.new) }
-        ensures longer { OnOk result (tape_len self.new ≡ tape_len self.old + (9 + length bytes.now)) }
+        ensures longer { OnOk result (tape_len self.new ≡ tape_len self.old + (FRONT + length bytes.now)) }
         ensures appended { OnOk result ((rs : List Record) → AreWritten (D.last disk.old) self.old rs → AreWritten (D.last disk.new) self.new (rs ++ record { hash = header.hash; tag = header.tag; bytes = bytes.now } ∷ [])) }
-        ensures counted { OnOk result (D.writes disk.new + tape_len self.old / 8192 ≡ D.writes disk.old + tape_len self.new / 8192) }
+        ensures counted { OnOk result (D.writes disk.new + tape_len self.old / PAGE ≡ D.writes disk.old + tape_len self.new / PAGE) }
         ensures disk { Leaves D.TapeDisk (failed disk_faults result) disk.old disk.new }
     {
         self.buffer.reserve_exact(PAGE - self.buffer.len())?;
@@ -184,16 +185,16 @@ impl Tape {
     /// Fills up the page that has begun with zeros and writes it, if one has begun.
     fn finish<D: TapeDisk>(&mut self, disk: &mut D, pool: &mut PagePool) -> Result<(), DiskError>
         requires pages { HavePages pool.old self.old.pages }
-        requires small { length self.old.buffer < 8192 }
+        requires small { length self.old.buffer < PAGE }
         ensures pages { TakesPages pool.old self.old.pages pool.new self.new.pages }
         ensures keeps { KeepsPages pool.old (D.last disk.old) (D.last disk.new) }
         ensures same { IsSameTape self.old self.new }
         ensures read { self.new.read ≡ self.old.read }
         ensures empty { OnOk result (self.new.buffer ≡ []) }
         ensures longer { OnOk result (tape_len self.old ≤ tape_len self.new) }
-        ensures page { OnOk result (tape_len self.new < tape_len self.old + 8192) }
+        ensures page { OnOk result (tape_len self.new < tape_len self.old + PAGE) }
         ensures written { OnOk result ((bytes : List ℕ) → HasWritten (D.last disk.old) self.old bytes → ((rest : List ℕ) × HasWritten (D.last disk.new) self.new (bytes ++ rest))) }
-        ensures counted { OnOk result (D.writes disk.new + tape_len self.old / 8192 ≡ D.writes disk.old + (tape_len self.old + 8191) / 8192) }
+        ensures counted { OnOk result (D.writes disk.new + tape_len self.old / PAGE ≡ D.writes disk.old + pages_for (tape_len self.old)) }
         ensures disk { Leaves D.TapeDisk (failed disk_faults result) disk.old disk.new }
     {
         if self.buffer.is_empty() {
@@ -217,7 +218,7 @@ impl Tape {
         ensures phase { self.new.phase ≡ phase.Read }
         ensures good { OnOk result (IsGood self.new) }
         ensures rewound { OnOk result ((rs : List Record) → AreWritten (D.last disk.old) self.old rs → AreAhead (D.last disk.new) self.new rs) }
-        ensures counted { OnOk result (D.writes disk.new + tape_len self.old / 8192 ≡ D.writes disk.old + (tape_len self.old + 8191) / 8192) }
+        ensures counted { OnOk result (D.writes disk.new + tape_len self.old / PAGE ≡ D.writes disk.old + pages_for (tape_len self.old)) }
         ensures disk { Leaves D.TapeDisk (failed disk_faults result) disk.old disk.new }
     {
         self.phase = Phase::Read;
@@ -234,7 +235,7 @@ impl Tape {
         ensures pages { GivesBack pool.old self.old.pages pool.new self.new.pages }
         ensures same { IsSameTape self.old self.new }
         ensures start { OnOk result (self.new.read ≡ 0) }
-        ensures full { OnOk result (length self.new.buffer ≡ 8192) }
+        ensures full { OnOk result (length self.new.buffer ≡ PAGE) }
         ensures shorter { OnOk result (length self.new.pages + 1 ≡ length self.old.pages) }
         ensures loaded { OnOk result (IsTrue (D.honest disk.old) → (bytes : List ℕ) → HasAhead (D.last disk.old) self.old bytes → HasAhead (D.last disk.new) self.new bytes) }
         ensures disk { OnlyReads D.TapeDisk (failed disk_faults result) disk.old disk.new }
@@ -299,7 +300,7 @@ impl Tape {
     ) -> Result<Header, DiskError>
         requires pages { HavePages pool.old self.old.pages }
         requires good { IsGoodRead self.old }
-        requires left { 9 ≤ self.old.left }
+        requires left { FRONT ≤ self.old.left }
         requires some { 0 < self.old.records }
         requires empty { bytes.old.items ≡ [] }
         ensures pages { GivesBack pool.old self.old.pages pool.new self.new.pages }
@@ -309,8 +310,8 @@ impl Tape {
         ensures header { IfOk result (λ header. IsTrue (D.honest disk.old) → (rs : List Record) → AreAhead (D.last disk.old) self.old rs → IsAfterHeader (D.last disk.new) self.new header rs) }
         ensures disk { OnlyReads D.TapeDisk (failed disk_faults result) disk.old disk.new }
     {
-        self.fill(disk, pool, HEADER, bytes)?;
-        self.left -= HEADER as u64;
+        self.fill(disk, pool, FRONT, bytes)?;
+        self.left -= FRONT as u64;
         Ok(Header::read(bytes))
     }
 
@@ -389,7 +390,7 @@ impl Tape {
         if self.records == 0 {
             return Ok(None);
         }
-        if self.left < HEADER as u64 {
+        if self.left < FRONT as u64 {
             return Err(TapeError::TapeDamaged);
         }
         let header = self.next_header(disk, pool, bytes)?;
@@ -402,10 +403,13 @@ impl Tape {
 
     /// Whether a record with this front can stand at the front of what is left. The last one takes all of it.
     fn can_have(&self, header: Header) -> bool
-        ensures { result ≡ (nat_lt header.tag 2 && nat_le header.len 65535 && nat_le header.len self.now.left && (nat_lt 1 self.now.records || header.len == self.now.left)) }
+        ensures { result ≡ (nat_lt header.tag 2 && nat_le header.len LONGEST_RECORD && nat_le header.len self.now.left && (nat_lt 1 self.now.records || header.len == self.now.left)) }
     {
         let len = u64::from(header.len);
-        header.tag < 2 && len <= 65535 && len <= self.left && (self.records > 1 || len == self.left)
+        header.tag < 2
+            && len <= u64::from(LONGEST_RECORD)
+            && len <= self.left
+            && (self.records > 1 || len == self.left)
     }
 
     /// Gives up the buffer if there are no more records to be read.

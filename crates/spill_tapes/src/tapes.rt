@@ -3,7 +3,7 @@ ghost use Rattle.std.specs.Prelude.{◌≡◌, ◌≢◌, ◌+◌, ◌*◌, ◌/
 ghost use Rattle.spill_tapes.specs.Calls.{failed};
 ghost use Rattle.spill_tapes.specs.Disk.{Leaves, OnlyReads};
 ghost use Rattle.spill_tapes.specs.Errors.{tape_faults};
-ghost use Rattle.spill_tapes.specs.Pages.{UsesAgain};
+ghost use Rattle.spill_tapes.specs.Pages.{UsesAgain, pages_for};
 ghost use Rattle.spill_tapes.specs.Records.{Record, tape_bytes};
 ghost use Rattle.spill_tapes.specs.Tape.{Gives, new_tape, no_tape};
 ghost use Rattle.spill_tapes.specs.Tapes.{tape_at, phase_of, is_open, is_written, is_read, written_len, IsTape, KeepsOthers, DiesIfRefused, IsOpenRefusal, IsRefusal, IsReadRefusal, FreesPages, HasNoPageMore};
@@ -14,6 +14,7 @@ ghost use Rattle.spill_tapes.specs.declared.tape_id.TapeId.{TapeId};
 use crate::disk::TapeDisk;
 use crate::error::TapeError;
 use crate::header::Header;
+use crate::limits::{FRONT, LONGEST_RECORD, PAGE};
 use crate::pool::PagePool;
 use crate::tape::{Phase, Tape};
 use crate::tape_id::TapeId;
@@ -195,12 +196,12 @@ impl Tapes {
     ) -> Result<(), TapeError>
         requires written { self.old.is_dead ≡ false → is_written self.old tape ≡ true }
         requires tag { tag < 2 }
-        requires len { length bytes.now ≤ 65535 }
+        requires len { length bytes.now ≤ LONGEST_RECORD }
         ensures dies { DiesIfRefused IsRefusal result self.old self.new disk.old disk.new }
         ensures phases { (id : TapeId) → phase_of self.new id ≡ phase_of self.old id }
         ensures appended { OnOk result ((rs : List Record) → IsTape (D.last disk.old) self.old tape rs → IsTape (D.last disk.new) self.new tape (rs ++ record { hash = hash; tag = tag; bytes = bytes.now } ∷ [])) }
-        ensures longer { OnOk result (written_len self.new tape ≡ written_len self.old tape + (9 + length bytes.now)) }
-        ensures counted { OnOk result (D.writes disk.new + written_len self.old tape / 8192 ≡ D.writes disk.old + written_len self.new tape / 8192) }
+        ensures longer { OnOk result (written_len self.new tape ≡ written_len self.old tape + (FRONT + length bytes.now)) }
+        ensures counted { OnOk result (D.writes disk.new + written_len self.old tape / PAGE ≡ D.writes disk.old + written_len self.new tape / PAGE) }
         ensures others { KeepsOthers (D.last disk.old) (D.last disk.new) self.old self.new tape }
         ensures again { UsesAgain self.old.pool self.new.pool }
         ensures disk { Leaves D.TapeDisk (failed tape_faults result) disk.old disk.new }
@@ -238,7 +239,7 @@ impl Tapes {
     pub fn pages_left<D: TapeDisk>(&self, _disk: &D, _tape: TapeId)
         requires read { is_read self.now _tape ≡ true }
         requires alive { self.now.is_dead ≡ false }
-        ensures { (rs : List Record) → IsTape (D.last _disk.now) self.now _tape rs → 8192 * length (tape_at self.now _tape).pages < length (tape_bytes rs) + 8192 }
+        ensures { (rs : List Record) → IsTape (D.last _disk.now) self.now _tape rs → PAGE * length (tape_at self.now _tape).pages < length (tape_bytes rs) + PAGE }
     {
         let _pool = &self.pool;
     }
@@ -252,7 +253,7 @@ impl Tapes {
         ensures read { OnOk result (is_read self.new tape ≡ true) }
         ensures rewound { OnOk result ((rs : List Record) → IsTape (D.last disk.old) self.old tape rs → IsTape (D.last disk.new) self.new tape rs) }
         ensures bytes { self.old.is_dead ≡ false → (rs : List Record) → IsTape (D.last disk.old) self.old tape rs → written_len self.old tape ≡ length (tape_bytes rs) }
-        ensures counted { OnOk result (D.writes disk.new + written_len self.old tape / 8192 ≡ D.writes disk.old + (written_len self.old tape + 8191) / 8192) }
+        ensures counted { OnOk result (D.writes disk.new + written_len self.old tape / PAGE ≡ D.writes disk.old + pages_for (written_len self.old tape)) }
         ensures others { KeepsOthers (D.last disk.old) (D.last disk.new) self.old self.new tape }
         ensures again { UsesAgain self.old.pool self.new.pool }
         ensures disk { Leaves D.TapeDisk (failed tape_faults result) disk.old disk.new }
@@ -283,7 +284,7 @@ impl Tapes {
         ensures undamaged { IfErr result (λ error. IsTrue (D.honest disk.old) → (rs : List Record) → IsTape (D.last disk.old) self.old tape rs → error ≢ TapeDamaged) }
         ensures phases { (id : TapeId) → phase_of self.new id ≡ phase_of self.old id }
         ensures gives { IfOk result (λ found. IsTrue (D.honest disk.old) → (rs : List Record) → IsTape (D.last disk.old) self.old tape rs → Gives (IsTape (D.last disk.new) self.new tape) rs bytes.new.items found) }
-        ensures framed { IfOk result (λ found. IfSome found (λ told. (told.1 < 2) × (length bytes.new.items ≤ 65535))) }
+        ensures framed { IfOk result (λ found. IfSome found (λ told. (told.1 < 2) × (length bytes.new.items ≤ LONGEST_RECORD))) }
         ensures none { IfOk result (λ found. IfNone found (bytes.new.items ≡ [])) }
         ensures nothing { OnErr result (bytes.new.items ≡ []) }
         ensures others { KeepsOthers (D.last disk.old) (D.last disk.new) self.old self.new tape }
