@@ -1,8 +1,9 @@
 -- The three contexts of a table in their tree: that they were made, and that they were not. All of this is our own.
-use Rattle.std.specs.Prelude.{◌≡◌, ◌≢◌, ℕ, ◌+◌, ◌<◌, ◌≤◌, ◌⊎◌, true, [], None, length, get_or}
+use Rattle.std.specs.Prelude.{◌≡◌, ◌≢◌, ℕ, ◌+◌, ◌*◌, ◌<◌, ◌≤◌, ◌⊎◌, true, [], None, length, get_or}
 use Rattle.chunk_contexts.specs.Set.{new_set}
 use Rattle.chunk_contexts.specs.Slab.{new_slab}
 use Rattle.chunk_contexts.specs.Run.{new_run}
+use Rattle.chunk_contexts.specs.declared.rooms.TheConstants.{BLOCK}
 use Rattle.chunk_contexts.specs.declared.error.ContextError.TheVariants.{NoMemory}
 use Rattle.context_tree.specs.Contexts.{no_context, held_by}
 use Rattle.context_tree.specs.Tree.{TreeState, IsWhole, is_there, context_at, held_below, with_new}
@@ -85,6 +86,6 @@ pub record IsNewTable {H : Type 0} (before after : TreeState) (parent : ContextI
 
 -- a table was cleared: its first block of buckets is left, or none was there
 pub record IsCleared {H : Type 0} (t : TableState H) (after : TreeState) : Type 0 where
-  pub buckets : (held_by (context_at after t.buckets) ≡ 0) ⊎ (held_by (context_at after t.buckets) ≡ 16384)
+  pub buckets : (held_by (context_at after t.buckets) ≡ 0) ⊎ (held_by (context_at after t.buckets) ≡ 2 * BLOCK)
   pub keys : held_by (context_at after t.keys) ≡ 0
   pub states : held_by (context_at after t.states) ≡ 0

@@ -4,6 +4,7 @@ use Rattle.chunk_layout.specs.Pieces.{same_place, place_of, piece_at, size_at, t
 use Rattle.chunk_layout.specs.declared.place.ChunkName.{ChunkName}
 use Rattle.chunk_contexts.specs.Chunks.{is_live, bytes_of}
 use Rattle.chunk_contexts.specs.Set.{SetState, new_set, set_room}
+use Rattle.chunk_contexts.specs.declared.rooms.TheConstants.{BLOCK, LARGEST}
 use Rattle.context_tree.specs.Contexts.{no_context, has_chunk, chunk_bytes}
 use Rattle.context_tree.specs.Links.{parent_of, is_below, is_under}
 use Rattle.context_tree.specs.Tree.{TreeState, is_there, context_at}
@@ -14,6 +15,7 @@ use Rattle.context_tree.specs.declared.links.Link.{Link}
 use Rattle.group_table.specs.Index.{IsIndex, in_use, Holds}
 use Rattle.group_table.specs.Table.{TableState, IsSlot, most_buckets}
 use Rattle.group_table.specs.declared.bucket.Bucket.{Bucket}
+use Rattle.group_table.specs.declared.limits.TheConstants.{LONGEST}
 use Rattle.group_table.specs.declared.table.Slot.{Slot}
 
 -- a context is there, below another
@@ -51,12 +53,12 @@ IsSlabOf width (Bump s) = ⊥
 -- the first block of the set of buckets is the one that the first array took
 pub record IsFirst (s : SetState) : Type 0 where
   pub none : s.first ≡ None → s.blocks ≡ []
-  pub size : (block : ℕ) → s.first ≡ Some block → size_at s.blocks block ≡ 16384
+  pub size : (block : ℕ) → s.first ≡ Some block → size_at s.blocks block ≡ 2 * BLOCK
 
 -- a chunk has the room of its class; and one that has a block of its own is not in the first block
 pub record IsBesideFirst (s : SetState) (name : ChunkName) : Type 0 where
   pub room : (piece_at s.chunks (place_of name)).room ≡ set_room name.len
-  pub own : 8192 < name.len → s.first ≢ Some name.block
+  pub own : LARGEST < name.len → s.first ≢ Some name.block
 
 -- the bucket of a group, whose key is a chunk of this context; and the slot of a bucket's group
 abbrev pub bucket_of : {H : Type 0} → (H → List ℕ → ℕ) → TableState H → Context → Slot → Bucket
@@ -92,7 +94,7 @@ HasArray hash_of t keys (Some name) s = IsArrayIn hash_of t keys s name
 pub record HasFirst (s : SetState) : Type 0 where
   pub some : is_some s.first ≡ true
   pub left : 8200 ≤ s.left
-  pub most : total s.blocks ≤ 16384
+  pub most : total s.blocks ≤ 2 * BLOCK
 
 abbrev pub HasSpace : Option ChunkName → SetState → Type 0
 HasSpace None s = (s ≡ new_set) ⊎ HasFirst s
@@ -111,7 +113,7 @@ pub record Stands {H : Type 0} (hash_of : H → List ℕ → ℕ) (t : TableStat
   pub set : IsSetWith (λ s. IsFirst s × HasArray hash_of t keys t.array s) buckets
   pub run : IsBump keys
   pub slab : IsSlabOf t.width states
-  pub width : t.width ≤ 65535
+  pub width : t.width ≤ LONGEST
   pub groups : AreGroups t keys states
 
 -- they are in a tree, beside one another

@@ -3,6 +3,7 @@ ghost use Rattle.std.specs.Prelude.{◌≡◌, ◌<◌, ◌≤◌, true, IfOk, I
 ghost use Rattle.context_tree.specs.Tree.{is_there, deleted};
 ghost use Rattle.group_table.specs.Children.{AreMade, AreNew, IsRefused, IsRefusedOf, IsAsBefore, IsSameBySlot};
 
+use crate::limits::LONGEST;
 use context_tree::{ContextId, Kind, Tree, TreeError};
 
 /// The three contexts of a table.
@@ -23,7 +24,7 @@ pub(crate) fn make_children(
     width: u32,
 ) -> Result<Children, TreeError>
     requires there { is_there tree.old parent ≡ true }
-    requires width { width ≤ 65535 }
+    requires width { width ≤ LONGEST }
     ensures made { IfOk result (AreMade tree.old tree.new parent width) }
     ensures refused { IfErr result (IsRefused tree.old) }
     ensures as_before { OnErr result (IsAsBefore tree.old tree.new) }
@@ -51,7 +52,7 @@ fn make_keys_and_states(
     width: u32,
 ) -> Result<(ContextId, ContextId), TreeError>
     requires there { is_there tree.old parent ≡ true }
-    requires width { width ≤ 65535 }
+    requires width { width ≤ LONGEST }
     ensures made { IfOk result (λ made. AreNew tree.old tree.new parent width made.0 made.1) }
     ensures refused { IfErr result (IsRefusedOf 2 tree.old) }
     ensures same { OnErr result (IsSameBySlot tree.old tree.new) }

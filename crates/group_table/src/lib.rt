@@ -9,6 +9,7 @@ mod bucket;
 mod children;
 mod hash;
 mod index;
+pub mod limits;
 mod search;
 mod table;
 

@@ -1,6 +1,8 @@
 //! A table of groups.
 ghost use Rattle.std.specs.Prelude.{◌≡◌, ◌≢◌, ◌*◌, ◌-◌, ◌^◌, ◌+◌, ◌<◌, ◌≤◌, ℕ, List, [], ◌∷◌, ◌++◌, Some, None, MatchOption, IfSome, IfNone, IfOk, IfErr, OnOk, OnErr, IsTrue, true, false, map, length, slice_get, slice_set, slice_index_or};
 ghost use Rattle.chunk_layout.specs.Pieces.{place_of};
+ghost use Rattle.chunk_layout.specs.declared.blocks.TheConstants.{HEADER};
+ghost use Rattle.chunk_contexts.specs.declared.rooms.TheConstants.{BLOCK};
 ghost use Rattle.context_tree.specs.Contexts.{has_chunk, chunk_bytes, with_bytes, held_by, growth_of};
 ghost use Rattle.context_tree.specs.Tree.{TreeState, is_there, context_at, held_below, reset, IsWhole};
 ghost use Rattle.group_table.specs.Table.{key_in, state_in, group_in, groups, IsSlot, Names, HasNo, buckets_in, buckets_for, most_buckets, array_growth, group_growth, has_room, held_in, without_groups, IsEmptied, IsSameBut};
@@ -14,6 +16,7 @@ use crate::array::{give_up, put_into, refill};
 use crate::bucket::{BUCKET, Bucket};
 use crate::children::{Children, make_children};
 use crate::hash::KeyHash;
+use crate::limits::LONGEST;
 use crate::search::{chunk, search};
 use chunk_layout::ChunkName;
 use context_tree::{ContextId, Tree, TreeError};
@@ -113,7 +116,7 @@ impl<H: KeyHash + Drop> GroupTable<H> {
         hash: H,
     ) -> Result<GroupTable<H>, TreeError>
         requires there { is_there tree.old parent ≡ true }
-        requires width { width ≤ 65535 }
+        requires width { width ≤ LONGEST }
         ensures table { IfOk result (λ table. IsTableIn H.hash_of table tree.new) }
         ensures made { IfOk result (IsNewTable tree.old tree.new parent width hash) }
         ensures holds { IfOk result (λ table. held_below tree.old parent ≡ 0 → HoldsKeys table tree.new) }
@@ -152,7 +155,7 @@ impl<H: KeyHash + Drop> GroupTable<H> {
     pub fn held_by_keys(&self, tree: &Tree)
         requires { IsTableIn H.hash_of self.now tree.now }
         ensures some { HoldsKeys self.now tree.now → 0 < length self.now.slots → held_below tree.now self.now.parent ≡ held_after self.now.width (keys_in self.now tree.now) }
-        ensures none { HoldsKeys self.now tree.now → length self.now.slots ≡ 0 → held_below tree.now self.now.parent ≤ 16384 }
+        ensures none { HoldsKeys self.now tree.now → length self.now.slots ≡ 0 → held_below tree.now self.now.parent ≤ 2 * BLOCK }
     {
         let _slots = &self.slots;
     }
@@ -217,10 +220,10 @@ impl<H: KeyHash + Drop> GroupTable<H> {
     /// below the parent but by the buckets, as when the table was just made or cleared, if a state has up to 8,184 bytes.
     pub fn room_for(&self, tree: &Tree, key: &[u8], limit: u64) -> bool
         requires table { IsTableIn H.hash_of self.now tree.now }
-        requires key { length key.now ≤ 65535 }
+        requires key { length key.now ≤ LONGEST }
         ensures exact { result ≡ has_room self.now tree.now (length key.now) limit }
         ensures by_keys { HoldsKeys self.now tree.now → (hash : Key → ℕ) → result ≡ fits (record { limit = limit; width = self.now.width; hash = hash }) (keys_in self.now tree.now ++ key.now ∷ []) }
-        ensures emptied { IsEmptied self.now tree.now → length key.now ≤ 8192 → self.now.width ≤ 8184 → 32768 ≤ limit → result ≡ true }
+        ensures emptied { IsEmptied self.now tree.now → length key.now ≤ BLOCK → self.now.width ≤ BLOCK - HEADER → 4 * BLOCK ≤ limit → result ≡ true }
     {
         match self.need_for(tree, key) {
             Some(need) => need <= u128::from(limit),
@@ -232,7 +235,7 @@ impl<H: KeyHash + Drop> GroupTable<H> {
     /// would be more than 2^24 buckets.
     pub fn need_for(&self, tree: &Tree, key: &[u8]) -> Option<u128>
         requires table { IsTableIn H.hash_of self.now tree.now }
-        requires key { length key.now ≤ 65535 }
+        requires key { length key.now ≤ LONGEST }
         ensures bytes { IfSome result (λ bytes. bytes ≡ held_below tree.now self.now.parent + group_growth self.now tree.now (length key.now)) }
         ensures few { IfSome result (λ _. buckets_for (buckets_in self.now.array) (length self.now.slots) ≤ most_buckets) }
         ensures none { IfNone result (most_buckets < buckets_for (buckets_in self.now.array) (length self.now.slots)) }
@@ -250,7 +253,7 @@ impl<H: KeyHash + Drop> GroupTable<H> {
     fn growth_for(&self, tree: &Tree, n: usize) -> u128
         requires standing { IsStanding H.hash_of self.now tree.now }
         requires few { buckets_for (buckets_in self.now.array) (length self.now.slots) ≤ most_buckets }
-        requires key { n ≤ 65535 }
+        requires key { n ≤ LONGEST }
         ensures value { result ≡ group_growth self.now tree.now n }
         ensures bound { result < 2 ^ 127 }
     {
@@ -312,7 +315,7 @@ impl<H: KeyHash + Drop> GroupTable<H> {
     fn take_group(&self, tree: &mut Tree, key: &[u8], state: &[u8]) -> Result<Slot, AllocError>
         requires standing { IsStanding H.hash_of self.now tree.old }
         requires state { length state.now ≡ self.now.width }
-        requires key { length key.now ≤ 65535 }
+        requires key { length key.now ≤ LONGEST }
         ensures standing { IsStanding H.hash_of self.now tree.new }
         ensures buckets { context_at tree.new self.now.buckets ≡ context_at tree.old self.now.buckets }
         ensures others { KeepsOthers self.now tree.old tree.new }
@@ -414,7 +417,7 @@ impl<H: KeyHash + Drop> GroupTable<H> {
     pub fn insert(&mut self, tree: &mut Tree, key: &[u8], state: &[u8]) -> Result<Slot, AllocError>
         requires table { IsTableIn H.hash_of self.old tree.old }
         requires absent { HasNo self.old tree.old key.now }
-        requires key { length key.now ≤ 65535 }
+        requires key { length key.now ≤ LONGEST }
         requires state { length state.now ≡ self.old.width }
         requires few { buckets_for (buckets_in self.old.array) (length self.old.slots) ≤ most_buckets }
         ensures table { IsTableIn H.hash_of self.new tree.new }
@@ -449,7 +452,7 @@ impl<H: KeyHash + Drop> GroupTable<H> {
         requires room { 0 < self.old.spare }
         requires table { IsTableIn H.hash_of self.old tree.old }
         requires absent { HasNo self.old tree.old key.now }
-        requires key { length key.now ≤ 65535 }
+        requires key { length key.now ≤ LONGEST }
         requires state { length state.now ≡ self.old.width }
         requires few { buckets_for (buckets_in self.old.array) (length self.old.slots) ≤ most_buckets }
         ensures table { IsTableIn H.hash_of self.new tree.new }
