@@ -1,6 +1,7 @@
 -- The file of a world: what it is of fits the world, and may be held.
 use Rattle.std.specs.Prelude.{◌≡◌, ◌≢◌, refl, ℕ, zero, suc, ◌+◌, ◌*◌, ◌<◌, ◌≤◌, ◌⊎◌, true, List, [], ◌∷◌, ◌++◌, map, flat_map, length, Option, Some, None, IsSome, IsTrue, IsUtf8, unwrap_or}
 use Rattle.std.proofs.Common.{sym, ◌∙◌, ap, subst, inl, inr, arith}
+use Rattle.std.proofs.Math.Nat.{suc-mul}
 use Rattle.std.proofs.lemmas.Bool.{cases_lt}
 use Rattle.std.proofs.lemmas.List.{length-append, length-map}
 use Rattle.std.proofs.lemmas.List.Elements.{recursion_from_All}
@@ -93,7 +94,7 @@ few_counted world origin most first (suc n) few =
     sum_low (length (batch_rows world origin first)) (length (flat_map (batch_rows world origin) (count_up (first + 1) n))) _ (length (count_up (first + 1) n)) one rest both
   where
     sum_low : (a b c k : ℕ) → a ≤ most → b ≤ k * most → c ≡ a + b → c ≤ suc k * most
-    sum_low a b c k one rest both = let product : suc k * most ≡ most + k * most = refl in omega (arith, one, rest, both, product)
+    sum_low a b c k one rest both = let product = suc-mul k most in omega (arith, one, rest, both, product)
 
 -- ---- batches under their numbers
 
