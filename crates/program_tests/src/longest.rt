@@ -3,12 +3,19 @@
 use crate::folder::play;
 use std::test::*;
 
-/// The longest batch comes early, so that a summary has its rows, and would be longer than a file may be: it is not written.
+/// The longest batch comes early, so that a summary has its rows, and would be longer than a file may be: it is not written. With some rows less
+/// it is, and is read again, until the batch before it comes.
 const LONGER: &str = "\
 ?wide|@early.csv|2|65535 => - => 0
 new|@e.sum|--columns|a text, b text, c text, d text|--query|SELECT count(*) FROM batches => saved 72/ => 0
 feed|@g.sum|@e.sum|@early.csv => early/refused InputTooLong/ => 1 => g.sum: refused InputTooLong: more than 67,108,864 bytes: it would have 67501148; @g.sum is not written
 ?there|@g.sum => - => 1
+?wide|@less.csv|2|65150 => - => 0
+>@fed.out|feed|@h.sum|@e.sum|@less.csv => - => 0
+known|@h.sum => origin 0 upto 0 early 2/ => 0
+?wide|@first.csv|1|1 => - => 0
+>@fed.out|feed|@h.sum|@h.sum|@first.csv => - => 0
+answer|@h.sum => count/65151/ => 0
 ";
 
 #[test]
