@@ -72,7 +72,10 @@ const WORDS: [(&str, &str); 35] = [
     ),
     ("--", "there are no comments"),
     ("#", "there are no comments"),
-    (".", "no table's name stands before that of a column"),
+    (
+        ".",
+        "no table's name stands before that of a column, and a number has no fraction",
+    ),
     ("\"", "a text stands in single quotes, and a name in none"),
     ("`", "a text stands in single quotes, and a name in none"),
     ("\u{2018}", "a text stands in plain single quotes"),

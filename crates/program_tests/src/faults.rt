@@ -278,7 +278,8 @@ SELECT * FROM batches => Syntax => byte 7: found '*', wanted a column or a call,
 SELECT count(DISTINCT city) FROM batches => Syntax => byte 22: found 'city', wanted ); there is no DISTINCT: GROUP BY has each group once => /  SELECT count(DISTINCT city) FROM batches/                        ^
 SELECT sum(*) FROM batches => Syntax => byte 11: found '*', wanted a column; there is no arithmetic: let the rows have what is counted => /  SELECT sum(*) FROM batches/             ^
 SELECT sum(amount) + 2 FROM batches => Syntax => byte 19: found '+', wanted FILTER, a comma, AS, another name or FROM; there is no arithmetic: let the rows have what is counted => /  SELECT sum(amount) + 2 FROM batches/                     ^
-SELECT b.city FROM batches => Syntax => byte 8: found '.', wanted a comma, AS, another name or FROM; no table's name stands before that of a column => /  SELECT b.city FROM batches/          ^
+SELECT b.city FROM batches => Syntax => byte 8: found '.', wanted a comma, AS, another name or FROM; no table's name stands before that of a column, and a number has no fraction => /  SELECT b.city FROM batches/          ^
+SELECT count(*) FROM batches WHERE amount > 1.5 => Syntax => byte 45: found '.', wanted IS, AND, OR, GROUP BY, HAVING, ORDER BY, a semicolon or the end; no table's name stands before that of a column, and a number has no fraction => /  SELECT count(*) FROM batches WHERE amount > 1.5/                                               ^
 SELECT count(*) FILTER (amount > 1) FROM batches => Syntax => byte 24: found 'amount', wanted WHERE => /  SELECT count(*) FILTER (amount > 1) FROM batches/                          ^
 SELECT count(*) FILTER WHERE FROM batches => Syntax => byte 23: found 'WHERE', wanted ( => /  SELECT count(*) FILTER WHERE FROM batches/                         ^
 SELECT count(*) FILTER (WHERE paid FROM batches => Syntax => byte 35: found 'FROM', wanted a comparison, IS, AND, OR or ) => /  SELECT count(*) FILTER (WHERE paid FROM batches/                                     ^
@@ -399,6 +400,10 @@ merge|@u.sum|@f.sum|@o.sum|@w.sum => refused DifferentQuery/refused DifferentQue
 answer|@1.csv => refused NotASummary/ => 1 => @1.csv: refused NotASummary: it does not begin with AGGSUM01 or AGGSUM02, as a summary does; it is a batch file, and those stand behind IN\u{b6}
 known|@text => refused NotASummary/ => 1 => @text: refused NotASummary: it does not begin with AGGSUM01 or AGGSUM02, as a summary does; it is a text\u{b6}
 known|@gz => refused NotASummary/ => 1 => @gz: refused NotASummary: it does not begin with AGGSUM01 or AGGSUM02, as a summary does; it is compressed by gzip: gzip -dc FILE\u{b6}
+known|@json => refused NotASummary/ => 1 => it looks like JSON
+>@fed.out|feed|@n2.sum|@e.sum|@be => - => 1 => @be: refused BadBatchHead: the first line is '\\xfe\\xff\\x00b\\x00a', and wants batch,ORIGIN,NUMBER,ROWS; it is UTF-16: iconv -f UTF-16 -t UTF-8 FILE
+>@fed.out|feed|@n2.sum|@e.sum|@bars => - => 1 => @bars: refused BadBatchHead: the first line is 'batch|0|1|1', and wants batch,ORIGIN,NUMBER,ROWS; fields stand between commas, and not between bars
+answer|@f.sum|--spill|@e.sum => refused WriteFault/ => 3 => @e.sum: refused WriteFault: the output could not be written (File exists (os error 17))\u{b6}
 answer|@empty => refused Truncated/ => 1 => @empty: refused Truncated: the file is empty, and a summary begins with AGGSUM01 or AGGSUM02\u{b6}
 merge|@n.sum|@cut|@f.sum => refused Truncated/ => 1 => @cut: refused Truncated: it ends too early, behind 10 bytes: it was cut on its way; @n.sum is not written\u{b6}
 answer|@ => refused ReadFault/ => 3 => @: refused ReadFault: the input could not be read (Is a directory (os error 21))\u{b6}
@@ -430,7 +435,7 @@ known|@1.csv|--explain => refused NotASummary/ => 1 => @1.csv: refused NotASumma
 ";
 
 /// Batch files, and files that are none.
-const FILES: [File; 11] = [
+const FILES: [File; 14] = [
     ("1.csv", b"batch,0,1,1\noslo,1\n"),
     ("1b.csv", b"batch,0,1,1\noslo,2\n"),
     ("2.csv", b"batch,0,2,1\noslo,2\n"),
@@ -442,6 +447,9 @@ const FILES: [File; 11] = [
     ("gz", b"\x1f\x8b\x08\x00\x00\x00\x00\x00"),
     ("empty", b""),
     ("cut", b"AGGSUM01\x00\x10"),
+    ("be", b"\xfe\xff\x00b\x00a\n"),
+    ("bars", b"batch|0|1|1\noslo|5\n"),
+    ("json", b"{\"batch\":0}\n"),
 ];
 
 #[test]
