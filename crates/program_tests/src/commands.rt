@@ -138,6 +138,12 @@ answer|@a.sum|--limit|65535|--spill|@t.tmp => refused LimitOutOfRange/ => 1 => -
 ?there|@t.tmp => - => 1
 answer|@none.sum|--spill|@e.sum => refused WriteFault/ => 3 => e.sum: refused WriteFault
 feed|@x.sum|@e.sum|@0.csv|--spill|@none/t.tmp => refused WriteFault/ => 3 => t.tmp: refused WriteFault
+?link|@dangling|nowhere => - => 0
+answer|@a.sum|--spill|@dangling => refused WriteFault/ => 3 => dangling: refused WriteFault
+?there|@nowhere => - => 1
+script|--spill|@e.sum => refused WriteFault/ => 3 => e.sum: refused WriteFault
+script|--spill|@t.tmp => - => 0
+?there|@t.tmp => - => 1
 known|@a.sum|--spill|@t.tmp => - => 2 => --spill
 ?there|@x.sum => - => 1
 ?there|@e.sum => - => 0
