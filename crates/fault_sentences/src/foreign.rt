@@ -8,7 +8,7 @@ use std::str;
 const SUMMARY: &[u8] = b"AGGSUM";
 
 /// What begins files of other formats, and what they are.
-const BEGINNINGS: [(&[u8], &str); 10] = [
+const BEGINNINGS: [(&[u8], &str); 13] = [
     (b"\x1F\x8B", "it is compressed by gzip: gzip -dc FILE"),
     (b"BZh", "it is compressed by bzip2: bzip2 -dc FILE"),
     (b"\xFD7zXZ", "it is compressed by xz: xz -dc FILE"),
@@ -25,6 +25,17 @@ const BEGINNINGS: [(&[u8], &str); 10] = [
     ),
     (b"{", "it looks like JSON"),
     (b"PAR1", "it is Parquet"),
+    // A batch without a byte order mark.
+    (
+        b"b\x00a\x00",
+        "it is UTF-16: iconv -f UTF-16LE -t UTF-8 FILE",
+    ),
+    (
+        b"\x00b\x00a",
+        "it is UTF-16: iconv -f UTF-16BE -t UTF-8 FILE",
+    ),
+    // Behind the front of this version's.
+    (b"AGGSUM0", "it is a summary file of another version"),
 ];
 
 /// What a file is by its first bytes, where that is known.

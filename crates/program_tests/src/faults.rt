@@ -402,6 +402,8 @@ known|@text => refused NotASummary/ => 1 => @text: refused NotASummary: it does 
 known|@gz => refused NotASummary/ => 1 => @gz: refused NotASummary: it does not begin with AGGSUM01 or AGGSUM02, as a summary does; it is compressed by gzip: gzip -dc FILE\u{b6}
 known|@json => refused NotASummary/ => 1 => it looks like JSON
 >@fed.out|feed|@n2.sum|@e.sum|@be => - => 1 => @be: refused BadBatchHead: the first line is '\\xfe\\xff\\x00b\\x00a', and wants batch,ORIGIN,NUMBER,ROWS; it is UTF-16: iconv -f UTF-16 -t UTF-8 FILE
+>@fed.out|feed|@n2.sum|@e.sum|@le => - => 1 => it is UTF-16: iconv -f UTF-16LE -t UTF-8 FILE
+known|@later => refused NotASummary/ => 1 => it is a summary file of another version
 >@fed.out|feed|@n2.sum|@e.sum|@bars => - => 1 => @bars: refused BadBatchHead: the first line is 'batch|0|1|1', and wants batch,ORIGIN,NUMBER,ROWS; fields stand between commas, and not between bars
 answer|@f.sum|--spill|@e.sum => refused WriteFault/ => 3 => @e.sum: refused WriteFault: the output could not be written (File exists (os error 17))\u{b6}
 answer|@empty => refused Truncated/ => 1 => @empty: refused Truncated: the file is empty, and a summary begins with AGGSUM01 or AGGSUM02\u{b6}
@@ -435,7 +437,7 @@ known|@1.csv|--explain => refused NotASummary/ => 1 => @1.csv: refused NotASumma
 ";
 
 /// Batch files, and files that are none.
-const FILES: [File; 14] = [
+const FILES: [File; 16] = [
     ("1.csv", b"batch,0,1,1\noslo,1\n"),
     ("1b.csv", b"batch,0,1,1\noslo,2\n"),
     ("2.csv", b"batch,0,2,1\noslo,2\n"),
@@ -448,6 +450,8 @@ const FILES: [File; 14] = [
     ("empty", b""),
     ("cut", b"AGGSUM01\x00\x10"),
     ("be", b"\xfe\xff\x00b\x00a\n"),
+    ("le", b"b\x00a\x00t\x00c\x00h\x00"),
+    ("later", b"AGGSUM09\x00\x10"),
     ("bars", b"batch|0|1|1\noslo|5\n"),
     ("json", b"{\"batch\":0}\n"),
 ];
