@@ -8,7 +8,7 @@ use std::str;
 const SUMMARY: &[u8] = b"AGGSUM";
 
 /// What begins files of other formats, and what they are.
-const BEGINNINGS: [(&[u8], &str); 13] = [
+const BEGINNINGS: [(&[u8], &str); 12] = [
     (b"\x1F\x8B", "it is compressed by gzip: gzip -dc FILE"),
     (b"BZh", "it is compressed by bzip2: bzip2 -dc FILE"),
     (b"\xFD7zXZ", "it is compressed by xz: xz -dc FILE"),
@@ -34,8 +34,6 @@ const BEGINNINGS: [(&[u8], &str); 13] = [
         b"\x00b\x00a",
         "it is UTF-16: iconv -f UTF-16BE -t UTF-8 FILE",
     ),
-    // Behind the front of this version's.
-    (b"AGGSUM0", "it is a summary file of another version"),
 ];
 
 /// What a file is by its first bytes, where that is known.
@@ -96,7 +94,7 @@ pub fn no_summary(alloc: Global, file: &[u8]) -> Result<String, AllocError> {
     if file.starts_with(b"batch,") {
         said.push_str("; it is a batch file, and those stand behind IN")?;
     } else if file.starts_with(SUMMARY) {
-        said.push_str("; it may be one that a later agg_tool wrote")?;
+        said.push_str("; it is a summary file of another version")?;
     } else if let Some(known) = known_by_front(file) {
         said.push_str("; ")?;
         said.push_str(known)?;
