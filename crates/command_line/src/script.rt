@@ -2,7 +2,7 @@
 
 use crate::problem::{Problem, is_closed, reason_of};
 use crate::spill::{open_disk, remove_disk};
-use crate::streams::{Streams, say};
+use crate::streams::{Streams, Watched, say};
 use fault_sentences::{Reason, ScriptPlace, say_disagreement};
 use hash_agg::TapeDisk;
 use replies::{Ending, Refusal, Reply, RunError, name, put_reply, refusal_ending, run_ending};
@@ -12,40 +12,6 @@ use std::cell::Cell;
 use std::io::{Read, Write};
 use std::rt::Files;
 use std::{fmt, io};
-
-/// A reader whose bytes are kept while there is memory for that, and why it failed.
-#[derive(Drop)]
-struct Kept<'k, I> {
-    reader: &'k mut I,
-    bytes: &'k Cell<Option<Vec<u8>>>,
-    fault: &'k Cell<Option<io::Error>>,
-}
-
-/// Bytes and more behind them, if there is memory for that.
-fn with_more(kept: Option<Vec<u8>>, more: &[u8]) -> Option<Vec<u8>> {
-    let mut bytes = kept?;
-    match bytes.extend_from_slice(more) {
-        Ok(()) => Some(bytes),
-        Err(_) => None,
-    }
-}
-
-impl<I: Read> Read for Kept<'_, I> {
-    fn read(&mut self, buf: &mut [u8]) -> io::Result<usize> {
-        match self.reader.read(buf) {
-            Ok(count) => {
-                let kept = self.bytes.replace(None);
-                let more = buf.get(..count).unwrap_or_default();
-                self.bytes.set(with_more(kept, more));
-                Ok(count)
-            }
-            Err(error) => {
-                self.fault.set(Some(error));
-                Err(error)
-            }
-        }
-    }
-}
 
 /// What is said of a refused command.
 #[derive(Drop)]
@@ -73,7 +39,6 @@ impl fmt::Display for Complaint {
 struct Complaints<'e, E> {
     alloc: Global,
     errors: &'e mut E,
-    script: &'e Cell<Option<Vec<u8>>>,
     place: ScriptPlace,
 }
 
@@ -111,13 +76,8 @@ impl<E: Write> Complaints<'_, E> {
 }
 
 impl<E: Write> Observer for Complaints<'_, E> {
-    fn refused(&mut self, line: u64, why: Refusal) {
-        let script = self.script.replace(None);
-        let reason = match &script {
-            Some(script) => self.reason(script, line, why).unwrap_or(None),
-            None => None,
-        };
-        self.script.set(script);
+    fn refused(&mut self, script: &[u8], line: u64, why: Refusal) {
+        let reason = self.reason(script, line, why).unwrap_or(None);
         say(self.alloc, self.errors, &Complaint { line, why, reason });
     }
 }
@@ -164,22 +124,16 @@ fn run_over<I: Read, W: Write, E: Write, D: TapeDisk>(
     disk: &mut D,
 ) -> Ending {
     let alloc = streams.alloc;
-    let script = Cell::new(Some(Vec::new(alloc)));
     let fault = Cell::new(None);
-    let mut kept = Kept {
-        reader: &mut *reader,
-        bytes: &script,
-        fault: &fault,
-    };
+    let mut watched = Watched::new(&mut *reader, &fault);
     let mut complaints = Complaints {
         alloc,
         errors: &mut *streams.errors,
-        script: &script,
         place: ScriptPlace::new(),
     };
     let run = run_observed(
         alloc,
-        &mut kept,
+        &mut watched,
         &mut *streams.writer,
         &mut complaints,
         disk,

@@ -19,7 +19,7 @@ use std::io::{Read, Write};
 /// Is told of each command that is refused, beside the reply. What it does of that is its own.
 pub trait Observer {
     /// The command whose record begins at a line of the script, the first being line 1, was refused.
-    fn refused(&mut self, line: u64, why: Refusal);
+    fn refused(&mut self, script: &[u8], line: u64, why: Refusal);
 }
 
 /// Looks away.
@@ -27,7 +27,7 @@ pub trait Observer {
 struct Unobserved;
 
 impl Observer for Unobserved {
-    fn refused(&mut self, _line: u64, _why: Refusal) {}
+    fn refused(&mut self, _script: &[u8], _line: u64, _why: Refusal) {}
 }
 
 /// Tells of a reply, if it is a refusal.
@@ -38,7 +38,8 @@ fn tell<O: Observer>(
     reply: &Reply<'_>,
 ) {
     if let Reply::Refused(why) = reply {
-        observer.refused(lines.line_of(&command.head), *why);
+        let line = lines.line_of(&command.head);
+        observer.refused(lines.script(), line, *why);
     }
 }
 

@@ -31,6 +31,11 @@ impl<'s> Lines<'s> {
         }
     }
 
+    /// The whole script.
+    pub(crate) fn script(&self) -> &'s [u8] {
+        self.script
+    }
+
     /// Goes past a byte.
     fn pass(&mut self, byte: u8) {
         if byte == b'\r' || byte == b'\n' && !self.is_behind_return {
