@@ -5,7 +5,6 @@ use Rattle.std.proofs.lemmas.Bool.{cases_lt}
 use Rattle.std.proofs.lemmas.Grind.{flat_map-append}
 use Rattle.std.proofs.lemmas.List.{length-map}
 use Rattle.std.proofs.lemmas.List.Sums.{sum_by-cons}
-use Rattle.std.proofs.lemmas.List.Elements.{recursion_from_All}
 use Rattle.std.specs.Option.{is_some}
 use Rattle.std.specs.List.{AllByRecursion}
 use Rattle.std.specs.Ordering.{nat_cmp}
@@ -33,6 +32,7 @@ use Rattle.hash_agg.specs.BytesLaws.{stands_spelled}
 use Rattle.origin_prefix.specs.Parts.{Batches, Part, rows_at, IsPartOf, following, rows_following, Folds, Settles, Disagrees, Delivers}
 use Rattle.origin_prefix.specs.Joins.{either, longer, shorter, PartsDisagree, Joins}
 use Rattle.origin_prefix.specs.Fitting.{FitsOrigin}
+use Rattle.origin_prefix.specs.WorldRows.{batch_kinds, count_length}
 use Rattle.origin_prefix.proofs.Lists.{same_or_other}
 use Rattle.origin_prefix.proofs.ByNumber.{found_holds, all_found, put_same, put_else}
 use Rattle.origin_prefix.proofs.PartLaws.{all_drop}
@@ -83,13 +83,6 @@ following_there world origin n (b ∷ batches) all m low high =
 
 -- the rows of a batch of a world
 module _ (ks : List Kind) (world : World) (is : IsWorld ks world) (origin : ℕ) where
-  batch_kinds : (n : ℕ) → AllByRecursion (HasKinds ks) (batch_rows world origin n)
-  batch_kinds n =
-      elim (world origin n) as (λ o. world origin n ≡ o → AllByRecursion (HasKinds ks) (unwrap_or o [])) [
-        | None ↦ λ e. tt
-        | Some rows ↦ λ e. recursion_from_All (HasKinds ks) rows (is origin n rows e).4
-      ] refl
-
   batch_few : (n : ℕ) → length (batch_rows world origin n) ≤ MOST_ROWS
   batch_few n =
       elim (world origin n) as (λ o. world origin n ≡ o → length (unwrap_or o []) ≤ MOST_ROWS) [
@@ -99,7 +92,7 @@ module _ (ks : List Kind) (world : World) (is : IsWorld ks world) (origin : ℕ)
 
   are_inputs : (q : Query) → q.kinds ≡ ks → (ns : List ℕ) → AreInputsOf q (map Packed (map (packed_batch world origin) ns)) (map (batch_rows world origin) ns)
   are_inputs q same [] = tt
-  are_inputs q same (n ∷ ns) = (record { of_kinds = subst (λ k. AllByRecursion (HasKinds k) (batch_rows world origin n)) (sym same) (batch_kinds n); packings_are = refl }, are_inputs q same ns)
+  are_inputs q same (n ∷ ns) = (record { of_kinds = subst (λ k. AllByRecursion (HasKinds k) (batch_rows world origin n)) (sym same) (batch_kinds ks world is origin n); packings_are = refl }, are_inputs q same ns)
 
   few_packed : (ns : List ℕ) → all_rows (map Packed (map (packed_batch world origin) ns)) ≤ length ns * MOST_ROWS
   few_packed [] = omega arith
@@ -110,10 +103,6 @@ module _ (ks : List Kind) (world : World) (is : IsWorld ks world) (origin : ℕ)
       let sum : all_rows (map Packed (map (packed_batch world origin) (n ∷ ns))) ≡ length (packed_batch world origin n) + all_rows (map Packed (map (packed_batch world origin) ns)) =
       sum_by-cons rows_in (Packed (packed_batch world origin n)) (map Packed (map (packed_batch world origin) ns)) in
       omega (arith, one, few, rest, sum)
-
-count_length : (first n : ℕ) → length (count_up first n) ≡ n
-count_length first zero = refl
-count_length first (suc n) = ap suc (count_length (first + 1) n)
 
 ends : (f : ℕ → List Row) (ns : List ℕ) → on_end (map f ns) ≡ flat_map f ns
 ends f [] = refl

@@ -4,3 +4,4 @@ pub mod Errors
 pub mod Joins
 pub mod Fitting
 pub mod Held
+pub mod WorldRows

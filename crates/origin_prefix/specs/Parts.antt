@@ -50,17 +50,15 @@ knows_number part number = nat_le number part.prefix || is_some (rows_at part.ea
 abbrev pub is_nothing : Part → Bool
 is_nothing part = nat_eq part.prefix 0 && nat_eq (length part.early) 0
 
--- a batch that may be early behind a prefix
-pub record IsEarly (kinds : List Kind) (prefix : ℕ) (batch : ℕ × List (List ℕ)) : Type 0 where
-  pub behind : prefix + 1 < batch.0
-  pub within : batch.0 ≤ LAST_NUMBER
-  pub rows : ArePackedRows kinds batch.1
-
 -- a batch that may follow a prefix, at once or later
 pub record IsBehind (kinds : List Kind) (prefix : ℕ) (batch : ℕ × List (List ℕ)) : Type 0 where
   pub behind : prefix < batch.0
   pub within : batch.0 ≤ LAST_NUMBER
   pub rows : ArePackedRows kinds batch.1
+
+-- a batch that may be early behind a prefix: one number at least is between them
+abbrev pub IsEarly : List Kind → ℕ → ℕ × List (List ℕ) → Type 0
+IsEarly kinds prefix = IsBehind kinds (prefix + 1)
 
 -- a part of an origin for a query: its groups count at most the rows that its prefix may have, and its early batches have a gap
 -- before them

@@ -28,6 +28,7 @@ use Rattle.group_runs.specs.Standing.{AreGroups}
 use Rattle.hash_agg.specs.Bytes.{run_bytes}
 use Rattle.origin_prefix.specs.Fitting.{FitsOrigin}
 use Rattle.origin_prefix.specs.Held.{IsHeldPart, AreHeldParts}
+use Rattle.origin_prefix.specs.WorldRows.{batch_kinds, count_length}
 use Rattle.origin_prefix.specs.Parts.{Part, IsEarly, IsPartOf}
 use Rattle.origin_prefix.proofs.ByNumber.{found_holds}
 use Rattle.summary_codec.specs.Reading.{IsSummaryIn}
@@ -46,40 +47,9 @@ there_is : {X : Type 0} (o : Option X) → IsSome o → (x : X) × (o ≡ Some x
 there_is None some = false_is_not_true some
 there_is (Some x) some = (x, refl)
 
-count_length : (first n : ℕ) → length (count_up first n) ≡ n
-count_length first zero = refl
-count_length first (suc n) = ap suc (count_length (first + 1) n)
-
-module _ (ks : List Kind) (world : World) (is : IsWorld ks world) (origin : ℕ) where
-  batch_kinds : (n : ℕ) → AllByRecursion (HasKinds ks) (batch_rows world origin n)
-  batch_kinds n =
-      elim (world origin n) as (λ o. world origin n ≡ o → AllByRecursion (HasKinds ks) (unwrap_or o [])) [
-        | None ↦ λ e. tt
-        | Some rows ↦ λ e. recursion_from_All (HasKinds ks) rows (is origin n rows e).4
-      ] refl
-
-  batch_few : (n : ℕ) → length (batch_rows world origin n) ≤ MOST_ROWS
-  batch_few n =
-      elim (world origin n) as (λ o. world origin n ≡ o → length (unwrap_or o []) ≤ MOST_ROWS) [
-        | None ↦ λ e. omega arith
-        | Some rows ↦ λ e. (is origin n rows e).3
-      ] refl
-
-  rows_kinds : (ns : List ℕ) → AllByRecursion (HasKinds ks) (flat_map (batch_rows world origin) ns)
-  rows_kinds [] = tt
-  rows_kinds (n ∷ ns) = each_append (HasKinds ks) (batch_rows world origin n) (flat_map (batch_rows world origin) ns) (batch_kinds n) (rows_kinds ns)
-
-  rows_few : (ns : List ℕ) → length (flat_map (batch_rows world origin) ns) ≤ length ns * MOST_ROWS
-  rows_few [] = omega arith
-  rows_few (n ∷ ns) =
-      let one : length (batch_rows world origin n) ≤ MOST_ROWS = batch_few n in
-      let rest : length (flat_map (batch_rows world origin) ns) ≤ length ns * MOST_ROWS = rows_few ns in
-      let both : length (batch_rows world origin n ++ flat_map (batch_rows world origin) ns) ≡ length (batch_rows world origin n) + length (flat_map (batch_rows world origin) ns) =
-      length-append (batch_rows world origin n) (flat_map (batch_rows world origin) ns) in
-      omega (arith, one, rest, both)
-
-  upto_few : (n : ℕ) → length (rows_upto world origin n) ≤ n * MOST_ROWS
-  upto_few n = subst (λ m. length (rows_upto world origin n) ≤ m * MOST_ROWS) (count_length 1 n) (rows_few (count_up 1 n))
+rows_kinds : (ks : List Kind) (world : World) → IsWorld ks world → (origin : ℕ) (ns : List ℕ) → AllByRecursion (HasKinds ks) (flat_map (batch_rows world origin) ns)
+rows_kinds ks world is origin [] = tt
+rows_kinds ks world is origin (n ∷ ns) = each_append (HasKinds ks) (batch_rows world origin n) (flat_map (batch_rows world origin) ns) (batch_kinds ks world is origin n) (rows_kinds ks world is origin ns)
 
 -- batches one behind the other, of each of which so many rows are known at most
 few_counted : (world : World) (origin most first n : ℕ) → ((number : ℕ) → first ≤ number → number < first + n → length (batch_rows world origin number) ≤ most)
@@ -109,6 +79,14 @@ some_mapped : {X Y : Type 0} (f : X → Y) (xs : List X) (x : X) → Member xs x
 some_mapped f [] x m = absurd m
 some_mapped f (y ∷ ys) x m = λ e. let none : length (map f (y ∷ ys)) ≡ 0 = ap length e in absurd (omega (arith, none))
 
+-- ---- bounds
+
+-- each world's batches keep the bounds of the second version
+pub second_keeps : (query : Checked) (world : World) (known : Knowledge) → IsWorld (kinds query.columns) world → IsKnownWithin Second world known
+second_keeps query world known is_world origin number rows knows_it there =
+    let limits = is_world origin number rows there in
+    (limits.2, limits.3)
+
 -- ---- what is held of an origin
 
 module _ (query : Checked) (world : World) (known : Knowledge) (is_query : IsCheckedQuery query) (is_world : IsWorld (kinds query.columns) world) (of_world : IsKnownOf world known) where
@@ -118,15 +96,6 @@ module _ (query : Checked) (world : World) (known : Knowledge) (is_query : IsChe
 
   pub known_from_one : (origin number : ℕ) → IsTrue (knows known (origin, number)) → 1 ≤ number
   known_from_one origin number knows_it = let found = known_rows origin number knows_it in (is_world origin number found.0 found.1).1
-
-  prefix_within : (origin : ℕ) → prefix known origin ≤ LAST_NUMBER
-  prefix_within origin =
-      elim (cases_lt 0 (prefix known origin)) [
-        | inl some ↦
-            let found = known_rows origin (prefix known origin) (prefix_unbroken known origin (prefix known origin) (omega (arith, some)) (omega arith)) in
-            (is_world origin (prefix known origin) found.0 found.1).2
-        | inr none ↦ omega (arith, none)
-      ]
 
   -- an early batch has a gap before it
   early_behind : (origin number : ℕ) → IsTrue (knows known (origin, number)) → prefix known origin < number → prefix known origin + 1 < number
@@ -159,20 +128,60 @@ module _ (query : Checked) (world : World) (known : Knowledge) (is_query : IsChe
   abbrev rows_of_prefix : ℕ → List Row
   rows_of_prefix origin = rows_upto world origin (prefix known origin)
 
+  -- within the bounds of a version, if the known batches keep them
+  rows_within : (version : Version) → IsKnownWithin version world known → (origin number : ℕ) → IsTrue (knows known (origin, number)) → (number ≤ last_number version) × (length (batch_rows world origin number) ≤ most_batch_rows version)
+  rows_within version keeps origin number knows_it =
+      let found = known_rows origin number knows_it in
+      let here : batch_rows world origin number ≡ found.0 = ap (λ o. unwrap_or o []) found.1 in
+      let bounds = keeps origin number found.0 knows_it found.1 in
+      (bounds.0, subst (λ (rows : List Row). length rows ≤ most_batch_rows version) (sym here) bounds.1)
+
+  number_within : (version : Version) → IsKnownWithin version world known → (origin : ℕ) → prefix known origin ≤ last_number version
+  number_within version keeps origin =
+      elim (cases_lt 0 (prefix known origin)) [
+        | inl some ↦ (rows_within version keeps origin (prefix known origin) (prefix_unbroken known origin (prefix known origin) (omega (arith, some)) (omega arith))).0
+        | inr none ↦ omega (arith, none)
+      ]
+
+  few_within : (version : Version) → IsKnownWithin version world known → (origin : ℕ) → length (rows_of_prefix origin) ≤ prefix known origin * most_batch_rows version
+  few_within version keeps origin =
+      subst (λ m. length (rows_of_prefix origin) ≤ m * most_batch_rows version) (count_length 1 (prefix known origin))
+      (few_counted world origin (most_batch_rows version) 1 (prefix known origin) (λ number low high. (rows_within version keeps origin number (prefix_unbroken known origin number low (omega (arith, high)))).1))
+
+  part_within : (version : Version) → IsKnownWithin version world known → (origin : ℕ) → IsWithin version query (world_part query world known origin).1
+  part_within version keeps origin =
+      let most : ℕ = prefix known origin * most_batch_rows version in
+      let have : AllByRecursion (HasKinds (kinds query.columns)) (rows_of_prefix origin) = rows_kinds (kinds query.columns) world is_world origin (count_up 1 (prefix known origin)) in
+      let few : length (rows_of_prefix origin) ≤ most = few_within version keeps origin in
+      record {
+        prefix = number_within version keeps origin;
+        run = record {
+          groups = part (meaning query) (rows_of_prefix origin);
+          are = groups_stand (meaning query) most (rows_of_prefix origin) is_query.well_formed have few;
+          rises = groups_rise (meaning query) most (rows_of_prefix origin) is_query.well_formed have few;
+        };
+        few = groups_few (meaning query) most (rows_of_prefix origin) is_query.well_formed have few;
+        early = each_mapped (IsBatchWithin version) (numbered world origin) (early known origin) (λ number listed.
+            let bounds = rows_within version keeps origin number (early_known origin number listed).0 in
+            record { number = bounds.0; rows = subst (λ n. n ≤ most_batch_rows version) (sym (length-map (batch_rows world origin number) packing)) bounds.1 });
+      }
+
+  -- and so within those of the second
+  is_second : IsKnownWithin Second world known
+  is_second = second_keeps query world known is_world
+
   prefix_groups : (origin : ℕ) → AreGroups (meaning query) (prefix known origin * MOST_ROWS) (run_bytes (part (meaning query) (rows_of_prefix origin))) (part (meaning query) (rows_of_prefix origin))
   prefix_groups origin =
       groups_stand (meaning query) (prefix known origin * MOST_ROWS) (rows_of_prefix origin) is_query.well_formed
-      (rows_kinds (kinds query.columns) world is_world origin (count_up 1 (prefix known origin))) (upto_few (kinds query.columns) world is_world origin (prefix known origin))
+      (rows_kinds (kinds query.columns) world is_world origin (count_up 1 (prefix known origin))) (few_within Second is_second origin)
 
   is_part : (origin : ℕ) → IsPartOf query (world_part query world known origin).1
   is_part origin =
-      let most : ℕ = prefix known origin * MOST_ROWS in
-      let have : AllByRecursion (HasKinds (kinds query.columns)) (rows_of_prefix origin) = rows_kinds (kinds query.columns) world is_world origin (count_up 1 (prefix known origin)) in
-      let few : length (rows_of_prefix origin) ≤ most = upto_few (kinds query.columns) world is_world origin (prefix known origin) in
+      let within = part_within Second is_second origin in
       record {
-        within = prefix_within origin;
-        run = record { groups = part (meaning query) (rows_of_prefix origin); are = prefix_groups origin; rises = groups_rise (meaning query) most (rows_of_prefix origin) is_query.well_formed have few };
-        few = groups_few (meaning query) most (rows_of_prefix origin) is_query.well_formed have few;
+        within = within.prefix;
+        run = within.run;
+        few = within.few;
         rising = subst (IsStrictlySortedBy nat_cmp) (sym (numbers_back (λ n. packings (batch_rows world origin n)) (early known origin))) (early_rise known origin);
         early = each_mapped (IsEarly (kinds query.columns) (prefix known origin)) (numbered world origin) (early known origin) (is_early origin);
       }
@@ -216,53 +225,9 @@ module _ (query : Checked) (world : World) (known : Knowledge) (is_query : IsChe
         each = each_mapped (IsHeldPart query) (world_part query world known) (origins known) is_held;
       }
 
-  -- within the bounds of a version, if the known batches keep them
-  rows_within : (version : Version) → IsKnownWithin version world known → (origin number : ℕ) → IsTrue (knows known (origin, number)) → (number ≤ last_number version) × (length (batch_rows world origin number) ≤ most_batch_rows version)
-  rows_within version keeps origin number knows_it =
-      let found = known_rows origin number knows_it in
-      let here : batch_rows world origin number ≡ found.0 = ap (λ o. unwrap_or o []) found.1 in
-      let bounds = keeps origin number found.0 knows_it found.1 in
-      (bounds.0, subst (λ (rows : List Row). length rows ≤ most_batch_rows version) (sym here) bounds.1)
-
-  number_within : (version : Version) → IsKnownWithin version world known → (origin : ℕ) → prefix known origin ≤ last_number version
-  number_within version keeps origin =
-      elim (cases_lt 0 (prefix known origin)) [
-        | inl some ↦ (rows_within version keeps origin (prefix known origin) (prefix_unbroken known origin (prefix known origin) (omega (arith, some)) (omega arith))).0
-        | inr none ↦ omega (arith, none)
-      ]
-
-  few_within : (version : Version) → IsKnownWithin version world known → (origin : ℕ) → length (rows_of_prefix origin) ≤ prefix known origin * most_batch_rows version
-  few_within version keeps origin =
-      subst (λ m. length (rows_of_prefix origin) ≤ m * most_batch_rows version) (count_length 1 (prefix known origin))
-      (few_counted world origin (most_batch_rows version) 1 (prefix known origin) (λ number low high. (rows_within version keeps origin number (prefix_unbroken known origin number low (omega (arith, high)))).1))
-
-  part_within : (version : Version) → IsKnownWithin version world known → (origin : ℕ) → IsWithin version query (world_part query world known origin).1
-  part_within version keeps origin =
-      let most : ℕ = prefix known origin * most_batch_rows version in
-      let have : AllByRecursion (HasKinds (kinds query.columns)) (rows_of_prefix origin) = rows_kinds (kinds query.columns) world is_world origin (count_up 1 (prefix known origin)) in
-      let few : length (rows_of_prefix origin) ≤ most = few_within version keeps origin in
-      record {
-        prefix = number_within version keeps origin;
-        run = record {
-          groups = part (meaning query) (rows_of_prefix origin);
-          are = groups_stand (meaning query) most (rows_of_prefix origin) is_query.well_formed have few;
-          rises = groups_rise (meaning query) most (rows_of_prefix origin) is_query.well_formed have few;
-        };
-        few = groups_few (meaning query) most (rows_of_prefix origin) is_query.well_formed have few;
-        early = each_mapped (IsBatchWithin version) (numbered world origin) (early known origin) (λ number listed.
-            let bounds = rows_within version keeps origin number (early_known origin number listed).0 in
-            record { number = bounds.0; rows = subst (λ n. n ≤ most_batch_rows version) (sym (length-map (batch_rows world origin number) packing)) bounds.1 });
-      }
-
   pub parts_within : (version : Version) → IsKnownWithin version world known → AreWithin version query (world_parts query world known)
   parts_within version keeps = each_mapped (λ (held : ℕ × Part). IsWithin version query held.1) (world_part query world known) (origins known) (λ origin listed. part_within version keeps origin)
 
   -- the file is read as these parts
   pub world_read : (version : Version) → IsKnownWithin version world known → IsUtf8 (spelling (by_names query)) → IsSummaryIn version (world_file_in version query world known) query (world_parts query world known)
   world_read version keeps utf8 = read_again version query (world_parts query world known) is_query (schema_text query.columns is_query.columns_are) utf8 are_held (parts_within version keeps)
-
--- each world's batches keep the bounds of the second version
-pub second_keeps : (query : Checked) (world : World) (known : Knowledge) → IsWorld (kinds query.columns) world → IsKnownWithin Second world known
-second_keeps query world known is_world origin number rows knows_it there =
-    let limits = is_world origin number rows there in
-    (limits.2, limits.3)
