@@ -1,7 +1,7 @@
 //! Tapes over a file.
 
 use crate::tapes::tell_case;
-use spill_tapes::{FileDisk, TapeDisk};
+use spill_tapes::{DiskError, FileDisk, TapeDisk};
 use std::os::unix::fs::MetadataExt;
 use std::test::*;
 use std::{fs, process};
@@ -15,7 +15,15 @@ fn told_over<D: TapeDisk>(rt: HostRuntime, disk: &mut D, path: &str) -> Result<S
     Ok(format!(in rt.alloc(); "{text}, mode {mode:o}")?)
 }
 
-/// The same over a new file, which is removed then, and whether a second one is refused in its place.
+/// The bytes of a disk round those that are written beyond all others.
+fn round_the_last<D: TapeDisk>(disk: &mut D) -> Result<[u8; 8], DiskError> {
+    disk.write_at(10_000, b"abcd")?;
+    let mut bytes = [1; 8];
+    disk.read_at(9998, &mut bytes)?;
+    Ok(bytes)
+}
+
+/// The same over a new file, which is removed then, whether a second one is refused in its place, and what is read where nothing was written.
 fn told_over_file(rt: HostRuntime, path: &str) -> Result<String, Fail> {
     let mut disk = match FileDisk::create(&rt, path) {
         Ok(disk) => disk,
@@ -24,11 +32,14 @@ fn told_over_file(rt: HostRuntime, path: &str) -> Result<String, Fail> {
     let is_refused = FileDisk::create(&rt, path).is_err();
     let told = told_over(rt, &mut disk, path);
     let writes = disk.writes();
+    let round = round_the_last(&mut disk) == Ok(*b"\0\0abcd\0\0");
     drop(disk);
     let removed = fs::remove_file(&rt, path);
     let told = told?;
     removed?;
-    Ok(format!(in rt.alloc(); "{told}, {writes} written, refused again {is_refused}")?)
+    Ok(format!(in rt.alloc();
+        "{told}, {writes} written, refused again {is_refused}, zeros {round}"
+    )?)
 }
 
 #[test]
@@ -37,6 +48,6 @@ fn a_file_serves(rt: HostRuntime) -> Result<(), Fail> {
     let path = format!(in rt.alloc(); "/tmp/agg_tool_tapes_{process}")?;
     expect(
         told_over_file(rt, &path),
-        "Ok(()), Ok(Some((7, 0))) ab, Ok(Some((9, 1))) , Ok(None) , None, mode 600, 1 written, refused again true",
+        "Ok(()), Ok(Some((7, 0))) ab, Ok(Some((9, 1))) , Ok(None) , None, mode 600, 1 written, refused again true, zeros true",
     )
 }
