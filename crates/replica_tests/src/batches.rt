@@ -6,7 +6,7 @@ use test_tables::{expect_lines, halves};
 use test_towns::records;
 
 /// What becomes of a batch.
-fn build(
+pub(crate) fn build(
     rt: HostRuntime,
     origin: &str,
     number: &str,
@@ -69,24 +69,4 @@ fn told(rt: HostRuntime, case: &str) -> Result<String, Fail> {
 #[test]
 fn batches_are_built_or_refused_in_order(rt: HostRuntime) -> Result<(), Fail> {
     expect_lines(rt, BATCHES, told)
-}
-
-/// As many rows as a batch may have.
-fn most_rows(rt: HostRuntime) -> Result<String, Fail> {
-    let mut rows = String::new(rt.alloc());
-    for _ in 0..1_048_576 {
-        rows.push_str("oslo,5,t;")?;
-    }
-    Ok(rows)
-}
-
-/// How many rows a batch has that tells 1,048,576.
-fn rows_built(rt: HostRuntime, rows: &str) -> Result<usize, Fail> {
-    Ok(build(rt, "0", "0000000001", 1_048_576, rows)??.rows.len())
-}
-
-#[test]
-fn batches_have_1048576_rows(rt: HostRuntime) -> Result<(), Fail> {
-    assert_eq!(rt; rows_built(rt, &most_rows(rt)?)?, 1_048_576);
-    Ok(())
 }

@@ -6,6 +6,8 @@ mod batches;
 #[cfg(test)]
 mod fixtures;
 #[cfg(test)]
+mod longest;
+#[cfg(test)]
 mod runs;
 #[cfg(test)]
 mod summaries;

@@ -6,7 +6,7 @@ use std::test::*;
 use test_tables::expect_lines;
 
 /// What becomes of a file of these rows.
-fn read(rt: HostRuntime, file: &str) -> Result<Result<Batch, BatchError>, Fail> {
+pub(crate) fn read(rt: HostRuntime, file: &str) -> Result<Result<Batch, BatchError>, Fail> {
     let schema = Schema::parse(rt.alloc(), "c text, d bigint")?;
     let batch = read_batch(rt.alloc(), &schema, file.as_bytes());
     drop(schema);
@@ -82,34 +82,4 @@ fn told(rt: HostRuntime, case: &str) -> Result<String, Fail> {
 #[test]
 fn files_are_read_or_refused_in_order(rt: HostRuntime) -> Result<(), Fail> {
     expect_lines(rt, FILES, told)
-}
-
-/// A file of 1,048,576 rows.
-fn longest(rt: HostRuntime) -> Result<String, Fail> {
-    let mut file = String::from_str(rt.alloc(), "batch,0,1,1048576\n")?;
-    for _ in 0..1_048_576 {
-        file.push_str("oslo,5\n")?;
-    }
-    Ok(file)
-}
-
-/// How many rows are read.
-fn rows_read(rt: HostRuntime, file: &str) -> Result<usize, Fail> {
-    match read(rt, file)? {
-        Ok(batch) => {
-            let rows = batch.rows.len();
-            drop(batch);
-            Ok(rows)
-        }
-        Err(error) => Err(Fail::from(error)),
-    }
-}
-
-#[test]
-fn files_have_1048576_rows(rt: HostRuntime) -> Result<(), Fail> {
-    let file = longest(rt)?;
-    let rows = rows_read(rt, &file);
-    drop(file);
-    assert!(rt; rows? == 1_048_576);
-    Ok(())
 }

@@ -8,6 +8,8 @@ mod aggregates;
 #[cfg(test)]
 mod files;
 #[cfg(test)]
+mod longest;
+#[cfg(test)]
 mod on_end;
 #[cfg(test)]
 mod rows;
