@@ -57,6 +57,12 @@ fn summary_reason(alloc: Global, file: &[u8], why: Refusal) -> Result<Option<Rea
             )?;
             Ok(Some(Reason::whole(alloc, said)))
         }
+        Refusal::Summary(why) => {
+            let said = format!(in alloc;
+                "{why}: its bytes are not as they were written; bring it again, or make it anew of its batch files"
+            )?;
+            Ok(Some(Reason::whole(alloc, said)))
+        }
         _ => Ok(None),
     }
 }

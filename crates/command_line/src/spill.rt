@@ -2,13 +2,19 @@
 
 use crate::problem::Problem;
 use crate::streams::say;
-use fault_sentences::Plain;
-use replies::RunError;
+use fault_sentences::{Plain, Reason};
+use replies::{Refusal, RunError};
 use spill_tapes::{FileDisk, MemDisk, SpillDisk};
-use std::alloc::Global;
+use std::alloc::{AllocError, Global};
 use std::io::Write;
 use std::rt::Files;
 use std::{fmt, fs, io};
+
+/// Says why the file for what is spilled was not made.
+fn spill_reason(alloc: Global, cause: io::Error) -> Result<Option<Reason>, AllocError> {
+    let said = format!(in alloc; "the new file for what is spilled can't be made ({cause})")?;
+    Ok(Some(Reason::whole(alloc, said)))
+}
 
 /// A disk of tapes: in a new file where its path is told, else in memory.
 pub(crate) fn open_disk<'p, R: Files + AllocGlobal>(
@@ -20,7 +26,11 @@ pub(crate) fn open_disk<'p, R: Files + AllocGlobal>(
     };
     match FileDisk::create(rt, path) {
         Ok(disk) => Ok(SpillDisk::File(disk)),
-        Err(fault) => Err(Problem::failed(path, RunError::WriteFault, fault.cause)),
+        Err(fault) => {
+            let why = Refusal::Run(RunError::WriteFault);
+            let reason = spill_reason(rt.alloc(), fault.cause);
+            Err(Problem::because(path, why, reason))
+        }
     }
 }
 

@@ -1,6 +1,7 @@
 //! Why a command of a script is refused.
 
 use crate::batch::BatchText;
+use crate::foreign::known_by_front;
 use crate::lines::{ends_line, record_at};
 use crate::nearest::nearest;
 use crate::query::say_query;
@@ -135,6 +136,10 @@ fn say_word(alloc: Global, word: &[u8]) -> Result<String, AllocError> {
     for (place, word) in words.iter().enumerate() {
         said.push_str(if place == 0 { " " } else { ", " })?;
         said.push_str(word)?;
+    }
+    if let Some(known) = known_by_front(word) {
+        said.push_str("; ")?;
+        said.push_str(known)?;
     }
     Ok(said)
 }

@@ -404,8 +404,9 @@ known|@json => refused NotASummary/ => 1 => it looks like JSON
 >@fed.out|feed|@n2.sum|@e.sum|@be => - => 1 => @be: refused BadBatchHead: the first line is '\\xfe\\xff\\x00b\\x00a', and wants batch,ORIGIN,NUMBER,ROWS; it is UTF-16: iconv -f UTF-16 -t UTF-8 FILE
 >@fed.out|feed|@n2.sum|@e.sum|@le => - => 1 => it is UTF-16: iconv -f UTF-16LE -t UTF-8 FILE
 known|@later => refused NotASummary/ => 1 => it is a summary file of another version
+known|@damaged => refused BadSchema/ => 1 => @damaged: refused BadSchema: the summary file has no schema: its bytes are not as they were written; bring it again, or make it anew of its batch files\u{b6}
 >@fed.out|feed|@n2.sum|@e.sum|@bars => - => 1 => @bars: refused BadBatchHead: the first line is 'batch|0|1|1', and wants batch,ORIGIN,NUMBER,ROWS; fields stand between commas, and not between bars
-answer|@f.sum|--spill|@e.sum => refused WriteFault/ => 3 => @e.sum: refused WriteFault: the output could not be written (File exists (os error 17))\u{b6}
+answer|@f.sum|--spill|@e.sum => refused WriteFault/ => 3 => @e.sum: refused WriteFault: the new file for what is spilled can't be made (File exists (os error 17))\u{b6}
 answer|@empty => refused Truncated/ => 1 => @empty: refused Truncated: the file is empty, and a summary begins with AGGSUM01 or AGGSUM02\u{b6}
 merge|@n.sum|@cut|@f.sum => refused Truncated/ => 1 => @cut: refused Truncated: it ends too early, behind 10 bytes: it was cut on its way; @n.sum is not written\u{b6}
 answer|@ => refused ReadFault/ => 3 => @: refused ReadFault: the input could not be read (Is a directory (os error 21))\u{b6}
@@ -437,7 +438,7 @@ known|@1.csv|--explain => refused NotASummary/ => 1 => @1.csv: refused NotASumma
 ";
 
 /// Batch files, and files that are none.
-const FILES: [File; 16] = [
+const FILES: [File; 17] = [
     ("1.csv", b"batch,0,1,1\noslo,1\n"),
     ("1b.csv", b"batch,0,1,1\noslo,2\n"),
     ("2.csv", b"batch,0,2,1\noslo,2\n"),
@@ -452,6 +453,7 @@ const FILES: [File; 16] = [
     ("be", b"\xfe\xff\x00b\x00a\n"),
     ("le", b"b\x00a\x00t\x00c\x00h\x00"),
     ("later", b"AGGSUM09\x00\x10"),
+    ("damaged", b"AGGSUM02\x00\x00"),
     ("bars", b"batch|0|1|1\noslo|5\n"),
     ("json", b"{\"batch\":0}\n"),
 ];
