@@ -32,8 +32,8 @@ pub fn create(alloc: Global, columns: &str, query: &str) -> Result<Replica, Refu
     Ok(Replica::new(alloc, query))
 }
 
-/// The replica that a summary file of either version is of. Any bytes are read: those that are no summary file are refused by their first fault. Want of memory
-/// is `NoMemory`.
+/// The replica that a summary file of either version is of. Any bytes are read: those that are no summary file are refused by their
+/// first fault. Want of memory is `NoMemory`.
 pub fn load(alloc: Global, file: &[u8]) -> Result<Replica, Refusal>
     ensures loaded { IfOk result (λ replica.
         IsSummary file.now replica.query replica.parts) }

@@ -4,7 +4,7 @@ use crate::folder::{File, play};
 use std::test::*;
 
 /// Batch files: one of a first batch of three rows, and others that are refused. And what is saved of the first one.
-const BATCHES: [File; 10] = [
+const BATCHES: [File; 11] = [
     ("b.csv", b"batch,0,1,3\noslo,5\nbergen,7\noslo,-2\n"),
     (
         "told.sum",
@@ -16,6 +16,7 @@ const BATCHES: [File; 10] = [
         \x00\x00\x00\x00\x00\x00\x00\x02\x00\x00\x00\x00\x00\x00\x00\x00\x00\x00\x00\x00\x00\x00\x00\x03\
         \x00\x00\x00\x00",
     ),
+    ("last.csv", b"batch,0,4294967295,0\n"),
     ("empty.csv", b""),
     ("head.csv", b"batch,1024,1,0\n"),
     ("width.csv", b"batch,0,1\n"),
@@ -48,6 +49,8 @@ merge|@h.sum|@e.sum|@f.sum|@g.sum => merged/merged/saved 180/ => 0
 answer|@told.sum => c,count,sum/bergen,1,7/oslo,2,3/ => 0
 ?first|@first.sum|@told.sum => - => 0
 answer|@first.sum => c,count,sum/bergen,1,7/oslo,2,3/ => 0
+feed|@later.sum|@first.sum|@last.csv => early/saved 188/ => 0
+known|@later.sum => origin 0 upto 1 early 4294967295/ => 0
 known|@first.sum => origin 0 upto 1/ => 0
 merge|@second.sum|@first.sum => saved 180/ => 0
 ?same|@second.sum|@told.sum => - => 0

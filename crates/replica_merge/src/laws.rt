@@ -1,15 +1,17 @@
 //! Laws of merging.
 
-ghost use Rattle.std.specs.Prelude.{◌≡◌, ◌↔◌, ℕ, Bool, List, IsUtf8};
+ghost use Rattle.std.specs.Prelude.{◌≡◌, ◌≤◌, ◌↔◌, ℕ, Bool, List, map, IsUtf8};
 ghost use Rattle.grouping_model.specs.World.{World, IsWorld, Knowledge};
 ghost use Rattle.packed_rows.specs.Columns.{kinds};
+ghost use Rattle.agg_protocol.specs.States.{most_rows};
+ghost use Rattle.hash_agg.specs.Inputs.{all_rows};
 ghost use Rattle.having_filter.specs.Kept.{IsCheckedQuery, by_names};
 ghost use Rattle.summary_codec.specs.Reading.{IsSummaryIn, IsSummary, IsSaved};
 ghost use Rattle.summary_codec.specs.Worlds.{IsWorldFile};
 ghost use Rattle.summary_codec.specs.declared.version.Version.{Version};
 ghost use Rattle.query_checks.specs.Checks.{Checked};
 ghost use Rattle.query_checks.specs.Spelling.{spelling};
-ghost use Rattle.replica_merge.specs.Replicas.{Parts, Held, told, Fits, AreHeldParts, Merges, MergesIn};
+ghost use Rattle.replica_merge.specs.Replicas.{Parts, Held, told, Fits, AreHeldParts, Merges, MergesIn, counted_part};
 
 /// In what is told, merging depends neither on which replica takes the other, nor on how several are grouped, and once more
 /// gives nothing new.
@@ -44,9 +46,15 @@ pub fn merged_files()
         MergesIn world query a a aa → IsSaved bytes query aa → IsSaved those query a → bytes ≡ those }
 {}
 
-/// The file of a query, a world and what is known of this world is read, in each version, as a replica of the query that fits the world and
-/// tells what is known, and as no other. A query's text is UTF-8. A replica fits a world exactly where a file that is read as it is that of
-/// its query, the world and what it tells.
+/// The rows that a replica may have of all origins, as many as its prefixes allow, are fewer than 2^62, so that a state may count them.
+pub fn countable_rows()
+    ensures { (query : Checked) (parts : Parts) → AreHeldParts query parts →
+        all_rows (map counted_part parts) ≤ most_rows }
+{}
+
+/// The file of a query, a world and what is known of this world, where it is read, is read in either version as a replica of the query that
+/// fits the world and tells what is known, and as no other. A query's text is UTF-8. A file that is read as a replica is the file, in its
+/// version, of the query, a world and what the replica tells, exactly where the replica fits this world.
 pub fn files_that_fit()
     ensures loaded { (version : Version) (query : Checked) (world : World) (known : Knowledge) (bytes : List ℕ) (held : Held) →
         IsCheckedQuery query → IsUtf8 (spelling (by_names query)) → IsWorld (kinds query.columns) world →

@@ -140,9 +140,12 @@ fn a_file_is_read_and_written(rt: HostRuntime) -> Result<(), Fail> {
 
 #[test]
 fn no_front_of_a_file_is_one(rt: HostRuntime) -> Result<(), Fail> {
-    let bytes = bytes_of(rt, FILE)?;
-    for end in 0..bytes.len() {
-        assert!(rt; told(rt, &bytes[..end])?.as_str() == "Truncated", "{end}");
+    let mut bytes = bytes_of(rt, FILE)?;
+    for version in [b'1', b'2'] {
+        bytes[VERSION] = version;
+        for end in 0..bytes.len() {
+            assert!(rt; told(rt, &bytes[..end])?.as_str() == "Truncated", "{end}");
+        }
     }
     Ok(())
 }
@@ -192,6 +195,7 @@ two => Truncated
 42 => NotASummary
 41474753554e => NotASummary
 42474753554d3031 => NotASummary
+42474753554d3032 => NotASummary
 41474753554d3030 => NotASummary
 41474753554d3033 => NotASummary
 41474753554d303300 => NotASummary
@@ -311,6 +315,9 @@ one towns 0001 0000 00000001 0000000000000001 0006 016f736c6f00 \
 0000000000010001 0000000000000002 00000000000000000000000000000003 00000000 => BadState
 one towns 0001 0000 00000001 0000000000000001 0006 016f736c6f00 \
 0000000000000002 0000000000010001 00000000000000000000000000000003 00000000 => BadState
+one towns 0001 0000 00000001 0000000000000002 bergen 0006 016f736c6f00 4000000000000000 \
+0000000000000002 00000000000000000000000000000003 => BadState
+one towns 0001 0000 00000001 0000000000000001 ffff 016f736c6f00 => Truncated
 one total 0001 0000 00000001 0000000000000001 0000 0000000000010001 => BadState
 one total 0001 0000 7fffffff 0000000000000001 0000 00007fffffff0001 => BadState
 one towns 0001 0000 00000001 0000000000000000 00000001 80000000 => OutOfRange

@@ -1,5 +1,5 @@
 -- A query that was read passed the checks, and its text is UTF-8.
-use Rattle.std.specs.Prelude.{◌≡◌, refl, ℕ, Bool, true, false, List, Result, Ok, Err, IsUtf8}
+use Rattle.std.specs.Prelude.{◌≡◌, refl, ℕ, ◌++◌, Bool, true, false, List, Result, Ok, Err, IsUtf8}
 use Rattle.std.proofs.Common.{sym, ◌∙◌, ap, subst}
 use Rattle.packed_rows.specs.Columns.{Column, AreColumns, kinds}
 use Rattle.query_checks.specs.declared.error.QueryError.{QueryError}
@@ -18,12 +18,13 @@ use Rattle.group_parser.specs.Parsing.{Accepts, query_checked, asked_checked, as
 use Rattle.group_parser.proofs.ParseLaws.{accepts_parses, can_be_written}
 use Rattle.origin_prefix.specs.Held.{Parts}
 use Rattle.summary_codec.specs.Reading.{text, schema, query, heading, body, IsSummaryIn, IsSummary, IsSaved}
-use Rattle.summary_codec.specs.File.{file_bytes}
+use Rattle.summary_codec.specs.File.{file_bytes, body_bytes}
+use Rattle.summary_codec.specs.Versions.{opening}
 use Rattle.summary_codec.specs.declared.version.Version.{Version}
 use Rattle.summary_codec.specs.declared.version.Version.TheVariants.{Second}
 use Rattle.summary_codec.proofs.SpelledRead.{spelled}
 use Rattle.summary_codec.proofs.TextLaws.{schema_text}
-use Rattle.summary_codec.proofs.VersionLaws.{held_within}
+use Rattle.summary_codec.proofs.VersionLaws.{held_within, one_body}
 use Rattle.summary_codec.proofs.WrittenRead.{read_again}
 
 -- ---- a text that is a query says one that passed the checks
@@ -78,3 +79,9 @@ written_again version bytes q held is =
     let of_query = summary_query bytes q held (version, is) in
     let are = (spelled version bytes q held is).1 in
     read_again Second q held of_query.passed (schema_text q.columns of_query.passed.columns_are) of_query.utf8 are (held_within q held are)
+
+-- with the same bytes behind the opening
+pub same_behind : (version : Version) (behind : List ℕ) (q : Checked) (held : Parts) → IsSummaryIn version (opening version ++ behind) q held → (file_bytes q held ≡ opening Second ++ behind) × IsSaved (opening Second ++ behind) q held
+same_behind version behind q held is =
+    let same : behind ≡ body_bytes q held = one_body version version behind (body_bytes q held) (spelled version (opening version ++ behind) q held is).0 in
+    (ap (λ rest. opening Second ++ rest) (sym same), subst (λ rest. IsSaved (opening Second ++ rest) q held) (sym same) (written_again version (opening version ++ behind) q held is))

@@ -205,7 +205,7 @@ summary = opened >>= λ version. body version
 abbrev pub IsSummaryIn : Version → List ℕ → Checked → Parts → Type 0
 IsSummaryIn version bytes query parts = (behind : List ℕ) × opened bytes (Ok (version, behind)) × body version behind (Ok ((query, parts), []))
 
--- they are one of any version, as files are read
+-- they are one of some version, as files are read: what `summary` reads without a fault, to the end
 abbrev pub IsSummary : List ℕ → Checked → Parts → Type 0
 IsSummary bytes query parts = (version : Version) × IsSummaryIn version bytes query parts
 

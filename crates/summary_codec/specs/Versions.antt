@@ -9,7 +9,7 @@ use Rattle.origin_prefix.specs.Parts.{Part}
 use Rattle.origin_prefix.specs.Held.{Parts}
 use Rattle.summary_codec.specs.declared.version.Version.{Version}
 use Rattle.summary_codec.specs.declared.version.Version.TheVariants.{First, Second}
-use Rattle.summary_codec.specs.declared.version.TheConstants.{FIRST_LAST_NUMBER, FIRST_MOST_ROWS}
+use Rattle.summary_codec.specs.declared.version.TheConstants.{LAST_NUMBER_OF_FIRST, MOST_ROWS_OF_FIRST}
 
 -- what a file begins with
 abbrev pub opening : Version → List ℕ
@@ -18,12 +18,12 @@ opening Second = codes "AGGSUM02"
 
 -- the greatest number of a batch
 abbrev pub last_number : Version → ℕ
-last_number First = FIRST_LAST_NUMBER
+last_number First = LAST_NUMBER_OF_FIRST
 last_number Second = LAST_NUMBER
 
 -- the most rows of a batch
 abbrev pub most_batch_rows : Version → ℕ
-most_batch_rows First = FIRST_MOST_ROWS
+most_batch_rows First = MOST_ROWS_OF_FIRST
 most_batch_rows Second = MOST_ROWS
 
 -- an early batch within these bounds

@@ -6,7 +6,7 @@ ghost use Rattle.having_filter.specs.Kept.{IsCheckedQuery, by_names};
 ghost use Rattle.query_checks.specs.Checks.{Checked};
 ghost use Rattle.query_checks.specs.Spelling.{spelling};
 ghost use Rattle.origin_prefix.specs.Held.{Parts, AreHeldParts};
-ghost use Rattle.summary_codec.specs.File.{file_in, file_bytes, body_bytes};
+ghost use Rattle.summary_codec.specs.File.{file_in, file_bytes};
 ghost use Rattle.having_filter.specs.Meaning.{meaning};
 ghost use Rattle.origin_prefix.specs.Fitting.{FitsOrigin};
 ghost use Rattle.grouping_model.specs.World.{World, IsWorld, Knowledge, knows};
@@ -19,8 +19,7 @@ ghost use Rattle.summary_codec.specs.declared.version.Version.{Version};
 ghost use Rattle.summary_codec.specs.declared.version.Version.TheVariants.{First, Second};
 
 /// What a file begins with, and its bounds, by its version. A file is of one version, and what may be held is within the bounds of the second.
-/// Files of one query and of the same parts are equal but for what they begin with, whatever their versions; so what is read of a file of
-/// the first version is written as the same bytes with another opening.
+/// What is read of a file of either is written as one of the second, with the same bytes behind its opening, and is read of that.
 pub fn versions()
     ensures first { opening First ≡ codes "AGGSUM01" }
     ensures first_number { last_number First ≡ 2147483647 }
@@ -31,10 +30,9 @@ pub fn versions()
     ensures one { (bytes : List ℕ) (version other : Version) (query those : Checked) (held parts : Parts) →
         IsSummaryIn version bytes query held → IsSummaryIn other bytes those parts → version ≡ other }
     ensures within { (query : Checked) (held : Parts) → AreHeldParts query held → AreWithin Second query held }
-    ensures same { (version : Version) (query : Checked) (held : Parts) →
-        file_in version query held ≡ opening version ++ body_bytes query held }
-    ensures written_again { (version : Version) (bytes : List ℕ) (query : Checked) (held : Parts) →
-        IsSummaryIn version bytes query held → IsSaved (file_bytes query held) query held }
+    ensures written_again { (version : Version) (behind : List ℕ) (query : Checked) (held : Parts) →
+        IsSummaryIn version (opening version ++ behind) query held →
+        (file_bytes query held ≡ opening Second ++ behind) × IsSaved (opening Second ++ behind) query held }
 {}
 
 /// Each query, with what is held for it, has one spelling in each version within whose bounds it is, which is read as it was, and bytes

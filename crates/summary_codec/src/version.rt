@@ -7,10 +7,10 @@ ghost use Rattle.summary_codec.specs.Versions.{opening, most_batch_rows, last_nu
 use grouping_model::limits::{LAST_NUMBER, MOST_ROWS};
 
 /// The greatest number of a batch in a file of the first version.
-pub const FIRST_LAST_NUMBER: u32 = 2_147_483_647;
+pub const LAST_NUMBER_OF_FIRST: u32 = 2_147_483_647;
 
 /// The most rows of a batch in a file of the first version.
-pub const FIRST_MOST_ROWS: u32 = 65_536;
+pub const MOST_ROWS_OF_FIRST: u32 = 65_536;
 
 /// A version of a summary file: what it begins with, and its bounds. All else is one layout. Files are written in the second.
 #[derive(Clone, Copy)]
@@ -37,7 +37,7 @@ impl Version {
         ensures { result ≡ last_number self }
     {
         match self {
-            Version::First => FIRST_LAST_NUMBER,
+            Version::First => LAST_NUMBER_OF_FIRST,
             Version::Second => LAST_NUMBER,
         }
     }
@@ -48,7 +48,7 @@ impl Version {
         ensures limit { result ≤ MOST_ROWS }
     {
         match self {
-            Version::First => FIRST_MOST_ROWS,
+            Version::First => MOST_ROWS_OF_FIRST,
             Version::Second => MOST_ROWS,
         }
     }

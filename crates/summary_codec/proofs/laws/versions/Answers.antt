@@ -1,7 +1,6 @@
-use Rattle.std.specs.Prelude.{refl}
 use Rattle.summary_codec.proofs.OneReading.{one_file_version}
+use Rattle.summary_codec.proofs.ReadQueries.{same_behind}
 use Rattle.summary_codec.proofs.VersionLaws.{held_within}
-use Rattle.summary_codec.proofs.ReadQueries.{written_again}
 use Rattle.summary_codec.proofs.laws.versions.Goals as goal
 
 pub returns-clause-one : goal.returns-clause-one
@@ -10,8 +9,5 @@ returns-clause-one c = one_file_version
 pub returns-clause-within : goal.returns-clause-within
 returns-clause-within c = held_within
 
-pub returns-clause-same : goal.returns-clause-same
-returns-clause-same c = λ version query held. refl
-
 pub returns-clause-written_again : goal.returns-clause-written_again
-returns-clause-written_again c = written_again
+returns-clause-written_again c = same_behind
