@@ -30,10 +30,10 @@ const FULL_BATCHES: &str = "\
 ?rows|@2.csv|0|2|1048576 => - => 0
 ?rows|@3.csv|0|3|1048577 => - => 0
 new|@e.sum|--columns|c text, d bigint|--query|SELECT count(*), sum(d) FROM batches => saved 66/ => 0
-feed|@a.sum|@e.sum|@2.csv|@3.csv => early/refused TooManyRows/saved 19931038/ => 1 => 3.csv: refused TooManyRows: rows told: 1048577, and a batch has at most 1048576
-feed|@b.sum|@e.sum|@1.csv => folded upto 1/saved 110/ => 0
+feed|@a.sum|@e.sum|@2.csv|@3.csv => early/refused TooManyRows/saved 20920188/ => 1 => 3.csv: refused TooManyRows: rows told: 1048577, and a batch has at most 1048576
+feed|@b.sum|@e.sum|@1.csv => folded upto 1/saved 118/ => 0
 answer|@b.sum => count,sum/1048576,549755289600/ => 0
-merge|@c.sum|@b.sum|@a.sum|--limit|65536 => merged/saved 110/ => 0
+merge|@c.sum|@b.sum|@a.sum|--limit|65536 => merged/saved 118/ => 0
 answer|@c.sum => count,sum/2097152,1099510579200/ => 0
 ";
 
