@@ -153,8 +153,11 @@ tells on standard error what all of it took, as
 'passes 2 spilled 1 pages 1 held 57352 limit 65536': passes, records that were
 spilled, pages of 8192 bytes written for them, and the most bytes held at once.
 
+BATCH and IN may be pipes, as /dev/stdin or, in bash, <(gzip -dc 0-2.csv.gz).
+
 Example:
   agg_tool feed oslo.sum oslo.sum oslo-3.csv
+  gzip -dc oslo-4.csv.gz | agg_tool feed oslo.sum oslo.sum /dev/stdin
 
 Status:
   0  all was done
@@ -184,8 +187,11 @@ took, as 'passes 2 spilled 1 pages 1 held 57352 limit 65536': passes, records
 that were spilled, pages of 8192 bytes written for them, and the most bytes held
 at once.
 
+IN may be a pipe, as /dev/stdin or, in bash, <(ssh rome cat rome.sum).
+
 Example:
   agg_tool merge all.sum oslo.sum rome.sum
+  ssh rome cat rome.sum | agg_tool merge all.sum all.sum /dev/stdin
 
 Status:
   0  all was done
@@ -215,9 +221,9 @@ Status:
 const ANSWER_ABOUT: &str = "Prints the query's answer over what a summary knows";
 
 const ANSWER_AFTER: &str = "\
-The rows stand in the order of the query's keys, null last. Null is \\N, a
-boolean t or f. A column is named by its alias, or else by its column or
-function. The layout is csv, or aligned for people.
+The rows stand in the order of the query's ORDER BY, or else of its keys, null
+last. Null is \\N, a boolean t or f. A column is named by its alias, or else by
+its column or function. The layout is csv, or aligned for people.
 
 The groups of several origins take at most --limit bytes of blocks while they
 are combined, 65536 to 1099511627776; what doesn't keep within is spilled, and

@@ -69,7 +69,7 @@ impl fmt::Display for Standing<'_> {
         } else {
             write!(
                 f,
-                "{out}: it is there, and is none of the files read: it is replaced"
+                "{out}: it is there, and is none of the files read: it is to be replaced"
             )
         }
     }

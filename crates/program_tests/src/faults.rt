@@ -420,9 +420,9 @@ feed|@n.sum|@f.sum|@1.csv|--limit|-5 => - => 2 => --limit: refused BadCommand: '
 merge|@x.sum|@f.sum|--no-clobber => - => 2 => @x.sum: it is there, and is none of the files read: --no-clobber keeps it, and nothing is read or written\u{b6}
 feed|@x.sum|@none|@1.csv|--no-clobber|--limit|x => - => 2 => @x.sum: it is there, and is none of the files read: --no-clobber keeps it, and nothing is read or written\u{b6}
 new|@x.sum|--columns|c int|--query|SELECT|--no-clobber => - => 2 => @x.sum: it is there, and is none of the files read: --no-clobber keeps it, and nothing is read or written\u{b6}
-merge|@x.sum|@g.sum => saved 138/ => 0 => @x.sum: it is there, and is none of the files read: it is replaced\u{b6}
-new|@x.sum|--columns|c text|--query|SELECT count(*) FROM batches => saved 48/ => 0 => @x.sum: it is there, and is none of the files read: it is replaced\u{b6}
-merge|@x.sum|@none => refused ReadFault/ => 3 => @x.sum: it is there, and is none of the files read: it is replaced\u{b6}@none: refused ReadFault: the input could not be read (No such file or directory (os error 2)); @x.sum is not written\u{b6}
+merge|@x.sum|@g.sum => saved 138/ => 0 => @x.sum: it is there, and is none of the files read: it is to be replaced\u{b6}
+new|@x.sum|--columns|c text|--query|SELECT count(*) FROM batches => saved 48/ => 0 => @x.sum: it is there, and is none of the files read: it is to be replaced\u{b6}
+merge|@x.sum|@none => refused ReadFault/ => 3 => @x.sum: it is there, and is none of the files read: it is to be replaced\u{b6}@none: refused ReadFault: the input could not be read (No such file or directory (os error 2)); @x.sum is not written\u{b6}
 ?link|@link.sum|@f.sum => - => 0
 merge|@f.sum|@link.sum|--no-clobber => saved 163/ => 0
 merge|@link.sum|@f.sum|--no-clobber => saved 163/ => 0
