@@ -116,8 +116,11 @@ fn write_origins(rt: &HostRuntime, file: &str, full: &Full, told: &str) -> Resul
 
 /// Makes a summary file of the first version of one of the second: they differ in a digit.
 fn write_first(rt: &HostRuntime, file: &str, second: &str) -> Result<bool, Fail> {
-    let mut bytes = fs::read(rt, second)?;
-    *bytes.get_mut(7).ok_or("too short")? = b'1';
+    let read = fs::read(rt, second)?;
+    let behind = read.strip_prefix(SECOND.opening).ok_or("no summary")?;
+    let mut bytes = Vec::new(rt.alloc());
+    bytes.extend_from_slice(FIRST.opening)?;
+    bytes.extend_from_slice(behind)?;
     Ok(fs::write(rt, file, bytes.as_slice()).is_ok())
 }
 
