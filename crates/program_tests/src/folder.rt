@@ -75,6 +75,7 @@ fn push_text(bytes: &mut Vec<u8>, text: &[u8]) -> Result<(), Fail> {
 }
 
 /// A summary whose origins count as many rows as they may.
+#[derive(Clone, Copy)]
 struct Full {
     opening: &'static [u8],
     query: &'static [u8],
