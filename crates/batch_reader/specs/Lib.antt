@@ -4,3 +4,4 @@ pub mod Refusal
 pub mod File
 pub mod Views
 pub mod RecordLaws
+pub mod Names

@@ -1,6 +1,7 @@
 //! Why a batch is refused.
 
 ghost use Rattle.std.specs.Prelude.{◌≡◌};
+ghost use Rattle.batch_reader.specs.Names.{batch_name};
 ghost use Rattle.batch_reader.specs.declared.error.BatchError.TheVariants.{NoMemory};
 
 use std::alloc::{AllocError, AllocFailed};
@@ -28,6 +29,22 @@ pub enum BatchError {
     /// A row's field stands for no value of its column.
     #[error("in row {row} a field stands for no value of column {column}, both counted from 0")]
     BadField { row: usize, column: usize },
+}
+
+impl BatchError {
+    /// The name of what is wrong with a batch, as replies show it.
+    pub fn name(self) -> &'static str
+        ensures { result.now ≡ batch_name self }
+    {
+        match self {
+            BatchError::NoMemory => "NoMemory",
+            BatchError::BadBatchHead => "BadBatchHead",
+            BatchError::TooManyRows => "TooManyRows",
+            BatchError::RowCount => "RowCount",
+            BatchError::WrongWidth { .. } => "WrongWidth",
+            BatchError::BadField { .. } => "BadField",
+        }
+    }
 }
 
 impl From<AllocError> for BatchError {

@@ -1,7 +1,7 @@
 //! Why a command stopped, or passed over a file.
 
 use fault_sentences::{Plain, Reason};
-use replies::{Refusal, RunError, name};
+use replies::{Refusal, RunError};
 use std::alloc::Global;
 use std::io::ErrorKind;
 use std::{fmt, io};
@@ -126,7 +126,7 @@ impl fmt::Display for Fate<'_> {
 
 impl fmt::Display for Problem<'_> {
     fn fmt<W: fmt::Write>(&self, f: &mut fmt::Formatter<W>) -> fmt::Result {
-        let (subject, name) = (Plain(self.subject), name(self.why));
+        let (subject, name) = (Plain(self.subject), self.why.name());
         write!(f, "{subject}: refused {name}: ")?;
         match &self.reason {
             Some(reason) => f.write_str(&reason.said)?,

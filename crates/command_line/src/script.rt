@@ -5,7 +5,7 @@ use crate::spill::{open_disk, remove_disk};
 use crate::streams::{Streams, Watched, say};
 use fault_sentences::{Reason, ScriptPlace, say_disagreement};
 use hash_agg::TapeDisk;
-use replies::{Ending, Refusal, Reply, RunError, name, put_reply, refusal_ending, run_ending};
+use replies::{Ending, Refusal, Reply, RunError, put_reply, refusal_ending, run_ending};
 use script_machine::{Observer, run_observed};
 use std::alloc::{AllocError, Global};
 use std::cell::Cell;
@@ -23,7 +23,7 @@ struct Complaint {
 
 impl fmt::Display for Complaint {
     fn fmt<W: fmt::Write>(&self, f: &mut fmt::Formatter<W>) -> fmt::Result {
-        let (line, name) = (self.line, name(self.why));
+        let (line, name) = (self.line, self.why.name());
         match &self.reason {
             Some(reason) => {
                 let (said, picture) = (reason.said.as_str(), reason.picture.as_str());
@@ -91,7 +91,7 @@ struct Stopped {
 
 impl fmt::Display for Stopped {
     fn fmt<W: fmt::Write>(&self, f: &mut fmt::Formatter<W>) -> fmt::Result {
-        let (error, name) = (self.error, name(self.error.into()));
+        let (error, name) = (self.error, Refusal::from(self.error).name());
         write!(f, "refused {name}: {error}")?;
         match &self.cause {
             Some(cause) => write!(f, " ({cause})"),

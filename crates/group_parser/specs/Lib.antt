@@ -1,3 +1,4 @@
 pub mod Views
 pub mod Nots
 pub mod Parsing
+pub mod Names

@@ -1,6 +1,7 @@
 //! Why a text is no query.
 
 ghost use Rattle.std.specs.Prelude.{◌≡◌};
+ghost use Rattle.group_parser.specs.Names.{parse_name};
 ghost use Rattle.group_parser.specs.declared.error.ParseError.TheVariants.{Query};
 ghost use Rattle.group_parser.specs.Parsing.{no_memory, of_token_error};
 
@@ -23,6 +24,19 @@ pub enum ParseError {
     /// and `TooDeep` for a condition in which too many parentheses are open at once.
     #[error(transparent)]
     Query(QueryError),
+}
+
+impl ParseError {
+    /// The name of what is wrong with a query's text, as replies show it.
+    pub fn name(self) -> &'static str
+        ensures { result.now ≡ parse_name self }
+    {
+        match self {
+            ParseError::Syntax { .. } => "Syntax",
+            ParseError::NumberTooLarge => "NumberTooLarge",
+            ParseError::Query(error) => error.name(),
+        }
+    }
 }
 
 impl From<AllocError> for ParseError {

@@ -1,5 +1,5 @@
 -- What becomes of a part to which a batch is delivered.
-use Rattle.std.specs.Prelude.{◌≡◌, ◌≢◌, refl, ℕ, ◌+◌, ◌-◌, ◌<◌, ◌≤◌, ◌||◌, nat_le, Bool, true, false, List, [], ◌∷◌, Some, None, Result, Ok, Err, IfOk, IfErr, OnOk, OnErr}
+use Rattle.std.specs.Prelude.{◌≡◌, ◌≢◌, refl, ℕ, ◌+◌, ◌-◌, ◌<◌, ◌≤◌, ◌||◌, ◌&&◌, nat_le, Bool, true, false, List, [], ◌∷◌, Some, None, Result, Ok, Err, IfOk, IfErr, OnOk, OnErr}
 use Rattle.std.proofs.Common.{◌∙◌, sym, ap, subst, inl, inr, arith}
 use Rattle.std.proofs.lemmas.Bool.{cases_lt}
 use Rattle.std.specs.Option.{is_some}
@@ -20,7 +20,7 @@ use Rattle.packed_rows.specs.PackingOrderLaws.{less}
 use Rattle.batch_reader.specs.Rows.{ArePackedRows}
 use Rattle.query_checks.specs.Checks.{Checked}
 use Rattle.having_filter.specs.Meaning.{meaning}
-use Rattle.origin_prefix.specs.Parts.{Batches, Part, rows_at, knows_number, IsEarly, IsBehind, IsOpen, IsPartOf, Delivers, BatchTells, Settles, behind}
+use Rattle.origin_prefix.specs.Parts.{Batches, Part, rows_at, tells, IsEarly, IsBehind, IsOpen, IsPartOf, Delivers, BatchTells, Settles, behind}
 use Rattle.batch_reader.specs.declared.batch.Batch.{Batch}
 use Rattle.origin_prefix.specs.declared.error.RefusedBatch.{RefusedBatch}
 use Rattle.origin_prefix.specs.declared.error.JoinError.TheVariants.{OriginDisagrees, Spill}
@@ -39,16 +39,18 @@ either_true : (a b : Bool) → b ≡ true → (a || b) ≡ true
 either_true true b e = refl
 either_true false b e = e
 
-pub known_within : (honest : Bool) (query : Checked) (q : Query) (part : Part) (number : ℕ) (rows : List (List ℕ)) → IsPartOf query part → number ≤ part.prefix → Delivers honest q part number rows part Known
-known_within honest query q part number rows is low = (
-  ap (λ b. b || is_some (rows_at part.early number)) (let e : nat_le number part.prefix ≡ true = grind arith in e),
+pub known_within : (honest : Bool) (query : Checked) (q : Query) (part : Part) (number : ℕ) (rows : List (List ℕ)) → IsPartOf query part → 1 ≤ number → number ≤ part.prefix → Delivers honest q part number rows part Known
+known_within honest query q part number rows is some low = (
+  (let one : nat_le 1 number ≡ true = grind arith in
+      let within : nat_le number part.prefix ≡ true = grind arith in
+      λ i. (one i && within i) || is_some (rows_at part.early number)),
   λ kept there. within_prefix query part number rows kept is low there,
   refl,
 )
 
 pub known_early : (honest : Bool) (q : Query) (part : Part) (number : ℕ) (rows kept : List (List ℕ)) → rows_at part.early number ≡ Some kept → kept ≡ rows → Delivers honest q part number rows part Known
 known_early honest q part number rows kept there same = (
-  either_true (nat_le number part.prefix) (is_some (rows_at part.early number)) (ap is_some there),
+  either_true (nat_le 1 number && nat_le number part.prefix) (is_some (rows_at part.early number)) (ap is_some there),
   λ other found. some_is other kept (sym found ∙ there) ∙ same,
   refl,
 )
@@ -113,9 +115,14 @@ refused_early part number batch kept r there other =
     IfErr-weaker r (λ e. (e.batch ≡ batch) × (e.why ≡ OriginDisagrees (Some number)) × (kept ≢ batch.rows)) (λ e. BatchTells e.why part number batch.rows)
     (λ e is. subst (λ why. BatchTells why part number batch.rows) (sym is.1) (refl, record { kept = kept; there = there; other = is.2 })) other
 
--- a number behind the prefix that isn't early is not known
-pub unknown : (part : Part) (number : ℕ) → part.prefix < number → rows_at part.early number ≡ None → knows_number part number ≡ false
-unknown part number above none = grind (arith, above, ap is_some none)
+-- a number behind the prefix that isn't early is not told
+pub unknown : (part : Part) (number : ℕ) → part.prefix < number → rows_at part.early number ≡ None → tells part number ≡ false
+unknown part number above none =
+    let out : nat_le number part.prefix ≡ false = grind arith in (λ i. (nat_le 1 number && out i) || is_some (none i)) ∙ neither (nat_le 1 number)
+  where
+    neither : (b : Bool) → ((b && false) || false) ≡ false
+    neither true = refl
+    neither false = refl
 
 -- and so whatever is refused for want of memory, or by a disk
 pub unknown_refused : {T : Type 0} (r : Result T RefusedBatch) (part : Part) (number : ℕ) (rows : List (List ℕ)) → part.prefix < number → rows_at part.early number ≡ None
@@ -140,7 +147,7 @@ pub behind_gap : (prefix number : ℕ) → prefix < number → (number - 1 ≡ p
 behind_gap prefix number low apart = elim (cases_lt (prefix + 1) number) [ inl l ↦ l | inr h ↦ absurd (apart (omega (arith, low, h))) ]
 
 -- a batch that was kept early
-pub kept_delivers : {E : Type 0} (honest : Bool) (q : Query) (old new : Part) (number : ℕ) (rows : List (List ℕ)) (r : Result Delivered E) → knows_number old number ≡ false → number ≢ old.prefix + 1
+pub kept_delivers : {E : Type 0} (honest : Bool) (q : Query) (old new : Part) (number : ℕ) (rows : List (List ℕ)) (r : Result Delivered E) → tells old number ≡ false → number ≢ old.prefix + 1
     → IfOk r (λ reply. (reply ≡ Early) × (new ≡ record old { early = insert_entry nat_cmp old.early number rows })) → IfOk r (Delivers honest q old number rows new)
 kept_delivers honest q old new number rows r unknown apart kept =
     IfOk-weaker r (λ reply. (reply ≡ Early) × (new ≡ record old { early = insert_entry nat_cmp old.early number rows })) (Delivers honest q old number rows new)

@@ -10,9 +10,8 @@ use Rattle.grouping_model.specs.declared.delivered.Delivered.{Delivered}
 use Rattle.grouping_model.specs.declared.delivered.Delivered.TheVariants.{Folded, Early, Known}
 use Rattle.packed_rows.specs.Columns.{kinds}
 use Rattle.query_checks.specs.Checks.{Checked}
-use Rattle.origin_prefix.specs.Parts.{Batches, Part, rows_at, IsEarly, IsPartOf, following, Settles, Delivers}
+use Rattle.origin_prefix.specs.Parts.{Batches, Part, rows_at, IsEarly, IsPartOf, tells, following, Settles, Delivers}
 use Rattle.origin_prefix.specs.Joins.{either, longer, Unites, Joins}
-use Rattle.origin_prefix.specs.Fitting.{tells}
 use Rattle.origin_prefix.proofs.Lists.{is_itself, is_other, same_or_other}
 use Rattle.origin_prefix.proofs.ByNumber.{numbers, at_head, behind_head, none_found, rising_rest, put_same, put_else}
 use Rattle.origin_prefix.proofs.DeliverLaws.{next_rising}
@@ -86,7 +85,7 @@ pub delivered_tells : (honest : Bool) (query : Checked) (q : Query) (old new : P
     → (m : ℕ) → tells new m ≡ (eq_by_cmp nat_cmp m number || tells old m)
 delivered_tells honest query q old new number rows Known is low d =
     told_more (tells new) (tells old) number
-    (ap (λ (p : Part). tells p number) d.2 ∙ ap (λ b. (b && nat_le number old.prefix) || is_some (rows_at old.early number)) (let one : nat_le 1 number ≡ true = grind arith in one) ∙ d.0)
+    (ap (λ (p : Part). tells p number) d.2 ∙ d.0)
     (λ m other. ap (λ (p : Part). tells p m) d.2)
 delivered_tells honest query q old new number rows Early is low d =
     told_more (tells new) (tells old) number

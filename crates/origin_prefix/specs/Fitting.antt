@@ -1,6 +1,5 @@
--- What a part tells, and when it fits a world. All of this is our own.
-use Rattle.std.specs.Prelude.{◌≡◌, ℕ, ◌*◌, ◌≤◌, ◌||◌, ◌&&◌, Bool, nat_le, List, Some, IsSome}
-use Rattle.std.specs.Option.{is_some}
+-- When a part of an origin fits a world. All of this is our own.
+use Rattle.std.specs.Prelude.{◌≡◌, ℕ, ◌*◌, ◌≤◌, List, Some, IsSome}
 use Rattle.grouping_model.specs.Datum.{Row}
 use Rattle.grouping_model.specs.Query.{Query}
 use Rattle.grouping_model.specs.Grouping.{part}
@@ -9,10 +8,6 @@ use Rattle.grouping_model.specs.declared.limits.TheConstants.{MOST_ROWS}
 use Rattle.batch_reader.specs.Rows.{packings}
 use Rattle.group_runs.specs.Standing.{AreGroups}
 use Rattle.origin_prefix.specs.Parts.{Part, rows_at}
-
--- whether a part tells a number: it is 1 to the prefix, or early
-abbrev pub tells : Part → ℕ → Bool
-tells p number = (nat_le 1 number && nat_le number p.prefix) || is_some (rows_at p.early number)
 
 -- a part fits a world: what it tells are the world's batches of the origin, its run has the groups of the rows of its prefix, and its
 -- early batches have the world's rows, packed

@@ -42,9 +42,9 @@ empty = record { prefix = 0; run = []; early = [] }
 abbrev pub rows_at : Batches → ℕ → Option (List (List ℕ))
 rows_at batches number = lookup (eq_by_cmp nat_cmp number) batches
 
--- whether a number is at most the prefix or early
-abbrev pub knows_number : Part → ℕ → Bool
-knows_number part number = nat_le number part.prefix || is_some (rows_at part.early number)
+-- whether a part tells a number: it is 1 to the prefix, or early
+abbrev pub tells : Part → ℕ → Bool
+tells part number = (nat_le 1 number && nat_le number part.prefix) || is_some (rows_at part.early number)
 
 -- whether nothing is held
 abbrev pub is_nothing : Part → Bool
@@ -124,16 +124,16 @@ pub record Disagrees (part : Part) (number : ℕ) (rows : List (List ℕ)) : Typ
   pub other : kept ≢ rows
 
 -- what a refusal of a batch says of the part that doesn't take it: where it disagrees it is there with other rows, and anything else is a
--- reason only for a number that is not known
+-- reason only for a number that is not told
 abbrev pub BatchTells : JoinError → Part → ℕ → List (List ℕ) → Type 0
 BatchTells (OriginDisagrees told) part number rows = (told ≡ Some number) × Disagrees part number rows
-BatchTells (Spill error) part number rows = knows_number part number ≡ false
+BatchTells (Spill error) part number rows = tells part number ≡ false
 
 -- what becomes of a part to which a batch is delivered, and what is replied
 abbrev pub Delivers : (honest : Bool) → Query → Part → ℕ → List (List ℕ) → Part → Delivered → Type 0
 Delivers honest query old number rows new reply.Known =
-    IsTrue (knows_number old number) × ((kept : List (List ℕ)) → rows_at old.early number ≡ Some kept → kept ≡ rows) × (new ≡ old)
+    IsTrue (tells old number) × ((kept : List (List ℕ)) → rows_at old.early number ≡ Some kept → kept ≡ rows) × (new ≡ old)
 Delivers honest query old number rows new reply.Early =
-    (knows_number old number ≡ false) × (number ≢ old.prefix + 1) × (new ≡ record old { early = insert_entry nat_cmp old.early number rows })
+    (tells old number ≡ false) × (number ≢ old.prefix + 1) × (new ≡ record old { early = insert_entry nat_cmp old.early number rows })
 Delivers honest query old number rows new (reply.Folded upto) =
     (number ≡ old.prefix + 1) × (upto ≡ new.prefix) × Settles honest query old.prefix old.run (behind old.prefix old.early (Some rows)) new

@@ -10,8 +10,8 @@ ghost use Rattle.grouping_model.specs.Query.{Query};
 ghost use Rattle.grouping_model.specs.declared.delivered.Delivered.{Delivered};
 ghost use Rattle.query_checks.specs.Checks.{Checked};
 ghost use Rattle.having_filter.specs.Meaning.{meaning};
-ghost use Rattle.origin_prefix.specs.Fitting.{tells, FitsOrigin};
-ghost use Rattle.origin_prefix.specs.Parts.{Part, IsPartOf, Delivers, Disagrees};
+ghost use Rattle.origin_prefix.specs.Fitting.{FitsOrigin};
+ghost use Rattle.origin_prefix.specs.Parts.{Part, tells, IsPartOf, Delivers, Disagrees};
 ghost use Rattle.origin_prefix.specs.Joins.{Joins, PartsDisagree};
 
 /// What a part tells after a batch was delivered is that number more, and what joined parts tell is what either tells.

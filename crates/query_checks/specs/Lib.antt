@@ -13,3 +13,4 @@ pub mod DistinctLaws
 pub mod FormLaws
 pub mod ReadLaws
 pub mod SameLaws
+pub mod Names

@@ -1,6 +1,7 @@
 //! Why a query is refused.
 
 ghost use Rattle.std.specs.Prelude.{◌≡◌};
+ghost use Rattle.query_checks.specs.Names.{query_name};
 ghost use Rattle.query_checks.specs.declared.error.QueryError.TheVariants.{NoMemory};
 
 use std::alloc::{AllocError, AllocFailed};
@@ -33,6 +34,24 @@ pub enum QueryError {
     /// A name in ORDER BY is that of two items that aren't the same column or call.
     #[error("a name in ORDER BY is that of two different items")]
     AmbiguousOrder,
+}
+
+impl QueryError {
+    /// The name of what a check of a query refuses, as replies show it.
+    pub fn name(self) -> &'static str
+        ensures { result.now ≡ query_name self }
+    {
+        match self {
+            QueryError::NoMemory => "NoMemory",
+            QueryError::NoSuchColumn => "NoSuchColumn",
+            QueryError::NotGrouped => "NotGrouped",
+            QueryError::TypeMismatch => "TypeMismatch",
+            QueryError::AggregateHere => "AggregateHere",
+            QueryError::TooMany => "TooMany",
+            QueryError::TooDeep => "TooDeep",
+            QueryError::AmbiguousOrder => "AmbiguousOrder",
+        }
+    }
 }
 
 impl From<AllocError> for QueryError {

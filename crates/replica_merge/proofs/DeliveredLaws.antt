@@ -23,11 +23,11 @@ use Rattle.batch_reader.specs.Rows.{packings}
 use Rattle.batch_reader.specs.declared.batch.Batch.{Batch}
 use Rattle.query_checks.specs.Checks.{Checked}
 use Rattle.having_filter.specs.Meaning.{meaning}
-use Rattle.origin_prefix.specs.Parts.{Part, empty, rows_at, knows_number, IsEarly, IsPartOf, Delivers, Disagrees, BatchTells}
+use Rattle.origin_prefix.specs.Parts.{Part, empty, rows_at, tells, IsEarly, IsPartOf, Delivers, Disagrees, BatchTells}
 use Rattle.origin_prefix.specs.declared.error.JoinError.TheVariants.{OriginDisagrees, Spill}
 use Rattle.spill_lists.specs.declared.error.SpillError.{SpillError}
 use Rattle.origin_prefix.specs.declared.error.RefusedBatch.{RefusedBatch}
-use Rattle.origin_prefix.specs.Fitting.{tells, FitsOrigin}
+use Rattle.origin_prefix.specs.Fitting.{FitsOrigin}
 use Rattle.origin_prefix.proofs.Lists.{is_itself, is_other, same_or_other}
 use Rattle.origin_prefix.proofs.ByNumber.{at, numbers, found_holds, all_found, put_same, put_else}
 use Rattle.origin_prefix.proofs.TellingLaws.{delivered_tells}
@@ -106,12 +106,6 @@ place_given_up : (old between failed new : Parts) (o : ℕ) → part_at old o �
     → new ≡ remove_entry (is_at (nat_cmp o)) failed → new ≡ old
 place_given_up old between failed new o none put same removed = removed ∙ ap (remove_entry (is_at (nat_cmp o))) (same ∙ put) ∙ taken_out old o empty none
 
--- of nothing no number from 1 on is known
-nothing_known : (old : Parts) (o n : ℕ) → part_at old o ≡ None → 1 ≤ n → knows_number (part_of old o) n ≡ false
-nothing_known old o n none low =
-    let zero : nat_le n 0 ≡ false = grind arith in
-    ap (λ found. knows_number (unwrap_or found empty) n) none ∙ ap (λ b. b || false) zero
-
 pub first_refused : (old between failed new : Parts) (batch : Batch) (e : RefusedBatch) → part_at old batch.origin ≡ None → between ≡ insert_entry nat_cmp old batch.origin empty
     → RefusesAt between batch failed e → new ≡ remove_entry (is_at (nat_cmp batch.origin)) failed → RefusesAt old batch new e
 first_refused old between failed new batch e none put r removed =
@@ -165,16 +159,10 @@ some_if_tells p n known =
     within true false one two e = absurd (true≢false (sym e))
     within false b one two e = absurd (true≢false (sym e))
 
--- a number from 1 on is told exactly where the part of its origin knows it
-known_at : (parts : Parts) → IsStrictlySortedBy nat_cmp (numbers parts) → (o n : ℕ) → 1 ≤ n → knows (told parts) (o, n) ≡ knows_number (part_of parts o) n
-known_at parts rising o n low =
-    let one : nat_le 1 n ≡ true = grind arith in
-    told_is parts rising o n ∙ ap (λ b. (b && nat_le n (part_of parts o).prefix) || is_some (rows_at (part_of parts o).early n)) one
-
 -- a batch that is taken isn't there already with other rows
 taken_agrees : (honest : Bool) (query : Checked) (old new : Part) (n : ℕ) (rows : List (List ℕ)) (reply : Delivered) → IsPartOf query old → Delivers honest (meaning query) old n rows new reply → ¬ (Disagrees old n rows)
 taken_agrees honest query old new n rows Known is d there = there.other (d.1 there.kept there.there)
-taken_agrees honest query old new n rows Early is d there = absurd (true≢false (sym (ap is_some there.there) ∙ not_early (nat_le n old.prefix) (is_some (rows_at old.early n)) d.0))
+taken_agrees honest query old new n rows Early is d there = absurd (true≢false (sym (ap is_some there.there) ∙ not_early (nat_le 1 n && nat_le n old.prefix) (is_some (rows_at old.early n)) d.0))
   where
     not_early : (a b : Bool) → (a || b) ≡ false → b ≡ false
     not_early true b e = absurd (true≢false e)
@@ -240,9 +228,9 @@ module _ (honest : Bool) (query : Checked) (old new : Parts) (o n : ℕ) (rows :
 
       go : (answer : Delivered) → reply ≡ answer → Delivers honest (meaning query) (part_of old o) n rows d.part answer → answer ≡ reply_of (told old) (o, n)
       go Known is delivers =
-          ap (λ b. if b then Known else (if n == prefix (told old) o + 1 then Folded (prefix (learn (told old) (o, n)) o) else Early)) (sym (known_at old held.rising o n limits.1 ∙ delivers.0))
+          ap (λ b. if b then Known else (if n == prefix (told old) o + 1 then Folded (prefix (learn (told old) (o, n)) o) else Early)) (sym (knows_tells ∙ delivers.0))
       go Early is delivers =
-          unknown Early (known_at old held.rising o n limits.1 ∙ delivers.0)
+          unknown Early (knows_tells ∙ delivers.0)
           (ap (λ b. if b then Folded (prefix (learn (told old) (o, n)) o) else Early) (ap (λ p. n == p + 1) old_prefix ∙ apart delivers.1))
         where
           apart : n ≢ (part_of old o).prefix + 1 → (n == (part_of old o).prefix + 1) ≡ false
@@ -330,7 +318,7 @@ module _ (r : Result Delivered RefusedBatch) (honest : Bool) (query : Checked) (
   pub unknown_else : IfErr r (λ e. (error : SpillError) → e.why ≡ Spill error → knows (told old) (batch.origin, batch.number) ≡ false)
   unknown_else =
       IfErr-weaker r (RefusesAt old batch new) _
-      (λ e d error why. known_at old held.rising batch.origin batch.number limits.1 ∙ subst (λ w. BatchTells w (part_of old batch.origin) batch.number batch.rows) why d.tells) refuses
+      (λ e d error why. told_is old held.rising batch.origin batch.number ∙ subst (λ w. BatchTells w (part_of old batch.origin) batch.number batch.rows) why d.tells) refuses
 
   pub world_agrees : IfErr r (λ e. (told : Option ℕ) → e.why ≡ OriginDisagrees told → (world : World) (those : List Row) → Fits world (record { query = query; parts = old }) → world batch.origin batch.number ≡ Some those
       → batch.rows ≢ packings those)

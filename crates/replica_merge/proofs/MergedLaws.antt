@@ -11,11 +11,11 @@ use Rattle.grouping_model.specs.KnowledgeLaws.{same_knowledge, knows_union}
 use Rattle.packed_rows.specs.Columns.{kinds}
 use Rattle.query_checks.specs.Checks.{Checked}
 use Rattle.having_filter.specs.Meaning.{meaning}
-use Rattle.origin_prefix.specs.Parts.{Part, empty, is_nothing, IsPartOf}
+use Rattle.origin_prefix.specs.Parts.{Part, empty, tells, is_nothing, IsPartOf}
 use Rattle.origin_prefix.specs.Joins.{either, Joins, PartsDisagree, DisagreeAt, JoinTells}
 use Rattle.origin_prefix.specs.declared.error.JoinError.{JoinError}
 use Rattle.origin_prefix.specs.declared.error.JoinError.TheVariants.{OriginDisagrees}
-use Rattle.origin_prefix.specs.Fitting.{tells, FitsOrigin}
+use Rattle.origin_prefix.specs.Fitting.{FitsOrigin}
 use Rattle.origin_prefix.proofs.Lists.{is_itself, is_other, same_or_other}
 use Rattle.origin_prefix.proofs.ByNumber.{numbers, at, at_head, behind_head, none_found, above_first, all_found, put_same, put_else, first_alone, some_is}
 use Rattle.origin_prefix.proofs.TellingLaws.{joined_tells}

@@ -23,8 +23,7 @@ use Rattle.packed_rows.specs.Columns.{kinds}
 use Rattle.query_checks.specs.Checks.{Checked}
 use Rattle.std.specs.Map.{lookup}
 use Rattle.list_laws.specs.Each.{each_both}
-use Rattle.origin_prefix.specs.Parts.{Part, empty, rows_at, IsEarly, IsPartOf}
-use Rattle.origin_prefix.specs.Fitting.{tells}
+use Rattle.origin_prefix.specs.Parts.{Part, empty, rows_at, tells, IsEarly, IsPartOf}
 use Rattle.origin_prefix.proofs.Lists.{is_itself, is_other, same_or_other}
 use Rattle.origin_prefix.proofs.ByNumber.{numbers, at_head, behind_head, found_holds, none_found, rising_rest, first_alone, all_found}
 use Rattle.replica_merge.specs.Replicas.{Parts, part_at, part_of, batches_of, told, IsHeldPart, AreHeldParts, known_part}

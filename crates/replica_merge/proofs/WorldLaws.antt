@@ -21,8 +21,8 @@ use Rattle.query_checks.specs.Checks.{Checked}
 use Rattle.query_checks.specs.Spelling.{spelling}
 use Rattle.having_filter.specs.Kept.{IsCheckedQuery, by_names}
 use Rattle.having_filter.specs.Meaning.{meaning}
-use Rattle.origin_prefix.specs.Fitting.{FitsOrigin, tells}
-use Rattle.origin_prefix.specs.Parts.{Part, empty, rows_at}
+use Rattle.origin_prefix.specs.Fitting.{FitsOrigin}
+use Rattle.origin_prefix.specs.Parts.{Part, empty, rows_at, tells}
 use Rattle.origin_prefix.proofs.ByNumber.{found_holds}
 use Rattle.summary_codec.specs.File.{file_in, body_bytes}
 use Rattle.summary_codec.specs.Reading.{IsSummaryIn, IsSummary, IsSaved}

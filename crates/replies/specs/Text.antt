@@ -4,17 +4,12 @@ use Rattle.std.specs.Prelude.{ℕ, Bool, true, false, List, [], ◌∷◌, ◌++
 use Rattle.grouping_model.specs.Aggregates.{Outcome}
 use Rattle.query_checks.specs.Checks.{Checked}
 use Rattle.having_filter.specs.Kept.{headers}
-use Rattle.query_checks.specs.declared.error.QueryError.{QueryError}
-use Rattle.query_checks.specs.declared.error.QueryError.TheVariants as checks
-use Rattle.group_parser.specs.declared.error.ParseError.{ParseError}
-use Rattle.group_parser.specs.declared.error.ParseError.TheVariants as parse
-use Rattle.batch_reader.specs.declared.error.BatchError.{BatchError}
-use Rattle.batch_reader.specs.declared.error.BatchError.TheVariants as batch
 use Rattle.grouping_model.specs.Replies.{KnownOrigin}
 use Rattle.grouping_model.specs.declared.delivered.Delivered.{Delivered}
 use Rattle.grouping_model.specs.declared.delivered.Delivered.TheVariants.{Folded, Early, Known}
-use Rattle.summary_codec.specs.declared.error.SummaryError.{SummaryError}
-use Rattle.summary_codec.specs.declared.error.SummaryError.TheVariants as summary
+use Rattle.group_parser.specs.Names.{parse_name}
+use Rattle.batch_reader.specs.Names.{batch_name}
+use Rattle.summary_codec.specs.Names.{summary_name}
 use Rattle.table_print.specs.Aligned.{aligned_text, sides}
 use Rattle.table_print.specs.Table.{table_text}
 use Rattle.replies.specs.Refusals.{tells_fault}
@@ -27,43 +22,7 @@ use Rattle.replies.specs.declared.reply.Reply.TheVariants as says
 use Rattle.replies.specs.declared.showing.Format.{Format}
 use Rattle.replies.specs.declared.showing.Format.TheVariants.{Csv, Aligned}
 
--- the names of refusals: of what a query's checks refuse, of what is wrong with its text, with a batch or with a summary file, of why
--- a replica does not take in a batch or another replica, and of what stops a run
-abbrev pub query_name : QueryError → List ℕ
-query_name checks.NoMemory = codes "NoMemory"
-query_name checks.NoSuchColumn = codes "NoSuchColumn"
-query_name checks.NotGrouped = codes "NotGrouped"
-query_name checks.TypeMismatch = codes "TypeMismatch"
-query_name checks.AggregateHere = codes "AggregateHere"
-query_name checks.TooMany = codes "TooMany"
-query_name checks.TooDeep = codes "TooDeep"
-query_name checks.AmbiguousOrder = codes "AmbiguousOrder"
-
-abbrev pub parse_name : ParseError → List ℕ
-parse_name (parse.Syntax at) = codes "Syntax"
-parse_name parse.NumberTooLarge = codes "NumberTooLarge"
-parse_name (parse.Query error) = query_name error
-
-abbrev pub batch_name : BatchError → List ℕ
-batch_name batch.NoMemory = codes "NoMemory"
-batch_name batch.BadBatchHead = codes "BadBatchHead"
-batch_name batch.TooManyRows = codes "TooManyRows"
-batch_name batch.RowCount = codes "RowCount"
-batch_name (batch.WrongWidth row) = codes "WrongWidth"
-batch_name (batch.BadField row column) = codes "BadField"
-
-abbrev pub summary_name : SummaryError → List ℕ
-summary_name summary.NoMemory = codes "NoMemory"
-summary_name summary.NotASummary = codes "NotASummary"
-summary_name summary.Truncated = codes "Truncated"
-summary_name summary.Trailing = codes "Trailing"
-summary_name summary.NotCanonical = codes "NotCanonical"
-summary_name summary.OutOfRange = codes "OutOfRange"
-summary_name summary.BadSchema = codes "BadSchema"
-summary_name summary.BadPacked = codes "BadPacked"
-summary_name summary.BadState = codes "BadState"
-summary_name (summary.Query error) = parse_name error
-
+-- the names of refusals, and of what stops a run. What a lower crate refuses has its name there
 abbrev pub run_name : RunError → List ℕ
 run_name stop.NoMemory = codes "NoMemory"
 run_name stop.InputTooLong = codes "InputTooLong"

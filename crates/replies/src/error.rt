@@ -2,6 +2,7 @@
 
 ghost use Rattle.std.specs.Prelude.{◌≡◌};
 ghost use Rattle.replies.specs.Refusals.{run_error, run_refusal};
+ghost use Rattle.replies.specs.Text.{run_name};
 ghost use Rattle.replies.specs.declared.error.RunError.TheVariants.{NoMemory, WriteFault};
 
 use crate::refusal::Refusal;
@@ -24,6 +25,20 @@ pub enum RunError {
     /// The writer failed, was interrupted or took no byte. What was written is the front of the output.
     #[error("the output could not be written")]
     WriteFault,
+}
+
+impl RunError {
+    /// The name of what stopped a run, as replies show it.
+    pub fn name(self) -> &'static str
+        ensures { result.now ≡ run_name self }
+    {
+        match self {
+            RunError::NoMemory => "NoMemory",
+            RunError::InputTooLong => "InputTooLong",
+            RunError::ReadFault => "ReadFault",
+            RunError::WriteFault => "WriteFault",
+        }
+    }
 }
 
 impl From<InputError> for RunError {

@@ -15,6 +15,6 @@ pub use ending::{Ending, Outcome, refusal_ending, run_ending, status};
 pub use error::RunError;
 pub use operations::{join, take_batch};
 pub use output::put_reply;
-pub use refusal::{Refusal, name};
+pub use refusal::Refusal;
 pub use reply::Reply;
 pub use showing::{Format, known_lines, origin_lines, table};

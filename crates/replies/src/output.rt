@@ -5,7 +5,6 @@ ghost use Rattle.std.specs.Io.KnownBytes.{Appends};
 ghost use Rattle.script_io.specs.Output.{TakesFront};
 ghost use Rattle.replies.specs.Text.{line, delivered_text, answer_text, said_text};
 
-use crate::refusal::name;
 use crate::reply::Reply;
 use itoa::Buffer;
 use replica_merge::Delivered;
@@ -89,6 +88,6 @@ pub fn put_reply<W: Write>(writer: &mut W, reply: &Reply<'_>) -> Result<(), Writ
         Reply::Loaded => put_line(writer, b"loaded", b""),
         Reply::Listed(lines) => put_all(writer, lines),
         Reply::Answer { rows, table } => put_answer(writer, *rows, table),
-        Reply::Refused(why) => put_line(writer, b"refused ", name(*why).as_bytes()),
+        Reply::Refused(why) => put_line(writer, b"refused ", why.name().as_bytes()),
     }
 }

@@ -2,7 +2,7 @@
 
 ghost use Rattle.std.specs.Prelude.{◌≡◌};
 ghost use Rattle.replies.specs.Refusals.{columns_refusal, batch_refusal, query_refusal, summary_refusal, spill_refusal, join_refusal, merge_refusal};
-ghost use Rattle.replies.specs.Text.{refusal_name, query_name, parse_name, batch_name, summary_name, run_name};
+ghost use Rattle.replies.specs.Text.{refusal_name};
 ghost use Rattle.replies.specs.declared.refusal.Refusal.TheVariants.{NoMemory, Limit};
 
 use crate::error::RunError;
@@ -68,99 +68,6 @@ pub enum Refusal {
     /// There is a replica of this name.
     #[error("there is a replica of this name already")]
     NameTaken,
-}
-
-/// The name of what a check of a query refuses.
-fn query_name(error: QueryError) -> &'static str
-    ensures { result.now ≡ query_name error }
-{
-    match error {
-        QueryError::NoMemory => "NoMemory",
-        QueryError::NoSuchColumn => "NoSuchColumn",
-        QueryError::NotGrouped => "NotGrouped",
-        QueryError::TypeMismatch => "TypeMismatch",
-        QueryError::AggregateHere => "AggregateHere",
-        QueryError::TooMany => "TooMany",
-        QueryError::TooDeep => "TooDeep",
-        QueryError::AmbiguousOrder => "AmbiguousOrder",
-    }
-}
-
-/// The name of what is wrong with a query's text.
-fn parse_name(error: ParseError) -> &'static str
-    ensures { result.now ≡ parse_name error }
-{
-    match error {
-        ParseError::Syntax { .. } => "Syntax",
-        ParseError::NumberTooLarge => "NumberTooLarge",
-        ParseError::Query(error) => query_name(error),
-    }
-}
-
-/// The name of what is wrong with a batch.
-fn batch_name(error: BatchError) -> &'static str
-    ensures { result.now ≡ batch_name error }
-{
-    match error {
-        BatchError::NoMemory => "NoMemory",
-        BatchError::BadBatchHead => "BadBatchHead",
-        BatchError::TooManyRows => "TooManyRows",
-        BatchError::RowCount => "RowCount",
-        BatchError::WrongWidth { .. } => "WrongWidth",
-        BatchError::BadField { .. } => "BadField",
-    }
-}
-
-/// The name of what is wrong with a summary file.
-fn summary_name(error: SummaryError) -> &'static str
-    ensures { result.now ≡ summary_name error }
-{
-    match error {
-        SummaryError::NoMemory => "NoMemory",
-        SummaryError::NotASummary => "NotASummary",
-        SummaryError::Truncated => "Truncated",
-        SummaryError::Trailing => "Trailing",
-        SummaryError::NotCanonical => "NotCanonical",
-        SummaryError::OutOfRange => "OutOfRange",
-        SummaryError::BadSchema => "BadSchema",
-        SummaryError::BadPacked => "BadPacked",
-        SummaryError::BadState => "BadState",
-        SummaryError::Query(error) => parse_name(error),
-    }
-}
-
-/// The name of what stopped a run.
-fn run_name(error: RunError) -> &'static str
-    ensures { result.now ≡ run_name error }
-{
-    match error {
-        RunError::NoMemory => "NoMemory",
-        RunError::InputTooLong => "InputTooLong",
-        RunError::ReadFault => "ReadFault",
-        RunError::WriteFault => "WriteFault",
-    }
-}
-
-/// The name of a refusal, as replies show it.
-pub fn name(refusal: Refusal) -> &'static str
-    ensures { result.now ≡ refusal_name refusal }
-{
-    match refusal {
-        Refusal::NoMemory => "NoMemory",
-        Refusal::BadSchema => "BadSchema",
-        Refusal::Limit(_) => "LimitOutOfRange",
-        Refusal::Query(error) => parse_name(error),
-        Refusal::Batch(error) => batch_name(error),
-        Refusal::Summary(error) => summary_name(error),
-        Refusal::DifferentQuery => "DifferentQuery",
-        Refusal::OriginDisagrees { .. } => "OriginDisagrees",
-        Refusal::TapeFault => "TapeFault",
-        Refusal::TapeDamaged => "TapeDamaged",
-        Refusal::Run(error) => run_name(error),
-        Refusal::BadCommand => "BadCommand",
-        Refusal::NoSuchName => "NoSuchName",
-        Refusal::NameTaken => "NameTaken",
-    }
 }
 
 impl From<AllocError> for Refusal {
@@ -240,6 +147,28 @@ impl From<MergeError> for Refusal {
 }
 
 impl Refusal {
+    /// The name of a refusal, as replies show it.
+    pub fn name(self) -> &'static str
+        ensures { result.now ≡ refusal_name self }
+    {
+        match self {
+            Refusal::NoMemory => "NoMemory",
+            Refusal::BadSchema => "BadSchema",
+            Refusal::Limit(_) => "LimitOutOfRange",
+            Refusal::Query(error) => error.name(),
+            Refusal::Batch(error) => error.name(),
+            Refusal::Summary(error) => error.name(),
+            Refusal::DifferentQuery => "DifferentQuery",
+            Refusal::OriginDisagrees { .. } => "OriginDisagrees",
+            Refusal::TapeFault => "TapeFault",
+            Refusal::TapeDamaged => "TapeDamaged",
+            Refusal::Run(error) => error.name(),
+            Refusal::BadCommand => "BadCommand",
+            Refusal::NoSuchName => "NoSuchName",
+            Refusal::NameTaken => "NameTaken",
+        }
+    }
+
     /// Why a batch or a part of an origin is not taken.
     pub fn of_origin(origin: u16, why: JoinError) -> Refusal
         ensures { result ≡ join_refusal origin why }

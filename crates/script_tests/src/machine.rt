@@ -1,6 +1,6 @@
 use batch_reader::BatchError;
 use hash_agg::MemDisk;
-use replies::{Refusal, RunError, name};
+use replies::{Refusal, RunError};
 use script_machine::run;
 use std::alloc::{AllocError, Global};
 use std::io;
@@ -100,6 +100,6 @@ fn nothing_is_answered_by_nothing(rt: HostRuntime) -> Result<(), Fail> {
 #[test]
 fn refusals_have_names(rt: HostRuntime) {
     let bad_field = Refusal::Batch(BatchError::BadField { row: 0, column: 1 });
-    assert!(rt; name(bad_field) == "BadField");
-    assert!(rt; name(Refusal::from(RunError::InputTooLong)) == "InputTooLong");
+    assert!(rt; bad_field.name() == "BadField");
+    assert!(rt; Refusal::from(RunError::InputTooLong).name() == "InputTooLong");
 }

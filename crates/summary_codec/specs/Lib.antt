@@ -4,3 +4,4 @@ pub mod Short
 pub mod Reading
 pub mod WorldFile
 pub mod Worlds
+pub mod Names

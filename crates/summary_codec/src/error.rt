@@ -1,6 +1,7 @@
 //! Why bytes are no summary file.
 
 ghost use Rattle.std.specs.Prelude.{◌≡◌};
+ghost use Rattle.summary_codec.specs.Names.{summary_name};
 ghost use Rattle.summary_codec.specs.declared.error.SummaryError.TheVariants.{NoMemory};
 
 use group_parser::ParseError;
@@ -40,6 +41,26 @@ pub enum SummaryError {
     /// The query's text is refused.
     #[error(transparent)]
     Query(ParseError),
+}
+
+impl SummaryError {
+    /// The name of what is wrong with a summary file, as replies show it.
+    pub fn name(self) -> &'static str
+        ensures { result.now ≡ summary_name self }
+    {
+        match self {
+            SummaryError::NoMemory => "NoMemory",
+            SummaryError::NotASummary => "NotASummary",
+            SummaryError::Truncated => "Truncated",
+            SummaryError::Trailing => "Trailing",
+            SummaryError::NotCanonical => "NotCanonical",
+            SummaryError::OutOfRange => "OutOfRange",
+            SummaryError::BadSchema => "BadSchema",
+            SummaryError::BadPacked => "BadPacked",
+            SummaryError::BadState => "BadState",
+            SummaryError::Query(error) => error.name(),
+        }
+    }
 }
 
 impl From<AllocError> for SummaryError {

@@ -13,7 +13,7 @@ use Rattle.origin_prefix.proofs.part.OriginPart.deliver.Goals.{in-Ok, in-Err}
 
 pub returns-then-batch-self-clause-delivers : goal.returns-then-batch-self-clause-delivers
 returns-then-batch-self-clause-delivers g c =
-    known_within (g.D.TapeDisk.honest c.args.disk.now) c.args.query.now (meaning c.args.query.now) c.args.self.now c.args.batch.number c.args.batch.rows c.requires.part
+    known_within (g.D.TapeDisk.honest c.args.disk.now) c.args.query.now (meaning c.args.query.now) c.args.self.now c.args.batch.number c.args.batch.rows c.requires.part c.requires.number.0
     (subst (λ (p : Part). c.args.batch.number ≤ p.prefix) c.self.view_is c.if-batch-self.true)
 
 pub returns-in-Some-clause-delivers : goal.returns-in-Some-clause-delivers
