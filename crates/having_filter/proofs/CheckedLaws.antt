@@ -13,7 +13,7 @@ use Rattle.query_checks.specs.declared.parts.Parts.{Parts}
 use Rattle.query_checks.specs.CheckedLaws.{reaches_places}
 use Rattle.having_filter.specs.Plans.{IsKept, PlansFor}
 use Rattle.having_filter.specs.declared.plan.Plan.{Plan}
-use Rattle.having_filter.specs.Kept.{IsCheckedQuery, by_names, written_by_names, headers, label_of}
+use Rattle.having_filter.specs.Kept.{written_by_names, label_of}
 use Rattle.having_filter.specs.NormalLaws.{columns_of_query, named_again}
 use Rattle.having_filter.proofs.NormalLaws.{asked_again, spelled_alike, label_twice}
 use Rattle.having_filter.proofs.WellLaws.{passed_query}
@@ -71,15 +71,3 @@ pub refused_order : (columns : List Column) (q : Asked) (parts : Parts) (error :
 refused_order columns q parts error placed_so first passed refused =
     reaches_places columns q first
     ∙ (λ i. with_order columns (subst (λ (w : Written ℕ). checked_places columns w ≡ Ok w) placed_so passed i) (refused i))
-
--- what is kept of a query, of a copy of it
-pub kept_copy : (a b : Checked) (plan : Plan) (text : List ℕ) (labels : List (List ℕ)) (schema_text : List ℕ) → b ≡ a → IsCheckedQuery a → PlansFor b plan → text ≡ spelling (by_names a) → labels ≡ headers a → schema_text ≡ printed b.columns
-    → IsKept b plan text labels schema_text
-kept_copy a b plan text labels schema_text same is plans spelled labelled shown =
-    record {
-      query = subst IsCheckedQuery (sym same) is;
-      plans = plans;
-      spelled = spelled ∙ sym (ap (λ (q : Checked). spelling (by_names q)) same);
-      labelled = labelled ∙ sym (ap headers same);
-      shown = shown;
-    }

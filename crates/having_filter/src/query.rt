@@ -20,7 +20,6 @@ ghost use Rattle.having_filter.specs.Meaning.{meaning};
 ghost use Rattle.having_filter.specs.Kept.{IsCheckedQuery, by_names, headers, key_kinds, label_of};
 ghost use Rattle.having_filter.specs.Plans.{PlansFor, source_of};
 
-use crate::copying::copied_parts;
 use crate::leaves::{GroupLeaves, RowLeaves, is_met};
 use crate::plan::{Plan, Source};
 use crate::texts::{Texts, labels_of};
@@ -33,15 +32,22 @@ use query_checks::{
 };
 use std::alloc::{AllocError, Global};
 use std::marker::Model;
+use std::rc::Rc;
 
-/// A query that passed all checks, over the columns of a schema by their places, the first being column 0.
+/// What is kept of a query that passed all checks.
 #[derive(Drop)]
-pub struct Query {
-    pub(crate) alloc: Global,
+pub(crate) struct Kept {
     pub(crate) schema: Schema,
     pub(crate) texts: Texts,
     pub(crate) parts: Parts,
     pub(crate) plan: Plan,
+}
+
+/// A query that passed all checks, over the columns of a schema by their places, the first being column 0. Its copies share
+/// what is kept of it.
+#[derive(Drop)]
+pub struct Query {
+    pub(crate) kept: Rc<Kept, Global>,
 }
 
 impl Model for Query {
@@ -55,10 +61,11 @@ impl Model for Query {
 
     ghost coded = { coded_checked };
 
-    ghost view = { λ q. checked_of q.schema q.parts };
+    ghost view = { λ q. checked_of q.kept.value.schema q.kept.value.parts };
 
-    ghost invariant = { λ q. IsKept (checked_of q.schema q.parts) q.plan
-        (string_bytes q.texts.query) (map string_bytes q.texts.labels.items) (string_bytes q.texts.schema) };
+    ghost invariant = { λ q. IsKept (checked_of q.kept.value.schema q.kept.value.parts) q.kept.value.plan
+        (string_bytes q.kept.value.texts.query) (map string_bytes q.kept.value.texts.labels.items)
+        (string_bytes q.kept.value.texts.schema) };
 }
 
 /// The texts of a query that passes the first checks: the first of these that it fails is told.
@@ -122,26 +129,6 @@ fn placed_with_plan(
     }
 }
 
-/// A copy of the parts of a query over places, with their plan.
-fn copied_with_plan(
-    alloc: Global,
-    schema: &Schema,
-    parts: &Parts,
-) -> Result<(Parts, Plan), AllocError>
-    ensures same { IfOk result (λ made. written_of_parts made.0 ≡ written_of_parts parts.now) }
-    ensures ordered { IfOk result (λ made. made.0.order.items ≡ parts.now.order.items) }
-    ensures plans { IfOk result (λ made. PlansFor (checked_of schema.now made.0) made.1) }
-{
-    let parts = copied_parts(alloc, parts)?;
-    match Plan::new(alloc, schema, &parts) {
-        Ok(plan) => Ok((parts, plan)),
-        Err(error) => {
-            drop(parts);
-            Err(error)
-        }
-    }
-}
-
 impl Query {
     /// The query that a text says, over the columns of a schema. A repeated column of GROUP BY counts once, an alias that is
     /// the item's own name is as none, and so is a term of ORDER BY whose item an earlier one names.
@@ -164,13 +151,16 @@ impl Query {
         let columns = schema.try_clone()?;
         let (parts, plan) = placed_with_plan(alloc, schema, raw)?;
         check_order(raw)?;
-        Ok(Query {
+        let kept = Rc::new(
             alloc,
-            schema: columns,
-            texts,
-            parts,
-            plan,
-        })
+            Kept {
+                schema: columns,
+                texts,
+                parts,
+                plan,
+            },
+        )?;
+        Ok(Query { kept })
     }
 
     /// The columns of the table.
@@ -178,21 +168,21 @@ impl Query {
         ensures columns { result.now ≡ self.now.columns }
         ensures query { IsCheckedQuery self.now }
     {
-        &self.schema
+        &self.kept.schema
     }
 
     /// The items, each with its alias, which is none where it would be the item's own name.
     pub fn items(&self) -> &[(Item<usize>, Option<String>)]
         ensures { places_of result.now ≡ self.now.written.items }
     {
-        &self.parts.items
+        &self.kept.parts.items
     }
 
     /// WHERE, if there is one.
     pub fn condition(&self) -> &Option<Cond<usize>>
         ensures { option_map form_of result.now ≡ self.now.written.condition }
     {
-        &self.parts.condition
+        &self.kept.parts.condition
     }
 
     /// The columns of GROUP BY, each once.
@@ -200,21 +190,21 @@ impl Query {
         ensures keys { result.now ≡ self.now.written.keys }
         ensures query { IsCheckedQuery self.now }
     {
-        &self.parts.keys
+        &self.kept.parts.keys
     }
 
     /// The kinds of the columns of GROUP BY.
     pub fn key_kinds(&self) -> &[ValueKind]
         ensures { kinds_of result.now ≡ key_kinds (meaning self.now) }
     {
-        &self.plan.key_kinds
+        &self.kept.plan.key_kinds
     }
 
     /// HAVING, if there is one.
     pub fn having(&self) -> &Option<Cond<usize>>
         ensures { option_map form_of result.now ≡ self.now.written.having }
     {
-        &self.parts.having
+        &self.kept.parts.having
     }
 
     /// The order of the answer: the terms of ORDER BY that are left, each by an item of its own.
@@ -222,14 +212,14 @@ impl Query {
         ensures order { result.now ≡ self.now.order }
         ensures query { IsCheckedQuery self.now }
     {
-        &self.parts.order
+        &self.kept.parts.order
     }
 
     /// The distinct calls of the items and of HAVING, by the first of each.
     pub fn aggregates(&self) -> &[AggCall<usize>]
         ensures { map call_form result.now ≡ distinct_calls ◌==◌ self.now.written }
     {
-        &self.plan.calls
+        &self.kept.plan.calls
     }
 
     /// The functions of the aggregates.
@@ -238,7 +228,7 @@ impl Query {
             ≡ map (λ a. a.function) (meaning self.now).aggregates }
         ensures query { IsCheckedQuery self.now }
     {
-        &self.plan.kinds
+        &self.kept.plan.kinds
     }
 
     /// The column that an aggregate takes its values from, the first aggregate being 0. `count(*)` has none.
@@ -247,14 +237,14 @@ impl Query {
         ensures { option_map (λ a. a.column) (slice_get (meaning self.now).aggregates aggregate)
             ≡ Some result }
     {
-        self.plan.calls[aggregate].column
+        self.kept.plan.calls[aggregate].column
     }
 
     /// Where the values of the items are found in a group.
     pub fn sources(&self) -> &[Source]
         ensures { map source_of result.now ≡ (meaning self.now).items }
     {
-        &self.plan.items
+        &self.kept.plan.items
     }
 
     /// The name of a column of the answer, the first being 0: the item's alias, or else the name of its column or
@@ -263,14 +253,14 @@ impl Query {
         requires { item < length self.now.written.items }
         ensures { slice_get (headers self.now) item ≡ Some result.now }
     {
-        self.texts.labels[item].as_str()
+        self.kept.texts.labels[item].as_str()
     }
 
     /// The query's canonical text, by the names of its schema. It is at most 16,384 bytes long.
     pub fn spelling(&self) -> &str
         ensures { result.now ≡ spelling (by_names self.now) }
     {
-        self.texts.query.as_str()
+        self.kept.texts.query.as_str()
     }
 
     /// Whether WHERE is true of a row, and not false or unknown. Where there is none, it is.
@@ -278,7 +268,7 @@ impl Query {
     pub fn where_true(&self, row: &[Value<'_>]) -> bool
         ensures { result ≡ is_met (column_of (row_of row.now)) (meaning self.now).condition }
     {
-        is_met(&self.parts.condition, &RowLeaves { row })
+        is_met(&self.kept.parts.condition, &RowLeaves { row })
     }
 
     /// Whether the FILTER of an aggregate is true of a row, and not false or unknown, the first aggregate being 0. Where
@@ -288,7 +278,7 @@ impl Query {
         ensures { option_map (λ a. is_met (column_of (row_of row.now)) a.filter)
             (slice_get (meaning self.now).aggregates aggregate) ≡ Some result }
     {
-        is_met(&self.plan.calls[aggregate].filter, &RowLeaves { row })
+        is_met(&self.kept.plan.calls[aggregate].filter, &RowLeaves { row })
     }
 
     /// Whether HAVING is true of a group, and not false or unknown, given the values of the columns of GROUP BY and the
@@ -298,7 +288,7 @@ impl Query {
             is_met (outcome_at (map outcome_of key.now) (map outcome_of results.now))
             (meaning self.now).having }
     {
-        is_met(&self.plan.having, &GroupLeaves { key, results })
+        is_met(&self.kept.plan.having, &GroupLeaves { key, results })
     }
 
     /// Whether two queries are the same: the canonical texts of their schemas are, and their own.
@@ -306,22 +296,15 @@ impl Query {
         ensures { IsTrue result ↔ ((printed self.now.columns ≡ printed other.now.columns)
             × (spelling (by_names self.now) ≡ spelling (by_names other.now))) }
     {
-        self.texts.schema == other.texts.schema && self.texts.query == other.texts.query
+        let (own, theirs) = (&self.kept.texts, &other.kept.texts);
+        own.schema == theirs.schema && own.query == theirs.query
     }
 
-    /// The same query again.
+    /// The same query again. It takes no memory, since both share what is kept.
     pub fn try_clone(&self) -> Result<Query, AllocError>
         ensures { IfOk result (λ query. query ≡ self.now) }
     {
-        let texts = self.texts.try_clone(self.alloc)?;
-        let schema = self.schema.try_clone()?;
-        let (parts, plan) = copied_with_plan(self.alloc, &schema, &self.parts)?;
-        Ok(Query {
-            alloc: self.alloc,
-            schema,
-            texts,
-            parts,
-            plan,
-        })
+        let kept = self.kept.clone()?;
+        Ok(Query { kept })
     }
 }

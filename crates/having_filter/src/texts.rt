@@ -18,25 +18,6 @@ pub(crate) struct Texts {
     pub(crate) schema: String,
 }
 
-impl Texts {
-    /// The same texts again.
-    pub(crate) fn try_clone(&self, alloc: Global) -> Result<Texts, AllocError>
-        ensures query { IfOk result (λ copy. string_bytes copy.query ≡ string_bytes self.now.query) }
-        ensures labels { IfOk result (λ copy.
-            map string_bytes copy.labels.items ≡ map string_bytes self.now.labels.items) }
-        ensures schema { IfOk result (λ copy. string_bytes copy.schema ≡ string_bytes self.now.schema) }
-    {
-        let query = String::from_str(alloc, self.query.as_str())?;
-        let schema = String::from_str(alloc, self.schema.as_str())?;
-        let labels = copied_texts(alloc, &self.labels)?;
-        Ok(Texts {
-            query,
-            labels,
-            schema,
-        })
-    }
-}
-
 /// The name of an item's column in the answer.
 fn label_of(alloc: Global, item: &(Item<String>, Option<String>)) -> Result<String, AllocError>
     ensures { IfOk result (λ label. string_bytes label ≡ label_of
@@ -58,16 +39,4 @@ pub(crate) fn labels_of(
         labels.push(label_of(alloc, item)?)?;
     }
     Ok(labels)
-}
-
-/// Copies of texts.
-fn copied_texts(alloc: Global, texts: &[String]) -> Result<Vec<String>, AllocError>
-    ensures { IfOk result (λ copies.
-        map string_bytes copies.items ≡ map string_bytes texts.now) }
-{
-    let mut copies = Vec::with_capacity(alloc, texts.len())?;
-    for text in texts {
-        copies.push(String::from_str(alloc, text.as_str())?)?;
-    }
-    Ok(copies)
 }

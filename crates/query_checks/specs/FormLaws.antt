@@ -18,10 +18,6 @@ unchanged (Literal x) = refl
 unchanged (Unary operator x) = ap (Unary operator) (unchanged x)
 unchanged (Binary operator x y) = λ i. Binary operator (unchanged x i) (unchanged y i)
 
-pub clause_unchanged : {C : Type 0} (clause : Option (Form C)) → option_map (map_reads (λ c. c) (λ call. None)) clause ≡ clause
-clause_unchanged None = refl
-clause_unchanged (Some x) = ap (λ y. Some y) (unchanged x)
-
 -- whether the changed columns pass a test
 column_passes : {B C : Type 0} (P : C → Bool) (f : B → C) (column : Option B) → option_map_or P (option_map f column) true ≡ option_map_or (λ c. P (f c)) column true
 column_passes P f None = refl

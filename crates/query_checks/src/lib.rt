@@ -19,7 +19,7 @@ mod whole;
 pub use checking::{check_order, check_parts, text_of_known};
 pub use condition::{AggCall, Comparison, Cond, IsTest, Item, RawQuery};
 pub use error::QueryError;
-pub use mapping::{Mapping, mapped_call, mapped_clause, mapped_item};
+pub use mapping::{Mapping, mapped_call, mapped_clause};
 pub use order::{OrderBy, OrderTerm, RawTerm, label};
 pub use parts::Parts;
 pub use same::is_same_call;

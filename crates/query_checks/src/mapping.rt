@@ -142,7 +142,7 @@ fn boxed<C, D: Drop, M: Mapping<C, D>>(
 }
 
 /// An item over other columns. A call becomes a column where the mapping says so.
-pub fn mapped_item<C, D: Drop, M: Mapping<C, D>>(
+pub(crate) fn mapped_item<C, D: Drop, M: Mapping<C, D>>(
     alloc: Global,
     mapping: &M,
     item: &Item<C>,

@@ -1,8 +1,12 @@
-use Rattle.std.proofs.Common.{subst, map}
+use Rattle.std.specs.Prelude.{Ok}
+use Rattle.std.proofs.Common.{◌∙◌, ap, sym, subst, map}
 use Rattle.std.specs.String.{string_bytes}
 use Rattle.packed_rows.specs.Columns.{AreColumns}
 use Rattle.query_checks.specs.Order.{asked_of}
+use Rattle.query_checks.specs.Parts.{checked_of}
 use Rattle.query_checks.specs.CheckedLaws.{refused_as}
+use Rattle.having_filter.specs.Plans.{IsKept}
+use Rattle.having_filter.specs.declared.query.Kept.{Kept}
 use Rattle.having_filter.proofs.CheckedLaws.{kept, checked_here, refused_places, refused_order}
 use Rattle.having_filter.proofs.query.Query.check.Goals as goal
 
@@ -19,14 +23,16 @@ returns-in_err-parts-clause-refused c =
 pub invariant_of-result : goal.invariant_of-result
 invariant_of-result c =
     let texts = c.in_ok-texts.texts in
-    kept c.in_ok-columns.columns c.args.schema.now (asked_of c.args.raw.now) c.in_ok-parts.parts c.in_ok-parts.plan (string_bytes texts.query) (map string_bytes texts.labels.items) (string_bytes texts.schema)
+    subst (λ (k : Kept). IsKept (checked_of k.schema k.parts) k.plan (string_bytes k.texts.query) (map string_bytes k.texts.labels.items) (string_bytes k.texts.schema)) (sym c.in_ok-kept.ensures.ok)
+    (kept c.in_ok-columns.columns c.args.schema.now (asked_of c.args.raw.now) c.in_ok-parts.parts c.in_ok-parts.plan (string_bytes texts.query) (map string_bytes texts.labels.items) (string_bytes texts.schema)
     c.in_ok-columns.ensures.same c.in_ok-parts.ensures.placed c.in_ok-parts.ensures.ordered (subst AreColumns c.in_ok-columns.ensures.same c.in_ok-columns.ensures.columns) c.requires c.in_ok-texts.ensures.first c.in_ok-texts.ensures.query
-    c.in_ok-texts.ensures.labels c.in_ok-texts.ensures.schema c.in_ok-parts.ensures.fit c.in_ok-parts.ensures.passed c.in_ok-parts.ensures.plans
+    c.in_ok-texts.ensures.labels c.in_ok-texts.ensures.schema c.in_ok-parts.ensures.fit c.in_ok-parts.ensures.passed c.in_ok-parts.ensures.plans)
 
 pub returns-clause-checked : goal.returns-clause-checked
 returns-clause-checked c =
     checked_here c.in_ok-columns.columns c.args.schema.now (asked_of c.args.raw.now) c.in_ok-parts.parts c.in_ok-columns.ensures.same c.in_ok-parts.ensures.placed c.in_ok-parts.ensures.ordered c.in_ok-texts.ensures.first
     c.in_ok-parts.ensures.passed c.in_ok-check_order.ensures.passed
+    ∙ ap (λ (k : Kept). Ok (checked_of k.schema k.parts)) (sym c.in_ok-kept.ensures.ok)
 
 pub returns-in_err-check_order-clause-refused : goal.returns-in_err-check_order-clause-refused
 returns-in_err-check_order-clause-refused c =

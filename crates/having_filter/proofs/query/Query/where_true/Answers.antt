@@ -2,6 +2,7 @@ use Rattle.std.proofs.Common.{ap, ◌∙◌, option_map}
 use Rattle.grouping_model.specs.Condition.{is_met}
 use Rattle.grouping_model.specs.Grouping.{column_of}
 use Rattle.packed_rows.specs.View.{row_of}
+use Rattle.query_checks.specs.Forms.{form_of}
 use Rattle.query_checks.specs.Checks.{Checked}
 use Rattle.having_filter.specs.Meaning.{column_leaf, row_condition}
 use Rattle.having_filter.proofs.ValueLaws.{met_in_steps}
@@ -9,5 +10,6 @@ use Rattle.having_filter.proofs.query.Query.where_true.Goals as goal
 
 pub returns : goal.returns
 returns c =
-    c.is_met.ensures ∙ met_in_steps (column_of (row_of c.args.row.now)) column_leaf c.self.inside.parts.condition
+    c.is_met.ensures ∙ met_in_steps (column_of (row_of c.args.row.now)) column_leaf c.deref.result.now.parts.condition
+    ∙ (λ i. is_met (column_of (row_of c.args.row.now)) (option_map row_condition (option_map form_of (c.deref.ensures i).parts.condition)))
     ∙ ap (λ (q : Checked). is_met (column_of (row_of c.args.row.now)) (option_map row_condition q.written.condition)) c.self.view_is
