@@ -7,3 +7,4 @@ pub mod Standing
 pub mod Space
 pub mod Arrays
 pub mod Children
+pub mod SipHashes

@@ -11,7 +11,9 @@ mod hash;
 mod index;
 pub mod limits;
 mod search;
+mod sip_hash;
 mod table;
 
 pub use hash::{Fnv1a, KeyHash};
+pub use sip_hash::{Seed, SipHash};
 pub use table::{GroupTable, Slot};

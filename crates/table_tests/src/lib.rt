@@ -6,4 +6,6 @@ mod groups;
 #[cfg(test)]
 mod neighbours;
 #[cfg(test)]
+mod seeds;
+#[cfg(test)]
 mod tables;

@@ -80,7 +80,7 @@ fn tell_put<H: KeyHash + Drop>(
 }
 
 /// Tells groups of numbers, again behind a clearing.
-fn tell_numbers<H: KeyHash + Drop>(
+pub(crate) fn tell_numbers<H: KeyHash + Drop>(
     alloc: Global,
     groups: &mut Groups<H>,
     count: u32,
@@ -94,7 +94,7 @@ fn tell_numbers<H: KeyHash + Drop>(
 }
 
 /// What is told of groups of numbers that were found, and found again behind a clearing.
-const FOUND: &str = "true true true false true true ";
+pub(crate) const FOUND: &str = "true true true false true true ";
 
 /// Tells many groups of numbers.
 fn tell_many(
