@@ -70,9 +70,9 @@ brought_one q (Of_row row) met = ap (λ b. cond b 1 0) met
 brought_one q (Of_group group most) kept = refl
 
 module _ {H D : Type 0} (hash_of : H → List ℕ → ℕ) (g : Ghosts D) (what : Source) (old : Pass H) (disk : D) (key : List ℕ) (Moved : List ℕ → List ℕ → Type 0) (ready : IsReady old)
-    (told : (more : List Piece) → Are (query_of old) (hash_of old.groups.table.hash) what more → Told (query_of old) old.plan.most key Moved more) where
+    (told : (more : List Piece) → Are (query_of old) (hash_of old.groups.hash) what more → Told (query_of old) old.plan.most key Moved more) where
   abbrev hf : List ℕ → ℕ
-  hf = hash_of old.groups.table.hash
+  hf = hash_of old.groups.hash
 
   one_brings : (new : List Entry) (after : ListsState) → Proceeds (entries_of old.groups) old.lists new after → Brings (query_of old) (Are (query_of old) hf what) (entries_of old.groups) old.lists new after
   one_brings new after goes more are =
@@ -84,11 +84,11 @@ module _ {H D : Type 0} (hash_of : H → List ℕ → ℕ) (g : Ghosts D) (what 
       omega (arith, few, one, same, sum)
 
   -- it goes to the group of its key
-  pub there_added : (groups : GroupsState H) (slot : Slot) → AreOnce (entries_of old.groups) → Names old.groups.table old.groups.tree slot key → WritesAt old.groups slot (Moved (state_in old.groups.table old.groups.tree slot)) groups → groups.table ≡ old.groups.table → groups.most_held ≡ old.groups.most_held
+  pub there_added : (groups : GroupsState H) (slot : Slot) → AreOnce (entries_of old.groups) → Names old.groups.table old.groups.tree slot key → WritesAt old.groups slot (Moved (state_in old.groups.table old.groups.tree slot)) groups → groups.table ≡ old.groups.table → groups.hash ≡ old.groups.hash → groups.most_held ≡ old.groups.most_held
       → ((new : List ℕ) → Moved (state_in old.groups.table old.groups.tree slot) new → AreWithin (functions (query_of old)) old.plan.most new) → AddedOne hash_of g what old disk (record old { groups = groups }) disk
-  there_added groups slot once named writes same held within =
+  there_added groups slot once named writes same hashed held within =
       let goes = moved_proceeds old.groups groups old.lists same in
-      let table = moved_table old.plan.limit old.groups groups same held in
+      let table = moved_table old.plan.limit old.groups groups same hashed held in
       record {
         added =
             record {
@@ -145,7 +145,7 @@ module _ {H D : Type 0} (hash_of : H → List ℕ → ℕ) (g : Ghosts D) (what 
 -- ---- other words for it
 
 module _ {H D : Type 0} (hash_of : H → List ℕ → ℕ) (g : Ghosts D) (what other : Source) (old : Pass H) (before : D)
-    (gives : (more : List Piece) → Are (query_of old) (hash_of old.groups.table.hash) what more → Are (query_of old) (hash_of old.groups.table.hash) other more) where
+    (gives : (more : List Piece) → Are (query_of old) (hash_of old.groups.hash) what more → Are (query_of old) (hash_of old.groups.hash) other more) where
   pub added_by : {T E : Type 0} (r : Result T E) (new : Pass H) (after : D) → OnOk r (AddedOne hash_of g other old before new after) → OnOk r (AddedOne hash_of g what old before new after)
   added_by (Err e) new after one = tt
   added_by (Ok x) new after one = record {
@@ -171,28 +171,28 @@ module _ {H D : Type 0} (hash_of : H → List ℕ → ℕ) (g : Ghosts D) (what 
 
 -- the first of what is read, so many, were added
 pub record AddedSome {H D : Type 0} (hash_of : H → List ℕ → ℕ) (g : Ghosts D) (what : Source) (number : ℕ) (old : Pass H) (before : D) (new : Pass H) (after : D) : Type 0 where
-  pub reads : ReadsSome old.plan (hash_of old.groups.table.hash) (Are (query_of old) (hash_of old.groups.table.hash) what) number (standing old.groups old.lists (g.last before)) (standing new.groups new.lists (g.last after))
-  pub brings : BringsSome (query_of old) (Are (query_of old) (hash_of old.groups.table.hash) what) number (entries_of old.groups) old.lists (entries_of new.groups) new.lists
+  pub reads : ReadsSome old.plan (hash_of old.groups.hash) (Are (query_of old) (hash_of old.groups.hash) what) number (standing old.groups old.lists (g.last before)) (standing new.groups new.lists (g.last after))
+  pub brings : BringsSome (query_of old) (Are (query_of old) (hash_of old.groups.hash) what) number (entries_of old.groups) old.lists (entries_of new.groups) new.lists
   pub safe : AreSafe (query_of old) old.plan.most (entries_of old.groups) → AreSafe (query_of old) old.plan.most (entries_of new.groups)
   pub pages : WritesPages (g.writes before) old.lists (g.writes after) new.lists
   pub ready : IsReady new
   pub kept : KeepsPass old new
 
 -- by a plan and a hash function that are the same
-module _ {H D : Type 0} (hash_of : H → List ℕ → ℕ) (g : Ghosts D) (one : Source) (old now : Pass H) (at : D) (next : Pass H) (same : now.plan ≡ old.plan) (hashed : now.groups.table.hash ≡ old.groups.table.hash) where
-  pub added_first : (after : D) → Added hash_of g one now at next after → AddedBy old.plan (hash_of old.groups.table.hash) g one now at next after
-  added_first after added = subst (λ plan. AddedBy plan (hash_of old.groups.table.hash) g one now at next after) same (subst (λ hash. AddedBy now.plan (hash_of hash) g one now at next after) hashed added)
+module _ {H D : Type 0} (hash_of : H → List ℕ → ℕ) (g : Ghosts D) (one : Source) (old now : Pass H) (at : D) (next : Pass H) (same : now.plan ≡ old.plan) (hashed : now.groups.hash ≡ old.groups.hash) where
+  pub added_first : (after : D) → Added hash_of g one now at next after → AddedBy old.plan (hash_of old.groups.hash) g one now at next after
+  added_first after added = subst (λ plan. AddedBy plan (hash_of old.groups.hash) g one now at next after) same (subst (λ hash. AddedBy now.plan (hash_of hash) g one now at next after) hashed added)
 
-  pub refused_first : (error : SpillError) → Refused hash_of g one now at error next → RefusedBy old.plan (hash_of old.groups.table.hash) g one now at error next
-  refused_first error refusal = subst (λ plan. RefusedBy plan (hash_of old.groups.table.hash) g one now at error next) same (subst (λ hash. RefusedBy now.plan (hash_of hash) g one now at error next) hashed refusal)
+  pub refused_first : (error : SpillError) → Refused hash_of g one now at error next → RefusedBy old.plan (hash_of old.groups.hash) g one now at error next
+  refused_first error refusal = subst (λ plan. RefusedBy plan (hash_of old.groups.hash) g one now at error next) same (subst (λ hash. RefusedBy now.plan (hash_of hash) g one now at error next) hashed refusal)
 
 module _ {H D : Type 0} (hash_of : H → List ℕ → ℕ) (g : Ghosts D) (what : Source) (old : Pass H) (before : D) where
   abbrev AreAll : List Piece → Type 0
-  AreAll = Are (query_of old) (hash_of old.groups.table.hash) what
+  AreAll = Are (query_of old) (hash_of old.groups.hash) what
 
   pub none_added : IsReady old → AddedSome hash_of g what 0 old before old before
   none_added ready = record {
-    reads = none_read old.plan (hash_of old.groups.table.hash) AreAll (standing old.groups old.lists (g.last before));
+    reads = none_read old.plan (hash_of old.groups.hash) AreAll (standing old.groups old.lists (g.last before));
     brings = λ more are. omega arith;
     safe = λ is. is;
     pages = refl;
@@ -200,9 +200,9 @@ module _ {H D : Type 0} (hash_of : H → List ℕ → ℕ) (g : Ghosts D) (what 
     kept = same_pass old;
   }
 
-  module _ (one : Source) (i : ℕ) (now : Pass H) (at : D) (some : AddedSome hash_of g what i old before now at) (place : IsAt AreAll i (Are (query_of old) (hash_of old.groups.table.hash) one)) where
+  module _ (one : Source) (i : ℕ) (now : Pass H) (at : D) (some : AddedSome hash_of g what i old before now at) (place : IsAt AreAll i (Are (query_of old) (hash_of old.groups.hash) one)) where
     abbrev AreOne : List Piece → Type 0
-    AreOne = Are (query_of old) (hash_of old.groups.table.hash) one
+    AreOne = Are (query_of old) (hash_of old.groups.hash) one
 
     pub next_added : (next : Pass H) (after : D) → Added hash_of g one now at next after → AddedSome hash_of g what (i + 1) old before next after
     next_added next after added =
@@ -210,7 +210,7 @@ module _ {H D : Type 0} (hash_of : H → List ℕ → ℕ) (g : Ghosts D) (what 
         let so_far = some.pages in
         let more = a.pages in
         record {
-          reads = next_read old.plan (hash_of old.groups.table.hash) AreAll AreOne (standing old.groups old.lists (g.last before)) i (standing now.groups now.lists (g.last at)) some.reads place (standing next.groups next.lists (g.last after)) a.reads;
+          reads = next_read old.plan (hash_of old.groups.hash) AreAll AreOne (standing old.groups old.lists (g.last before)) i (standing now.groups now.lists (g.last at)) some.reads place (standing next.groups next.lists (g.last after)) a.reads;
           brings = next_brings (query_of old) AreAll AreOne i (entries_of old.groups) (entries_of now.groups) (entries_of next.groups) old.lists now.lists next.lists place some.brings a.brings;
           safe = λ is. a.safe (some.safe is);
           pages = omega (arith, so_far, more);
@@ -222,13 +222,13 @@ module _ {H D : Type 0} (hash_of : H → List ℕ → ℕ) (g : Ghosts D) (what 
     next_refused error next refused =
         let refusal = refused_first hash_of g one old now at next some.kept.plan some.kept.table.hash error refused in
         record {
-          undamaged = λ can. refusal.undamaged (next_room old.plan (hash_of old.groups.table.hash) AreAll AreOne (standing old.groups old.lists (g.last before)) i (standing now.groups now.lists (g.last at)) some.reads place can);
+          undamaged = λ can. refusal.undamaged (next_room old.plan (hash_of old.groups.hash) AreAll AreOne (standing old.groups old.lists (g.last before)) i (standing now.groups now.lists (g.last at)) some.reads place can);
           kept = keeps_twice old now next some.kept refusal.kept;
         }
 
   pub all_added : (i : ℕ) (new : Pass H) (after : D) → AddedSome hash_of g what i old before new after → ((more : List Piece) → AreAll more → length more ≤ i) → Added hash_of g what old before new after
   all_added i new after some short = record {
-    reads = all_read old.plan (hash_of old.groups.table.hash) AreAll (standing old.groups old.lists (g.last before)) i (standing new.groups new.lists (g.last after)) some.reads short;
+    reads = all_read old.plan (hash_of old.groups.hash) AreAll (standing old.groups old.lists (g.last before)) i (standing new.groups new.lists (g.last after)) some.reads short;
     brings = all_brings (query_of old) AreAll i (entries_of old.groups) (entries_of new.groups) old.lists new.lists some.brings short;
     safe = some.safe;
     pages = some.pages;

@@ -101,14 +101,14 @@ module _ {H D : Type 0} (hash_of : H → List ℕ → ℕ) (g : Ghosts D) (input
   -- what is under way after the first pass is so for the later ones
   pub begun : (givens : List Given) → AllGive (query_of old) inputs givens → IsUnderway (query_of mid) (setting_in hash_of mid) (all_pieces inputs givens) first (HasLists (g.last between) mid.lists [] []) work counted (g.writes before) (g.writes between)
   begun givens give =
-      subst (λ (plan : Plan). IsUnderway (meaning plan.query.now) (setting_of plan (hash_of mid.groups.table.hash)) (all_pieces inputs givens) first (HasLists (g.last between) mid.lists [] []) work counted (g.writes before) (g.writes between)) (sym made.plan)
+      subst (λ (plan : Plan). IsUnderway (meaning plan.query.now) (setting_of plan (hash_of mid.groups.hash)) (all_pieces inputs givens) first (HasLists (g.last between) mid.lists [] []) work counted (g.writes before) (g.writes between)) (sym made.plan)
       (subst (λ hash. IsUnderway (query_of old) (setting_of old.plan (hash_of hash)) (all_pieces inputs givens) first (HasLists (g.last between) mid.lists [] []) work counted (g.writes before) (g.writes between)) (sym made.hash) (made.underway givens give))
 
   pub made_all : (run : List Entry) (after : D) (done : Work) → g.honest between ≡ g.honest before → MadeLater hash_of g mid between first counted run after done → MadeAll hash_of g inputs old before work run after done
   made_all run after done honesty later = record {
     whole = λ honest givens give count.
         subst (λ hash. IsDone (query_of old) (setting_of old.plan (hash_of hash)) (all_pieces inputs givens) run work done (g.writes before) (g.writes after)) made.hash
-        (subst (λ (plan : Plan). IsDone (meaning plan.query.now) (setting_of plan (hash_of mid.groups.table.hash)) (all_pieces inputs givens) run work done (g.writes before) (g.writes after)) made.plan
+        (subst (λ (plan : Plan). IsDone (meaning plan.query.now) (setting_of plan (hash_of mid.groups.hash)) (all_pieces inputs givens) run work done (g.writes before) (g.writes after)) made.plan
         (later.whole (subst IsTrue (sym honesty) honest) (all_pieces inputs givens) work (g.writes before) (begun givens give)
         (subst (λ (plan : Plan). CountUpTo (meaning plan.query.now) plan.most (all_pieces inputs givens)) (sym made.plan) count)));
     few = λ givens give. let a = made.few givens give in let b = later.few in omega (arith, a, b);

@@ -4,6 +4,7 @@ use Rattle.std.specs.Result.{IsErr}
 use Rattle.std.specs.declared.result.Result.{Result}
 use Rattle.std.proofs.Common.{sym, ◌∙◌, ap, subst, arith}
 use Rattle.group_table.specs.Table.{TableState}
+use Rattle.group_table.specs.declared.sip_hash.SipHash.{SipHash}
 use Rattle.group_runs.specs.Runs.{Entry}
 use Rattle.group_runs.specs.Standing.{IsRun}
 use Rattle.group_runs.specs.EntryLaws.{groups_raised}
@@ -32,10 +33,10 @@ same_table limit g = record { width = refl; hash = refl; within = λ is. is }
 pub same_rest : (lists : ListsState) → KeepsRest lists lists
 same_rest lists = record { source = refl; todo = refl; level = refl }
 
-pub moved_table : {Hash : Type 0} (limit : ℕ) (g h : GroupsState Hash) → h.table ≡ g.table → h.most_held ≡ g.most_held → IsSameTable limit g h
-moved_table {Hash} limit g h same held = record {
-  width = ap (λ (t : TableState Hash). t.width) same;
-  hash = ap (λ (t : TableState Hash). t.hash) same;
+pub moved_table : {Hash : Type 0} (limit : ℕ) (g h : GroupsState Hash) → h.table ≡ g.table → h.hash ≡ g.hash → h.most_held ≡ g.most_held → IsSameTable limit g h
+moved_table limit g h same hashed held = record {
+  width = ap (λ (t : TableState SipHash). t.width) same;
+  hash = hashed;
   within = λ is. subst (λ held. held ≤ limit) (sym held) is;
 }
 

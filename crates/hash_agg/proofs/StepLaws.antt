@@ -24,6 +24,7 @@ use Rattle.spill_lists.specs.Lists.{LeftList}
 use Rattle.spill_lists.specs.Standing.{ListsState, HasLists, AreSpilled}
 use Rattle.spill_lists.specs.declared.lists.OnTape.{OnTape}
 use Rattle.group_table.specs.Table.{TableState, Names, HasNo, state_in, group_in}
+use Rattle.group_table.specs.declared.sip_hash.SipHash.{SipHash}
 use Rattle.group_table.specs.declared.table.Slot.{Slot}
 use Rattle.having_filter.specs.Kept.{key_kinds, IsWellFormed}
 use Rattle.having_filter.specs.Meaning.{meaning}
@@ -336,7 +337,7 @@ pub entries_long : {Hash : Type 0} (g : GroupsState Hash) → length (entries_of
 entries_long g = length-map g.table.slots (group_in g.table g.tree)
 
 pub as_many : {Hash : Type 0} (g h : GroupsState Hash) → h.table ≡ g.table → length (entries_of h) ≡ length (entries_of g)
-as_many {Hash} g h same = entries_long h ∙ ap (λ (t : TableState Hash). length t.slots) same ∙ sym (entries_long g)
+as_many g h same = entries_long h ∙ ap (λ (t : TableState SipHash). length t.slots) same ∙ sym (entries_long g)
 
 pub safe_there : {Hash : Type 0} (q : Query) (bound : ℕ) (g h : GroupsState Hash) (slot : Slot) (key : List ℕ) (P : List ℕ → Type 0) → ((new : List ℕ) → P new → AreWithin (functions q) bound new) → Names g.table g.tree slot key → WritesAt g slot P h → AreSafe q bound (entries_of g) → AreSafe q bound (entries_of h)
 safe_there q bound g h slot key P within (at, named) writes (groups, are) =

@@ -49,7 +49,7 @@ query_of pass = meaning pass.plan.query.now
 
 -- its limit, the length of its states, and its hash function, as the cost has them
 abbrev pub setting_in : {H : Type 0} → (H → List ℕ → ℕ) → Pass H → Setting
-setting_in hash_of pass = setting_of pass.plan (hash_of pass.groups.table.hash)
+setting_in hash_of pass = setting_of pass.plan (hash_of pass.groups.hash)
 
 -- it can go on: its table has states as long as those that a group begins with, and never held more than the limit; and its tapes live
 pub record IsReady {H : Type 0} (pass : Pass H) : Type 0 where
@@ -121,10 +121,10 @@ pub record RefusedBy {H D : Type 0} (plan : Plan) (hash : List ℕ → ℕ) (g :
 
 -- the same by the pass's own plan and hash function
 abbrev pub Added : {H D : Type 0} → (H → List ℕ → ℕ) → Ghosts D → Source → Pass H → D → Pass H → D → Type 0
-Added hash_of g what old before new after = AddedBy old.plan (hash_of old.groups.table.hash) g what old before new after
+Added hash_of g what old before new after = AddedBy old.plan (hash_of old.groups.hash) g what old before new after
 
 abbrev pub Refused : {H D : Type 0} → (H → List ℕ → ℕ) → Ghosts D → Source → Pass H → D → SpillError → Pass H → Type 0
-Refused hash_of g what old before error new = RefusedBy old.plan (hash_of old.groups.table.hash) g what old before error new
+Refused hash_of g what old before error new = RefusedBy old.plan (hash_of old.groups.hash) g what old before error new
 
 -- one row, group or record was added: it made one group at most, or was spilled, if it was not the first
 pub record AddedOne {H D : Type 0} (hash_of : H → List ℕ → ℕ) (g : Ghosts D) (what : Source) (old : Pass H) (before : D) (new : Pass H) (after : D) : Type 0 where
@@ -133,7 +133,7 @@ pub record AddedOne {H D : Type 0} (hash_of : H → List ℕ → ℕ) (g : Ghost
 
 -- a record is that of a row of which WHERE is true, or of a group of the query, and its hash is that of its key
 abbrev pub IsGenuine : {H : Type 0} → (H → List ℕ → ℕ) → Pass H → Source → Type 0
-IsGenuine hash_of pass what = (piece : Piece) × Are (query_of pass) (hash_of pass.groups.table.hash) what (piece ∷ [])
+IsGenuine hash_of pass what = (piece : Piece) × Are (query_of pass) (hash_of pass.groups.hash) what (piece ∷ [])
 
 -- inputs of the query, which count so many rows at most
 pub record AreInputs (query : Query) (most : ℕ) (inputs : List Brought) : Type 0 where
@@ -151,7 +151,7 @@ pub record KeepsLater {H : Type 0} (old new : Pass H) : Type 0 where
 
 -- the records of its list were added, of which fewer are spilled than there were
 pub record AddedList {H D : Type 0} (hash_of : H → List ℕ → ℕ) (g : Ghosts D) (old : Pass H) (before : D) (new : Pass H) (after : D) : Type 0 where
-  pub reads : IsTrue (g.honest before) → ReadsList old.plan (hash_of old.groups.table.hash) (standing old.groups old.lists (g.last before)) (standing new.groups new.lists (g.last after))
+  pub reads : IsTrue (g.honest before) → ReadsList old.plan (hash_of old.groups.hash) (standing old.groups old.lists (g.last before)) (standing new.groups new.lists (g.last after))
   pub safe : AreSafe (query_of old) old.plan.most (entries_of new.groups)
   pub few : total (entries_of new.groups) new.lists ≤ ahead_number old.lists
   pub fewer : 0 < ahead_number old.lists → spilled_number new.lists < ahead_number old.lists
@@ -161,7 +161,7 @@ pub record AddedList {H D : Type 0} (hash_of : H → List ℕ → ℕ) (g : Ghos
   pub kept : KeepsLater old new
 
 pub record RefusedList {H D : Type 0} (hash_of : H → List ℕ → ℕ) (g : Ghosts D) (old : Pass H) (before : D) (error : SpillError) (new : Pass H) : Type 0 where
-  pub undamaged : IsTrue (g.honest before) → CanReadList old.plan (hash_of old.groups.table.hash) (standing old.groups old.lists (g.last before)) → error ≢ TapeDamaged
+  pub undamaged : IsTrue (g.honest before) → CanReadList old.plan (hash_of old.groups.hash) (standing old.groups old.lists (g.last before)) → error ≢ TapeDamaged
   pub kept : KeepsLater old new
 
 -- ---- its end
@@ -177,7 +177,7 @@ pub record Finished {H D : Type 0} (g : Ghosts D) (old : Pass H) (before : D) (r
   pub ready : IsReady new
   pub fresh : IsFresh new
   pub plan : new.plan ≡ old.plan
-  pub hash : new.groups.table.hash ≡ old.groups.table.hash
+  pub hash : new.groups.hash ≡ old.groups.hash
 
 -- it was counted: the pass, what it spilled, and what its table held
 pub record CountsPass {H D : Type 0} (g : Ghosts D) (pass : Pass H) (disk : D) (old new : Work) : Type 0 where
@@ -232,7 +232,7 @@ pub record MadeFirst {H D : Type 0} (hash_of : H → List ℕ → ℕ) (g : Ghos
   pub over : IsOver new
   pub within : CountsWithin old.plan.limit work done
   pub plan : new.plan ≡ old.plan
-  pub hash : new.groups.table.hash ≡ old.groups.table.hash
+  pub hash : new.groups.hash ≡ old.groups.hash
 
 -- the later ones were made, whose groups were united with those of the first
 pub record MadeLater {H D : Type 0} (hash_of : H → List ℕ → ℕ) (g : Ghosts D) (old : Pass H) (before : D) (first : List Entry) (work : Work) (run : List Entry) (after : D) (done : Work) : Type 0 where

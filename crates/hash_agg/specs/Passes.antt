@@ -8,8 +8,10 @@ use Rattle.aggregation_cost.specs.Cost.{greatest}
 use Rattle.aggregation_cost.specs.Passes as cost
 use Rattle.aggregation_cost.specs.Space.{Setting, need, fronts}
 use Rattle.group_table.specs.Space.{HoldsKeys, keys_in}
+use Rattle.group_table.specs.SipHashes.{low_hash}
 use Rattle.group_table.specs.Standing.{IsTableIn}
 use Rattle.group_table.specs.Table.{TableState, groups, key_in, buckets_for, buckets_in, most_buckets}
+use Rattle.group_table.specs.declared.sip_hash.SipHash.{SipHash}
 use Rattle.group_table.specs.declared.table.Slot.{Slot}
 use Rattle.grouping_model.specs.Datum.{Row, HasKinds, same_row}
 use Rattle.grouping_model.specs.Condition.{is_met}
@@ -105,11 +107,13 @@ AreOnce entries = (i j : ℕ) (x y : Entry) → slice_get entries i ≡ Some x �
 
 -- ---- the table of a pass
 
--- a table of groups, the tree in which it lies, and the most bytes of blocks that it held since it had no group
+-- a table of groups, which has a hash function of its own; the tree in which it lies; the most bytes of blocks that it held since it
+-- had no group; and the hash function by which records are spilled
 pub record GroupsState (H : Type 0) : Type 0 where
-  pub table : TableState H
+  pub table : TableState SipHash
   pub tree : TreeState
   pub most_held : ℕ
+  pub hash : H
 
 -- its groups in the order in which they came
 abbrev pub entries_of : {H : Type 0} → GroupsState H → List Entry
@@ -117,8 +121,8 @@ entries_of g = groups g.table g.tree
 
 -- it is a table of that tree, in which it holds what its keys need and nothing else is held; and it never held more than it needed
 -- while one of these entered
-pub record AreHeld {H : Type 0} (hash_of : H → List ℕ → ℕ) (g : GroupsState H) : Type 0 where
-  pub in_tree : IsTableIn hash_of g.table g.tree
+pub record AreHeld {H : Type 0} (g : GroupsState H) : Type 0 where
+  pub in_tree : IsTableIn low_hash g.table g.tree
   pub by_keys : HoldsKeys g.table g.tree
   pub most : g.most_held ≡ greatest (map (need g.table.width) (fronts (keys_in g.table g.tree)))
 
@@ -197,10 +201,10 @@ AreSafe query most entries = (entered : List Group) × AreGroupsBy query (λ key
 
 -- ---- a pass
 
--- a table of the same hash function, whose states are as long, and which held no more than a limit if it did so before
+-- a table beside the same hash function, whose states are as long, and which held no more than a limit if it did so before
 pub record IsSameTable {H : Type 0} (limit : ℕ) (old new : GroupsState H) : Type 0 where
   pub width : new.table.width ≡ old.table.width
-  pub hash : new.table.hash ≡ old.table.hash
+  pub hash : new.hash ≡ old.hash
   pub within : old.most_held ≤ limit → new.most_held ≤ limit
 
 -- what all passes of an aggregation have in common: a checked query, the states before any row, the most rows that a group counts,

@@ -90,7 +90,7 @@ pub(crate) fn aggregated<H: KeyHash + Copy, D: TapeDisk>(
 {
     let plan = Plan::new(alloc, query, rows_of_all(inputs), means.limit())?;
     let mut buffers = Buffers::new(alloc);
-    let mut pass = Pass::new(alloc, plan, means.hash(), disk)?;
+    let mut pass = Pass::new(alloc, plan, means.hash(), means.seed(), disk)?;
     let run = first_pass(alloc, disk, &mut pass, inputs, &mut buffers, work)?;
     later_passes(alloc, disk, &mut pass, run, &mut buffers, work)
 }

@@ -20,7 +20,7 @@ use crate::sorting::{led, sorted};
 use agg_protocol::BadState;
 use context_tree::{ContextId, Kind, Tree};
 use group_runs::{Run, advance_slice, combine_within};
-use group_table::{GroupTable, KeyHash, Slot};
+use group_table::{GroupTable, KeyHash, Seed, SipHash, Slot};
 use having_filter::Query;
 use packed_rows::Value;
 use std::alloc::{AllocError, Global};
@@ -28,12 +28,14 @@ use std::marker::Model;
 
 /// Groups: a hash table from their packed keys to their states. Its buckets, keys and states lie in contexts below that of
 /// the pass, which lies below the root of a tree and has nothing else below it. `most_held` is the most bytes of blocks that these
-/// held since there was no group.
+/// held since there was no group. `hash` is the hash function by which records are spilled, and no matter to the table: where its
+/// buckets lie, a hash function with a seed of its own says.
 #[derive(Drop)]
 pub(crate) struct Groups<H: KeyHash + Drop> {
     tree: Tree,
-    table: GroupTable<H>,
+    table: GroupTable<SipHash>,
     most_held: u64,
+    hash: H,
 }
 
 impl<H: KeyHash + Drop> Model for Groups<H> {
@@ -41,9 +43,9 @@ impl<H: KeyHash + Drop> Model for Groups<H> {
 
     ghost Value = { GroupsState H };
 
-    ghost view = { λ g. record { table = g.table; tree = g.tree; most_held = g.most_held } };
+    ghost view = { λ g. record { table = g.table; tree = g.tree; most_held = g.most_held; hash = g.hash } };
 
-    ghost invariant = { λ g. AreHeld H.hash_of (record { table = g.table; tree = g.tree; most_held = g.most_held }) };
+    ghost invariant = { λ g. AreHeld (record { table = g.table; tree = g.tree; most_held = g.most_held; hash = g.hash }) };
 }
 
 /// The context of a pass, below the root of a new tree.
@@ -60,21 +62,27 @@ fn pass_context(tree: &mut Tree) -> Result<ContextId, AllocError>
 }
 
 impl<H: KeyHash + Drop> Groups<H> {
-    /// No groups, whose states will have `width` bytes each.
-    pub(crate) fn new(alloc: Global, width: u32, hash: H) -> Result<Groups<H>, AllocError>
+    /// No groups, whose states will have `width` bytes each. Records are spilled by `hash`; the table's hash function has this seed.
+    pub(crate) fn new(
+        alloc: Global,
+        width: u32,
+        hash: H,
+        seed: Seed,
+    ) -> Result<Groups<H>, AllocError>
         requires { width ≤ 65535 }
         ensures empty { IfOk result (λ made. entries_of made ≡ []) }
         ensures width { IfOk result (λ made. made.table.width ≡ width) }
-        ensures hash { IfOk result (λ made. made.table.hash ≡ hash) }
+        ensures hash { IfOk result (λ made. made.hash ≡ hash) }
         ensures held { IfOk result (λ made. made.most_held ≡ 0) }
     {
         let mut tree = Tree::new(alloc);
         let pass = pass_context(&mut tree)?;
-        match GroupTable::new(alloc, &mut tree, pass, width, hash) {
+        match GroupTable::new(alloc, &mut tree, pass, width, SipHash::new(seed)) {
             Ok(table) => Ok(Groups {
                 tree,
                 table,
                 most_held: 0,
+                hash,
             }),
             Err(_) => Err(AllocError),
         }
@@ -88,11 +96,11 @@ impl<H: KeyHash + Drop> Groups<H> {
         self.table.len()
     }
 
-    /// The hash of a key.
+    /// The hash of a key, which a record of it has.
     pub(crate) fn hash(&self, key: &[u8]) -> u32
-        ensures { result ≡ H.hash_of self.now.table.hash key.now }
+        ensures { result ≡ H.hash_of self.now.hash key.now }
     {
-        self.table.key_hash(key)
+        self.hash.key_hash(key)
     }
 
     /// The slot of the group of a key, if there is one.
@@ -173,6 +181,7 @@ impl<H: KeyHash + Drop> Groups<H> {
         requires row { HasKinds (meaning query.now).kinds (row_of row.now) }
         requires most { most ≤ most_rows }
         ensures table { self.new.table ≡ self.old.table }
+        ensures hash { self.new.hash ≡ self.old.hash }
         ensures held { self.new.most_held ≡ self.old.most_held }
         ensures written { OnOk result (WritesAt self.old slot (AreAdvanced (meaning query.now) most (state_in self.old.table self.old.tree slot) (row_of row.now)) self.new) }
         ensures refused { OnErr result (¬ HaveRoomForRow (functions (meaning query.now)) most (state_in self.old.table self.old.tree slot)) }
@@ -193,6 +202,7 @@ impl<H: KeyHash + Drop> Groups<H> {
         requires slot { IsSlot self.old.table slot }
         requires most { most ≤ most_rows }
         ensures table { self.new.table ≡ self.old.table }
+        ensures hash { self.new.hash ≡ self.old.hash }
         ensures held { self.new.most_held ≡ self.old.most_held }
         ensures written { OnOk result (WritesAt self.old slot (AreCombined (functions (meaning query.now)) most (state_in self.old.table self.old.tree slot) more.now) self.new) }
         ensures refused { OnErr result (¬ HaveRoomWithin (functions (meaning query.now)) most (state_in self.old.table self.old.tree slot) more.now) }
@@ -206,7 +216,7 @@ impl<H: KeyHash + Drop> Groups<H> {
         ensures empty { entries_of self.new ≡ [] }
         ensures held { self.new.most_held ≡ 0 }
         ensures width { self.new.table.width ≡ self.old.table.width }
-        ensures hash { self.new.table.hash ≡ self.old.table.hash }
+        ensures hash { self.new.hash ≡ self.old.hash }
     {
         self.table.clear(&mut self.tree);
         self.most_held = 0;

@@ -2,7 +2,7 @@
 
 ghost use Rattle.std.specs.Prelude.{◌≡◌, ◌≤◌, ◌<◌, ◌⊎◌, IfOk, IfErr};
 
-use group_table::KeyHash;
+use group_table::{KeyHash, Seed};
 use std::marker::Model;
 use thiserror::Error;
 
@@ -15,17 +15,25 @@ pub const GREATEST_LIMIT: u64 = 1_099_511_627_776;
 /// The limit of whoever tells none, in bytes.
 pub const USUAL_LIMIT: u64 = 4_194_304;
 
+/// The seed of whoever tells none.
+pub const USUAL_SEED: Seed = Seed { low: 0, high: 0 };
+
 /// A limit is less than the least one, or more than the greatest.
 #[derive(Clone, Copy, Debug, PartialEq, Eq, Error)]
 #[error("a limit is 65,536 to 1,099,511,627,776 bytes")]
 pub struct LimitOutOfRange;
 
-/// What an aggregation may use: a limit on the blocks of its table of groups, in bytes, and the hash function of its keys. The
-/// disk to which it spills what doesn't keep within the limit is handed in beside it.
+/// What an aggregation may use: a limit on the blocks of its table of groups, in bytes, and the hash function of its keys, by
+/// which it spills what doesn't keep within the limit. The disk to which it spills is handed in beside it.
+///
+/// The table itself looks for keys by a hash function that has a seed. No result, and no page on the disk, depends on the seed;
+/// but whoever knows it can make many keys that lie in one place of the table, which is slow then. So where others make the
+/// keys, take a random one.
 #[derive(Drop)]
 pub struct Means<H: KeyHash + Copy> {
     limit: u64,
     hash: H,
+    seed: Seed,
 }
 
 impl<H: KeyHash + Copy> Model for Means<H> {
@@ -39,7 +47,7 @@ impl<H: KeyHash + Copy> Model for Means<H> {
 }
 
 impl<H: KeyHash + Copy> Means<H> {
-    /// A limit in bytes, from 65,536 to 1,099,511,627,776, and a hash function.
+    /// A limit in bytes, from 65,536 to 1,099,511,627,776, and a hash function. The seed is a fixed one.
     pub fn new(limit: u64, hash: H) -> Result<Means<H>, LimitOutOfRange>
         ensures means { IfOk result (λ means. means ≡ record { limit = limit; hash = hash }) }
         ensures within { IfOk result (λ _. (LEAST_LIMIT ≤ limit) × (limit ≤ GREATEST_LIMIT)) }
@@ -48,16 +56,32 @@ impl<H: KeyHash + Copy> Means<H> {
         if limit < LEAST_LIMIT || limit > GREATEST_LIMIT {
             return Err(LimitOutOfRange);
         }
-        Ok(Means { limit, hash })
+        Ok(Means {
+            limit,
+            hash,
+            seed: USUAL_SEED,
+        })
     }
 
-    /// The usual limit, of 4,194,304 bytes, and a hash function.
+    /// The usual limit, of 4,194,304 bytes, and a hash function. The seed is a fixed one.
     pub fn usual(hash: H) -> Means<H>
         ensures { result ≡ record { limit = USUAL_LIMIT; hash = hash } }
     {
         Means {
             limit: USUAL_LIMIT,
             hash,
+            seed: USUAL_SEED,
+        }
+    }
+
+    /// The same means with another seed of the table.
+    pub fn with_seed(self, seed: Seed) -> Means<H>
+        ensures { result ≡ self }
+    {
+        Means {
+            limit: self.limit,
+            hash: self.hash,
+            seed,
         }
     }
 
@@ -74,5 +98,10 @@ impl<H: KeyHash + Copy> Means<H> {
         ensures { result ≡ self.now.hash }
     {
         self.hash
+    }
+
+    /// The seed of the table.
+    pub fn seed(&self) -> Seed {
+        self.seed
     }
 }

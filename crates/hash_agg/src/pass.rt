@@ -19,7 +19,7 @@ use crate::record::{GROUP, ROW, split_group, write_group};
 use crate::work::Work;
 use agg_protocol::BadState;
 use group_runs::Run;
-use group_table::KeyHash;
+use group_table::{KeyHash, Seed};
 use packed_rows::Value;
 use spill_lists::{SpillError, SpillLists};
 use spill_tapes::TapeDisk;
@@ -53,18 +53,20 @@ pub(crate) struct Pass<'q, H: KeyHash + Drop> {
 }
 
 impl<'q, H: KeyHash + Drop> Pass<'q, H> {
-    /// The first pass, which has read nothing. The only error is a failed allocation.
+    /// The first pass, which has read nothing. Records are spilled by `hash`; the hash function of its table has this seed. The only
+    /// error is a failed allocation.
     pub(crate) fn new<D: TapeDisk>(
         alloc: Global,
         plan: Plan<'q>,
         hash: H,
+        seed: Seed,
         disk: &D,
     ) -> Result<Pass<'q, H>, AllocError>
         requires plan { IsPlan plan }
         ensures first { IfOk result (λ pass. IsFirst D.TapeDisk pass disk.now) }
-        ensures by { IfOk result (λ pass. (pass.plan ≡ plan.entry) × (pass.groups.table.hash ≡ hash)) }
+        ensures by { IfOk result (λ pass. (pass.plan ≡ plan.entry) × (pass.groups.hash ≡ hash)) }
     {
-        let groups = Groups::new(alloc, plan.first.len() as u32, hash)?;
+        let groups = Groups::new(alloc, plan.first.len() as u32, hash, seed)?;
         Ok(Pass {
             plan,
             groups,

@@ -1,7 +1,6 @@
 //! Tests of aggregation by `hash_agg`'s public calls: what it takes, by worked numbers, and what a disk that fails makes of it.
 //!
-//! `bin/try_tests` runs those of `passes` alone. To find each of 5,000 keys in one chain, as `one_hash` wants, takes unproved code
-//! minutes; the gate runs it as built.
+//! `bin/try_tests` runs those of `passes` alone: the others take unproved code a minute or more; the gate runs them as built.
 #![tactic(auto)]
 
 #[cfg(test)]
@@ -10,3 +9,5 @@ mod flips;
 mod one_hash;
 #[cfg(test)]
 mod passes;
+#[cfg(test)]
+mod seeds;

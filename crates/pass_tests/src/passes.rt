@@ -26,7 +26,7 @@ impl KeyHash for Constant {
 }
 
 /// So many rows of towns, packed.
-fn rows_of(rt: HostRuntime, query: &Query, towns: u32) -> Result<PackedRows, Fail>
+pub(crate) fn rows_of(rt: HostRuntime, query: &Query, towns: u32) -> Result<PackedRows, Fail>
     ensures { IfOk result (λ packed. (rows : List Row)
         × ArePackings (meaning query.now).kinds packed rows
         × (length packed ≡ towns)) }

@@ -57,7 +57,7 @@ plan_counts : {H : Type 0} (pass : Pass H) (inputs : List Brought) (givens : Lis
 plan_counts pass inputs givens most all give k = let few = all_few (query_of pass) k inputs givens all give in omega (arith, few, most)
 
 -- its setting is that of the means
-set_by : {H : Type 0} (hash_of : H → List ℕ → ℕ) (pass : Pass H) (limit : ℕ) (hash : H) → IsPlan pass.plan → pass.plan.limit ≡ limit → pass.groups.table.hash ≡ hash → setting_in hash_of pass ≡ setting_for (query_of pass) limit (hash_of hash)
+set_by : {H : Type 0} (hash_of : H → List ℕ → ℕ) (pass : Pass H) (limit : ℕ) (hash : H) → IsPlan pass.plan → pass.plan.limit ≡ limit → pass.groups.hash ≡ hash → setting_in hash_of pass ≡ setting_for (query_of pass) limit (hash_of hash)
 set_by hash_of pass limit hash plan limited hashed = λ i. record { limit = limited i; width = plan.width i; hash = hash_of (hashed i) }
 
 pub first_pass-requires-clause-inputs : goal.first_pass-requires-clause-inputs

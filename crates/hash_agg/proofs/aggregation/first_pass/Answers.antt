@@ -66,7 +66,7 @@ returns-in_err-row g c =
 pub returns-in_err-add_input : goal.returns-in_err-add_input
 returns-in_err-add_input g c =
     let q : Query = query_of c.args.pass.now in
-    let hf : List ℕ → ℕ = g.H.KeyHash.hash_of c.args.pass.now.groups.table.hash in
+    let hf : List ℕ → ℕ = g.H.KeyHash.hash_of c.args.pass.now.groups.hash in
     let inputs : List Brought = map brought c.args.inputs.now in
     let i : ℕ = c.loop-input.input-index in
     let input : Brought = brought c.input-item.result in
@@ -90,7 +90,7 @@ returns-in_err-add_input g c =
 pub loop-input-preserved : goal.loop-input-preserved
 loop-input-preserved g c =
     let q : Query = query_of c.args.pass.now in
-    let hf : List ℕ → ℕ = g.H.KeyHash.hash_of c.args.pass.now.groups.table.hash in
+    let hf : List ℕ → ℕ = g.H.KeyHash.hash_of c.args.pass.now.groups.hash in
     let inputs : List Brought = map brought c.args.inputs.now in
     let i : ℕ = c.loop-input.input-index in
     let input : Brought = brought c.input-item.result in

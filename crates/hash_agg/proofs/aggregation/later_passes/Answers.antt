@@ -62,8 +62,8 @@ returns-in_err-add_list g c =
           err_out c.from_residual.result c.in_err-add_list.field-0.0 _ c.from_residual.ensures.1
           (λ honest pieces start writes underway count.
           c.in_err-add_list.ensures.refused.undamaged (subst IsTrue (sym i.disk.honesty) honest)
-          (can_by g.H.KeyHash.hash_of c.args.pass.now.plan c.loop-pass.pass.plan c.args.pass.now.groups.table.hash c.loop-pass.pass.groups.table.hash (standing c.loop-pass.pass.groups c.begin_pass.new.self (g.D.TapeDisk.last c.loop-pass.disk)) i.plan i.hash
-          (pass_can c.args.pass.now.plan (g.H.KeyHash.hash_of c.args.pass.now.groups.table.hash) pieces (on_end (c.args.run ∷ c.loop-pass.others.items)) (entries_of c.loop-pass.pass.groups) c.loop-pass.pass.lists c.begin_pass.new.self (g.D.TapeDisk.last c.loop-pass.disk) start c.loop-pass.work writes (g.D.TapeDisk.writes c.loop-pass.disk)
+          (can_by g.H.KeyHash.hash_of c.args.pass.now.plan c.loop-pass.pass.plan c.args.pass.now.groups.hash c.loop-pass.pass.groups.hash (standing c.loop-pass.pass.groups c.begin_pass.new.self (g.D.TapeDisk.last c.loop-pass.disk)) i.plan i.hash
+          (pass_can c.args.pass.now.plan (g.H.KeyHash.hash_of c.args.pass.now.groups.hash) pieces (on_end (c.args.run ∷ c.loop-pass.others.items)) (entries_of c.loop-pass.pass.groups) c.loop-pass.pass.lists c.begin_pass.new.self (g.D.TapeDisk.last c.loop-pass.disk) start c.loop-pass.work writes (g.D.TapeDisk.writes c.loop-pass.disk)
           (i.waits honest pieces start writes underway count) count (c.begin_pass.ensures.begins c.loop-pass-test.true))));
       disk =
           left_out g.D.TapeDisk c.from_residual.result c.in_err-add_list.field-0.0 c.args.disk.now c.add_list.new.disk c.from_residual.ensures.1
@@ -123,10 +123,10 @@ loop-pass-preserved g c =
           let read_pages = add.pages in
           let none : written_pages c.begin_pass.new.self ≡ 0 = ap (full_pages c.begin_pass.new.self.tapes) c.begin_pass.ensures.parts in
           subst (λ es. IsWaiting q set pieces es c.finish.new.self.lists (g.D.TapeDisk.last c.finish.new.disk) start c.finish.new.work writes (g.D.TapeDisk.writes c.finish.new.disk)) (sym more)
-          (pass_made c.args.pass.now.plan (g.H.KeyHash.hash_of c.args.pass.now.groups.table.hash) pieces (on_end (c.args.run ∷ c.loop-pass.others.items)) (entries_of c.loop-pass.pass.groups) c.loop-pass.pass.lists c.begin_pass.new.self (g.D.TapeDisk.last c.loop-pass.disk) start c.loop-pass.work writes (g.D.TapeDisk.writes c.loop-pass.disk)
+          (pass_made c.args.pass.now.plan (g.H.KeyHash.hash_of c.args.pass.now.groups.hash) pieces (on_end (c.args.run ∷ c.loop-pass.others.items)) (entries_of c.loop-pass.pass.groups) c.loop-pass.pass.lists c.begin_pass.new.self (g.D.TapeDisk.last c.loop-pass.disk) start c.loop-pass.work writes (g.D.TapeDisk.writes c.loop-pass.disk)
           (i.waits honest pieces start writes underway count) count (c.begin_pass.ensures.begins c.loop-pass-test.true)
           c.add_list.new.self.lists c.finish.new.self.lists (g.D.TapeDisk.last c.add_list.new.disk) (g.D.TapeDisk.last c.finish.new.disk) (entries_of c.add_list.new.self.groups) run c.finish.new.work (g.D.TapeDisk.writes c.add_list.new.disk) (g.D.TapeDisk.writes c.finish.new.disk) c.requires.over.ready.plan.formed add.kept.level
-          (reads_by g.H.KeyHash.hash_of c.args.pass.now.plan c.loop-pass.pass.plan c.args.pass.now.groups.table.hash c.loop-pass.pass.groups.table.hash (standing c.loop-pass.pass.groups c.begin_pass.new.self (g.D.TapeDisk.last c.loop-pass.disk)) (standing c.add_list.new.self.groups c.add_list.new.self.lists (g.D.TapeDisk.last c.add_list.new.disk)) i.plan i.hash
+          (reads_by g.H.KeyHash.hash_of c.args.pass.now.plan c.loop-pass.pass.plan c.args.pass.now.groups.hash c.loop-pass.pass.groups.hash (standing c.loop-pass.pass.groups c.begin_pass.new.self (g.D.TapeDisk.last c.loop-pass.disk)) (standing c.add_list.new.self.groups c.add_list.new.self.lists (g.D.TapeDisk.last c.add_list.new.disk)) i.plan i.hash
           (add.reads (subst IsTrue (sym i.disk.honesty) honest)))
           end.moved end.rises end.left
           (λ spilled ahead todo pages has. subst (λ width. AddsUp c.loop-pass.work (pass_cost width (entries_of c.add_list.new.self.groups) (length spilled) pages) c.finish.new.work) (add.ready.width ∙ ap (λ (plan : Plan). length plan.first.items) (add.kept.plan ∙ i.plan)) (counts.adds spilled ahead todo pages has))
@@ -138,7 +138,7 @@ pub returns : goal.returns
 returns g c =
     let q : Query = query_of c.args.pass.now in
     let set : Setting = setting_in g.H.KeyHash.hash_of c.args.pass.now in
-    let hf : List ℕ → ℕ = g.H.KeyHash.hash_of c.args.pass.now.groups.table.hash in
+    let hf : List ℕ → ℕ = g.H.KeyHash.hash_of c.args.pass.now.groups.hash in
     let i = c.loop-pass.invariant in
     let joined : List Entry = on_end (c.args.run ∷ c.loop-pass.others.items) in
     record {

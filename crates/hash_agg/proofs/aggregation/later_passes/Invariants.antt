@@ -12,7 +12,7 @@ invariant-loop-pass g l =
     record {
       over : IsOver l.pass;
       plan : l.pass.plan ≡ l.fn.pass.plan;
-      hash : l.pass.groups.table.hash ≡ l.fn.pass.groups.table.hash;
+      hash : l.pass.groups.hash ≡ l.fn.pass.groups.hash;
       within : CountsWithin l.fn.pass.plan.limit l.fn.work l.work;
       safe : AreSafe (query_of l.fn.pass) l.fn.pass.plan.most (on_end (l.fn.run ∷ l.others.items));
       few : length (on_end (l.fn.run ∷ l.others.items)) + waiting_number l.pass.lists ≤ length l.fn.run + waiting_number l.fn.pass.lists;

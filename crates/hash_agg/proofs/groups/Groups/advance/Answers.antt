@@ -14,7 +14,7 @@ use Rattle.hash_agg.proofs.groups.Groups.advance.Goals as goal
 
 pub returns-clause-written : goal.returns-clause-written
 returns-clause-written g c =
-    let after : GroupsState g.row.H.Denot = record { table = c.self.inside.table; tree = with_bytes_in c.self.inside.tree c.self.inside.table.states c.args.slot.state c.advance_slice.new.states; most_held = c.self.inside.most_held } in
+    let after : GroupsState g.row.H.Denot = record { table = c.self.inside.table; tree = with_bytes_in c.self.inside.tree c.self.inside.table.states c.args.slot.state c.advance_slice.new.states; most_held = c.self.inside.most_held; hash = c.self.inside.hash } in
     let wide : length c.advance_slice.new.states ≡ c.self.inside.table.width = search rules in
     on_ok_weaker c.advance_slice.result
     (λ advanced.

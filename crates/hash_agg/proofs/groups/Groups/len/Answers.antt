@@ -1,7 +1,8 @@
 use Rattle.std.proofs.Common.{subst}
+use Rattle.group_table.specs.SipHashes.{low_hash}
 use Rattle.hash_agg.specs.Passes.{GroupsState, AreOnce, entries_of}
 use Rattle.hash_agg.proofs.TableLaws.{once_groups}
 use Rattle.hash_agg.proofs.groups.Groups.len.Goals as goal
 
 pub returns-clause-once : goal.returns-clause-once
-returns-clause-once g c = subst (λ (x : GroupsState g.row.H.Denot). AreOnce (entries_of x)) c.self.view_is (once_groups g.H.KeyHash.hash_of c.self.inside.table c.self.inside.tree c.self.invariant.in_tree)
+returns-clause-once g c = subst (λ (x : GroupsState g.row.H.Denot). AreOnce (entries_of x)) c.self.view_is (once_groups low_hash c.self.inside.table c.self.inside.tree c.self.invariant.in_tree)

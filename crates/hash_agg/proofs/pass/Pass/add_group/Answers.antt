@@ -23,7 +23,7 @@ returns-in-Ok g c =
       added =
           there_added g.H.KeyHash.hash_of g.D.TapeDisk (Entries ((c.args.key.now, c.args.states.now) ∷ [])) c.args.self.now c.args.disk.now c.args.key.now (λ old new. AreCombined (functions q) c.args.self.now.plan.most old c.args.states.now new) c.requires.ready
           (entry_told q c.args.self.now.plan.most c.args.key.now c.args.states.now)
-          c.combine.new.self c.in-Some.slot c.find.ensures.once c.in-Some.ensures.found c.in-Ok.ensures.written c.combine.ensures.table c.combine.ensures.held (λ new moved. moved.within);
+          c.combine.new.self c.in-Some.slot c.find.ensures.once c.in-Some.ensures.found c.in-Ok.ensures.written c.combine.ensures.table c.combine.ensures.hash c.combine.ensures.held (λ new moved. moved.within);
       refused = tt;
       disk = leaves_none g.D.TapeDisk c.args.disk.now;
     }
@@ -37,12 +37,12 @@ returns-in-Err g c =
             undamaged =
                 λ can same.
                 let q : Query = query_of c.args.self.now in
-                let room = there_room c.args.self.now.plan (g.H.KeyHash.hash_of c.args.self.now.groups.table.hash) c.args.self.now.groups c.args.self.now.lists (g.D.TapeDisk.last c.args.disk.now) c.args.key.now
-                (Are q (g.H.KeyHash.hash_of c.args.self.now.groups.table.hash) (Entries ((c.args.key.now, c.args.states.now) ∷ []))) (λ old new. AreCombined (functions q) c.args.self.now.plan.most old c.args.states.now new)
+                let room = there_room c.args.self.now.plan (g.H.KeyHash.hash_of c.args.self.now.groups.hash) c.args.self.now.groups c.args.self.now.lists (g.D.TapeDisk.last c.args.disk.now) c.args.key.now
+                (Are q (g.H.KeyHash.hash_of c.args.self.now.groups.hash) (Entries ((c.args.key.now, c.args.states.now) ∷ []))) (λ old new. AreCombined (functions q) c.args.self.now.plan.most old c.args.states.now new)
                 (entry_told q c.args.self.now.plan.most c.args.key.now c.args.states.now) c.in-Some.slot c.in-Some.ensures.found can in
                 let one = one_group q room.1.0 c.args.key.now c.args.states.now room.0 room.1.1 in
                 c.in-Err.ensures.refused (room.2, room.1.0, room.3, one.0.1, room.4, one.2.states, room.5);
-            kept = record { plan = refl; table = moved_table c.args.self.now.plan.limit c.args.self.now.groups c.combine.new.self c.combine.ensures.table c.combine.ensures.held; lists = same_rest _ };
+            kept = record { plan = refl; table = moved_table c.args.self.now.plan.limit c.args.self.now.groups c.combine.new.self c.combine.ensures.table c.combine.ensures.hash c.combine.ensures.held; lists = same_rest _ };
           };
       disk = leaves_none g.D.TapeDisk c.args.disk.now;
     }
@@ -71,7 +71,7 @@ returns-in-Some-room_for g c =
       added =
           new_added g.H.KeyHash.hash_of g.D.TapeDisk (Entries ((c.args.key.now, c.args.states.now) ∷ [])) c.args.self.now c.args.disk.now c.args.key.now (λ old new. AreCombined (functions q) c.args.self.now.plan.most old c.args.states.now new) c.requires.ready
           (entry_told q c.args.self.now.plan.most c.args.key.now c.args.states.now)
-          c.enter.new.self c.args.states.now c.in-Some-room_for.need c.in_default.ensures.found c.in-Some-room_for.ensures.room (c.in-Some-room_for.ensures.exact (g.H.KeyHash.hash_of c.args.self.now.groups.table.hash))
+          c.enter.new.self c.args.states.now c.in-Some-room_for.need c.in_default.ensures.found c.in-Some-room_for.ensures.room (c.in-Some-room_for.ensures.exact (g.H.KeyHash.hash_of c.args.self.now.groups.hash))
           c.in_ok-enter.ensures.entered c.enter.ensures.table
           (λ more are low. (one_group q are.0 c.args.key.now c.args.states.now more are.1).2.states) group.0 group.1;
       refused = tt;
@@ -100,9 +100,9 @@ returns g c =
           left_added g.H.KeyHash.hash_of g.D.TapeDisk (Entries ((c.args.key.now, c.args.states.now) ∷ [])) c.args.self.now c.args.disk.now c.args.key.now (λ old new. AreCombined (functions q) c.args.self.now.plan.most old c.args.states.now new) c.requires.ready
           (entry_told q c.args.self.now.plan.most c.args.key.now c.args.states.now)
           c.spill.result c.spill.new.self c.spill.new.disk one c.in_default.ensures.found (key_brief q c.args.key.now group.0.0 c.requires.ready.plan.formed group.1.key group.1.of_kinds)
-          (sym (c.in_default-room_for.ensures.exact (g.H.KeyHash.hash_of c.args.self.now.groups.table.hash)))
+          (sym (c.in_default-room_for.ensures.exact (g.H.KeyHash.hash_of c.args.self.now.groups.hash)))
           (λ more are.
-          is_group_record q (g.H.KeyHash.hash_of c.args.self.now.groups.table.hash) are.0 one c.args.key.now c.args.states.now (one_group q are.0 c.args.key.now c.args.states.now more are.1).0 refl written c.hash-hash.ensures (one_group q are.0 c.args.key.now c.args.states.now more are.1).2)
+          is_group_record q (g.H.KeyHash.hash_of c.args.self.now.groups.hash) are.0 one c.args.key.now c.args.states.now (one_group q are.0 c.args.key.now c.args.states.now more are.1).0 refl written c.hash-hash.ensures (one_group q are.0 c.args.key.now c.args.states.now more are.1).2)
           c.spill.ensures.rest c.spill.ensures.spilled;
       refused = IfErr-weaker c.spill.result _ _ (λ error right. record { undamaged = λ can. right; kept = record { plan = refl; table = same_table _ _; lists = c.spill.ensures.rest } }) c.spill.ensures.undamaged;
       disk = c.spill.ensures.disk;

@@ -21,7 +21,7 @@ returns-in_default g c =
           record {
             undamaged =
                 λ can same.
-                let one = can_group_record c.args.self.now.plan (g.H.KeyHash.hash_of c.args.self.now.groups.table.hash) c.args.hash c.args.bytes.now (standing c.args.self.now.groups c.args.self.now.lists (g.D.TapeDisk.last c.args.disk.now)) can in
+                let one = can_group_record c.args.self.now.plan (g.H.KeyHash.hash_of c.args.self.now.groups.hash) c.args.hash c.args.bytes.now (standing c.args.self.now.groups c.args.self.now.lists (g.D.TapeDisk.last c.args.disk.now)) can in
                 c.in_default.ensures (packing one.0.0) one.2.states (key_short (query_of c.args.self.now) (packing one.0.0) one.0.0 c.requires.ready.plan.formed refl one.2.stands.of_kinds) one.2.bytes;
             kept = same_pass c.args.self.now;
           };
@@ -38,7 +38,7 @@ returns-in_err-check_group g c =
           (record {
             undamaged =
                 λ can.
-                let is = split_right c.args.self.now.plan (g.H.KeyHash.hash_of c.args.self.now.groups.table.hash) c.args.hash c.args.bytes.now c.in-Some.key.now c.in-Some.states.now (standing c.args.self.now.groups c.args.self.now.lists (g.D.TapeDisk.last c.args.disk.now)) c.requires.ready.plan.formed c.in-Some.ensures.0 c.in-Some.ensures.1 can in
+                let is = split_right c.args.self.now.plan (g.H.KeyHash.hash_of c.args.self.now.groups.hash) c.args.hash c.args.bytes.now c.in-Some.key.now c.in-Some.states.now (standing c.args.self.now.groups c.args.self.now.lists (g.D.TapeDisk.last c.args.disk.now)) c.requires.ready.plan.formed c.in-Some.ensures.0 c.in-Some.ensures.1 can in
                 c.in_err-check_group.ensures.undamaged is.1 is.0 is.4 is.2;
             kept = same_pass c.args.self.now;
           });
@@ -54,7 +54,7 @@ returns-then-hash g c =
           record {
             undamaged =
                 λ can same.
-                let is = split_right c.args.self.now.plan (g.H.KeyHash.hash_of c.args.self.now.groups.table.hash) c.args.hash c.args.bytes.now c.in-Some.key.now c.in-Some.states.now (standing c.args.self.now.groups c.args.self.now.lists (g.D.TapeDisk.last c.args.disk.now)) c.requires.ready.plan.formed c.in-Some.ensures.0 c.in-Some.ensures.1 can in
+                let is = split_right c.args.self.now.plan (g.H.KeyHash.hash_of c.args.self.now.groups.hash) c.args.hash c.args.bytes.now c.in-Some.key.now c.in-Some.states.now (standing c.args.self.now.groups c.args.self.now.lists (g.D.TapeDisk.last c.args.disk.now)) c.requires.ready.plan.formed c.in-Some.ensures.0 c.in-Some.ensures.1 can in
                 c.if-hash.true (is.3 ∙ sym c.hash.ensures);
             kept = same_pass c.args.self.now;
           };
@@ -63,7 +63,7 @@ returns-then-hash g c =
 
 pub returns : goal.returns
 returns g c =
-    let hf : List ℕ → ℕ = g.H.KeyHash.hash_of c.args.self.now.groups.table.hash in
+    let hf : List ℕ → ℕ = g.H.KeyHash.hash_of c.args.self.now.groups.hash in
     let stands = c.in_ok-check_group.ensures.stands in
     record {
       added =

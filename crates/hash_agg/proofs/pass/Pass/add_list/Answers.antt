@@ -29,7 +29,7 @@ loop-hash-init g c =
       few = omega (arith, none, clear);
       spent = inl (c.requires.fresh.empty, c.requires.fresh.parts, refl);
       reads = λ honest records pieces todo has are count.
-          reading_begins c.args.self.now.plan (g.H.KeyHash.hash_of c.args.self.now.groups.table.hash) (standing c.args.self.now.groups c.args.self.now.lists (g.D.TapeDisk.last c.args.disk.now)) records pieces todo c.requires.fresh.empty c.requires.fresh.parts has are;
+          reading_begins c.args.self.now.plan (g.H.KeyHash.hash_of c.args.self.now.groups.hash) (standing c.args.self.now.groups c.args.self.now.lists (g.D.TapeDisk.last c.args.disk.now)) records pieces todo c.requires.fresh.empty c.requires.fresh.parts has are;
     }
 
 pub returns-in_err-hash : goal.returns-in_err-hash
@@ -55,7 +55,7 @@ pub loop-hash-preserved : goal.loop-hash-preserved
 loop-hash-preserved g c =
     let q : Query = query_of c.args.self.now in
     let i = c.loop-hash.invariant in
-    let hf : List ℕ → ℕ = g.H.KeyHash.hash_of c.args.self.now.groups.table.hash in
+    let hf : List ℕ → ℕ = g.H.KeyHash.hash_of c.args.self.now.groups.hash in
     let one = c.in_ok-add_record.ensures.added in
     let kept = later_same c.args.self.now c.loop-hash.self c.next.new.self i.kept c.next.ensures.todo c.next.ensures.level in
     let add = added_first g.H.KeyHash.hash_of g.D.TapeDisk (On_tape c.in-Some.hash c.in-Some.tag c.deref.result.now) c.args.self.now (record c.loop-hash.self { lists = c.next.new.self }) c.next.new.disk c.add_record.new.self kept.plan kept.table.hash c.add_record.new.disk one.added in
@@ -85,7 +85,7 @@ loop-hash-preserved g c =
 pub returns-in_err-add_record : goal.returns-in_err-add_record
 returns-in_err-add_record g c =
     let i = c.loop-hash.invariant in
-    let hf : List ℕ → ℕ = g.H.KeyHash.hash_of c.args.self.now.groups.table.hash in
+    let hf : List ℕ → ℕ = g.H.KeyHash.hash_of c.args.self.now.groups.hash in
     let kept = later_same c.args.self.now c.loop-hash.self c.next.new.self i.kept c.next.ensures.todo c.next.ensures.level in
     let refusal = refused_first g.H.KeyHash.hash_of g.D.TapeDisk (On_tape c.in-Some.hash c.in-Some.tag c.deref.result.now) c.args.self.now (record c.loop-hash.self { lists = c.next.new.self }) c.next.new.disk c.add_record.new.self kept.plan kept.table.hash c.in_err-add_record.field-0.0 c.in_err-add_record.ensures.refused in
     record {
@@ -111,7 +111,7 @@ returns-in_err-add_record g c =
 pub returns : goal.returns
 returns g c =
     let i = c.loop-hash.invariant in
-    let hf : List ℕ → ℕ = g.H.KeyHash.hash_of c.args.self.now.groups.table.hash in
+    let hf : List ℕ → ℕ = g.H.KeyHash.hash_of c.args.self.now.groups.hash in
     let kept = later_same c.args.self.now c.loop-hash.self c.next.new.self i.kept c.next.ensures.todo c.next.ensures.level in
     let ended = subst (λ found. IfNone found ((ahead_number c.loop-hash.self.lists ≡ 0) × (c.next.new.self.source ≡ []))) c.in_default.is c.in_ok-hash.ensures.ended in
     let parts : spilled_number c.next.new.self ≡ spilled_number c.loop-hash.self.lists = ap count_of c.next.ensures.parts in

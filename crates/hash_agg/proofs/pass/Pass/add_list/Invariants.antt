@@ -21,9 +21,9 @@ invariant-loop-hash g l =
       reads :
           IsTrue (g.D.TapeDisk.honest l.initial.disk) → (records : List Record) (pieces : List Piece) (todo : List LeftList)
           → HasLists (g.D.TapeDisk.last l.initial.disk) l.initial.self.lists [] records todo
-          → ArePieces (query_of l.initial.self) (g.H.KeyHash.hash_of l.initial.self.groups.table.hash) records pieces
+          → ArePieces (query_of l.initial.self) (g.H.KeyHash.hash_of l.initial.self.groups.hash) records pieces
           → CountUpTo (query_of l.initial.self) l.initial.self.plan.most pieces
-          → IsReading l.initial.self.plan (g.H.KeyHash.hash_of l.initial.self.groups.table.hash) (standing l.self.groups l.self.lists (g.D.TapeDisk.last l.disk)) pieces todo;
+          → IsReading l.initial.self.plan (g.H.KeyHash.hash_of l.initial.self.groups.hash) (standing l.self.groups l.self.lists (g.D.TapeDisk.last l.disk)) pieces todo;
     }
 
 abbrev pub decreases-loop-hash : goal.decreases-loop-hash

@@ -20,7 +20,7 @@ returns-in_err-select g c =
           (record {
             undamaged =
                 λ can.
-                let row = can_row c.args.self.now.plan (g.H.KeyHash.hash_of c.args.self.now.groups.table.hash) c.args.packed.now (standing c.args.self.now.groups c.args.self.now.lists (g.D.TapeDisk.last c.args.disk.now)) can in
+                let row = can_row c.args.self.now.plan (g.H.KeyHash.hash_of c.args.self.now.groups.hash) c.args.packed.now (standing c.args.self.now.groups c.args.self.now.lists (g.D.TapeDisk.last c.args.disk.now)) can in
                 c.in_err-select.ensures.undamaged row.0 row.1 row.2;
             kept = same_pass c.args.self.now;
           });
@@ -33,7 +33,7 @@ returns-then-not-branch g c =
       added =
           record {
             reads =
-                row_over c.args.self.now.plan (g.H.KeyHash.hash_of c.args.self.now.groups.table.hash) c.args.packed.now (row_of c.select.new.row.items) (standing c.args.self.now.groups c.args.self.now.lists (g.D.TapeDisk.last c.args.disk.now))
+                row_over c.args.self.now.plan (g.H.KeyHash.hash_of c.args.self.now.groups.hash) c.args.packed.now (row_of c.select.new.row.items) (standing c.args.self.now.groups c.args.self.now.lists (g.D.TapeDisk.last c.args.disk.now))
                 c.in_ok-select.ensures.row.0 c.in_ok-select.ensures.row.1 (sym c.in_ok-select.ensures.met ∙ c.if-not-branch.true);
             brings = λ more are. omega arith;
             safe = λ is. is;

@@ -32,7 +32,7 @@ returns-in_err-select g c =
           (record {
             undamaged =
                 λ can.
-                let one = can_row_record c.args.self.now.plan (g.H.KeyHash.hash_of c.args.self.now.groups.table.hash) c.args.hash c.args.packed.now (standing c.args.self.now.groups c.args.self.now.lists (g.D.TapeDisk.last c.args.disk.now)) can in
+                let one = can_row_record c.args.self.now.plan (g.H.KeyHash.hash_of c.args.self.now.groups.hash) c.args.hash c.args.packed.now (standing c.args.self.now.groups c.args.self.now.lists (g.D.TapeDisk.last c.args.disk.now)) can in
                 c.in_err-select.ensures.undamaged one.0 one.1.of_kinds one.1.bytes;
             kept = same_pass c.args.self.now;
           });
@@ -48,7 +48,7 @@ returns-then-not-branch g c =
           record {
             undamaged =
                 λ can same.
-                let one = row_right c.args.self.now.plan (g.H.KeyHash.hash_of c.args.self.now.groups.table.hash) c.args.hash c.args.packed.now (row_of c.select.new.row.items) (standing c.args.self.now.groups c.args.self.now.lists (g.D.TapeDisk.last c.args.disk.now))
+                let one = row_right c.args.self.now.plan (g.H.KeyHash.hash_of c.args.self.now.groups.hash) c.args.hash c.args.packed.now (row_of c.select.new.row.items) (standing c.args.self.now.groups c.args.self.now.lists (g.D.TapeDisk.last c.args.disk.now))
                 c.in_ok-select.ensures.row.0 c.in_ok-select.ensures.row.1 can in
                 let met = sym c.in_ok-select.ensures.met ∙ c.if-not-branch.true in
                 let other = one.met in
@@ -67,7 +67,7 @@ returns-then-hash g c =
           record {
             undamaged =
                 λ can same.
-                let hf : List ℕ → ℕ = g.H.KeyHash.hash_of c.args.self.now.groups.table.hash in
+                let hf : List ℕ → ℕ = g.H.KeyHash.hash_of c.args.self.now.groups.hash in
                 let one = row_right c.args.self.now.plan hf c.args.hash c.args.packed.now (row_of c.select.new.row.items) (standing c.args.self.now.groups c.args.self.now.lists (g.D.TapeDisk.last c.args.disk.now)) c.in_ok-select.ensures.row.0 c.in_ok-select.ensures.row.1 can in
                 c.if-hash.true (c.hash.ensures ∙ ap hf (c.deref.ensures.value ∙ c.in_ok-select.ensures.key c.if-not-branch.false) ∙ sym one.hashed);
             kept = same_pass c.args.self.now;
@@ -77,7 +77,7 @@ returns-then-hash g c =
 
 pub returns : goal.returns
 returns g c =
-    let hf : List ℕ → ℕ = g.H.KeyHash.hash_of c.args.self.now.groups.table.hash in
+    let hf : List ℕ → ℕ = g.H.KeyHash.hash_of c.args.self.now.groups.hash in
     let row = c.in_ok-select.ensures.row in
     record {
       added =

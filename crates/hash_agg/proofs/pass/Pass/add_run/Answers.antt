@@ -24,7 +24,7 @@ add_group-requires-clause-group g c =
 
 pub loop-place-preserved : goal.loop-place-preserved
 loop-place-preserved g c =
-    let hf : List ℕ → ℕ = g.H.KeyHash.hash_of c.args.self.now.groups.table.hash in
+    let hf : List ℕ → ℕ = g.H.KeyHash.hash_of c.args.self.now.groups.hash in
     record {
       some =
           next_added g.H.KeyHash.hash_of g.D.TapeDisk (Entries c.args.run.now) c.args.self.now c.args.disk.now (Entries ((c.group.result.0.now, c.group.result.1.now) ∷ [])) c.loop-place.place c.loop-place.self c.loop-place.disk c.loop-place.invariant.some
@@ -34,7 +34,7 @@ loop-place-preserved g c =
 
 pub returns-in_err-add_group : goal.returns-in_err-add_group
 returns-in_err-add_group g c =
-    let hf : List ℕ → ℕ = g.H.KeyHash.hash_of c.args.self.now.groups.table.hash in
+    let hf : List ℕ → ℕ = g.H.KeyHash.hash_of c.args.self.now.groups.hash in
     record {
       added = no_ok c.from_residual.result _ c.from_residual.ensures.0;
       refused =

@@ -23,7 +23,7 @@ returns-in-Ok g c =
       added =
           there_added g.H.KeyHash.hash_of g.D.TapeDisk (Packed_rows (c.args.packed.now ∷ [])) c.args.self.now c.args.disk.now c.args.key.now (λ old new. AreAdvanced q c.args.self.now.plan.most old (row_of c.args.row.now) new) c.requires.ready
           (row_told q c.args.self.now.plan.most c.args.packed.now c.args.key.now (row_of c.args.row.now) c.requires.ready.plan.formed c.requires.selected)
-          c.advance.new.self c.in-Some.slot c.find.ensures.once c.in-Some.ensures.found c.in-Ok.ensures.written c.advance.ensures.table c.advance.ensures.held (λ new moved. moved.within);
+          c.advance.new.self c.in-Some.slot c.find.ensures.once c.in-Some.ensures.found c.in-Ok.ensures.written c.advance.ensures.table c.advance.ensures.hash c.advance.ensures.held (λ new moved. moved.within);
       refused = tt;
       disk = leaves_none g.D.TapeDisk c.args.disk.now;
     }
@@ -37,13 +37,13 @@ returns-in-Err g c =
             undamaged =
                 λ can same.
                 let q : Query = query_of c.args.self.now in
-                let room = there_room c.args.self.now.plan (g.H.KeyHash.hash_of c.args.self.now.groups.table.hash) c.args.self.now.groups c.args.self.now.lists (g.D.TapeDisk.last c.args.disk.now) c.args.key.now
+                let room = there_room c.args.self.now.plan (g.H.KeyHash.hash_of c.args.self.now.groups.hash) c.args.self.now.groups c.args.self.now.lists (g.D.TapeDisk.last c.args.disk.now) c.args.key.now
                 (AreRows q (c.args.packed.now ∷ [])) (λ old new. AreAdvanced q c.args.self.now.plan.most old (row_of c.args.row.now) new)
                 (row_told q c.args.self.now.plan.most c.args.packed.now c.args.key.now (row_of c.args.row.now) c.requires.ready.plan.formed c.requires.selected)
                 c.in-Some.slot c.in-Some.ensures.found can in
                 let low = room.5 in
                 c.in-Err.ensures.refused (room.2, room.3, room.4, omega (arith, low));
-            kept = record { plan = refl; table = moved_table c.args.self.now.plan.limit c.args.self.now.groups c.advance.new.self c.advance.ensures.table c.advance.ensures.held; lists = same_rest _ };
+            kept = record { plan = refl; table = moved_table c.args.self.now.plan.limit c.args.self.now.groups c.advance.new.self c.advance.ensures.table c.advance.ensures.hash c.advance.ensures.held; lists = same_rest _ };
           };
       disk = leaves_none g.D.TapeDisk c.args.disk.now;
     }
@@ -63,7 +63,7 @@ returns-in_err-first_after g c =
           (record {
             undamaged =
                 λ can.
-                let room = new_room c.args.self.now.plan (g.H.KeyHash.hash_of c.args.self.now.groups.table.hash) c.args.self.now.groups c.args.self.now.lists (g.D.TapeDisk.last c.args.disk.now) c.args.key.now
+                let room = new_room c.args.self.now.plan (g.H.KeyHash.hash_of c.args.self.now.groups.hash) c.args.self.now.groups c.args.self.now.lists (g.D.TapeDisk.last c.args.disk.now) c.args.key.now
                 (AreRows q (c.args.packed.now ∷ [])) (λ old new. AreAdvanced q c.args.self.now.plan.most old (row_of c.args.row.now) new)
                 (row_told q c.args.self.now.plan.most c.args.packed.now c.args.key.now (row_of c.args.row.now) c.requires.ready.plan.formed c.requires.selected) can in
                 let low = room.2 in
@@ -86,7 +86,7 @@ returns-in-Some-room_for g c =
       added =
           new_added g.H.KeyHash.hash_of g.D.TapeDisk (Packed_rows (c.args.packed.now ∷ [])) c.args.self.now c.args.disk.now c.args.key.now (λ old new. AreAdvanced q c.args.self.now.plan.most old (row_of c.args.row.now) new) c.requires.ready
           (row_told q c.args.self.now.plan.most c.args.packed.now c.args.key.now (row_of c.args.row.now) c.requires.ready.plan.formed c.requires.selected)
-          c.enter.new.self c.first_after.new.states.items c.in-Some-room_for.need c.in_default.ensures.found c.in-Some-room_for.ensures.room (c.in-Some-room_for.ensures.exact (g.H.KeyHash.hash_of c.args.self.now.groups.table.hash))
+          c.enter.new.self c.first_after.new.states.items c.in-Some-room_for.need c.in_default.ensures.found c.in-Some-room_for.ensures.room (c.in-Some-room_for.ensures.exact (g.H.KeyHash.hash_of c.args.self.now.groups.hash))
           (c.in_ok-enter.ensures.entered ∙ ap (λ states. entries_of c.args.self.now.groups ++ (c.args.key.now, states) ∷ []) c.deref.ensures.value) c.enter.ensures.table
           (λ more are low. c.in_ok-first_after.ensures.advanced.moved 0 (partials q []) (omega (arith, low)) c.requires.ready.plan.states)
           (key_of q (row_of c.args.row.now), within.0)
@@ -107,8 +107,8 @@ returns g c =
           (row_told q c.args.self.now.plan.most c.args.packed.now c.args.key.now (row_of c.args.row.now) c.requires.ready.plan.formed c.requires.selected)
           c.spill.result c.spill.new.self c.spill.new.disk (record { hash = c.hash-hash.result; tag = 0; bytes = c.args.packed.now }) c.in_default.ensures.found
           (key_brief q c.args.key.now (key_of q (row_of c.args.row.now)) c.requires.ready.plan.formed c.requires.selected.named (key_has q (row_of c.args.row.now) c.requires.ready.plan.formed.keys c.requires.selected.has))
-          (sym (c.in_default-room_for.ensures.exact (g.H.KeyHash.hash_of c.args.self.now.groups.table.hash)))
-          (λ more are. record { tag = refl; of_kinds = c.requires.selected.has; bytes = c.requires.selected.is; met = c.requires.selected.met; hashed = c.hash-hash.ensures ∙ ap (g.H.KeyHash.hash_of c.args.self.now.groups.table.hash) c.requires.selected.named })
+          (sym (c.in_default-room_for.ensures.exact (g.H.KeyHash.hash_of c.args.self.now.groups.hash)))
+          (λ more are. record { tag = refl; of_kinds = c.requires.selected.has; bytes = c.requires.selected.is; met = c.requires.selected.met; hashed = c.hash-hash.ensures ∙ ap (g.H.KeyHash.hash_of c.args.self.now.groups.hash) c.requires.selected.named })
           c.spill.ensures.rest c.spill.ensures.spilled;
       refused = IfErr-weaker c.spill.result _ _ (λ error right. record { undamaged = λ can. right; kept = record { plan = refl; table = same_table _ _; lists = c.spill.ensures.rest } }) c.spill.ensures.undamaged;
       disk = c.spill.ensures.disk;
