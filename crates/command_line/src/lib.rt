@@ -13,6 +13,7 @@ mod problem;
 mod progress;
 mod refusing;
 mod script;
+mod seed;
 mod spill;
 mod streams;
 mod tasks;
@@ -30,6 +31,7 @@ use std::cell::Cell;
 use std::convert::AsStr;
 use std::io;
 use std::io::{BufWriter, Read, Write};
+use std::random::RandomSource;
 use std::rt::Files;
 pub use streams::Terminals;
 
@@ -67,7 +69,7 @@ fn end_without_command<W: Write, E: Write>(
 }
 
 /// Runs a command on files, by its name.
-fn run_task<'c, R: Files + AllocGlobal, W: Write, E: Write>(
+fn run_task<'c, R: Files + AllocGlobal + RandomSource, W: Write, E: Write>(
     rt: &'c R,
     name: &str,
     matches: &ArgMatches<'_>,
@@ -81,7 +83,7 @@ fn run_task<'c, R: Files + AllocGlobal, W: Write, E: Write>(
 }
 
 /// Runs the command that words ask for.
-fn run_words<'c, R: Files + AllocGlobal, S: AsStr, I: Read, W: Write, E: Write>(
+fn run_words<'c, R: Files + AllocGlobal + RandomSource, S: AsStr, I: Read, W: Write, E: Write>(
     rt: &'c R,
     words: &[S],
     reader: &mut I,
@@ -121,7 +123,7 @@ fn send_out<W: Write, E: Write>(
 
 /// Runs the command of some words, over a writer whose failures are kept. Where a person looks at the replies, and where there is no
 /// memory to gather them in, they go out as they come.
-fn run_gathered<R: Files + AllocGlobal, S: AsStr, I: Read, W: Write, E: Write>(
+fn run_gathered<R: Files + AllocGlobal + RandomSource, S: AsStr, I: Read, W: Write, E: Write>(
     rt: &R,
     words: &[S],
     reader: &mut I,
@@ -159,7 +161,7 @@ fn run_gathered<R: Files + AllocGlobal, S: AsStr, I: Read, W: Write, E: Write>(
 /// Replies and tables go to the writer, gathered in pieces of some 8 KiB unless it is a terminal, sentences for people to `errors`, each
 /// in one write, and only `script` reads from the reader. The result is the status of the process: 0 where all was done, 1 where
 /// something was refused, 2 where the words are no command line, 3 where a file or a stream could not be read or written.
-pub fn command<R: Files + AllocGlobal, S: AsStr, I: Read, W: Write, E: Write>(
+pub fn command<R: Files + AllocGlobal + RandomSource, S: AsStr, I: Read, W: Write, E: Write>(
     rt: &R,
     words: &[S],
     reader: &mut I,

@@ -1,15 +1,17 @@
 //! Scripts, with a sentence for each refused command.
 
 use crate::problem::{Problem, is_closed, reason_of};
+use crate::seed::system_seed;
 use crate::spill::{open_disk, remove_disk};
 use crate::streams::{Streams, Watched, say};
 use fault_sentences::{Reason, ScriptPlace, say_disagreement};
-use hash_agg::TapeDisk;
+use hash_agg::{Seed, TapeDisk};
 use replies::{Ending, Refusal, Reply, RunError, put_reply, refusal_ending, run_ending};
 use script_machine::{Observer, run_observed};
 use std::alloc::{AllocError, Global};
 use std::cell::Cell;
 use std::io::{Read, Write};
+use std::random::RandomSource;
 use std::rt::Files;
 use std::{fmt, io};
 
@@ -117,11 +119,12 @@ fn say_stopped<W: Write, E: Write>(
     streams.say(&Stopped { error, cause });
 }
 
-/// Runs the script that a reader has left over a disk of tapes.
+/// Runs the script that a reader has left over a disk of tapes, with a seed of its tables of groups.
 fn run_over<I: Read, W: Write, E: Write, D: TapeDisk>(
     reader: &mut I,
     streams: &mut Streams<'_, W, E>,
     disk: &mut D,
+    seed: Seed,
 ) -> Ending {
     let alloc = streams.alloc;
     let fault = Cell::new(None);
@@ -137,6 +140,7 @@ fn run_over<I: Read, W: Write, E: Write, D: TapeDisk>(
         &mut *streams.writer,
         &mut complaints,
         disk,
+        seed,
     );
     drop(complaints);
     if let Err(error) = run {
@@ -154,8 +158,24 @@ fn stop<W: Write, E: Write>(problem: Problem<'_>, streams: &mut Streams<'_, W, E
     }
 }
 
+/// Runs the script that a reader has left over a disk of tapes. Where there is no seed, nothing is read or replied.
+fn run_seeded<R: RandomSource + AllocGlobal, I: Read, W: Write, E: Write, D: TapeDisk>(
+    rt: &R,
+    reader: &mut I,
+    streams: &mut Streams<'_, W, E>,
+    disk: &mut D,
+) -> Ending {
+    match system_seed(rt) {
+        Ok(seed) => run_over(reader, streams, disk, seed),
+        Err(problem) => {
+            streams.say(&problem);
+            refusal_ending(problem.why)
+        }
+    }
+}
+
 /// Runs the script that a reader has left. What is spilled lies in memory, or in a new file where its path is told.
-pub(crate) fn run_script<R: Files + AllocGlobal, I: Read, W: Write, E: Write>(
+pub(crate) fn run_script<R: Files + AllocGlobal + RandomSource, I: Read, W: Write, E: Write>(
     rt: &R,
     spill: Option<&str>,
     reader: &mut I,
@@ -165,7 +185,7 @@ pub(crate) fn run_script<R: Files + AllocGlobal, I: Read, W: Write, E: Write>(
         Ok(disk) => disk,
         Err(problem) => return stop(problem, streams),
     };
-    let ending = run_over(reader, streams, &mut disk);
+    let ending = run_seeded(rt, reader, streams, &mut disk);
     drop(disk);
     remove_disk(rt, rt.alloc(), spill, streams.errors);
     ending

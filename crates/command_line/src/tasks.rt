@@ -10,6 +10,7 @@ use crate::progress::{Explained, PassedOver, Progress, Standing, text_of};
 use crate::refusing::{
     refused_batch, refused_columns, refused_merge, refused_query, refused_save, refused_summary,
 };
+use crate::seed::system_seed;
 use crate::spill::{open_disk, remove_disk};
 use crate::streams::Streams;
 use clap::ArgMatches;
@@ -21,6 +22,7 @@ use script_io::{put_all, read_limit};
 use spill_tapes::{MemDisk, SpillDisk};
 use std::alloc::{AllocError, Global};
 use std::io::Write;
+use std::random::RandomSource;
 use std::rt::Files;
 
 /// A command on files.
@@ -227,7 +229,7 @@ pub(crate) struct Session<'c, R: Files, W, E> {
     is_written: bool,
 }
 
-impl<'c, R: Files + AllocGlobal, W: Write, E: Write> Session<'c, R, W, E> {
+impl<'c, R: Files + AllocGlobal + RandomSource, W: Write, E: Write> Session<'c, R, W, E> {
     /// Nothing was done yet. What is spilled lies in memory.
     pub(crate) fn new(rt: &'c R, streams: Streams<'c, W, E>) -> Session<'c, R, W, E> {
         Session {
@@ -549,11 +551,20 @@ impl<'c, R: Files + AllocGlobal, W: Write, E: Write> Session<'c, R, W, E> {
             return Ending::BadUsage;
         }
         let ending = match means_of(task, matches) {
-            Ok(means) => self.run_with(task, matches, &means, standing),
+            Ok(means) => self.run_with(task, matches, means, standing),
             Err(why) => self.refuse_limit(task, matches, why),
         };
         let fate = self.fate(task, matches);
         self.finish(ending, fate)
+    }
+
+    /// The means of a command that groups rows, with a seed of the system's.
+    fn seeded(&self, task: Task, means: Means<Fnv1a>) -> Result<Means<Fnv1a>, Problem<'static>> {
+        if !task.groups_rows() {
+            return Ok(means);
+        }
+        let seed = system_seed(self.rt)?;
+        Ok(means.with_seed(seed))
     }
 
     /// Runs a command on files by means, with the disk of tapes that it tells, and tells how it ended.
@@ -561,7 +572,7 @@ impl<'c, R: Files + AllocGlobal, W: Write, E: Write> Session<'c, R, W, E> {
         &mut self,
         task: Task,
         matches: &ArgMatches<'_>,
-        means: &Means<Fnv1a>,
+        means: Means<Fnv1a>,
         standing: Option<&str>,
     ) -> Ending {
         self.tells_progress = task.is_told(matches, PROGRESS) || self.streams.terminals.errors;
@@ -575,7 +586,13 @@ impl<'c, R: Files + AllocGlobal, W: Write, E: Write> Session<'c, R, W, E> {
         }
         self.in_file = spill.is_some();
         self.tell_standing(standing, false);
-        let ending = self.run_by(task, matches, means);
+        let ending = match self.seeded(task, means) {
+            Ok(means) => self.run_by(task, matches, &means),
+            Err(problem) => {
+                let fate = self.fate(task, matches);
+                self.stop(problem, fate)
+            }
+        };
         self.remove_spill(task, matches);
         ending
     }
