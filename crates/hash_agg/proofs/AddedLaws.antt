@@ -8,7 +8,6 @@ use Rattle.grouping_model.specs.Grouping.{Group}
 use Rattle.grouping_model.specs.Parts.{functions}
 use Rattle.spill_tapes.specs.Records.{Record}
 use Rattle.spill_tapes.specs.declared.disk.TapeDisk.{Ghosts}
-use Rattle.spill_lists.specs.Lists.{LeftList}
 use Rattle.spill_lists.specs.Standing.{ListsState, KeepsRest, Spilled}
 use Rattle.spill_lists.specs.declared.error.SpillError.{SpillError}
 use Rattle.group_table.specs.Table.{Names, HasNo, state_in}
