@@ -9,7 +9,7 @@ ghost use Rattle.script_machine.specs.Output.{AnswersAll, AnswersSome, KeepsUnre
 use crate::lines::Lines;
 use crate::session::Session;
 use grouping_model::limits::LONGEST_INPUT;
-use hash_agg::TapeDisk;
+use hash_agg::{Seed, TapeDisk, USUAL_SEED};
 use replies::{Outcome, Refusal, Reply, RunError, put_reply};
 use script_commands::{Command, next_command};
 use script_io::{Records, read_input};
@@ -79,6 +79,7 @@ fn run_script<W: Write, O: Observer, D: TapeDisk>(
     writer: &mut W,
     observer: &mut O,
     disk: &mut D,
+    seed: Seed,
 ) -> Result<Outcome, RunError>
     requires { length script.now ≤ LONGEST_INPUT }
     ensures { MatchResult result
@@ -88,7 +89,7 @@ fn run_script<W: Write, O: Observer, D: TapeDisk>(
         (W.contents writer.new) e) }
 {
     let mut records = Records::new(alloc, script);
-    let mut session = Session::new(alloc);
+    let mut session = Session::new(alloc, seed);
     let mut lines = Lines::new(script);
     let outcome = answer_all(
         &mut records,
@@ -105,7 +106,8 @@ fn run_script<W: Write, O: Observer, D: TapeDisk>(
 /// Runs the script that a reader has left, and writes the replies to its commands.
 ///
 /// It reads the whole script before it writes anything, and never takes more than 67,108,865 bytes. A refused command
-/// replies so, changes nothing, and the run goes on. What groups do not keep within the limit is spilled to the disk.
+/// replies so, changes nothing, and the run goes on. What groups do not keep within the limit is spilled to the disk. The seed of
+/// the tables of groups is a fixed one.
 pub fn run<R: Read, W: Write, D: TapeDisk>(
     alloc: Global,
     reader: &mut R,
@@ -124,17 +126,19 @@ pub fn run<R: Read, W: Write, D: TapeDisk>(
     // Nothing was written where the script was not read.
     ensures silent { IfErr result (KeepsUnread (W.contents writer.old) (W.contents writer.new)) }
 {
-    run_observed(alloc, reader, writer, &mut Unobserved, disk)
+    run_observed(alloc, reader, writer, &mut Unobserved, disk, USUAL_SEED)
 }
 
 /// The same as `run`, whose observer is told of each command that is refused, in order, and where it stands in the script. No clause
-/// speaks of what it is told.
+/// speaks of what it is told. The tables of groups have this seed: a random one, where others write the script, so that no keys are
+/// chosen that lie in one place of a table. All clauses hold with each seed.
 pub fn run_observed<R: Read, W: Write, O: Observer, D: TapeDisk>(
     alloc: Global,
     reader: &mut R,
     writer: &mut W,
     observer: &mut O,
     disk: &mut D,
+    seed: Seed,
 ) -> Result<Outcome, RunError>
     ensures reads { ConsumesAtMost (R.remaining reader.old) (R.remaining reader.new)
         (LONGEST_INPUT + 1) }
@@ -145,5 +149,5 @@ pub fn run_observed<R: Read, W: Write, O: Observer, D: TapeDisk>(
     ensures silent { IfErr result (KeepsUnread (W.contents writer.old) (W.contents writer.new)) }
 {
     let script = read_input(alloc, reader, LONGEST_INPUT)?;
-    run_script(alloc, &script, writer, observer, disk)
+    run_script(alloc, &script, writer, observer, disk, seed)
 }

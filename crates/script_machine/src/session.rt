@@ -27,7 +27,7 @@ ghost use Rattle.spill_tapes.specs.Disk.{Leaves};
 
 use batch_reader::read_rows;
 use group_parser::{parse, print};
-use hash_agg::{Fnv1a, Means, TapeDisk, Work};
+use hash_agg::{Fnv1a, Means, Seed, TapeDisk, Work};
 use having_filter::Query;
 use indexmap::IndexMap;
 use packed_rows::Schema;
@@ -197,8 +197,8 @@ fn keep<V: Drop>(kept: &mut IndexMap<Vec<u8>, V>, named: (Vec<u8>, V)) -> Result
 }
 
 impl Session {
-    /// Nothing is there.
-    pub(crate) fn new(alloc: Global) -> Session
+    /// Nothing is there. The tables of aggregations have this seed.
+    pub(crate) fn new(alloc: Global, seed: Seed) -> Session
         ensures { result ≡ empty }
     {
         Session {
@@ -207,7 +207,7 @@ impl Session {
             query: None,
             replicas: IndexMap::new(alloc),
             saved: IndexMap::new(alloc),
-            means: Means::usual(Fnv1a),
+            means: Means::usual(Fnv1a).with_seed(seed),
         }
     }
 
@@ -256,7 +256,7 @@ impl Session {
     {
         match Means::new(bytes, Fnv1a) {
             Ok(means) => {
-                self.means = means;
+                self.means = means.with_seed(self.means.seed());
                 Reply::Limit(bytes)
             }
             Err(error) => Reply::Refused(Refusal::from(error)),
