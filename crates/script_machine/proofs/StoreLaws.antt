@@ -69,7 +69,7 @@ others_kept name other old new keeps different =
     keeps (λ (key : Vec ℕ Global). bytes_eq other key.items) (λ x y. alike other x.items y.items) (λ key. apart name other key.items different)
 
 -- a map that was updated at a name is a store that was
-pub updated : {S : Type 0} (limit : ℕ) (columns : Option (List Column)) (query : Option Checked) (saved : List (Vec ℕ Global × Vec ℕ Global)) (name : List ℕ) (held : Held) (old new : HashMap (Vec ℕ Global) Held S)
+pub updated : {S : Type 0} (limit : ℕ) (columns : Option (List Column)) (query : Option Checked) (saved : List (Vec ℕ Global × List ℕ)) (name : List ℕ) (held : Held) (old new : HashMap (Vec ℕ Global) Held S)
     → UpdatesBy (λ (x y : Vec ℕ Global). bytes_eq x.items y.items) (λ (key : Vec ℕ Global). bytes_eq name key.items) old new (Some held)
     → Updates (record { columns = columns; query = query; replicas = old.entries; saved = saved; limit = limit }) (record { columns = columns; query = query; replicas = new.entries; saved = saved; limit = limit }) name held
 updated limit columns query saved name held old new u =
@@ -145,12 +145,12 @@ same_updated old new name held u there = record { columns = u.columns; query = u
     go other false e = u.others other e
 
 -- a map that is as it was
-pub same_entries : (limit : ℕ) (columns : Option (List Column)) (query : Option Checked) (saved : List (Vec ℕ Global × Vec ℕ Global)) (old new : List (Vec ℕ Global × Held)) → new ≡ old
+pub same_entries : (limit : ℕ) (columns : Option (List Column)) (query : Option Checked) (saved : List (Vec ℕ Global × List ℕ)) (old new : List (Vec ℕ Global × Held)) → new ≡ old
     → Same (record { columns = columns; query = query; replicas = old; saved = saved; limit = limit }) (record { columns = columns; query = query; replicas = new; saved = saved; limit = limit })
 same_entries limit columns query saved old new e =
     record { columns = refl; query = refl; replicas = λ name. ap (λ es. lookup (λ (key : Vec ℕ Global). bytes_eq name key.items) es) e; saved = λ name. refl; limit = refl }
 
-pub same_files : (limit : ℕ) (columns : Option (List Column)) (query : Option Checked) (replicas : List (Vec ℕ Global × Held)) (old new : List (Vec ℕ Global × Vec ℕ Global)) → new ≡ old
+pub same_files : (limit : ℕ) (columns : Option (List Column)) (query : Option Checked) (replicas : List (Vec ℕ Global × Held)) (old new : List (Vec ℕ Global × List ℕ)) → new ≡ old
     → Same (record { columns = columns; query = query; replicas = replicas; saved = old; limit = limit }) (record { columns = columns; query = query; replicas = replicas; saved = new; limit = limit })
 same_files limit columns query replicas old new e =
     record { columns = refl; query = refl; replicas = λ name. refl; saved = λ name. ap (λ es. lookup (λ (key : Vec ℕ Global). bytes_eq name key.items) es) e; limit = refl }
@@ -200,7 +200,7 @@ store_asked store columns query is told none over =
       files = λ name. never (saved_at store name) (subst (λ q. IfSome (saved_at store name) (IsFileOf q)) (none_there store.query none) (is.files name));
     }
   where
-    never : (o : Option (Vec ℕ Global)) → IfSome o (IsFileOf None) → IfSome o (IsFileOf (Some query))
+    never : (o : Option (List ℕ)) → IfSome o (IsFileOf None) → IfSome o (IsFileOf (Some query))
     never None h = tt
     never (Some bytes) h = absurd (let e = h.asked in cc)
 
@@ -297,14 +297,14 @@ one_there a b one two = ap (λ x. unwrap_or x a) (sym one ∙ two)
 -- ---- saving and loading
 
 -- a map that was updated at a name has another file
-pub filed : {S : Type 0} (limit : ℕ) (columns : Option (List Column)) (query : Option Checked) (replicas : List (Vec ℕ Global × Held)) (name : List ℕ) (bytes : Vec ℕ Global) (old new : HashMap (Vec ℕ Global) (Vec ℕ Global) S)
+pub filed : {S : Type 0} (limit : ℕ) (columns : Option (List Column)) (query : Option Checked) (replicas : List (Vec ℕ Global × Held)) (name : List ℕ) (bytes : List ℕ) (old new : HashMap (Vec ℕ Global) (List ℕ) S)
     → UpdatesBy (λ (x y : Vec ℕ Global). bytes_eq x.items y.items) (λ (key : Vec ℕ Global). bytes_eq name key.items) old new (Some bytes)
     → Files (record { columns = columns; query = query; replicas = replicas; saved = old.entries; limit = limit }) (record { columns = columns; query = query; replicas = replicas; saved = new.entries; limit = limit }) name bytes
 filed limit columns query replicas name bytes old new u =
     record { columns = refl; query = refl; replicas = refl; own = u.1; others = λ other. others_kept name other old.entries new.entries u.3; limit = refl }
 
 -- what holds of each file, and of the new one, holds of each file then
-each_file : (P : List ℕ → Option (Vec ℕ Global) → Type 0) (old new : Store) (name : List ℕ) (bytes : Vec ℕ Global) → Files old new name bytes
+each_file : (P : List ℕ → Option (List ℕ) → Type 0) (old new : Store) (name : List ℕ) (bytes : List ℕ) → Files old new name bytes
     → P name (Some bytes) → ((other : List ℕ) → bytes_eq name other ≡ false → P other (saved_at old other)) → (other : List ℕ) → P other (saved_at new other)
 each_file P old new name bytes u p all other = go (bytes_eq name other) refl
   where
@@ -316,7 +316,7 @@ replicas_at : (old new : Store) → new.replicas ≡ old.replicas → (name : Li
 replicas_at old new stay name = ap (λ es. lookup (λ (key : Vec ℕ Global). bytes_eq name key.items) es) stay
 
 -- a store stays one with a file of its query
-pub store_filed : (old new : Store) (name : List ℕ) (bytes : Vec ℕ Global) → Files old new name bytes → IsFileOf old.query bytes → IsStore old → IsStore new
+pub store_filed : (old new : Store) (name : List ℕ) (bytes : List ℕ) → Files old new name bytes → IsFileOf old.query bytes → IsStore old → IsStore new
 store_filed old new name bytes u file is =
     record {
       over = subst (λ q. IfSome q (λ (query : Checked). new.columns ≡ Some query.columns)) (sym u.query)
@@ -328,7 +328,7 @@ store_filed old new name bytes u file is =
     }
 
 -- what is loaded has the query
-pub loaded_asks : (store : Store) (saved : List ℕ) (bytes : Vec ℕ Global) (later : Held) → IsStore store → saved_at store saved ≡ Some bytes → ((held : Held) → IsSaved bytes.items held.query held.parts → later ≡ held)
+pub loaded_asks : (store : Store) (saved : List ℕ) (bytes : List ℕ) (later : Held) → IsStore store → saved_at store saved ≡ Some bytes → ((held : Held) → IsSaved bytes held.query held.parts → later ≡ held)
     → store.query ≡ Some later.query
 loaded_asks store saved bytes later is there same =
     let file = subst (λ o. IfSome o (IsFileOf store.query)) there (is.files saved) in
@@ -771,8 +771,8 @@ module _ {honest : Bool} where
       go None = refl
       go (Some q) = refl
 
-  pub saved_as : (old new : Store) (name saved : List ℕ) (owned : List Record) (held : Held) (bytes : Vec ℕ Global) (count : ℕ) → IsStore old → replica_at old name ≡ Some held
-      → IsSaved bytes.items held.query held.parts → ((world : World) → Fits world held → bytes.items ≡ world_file held.query world (told held.parts)) → count ≡ length bytes.items
+  pub saved_as : (old new : Store) (name saved : List ℕ) (owned : List Record) (held : Held) (bytes : List ℕ) (count : ℕ) → IsStore old → replica_at old name ≡ Some held
+      → IsSaved bytes held.query held.parts → ((world : World) → Fits world held → bytes ≡ world_file held.query world (told held.parts)) → count ≡ length bytes
       → Files old new saved bytes → Steps honest (ask.Save name saved) owned old (says.Saved count) new
   saved_as old new name saved owned held bytes count is there file world_is counted u =
       let asks = held_asks old name held is there in
@@ -815,8 +815,8 @@ module _ {honest : Bool} where
       go None are = refl
       go (Some known) are = absurd are
 
-  pub loaded : (old new : Store) (name saved : List ℕ) (owned : List Record) (bytes : Vec ℕ Global) (later : Held) → saved_at old saved ≡ Some bytes
-      → ((held : Held) → IsSaved bytes.items held.query held.parts → later ≡ held) → Updates old new name later → Steps honest (ask.Load name saved) owned old says.Loaded new
+  pub loaded : (old new : Store) (name saved : List ℕ) (owned : List Record) (bytes : List ℕ) (later : Held) → saved_at old saved ≡ Some bytes
+      → ((held : Held) → IsSaved bytes held.query held.parts → later ≡ held) → Updates old new name later → Steps honest (ask.Load name saved) owned old says.Loaded new
   loaded old new name saved owned bytes later there is u =
       record { steps = λ state r. go state r (state.saved saved) refl (subst (AreSaved (state.saved saved)) there (r.saved saved)) }
     where

@@ -27,7 +27,7 @@ pub record Store : Type 0 where
   pub columns : Option (List Column)
   pub query : Option Checked
   pub replicas : List (Vec ℕ Global × Held)
-  pub saved : List (Vec ℕ Global × Vec ℕ Global)
+  pub saved : List (Vec ℕ Global × List ℕ)
   pub limit : ℕ
 
 -- nothing is there but the usual limit
@@ -39,14 +39,14 @@ abbrev pub replica_at : Store → List ℕ → Option Held
 replica_at store name = lookup (λ (key : Vec ℕ Global). bytes_eq name key.items) store.replicas
 
 -- the file of a name
-abbrev pub saved_at : Store → List ℕ → Option (Vec ℕ Global)
+abbrev pub saved_at : Store → List ℕ → Option (List ℕ)
 saved_at store name = lookup (λ (key : Vec ℕ Global). bytes_eq name key.items) store.saved
 
 -- bytes are the file of what was held for a query
-pub record IsFileOf (query : Option Checked) (bytes : Vec ℕ Global) : Type 0 where
+pub record IsFileOf (query : Option Checked) (bytes : List ℕ) : Type 0 where
   pub held : Held
   pub asked : query ≡ Some held.query
-  pub is : IsSaved bytes.items held.query held.parts
+  pub is : IsSaved bytes held.query held.parts
 
 -- the query is over the columns, and each replica and each file has it
 pub record IsStore (store : Store) : Type 0 where
@@ -59,12 +59,12 @@ abbrev pub knowledge_of : Held → Knowledge
 knowledge_of held = told held.parts
 
 -- a file has what was saved
-pub record HasSaved (known : Knowledge) (bytes : Vec ℕ Global) : Type 0 where
+pub record HasSaved (known : Knowledge) (bytes : List ℕ) : Type 0 where
   pub held : Held
-  pub is : IsSaved bytes.items held.query held.parts
+  pub is : IsSaved bytes held.query held.parts
   pub tells : knowledge_of held ≡ known
 
-abbrev pub AreSaved : Option Knowledge → Option (Vec ℕ Global) → Type 0
+abbrev pub AreSaved : Option Knowledge → Option (List ℕ) → Type 0
 AreSaved None None = Unit {0}
 AreSaved (Some known) (Some bytes) = HasSaved known bytes
 AreSaved known bytes = ⊥
@@ -78,9 +78,9 @@ pub record Represents (state : State) (store : Store) : Type 0 where
   pub limit : state.limit ≡ store.limit
 
 -- the file of what fits a world
-pub record IsFitting (world : World) (bytes : Vec ℕ Global) : Type 0 where
+pub record IsFitting (world : World) (bytes : List ℕ) : Type 0 where
   pub held : Held
-  pub is : IsSaved bytes.items held.query held.parts
+  pub is : IsSaved bytes held.query held.parts
   pub fits : Fits world held
 
 -- what is held and what was saved fits a world of the columns
@@ -116,7 +116,7 @@ pub record Updates (old new : Store) (name : List ℕ) (held : Held) : Type 0 wh
   pub limit : new.limit ≡ old.limit
 
 -- one name has this file now, and nothing else changed
-pub record Files (old new : Store) (name : List ℕ) (bytes : Vec ℕ Global) : Type 0 where
+pub record Files (old new : Store) (name : List ℕ) (bytes : List ℕ) : Type 0 where
   pub columns : new.columns ≡ old.columns
   pub query : new.query ≡ old.query
   pub replicas : new.replicas ≡ old.replicas

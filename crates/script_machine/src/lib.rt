@@ -5,6 +5,7 @@
 mod engine;
 mod laws;
 mod lines;
+mod saved;
 mod session;
 
 pub use engine::{Observer, run, run_observed};

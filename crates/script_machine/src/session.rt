@@ -25,6 +25,7 @@ ghost use Rattle.script_machine.specs.Views.{Store, IsStore, empty, Steps, Joins
 ghost use Rattle.spill_tapes.specs.Calls.{failed};
 ghost use Rattle.spill_tapes.specs.Disk.{Leaves};
 
+use crate::saved::{Head, SavedFile, head_of};
 use batch_reader::read_rows;
 use group_parser::{parse, print};
 use hash_agg::{Fnv1a, Means, Seed, TapeDisk, Work};
@@ -45,9 +46,11 @@ pub(crate) struct Session {
     alloc: Global,
     columns: Option<Schema>,
     query: Option<Query>,
+    /// What summary files of the query begin with, if there was memory for it when the query was told.
+    head: Option<Head>,
     replicas: IndexMap<Vec<u8>, Replica>,
     /// Summary files, by the names that they were saved under.
-    saved: IndexMap<Vec<u8>, Vec<u8>>,
+    saved: IndexMap<Vec<u8>, SavedFile>,
     means: Means<Fnv1a>,
 }
 
@@ -165,22 +168,24 @@ fn file_of_replica(
     Ok((key, file))
 }
 
-/// The replica that a summary file is of, behind a copy of its name. A file that a replica saved has no fault, so that the only
-/// error is a failed allocation.
+/// The replica that a summary file is of, behind a copy of its name. It shares the query, if that was told.
 fn replica_of_file(
     alloc: Global,
+    query: &Option<Query>,
     name: &[u8],
-    file: &[u8],
+    file: &SavedFile,
 ) -> Result<(Vec<u8>, Replica), AllocError>
     ensures name { IfOk result (λ made. made.0.items ≡ name.now) }
     ensures saved { IfOk result (λ made. (held : Held) →
         IsSummary file.now held.query held.parts → made.1 ≡ held) }
 {
     let key = name.to_vec(alloc)?;
-    match Replica::load(alloc, file) {
-        Ok(replica) => Ok((key, replica)),
-        Err(_) => Err(AllocError),
-    }
+    let mut replica = file.replica(alloc)?;
+    let Some(query) = query else {
+        return Ok((key, replica));
+    };
+    replica.share_query(query);
+    Ok((key, replica))
 }
 
 /// Keeps a value under its name, in place of any that had it. Where memory is wanting, nothing is changed.
@@ -205,6 +210,7 @@ impl Session {
             alloc,
             columns: None,
             query: None,
+            head: None,
             replicas: IndexMap::new(alloc),
             saved: IndexMap::new(alloc),
             means: Means::usual(Fnv1a).with_seed(seed),
@@ -242,6 +248,7 @@ impl Session {
         }
         match read_query(self.alloc, schema, text) {
             Ok((query, canonical)) => {
+                self.head = head_of(self.alloc, &query).ok();
                 self.query = Some(query);
                 Reply::Query(canonical)
             }
@@ -400,11 +407,14 @@ impl Session {
         let Some(replica) = self.replicas.get(name) else {
             return Reply::Refused(Refusal::NoSuchName);
         };
-        let Ok(made) = file_of_replica(self.alloc, replica, saved) else {
+        let Ok((key, file)) = file_of_replica(self.alloc, replica, saved) else {
             return Reply::Refused(Refusal::NoMemory);
         };
-        let length = made.1.len();
-        let Ok(()) = keep(&mut self.saved, made) else {
+        let length = file.len();
+        let Ok(file) = SavedFile::new(self.alloc, &self.head, file) else {
+            return Reply::Refused(Refusal::NoMemory);
+        };
+        let Ok(()) = keep(&mut self.saved, (key, file)) else {
             return Reply::Refused(Refusal::NoMemory);
         };
         Reply::Saved(length)
@@ -419,7 +429,7 @@ impl Session {
         let Some(file) = self.saved.get(saved) else {
             return Reply::Refused(Refusal::NoSuchName);
         };
-        let Ok(made) = replica_of_file(self.alloc, name, file) else {
+        let Ok(made) = replica_of_file(self.alloc, &self.query, name, file) else {
             return Reply::Refused(Refusal::NoMemory);
         };
         let Ok(()) = keep(&mut self.replicas, made) else {

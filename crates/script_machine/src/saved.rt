@@ -1,0 +1,111 @@
+//! Summary files as they are kept: what those of one query begin with is there once.
+
+ghost use Rattle.std.specs.Prelude.{◌≡◌, ◌++◌, IfOk, IfSome};
+ghost use Rattle.summary_codec.specs.Reading.{IsSummary};
+ghost use Rattle.replica_merge.specs.Replicas.{Held};
+
+use having_filter::Query;
+use replica_merge::Replica;
+use std::alloc::{AllocError, Global};
+use std::marker::Model;
+use std::rc::Rc;
+
+/// What files of one query begin with. It decides how much of them is shared, and nothing of what they are.
+pub(crate) type Head = Rc<Vec<u8>, Global>;
+
+/// A summary file. Where at least half of it is a head, it shares that, and holds only the rest of its own.
+#[derive(Drop)]
+pub(crate) struct SavedFile {
+    head: Option<Head>,
+    rest: Vec<u8>,
+}
+
+impl Model for SavedFile {
+    ghost use Rattle.std.specs.Prelude.{ℕ, List, ◌++◌};
+    ghost use Rattle.std.specs.Coded.{coded_list, coded_ℕ};
+    ghost use Rattle.script_machine.specs.Heads.{head_bytes};
+
+    ghost Value = { List ℕ };
+
+    ghost coded = { coded_list coded_ℕ };
+
+    ghost view = { λ f. head_bytes f.head ++ f.rest.items };
+}
+
+/// How many bytes tell the number of origins, with which a file ends that knows of none.
+const COUNT_LENGTH: usize = 2;
+
+/// The head of a query's files: the file of a replica that knows nothing, but for its number of origins.
+pub(crate) fn head_of(alloc: Global, query: &Query) -> Result<Head, AllocError> {
+    let nothing = Replica::new(alloc, query.try_clone()?);
+    let mut head = nothing.save()?;
+    head.truncate(head.len().saturating_sub(COUNT_LENGTH));
+    Ok(Rc::new(alloc, head)?)
+}
+
+/// What is behind a head, where the head is at least half of a file.
+fn behind<'a>(head: &[u8], file: &'a [u8]) -> Option<&'a [u8]>
+    ensures { IfSome result (λ rest. file.now ≡ head.now ++ rest.now) }
+{
+    let rest = file.strip_prefix(head)?;
+    if rest.len() > head.len() {
+        return None;
+    }
+    Some(rest)
+}
+
+/// The bytes of a head, and behind them others.
+fn joined(alloc: Global, head: &[u8], rest: &[u8]) -> Result<Vec<u8>, AllocError>
+    ensures { IfOk result (λ bytes. bytes.items ≡ head.now ++ rest.now) }
+{
+    let mut bytes = Vec::with_capacity(alloc, head.len() + rest.len())?;
+    bytes.extend_from_slice(head)?;
+    bytes.extend_from_slice(rest)?;
+    Ok(bytes)
+}
+
+/// The replica that a summary file is of. A file that a replica saved has no fault, so that the only error is a failed allocation.
+fn replica_of(alloc: Global, file: &[u8]) -> Result<Replica, AllocError>
+    ensures { IfOk result (λ replica. (held : Held) →
+        IsSummary file.now held.query held.parts → replica ≡ held) }
+{
+    match Replica::load(alloc, file) {
+        Ok(replica) => Ok(replica),
+        Err(_) => Err(AllocError),
+    }
+}
+
+impl SavedFile {
+    /// The file of these bytes, given the head of its query, if there is one.
+    pub(crate) fn new(
+        alloc: Global,
+        head: &Option<Head>,
+        bytes: Vec<u8>,
+    ) -> Result<SavedFile, AllocError>
+        ensures { IfOk result (λ file. file ≡ bytes.items) }
+    {
+        if let Some(head) = head {
+            if let Some(rest) = behind(head, &bytes) {
+                let rest = rest.to_vec(alloc)?;
+                let head = Some(head.clone()?);
+                return Ok(SavedFile { head, rest });
+            }
+        }
+        Ok(SavedFile {
+            head: None,
+            rest: bytes,
+        })
+    }
+
+    /// The replica that it is a summary file of. The only error is a failed allocation, where a replica saved the file.
+    pub(crate) fn replica(&self, alloc: Global) -> Result<Replica, AllocError>
+        ensures { IfOk result (λ replica. (held : Held) →
+            IsSummary self.now held.query held.parts → replica ≡ held) }
+    {
+        let Some(head) = &self.head else {
+            return replica_of(alloc, &self.rest);
+        };
+        let bytes = joined(alloc, head, &self.rest)?;
+        replica_of(alloc, &bytes)
+    }
+}
