@@ -1,6 +1,7 @@
 //! What is held of one origin.
 
-ghost use Rattle.std.specs.Prelude.{◌≡◌, ◌≢◌, ◌≤◌, ◌+◌, ◌*◌, ℕ, List, [], map, false, IfOk, IfErr, OnOk, OnErr, IsTrue};
+ghost use Rattle.std.specs.Prelude.{◌≡◌, ◌≢◌, ◌≤◌, ◌+◌, ◌*◌, ℕ, List, [], map, false, IfOk, IfErr, OnOk, OnErr, IsTrue, nat_le, ◌||◌};
+ghost use Rattle.std.specs.Option.{is_some};
 ghost use Rattle.grouping_model.specs.declared.limits.TheConstants.{LAST_NUMBER, MOST_ROWS};
 ghost use Rattle.std.specs.List.{AllByRecursion};
 ghost use Rattle.std.specs.List.Sorted.{IsStrictlySortedBy};
@@ -9,7 +10,7 @@ ghost use Rattle.hash_agg.specs.Counting.{AreCounted, setting_by};
 ghost use Rattle.having_filter.specs.Meaning.{meaning};
 ghost use Rattle.packed_rows.specs.Columns.{kinds};
 ghost use Rattle.batch_reader.specs.Rows.{ArePackedRows};
-ghost use Rattle.origin_prefix.specs.Parts.{Part, empty, is_nothing, IsOpen, IsPartOf, behind, following, rows_following, aggregations_behind, aggregations_on, Folds, Settles, Delivers, BatchTells};
+ghost use Rattle.origin_prefix.specs.Parts.{Part, empty, rows_at, is_nothing, IsOpen, IsPartOf, behind, following, rows_following, aggregations_behind, aggregations_on, Folds, Settles, Delivers, BatchTells};
 ghost use Rattle.spill_tapes.specs.Calls.{failed};
 ghost use Rattle.spill_tapes.specs.Disk.{Leaves};
 ghost use Rattle.spill_lists.specs.Errors.{spill_faults};
@@ -207,6 +208,13 @@ impl OriginPart {
         ensures { result ≡ is_nothing self.now }
     {
         self.prefix == 0 && self.early.len() == 0
+    }
+
+    /// Whether a number is at most the prefix, or early.
+    pub fn knows(&self, number: u32) -> bool
+        ensures { result ≡ (nat_le number self.now.prefix || is_some (rows_at self.now.early number)) }
+    {
+        number <= self.prefix || self.early.contains_key(&number)
     }
 
     /// Folds the early batches that follow the prefix without a gap, behind the rows of the batch next to it where these
