@@ -6,7 +6,6 @@ ghost use Rattle.std.specs.Prelude.{◌≡◌};
 ghost use Rattle.replies.specs.Status.{status_of};
 ghost use Rattle.replies.specs.declared.ending.Ending.{Ending};
 
-mod arguments;
 mod files;
 mod holding;
 mod problem;
@@ -18,13 +17,13 @@ mod spill;
 mod streams;
 mod tasks;
 
-use crate::arguments::{SPILL, parse_words};
 use crate::problem::Problem;
 use crate::script::run_script;
 use crate::streams::{Streams, Watched, say};
 use crate::tasks::{Session, Task};
 use clap::error::ErrorKind;
 use clap::{ArgMatches, Error};
+use command_words::{SPILL, parse_words};
 use replies::{Ending, status};
 use std::alloc::Global;
 use std::cell::Cell;

@@ -4,7 +4,10 @@ use crate::problem::{Problem, is_closed, reason_of};
 use crate::seed::system_seed;
 use crate::spill::{open_disk, remove_disk};
 use crate::streams::{Streams, Watched, say};
-use fault_sentences::{Reason, ScriptPlace, say_disagreement};
+use csv::ByteRecord;
+use fault_sentences::{
+    Reason, ScriptPlace, say_columns, say_disagreement, say_limit, say_no_name, say_taken,
+};
 use hash_agg::{Seed, TapeDisk};
 use replies::{Ending, Refusal, Reply, RunError, put_reply, refusal_ending, run_ending};
 use script_machine::{Observer, run_observed};
@@ -46,40 +49,47 @@ struct Complaints<'e, E> {
 
 impl<E: Write> Complaints<'_, E> {
     /// Why the command here is refused, where it is a text.
-    fn said(&self, script: &[u8], why: Refusal) -> Result<Option<String>, AllocError> {
+    fn said(
+        &self,
+        script: &[u8],
+        head: &ByteRecord,
+        why: Refusal,
+    ) -> Result<Option<String>, AllocError> {
         let (place, alloc) = (&self.place, self.alloc);
-        match why {
-            Refusal::BadCommand => place.say_command(alloc, script),
-            Refusal::NoSuchName => place.say_no_name(alloc, script),
-            Refusal::NameTaken => place.say_taken(alloc, script),
-            Refusal::Limit(_) => place.say_limit(alloc, script),
-            Refusal::Batch(why) => place.say_batch(alloc, script, why),
+        let said = match why {
+            Refusal::BadCommand => place.say_command(alloc, head)?,
+            Refusal::NoSuchName => say_no_name(alloc, head)?,
+            Refusal::NameTaken => say_taken(alloc, head)?,
+            Refusal::Limit(_) => say_limit(alloc, head)?,
             Refusal::OriginDisagrees { origin, number } => {
-                Ok(Some(say_disagreement(alloc, origin, number, None)?))
+                say_disagreement(alloc, origin, number, None)?
             }
-            _ => Ok(None),
-        }
+            Refusal::Batch(why) => return place.say_batch(alloc, script, why),
+            _ => return Ok(None),
+        };
+        Ok(Some(said))
     }
 
-    /// Why the command of a line is refused, of the bytes of the script.
+    /// Why a command is refused that begins a line of the script.
     fn reason(
         &mut self,
         script: &[u8],
         line: u64,
+        head: &ByteRecord,
         why: Refusal,
     ) -> Result<Option<Reason>, AllocError> {
         self.place.go_to(self.alloc, script, line)?;
         match why {
-            Refusal::BadSchema => self.place.say_schema(self.alloc, script),
-            Refusal::Query(why) => self.place.say_query(self.alloc, script, why),
-            _ => Ok(reason_of(self.alloc, self.said(script, why)?)),
+            Refusal::BadSchema => say_columns(self.alloc, head),
+            Refusal::Query(why) => self.place.say_query(self.alloc, head, why),
+            _ => Ok(reason_of(self.alloc, self.said(script, head, why)?)),
         }
     }
 }
 
 impl<E: Write> Observer for Complaints<'_, E> {
-    fn refused(&mut self, script: &[u8], line: u64, why: Refusal) {
-        let reason = self.reason(script, line, why).unwrap_or(None);
+    fn refused(&mut self, script: &[u8], line: u64, head: &ByteRecord, why: Refusal) {
+        let reason = self.reason(script, line, head, why).unwrap_or(None);
         say(self.alloc, self.errors, &Complaint { line, why, reason });
     }
 }

@@ -1,8 +1,5 @@
 //! What each command does.
 
-use crate::arguments::{
-    BATCH, COLUMNS, EXPLAIN, FORMAT, IN, LIMIT, NO_CLOBBER, OUT, PROGRESS, QUERY, SPILL,
-};
 use crate::files::{is_another, read_file, write_out};
 use crate::holding::tell_holding;
 use crate::problem::{Fate, Problem, Told, reason_of};
@@ -14,6 +11,9 @@ use crate::seed::system_seed;
 use crate::spill::{open_disk, remove_disk};
 use crate::streams::Streams;
 use clap::ArgMatches;
+use command_words::{
+    BATCH, COLUMNS, EXPLAIN, FORMAT, IN, LIMIT, NO_CLOBBER, OUT, PROGRESS, QUERY, SPILL,
+};
 use fault_sentences::Quoted;
 use hash_agg::{Fnv1a, Means, TapeDisk, Work};
 use replica_merge::{Delivered, Replica};

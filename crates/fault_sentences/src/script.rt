@@ -2,7 +2,7 @@
 
 use crate::batch::BatchText;
 use crate::foreign::known_by_front;
-use crate::lines::{ends_line, record_at};
+use crate::lines::ends_line;
 use crate::nearest::nearest;
 use crate::query::say_query;
 use crate::quoted::Quoted;
@@ -175,8 +175,22 @@ fn say_command(
     String::from_str(alloc, said)
 }
 
+/// Whether a text has a word, wherever it stands.
+fn has_word(text: &[u8], word: &[u8]) -> bool {
+    for at in 0..text.len() {
+        if text.get(at..).unwrap_or_default().starts_with(word) {
+            return true;
+        }
+    }
+    false
+}
+
 /// The schema that the first command of a text tells that is right.
 fn schema_in(alloc: Global, text: &[u8]) -> Result<Option<Schema>, AllocError> {
+    // A reader of records takes longer to be made than a short text to be looked through.
+    if !has_word(text, b"columns") {
+        return Ok(None);
+    }
     let mut records = Records::new(alloc, text);
     for _ in 0..u64::MAX {
         let Some(command) = next_command(&mut records)? else {
@@ -238,41 +252,19 @@ impl ScriptPlace {
         Ok(())
     }
 
-    /// The command here.
-    fn record(&self, alloc: Global, script: &[u8]) -> Result<Option<ByteRecord>, AllocError> {
-        record_at(alloc, script.get(self.at..).unwrap_or_default(), 0)
+    /// Says why a command here is none, or none at this place.
+    pub fn say_command(&self, alloc: Global, record: &ByteRecord) -> Result<String, AllocError> {
+        say_command(alloc, record, self.schema.is_some())
     }
 
-    /// Says why the command here is none, or none at this place.
-    pub fn say_command(&self, alloc: Global, script: &[u8]) -> Result<Option<String>, AllocError> {
-        match self.record(alloc, script)? {
-            Some(record) => Ok(Some(say_command(alloc, &record, self.schema.is_some())?)),
-            None => Ok(None),
-        }
-    }
-
-    /// Says why the text of the command here is no schema.
-    pub fn say_schema(&self, alloc: Global, script: &[u8]) -> Result<Option<Reason>, AllocError> {
-        let Some(record) = self.record(alloc, script)? else {
-            return Ok(None);
-        };
-        match str::from_utf8(record.get(1).unwrap_or_default()) {
-            Ok(text) => Ok(Some(say_schema(alloc, text)?)),
-            Err(_) => Ok(None),
-        }
-    }
-
-    /// Says why the text of the command here is no query.
+    /// Says why the text of a command here is no query.
     pub fn say_query(
         &self,
         alloc: Global,
-        script: &[u8],
+        record: &ByteRecord,
         why: ParseError,
     ) -> Result<Option<Reason>, AllocError> {
         let Some(schema) = &self.schema else {
-            return Ok(None);
-        };
-        let Some(record) = self.record(alloc, script)? else {
             return Ok(None);
         };
         match str::from_utf8(record.get(1).unwrap_or_default()) {
@@ -298,42 +290,38 @@ impl ScriptPlace {
         };
         rows.say(alloc, schema, why)
     }
+}
 
-    /// Says of which name there is no replica, or nothing saved.
-    pub fn say_no_name(&self, alloc: Global, script: &[u8]) -> Result<Option<String>, AllocError> {
-        let Some(record) = self.record(alloc, script)? else {
-            return Ok(None);
-        };
-        let name = Quoted(record.get(1).unwrap_or_default());
-        let other = Quoted(record.get(2).unwrap_or_default());
-        let word = record.get(0).unwrap_or_default();
-        let said = if word == b"load".as_slice() {
-            format!(in alloc; "nothing is saved under {other}")?
-        } else if word == b"merge".as_slice() {
-            format!(in alloc; "there is no replica {name}, or no replica {other}")?
-        } else {
-            format!(in alloc; "there is no replica {name}")?
-        };
-        Ok(Some(said))
+/// Says why the text of a command is no schema.
+pub fn say_columns(alloc: Global, record: &ByteRecord) -> Result<Option<Reason>, AllocError> {
+    match str::from_utf8(record.get(1).unwrap_or_default()) {
+        Ok(text) => Ok(Some(say_schema(alloc, text)?)),
+        Err(_) => Ok(None),
     }
+}
 
-    /// Says of which name there is a replica already.
-    pub fn say_taken(&self, alloc: Global, script: &[u8]) -> Result<Option<String>, AllocError> {
-        let Some(record) = self.record(alloc, script)? else {
-            return Ok(None);
-        };
-        let name = Quoted(record.get(1).unwrap_or_default());
-        Ok(Some(format!(in alloc; "there is a replica {name} already")?))
+/// Says of which name of a command there is no replica, or nothing saved.
+pub fn say_no_name(alloc: Global, record: &ByteRecord) -> Result<String, AllocError> {
+    let name = Quoted(record.get(1).unwrap_or_default());
+    let other = Quoted(record.get(2).unwrap_or_default());
+    let word = record.get(0).unwrap_or_default();
+    if word == b"load".as_slice() {
+        return format!(in alloc; "nothing is saved under {other}");
     }
+    if word == b"merge".as_slice() {
+        return format!(in alloc; "there is no replica {name}, or no replica {other}");
+    }
+    format!(in alloc; "there is no replica {name}")
+}
 
-    /// Says which limit is out of its range.
-    pub fn say_limit(&self, alloc: Global, script: &[u8]) -> Result<Option<String>, AllocError> {
-        let Some(record) = self.record(alloc, script)? else {
-            return Ok(None);
-        };
-        let told = Quoted(record.get(1).unwrap_or_default());
-        Ok(Some(format!(in alloc;
-            "{told} is out of range, which is 65,536 to 1,099,511,627,776 bytes"
-        )?))
-    }
+/// Says of which name of a command there is a replica already.
+pub fn say_taken(alloc: Global, record: &ByteRecord) -> Result<String, AllocError> {
+    let name = Quoted(record.get(1).unwrap_or_default());
+    format!(in alloc; "there is a replica {name} already")
+}
+
+/// Says which limit of a command is out of its range.
+pub fn say_limit(alloc: Global, record: &ByteRecord) -> Result<String, AllocError> {
+    let told = Quoted(record.get(1).unwrap_or_default());
+    format!(in alloc; "{told} is out of range, which is 65,536 to 1,099,511,627,776 bytes")
 }

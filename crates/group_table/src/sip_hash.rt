@@ -1,6 +1,6 @@
 //! The hash function SipHash-1-3, whose key is a secret.
-ghost use Rattle.std.specs.Prelude.{◌≡◌, ◌+◌, ◌≤◌, length};
-ghost use Rattle.group_table.specs.SipHashes.{round, first_words, with_word, word_at, last_word, finished, low_hash};
+ghost use Rattle.std.specs.Prelude.{◌≡◌, ◌+◌, ◌%◌, ◌^◌, ◌≤◌, ℕ, List, length};
+ghost use Rattle.group_table.specs.SipHashes.{round, first_words, with_word, word_at, last_word, finished, sip_hash, low_hash};
 
 use crate::hash::KeyHash;
 
@@ -128,7 +128,9 @@ fn finished(words: Words) -> u64
 
 impl SipHash {
     /// The hash function with this seed.
-    pub fn new(seed: Seed) -> SipHash {
+    pub fn new(seed: Seed) -> SipHash
+        ensures { (key : List ℕ) → low_hash result key ≡ sip_hash seed key % 2 ^ 32 }
+    {
         SipHash { seed }
     }
 }

@@ -41,7 +41,7 @@ impl<H: KeyHash + Copy> Model for Means<H> {
 
     ghost Value = { MeansState H };
 
-    ghost view = { λ m. record { limit = m.limit; hash = m.hash } };
+    ghost view = { λ m. record { limit = m.limit; hash = m.hash; seed = m.seed } };
 
     ghost invariant = { λ m. AreMeans m.limit };
 }
@@ -49,7 +49,7 @@ impl<H: KeyHash + Copy> Model for Means<H> {
 impl<H: KeyHash + Copy> Means<H> {
     /// A limit in bytes, from 65,536 to 1,099,511,627,776, and a hash function. The seed is a fixed one.
     pub fn new(limit: u64, hash: H) -> Result<Means<H>, LimitOutOfRange>
-        ensures means { IfOk result (λ means. means ≡ record { limit = limit; hash = hash }) }
+        ensures means { IfOk result (λ means. means ≡ record { limit = limit; hash = hash; seed = USUAL_SEED }) }
         ensures within { IfOk result (λ _. (LEAST_LIMIT ≤ limit) × (limit ≤ GREATEST_LIMIT)) }
         ensures refused { IfErr result (λ _. (limit < LEAST_LIMIT) ⊎ (GREATEST_LIMIT < limit)) }
     {
@@ -65,7 +65,7 @@ impl<H: KeyHash + Copy> Means<H> {
 
     /// The usual limit, of 4,194,304 bytes, and a hash function. The seed is a fixed one.
     pub fn usual(hash: H) -> Means<H>
-        ensures { result ≡ record { limit = USUAL_LIMIT; hash = hash } }
+        ensures { result ≡ record { limit = USUAL_LIMIT; hash = hash; seed = USUAL_SEED } }
     {
         Means {
             limit: USUAL_LIMIT,
@@ -76,7 +76,7 @@ impl<H: KeyHash + Copy> Means<H> {
 
     /// The same means with another seed of the table.
     pub fn with_seed(self, seed: Seed) -> Means<H>
-        ensures { result ≡ self }
+        ensures { result ≡ record self { seed = seed } }
     {
         Means {
             limit: self.limit,
@@ -101,7 +101,9 @@ impl<H: KeyHash + Copy> Means<H> {
     }
 
     /// The seed of the table.
-    pub fn seed(&self) -> Seed {
+    pub fn seed(&self) -> Seed
+        ensures { result ≡ self.now.seed }
+    {
         self.seed
     }
 }

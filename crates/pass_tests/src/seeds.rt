@@ -9,11 +9,12 @@ ghost use Rattle.hash_agg.specs.Inputs.{ArePackings};
 use crate::passes::{Constant, limited, rows_of};
 use batch_reader::PackedRows;
 use hash_agg::{
-    Fnv1a, GREATEST_LIMIT, Input, LEAST_LIMIT, Means, MemDisk, Run, Seed, TapeDisk, USUAL_SEED,
-    Work, aggregate,
+    Fnv1a, GREATEST_LIMIT, Input, LEAST_LIMIT, Means, MemDisk, Run, Seed, USUAL_SEED, Work,
+    aggregate,
 };
 use having_filter::Query;
 use std::test::*;
+use test_disks::same_pages;
 use test_tables::expect;
 use test_towns::{COLUMNS, TOWNS, query};
 
@@ -42,23 +43,6 @@ fn by_seed(
     Ok((run, work, disk))
 }
 
-/// Whether as many pages were written to two disks, 1,000 at most, and have the same bytes.
-fn same_pages(one: &mut MemDisk, other: &mut MemDisk) -> Result<bool, Fail> {
-    let pages = one.writes();
-    if other.writes() != pages || pages > 1000 {
-        return Ok(false);
-    }
-    for page in 0..pages {
-        let (mut bytes, mut others) = ([0; 8192], [1; 8192]);
-        one.read_at(page * 8192, &mut bytes)?;
-        other.read_at(page * 8192, &mut others)?;
-        if bytes != others {
-            return Ok(false);
-        }
-    }
-    Ok(true)
-}
-
 /// Whether the groups of rows, what these took and the pages on the disk are the same as with the usual seed.
 fn is_as_usual(rt: HostRuntime, query: &Query, rows: &PackedRows, seed: Seed) -> Result<bool, Fail>
     requires rows { (those : List Row) × ArePackings (meaning query.now).kinds rows.now those }
@@ -67,7 +51,7 @@ fn is_as_usual(rt: HostRuntime, query: &Query, rows: &PackedRows, seed: Seed) ->
     let (usual, usual_work, mut usual_disk) = by_seed(rt, query, rows, USUAL_SEED)?;
     let (run, work, mut disk) = by_seed(rt, query, rows, seed)?;
     let same = usual.same_groups(&run) && usual_work == work;
-    Ok(same && same_pages(&mut usual_disk, &mut disk)?)
+    Ok(same && same_pages(&mut usual_disk, &mut disk))
 }
 
 /// The same of a row of each of 2,000 towns.

@@ -58,15 +58,6 @@ impl Model for Replica {
     ghost invariant = { λ r. AreHeldParts r.query r.parts.entries };
 }
 
-/// Whether two queries are the same.
-fn is_same(query: &Query, other: &Query) -> bool
-    ensures { IsTrue result → query.now ≡ other.now }
-{
-    let _columns = query.schema();
-    let _others = other.schema();
-    query.same_query(other)
-}
-
 /// The numbers of early batches, rising.
 fn early_numbers(alloc: Global, early: &BTreeMap<u32, PackedRows>) -> Result<Vec<u32>, AllocError>
     ensures { IfOk result (λ numbers. numbers.items
@@ -238,19 +229,6 @@ impl Replica {
         ensures { result.now ≡ self.now.query }
     {
         &self.query
-    }
-
-    /// Shares a query from now on, where it is the same as the one that is answered, so that what is kept of it is there once. A replica
-    /// of another query stays as it is.
-    pub fn share_query(&mut self, query: &Query)
-        ensures { self.new ≡ self.old }
-    {
-        if !is_same(&self.query, query) {
-            return;
-        }
-        if let Ok(shared) = query.try_clone() {
-            self.query = shared;
-        }
     }
 
     /// What is known, by rising origin.

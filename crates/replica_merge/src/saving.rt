@@ -8,8 +8,9 @@ ghost use Rattle.summary_codec.specs.declared.error.SummaryError.TheVariants.{No
 ghost use Rattle.replica_merge.specs.Replicas.{Held, told, Fits};
 
 use crate::replica::Replica;
+use having_filter::Query;
 use std::alloc::{AllocError, Global};
-use summary_codec::{SummaryError, decode, encode};
+use summary_codec::{SummaryError, decode_sharing, encode};
 
 impl Replica {
     /// The summary file of the query and of what is known: the one spelling of both, in the second version. The only error is a failed allocation.
@@ -31,7 +32,23 @@ impl Replica {
             IsSummary bytes.now held.query held.parts → replica ≡ held) }
         ensures fault { IfErr result (λ e. e ≢ NoMemory → HasFault bytes.now e) }
     {
-        let (query, parts) = decode(alloc, bytes)?;
+        Replica::load_sharing(alloc, None, bytes)
+    }
+
+    /// What [`Replica::load`] gives, and by the same errors. Where a query is told that the file is of, the replica shares that: it is not
+    /// held once more, and its texts are compared in place of being parsed.
+    pub fn load_sharing(
+        alloc: Global,
+        known: Option<&Query>,
+        bytes: &[u8],
+    ) -> Result<Replica, SummaryError>
+        ensures summary { IfOk result (λ replica.
+            IsSummary bytes.now replica.query replica.parts) }
+        ensures saved { IfOk result (λ replica. (held : Held) →
+            IsSummary bytes.now held.query held.parts → replica ≡ held) }
+        ensures fault { IfErr result (λ e. e ≢ NoMemory → HasFault bytes.now e) }
+    {
+        let (query, parts) = decode_sharing(alloc, known, bytes)?;
         Ok(Replica {
             alloc,
             query,

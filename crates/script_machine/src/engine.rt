@@ -8,6 +8,7 @@ ghost use Rattle.script_machine.specs.Output.{AnswersAll, AnswersSome, KeepsUnre
 
 use crate::lines::Lines;
 use crate::session::Session;
+use csv::ByteRecord;
 use grouping_model::limits::LONGEST_INPUT;
 use hash_agg::{Seed, TapeDisk, USUAL_SEED};
 use replies::{Outcome, Refusal, Reply, RunError, put_reply};
@@ -18,8 +19,8 @@ use std::io::{Read, Write};
 
 /// Is told of each command that is refused, beside the reply. What it does of that is its own.
 pub trait Observer {
-    /// The command whose record begins at a line of the script, the first being line 1, was refused.
-    fn refused(&mut self, script: &[u8], line: u64, why: Refusal);
+    /// The command of this record, which begins at a line of the script, the first being line 1, was refused.
+    fn refused(&mut self, script: &[u8], line: u64, head: &ByteRecord, why: Refusal);
 }
 
 /// Looks away.
@@ -27,7 +28,7 @@ pub trait Observer {
 struct Unobserved;
 
 impl Observer for Unobserved {
-    fn refused(&mut self, _script: &[u8], _line: u64, _why: Refusal) {}
+    fn refused(&mut self, _script: &[u8], _line: u64, _head: &ByteRecord, _why: Refusal) {}
 }
 
 /// Tells of a reply, if it is a refusal.
@@ -39,7 +40,7 @@ fn tell<O: Observer>(
 ) {
     if let Reply::Refused(why) = reply {
         let line = lines.line_of(&command.head);
-        observer.refused(lines.script(), line, *why);
+        observer.refused(lines.script(), line, &command.head, *why);
     }
 }
 

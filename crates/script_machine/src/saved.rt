@@ -65,11 +65,12 @@ fn joined(alloc: Global, head: &[u8], rest: &[u8]) -> Result<Vec<u8>, AllocError
 }
 
 /// The replica that a summary file is of. A file that a replica saved has no fault, so that the only error is a failed allocation.
-fn replica_of(alloc: Global, file: &[u8]) -> Result<Replica, AllocError>
+/// It shares the query that is told, if the file is of that.
+fn replica_of(alloc: Global, known: Option<&Query>, file: &[u8]) -> Result<Replica, AllocError>
     ensures { IfOk result (λ replica. (held : Held) →
         IsSummary file.now held.query held.parts → replica ≡ held) }
 {
-    match Replica::load(alloc, file) {
+    match Replica::load_sharing(alloc, known, file) {
         Ok(replica) => Ok(replica),
         Err(_) => Err(AllocError),
     }
@@ -97,15 +98,20 @@ impl SavedFile {
         })
     }
 
-    /// The replica that it is a summary file of. The only error is a failed allocation, where a replica saved the file.
-    pub(crate) fn replica(&self, alloc: Global) -> Result<Replica, AllocError>
+    /// The replica that it is a summary file of, which shares the query that is told. The only error is a failed allocation, where a
+    /// replica saved the file.
+    pub(crate) fn replica(
+        &self,
+        alloc: Global,
+        known: Option<&Query>,
+    ) -> Result<Replica, AllocError>
         ensures { IfOk result (λ replica. (held : Held) →
             IsSummary self.now held.query held.parts → replica ≡ held) }
     {
         let Some(head) = &self.head else {
-            return replica_of(alloc, &self.rest);
+            return replica_of(alloc, known, &self.rest);
         };
         let bytes = joined(alloc, head, &self.rest)?;
-        replica_of(alloc, &bytes)
+        replica_of(alloc, known, &bytes)
     }
 }

@@ -168,7 +168,7 @@ fn file_of_replica(
     Ok((key, file))
 }
 
-/// The replica that a summary file is of, behind a copy of its name. It shares the query, if that was told.
+/// The replica that a summary file is of, behind a copy of its name. It shares the query that was told.
 fn replica_of_file(
     alloc: Global,
     query: &Option<Query>,
@@ -180,11 +180,7 @@ fn replica_of_file(
         IsSummary file.now held.query held.parts → made.1 ≡ held) }
 {
     let key = name.to_vec(alloc)?;
-    let mut replica = file.replica(alloc)?;
-    let Some(query) = query else {
-        return Ok((key, replica));
-    };
-    replica.share_query(query);
+    let replica = file.replica(alloc, query.as_ref())?;
     Ok((key, replica))
 }
 

@@ -6,6 +6,8 @@ mod commands;
 #[cfg(test)]
 mod machine;
 #[cfg(test)]
+mod seeds;
+#[cfg(test)]
 mod spilling;
 #[cfg(test)]
 mod streams;

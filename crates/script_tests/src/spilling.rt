@@ -11,7 +11,7 @@ use test_disks::{failing, flipping};
 use test_tables::{cut, expect, expect_told, expect_told_lines};
 
 /// Appends a row of each of so many towns, `k0000` and on.
-fn push_rows(alloc: Global, rows: &mut String, towns: u32) -> Result<(), AllocError> {
+pub(crate) fn push_rows(alloc: Global, rows: &mut String, towns: u32) -> Result<(), AllocError> {
     for town in 0..towns {
         let row = format!(in alloc; "k{town:04},{town}\n")?;
         rows.push_str(&row)?;
@@ -38,7 +38,7 @@ fn push_commands(script: &mut String, commands: &str, rows: &str) -> Result<(), 
 }
 
 /// A script of commands, with a `;` between them. Behind each `feed` comes a row of each of so many towns.
-fn script(alloc: Global, commands: &str, towns: u32) -> Result<String, AllocError> {
+pub(crate) fn script(alloc: Global, commands: &str, towns: u32) -> Result<String, AllocError> {
     let mut rows = String::new(alloc);
     push_rows(alloc, &mut rows, towns)?;
     let mut script = String::new(alloc);

@@ -249,24 +249,25 @@ read_text : (bytes behind : List ℕ) → length bytes < 256 ^ 2 → IsUtf8 byte
 unfolding text
 read_text bytes behind short utf8 = (bytes, behind, read_sized bytes behind short, (utf8, (refl, refl)))
 
-read_schema : (columns : List Column) (behind : List ℕ) → AreColumns columns → IsUtf8 (printed columns) → schema (sized_bytes (printed columns) ++ behind) (Ok (columns, behind))
-unfolding schema
-read_schema columns behind are utf8 =
-    (printed columns, behind, read_text (printed columns) behind (short_schema columns are) utf8, (columns, behind, (printed_again columns are, refl), (refl, (refl, refl))))
-
-read_query : (q : Checked) (behind : List ℕ) → IsCheckedQuery q → IsUtf8 (spelling (by_names q)) → query q.columns (sized_bytes (spelling (by_names q)) ++ behind) (Ok (q, behind))
-unfolding query
-read_query q behind is utf8 =
-    let accepts : Accepts q.columns (spelling (by_names q)) q = parsed_again q (spelling (by_names q)) is refl in
-    let short = accepts.short in
-    (spelling (by_names q), behind, read_text (spelling (by_names q)) behind (omega (arith, short)) utf8, (q, behind, (accepts, refl), (refl, (refl, refl))))
+-- the canonical texts of a query, one behind the other, are its heading
+pub heading_again : (q : Checked) (bytes others behind : List ℕ) → IsCheckedQuery q → text bytes (Ok (printed q.columns, others)) → text others (Ok (spelling (by_names q), behind)) → heading bytes (Ok (q, behind))
+unfolding heading schema query
+heading_again q bytes others behind is columns spelled =
+    let accepts : Accepts q.columns (spelling (by_names q)) q = parsed_again q (spelling (by_names q)) is refl in (
+      q.columns,
+      others,
+      (printed q.columns, others, columns, (q.columns, others, (printed_again q.columns is.columns_are, refl), (refl, (refl, refl)))),
+      (spelling (by_names q), behind, spelled, (q, behind, (accepts, refl), (refl, (refl, refl)))),
+    )
 
 -- what stands behind the opening of the file of a query whose texts are UTF-8, and of what is held for it within a version's bounds, is read
 -- as these
 pub body_again : (version : Version) (q : Checked) (held : Parts) → IsCheckedQuery q → IsUtf8 (printed q.columns) → IsUtf8 (spelling (by_names q)) → AreHeldParts q held → AreWithin version q held
     → body version (body_bytes q held) (Ok ((q, held), []))
-unfolding body heading rest
+unfolding body rest
 body_again version q held is columns spelled are within =
+    let accepts : Accepts q.columns (spelling (by_names q)) q = parsed_again q (spelling (by_names q)) is refl in
+    let short = accepts.short in
     let c : List ℕ = sized_bytes (printed q.columns) in
     let t : List ℕ = sized_bytes (spelling (by_names q)) in
     let n : List ℕ = bytes_high_first 2 (length held) in
@@ -275,7 +276,7 @@ body_again version q held is columns spelled are within =
     (sym (append_assoc (c ++ t) n p ∙ append_assoc c t (n ++ p))) (
       q,
       n ++ p,
-      (q.columns, t ++ (n ++ p), read_schema q.columns (t ++ (n ++ p)) is.columns_are columns, read_query q (n ++ p) is spelled),
+      heading_again q (c ++ (t ++ (n ++ p))) (t ++ (n ++ p)) (n ++ p) is (read_text (printed q.columns) (t ++ (n ++ p)) (short_schema q.columns is.columns_are) columns) (read_text (spelling (by_names q)) (n ++ p) (omega (arith, short)) spelled),
       (
         held,
         [],

@@ -40,6 +40,20 @@ impl<'a> Fields<'a> {
         Fields { left: bytes }
     }
 
+    /// The same bytes, for who may have to come back.
+    pub(crate) fn ahead(&self) -> Fields<'a>
+        ensures { result ≡ self.now }
+    {
+        Fields { left: self.left }
+    }
+
+    /// Goes on with what others have left.
+    pub(crate) fn go_on(&mut self, ahead: &Fields<'a>)
+        ensures { self.new ≡ ahead.now }
+    {
+        self.left = ahead.left;
+    }
+
     /// So many bytes.
     pub(crate) fn take(&mut self, count: usize) -> Result<&'a [u8], SummaryError>
         ensures taken { IfOk result (λ front. taken count self.old (Ok (front.now, self.new))) }

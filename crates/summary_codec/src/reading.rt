@@ -1,6 +1,6 @@
 //! From a file to a query and what is held of some origins.
 
-ghost use Rattle.std.specs.Prelude.{◌≡◌, ◌≢◌, ◌≤◌, ◌++◌, ◌∷◌, ◌*◌, ◌⊎◌, ◌<◌, ℕ, List, [], Ok, Err, IfOk, IfErr, OnOk, IfNone, length, map, IsTrue, ◌↔◌};
+ghost use Rattle.std.specs.Prelude.{◌≡◌, ◌≢◌, ◌≤◌, ◌++◌, ◌∷◌, ◌*◌, ◌⊎◌, ◌<◌, ℕ, List, [], Ok, Err, IfOk, IfErr, OnOk, IfNone, length, map, true, IsTrue, ◌↔◌};
 ghost use Rattle.grouping_model.specs.declared.limits.TheConstants.{LAST_ORIGIN};
 ghost use Rattle.packed_rows.specs.Columns.{Column, kinds, IsSchemaText};
 ghost use Rattle.group_parser.specs.Parsing.{Accepts, Refuses};
@@ -464,12 +464,55 @@ fn read_query(
 
 /// Reads the schema and the query.
 #[tactic(auto, unfolding(crate::specs::Reading::heading))]
-fn read_heading(alloc: Global, fields: &mut Fields<'_>) -> Result<Query, SummaryError>
+fn parse_heading(alloc: Global, fields: &mut Fields<'_>) -> Result<Query, SummaryError>
     ensures read { IfOk result (λ query. heading fields.old (Ok (query, fields.new))) }
     ensures fault { IfErr result (λ e. e ≢ NoMemory → heading fields.old (Err e)) }
 {
     let schema = read_schema(alloc, fields)?;
     read_query(alloc, &schema, fields)
+}
+
+/// Whether a text comes next. Where it does, it is taken.
+fn takes_text(fields: &mut Fields<'_>, expected: &str) -> bool
+    ensures { result ≡ true → text fields.old (Ok (expected.now, fields.new)) }
+{
+    match read_text(fields) {
+        Ok(text) => text == expected,
+        Err(_) => false,
+    }
+}
+
+/// Whether the schema and the query come next. Where they do, they are taken.
+fn takes_heading(known: &Query, fields: &mut Fields<'_>) -> Result<bool, AllocError>
+    ensures { IfOk result (λ taken. taken ≡ true →
+        heading fields.old (Ok (known.now, fields.new))) }
+{
+    let schema = known.schema().print()?;
+    if !takes_text(fields, schema.as_str()) {
+        return Ok(false);
+    }
+    Ok(takes_text(fields, known.spelling()))
+}
+
+/// Reads the schema and the query. Those of a query that is known are compared with its texts: it is shared, and nothing is parsed.
+fn read_heading(
+    alloc: Global,
+    known: Option<&Query>,
+    fields: &mut Fields<'_>,
+) -> Result<Query, SummaryError>
+    ensures read { IfOk result (λ query. heading fields.old (Ok (query, fields.new))) }
+    ensures fault { IfErr result (λ e. e ≢ NoMemory → heading fields.old (Err e)) }
+{
+    let Some(known) = known else {
+        return parse_heading(alloc, fields);
+    };
+    let mut ahead = fields.ahead();
+    if !takes_heading(known, &mut ahead)? {
+        return parse_heading(alloc, fields);
+    }
+    let query = known.try_clone()?;
+    fields.go_on(&ahead);
+    Ok(query)
 }
 
 /// Reads what is held of all origins, and that nothing follows.
@@ -493,13 +536,14 @@ fn read_rest(
 #[tactic(auto, unfolding(crate::specs::Reading::body))]
 fn read_body(
     alloc: Global,
+    known: Option<&Query>,
     version: Version,
     fields: &mut Fields<'_>,
 ) -> Result<(Query, BTreeMap<u16, OriginPart>), SummaryError>
     ensures read { IfOk result (λ found. body version fields.old (Ok ((found.0, found.1.entries), []))) }
     ensures fault { IfErr result (λ e. e ≢ NoMemory → body version fields.old (Err e)) }
 {
-    let query = read_heading(alloc, fields)?;
+    let query = read_heading(alloc, known, fields)?;
     let parts = read_rest(alloc, version, &query, fields)?;
     Ok((query, parts))
 }
@@ -514,7 +558,6 @@ fn read_body(
 /// and the errors of [`parse`], for the texts; `OutOfRange` for a number above its limit in the file's version; `BadPacked` for a key or a
 /// row; `BadState` for states that no rows of so many batches give; `NotCanonical` for a text that isn't canonical, for origins, keys or
 /// early batches that don't rise, and for an origin of which nothing is held; `Trailing` for bytes behind the last field. Or `NoMemory`.
-#[tactic(auto, unfolding(crate::specs::Reading::summary))]
 pub fn decode(
     alloc: Global,
     bytes: &[u8],
@@ -524,7 +567,22 @@ pub fn decode(
     ensures held { IfOk result (λ found. AreHeldParts found.0 found.1.entries) }
     ensures fault { IfErr result (λ e. e ≢ NoMemory → HasFault bytes.now e) }
 {
+    decode_sharing(alloc, None, bytes)
+}
+
+/// What [`decode`] reads, and by the same errors. Where a query is told that the file is of, that is shared: it is not held once more, and
+/// its texts are compared in place of being parsed.
+#[tactic(auto, unfolding(crate::specs::Reading::summary))]
+pub fn decode_sharing(
+    alloc: Global,
+    known: Option<&Query>,
+    bytes: &[u8],
+) -> Result<(Query, BTreeMap<u16, OriginPart>), SummaryError>
+    ensures read { IfOk result (λ found. IsSummary bytes.now found.0 found.1.entries) }
+    ensures held { IfOk result (λ found. AreHeldParts found.0 found.1.entries) }
+    ensures fault { IfErr result (λ e. e ≢ NoMemory → HasFault bytes.now e) }
+{
     let mut fields = Fields::new(bytes);
     let version = fields.open()?;
-    read_body(alloc, version, &mut fields)
+    read_body(alloc, known, version, &mut fields)
 }

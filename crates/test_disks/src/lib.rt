@@ -9,6 +9,9 @@ use std::alloc::Global;
 use std::io;
 use std::io::{Error, ErrorKind, Read, Write};
 
+/// The bytes of a page.
+const PAGE: usize = 8192;
+
 /// A disk in memory of which the call with this number fails, counted from 0 over reads and writes.
 pub fn failing(alloc: Global, call: u64) -> FailDisk<MemDisk> {
     FailDisk::new(MemDisk::new(alloc), call)
@@ -43,6 +46,26 @@ impl TapeDisk for Marks {
         self.end = self.end.max(at + bytes.len() as u64);
         self.inner.write_at(at, bytes)
     }
+}
+
+/// Whether disks have the same page at a place. A page that is not read is not the same.
+fn same_page(one: &mut MemDisk, other: &mut MemDisk, at: u64) -> bool {
+    let (mut bytes, mut others) = ([0; PAGE], [1; PAGE]);
+    one.read_at(at, &mut bytes).is_ok() && other.read_at(at, &mut others).is_ok() && bytes == others
+}
+
+/// Whether as many pages were written to two disks, 1,000 at most, and have the same bytes.
+pub fn same_pages(one: &mut MemDisk, other: &mut MemDisk) -> bool {
+    let pages = one.writes();
+    if other.writes() != pages || pages > 1000 {
+        return false;
+    }
+    for page in 0..pages {
+        if !same_page(one, other, page * PAGE as u64) {
+            return false;
+        }
+    }
+    true
 }
 
 /// A reader that fails at once.

@@ -1,32 +1,43 @@
 //! The words of the command line, and what help says of them.
+#![tactic(auto)]
 
 use clap::builder::ValueParser;
 use clap::{Arg, ArgAction, ArgMatches, Command, Error};
 use std::alloc::{AllocError, Global};
 use std::convert::AsStr;
 
-/// The arguments' names, as help shows them and as matches are asked for them.
-pub(crate) const OUT: &str = "OUT";
+/// The summary file that is written.
+pub const OUT: &str = "OUT";
 
-pub(crate) const IN: &str = "IN";
+/// The summary file, or those, that are read.
+pub const IN: &str = "IN";
 
-pub(crate) const BATCH: &str = "BATCH";
+/// The batch files that are read.
+pub const BATCH: &str = "BATCH";
 
-pub(crate) const COLUMNS: &str = "columns";
+/// The columns' names and kinds.
+pub const COLUMNS: &str = "columns";
 
-pub(crate) const QUERY: &str = "query";
+/// The query.
+pub const QUERY: &str = "query";
 
-pub(crate) const FORMAT: &str = "format";
+/// The layout of a table.
+pub const FORMAT: &str = "format";
 
-pub(crate) const LIMIT: &str = "limit";
+/// How many bytes a table of groups may take.
+pub const LIMIT: &str = "limit";
 
-pub(crate) const SPILL: &str = "spill";
+/// A file for what is spilled.
+pub const SPILL: &str = "spill";
 
-pub(crate) const EXPLAIN: &str = "explain";
+/// Whether it is told what the work took, or what a summary holds.
+pub const EXPLAIN: &str = "explain";
 
-pub(crate) const NO_CLOBBER: &str = "no-clobber";
+/// Whether a file is kept that OUT would replace.
+pub const NO_CLOBBER: &str = "no-clobber";
 
-pub(crate) const PROGRESS: &str = "progress";
+/// Whether each file is told of as it is taken.
+pub const PROGRESS: &str = "progress";
 
 static FORMATS: [&str; 2] = ["csv", "aligned"];
 
@@ -405,10 +416,8 @@ fn program<'a>(alloc: Global) -> Result<Command<'a>, AllocError> {
     with_command(program, answer_command(alloc))
 }
 
-/// What the words ask for, of which the first is the program's name.
-pub(crate) fn parse_words<'a, S: AsStr>(
-    alloc: Global,
-    words: &'a [S],
-) -> Result<ArgMatches<'a>, Error> {
+/// What the words ask for, of which the first is the program's name: a command, and its arguments by the names above. The error has its own
+/// sentence, or is the help or the version that was asked for.
+pub fn parse_words<'a, S: AsStr>(alloc: Global, words: &'a [S]) -> Result<ArgMatches<'a>, Error> {
     program(alloc)?.try_get_matches_from(words)
 }

@@ -1,7 +1,7 @@
 use Rattle.std.proofs.Common.{inr}
 use Rattle.summary_codec.specs.Reading.{heading}
 use Rattle.summary_codec.proofs.FaultLaws.{says}
-use Rattle.summary_codec.proofs.reading.read_heading.Goals as goal
+use Rattle.summary_codec.proofs.reading.parse_heading.Goals as goal
 
 pub returns-clause-fault : goal.returns-clause-fault
 unfolding heading
