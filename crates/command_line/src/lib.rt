@@ -6,23 +6,14 @@ ghost use Rattle.std.specs.Prelude.{◌≡◌};
 ghost use Rattle.replies.specs.Status.{status_of};
 ghost use Rattle.replies.specs.declared.ending.Ending.{Ending};
 
-mod files;
-mod holding;
-mod problem;
-mod progress;
-mod refusing;
 mod script;
-mod seed;
-mod spill;
-mod streams;
-mod tasks;
 
-use crate::problem::Problem;
 use crate::script::run_script;
-use crate::streams::{Streams, Watched, say};
-use crate::tasks::{Session, Task};
 use clap::error::ErrorKind;
 use clap::{ArgMatches, Error};
+use command_files::{Session, Task};
+pub use command_streams::Terminals;
+use command_streams::{Problem, Streams, Watched, say};
 use command_words::{SPILL, parse_words};
 use replies::{Ending, status};
 use std::alloc::Global;
@@ -32,7 +23,6 @@ use std::io;
 use std::io::{BufWriter, Read, Write};
 use std::random::RandomSource;
 use std::rt::Files;
-pub use streams::Terminals;
 
 /// Writes what the parser of words has to say, in one write where there is memory for that.
 fn write_error<E: Write>(alloc: Global, error: &Error, errors: &mut E) {

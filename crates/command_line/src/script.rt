@@ -1,9 +1,8 @@
 //! Scripts, with a sentence for each refused command.
 
-use crate::problem::{Problem, is_closed, reason_of};
-use crate::seed::system_seed;
-use crate::spill::{open_disk, remove_disk};
-use crate::streams::{Streams, Watched, say};
+use command_streams::{
+    Problem, Streams, Watched, is_closed, open_disk, reason_of, remove_disk, say, system_seed,
+};
 use csv::ByteRecord;
 use fault_sentences::{
     Reason, ScriptPlace, say_columns, say_disagreement, say_limit, say_no_name, say_taken,

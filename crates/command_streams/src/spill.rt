@@ -17,7 +17,7 @@ fn spill_reason(alloc: Global, cause: io::Error) -> Result<Option<Reason>, Alloc
 }
 
 /// A disk of tapes: in a new file where its path is told, else in memory.
-pub(crate) fn open_disk<'p, R: Files + AllocGlobal>(
+pub fn open_disk<'p, R: Files + AllocGlobal>(
     rt: &R,
     path: Option<&'p str>,
 ) -> Result<SpillDisk<R::File>, Problem<'p>> {
@@ -52,12 +52,7 @@ impl fmt::Display for Left<'_> {
 }
 
 /// Removes the file in which the tapes lay, if they did in one. A sentence says so where it can't be removed.
-pub(crate) fn remove_disk<R: Files, E: Write>(
-    rt: &R,
-    alloc: Global,
-    path: Option<&str>,
-    errors: &mut E,
-) {
+pub fn remove_disk<R: Files, E: Write>(rt: &R, alloc: Global, path: Option<&str>, errors: &mut E) {
     let Some(path) = path else {
         return;
     };

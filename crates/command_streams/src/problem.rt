@@ -8,10 +8,10 @@ use std::{fmt, io};
 
 /// What was refused, and why.
 #[derive(Drop)]
-pub(crate) struct Problem<'p> {
+pub struct Problem<'p> {
     /// A file, an option of the command line, or a stream.
-    pub(crate) subject: &'p str,
-    pub(crate) why: Refusal,
+    pub subject: &'p str,
+    pub why: Refusal,
     /// What the system said of it.
     cause: Option<io::Error>,
     /// Why, of the bytes in which it is, in the place of what is said of all such refusals.
@@ -22,7 +22,7 @@ pub(crate) struct Problem<'p> {
 
 impl<'p> Problem<'p> {
     /// Something was refused.
-    pub(crate) fn refused(subject: &'p str, why: Refusal) -> Problem<'p> {
+    pub fn refused(subject: &'p str, why: Refusal) -> Problem<'p> {
         Problem {
             subject,
             why,
@@ -33,7 +33,7 @@ impl<'p> Problem<'p> {
     }
 
     /// Something was refused for a reason, where one was found and there was memory to say it.
-    pub(crate) fn because<E: Drop>(
+    pub fn because<E: Drop>(
         subject: &'p str,
         why: Refusal,
         reason: Result<Option<Reason>, E>,
@@ -48,7 +48,7 @@ impl<'p> Problem<'p> {
     }
 
     /// The system failed, which told the cause.
-    pub(crate) fn failed(subject: &'p str, error: RunError, cause: io::Error) -> Problem<'p> {
+    pub fn failed(subject: &'p str, error: RunError, cause: io::Error) -> Problem<'p> {
         Problem {
             subject,
             why: Refusal::Run(error),
@@ -59,7 +59,7 @@ impl<'p> Problem<'p> {
     }
 
     /// Standard output could not be written.
-    pub(crate) fn output(cause: Option<io::Error>) -> Problem<'p> {
+    pub fn output(cause: Option<io::Error>) -> Problem<'p> {
         Problem {
             subject: "standard output",
             why: Refusal::Run(RunError::WriteFault),
@@ -70,7 +70,7 @@ impl<'p> Problem<'p> {
     }
 
     /// Whether a file or a stream could not be read or written.
-    pub(crate) fn is_fault(&self) -> bool {
+    pub fn is_fault(&self) -> bool {
         matches!(
             self.why,
             Refusal::Run(RunError::ReadFault | RunError::WriteFault)
@@ -78,13 +78,13 @@ impl<'p> Problem<'p> {
     }
 
     /// Whether nobody reads standard output any more, of which nothing is said.
-    pub(crate) fn is_unread(&self) -> bool {
+    pub fn is_unread(&self) -> bool {
         self.is_output && is_closed(&self.cause)
     }
 }
 
 /// Whether a stream failed since nobody reads it any more.
-pub(crate) fn is_closed(cause: &Option<io::Error>) -> bool {
+pub fn is_closed(cause: &Option<io::Error>) -> bool {
     match cause {
         Some(error) => error.kind() == ErrorKind::BrokenPipe,
         None => false,
@@ -92,7 +92,7 @@ pub(crate) fn is_closed(cause: &Option<io::Error>) -> bool {
 }
 
 /// A reason that is one text.
-pub(crate) fn reason_of(alloc: Global, said: Option<String>) -> Option<Reason> {
+pub fn reason_of(alloc: Global, said: Option<String>) -> Option<Reason> {
     match said {
         Some(said) => Some(Reason::whole(alloc, said)),
         None => None,
@@ -101,16 +101,16 @@ pub(crate) fn reason_of(alloc: Global, said: Option<String>) -> Option<Reason> {
 
 /// What became of OUT.
 #[derive(Clone, Copy)]
-pub(crate) struct Fate<'o> {
-    pub(crate) out: &'o str,
-    pub(crate) is_written: bool,
+pub struct Fate<'o> {
+    pub out: &'o str,
+    pub is_written: bool,
 }
 
 /// What is said of a problem, and of OUT, if a command writes one.
 #[derive(Clone, Copy)]
-pub(crate) struct Told<'t, 'p> {
-    pub(crate) problem: &'t Problem<'p>,
-    pub(crate) fate: Option<Fate<'t>>,
+pub struct Told<'t, 'p> {
+    pub problem: &'t Problem<'p>,
+    pub fate: Option<Fate<'t>>,
 }
 
 impl fmt::Display for Fate<'_> {

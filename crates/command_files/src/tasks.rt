@@ -2,15 +2,14 @@
 
 use crate::files::{is_another, read_file, write_out};
 use crate::holding::tell_holding;
-use crate::problem::{Fate, Problem, Told, reason_of};
 use crate::progress::{Explained, PassedOver, Progress, Standing, text_of};
 use crate::refusing::{
     refused_batch, refused_columns, refused_merge, refused_query, refused_save, refused_summary,
 };
-use crate::seed::system_seed;
-use crate::spill::{open_disk, remove_disk};
-use crate::streams::Streams;
 use clap::ArgMatches;
+use command_streams::{
+    Fate, Problem, Streams, Told, open_disk, reason_of, remove_disk, system_seed,
+};
 use command_words::{
     BATCH, COLUMNS, EXPLAIN, FORMAT, IN, LIMIT, NO_CLOBBER, OUT, PROGRESS, QUERY, SPILL,
 };
@@ -27,7 +26,7 @@ use std::rt::Files;
 
 /// A command on files.
 #[derive(Clone, Copy)]
-pub(crate) enum Task {
+pub enum Task {
     New,
     Feed,
     Merge,
@@ -37,7 +36,7 @@ pub(crate) enum Task {
 
 impl Task {
     /// The command of a name.
-    pub(crate) fn named(name: &str) -> Option<Task> {
+    pub fn named(name: &str) -> Option<Task> {
         match name {
             "new" => Some(Task::New),
             "feed" => Some(Task::Feed),
@@ -216,7 +215,7 @@ fn is_standing<R: Files + AllocGlobal>(
 /// A command that runs: the files that it reaches, its streams, its disk of tapes and whether that lies in a file, what its grouping
 /// took, how many files were taken or passed over, and whether OUT was written.
 #[derive(Drop)]
-pub(crate) struct Session<'c, R: Files, W, E> {
+pub struct Session<'c, R: Files, W, E> {
     rt: &'c R,
     streams: Streams<'c, W, E>,
     disk: SpillDisk<R::File>,
@@ -231,7 +230,7 @@ pub(crate) struct Session<'c, R: Files, W, E> {
 
 impl<'c, R: Files + AllocGlobal + RandomSource, W: Write, E: Write> Session<'c, R, W, E> {
     /// Nothing was done yet. What is spilled lies in memory.
-    pub(crate) fn new(rt: &'c R, streams: Streams<'c, W, E>) -> Session<'c, R, W, E> {
+    pub fn new(rt: &'c R, streams: Streams<'c, W, E>) -> Session<'c, R, W, E> {
         Session {
             rt,
             streams,
@@ -544,7 +543,7 @@ impl<'c, R: Files + AllocGlobal + RandomSource, W: Write, E: Write> Session<'c, 
     }
 
     /// Runs a command on files, and tells how it ended.
-    pub(crate) fn run(mut self, task: Task, matches: &ArgMatches<'_>) -> Ending {
+    pub fn run(mut self, task: Task, matches: &ArgMatches<'_>) -> Ending {
         let standing = self.standing(task, matches);
         if task.is_told(matches, NO_CLOBBER) && standing.is_some() {
             self.tell_standing(standing, true);

@@ -1,7 +1,6 @@
 //! Reading and writing whole files.
 
-use crate::problem::Problem;
-use crate::streams::Watched;
+use command_streams::{Problem, Watched};
 use fault_sentences::Reason;
 use file_commands::SummaryFile;
 use grouping_model::limits::LONGEST_INPUT;

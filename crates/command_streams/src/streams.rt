@@ -28,14 +28,14 @@ impl Terminals {
 
 /// A reader or a writer, and why it last failed.
 #[derive(Drop)]
-pub(crate) struct Watched<'s, S> {
+pub struct Watched<'s, S> {
     stream: &'s mut S,
     fault: &'s Cell<Option<io::Error>>,
 }
 
 impl<'s, S> Watched<'s, S> {
     /// A stream whose failures are kept.
-    pub(crate) fn new(stream: &'s mut S, fault: &'s Cell<Option<io::Error>>) -> Watched<'s, S> {
+    pub fn new(stream: &'s mut S, fault: &'s Cell<Option<io::Error>>) -> Watched<'s, S> {
         Watched { stream, fault }
     }
 
@@ -81,7 +81,7 @@ impl<S: Write> Write for Watched<'_, S> {
 }
 
 /// Says a sentence, which ends a line, in one write. Where there is no memory for that it goes out in pieces.
-pub(crate) fn say<E: Write, T: Display>(alloc: Global, errors: &mut E, sentence: &T) {
+pub fn say<E: Write, T: Display>(alloc: Global, errors: &mut E, sentence: &T) {
     // Nothing is left to do where the sentence can't be written.
     match format!(in alloc; "{sentence}\n") {
         Ok(line) => {
@@ -95,23 +95,23 @@ pub(crate) fn say<E: Write, T: Display>(alloc: Global, errors: &mut E, sentence:
 
 /// What a command writes to.
 #[derive(Drop)]
-pub(crate) struct Streams<'s, W, E> {
-    pub(crate) alloc: Global,
-    pub(crate) writer: &'s mut W,
-    pub(crate) errors: &'s mut E,
+pub struct Streams<'s, W, E> {
+    pub alloc: Global,
+    pub writer: &'s mut W,
+    pub errors: &'s mut E,
     /// Why standard output last failed.
-    pub(crate) fault: &'s Cell<Option<io::Error>>,
-    pub(crate) terminals: Terminals,
+    pub fault: &'s Cell<Option<io::Error>>,
+    pub terminals: Terminals,
 }
 
 impl<W: Write, E: Write> Streams<'_, W, E> {
     /// Says a sentence.
-    pub(crate) fn say<T: Display>(&mut self, sentence: &T) {
+    pub fn say<T: Display>(&mut self, sentence: &T) {
         say(self.alloc, self.errors, sentence);
     }
 
     /// Standard output could not be written.
-    pub(crate) fn output_fault(&self) -> Problem<'static> {
+    pub fn output_fault(&self) -> Problem<'static> {
         Problem::output(self.fault.get())
     }
 }

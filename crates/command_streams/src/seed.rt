@@ -15,7 +15,7 @@ fn seed_reason(alloc: Global, cause: io::Error) -> Result<Option<Reason>, AllocE
 }
 
 /// A seed of the system's random bytes, so that nobody can choose keys that lie in one place of a table.
-pub(crate) fn system_seed<R: RandomSource + AllocGlobal>(rt: &R) -> Result<Seed, Problem<'static>> {
+pub fn system_seed<R: RandomSource + AllocGlobal>(rt: &R) -> Result<Seed, Problem<'static>> {
     let mut bytes = [0; 16];
     match rt.fill_bytes(&mut bytes) {
         Ok(()) => {

@@ -1,6 +1,6 @@
 //! Why a command's files and texts are refused, said of their bytes.
 
-use crate::problem::{Problem, reason_of};
+use command_streams::{Problem, reason_of};
 use fault_sentences::{
     BatchText, Plain, Reason, no_summary, say_disagreement, say_query, say_schema,
 };

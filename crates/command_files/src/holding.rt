@@ -1,6 +1,6 @@
 //! What a summary holds, as `known --explain` tells it.
 
-use crate::streams::Streams;
+use command_streams::Streams;
 use fault_sentences::Plain;
 use origin_prefix::OriginPart;
 use replica_merge::KnownOrigin;

@@ -1,0 +1,10 @@
+//! The commands on files: which they read and write, what they reply, and what they say on standard error.
+#![tactic(auto)]
+
+mod files;
+mod holding;
+mod progress;
+mod refusing;
+mod tasks;
+
+pub use tasks::{Session, Task};

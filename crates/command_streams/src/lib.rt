@@ -1,0 +1,12 @@
+//! The streams of a command, what is said on them, and what a command takes of the system: a disk of tapes and random bytes.
+#![tactic(auto)]
+
+mod problem;
+mod seed;
+mod spill;
+mod streams;
+
+pub use problem::{Fate, Problem, Told, is_closed, reason_of};
+pub use seed::system_seed;
+pub use spill::{open_disk, remove_disk};
+pub use streams::{Streams, Terminals, Watched, say};
