@@ -5,17 +5,14 @@ use Rattle.grouping_model.specs.Combining.{transition}
 use Rattle.packed_rows.specs.View.{datum_of}
 use Rattle.packed_rows.specs.declared.Value.{Value}
 use Rattle.packed_rows.specs.declared.Value.TheVariants as value
-use Rattle.agg_protocol.specs.Arguments.{Takes}
 use Rattle.agg_protocol.specs.States.{Denotes, shape_of, rows_of, most_rows}
 use Rattle.agg_protocol.specs.DenotingLaws.{within}
 use Rattle.agg_library.specs.StateRows.{partial_after}
 
--- a value that is no number is null where sum takes it
-pub sum_kept : (n : ℕ) (y : ℤ) (v : Value) → Takes Sum (datum_of v) → ((z : ℤ) → v ≡ value.Bigint z → ⊥) → Summed n y ≡ transition Sum (Summed n y) (datum_of v)
-sum_kept n y value.Null takes none = refl
-sum_kept n y (value.Bigint z) takes none = absurd (none z refl)
-sum_kept n y (value.Boolean b) takes none = absurd takes
-sum_kept n y (value.Text text) takes none = absurd takes
+-- a value that is no number changes no sum
+pub sum_kept : (n : ℕ) (y : ℤ) (v : Value) → ((z : ℤ) → v ≡ value.Bigint z → ⊥) → Summed n y ≡ transition Sum (Summed n y) (datum_of v)
+sum_kept n y (value.Bigint z) none = absurd (none z refl)
+sum_kept n y other none = refl
 
 -- a sum of some numbers
 pub outcome_some : (n : ℕ) (z : ℤ) → zero < n → outcome (Summed n z) ≡ Numeric z

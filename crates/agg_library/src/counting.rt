@@ -1,12 +1,12 @@
-//! The counts: of rows, and of arguments that are not null.
+//! The functions that count arguments: of rows, and of arguments that are not null
+//! (PostgreSQL 17, 9.21 Aggregate Functions).
 
 ghost use Rattle.std.proofs.Common.{rules};
 ghost use Rattle.std.specs.Prelude.{◌≡◌, ◌≤◌, ◌+◌, ℕ, refl};
 ghost use Rattle.grouping_model.specs.Aggregates as model;
-ghost use Rattle.grouping_model.specs.Aggregates.{Function, Counted};
+ghost use Rattle.grouping_model.specs.Aggregates.{Function, Counted, counts};
 ghost use Rattle.packed_rows.specs.View.{datum_of};
 ghost use Rattle.agg_protocol.specs.States.{shape_of, most_rows, A_count};
-ghost use Rattle.agg_library.specs.Counts.{is_counted};
 
 use crate::codec::{read_count, write_count};
 use crate::parts::Counting;
@@ -40,7 +40,7 @@ pub trait CountOperation {
 
     /// Whether the argument counts.
     fn counts(value: Value<'_>) -> bool
-        ensures { result ≡ is_counted function (datum_of value.entry) };
+        ensures { result ≡ counts function (datum_of value.entry) };
 
     // The function's partial results are counts.
     ghost on_counts: { shape_of function ≡ A_count };

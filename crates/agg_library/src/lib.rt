@@ -1,6 +1,5 @@
-//! Eleven aggregate functions of PostgreSQL 17 (9.21 Aggregate Functions): `count(*)`, `count`, `sum`, `min`, `max`,
-//! `bit_and`, `bit_or`, `bit_xor`, `bool_and`, `bool_or` and `every`. Each is an `Aggregate`, and `StateRow` keeps the
-//! states of several as a row of bytes.
+//! Aggregate functions of PostgreSQL 17 (9.21 Aggregate Functions), which `AggKind` names. Each is an `Aggregate`, and
+//! `StateRow` keeps the states of several as a row of bytes.
 #![tactic(auto)]
 
 mod codec;

@@ -6,7 +6,6 @@ ghost use Rattle.grouping_model.specs.Aggregates.{Function, Partial, Plain, outc
 ghost use Rattle.grouping_model.specs.Datum.{Datum, Null};
 ghost use Rattle.grouping_model.specs.Combining.{combine, transition, joined};
 ghost use Rattle.packed_rows.specs.View.{datum_of};
-ghost use Rattle.agg_protocol.specs.Arguments.{Takes};
 ghost use Rattle.agg_protocol.specs.Results.{outcome_of};
 ghost use Rattle.agg_protocol.specs.States.{Shape, Denotes, shape_of, width_of, rows_of, most_rows};
 
@@ -63,7 +62,6 @@ pub trait Operand: Copy {
 
     // What is denoted after one more argument, and by the states of both.
     ghost moves: { (function : Function) (state : Option Self) (value : Datum) →
-        shape_of function ≡ shape → Takes function value →
         transition function (denoted state) value ≡
         denoted (joined (both_of function) state (operand value)) };
 
@@ -84,7 +82,6 @@ impl Operand for i64 {
     ghost use Rattle.grouping_model.specs.Combining.{of_numbers};
     ghost use Rattle.agg_protocol.specs.States.{A_number};
     ghost use Rattle.agg_protocol.proofs.ArgumentLaws.{number_first};
-    ghost use Rattle.agg_protocol.proofs.ArgumentLaws.{number_moved};
 
     ghost shape = { A_number };
 
@@ -124,7 +121,7 @@ impl Operand for i64 {
 
     ghost none = { refl };
 
-    ghost moves = { number_moved };
+    ghost moves = { λ function state value. refl };
 
     ghost combines = { λ function a b. refl };
 
@@ -141,7 +138,6 @@ impl Operand for bool {
     ghost use Rattle.grouping_model.specs.Combining.{of_truths};
     ghost use Rattle.agg_protocol.specs.States.{A_truth};
     ghost use Rattle.agg_protocol.proofs.ArgumentLaws.{truth_first};
-    ghost use Rattle.agg_protocol.proofs.ArgumentLaws.{truth_moved};
 
     ghost shape = { A_truth };
 
@@ -181,7 +177,7 @@ impl Operand for bool {
 
     ghost none = { refl };
 
-    ghost moves = { truth_moved };
+    ghost moves = { λ function state value. refl };
 
     ghost combines = { λ function a b. refl };
 

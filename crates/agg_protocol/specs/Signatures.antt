@@ -1,4 +1,4 @@
--- The aggregate functions: the name, the argument, the result and the states of each, one line a function
+-- The aggregate functions: the name, the argument and the result of each, one line a function
 -- (PostgreSQL 17, 9.21 Aggregate Functions). Whatever else is said of a function by its name or kinds follows from here.
 use Rattle.std.specs.Prelude.{◌≡◌, refl, ℕ, ◌==◌, List, [], ◌∷◌, Bool, true, false, ◌&&◌, slice_index_or, Option, find, codes}
 use Rattle.std.specs.Str.{bytes_eq}
@@ -11,34 +11,29 @@ pub data Argument : Type 0 where
   Each_row Any_value : Argument
   Values_of : Kind → Argument
 
--- what a state holds: a count, a sum, a number that may be absent, or a truth value that may be absent (own)
-pub data Shape : Type 0 where
-  A_count A_sum A_number A_truth : Shape
-
--- a function by its number, its name, its argument, the kind of its result, and what its states hold. A numeric has the kind
--- bigint here, since both compare by their values (PostgreSQL 17, 9.21 and 10.2; the numbers are our own)
+-- a function by its number, its name, its argument and the kind of its result. A numeric has the kind bigint here, since
+-- both compare by their values (PostgreSQL 17, 9.21 and 10.2; the numbers are our own)
 pub record Signature : Type 0 where
   pub number : ℕ
   pub name : List ℕ
   pub argument : Argument
   pub result : Kind
-  pub shape : Shape
 
-abbrev pub signed : ℕ → List ℕ → Argument → Kind → Shape → Signature
-signed number name argument result shape = record { number = number; name = name; argument = argument; result = result; shape = shape }
+abbrev pub signed : ℕ → List ℕ → Argument → Kind → Signature
+signed number name argument result = record { number = number; name = name; argument = argument; result = result }
 
 abbrev pub signature : Function → Signature
-signature Count_rows = signed 0 (codes "count") Each_row Bigint_kind A_count
-signature Count = signed 1 (codes "count") Any_value Bigint_kind A_count
-signature Sum = signed 2 (codes "sum") (Values_of Bigint_kind) Bigint_kind A_sum
-signature Min = signed 3 (codes "min") (Values_of Bigint_kind) Bigint_kind A_number
-signature Max = signed 4 (codes "max") (Values_of Bigint_kind) Bigint_kind A_number
-signature Bit_and = signed 5 (codes "bit_and") (Values_of Bigint_kind) Bigint_kind A_number
-signature Bit_or = signed 6 (codes "bit_or") (Values_of Bigint_kind) Bigint_kind A_number
-signature Bit_xor = signed 7 (codes "bit_xor") (Values_of Bigint_kind) Bigint_kind A_number
-signature Bool_and = signed 8 (codes "bool_and") (Values_of Boolean_kind) Boolean_kind A_truth
-signature Bool_or = signed 9 (codes "bool_or") (Values_of Boolean_kind) Boolean_kind A_truth
-signature Every = signed 10 (codes "every") (Values_of Boolean_kind) Boolean_kind A_truth
+signature Count_rows = signed 0 (codes "count") Each_row Bigint_kind
+signature Count = signed 1 (codes "count") Any_value Bigint_kind
+signature Sum = signed 2 (codes "sum") (Values_of Bigint_kind) Bigint_kind
+signature Min = signed 3 (codes "min") (Values_of Bigint_kind) Bigint_kind
+signature Max = signed 4 (codes "max") (Values_of Bigint_kind) Bigint_kind
+signature Bit_and = signed 5 (codes "bit_and") (Values_of Bigint_kind) Bigint_kind
+signature Bit_or = signed 6 (codes "bit_or") (Values_of Bigint_kind) Bigint_kind
+signature Bit_xor = signed 7 (codes "bit_xor") (Values_of Bigint_kind) Bigint_kind
+signature Bool_and = signed 8 (codes "bool_and") (Values_of Boolean_kind) Boolean_kind
+signature Bool_or = signed 9 (codes "bool_or") (Values_of Boolean_kind) Boolean_kind
+signature Every = signed 10 (codes "every") (Values_of Boolean_kind) Boolean_kind
 
 -- all functions, in the order of their numbers
 abbrev pub functions : List Function
@@ -59,10 +54,6 @@ function_at_back function = refl
 -- whether two functions are the same
 abbrev pub function_eq : Function → Function → Bool
 function_eq f g = function_number f == function_number g
-
--- what the states of a function hold
-abbrev pub shape_of : Function → Shape
-shape_of function = (signature function).shape
 
 -- whether an argument is a value, and not a row
 abbrev pub is_value : Argument → Bool

@@ -4,7 +4,7 @@ use Rattle.std.specs.Prelude.{◌≡◌, refl, ℕ, ◌-◌, ◌*◌, ◌^◌, �
 use Rattle.std.proofs.Common.{leb-true}
 use Rattle.std.specs.Int.{w64, w128, cast_unsigned, bytes_high_first}
 use Rattle.grouping_model.specs.Aggregates.{Partial, Counted, Summed, Number, Truth_value}
-pub use Rattle.agg_protocol.specs.Signatures.{Shape, A_count, A_sum, A_number, A_truth, shape_of}
+pub use Rattle.grouping_model.specs.Aggregates.{Shape, A_count, A_sum, A_number, A_truth, shape_of}
 
 -- how many bytes a state has (own)
 abbrev pub width_of : Shape → ℕ

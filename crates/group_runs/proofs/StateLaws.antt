@@ -14,24 +14,17 @@ use Rattle.packed_rows.specs.View.{datum_of}
 use Rattle.packed_rows.specs.declared.value.Value.{Value}
 use Rattle.agg_protocol.specs.Arguments.{Takes}
 use Rattle.agg_protocol.specs.States as states
-use Rattle.agg_protocol.specs.States.{Shape, IsState, shape_of, rows_of, most_rows}
-use Rattle.agg_protocol.specs.DenotingLaws.{within}
-use Rattle.agg_protocol.proofs.Denoting.{shape_known, shape_partial, rows_add, one_row, once}
-use Rattle.agg_protocol.proofs.ArgumentLaws.{alone}
+use Rattle.agg_protocol.specs.States.{Shape, rows_of, most_rows}
+use Rattle.agg_protocol.specs.DenotingLaws.{shape_known, within, state_rows}
+use Rattle.agg_protocol.proofs.Denoting.{rows_add, once}
+use Rattle.agg_protocol.proofs.ArgumentLaws.{rows_step}
 use Rattle.agg_library.specs.declared.kind.AggKind.{AggKind}
 use Rattle.agg_library.specs.Kinds.{function_of, functions_of, kind_shape, kind_width}
 use Rattle.agg_library.specs.StateRows.{DenotesAll, AllWithin, initial_partials, partial_after}
 use Rattle.having_filter.specs.Kept.{TakesRows}
 use Rattle.group_runs.specs.Standing.{AreStates}
 use Rattle.group_runs.specs.Adding.{partial_after_row}
-use Rattle.group_runs.specs.StateLaws.{all_raised, first_and_rest, raised, state_rows}
-
--- an argument is one row more at most
-pub rows_step : (f : Function) (most : ℕ) (p : Partial) (v : Datum) → IsState most (shape_of f) p → Takes f v → rows_of (transition f p v) ≤ rows_of p + 1
-rows_step f most p v state takes =
-    let added : rows_of (combine f p (partial f (v ∷ []))) ≡ rows_of p + rows_of (partial f (v ∷ [])) = rows_add f p (partial f (v ∷ [])) (shape_known most (shape_of f) p state ∙ sym (shape_partial f (v ∷ []))) in
-    let one : rows_of (partial f (v ∷ [])) ≤ 1 = one_row f v in
-    subst (λ q. rows_of q ≤ rows_of p + 1) (sym (alone f most p v state takes)) (omega (arith, added, one))
+use Rattle.group_runs.specs.StateLaws.{all_raised, first_and_rest, raised}
 
 -- what an aggregate makes of a row, by its argument
 after_reach : (f : Function) (a : Aggregate) (row : Row) (p : Partial) (reach : Option Value) → a.function ≡ f → option_map datum_of reach ≡ (if is_met (column_of row) a.filter then Some (argument a.column row) else None) → partial_after f p reach ≡ partial_after_row a p row
@@ -46,10 +39,11 @@ after_reach f a row p (Some v) is reached =
       | false ↦ λ e. absurd cc
     ] reached
 
-pub rows_after_row : (kinds : List Kind) (a : Aggregate) (row : Row) (most : ℕ) (p : Partial) → TakesRows kinds a → HasKinds kinds row → IsState most (shape_of a.function) p → rows_of (partial_after_row a p row) ≤ rows_of p + 1
-rows_after_row kinds a row most p takes has state =
+-- a row is one row more at most
+pub rows_after_row : (a : Aggregate) (row : Row) (p : Partial) → rows_of (partial_after_row a p row) ≤ rows_of p + 1
+rows_after_row a row p =
     elim (is_met (column_of row) a.filter) as (λ b. rows_of (if b then transition a.function p (argument a.column row) else p) ≤ rows_of p + 1) [
-      | true ↦ rows_step a.function most p (argument a.column row) state (takes.takes row has)
+      | true ↦ rows_step a.function p (argument a.column row)
       | false ↦ omega arith
     ]
 
@@ -67,28 +61,28 @@ found_aggregate None f e = absurd cc
 found_aggregate (Some a) f e = (a, refl, cc)
 
 -- a state that was moved on by a row, within a bound
-pub moved_on : (kinds : List Kind) (kind : AggKind) (a : Aggregate) (row : Row) (reach : Option Value) (m bound : ℕ) (p q : Partial) (old new : List ℕ)
-    → TakesRows kinds a → HasKinds kinds row → a.function ≡ function_of kind → option_map datum_of reach ≡ (if is_met (column_of row) a.filter then Some (argument a.column row) else None)
+pub moved_on : (kind : AggKind) (a : Aggregate) (row : Row) (reach : Option Value) (m bound : ℕ) (p q : Partial) (old new : List ℕ)
+    → a.function ≡ function_of kind → option_map datum_of reach ≡ (if is_met (column_of row) a.filter then Some (argument a.column row) else None)
     → m < bound → bound ≤ most_rows → states.Denotes m (kind_shape kind) old p → states.Denotes bound (kind_shape kind) old q → states.Denotes bound (kind_shape kind) new (partial_after (function_of kind) q reach)
     → states.Denotes (m + 1) (kind_shape kind) new (partial_after_row a p row)
-moved_on kinds kind a row reach m bound p q old new takes has is reached low top denoted found moved =
+moved_on kind a row reach m bound p q old new is reached low top denoted found moved =
     let s : Shape = kind_shape kind in
     let same : q ≡ p = once bound s old q p top found (raised m bound s old p (omega (arith, low)) denoted) in
     let after : partial_after (function_of kind) q reach ≡ partial_after_row a p row = ap (λ q. partial_after (function_of kind) q reach) same ∙ after_reach (function_of kind) a row p reach is reached in
     let now : states.Denotes bound s new (partial_after_row a p row) = subst (states.Denotes bound s new) after moved in
     let few : rows_of p ≤ m = state_rows m s p denoted.0 in
-    let more : rows_of (partial_after_row a p row) ≤ rows_of p + 1 = rows_after_row kinds a row m p takes has (subst (λ f. IsState m (shape_of f) p) (sym is) denoted.0) in
+    let more : rows_of (partial_after_row a p row) ≤ rows_of p + 1 = rows_after_row a row p in
     (within bound (m + 1) s (partial_after_row a p row) now.0 (omega (arith, few, more)), now.1)
 
 -- such a state has room
-pub has_room : (kinds : List Kind) (kind : AggKind) (a : Aggregate) (row : Row) (reach : Option Value) (m bound : ℕ) (p : Partial) (old : List ℕ)
-    → TakesRows kinds a → HasKinds kinds row → a.function ≡ function_of kind → option_map datum_of reach ≡ (if is_met (column_of row) a.filter then Some (argument a.column row) else None)
+pub has_room : (kind : AggKind) (a : Aggregate) (row : Row) (reach : Option Value) (m bound : ℕ) (p : Partial) (old : List ℕ)
+    → a.function ≡ function_of kind → option_map datum_of reach ≡ (if is_met (column_of row) a.filter then Some (argument a.column row) else None)
     → m < bound → states.Denotes m (kind_shape kind) old p → ((q : Partial) → states.Denotes bound (kind_shape kind) old q → bound < rows_of (partial_after (function_of kind) q reach)) → ⊥
-has_room kinds kind a row reach m bound p old takes has is reached low denoted many =
+has_room kind a row reach m bound p old is reached low denoted many =
     let s : Shape = kind_shape kind in
     let after : partial_after (function_of kind) p reach ≡ partial_after_row a p row = after_reach (function_of kind) a row p reach is reached in
     let few : rows_of p ≤ m = state_rows m s p denoted.0 in
-    let more : rows_of (partial_after_row a p row) ≤ rows_of p + 1 = rows_after_row kinds a row m p takes has (subst (λ f. IsState m (shape_of f) p) (sym is) denoted.0) in
+    let more : rows_of (partial_after_row a p row) ≤ rows_of p + 1 = rows_after_row a row p in
     let above : bound < rows_of (partial_after_row a p row) = subst (λ q. bound < rows_of q) after (many p (raised m bound s old p (omega (arith, low)) denoted)) in
     omega (arith, few, more, above, low)
 

@@ -7,12 +7,12 @@ use Rattle.std.proofs.lemmas.List.Sums.{sum_by-cons}
 use Rattle.std.specs.List.{AllByRecursion}
 use Rattle.std.proofs.lemmas.Option.{none-some, same_Some}
 use Rattle.std.proofs.Math.Nat.{le_trans, suc-ne-zero, add_comm, suc-mul, add-le-add, mul-le-mul_right, lt_of_le_of_lt}
-use Rattle.grouping_model.specs.Aggregates.{Function, Partial, Counted, Summed, Number, Truth_value}
+use Rattle.grouping_model.specs.Aggregates.{Function, Partial}
 use Rattle.grouping_model.specs.Query.{Query, Aggregate}
 use Rattle.grouping_model.specs.Parts.{functions}
 use Rattle.agg_protocol.specs.States as states
-use Rattle.agg_protocol.specs.States.{Shape, A_count, A_sum, A_number, A_truth, IsState, widest_is_sum, shape_of, rows_of}
-use Rattle.agg_protocol.specs.DenotingLaws.{width_known, within}
+use Rattle.agg_protocol.specs.States.{Shape, A_sum, widest_is_sum, shape_of}
+use Rattle.agg_protocol.specs.DenotingLaws.{width_known, within, state_rows}
 use Rattle.agg_library.specs.declared.kind.AggKind.{AggKind}
 use Rattle.agg_library.specs.Kinds.{function_of, functions_of, kind_shape, kind_width, row_width}
 use Rattle.agg_library.specs.StateRows.{DenotesAll}
@@ -20,25 +20,6 @@ use Rattle.having_filter.specs.Kept.{IsWellFormed}
 use Rattle.group_runs.specs.Standing.{AreStates, states_width}
 
 -- ---- one state
-
--- a state counts no more rows than its bound
-pub state_rows : (most : ℕ) (s : Shape) (p : Partial) → IsState most s p → rows_of p ≤ most
-state_rows most A_count (Counted n) k = k
-state_rows most A_count (Summed n z) k = absurd k
-state_rows most A_count (Number o) k = absurd k
-state_rows most A_count (Truth_value o) k = absurd k
-state_rows most A_sum (Counted n) k = absurd k
-state_rows most A_sum (Summed n z) k = k.0
-state_rows most A_sum (Number o) k = absurd k
-state_rows most A_sum (Truth_value o) k = absurd k
-state_rows most A_number (Counted n) k = absurd k
-state_rows most A_number (Summed n z) k = absurd k
-state_rows most A_number (Number o) k = zero-le
-state_rows most A_number (Truth_value o) k = absurd k
-state_rows most A_truth (Counted n) k = absurd k
-state_rows most A_truth (Summed n z) k = absurd k
-state_rows most A_truth (Number o) k = absurd k
-state_rows most A_truth (Truth_value o) k = zero-le
 
 -- the same state with a higher bound
 pub raised : (m most : ℕ) (s : Shape) (bytes : List ℕ) (p : Partial) → m ≤ most → states.Denotes m s bytes p → states.Denotes most s bytes p

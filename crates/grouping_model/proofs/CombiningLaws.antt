@@ -1,5 +1,5 @@
 -- A function's partial result of two lists of arguments on end is what their partial results combine to.
-use Rattle.std.specs.Prelude.{◌≡◌, refl, ℕ, zero, suc, ◌+◌, ◌%◌, ◌^◌, ◌<◌, ◌==◌, min, max, Bool, true, false, cond, not, ◌&&◌, ◌||◌, List, [], ◌∷◌, ◌++◌, length, map, filter, count_by, ℤ, ◌+ℤ◌, bit_and, bit_or, bit_xor, Some}
+use Rattle.std.specs.Prelude.{◌≡◌, refl, ℕ, zero, suc, ◌+◌, ◌%◌, ◌^◌, ◌<◌, ◌==◌, min, max, Bool, true, false, cond, ◌&&◌, ◌||◌, List, [], ◌∷◌, ◌++◌, length, map, filter, count_by, ℤ, ◌+ℤ◌, bit_and, bit_or, bit_xor, Some}
 use Rattle.std.proofs.Common.{sym, ◌∙◌, ap, arith}
 use Rattle.std.specs.List.{list_all, list_any}
 use Rattle.std.specs.Int.{w64, cast_unsigned, cast_signed, bit_at, int_bit_and, int_bit_or, int_bit_xor}
@@ -9,13 +9,13 @@ use Rattle.std.proofs.lemmas.Nat.Bits.{bit_at_and, bit_at_or, bit_at_xor, same_f
 use Rattle.std.proofs.lemmas.Int.{of_z-to_z}
 use Rattle.std.proofs.lemmas.List.{length-append, append-nil, map-append}
 use Rattle.std.proofs.lemmas.List.Elements.{filter-append, filter_map-append}
-use Rattle.std.proofs.lemmas.List.Folds.{list_all-append}
+use Rattle.std.proofs.lemmas.List.Folds.{list_all-append, list_any-append}
 use Rattle.std.proofs.lemmas.List.Sums.{sum_by-append}
 use Rattle.std.proofs.Math.IntN.{+ℤ_assoc, +ℤ_idl}
 use Rattle.std.proofs.Math.Nat.{add-mod}
 use Rattle.grouping_model.specs.Datum.{Datum, Row}
-use Rattle.grouping_model.specs.Aggregates.{Function, Count_rows, Count, Sum, Min, Max, Bit_and, Bit_or, Bit_xor, Bool_and, Bool_or, Every, Counted, Summed, Number, Truth_value, partial, numbers, booleans, as_number, as_boolean, non_null, is_null, total, least, greatest, has_bit, unsigned_of_bits, number_of_bits, bits_of_all, bits_of_some, bits_of_odd, of_some}
-use Rattle.grouping_model.specs.Combining.{joined, combine}
+use Rattle.grouping_model.specs.Aggregates.{Function, Min, Max, Bit_and, Bit_or, Bit_xor, Bool_and, Bool_or, Every, Shape, A_count, A_sum, A_number, A_truth, shape_of, Counted, Summed, Number, Truth_value, counts, number_of, truth_of, gathered, partial, numbers, booleans, as_number, as_boolean, total, has_bit, unsigned_of_bits, number_of_bits, bits_of_all, bits_of_some, bits_of_odd, of_some}
+use Rattle.grouping_model.specs.Combining.{joined, of_numbers, of_truths, combine}
 use Rattle.grouping_model.specs.Condition.{is_met}
 use Rattle.grouping_model.specs.Query.{Aggregate}
 use Rattle.grouping_model.specs.Grouping.{argument, arguments, column_of}
@@ -24,11 +24,6 @@ use Rattle.grouping_model.proofs.AggregateLaws.{least_append, greatest_append, b
 total-append : (xs ys : List ℤ) → total (xs ++ ys) ≡ total xs +ℤ total ys
 total-append [] ys = sym (+ℤ_idl (total ys))
 total-append (x ∷ xs) ys = ap (λ z. x +ℤ z) (total-append xs ys) ∙ sym (+ℤ_assoc x (total xs) (total ys))
-
-list_any-append : {X : Type 0} (t : X → Bool) (xs ys : List X) → list_any t (xs ++ ys) ≡ (list_any t xs || list_any t ys)
-list_any-append t [] ys = refl
-list_any-append t (x ∷ xs) ys =
-    elim (t x) as (λ b. (b || list_any t (xs ++ ys)) ≡ ((b || list_any t xs) || list_any t ys)) [ true ↦ refl | false ↦ list_any-append t xs ys ]
 
 -- a function of lists that are not empty, where it follows from its values at both parts
 some-append : {X Y : Type 0} (f : List X → Y) (both : Y → Y → Y) → ((xs ys : List X) → f (xs ++ ys) ≡ both (f xs) (f ys)) → (xs ys : List X) → of_some f (xs ++ ys) ≡ joined both (of_some f xs) (of_some f ys)
@@ -90,27 +85,33 @@ odd_bits xs ys =
     ∙ add-mod (count_by (has_bit i) xs) (count_by (has_bit i) ys) 2
     ∙ (λ j. (sym (odd_digit (count_by (has_bit i) xs)) j + sym (odd_digit (count_by (has_bit i) ys)) j) % 2))
 
+-- what a function makes of the numbers, or of the truth values, of both lists
+number_append : (function : Function) (xs ys : List ℤ) → number_of function (xs ++ ys) ≡ joined (of_numbers function) (number_of function xs) (number_of function ys)
+number_append Min xs ys = least_append xs ys
+number_append Max xs ys = greatest_append xs ys
+number_append Bit_and xs ys = some-append bits_of_all (int_bit_and w64) all_bits xs ys
+number_append Bit_or xs ys = some-append bits_of_some (int_bit_or w64) some_bits xs ys
+number_append Bit_xor xs ys = some-append bits_of_odd (int_bit_xor w64) odd_bits xs ys
+number_append other xs ys = refl
+
+truth_append : (function : Function) (xs ys : List Bool) → truth_of function (xs ++ ys) ≡ joined (of_truths function) (truth_of function xs) (truth_of function ys)
+truth_append Bool_or xs ys = some-append (list_any (λ b. b)) (λ x y. x || y) (list_any-append (λ b. b)) xs ys
+truth_append Bool_and xs ys = some-append (list_all (λ b. b)) (λ x y. x && y) (list_all-append (λ b. b)) xs ys
+truth_append Every xs ys = some-append (list_all (λ b. b)) (λ x y. x && y) (list_all-append (λ b. b)) xs ys
+truth_append other xs ys = refl
+
 pub partial_append : (function : Function) (xs ys : List Datum) → partial function (xs ++ ys) ≡ combine function (partial function xs) (partial function ys)
-partial_append Count_rows xs ys = ap Counted (length-append xs ys)
-partial_append Count xs ys = ap Counted (ap length (filter-append (λ value. not (is_null value)) xs ys) ∙ length-append (non_null xs) (non_null ys))
-partial_append Sum xs ys =
-    λ i. Summed
-    ((ap length (filter_map-append as_number xs ys) ∙ length-append (numbers xs) (numbers ys)) i)
-    ((ap total (filter_map-append as_number xs ys) ∙ total-append (numbers xs) (numbers ys)) i)
-partial_append Min xs ys = ap Number (ap least (filter_map-append as_number xs ys) ∙ least_append (numbers xs) (numbers ys))
-partial_append Max xs ys = ap Number (ap greatest (filter_map-append as_number xs ys) ∙ greatest_append (numbers xs) (numbers ys))
-partial_append Bit_and xs ys =
-    ap Number (ap (of_some bits_of_all) (filter_map-append as_number xs ys) ∙ some-append bits_of_all (int_bit_and w64) all_bits (numbers xs) (numbers ys))
-partial_append Bit_or xs ys =
-    ap Number (ap (of_some bits_of_some) (filter_map-append as_number xs ys) ∙ some-append bits_of_some (int_bit_or w64) some_bits (numbers xs) (numbers ys))
-partial_append Bit_xor xs ys =
-    ap Number (ap (of_some bits_of_odd) (filter_map-append as_number xs ys) ∙ some-append bits_of_odd (int_bit_xor w64) odd_bits (numbers xs) (numbers ys))
-partial_append Bool_and xs ys =
-    ap Truth_value (ap (of_some (list_all (λ b. b))) (filter_map-append as_boolean xs ys) ∙ some-append (list_all (λ b. b)) (λ x y. x && y) (list_all-append (λ b. b)) (booleans xs) (booleans ys))
-partial_append Bool_or xs ys =
-    ap Truth_value (ap (of_some (list_any (λ b. b))) (filter_map-append as_boolean xs ys) ∙ some-append (list_any (λ b. b)) (λ x y. x || y) (list_any-append (λ b. b)) (booleans xs) (booleans ys))
-partial_append Every xs ys =
-    ap Truth_value (ap (of_some (list_all (λ b. b))) (filter_map-append as_boolean xs ys) ∙ some-append (list_all (λ b. b)) (λ x y. x && y) (list_all-append (λ b. b)) (booleans xs) (booleans ys))
+partial_append function xs ys = by_shape (shape_of function)
+  where
+    by_shape : (shape : Shape) → gathered shape function (xs ++ ys) ≡ combine function (gathered shape function xs) (gathered shape function ys)
+    by_shape A_count =
+        ap Counted (ap length (filter-append (counts function) xs ys) ∙ length-append (filter (counts function) xs) (filter (counts function) ys))
+    by_shape A_sum =
+        λ i. Summed
+        ((ap length (filter_map-append as_number xs ys) ∙ length-append (numbers xs) (numbers ys)) i)
+        ((ap total (filter_map-append as_number xs ys) ∙ total-append (numbers xs) (numbers ys)) i)
+    by_shape A_number = ap Number (ap (number_of function) (filter_map-append as_number xs ys) ∙ number_append function (numbers xs) (numbers ys))
+    by_shape A_truth = ap Truth_value (ap (truth_of function) (filter_map-append as_boolean xs ys) ∙ truth_append function (booleans xs) (booleans ys))
 
 pub rows_append : (aggregate : Aggregate) (xs ys : List Row) → partial aggregate.function (arguments aggregate (xs ++ ys)) ≡ combine aggregate.function (partial aggregate.function (arguments aggregate xs)) (partial aggregate.function (arguments aggregate ys))
 rows_append aggregate xs ys =

@@ -1,106 +1,147 @@
 -- A function's partial result after one more argument, and an aggregate's after one more row.
-use Rattle.std.specs.Prelude.{◌≡◌, refl, ℕ, ◌+◌, Bool, true, false, cond, List, [], ◌∷◌, ◌++◌, length, map, filter, zero, suc, ℤ, pos, ◌+ℤ◌, FitsSigned, Option, Some, None}
-use Rattle.std.proofs.Common.{◌∙◌, ap, arith}
+use Rattle.std.specs.Prelude.{◌≡◌, ◌≢◌, refl, ℕ, ◌+◌, Bool, true, false, cond, List, [], ◌∷◌, ◌++◌, length, map, filter, zero, suc, ℤ, pos, ◌+ℤ◌, FitsSigned, Contains, count_by, ◌%◌, ◌==◌, Option, Some, None}
+use Rattle.std.proofs.Common.{sym, ◌∙◌, ap, subst, arith}
 use Rattle.std.specs.Int.{w64}
 use Rattle.std.proofs.Math.IntN.{+ℤ_idr}
 use Rattle.std.proofs.lemmas.List.{append-nil, map-append}
 use Rattle.std.proofs.lemmas.List.Elements.{filter-append}
-use Rattle.grouping_model.specs.Datum.{Datum, Null, Bigint, Boolean, Text, Kind, Bigint_kind, Boolean_kind, Text_kind, HasKind, HasKinds, Row, at_place}
-use Rattle.grouping_model.specs.Aggregates.{Function, Count_rows, Count, Sum, Min, Max, Bit_and, Bit_or, Bit_xor, Bool_and, Bool_or, Every, Counted, Summed, Number, Truth_value, partial, numbers, booleans, non_null, total, least, greatest, bits_of_all, bits_of_some, bits_of_odd, of_some}
+use Rattle.std.proofs.lemmas.Option.{none-some, same_Some}
 use Rattle.std.specs.List.{list_all, list_any}
+use Rattle.grouping_model.specs.Datum.{Datum, Null, Bigint, Boolean, Text, Kind, Bigint_kind, Boolean_kind, Text_kind, HasKind, HasKinds, Row, at_place}
+use Rattle.grouping_model.specs.Aggregates.{Function, Count_rows, Min, Max, Bit_and, Bit_or, Bit_xor, Bool_and, Bool_or, Every, Partial, Counted, Summed, Number, Truth_value, Shape, A_count, A_sum, A_number, A_truth, shape_is, shape_of, counts, number_of, truth_of, gathered, partial, of_some, number_of_bits, has_bit}
 use Rattle.std.proofs.Math.Bool.{and-true}
 use Rattle.grouping_model.specs.Combining.{joined, combine, transition, of_numbers, of_truths}
 use Rattle.grouping_model.specs.Condition.{is_met}
 use Rattle.grouping_model.specs.Query.{Aggregate}
 use Rattle.grouping_model.specs.Grouping.{argument, arguments, column_of}
-use Rattle.grouping_model.proofs.AggregateLaws.{bits_of_one, least_of_one, greatest_of_one}
+use Rattle.grouping_model.proofs.AggregateLaws.{bits_of_one, bits_fit, least_of_one, least_is, greatest_of_one, greatest_is}
 use Rattle.grouping_model.proofs.CombiningLaws.{partial_append}
 
 pub joined-none : {X : Type 0} (both : X → X → X) (x : Option X) → joined both x None ≡ x
 joined-none both None = refl
 joined-none both (Some x) = refl
 
--- a partial result with one of no arguments
-counted-none : (n : ℕ) → Counted (n + 0) ≡ Counted n
-counted-none n = let e : n + 0 ≡ n = omega arith in ap Counted e
+-- what a function makes of one number that fits, and of one truth value
+number_of_one : (function : Function) (z : ℤ) → shape_of function ≡ A_number → FitsSigned w64 z → number_of function (z ∷ []) ≡ Some z
+number_of_one Min z shape fits = least_of_one z
+number_of_one Max z shape fits = greatest_of_one z
+number_of_one Bit_and z shape fits = ap Some (bits_of_one z fits).0
+number_of_one Bit_or z shape fits = ap Some (bits_of_one z fits).1
+number_of_one Bit_xor z shape fits = ap Some (bits_of_one z fits).2
+number_of_one other z shape fits = cc
 
-summed-none : (n : ℕ) (z : ℤ) → Summed (n + 0) (z +ℤ pos 0) ≡ Summed n z
-summed-none n z = let e : n + 0 ≡ n = omega arith in λ i. Summed (e i) (+ℤ_idr z i)
+truth_of_one : (function : Function) (b : Bool) → shape_of function ≡ A_truth → truth_of function (b ∷ []) ≡ Some b
+truth_of_one Bool_or true shape = refl
+truth_of_one Bool_or false shape = refl
+truth_of_one Bool_and b shape = ap Some (and-true b)
+truth_of_one Every b shape = ap Some (and-true b)
+truth_of_one other b shape = cc
 
-number-none : (both : ℤ → ℤ → ℤ) (x : Option ℤ) → Number (joined both x None) ≡ Number x
-number-none both x = ap Number (joined-none both x)
+-- what a function makes of no number, and of no truth value
+number_of_none : (function : Function) → number_of function [] ≡ None
+number_of_none Count_rows = refl
+number_of_none function = refl
 
-truth-none : (both : Bool → Bool → Bool) (x : Option Bool) → Truth_value (joined both x None) ≡ Truth_value x
-truth-none both x = ap Truth_value (joined-none both x)
+truth_of_none : (function : Function) → truth_of function [] ≡ None
+truth_of_none Count_rows = refl
+truth_of_none function = refl
 
--- where an argument is one that the function passes over, or has no use for
-passed_null : (function : Function) (xs : List Datum) → combine function (partial function xs) (partial function (Null ∷ [])) ≡ transition function (partial function xs) Null
-passed_null Count_rows xs = refl
-passed_null Count xs = counted-none (length (non_null xs))
-passed_null Sum xs = summed-none (length (numbers xs)) (total (numbers xs))
-passed_null Min xs = number-none (of_numbers Min) (least (numbers xs))
-passed_null Max xs = number-none (of_numbers Max) (greatest (numbers xs))
-passed_null Bit_and xs = number-none (of_numbers Bit_and) (of_some bits_of_all (numbers xs))
-passed_null Bit_or xs = number-none (of_numbers Bit_or) (of_some bits_of_some (numbers xs))
-passed_null Bit_xor xs = number-none (of_numbers Bit_xor) (of_some bits_of_odd (numbers xs))
-passed_null Bool_and xs = truth-none (of_truths Bool_and) (of_some (list_all (λ b. b)) (booleans xs))
-passed_null Bool_or xs = truth-none (of_truths Bool_or) (of_some (list_any (λ b. b)) (booleans xs))
-passed_null Every xs = truth-none (of_truths Every) (of_some (list_all (λ b. b)) (booleans xs))
+-- bits are a number that fits
+of_some_fits : (bits : List ℤ → ℕ → Bool) (zs : List ℤ) (z : ℤ) → of_some (λ ys. number_of_bits (bits ys)) zs ≡ Some z → FitsSigned w64 z
+of_some_fits bits [] z e = absurd (none-some z e)
+of_some_fits bits (y ∷ ys) z e = subst (FitsSigned w64) (same_Some (number_of_bits (bits (y ∷ ys))) z e) (bits_fit (bits (y ∷ ys)))
 
-taken_bigint : (function : Function) (xs : List Datum) (z : ℤ) → FitsSigned w64 z → combine function (partial function xs) (partial function (Bigint z ∷ [])) ≡ transition function (partial function xs) (Bigint z)
-taken_bigint Count_rows xs z fits = refl
-taken_bigint Count xs z fits = refl
-taken_bigint Sum xs z fits = ap (λ y. Summed (length (numbers xs) + 1) (total (numbers xs) +ℤ y)) (+ℤ_idr z)
-taken_bigint Min xs z fits = ap (λ y. Number (joined (of_numbers Min) (least (numbers xs)) y)) (least_of_one z)
-taken_bigint Max xs z fits = ap (λ y. Number (joined (of_numbers Max) (greatest (numbers xs)) y)) (greatest_of_one z)
-taken_bigint Bit_and xs z fits = ap (λ y. Number (joined (of_numbers Bit_and) (of_some bits_of_all (numbers xs)) (Some y))) (bits_of_one z fits).0
-taken_bigint Bit_or xs z fits = ap (λ y. Number (joined (of_numbers Bit_or) (of_some bits_of_some (numbers xs)) (Some y))) (bits_of_one z fits).1
-taken_bigint Bit_xor xs z fits = ap (λ y. Number (joined (of_numbers Bit_xor) (of_some bits_of_odd (numbers xs)) (Some y))) (bits_of_one z fits).2
-taken_bigint Bool_and xs z fits = truth-none (of_truths Bool_and) (of_some (list_all (λ b. b)) (booleans xs))
-taken_bigint Bool_or xs z fits = truth-none (of_truths Bool_or) (of_some (list_any (λ b. b)) (booleans xs))
-taken_bigint Every xs z fits = truth-none (of_truths Every) (of_some (list_all (λ b. b)) (booleans xs))
+-- what a function makes of numbers that fit
+pub number_fits : (function : Function) (zs : List ℤ) → ((y : ℤ) → Contains zs y → FitsSigned w64 y) → (z : ℤ) → number_of function zs ≡ Some z → FitsSigned w64 z
+number_fits Min zs fits z e = fits z ((least_is zs z).0 e).0
+number_fits Max zs fits z e = fits z ((greatest_is zs z).0 e).0
+number_fits Bit_and zs fits z e = of_some_fits (λ ys i. list_all (has_bit i) ys) zs z e
+number_fits Bit_or zs fits z e = of_some_fits (λ ys i. list_any (has_bit i) ys) zs z e
+number_fits Bit_xor zs fits z e = of_some_fits (λ ys i. count_by (has_bit i) ys % 2 == 1) zs z e
+number_fits other zs fits z e = cc
 
--- a list of one truth value has it in all and in some members
-some_of_one : (b : Bool) → list_any (λ b. b) (b ∷ []) ≡ b
-some_of_one true = refl
-some_of_one false = refl
+-- a function's partial results have its form
+pub shape_partial : (function : Function) (xs : List Datum) → shape_is (partial function xs) ≡ shape_of function
+shape_partial function xs = by_shape (shape_of function)
+  where
+    by_shape : (shape : Shape) → shape_is (gathered shape function xs) ≡ shape
+    by_shape A_count = refl
+    by_shape shape = refl
 
-taken_boolean : (function : Function) (xs : List Datum) (b : Bool) → combine function (partial function xs) (partial function (Boolean b ∷ [])) ≡ transition function (partial function xs) (Boolean b)
-taken_boolean Count_rows xs b = refl
-taken_boolean Count xs b = refl
-taken_boolean Sum xs b = summed-none (length (numbers xs)) (total (numbers xs))
-taken_boolean Min xs b = number-none (of_numbers Min) (least (numbers xs))
-taken_boolean Max xs b = number-none (of_numbers Max) (greatest (numbers xs))
-taken_boolean Bit_and xs b = number-none (of_numbers Bit_and) (of_some bits_of_all (numbers xs))
-taken_boolean Bit_or xs b = number-none (of_numbers Bit_or) (of_some bits_of_some (numbers xs))
-taken_boolean Bit_xor xs b = number-none (of_numbers Bit_xor) (of_some bits_of_odd (numbers xs))
-taken_boolean Bool_and xs b = ap (λ y. Truth_value (joined (of_truths Bool_and) (of_some (list_all (λ b. b)) (booleans xs)) (Some y))) (and-true b)
-taken_boolean Bool_or xs b = ap (λ y. Truth_value (joined (of_truths Bool_or) (of_some (list_any (λ b. b)) (booleans xs)) (Some y))) (some_of_one b)
-taken_boolean Every xs b = ap (λ y. Truth_value (joined (of_truths Every) (of_some (list_all (λ b. b)) (booleans xs)) (Some y))) (and-true b)
+-- a number fits 64 bits
+abbrev pub Fits : Datum → Type 0
+Fits (Bigint z) = FitsSigned w64 z
+Fits other = Unit {0}
 
-passed_text : (function : Function) (xs : List Datum) (text : List ℕ) → combine function (partial function xs) (partial function (Text text ∷ [])) ≡ transition function (partial function xs) (Text text)
-passed_text Count_rows xs text = refl
-passed_text Count xs text = refl
-passed_text Sum xs text = summed-none (length (numbers xs)) (total (numbers xs))
-passed_text Min xs text = number-none (of_numbers Min) (least (numbers xs))
-passed_text Max xs text = number-none (of_numbers Max) (greatest (numbers xs))
-passed_text Bit_and xs text = number-none (of_numbers Bit_and) (of_some bits_of_all (numbers xs))
-passed_text Bit_or xs text = number-none (of_numbers Bit_or) (of_some bits_of_some (numbers xs))
-passed_text Bit_xor xs text = number-none (of_numbers Bit_xor) (of_some bits_of_odd (numbers xs))
-passed_text Bool_and xs text = truth-none (of_truths Bool_and) (of_some (list_all (λ b. b)) (booleans xs))
-passed_text Bool_or xs text = truth-none (of_truths Bool_or) (of_some (list_any (λ b. b)) (booleans xs))
-passed_text Every xs text = truth-none (of_truths Every) (of_some (list_all (λ b. b)) (booleans xs))
+pub kind_fits : (kind : Kind) (value : Datum) → HasKind kind value → Fits value
+kind_fits kind Null has = tt
+kind_fits Bigint_kind (Bigint z) has = has
+kind_fits Boolean_kind (Bigint z) has = absurd has
+kind_fits Text_kind (Bigint z) has = absurd has
+kind_fits kind (Boolean b) has = tt
+kind_fits kind (Text text) has = tt
 
-taken : (function : Function) (xs : List Datum) (kind : Kind) (value : Datum) → HasKind kind value → combine function (partial function xs) (partial function (value ∷ [])) ≡ transition function (partial function xs) value
-taken function xs kind Null has = passed_null function xs
-taken function xs Bigint_kind (Bigint z) has = taken_bigint function xs z has
-taken function xs Boolean_kind (Bigint z) has = absurd has
-taken function xs Text_kind (Bigint z) has = absurd has
-taken function xs kind (Boolean b) has = taken_boolean function xs b
-taken function xs kind (Text text) has = passed_text function xs text
+-- a transition is as much as combining with the partial result of the argument alone, whatever is known of other arguments
+pub alone : (function : Function) (p : Partial) (value : Datum) → shape_is p ≡ shape_of function → (shape_of function ≡ A_number → Fits value)
+    → combine function p (partial function (value ∷ [])) ≡ transition function p value
+alone function p value same fits = ap (λ shape. combine function p (gathered shape function (value ∷ []))) (sym same) ∙ by_shape p value same fits
+  where
+    counted : (n : ℕ) (value : Datum) (b : Bool) → Counted (n + length (cond b (value ∷ []) [])) ≡ Counted (n + cond b 1 0)
+    counted n value true = refl
+    counted n value false = refl
+
+    summed-none : (n : ℕ) (z : ℤ) → Summed (n + 0) (z +ℤ pos 0) ≡ Summed n z
+    summed-none n z = let e : n + 0 ≡ n = omega arith in λ i. Summed (e i) (+ℤ_idr z i)
+
+    no_number : (o : Option ℤ) → Number (joined (of_numbers function) o (number_of function [])) ≡ Number (joined (of_numbers function) o None)
+    no_number o = ap (λ y. Number (joined (of_numbers function) o y)) (number_of_none function)
+
+    no_truth : (o : Option Bool) → Truth_value (joined (of_truths function) o (truth_of function [])) ≡ Truth_value (joined (of_truths function) o None)
+    no_truth o = ap (λ y. Truth_value (joined (of_truths function) o y)) (truth_of_none function)
+
+    by_shape : (p : Partial) (value : Datum) → shape_is p ≡ shape_of function → (shape_of function ≡ A_number → Fits value)
+        → combine function p (gathered (shape_is p) function (value ∷ [])) ≡ transition function p value
+    by_shape (Counted n) value same fits = counted n value (counts function value)
+    by_shape (Summed n z) Null same fits = summed-none n z
+    by_shape (Summed n z) (Bigint x) same fits = ap (λ y. Summed (n + 1) (z +ℤ y)) (+ℤ_idr x)
+    by_shape (Summed n z) (Boolean b) same fits = summed-none n z
+    by_shape (Summed n z) (Text text) same fits = summed-none n z
+    by_shape (Number o) Null same fits = no_number o
+    by_shape (Number o) (Bigint x) same fits = ap (λ y. Number (joined (of_numbers function) o y)) (number_of_one function x (sym same) (fits (sym same)))
+    by_shape (Number o) (Boolean b) same fits = no_number o
+    by_shape (Number o) (Text text) same fits = no_number o
+    by_shape (Truth_value o) Null same fits = no_truth o
+    by_shape (Truth_value o) (Bigint x) same fits = no_truth o
+    by_shape (Truth_value o) (Boolean b) same fits = ap (λ y. Truth_value (joined (of_truths function) o y)) (truth_of_one function b (sym same))
+    by_shape (Truth_value o) (Text text) same fits = no_truth o
+
+pub one_more : (function : Function) (xs : List Datum) (value : Datum) → (shape_of function ≡ A_number → Fits value) → partial function (xs ++ value ∷ []) ≡ transition function (partial function xs) value
+one_more function xs value fits = partial_append function xs (value ∷ []) ∙ alone function (partial function xs) value (shape_partial function xs) fits
 
 pub one_more_argument : (function : Function) (xs : List Datum) (kind : Kind) (value : Datum) → HasKind kind value → partial function (xs ++ value ∷ []) ≡ transition function (partial function xs) value
-one_more_argument function xs kind value has = partial_append function xs (value ∷ []) ∙ taken function xs kind value has
+one_more_argument function xs kind value has = one_more function xs value (λ shape. kind_fits kind value has)
+
+-- count(*) counts each row
+pub each_row_counts : (xs : List Datum) → partial Count_rows xs ≡ Counted (length xs)
+each_row_counts xs = ap Counted (all xs)
+  where
+    all : (xs : List Datum) → length (filter (counts Count_rows) xs) ≡ length xs
+    all [] = refl
+    all (x ∷ xs) = ap suc (all xs)
+
+-- every function but count(*) passes over a null
+pub null_passes : (function : Function) (p : Partial) → function ≢ Count_rows → transition function p Null ≡ p
+null_passes function (Counted n) other = ap (λ b. Counted (n + cond b 1 0)) (uncounted function other) ∙ ap Counted no_more
+  where
+    uncounted : (function : Function) → function ≢ Count_rows → counts function Null ≡ false
+    uncounted Count_rows other = absurd (other refl)
+    uncounted function other = refl
+
+    no_more : n + 0 ≡ n
+    no_more = omega arith
+null_passes function (Summed n z) other = refl
+null_passes function (Number o) other = ap Number (joined-none (of_numbers function) o)
+null_passes function (Truth_value o) other = ap Truth_value (joined-none (of_truths function) o)
 
 -- a column's value has the column's kind; null beyond the last column has any
 column_kind : (kinds : List Kind) (row : Row) → HasKinds kinds row → (place : ℕ) → (kind : Kind) × HasKind kind (at_place row place)

@@ -20,6 +20,30 @@ pub data Partial : Type 0 where
   -- the truth value so far, absent where there is no argument
   Truth_value : Option Bool → Partial
 
+-- which of these forms a partial result has
+pub data Shape : Type 0 where
+  A_count A_sum A_number A_truth : Shape
+
+abbrev pub shape_is : Partial → Shape
+shape_is (Counted n) = A_count
+shape_is (Summed n z) = A_sum
+shape_is (Number o) = A_number
+shape_is (Truth_value o) = A_truth
+
+-- the form of a function's partial results (own)
+abbrev pub shape_of : Function → Shape
+shape_of Count_rows = A_count
+shape_of Count = A_count
+shape_of Sum = A_sum
+shape_of Min = A_number
+shape_of Max = A_number
+shape_of Bit_and = A_number
+shape_of Bit_or = A_number
+shape_of Bit_xor = A_number
+shape_of Bool_and = A_truth
+shape_of Bool_or = A_truth
+shape_of Every = A_truth
+
 -- what a function answers: a value, or a sum, which is numeric: whole and exact, as wide as it must be
 -- (PostgreSQL 17, 9.21: sum of bigint is numeric; 8.1.2 Arbitrary Precision Numbers)
 pub data Outcome : Type 0 where
@@ -90,19 +114,38 @@ abbrev pub of_some : {X Y : Type 0} → (List X → Y) → List X → Option Y
 of_some f [] = None
 of_some f (x ∷ xs) = Some (f (x ∷ xs))
 
--- the partial result of a list of arguments, one argument for each row that reaches the function
+-- whether a counting function counts an argument: count(*) each row, and count each value that is not null
+-- (PostgreSQL 17, 9.21: the number of input rows, and of those in which the input value is not null)
+abbrev pub counts : Function → Datum → Bool
+counts Count_rows value = true
+counts Count value = not (is_null value)
+counts other value = false
+
+-- what a function of numbers makes of them, and a function of truth values of these
+abbrev pub number_of : Function → List ℤ → Option ℤ
+number_of Min = least
+number_of Max = greatest
+number_of Bit_and = of_some bits_of_all
+number_of Bit_or = of_some bits_of_some
+number_of Bit_xor = of_some bits_of_odd
+number_of other = λ zs. None
+
+abbrev pub truth_of : Function → List Bool → Option Bool
+truth_of Bool_and = of_some (list_all (λ b. b))
+truth_of Bool_or = of_some (list_any (λ b. b))
+truth_of Every = of_some (list_all (λ b. b))
+truth_of other = λ bs. None
+
+-- the partial result of a list of arguments, one argument for each row that reaches the function: how many it counts,
+-- how many numbers there are and their sum, or what it makes of the numbers or of the truth values
+abbrev pub gathered : Shape → Function → List Datum → Partial
+gathered A_count function values = Counted (length (filter (counts function) values))
+gathered A_sum function values = Summed (length (numbers values)) (total (numbers values))
+gathered A_number function values = Number (number_of function (numbers values))
+gathered A_truth function values = Truth_value (truth_of function (booleans values))
+
 abbrev pub partial : Function → List Datum → Partial
-partial Count_rows values = Counted (length values)
-partial Count values = Counted (length (non_null values))
-partial Sum values = Summed (length (numbers values)) (total (numbers values))
-partial Min values = Number (least (numbers values))
-partial Max values = Number (greatest (numbers values))
-partial Bit_and values = Number (of_some bits_of_all (numbers values))
-partial Bit_or values = Number (of_some bits_of_some (numbers values))
-partial Bit_xor values = Number (of_some bits_of_odd (numbers values))
-partial Bool_and values = Truth_value (of_some (list_all (λ b. b)) (booleans values))
-partial Bool_or values = Truth_value (of_some (list_any (λ b. b)) (booleans values))
-partial Every values = Truth_value (of_some (list_all (λ b. b)) (booleans values))
+partial function values = gathered (shape_of function) function values
 
 -- the result of a partial result: null where there was no argument, save for the counts, which are 0
 -- (PostgreSQL 17, 9.21: except for count, these functions return a null value when no rows are selected)

@@ -1,9 +1,9 @@
 -- One partial result for the arguments of two lists, and one more argument
 -- (PostgreSQL 17, CREATE AGGREGATE: combinefunc and sfunc; 36.12.4 Partial Aggregation).
-use Rattle.std.specs.Prelude.{◌+◌, Bool, ◌&&◌, ◌||◌, List, [], ◌∷◌, ℤ, ◌+ℤ◌, Option, Some, None}
+use Rattle.std.specs.Prelude.{◌+◌, Bool, cond, ◌&&◌, ◌||◌, List, [], ◌∷◌, ℤ, ◌+ℤ◌, Option, Some, None}
 use Rattle.std.specs.Int.{w64, int_min, int_max, int_bit_and, int_bit_or, int_bit_xor}
-use Rattle.grouping_model.specs.Datum.{Datum, Null, Bigint, Boolean}
-use Rattle.grouping_model.specs.Aggregates.{Function, Count_rows, Min, Max, Bit_and, Bit_or, Bit_xor, Bool_or, Partial, Counted, Summed, Number, Truth_value}
+use Rattle.grouping_model.specs.Datum.{Datum, Bigint}
+use Rattle.grouping_model.specs.Aggregates.{Function, Min, Max, Bit_and, Bit_or, Bit_xor, Bool_or, Partial, Counted, Summed, Number, Truth_value, counts, as_number, as_boolean}
 
 -- of two values that may be absent: the one that is there, or what both make
 abbrev pub joined : {X : Type 0} → (X → X → X) → Option X → Option X → Option X
@@ -37,13 +37,11 @@ abbrev pub combine_all : List Function → List Partial → List Partial → Lis
 combine_all (function ∷ functions) (p ∷ ps) (q ∷ qs) = combine function p q ∷ combine_all functions ps qs
 combine_all functions ps qs = []
 
--- the partial result after one more argument. Every function but count(*) passes over a null
--- (PostgreSQL 17, CREATE AGGREGATE: a strict sfunc keeps its state at a null)
+-- the partial result after one more argument: one more where it counts, and else with its number or its truth value.
+-- So every function but count(*) passes over a null (PostgreSQL 17, CREATE AGGREGATE: a strict sfunc keeps its state)
 abbrev pub transition : Function → Partial → Datum → Partial
-transition Count_rows (Counted n) value = Counted (n + 1)
-transition function state Null = state
-transition function (Counted n) value = Counted (n + 1)
+transition function (Counted n) value = Counted (n + cond (counts function value) 1 0)
 transition function (Summed n z) (Bigint x) = Summed (n + 1) (z +ℤ x)
-transition function (Number x) (Bigint y) = Number (joined (of_numbers function) x (Some y))
-transition function (Truth_value a) (Boolean b) = Truth_value (joined (of_truths function) a (Some b))
-transition function state value = state
+transition function (Summed n z) other = Summed n z
+transition function (Number x) value = Number (joined (of_numbers function) x (as_number value))
+transition function (Truth_value a) value = Truth_value (joined (of_truths function) a (as_boolean value))

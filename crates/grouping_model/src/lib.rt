@@ -4,7 +4,7 @@
 mod delivered;
 pub mod limits;
 
-ghost use Rattle.std.specs.Prelude.{◌≡◌, ◌-◌, nat_lt, filter, ◌+◌, ◌<◌, ◌≤◌, ◌≤ℤ◌, ◌↔◌, ℕ, ℤ, Bool, IsSome, IsTrue, ◌≢◌, FitsSigned, List, Contains, [], ◌∷◌, pos, negsuc, ◌||◌, ◌++◌, true, false, codes, if◌then◌else◌};
+ghost use Rattle.std.specs.Prelude.{◌≡◌, ◌-◌, nat_lt, filter, ◌+◌, ◌<◌, ◌≤◌, ◌≤ℤ◌, ◌↔◌, ℕ, ℤ, Bool, IsSome, IsTrue, ◌≢◌, FitsSigned, List, length, Contains, [], ◌∷◌, pos, negsuc, ◌||◌, ◌++◌, true, false, codes, if◌then◌else◌};
 ghost use Rattle.std.specs.Int.{w64};
 ghost use Rattle.std.specs.Ordering.{eq_by_cmp, nat_cmp};
 ghost use Rattle.std.specs.List.{flat_map};
@@ -21,7 +21,7 @@ ghost use Rattle.grouping_model.specs.Condition.{Truth, Unknown, Comparison, tru
 ghost use Rattle.grouping_model.specs.Answer.{answer, answer_over};
 ghost use Rattle.grouping_model.specs.Order.{Term, comes_before, ordered};
 ghost use Rattle.grouping_model.specs.Datum.{Datum, Kind, HasKind, HasKinds, datum_cmp, Row, row_cmp, same_row, Null, Boolean, Text};
-ghost use Rattle.grouping_model.specs.Aggregates.{bits_of_all, bits_of_some, bits_of_odd, Function, partial, Outcome, Plain, Numeric, least, greatest, has_bit, number_of_bits};
+ghost use Rattle.grouping_model.specs.Aggregates.{bits_of_all, bits_of_some, bits_of_odd, Function, partial, Outcome, Plain, Numeric, least, greatest, has_bit, number_of_bits, Count_rows, Count, Partial, Counted, non_null};
 ghost use Rattle.grouping_model.specs.Examples.{sums, three_rows, three_batches, one_to_five, six_and_eight, triple, oslo, bergen, grand_total, any_rows, extremes, of_nulls, a, nulls_and_numbers, last_unknown, big_ones, not_itself, bits_and_booleans, twelve_and_ten, number, one_absent, by_sum, by_sum_nulls_last, summed, absent};
 
 pub use delivered::Delivered;
@@ -186,12 +186,22 @@ pub fn combining()
         aggregate.function (arguments aggregate ys)) }
 {}
 
+/// `count(*)` is how many rows there are, and `count(x)` how many arguments are not null.
+pub fn counting()
+    ensures rows { (values : List Datum) → partial Count_rows values ≡ Counted (length values) }
+    ensures values { (values : List Datum) →
+        partial Count values ≡ Counted (length (non_null values)) }
+{}
+
 /// A function's partial result after one more argument, and an aggregate's after one more row: the transition takes
-/// the argument where the row reaches the aggregate, and else nothing changes.
+/// the argument where the row reaches the aggregate, and else nothing changes. Every function but `count(*)` passes
+/// over a null.
 pub fn transitions()
     ensures argument { (function : Function) (xs : List Datum) (kind : Kind) (value : Datum) →
         HasKind kind value → partial function (xs ++ value ∷ [])
         ≡ transition function (partial function xs) value }
+    ensures null { (function : Function) (p : Partial) → function ≢ Count_rows →
+        transition function p Null ≡ p }
     ensures row { (aggregate : Aggregate) (kinds : List Kind) (rows : List Row) (row : Row) →
         HasKinds kinds row → partial aggregate.function (arguments aggregate (rows ++ row ∷ []))
         ≡ (if is_met (column_of row) aggregate.filter

@@ -15,4 +15,4 @@ pub transition-state-requires-clause-few : goal.transition-state-requires-clause
 transition-state-requires-clause-few g c =
     let before = row_of (take c.loop-value.value-index c.args.values.now) in
     let few : length before < most_rows = omega (arith, length-row_of (take c.loop-value.value-index c.args.values.now), length-take c.loop-value.value-index c.args.values.now) in
-    rows_after g.A.Aggregate.function (g.A.Aggregate.denoted c.loop-value.state) before (datum_of (slice_index_or c.args.values.now c.loop-value.value-index Null)) (transition-state-requires-clause-takes g c) c.loop-value.invariant few
+    rows_after g.A.Aggregate.function (g.A.Aggregate.denoted c.loop-value.state) before (datum_of (slice_index_or c.args.values.now c.loop-value.value-index Null)) c.loop-value.invariant few

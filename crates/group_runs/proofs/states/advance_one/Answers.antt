@@ -22,12 +22,10 @@ pub returns-clause-moved : goal.returns-clause-moved
 returns-clause-moved c =
     on_ok_weaker c.advance.result
     (λ moved m p a is low denoted.
-    let q : Query = meaning c.args.query.now in
     let found = found_aggregate _ (function_of c.args.kind) c.requires.kind in
     let same : Some found.0 ≡ Some a = sym found.1 ∙ is in
     let one : found.0 ≡ a = cc in
-    moved_on q.kinds c.args.kind a (row_of c.args.row.now) c.reach-reach.result m c.args.most p moved.0 c.args.part.now c.advance.new.part
-    (all_at (TakesRows q.kinds) q.aggregates c.args.place a c.requires.formed.aggregates is) c.requires.row (ap (λ (a : Aggregate). a.function) (sym one) ∙ found.2) (c.reach-reach.ensures a is) low c.requires.most denoted moved.1 moved.2) c.advance.ensures.ok
+    moved_on c.args.kind a (row_of c.args.row.now) c.reach-reach.result m c.args.most p moved.0 c.args.part.now c.advance.new.part (ap (λ (a : Aggregate). a.function) (sym one) ∙ found.2) (c.reach-reach.ensures a is) low c.requires.most denoted moved.1 moved.2) c.advance.ensures.ok
 
 pub returns-clause-within : goal.returns-clause-within
 returns-clause-within c =
@@ -37,7 +35,5 @@ pub returns-clause-refused : goal.returns-clause-refused
 returns-clause-refused c =
     on_err_weaker c.advance.result
     (λ many m p low denoted.
-    let q : Query = meaning c.args.query.now in
     let found = found_aggregate _ (function_of c.args.kind) c.requires.kind in
-    has_room q.kinds c.args.kind found.0 (row_of c.args.row.now) c.reach-reach.result m c.args.most p c.args.part.now
-    (all_at (TakesRows q.kinds) q.aggregates c.args.place found.0 c.requires.formed.aggregates found.1) c.requires.row found.2 (c.reach-reach.ensures found.0 found.1) low denoted many) c.advance.ensures.err
+    has_room c.args.kind found.0 (row_of c.args.row.now) c.reach-reach.result m c.args.most p c.args.part.now found.2 (c.reach-reach.ensures found.0 found.1) low denoted many) c.advance.ensures.err

@@ -1,0 +1,5 @@
+use Rattle.grouping_model.proofs.TransitionLaws as laws
+use Rattle.grouping_model.proofs.counting.Goals as goal
+
+pub returns-clause-rows : goal.returns-clause-rows
+returns-clause-rows c = laws.each_row_counts
