@@ -1,6 +1,6 @@
 //! Kinds that don't fit, and what asks for a truth value.
 
-use agg_library::AggKind;
+use agg_library::{AggKind, Argument};
 use packed_rows::ValueKind;
 use std::fmt;
 
@@ -44,15 +44,11 @@ pub(crate) enum Clash {
 
 /// The kind that a function takes, in words.
 fn taken(kind: AggKind) -> &'static str {
-    match kind {
-        AggKind::CountRows | AggKind::Count => "any kind",
-        AggKind::BoolAnd | AggKind::BoolOr | AggKind::Every => "a boolean",
-        AggKind::Sum
-        | AggKind::Min
-        | AggKind::Max
-        | AggKind::BitAnd
-        | AggKind::BitOr
-        | AggKind::BitXor => "a bigint",
+    match kind.argument() {
+        Argument::EachRow | Argument::AnyValue => "any kind",
+        Argument::ValuesOf(ValueKind::Bigint) => "a bigint",
+        Argument::ValuesOf(ValueKind::Boolean) => "a boolean",
+        Argument::ValuesOf(ValueKind::Text) => "a text",
     }
 }
 

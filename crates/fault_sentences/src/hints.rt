@@ -1,5 +1,56 @@
 //! What a query has no words for, and what serves in its place.
 
+use agg_library::{AggKind, Argument};
+use packed_rows::ValueKind;
+use std::fmt;
+
+/// What is said of a word or a name.
+#[derive(Clone, Copy)]
+pub(crate) enum Hint {
+    /// A sentence.
+    Said(&'static str),
+    /// Which functions there are, or which take values of a kind.
+    Functions(Option<ValueKind>),
+}
+
+impl fmt::Display for Hint {
+    fn fmt<W: fmt::Write>(&self, f: &mut fmt::Formatter<W>) -> fmt::Result {
+        match self {
+            Hint::Said(said) => write!(f, "{said}"),
+            Hint::Functions(None) => {
+                write!(f, "the functions are ")?;
+                write_names(f, |argument| argument != Argument::EachRow)
+            }
+            Hint::Functions(Some(kind)) => {
+                let (kind, words) = (*kind, kind.as_str());
+                write!(f, "the functions of {words}s are ")?;
+                write_names(f, |argument| argument == Argument::ValuesOf(kind))
+            }
+        }
+    }
+}
+
+/// Writes the names of the functions that take what passes the test.
+fn write_names<W: fmt::Write>(
+    f: &mut fmt::Formatter<W>,
+    takes: impl Fn(Argument) -> bool,
+) -> fmt::Result {
+    let mut left = AggKind::ALL
+        .iter()
+        .filter(|kind| takes(kind.argument()))
+        .count();
+    let mut before = "";
+    for kind in AggKind::ALL {
+        if takes(kind.argument()) {
+            let name = kind.name();
+            write!(f, "{before}{name}")?;
+            left = left.saturating_sub(1);
+            before = if left == 1 { " and " } else { ", " };
+        }
+    }
+    Ok(())
+}
+
 /// Words and signs where they stand in the way, and what is said of each.
 const WORDS: [(&str, &str); 35] = [
     (
@@ -85,16 +136,12 @@ const WORDS: [(&str, &str); 35] = [
 ];
 
 /// Names of functions that there are not, and what serves for each.
-const FUNCTIONS: [(&str, &str); 6] = [
+const FUNCTIONS: [(&str, &str); 5] = [
     ("avg", "there is no avg: ask sum and count, and divide"),
     ("coalesce", "there is no coalesce: IS NULL tells a null"),
     ("median", "there is no median"),
     ("first", "there is no first: min and max are there"),
     ("last", "there is no last: min and max are there"),
-    (
-        "bool",
-        "the functions of booleans are bool_and, bool_or and every",
-    ),
 ];
 
 /// What is said of a word in a table.
@@ -113,11 +160,10 @@ pub(crate) fn of_word(word: &str) -> Option<&'static str> {
 }
 
 /// What is said of a name that is no function's.
-pub(crate) fn of_function(name: &str) -> &'static str {
+pub(crate) fn of_function(name: &str) -> Hint {
     match said_of(&FUNCTIONS, name) {
-        Some(said) => said,
-        None => {
-            "the functions are count, sum, min, max, bit_and, bit_or, bit_xor, bool_and, bool_or and every"
-        }
+        Some(said) => Hint::Said(said),
+        None if name.eq_ignore_ascii_case("bool") => Hint::Functions(Some(ValueKind::Boolean)),
+        None => Hint::Functions(None),
     }
 }

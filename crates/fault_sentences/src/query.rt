@@ -1,6 +1,6 @@
 //! Why a text is no query over a schema.
 
-use crate::hints::{of_function, of_word};
+use crate::hints::{Hint, of_function, of_word};
 use crate::nearest::nearest;
 use crate::places::{Lexed, piece_at};
 use crate::quoted::Quoted;
@@ -91,27 +91,25 @@ impl<'t> Refused<'t> {
     }
 
     /// What serves in the place of what stands at a place.
-    fn hint(&self, piece: &str) -> Option<&'static str> {
+    fn hint(&self, piece: &str) -> Option<Hint> {
         let last = self.tokens.len().saturating_sub(1);
-        match self.reader.state {
+        let said = match self.reader.state {
             State::Name {
                 place,
                 function: None,
             } if piece == "(" => return Some(of_function(name_at(self.tokens, place))),
-            State::Right if piece == "=" => return Some("one = compares"),
-            State::Termed if piece == "(" => return Some(
-                "ORDER BY takes the name or the place of an item, as ORDER BY 2",
-            ),
-            State::Item if piece == "*" => return Some(
-                "name the columns of GROUP BY and the calls",
-            ),
-            _ if piece == "*" => return of_word("+"),
-            _ => {}
-        }
-        match of_word(piece) {
-            Some(said) => Some(said),
-            None => of_word(name_at(self.tokens, last)),
-        }
+            State::Right if piece == "=" => Some("one = compares"),
+            State::Termed if piece == "(" => {
+                Some("ORDER BY takes the name or the place of an item, as ORDER BY 2")
+            }
+            State::Item if piece == "*" => Some("name the columns of GROUP BY and the calls"),
+            _ if piece == "*" => of_word("+"),
+            _ => match of_word(piece) {
+                None => of_word(name_at(self.tokens, last)),
+                said => said,
+            },
+        };
+        said.map(Hint::Said)
     }
 
     /// Says what stands at a place, and what is wanted there.

@@ -14,20 +14,10 @@ use test_tables::{expect, expect_lines, halves};
 
 /// The function of a name.
 fn kind_named(name: &str) -> Result<AggKind, Fail> {
-    Ok(match name {
-        "count(*)" => AggKind::CountRows,
-        "count" => AggKind::Count,
-        "sum" => AggKind::Sum,
-        "min" => AggKind::Min,
-        "max" => AggKind::Max,
-        "bit_and" => AggKind::BitAnd,
-        "bit_or" => AggKind::BitOr,
-        "bit_xor" => AggKind::BitXor,
-        "bool_and" => AggKind::BoolAnd,
-        "bool_or" => AggKind::BoolOr,
-        "every" => AggKind::Every,
-        _ => return Err("no function")?,
-    })
+    match name {
+        "count(*)" => Ok(AggKind::CountRows),
+        _ => Ok(AggKind::named(name).ok_or("no function")?),
+    }
 }
 
 /// Whether a value may be a function's argument: null, or one of its argument's kind.
