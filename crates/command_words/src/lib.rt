@@ -112,13 +112,14 @@ or int8, boolean or bool, or text. TEXT is one query, with or without a last ;
       [GROUP BY COLUMN, ..] [HAVING CONDITION] [ORDER BY TERM, ..]
 
 An ITEM is a column of GROUP BY or a call, and may have another name behind AS.
-The calls are count(*), count of any column, sum, min, max, bit_and, bit_or and
-bit_xor of a bigint, and bool_and, bool_or and every of a boolean. Behind a call
-FILTER (WHERE CONDITION) may tell which rows it takes. A CONDITION has columns,
-integers, 'texts', TRUE, FALSE, NULL, = <> != < <= > >=, NOT, AND, OR, and
-IS [NOT] NULL, TRUE, FALSE or UNKNOWN; in HAVING it has calls, too. A TERM is
-the name of an ITEM or its place, from 1, and may have ASC or DESC behind it,
-and NULLS FIRST or NULLS LAST. Without ORDER BY rows are in the order of keys.
+A call is count(*) or a function of a column, as sum(sales); the manual page
+agg_tool-script(5) lists the functions, and so does what is said of a wrong one.
+Behind a call FILTER (WHERE CONDITION) may tell which rows it takes. A CONDITION
+has columns, integers, 'texts', TRUE, FALSE, NULL, = <> != < <= > >=, NOT, AND,
+OR, and IS [NOT] NULL, TRUE, FALSE or UNKNOWN; in HAVING it has calls, too. A
+TERM is the name of an ITEM or its place, from 1, and may have ASC or DESC
+behind it, and NULLS FIRST or NULLS LAST. Without ORDER BY rows are in the order
+of keys.
 
 Prints 'saved BYTES'. A file OUT that is there is replaced, and standard error
 says so; with --no-clobber it is kept, and the status is 2.
