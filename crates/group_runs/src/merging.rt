@@ -13,21 +13,27 @@ use having_filter::Query;
 use std::alloc::{AllocError, Global};
 
 impl Chunk {
-    /// The place of a key among the groups from a place on: that of the first one whose key is not below it. A chunk has few
-    /// groups, so they are gone over one by one.
+    /// The place of a key among the groups from a place on: that of the first one whose key is not below it. It is sought by steps
+    /// that double and then halve, so that what is near is found soon.
     fn seek(&self, from: usize, key: &[u8]) -> usize
         requires { from ≤ length self.now }
         ensures place { IsPlaceOf self.now from key.now result }
         ensures rises { Rises self.now }
         ensures few { length self.now < 2 ^ 64 }
     {
-        let count = self.len();
-        for place in from..count {
-            if !self.group(place).0.cmp(key).is_lt() {
-                return place;
+        let mut low = from;
+        let mut high = self.len();
+        let mut step: usize = 0;
+        while low < high {
+            let middle = low + step.min((high - low) / 2);
+            if self.group(middle).0.cmp(key).is_lt() {
+                low = middle + 1;
+                step = step.saturating_mul(2).saturating_add(1);
+            } else {
+                high = middle;
             }
         }
-        count
+        low
     }
 
     /// Whether the group at a place is there and has a key.
