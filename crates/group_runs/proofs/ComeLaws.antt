@@ -65,7 +65,7 @@ rising_pair run i j x y rises low at there = all_at (IsBelow y.0) (take j run) i
 
 -- ---- where chunks begin
 
-starts_rise : (chunks : List (List Entry)) (i j : ℕ) → i ≤ j → length (on_end (take i chunks)) ≤ length (on_end (take j chunks))
+pub starts_rise : (chunks : List (List Entry)) (i j : ℕ) → i ≤ j → length (on_end (take i chunks)) ≤ length (on_end (take j chunks))
 starts_rise chunks i j low =
     let both = ap length (ap on_end (taken_parts chunks i j low) ∙ on_end-append (take i chunks) (slice_range chunks i j)) ∙ length-append (on_end (take i chunks)) (on_end (slice_range chunks i j)) in
     omega (arith, both)

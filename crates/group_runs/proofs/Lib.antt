@@ -9,4 +9,5 @@ pub mod JoinLaws
 pub mod ChunkLaws
 pub mod PartLaws
 pub mod ComeLaws
+pub mod SeekLaws
 pub mod MergedLaws

@@ -15,7 +15,7 @@ use std::alloc::{AllocError, Global};
 impl Chunk {
     /// The place of a key among the groups from a place on: that of the first one whose key is not below it. It is sought by steps
     /// that double and then halve, so that what is near is found soon.
-    fn seek(&self, from: usize, key: &[u8]) -> usize
+    pub(crate) fn seek(&self, from: usize, key: &[u8]) -> usize
         requires { from ≤ length self.now }
         ensures place { IsPlaceOf self.now from key.now result }
         ensures rises { Rises self.now }

@@ -9,57 +9,29 @@ ghost use Rattle.group_runs.specs.Chunks.{AreBefore, ComeInto};
 use crate::chunks::Chunks;
 
 impl Chunks {
-    /// The place of a key among the groups from one place to another, from where on none is below the key.
-    fn bisect(&self, from: usize, to: usize, key: &[u8]) -> usize
-        requires { IsBetween (on_end self.now) from from to key.now }
-        ensures place { IsPlaceOf (on_end self.now) from key.now result }
-        ensures rises { Rises (on_end self.now) }
-        ensures few { length (on_end self.now) < 2 ^ 64 }
+    /// The chunk of the group at a place, or how many chunks there are where there is no group.
+    fn chunk_from(&self, place: usize) -> usize
+        requires { place ≤ length (on_end self.now) }
+        ensures { length (on_end (take result self.now)) ≤ place }
     {
-        let _count = self.len();
-        let mut low = from;
-        let mut high = to;
-        while low < high {
-            let middle = low + (high - low) / 2;
-            if self.group(middle).0.cmp(key).is_lt() {
-                low = middle + 1;
-            } else {
-                high = middle;
-            }
+        if place < self.len() {
+            return self.chunk_of(place);
         }
-        low
+        self.count()
     }
 
-    /// Two places between which the place of a key lies, of two that it lies between, found by steps that double, so that what is
-    /// near is found soon.
-    fn reach(&self, from: usize, to: usize, key: &[u8]) -> (usize, usize)
-        requires { IsBetween (on_end self.now) from from to key.now }
-        ensures { IsBetween (on_end self.now) from result.0 result.1 key.now }
-    {
-        let _count = self.len();
-        let mut low = from;
-        let mut step: usize = 1;
-        while step <= to - low {
-            let last = low + (step - 1);
-            if !self.group(last).0.cmp(key).is_lt() {
-                return (low, last);
-            }
-            low = last + 1;
-            step = step.saturating_mul(2);
-        }
-        (low, to)
-    }
-
-    /// Two places in one chunk between which the place of a key lies. The last groups of chunks tell, by steps that double and
-    /// then halve.
-    fn narrow(&self, from: usize, key: &[u8]) -> (usize, usize)
+    /// Two places between which the place of a key lies, and the chunk that all groups from the one to the other are in. The last
+    /// groups of chunks tell, by steps that double and then halve.
+    fn narrow(&self, from: usize, key: &[u8]) -> (usize, usize, usize)
         requires { from ≤ length (on_end self.now) }
-        ensures { IsBetween (on_end self.now) from result.0 result.1 key.now }
+        ensures between { IsBetween (on_end self.now) from result.0 result.1 key.now }
+        ensures begun { length (on_end (take result.2 self.now)) ≤ result.0 }
+        ensures ended { result.1 ≤ length (on_end (take (result.2 + 1) self.now)) }
     {
         let mut low = from;
         let mut high = self.len();
         let mut last = self.count();
-        let mut first = if low < high { self.chunk_of(low) } else { last };
+        let mut first = self.chunk_from(from);
         let mut step: usize = 0;
         while first < last {
             let middle = first + step.min((last - first) / 2);
@@ -81,7 +53,7 @@ impl Chunks {
                 last = middle;
             }
         }
-        (low, high)
+        (low, high, first)
     }
 
     /// Whether a place is that of a key among the groups from it on, since the group there is not below the key. So keys that
@@ -111,9 +83,12 @@ impl Chunks {
         if self.is_next(from, key) {
             return from;
         }
-        let (first, last) = self.narrow(from, key);
-        let (low, high) = self.reach(first, last, key);
-        self.bisect(low, high, key)
+        let (low, high, at) = self.narrow(from, key);
+        if low >= high {
+            return low;
+        }
+        let start = self.start(at);
+        start + self.chunk(at).seek(low - start, key)
     }
 
     /// Whether the group at a place is there and has a key.

@@ -4,6 +4,7 @@ use Rattle.group_runs.specs.Runs.{Entry}
 use Rattle.group_runs.specs.Places.{IsBelow, IsNotBelow, AllBelow}
 use Rattle.packed_rows.specs.RowsOnEnd.{on_end}
 use Rattle.group_runs.proofs.PlaceLaws.{below_to, not_below_from}
+use Rattle.group_runs.proofs.ComeLaws.{starts_rise}
 use Rattle.group_runs.proofs.chunks.Chunks.narrow.Goals as goal
 
 pub loop-first-preserved-then-is_lt : goal.loop-first-preserved-then-is_lt
@@ -25,6 +26,8 @@ loop-first-preserved-then-is_lt c =
         not_below = i.between.not_below;
       };
       many = i.many;
+      begun = omega (arith, c.start-end.ensures);
+      ended = i.ended;
     }
 
 pub loop-first-preserved : goal.loop-first-preserved
@@ -48,4 +51,13 @@ loop-first-preserved c =
         not_below = not_below_from (on_end c.args.self.now) (end - 1) entry c.args.key.now c.len-high.ensures.rises c.group.ensures not_below;
       };
       many = omega (arith, many, some, step);
+      begun = i.begun;
+      ended = omega (arith, c.start-end.ensures);
     }
+
+pub returns-clause-ended : goal.returns-clause-ended
+returns-clause-ended c =
+    let past = c.loop-first-test.false in
+    let rise = starts_rise c.args.self.now (c.loop-first.last + 1) (c.loop-first.first + 1) (omega (arith, past)) in
+    let ended = c.loop-first.invariant.ended in
+    omega (arith, rise, ended)

@@ -1,4 +1,4 @@
-use Rattle.std.specs.Prelude.{◌≤◌, ◌-◌, length}
+use Rattle.std.specs.Prelude.{◌+◌, ◌≤◌, ◌-◌, length, take}
 use Rattle.packed_rows.specs.RowsOnEnd.{on_end}
 use Rattle.group_runs.specs.Places.{IsBetween}
 use Rattle.group_runs.proofs.chunks.Chunks.narrow.Given as goal
@@ -8,6 +8,8 @@ invariant-loop-first l =
     record {
       between : IsBetween (on_end l.self) l.from l.low l.high l.key;
       many : l.last ≤ length l.self;
+      begun : length (on_end (take l.first l.self)) ≤ l.low;
+      ended : l.high ≤ length (on_end (take (l.last + 1) l.self));
     }
 
 abbrev pub decreases-loop-first : goal.decreases-loop-first
