@@ -11,6 +11,7 @@ ghost use Rattle.group_runs.specs.Chunks.{AddChunks};
 
 use crate::chunk::Chunk;
 use crate::chunks::Chunks;
+use crate::seeking::gap;
 use having_filter::Query;
 use std::alloc::{AllocError, Global};
 
@@ -19,10 +20,11 @@ impl Chunks {
     fn has_all(&self, more: &Chunks) -> bool
         ensures { IsTrue result → AllByRecursion (HasKey (on_end self.now)) (packed_keys (on_end more.now)) }
     {
+        let step = gap(self.len(), more.len());
         let mut from = 0;
         for place in 0..more.len() {
             let (key, _) = more.group(place);
-            from = self.seek(from, key);
+            from = self.seek(from, step, key);
             if !self.has_at(from, key) {
                 return false;
             }
@@ -31,9 +33,16 @@ impl Chunks {
         true
     }
 
-    /// Combines the states of a key that is there with others. It stands behind `from` groups at least, and the result is how many
-    /// there are up to it.
-    fn combine_group(&mut self, query: &Query, from: usize, key: &[u8], states: &[u8]) -> usize
+    /// Combines the states of a key that is there with others. It stands behind `from` groups at least, and about `step` more by a
+    /// guess; the result is how many there are up to it.
+    fn combine_group(
+        &mut self,
+        query: &Query,
+        from: usize,
+        step: usize,
+        key: &[u8],
+        states: &[u8],
+    ) -> usize
         requires there { HasKey (on_end self.old) key.now }
         requires within { from ≤ length (on_end self.old) }
         requires below { AllBelow key.now (take from (on_end self.old)) }
@@ -43,7 +52,7 @@ impl Chunks {
         ensures within { result ≤ length (on_end self.new) }
         ensures up_to { AreUpTo key.now (take result (on_end self.new)) }
     {
-        let place = self.seek(from, key);
+        let place = self.seek(from, step, key);
         self.combine_at(query, place, states);
         place + 1
     }
@@ -54,10 +63,11 @@ impl Chunks {
         requires room { HasRoomForRun (meaning query.now) (on_end self.old) (on_end more.now) }
         ensures { AddsRun (meaning query.now) (on_end self.old) (on_end more.now) (on_end self.new) }
     {
+        let step = gap(self.len(), more.len());
         let mut from = 0;
         for place in 0..more.len() {
             let (key, states) = more.group(place);
-            from = self.combine_group(query, from, key, states);
+            from = self.combine_group(query, from, step, key, states);
         }
     }
 

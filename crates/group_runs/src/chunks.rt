@@ -18,7 +18,7 @@ use std::marker::Model;
 /// The most groups of a chunk. A group that enters a run copies the chunk that it comes into, some ten kilobytes, and one in a
 /// hundred or so moves what is kept of each chunk beside its groups, some seventy bytes: with half or twice as many groups a chunk,
 /// one of both costs more.
-const MOST_GROUPS: usize = 256;
+pub(crate) const MOST_GROUPS: usize = 256;
 
 /// Groups in the order of their keys, in chunks, one behind the other: in a clause, the list of the chunks.
 ///

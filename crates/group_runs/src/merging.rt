@@ -9,13 +9,14 @@ ghost use Rattle.packed_rows.specs.RowsOnEnd.{on_end};
 
 use crate::chunk::Chunk;
 use crate::chunks::Chunks;
+use crate::seeking::gap;
 use having_filter::Query;
 use std::alloc::{AllocError, Global};
 
 impl Chunk {
     /// The place of a key among the groups from a place on: that of the first one whose key is not below it. It is sought by steps
-    /// that double and then halve, so that what is near is found soon.
-    pub(crate) fn seek(&self, from: usize, key: &[u8]) -> usize
+    /// that begin with a guess of how far it is, double and then halve, so that what is about there is found soon.
+    pub(crate) fn seek(&self, from: usize, step: usize, key: &[u8]) -> usize
         requires { from ≤ length self.now }
         ensures place { IsPlaceOf self.now from key.now result }
         ensures rises { Rises self.now }
@@ -23,7 +24,7 @@ impl Chunk {
     {
         let mut low = from;
         let mut high = self.len();
-        let mut step: usize = 0;
+        let mut step = step;
         while low < high {
             let middle = low + step.min((high - low) / 2);
             if self.group(middle).0.cmp(key).is_lt() {
@@ -45,12 +46,13 @@ impl Chunk {
 
     /// Moves on, in the merge of `old` and other groups, of which this is what is done: the groups of `old` from a place on come
     /// here up to a key, and then the group of that key, its states behind those of `old`. The result is the place from
-    /// which on the groups of `old` are left.
+    /// which on the groups of `old` are left. `step` is a guess of how many come here.
     fn merge_group(
         &mut self,
         query: &Query,
         old: &Chunk,
         from: usize,
+        step: usize,
         key: &[u8],
         states: &[u8],
     ) -> Result<usize, AllocError>
@@ -65,7 +67,7 @@ impl Chunk {
         ensures added { IfOk result (λ next. AddsGroup (meaning query.now)
             (self.old ++ drop from old.now) (key.now, states.now) (self.new ++ drop next old.now)) }
     {
-        let place = old.seek(from, key);
+        let place = old.seek(from, step, key);
         if old.has_at(place, key) {
             self.push_range(old, from, place + 1)?;
             self.combine_at(query, self.len() - 1, states);
@@ -93,11 +95,12 @@ impl Chunk {
             (slice_range (on_end more.now) from to)) }
     {
         let count = self.len();
+        let step = gap(count, to - from);
         let mut merged = Chunk::with_room_of(alloc, self, to - from)?;
         let mut left = 0;
         for place in 0..to - from {
             let (key, states) = more.group(from + place);
-            left = merged.merge_group(query, self, left, key, states)?;
+            left = merged.merge_group(query, self, left, step, key, states)?;
         }
         merged.push_range(self, left, count)?;
         Ok(merged)

@@ -6,7 +6,13 @@ ghost use Rattle.group_runs.specs.Places.{HasKeyAt, IsBetween, IsPlaceOf};
 ghost use Rattle.packed_rows.specs.RowsOnEnd.{on_end};
 ghost use Rattle.group_runs.specs.Chunks.{AreBefore, ComeInto};
 
-use crate::chunks::Chunks;
+use crate::chunks::{Chunks, MOST_GROUPS};
+
+/// How many groups stand before the next of some keys, where these are spread evenly over all groups. It is a guess, and no
+/// result depends on it.
+pub(crate) fn gap(groups: usize, keys: usize) -> usize {
+    groups.checked_div(keys).unwrap_or(0).saturating_sub(1)
+}
 
 impl Chunks {
     /// The chunk of the group at a place, or how many chunks there are where there is no group.
@@ -21,8 +27,8 @@ impl Chunks {
     }
 
     /// Two places between which the place of a key lies, and the chunk that all groups from the one to the other are in. The last
-    /// groups of chunks tell, by steps that double and then halve.
-    fn narrow(&self, from: usize, key: &[u8]) -> (usize, usize, usize)
+    /// groups of chunks tell, by steps that begin with a guess, double and then halve.
+    fn narrow(&self, from: usize, step: usize, key: &[u8]) -> (usize, usize, usize)
         requires { from ≤ length (on_end self.now) }
         ensures between { IsBetween (on_end self.now) from result.0 result.1 key.now }
         ensures begun { length (on_end (take result.2 self.now)) ≤ result.0 }
@@ -32,7 +38,7 @@ impl Chunks {
         let mut high = self.len();
         let mut last = self.count();
         let mut first = self.chunk_from(from);
-        let mut step: usize = 0;
+        let mut step = step / MOST_GROUPS;
         while first < last {
             let middle = first + step.min((last - first) / 2);
             let end = self.start(middle + 1);
@@ -72,23 +78,25 @@ impl Chunks {
         true
     }
 
-    /// The place of a key among the groups from a place on: that of the first one whose key is not below it.
-    pub(crate) fn seek(&self, from: usize, key: &[u8]) -> usize
+    /// The place of a key among the groups from a place on: that of the first one whose key is not below it. `step` is a guess of
+    /// how far it is.
+    pub(crate) fn seek(&self, from: usize, step: usize, key: &[u8]) -> usize
         requires { from ≤ length (on_end self.now) }
         ensures place { IsPlaceOf (on_end self.now) from key.now result }
         ensures rises { Rises (on_end self.now) }
         ensures few { length (on_end self.now) < 2 ^ 64 }
     {
         let _count = self.len();
-        if self.is_next(from, key) {
+        if step == 0 && self.is_next(from, key) {
             return from;
         }
-        let (low, high, at) = self.narrow(from, key);
+        let (low, high, at) = self.narrow(from, step, key);
         if low >= high {
             return low;
         }
         let start = self.start(at);
-        start + self.chunk(at).seek(low - start, key)
+        let step = if low == from { step } else { MOST_GROUPS }; // In a chunk further on it may be anywhere.
+        start + self.chunk(at).seek(low - start, step, key)
     }
 
     /// Whether the group at a place is there and has a key.
@@ -109,7 +117,7 @@ impl Chunks {
         let (key, _) = more.group(from);
         let count = self.len();
         let last = self.count() - 1;
-        let place = self.seek(self.start(first), key);
+        let place = self.seek(self.start(first), gap(count, more.len()), key);
         let at = if place < count {
             self.chunk_of(place)
         } else {
@@ -117,7 +125,7 @@ impl Chunks {
         };
         let end = self.start(at + 1);
         if end < count {
-            (at, more.seek(0, self.group(end).0))
+            (at, more.seek(0, from, self.group(end).0))
         } else {
             (at, more.len())
         }

@@ -79,5 +79,5 @@ returns-else-end-count c =
     ] in
     let past = c.if-end-count.false in
     let counted = c.len-count.ensures.length in
-    subst (ComeInto c.args.self.now c.args.first (on_end c.args.more.now) c.args.from c.if-place-count.at) (sym c.len.ensures.length)
+    subst (ComeInto c.args.self.now c.args.first (on_end c.args.more.now) c.args.from c.if-place-count.at) (sym c.len-else-end-count.ensures.length)
     (comes_all c.args.self.now c.args.first c.if-place-count.at (on_end c.args.more.now) c.args.from e c.len-count.ensures.rises c.len.ensures.rises c.group.ensures for c.start-end.result c.start-end.ensures (omega (arith, past, counted)))
