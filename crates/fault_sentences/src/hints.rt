@@ -15,34 +15,39 @@ pub(crate) enum Hint {
 
 impl fmt::Display for Hint {
     fn fmt<W: fmt::Write>(&self, f: &mut fmt::Formatter<W>) -> fmt::Result {
-        match self {
+        match *self {
             Hint::Said(said) => write!(f, "{said}"),
-            Hint::Functions(None) => {
-                write!(f, "the functions are ")?;
-                write_names(f, |argument| argument != Argument::EachRow)
-            }
-            Hint::Functions(Some(kind)) => {
-                let (kind, words) = (*kind, kind.as_str());
-                write!(f, "the functions of {words}s are ")?;
-                write_names(f, |argument| argument == Argument::ValuesOf(kind))
+            Hint::Functions(of) => {
+                match of {
+                    None => write!(f, "the functions are ")?,
+                    Some(kind) => {
+                        let kind = kind.as_str();
+                        write!(f, "the functions of {kind}s are ")?;
+                    }
+                }
+                write_names(f, of)
             }
         }
     }
 }
 
-/// Writes the names of the functions that take what passes the test.
-fn write_names<W: fmt::Write>(
-    f: &mut fmt::Formatter<W>,
-    takes: impl Fn(Argument) -> bool,
-) -> fmt::Result {
-    let mut left = AggKind::ALL
-        .iter()
-        .filter(|kind| takes(kind.argument()))
-        .count();
+/// Whether a function takes values, of any kind or of this one.
+fn takes(function: AggKind, of: Option<ValueKind>) -> bool {
+    match (of, function.argument()) {
+        (_, Argument::EachRow) => false,
+        (None, _) => true,
+        (Some(kind), argument) => argument == Argument::ValuesOf(kind),
+    }
+}
+
+/// Writes the names of the functions that take values, of any kind or of this one.
+fn write_names<W: fmt::Write>(f: &mut fmt::Formatter<W>, of: Option<ValueKind>) -> fmt::Result {
+    let functions = AggKind::ALL.iter().copied();
+    let mut left = functions.filter(|function| takes(*function, of)).count();
     let mut before = "";
-    for kind in AggKind::ALL {
-        if takes(kind.argument()) {
-            let name = kind.name();
+    for function in AggKind::ALL {
+        if takes(function, of) {
+            let name = function.name();
             write!(f, "{before}{name}")?;
             left = left.saturating_sub(1);
             before = if left == 1 { " and " } else { ", " };
