@@ -63,7 +63,7 @@ impl<E: Write> Complaints<'_, E> {
             Refusal::OriginDisagrees { origin, number } => {
                 say_disagreement(alloc, origin, number, None)?
             }
-            Refusal::Batch(why) => return place.say_batch(alloc, script, why),
+            Refusal::Batch(why) => return place.say_batch(alloc, script, head, why),
             _ => return Ok(None),
         };
         Ok(Some(said))

@@ -144,9 +144,14 @@ impl<'b> BatchText<'b> {
     }
 
     /// Says why the head is refused.
-    fn say_bad_head(&self, alloc: Global, schema: &Schema) -> Result<String, AllocError> {
-        if let Some(record) = record_at(alloc, self.text, 0)? {
-            if let Some(said) = self.say_head(alloc, &record)? {
+    fn say_bad_head(
+        &self,
+        alloc: Global,
+        schema: &Schema,
+        head: Option<&ByteRecord>,
+    ) -> Result<String, AllocError> {
+        if let Some(record) = head {
+            if let Some(said) = self.say_head(alloc, record)? {
                 return Ok(said);
             }
         }
@@ -164,20 +169,20 @@ impl<'b> BatchText<'b> {
     }
 
     /// How many rows the head tells.
-    fn told(&self, alloc: Global) -> Result<u32, AllocError> {
-        let Some(record) = record_at(alloc, self.text, 0)? else {
-            return Ok(0);
+    fn told(&self, head: Option<&ByteRecord>) -> u32 {
+        let Some(record) = head else {
+            return 0;
         };
-        match self.head(&record) {
-            Some(head) => Ok(read_row_count(head.rows).unwrap_or(0)),
-            None => Ok(0),
+        match self.head(record) {
+            Some(head) => read_row_count(head.rows).unwrap_or(0),
+            None => 0,
         }
     }
 
     /// Says how many rows are told, and how many there are.
-    fn say_count(&self, alloc: Global) -> Result<String, AllocError> {
+    fn say_count(&self, alloc: Global, head: Option<&ByteRecord>) -> Result<String, AllocError> {
         let found = count_records(alloc, self.text)?.saturating_sub(1);
-        let told = self.told(alloc)?;
+        let told = self.told(head);
         let mut said = format!(in alloc; "rows told: {told}, found: {found}")?;
         if let Some(line) = open_quote(self.text) {
             let line = self.line.saturating_add(line.saturating_sub(1));
@@ -187,8 +192,8 @@ impl<'b> BatchText<'b> {
     }
 
     /// Says that too many rows are told.
-    fn say_too_many(&self, alloc: Global) -> Result<String, AllocError> {
-        let told = self.told(alloc)?;
+    fn say_too_many(&self, alloc: Global, head: Option<&ByteRecord>) -> Result<String, AllocError> {
+        let told = self.told(head);
         format!(in alloc; "rows told: {told}, and a batch has at most {MOST_ROWS}")
     }
 
@@ -263,11 +268,23 @@ impl<'b> BatchText<'b> {
         schema: &Schema,
         why: BatchError,
     ) -> Result<Option<String>, AllocError> {
+        let head = record_at(alloc, self.text, 0)?;
+        self.say_behind(alloc, schema, head.as_ref(), why)
+    }
+
+    /// The same of records whose first one, if there is one, is read.
+    pub(crate) fn say_behind(
+        &self,
+        alloc: Global,
+        schema: &Schema,
+        head: Option<&ByteRecord>,
+        why: BatchError,
+    ) -> Result<Option<String>, AllocError> {
         let said = match why {
             BatchError::NoMemory => return Ok(None),
-            BatchError::BadBatchHead => self.say_bad_head(alloc, schema)?,
-            BatchError::TooManyRows => self.say_too_many(alloc)?,
-            BatchError::RowCount => self.say_count(alloc)?,
+            BatchError::BadBatchHead => self.say_bad_head(alloc, schema, head)?,
+            BatchError::TooManyRows => self.say_too_many(alloc, head)?,
+            BatchError::RowCount => self.say_count(alloc, head)?,
             BatchError::WrongWidth { row } => {
                 match record_at(alloc, self.text, row.saturating_add(1))? {
                     Some(record) => self.say_width(alloc, schema, &record)?,

@@ -278,6 +278,7 @@ impl ScriptPlace {
         &self,
         alloc: Global,
         script: &[u8],
+        head: &ByteRecord,
         why: BatchError,
     ) -> Result<Option<String>, AllocError> {
         let Some(schema) = &self.schema else {
@@ -288,7 +289,7 @@ impl ScriptPlace {
             line: self.line,
             is_file: false,
         };
-        rows.say(alloc, schema, why)
+        rows.say_behind(alloc, schema, Some(head), why)
     }
 }
 

@@ -12,6 +12,7 @@ ghost use Rattle.file_commands.specs.Commands.{IsNew, IsNotNew, IsNoSummary, IsT
 use crate::summary::SummaryFile;
 use group_parser::parse;
 use grouping_model::limits::LONGEST_INPUT;
+use having_filter::Query;
 use packed_rows::Schema;
 use replica_merge::Replica;
 use replies::{Refusal, RunError};
@@ -42,7 +43,22 @@ pub fn load(alloc: Global, file: &[u8]) -> Result<Replica, Refusal>
         IsSummary file.now held.query held.parts → replica ≡ held) }
     ensures why { IfErr result (IsNoSummary file.now) }
 {
-    Ok(Replica::load(alloc, file)?)
+    load_sharing(alloc, None, file)
+}
+
+/// What [`load`] gives. Where a query is told that the file is of, the replica shares that.
+pub(crate) fn load_sharing(
+    alloc: Global,
+    known: Option<&Query>,
+    file: &[u8],
+) -> Result<Replica, Refusal>
+    ensures loaded { IfOk result (λ replica.
+        IsSummary file.now replica.query replica.parts) }
+    ensures saved { IfOk result (λ replica. (held : Held) →
+        IsSummary file.now held.query held.parts → replica ≡ held) }
+    ensures why { IfErr result (IsNoSummary file.now) }
+{
+    Ok(Replica::load_sharing(alloc, known, file)?)
 }
 
 /// The summary file of a replica: the one spelling of its query and of what it knows, in the second version. A file that would be longer than the

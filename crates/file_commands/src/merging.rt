@@ -14,7 +14,7 @@ ghost use Rattle.replies.specs.Refusals.{refusal_faults};
 ghost use Rattle.replies.specs.Joining.{IsApart};
 ghost use Rattle.file_commands.specs.Commands.{MergesHeld, MergesFile, FileMergeIsCounted, IsNotMerged};
 
-use crate::making::load;
+use crate::making::load_sharing;
 use hash_agg::{KeyHash, Means, TapeDisk, Work};
 use replica_merge::Replica;
 use replies::{Refusal, join};
@@ -51,7 +51,7 @@ fn take_in<H: KeyHash + Copy, D: TapeDisk>(
 ///
 /// # Errors
 ///
-/// Those of [`load`], and then those of [`join`].
+/// Those of [`load`](crate::load), and then those of [`join`].
 pub fn merge<H: KeyHash + Copy, D: TapeDisk>(
     alloc: Global,
     replica: &mut Replica,
@@ -74,6 +74,6 @@ pub fn merge<H: KeyHash + Copy, D: TapeDisk>(
     ensures undamaged { IfErr result (λ why. IsTrue (D.honest disk.old) → why ≢ TapeDamaged) }
     ensures disk { Leaves D.TapeDisk (failed refusal_faults result) disk.old disk.new }
 {
-    let other = load(alloc, file)?;
+    let other = load_sharing(alloc, Some(replica.query()), file)?;
     take_in(replica, &other, means, disk, work)
 }
