@@ -1,7 +1,7 @@
 //! Disks for tests, over one in memory: those of which something is wrong, and one that keeps how far it was written. And a reader and a writer that fail.
 #![tactic(auto)]
 
-ghost use Rattle.std.specs.Prelude.{◌≡◌, true};
+ghost use Rattle.std.specs.Prelude.{◌≡◌, ◌<◌, true};
 ghost use Rattle.spill_tapes.specs.Memory.{byte_at};
 
 use spill_tapes::{DiskError, FailDisk, FlipDisk, MemDisk, TapeDisk};
@@ -48,9 +48,12 @@ impl TapeDisk for Marks {
     }
 }
 
-/// Whether disks have the same page at a place. A page that is not read is not the same.
-fn same_page(one: &mut MemDisk, other: &mut MemDisk, at: u64) -> bool {
+/// Whether disks have the same page under a number. One that is not read is not the same.
+fn same_page(one: &mut MemDisk, other: &mut MemDisk, page: u64) -> bool
+    requires { page < 1000 }
+{
     let (mut bytes, mut others) = ([0; PAGE], [1; PAGE]);
+    let at = page * PAGE as u64;
     one.read_at(at, &mut bytes).is_ok() && other.read_at(at, &mut others).is_ok() && bytes == others
 }
 
@@ -61,7 +64,7 @@ pub fn same_pages(one: &mut MemDisk, other: &mut MemDisk) -> bool {
         return false;
     }
     for page in 0..pages {
-        if !same_page(one, other, page * PAGE as u64) {
+        if !same_page(one, other, page) {
             return false;
         }
     }

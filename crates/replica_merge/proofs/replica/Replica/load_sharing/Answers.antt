@@ -1,5 +1,5 @@
 use Rattle.replica_merge.proofs.SavedLaws.{one_held}
-use Rattle.replica_merge.proofs.replica.Replica.load.Goals as goal
+use Rattle.replica_merge.proofs.replica.Replica.load_sharing.Goals as goal
 
 pub returns-clause-saved : goal.returns-clause-saved
 returns-clause-saved c =
