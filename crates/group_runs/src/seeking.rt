@@ -1,6 +1,6 @@
 //! Seeking keys in a run.
 
-ghost use Rattle.std.specs.Prelude.{◌≡◌, ◌+◌, ◌^◌, ◌<◌, ◌≤◌, ◌↔◌, IsTrue, length, take, drop};
+ghost use Rattle.std.specs.Prelude.{◌≡◌, ◌+◌, ◌-◌, ◌^◌, ◌<◌, ◌≤◌, ◌↔◌, IsTrue, Some, length, slice_get, take, drop};
 ghost use Rattle.group_runs.specs.Runs.{Rises};
 ghost use Rattle.group_runs.specs.Places.{HasKeyAt, IsBetween, IsPlaceOf};
 ghost use Rattle.packed_rows.specs.RowsOnEnd.{on_end};
@@ -24,6 +24,20 @@ impl Chunks {
             return self.chunk_of(place);
         }
         self.count()
+    }
+
+    /// The last group before the end of a chunk, which is that place.
+    fn last_group(&self, at: usize, end: usize) -> (&[u8], &[u8])
+        requires there { at < length self.now }
+        requires end { end ≡ length (on_end (take (at + 1) self.now)) }
+        requires some { 0 < end }
+        ensures { slice_get (on_end self.now) (end - 1) ≡ Some (result.0.now, result.1.now) }
+    {
+        let start = self.start(at);
+        if start < end {
+            return self.chunk(at).group(end - 1 - start);
+        }
+        self.group(end - 1)
     }
 
     /// Two places between which the place of a key lies, and the chunk that all groups from the one to the other are in. The last
@@ -50,7 +64,7 @@ impl Chunks {
                 last = middle;
                 continue;
             }
-            if self.group(end - 1).0.cmp(key).is_lt() {
+            if self.last_group(middle, end).0.cmp(key).is_lt() {
                 low = end;
                 first = middle + 1;
                 step = step.saturating_mul(2).saturating_add(1);

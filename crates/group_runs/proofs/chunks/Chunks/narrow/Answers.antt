@@ -11,7 +11,7 @@ pub loop-first-preserved-then-is_lt : goal.loop-first-preserved-then-is_lt
 loop-first-preserved-then-is_lt c =
     let i = c.loop-first.invariant in
     let end : ℕ = c.start-end.result in
-    let entry : Entry = (c.group.result.0.now, c.group.result.1.now) in
+    let entry : Entry = (c.last_group.result.0.now, c.last_group.result.1.now) in
     let below : IsBelow c.args.key.now entry = search rules in
     let behind = i.between.behind in
     let low = c.if-end-low.false in
@@ -22,7 +22,7 @@ loop-first-preserved-then-is_lt c =
         behind = omega (arith, behind, low);
         order = omega (arith, high);
         within = i.between.within;
-        below = subst (λ n. AllBelow c.args.key.now (slice_range (on_end c.args.self.now) c.args.from n)) same (below_to (on_end c.args.self.now) c.args.from (end - 1) entry c.args.key.now c.len-high.ensures.rises (omega (arith, behind, low)) c.group.ensures below);
+        below = subst (λ n. AllBelow c.args.key.now (slice_range (on_end c.args.self.now) c.args.from n)) same (below_to (on_end c.args.self.now) c.args.from (end - 1) entry c.args.key.now c.len-high.ensures.rises (omega (arith, behind, low)) c.last_group.ensures below);
         not_below = i.between.not_below;
       };
       many = i.many;
@@ -34,7 +34,7 @@ pub loop-first-preserved : goal.loop-first-preserved
 loop-first-preserved c =
     let i = c.loop-first.invariant in
     let end : ℕ = c.start-end.result in
-    let entry : Entry = (c.group.result.0.now, c.group.result.1.now) in
+    let entry : Entry = (c.last_group.result.0.now, c.last_group.result.1.now) in
     let not_below : IsNotBelow c.args.key.now entry = search rules in
     let within = i.between.within in
     let low = c.if-end-low.false in
@@ -48,7 +48,7 @@ loop-first-preserved c =
         order = omega (arith, low);
         within = omega (arith, high, within);
         below = i.between.below;
-        not_below = not_below_from (on_end c.args.self.now) (end - 1) entry c.args.key.now c.len-high.ensures.rises c.group.ensures not_below;
+        not_below = not_below_from (on_end c.args.self.now) (end - 1) entry c.args.key.now c.len-high.ensures.rises c.last_group.ensures not_below;
       };
       many = omega (arith, many, some, step);
       begun = i.begun;
