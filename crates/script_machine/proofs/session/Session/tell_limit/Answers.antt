@@ -12,7 +12,7 @@ returns-in-Ok-clause-answers c = λ honest owned.
     let old : Store = record { columns = c.self.inside.columns; query = c.self.inside.query; replicas = c.self.inside.replicas.entries; saved = c.self.inside.saved.entries; limit = c.self.inside.means.limit } in
     let new : Store = record old { limit = c.with_seed-self-inside.result.limit } in
     subst (λ s. Steps honest (ask.Limit c.args.bytes) owned s (says.Limit c.args.bytes) new) c.self.view_is
-    (subst (λ n. Steps honest (ask.Limit c.args.bytes) owned old (says.Limit c.args.bytes) (record old { limit = n })) (sym (ap (λ (m : MeansState _). m.limit) (c.with_seed-self-inside.ensures ∙ c.in-Ok.ensures.means)))
+    (subst (λ n. Steps honest (ask.Limit c.args.bytes) owned old (says.Limit c.args.bytes) (record old { limit = n })) (sym (ap (λ (m : MeansState _). m.limit) c.with_seed-self-inside.ensures ∙ ap (λ (m : MeansState _). m.limit) c.in-Ok.ensures.means))
     (limit_told old c.args.bytes owned within.0 within.1))
 
 pub returns-in-Err-clause-answers : goal.returns-in-Err-clause-answers
