@@ -442,3 +442,34 @@ fn a_known_query_changes_nothing_that_is_read(rt: HostRuntime) -> Result<(), Fai
     expect_lines(rt, FIRST, told_sharing)?;
     expect_lines(rt, TEXTS, told_of_texts_sharing)
 }
+
+/// Which of the numbers 1 to 5 the first origin's part of a file knows.
+fn known_numbers(alloc: Global, bytes: &[u8]) -> Result<String, SummaryError> {
+    let (query, parts) = decode(alloc, bytes)?;
+    let mut known = String::new(alloc);
+    if let Some(part) = parts.get(&0) {
+        for number in 1..6 {
+            known.push(if part.knows(number) { '+' } else { '-' })?;
+        }
+    }
+    drop(parts);
+    drop(query);
+    Ok(known)
+}
+
+/// Files of one origin, and which of the numbers 1 to 5 are known of it.
+const KNOWN: &str = "\
+two towns 0001 0000 00000002 0000000000000001 oslo 00000000 => ++---
+two towns 0001 0000 00000000 0000000000000000 00000002 00000002 00000000 00000005 00000001 row => -+--+
+two towns 0001 0000 00000001 0000000000000001 oslo 00000001 00000004 00000001 row => +--+-";
+
+/// The numbers that are known of a file's words.
+fn told_known(rt: HostRuntime, words: &str) -> Result<String, Fail> {
+    let bytes = bytes_of(rt, words)?;
+    Ok(known_numbers(rt.alloc(), &bytes)?)
+}
+
+#[test]
+fn a_part_knows_its_prefix_and_what_is_early(rt: HostRuntime) -> Result<(), Fail> {
+    expect_lines(rt, KNOWN, told_known)
+}
