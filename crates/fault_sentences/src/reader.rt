@@ -5,6 +5,7 @@ use crate::frame::{Clashing, Context, Frame, Operand};
 use crate::places::{Sign, sign_of};
 use agg_library::{AggKind, Argument};
 use grouping_model::limits::MOST_OPEN;
+use having_filter::Comparison;
 use packed_rows::{Schema, ValueKind};
 use query_tokens::{Symbol, Token, is_reserved};
 use std::alloc::{AllocError, Global};
@@ -131,19 +132,6 @@ pub(crate) fn name_at(tokens: &[Token], place: usize) -> &str {
         },
         None => "",
     }
-}
-
-/// Whether a symbol compares.
-fn compares(symbol: Symbol) -> bool {
-    matches!(
-        symbol,
-        Symbol::Equal
-            | Symbol::Unequal
-            | Symbol::Less
-            | Symbol::AtMost
-            | Symbol::More
-            | Symbol::AtLeast
-    )
 }
 
 impl<'t> Reader<'t> {
@@ -441,7 +429,7 @@ impl<'t> Reader<'t> {
                 self.close(place);
                 return Ok(());
             }
-            Sign::Symbol(symbol) if compares(symbol) => {
+            Sign::Symbol(symbol) if Comparison::named(symbol).is_some() => {
                 if let Some(frame) = self.frames.last_mut() {
                     frame.comparison(at);
                 }

@@ -4,7 +4,7 @@ ghost use Rattle.std.specs.Prelude.{◌≡◌, ◌<◌, ◌≤◌, IfOk, length,
 ghost use Rattle.query_grammar.specs.Queries.{most_open};
 ghost use Rattle.query_grammar.specs.Reading.{cmp_at, test_at, not_at, and_at, condition_at, conditions};
 ghost use Rattle.query_checks.specs.Forms as form;
-ghost use Rattle.query_checks.specs.Forms.{comparison_of, test_of};
+ghost use Rattle.query_checks.specs.Operators.{comparison_of, test_of};
 ghost use Rattle.group_parser.specs.Views.{lexemes, condition_read, test_form, Gives};
 ghost use Rattle.group_parser.specs.Nots.{nots, negated};
 

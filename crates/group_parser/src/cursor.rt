@@ -3,8 +3,8 @@
 ghost use Rattle.std.specs.Prelude.{◌≡◌, ◌<◌, ◌==◌, option_map, IfSome, IfOk, length, string_bytes};
 ghost use Rattle.grouping_model.specs.Condition as model;
 ghost use Rattle.query_tokens.specs.Words.{lexeme_of};
-ghost use Rattle.query_checks.specs.Forms.{comparison_of, test_of};
-ghost use Rattle.query_grammar.specs.Terminals.{is_word, is_sign, symbol_number, comparison_named};
+ghost use Rattle.query_checks.specs.Operators.{comparison_of, test_of};
+ghost use Rattle.query_grammar.specs.Terminals.{is_word, is_sign, symbol_number};
 ghost use Rattle.query_grammar.specs.Reading.{after, after_comparison, expect, name_at, looked_for, tested};
 ghost use Rattle.query_grammar.specs.Grammar.{Named};
 ghost use Rattle.group_parser.specs.Views.{lexemes, Gives, test_form};
@@ -105,22 +105,6 @@ pub(crate) fn name<'a>(alloc: Global, tokens: &'a [Token]) -> Read<'a, String>
     }
 }
 
-/// The comparison that a symbol stands for.
-#[tactic(auto, unfolding(query_grammar::specs::Terminals::comparison_named))]
-fn comparison_named(symbol: Symbol) -> Option<Comparison>
-    ensures { option_map comparison_of result ≡ comparison_named symbol }
-{
-    match symbol {
-        Symbol::Equal => Some(Comparison::Equal),
-        Symbol::Unequal => Some(Comparison::Unequal),
-        Symbol::Less => Some(Comparison::Less),
-        Symbol::AtMost => Some(Comparison::AtMost),
-        Symbol::More => Some(Comparison::More),
-        Symbol::AtLeast => Some(Comparison::AtLeast),
-        _ => None,
-    }
-}
-
 /// The comparison at the front, and the tokens behind it.
 pub(crate) fn after_comparison(tokens: &[Token]) -> Option<(Comparison, &[Token])>
     ensures found { option_map (λ x. (comparison_of x.0, lexemes x.1.now)) result
@@ -129,7 +113,7 @@ pub(crate) fn after_comparison(tokens: &[Token]) -> Option<(Comparison, &[Token]
 {
     match tokens {
         [first, rest @ ..] => match &first.word {
-            Word::Symbol(symbol) => match comparison_named(*symbol) {
+            Word::Symbol(symbol) => match Comparison::named(*symbol) {
                 Some(comparison) => Some((comparison, rest)),
                 None => None,
             },

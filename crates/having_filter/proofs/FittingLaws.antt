@@ -17,7 +17,8 @@ use Rattle.packed_rows.specs.Columns.{kinds}
 use Rattle.agg_protocol.specs.Signatures.{function_number}
 use Rattle.query_checks.specs.Forms.{Unary_operator, Negation, Testing, Binary_operator, Conjunction, Disjunction, Comparing, Form, Column, Call, Call_where, Literal, Unary, Binary, Written, map_form}
 use Rattle.query_checks.specs.Reads.{reads, is_call, is_key, calls_in, is_plain, is_grouped_by, columns_pass, filters_pass, filter_of}
-use Rattle.query_checks.specs.Sameness.{form_eq, option_same, literal_eq, unary_eq, binary_eq, test_number, comparison_number, with_one, with_each}
+use Rattle.query_checks.specs.Operators.{test_number, comparison_number}
+use Rattle.query_checks.specs.Sameness.{form_eq, option_same, literal_eq, unary_eq, binary_eq, with_one, with_each}
 use Rattle.query_checks.specs.Checks.{Checked, kind_of_form, kinds_agree, is_boolean, takes_one, takes_two, takes_column, operands_fit, condition_fits, kinds_fit, are_plain, is_grouped, is_column, place, placed}
 use Rattle.query_checks.specs.Calls.{calls_of, distinct_calls}
 use Rattle.query_checks.specs.DistinctLaws.{all_distinct}

@@ -12,7 +12,7 @@ use Rattle.agg_protocol.specs.Signatures.{function_number, function_at, function
 use Rattle.query_checks.specs.Forms.{Unary_operator, Negation, Testing, Binary_operator, Conjunction, Disjunction, Comparing, Form, Column, Call, Call_where, Literal, Unary, Binary, Written}
 use Rattle.query_checks.specs.declared.order.OrderTerm.{OrderTerm}
 use Rattle.query_checks.specs.Checks.{kind_number, Checked}
-use Rattle.query_checks.specs.Sameness.{comparison_number, comparison_at, comparison_at_back, test_number, test_at, test_at_back}
+use Rattle.query_checks.specs.Operators.{comparison_number, comparison_at, comparison_at_back, test_number, test_at, test_at_back}
 
 -- trees of lists, values and columns, and back
 abbrev pub tree_of_bytes : List ℕ → Gv

@@ -1,9 +1,9 @@
 //! Three-valued logic, and comparisons of values.
 
 ghost use Rattle.std.specs.Prelude.{◌≡◌};
-ghost use Rattle.grouping_model.specs.Condition.{truth, as_outcome, truth_not, truth_and, truth_or, outcome_cmp, compared, holds_of, passes};
+ghost use Rattle.grouping_model.specs.Condition.{truth, as_outcome, truth_not, truth_and, truth_or, outcome_cmp, compared, passes};
 ghost use Rattle.agg_protocol.specs.Results.{outcome_of};
-ghost use Rattle.query_checks.specs.Forms.{comparison_of, test_of};
+ghost use Rattle.query_checks.specs.Operators.{comparison_of, test_of};
 ghost use Rattle.having_filter.specs.Truths.{truth_of};
 
 use agg_protocol::ResultValue;
@@ -86,20 +86,6 @@ fn order(x: ResultValue<'_>, y: ResultValue<'_>) -> Option<Ordering>
     }
 }
 
-/// Whether a comparison is true of an order.
-fn holds(comparison: Comparison, order: Ordering) -> bool
-    ensures { result ≡ holds_of (comparison_of comparison) order }
-{
-    match comparison {
-        Comparison::Equal => order.is_eq(),
-        Comparison::Unequal => order.is_ne(),
-        Comparison::Less => order.is_lt(),
-        Comparison::AtMost => order.is_le(),
-        Comparison::More => order.is_gt(),
-        Comparison::AtLeast => order.is_ge(),
-    }
-}
-
 /// A comparison: unknown where a side is null.
 pub(crate) fn compare(
     comparison: Comparison,
@@ -110,7 +96,7 @@ pub(crate) fn compare(
         compared (comparison_of comparison) (outcome_cmp (outcome_of x.entry) (outcome_of y.entry)) }
 {
     match order(x, y) {
-        Some(order) => Some(holds(comparison, order)),
+        Some(order) => Some(comparison.holds(order)),
         None => None,
     }
 }

@@ -8,10 +8,7 @@ use Rattle.grouping_model.specs.Datum.{Datum}
 use Rattle.grouping_model.specs.Aggregates.{Function}
 use Rattle.grouping_model.specs.Condition as model
 use Rattle.agg_library.specs.Kinds.{function_of}
-use Rattle.query_checks.specs.declared.condition.Comparison.{Comparison}
-use Rattle.query_checks.specs.declared.condition.Comparison.TheVariants as comparison
-use Rattle.query_checks.specs.declared.condition.IsTest.{IsTest}
-use Rattle.query_checks.specs.declared.condition.IsTest.TheVariants as test
+use Rattle.query_checks.specs.Operators.{comparison_of, test_of}
 use Rattle.query_checks.specs.declared.condition.Cond.{Cond}
 use Rattle.query_checks.specs.declared.condition.Cond as cond
 use Rattle.query_checks.specs.declared.condition.AggCall.{AggCall}
@@ -65,21 +62,6 @@ pub record Written (C : Type 0) : Type 0 where
   pub condition : Option (Form C)
   pub keys : List C
   pub having : Option (Form C)
-
--- the comparison and the test that the code names
-abbrev pub comparison_of : Comparison → model.Comparison
-comparison_of comparison.Equal = model.Equal
-comparison_of comparison.Unequal = model.Unequal
-comparison_of comparison.Less = model.Less
-comparison_of comparison.AtMost = model.At_most
-comparison_of comparison.More = model.More
-comparison_of comparison.AtLeast = model.At_least
-
-abbrev pub test_of : IsTest → model.Test
-test_of test.IsNull = model.Is_null
-test_of test.IsTrue = model.Is_true
-test_of test.IsFalse = model.Is_false
-test_of test.IsUnknown = model.Is_unknown
 
 -- a call that becomes a column, or stays a call
 abbrev pub exchanged : {C : Type 0} → Option C → Form C → Form C

@@ -1,3 +1,4 @@
+pub mod Operators
 pub mod Forms
 pub mod Sameness
 pub mod Reads

@@ -13,7 +13,8 @@ use Rattle.grouping_model.specs.Aggregates.{Function}
 use Rattle.agg_protocol.specs.Signatures.{function_eq, function_number, function_at, function_at_back}
 use Rattle.query_checks.specs.Forms.{Unary_operator, Negation, Testing, Binary_operator, Conjunction, Disjunction, Comparing, Form, Column, Call, Call_where, Literal, Unary, Binary, map_form}
 use Rattle.query_checks.specs.Reads.{columns_pass}
-use Rattle.query_checks.specs.Sameness.{form_eq, option_same, unary_eq, binary_eq, literal_eq, test_number, test_at, test_at_back, comparison_number, comparison_at, comparison_at_back}
+use Rattle.query_checks.specs.Sameness.{form_eq, option_same, unary_eq, binary_eq, literal_eq}
+use Rattle.query_checks.specs.Operators.{test_number, test_at, test_at_back, comparison_number, comparison_at, comparison_at_back}
 use Rattle.query_checks.specs.DistinctLaws.{Agrees}
 
 -- columns that are there or not, over other columns

@@ -1,50 +1,14 @@
 -- When two conditions or calls are the same, and the distinct members of a list. All of this is our own.
-use Rattle.std.specs.Prelude.{◌≡◌, refl, ℕ, ◌==◌, ◌&&◌, Bool, true, false, if◌then◌else◌, List, [], ◌∷◌, ◌++◌, slice_index_or, Option, Some, None}
+use Rattle.std.specs.Prelude.{◌==◌, ◌&&◌, Bool, true, false, if◌then◌else◌, List, [], ◌∷◌, ◌++◌, Option, Some, None}
 use Rattle.std.proofs.Math.Bool.{beq}
 use Rattle.std.specs.List.{list_any}
 use Rattle.std.specs.Ordering.{int_eq}
 use Rattle.std.specs.Str.{bytes_eq}
 use Rattle.grouping_model.specs.Datum as datum
 use Rattle.grouping_model.specs.Datum.{Datum}
-use Rattle.grouping_model.specs.Condition.{Comparison, Equal, Unequal, Less, At_most, More, At_least, Test, Is_null, Is_true, Is_false, Is_unknown}
 use Rattle.agg_protocol.specs.Signatures.{function_eq}
+use Rattle.query_checks.specs.Operators.{comparison_number, test_number}
 use Rattle.query_checks.specs.Forms.{Unary_operator, Negation, Testing, Binary_operator, Conjunction, Disjunction, Comparing, Form, Column, Call, Call_where, Literal, Unary, Binary}
-
--- all comparisons, numbers that tell them apart, and the comparison of a number
-abbrev pub comparisons : List Comparison
-comparisons = Equal ∷ Unequal ∷ Less ∷ At_most ∷ More ∷ At_least ∷ []
-
-abbrev pub comparison_number : Comparison → ℕ
-comparison_number Equal = 0
-comparison_number Unequal = 1
-comparison_number Less = 2
-comparison_number At_most = 3
-comparison_number More = 4
-comparison_number At_least = 5
-
-abbrev pub comparison_at : ℕ → Comparison
-comparison_at number = slice_index_or comparisons number At_least
-
-pub comparison_at_back : (comparison : Comparison) → comparison_at (comparison_number comparison) ≡ comparison
-comparison_at_back Equal = refl
-comparison_at_back comparison = refl
-
--- the same of the tests
-abbrev pub all_tests : List Test
-all_tests = Is_null ∷ Is_true ∷ Is_false ∷ Is_unknown ∷ []
-
-abbrev pub test_number : Test → ℕ
-test_number Is_null = 0
-test_number Is_true = 1
-test_number Is_false = 2
-test_number Is_unknown = 3
-
-abbrev pub test_at : ℕ → Test
-test_at number = slice_index_or all_tests number Is_unknown
-
-pub test_at_back : (test : Test) → test_at (test_number test) ≡ test
-test_at_back Is_null = refl
-test_at_back test = refl
 
 -- whether two operators are the same
 abbrev pub unary_eq : Unary_operator → Unary_operator → Bool

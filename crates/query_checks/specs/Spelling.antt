@@ -6,22 +6,14 @@ use Rattle.query_tokens.specs.Words as words
 use Rattle.query_tokens.specs.Spelling.{spell}
 use Rattle.grouping_model.specs.Datum.{Datum, Null, Bigint, Boolean, Text}
 use Rattle.grouping_model.specs.Aggregates.{Function}
-use Rattle.grouping_model.specs.Condition.{Comparison, Equal, Unequal, Less, At_most, More, At_least, Test, Is_null, Is_true, Is_false, Is_unknown}
 pub use Rattle.agg_protocol.specs.Signatures.{Argument, Each_row, Any_value, Values_of, Signature, signature, functions, is_value, is_named}
 unfoldable pub use Rattle.agg_protocol.specs.Signatures.{function_named}
 use Rattle.query_checks.specs.Forms.{Unary_operator, Negation, Testing, Binary_operator, Conjunction, Disjunction, Comparing, Form, Column, Call, Call_where, Literal, Unary, Binary, Written}
 use Rattle.query_checks.specs.declared.order.OrderTerm.{OrderTerm}
+use Rattle.query_checks.specs.Operators.{comparison_level, comparison_text, test_text}
 pub use Rattle.query_checks.specs.Labels.{function_name, own_name, kept_alias, label_of}
 use Rattle.query_checks.specs.Order.{By_place, Term, Asked, order_of}
 use Rattle.query_checks.specs.Sameness.{first_of_each}
-
-abbrev pub comparison_text : Comparison → List ℕ
-comparison_text Equal = codes " = "
-comparison_text Unequal = codes " <> "
-comparison_text Less = codes " < "
-comparison_text At_most = codes " <= "
-comparison_text More = codes " > "
-comparison_text At_least = codes " >= "
 
 -- an operator between its operands, and IS behind its operand
 abbrev pub operator_text : Binary_operator → List ℕ
@@ -32,12 +24,6 @@ operator_text (Comparing comparison) = comparison_text comparison
 abbrev pub is_text : Bool → List ℕ
 is_text false = codes " IS "
 is_text true = codes " IS NOT "
-
-abbrev pub test_text : Test → List ℕ
-test_text Is_null = codes "NULL"
-test_text Is_true = codes "TRUE"
-test_text Is_false = codes "FALSE"
-test_text Is_unknown = codes "UNKNOWN"
 
 abbrev pub literal_text : Datum → List ℕ
 literal_text Null = codes "NULL"
@@ -55,7 +41,7 @@ call_text function (Some name) = function_name function ++ codes "(" ++ name ++ 
 abbrev pub binary_level : Binary_operator → ℕ
 binary_level Disjunction = 1
 binary_level Conjunction = 2
-binary_level (Comparing comparison) = 5
+binary_level (Comparing comparison) = comparison_level
 
 abbrev pub unary_level : Unary_operator → ℕ
 unary_level Negation = 3
@@ -69,11 +55,10 @@ level other = 6
 -- how tightly the operands of an operator must bind to stand without parentheses, the left one and the right one: AND and
 -- OR group to the left, and a comparison takes no condition of two operands
 abbrev pub left_level : Binary_operator → ℕ
-left_level (Comparing comparison) = 6
+left_level (Comparing comparison) = binary_level (Comparing comparison) + 1
 left_level operator = binary_level operator
 
 abbrev pub right_level : Binary_operator → ℕ
-right_level (Comparing comparison) = 6
 right_level operator = binary_level operator + 1
 
 -- an operand: in parentheses where it binds less tightly than its place asks

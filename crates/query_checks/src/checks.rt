@@ -4,11 +4,13 @@ ghost use Rattle.std.specs.Prelude.{◌≡◌, min, ◌-◌, ◌^◌, Bool, opti
 ghost use Rattle.agg_protocol.specs.Signatures.{signature};
 ghost use Rattle.agg_library.specs.Kinds.{function_of};
 ghost use Rattle.packed_rows.specs.View.{kind_of, kinds_of};
-ghost use Rattle.query_checks.specs.Forms.{Testing, form_of, call_form, test_of};
+ghost use Rattle.query_checks.specs.Forms.{Testing, form_of, call_form};
+ghost use Rattle.query_checks.specs.Operators.{test_of};
 ghost use Rattle.query_checks.specs.Reads.{is_plain, is_grouped_by};
 ghost use Rattle.query_checks.specs.Checks.{depth, is_shallow, are_shallow, kind_of_form, kind_asked, kinds_agree, is_boolean, takes_column, takes_one, operands_fit, condition_fits};
 
-use crate::condition::{AggCall, Cond, IsTest};
+use crate::condition::{AggCall, Cond};
+use crate::operators::IsTest;
 use crate::reads::{Test, all_read, everywhere};
 use agg_library::{AggKind, Argument};
 use grouping_model::limits::DEEPEST_CONDITION;

@@ -1,37 +1,8 @@
 //! Conditions, aggregate calls and items, as they are read and as they are checked.
 
+use crate::operators::{Comparison, IsTest};
 use crate::order::RawTerm;
 use agg_library::AggKind;
-
-/// How two values are compared (PostgreSQL 17, Table 9.1).
-#[derive(Clone, Copy, Debug, PartialEq, Eq)]
-pub enum Comparison {
-    /// `=`
-    Equal,
-    /// `<>`
-    Unequal,
-    /// `<`
-    Less,
-    /// `<=`
-    AtMost,
-    /// `>`
-    More,
-    /// `>=`
-    AtLeast,
-}
-
-/// What an IS test looks for (PostgreSQL 17, Table 9.2).
-#[derive(Clone, Copy, Debug, PartialEq, Eq)]
-pub enum IsTest {
-    /// `IS NULL`
-    IsNull,
-    /// `IS TRUE`
-    IsTrue,
-    /// `IS FALSE`
-    IsFalse,
-    /// `IS UNKNOWN`
-    IsUnknown,
-}
 
 /// A condition, or an operand of one. A column is known by its name before a query is checked, by its place after.
 #[cycle(condition)]

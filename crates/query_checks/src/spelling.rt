@@ -7,42 +7,17 @@ ghost use Rattle.query_tokens.specs.Words as words;
 ghost use Rattle.query_tokens.specs.Spelling.{spell, spell_byte};
 ghost use Rattle.agg_library.specs.Kinds.{function_of};
 ghost use Rattle.packed_rows.specs.View.{texts_of};
-ghost use Rattle.query_checks.specs.Forms.{form_of, call_form, item_form, names_of, items_of, comparison_of, test_of, written_of};
+ghost use Rattle.query_checks.specs.Forms.{form_of, call_form, item_form, names_of, items_of, written_of};
 ghost use Rattle.query_checks.specs.Order.{asked_of, order_of};
 ghost use Rattle.query_checks.specs.Sameness.{first_of_each};
-ghost use Rattle.query_checks.specs.Spelling.{comparison_text, test_text, call_text, level, operand, spelled, own_name, kept_alias, item_text, parted, clause_text, keys_text, written_text, direction_text, term_text, order_text, spelling};
+ghost use Rattle.query_checks.specs.Spelling.{call_text, level, operand, spelled, own_name, kept_alias, item_text, parted, clause_text, keys_text, written_text, direction_text, term_text, order_text, spelling};
 
-use crate::condition::{AggCall, Comparison, Cond, IsTest, Item, RawQuery};
+use crate::condition::{AggCall, Cond, Item, RawQuery};
+use crate::operators::Comparison;
 use crate::order::OrderTerm;
 use agg_library::AggKind;
 use itoa::Buffer;
 use std::alloc::{AllocError, Global};
-
-/// A comparison, between its operands.
-fn comparison_text(comparison: Comparison) -> &'static str
-    ensures { result.now ≡ comparison_text (comparison_of comparison) }
-{
-    match comparison {
-        Comparison::Equal => " = ",
-        Comparison::Unequal => " <> ",
-        Comparison::Less => " < ",
-        Comparison::AtMost => " <= ",
-        Comparison::More => " > ",
-        Comparison::AtLeast => " >= ",
-    }
-}
-
-/// What an IS test looks for.
-fn test_text(test: IsTest) -> &'static str
-    ensures { result.now ≡ test_text (test_of test) }
-{
-    match test {
-        IsTest::IsNull => "NULL",
-        IsTest::IsTrue => "TRUE",
-        IsTest::IsFalse => "FALSE",
-        IsTest::IsUnknown => "UNKNOWN",
-    }
-}
 
 /// How tightly a condition binds.
 fn level(condition: &Cond<String>) -> u64
@@ -53,7 +28,7 @@ fn level(condition: &Cond<String>) -> u64
         Cond::And(..) => 2,
         Cond::Not(_) => 3,
         Cond::Is { .. } => 4,
-        Cond::Compare(..) => 5,
+        Cond::Compare(..) => Comparison::LEVEL,
         _ => 6,
     }
 }
@@ -182,8 +157,8 @@ fn push_condition(text: &mut String, condition: &Cond<String>) -> Result<(), All
             push_behind(text, " AND ", 3, d)
         }
         Cond::Compare(comparison, c, d) => {
-            push_operand(text, 6, c)?;
-            push_behind(text, comparison_text(*comparison), 6, d)
+            push_operand(text, Comparison::LEVEL + 1, c)?;
+            push_behind(text, comparison.text(), Comparison::LEVEL + 1, d)
         }
         Cond::Is {
             test,
@@ -192,7 +167,7 @@ fn push_condition(text: &mut String, condition: &Cond<String>) -> Result<(), All
         } => {
             push_operand(text, 4, operand)?;
             text.push_str(if *negated { " IS NOT " } else { " IS " })?;
-            text.push_str(test_text(*test))
+            text.push_str(test.text())
         }
     }
 }

@@ -8,10 +8,11 @@ use Rattle.query_tokens.specs.declared.word.Symbol.TheVariants as symbols
 use Rattle.query_tokens.specs.Words.{Lexeme, Name, Integer, Text, Sign}
 use Rattle.query_checks.specs.Forms as form
 use Rattle.grouping_model.specs.Aggregates.{Function}
-use Rattle.grouping_model.specs.Condition.{Comparison, Test}
+use Rattle.grouping_model.specs.Condition.{Comparison, Test, Is_null}
 use Rattle.query_grammar.specs.Grammar.{Named, opening, closing, word, IsTest, IsCallArgument, IsCondition, IsAnd, IsNot, IsTested, IsCompared, IsOperand, IsCall}
 use Rattle.query_tokens.specs.Reserved.{is_reserved}
-use Rattle.query_grammar.specs.Terminals.{function_named, comparison_named, is_word, is_sign, symbol_number}
+use Rattle.query_checks.specs.Operators.{comparison_named, test_word}
+use Rattle.query_grammar.specs.Terminals.{function_named, is_word, is_sign, symbol_number}
 use Rattle.query_grammar.specs.Reading.{Read, Inner, ◌>>=◌, after, filter_at, is_count, argument_at, call_at, function_or_column, choose, word_at, enclosed_at, prim_at, with_rest, after_comparison, cmp_at, looked_for, tested, chain_at, test_at, not_at, joined, and_at, or_at, condition_at, conditions}
 use Rattle.query_grammar.specs.Grammar as grammar
 use Rattle.query_grammar.proofs.Alike.{Within, Stays}
@@ -164,19 +165,21 @@ argument_reads (grammar.a_column {f = f} {w = w} free) rest = rw (none (is_count
     none true = refl
     none false = refl
 
-test_reads : {us : List Lexeme} {t : Test} → IsTest us t → (x : Named) (rest : List Lexeme) → tested x (us ++ rest) ≡ Ok (form.Is t x, rest)
+word_tests : (t : Test) (x : Named) (rest : List Lexeme) → tested x (word (test_word t) ∷ rest) ≡ Ok (form.Is t x, rest)
 unfolding tested looked_for
-test_reads grammar.for_null x rest = refl
-test_reads grammar.for_true x rest = refl
-test_reads grammar.for_false x rest = refl
-test_reads grammar.for_unknown x rest = refl
+word_tests Is_null x rest = refl
+word_tests t x rest = refl
+
+word_tests_not : (t : Test) (x : Named) (rest : List Lexeme) → tested x (word (codes "not") ∷ word (test_word t) ∷ rest) ≡ Ok (form.Is_not t x, rest)
+unfolding tested looked_for
+word_tests_not Is_null x rest = refl
+word_tests_not t x rest = refl
+
+test_reads : {us : List Lexeme} {t : Test} → IsTest us t → (x : Named) (rest : List Lexeme) → tested x (us ++ rest) ≡ Ok (form.Is t x, rest)
+test_reads (grammar.for_word t) x rest = word_tests t x rest
 
 not_test_reads : {us : List Lexeme} {t : Test} → IsTest us t → (x : Named) (rest : List Lexeme) → tested x (word (codes "not") ∷ (us ++ rest)) ≡ Ok (form.Is_not t x, rest)
-unfolding tested looked_for
-not_test_reads grammar.for_null x rest = refl
-not_test_reads grammar.for_true x rest = refl
-not_test_reads grammar.for_false x rest = refl
-not_test_reads grammar.for_unknown x rest = refl
+not_test_reads (grammar.for_word t) x rest = word_tests_not t x rest
 
 -- ---- the whole grammar
 

@@ -10,11 +10,12 @@ use Rattle.query_tokens.specs.Reserved.{is_reserved}
 use Rattle.grouping_model.specs.Datum as datum
 use Rattle.grouping_model.specs.Aggregates as function
 use Rattle.grouping_model.specs.Aggregates.{Function}
-use Rattle.grouping_model.specs.Condition.{Comparison, Test, Is_null, Is_true, Is_false, Is_unknown}
+use Rattle.grouping_model.specs.Condition.{Comparison, Test}
 use Rattle.query_checks.specs.Forms as form
-use Rattle.query_grammar.specs.Terminals.{function_named, comparison_named, is_word, is_sign}
+use Rattle.query_checks.specs.Operators.{comparison_named, all_tests, test_word}
+use Rattle.query_grammar.specs.Terminals.{function_named, is_word, is_sign}
 use Rattle.query_grammar.specs.Grammar.{Named, opening}
-use Rattle.query_grammar.specs.Reading.{Read, Unexpected, Too_deep, Inner, ◌>>=◌, unexpected, after, choose, expect, name_at, filter_at, argument_at, call_at, function_or_column, word_at, enclosed_at, prim_at, with_rest, after_comparison, right_side, cmp_at, looked_for, tested, chain_at, test_at, not_at, joined, and_at, or_at, nested_at, condition_at, conditions}
+use Rattle.query_grammar.specs.Reading.{Read, Unexpected, Too_deep, Inner, ◌>>=◌, unexpected, after, choose, expect, name_at, filter_at, argument_at, call_at, function_or_column, word_at, enclosed_at, prim_at, with_rest, after_comparison, right_side, cmp_at, looked_for_among, looked_for, tested, chain_at, test_at, not_at, joined, and_at, or_at, nested_at, condition_at, conditions}
 use Rattle.query_grammar.specs.Laws.{Part, Means}
 use Rattle.query_grammar.proofs.Sound.{Name_part, InnerMeans, name_means, prim_means, not_means, and_means, nested_means, condition_means}
 use Rattle.query_grammar.proofs.Alike.{Tails, none, both, Within, Stays, Alike, same, refused, deep, past, deeper, Agree, within_more, past_within, within_bind, within_chosen, alike_bind, alike_choose, done, refuses, binds, chooses, expects, maps}
@@ -268,16 +269,14 @@ comparisons_agree d one two most f g a room wide fits =
 
 -- ---- IS tests
 
+among_agree : (d : Bool) (one two : List Lexeme) (tails : Tails one two) (most : ℕ) (tests : List Test) → Agree d one two most (looked_for_among tests) (looked_for_among tests)
+among_agree d one two tails most [] = refuses d one two most
+among_agree d one two tails most (t ∷ tests) =
+    chooses d one two tails most (is_word (test_word t)) (λ rest. Ok (t, rest)) (λ rest. Ok (t, rest)) (looked_for_among tests) (looked_for_among tests) (done d one two most t) (among_agree d one two tails most tests)
+
 looked_agree : (d : Bool) (one two : List Lexeme) (tails : Tails one two) (most : ℕ) → Agree d one two most looked_for looked_for
 unfolding looked_for
-looked_agree d one two tails most =
-    let fourth : List Lexeme → Read Test = λ ts. choose (after (is_word (codes "unknown")) ts) (λ rest. Ok (Is_unknown, rest)) (unexpected ts) in
-    let third : List Lexeme → Read Test = λ ts. choose (after (is_word (codes "false")) ts) (λ rest. Ok (Is_false, rest)) (fourth ts) in
-    let second : List Lexeme → Read Test = λ ts. choose (after (is_word (codes "true")) ts) (λ rest. Ok (Is_true, rest)) (third ts) in
-    chooses d one two tails most (is_word (codes "null")) (λ rest. Ok (Is_null, rest)) (λ rest. Ok (Is_null, rest)) second second (done d one two most Is_null) (
-    chooses d one two tails most (is_word (codes "true")) (λ rest. Ok (Is_true, rest)) (λ rest. Ok (Is_true, rest)) third third (done d one two most Is_true) (
-    chooses d one two tails most (is_word (codes "false")) (λ rest. Ok (Is_false, rest)) (λ rest. Ok (Is_false, rest)) fourth fourth (done d one two most Is_false) (
-    chooses d one two tails most (is_word (codes "unknown")) (λ rest. Ok (Is_unknown, rest)) (λ rest. Ok (Is_unknown, rest)) unexpected unexpected (done d one two most Is_unknown) (refuses d one two most))))
+looked_agree d one two tails most = among_agree d one two tails most all_tests
 
 tested_agree : (d : Bool) (one two : List Lexeme) (tails : Tails one two) (most : ℕ) (x : Named) → Agree d one two most (tested x) (tested x)
 unfolding tested

@@ -14,13 +14,14 @@ use Rattle.grouping_model.specs.Aggregates as function
 use Rattle.grouping_model.specs.Aggregates.{Function}
 use Rattle.grouping_model.specs.Condition as model
 use Rattle.query_checks.specs.Forms as form
-use Rattle.query_checks.specs.Spelling.{function_name, comparison_text, test_text, call_text, level, operand, spelled}
+use Rattle.query_checks.specs.Spelling.{function_name, call_text, level, operand, spelled}
 use Rattle.query_checks.specs.Checks.{depth, filters_pass}
 use Rattle.query_checks.specs.Writable.{IsWritableArgument, IsLiteral, IsForm}
-use Rattle.query_grammar.specs.Terminals.{function_named, comparison_named, symbol_for}
+use Rattle.query_checks.specs.Operators.{comparison_named, comparison_text, symbol_for, test_text, test_word}
+use Rattle.query_grammar.specs.Terminals.{function_named}
 use Rattle.query_grammar.specs.Grammar as grammar
 use Rattle.query_grammar.specs.Grammar.{Named, opening, closing, word, IsTest, IsCondition, IsAnd, IsNot, IsTested, IsCompared, IsOperand, IsCall}
-use Rattle.query_grammar.proofs.Texts.{reads_space, reads_spelled, never_first, Quiet, Spells, Opens, spells_lexeme, spells_two, opens_then, spells_between, spells_enclosed, spells_word, opens_word, opens_between, opens_two, where_word, filter_word, and_word, or_word, not_word, is_word, null_word, true_word, false_word, unknown_word}
+use Rattle.query_grammar.proofs.Texts.{reads_space, reads_spelled, never_first, Quiet, Spells, Opens, spells_lexeme, spells_two, opens_then, spells_between, spells_enclosed, spells_word, opens_word, opens_between, opens_two, where_word, filter_word, and_word, or_word, not_word, is_word, null_word, true_word, false_word, test_is_word}
 
 -- ---- what a condition's tokens are, at each level of binding
 
@@ -260,10 +261,7 @@ record Tests (t : model.Test) : Type 0 where
   spells : Spells (test_text t) tokens
 
 tests : (t : model.Test) → Tests t
-tests model.Is_null = record { tokens = word (codes "null") ∷ []; is = grammar.for_null; spells = spells_word (codes "NULL") (codes "null") null_word }
-tests model.Is_true = record { tokens = word (codes "true") ∷ []; is = grammar.for_true; spells = spells_word (codes "TRUE") (codes "true") true_word }
-tests model.Is_false = record { tokens = word (codes "false") ∷ []; is = grammar.for_false; spells = spells_word (codes "FALSE") (codes "false") false_word }
-tests model.Is_unknown = record { tokens = word (codes "unknown") ∷ []; is = grammar.for_unknown; spells = spells_word (codes "UNKNOWN") (codes "unknown") unknown_word }
+tests t = record { tokens = word (test_word t) ∷ []; is = grammar.for_word t; spells = spells_word (test_text t) (test_word t) (test_is_word t) }
 
 opens_is_not : Opens (codes " IS NOT ") (word (codes "is") ∷ word (codes "not") ∷ [])
 opens_is_not = opens_two (codes " IS ") (codes "NOT ") (word (codes "is") ∷ []) (word (codes "not") ∷ []) (opens_between (codes "IS") (codes "is") is_word) (opens_word (codes "NOT") (codes "not") not_word)

@@ -10,12 +10,13 @@ use Rattle.query_tokens.specs.Reserved.{is_reserved}
 use Rattle.grouping_model.specs.Datum as datum
 use Rattle.grouping_model.specs.Aggregates as function
 use Rattle.grouping_model.specs.Aggregates.{Function}
-use Rattle.grouping_model.specs.Condition.{Comparison, Test, Is_null, Is_true, Is_false, Is_unknown}
+use Rattle.grouping_model.specs.Condition.{Comparison, Test, Is_null}
 use Rattle.query_checks.specs.Forms as form
-use Rattle.query_grammar.specs.Terminals.{function_named, comparison_named, is_word, is_sign}
+use Rattle.query_checks.specs.Operators.{comparison_named, all_tests, test_word}
+use Rattle.query_grammar.specs.Terminals.{function_named, is_word, is_sign}
 use Rattle.query_grammar.specs.Grammar as grammar
 use Rattle.query_grammar.specs.Grammar.{Named, opening, closing, word, IsTest, IsCallArgument, IsCondition, IsAnd, IsNot, IsTested, IsCompared, IsOperand, IsCall}
-use Rattle.query_grammar.specs.Reading.{Read, Inner, ◌>>=◌, unexpected, after, choose, expect, name_at, filter_at, argument_at, call_at, function_or_column, word_at, enclosed_at, prim_at, with_rest, after_comparison, right_side, cmp_at, looked_for, tested, chain_at, test_at, not_at, joined, and_at, or_at, nested_at, condition_at, conditions}
+use Rattle.query_grammar.specs.Reading.{Read, Inner, ◌>>=◌, unexpected, after, choose, expect, name_at, filter_at, argument_at, call_at, function_or_column, word_at, enclosed_at, prim_at, with_rest, after_comparison, right_side, cmp_at, looked_for_among, looked_for, tested, chain_at, test_at, not_at, joined, and_at, or_at, nested_at, condition_at, conditions}
 use Rattle.query_grammar.specs.Laws.{Part, Means, CanBecome}
 use Rattle.query_grammar.proofs.Marks.{the_word, same_bytes, the_sign}
 use Rattle.query_grammar.proofs.Steps.{behind, done, refused, widen, weaken, bind, mapped, chosen, expected}
@@ -251,17 +252,15 @@ cmp_means inner h room ts =
 
 -- ---- IS tests
 
+among_means : (tests : List Test) (ts : List Lexeme) → Means Test_part ts (looked_for_among tests ts)
+among_means [] ts = refused Test_part ts (λ b. (word (test_word Is_null) ∷ [], Is_null, grammar.for_word Is_null))
+among_means (t ∷ tests) ts =
+    chosen Test_part (word (test_word t)) (is_word (test_word t)) (word_law (test_word t)) ts (λ rest. Ok (t, rest)) (looked_for_among tests ts) (λ rest. done (λ b u s. IsTest (word (test_word t) ∷ u) s) rest t (λ b. grammar.for_word t))
+    (among_means tests ts)
+
 looked_for_means : (ts : List Lexeme) → Means Test_part ts (looked_for ts)
 unfolding looked_for
-looked_for_means ts =
-    let fourth = choose (after (is_word (codes "unknown")) ts) (λ rest. Ok (Is_unknown, rest)) (unexpected ts) in
-    let third = choose (after (is_word (codes "false")) ts) (λ rest. Ok (Is_false, rest)) fourth in
-    let second = choose (after (is_word (codes "true")) ts) (λ rest. Ok (Is_true, rest)) third in
-    chosen Test_part (word (codes "null")) (is_word (codes "null")) (word_law (codes "null")) ts (λ rest. Ok (Is_null, rest)) second (λ rest. done (λ b u t. IsTest (word (codes "null") ∷ u) t) rest Is_null (λ b. grammar.for_null)) (
-    chosen Test_part (word (codes "true")) (is_word (codes "true")) (word_law (codes "true")) ts (λ rest. Ok (Is_true, rest)) third (λ rest. done (λ b u t. IsTest (word (codes "true") ∷ u) t) rest Is_true (λ b. grammar.for_true)) (
-    chosen Test_part (word (codes "false")) (is_word (codes "false")) (word_law (codes "false")) ts (λ rest. Ok (Is_false, rest)) fourth (λ rest. done (λ b u t. IsTest (word (codes "false") ∷ u) t) rest Is_false (λ b. grammar.for_false)) (
-    chosen Test_part (word (codes "unknown")) (is_word (codes "unknown")) (word_law (codes "unknown")) ts (λ rest. Ok (Is_unknown, rest)) (unexpected ts) (λ rest. done (λ b u t. IsTest (word (codes "unknown") ∷ u) t) rest Is_unknown (λ b. grammar.for_unknown))
-    (refused Test_part ts (λ b. (word (codes "null") ∷ [], Is_null, grammar.for_null))))))
+looked_for_means ts = among_means all_tests ts
 
 tested_means : (limit room : ℕ) (front : List Lexeme) (x : Named) (ts : List Lexeme) → ((b : Bool) → Tested_part limit room b front x) → Means (λ b u y. Tested_part limit room b (front ++ word (codes "is") ∷ u) y) ts (tested x ts)
 unfolding tested

@@ -12,6 +12,8 @@ use Rattle.query_tokens.proofs.Steps.{passes, word_end}
 use Rattle.query_tokens.proofs.Respelled.{word_again}
 use Rattle.query_tokens.proofs.Pieces.{IsSolid, spell_solid}
 use Rattle.query_tokens.specs.EndLaws.{before_others}
+use Rattle.grouping_model.specs.Condition as model
+use Rattle.query_checks.specs.Operators.{test_text, test_word}
 use Rattle.query_grammar.specs.Grammar.{opening, closing}
 
 -- these bytes are read as these lexemes, wherever they stand
@@ -243,11 +245,12 @@ false_word = record { at = go; solid = λ rest. record { some = omega arith; sol
     go at [] q = refl
     go at (b ∷ bs) q = rw (quiet_name b bs q) refl
 
-pub unknown_word : IsWord (codes "UNKNOWN") (codes "unknown")
+pub test_is_word : (t : model.Test) → IsWord (test_text t) (test_word t)
 unfolding word_at name_at
-unknown_word = record { at = go; solid = λ rest. record { some = omega arith; solid = refl } }
+test_is_word model.Is_null = null_word
+test_is_word t = record { at = go; solid = λ rest. record { some = omega arith; solid = refl } }
   where
-    go : (at : ℕ) (rest : List ℕ) → Quiet rest → word_at at (codes "UNKNOWN" ++ rest) ≡ Ok (Name (codes "unknown"), rest)
+    go : (at : ℕ) (rest : List ℕ) → Quiet rest → word_at at (test_text t ++ rest) ≡ Ok (Name (test_word t), rest)
     go at [] q = refl
     go at (b ∷ bs) q = rw (quiet_name b bs q) refl
 

@@ -8,7 +8,8 @@ use Rattle.query_tokens.specs.Words.{Lexeme, Name, Sign}
 use Rattle.query_grammar.specs.Grammar.{Named, word, IsCall}
 use Rattle.query_checks.specs.Order.{Term, Asked}
 use Rattle.query_tokens.specs.Reserved.{is_reserved}
-use Rattle.query_grammar.specs.Terminals.{function_named, comparison_named, is_word, is_sign, symbol_number}
+use Rattle.query_checks.specs.Operators.{comparison_named}
+use Rattle.query_grammar.specs.Terminals.{function_named, is_word, is_sign, symbol_number}
 use Rattle.query_grammar.specs.Reading.{Read, after, name_at, prim_at, conditions}
 use Rattle.query_grammar.specs.Whole.{item_value_at, alias_or_none, alias_at, item_at, list_at, clause_at, keys_at, term_at, order_at, end_at, query_at}
 use Rattle.query_grammar.specs.Grammar as conditions

@@ -9,10 +9,11 @@ use Rattle.query_tokens.specs.Reserved.{is_reserved}
 use Rattle.grouping_model.specs.Datum as datum
 use Rattle.grouping_model.specs.Aggregates as function
 use Rattle.grouping_model.specs.Aggregates.{Function}
-use Rattle.grouping_model.specs.Condition.{Comparison, Test, Is_null, Is_true, Is_false, Is_unknown}
+use Rattle.grouping_model.specs.Condition.{Comparison, Test}
 use Rattle.query_checks.specs.Forms as form
 use Rattle.query_checks.specs.Forms.{Form}
-use Rattle.query_grammar.specs.Terminals.{function_named, comparison_named}
+use Rattle.query_checks.specs.Operators.{comparison_named, test_word}
+use Rattle.query_grammar.specs.Terminals.{function_named}
 
 -- a condition over the names of columns
 abbrev pub Named : Type 0
@@ -29,12 +30,9 @@ closing = Sign symbols.Close
 abbrev pub word : List ℕ → Lexeme
 word w = Name w
 
--- NULL | TRUE | FALSE | UNKNOWN (PostgreSQL 17, Table 9.2)
+-- a test: its word, which is NULL | TRUE | FALSE | UNKNOWN (PostgreSQL 17, Table 9.2)
 pub data IsTest : List Lexeme → Test → Type 0 where
-  for_null : IsTest (word (codes "null") ∷ []) Is_null
-  for_true : IsTest (word (codes "true") ∷ []) Is_true
-  for_false : IsTest (word (codes "false") ∷ []) Is_false
-  for_unknown : IsTest (word (codes "unknown") ∷ []) Is_unknown
+  for_word : (t : Test) → IsTest (word (test_word t) ∷ []) t
 
 -- what stands in the parentheses of a call of this function: a column, or `*` in those of count, which counts rows then
 -- (PostgreSQL 17, 4.2.7 Aggregate Expressions)
@@ -60,7 +58,7 @@ mutual
     only_tested : {room : ℕ} {ts : List Lexeme} {x : Named} → IsTested limit room ts x → IsNot limit room ts x
     by_not : {room : ℕ} {ts : List Lexeme} {x : Named} → IsNot limit room ts x → IsNot limit room (word (codes "not") ∷ ts) (form.Not x)
 
-  -- test = cmp {IS [NOT] (NULL | TRUE | FALSE | UNKNOWN)}
+  -- test = cmp {IS [NOT] the word of a test}
   pub data IsTested (limit : ℕ) : ℕ → List Lexeme → Named → Type 0 where
     only_compared : {room : ℕ} {ts : List Lexeme} {x : Named} → IsCompared limit room ts x → IsTested limit room ts x
     by_is : {room : ℕ} (ts us : List Lexeme) {x : Named} {t : Test} → IsTested limit room ts x → IsTest us t

@@ -8,9 +8,10 @@ use Rattle.query_tokens.specs.Reserved.{is_reserved}
 use Rattle.grouping_model.specs.Datum as datum
 use Rattle.grouping_model.specs.Aggregates as function
 use Rattle.grouping_model.specs.Aggregates.{Function}
-use Rattle.grouping_model.specs.Condition.{Comparison, Test, Is_null, Is_true, Is_false, Is_unknown}
+use Rattle.grouping_model.specs.Condition.{Comparison, Test}
 use Rattle.query_checks.specs.Forms as form
-use Rattle.query_grammar.specs.Terminals.{function_named, comparison_named, is_word, is_sign}
+use Rattle.query_checks.specs.Operators.{comparison_named, all_tests, test_word}
+use Rattle.query_grammar.specs.Terminals.{function_named, is_word, is_sign}
 use Rattle.query_grammar.specs.Grammar.{Named, opening}
 
 -- the first fault, by how many tokens are left from it on: a token that nothing can stand before, or a parenthesis too
@@ -141,13 +142,13 @@ cmp_at inner room ts = do
   x ← prim_at inner room ts
   right_side inner room x.0 x.1 (after_comparison x.1)
 
--- what an IS test looks for
+-- what an IS test looks for, among these tests, and among all
+abbrev pub looked_for_among : List Test → List Lexeme → Read Test
+looked_for_among [] ts = unexpected ts
+looked_for_among (t ∷ tests) ts = choose (after (is_word (test_word t)) ts) (λ rest. Ok (t, rest)) (looked_for_among tests ts)
+
 unfoldable pub looked_for : List Lexeme → Read Test
-looked_for ts =
-    choose (after (is_word (codes "null")) ts) (λ rest. Ok (Is_null, rest)) (
-    choose (after (is_word (codes "true")) ts) (λ rest. Ok (Is_true, rest)) (
-    choose (after (is_word (codes "false")) ts) (λ rest. Ok (Is_false, rest)) (
-    choose (after (is_word (codes "unknown")) ts) (λ rest. Ok (Is_unknown, rest)) (unexpected ts))))
+looked_for ts = looked_for_among all_tests ts
 
 -- [NOT] and what is looked for, behind an IS
 unfoldable pub tested : Named → List Lexeme → Read Named

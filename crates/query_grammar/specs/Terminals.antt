@@ -1,31 +1,11 @@
 -- What the grammar asks of a single token.
-use Rattle.std.specs.Prelude.{ℕ, Bool, false, ◌==◌, List, Option, Some, None}
+use Rattle.std.specs.Prelude.{ℕ, Bool, false, ◌==◌, List}
 use Rattle.std.specs.Str.{bytes_eq}
 use Rattle.query_tokens.specs.declared.word.Symbol.{Symbol}
 use Rattle.query_tokens.specs.declared.word.Symbol.TheVariants as symbols
 use Rattle.query_tokens.specs.Words.{Lexeme, Name, Sign}
 -- the function that a name calls (PostgreSQL 17, 9.21 Aggregate Functions)
 unfoldable pub use Rattle.query_checks.specs.Spelling.{function_named}
-use Rattle.grouping_model.specs.Condition.{Comparison, Equal, Unequal, Less, At_most, More, At_least}
-
--- the comparison that a symbol stands for (PostgreSQL 17, Table 9.1)
-unfoldable pub comparison_named : Symbol → Option Comparison
-comparison_named symbols.Equal = Some Equal
-comparison_named symbols.Unequal = Some Unequal
-comparison_named symbols.Less = Some Less
-comparison_named symbols.AtMost = Some At_most
-comparison_named symbols.More = Some More
-comparison_named symbols.AtLeast = Some At_least
-comparison_named other = None
-
--- the symbol that stands for a comparison
-abbrev pub symbol_for : Comparison → Symbol
-symbol_for Equal = symbols.Equal
-symbol_for Unequal = symbols.Unequal
-symbol_for Less = symbols.Less
-symbol_for At_most = symbols.AtMost
-symbol_for More = symbols.More
-symbol_for At_least = symbols.AtLeast
 
 -- numbers that tell symbols apart
 unfoldable pub symbol_number : Symbol → ℕ

@@ -1,7 +1,8 @@
 use Rattle.std.specs.Prelude.{◌≡◌, Result, Ok, IfOk}
 use Rattle.std.proofs.Common.{sym, ◌∙◌, ap, subst, Box, Global}
 use Rattle.query_checks.specs.declared.condition.Cond.{Cond}
-use Rattle.query_checks.specs.Forms.{Form, Unary, Binary, Negation, Testing, Conjunction, Disjunction, Comparing, form_of, call_form, comparison_of, test_of, exchanged, map_reads}
+use Rattle.query_checks.specs.Operators.{comparison_of, test_of}
+use Rattle.query_checks.specs.Forms.{Form, Unary, Binary, Negation, Testing, Conjunction, Disjunction, Comparing, form_of, call_form, exchanged, map_reads}
 use Rattle.query_checks.proofs.mapping.+mapped.Goals as goal
 
 -- what became of an operand
