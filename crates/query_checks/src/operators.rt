@@ -2,7 +2,7 @@
 
 ghost use Rattle.std.specs.Prelude.{◌≡◌, option_map};
 ghost use Rattle.grouping_model.specs.Condition.{holds_of};
-ghost use Rattle.query_checks.specs.Operators.{comparison_of, comparison_level, comparison_text, comparison_named, test_of, test_text};
+ghost use Rattle.query_checks.specs.Operators.{comparison_of, comparison_text, comparison_named, test_of, test_text};
 
 use query_tokens::Symbol;
 use std::cmp::Ordering;

@@ -15,7 +15,7 @@ use Rattle.query_checks.specs.Forms as form
 use Rattle.query_checks.specs.Operators.{comparison_named, all_tests, test_word}
 use Rattle.query_grammar.specs.Terminals.{function_named, is_word, is_sign}
 use Rattle.query_grammar.specs.Grammar.{Named, opening}
-use Rattle.query_grammar.specs.Reading.{Read, Unexpected, Too_deep, Inner, ◌>>=◌, unexpected, after, choose, expect, name_at, filter_at, argument_at, call_at, function_or_column, word_at, enclosed_at, prim_at, with_rest, after_comparison, right_side, cmp_at, looked_for_among, looked_for, tested, chain_at, test_at, not_at, joined, and_at, or_at, nested_at, condition_at, conditions}
+use Rattle.query_grammar.specs.Reading.{Read, Unexpected, Too_deep, Inner, ◌>>=◌, unexpected, expect, name_at, filter_at, argument_at, call_at, function_or_column, word_at, enclosed_at, prim_at, with_rest, after_comparison, right_side, cmp_at, looked_for_among, looked_for, tested, chain_at, test_at, not_at, joined, and_at, or_at, nested_at, condition_at, conditions}
 use Rattle.query_grammar.specs.Laws.{Part, Means}
 use Rattle.query_grammar.proofs.Sound.{Name_part, InnerMeans, name_means, prim_means, not_means, and_means, nested_means, condition_means}
 use Rattle.query_grammar.proofs.Alike.{Tails, none, both, Within, Stays, Alike, same, refused, deep, past, deeper, Agree, within_more, past_within, within_bind, within_chosen, alike_bind, alike_choose, done, refuses, binds, chooses, expects, maps}
