@@ -1,4 +1,5 @@
 use Rattle.std.proofs.Common.{◌+◌, length, sym, ap, ◌∙◌, subst, arith}
+use Rattle.list_laws.specs.Outcomes.{always_err}
 use Rattle.std.proofs.lemmas.Result.{err_from_is_err_and}
 use Rattle.chunk_layout.specs.Pieces.{total}
 use Rattle.chunk_contexts.specs.declared.runs.Runs.{Runs}
@@ -21,39 +22,23 @@ invariant_of-self-2 c =
     (made-counted c.self.inside.runs c.alloc.new.self c.self.inside.counts.items c.make_count.new.counts.items c.self.invariant c.in_ok-name.ensures.run (length c.args.bytes.now) (c.args.bytes.now) c.in_ok-name.name c.in_ok-name.ensures.admitted c.in_ok-name.ensures.space c.in_ok-name.ensures.added c.in_ok-name.ensures.block
     c.in_ok-make_count.ensures.same c.in_ok-make_count.ensures.long (λ grows. omega (arith, c.in_ok-make_count.ensures.room (omega (arith, c.growth-growth.ensures, grows)), c.numbers.ensures)))
 
-pub returns-in_err-make_count : goal.returns-in_err-make_count
-returns-in_err-make_count c =
+pub returns-in_err-make_count-clause-refused : goal.returns-in_err-make_count-clause-refused
+returns-in_err-make_count-clause-refused c =
     let e = err_from_is_err_and c.from_residual.result c.from_residual.ensures.1 in
-    rw e.1 (record {
-      admitted = tt;
-      added = tt;
-      lives = tt;
-      holds = tt;
-      block = tt;
-      lies = tt;
-      keeps = tt;
-      space = tt;
-      grown = tt;
-      refused = refused-count _ _ (length c.args.bytes.now) e.0 c.self.view_is (omega (arith, c.in_err-make_count.ensures.refused, c.growth-growth.ensures)) e.2;
-      unchanged = c.self.view_is;
-    })
+    rw e.1 (refused-count _ _ (length c.args.bytes.now) e.0 c.self.view_is (omega (arith, c.in_err-make_count.ensures.refused, c.growth-growth.ensures)) e.2)
 
-pub returns-in_err-name : goal.returns-in_err-name
-returns-in_err-name c =
+pub returns-in_err-make_count-clause-unchanged : goal.returns-in_err-make_count-clause-unchanged
+returns-in_err-make_count-clause-unchanged c =
+    always_err c.from_residual.result (c.self.view_is)
+
+pub returns-in_err-name-clause-refused : goal.returns-in_err-name-clause-refused
+returns-in_err-name-clause-refused c =
     let e = err_from_is_err_and c.from_residual-in_err-name.result c.from_residual-in_err-name.ensures.1 in
-    rw e.1 (record {
-      admitted = tt;
-      added = tt;
-      lives = tt;
-      holds = tt;
-      block = tt;
-      lies = tt;
-      keeps = tt;
-      space = tt;
-      grown = tt;
-      refused = refused-as _ _ (length c.args.bytes.now) e.0 _ c.self.view_is e.2 c.in_err-name.ensures.refused;
-      unchanged = ap run_of c.in_err-name.ensures.unchanged ∙ c.self.view_is;
-    })
+    rw e.1 (refused-as _ _ (length c.args.bytes.now) e.0 _ c.self.view_is e.2 c.in_err-name.ensures.refused)
+
+pub returns-in_err-name-clause-unchanged : goal.returns-in_err-name-clause-unchanged
+returns-in_err-name-clause-unchanged c =
+    always_err c.from_residual-in_err-name.result (ap run_of c.in_err-name.ensures.unchanged ∙ c.self.view_is)
 
 pub returns : goal.returns
 returns c =

@@ -1,4 +1,5 @@
 use Rattle.std.proofs.Common.{◌≡◌, ◌+◌, ◌∷◌, ℕ, List, true, false, refl, sym, ap, ◌∙◌, subst, arith}
+use Rattle.list_laws.specs.Outcomes.{always_err}
 use Rattle.std.proofs.lemmas.Result.{err_from_is_err_and}
 use Rattle.block_memory.specs.Cells.{zeros}
 use Rattle.block_memory.specs.CellLaws.{length-zeros}
@@ -17,21 +18,10 @@ use Rattle.chunk_contexts.proofs.SetMoves.{resized-stays, resized-moved}
 use Rattle.chunk_contexts.proofs.Content.{name-there, apart-places, resized-keeps}
 use Rattle.chunk_contexts.proofs.generation.GenerationChunkContext.resize.Goals as goal
 
-pub returns-in_err-check_len : goal.returns-in_err-check_len
-returns-in_err-check_len c =
+pub returns-in_err-check_len-clause-refused : goal.returns-in_err-check_len-clause-refused
+returns-in_err-check_len-clause-refused c =
     let e = err_from_is_err_and c.from_residual.result c.from_residual.ensures.1 in
-    rw e.1 (record {
-      admitted = tt;
-      resized = tt;
-      keeps = tt;
-      stays = tt;
-      moved = tt;
-      lies = tt;
-      grown = tt;
-      most = tt;
-      refused = resize-some (over_most c.args.n) _ _ c.args.n e.0 _ c.in_err-check_len.ensures e.2;
-      unchanged = refl;
-    })
+    rw e.1 (resize-some (over_most c.args.n) _ _ c.args.n e.0 _ c.in_err-check_len.ensures e.2)
 
 pub returns-then-len-room : goal.returns-then-len-room
 returns-then-len-room c =
@@ -55,22 +45,17 @@ returns-then-len-room c =
       unchanged = tt;
     }
 
-pub returns-in_err-moved : goal.returns-in_err-moved
-returns-in_err-moved c =
-    let s = c.args.self.now in let told = c.in_err-moved.ensures in
+pub returns-in_err-moved-clause-refused : goal.returns-in_err-moved-clause-refused
+returns-in_err-moved-clause-refused c =
+    let s = c.args.self.now in
+    let told = c.in_err-moved.ensures in
     let e = err_from_is_err_and c.from_residual-in_err-moved.result c.from_residual-in_err-moved.ensures.1 in
-    rw e.1 (record {
-      admitted = tt;
-      resized = tt;
-      keeps = tt;
-      stays = tt;
-      moved = tt;
-      lies = tt;
-      grown = tt;
-      most = tt;
-      refused = resize-refused (over_most c.args.n) _ _ c.args.n e.0 _ told.refused e.2 (omega (arith, c.if-len-room.false, c.room.ensures, ap (λ (p : Place). (piece_at s.chunks p).room) c.place-place.ensures));
-      unchanged = told.unchanged;
-    })
+    rw e.1 (resize-refused (over_most c.args.n) _ _ c.args.n e.0 _ told.refused e.2 (omega (arith, c.if-len-room.false, c.room.ensures, ap (λ (p : Place). (piece_at s.chunks p).room) c.place-place.ensures)))
+
+pub returns-in_err-moved-clause-unchanged : goal.returns-in_err-moved-clause-unchanged
+returns-in_err-moved-clause-unchanged c =
+    let told = c.in_err-moved.ensures in
+    always_err c.from_residual-in_err-moved.result (told.unchanged)
 
 -- a new chunk has the bytes of another
 module _ (s t u : RunState) (name new : ChunkName) (n room : ℕ) (xs : List ℕ) (there : has s.chunks (place_of name) ≡ true) (none : has s.chunks (place_of new) ≡ false) (made : t ≡ run_taken 8 s (chunk_of new room xs))

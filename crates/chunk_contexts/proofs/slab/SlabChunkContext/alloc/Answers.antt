@@ -1,4 +1,5 @@
-use Rattle.std.proofs.Common.{◌≡◌, ◌+◌, None, refl, length, sym, ap, ◌∙◌, subst, arith}
+use Rattle.std.proofs.Common.{◌≡◌, ◌+◌, None, length, sym, ap, ◌∙◌, subst, arith}
+use Rattle.list_laws.specs.Outcomes.{always_err}
 use Rattle.std.proofs.lemmas.Result.{err_from_is_err_and}
 use Rattle.chunk_layout.specs.Every.{Every}
 use Rattle.chunk_layout.specs.Pieces.{Piece, total}
@@ -10,43 +11,27 @@ use Rattle.chunk_contexts.proofs.Growth.{refused-some, refused-none}
 use Rattle.chunk_contexts.proofs.SlabViews.{admitted-size, added-housed, slab-grown}
 use Rattle.chunk_contexts.proofs.slab.SlabChunkContext.alloc.Goals as goal
 
-pub returns-in_err-check_size : goal.returns-in_err-check_size
-returns-in_err-check_size c =
+pub returns-in_err-check_size-clause-refused : goal.returns-in_err-check_size-clause-refused
+returns-in_err-check_size-clause-refused c =
     let n = length c.args.bytes.now in
     let e = err_from_is_err_and c.from_residual.result c.from_residual.ensures.1 in
-    rw e.1 (record {
-      admitted = tt;
-      added = tt;
-      lives = tt;
-      holds = tt;
-      block = tt;
-      lies = tt;
-      keeps = tt;
-      space = tt;
-      grown = tt;
-      refused = refused-some (slab_refusal c.args.self.now n) _ e.0 _ (ap (λ (s : SlabState). slab_refusal s n) (sym c.self.view_is) ∙ c.in_err-check_size.ensures) e.2;
-      unchanged = refl;
-    })
+    rw e.1 (refused-some (slab_refusal c.args.self.now n) _ e.0 _ (ap (λ (s : SlabState). slab_refusal s n) (sym c.self.view_is) ∙ c.in_err-check_size.ensures) e.2)
 
-pub returns-in_err-name : goal.returns-in_err-name
-returns-in_err-name c =
-    let n = length c.args.bytes.now in let now = c.args.self.now in let told = c.in_err-name.ensures.refused in
+pub returns-in_err-name-clause-refused : goal.returns-in_err-name-clause-refused
+returns-in_err-name-clause-refused c =
+    let n = length c.args.bytes.now in
+    let now = c.args.self.now in
+    let told = c.in_err-name.ensures.refused in
     let none : slab_refusal now n ≡ None = ap (λ (s : SlabState). slab_refusal s n) (sym c.self.view_is) ∙ c.in_ok-check_size.ensures in
-    let grows = slab-grown now n none in let same = ap slab_grows c.self.view_is in
+    let grows = slab-grown now n none in
+    let same = ap slab_grows c.self.view_is in
     let e = err_from_is_err_and c.from_residual-in_err-name.result c.from_residual-in_err-name.ensures.1 in
-    rw e.1 (record {
-      admitted = tt;
-      added = tt;
-      lives = tt;
-      holds = tt;
-      block = tt;
-      lies = tt;
-      keeps = tt;
-      space = tt;
-      grown = tt;
-      refused = refused-none (slab_refusal now n) (slab_growth now n) e.0 none e.2 (omega (arith, told.1, grows, same));
-      unchanged = told.0 ∙ c.self.view_is;
-    })
+    rw e.1 (refused-none (slab_refusal now n) (slab_growth now n) e.0 none e.2 (omega (arith, told.1, grows, same)))
+
+pub returns-in_err-name-clause-unchanged : goal.returns-in_err-name-clause-unchanged
+returns-in_err-name-clause-unchanged c =
+    let told = c.in_err-name.ensures.refused in
+    always_err c.from_residual-in_err-name.result (told.0 ∙ c.self.view_is)
 
 pub returns : goal.returns
 returns c =
