@@ -4,4 +4,5 @@ pub mod Results
 pub mod TapeLaws
 pub mod HeaderLaws
 pub mod TapesLaws
+pub mod Lent
 pub mod MemoryLaws

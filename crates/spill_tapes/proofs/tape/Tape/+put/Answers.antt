@@ -42,19 +42,11 @@ returns-then-bytes-room g t c =
       disk = leaves_none g.D.TapeDisk c.args.disk.now;
     }
 
-pub returns-in_err-put_page : goal.returns-in_err-put_page
-returns-in_err-put_page g t c =
-    let e = err_from_is_err_and c.from_residual-in_err-put_page.result c.from_residual-in_err-put_page.ensures.1 in let told = c.in_err-put_page.ensures in
-    rw e.1 (record {
-      pages = told.pages;
-      same = told.same;
-      keeps = told.keeps;
-      small = tt;
-      longer = tt;
-      written = tt;
-      counted = tt;
-      disk = subst (λ x. Leaves g.D.TapeDisk (disk_faults x) c.args.disk.now c.put_page.new.disk) (sym e.2) told.disk;
-    })
+pub returns-in_err-put_page-clause-disk : goal.returns-in_err-put_page-clause-disk
+returns-in_err-put_page-clause-disk g t c =
+    let e = err_from_is_err_and c.from_residual-in_err-put_page.result c.from_residual-in_err-put_page.ensures.1 in
+    let told = c.in_err-put_page.ensures in
+    rw e.1 (subst (λ x. Leaves g.D.TapeDisk (disk_faults x) c.args.disk.now c.put_page.new.disk) (sym e.2) told.disk)
 
 pub returns : goal.returns
 returns g t c =

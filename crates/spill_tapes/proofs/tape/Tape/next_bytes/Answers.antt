@@ -10,18 +10,15 @@ use Rattle.spill_tapes.specs.DiskLaws.{reads_none}
 use Rattle.spill_tapes.specs.Disk.{OnlyReads}
 use Rattle.spill_tapes.proofs.tape.Tape.next_bytes.Goals as goal
 
-pub returns-in_err-reserve : goal.returns-in_err-reserve
-returns-in_err-reserve g c =
-    let t = c.args.self.now in let pool = c.args.pool.now in
+pub returns-in_err-reserve-clause-pages : goal.returns-in_err-reserve-clause-pages
+returns-in_err-reserve-clause-pages g c =
+    let t = c.args.self.now in
+    gives_none c.args.pool.now t.pages t.pages c.requires.pages refl
+
+pub returns-in_err-reserve-clause-disk : goal.returns-in_err-reserve-clause-disk
+returns-in_err-reserve-clause-disk g c =
     let e = err_from_is_err_and c.from_residual.result c.from_residual.ensures.1 in
-    rw e.1 (record {
-      pages = gives_none pool t.pages t.pages c.requires.pages refl;
-      phase = refl;
-      good = tt;
-      len = tt;
-      gives = tt;
-      disk = subst (λ x. OnlyReads g.D.TapeDisk (disk_faults x) c.args.disk.now c.args.disk.now) (sym e.2) (reads_none g.D.TapeDisk c.args.disk.now);
-    })
+    rw e.1 (subst (λ x. OnlyReads g.D.TapeDisk (disk_faults x) c.args.disk.now c.args.disk.now) (sym e.2) (reads_none g.D.TapeDisk c.args.disk.now))
 
 pub fill-requires : goal.fill-requires
 fill-requires g c = record {
@@ -30,18 +27,11 @@ fill-requires g c = record {
   ahead = omega (arith, c.requires.left, c.requires.good.left);
 }
 
-pub returns-in_err-fill : goal.returns-in_err-fill
-returns-in_err-fill g c =
+pub returns-in_err-fill-clause-disk : goal.returns-in_err-fill-clause-disk
+returns-in_err-fill-clause-disk g c =
     let told = c.in_err-fill.ensures in
     let e = err_from_is_err_and c.from_residual-in_err-fill.result c.from_residual-in_err-fill.ensures.1 in
-    rw e.1 (record {
-      pages = told.pages;
-      phase = told.same.phase;
-      good = tt;
-      len = tt;
-      gives = tt;
-      disk = subst (λ x. OnlyReads g.D.TapeDisk (disk_faults x) c.args.disk.now c.fill.new.disk) (sym e.2) told.disk;
-    })
+    rw e.1 (subst (λ x. OnlyReads g.D.TapeDisk (disk_faults x) c.args.disk.now c.fill.new.disk) (sym e.2) told.disk)
 
 pub returns : goal.returns
 returns g c =

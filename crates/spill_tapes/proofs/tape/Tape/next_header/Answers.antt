@@ -16,18 +16,11 @@ fill-requires g c = record {
   ahead = omega (arith, c.requires.left, c.requires.good.left);
 }
 
-pub returns-in_err-fill : goal.returns-in_err-fill
-returns-in_err-fill g c =
+pub returns-in_err-fill-clause-disk : goal.returns-in_err-fill-clause-disk
+returns-in_err-fill-clause-disk g c =
     let told = c.in_err-fill.ensures in
     let e = err_from_is_err_and c.from_residual.result c.from_residual.ensures.1 in
-    rw e.1 (record {
-      pages = told.pages;
-      phase = told.same.phase;
-      good = tt;
-      records = told.same.records;
-      header = tt;
-      disk = subst (λ x. OnlyReads g.D.TapeDisk (disk_faults x) c.args.disk.now c.fill.new.disk) (sym e.2) told.disk;
-    })
+    rw e.1 (subst (λ x. OnlyReads g.D.TapeDisk (disk_faults x) c.args.disk.now c.fill.new.disk) (sym e.2) told.disk)
 
 pub returns : goal.returns
 returns g c =

@@ -16,19 +16,11 @@ put-requires-2 g c = record {
   small = c.in_ok-put.ensures.small;
 }
 
-pub returns-in_err-put : goal.returns-in_err-put
-returns-in_err-put g c =
-    let e = err_from_is_err_and c.from_residual.result c.from_residual.ensures.1 in let told = c.in_err-put.ensures in
-    rw e.1 (record {
-      pages = told.pages;
-      keeps = told.keeps;
-      same = told.same;
-      small = tt;
-      longer = tt;
-      written = tt;
-      counted = tt;
-      disk = subst (λ x. Leaves g.D.TapeDisk (disk_faults x) c.args.disk.now c.put.new.disk) (sym e.2) told.disk;
-    })
+pub returns-in_err-put-clause-disk : goal.returns-in_err-put-clause-disk
+returns-in_err-put-clause-disk g c =
+    let e = err_from_is_err_and c.from_residual.result c.from_residual.ensures.1 in
+    let told = c.in_err-put.ensures in
+    rw e.1 (subst (λ x. Leaves g.D.TapeDisk (disk_faults x) c.args.disk.now c.put.new.disk) (sym e.2) told.disk)
 
 pub returns : goal.returns
 returns g c =
