@@ -128,38 +128,56 @@ module _ (x : Inside) (are : AreFields x) (now : TreeState) (view : tree_of x �
       get_or_read e id.slot read (omega (arith, slot-low, ap length is)) at other
       ∙ ap (λ (l : List Context). get_or l id.slot other) (is ∙ sym same)
 
-  module _ (d : List Context) (same : d ≡ cs) (c : Context) where
+-- the contexts of a tree are lent, to change one that is there
+pub record IsLent (x : Inside) (now : TreeState) (id : ContextId) (d : List Context) : Type 0 where
+  pub are : AreFields x
+  pub view : tree_of x ≡ now
+  pub there : is_there now id ≡ true
+  pub same : d ≡ x.contexts.items
+
+module _ (x : Inside) (now : TreeState) (id : ContextId) (d : List Context) (is : IsLent x now id d) (c : Context) where
+  abbrev all : List Context
+  all = x.contexts.items
+
+  low : id.slot < length all
+  low = slot-low x is.are now is.view id is.there
+
+  pub fields-written : held_by_all all + held_by c < 9223372036854775808 + held_by (get_or all id.slot no_context)
+      → AreFields (record { alloc = x.alloc; links = x.links; contexts = record { items = refill (length all) all (set d id.slot c); capacity = x.contexts.capacity }; last = x.last })
+  fields-written fits =
+      let put = whole x is.are now is.view id is.there d is.same c in
+      record {
+        long = ap length put ∙ length-set all id.slot c ∙ is.are.long;
+        stamps = is.are.stamps;
+        empty = subst (Emptied x.links) (sym put) (empty-written x is.are now is.view id is.there c);
+        bounded = subst IsBounded (sym put) (let sum = all-set all id.slot c low in omega (arith, sum, fits));
+      }
+
+  -- what was lent, and what it became, are the contexts before and after; and one that stays as it was changes nothing
+  module _ (other : Context) where
+    old : get_or d id.slot other ≡ context_at now id
+    old = old-is x is.are now is.view id is.there d other is.same
+
+    pub said : (P : Context → Context → Type 0) → P (get_or d id.slot other) c → P (context_at now id) (get_or (refill (length all) all (set d id.slot c)) id.slot no_context)
+    said P so = subst (P (context_at now id)) (sym (new-is x is.are now is.view id is.there d is.same c)) (subst (λ (a : Context). P a c) old so)
+
+    pub new-by : (f : Context → Context) → c ≡ f (get_or d id.slot other) → (record { links = x.links; contexts = refill (length all) all (set d id.slot c); last = x.last }) ≡ with_context now id (f (context_at now id))
+    new-by f by = new-tree x is.are now is.view id is.there d is.same c ∙ ap (with_context now id) (by ∙ ap f old)
+
+    pub unchanged : c ≡ get_or d id.slot other → (record { links = x.links; contexts = refill (length all) all (set d id.slot c); last = x.last }) ≡ now
+    unchanged stays = new-by (λ a. a) stays ∙ ap (λ (l : List Context). record { links = now.links; contexts = l; last = now.last }) (set-get_or now.contexts id.slot no_context)
+
     -- it holds no more than it did and a growth for which there is room
-    pub fits-grown : (other : Context) (growth : ℕ) → held_by c ≤ held_by (get_or d id.slot other) + growth → held_by_all cs + growth < 9223372036854775808
-        → held_by_all cs + held_by c < 9223372036854775808 + held_by (get_or cs id.slot no_context)
-    fits-grown other growth less room =
-        let is = ap held_by (ap (λ (l : List Context). get_or l id.slot other) same ∙ get_or_default cs id.slot other no_context slot-low) in
-        omega (arith, less, room, is)
+    pub fits-grown : (growth : ℕ) → held_by c ≤ held_by (get_or d id.slot other) + growth → held_by_all all + growth < 9223372036854775808
+        → held_by_all all + held_by c < 9223372036854775808 + held_by (get_or all id.slot no_context)
+    fits-grown growth less room =
+        let was = ap held_by (ap (λ (l : List Context). get_or l id.slot other) is.same ∙ get_or_default all id.slot other no_context low) in
+        omega (arith, less, room, was)
 
     -- where the growth was looked at first, in the same contexts
-    pub fits-asked : (other : Context) (growth : ℕ) (e : List Context) → e ≡ cs → held_by c ≤ held_by (get_or d id.slot other) + growth → held_by_all e + growth < 9223372036854775808
-        → held_by_all cs + held_by c < 9223372036854775808 + held_by (get_or cs id.slot no_context)
-    fits-asked other growth e is less room = fits-grown other growth less (subst (λ (l : List Context). held_by_all l + growth < 9223372036854775808) is room)
-
-    pub fields-written : held_by_all cs + held_by c < 9223372036854775808 + held_by (get_or cs id.slot no_context)
-        → AreFields (record { alloc = x.alloc; links = x.links; contexts = record { items = refill (length cs) cs (set d id.slot c); capacity = x.contexts.capacity }; last = x.last })
-    fields-written fits = record {
-      long = ap length (whole d same c) ∙ length-set cs id.slot c ∙ are.long;
-      stamps = are.stamps;
-      empty = subst (Emptied x.links) (sym (whole d same c)) (empty-written c);
-      bounded = subst IsBounded (sym (whole d same c)) (let sum = all-set cs id.slot c slot-low in omega (arith, sum, fits));
-    }
-
-    -- what was lent, and what it became, are the contexts before and after; and one that stays as it was changes nothing
-    module _ (other : Context) where
-      pub said : (P : Context → Context → Type 0) → P (get_or d id.slot other) c → P (context_at now id) (get_or (refill (length cs) cs (set d id.slot c)) id.slot no_context)
-      said P so = subst (P (context_at now id)) (sym (new-is d same c)) (subst (λ (a : Context). P a c) (old-is d other same) so)
-
-      pub new-by : (f : Context → Context) → c ≡ f (get_or d id.slot other) → (record { links = x.links; contexts = refill (length cs) cs (set d id.slot c); last = x.last }) ≡ with_context now id (f (context_at now id))
-      new-by f by = new-tree d same c ∙ ap (with_context now id) (by ∙ ap f (old-is d other same))
-
-      pub unchanged : c ≡ get_or d id.slot other → (record { links = x.links; contexts = refill (length cs) cs (set d id.slot c); last = x.last }) ≡ now
-      unchanged stays = new-by (λ a. a) stays ∙ ap (λ (l : List Context). record { links = now.links; contexts = l; last = now.last }) (set-get_or now.contexts id.slot no_context)
+    pub fits-asked : (growth : ℕ) (e : List Context) → e ≡ all → held_by c ≤ held_by (get_or d id.slot other) + growth → held_by_all e + growth < 9223372036854775808
+        → held_by_all all + held_by c < 9223372036854775808 + held_by (get_or all id.slot no_context)
+    fits-asked growth e asked less room = fits-grown growth less (subst (λ (l : List Context). held_by_all l + growth < 9223372036854775808) asked room)
 
 -- why a call is refused
 module _ (P : ContextError → Type 0) (there : Bool) (e : TreeError) where

@@ -29,83 +29,43 @@ invariant_of-self-2 c =
           (bounded-made t.links t.contexts.items t.last slot was.low c.self.invariant.long link it c.args.kind c.in_ok-context.ensures.1 was.fresh c.self.invariant.empty c.self.invariant.bounded);
     }
 
-pub returns-in_err-check : goal.returns-in_err-check
-returns-in_err-check c =
+pub returns-in_err-check-clause-refused : goal.returns-in_err-check-clause-refused
+returns-in_err-check-clause-refused c =
     let e = err_from_is_err_and c.from_residual.result c.from_residual.ensures.1 in
-    rw e.1 (record {
-      there = tt;
-      stamp = tt;
-      fresh = tt;
-      low = tt;
-      needed = tt;
-      made = tt;
-      allowed = tt;
-      refused = not-made e.0 c.in_err-check.ensures.0 refl refl (e.2 ∙ c.in_err-check.ensures.1);
-      unchanged = refl;
-    })
+    rw e.1 (not-made e.0 c.in_err-check.ensures.0 refl refl (e.2 ∙ c.in_err-check.ensures.1))
 
-pub returns-then-self : goal.returns-then-self
-returns-then-self c =
+pub returns-then-self-clause-refused : goal.returns-then-self-clause-refused
+returns-then-self-clause-refused c =
     let spent = subst (λ (t : TreeState). (t.last == 18446744073709551615) ≡ true) c.self.view_is (eq-eqb c.self.inside.last 18446744073709551615 c.if-self.true) in
-    record {
-      there = tt;
-      stamp = tt;
-      fresh = tt;
-      low = tt;
-      needed = tt;
-      made = tt;
-      allowed = tt;
-      refused = not-made StampsSpent c.in_ok-check.ensures spent refl refl;
-      unchanged = refl;
-    }
+    not-made StampsSpent c.in_ok-check.ensures spent refl refl
 
-pub returns-in_err-context : goal.returns-in_err-context
-returns-in_err-context c =
+pub returns-in_err-context-clause-refused : goal.returns-in_err-context-clause-refused
+returns-in_err-context-clause-refused c =
     let e = err_from_is_err_and c.from_residual-in_err-context.result c.from_residual-in_err-context.ensures.1 in
     let left = subst (λ (t : TreeState). (t.last == 18446744073709551615) ≡ false) c.self.view_is (ne_eqb c.self.inside.last 18446744073709551615 c.if-self.false) in
-    rw e.1 (record {
-      there = tt;
-      stamp = tt;
-      fresh = tt;
-      low = tt;
-      needed = tt;
-      made = tt;
-      allowed = tt;
-      refused = not-made e.0 c.in_ok-check.ensures left c.in_err-context.ensures e.2;
-      unchanged = refl;
-    })
+    rw e.1 (not-made e.0 c.in_ok-check.ensures left c.in_err-context.ensures e.2)
 
-pub returns-in_err-reserve : goal.returns-in_err-reserve
-returns-in_err-reserve c =
+pub returns-in_err-reserve-clause-refused : goal.returns-in_err-reserve-clause-refused
+returns-in_err-reserve-clause-refused c =
     let e = err_from_is_err_and c.from_residual-in_err-reserve.result c.from_residual-in_err-reserve.ensures.1 in
     let left = subst (λ (t : TreeState). (t.last == 18446744073709551615) ≡ false) c.self.view_is (ne_eqb c.self.inside.last 18446744073709551615 c.if-self.false) in
-    rw e.1 (record {
-      there = tt;
-      stamp = tt;
-      fresh = tt;
-      low = tt;
-      needed = tt;
-      made = tt;
-      allowed = tt;
-      refused = not-made e.0 c.in_ok-check.ensures left c.in_ok-context.ensures.0 e.2;
-      unchanged = (λ i. record { links = c.self.inside.links; contexts = c.reserve.ensures.items i; last = c.self.inside.last }) ∙ c.self.view_is;
-    })
+    rw e.1 (not-made e.0 c.in_ok-check.ensures left c.in_ok-context.ensures.0 e.2)
 
-pub returns-in_err-slot : goal.returns-in_err-slot
-returns-in_err-slot c =
+pub returns-in_err-reserve-clause-unchanged : goal.returns-in_err-reserve-clause-unchanged
+returns-in_err-reserve-clause-unchanged c =
+    let e = err_from_is_err_and c.from_residual-in_err-reserve.result c.from_residual-in_err-reserve.ensures.1 in
+    rw e.1 ((λ i. record { links = c.self.inside.links; contexts = c.reserve.ensures.items i; last = c.self.inside.last }) ∙ c.self.view_is)
+
+pub returns-in_err-slot-clause-refused : goal.returns-in_err-slot-clause-refused
+returns-in_err-slot-clause-refused c =
     let e = err_from_is_err_and c.from_residual-in_err-slot.result c.from_residual-in_err-slot.ensures.1 in
     let left = subst (λ (t : TreeState). (t.last == 18446744073709551615) ≡ false) c.self.view_is (ne_eqb c.self.inside.last 18446744073709551615 c.if-self.false) in
-    rw e.1 (record {
-      there = tt;
-      stamp = tt;
-      fresh = tt;
-      low = tt;
-      needed = tt;
-      made = tt;
-      allowed = tt;
-      refused = not-made e.0 c.in_ok-check.ensures left c.in_ok-context.ensures.0 e.2;
-      unchanged = (λ i. record { links = c.in_err-slot.ensures.unchanged i; contexts = c.reserve.ensures.items i; last = c.self.inside.last }) ∙ c.self.view_is;
-    })
+    rw e.1 (not-made e.0 c.in_ok-check.ensures left c.in_ok-context.ensures.0 e.2)
+
+pub returns-in_err-slot-clause-unchanged : goal.returns-in_err-slot-clause-unchanged
+returns-in_err-slot-clause-unchanged c =
+    let e = err_from_is_err_and c.from_residual-in_err-slot.result c.from_residual-in_err-slot.ensures.1 in
+    rw e.1 ((λ i. record { links = c.in_err-slot.ensures.unchanged i; contexts = c.reserve.ensures.items i; last = c.self.inside.last }) ∙ c.self.view_is)
 
 pub returns : goal.returns
 returns c =

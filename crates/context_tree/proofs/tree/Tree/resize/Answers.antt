@@ -1,4 +1,4 @@
-use Rattle.std.proofs.Common.{◌≡◌, ◌+◌, ◌<◌, ◌≤◌, true, None, inl, inr, get_or, refl, sym, ap, subst, ◌∙◌, arith}
+use Rattle.std.proofs.Common.{◌≡◌, ◌+◌, ◌<◌, ◌≤◌, true, None, inl, inr, get_or, sym, ap, subst, ◌∙◌, arith}
 use Rattle.std.proofs.lemmas.Bool.{cases_lt}
 use Rattle.std.specs.Prelude.{IsTrue}
 use Rattle.std.proofs.lemmas.Result.{err_from_is_err_and}
@@ -8,7 +8,7 @@ use Rattle.context_tree.specs.Contexts.{chunks_of, chunk_bytes, room_in, refusal
 use Rattle.context_tree.specs.Tree.{is_there}
 use Rattle.context_tree.specs.declared.context.Context.{Context}
 use Rattle.context_tree.proofs.Bounds.{resized-held}
-use Rattle.context_tree.proofs.TreeLaws.{old-is, read-changed, fits-asked, said, new-by, unchanged, fields-written, refused-gone, refused-own}
+use Rattle.context_tree.proofs.TreeLaws.{IsLent, old-is, read-changed, fits-asked, said, new-by, unchanged, fields-written, refused-gone, refused-own}
 use Rattle.context_tree.proofs.tree.Tree.resize.Goals as goal
 
 pub resize-requires : goal.resize-requires
@@ -16,56 +16,41 @@ resize-requires c =
     let old = old-is c.self.inside c.self.invariant c.args.self.now c.self.view_is c.args.id c.in_ok-check.ensures c.deref_mut.result.now c.index-deref_mut-id.result c.deref_mut.ensures.value in
     subst (λ (a : Context). IsTrue (has_chunk a c.args.name)) (sym old) (c.requires c.in_ok-check.ensures)
 
-pub returns-in_err-check : goal.returns-in_err-check
-returns-in_err-check c =
+pub returns-in_err-check-clause-refused : goal.returns-in_err-check-clause-refused
+returns-in_err-check-clause-refused c =
     let e = err_from_is_err_and c.from_residual.result c.from_residual.ensures.1 in
-    rw e.1 (record {
-      there = tt;
-      resized = tt;
-      keeps = tt;
-      stays = tt;
-      moved = tt;
-      lies = tt;
-      grown = tt;
-      refused = refused-gone _ (is_there c.args.self.now c.args.id) e.0 c.in_err-check.ensures.0 (e.2 ∙ c.in_err-check.ensures.1);
-      unchanged = refl;
-    })
+    rw e.1 (refused-gone _ (is_there c.args.self.now c.args.id) e.0 c.in_err-check.ensures.0 (e.2 ∙ c.in_err-check.ensures.1))
 
-pub returns-in_err-resize : goal.returns-in_err-resize
-returns-in_err-resize c =
-    let x = c.self.inside in let are = c.self.invariant in let now = c.args.self.now in let view = c.self.view_is in let id = c.args.id in let there = c.in_ok-check.ensures in
-    let d = c.deref_mut.result.now in let same = c.deref_mut.ensures.value in let new = c.resize.new.self in let other = c.index-deref_mut-id.result in
-    let own = c.in_err-resize.field-0.0 in let told = c.in_err-resize.ensures in let n = c.args.n in
-    let refused = said x are now view id there d same new other (λ a _. IsResizeRefused (can_free a) (refusal_of a n) (growth_of a n) (piece_at (chunks_of a) (place_of c.args.name)).room n own) told.refused in
+pub returns-in_err-resize-clause-refused : goal.returns-in_err-resize-clause-refused
+returns-in_err-resize-clause-refused c =
+    let at : IsLent c.self.inside c.args.self.now c.args.id c.deref_mut.result.now = record { are = c.self.invariant; view = c.self.view_is; there = c.in_ok-check.ensures; same = c.deref_mut.ensures.value } in
+    let n = c.args.n in let own = c.in_err-resize.field-0.0 in
+    let refused = said _ _ _ _ at c.resize.new.self c.index-deref_mut-id.result (λ a _. IsResizeRefused (can_free a) (refusal_of a n) (growth_of a n) (piece_at (chunks_of a) (place_of c.args.name)).room n own) c.in_err-resize.ensures.refused in
     let e = err_from_is_err_and c.from_residual-in_err-resize.result c.from_residual-in_err-resize.ensures.1 in
-    rw e.1 (record {
-      there = tt;
-      resized = tt;
-      keeps = tt;
-      stays = tt;
-      moved = tt;
-      lies = tt;
-      grown = tt;
-      refused = refused-own _ (is_there now id) e.0 there own e.2 refused;
-      unchanged = unchanged x are now view id there d same new other told.unchanged;
-    })
+    rw e.1 (refused-own _ (is_there c.args.self.now c.args.id) e.0 at.there own e.2 refused)
+
+pub returns-in_err-resize-clause-unchanged : goal.returns-in_err-resize-clause-unchanged
+returns-in_err-resize-clause-unchanged c =
+    let at : IsLent c.self.inside c.args.self.now c.args.id c.deref_mut.result.now = record { are = c.self.invariant; view = c.self.view_is; there = c.in_ok-check.ensures; same = c.deref_mut.ensures.value } in
+    let e = err_from_is_err_and c.from_residual-in_err-resize.result c.from_residual-in_err-resize.ensures.1 in
+    rw e.1 (unchanged _ _ _ _ at c.resize.new.self c.index-deref_mut-id.result c.in_err-resize.ensures.unchanged)
 
 pub returns : goal.returns
 returns c =
-    let x = c.self.inside in let are = c.self.invariant in let now = c.args.self.now in let view = c.self.view_is in let id = c.args.id in let there = c.in_ok-check.ensures in
-    let d = c.deref_mut.result.now in let same = c.deref_mut.ensures.value in let new = c.resize.new.self in let other = c.index-deref_mut-id.result in
+    let at : IsLent c.self.inside c.args.self.now c.args.id c.deref_mut.result.now = record { are = c.self.invariant; view = c.self.view_is; there = c.in_ok-check.ensures; same = c.deref_mut.ensures.value } in
+    let new = c.resize.new.self in let other = c.index-deref_mut-id.result in
     let name = c.args.name in let n = c.args.n in let to = c.in_ok-resize.field-0 in let told = c.in_ok-resize.ensures in
-    let old = old-is x are now view id there d other same in
-    let said = said x are now view id there d same new other in
+    let old = old-is c.self.inside at.are c.args.self.now at.view c.args.id at.there c.deref_mut.result.now other at.same in
+    let said = said _ _ _ _ at new other in
     record {
-      there = (there, said (λ a _. can_free a ≡ true) told.admitted.0, said (λ a _. refusal_of a n ≡ None) told.admitted.1);
+      there = (at.there, said (λ a _. can_free a ≡ true) told.admitted.0, said (λ a _. refusal_of a n ≡ None) told.admitted.1);
       resized = said (λ a b. IsResized (chunks_of a) (chunks_of b) name to n) told.resized;
       keeps = said (λ a b. KeepsOthers (chunks_of a) (chunks_of b) name to) told.keeps;
       stays = λ room.
-          new-by x are now view id there d same new other (λ a. with_resized a (place_of name) (resized (chunk_bytes a name) n))
+          new-by _ _ _ _ at new other (λ a. with_resized a (place_of name) (resized (chunk_bytes a name) n))
           (told.stays (subst (λ (a : Context). n ≤ (piece_at (chunks_of a) (place_of name)).room) (sym old) room));
       moved = λ room.
-          new-by x are now view id there d same new other (λ a. without_chunk (with_chunk a n (chunk_of to (room_in a n) (resized (chunk_bytes a name) n))) (place_of name))
+          new-by _ _ _ _ at new other (λ a. without_chunk (with_chunk a n (chunk_of to (room_in a n) (resized (chunk_bytes a name) n))) (place_of name))
           (told.moved (subst (λ (a : Context). (piece_at (chunks_of a) (place_of name)).room < n) (sym old) room));
       lies = λ room. said (λ a _. may_lie_in a n to.block) (told.lies (subst (λ (a : Context). (piece_at (chunks_of a) (place_of name)).room < n) (sym old) room));
       grown = λ room.
@@ -77,11 +62,11 @@ returns c =
 
 pub invariant_of-self-2 : goal.invariant_of-self-2
 invariant_of-self-2 c =
-    let x = c.self.inside in let are = c.self.invariant in let now = c.args.self.now in let view = c.self.view_is in let id = c.args.id in let there = c.in_ok-check.ensures in
-    let d = c.deref_mut.result.now in let same = c.deref_mut.ensures.value in let new = c.resize.new.self in let other = c.index-deref_mut-id.result in
+    let at : IsLent c.self.inside c.args.self.now c.args.id c.deref_mut.result.now = record { are = c.self.invariant; view = c.self.view_is; there = c.in_ok-check.ensures; same = c.deref_mut.ensures.value } in
+    let new = c.resize.new.self in let other = c.index-deref_mut-id.result in
     let name = c.args.name in let n = c.args.n in let told = c.in_ok-resize.ensures in
-    let a : Context = get_or d id.slot other in
-    let read = read-changed x are now view id there c.deref.result.now d other c.index-deref-id.result c.deref.ensures same c.index-deref-id.is in
+    let a : Context = get_or c.deref_mut.result.now c.args.id.slot other in
+    let read = read-changed c.self.inside at.are c.args.self.now at.view c.args.id at.there c.deref.result.now c.deref_mut.result.now other c.index-deref-id.result c.deref.ensures at.same c.index-deref-id.is in
     let less : held_by new ≤ held_by a + c.growth_to-growth.result = elim (cases_lt (piece_at (chunks_of a) (place_of name)).room n) [
       | inl more ↦
           let growth = c.growth_to-growth.ensures.moves (subst (λ (b : Context). (piece_at (chunks_of b) (place_of name)).room < n) (sym read) more) (subst (λ (b : Context). can_free b ≡ true) (sym read) told.admitted.0) in
@@ -90,4 +75,4 @@ invariant_of-self-2 c =
           let stays = ap held_by (told.stays fits) ∙ resized-held a (place_of name) (resized (chunk_bytes a name) n) in
           omega (arith, stays)
     ] in
-    fields-written x are now view id there d same new (fits-asked x are now view id there d same new other c.growth_to-growth.result c.deref-2.result.now c.deref-2.ensures less c.in_ok-check_growth.ensures)
+    fields-written _ _ _ _ at new (fits-asked _ _ _ _ at new other c.growth_to-growth.result c.deref-2.result.now c.deref-2.ensures less c.in_ok-check_growth.ensures)
