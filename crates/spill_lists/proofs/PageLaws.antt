@@ -62,6 +62,10 @@ source_apart parts source todo x is apart =
     let few = apart x.tape.index in
     omega (arith, all, own, once, few)
 
+-- a call on the tape of the pass leaves the pages of the parts
+pub paged_beside : (last last' : ℕ → ℕ → Type 0) (t t' : TapesState) (parts source todo : List OnTape) (x : OnTape) → source ≡ x ∷ [] → AreApart (parts ++ (source ++ todo)) → KeepsOthers last last' t t' x.tape → full_pages t' parts ≡ full_pages t parts
+paged_beside last last' t t' parts source todo x is apart keeps = kept_pages last last' t t' x.tape parts keeps (source_apart parts source todo x is apart)
+
 pub parts_once : (parts source todo : List OnTape) (index : ℕ) → AreApart (parts ++ (source ++ todo)) → times index parts ≤ 1
 parts_once parts source todo index apart = let all = times_in index parts source todo in let few = apart index in omega (arith, all, few)
 

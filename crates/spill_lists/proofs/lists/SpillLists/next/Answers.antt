@@ -10,7 +10,7 @@ use Rattle.spill_lists.specs.declared.error.SpillError.{SpillError}
 use Rattle.spill_lists.specs.declared.error.SpillError.TheVariants.{TapeDamaged}
 use Rattle.spill_lists.proofs.PassLaws.{none_ahead, refused_read_alive, undamaged_as, same_faults}
 use Rattle.spill_lists.proofs.StandingLaws.{lists_ended, has_ended, lists_read, has_read, lists_same, tape_ahead}
-use Rattle.spill_lists.proofs.PageLaws.{kept_pages, source_apart}
+use Rattle.spill_lists.proofs.PageLaws.{paged_beside}
 use Rattle.spill_lists.proofs.lists.SpillLists.next.Goals as goal
 
 pub invariant_of-self : goal.invariant_of-self
@@ -65,9 +65,7 @@ returns-in_default-checked_sub g c =
       nothing = tt;
       alive = c.close.ensures.alive ∙ ap (λ (s : ListsState). s.tapes.is_dead) view ∙ c.requires.alive;
       parts = ap (λ (s : ListsState). s.parts) view;
-      paged = kept_pages (g.D.TapeDisk.last c.args.disk.now) (g.D.TapeDisk.last c.args.disk.now) c.self.inside.tapes c.close.new.self c.in-Some.list.tape c.self.inside.parts.items c.close.ensures.others
-          (source_apart c.self.inside.parts.items (one_or_none c.self.inside.source) c.self.inside.todo.items c.in-Some.list (ap one_or_none c.in-Some.is) c.self.invariant.apart)
-          ∙ ap written_pages view;
+      paged = paged_beside (g.D.TapeDisk.last c.args.disk.now) (g.D.TapeDisk.last c.args.disk.now) c.self.inside.tapes c.close.new.self c.self.inside.parts.items (one_or_none c.self.inside.source) c.self.inside.todo.items c.in-Some.list (ap one_or_none c.in-Some.is) c.self.invariant.apart c.close.ensures.others ∙ ap written_pages view;
       todo = ap (λ (s : ListsState). s.todo) view;
       level = ap (λ (s : ListsState). s.level) view;
       disk = reads_none g.D.TapeDisk c.args.disk.now;
@@ -97,9 +95,7 @@ returns-in-Ok-Some g c =
       nothing = tt;
       alive = c.in-Ok-Some.ensures.dies.alive;
       parts = ap (λ (s : ListsState). s.parts) view;
-      paged = kept_pages (g.D.TapeDisk.last c.args.disk.now) (g.D.TapeDisk.last c.next.new.disk) c.self.inside.tapes c.next.new.self c.in-Some.list.tape c.self.inside.parts.items c.next.ensures.others
-          (source_apart c.self.inside.parts.items (one_or_none c.self.inside.source) c.self.inside.todo.items c.in-Some.list (ap one_or_none c.in-Some.is) c.self.invariant.apart)
-          ∙ ap written_pages view;
+      paged = paged_beside (g.D.TapeDisk.last c.args.disk.now) (g.D.TapeDisk.last c.next.new.disk) c.self.inside.tapes c.next.new.self c.self.inside.parts.items (one_or_none c.self.inside.source) c.self.inside.todo.items c.in-Some.list (ap one_or_none c.in-Some.is) c.self.invariant.apart c.next.ensures.others ∙ ap written_pages view;
       todo = ap (λ (s : ListsState). s.todo) view;
       level = ap (λ (s : ListsState). s.level) view;
       disk = ensured.disk;
@@ -122,9 +118,7 @@ returns-in-Ok-None g c =
       nothing = ensured.none;
       alive = tt;
       parts = ap (λ (s : ListsState). s.parts) view;
-      paged = kept_pages (g.D.TapeDisk.last c.args.disk.now) (g.D.TapeDisk.last c.next.new.disk) c.self.inside.tapes c.next.new.self c.in-Some.list.tape c.self.inside.parts.items c.next.ensures.others
-          (source_apart c.self.inside.parts.items (one_or_none c.self.inside.source) c.self.inside.todo.items c.in-Some.list (ap one_or_none c.in-Some.is) c.self.invariant.apart)
-          ∙ ap written_pages view;
+      paged = paged_beside (g.D.TapeDisk.last c.args.disk.now) (g.D.TapeDisk.last c.next.new.disk) c.self.inside.tapes c.next.new.self c.self.inside.parts.items (one_or_none c.self.inside.source) c.self.inside.todo.items c.in-Some.list (ap one_or_none c.in-Some.is) c.self.invariant.apart c.next.ensures.others ∙ ap written_pages view;
       todo = ap (λ (s : ListsState). s.todo) view;
       level = ap (λ (s : ListsState). s.level) view;
       disk = ensured.disk;
@@ -149,9 +143,7 @@ returns-in-Err g c =
       nothing = c.in-Err.ensures.nothing;
       alive = tt;
       parts = ap (λ (s : ListsState). s.parts) view;
-      paged = kept_pages (g.D.TapeDisk.last c.args.disk.now) (g.D.TapeDisk.last c.next.new.disk) c.self.inside.tapes c.next.new.self c.in-Some.list.tape c.self.inside.parts.items c.next.ensures.others
-          (source_apart c.self.inside.parts.items (one_or_none c.self.inside.source) c.self.inside.todo.items c.in-Some.list (ap one_or_none c.in-Some.is) c.self.invariant.apart)
-          ∙ ap written_pages view;
+      paged = paged_beside (g.D.TapeDisk.last c.args.disk.now) (g.D.TapeDisk.last c.next.new.disk) c.self.inside.tapes c.next.new.self c.self.inside.parts.items (one_or_none c.self.inside.source) c.self.inside.todo.items c.in-Some.list (ap one_or_none c.in-Some.is) c.self.invariant.apart c.next.ensures.others ∙ ap written_pages view;
       todo = ap (λ (s : ListsState). s.todo) view;
       level = ap (λ (s : ListsState). s.level) view;
       disk = subst (λ n. OnlyReads g.D.TapeDisk n c.args.disk.now c.next.new.disk) (same_faults c.in-Err.error ∙ ap spill_faults c.refusal.ensures) c.in-Err.ensures.disk;
