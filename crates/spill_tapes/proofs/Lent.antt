@@ -31,18 +31,7 @@ is_lent : (t s : TapesState) (tape : TapeId) (p : Phase) (y : TapeState) → t �
 is_lent t s tape p y view alive was differ are at =
     let slot : y ≡ tape_at t tape = slot_is t s tape y view differ at in
     let here : y ≡ tape_at s tape = slot ∙ ap (λ (z : TapesState). tape_at z tape) view in
-    record {
-      view = view;
-      alive = alive;
-      was = was;
-      differ = differ;
-      slot = slot;
-      here = here;
-      phase = ap (λ (z : TapeState). z.phase) here ∙ was;
-      pages = have_at t tape y are slot;
-      good = subst IsGood (sym slot) (are.good (ap (λ (z : TapesState). z.is_dead) view ∙ alive) tape.index);
-      are = are;
-    }
+    record { view = view; alive = alive; was = was; differ = differ; slot = slot; here = here; phase = ap (λ (z : TapeState). z.phase) here ∙ was; pages = have_at t tape y are slot; good = subst IsGood (sym slot) (are.good (ap (λ (z : TapesState). z.is_dead) view ∙ alive) tape.index); are = are }
 
 -- one that is written, and one that is read
 pub lent_written : (t s : TapesState) (tape : TapeId) (y : TapeState) → t ≡ s → s.is_dead ≡ false → (s.is_dead ≡ false → is_written s tape ≡ true) → AreTapes t → y ≡ get_or t.tapes tape.index y → IsLent t s tape Written y
