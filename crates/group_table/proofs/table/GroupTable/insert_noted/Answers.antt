@@ -11,6 +11,7 @@ use Rattle.group_table.proofs.HeldLaws.{others_held}
 use Rattle.group_table.proofs.SpaceLaws.{holds_more, buckets_at, keys_after, states_after}
 use Rattle.group_table.proofs.InsertLaws.{next_but, next_kept, keys_left, states_left, next_slots, next_same, others_twice, others_left, next_others, next_parent, any_space, groups_left, groups_pushed, held_left, next_left, settled_groups, settled_others, settled_next, settled_absent, settled_held}
 use Rattle.group_table.proofs.table.GroupTable.insert_noted.Goals as goal
+use Rattle.group_table.proofs.table.GroupTable.insert_noted.Given as given
 
 pub take_array-requires : goal.take_array-requires
 take_array-requires g c = record { table = c.requires.table; few = c.requires.few }
@@ -77,50 +78,42 @@ put_slot-requires g c =
           (settled_absent t next tree a b e placed one.only two.others two.buckets two.groups two.standing.placed three.only c.args.key.now c.requires.absent);
     }
 
-pub returns-clause-table : goal.returns-clause-table
-returns-clause-table g c =
-    let hash = g.H.KeyHash.hash_of in let t = c.args.self.now in let tree = c.args.tree.now in let a = c.take_array.new.tree in let b = c.take_group-taken.new.tree in let e = c.settle.new.tree in
-    let one = c.in_ok-next.ensures in let two = c.take_group-taken.ensures in let three = c.settle.ensures in
-    let x = c.self.inside in let v = c.push_reserved.new.self in let slot = c.in_ok-slot.slot in let d = c.put_slot.new.tree in
+-- the table at the end
+abbrev fin : (g : given.Over) → goal.After-push_reserved g → TableState g.row.H.Denot
+fin g c =
+    let x = c.self.inside in let v = c.push_reserved.new.self in
+    record { parent = x.parent; buckets = x.buckets; keys = x.keys; states = x.states; width = x.width; hash = x.hash; array = x.array; slots = v.items; spare = vec_capacity v - vec_len v }
+
+fin_is : (g : given.Over) → (c : goal.After-push_reserved g) → fin g c ≡ with_slot c.settle.new.self c.in_ok-slot.slot
+fin_is g c =
+    let x = c.self.inside in let v = c.push_reserved.new.self in let slot = c.in_ok-slot.slot in
     let spare : vec_capacity v - vec_len v ≡ vec_capacity x.slots - vec_len x.slots - 1 = omega (arith, c.push_reserved.ensures.capacity, c.push_reserved.ensures.len) in
-    let fin : TableState g.row.H.Denot = record { parent = x.parent; buckets = x.buckets; keys = x.keys; states = x.states; width = x.width; hash = x.hash; array = x.array; slots = v.items; spare = vec_capacity v - vec_len v } in
-    let is : fin ≡ with_slot c.settle.new.self slot =
     ap (λ xs. record { parent = x.parent; buckets = x.buckets; keys = x.keys; states = x.states; width = x.width; hash = x.hash; array = x.array; slots = xs; spare = vec_capacity v - vec_len v }) c.push_reserved.ensures.items
     ∙ ap (λ n. record { parent = x.parent; buckets = x.buckets; keys = x.keys; states = x.states; width = x.width; hash = x.hash; array = x.array; slots = x.slots.items ++ slot ∷ []; spare = n }) spare
-    ∙ ap (λ (y : TableState g.row.H.Denot). with_slot y slot) c.self.view_is in
+    ∙ ap (λ (y : TableState g.row.H.Denot). with_slot y slot) c.self.view_is
+
+pub returns-clause-table : goal.returns-clause-table
+returns-clause-table g c =
+    let hash = g.H.KeyHash.hash_of in let three = c.settle.ensures in let slot = c.in_ok-slot.slot in let d = c.put_slot.new.tree in
     let s1 = c.settle.new.self in
     let standing = c.put_slot.ensures.standing in
-    subst (λ (y : TableState g.row.H.Denot). IsTableIn hash y d) (sym is)
+    subst (λ (y : TableState g.row.H.Denot). IsTableIn hash y d) (sym (fin_is g c))
     (record { standing = standing; space = any_space (λ s. IsFirst s × HasArray hash (with_slot s1 slot) (context_at d s1.keys) s1.array s) (context_at d s1.buckets) s1.array three.room.0 three.room.1 standing.stands.set })
 
 pub returns-clause-same : goal.returns-clause-same
 returns-clause-same g c =
-    let hash = g.H.KeyHash.hash_of in let t = c.args.self.now in let tree = c.args.tree.now in let a = c.take_array.new.tree in let b = c.take_group-taken.new.tree in let e = c.settle.new.tree in
-    let one = c.in_ok-next.ensures in let two = c.take_group-taken.ensures in let three = c.settle.ensures in
-    let x = c.self.inside in let v = c.push_reserved.new.self in let slot = c.in_ok-slot.slot in let d = c.put_slot.new.tree in
-    let spare : vec_capacity v - vec_len v ≡ vec_capacity x.slots - vec_len x.slots - 1 = omega (arith, c.push_reserved.ensures.capacity, c.push_reserved.ensures.len) in
-    let fin : TableState g.row.H.Denot = record { parent = x.parent; buckets = x.buckets; keys = x.keys; states = x.states; width = x.width; hash = x.hash; array = x.array; slots = v.items; spare = vec_capacity v - vec_len v } in
-    let is : fin ≡ with_slot c.settle.new.self slot =
-    ap (λ xs. record { parent = x.parent; buckets = x.buckets; keys = x.keys; states = x.states; width = x.width; hash = x.hash; array = x.array; slots = xs; spare = vec_capacity v - vec_len v }) c.push_reserved.ensures.items
-    ∙ ap (λ n. record { parent = x.parent; buckets = x.buckets; keys = x.keys; states = x.states; width = x.width; hash = x.hash; array = x.array; slots = x.slots.items ++ slot ∷ []; spare = n }) spare
-    ∙ ap (λ (y : TableState g.row.H.Denot). with_slot y slot) c.self.view_is in
-    subst (λ (y : TableState g.row.H.Denot). IsSameBut t y) (sym (is ∙ ap (λ (y : TableState g.row.H.Denot). with_slot y slot) three.array)) (next_same t c.in_ok-next.next slot)
+    let slot = c.in_ok-slot.slot in let t = c.args.self.now in
+    subst (λ (y : TableState g.row.H.Denot). IsSameBut t y) (sym (fin_is g c ∙ ap (λ (y : TableState g.row.H.Denot). with_slot y slot) c.settle.ensures.array)) (next_same t c.in_ok-next.next slot)
 
 pub returns-clause-groups : goal.returns-clause-groups
 returns-clause-groups g c =
-    let hash = g.H.KeyHash.hash_of in let t = c.args.self.now in let tree = c.args.tree.now in let a = c.take_array.new.tree in let b = c.take_group-taken.new.tree in let e = c.settle.new.tree in
+    let t = c.args.self.now in let tree = c.args.tree.now in let a = c.take_array.new.tree in let b = c.take_group-taken.new.tree in let e = c.settle.new.tree in
     let one = c.in_ok-next.ensures in let two = c.take_group-taken.ensures in let three = c.settle.ensures in
-    let x = c.self.inside in let v = c.push_reserved.new.self in let slot = c.in_ok-slot.slot in let d = c.put_slot.new.tree in
-    let spare : vec_capacity v - vec_len v ≡ vec_capacity x.slots - vec_len x.slots - 1 = omega (arith, c.push_reserved.ensures.capacity, c.push_reserved.ensures.len) in
-    let fin : TableState g.row.H.Denot = record { parent = x.parent; buckets = x.buckets; keys = x.keys; states = x.states; width = x.width; hash = x.hash; array = x.array; slots = v.items; spare = vec_capacity v - vec_len v } in
-    let is : fin ≡ with_slot c.settle.new.self slot =
-    ap (λ xs. record { parent = x.parent; buckets = x.buckets; keys = x.keys; states = x.states; width = x.width; hash = x.hash; array = x.array; slots = xs; spare = vec_capacity v - vec_len v }) c.push_reserved.ensures.items
-    ∙ ap (λ n. record { parent = x.parent; buckets = x.buckets; keys = x.keys; states = x.states; width = x.width; hash = x.hash; array = x.array; slots = x.slots.items ++ slot ∷ []; spare = n }) spare
-    ∙ ap (λ (y : TableState g.row.H.Denot). with_slot y slot) c.self.view_is in
+    let slot = c.in_ok-slot.slot in let d = c.put_slot.new.tree in
     let next = subst (λ (y : TableState g.row.H.Denot). IsNext y e c.args.key.now c.args.state.now slot) (sym three.array)
     (settled_next t c.in_ok-next.next tree a b e c.requires.table.standing.placed one.only two.others two.buckets two.groups two.standing.placed three.only c.args.key.now c.args.state.now slot c.in_ok-slot.ensures.next) in
     let s1 = c.settle.new.self in
-    ap (λ (y : TableState g.row.H.Denot). groups y d) is
+    ap (λ (y : TableState g.row.H.Denot). groups y d) (fin_is g c)
     ∙ groups_pushed s1 d c.args.key.now c.args.state.now slot (next_left s1 e d c.put_slot.ensures.only three.standing.placed c.args.key.now c.args.state.now slot next)
     ∙ ap (λ gs. gs ++ (c.args.key.now, c.args.state.now) ∷ [])
     (groups_left s1 e d c.put_slot.ensures.only three.standing.placed ∙ ap (λ (y : TableState g.row.H.Denot). groups y e) three.array
@@ -152,8 +145,7 @@ returns-clause-holds g c holds =
     let t = c.args.self.now in let tree = c.args.tree.now in let a = c.take_array.new.tree in let b = c.take_group-taken.new.tree in let e = c.settle.new.tree in let d = c.put_slot.new.tree in
     let one = c.in_ok-next.ensures in let two = c.in_ok-slot.ensures in let three = c.settle.ensures in let four = c.put_slot.ensures in
     let s1 = c.settle.new.self in let next = c.in_ok-next.next in let slot = c.in_ok-slot.slot in let key = c.args.key.now in
-    let x = c.self.inside in let v = c.push_reserved.new.self in
-    let fin : TableState g.row.H.Denot = record { parent = x.parent; buckets = x.buckets; keys = x.keys; states = x.states; width = x.width; hash = x.hash; array = x.array; slots = v.items; spare = vec_capacity v - vec_len v } in
+    let v = c.push_reserved.new.self in
     let placed = c.requires.table.standing.placed in
     let others = returns-clause-others g c in
     let alone : held_below d t.parent ≡ held_in t d = omega (arith, holds.alone, others_held t tree d placed others) in
@@ -166,7 +158,7 @@ returns-clause-holds g c holds =
     (two.keys (keys_in t tree) (subst (IsRunWith (HoldsKeyBlocks (keys_in t tree))) (sym (keys_left t tree a one.only placed)) holds.in_keys)) in
     let states = subst (IsSlabWith (HoldsStates t.width (length t.slots + 1))) (sym (states_after t next s1 three.array b e d two.standing.placed three.only three.standing.placed four.only))
     (two.states (length t.slots) (subst (IsSlabWith (HoldsStates t.width (length t.slots))) (sym (states_left t tree a one.only placed)) holds.in_states)) in
-    holds_more t tree fin d (returns-clause-same g c) key c.args.state.now slot slots (returns-clause-groups g c) alone
+    holds_more t tree (fin g c) d (returns-clause-same g c) key c.args.state.now slot slots (returns-clause-groups g c) alone
     (subst (λ o. IsSetWith (HoldsArray o (length t.slots + 1)) (context_at d t.buckets)) (sym (ap (λ (y : TableState g.row.H.Denot). y.array) c.self.view_is)) put)
     keys states
 

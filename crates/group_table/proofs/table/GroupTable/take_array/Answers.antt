@@ -11,7 +11,9 @@ use Rattle.group_table.proofs.TreeFacts.{only_once, only_with}
 use Rattle.group_table.proofs.table.GroupTable.take_array.Goals as goal
 use Rattle.group_table.proofs.table.GroupTable.take_array.Given as given
 
-taken : (g : given.Over) → (c : goal.In-Ok g) → Taken g.H.KeyHash.hash_of c.args.self.now c.args.tree.now c.alloc_zeroed.new.self c.in-Ok.name
+taken : (g : given.Over) → (c : goal.In-Ok g)
+    → Taken g.H.KeyHash.hash_of c.args.self.now c.args.tree.now c.alloc_zeroed.new.self c.in-Ok.name
+    × (IsSetWith (HoldsArray c.args.self.now.array (length c.args.self.now.slots)) (context_at c.args.tree.now c.args.self.now.buckets) → IsSetWith (HoldsNext c.args.self.now.array (Some c.in-Ok.name) (length c.args.self.now.slots)) (context_at c.alloc_zeroed.new.self c.args.self.now.buckets))
 taken g c =
     let wanted = c.buckets_wanted-wanted.result in
     let back = sym c.self.view_is in
@@ -19,22 +21,13 @@ taken g c =
     let few = subst (λ (x : TableState g.row.H.Denot). buckets_for (buckets_in x.array) (length x.slots) ≤ most_buckets) back c.requires.few in
     let value = subst (λ (x : TableState g.row.H.Denot). wanted ≡ buckets_for (buckets_in x.array) (length x.slots)) back c.buckets_wanted-wanted.ensures in
     let count = subst (λ (x : TableState g.row.H.Denot). c.bucket_count.result ≡ buckets_in x.array) back c.bucket_count.ensures.value in
-    let told = c.in-Ok.ensures in
-    subst (λ (x : TableState g.row.H.Denot). Taken g.H.KeyHash.hash_of x c.args.tree.now c.alloc_zeroed.new.self c.in-Ok.name) c.self.view_is
-    (taken_by_array g.H.KeyHash.hash_of _ c.args.tree.now c.alloc_zeroed.new.self is (wanted * 32) c.in-Ok.name few (λ same. c.if-wanted-bucket_count.false (value ∙ same ∙ sym count)) (ap (λ m. m * 32) value)
-    told.space told.len told.lives told.holds told.keeps told.grown told.block c.self.inside.array refl)
-
-taken_holds : (g : given.Over) → (c : goal.In-Ok g) → IsSetWith (HoldsArray c.args.self.now.array (length c.args.self.now.slots)) (context_at c.args.tree.now c.args.self.now.buckets) → IsSetWith (HoldsNext c.args.self.now.array (Some c.in-Ok.name) (length c.args.self.now.slots)) (context_at c.alloc_zeroed.new.self c.args.self.now.buckets)
-taken_holds g c =
-    let wanted = c.buckets_wanted-wanted.result in
-    let back = sym c.self.view_is in
-    let is = subst (λ (x : TableState g.row.H.Denot). IsTableIn g.H.KeyHash.hash_of x c.args.tree.now) back c.requires.table in
-    let few = subst (λ (x : TableState g.row.H.Denot). buckets_for (buckets_in x.array) (length x.slots) ≤ most_buckets) back c.requires.few in
-    let value = subst (λ (x : TableState g.row.H.Denot). wanted ≡ buckets_for (buckets_in x.array) (length x.slots)) back c.buckets_wanted-wanted.ensures in
-    let count = subst (λ (x : TableState g.row.H.Denot). c.bucket_count.result ≡ buckets_in x.array) back c.bucket_count.ensures.value in
-    let told = c.in-Ok.ensures in
-    subst (λ (x : TableState g.row.H.Denot). IsSetWith (HoldsArray x.array (length x.slots)) (context_at c.args.tree.now x.buckets) → IsSetWith (HoldsNext x.array (Some c.in-Ok.name) (length x.slots)) (context_at c.alloc_zeroed.new.self x.buckets)) c.self.view_is
-    (next_taken g.H.KeyHash.hash_of _ c.args.tree.now is c.alloc_zeroed.new.self (wanted * 32) c.in-Ok.name few (λ same. c.if-wanted-bucket_count.false (value ∙ same ∙ sym count)) (ap (λ m. m * 32) value) told.space told.len told.grown told.block)
+    let told = c.in-Ok.ensures in (
+      subst (λ (x : TableState g.row.H.Denot). Taken g.H.KeyHash.hash_of x c.args.tree.now c.alloc_zeroed.new.self c.in-Ok.name) c.self.view_is
+          (taken_by_array g.H.KeyHash.hash_of _ c.args.tree.now c.alloc_zeroed.new.self is (wanted * 32) c.in-Ok.name few (λ same. c.if-wanted-bucket_count.false (value ∙ same ∙ sym count)) (ap (λ m. m * 32) value)
+          told.space told.len told.lives told.holds told.keeps told.grown told.block c.self.inside.array refl),
+      subst (λ (x : TableState g.row.H.Denot). IsSetWith (HoldsArray x.array (length x.slots)) (context_at c.args.tree.now x.buckets) → IsSetWith (HoldsNext x.array (Some c.in-Ok.name) (length x.slots)) (context_at c.alloc_zeroed.new.self x.buckets)) c.self.view_is
+          (next_taken g.H.KeyHash.hash_of _ c.args.tree.now is c.alloc_zeroed.new.self (wanted * 32) c.in-Ok.name few (λ same. c.if-wanted-bucket_count.false (value ∙ same ∙ sym count)) (ap (λ m. m * 32) value) told.space told.len told.grown told.block),
+    )
 
 pub returns-then-wanted-bucket_count : goal.returns-then-wanted-bucket_count
 returns-then-wanted-bucket_count g c =
@@ -55,15 +48,15 @@ returns-in-Ok g c =
     record {
       only = subst (λ (x : TableState g.row.H.Denot). OnlyIn x.buckets tree after) c.self.view_is
           (only_with c.self.inside.buckets tree after _ told.space (subst (λ (x : TableState g.row.H.Denot). x.buckets.slot < length tree.contexts) (sym c.self.view_is) c.requires.table.standing.placed.buckets.within));
-      standing = taken.standing;
-      next = taken.spare;
+      standing = taken.0.standing;
+      next = taken.0.spare;
       unchanged = tt;
       held =
           let grown = subst (λ (x : TableState g.row.H.Denot). held_by (context_at after x.buckets) ≡ held_by (context_at tree x.buckets) + growth_of (context_at tree x.buckets) (wanted * 32)) c.self.view_is told.grown in
           let asked = ap (λ m. growth_of (context_at tree t.buckets) (m * 32)) c.buckets_wanted-wanted.ensures in
           let more = array_grown t tree (λ same. c.if-wanted-bucket_count.false (c.buckets_wanted-wanted.ensures ∙ same ∙ sym c.bucket_count.ensures.value)) in
           omega (arith, grown, asked, more);
-      holds = taken_holds g c;
+      holds = taken.1;
     }
 
 pub returns-in-Err : goal.returns-in-Err

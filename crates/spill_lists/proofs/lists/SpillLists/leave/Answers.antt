@@ -80,42 +80,31 @@ returns-in_ok-push-in-Ok g c =
       disk = told.disk;
     }
 
-pub returns-in_err-push-in-Ok : goal.returns-in_err-push-in-Ok
-returns-in_err-push-in-Ok g c =
-    let view = c.self.view_is in let told = c.in-Ok.ensures in
+pub returns-in_err-push-in-Ok-clause-others : goal.returns-in_err-push-in-Ok-clause-others
+returns-in_err-push-in-Ok-clause-others g c = subst (λ (s : ListsState). KeepsOthers (g.D.TapeDisk.last c.args.disk.now) (g.D.TapeDisk.last c.rewind.new.disk) s.tapes c.rewind.new.self c.args.list.tape) c.self.view_is c.rewind.ensures.others
+
+pub returns-in_err-push-in-Ok-clause-undamaged : goal.returns-in_err-push-in-Ok-clause-undamaged
+returns-in_err-push-in-Ok-clause-undamaged g c =
     let e = err_from_is_err_and c.from_residual.result c.from_residual.ensures.1 in
-    rw e.1 (record {
-      left = tt;
-      paged = tt;
-      kept = tt;
-      others = subst (λ (s : ListsState). KeepsOthers (g.D.TapeDisk.last c.args.disk.now) (g.D.TapeDisk.last c.rewind.new.disk) s.tapes c.rewind.new.self c.args.list.tape) view c.rewind.ensures.others;
-      alive = tt;
-      parts = ap (λ (s : ListsState). s.parts) view ∙ c.requires.parts;
-      source = ap (λ (s : ListsState). s.source) view;
-      level = ap (λ (s : ListsState). s.level) view;
-      undamaged = λ is. absurd (cc (is, e.2));
-      disk = subst (λ x. Leaves g.D.TapeDisk (spill_faults x) c.args.disk.now c.rewind.new.disk) (sym e.2) told.disk;
-    })
+    rw e.1 (λ is. absurd (cc (is, e.2)))
+
+pub returns-in_err-push-in-Ok-clause-disk : goal.returns-in_err-push-in-Ok-clause-disk
+returns-in_err-push-in-Ok-clause-disk g c =
+    let e = err_from_is_err_and c.from_residual.result c.from_residual.ensures.1 in
+    rw e.1 (subst (λ x. Leaves g.D.TapeDisk (spill_faults x) c.args.disk.now c.rewind.new.disk) (sym e.2) c.in-Ok.ensures.disk)
 
 pub refusal-requires : goal.refusal-requires
 refusal-requires g c =
     refused_alive c.self.inside.tapes.is_dead c.in-Err.error (ap (λ (s : ListsState). s.tapes.is_dead) c.self.view_is ∙ c.requires.alive) c.in-Err.ensures.dies.refused
 
-pub returns-in-Err : goal.returns-in-Err
-returns-in-Err g c =
-    let view = c.self.view_is in let told = c.in-Err.ensures in
-    record {
-      left = tt;
-      paged = tt;
-      kept = tt;
-      others = subst (λ (s : ListsState). KeepsOthers (g.D.TapeDisk.last c.args.disk.now) (g.D.TapeDisk.last c.rewind.new.disk) s.tapes c.rewind.new.self c.args.list.tape) view c.rewind.ensures.others;
-      alive = tt;
-      parts = ap (λ (s : ListsState). s.parts) view ∙ c.requires.parts;
-      source = ap (λ (s : ListsState). s.source) view;
-      level = ap (λ (s : ListsState). s.level) view;
-      undamaged = subst (λ (x : SpillError). x ≢ TapeDamaged) c.refusal.ensures (undamaged_as c.in-Err.error (refused_undamaged c.self.inside.tapes.is_dead c.in-Err.error told.dies.refused));
-      disk = subst (λ n. Leaves g.D.TapeDisk n c.args.disk.now c.rewind.new.disk) (same_faults c.in-Err.error ∙ ap spill_faults c.refusal.ensures) told.disk;
-    }
+pub returns-in-Err-clause-others : goal.returns-in-Err-clause-others
+returns-in-Err-clause-others g c = subst (λ (s : ListsState). KeepsOthers (g.D.TapeDisk.last c.args.disk.now) (g.D.TapeDisk.last c.rewind.new.disk) s.tapes c.rewind.new.self c.args.list.tape) c.self.view_is c.rewind.ensures.others
+
+pub returns-in-Err-clause-undamaged : goal.returns-in-Err-clause-undamaged
+returns-in-Err-clause-undamaged g c = subst (λ (x : SpillError). x ≢ TapeDamaged) c.refusal.ensures (undamaged_as c.in-Err.error (refused_undamaged c.self.inside.tapes.is_dead c.in-Err.error c.in-Err.ensures.dies.refused))
+
+pub returns-in-Err-clause-disk : goal.returns-in-Err-clause-disk
+returns-in-Err-clause-disk g c = subst (λ n. Leaves g.D.TapeDisk n c.args.disk.now c.rewind.new.disk) (same_faults c.in-Err.error ∙ ap spill_faults c.refusal.ensures) c.in-Err.ensures.disk
 
 pub invariant_of-self-in-Err : goal.invariant_of-self-in-Err
 invariant_of-self-in-Err g c =

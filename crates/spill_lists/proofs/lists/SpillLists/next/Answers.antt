@@ -29,25 +29,21 @@ invariant_of-self-in-Ok-None g c =
     let alive : c.self.inside.tapes.is_dead ≡ false = ap (λ (s : ListsState). s.tapes.is_dead) c.self.view_is ∙ c.requires.alive in
     lists_same c.self.inside.tapes c.next.new.self c.self.inside.level c.self.inside.parts.items (one_or_none c.self.inside.source) c.self.inside.todo.items c.next.ensures.phases (λ _. alive) c.self.invariant
 
-pub returns-in_default : goal.returns-in_default
-returns-in_default g c =
+pub returns-in_default-clause-gives : goal.returns-in_default-clause-gives
+returns-in_default-clause-gives g c =
     let now = c.args.self.now in
     let none : now.source ≡ [] = sym (ap (λ (s : ListsState). s.source) c.self.view_is) ∙ ap one_or_none c.in_default.is in
-    record {
-      gives = λ honest spilled ahead todo had. none_ahead (g.D.TapeDisk.last c.args.disk.now) now spilled ahead todo none had;
-      undamaged = tt;
-      counted = tt;
-      ended = (ap count_of none, none);
-      framed = tt;
-      none = c.clear.ensures.items;
-      nothing = tt;
-      alive = c.requires.alive;
-      parts = refl;
-      paged = refl;
-      todo = refl;
-      level = refl;
-      disk = reads_none g.D.TapeDisk c.args.disk.now;
-    }
+    λ honest spilled ahead todo had. none_ahead (g.D.TapeDisk.last c.args.disk.now) now spilled ahead todo none had
+
+pub returns-in_default-clause-ended : goal.returns-in_default-clause-ended
+returns-in_default-clause-ended g c =
+    let now = c.args.self.now in
+    let none : now.source ≡ [] = sym (ap (λ (s : ListsState). s.source) c.self.view_is) ∙ ap one_or_none c.in_default.is in
+    (ap count_of none, none)
+
+pub returns-in_default-clause-disk : goal.returns-in_default-clause-disk
+returns-in_default-clause-disk g c =
+    reads_none g.D.TapeDisk c.args.disk.now
 
 pub returns-in_default-checked_sub : goal.returns-in_default-checked_sub
 returns-in_default-checked_sub g c =
@@ -128,26 +124,21 @@ pub refusal-requires : goal.refusal-requires
 refusal-requires g c =
     refused_read_alive c.self.inside.tapes.is_dead c.in-Err.error (ap (λ (s : ListsState). s.tapes.is_dead) c.self.view_is ∙ c.requires.alive) c.in-Err.ensures.dies.refused
 
-pub returns-in-Err : goal.returns-in-Err
-returns-in-Err g c =
-    let view = c.self.view_is in let told = c.next.ensures in
-    record {
-      gives = tt;
-      undamaged = λ honest spilled ahead todo had.
-          let there = tape_ahead (g.D.TapeDisk.last c.args.disk.now) c.self.inside.tapes c.self.inside.level c.self.inside.parts.items (one_or_none c.self.inside.source) c.self.inside.todo.items spilled ahead todo c.in-Some.list (ap one_or_none c.in-Some.is) (subst (λ (s : ListsState). HasLists (g.D.TapeDisk.last c.args.disk.now) s spilled ahead todo) (sym view) had) in
-          subst (λ (e : SpillError). e ≢ TapeDamaged) c.refusal.ensures (undamaged_as c.in-Err.error (c.in-Err.ensures.undamaged honest ahead there.0));
-      counted = tt;
-      ended = tt;
-      framed = tt;
-      none = tt;
-      nothing = c.in-Err.ensures.nothing;
-      alive = tt;
-      parts = ap (λ (s : ListsState). s.parts) view;
-      paged = paged_beside (g.D.TapeDisk.last c.args.disk.now) (g.D.TapeDisk.last c.next.new.disk) c.self.inside.tapes c.next.new.self c.self.inside.parts.items (one_or_none c.self.inside.source) c.self.inside.todo.items c.in-Some.list (ap one_or_none c.in-Some.is) c.self.invariant.apart c.next.ensures.others ∙ ap written_pages view;
-      todo = ap (λ (s : ListsState). s.todo) view;
-      level = ap (λ (s : ListsState). s.level) view;
-      disk = subst (λ n. OnlyReads g.D.TapeDisk n c.args.disk.now c.next.new.disk) (same_faults c.in-Err.error ∙ ap spill_faults c.refusal.ensures) c.in-Err.ensures.disk;
-    }
+pub returns-in-Err-clause-undamaged : goal.returns-in-Err-clause-undamaged
+returns-in-Err-clause-undamaged g c =
+    let view = c.self.view_is in
+    λ honest spilled ahead todo had.
+    let there = tape_ahead (g.D.TapeDisk.last c.args.disk.now) c.self.inside.tapes c.self.inside.level c.self.inside.parts.items (one_or_none c.self.inside.source) c.self.inside.todo.items spilled ahead todo c.in-Some.list (ap one_or_none c.in-Some.is) (subst (λ (s : ListsState). HasLists (g.D.TapeDisk.last c.args.disk.now) s spilled ahead todo) (sym view) had) in
+    subst (λ (e : SpillError). e ≢ TapeDamaged) c.refusal.ensures (undamaged_as c.in-Err.error (c.in-Err.ensures.undamaged honest ahead there.0))
+
+pub returns-in-Err-clause-paged : goal.returns-in-Err-clause-paged
+returns-in-Err-clause-paged g c =
+    let view = c.self.view_is in
+    paged_beside (g.D.TapeDisk.last c.args.disk.now) (g.D.TapeDisk.last c.next.new.disk) c.self.inside.tapes c.next.new.self c.self.inside.parts.items (one_or_none c.self.inside.source) c.self.inside.todo.items c.in-Some.list (ap one_or_none c.in-Some.is) c.self.invariant.apart c.next.ensures.others ∙ ap written_pages view
+
+pub returns-in-Err-clause-disk : goal.returns-in-Err-clause-disk
+returns-in-Err-clause-disk g c =
+    subst (λ n. OnlyReads g.D.TapeDisk n c.args.disk.now c.next.new.disk) (same_faults c.in-Err.error ∙ ap spill_faults c.refusal.ensures) c.in-Err.ensures.disk
 
 pub invariant_of-self-in-Err : goal.invariant_of-self-in-Err
 invariant_of-self-in-Err g c =
