@@ -7,7 +7,7 @@ use spill_tapes::{DiskError, FlipDisk, MemDisk, TapeDisk, TapeError, TapeId, Tap
 use std::alloc::{AllocError, Global};
 use std::test::Fail;
 use test_disks::{Marks, failing, flipping};
-use test_tables::expect;
+use test_tables::{expect_lines, halves};
 
 /// How many tapes there are at once, and how many records each has.
 const TAPES: u32 = 16;
@@ -208,11 +208,13 @@ fn tell_over_memory(alloc: Global, case: &str, text: &mut String) -> Result<(), 
     Ok(tell_writes(alloc, writes, text)?)
 }
 
-/// What is told of a case over a disk with a fault, or in memory where it has none.
-fn told(alloc: Global, fault: &str, case: &str) -> Result<String, Fail> {
+/// What is told of a case over a disk with a fault, or in memory where it has none: `FAULT CASE`.
+fn told(rt: HostRuntime, line: &str) -> Result<String, Fail> {
+    let alloc = rt.alloc();
+    let (fault, case) = halves(line, " ")?;
     let mut text = String::new(alloc);
     match fault {
-        "" => tell_over_memory(alloc, case, &mut text)?,
+        "none" => tell_over_memory(alloc, case, &mut text)?,
         "write" => tell_over_failing(alloc, 0, case, &mut text)?,
         "read" => tell_over_failing(alloc, 1, case, &mut text)?,
         "shorter" => tell_over_flipping(alloc, shortening(alloc), case, &mut text)?,
@@ -221,57 +223,21 @@ fn told(alloc: Global, fault: &str, case: &str) -> Result<String, Fail> {
     Ok(text)
 }
 
-#[test]
-fn records_come_in_order(rt: HostRuntime) -> Result<(), Fail> {
-    expect(
-        told(rt.alloc(), "", "two"),
-        "Ok(()), Ok(Some((7, 0))) ab, Ok(Some((9, 1))) , Ok(None) , None, 1 written",
-    )
-}
+/// Records come in order. A fault of writing or of reading, and damage, kill the tapes, which then take no record; bytes behind
+/// the last record are damage; an empty tape has no page.
+const TOLD: &str = "\
+none two => Ok(()), Ok(Some((7, 0))) ab, Ok(Some((9, 1))) , Ok(None) , None, 1 written
+write two => Err(TapeFault), Err(TapesDead) , Err(TapesDead) , Err(TapesDead) , Some(TapesDead), 0 written
+flip two => Ok(()), Err(TapeDamaged) , Err(TapesDead) , Err(TapesDead) , Some(TapesDead), 1 written
+shorter one => Err(TapeDamaged) , Err(TapesDead) , , 1 written
+read two => Ok(()), Err(TapeFault) , Err(TapesDead) , Err(TapesDead) , Some(TapesDead), 1 written
+write long => Err(TapeFault), Err(TapesDead), Err(TapesDead), Some(TapesDead), 0 written
+none none => Ok(None) , , 0 written
+";
 
 #[test]
-fn a_fault_kills_the_tapes(rt: HostRuntime) -> Result<(), Fail> {
-    expect(
-        told(rt.alloc(), "write", "two"),
-        "Err(TapeFault), Err(TapesDead) , Err(TapesDead) , Err(TapesDead) , Some(TapesDead), 0 written",
-    )
-}
-
-#[test]
-fn damage_is_found(rt: HostRuntime) -> Result<(), Fail> {
-    expect(
-        told(rt.alloc(), "flip", "two"),
-        "Ok(()), Err(TapeDamaged) , Err(TapesDead) , Err(TapesDead) , Some(TapesDead), 1 written",
-    )
-}
-
-#[test]
-fn bytes_behind_the_last_record_are_damage(rt: HostRuntime) -> Result<(), Fail> {
-    expect(
-        told(rt.alloc(), "shorter", "one"),
-        "Err(TapeDamaged) , Err(TapesDead) , , 1 written",
-    )
-}
-
-#[test]
-fn a_fault_of_reading_kills_the_tapes(rt: HostRuntime) -> Result<(), Fail> {
-    expect(
-        told(rt.alloc(), "read", "two"),
-        "Ok(()), Err(TapeFault) , Err(TapesDead) , Err(TapesDead) , Some(TapesDead), 1 written",
-    )
-}
-
-#[test]
-fn dead_tapes_take_no_record(rt: HostRuntime) -> Result<(), Fail> {
-    expect(
-        told(rt.alloc(), "write", "long"),
-        "Err(TapeFault), Err(TapesDead), Err(TapesDead), Some(TapesDead), 0 written",
-    )
-}
-
-#[test]
-fn an_empty_tape_has_no_page(rt: HostRuntime) -> Result<(), Fail> {
-    expect(told(rt.alloc(), "", "none"), "Ok(None) , , 0 written")
+fn tapes_give_what_they_took_or_die(rt: HostRuntime) -> Result<(), Fail> {
+    expect_lines(rt, TOLD, told)
 }
 
 /// The bytes of a record: of one length in a hundred and twenty, so that some records are longer than a page.
