@@ -29,32 +29,20 @@ put_record-requires g c =
       small = omega (arith, good.small, ap length c.in_ok-reserve_exact.ensures.items, ap (λ (t : TapeState). length t.buffer) c.self.view_is);
     }
 
-pub returns-in_err-reserve_exact : goal.returns-in_err-reserve_exact
-returns-in_err-reserve_exact g c =
-    let e = err_from_is_err_and c.from_residual.result c.from_residual.ensures.1 in
-    let pool = c.args.pool.now in let view = c.self.view_is in
-    rw e.1 (record {
-      pages = takes_none pool c.args.self.now.pages c.self.inside.pages.items c.requires.pages (ap (λ (t : TapeState). t.pages) view);
-      keeps = λ _ _ _ _ _ _ had. had;
-      phase = ap (λ (t : TapeState). t.phase) view ∙ c.requires.phase;
-      good = tt;
-      longer = tt;
-      appended = tt;
-      counted = tt;
-      disk = subst (λ x. Leaves g.D.TapeDisk (disk_faults x) c.args.disk.now c.args.disk.now) (sym e.2) (leaves_none g.D.TapeDisk c.args.disk.now);
-    })
+pub returns-in_err-reserve_exact-clause-pages : goal.returns-in_err-reserve_exact-clause-pages
+returns-in_err-reserve_exact-clause-pages g c =
+    takes_none c.args.pool.now c.args.self.now.pages c.self.inside.pages.items c.requires.pages (ap (λ (t : TapeState). t.pages) c.self.view_is)
 
-pub returns-in_err-put_record : goal.returns-in_err-put_record
-returns-in_err-put_record g c =
+pub returns-in_err-reserve_exact-clause-disk : goal.returns-in_err-reserve_exact-clause-disk
+returns-in_err-reserve_exact-clause-disk g c =
+    let e = err_from_is_err_and c.from_residual.result c.from_residual.ensures.1 in
+    rw e.1 (subst (λ x. Leaves g.D.TapeDisk (disk_faults x) c.args.disk.now c.args.disk.now) (sym e.2) (leaves_none g.D.TapeDisk c.args.disk.now))
+
+pub returns-in_err-put_record-clause-pages : goal.returns-in_err-put_record-clause-pages
+returns-in_err-put_record-clause-pages g c =
+    subst (λ (t : TapeState). TakesPages c.args.pool.now t.pages c.put_record.new.pool c.put_record.new.self.pages) c.self.view_is c.in_err-put_record.ensures.pages
+
+pub returns-in_err-put_record-clause-disk : goal.returns-in_err-put_record-clause-disk
+returns-in_err-put_record-clause-disk g c =
     let e = err_from_is_err_and c.from_residual-in_err-put_record.result c.from_residual-in_err-put_record.ensures.1 in
-    let told = c.in_err-put_record.ensures in let view = c.self.view_is in
-    rw e.1 (record {
-      pages = subst (λ (t : TapeState). TakesPages c.args.pool.now t.pages c.put_record.new.pool c.put_record.new.self.pages) view told.pages;
-      keeps = told.keeps;
-      phase = told.same.phase ∙ ap (λ (t : TapeState). t.phase) view ∙ c.requires.phase;
-      good = tt;
-      longer = tt;
-      appended = tt;
-      counted = tt;
-      disk = subst (λ x. Leaves g.D.TapeDisk (disk_faults x) c.args.disk.now c.put_record.new.disk) (sym e.2) told.disk;
-    })
+    rw e.1 (subst (λ x. Leaves g.D.TapeDisk (disk_faults x) c.args.disk.now c.put_record.new.disk) (sym e.2) c.in_err-put_record.ensures.disk)

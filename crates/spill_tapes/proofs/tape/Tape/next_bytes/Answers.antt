@@ -12,8 +12,7 @@ use Rattle.spill_tapes.proofs.tape.Tape.next_bytes.Goals as goal
 
 pub returns-in_err-reserve-clause-pages : goal.returns-in_err-reserve-clause-pages
 returns-in_err-reserve-clause-pages g c =
-    let t = c.args.self.now in
-    gives_none c.args.pool.now t.pages t.pages c.requires.pages refl
+    gives_none c.args.pool.now c.args.self.now.pages c.args.self.now.pages c.requires.pages refl
 
 pub returns-in_err-reserve-clause-disk : goal.returns-in_err-reserve-clause-disk
 returns-in_err-reserve-clause-disk g c =
@@ -29,9 +28,8 @@ fill-requires g c = record {
 
 pub returns-in_err-fill-clause-disk : goal.returns-in_err-fill-clause-disk
 returns-in_err-fill-clause-disk g c =
-    let told = c.in_err-fill.ensures in
     let e = err_from_is_err_and c.from_residual-in_err-fill.result c.from_residual-in_err-fill.ensures.1 in
-    rw e.1 (subst (λ x. OnlyReads g.D.TapeDisk (disk_faults x) c.args.disk.now c.fill.new.disk) (sym e.2) told.disk)
+    rw e.1 (subst (λ x. OnlyReads g.D.TapeDisk (disk_faults x) c.args.disk.now c.fill.new.disk) (sym e.2) c.in_err-fill.ensures.disk)
 
 pub returns : goal.returns
 returns g c =

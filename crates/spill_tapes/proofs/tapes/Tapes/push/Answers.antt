@@ -6,18 +6,10 @@ use Rattle.spill_tapes.specs.TapesFields.{tapes_of}
 use Rattle.spill_tapes.proofs.TapesLaws.{same_at_push}
 use Rattle.spill_tapes.proofs.tapes.Tapes.push.Goals as goal
 
-pub returns-then-is_err : goal.returns-then-is_err
-returns-then-is_err c =
+pub returns-then-is_err-clause-unchanged : goal.returns-then-is_err-clause-unchanged
+returns-then-is_err-clause-unchanged c =
     let t = tapes_of c.self.inside in
-    record {
-      refused = c.requires.alive;
-      unchanged = ap (λ ts. record { is_dead = t.is_dead; tapes = ts; pool = t.pool }) (c.push.ensures.items ∙ ap (λ (ok : Bool). if ok then (t.tapes ++ c.args.tape ∷ []) else t.tapes) c.if-is_err.ensures.negation) ∙ c.self.view_is;
-      alive = ap (λ (s : TapesState). s.is_dead) c.self.view_is ∙ c.requires.alive;
-      opened = tt;
-      longer = tt;
-      others = tt;
-      pages = ap (λ (s : TapesState). s.pool) c.self.view_is;
-    }
+    ap (λ ts. record { is_dead = t.is_dead; tapes = ts; pool = t.pool }) (c.push.ensures.items ∙ ap (λ (ok : Bool). if ok then (t.tapes ++ c.args.tape ∷ []) else t.tapes) c.if-is_err.ensures.negation) ∙ c.self.view_is
 
 pub returns : goal.returns
 returns c =
