@@ -126,3 +126,6 @@ module _ (ps : List Piece) (name : ChunkName) (lives : IsTrue (is_live ps name))
 -- so are the live ones of chunks that are apart
 pub laid-live : (blocks : List (Option ℕ)) (ps : List Piece) → AreLaid blocks ps → AreLaid blocks (live ps)
 laid-live blocks ps laid = record { apart = pairwise_filter AreApart _ ps laid.apart; inside = every_filter (IsInside blocks) _ ps laid.inside }
+
+-- what one chunk more says
+pub ruleset adding = (added-lives, added-holds, added-keeps)

@@ -169,6 +169,7 @@ impl ChunkContext for Generation {
 
     ghost emptied = { run_reset };
 
+    #[tactic(auto, using(crate::proofs::Content::adding))]
     fn alloc(&mut self, bytes: &[u8]) -> Result<ChunkName, ContextError> {
         let growth = self.runs.growth(HEADER, bytes.len());
         make_count(
@@ -181,6 +182,7 @@ impl ChunkContext for Generation {
         Ok(name)
     }
 
+    #[tactic(auto, using(crate::proofs::Content::adding))]
     fn alloc_zeroed(&mut self, n: u32) -> Result<ChunkName, ContextError> {
         let growth = self.runs.growth(HEADER, n as usize);
         make_count(

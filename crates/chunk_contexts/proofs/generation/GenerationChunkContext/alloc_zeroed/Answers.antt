@@ -1,15 +1,13 @@
-use Rattle.std.proofs.Common.{◌+◌, sym, ap, ◌∙◌, subst, arith}
+use Rattle.std.proofs.Common.{sym, ap, ◌∙◌, subst, arith}
 use Rattle.list_laws.specs.Outcomes.{always_err}
 use Rattle.std.proofs.lemmas.Result.{err_from_is_err_and}
 use Rattle.block_memory.specs.Cells.{zeros}
 use Rattle.block_memory.specs.CellLaws.{length-zeros}
-use Rattle.chunk_layout.specs.Pieces.{total}
 use Rattle.chunk_contexts.specs.declared.runs.Runs.{Runs}
-use Rattle.chunk_contexts.specs.Chunks.{chunk_of, Adds}
+use Rattle.chunk_contexts.specs.Chunks.{Adds}
 use Rattle.chunk_contexts.specs.Rooms.{rounded}
-use Rattle.chunk_contexts.specs.Run.{RunState, run_of, run_growth, run_taken, IsBlockOf}
+use Rattle.chunk_contexts.specs.Run.{RunState, run_of}
 use Rattle.chunk_contexts.specs.Generation.{IsCounted}
-use Rattle.chunk_contexts.proofs.Content.{added-lives, added-holds, added-keeps}
 use Rattle.chunk_contexts.proofs.GenAllocs.{made-there, made-counted, made-block, counted-longer, refused-count, refused-as}
 use Rattle.chunk_contexts.proofs.generation.GenerationChunkContext.alloc_zeroed.Goals as goal
 
@@ -42,24 +40,17 @@ pub returns-in_err-name-clause-unchanged : goal.returns-in_err-name-clause-uncha
 returns-in_err-name-clause-unchanged c =
     always_err c.from_residual-in_err-name.result (ap run_of c.in_err-name.ensures.unchanged ∙ c.self.view_is)
 
-pub returns : goal.returns
-returns c =
-    let told = c.in_ok-name.ensures in let n = c.args.n in let bytes = zeros c.args.n in let name = c.in_ok-name.name in let after = c.alloc_zeroed.new.self in
-    let added : Adds c.args.self.now.chunks after.layout.pieces name (rounded n) bytes = subst (λ (s : RunState). Adds s.chunks after.layout.pieces name (rounded n) bytes) c.self.view_is told.added in
-    record {
-      admitted = told.admitted;
-      added = added;
-      len = added.len ∙ length-zeros n;
-      lives = added-lives _ _ name (rounded n) bytes added;
-      holds = added-holds _ _ name (rounded n) bytes added;
-      block = made-block 8 after _ name (rounded n) bytes told.run added;
-      lies = subst (λ (s : RunState). IsBlockOf s (run_growth 8 s n) name.block) c.self.view_is told.block;
-      keeps = added-keeps _ _ name (rounded n) bytes added;
-      space = told.space ∙ ap (λ (s : RunState). run_taken 8 s (chunk_of name (rounded n) bytes)) c.self.view_is;
-      grown = told.grown ∙ ap (λ (s : RunState). total s.blocks + run_growth 8 s n) c.self.view_is;
-      refused = tt;
-      unchanged = tt;
-    }
+added : (c : goal.After-count_one) → Adds c.args.self.now.chunks c.alloc_zeroed.new.self.layout.pieces c.in_ok-name.name (rounded c.args.n) (zeros c.args.n)
+added c = subst (λ (s : RunState). Adds s.chunks c.alloc_zeroed.new.self.layout.pieces c.in_ok-name.name (rounded c.args.n) (zeros c.args.n)) c.self.view_is c.in_ok-name.ensures.added
+
+pub returns-clause-added : goal.returns-clause-added
+returns-clause-added c = added c
+
+pub returns-clause-len : goal.returns-clause-len
+returns-clause-len c = (added c).len ∙ length-zeros c.args.n
+
+pub returns-clause-block : goal.returns-clause-block
+returns-clause-block c = made-block 8 c.alloc_zeroed.new.self _ _ _ _ c.in_ok-name.ensures.run (added c)
 
 pub invariant_of-self : goal.invariant_of-self
 invariant_of-self c = counted-longer _ _ _ c.self.invariant c.in_err-make_count.ensures.same c.in_err-make_count.ensures.long
