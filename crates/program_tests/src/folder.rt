@@ -3,6 +3,7 @@
 use crate::made::{write_aligned, write_csv, write_listed, write_wide};
 use command_line::{Terminals, command};
 use std::fs::Permissions;
+use std::io::{Read, Write};
 use std::os::unix::fs::{PermissionsExt, symlink};
 use std::test::*;
 use std::{fs, process};
@@ -31,13 +32,25 @@ pub(crate) fn new_folder(rt: &HostRuntime, test: &str, files: &[File]) -> Result
     Ok(folder)
 }
 
+/// Runs a command over streams of any kinds, and gives its status. The program is put together and proved for one kind, the `dyn` ones.
+pub(crate) fn run_over(
+    rt: &HostRuntime,
+    words: &[&str],
+    mut reader: &mut dyn Read,
+    mut writer: &mut dyn Write,
+    mut errors: &mut dyn Write,
+    terminals: Terminals,
+) -> u8 {
+    command(rt, words, &mut reader, &mut writer, &mut errors, terminals)
+}
+
 /// Runs a command, whose words `|` parts.
 pub(crate) fn run(rt: &HostRuntime, words: &str, input: &str) -> Result<Done, Fail> {
     let line = format!(in rt.alloc(); "agg_tool|{words}")?;
     let words: Vec<&str> = line.split('|').collect(rt.alloc())?;
     let mut output = Vec::new(rt.alloc());
     let mut errors = Vec::new(rt.alloc());
-    let status = command(
+    let status = run_over(
         rt,
         &words,
         &mut input.as_bytes(),

@@ -1,7 +1,7 @@
 //! Help, scripts, and a standard output that fails.
 
-use crate::folder::run;
-use command_line::{Terminals, command};
+use crate::folder::{run, run_over};
+use command_line::Terminals;
 use std::io::{ErrorKind, Read, Write};
 use std::test::*;
 use std::{fs, io, process};
@@ -58,14 +58,14 @@ fn scripts_run(rt: HostRuntime) -> Result<(), Fail> {
 }
 
 /// The status and the sentences of a command.
-fn ended<I: Read, W: Write>(
+fn ended(
     rt: &HostRuntime,
     words: &[&str],
-    input: &mut I,
-    output: &mut W,
+    input: &mut dyn Read,
+    output: &mut dyn Write,
 ) -> Result<String, Fail> {
     let mut errors = Vec::new(rt.alloc());
-    let status = command(rt, words, input, output, &mut errors, Terminals::none());
+    let status = run_over(rt, words, input, output, &mut errors, Terminals::none());
     let errors = String::from_utf8(errors).ok().ok_or("not UTF-8")?;
     Ok(format!(in rt.alloc(); "{status}|{errors}")?)
 }
@@ -218,7 +218,7 @@ fn said_in_bars(rt: &HostRuntime, words: &[&str], input: &str) -> Result<String,
     let mut errors = Barred {
         taken: Vec::new(rt.alloc()),
     };
-    command(
+    run_over(
         rt,
         words,
         &mut input.as_bytes(),
@@ -274,7 +274,7 @@ fn a_terminal_is_told_how_far_it_is(rt: HostRuntime) -> Result<(), Fail> {
         output: true,
         errors: true,
     };
-    command(
+    run_over(
         &rt,
         &["agg_tool", "merge", &out, &out, &out],
         &mut b"".as_slice(),

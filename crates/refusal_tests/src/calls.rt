@@ -168,12 +168,7 @@ fn saved(replica: &Replica) -> Result<Vec<u8>, Refusal> {
 }
 
 /// A replica is saved.
-pub(crate) fn keep(
-    rt: HostRuntime,
-    site: &Site,
-    _limit: u64,
-    room: &mut Room<'_>,
-) -> Result<Met, Refusal> {
+pub(crate) fn keep(rt: HostRuntime, site: &Site, room: &mut Room<'_>) -> Result<Met, Refusal> {
     let replica = load(rt.alloc(), &site.own.file)?;
     let entered = room.enter();
     let first = saved(&replica);
@@ -202,12 +197,7 @@ fn is_own(
 }
 
 /// A file is loaded.
-pub(crate) fn read(
-    rt: HostRuntime,
-    site: &Site,
-    _limit: u64,
-    room: &mut Room<'_>,
-) -> Result<Met, Refusal> {
+pub(crate) fn read(rt: HostRuntime, site: &Site, room: &mut Room<'_>) -> Result<Met, Refusal> {
     room.enter()?;
     let first = load(rt.alloc(), &site.own.file);
     room.leave();

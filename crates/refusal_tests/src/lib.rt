@@ -20,3 +20,5 @@ mod rooms;
 mod scripts;
 #[cfg(test)]
 mod sites;
+#[cfg(test)]
+mod trials;

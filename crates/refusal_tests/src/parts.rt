@@ -35,7 +35,6 @@ fn read_in(rt: HostRuntime, file: &[u8], room: &mut Room<'_>) -> Result<Vec<u8>,
 pub(crate) fn decode_file(
     rt: HostRuntime,
     site: &Site,
-    _limit: u64,
     room: &mut Room<'_>,
 ) -> Result<Met, Refusal> {
     let file = &site.merged.file;
@@ -69,7 +68,6 @@ fn written(written: Result<Vec<u8>, AllocError>) -> Result<Vec<u8>, Refusal> {
 pub(crate) fn encode_file(
     rt: HostRuntime,
     site: &Site,
-    _limit: u64,
     room: &mut Room<'_>,
 ) -> Result<Met, Refusal> {
     let file = &site.merged.file;
