@@ -9,7 +9,7 @@ ghost use Rattle.packed_rows.specs.RowsOnEnd.{on_end};
 
 use crate::chunk::Chunk;
 use crate::chunks::Chunks;
-use crate::seeking::gap;
+use crate::seeking::{gap, is_below};
 use having_filter::Query;
 use std::alloc::{AllocError, Global};
 
@@ -27,7 +27,7 @@ impl Chunk {
         let mut step = step;
         while low < high {
             let middle = low + step.min((high - low) / 2);
-            if self.group(middle).0.cmp(key).is_lt() {
+            if is_below(self.group(middle).0, key) {
                 low = middle + 1;
                 step = step.saturating_mul(2).saturating_add(1);
             } else {

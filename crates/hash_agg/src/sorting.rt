@@ -93,8 +93,8 @@ fn told_apart(alloc: Global, entries: &mut [Led<'_>]) -> Result<Run, SpillError>
     entries.sort_unstable();
     let mut run = Run::with_capacity(alloc, entries.len(), 0, 0)?;
     for place in 0..entries.len() {
-        let (_, (key, states)) = entries[place];
-        if place > 0 && entries[place - 1].1.0 == key {
+        let (first, (key, states)) = entries[place];
+        if place > 0 && entries[place - 1].0 == first && entries[place - 1].1.0 == key {
             return Err(SpillError::TapeDamaged);
         }
         run.push(key, states)?;
