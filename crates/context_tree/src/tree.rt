@@ -24,6 +24,9 @@ use std::marker::Model;
 /// The slot of the root.
 const ROOT: u32 = 0;
 
+/// For how many contexts there is room made at once.
+const MORE: usize = 4;
+
 /// What the blocks of a tree stay below, in bytes.
 const BOUND: u64 = 0x8000_0000_0000_0000;
 
@@ -273,7 +276,7 @@ impl Tree {
             return Err(TreeError::StampsSpent);
         }
         let context = Context::new(self.alloc, kind)?;
-        self.contexts.reserve(1)?;
+        self.contexts.reserve(MORE)?;
         let stamp = self.last + 1;
         let slot = self.links.add(parent.slot, stamp)?;
         put_context(&mut self.contexts, slot as usize, context);

@@ -28,8 +28,8 @@ pub(crate) struct Chunks {
     chunks: Vec<Chunk>,
     /// How many groups there are up to the end of each chunk.
     ends: Vec<usize>,
-    /// How many bytes of keys and of states the first chunk begins with room for.
-    room: (usize, usize),
+    /// How many groups, and bytes of keys and of states, the first chunk begins with room for.
+    room: (usize, usize, usize),
 }
 
 impl Model for Chunks {
@@ -101,7 +101,7 @@ impl Chunks {
         Chunks {
             chunks: Vec::new(alloc),
             ends: Vec::new(alloc),
-            room: (0, 0),
+            room: (0, 0, 0),
         }
     }
 
@@ -119,7 +119,7 @@ impl Chunks {
         Ok(Chunks {
             chunks: Vec::with_capacity(alloc, count)?,
             ends: Vec::with_capacity(alloc, count)?,
-            room: (keys / count, states / count),
+            room: (groups.min(MOST_GROUPS), keys / count, states / count),
         })
     }
 
@@ -193,7 +193,7 @@ impl Chunks {
         let alloc = *self.chunks.allocator();
         match self.chunks.last() {
             Some(last) => Chunk::with_room_of(alloc, last, 0),
-            None => Chunk::with_capacity(alloc, 0, self.room.0, self.room.1),
+            None => Chunk::with_capacity(alloc, self.room.0, self.room.1, self.room.2),
         }
     }
 

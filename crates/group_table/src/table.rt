@@ -28,6 +28,9 @@ const FIRST_BUCKETS: usize = 256;
 
 const MOST_BUCKETS: usize = 16777216;
 
+/// For how many groups there is room to note them at first.
+const FIRST_SLOTS: usize = 16;
+
 /// Where a group of a table lies. A slot is that of its key until the table is cleared.
 #[derive(Clone, Copy, Debug, PartialEq, Eq)]
 pub struct Slot {
@@ -439,7 +442,8 @@ impl<H: KeyHash + Drop> GroupTable<H> {
         ensures room { OnOk result (0 < self.new.spare) }
         ensures same { self.new ≡ with_spare self.old self.new.spare }
     {
-        self.slots.reserve(1)
+        let more = if self.slots.is_empty() { FIRST_SLOTS } else { 1 };
+        self.slots.reserve(more)
     }
 
     /// Takes a group for which there is room to note it.

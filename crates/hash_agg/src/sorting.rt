@@ -82,6 +82,19 @@ pub(crate) fn united(alloc: Global, first: &Run, others: &[Run]) -> Result<Run, 
     told_apart(alloc, entries.as_mut_slice())
 }
 
+/// How many bytes the keys and the states of groups have, if all are as long as those of the first.
+fn room_for(entries: &[Led<'_>]) -> (usize, usize) {
+    if entries.is_empty() {
+        return (0, 0);
+    }
+    let (_, (key, states)) = entries[0];
+    let count = entries.len();
+    (
+        count.saturating_mul(key.len()),
+        count.saturating_mul(states.len()),
+    )
+}
+
 /// Puts groups in the order of their keys. `TapeDamaged` if two of them have the same key.
 fn told_apart(alloc: Global, entries: &mut [Led<'_>]) -> Result<Run, SpillError>
     requires led { All IsLed entries.old }
@@ -91,7 +104,8 @@ fn told_apart(alloc: Global, entries: &mut [Led<'_>]) -> Result<Run, SpillError>
     ensures faultless { IfErr result (λ error. error ≢ TapeFault) }
 {
     entries.sort_unstable();
-    let mut run = Run::with_capacity(alloc, entries.len(), 0, 0)?;
+    let (keys, states) = room_for(entries);
+    let mut run = Run::with_capacity(alloc, entries.len(), keys, states)?;
     for place in 0..entries.len() {
         let (first, (key, states)) = entries[place];
         if place > 0 && entries[place - 1].0 == first && entries[place - 1].1.0 == key {
