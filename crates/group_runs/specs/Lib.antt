@@ -9,3 +9,4 @@ pub mod MergeLaws
 pub mod PlaceLaws
 pub mod RunLaws
 pub mod StateLaws
+pub mod FirstLaws

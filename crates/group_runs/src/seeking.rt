@@ -1,6 +1,6 @@
 //! Seeking keys in a run.
 
-ghost use Rattle.std.specs.Prelude.{◌≡◌, ◌+◌, ◌-◌, ◌^◌, ◌<◌, ◌≤◌, ◌↔◌, IsTrue, Some, length, slice_get, take, drop};
+ghost use Rattle.std.specs.Prelude.{◌≡◌, ◌+◌, ◌-◌, ◌^◌, ◌<◌, ◌≤◌, ◌↔◌, ℕ, IsTrue, Some, length, slice_get, slice_index, take, drop};
 ghost use Rattle.std.specs.Ordering.{is_lt, nat_cmp};
 ghost use Rattle.std.specs.Cmp.Lexicographic.{slice_cmp};
 ghost use Rattle.byteorder.specs.Endian.{big_from};
@@ -21,6 +21,7 @@ pub(crate) fn gap(groups: usize, keys: usize) -> usize {
 fn first_bytes(key: &[u8]) -> u64
     requires { 8 ≤ length key.now }
     ensures number { result ≡ big_from 0 8 key.now }
+    ensures bytes { (place : ℕ) → slice_index key.now place < 256 }
 {
     u64::from_be_bytes([
         key[0], key[1], key[2], key[3], key[4], key[5], key[6], key[7],

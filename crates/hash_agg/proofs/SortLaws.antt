@@ -1,7 +1,6 @@
 -- Entries in the order of their keys.
 use Rattle.std.specs.Prelude.{◌≡◌, ◌≢◌, refl, ℕ, zero, suc, ◌+◌, ◌-◌, ◌*◌, ◌^◌, ◌<◌, ◌≤◌, true, false, List, [], ◌∷◌, ◌++◌, length, take, slice_get, slice_index, slice_index_or, Some}
 use Rattle.std.proofs.Common.{sym, ◌∙◌, ap, subst, arith, add-one, inl, inr}
-use Rattle.std.proofs.Math.Nat.{mul-le-mul_right, zero-mul}
 use Rattle.std.proofs.lemmas.Bool.{cases_lt}
 use Rattle.std.proofs.lemmas.List.{map-append, append-nil, length-map, length-take, take_all}
 use Rattle.std.proofs.lemmas.List.Sorted.{IsPermutation-map}
@@ -14,13 +13,12 @@ use Rattle.std.specs.Cmp.Lexicographic.{slice_cmp}
 use Rattle.std.specs.FinMap.{slice_cmp-IsAntisymmetric, nat_cmp-IsAntisymmetric}
 use Rattle.std.specs.List.{All, AllByRecursion, IsDistinct}
 use Rattle.std.specs.List.Sorted.{IsPermutation, IsSorted, IsStrictlySortedBy}
-use Rattle.byteorder.specs.Endian.{big_from}
-use Rattle.byteorder.specs.Numbers.{big_from-cons, big_from-lt}
 use Rattle.grouping_model.specs.MemberLaws.{false_is_not_true}
 use Rattle.packed_rows.specs.PackingOrderLaws.{less, tied}
 use Rattle.group_runs.specs.Runs.{Entry, packed_keys, Rises}
 use Rattle.group_runs.specs.Places.{AllBelow}
 use Rattle.hash_agg.specs.Passes.{AreOnce, Led, IsLed, pairs}
+use Rattle.group_runs.specs.FirstLaws.{smaller_first}
 use Rattle.group_runs.specs.RunLaws.{take_found}
 use Rattle.group_runs.specs.PlaceLaws.{key_total}
 use Rattle.group_runs.proofs.PlaceLaws.{below_to, rises_between}
@@ -84,33 +82,6 @@ pub rises_once : (es : List Entry) → Rises es → AreOnce es
 rises_once es rises = distinct_once es (IsDistinct-from_sorted bytes_cmp (packed_keys es) rises)
 
 -- ---- a sort by keys
-
--- a number of no bytes
-no_bytes : (i n : ℕ) → big_from i n [] ≡ 0
-no_bytes i zero = refl
-no_bytes i (suc n) = let rest = no_bytes (suc i) n in let none = zero-mul (256 ^ n) in omega (arith, rest, none)
-
--- a key whose first bytes are a smaller number comes first
-smaller_first : (n : ℕ) (xs ys : List ℕ) → ((i : ℕ) → slice_index xs i < 256) → ((i : ℕ) → slice_index ys i < 256) → big_from 0 n xs < big_from 0 n ys → bytes_cmp xs ys ≡ Less
-smaller_first zero xs ys fits_x fits_y low = absurd (omega (arith, low))
-smaller_first (suc n) [] [] fits_x fits_y low = absurd (omega (arith, low))
-smaller_first (suc n) [] (y ∷ ys) fits_x fits_y low = refl
-smaller_first (suc n) (x ∷ xs) [] fits_x fits_y low = let none : big_from 0 (suc n) [] ≡ 0 = no_bytes 0 (suc n) in absurd (omega (arith, none, low))
-smaller_first (suc n) (x ∷ xs) (y ∷ ys) fits_x fits_y low =
-    let below_x : big_from 0 n xs < 256 ^ n = big_from-lt 0 n xs (λ i. fits_x (suc i)) in
-    let below_y : big_from 0 n ys < 256 ^ n = big_from-lt 0 n ys (λ i. fits_y (suc i)) in
-    let sums : x * 256 ^ n + big_from 0 n xs < y * 256 ^ n + big_from 0 n ys =
-    subst (λ r. x * 256 ^ n + r < y * 256 ^ n + big_from 0 n ys) (big_from-cons 0 n x xs) (subst (λ r. x * 256 ^ n + big_from 1 n (x ∷ xs) < y * 256 ^ n + r) (big_from-cons 0 n y ys) low) in
-    elim (cases_lt x y) [
-      | inl lt ↦ ap (λ o. ordering_then o (bytes_cmp xs ys)) (less x y lt)
-      | inr le ↦ elim (cases_lt y x) [
-        | inl gt ↦ let far : suc y * 256 ^ n ≤ x * 256 ^ n = mul-le-mul_right (256 ^ n) gt in absurd (omega (arith, far, sums, below_x, below_y))
-        | inr ge ↦
-            let same : x ≡ y = omega (arith, le, ge) in
-            let rest : big_from 0 n xs < big_from 0 n ys = let moved : x * 256 ^ n ≡ y * 256 ^ n = ap (λ z. z * 256 ^ n) same in omega (arith, moved, sums) in
-            ap (λ z. ordering_then (nat_cmp x z) (bytes_cmp xs ys)) (sym same) ∙ ap (λ o. ordering_then o (bytes_cmp xs ys)) (tied x) ∙ smaller_first n xs ys (λ i. fits_x (suc i)) (λ i. fits_y (suc i)) rest
-      ]
-    ]
 
 abbrev entry_cmp : Led → Led → Ordering
 entry_cmp x y = ordering_then (nat_cmp x.0 y.0) (ordering_then (bytes_cmp x.1.0.now y.1.0.now) (bytes_cmp x.1.1.now y.1.1.now))

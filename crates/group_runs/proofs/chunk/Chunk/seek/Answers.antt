@@ -6,8 +6,8 @@ use Rattle.group_runs.specs.Places.{IsBelow, IsNotBelow}
 use Rattle.group_runs.proofs.PlaceLaws.{below_to, not_below_from}
 use Rattle.group_runs.proofs.chunk.Chunk.seek.Goals as goal
 
-pub loop-low-preserved-then-is_lt : goal.loop-low-preserved-then-is_lt
-loop-low-preserved-then-is_lt c =
+pub loop-low-preserved-then-is_below : goal.loop-low-preserved-then-is_below
+loop-low-preserved-then-is_below c =
     let i = c.loop-low.invariant in
     let low : ℕ = c.loop-low.low in
     let middle : ℕ = low + c.min.result in

@@ -7,8 +7,8 @@ use Rattle.group_runs.proofs.PlaceLaws.{below_to, not_below_from}
 use Rattle.group_runs.proofs.ComeLaws.{starts_rise}
 use Rattle.group_runs.proofs.chunks.Chunks.narrow.Goals as goal
 
-pub loop-first-preserved-then-is_lt : goal.loop-first-preserved-then-is_lt
-loop-first-preserved-then-is_lt c =
+pub loop-first-preserved-then-is_below : goal.loop-first-preserved-then-is_below
+loop-first-preserved-then-is_below c =
     let i = c.loop-first.invariant in
     let end : ℕ = c.start-end.result in
     let entry : Entry = (c.last_group.result.0.now, c.last_group.result.1.now) in
