@@ -253,7 +253,7 @@ impl Links {
         if slot >= u32::MAX as usize {
             return Err(AllocError);
         }
-        self.links.reserve(4)?; // As many as the contexts of a table, and the one that it lies below.
+        self.links.reserve(1)?;
         make_mark(&mut self.free, slot)?;
         self.links.push_reserved(Some(link));
         Ok(slot as u32)

@@ -24,9 +24,6 @@ use std::marker::Model;
 /// The slot of the root.
 const ROOT: u32 = 0;
 
-/// For how many contexts there is room made at once.
-const MORE: usize = 4;
-
 /// What the blocks of a tree stay below, in bytes.
 const BOUND: u64 = 0x8000_0000_0000_0000;
 
@@ -276,7 +273,7 @@ impl Tree {
             return Err(TreeError::StampsSpent);
         }
         let context = Context::new(self.alloc, kind)?;
-        self.contexts.reserve(MORE)?;
+        self.contexts.reserve(1)?;
         let stamp = self.last + 1;
         let slot = self.links.add(parent.slot, stamp)?;
         put_context(&mut self.contexts, slot as usize, context);
