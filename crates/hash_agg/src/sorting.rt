@@ -107,8 +107,8 @@ fn told_apart(alloc: Global, entries: &mut [Led<'_>]) -> Result<Run, SpillError>
     let (keys, states) = room_for(entries);
     let mut run = Run::with_capacity(alloc, entries.len(), keys, states)?;
     for place in 0..entries.len() {
-        let (first, (key, states)) = entries[place];
-        if place > 0 && entries[place - 1].0 == first && entries[place - 1].1.0 == key {
+        let (_, (key, states)) = entries[place];
+        if place > 0 && entries[place - 1].1.0 == key {
             return Err(SpillError::TapeDamaged);
         }
         run.push(key, states)?;
