@@ -442,7 +442,11 @@ impl<H: KeyHash + Drop> GroupTable<H> {
         ensures room { OnOk result (0 < self.new.spare) }
         ensures same { self.new ≡ with_spare self.old self.new.spare }
     {
-        let more = if self.slots.is_empty() { FIRST_SLOTS } else { 1 };
+        let more = if self.slots.is_empty() {
+            FIRST_SLOTS
+        } else {
+            1
+        };
         self.slots.reserve(more)
     }
 

@@ -14,4 +14,4 @@ returns-then-first-second c =
     let second : c.first_bytes-second.result ≡ big_from 0 8 c.args.other.now = other.number in
     let differ = c.if-first-second.true in
     let apart : big_from 0 8 c.args.key.now ≢ big_from 0 8 c.args.other.now = omega (arith, number, second, differ) in
-    subst (λ n. nat_lt n c.first_bytes-second.result ≡ is_lt (slice_cmp nat_cmp c.args.key.now c.args.other.now)) (sym number) (subst (λ n. nat_lt (big_from 0 8 c.args.key.now) n ≡ is_lt (slice_cmp nat_cmp c.args.key.now c.args.other.now)) (sym second) ( told_by_first 8 c.args.key.now c.args.other.now key.bytes other.bytes apart))
+    subst (λ n. nat_lt n c.first_bytes-second.result ≡ is_lt (slice_cmp nat_cmp c.args.key.now c.args.other.now)) (sym number) (subst (λ n. nat_lt (big_from 0 8 c.args.key.now) n ≡ is_lt (slice_cmp nat_cmp c.args.key.now c.args.other.now)) (sym second) (told_by_first 8 c.args.key.now c.args.other.now key.bytes other.bytes apart))
