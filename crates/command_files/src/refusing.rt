@@ -96,17 +96,6 @@ fn batch_reason(
     Ok(reason_of(alloc, said))
 }
 
-/// Why a batch file is refused by a replica.
-pub(crate) fn refused_batch<'p>(
-    alloc: Global,
-    replica: &Replica,
-    path: &'p str,
-    file: &[u8],
-    why: Refusal,
-) -> Problem<'p> {
-    Problem::because(path, why, batch_reason(alloc, replica, file, why))
-}
-
 /// How many bytes of a query are shown.
 const MOST_OF_QUERY: usize = 400;
 
@@ -163,15 +152,29 @@ fn merge_reason(
     Ok(reason_of(alloc, said))
 }
 
-/// Why a file is not merged into a replica.
-pub(crate) fn refused_merge<'p>(
+/// What a file is to a replica that takes it.
+#[derive(Clone, Copy)]
+pub(crate) enum FileKind {
+    /// A batch that is fed.
+    Batch,
+    /// A summary that is merged.
+    Summary,
+}
+
+/// Why a file is not taken into a replica.
+pub(crate) fn refused_file<'p>(
     alloc: Global,
+    kind: FileKind,
     replica: &Replica,
     path: &'p str,
     file: &[u8],
     why: Refusal,
 ) -> Problem<'p> {
-    Problem::because(path, why, merge_reason(alloc, replica, file, why))
+    let reason = match kind {
+        FileKind::Batch => batch_reason(alloc, replica, file, why),
+        FileKind::Summary => merge_reason(alloc, replica, file, why),
+    };
+    Problem::because(path, why, reason)
 }
 
 /// Says how long a summary would be that is too long.

@@ -4,7 +4,7 @@ use crate::files::{is_another, read_file, write_out};
 use crate::holding::tell_holding;
 use crate::progress::{Explained, PassedOver, Progress, Standing, text_of};
 use crate::refusing::{
-    refused_batch, refused_columns, refused_merge, refused_query, refused_save, refused_summary,
+    FileKind, refused_columns, refused_file, refused_query, refused_save, refused_summary,
 };
 use clap::ArgMatches;
 use command_streams::{
@@ -15,7 +15,7 @@ use command_words::{
 };
 use fault_sentences::Quoted;
 use hash_agg::{Fnv1a, Means, TapeDisk, Work};
-use replica_merge::{Delivered, Replica};
+use replica_merge::Replica;
 use replies::{Ending, Format, Refusal, Reply, origin_lines, put_reply, refusal_ending, table};
 use script_io::{put_all, read_limit};
 use spill_tapes::{MemDisk, SpillDisk};
@@ -148,35 +148,29 @@ fn spill_of<'p>(task: Task, matches: &ArgMatches<'p>) -> Option<&'p str> {
     matches.get_str(SPILL)
 }
 
-/// Feeds the batch of a file to a replica.
-fn feed_file<'p, R: Files + AllocGlobal, D: TapeDisk>(
+/// Takes a file into a replica, and gives the reply: its batch is fed, or the replica of its summary is merged.
+fn take_file<'p, R: Files + AllocGlobal, D: TapeDisk>(
     rt: &R,
+    kind: FileKind,
     replica: &mut Replica,
     path: &'p str,
     means: &Means<Fnv1a>,
     disk: &mut D,
     work: &mut Work,
-) -> Result<Delivered, Problem<'p>> {
+) -> Result<Reply<'static>, Problem<'p>> {
     let file = read_file(rt, path)?;
-    match file_commands::feed(rt.alloc(), replica, &file, means, disk, work) {
-        Ok(delivered) => Ok(delivered),
-        Err(why) => Err(refused_batch(rt.alloc(), replica, path, &file, why)),
-    }
-}
-
-/// Merges the replica of a summary file into another.
-fn merge_file<'p, R: Files + AllocGlobal, D: TapeDisk>(
-    rt: &R,
-    replica: &mut Replica,
-    path: &'p str,
-    means: &Means<Fnv1a>,
-    disk: &mut D,
-    work: &mut Work,
-) -> Result<(), Problem<'p>> {
-    let file = read_file(rt, path)?;
-    match file_commands::merge(rt.alloc(), replica, &file, means, disk, work) {
-        Ok(()) => Ok(()),
-        Err(why) => Err(refused_merge(rt.alloc(), replica, path, &file, why)),
+    let alloc = rt.alloc();
+    let taken = match kind {
+        FileKind::Batch => {
+            file_commands::feed(alloc, replica, &file, means, disk, work).map(Reply::Delivered)
+        }
+        FileKind::Summary => {
+            file_commands::merge(alloc, replica, &file, means, disk, work).map(|()| Reply::Merged)
+        }
+    };
+    match taken {
+        Ok(reply) => Ok(reply),
+        Err(why) => Err(refused_file(alloc, kind, replica, path, &file, why)),
     }
 }
 
@@ -323,54 +317,19 @@ impl<'c, R: Files + AllocGlobal + RandomSource, W: Write, E: Write> Session<'c, 
         self.reply(&Reply::Saved(file.bytes().len()))
     }
 
-    /// Feeds the batches of files to a replica, each with its reply.
-    fn feed_files<'p>(
+    /// Takes files into a replica, each with its reply.
+    fn take_files<'p>(
         &mut self,
+        kind: FileKind,
         replica: &mut Replica,
-        matches: &ArgMatches<'p>,
+        paths: &[&'p str],
         means: &Means<Fnv1a>,
     ) -> Result<(), Problem<'p>> {
-        let Some(paths) = matches.get_strs(BATCH) else {
-            return Ok(());
-        };
         self.files = paths.len();
         for path in paths {
-            match feed_file(
-                self.rt,
-                replica,
-                *path,
-                means,
-                &mut self.disk,
-                &mut self.work,
-            ) {
-                Ok(delivered) => self.reply_to(*path, &Reply::Delivered(delivered))?,
-                Err(problem) => self.pass_over(problem)?,
-            }
-        }
-        Ok(())
-    }
-
-    /// Merges the summaries after the first into its replica, each with its reply.
-    fn merge_files<'p>(
-        &mut self,
-        replica: &mut Replica,
-        matches: &ArgMatches<'p>,
-        means: &Means<Fnv1a>,
-    ) -> Result<(), Problem<'p>> {
-        let Some(paths) = matches.get_strs(IN) else {
-            return Ok(());
-        };
-        self.files = paths.len().saturating_sub(1);
-        for path in paths.iter().skip(1) {
-            match merge_file(
-                self.rt,
-                replica,
-                *path,
-                means,
-                &mut self.disk,
-                &mut self.work,
-            ) {
-                Ok(()) => self.reply_to(*path, &Reply::Merged)?,
+            let (disk, work) = (&mut self.disk, &mut self.work);
+            match take_file(self.rt, kind, replica, *path, means, disk, work) {
+                Ok(reply) => self.reply_to(*path, &reply)?,
                 Err(problem) => self.pass_over(problem)?,
             }
         }
@@ -431,8 +390,16 @@ impl<'c, R: Files + AllocGlobal + RandomSource, W: Write, E: Write> Session<'c, 
                 return Ok(());
             }
             Task::Answer => return self.answer(replica, matches, means),
-            Task::Feed => self.feed_files(replica, matches, means)?,
-            Task::Merge => self.merge_files(replica, matches, means)?,
+            Task::Feed => {
+                let paths = matches.get_strs(BATCH).unwrap_or_default();
+                self.take_files(FileKind::Batch, replica, paths, means)?;
+            }
+            Task::Merge => {
+                // The replica is that of the first.
+                let paths = matches.get_strs(IN).unwrap_or_default();
+                let others = paths.get(1..).unwrap_or_default();
+                self.take_files(FileKind::Summary, replica, others, means)?;
+            }
             Task::New => {}
         }
         // OUT may have the path of the file for what is spilled, which is no longer wanted.
