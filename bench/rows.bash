@@ -1,5 +1,5 @@
 # shellcheck shell=bash
-# The rows of bench/run and bench/growth, which read this file, the scripts that feed them, and how a program is timed.
+# The rows of bench/run, bench/growth and bench/profile, which read this file, the scripts that feed them, and how a program is timed.
 
 root=$(cd "$(dirname "${BASH_SOURCE[0]}")/.." && pwd)
 program=${PROGRAM:-$root/crates/agg_tool/out/agg_tool}
