@@ -148,7 +148,29 @@ fn spill_of<'p>(task: Task, matches: &ArgMatches<'p>) -> Option<&'p str> {
     matches.get_str(SPILL)
 }
 
-/// Takes a file into a replica, and gives the reply: its batch is fed, or the replica of its summary is merged.
+/// Takes the bytes of a file into a replica, and gives the reply: its batch is fed, or the replica of its summary is merged.
+fn take<D: TapeDisk>(
+    alloc: Global,
+    kind: FileKind,
+    replica: &mut Replica,
+    file: &[u8],
+    means: &Means<Fnv1a>,
+    disk: &mut D,
+    work: &mut Work,
+) -> Result<Reply<'static>, Refusal> {
+    match kind {
+        FileKind::Batch => {
+            let delivered = file_commands::feed(alloc, replica, file, means, disk, work)?;
+            Ok(Reply::Delivered(delivered))
+        }
+        FileKind::Summary => {
+            file_commands::merge(alloc, replica, file, means, disk, work)?;
+            Ok(Reply::Merged)
+        }
+    }
+}
+
+/// Takes a file into a replica, and gives the reply.
 fn take_file<'p, R: Files + AllocGlobal, D: TapeDisk>(
     rt: &R,
     kind: FileKind,
@@ -159,18 +181,9 @@ fn take_file<'p, R: Files + AllocGlobal, D: TapeDisk>(
     work: &mut Work,
 ) -> Result<Reply<'static>, Problem<'p>> {
     let file = read_file(rt, path)?;
-    let alloc = rt.alloc();
-    let taken = match kind {
-        FileKind::Batch => {
-            file_commands::feed(alloc, replica, &file, means, disk, work).map(Reply::Delivered)
-        }
-        FileKind::Summary => {
-            file_commands::merge(alloc, replica, &file, means, disk, work).map(|()| Reply::Merged)
-        }
-    };
-    match taken {
+    match take(rt.alloc(), kind, replica, &file, means, disk, work) {
         Ok(reply) => Ok(reply),
-        Err(why) => Err(refused_file(alloc, kind, replica, path, &file, why)),
+        Err(why) => Err(refused_file(rt.alloc(), kind, replica, path, &file, why)),
     }
 }
 
