@@ -2,7 +2,7 @@
 
 use crate::folder::{run, run_over};
 use command_line::Terminals;
-use std::io::{ErrorKind, Read, Write};
+use std::io::{ErrorKind, Write};
 use std::test::*;
 use std::{fs, io, process};
 use test_disks::{FailingReader, FailingWriter};
@@ -58,25 +58,21 @@ fn scripts_run(rt: HostRuntime) -> Result<(), Fail> {
 }
 
 /// The status and the sentences of a command.
-fn ended(
-    rt: &HostRuntime,
-    words: &[&str],
-    input: &mut dyn Read,
-    output: &mut dyn Write,
-) -> Result<String, Fail> {
-    let mut errors = Vec::new(rt.alloc());
-    let status = run_over(rt, words, input, output, &mut errors, Terminals::none());
+fn ended(rt: &HostRuntime, status: u8, errors: Vec<u8>) -> Result<String, Fail> {
     let errors = String::from_utf8(errors).ok().ok_or("not UTF-8")?;
     Ok(format!(in rt.alloc(); "{status}|{errors}")?)
 }
 
-/// The same where standard output takes 3 bytes.
+/// The same of a command whose standard output takes 3 bytes.
 fn with_short_output(rt: &HostRuntime, words: &[&str], input: &str) -> Result<String, Fail> {
     let mut output = FailingWriter {
         taken: Vec::new(rt.alloc()),
         room: 3,
     };
-    ended(rt, words, &mut input.as_bytes(), &mut output)
+    let (mut input, mut errors) = (input.as_bytes(), Vec::new(rt.alloc()));
+    let none = Terminals::none();
+    let status = run_over(rt, words, &mut input, &mut output, &mut errors, none);
+    ended(rt, status, errors)
 }
 
 #[test]
@@ -94,9 +90,18 @@ fn an_output_that_fails_is_told(rt: HostRuntime) -> Result<(), Fail> {
 #[test]
 fn a_script_that_stops_is_told_once(rt: HostRuntime) -> Result<(), Fail> {
     let words = ["agg_tool", "script"];
-    let unread = ended(&rt, &words, &mut FailingReader, &mut Vec::new(rt.alloc()))?;
+    let (mut output, mut errors) = (Vec::new(rt.alloc()), Vec::new(rt.alloc()));
+    let none = Terminals::none();
+    let status = run_over(
+        &rt,
+        &words,
+        &mut FailingReader,
+        &mut output,
+        &mut errors,
+        none,
+    );
     assert_eq!(rt;
-        unread.as_str(),
+        ended(&rt, status, errors)?.as_str(),
         "3|refused ReadFault: the input could not be read (other error)\n"
     );
     // Its replies are more than are gathered before some go out.
@@ -161,6 +166,14 @@ impl Write for ClosedPipe {
     }
 }
 
+/// The status and the sentences of a command whose output nobody reads any more.
+fn with_closed_pipe(rt: &HostRuntime, words: &[&str], input: &str) -> Result<String, Fail> {
+    let (mut input, mut errors) = (input.as_bytes(), Vec::new(rt.alloc()));
+    let none = Terminals::none();
+    let status = run_over(rt, words, &mut input, &mut ClosedPipe, &mut errors, none);
+    ended(rt, status, errors)
+}
+
 #[test]
 fn a_reader_that_goes_away_is_not_told(rt: HostRuntime) -> Result<(), Fail> {
     let mut script = String::from_str(
@@ -168,26 +181,16 @@ fn a_reader_that_goes_away_is_not_told(rt: HostRuntime) -> Result<(), Fail> {
         "columns,c text\nquery,SELECT count(*) FROM batches\n",
     )?;
     let words = ["agg_tool", "script"];
-    let short = ended(&rt, &words, &mut script.as_bytes(), &mut ClosedPipe)?;
+    let short = with_closed_pipe(&rt, &words, &script)?;
     assert_eq!(rt; short.as_str(), "3|");
     for _ in 0..1_000 {
         script.push_str("limit,65536\n")?;
     }
-    let long = ended(&rt, &words, &mut script.as_bytes(), &mut ClosedPipe)?;
+    let long = with_closed_pipe(&rt, &words, &script)?;
     assert_eq!(rt; long.as_str(), "3|");
-    let help = ended(
-        &rt,
-        &["agg_tool", "--help"],
-        &mut b"".as_slice(),
-        &mut ClosedPipe,
-    )?;
+    let help = with_closed_pipe(&rt, &["agg_tool", "--help"], "")?;
     assert_eq!(rt; help.as_str(), "3|");
-    let known = ended(
-        &rt,
-        &["agg_tool", "known", "/none"],
-        &mut b"".as_slice(),
-        &mut ClosedPipe,
-    )?;
+    let known = with_closed_pipe(&rt, &["agg_tool", "known", "/none"], "")?;
     assert_eq!(rt;
         known.as_str(),
         "3|/none: refused ReadFault: the input could not be read (No such file or directory (os error 2))\n"
@@ -255,17 +258,10 @@ fn each_sentence_is_one_write(rt: HostRuntime) -> Result<(), Fail> {
 fn a_terminal_is_told_how_far_it_is(rt: HostRuntime) -> Result<(), Fail> {
     let process = process::id(rt.process());
     let out = format!(in rt.alloc(); "/tmp/agg_tool_terminal_{process}.sum")?;
-    let made = [
-        "agg_tool",
-        "new",
-        &out,
-        "--columns",
-        "c text",
-        "--query",
-        "SELECT count(*) FROM batches",
-    ];
-    let told = ended(&rt, &made, &mut b"".as_slice(), &mut Vec::new(rt.alloc()))?;
-    assert_eq!(rt; told.as_str(), "0|");
+    let made = format!(in rt.alloc();
+        "new|{out}|--columns|c text|--query|SELECT count(*) FROM batches"
+    )?;
+    assert_eq!(rt; run(&rt, &made, "")?.status, 0);
     let mut output = Barred {
         taken: Vec::new(rt.alloc()),
     };
