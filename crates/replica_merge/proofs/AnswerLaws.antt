@@ -1,7 +1,7 @@
 -- The inputs of an answer, and the answer that their groups give.
-use Rattle.std.specs.Prelude.{◌≡◌, ◌≢◌, refl, ℕ, ◌+◌, ◌*◌, ◌<◌, ◌≤◌, ◌⊎◌, true, false, cond, List, [], ◌∷◌, ◌++◌, map, filter, flat_map, length, drop, slice_get, Bool, IsTrue, All, Some}
-use Rattle.std.proofs.Common.{sym, ◌∙◌, ap, subst, inl, inr, arith, append-nil}
-use Rattle.std.proofs.lemmas.Bool.{true≢false}
+use Rattle.std.specs.Borrow.{Bor}
+use Rattle.std.specs.Prelude.{◌≡◌, refl, ℕ, ◌+◌, ◌*◌, ◌<◌, ◌≤◌, true, false, cond, List, [], ◌∷◌, ◌++◌, map, filter, flat_map, length, Bool, All, Some}
+use Rattle.std.proofs.Common.{sym, ◌∙◌, ap, subst, arith}
 use Rattle.std.proofs.lemmas.List.{length-map}
 use Rattle.std.proofs.lemmas.List.Sums.{sum_by-cons}
 use Rattle.std.proofs.lemmas.List.Elements.{All-from_recursion}
@@ -24,20 +24,16 @@ use Rattle.agg_protocol.specs.States.{most_rows}
 use Rattle.query_checks.specs.Checks.{Checked}
 use Rattle.having_filter.specs.Meaning.{meaning}
 use Rattle.group_runs.specs.Runs.{Entry}
-use Rattle.group_runs.specs.Standing.{AreGroups, IsRun}
-use Rattle.hash_agg.specs.declared.input.Input.{Input}
-use Rattle.hash_agg.specs.declared.work.Work.{Work}
-use Rattle.aggregation_cost.specs.Space.{Setting}
-use Rattle.hash_agg.specs.Counting.{IsCounted, AreCounted}
+use Rattle.group_runs.specs.Standing.{AreGroups}
 use Rattle.packed_rows.specs.RowsOnEnd.{on_end}
-use Rattle.hash_agg.specs.Inputs.{Brought, brought, Counted, IsInput, AreInputsOf, IsAggregate, IsRunOver, all_rows, rows_in}
+use Rattle.hash_agg.specs.Inputs.{Brought, IsInput, AreInputsOf, all_rows, rows_in}
 use Rattle.origin_prefix.specs.Parts.{Part}
 use Rattle.origin_prefix.specs.Fitting.{FitsOrigin}
 use Rattle.origin_prefix.proofs.ByNumber.{numbers, above_first, rising_rest}
-use Rattle.replica_merge.specs.Counting.{aggregations_asked}
 use Rattle.replica_merge.specs.Replicas.{Parts, part_at, part_of, told, Held, Fits, IsHeldPart, AreHeldParts, counted_part}
-use Rattle.group_runs.specs.PlaceLaws.{drop_at}
 use Rattle.replica_merge.proofs.ToldLaws.{HasGap, part_gap, prefix_told, origins_told, each_at, part_here}
+use Rattle.replica_merge.specs.Unions.{brought_by, IsRunAlone, IsUnion}
+use Rattle.replica_merge.proofs.UnionLaws.{one_part}
 
 -- ---- inputs
 
@@ -109,7 +105,7 @@ fit_each world held fits rising =
     (λ e there. subst (FitsOrigin (meaning held.query) world e.0) (part_here held.parts e.0 e.1 there) (fits e.0)) held.parts (each_at held.parts rising)
 
 -- the groups of the rows of the unbroken prefixes
-pub groups_known : (held : Held) (run : List Entry) (world : World) → AreHeldParts held.query held.parts → Fits world held → IsAggregate (meaning held.query) (map counted_part held.parts) run
+pub groups_known : (held : Held) (run : List Entry) (world : World) → AreHeldParts held.query held.parts → Fits world held → IsUnion (meaning held.query) (map counted_part held.parts) run
     → AreGroups (meaning held.query) (all_rows (map counted_part held.parts)) run (part (meaning held.query) (known_rows world (told held.parts)))
 groups_known held run world is fits given =
     subst (λ rows. AreGroups (meaning held.query) (all_rows (map counted_part held.parts)) run (part (meaning held.query) rows)) (sym (known_rows_are held.query world held.parts is))
@@ -117,122 +113,43 @@ groups_known held run world is fits given =
 
 -- ---- a run that is shown
 
--- a run has the groups of all parts, over a disk that may be honest
-pub record IsOfParts (honest : Bool) (held : Held) (run : List Entry) : Type 0 where
+-- a run has the groups of all parts
+pub record IsOfParts (held : Held) (run : List Entry) : Type 0 where
   pub most : ℕ
   pub few : most ≤ most_rows
   pub groups : List Group
   pub are : AreGroups (meaning held.query) most run groups
-  pub known : IsTrue honest → (world : World) → Fits world held → AreGroups (meaning held.query) most run (part (meaning held.query) (known_rows world (told held.parts)))
+  pub known : (world : World) → Fits world held → AreGroups (meaning held.query) most run (part (meaning held.query) (known_rows world (told held.parts)))
 
 -- what a replica may show
-pub shows : (honest : Bool) (held : Held) (run : List Entry) → IsOfParts honest held run → (most : ℕ) × (groups : List Group) × AreGroups (meaning held.query) most run groups × (most ≤ most_rows)
-shows honest held run of = (of.most, of.groups, of.are, of.few)
+pub shows : (held : Held) (run : List Entry) → IsOfParts held run → (most : ℕ) × (groups : List Group) × AreGroups (meaning held.query) most run groups × (most ≤ most_rows)
+shows held run of = (of.most, of.groups, of.are, of.few)
 
--- the first part and the others
-pub all_inputs : (parts : Parts) (first : ℕ × Part) (others : List Brought) → slice_get parts 0 ≡ Some first → others ≡ map counted_part (drop 1 parts) → counted_part first ∷ others ≡ map counted_part parts
-all_inputs parts first others there are = ap (λ inputs. counted_part first ∷ inputs) are ∙ ap (map counted_part) (sym (drop_at parts 0 first there))
-
--- the run of the only part
-one_list : (q : Query) (run : List Entry) (rows : ℕ) (lists : List (List Row)) → AreInputsOf q (Counted run rows ∷ []) lists → AreGroups q rows run (part q (on_end lists))
-one_list q run rows [] are = absurd are
-one_list q run rows (these ∷ []) are = subst (λ all. AreGroups q rows run (part q all)) (sym (append-nil these)) are.0
-one_list q run rows (these ∷ more ∷ lists) are = absurd are.1
-
-pub only_part : (honest : Bool) (held : Held) (run : List Entry) (rows : ℕ) → AreHeldParts held.query held.parts → Counted run rows ∷ [] ≡ map counted_part held.parts → IsOfParts honest held run
-only_part honest held run rows is one =
+-- the run that unites what all parts bring
+pub whole_run : (held : Held) (inputs : List Brought) (run : List Entry) → AreHeldParts held.query held.parts → inputs ≡ map counted_part held.parts
+    → IsUnion (meaning held.query) inputs run → IsOfParts held run
+whole_run held inputs run is all union =
     let q : Query = meaning held.query in
-    let few : all_rows (Counted run rows ∷ []) ≤ most_rows = subst (λ inputs. all_rows inputs ≤ most_rows) (sym one) (few_parts held.query held.parts is) in
-    let sum : all_rows (Counted run rows ∷ []) ≡ rows + 0 = sum_by-cons rows_in (Counted run rows) [] in
-    let is_run : IsRun q rows run = (subst (AllByRecursion (IsInput q)) (sym one) (part_inputs held.query held.parts is.each)).0 in
-    record {
-      most = rows;
-      few = omega (arith, few, sum);
-      groups = is_run.groups;
-      are = is_run.are;
-      known =
-          λ honest world fits.
-          subst (λ those. AreGroups q rows run (part q those)) (sym (known_rows_are held.query world held.parts is))
-          (one_list q run rows (map (part_rows world) held.parts)
-          (subst (λ inputs. AreInputsOf q inputs (map (part_rows world) held.parts)) (sym one) (are_inputs q world held.parts (fit_each world held fits is.rising))));
-    }
-
--- the run of all of them
-pub whole_run : (honest : Bool) (held : Held) (inputs : List Brought) (run : List Entry) → AreHeldParts held.query held.parts → inputs ≡ map counted_part held.parts
-    → IsRunOver (meaning held.query) inputs run → (IsTrue honest → IsAggregate (meaning held.query) inputs run) → IsOfParts honest held run
-whole_run honest held inputs run is all over aggregate =
-    let q : Query = meaning held.query in
-    let given : IsRunOver q (map counted_part held.parts) run = subst (λ those. IsRunOver q those run) all over in
+    let given : IsUnion q (map counted_part held.parts) run = subst (λ those. IsUnion q those run) all union in
     record {
       most = all_rows (map counted_part held.parts);
       few = few_parts held.query held.parts is;
       groups = given.is_run.groups;
       are = given.is_run.are;
-      known = λ honest world fits. groups_known held run world is fits (subst (λ those. IsAggregate q those run) all (aggregate honest));
+      known = λ world fits. groups_known held run world is fits given;
     }
 
--- the first part's run, where there is no other
-nothing_brought : (others : List Input) → map brought others ≡ [] → others ≡ []
-nothing_brought [] e = refl
-nothing_brought (input ∷ inputs) e = cc e
+-- what is asked of what they bring
+pub listed_inputs : (query : Checked) (parts : Parts) (inputs : List Brought) → AreHeldParts query parts → inputs ≡ map counted_part parts → AllByRecursion (IsInput (meaning query)) inputs
+listed_inputs query parts inputs is all = subst (AllByRecursion (IsInput (meaning query))) (sym all) (part_inputs query parts is.each)
 
-pub alone : (honest : Bool) (held : Held) (first : ℕ × Part) (others : List Input) (run : List Entry) → AreHeldParts held.query held.parts → slice_get held.parts 0 ≡ Some first
-    → map brought others ≡ map counted_part (drop 1 held.parts) → others ≡ [] → run ≡ first.1.run → IsOfParts honest held run
-alone honest held first others run is there are none same =
-    only_part honest held run (first.1.prefix * MOST_ROWS) is
-    (ap (λ those. Counted those (first.1.prefix * MOST_ROWS) ∷ []) same ∙ all_inputs held.parts first [] there (ap (map brought) (sym none) ∙ are))
+pub listed_few : (query : Checked) (parts : Parts) (inputs : List Brought) → AreHeldParts query parts → inputs ≡ map counted_part parts → all_rows inputs ≤ most_rows
+listed_few query parts inputs is all = subst (λ those. all_rows those ≤ most_rows) (sym all) (few_parts query parts is)
 
--- the run of it and of the others
-pub together : (honest : Bool) (held : Held) (first : ℕ × Part) (others : List Input) (own run : List Entry) (rows : ℕ) → AreHeldParts held.query held.parts → slice_get held.parts 0 ≡ Some first
-    → map brought others ≡ map counted_part (drop 1 held.parts) → own ≡ first.1.run → rows ≡ first.1.prefix * MOST_ROWS
-    → IsRunOver (meaning held.query) (Counted own rows ∷ map brought others) run → (IsTrue honest → IsAggregate (meaning held.query) (Counted own rows ∷ map brought others) run)
-    → IsOfParts honest held run
-together honest held first others own run rows is there are same count over aggregate =
-    whole_run honest held (Counted own rows ∷ map brought others) run is
-    ((λ i. Counted (same i) (count i) ∷ map brought others) ∙ all_inputs held.parts first (map brought others) there are) over aggregate
-
--- what is asked of both
-pub first_inputs : (query : Checked) (parts : Parts) (first : ℕ × Part) (others : List Brought) → AreHeldParts query parts → slice_get parts 0 ≡ Some first
-    → others ≡ map counted_part (drop 1 parts) → AllByRecursion (IsInput (meaning query)) others
-first_inputs query parts first others is there are =
-    (subst (AllByRecursion (IsInput (meaning query))) (sym (all_inputs parts first others there are)) (part_inputs query parts is.each)).1
-
-pub first_few : (query : Checked) (parts : Parts) (first : ℕ × Part) (others : List Brought) → AreHeldParts query parts → slice_get parts 0 ≡ Some first
-    → others ≡ map counted_part (drop 1 parts) → first.1.prefix * MOST_ROWS + all_rows others ≤ most_rows
-first_few query parts first others is there are =
-    subst (λ n. n ≤ most_rows) (sum_by-cons rows_in (counted_part first) others)
-    (subst (λ inputs. all_rows inputs ≤ most_rows) (sym (all_inputs parts first others there are)) (few_parts query parts is))
-
--- what an answer is counted as
-pub alone_counted : (q : Query) (setting : Setting) (parts : Parts) (others : List Input) (work : Work) (writes : ℕ) → map brought others ≡ map counted_part (drop 1 parts) → others ≡ []
-    → AreCounted q setting (aggregations_asked parts) work writes work writes
-alone_counted q setting [] others work writes are none = (refl, refl)
-alone_counted q setting (first ∷ []) others work writes are none = (refl, refl)
-alone_counted q setting (first ∷ other ∷ parts) others work writes are none = let e : [] ≡ map counted_part (other ∷ parts) = ap (map brought) (sym none) ∙ are in cc e
-
-pub together_counted : (q : Query) (setting : Setting) (parts : Parts) (others : List Input) (old : Work) (writes : ℕ) (new : Work) (written : ℕ)
-    → map brought others ≡ map counted_part (drop 1 parts) → others ≢ [] → IsCounted q setting (map brought others) old writes new written
-    → AreCounted q setting (aggregations_asked parts) old writes new written
-together_counted q setting [] others old writes new written are some counted = absurd (some (nothing_brought others are))
-together_counted q setting (first ∷ []) others old writes new written are some counted = absurd (some (nothing_brought others are))
-together_counted q setting (first ∷ other ∷ parts) others old writes new written are some counted = (
-  new,
-  written,
-  subst (λ inputs. IsCounted q setting inputs old writes new written) are counted,
-  (refl, refl),
-)
-
-pub no_inputs : (others : List Input) → length others ≡ 0 → others ≡ []
-no_inputs [] e = refl
-no_inputs (input ∷ inputs) e = absurd (omega (arith, e))
-
-pub no_first : (parts : Parts) → (0 < length parts → false ≡ true) → parts ≡ []
-no_first [] never = refl
-no_first (first ∷ parts) never = absurd (true≢false (sym (never (omega arith))))
-
--- no part knows a row
-pub none_known : (held : Held) (world : World) → AreHeldParts held.query held.parts → held.parts ≡ [] → part (meaning held.query) (known_rows world (told held.parts)) ≡ []
-none_known held world is none = ap (part (meaning held.query)) (known_rows_are held.query world held.parts is) ∙ ap (λ parts. part (meaning held.query) (on_end (map (part_rows world) parts))) none
+-- the run of the only part
+pub only_run : (held : Held) (parts : List (Bor Part)) (run : List Entry) → AreHeldParts held.query held.parts → brought_by parts ≡ map counted_part held.parts → IsRunAlone parts run → IsOfParts held run
+only_run held parts run is all alone =
+    whole_run held (brought_by parts) run is all (one_part (meaning held.query) parts run (listed_inputs held.query held.parts (brought_by parts) is all) alone)
 
 -- ---- answers
 
@@ -255,15 +172,12 @@ abbrev pub ShownBy : Query → List Entry → List (List Outcome) → Type 0
 ShownBy q run rows = (most : ℕ) (groups : List Group) → most ≤ most_rows → AreGroups q most run groups → rows ≡ answer_of q groups
 
 -- what a replica shows of such a run
-pub shown_wide : (honest : Bool) (held : Held) (run : List Entry) (rows : List (List Outcome)) → IsOfParts honest held run → ShownBy (meaning held.query) run rows
+pub shown_wide : (held : Held) (run : List Entry) (rows : List (List Outcome)) → IsOfParts held run → ShownBy (meaning held.query) run rows
     → All (λ (row : List Outcome). length row ≡ length (meaning held.query).items) rows
-shown_wide honest held run rows of shown =
+shown_wide held run rows of shown =
     subst (All (λ (row : List Outcome). length row ≡ length (meaning held.query).items)) (sym (shown of.most of.groups of.few of.are)) (rows_wide (meaning held.query) of.groups)
 
-pub shown_answer : (honest : Bool) (held : Held) (run : List Entry) (rows : List (List Outcome)) → IsOfParts honest held run → ShownBy (meaning held.query) run rows
-    → IsTrue honest → (world : World) → Fits world held → rows ≡ answer (meaning held.query) world (told held.parts)
-shown_answer honest held run rows of shown so world fits =
-    shown of.most (part (meaning held.query) (known_rows world (told held.parts))) of.few (of.known so world fits)
-
-pub none_answer : (held : Held) (rows : List (List Outcome)) (world : World) → AreHeldParts held.query held.parts → held.parts ≡ [] → rows ≡ answer_of (meaning held.query) [] → rows ≡ answer (meaning held.query) world (told held.parts)
-none_answer held rows world is none shown = shown ∙ ap (answer_of (meaning held.query)) (sym (none_known held world is none))
+pub shown_answer : (held : Held) (run : List Entry) (rows : List (List Outcome)) → IsOfParts held run → ShownBy (meaning held.query) run rows
+    → (world : World) → Fits world held → rows ≡ answer (meaning held.query) world (told held.parts)
+shown_answer held run rows of shown world fits =
+    shown of.most (part (meaning held.query) (known_rows world (told held.parts))) of.few (of.known world fits)

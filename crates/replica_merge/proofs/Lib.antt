@@ -6,3 +6,4 @@ pub mod DeliveredLaws
 pub mod MergedLaws
 pub mod SavedLaws
 pub mod WorldLaws
+pub mod UnionLaws

@@ -1,18 +1,10 @@
 -- What is counted of what a replica does. All of this is our own.
-use Rattle.std.specs.Prelude.{◌≡◌, ℕ, List, [], ◌∷◌, map}
+use Rattle.std.specs.Prelude.{◌≡◌, ℕ, [], ◌∷◌}
 use Rattle.grouping_model.specs.Query.{Query}
 use Rattle.aggregation_cost.specs.Space.{Setting}
-use Rattle.hash_agg.specs.Inputs.{Brought}
 use Rattle.hash_agg.specs.declared.work.Work.{Work}
 use Rattle.origin_prefix.specs.Joins.{JoinIsCounted}
-use Rattle.replica_merge.specs.Replicas.{Parts, part_of, counted_part}
-
--- The aggregations that an answer takes. The groups of one origin stand already, so there is none over one origin or none, and else one
--- of the groups of all but the first, which are then merged with those of the first
-abbrev pub aggregations_asked : Parts → List (List Brought)
-aggregations_asked [] = []
-aggregations_asked (first ∷ []) = []
-aggregations_asked (first ∷ other ∷ others) = map counted_part (other ∷ others) ∷ []
+use Rattle.replica_merge.specs.Replicas.{Parts, part_of}
 
 -- what a merge takes was counted: each part of the other replica joined with the own part of its origin, one after the other
 abbrev pub MergeIsCounted : Query → Setting → (own theirs : Parts) → Work → ℕ → Work → ℕ → Type 0

@@ -2,3 +2,4 @@ pub mod Replicas
 pub mod Coding
 pub mod Counting
 pub mod Errors
+pub mod Unions

@@ -150,8 +150,11 @@ abbrev pub known_part : ℕ × Part → KnownOrigin
 known_part held = record { origin = held.0; upto = held.1.prefix; early = map (λ (batch : ℕ × List (List ℕ)). batch.0) held.1.early }
 
 -- what a part brings to an answer: its groups, which count at most the rows that its prefix may have
+abbrev pub counted : Part → Brought
+counted part = Counted part.run (part.prefix * MOST_ROWS)
+
 abbrev pub counted_part : ℕ × Part → Brought
-counted_part held = Counted held.1.run (held.1.prefix * MOST_ROWS)
+counted_part held = counted held.1
 
 -- what the code says of an origin
 abbrev pub known_of : code.KnownOrigin → KnownOrigin

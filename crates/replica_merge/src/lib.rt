@@ -8,6 +8,7 @@ mod merging;
 mod replica;
 mod saving;
 mod showing;
+mod uniting;
 
 pub use error::MergeError;
 pub use known_origin::KnownOrigin;

@@ -1,9 +1,6 @@
 //! What a replica holds, and what it tells of it.
 
-ghost use Rattle.std.specs.Prelude.{◌≡◌, ◌≢◌, ◌+◌, ◌≤◌, ◌∷◌, ℕ, List, Option, None, All, [], map, length, drop, Some, IsSome, IfSome, IsTrue, false, IfOk, IfErr, OnOk, OnErr};
-ghost use Rattle.std.specs.BTreeMap.{insert_entry};
-ghost use Rattle.std.specs.List.{AllByRecursion};
-ghost use Rattle.std.specs.Option.{option_copied};
+ghost use Rattle.std.specs.Prelude.{◌≡◌, ◌≢◌, ◌+◌, ◌≤◌, ℕ, List, Option, None, All, [], map, length, Some, IsSome, IsTrue, false, IfOk, IfErr, OnOk, OnErr};
 ghost use Rattle.grouping_model.specs.declared.limits.TheConstants.{LAST_NUMBER};
 ghost use Rattle.grouping_model.specs.Answer.{answer};
 ghost use Rattle.grouping_model.specs.Datum.{Row};
@@ -11,28 +8,24 @@ ghost use Rattle.grouping_model.specs.Replies.{InLimits, reply_of, known_list};
 ghost use Rattle.grouping_model.specs.World.{World, IsWorld, knows, learn};
 ghost use Rattle.packed_rows.specs.Columns.{kinds};
 ghost use Rattle.batch_reader.specs.Rows.{ArePackedRows, packings};
-ghost use Rattle.agg_protocol.specs.States.{most_rows as most_counted};
 ghost use Rattle.having_filter.specs.Meaning.{meaning};
-ghost use Rattle.hash_agg.specs.Inputs.{Counted, brought, all_rows, IsInput, IsAggregate, IsRunOver};
-ghost use Rattle.group_runs.specs.Standing.{IsRun};
-ghost use Rattle.hash_agg.specs.Counting.{IsCounted, AreCounted, setting_by};
+ghost use Rattle.hash_agg.specs.Counting.{AreCounted, setting_by};
 ghost use Rattle.origin_prefix.specs.Parts.{IsPartOf, Disagrees, BatchTells, aggregations_on};
 ghost use Rattle.origin_prefix.specs.Errors.{batch_faults};
 ghost use Rattle.origin_prefix.specs.declared.error.JoinError.TheVariants.{OriginDisagrees, Spill};
 ghost use Rattle.spill_tapes.specs.Calls.{failed};
 ghost use Rattle.spill_tapes.specs.Disk.{Leaves};
-ghost use Rattle.spill_lists.specs.Errors.{spill_faults};
 ghost use Rattle.spill_lists.specs.declared.error.SpillError.{SpillError};
 ghost use Rattle.spill_lists.specs.declared.error.SpillError.TheVariants.{TapeDamaged};
-ghost use Rattle.replica_merge.specs.Counting.{aggregations_asked};
-ghost use Rattle.replica_merge.specs.Replicas.{part_at, part_of, told, Fits, AreHeldParts, DeliversAt, IsDelivery, known_of, known_part, counted_part};
+ghost use Rattle.replica_merge.specs.Replicas.{part_at, part_of, told, Fits, AreHeldParts, DeliversAt, IsDelivery, known_of, known_part};
 
 use crate::known_origin::KnownOrigin;
-use crate::showing::{show, show_none};
+use crate::showing::show;
+use crate::uniting::{listed, run_alone, united};
 use batch_reader::{Batch, PackedRows};
-use hash_agg::{Input, KeyHash, Means, Run, SpillError, TapeDisk, Work, fold};
+use hash_agg::{KeyHash, Means, SpillError, TapeDisk, Work};
 use having_filter::{Answer, Query};
-use origin_prefix::{Delivered, JoinError, OriginPart, RefusedBatch, most_rows};
+use origin_prefix::{Delivered, JoinError, OriginPart, RefusedBatch};
 use std::alloc::{AllocError, Global};
 use std::collections::BTreeMap;
 use std::marker::Model;
@@ -87,54 +80,6 @@ fn known_parts(
         })?;
     }
     Ok(list)
-}
-
-/// The groups of all parts but the first, as inputs.
-fn other_inputs(
-    alloc: Global,
-    parts: &BTreeMap<u16, OriginPart>,
-) -> Result<Vec<Input<'_>>, AllocError>
-    ensures { IfOk result (λ inputs. map brought inputs.items
-        ≡ map counted_part (drop 1 parts.now.entries)) }
-{
-    let mut inputs = Vec::with_capacity(alloc, parts.len())?;
-    let mut others = parts.iter();
-    let _first = others.next();
-    for (_, part) in others {
-        let run = part.run();
-        let rows = most_rows(part.prefix());
-        inputs.push(Input::Groups { run, rows })?;
-    }
-    Ok(inputs)
-}
-
-/// The groups of a run, which stand already, with those of others.
-fn with_others<H: KeyHash + Copy, D: TapeDisk>(
-    alloc: Global,
-    query: &Query,
-    run: &Run,
-    rows: u64,
-    others: &[Input<'_>],
-    means: &Means<H>,
-    disk: &mut D,
-    work: &mut Work,
-) -> Result<Run, SpillError>
-    requires run { IsRun (meaning query.now) rows run.now }
-    requires inputs { AllByRecursion (IsInput (meaning query.now)) (map brought others.now) }
-    requires few { rows + all_rows (map brought others.now) ≤ most_counted }
-    ensures aggregate { IfOk result (λ all. IsTrue (D.honest disk.old) →
-        IsAggregate (meaning query.now) (Counted run.now rows ∷ map brought others.now) all) }
-    ensures run { IfOk result (IsRunOver (meaning query.now)
-        (Counted run.now rows ∷ map brought others.now)) }
-    ensures counted { OnOk result (IsTrue (D.honest disk.old) →
-        IsCounted (meaning query.now) (setting_by H.hash_of (meaning query.now) means.now)
-        (map brought others.now) work.old (D.writes disk.old) work.new (D.writes disk.new)) }
-    ensures undamaged { IfErr result (λ error. IsTrue (D.honest disk.old) → error ≢ TapeDamaged) }
-    ensures disk { Leaves D.TapeDisk (failed spill_faults result) disk.old disk.new }
-{
-    let mut all = run.try_clone(alloc)?;
-    fold(alloc, query, &mut all, rows, others, means, disk, work)?;
-    Ok(all)
 }
 
 /// Takes a batch of an origin of which there is a part. A refused batch is handed back and changes nothing.
@@ -300,52 +245,24 @@ impl Replica {
 
     /// The answer of the query over the rows of the unbroken prefixes, by the terms of ORDER BY in their order, and else in the order of
     /// its keys: a row of the query's items for each group of which HAVING is true. Without GROUP BY there is one group, over no rows
-    /// too. The groups of several origins are aggregated by `means` and over a disk, which is added to `work`; those of one are shown
-    /// as they stand.
+    /// too. The groups of several origins stand in the order of their keys already and are merged; those of one are shown as they
+    /// stand. So it takes memory alone, and neither a limit nor a disk.
     ///
     /// # Errors
     ///
-    /// `NoMemory`; `TapeFault` where the disk failed; `TapeDamaged` where it gave back what was not written to it. An error adds
-    /// nothing to `work`.
-    pub fn answer<H: KeyHash + Copy, D: TapeDisk>(
-        &self,
-        means: &Means<H>,
-        disk: &mut D,
-        work: &mut Work,
-    ) -> Result<Answer, SpillError>
+    /// An allocation that failed.
+    pub fn answer(&self) -> Result<Answer, AllocError>
         ensures width { IfOk result (All (λ row. length row
             ≡ length (meaning self.now.query).items)) }
-        ensures answer { IfOk result (λ rows. IsTrue (D.honest disk.old) → (world : World) →
+        ensures answer { IfOk result (λ rows. (world : World) →
             IsWorld (kinds self.now.query.columns) world → Fits world self.now →
             rows ≡ answer (meaning self.now.query) world (told self.now.parts)) }
-        ensures counted { OnOk result (IsTrue (D.honest disk.old) →
-            AreCounted (meaning self.now.query) (setting_by H.hash_of (meaning self.now.query) means.now)
-            (aggregations_asked self.now.parts) work.old (D.writes disk.old) work.new (D.writes disk.new)) }
-        ensures uncounted { OnErr result (work.new ≡ work.old) }
-        ensures undamaged { IfErr result (λ error. IsTrue (D.honest disk.old) → error ≢ TapeDamaged) }
-        ensures disk { Leaves D.TapeDisk (failed spill_faults result) disk.old disk.new }
     {
-        let Some((_, first)) = self.parts.first_key_value() else {
-            return Ok(show_none(self.alloc, &self.query)?);
-        };
-        let others = other_inputs(self.alloc, &self.parts)?;
-        if others.is_empty() {
-            return Ok(show(self.alloc, &self.query, first.run())?);
+        let parts = listed(self.alloc, &self.parts)?;
+        if let Some(run) = run_alone(&parts) {
+            return show(self.alloc, &self.query, run);
         }
-        let rows = most_rows(first.prefix());
-        let mut counted = *work;
-        let run = with_others(
-            self.alloc,
-            &self.query,
-            first.run(),
-            rows,
-            &others,
-            means,
-            disk,
-            &mut counted,
-        )?;
-        let answer = show(self.alloc, &self.query, &run)?;
-        *work = counted;
-        Ok(answer)
+        let run = united(self.alloc, &self.query, &parts)?;
+        show(self.alloc, &self.query, &run)
     }
 }

@@ -166,7 +166,7 @@ fn rows_of_run(alloc: Global, query: &Query, run: &Run) -> Result<AnswerRows, Al
 }
 
 /// The answer that no groups give.
-pub(crate) fn show_none(alloc: Global, query: &Query) -> Result<Answer, AllocError>
+fn show_none(alloc: Global, query: &Query) -> Result<Answer, AllocError>
     ensures { IfOk result (λ answer. answer ≡ answer_of (meaning query.now) []) }
 {
     let rows = rows_of_none(alloc, query)?;

@@ -7,7 +7,7 @@ use Rattle.summary_codec.specs.Reading.{IsSaved}
 use Rattle.summary_codec.specs.declared.version.Version.TheVariants.{Second}
 use Rattle.summary_codec.specs.WorldFile.{world_file}
 use Rattle.summary_codec.proofs.SpelledRead.{spelled}
-use Rattle.replica_merge.specs.Replicas.{Parts, Held, told, Fits, AreHeldParts, MergesIn}
+use Rattle.replica_merge.specs.Replicas.{Parts, told, Fits, AreHeldParts, MergesIn}
 use Rattle.replica_merge.proofs.MergedLaws.{merges_told, merges_fit}
 use Rattle.replica_merge.proofs.SavedLaws.{saved_world}
 use Rattle.replica_merge.proofs.laws.merged_files.Goals as goal

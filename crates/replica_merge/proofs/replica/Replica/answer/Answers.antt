@@ -1,116 +1,64 @@
-use Rattle.std.specs.Prelude.{◌≡◌, ◌≢◌, ◌==◌, true, ℕ, ◌+◌, ◌*◌, ◌≤◌, List, [], map, All, length}
-use Rattle.std.proofs.Common.{rules, sym, ◌∙◌, ap, subst, arith}
+use Rattle.std.specs.Prelude.{◌≡◌, All, IfOk, List, length, map}
+use Rattle.std.proofs.Common.{◌∙◌, ap, subst}
+use Rattle.std.proofs.lemmas.Result.{IfOk-weaker}
 use Rattle.grouping_model.specs.Aggregates.{Outcome}
 use Rattle.grouping_model.specs.Answer.{answer}
-use Rattle.grouping_model.specs.declared.limits.TheConstants.{MOST_ROWS}
-use Rattle.agg_protocol.specs.States.{most_rows}
+use Rattle.grouping_model.specs.World.{World, IsWorld}
+use Rattle.packed_rows.specs.Columns.{kinds}
 use Rattle.having_filter.specs.Meaning.{meaning}
-use Rattle.hash_agg.specs.Inputs.{brought, all_rows}
-use Rattle.hash_agg.specs.Counting.{AreCounted, setting_by}
-use Rattle.origin_prefix.specs.Parts.{Part}
-use Rattle.replica_merge.specs.Counting.{aggregations_asked}
-use Rattle.replica_merge.specs.Replicas.{Held, Fits, told}
-use Rattle.replica_merge.proofs.AnswerLaws.{shows, alone, together, first_inputs, first_few, alone_counted, together_counted, no_inputs, no_first, none_answer, shown_wide, shown_answer}
+use Rattle.replica_merge.specs.Replicas.{Held, Fits, told, counted_part}
+use Rattle.replica_merge.specs.Unions.{brought_by}
+use Rattle.replica_merge.proofs.AnswerLaws.{IsOfParts, shows, only_run, whole_run, listed_inputs, listed_few, shown_wide, shown_answer}
 use Rattle.replica_merge.proofs.replica.Replica.answer.Goals as goal
 
-pub returns-in_default-clause-answer : goal.returns-in_default-clause-answer
-returns-in_default-clause-answer g c = λ honest world is fits.
-    let held : Held = record { query = c.self.inside.query; parts = c.self.inside.parts.entries } in
-    subst (λ (h : Held). c.in_ok-show_none.field-0 ≡ answer (meaning h.query) world (told h.parts)) c.self.view_is
-    (none_answer held c.in_ok-show_none.field-0 world c.self.invariant (no_first held.parts c.in_default.ensures.variant.1) c.in_ok-show_none.ensures)
-
 pub show-requires : goal.show-requires
-show-requires g c =
+show-requires c =
     let held : Held = record { query = c.self.inside.query; parts = c.self.inside.parts.entries } in
-    let first : ℕ × Part = (c.in-Some.field-0-0.now, c.in-Some.first.now) in
-    let zero : (c.in_ok-others.others.len == 0) ≡ true = sym c.is_empty.ensures ∙ c.if-is_empty.true in
-    let counted = c.in_ok-others.others.ok in
-    let none : c.in_ok-others.others.items ≡ [] = no_inputs c.in_ok-others.others.items (grind (arith, zero, counted)) in
-    shows (g.D.TapeDisk.honest c.args.disk.now) held c.run.result.now
-    (alone (g.D.TapeDisk.honest c.args.disk.now) held first c.in_ok-others.others.items c.run.result.now c.self.invariant c.in-Some.ensures.first c.in_ok-others.ensures none c.run.ensures)
+    let all : brought_by c.deref.result.now ≡ map counted_part held.parts = ap brought_by c.deref.ensures.value ∙ c.in_ok-parts.ensures in
+    shows held c.in-Some.run'.now (only_run held c.deref.result.now c.in-Some.run'.now c.self.invariant all c.in-Some.ensures.alone)
 
-pub returns-then-is_empty-clause-width : goal.returns-then-is_empty-clause-width
-returns-then-is_empty-clause-width g c =
+pub returns-in-Some-clause-width : goal.returns-in-Some-clause-width
+returns-in-Some-clause-width c =
     let held : Held = record { query = c.self.inside.query; parts = c.self.inside.parts.entries } in
-    let first : ℕ × Part = (c.in-Some.field-0-0.now, c.in-Some.first.now) in
-    let zero : (c.in_ok-others.others.len == 0) ≡ true = sym c.is_empty.ensures ∙ c.if-is_empty.true in
-    let counted = c.in_ok-others.others.ok in
-    let none : c.in_ok-others.others.items ≡ [] = no_inputs c.in_ok-others.others.items (grind (arith, zero, counted)) in
-    subst (λ (h : Held). All (λ (row : List Outcome). length row ≡ length (meaning h.query).items) c.in_ok-show.field-0) c.self.view_is
-    (shown_wide (g.D.TapeDisk.honest c.args.disk.now) held c.run.result.now c.in_ok-show.field-0
-    (alone (g.D.TapeDisk.honest c.args.disk.now) held first c.in_ok-others.others.items c.run.result.now c.self.invariant c.in-Some.ensures.first c.in_ok-others.ensures none c.run.ensures)
-    c.in_ok-show.ensures)
+    let all : brought_by c.deref.result.now ≡ map counted_part held.parts = ap brought_by c.deref.ensures.value ∙ c.in_ok-parts.ensures in
+    let of : IsOfParts held c.in-Some.run'.now = only_run held c.deref.result.now c.in-Some.run'.now c.self.invariant all c.in-Some.ensures.alone in
+    subst (λ (h : Held). IfOk c.show.result (All (λ (row : List Outcome). length row ≡ length (meaning h.query).items))) c.self.view_is
+    (IfOk-weaker c.show.result _ _ (λ rows shown. shown_wide held c.in-Some.run'.now rows of shown) c.show.ensures)
 
-pub returns-then-is_empty-clause-answer : goal.returns-then-is_empty-clause-answer
-returns-then-is_empty-clause-answer g c = λ honest world is fits.
+pub returns-in-Some-clause-answer : goal.returns-in-Some-clause-answer
+returns-in-Some-clause-answer c =
     let held : Held = record { query = c.self.inside.query; parts = c.self.inside.parts.entries } in
-    let first : ℕ × Part = (c.in-Some.field-0-0.now, c.in-Some.first.now) in
-    let zero : (c.in_ok-others.others.len == 0) ≡ true = sym c.is_empty.ensures ∙ c.if-is_empty.true in
-    let counted = c.in_ok-others.others.ok in
-    let none : c.in_ok-others.others.items ≡ [] = no_inputs c.in_ok-others.others.items (grind (arith, zero, counted)) in
-    subst (λ (h : Held). c.in_ok-show.field-0 ≡ answer (meaning h.query) world (told h.parts)) c.self.view_is
-    (shown_answer (g.D.TapeDisk.honest c.args.disk.now) held c.run.result.now c.in_ok-show.field-0
-    (alone (g.D.TapeDisk.honest c.args.disk.now) held first c.in_ok-others.others.items c.run.result.now c.self.invariant c.in-Some.ensures.first c.in_ok-others.ensures none c.run.ensures)
-    c.in_ok-show.ensures honest world (subst (Fits world) (sym c.self.view_is) fits))
+    let all : brought_by c.deref.result.now ≡ map counted_part held.parts = ap brought_by c.deref.ensures.value ∙ c.in_ok-parts.ensures in
+    let of : IsOfParts held c.in-Some.run'.now = only_run held c.deref.result.now c.in-Some.run'.now c.self.invariant all c.in-Some.ensures.alone in
+    subst (λ (h : Held). IfOk c.show.result (λ rows. (world : World) → IsWorld (kinds h.query.columns) world → Fits world h → rows ≡ answer (meaning h.query) world (told h.parts))) c.self.view_is
+    (IfOk-weaker c.show.result _ _ (λ rows shown world is fits. shown_answer held c.in-Some.run'.now rows of shown world fits) c.show.ensures)
 
-pub returns-then-is_empty-clause-counted : goal.returns-then-is_empty-clause-counted
-returns-then-is_empty-clause-counted g c = λ honest.
-    let held : Held = record { query = c.self.inside.query; parts = c.self.inside.parts.entries } in
-    let zero : (c.in_ok-others.others.len == 0) ≡ true = sym c.is_empty.ensures ∙ c.if-is_empty.true in
-    let counted = c.in_ok-others.others.ok in
-    let none : c.in_ok-others.others.items ≡ [] = no_inputs c.in_ok-others.others.items (grind (arith, zero, counted)) in
-    subst (λ (h : Held). AreCounted (meaning h.query) (setting_by g.H.KeyHash.hash_of (meaning h.query) c.args.means.now) (aggregations_asked h.parts) c.args.work.now (g.D.TapeDisk.writes c.args.disk.now) c.args.work.now (g.D.TapeDisk.writes c.args.disk.now))
-    c.self.view_is
-    (alone_counted (meaning held.query) (setting_by g.H.KeyHash.hash_of (meaning held.query) c.args.means.now) held.parts c.in_ok-others.others.items c.args.work.now (g.D.TapeDisk.writes c.args.disk.now) c.in_ok-others.ensures none)
+pub united-requires-clause-inputs : goal.united-requires-clause-inputs
+united-requires-clause-inputs c =
+    listed_inputs c.self.inside.query c.self.inside.parts.entries (brought_by c.deref-2.result.now) c.self.invariant (ap brought_by c.deref-2.ensures.value ∙ c.in_ok-parts.ensures)
 
-pub with_others-requires-clause-inputs : goal.with_others-requires-clause-inputs
-with_others-requires-clause-inputs g c =
-    let first : ℕ × Part = (c.in-Some.field-0-0.now, c.in-Some.first.now) in
-    first_inputs c.self.inside.query c.self.inside.parts.entries first (map brought c.deref.result.now) c.self.invariant c.in-Some.ensures.first (ap (map brought) c.deref.ensures.value ∙ c.in_ok-others.ensures)
-
-pub with_others-requires-clause-few : goal.with_others-requires-clause-few
-with_others-requires-clause-few g c =
-    let first : ℕ × Part = (c.in-Some.field-0-0.now, c.in-Some.first.now) in
-    let rows : c.most_rows-rows.result ≡ first.1.prefix * MOST_ROWS = c.most_rows-rows.ensures ∙ ap (λ n. n * MOST_ROWS) c.prefix.ensures in
-    subst (λ n. n + all_rows (map brought c.deref.result.now) ≤ most_rows) (sym rows)
-    (first_few c.self.inside.query c.self.inside.parts.entries first (map brought c.deref.result.now) c.self.invariant c.in-Some.ensures.first (ap (map brought) c.deref.ensures.value ∙ c.in_ok-others.ensures))
+pub united-requires-clause-few : goal.united-requires-clause-few
+united-requires-clause-few c =
+    listed_few c.self.inside.query c.self.inside.parts.entries (brought_by c.deref-2.result.now) c.self.invariant (ap brought_by c.deref-2.ensures.value ∙ c.in_ok-parts.ensures)
 
 pub show-requires-2 : goal.show-requires-2
-show-requires-2 g c =
+show-requires-2 c =
     let held : Held = record { query = c.self.inside.query; parts = c.self.inside.parts.entries } in
-    let first : ℕ × Part = (c.in-Some.field-0-0.now, c.in-Some.first.now) in
-    let rows : c.most_rows-rows.result ≡ first.1.prefix * MOST_ROWS = c.most_rows-rows.ensures ∙ ap (λ n. n * MOST_ROWS) c.prefix.ensures in
-    shows (g.D.TapeDisk.honest c.args.disk.now) held c.in_ok-run.run'
-    (together (g.D.TapeDisk.honest c.args.disk.now) held first c.deref.result.now c.run-2.result.now c.in_ok-run.run' c.most_rows-rows.result c.self.invariant c.in-Some.ensures.first
-    (ap (map brought) c.deref.ensures.value ∙ c.in_ok-others.ensures) c.run-2.ensures rows c.in_ok-run.ensures.run c.in_ok-run.ensures.aggregate)
+    let all : brought_by c.deref-2.result.now ≡ map counted_part held.parts = ap brought_by c.deref-2.ensures.value ∙ c.in_ok-parts.ensures in
+    shows held c.in_ok-run.run' (whole_run held (brought_by c.deref-2.result.now) c.in_ok-run.run' c.self.invariant all c.in_ok-run.ensures)
 
 pub returns-clause-width : goal.returns-clause-width
-returns-clause-width g c =
+returns-clause-width c =
     let held : Held = record { query = c.self.inside.query; parts = c.self.inside.parts.entries } in
-    let first : ℕ × Part = (c.in-Some.field-0-0.now, c.in-Some.first.now) in
-    let rows : c.most_rows-rows.result ≡ first.1.prefix * MOST_ROWS = c.most_rows-rows.ensures ∙ ap (λ n. n * MOST_ROWS) c.prefix.ensures in
-    subst (λ (h : Held). All (λ (row : List Outcome). length row ≡ length (meaning h.query).items) c.in_ok-answer.answer) c.self.view_is
-    (shown_wide (g.D.TapeDisk.honest c.args.disk.now) held c.in_ok-run.run' c.in_ok-answer.answer
-    (together (g.D.TapeDisk.honest c.args.disk.now) held first c.deref.result.now c.run-2.result.now c.in_ok-run.run' c.most_rows-rows.result c.self.invariant c.in-Some.ensures.first
-    (ap (map brought) c.deref.ensures.value ∙ c.in_ok-others.ensures) c.run-2.ensures rows c.in_ok-run.ensures.run c.in_ok-run.ensures.aggregate)
-    c.in_ok-answer.ensures)
+    let all : brought_by c.deref-2.result.now ≡ map counted_part held.parts = ap brought_by c.deref-2.ensures.value ∙ c.in_ok-parts.ensures in
+    let of : IsOfParts held c.in_ok-run.run' = whole_run held (brought_by c.deref-2.result.now) c.in_ok-run.run' c.self.invariant all c.in_ok-run.ensures in
+    subst (λ (h : Held). IfOk c.show-2.result (All (λ (row : List Outcome). length row ≡ length (meaning h.query).items))) c.self.view_is
+    (IfOk-weaker c.show-2.result _ _ (λ rows shown. shown_wide held c.in_ok-run.run' rows of shown) c.show-2.ensures)
 
 pub returns-clause-answer : goal.returns-clause-answer
-returns-clause-answer g c = λ honest world is fits.
+returns-clause-answer c =
     let held : Held = record { query = c.self.inside.query; parts = c.self.inside.parts.entries } in
-    let first : ℕ × Part = (c.in-Some.field-0-0.now, c.in-Some.first.now) in
-    let rows : c.most_rows-rows.result ≡ first.1.prefix * MOST_ROWS = c.most_rows-rows.ensures ∙ ap (λ n. n * MOST_ROWS) c.prefix.ensures in
-    subst (λ (h : Held). c.in_ok-answer.answer ≡ answer (meaning h.query) world (told h.parts)) c.self.view_is
-    (shown_answer (g.D.TapeDisk.honest c.args.disk.now) held c.in_ok-run.run' c.in_ok-answer.answer
-    (together (g.D.TapeDisk.honest c.args.disk.now) held first c.deref.result.now c.run-2.result.now c.in_ok-run.run' c.most_rows-rows.result c.self.invariant c.in-Some.ensures.first
-    (ap (map brought) c.deref.ensures.value ∙ c.in_ok-others.ensures) c.run-2.ensures rows c.in_ok-run.ensures.run c.in_ok-run.ensures.aggregate)
-    c.in_ok-answer.ensures honest world (subst (Fits world) (sym c.self.view_is) fits))
-
-pub returns-clause-counted : goal.returns-clause-counted
-returns-clause-counted g c = λ honest.
-    let held : Held = record { query = c.self.inside.query; parts = c.self.inside.parts.entries } in
-    let some : c.deref.result.now ≢ [] = search rules in
-    subst (λ (h : Held). AreCounted (meaning h.query) (setting_by g.H.KeyHash.hash_of (meaning h.query) c.args.means.now) (aggregations_asked h.parts) c.args.work.now (g.D.TapeDisk.writes c.args.disk.now) c.with_others.new.work (g.D.TapeDisk.writes c.with_others.new.disk))
-    c.self.view_is
-    (together_counted (meaning held.query) (setting_by g.H.KeyHash.hash_of (meaning held.query) c.args.means.now) held.parts c.deref.result.now c.args.work.now (g.D.TapeDisk.writes c.args.disk.now) c.with_others.new.work (g.D.TapeDisk.writes c.with_others.new.disk)
-    (ap (map brought) c.deref.ensures.value ∙ c.in_ok-others.ensures) some (c.in_ok-run.ensures.counted honest))
+    let all : brought_by c.deref-2.result.now ≡ map counted_part held.parts = ap brought_by c.deref-2.ensures.value ∙ c.in_ok-parts.ensures in
+    let of : IsOfParts held c.in_ok-run.run' = whole_run held (brought_by c.deref-2.result.now) c.in_ok-run.run' c.self.invariant all c.in_ok-run.ensures in
+    subst (λ (h : Held). IfOk c.show-2.result (λ rows. (world : World) → IsWorld (kinds h.query.columns) world → Fits world h → rows ≡ answer (meaning h.query) world (told h.parts))) c.self.view_is
+    (IfOk-weaker c.show-2.result _ _ (λ rows shown world is fits. shown_answer held c.in_ok-run.run' rows of shown world fits) c.show-2.ensures)

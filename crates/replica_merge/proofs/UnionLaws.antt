@@ -1,0 +1,177 @@
+-- Runs of several origins that are united, the one with the other.
+use Rattle.std.specs.Prelude.{◌≡◌, ◌≢◌, refl, ℕ, ◌+◌, ◌*◌, ◌≤◌, List, [], ◌∷◌, ◌++◌}
+use Rattle.std.specs.Borrow.{Bor}
+use Rattle.std.specs.List.{AllByRecursion}
+use Rattle.std.specs.List.Sorted.{IsStrictlySortedBy}
+use Rattle.std.proofs.Common.{sym, ◌∙◌, ap, subst, arith, append-nil}
+use Rattle.std.proofs.lemmas.List.{map-append}
+use Rattle.std.proofs.lemmas.List.Sums.{sum_by-cons, sum_by-append}
+use Rattle.std.proofs.lemmas.Grind.{flat_map-append}
+use Rattle.grouping_model.specs.declared.limits.TheConstants.{MOST_ROWS}
+use Rattle.grouping_model.specs.Datum.{Row, row_cmp}
+use Rattle.grouping_model.specs.Query.{Query}
+use Rattle.grouping_model.specs.Grouping.{part}
+use Rattle.grouping_model.specs.Parts.{keys_of}
+use Rattle.agg_protocol.specs.States.{most_rows}
+use Rattle.packed_rows.specs.RowsOnEnd.{on_end}
+use Rattle.group_runs.specs.Adding.{groups_added}
+use Rattle.group_runs.specs.MergeLaws.{puts_rise, keys_of-groups_added}
+use Rattle.group_runs.specs.Runs.{Entry, Rises}
+use Rattle.group_runs.specs.Standing.{AreGroups, IsRun}
+use Rattle.group_runs.specs.Steps.{AddsRun, HasRoomForRun}
+use Rattle.group_runs.proofs.MergeLaws.{groups_added_part}
+use Rattle.group_runs.proofs.SpliceLaws.{packed_rise}
+use Rattle.hash_agg.specs.Inputs.{Brought, Counted, rows_in, all_rows, AreInputsOf, IsInput}
+use Rattle.hash_agg.proofs.FoldLaws.{run_keys_rise}
+use Rattle.origin_prefix.specs.Parts.{Part}
+use Rattle.replica_merge.specs.Replicas.{counted}
+use Rattle.replica_merge.specs.Unions.{brought_by, IsRunAlone, IsUnion}
+
+-- lists of rows for which inputs of two lists stand
+record BothStand (q : Query) (xs ys : List Brought) (lists : List (List Row)) : Type 0 where
+  fronts : List (List Row)
+  backs : List (List Row)
+  both : lists ≡ fronts ++ backs
+  front : AreInputsOf q xs fronts
+  back : AreInputsOf q ys backs
+
+both_stand : (q : Query) (xs ys : List Brought) (lists : List (List Row)) → AreInputsOf q (xs ++ ys) lists → BothStand q xs ys lists
+both_stand q [] ys lists are = record { fronts = []; backs = lists; both = refl; front = tt; back = are }
+both_stand q (x ∷ xs) ys [] are = absurd are
+both_stand q (x ∷ xs) ys (rows ∷ lists) are =
+    let rest : BothStand q xs ys lists = both_stand q xs ys lists are.1 in
+    record {
+      fronts = rows ∷ rest.fronts;
+      backs = rest.backs;
+      both = ap (λ those. rows ∷ those) rest.both;
+      front = (are.0, rest.front);
+      back = rest.back;
+    }
+
+-- one run is the union of what it brings
+pub one_union : (q : Query) (run : List Entry) (rows : ℕ) → IsRun q rows run → IsUnion q (Counted run rows ∷ []) run
+one_union q run rows is =
+    record {
+      part = one;
+      is_run = subst (λ n. IsRun q n run) (sym total) is;
+    }
+  where
+    total : all_rows (Counted run rows ∷ []) ≡ rows
+    total = let sum : all_rows (Counted run rows ∷ []) ≡ rows + 0 = sum_by-cons rows_in (Counted run rows) [] in omega (arith, sum)
+
+    one : (lists : List (List Row)) → AreInputsOf q (Counted run rows ∷ []) lists → AreGroups q (all_rows (Counted run rows ∷ [])) run (part q (on_end lists))
+    one [] are = absurd are
+    one (these ∷ []) are =
+        subst (λ n. AreGroups q n run (part q (these ++ []))) (sym total)
+        (subst (λ all. AreGroups q rows run (part q all)) (sym (append-nil these)) are.0)
+    one (these ∷ more ∷ lists) are = absurd are.1
+
+no_run_rises : Rises []
+unfolding IsStrictlySortedBy
+no_run_rises = tt
+
+-- nothing is the union of nothing
+pub no_union : (q : Query) → IsUnion q [] []
+no_union q =
+    record {
+      part = none;
+      is_run = record { groups = []; are = tt; rises = no_run_rises };
+    }
+  where
+    none : (lists : List (List Row)) → AreInputsOf q [] lists → AreGroups q 0 [] (part q (on_end lists))
+    none [] are = tt
+    none (rows ∷ lists) are = absurd are
+
+-- the union of some inputs, to which that of others is added
+module _ (q : Query) (xs ys : List Brought) (a b c : List Entry) (few : all_rows (xs ++ ys) ≤ most_rows) (left : IsUnion q xs a) (right : IsUnion q ys b) where
+  total : all_rows (xs ++ ys) ≡ all_rows xs + all_rows ys
+  total = sum_by-append rows_in xs ys
+
+  low : all_rows xs + all_rows ys ≤ most_rows
+  low = subst (λ n. n ≤ most_rows) total few
+
+  pub union_room : HasRoomForRun q a b
+  union_room = (all_rows xs, all_rows ys, left.is_run.groups, right.is_run.groups, left.is_run.are, right.is_run.are, right.is_run.rises, low)
+
+  added_groups : AddsRun q a b c → AreGroups q (all_rows xs + all_rows ys) c (groups_added q left.is_run.groups right.is_run.groups)
+  added_groups added = added (all_rows xs) (all_rows ys) left.is_run.groups right.is_run.groups low left.is_run.are right.is_run.are
+
+  added_rises : AddsRun q a b c → Rises c
+  added_rises added =
+      packed_rise q (all_rows xs + all_rows ys) c (groups_added q left.is_run.groups right.is_run.groups) (added_groups added)
+      (subst (IsStrictlySortedBy row_cmp) (sym (keys_of-groups_added q left.is_run.groups right.is_run.groups))
+      (puts_rise (keys_of left.is_run.groups) (keys_of right.is_run.groups) (run_keys_rise q (all_rows xs) a left.is_run.groups left.is_run.are left.is_run.rises)))
+
+  added_part : AddsRun q a b c → (lists : List (List Row)) → AreInputsOf q (xs ++ ys) lists → AreGroups q (all_rows (xs ++ ys)) c (part q (on_end lists))
+  added_part added lists are =
+      let stand : BothStand q xs ys lists = both_stand q xs ys lists are in
+      let rows : on_end lists ≡ on_end stand.fronts ++ on_end stand.backs = ap on_end stand.both ∙ flat_map-append (λ (row : List Row). row) stand.fronts stand.backs in
+      subst (λ n. AreGroups q n c (part q (on_end lists))) (sym total)
+      (subst (λ those. AreGroups q (all_rows xs + all_rows ys) c (part q those)) (sym rows)
+      (subst (AreGroups q (all_rows xs + all_rows ys) c) (groups_added_part q (on_end stand.fronts) (on_end stand.backs))
+      (added (all_rows xs) (all_rows ys) (part q (on_end stand.fronts)) (part q (on_end stand.backs)) low (left.part stand.fronts stand.front) (right.part stand.backs stand.back))))
+
+  pub added_union : AddsRun q a b c → IsUnion q (xs ++ ys) c
+  added_union added =
+      record {
+        part = added_part added;
+        is_run =
+            record {
+              groups = groups_added q left.is_run.groups right.is_run.groups;
+              are = subst (λ n. AreGroups q n c (groups_added q left.is_run.groups right.is_run.groups)) (sym total) (added_groups added);
+              rises = added_rises added;
+            };
+      }
+
+-- ---- parts that are halved
+
+-- what two halves bring
+pub halves_bring : (parts front back : List (Bor Part)) → parts ≡ front ++ back → brought_by parts ≡ brought_by front ++ brought_by back
+halves_bring parts front back both = ap brought_by both ∙ map-append (λ (p : Bor Part). counted p.now) front back
+
+all_front : (P : Brought → Type 0) (xs ys : List Brought) → AllByRecursion P (xs ++ ys) → AllByRecursion P xs
+all_front P [] ys all = tt
+all_front P (x ∷ xs) ys all = (all.0, all_front P xs ys all.1)
+
+all_back : (P : Brought → Type 0) (xs ys : List Brought) → AllByRecursion P (xs ++ ys) → AllByRecursion P ys
+all_back P [] ys all = all
+all_back P (x ∷ xs) ys all = all_back P xs ys all.1
+
+pub front_inputs : (q : Query) (parts front back : List (Bor Part)) → parts ≡ front ++ back → AllByRecursion (IsInput q) (brought_by parts) → AllByRecursion (IsInput q) (brought_by front)
+front_inputs q parts front back both all = all_front (IsInput q) (brought_by front) (brought_by back) (subst (AllByRecursion (IsInput q)) (halves_bring parts front back both) all)
+
+pub back_inputs : (q : Query) (parts front back : List (Bor Part)) → parts ≡ front ++ back → AllByRecursion (IsInput q) (brought_by parts) → AllByRecursion (IsInput q) (brought_by back)
+back_inputs q parts front back both all = all_back (IsInput q) (brought_by front) (brought_by back) (subst (AllByRecursion (IsInput q)) (halves_bring parts front back both) all)
+
+rows_of_halves : (parts front back : List (Bor Part)) → parts ≡ front ++ back → all_rows (brought_by parts) ≡ all_rows (brought_by front) + all_rows (brought_by back)
+rows_of_halves parts front back both = ap all_rows (halves_bring parts front back both) ∙ sum_by-append rows_in (brought_by front) (brought_by back)
+
+pub front_few : (parts front back : List (Bor Part)) → parts ≡ front ++ back → all_rows (brought_by parts) ≤ most_rows → all_rows (brought_by front) ≤ most_rows
+front_few parts front back both few = let sum = rows_of_halves parts front back both in omega (arith, few, sum)
+
+pub back_few : (parts front back : List (Bor Part)) → parts ≡ front ++ back → all_rows (brought_by parts) ≤ most_rows → all_rows (brought_by back) ≤ most_rows
+back_few parts front back both few = let sum = rows_of_halves parts front back both in omega (arith, few, sum)
+
+-- what is asked of the runs of both halves, and what becomes of them
+pub halves_room : (q : Query) (parts front back : List (Bor Part)) (a b : List Entry) → parts ≡ front ++ back → all_rows (brought_by parts) ≤ most_rows
+    → IsUnion q (brought_by front) a → IsUnion q (brought_by back) b → HasRoomForRun q a b
+halves_room q parts front back a b both few left right =
+    union_room q (brought_by front) (brought_by back) a b a (subst (λ inputs. all_rows inputs ≤ most_rows) (halves_bring parts front back both) few) left right
+
+pub halves_united : (q : Query) (parts front back : List (Bor Part)) (a b c : List Entry) → parts ≡ front ++ back → all_rows (brought_by parts) ≤ most_rows
+    → IsUnion q (brought_by front) a → IsUnion q (brought_by back) b → AddsRun q a b c → IsUnion q (brought_by parts) c
+halves_united q parts front back a b c both few left right added =
+    subst (λ inputs. IsUnion q inputs c) (sym (halves_bring parts front back both))
+    (added_union q (brought_by front) (brought_by back) a b c (subst (λ inputs. all_rows inputs ≤ most_rows) (halves_bring parts front back both) few) left right added)
+
+-- a single part, and none
+pub one_part : (q : Query) (parts : List (Bor Part)) (run : List Entry) → AllByRecursion (IsInput q) (brought_by parts) → IsRunAlone parts run → IsUnion q (brought_by parts) run
+one_part q parts run inputs is =
+    subst (λ those. IsUnion q (brought_by those) run) (sym is.alone)
+    (subst (IsUnion q (brought_by (is.only ∷ []))) (sym is.run_is)
+    (one_union q is.only.now.run (is.only.now.prefix * MOST_ROWS) (subst (λ those. AllByRecursion (IsInput q) (brought_by those)) is.alone inputs).0))
+
+pub few_united : (q : Query) (parts : List (Bor Part)) (run : List Entry) → AllByRecursion (IsInput q) (brought_by parts)
+    → (parts ≡ [] → run ≡ []) × (parts ≢ [] → IsRunAlone parts run) → IsUnion q (brought_by parts) run
+few_united q [] run inputs is = subst (IsUnion q []) (sym (is.0 refl)) (no_union q)
+few_united q (part ∷ parts) run inputs is = one_part q (part ∷ parts) run inputs (is.1 (λ e. cc e))

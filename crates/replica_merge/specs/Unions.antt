@@ -1,0 +1,28 @@
+-- The groups of several origins in one run. All of this is our own.
+use Rattle.std.specs.Prelude.{◌≡◌, List, [], ◌∷◌, map}
+use Rattle.std.specs.Borrow.{Bor}
+use Rattle.grouping_model.specs.Datum.{Row}
+use Rattle.grouping_model.specs.Query.{Query}
+use Rattle.grouping_model.specs.Grouping.{part}
+use Rattle.packed_rows.specs.RowsOnEnd.{on_end}
+use Rattle.group_runs.specs.Runs.{Entry}
+use Rattle.group_runs.specs.Standing.{AreGroups, IsRun}
+use Rattle.hash_agg.specs.Inputs.{Brought, all_rows, AreInputsOf}
+use Rattle.origin_prefix.specs.Parts.{Part}
+use Rattle.replica_merge.specs.Replicas.{counted}
+
+-- what a list of parts brings to an answer
+abbrev pub brought_by : List (Bor Part) → List Brought
+brought_by parts = map (λ (p : Bor Part). counted p.now) parts
+
+-- a run has the groups of all of these inputs: it is a run of the query, and where they stand for lists of rows, it has the groups of
+-- all of these rows
+pub record IsUnion (query : Query) (inputs : List Brought) (run : List Entry) : Type 0 where
+  pub part : (lists : List (List Row)) → AreInputsOf query inputs lists → AreGroups query (all_rows inputs) run (part query (on_end lists))
+  pub is_run : IsRun query (all_rows inputs) run
+
+-- a run is that of the only part
+pub record IsRunAlone (parts : List (Bor Part)) (run : List Entry) : Type 0 where
+  pub only : Bor Part
+  pub alone : parts ≡ only ∷ []
+  pub run_is : run ≡ only.now.run
