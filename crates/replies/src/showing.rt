@@ -1,23 +1,16 @@
 //! What a replica knows and answers, as text.
 
-ghost use Rattle.std.specs.Prelude.{◌≡◌, ◌≢◌, All, List, IfErr, IfOk, OnOk, OnErr, IsTrue, length};
+ghost use Rattle.std.specs.Prelude.{◌≡◌, All, List, IfOk, length};
 ghost use Rattle.grouping_model.specs.Aggregates.{Outcome};
 ghost use Rattle.grouping_model.specs.Answer.{answer};
 ghost use Rattle.grouping_model.specs.Replies.{known_list};
 ghost use Rattle.grouping_model.specs.World.{World, IsWorld};
 ghost use Rattle.having_filter.specs.Meaning.{meaning};
-ghost use Rattle.hash_agg.specs.Counting.{AreCounted, setting_by};
 ghost use Rattle.packed_rows.specs.Columns.{kinds};
 ghost use Rattle.replica_merge.specs.Replicas.{told, Fits};
-ghost use Rattle.replica_merge.specs.Counting.{aggregations_asked};
-ghost use Rattle.spill_tapes.specs.Calls.{failed};
-ghost use Rattle.spill_tapes.specs.Disk.{Leaves};
-ghost use Rattle.spill_lists.specs.Errors.{spill_faults};
-ghost use Rattle.spill_lists.specs.declared.error.SpillError.TheVariants.{TapeDamaged};
 ghost use Rattle.replies.specs.Text.{origins_text, known_text, text_of};
 
 use crate::texts::{list_known, list_origins};
-use hash_agg::{KeyHash, Means, SpillError, TapeDisk, Work};
 use having_filter::{Answer, Query};
 use replica_merge::Replica;
 use std::alloc::{AllocError, Global};
@@ -65,41 +58,22 @@ fn print(
     }
 }
 
-/// How many rows a replica's answer has, and its table, by `means` and over a disk of tapes. What its aggregation took is added to
-/// `work`.
-///
-/// # Errors
-///
-/// Those of [`Replica::answer`], and `NoMemory`. An error adds nothing to `work`.
-pub fn table<H: KeyHash + Copy, D: TapeDisk>(
+/// How many rows a replica's answer has, and its table. The only error is a failed allocation.
+pub fn table(
     alloc: Global,
     replica: &Replica,
     format: Format,
-    means: &Means<H>,
-    disk: &mut D,
-    work: &mut Work,
-) -> Result<(usize, Vec<u8>), SpillError>
-    // Over an honest disk, and for each world that the replica fits, it is the query's answer.
-    ensures table { IfOk result (λ found. IsTrue (D.honest disk.old) → (world : World) → IsWorld (kinds replica.now.query.columns) world →
+) -> Result<(usize, Vec<u8>), AllocError>
+    // For each world that the replica fits, it is the query's answer.
+    ensures table { IfOk result (λ found. (world : World) → IsWorld (kinds replica.now.query.columns) world →
         Fits world replica.now → (found.0 ≡ length (answer (meaning replica.now.query) world (told replica.now.parts)))
         × (found.1.items ≡ text_of format replica.now.query
         (answer (meaning replica.now.query) world (told replica.now.parts)))) }
-    // Over any disk it is the table of some rows.
+    // It is the table of some rows.
     ensures shown { IfOk result (λ found. (rows : List (List Outcome)) × ((found.0 ≡ length rows)
         × (found.1.items ≡ text_of format replica.now.query rows))) }
-    ensures counted { OnOk result (IsTrue (D.honest disk.old) →
-        AreCounted (meaning replica.now.query) (setting_by H.hash_of (meaning replica.now.query) means.now)
-        (aggregations_asked replica.now.parts) work.old (D.writes disk.old) work.new (D.writes disk.new)) }
-    ensures uncounted { OnErr result (work.new ≡ work.old) }
-    ensures undamaged { IfErr result (λ error. IsTrue (D.honest disk.old) → error ≢ TapeDamaged) }
-    ensures disk { Leaves D.TapeDisk (failed spill_faults result) disk.old disk.new }
 {
-    let mut counted = *work;
-    let answer = replica.answer(means, disk, &mut counted)?;
-    let text = print(alloc, replica.query(), &answer, format);
-    let rows = answer.len();
-    drop(answer);
-    let text = text?;
-    *work = counted;
-    Ok((rows, text))
+    let answer = replica.answer()?;
+    let text = print(alloc, replica.query(), &answer, format)?;
+    Ok((answer.len(), text))
 }
