@@ -35,7 +35,6 @@ use Rattle.script_machine.specs.Machine.{State, ColumnsReply, QueryReply, limit_
 use Rattle.replies.specs.Joining.{JoinsHeld, IsApart}
 use Rattle.replies.specs.Text.{line, known_text, answer_text, said_text}
 use Rattle.script_machine.specs.Views.{Store, IsStore, IsFileOf, AreSaved, IsFitting, Represents, FitsWorld, Answers, Steps, JoinRefused, JoinsNames, Updates, Files, replica_at, saved_at, knowledge_of}
-use Rattle.spill_lists.specs.declared.error.SpillError.{SpillError}
 use Rattle.spill_lists.specs.declared.error.SpillError.TheVariants as spill
 use Rattle.hash_agg.specs.declared.means.TheConstants.{LEAST_LIMIT, GREATEST_LIMIT}
 use Rattle.packed_rows.specs.Refusal.{ParseFault}
@@ -44,7 +43,7 @@ use Rattle.packed_rows.specs.declared.error.RowError.TheVariants as row
 use Rattle.origin_prefix.specs.declared.error.JoinError.TheVariants as join
 use Rattle.replica_merge.specs.declared.error.MergeError.{MergeError}
 use Rattle.replica_merge.specs.declared.error.MergeError.TheVariants as merge
-use Rattle.replies.specs.Refusals.{limit_out_of_range, columns_refusal, spill_refusal, merge_refusal}
+use Rattle.replies.specs.Refusals.{limit_out_of_range, columns_refusal, merge_refusal}
 use Rattle.replies.specs.declared.refusal.Refusal.{Refusal}
 use Rattle.replies.specs.declared.refusal.Refusal.TheVariants as why
 use Rattle.replies.specs.declared.reply.Reply.TheVariants as says
@@ -678,15 +677,6 @@ module _ {honest : Bool} where
       }
 
   -- an answer for which memory was wanting, or the disk of tapes failed
-  pub answer_refused : (store : Store) (name : List ℕ) (owned : List Record) (error : SpillError) (refusal : Refusal) → refusal ≡ spill_refusal error → (IsTrue honest → error ≢ spill.TapeDamaged)
-      → Steps honest (ask.Answer name) owned store (says.Refused refusal) store
-  answer_refused store name owned error refusal is undamaged = subst (λ w. Steps honest (ask.Answer name) owned store (says.Refused w) store) (sym is) (go error undamaged)
-    where
-      go : (error : SpillError) → (IsTrue honest → error ≢ spill.TapeDamaged) → Steps honest (ask.Answer name) owned store (says.Refused (spill_refusal error)) store
-      go spill.NoMemory undamaged = out_of_memory (ask.Answer name) owned store
-      go spill.TapeFault undamaged = refused_for (ask.Answer name) owned store store why.TapeFault (same store) (λ state r. inl (inr (refl, refl)))
-      go spill.TapeDamaged undamaged = damaged (ask.Answer name) owned store store (same store) (λ right. undamaged right refl) refl
-
   pub merge_nowhere : (store : Store) (into from : List ℕ) (owned : List Record) → (replica_at store into ≡ None) ⊎ (replica_at store from ≡ None)
       → Steps honest (ask.Merge into from) owned store (says.Refused why.NoSuchName) store
   merge_nowhere store into from owned none =

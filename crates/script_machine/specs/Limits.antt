@@ -11,10 +11,10 @@ use Rattle.hash_agg.specs.Inputs.{Brought}
 use Rattle.hash_agg.specs.Passes.{setting_for}
 use Rattle.hash_agg.specs.declared.work.Work.{Work}
 use Rattle.origin_prefix.specs.Parts.{aggregations_on}
-use Rattle.replica_merge.specs.Counting.{MergeIsCounted, aggregations_asked}
+use Rattle.replica_merge.specs.Counting.{MergeIsCounted}
 use Rattle.replica_merge.specs.Replicas.{Held, part_of}
 use Rattle.script_io.specs.Records.{Record}
-use Rattle.script_commands.specs.Commands.{Request, Feed, Answer, Merge}
+use Rattle.script_commands.specs.Commands.{Request, Feed, Merge}
 use Rattle.replies.specs.Batches.{Fed, IsBatch}
 use Rattle.replies.specs.declared.reply.Reply.{Reply}
 use Rattle.replies.specs.declared.reply.Reply.TheVariants as says
@@ -43,8 +43,8 @@ abbrev pub MergeWorked : Held → Held → ℕ → (writes written : ℕ) → Ty
 MergeWorked own theirs limit writes written =
     (work : Work) × MergeIsCounted (meaning own.query) (setting_at limit (meaning own.query)) own.parts theirs.parts no_work writes work written
 
--- those of a command that is answered so, at the limit of what was there before it: a feed, a merge and an answer that aren't refused make
--- just the aggregations that they need, and any other command writes nothing
+-- those of a command that is answered so, at the limit of what was there before it: a feed and a merge that aren't refused make just the
+-- aggregations that they need, and any other command writes nothing
 abbrev pub WorksAtLimit : Store → Request → List Record → Reply → (writes written : ℕ) → Type 0
 WorksAtLimit old (Feed name origin number told) owned (says.Delivered delivered) writes written =
     (held : Held) × (replica_at old name ≡ Some held) × FeedWorked held old.limit origin number told owned writes written
@@ -52,7 +52,4 @@ WorksAtLimit old (Feed name origin number told) owned reply writes written = Uni
 WorksAtLimit old (Merge into from) owned says.Merged writes written =
     (own theirs : Held) × (replica_at old into ≡ Some own) × (replica_at old from ≡ Some theirs) × MergeWorked own theirs old.limit writes written
 WorksAtLimit old (Merge into from) owned reply writes written = Unit {0}
-WorksAtLimit old (Answer name) owned (says.Answer rows table) writes written =
-    (held : Held) × (replica_at old name ≡ Some held) × Worked (meaning held.query) old.limit (aggregations_asked held.parts) writes written
-WorksAtLimit old (Answer name) owned reply writes written = Unit {0}
 WorksAtLimit old request owned reply writes written = written ≡ writes

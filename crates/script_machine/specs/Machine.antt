@@ -139,7 +139,6 @@ Replies old Unknown owned reply = reply ≡ Refused BadCommand
 -- whether a command aggregates, so that a disk of tapes is read and written for it
 abbrev pub uses_tapes : Request → Bool
 uses_tapes (Feed name origin number told) = true
-uses_tapes (Answer name) = true
 uses_tapes (Merge into from) = true
 uses_tapes request = false
 

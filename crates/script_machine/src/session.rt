@@ -57,7 +57,6 @@ pub(crate) struct Session {
 impl Model for Session {
     ghost use Rattle.std.specs.Coded.{codes};
     ghost use Rattle.script_machine.specs.Coding.{coded_store};
-    ghost use Rattle.replica_merge.specs.Counting.{aggregations_asked};
     ghost use Rattle.script_machine.specs.Limits.{Worked, FeedWorked, WorksAtLimit};
     ghost use Rattle.script_machine.specs.Views.{Store, IsStore};
 
@@ -333,24 +332,15 @@ impl Session {
     }
 
     /// Answers `answer`.
-    fn answer<D: TapeDisk>(&self, name: &[u8], disk: &mut D) -> Reply<'static>
-        ensures answers { (owned : List Record) → Steps (D.honest disk.old) (ask.Answer name.now) owned self.now result self.now }
-        ensures limit { IsTrue (D.honest disk.old) → (owned : List Record) →
-            WorksAtLimit self.now (ask.Answer name.now) owned result (D.writes disk.old) (D.writes disk.new) }
-        ensures disk { Leaves D.TapeDisk (faults_in result) disk.old disk.new }
+    fn answer(&self, name: &[u8]) -> Reply<'static>
+        ensures answers { (honest : Bool) (owned : List Record) → Steps honest (ask.Answer name.now) owned self.now result self.now }
+        ensures faultless { is_tape_fault result ≡ false }
     {
         match self.replicas.get(name) {
             None => Reply::Refused(Refusal::NoSuchName),
-            Some(replica) => match table(
-                self.alloc,
-                replica,
-                Format::Csv,
-                &self.means,
-                disk,
-                &mut Work::none(),
-            ) {
+            Some(replica) => match table(self.alloc, replica, Format::Csv) {
                 Ok((rows, table)) => Reply::Answer { rows, table },
-                Err(error) => Reply::Refused(Refusal::from(error)),
+                Err(_) => Reply::Refused(Refusal::NoMemory),
             },
         }
     }
@@ -466,7 +456,7 @@ impl Session {
             Request::Limit(bytes) => self.tell_limit(bytes),
             Request::Replica(name) => self.add_replica(name),
             Request::Known(name) => self.known(name),
-            Request::Answer(name) => self.answer(name, disk),
+            Request::Answer(name) => self.answer(name),
             Request::Merge { into, from } => self.merge(into, from, disk),
             Request::Save { name, saved } => self.save(name, saved),
             Request::Load { name, saved } => self.load(name, saved),
