@@ -47,12 +47,18 @@ impl Task {
         }
     }
 
-    /// Whether it groups rows, and so has a limit and can tell what that took.
+    /// Whether it has a limit and a disk of tapes, and can tell what its grouping took. An answer has them too, but groups nothing: it
+    /// merges what is grouped already.
     fn groups_rows(self) -> bool {
         match self {
             Task::Feed | Task::Merge | Task::Answer => true,
             Task::New | Task::Known => false,
         }
+    }
+
+    /// Whether it aggregates, and so wants a seed.
+    fn aggregates(self) -> bool {
+        matches!(self, Task::Feed | Task::Merge)
     }
 
     /// The file that it writes, if it writes one.
@@ -370,19 +376,11 @@ impl<'c, R: Files + AllocGlobal + RandomSource, W: Write, E: Write> Session<'c, 
         &mut self,
         replica: &Replica,
         matches: &ArgMatches<'p>,
-        means: &Means<Fnv1a>,
     ) -> Result<(), Problem<'p>> {
         let format = format_named(value(matches, FORMAT));
-        match table(
-            self.rt.alloc(),
-            replica,
-            format,
-            means,
-            &mut self.disk,
-            &mut self.work,
-        ) {
+        match table(self.rt.alloc(), replica, format) {
             Ok((_, table)) => self.print(&table),
-            Err(error) => Err(Problem::refused(value(matches, IN), Refusal::from(error))),
+            Err(_) => Err(Problem::refused(value(matches, IN), Refusal::NoMemory)),
         }
     }
 
@@ -402,7 +400,7 @@ impl<'c, R: Files + AllocGlobal + RandomSource, W: Write, E: Write> Session<'c, 
                 }
                 return Ok(());
             }
-            Task::Answer => return self.answer(replica, matches, means),
+            Task::Answer => return self.answer(replica, matches),
             Task::Feed => {
                 let paths = matches.get_strs(BATCH).unwrap_or_default();
                 self.take_files(FileKind::Batch, replica, paths, means)?;
@@ -537,9 +535,9 @@ impl<'c, R: Files + AllocGlobal + RandomSource, W: Write, E: Write> Session<'c, 
         self.finish(ending, fate)
     }
 
-    /// The means of a command that groups rows, with a seed of the system's.
+    /// The means of a command that aggregates, with a seed of the system's.
     fn seeded(&self, task: Task, means: Means<Fnv1a>) -> Result<Means<Fnv1a>, Problem<'static>> {
-        if !task.groups_rows() {
+        if !task.aggregates() {
             return Ok(means);
         }
         let seed = system_seed(self.rt)?;

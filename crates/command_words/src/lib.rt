@@ -237,14 +237,10 @@ The rows stand in the order of the query's ORDER BY, or else of its keys, null
 last. Null is \\N, a boolean t or f. A column is named by its alias, or else by
 its column or function. The layout is csv, or aligned for people.
 
-The groups of several origins take at most --limit bytes of blocks while they
-are combined, 65536 to 1099511627776; what doesn't keep within is spilled, and
-combined in later passes: to memory, or with --spill to a new file, which is
-removed at the end. The answer is the same, unless that file fails. --explain
-tells on standard error what that took, as
-'passes 2 spilled 1 pages 1 held 57352 limit 65536': passes, records that were
-spilled, pages of 8192 bytes written for them, and the most bytes held at once;
-'passes 0' where there is nothing to combine.
+The groups of several origins are merged in memory, and nothing is spilled:
+--limit and --spill are taken as by feed and merge, and bound nothing here.
+--explain tells on standard error that nothing was aggregated, as
+'passes 0 spilled 0 pages 0 held 0 limit 4194304'.
 
 Example:
   agg_tool answer all.sum --format aligned

@@ -97,7 +97,7 @@ feed|@d.sum|@a.sum|@1.csv => folded upto 1/saved 31727/ => 0
 merge|@m.sum|@d.sum|@c.sum|@b.sum|--limit|65536|--explain => merged/merged/saved 31727/ => 0 => passes 2 spilled 1 pages 1 held 57352 limit 65536
 ?same|@m.sum|@b.sum => - => 0
 answer|@a.sum|--explain => town,count,sum/k0384,1,384/ => 0 => passes 0 spilled 0 pages 0 held 0 limit 4194304
-answer|@m.sum|--limit|65536|--explain => town,count,sum/k0384,3,1152/ => 0 => passes 2 spilled 1 pages 1 held 57352 limit 65536
+answer|@m.sum|--limit|65536|--explain => town,count,sum/k0384,3,1152/ => 0 => passes 0 spilled 0 pages 0 held 0 limit 65536
 answer|@m.sum => town,count,sum/k0384,3,1152/ => 0
 known|@m.sum|--limit|65536 => - => 2 => --limit
 answer|@none.sum|--explain => refused ReadFault/ => 3 => none.sum: refused ReadFault

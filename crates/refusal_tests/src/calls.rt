@@ -129,33 +129,17 @@ fn given(
 }
 
 /// The table of a replica's answer.
-fn table_of(rt: HostRuntime, replica: &Replica, means: &Means<Fnv1a>) -> Result<Vec<u8>, Refusal> {
-    let (mut disk, mut work) = (MemDisk::new(rt.alloc()), Work::none());
-    let table = table(
-        rt.alloc(),
-        replica,
-        Format::Csv,
-        means,
-        &mut disk,
-        &mut work,
-    );
-    drop(disk);
-    Ok(table?.1)
+fn table_of(rt: HostRuntime, replica: &Replica) -> Result<Vec<u8>, Refusal> {
+    Ok(table(rt.alloc(), replica, Format::Csv)?.1)
 }
 
 /// A replica of several origins answers.
-pub(crate) fn answer(
-    rt: HostRuntime,
-    site: &Site,
-    limit: u64,
-    room: &mut Room<'_>,
-) -> Result<Met, Refusal> {
-    let means = Means::new(limit, Fnv1a)?;
+pub(crate) fn answer(rt: HostRuntime, site: &Site, room: &mut Room<'_>) -> Result<Met, Refusal> {
     let replica = load(rt.alloc(), &site.own.file)?;
     let entered = room.enter();
-    let first = table_of(rt, &replica, &means);
+    let first = table_of(rt, &replica);
     room.leave();
-    let again = table_of(rt, &replica, &means);
+    let again = table_of(rt, &replica);
     let met = given(rt, site, &replica, first, again, &site.table);
     drop(replica);
     entered?;

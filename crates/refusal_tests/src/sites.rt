@@ -107,16 +107,7 @@ fn seen_of(
 /// The table of a file's answer.
 fn table_of(alloc: Global, file: &[u8]) -> Result<Vec<u8>, Refusal> {
     let replica = load(alloc, file)?;
-    let means = Means::usual(Fnv1a);
-    let mut disk = MemDisk::new(alloc);
-    let table = table(
-        alloc,
-        &replica,
-        Format::Csv,
-        &means,
-        &mut disk,
-        &mut Work::none(),
-    );
+    let table = table(alloc, &replica, Format::Csv);
     drop(replica);
     Ok(table?.1)
 }

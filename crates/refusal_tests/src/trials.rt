@@ -41,7 +41,7 @@ impl Trial {
         match self {
             Trial::Deliver => deliver(rt, site, limit, room),
             Trial::Merge => merge(rt, site, limit, room),
-            Trial::Answer => answer(rt, site, limit, room),
+            Trial::Answer => answer(rt, site, room),
             Trial::Save => keep(rt, site, room),
             Trial::Load => read(rt, site, room),
             Trial::Encode => encode_file(rt, site, room),
