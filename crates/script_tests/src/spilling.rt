@@ -99,15 +99,16 @@ fn told(alloc: Global, case: &str) -> Result<String, RunError> {
     Ok(format!(in alloc; "{refused} {replies}")?)
 }
 
-/// What is wrong with a disk, commands over it, and their replies. A command that is refused can be told again, and the others go on.
+/// What is wrong with a disk, commands over it, and their replies. A command that is refused can be told again, and the others go on. An
+/// answer calls no disk.
 const FAULTS: &str = "\
-write: answer,a;answer,a;known,a => 1 refused TapeFault/answer 1/c,count,sum/k0384,2,768/known 2/origin 0 upto 1/origin 1 upto 1
+write: answer,a;merge,a,b;known,a => 1 answer 1/c,count,sum/k0384,2,768/refused TapeFault/known 2/origin 0 upto 1/origin 1 upto 1
 write: merge,a,b;known,a;merge,a,b;answer,a => 1 refused TapeFault/known 2/origin 0 upto 1/origin 1 upto 1/merged/answer 1/c,count,sum/k0384,3,1152
 write: feed,b,0,1,385;known,b;feed,b,0,1,385;answer,b => 1 refused TapeFault/known 1/origin 0 upto 0 early 2/folded upto 2/answer 1/c,count,sum/k0384,2,768
-read: answer,a;answer,a;known,a => 1 refused TapeFault/answer 1/c,count,sum/k0384,2,768/known 2/origin 0 upto 1/origin 1 upto 1
+read: answer,a;merge,a,b;known,a => 1 answer 1/c,count,sum/k0384,2,768/refused TapeFault/known 2/origin 0 upto 1/origin 1 upto 1
 read: merge,a,b;known,a;merge,a,b;answer,a => 1 refused TapeFault/known 2/origin 0 upto 1/origin 1 upto 1/merged/answer 1/c,count,sum/k0384,3,1152
 read: feed,b,0,1,385;known,b;feed,b,0,1,385;answer,b => 1 refused TapeFault/known 1/origin 0 upto 0 early 2/folded upto 2/answer 1/c,count,sum/k0384,2,768
-flip: answer,a;answer,a;limit,90128;answer,a => 2 refused TapeDamaged/refused TapeDamaged/limit 90128/answer 1/c,count,sum/k0384,2,768
+flip: answer,a;merge,a,b;answer,a => 1 answer 1/c,count,sum/k0384,2,768/refused TapeDamaged/answer 1/c,count,sum/k0384,2,768
 flip: merge,a,b;known,a;merge,a,b;limit,90128;merge,a,b;answer,a => 2 refused TapeDamaged/known 2/origin 0 upto 1/origin 1 upto 1/refused TapeDamaged/limit 90128/merged/answer 1/c,count,sum/k0384,3,1152
 flip: feed,b,0,1,385;known,b;limit,90128;feed,b,0,1,385;answer,b => 1 refused TapeDamaged/known 1/origin 0 upto 0 early 2/limit 90128/folded upto 2/answer 1/c,count,sum/k0384,2,768";
 
@@ -250,18 +251,19 @@ fn each_call_of_a_batch_may_fail(rt: HostRuntime) -> Result<(), Fail> {
 }
 
 #[test]
-fn each_call_of_an_answer_may_fail(rt: HostRuntime) -> Result<(), Fail> {
-    let commands = "feed,a,0,1,386;feed,a,0,1,386;feed,a,1,1,386;answer,a;answer,a;answer,a";
+fn each_call_of_a_merge_may_fail(rt: HostRuntime) -> Result<(), Fail> {
+    let commands =
+        "feed,a,0,1,1000;feed,a,0,1,1000;replica,b;feed,b,0,2,1000;merge,a,b;merge,a,b;answer,a;answer,a";
     expect_told(
-        each_call_of(rt.alloc(), commands, 386),
+        each_call_of(rt.alloc(), commands, 1000),
         "more than 10: true",
     )
 }
 
 #[test]
 fn each_call_of_a_file_may_fail(rt: HostRuntime) -> Result<(), Fail> {
-    let commands = "feed,a,0,1,386;feed,a,0,1,386;feed,a,1,1,386;answer,a;answer,a;answer,a";
-    let script = script_of(rt.alloc(), commands, 386)?;
+    let commands = "feed,a,0,1,1000;feed,a,0,1,1000;feed,a,1,1,1000;answer,a;answer,a";
+    let script = script_of(rt.alloc(), commands, 1000)?;
     let process = process::id(rt.process());
     let path = format!(in rt.alloc(); "/tmp/agg_tool_failing_tapes_{process}")?;
     expect(
