@@ -90,7 +90,7 @@ TEXT
 suppressMessages(library(data.table))
 setDTthreads(1)
 rows <- fread("rows.csv", header = FALSE)
-fwrite(rows[, .(.N, sum(as.numeric(V2))), keyby = V1], "/dev/stdout", col.names = FALSE)
+fwrite(rows[, .(.N, sum(as.numeric(V2))), keyby = V1], "/dev/stdout", col.names = FALSE, scipen = 50L)
 TEXT
     cat > peer.py << 'TEXT'
 import sys, pandas
