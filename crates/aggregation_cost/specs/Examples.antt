@@ -1,6 +1,7 @@
 -- Worked examples.
-use Rattle.std.specs.Prelude.{ℕ, ◌+◌, ◌*◌, ◌/◌, ◌%◌, ◌^◌, bit_xor, List, [], ◌∷◌, ◌++◌, map, replicate}
-use Rattle.std.specs.List.{fold, range_with_len}
+use Rattle.std.specs.Prelude.{ℕ, ◌+◌, ◌*◌, ◌/◌, ◌%◌, List, [], ◌∷◌, ◌++◌, map, replicate}
+use Rattle.std.specs.List.{range_with_len}
+use Rattle.key_hashes.specs.Hashes.{fnv_1a}
 use Rattle.aggregation_cost.specs.Space.{Key, Setting}
 use Rattle.aggregation_cost.specs.Passes.{Record, of_row}
 
@@ -24,15 +25,11 @@ repeated_rows keys n = map (λ i. record { key = numbered (i % keys); on_tape = 
 abbrev pub wide_states : ℕ → Setting
 wide_states limit = record { limit = limit; width = 8184; hash = λ key. 0 }
 
--- FNV-1a of 32 bits (Fowler, Noll, Vo)
-abbrev pub fnv1a : Key → ℕ
-fnv1a key = fold (λ hash byte. bit_xor hash byte * 16777619 % 2 ^ 32) 2166136261 key
-
 abbrev pub hashed_wide_states : ℕ → Setting
-hashed_wide_states limit = record { limit = limit; width = 8184; hash = fnv1a }
+hashed_wide_states limit = record { limit = limit; width = 8184; hash = fnv_1a }
 
 abbrev pub hashed : ℕ → Setting
-hashed limit = record { limit = limit; width = 32; hash = fnv1a }
+hashed limit = record { limit = limit; width = 32; hash = fnv_1a }
 
 -- keys of these lengths
 abbrev pub of_lengths : List ℕ → List Key

@@ -8,8 +8,8 @@ ghost use Rattle.hash_agg.specs.Counting.{setting_by};
 ghost use Rattle.replies.specs.declared.refusal.Refusal.TheVariants.{OriginDisagrees, TapeDamaged};
 ghost use Rattle.replies.specs.Batches.{IsOfBatch};
 ghost use Rattle.replies.specs.Refusals.{refusal_faults};
-ghost use Rattle.spill_tapes.specs.Calls.{failed};
-ghost use Rattle.spill_tapes.specs.Disk.{Leaves};
+ghost use Rattle.tape_disks.specs.Calls.{failed};
+ghost use Rattle.tape_disks.specs.Disk.{Leaves};
 ghost use Rattle.file_commands.specs.Commands.{TakesFile, FeedIsCounted, FileAgrees, FileDisagrees, IsNoBatchFile, IsOtherFile};
 
 use batch_reader::read_batch;

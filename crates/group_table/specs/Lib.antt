@@ -1,4 +1,3 @@
-pub mod Hashes
 pub mod Buckets
 pub mod Index
 pub mod Table
@@ -7,4 +6,3 @@ pub mod Standing
 pub mod Space
 pub mod Arrays
 pub mod Children
-pub mod SipHashes

@@ -7,13 +7,10 @@
 mod array;
 mod bucket;
 mod children;
-mod hash;
 mod index;
 pub mod limits;
 mod search;
-mod sip_hash;
 mod table;
 
-pub use hash::{Fnv1a, KeyHash};
-pub use sip_hash::{Seed, SipHash};
+pub use key_hashes::{Fnv1a, KeyHash, Seed, SipHash};
 pub use table::{GroupTable, Slot};

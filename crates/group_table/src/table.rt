@@ -15,11 +15,11 @@ ghost use Rattle.group_table.specs.Arrays.{OnlyIn, HasNext, IsSpare, IsNext, wit
 use crate::array::{give_up, put_into, refill};
 use crate::bucket::{BUCKET, Bucket};
 use crate::children::{Children, make_children};
-use crate::hash::KeyHash;
 use crate::limits::LONGEST;
 use crate::search::{chunk, search};
 use chunk_layout::ChunkName;
 use context_tree::{ContextId, Tree, TreeError};
+use key_hashes::KeyHash;
 use std::alloc::{AllocError, Global};
 use std::marker::Model;
 

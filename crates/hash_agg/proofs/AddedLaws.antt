@@ -7,7 +7,7 @@ use Rattle.grouping_model.specs.Query.{Query}
 use Rattle.grouping_model.specs.Grouping.{Group}
 use Rattle.grouping_model.specs.Parts.{functions}
 use Rattle.spill_tapes.specs.Records.{Record}
-use Rattle.spill_tapes.specs.declared.disk.TapeDisk.{Ghosts}
+use Rattle.tape_disks.specs.declared.disk.TapeDisk.{Ghosts}
 use Rattle.spill_lists.specs.Standing.{ListsState, KeepsRest, Spilled}
 use Rattle.spill_lists.specs.declared.error.SpillError.{SpillError}
 use Rattle.group_table.specs.Table.{Names, HasNo, state_in}

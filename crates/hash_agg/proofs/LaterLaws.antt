@@ -12,7 +12,7 @@ use Rattle.spill_lists.specs.Standing.{ListsState, HasLists, BeginsLast, AreOn, 
 use Rattle.having_filter.specs.Meaning.{meaning}
 use Rattle.hash_agg.specs.declared.plan.Plan.{Plan}
 use Rattle.group_runs.specs.Runs.{Entry, Rises}
-use Rattle.spill_tapes.specs.declared.disk.TapeDisk.{Ghosts}
+use Rattle.tape_disks.specs.declared.disk.TapeDisk.{Ghosts}
 use Rattle.hash_agg.specs.Added.{CountsWithin, IsDone, IsSafeRun, IsUnderway, MadeFirst, MadeLater, query_of, setting_in}
 use Rattle.hash_agg.specs.Adding.{Given, AllGive}
 use Rattle.hash_agg.specs.Inputs.{Brought}

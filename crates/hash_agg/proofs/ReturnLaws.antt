@@ -4,7 +4,7 @@ use Rattle.std.specs.Result.{IsErr}
 use Rattle.std.specs.declared.result.Result.{Result}
 use Rattle.std.proofs.Common.{sym, ◌∙◌, ap, subst, arith}
 use Rattle.group_table.specs.Table.{TableState}
-use Rattle.group_table.specs.declared.sip_hash.SipHash.{SipHash}
+use Rattle.key_hashes.specs.declared.sip_hash.SipHash.{SipHash}
 use Rattle.group_runs.specs.Runs.{Entry}
 use Rattle.group_runs.specs.Standing.{IsRun}
 use Rattle.group_runs.specs.EntryLaws.{groups_raised}

@@ -24,7 +24,7 @@ use Rattle.spill_lists.specs.Lists.{LeftList}
 use Rattle.spill_lists.specs.Standing.{ListsState, HasLists, AreSpilled}
 use Rattle.spill_lists.specs.declared.lists.OnTape.{OnTape}
 use Rattle.group_table.specs.Table.{TableState, Names, HasNo, state_in, group_in}
-use Rattle.group_table.specs.declared.sip_hash.SipHash.{SipHash}
+use Rattle.key_hashes.specs.declared.sip_hash.SipHash.{SipHash}
 use Rattle.group_table.specs.declared.table.Slot.{Slot}
 use Rattle.having_filter.specs.Kept.{key_kinds, IsWellFormed}
 use Rattle.having_filter.specs.Meaning.{meaning}

@@ -11,7 +11,7 @@ use Rattle.grouping_model.specs.Query.{Query}
 use Rattle.grouping_model.specs.Grouping.{column_of, key_of}
 use Rattle.packed_rows.specs.Packing.{packing}
 use Rattle.spill_tapes.specs.Records.{Record}
-use Rattle.spill_tapes.specs.declared.disk.TapeDisk.{Ghosts}
+use Rattle.tape_disks.specs.declared.disk.TapeDisk.{Ghosts}
 use Rattle.spill_lists.specs.Lists.{LeftList, lists, left_by}
 use Rattle.spill_lists.specs.Standing.{HasLists, KeepsRest, spilled_number, ahead_number, waiting_number, pages_of, written_pages}
 use Rattle.spill_lists.specs.declared.error.SpillError.{SpillError}

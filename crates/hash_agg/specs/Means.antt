@@ -1,6 +1,6 @@
 -- What an aggregation may use. All of this is our own.
 use Rattle.std.specs.Prelude.{ℕ, ◌≤◌}
-use Rattle.group_table.specs.declared.sip_hash.Seed.{Seed}
+use Rattle.key_hashes.specs.declared.sip_hash.Seed.{Seed}
 use Rattle.hash_agg.specs.declared.means.TheConstants.{LEAST_LIMIT, GREATEST_LIMIT}
 
 -- the most bytes of blocks that the table of groups may take, the hash function by which keys are spilled, and the seed of the one by which

@@ -8,10 +8,10 @@ use Rattle.aggregation_cost.specs.Cost.{greatest}
 use Rattle.aggregation_cost.specs.Passes as cost
 use Rattle.aggregation_cost.specs.Space.{Setting, need, fronts}
 use Rattle.group_table.specs.Space.{HoldsKeys, keys_in}
-use Rattle.group_table.specs.SipHashes.{low_hash}
+use Rattle.key_hashes.specs.SipHashes.{low_hash}
 use Rattle.group_table.specs.Standing.{IsTableIn}
 use Rattle.group_table.specs.Table.{TableState, groups, key_in, buckets_for, buckets_in, most_buckets}
-use Rattle.group_table.specs.declared.sip_hash.SipHash.{SipHash}
+use Rattle.key_hashes.specs.declared.sip_hash.SipHash.{SipHash}
 use Rattle.group_table.specs.declared.table.Slot.{Slot}
 use Rattle.grouping_model.specs.Datum.{Row, HasKinds, same_row}
 use Rattle.grouping_model.specs.Condition.{is_met}

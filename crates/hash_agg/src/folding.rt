@@ -2,8 +2,8 @@
 
 ghost use Rattle.std.specs.Prelude.{◌≡◌, ◌≢◌, ◌+◌, ◌≤◌, ◌∷◌, map, IsTrue, IfErr, OnOk, OnErr};
 ghost use Rattle.std.specs.List.{AllByRecursion};
-ghost use Rattle.spill_tapes.specs.Calls.{failed};
-ghost use Rattle.spill_tapes.specs.Disk.{Leaves};
+ghost use Rattle.tape_disks.specs.Calls.{failed};
+ghost use Rattle.tape_disks.specs.Disk.{Leaves};
 ghost use Rattle.spill_lists.specs.Errors.{spill_faults};
 ghost use Rattle.spill_lists.specs.declared.error.SpillError.TheVariants.{TapeDamaged};
 ghost use Rattle.agg_protocol.specs.States.{most_rows};

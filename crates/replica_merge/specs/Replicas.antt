@@ -16,9 +16,9 @@ use Rattle.query_checks.specs.Spelling.{spelling}
 use Rattle.batch_reader.specs.declared.batch.Batch as packed
 use Rattle.origin_prefix.specs.Parts.{Part, empty, is_nothing, IsPartOf, Delivers, BatchTells, aggregations_on}
 use Rattle.aggregation_cost.specs.Space.{Setting}
-use Rattle.spill_tapes.specs.Calls.{failed}
-use Rattle.spill_tapes.specs.Disk.{Leaves}
-use Rattle.spill_tapes.specs.declared.disk.TapeDisk.{Ghosts}
+use Rattle.tape_disks.specs.Calls.{failed}
+use Rattle.tape_disks.specs.Disk.{Leaves}
+use Rattle.tape_disks.specs.declared.disk.TapeDisk.{Ghosts}
 use Rattle.spill_lists.specs.declared.error.SpillError.TheVariants.{TapeDamaged}
 use Rattle.hash_agg.specs.Counting.{AreCounted}
 use Rattle.hash_agg.specs.declared.work.Work.{Work}

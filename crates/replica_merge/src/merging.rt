@@ -16,8 +16,8 @@ ghost use Rattle.origin_prefix.specs.declared.error.JoinError.TheVariants.{Origi
 ghost use Rattle.replica_merge.specs.Counting.{MergeIsCounted};
 ghost use Rattle.replica_merge.specs.Replicas.{Parts, part_at, part_of, told, Fits, AreHeldParts, JoinedAside, Merges, DisagreeSomewhere, MergeTells, filled};
 ghost use Rattle.spill_lists.specs.declared.error.SpillError.TheVariants.{TapeDamaged};
-ghost use Rattle.spill_tapes.specs.Calls.{failed};
-ghost use Rattle.spill_tapes.specs.Disk.{Leaves};
+ghost use Rattle.tape_disks.specs.Calls.{failed};
+ghost use Rattle.tape_disks.specs.Disk.{Leaves};
 ghost use Rattle.replica_merge.specs.Errors.{merge_faults};
 ghost use Rattle.replica_merge.specs.declared.error.MergeError.TheVariants.{Join};
 

@@ -5,7 +5,7 @@ use Rattle.batch_reader.specs.Rows.{packings}
 use Rattle.packed_rows.specs.Columns.{kinds}
 use Rattle.having_filter.specs.Meaning.{meaning}
 use Rattle.aggregation_cost.specs.Space.{Setting}
-use Rattle.group_table.specs.Hashes.{fnv_1a}
+use Rattle.key_hashes.specs.Hashes.{fnv_1a}
 use Rattle.hash_agg.specs.Counting.{AreCounted}
 use Rattle.hash_agg.specs.Inputs.{Brought}
 use Rattle.hash_agg.specs.Passes.{setting_for}

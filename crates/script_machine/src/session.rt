@@ -22,8 +22,8 @@ ghost use Rattle.replies.specs.declared.reply.Reply.TheVariants as says;
 ghost use Rattle.replies.specs.declared.refusal.Refusal.TheVariants.{NoMemory, OriginDisagrees, TapeDamaged};
 ghost use Rattle.script_machine.specs.Limits.{FeedWorked, WorksAtLimit};
 ghost use Rattle.script_machine.specs.Views.{Store, IsStore, empty, Steps, JoinsNames};
-ghost use Rattle.spill_tapes.specs.Calls.{failed};
-ghost use Rattle.spill_tapes.specs.Disk.{Leaves};
+ghost use Rattle.tape_disks.specs.Calls.{failed};
+ghost use Rattle.tape_disks.specs.Disk.{Leaves};
 
 use crate::saved::{Head, SavedFile, head_of};
 use batch_reader::read_rows;

@@ -4,7 +4,7 @@ use Rattle.std.proofs.Common.{refl, sym, ◌∙◌, ap, subst, arith, length-app
 use Rattle.std.proofs.lemmas.Bool.Decides.{nat_tests}
 use Rattle.spill_tapes.specs.Records.{Record}
 use Rattle.spill_tapes.specs.Tapes.{is_open, KeepsOthers}
-use Rattle.spill_tapes.specs.declared.disk.TapeDisk.{Ghosts}
+use Rattle.tape_disks.specs.declared.disk.TapeDisk.{Ghosts}
 use Rattle.spill_tapes.specs.declared.tape_id.TapeId.{TapeId}
 use Rattle.spill_lists.specs.declared.lists.OnTape.{OnTape}
 use Rattle.spill_lists.specs.Lists.{LeftList, deeper}

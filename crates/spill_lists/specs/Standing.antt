@@ -2,10 +2,10 @@
 use Rattle.std.specs.Prelude.{◌≡◌, ℕ, ◌+◌, ◌/◌, ◌<◌, ◌≤◌, ◌⊎◌, ◌==◌, cond, true, false, not, List, [], ◌∷◌, ◌++◌, length, sum_by, filter}
 use Rattle.spill_tapes.specs.Pages.{pages_for}
 use Rattle.spill_tapes.specs.Records.{Record, tape_bytes}
-use Rattle.spill_tapes.specs.declared.limits.TheConstants.{PAGE}
+use Rattle.tape_disks.specs.declared.limits.TheConstants.{PAGE}
 use Rattle.spill_lists.specs.declared.lists.TheConstants.{LISTS}
 use Rattle.spill_tapes.specs.Tapes.{TapesState, IsTape, is_written, is_read, written_len}
-use Rattle.spill_tapes.specs.declared.disk.TapeDisk.{Ghosts}
+use Rattle.tape_disks.specs.declared.disk.TapeDisk.{Ghosts}
 use Rattle.spill_tapes.specs.declared.tape_id.TapeId.{TapeId}
 use Rattle.spill_lists.specs.declared.lists.OnTape.{OnTape}
 use Rattle.spill_lists.specs.Lists.{LeftList, lists}

@@ -7,7 +7,7 @@ use Rattle.spill_tapes.specs.Records.{Record}
 use Rattle.spill_tapes.specs.Pages.{PoolState, IsPool, HavePages, IsBalanced}
 use Rattle.spill_tapes.specs.Tape.{TapeState, IsGood, HasIn, Has}
 use Rattle.spill_tapes.specs.Tapes.{TapesState, tape_at, phase_of, is_written, is_read, IsTape, IsRefusal, DiesIfRefused, AreTapes}
-use Rattle.spill_tapes.specs.declared.disk.DiskError.{DiskError}
+use Rattle.tape_disks.specs.declared.disk.DiskError.{DiskError}
 use Rattle.spill_tapes.specs.declared.error.TapeError.{TapeError}
 use Rattle.spill_tapes.specs.declared.tape.Phase.{Phase}
 use Rattle.spill_tapes.specs.declared.tape.Phase.TheVariants.{Closed, Written, Read}

@@ -5,4 +5,3 @@ pub mod TapeLaws
 pub mod HeaderLaws
 pub mod TapesLaws
 pub mod Lent
-pub mod MemoryLaws

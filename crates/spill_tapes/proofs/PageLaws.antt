@@ -2,7 +2,7 @@
 use Rattle.std.specs.Prelude.{◌≡◌, ◌≢◌, ℕ, ◌+◌, ◌-◌, ◌*◌, ◌<◌, ◌≤◌, ◌⊎◌, List, [], ◌∷◌, ◌++◌, length, get_or, take, drop}
 use Rattle.std.proofs.Common.{refl, sym, ◌∙◌, ap, subst, arith, length-append}
 use Rattle.std.proofs.lemmas.List.{append-nil, append_assoc, flat_map_more, ext_get_or, take-append-drop, length-take-le, length-drop, take_at, drop_at, take-append-le, drop-append-le, drop-drop, drop_all}
-use Rattle.spill_tapes.specs.Calls.{AreLast, AreReadAt, Keeps, KeepsBeside}
+use Rattle.tape_disks.specs.Calls.{AreLast, AreReadAt, Keeps, KeepsBeside}
 use Rattle.spill_tapes.specs.Pages.{PoolState, times, IsApart, IsFresh, FreesNone, IsOn, AreOn, KeepsPages}
 use Rattle.spill_tapes.specs.Tape.{TapeState, join, spent, HasWritten, HasAhead}
 use Rattle.spill_tapes.proofs.PoolLaws.{same_one, apart_page}

@@ -1,9 +1,10 @@
 -- What is true of a result, from what else is.
 use Rattle.std.specs.Prelude.{◌≡◌, ◌≢◌}
 use Rattle.std.proofs.Common.{ap}
-use Rattle.spill_tapes.specs.Errors.{tape_error, disk_faults, tape_faults}
-use Rattle.spill_tapes.specs.declared.disk.DiskError.{DiskError}
-use Rattle.spill_tapes.specs.declared.disk.DiskError.TheVariants as disk
+use Rattle.tape_disks.specs.Errors.{disk_faults}
+use Rattle.spill_tapes.specs.Errors.{tape_error, tape_faults}
+use Rattle.tape_disks.specs.declared.disk.DiskError.{DiskError}
+use Rattle.tape_disks.specs.declared.disk.DiskError.TheVariants as disk
 use Rattle.spill_tapes.specs.declared.error.TapeError.{TapeError}
 use Rattle.spill_tapes.specs.declared.error.TapeError.TheVariants as tape
 

@@ -5,14 +5,14 @@ use Rattle.std.proofs.Math.ListN.{set}
 use Rattle.std.proofs.Common.{refl, sym, ◌∙◌, ap, subst, arith}
 use Rattle.std.proofs.lemmas.List.{get_or-set_same, get_or-set_other, get_or_past, get_or_push, get_or_default}
 use Rattle.std.proofs.lemmas.List.Sums.{sum_by-cons, sum_by-set}
-use Rattle.spill_tapes.specs.Calls.{Keeps}
+use Rattle.tape_disks.specs.Calls.{Keeps}
 use Rattle.spill_tapes.specs.Records.{Record, tape_bytes}
 use Rattle.spill_tapes.specs.Errors.{tape_error}
 use Rattle.spill_tapes.specs.Pages.{IsPool, HavePages, times, IsApart, IsBalanced, GivesBack, AreOn, KeepsPages}
 use Rattle.spill_tapes.specs.Tape.{TapeState, no_tape, new_tape, tape_len, is_in, IsGood, IsGoodIn, IsGoodRead, AreWritten, AreAhead, HasIn, Has, Gives}
 use Rattle.spill_tapes.specs.Tapes.{TapesState, tape_at, phase_of, is_written, is_read, IsTape, KeepsOthers, IsRefusal, IsReadRefusal, FreesPages, HasNoPageMore, AreTapes}
-use Rattle.spill_tapes.specs.declared.disk.DiskError.{DiskError}
-use Rattle.spill_tapes.specs.declared.disk.DiskError.TheVariants as disk
+use Rattle.tape_disks.specs.declared.disk.DiskError.{DiskError}
+use Rattle.tape_disks.specs.declared.disk.DiskError.TheVariants as disk
 use Rattle.spill_tapes.specs.declared.error.TapeError.{TapeError}
 use Rattle.spill_tapes.specs.declared.error.TapeError.TheVariants as error
 use Rattle.spill_tapes.specs.declared.tape.Phase.{Phase}

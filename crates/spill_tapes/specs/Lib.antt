@@ -1,13 +1,6 @@
-pub mod Calls
-pub mod Disk
-pub mod DiskLaws
 pub mod Errors
 pub mod Records
 pub mod Pages
 pub mod Tape
 pub mod Tapes
 pub mod TapesFields
-pub mod Memory
-pub mod MemoryFields
-pub mod Faulty
-pub mod Chosen

@@ -1,6 +1,7 @@
 -- The pages of tapes, by their numbers. Page n of a disk are its PAGE bytes from the place PAGE * n on. All of this is our own.
 use Rattle.std.specs.Prelude.{◌≡◌, ℕ, ◌+◌, ◌-◌, ◌*◌, ◌/◌, ◌<◌, ◌≤◌, ◌⊎◌, ◌==◌, nat_lt, cond, List, [], ◌∷◌, ◌++◌, length, get_or}
-use Rattle.spill_tapes.specs.declared.limits.TheConstants.{PAGE, MOST_PAGES}
+use Rattle.tape_disks.specs.declared.limits.TheConstants.{PAGE}
+use Rattle.spill_tapes.specs.declared.limits.TheConstants.{MOST_PAGES}
 
 -- how many pages so many bytes take
 abbrev pub pages_for : ℕ → ℕ

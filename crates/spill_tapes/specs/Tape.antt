@@ -8,7 +8,8 @@ use Rattle.spill_tapes.specs.declared.error.TapeError.TheVariants.{TapeDamaged, 
 use Rattle.spill_tapes.specs.declared.header.Header.{Header}
 use Rattle.spill_tapes.specs.declared.tape.Phase.{Phase}
 use Rattle.spill_tapes.specs.declared.tape.Phase.TheVariants.{Closed, Written, Read}
-use Rattle.spill_tapes.specs.declared.limits.TheConstants.{PAGE, LONGEST_RECORD}
+use Rattle.tape_disks.specs.declared.limits.TheConstants.{PAGE}
+use Rattle.spill_tapes.specs.declared.limits.TheConstants.{LONGEST_RECORD}
 
 -- whether a tape is in a phase
 abbrev pub is_in : Phase → Phase → Bool

@@ -9,7 +9,7 @@ use Rattle.spill_tapes.specs.declared.error.TapeError.TheVariants.{NoMemory, Tap
 use Rattle.spill_tapes.specs.declared.tape.Phase.{Phase}
 use Rattle.spill_tapes.specs.declared.tape.Phase.TheVariants.{Closed, Written, Read}
 use Rattle.spill_tapes.specs.declared.tape_id.TapeId.{TapeId}
-use Rattle.spill_tapes.specs.declared.limits.TheConstants.{PAGE}
+use Rattle.tape_disks.specs.declared.limits.TheConstants.{PAGE}
 
 -- whether a call failed; the tapes; and their pages
 pub record TapesState : Type 0 where

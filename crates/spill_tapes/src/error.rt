@@ -3,8 +3,8 @@ ghost use Rattle.std.specs.Prelude.{◌≡◌};
 ghost use Rattle.spill_tapes.specs.Errors.{tape_error};
 ghost use Rattle.spill_tapes.specs.declared.error.TapeError.TheVariants.{NoMemory};
 
-use crate::disk::DiskError;
 use std::alloc::AllocError;
+use tape_disks::DiskError;
 use thiserror::Error;
 
 /// Why a call of tapes is refused.

@@ -2,7 +2,7 @@
 ghost use Rattle.std.specs.Prelude.{◌≡◌, ◌+◌, ◌^◌};
 
 /// How many bytes a page has.
-pub const PAGE: usize = 8192;
+pub use tape_disks::limits::PAGE;
 
 /// How many bytes the front of a record has: its hash in 4, its tag in one, and its length in 4.
 pub const FRONT: usize = 9;

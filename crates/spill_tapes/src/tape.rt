@@ -1,14 +1,14 @@
 //! One tape: pages on a disk, and a buffer of one page.
 ghost use Rattle.std.specs.Prelude.{◌≡◌, ◌&&◌, ◌||◌, ◌==◌, nat_lt, nat_le, ◌+◌, ◌-◌, ◌*◌, ◌/◌, ◌<◌, ◌≤◌, ◌^◌, ◌∷◌, ◌++◌, [], ℕ, List, Some, None, IsTrue, IfOk, IfErr, OnOk, OnErr, length, take, drop};
-ghost use Rattle.spill_tapes.specs.Disk.{Leaves, OnlyReads};
-ghost use Rattle.spill_tapes.specs.Calls.{failed};
-ghost use Rattle.spill_tapes.specs.Errors.{disk_faults, tape_faults};
+ghost use Rattle.tape_disks.specs.Disk.{Leaves, OnlyReads};
+ghost use Rattle.tape_disks.specs.Calls.{failed};
+ghost use Rattle.tape_disks.specs.Errors.{disk_faults};
+ghost use Rattle.spill_tapes.specs.Errors.{tape_faults};
 ghost use Rattle.spill_tapes.specs.Records.{Record, IsRecord, header_of};
 ghost use Rattle.spill_tapes.specs.Pages.{pages_for, HavePages, TakesPages, GivesBack, KeepsPages};
 ghost use Rattle.spill_tapes.specs.Tape.{TapeState, new_tape, no_tape, tape_len, ahead, HasWritten, HasAhead, IsSameTape, IsGood, IsGoodRead, IsAfterHeader, Gives, IsGiven, IsNotGiven, spent, ended, AreWritten, AreAhead};
 ghost use Rattle.spill_tapes.specs.declared.tape.Phase.TheVariants as phase;
 
-use crate::disk::{DiskError, TapeDisk};
 use crate::error::TapeError;
 use crate::header::Header;
 use crate::limits::{FRONT, LONGEST_RECORD, PAGE};
@@ -16,6 +16,7 @@ use crate::pool::PagePool;
 use std::alloc::{AllocError, Global};
 use std::collections::VecDeque;
 use std::marker::Model;
+use tape_disks::{DiskError, TapeDisk};
 
 /// What is done with a tape.
 #[derive(Clone, Copy, PartialEq, Eq)]

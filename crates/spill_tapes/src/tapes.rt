@@ -1,7 +1,7 @@
 //! Tapes over a disk.
 ghost use Rattle.std.specs.Prelude.{◌≡◌, ◌≢◌, ◌+◌, ◌*◌, ◌/◌, ◌<◌, ◌≤◌, ◌∷◌, ◌++◌, [], ℕ, List, Some, Err, true, false, IsTrue, IfOk, IfErr, IfSome, IfNone, OnOk, OnErr, length, get_or};
-ghost use Rattle.spill_tapes.specs.Calls.{failed};
-ghost use Rattle.spill_tapes.specs.Disk.{Leaves, OnlyReads};
+ghost use Rattle.tape_disks.specs.Calls.{failed};
+ghost use Rattle.tape_disks.specs.Disk.{Leaves, OnlyReads};
 ghost use Rattle.spill_tapes.specs.Errors.{tape_faults};
 ghost use Rattle.spill_tapes.specs.Pages.{UsesAgain, pages_for};
 ghost use Rattle.spill_tapes.specs.Records.{Record, tape_bytes};
@@ -11,7 +11,6 @@ ghost use Rattle.spill_tapes.specs.declared.error.TapeError.TheVariants.{TapeDam
 ghost use Rattle.spill_tapes.specs.declared.tape.Phase.TheVariants.{Closed, Written, Read};
 ghost use Rattle.spill_tapes.specs.declared.tape_id.TapeId.{TapeId};
 
-use crate::disk::TapeDisk;
 use crate::error::TapeError;
 use crate::header::Header;
 use crate::limits::{FRONT, LONGEST_RECORD, PAGE};
@@ -20,6 +19,7 @@ use crate::tape::{Phase, Tape};
 use crate::tape_id::TapeId;
 use std::alloc::Global;
 use std::marker::Model;
+use tape_disks::TapeDisk;
 
 /// Tapes over a disk: lists of records, each of which is written and then read once, in order.
 ///

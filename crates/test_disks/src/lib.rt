@@ -2,7 +2,7 @@
 #![tactic(auto)]
 
 ghost use Rattle.std.specs.Prelude.{◌≡◌, ◌<◌, true};
-ghost use Rattle.spill_tapes.specs.Memory.{byte_at};
+ghost use Rattle.tape_disks.specs.Memory.{byte_at};
 
 use spill_tapes::{DiskError, FailDisk, FlipDisk, MemDisk, TapeDisk};
 use std::alloc::Global;

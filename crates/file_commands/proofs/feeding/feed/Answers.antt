@@ -3,8 +3,8 @@ use Rattle.std.proofs.Common.{◌∙◌, ap, sym, subst}
 use Rattle.std.proofs.lemmas.Result.{IfOk-weaker, err_from_is_err_and}
 use Rattle.batch_reader.specs.File.{read_file}
 use Rattle.query_checks.specs.Checks.{Checked}
-use Rattle.spill_tapes.specs.Disk.{Leaves}
-use Rattle.spill_tapes.specs.DiskLaws.{leaves_none}
+use Rattle.tape_disks.specs.Disk.{Leaves}
+use Rattle.tape_disks.specs.DiskLaws.{leaves_none}
 use Rattle.replies.specs.Refusals.{refusal_faults}
 use Rattle.replies.specs.RefusalLaws.{batch_tells}
 use Rattle.replies.specs.declared.refusal.Refusal.TheVariants.{OriginDisagrees}

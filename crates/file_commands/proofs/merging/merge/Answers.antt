@@ -1,8 +1,8 @@
 use Rattle.std.specs.Prelude.{◌≡◌, ℕ, Option}
 use Rattle.std.proofs.Common.{◌∙◌, ap, inr, sym, subst}
 use Rattle.std.proofs.lemmas.Result.{err_from_is_err_and}
-use Rattle.spill_tapes.specs.Disk.{Leaves}
-use Rattle.spill_tapes.specs.DiskLaws.{leaves_none}
+use Rattle.tape_disks.specs.Disk.{Leaves}
+use Rattle.tape_disks.specs.DiskLaws.{leaves_none}
 use Rattle.replies.specs.Refusals.{refusal_faults}
 use Rattle.grouping_model.specs.World.{World}
 use Rattle.replica_merge.specs.Replicas.{Held, Fits}

@@ -2,7 +2,7 @@ use Rattle.std.specs.Prelude.{◌≡◌, ◌+◌, ◌≤◌, max, ℕ, List, [],
 use Rattle.std.specs.List.{AllByRecursion}
 use Rattle.std.proofs.Common.{sym, ◌∙◌, ap, subst, arith}
 use Rattle.std.proofs.lemmas.Result.{IfOk-weaker, IfErr-weaker}
-use Rattle.spill_tapes.specs.DiskLaws.{leaves_twice}
+use Rattle.tape_disks.specs.DiskLaws.{leaves_twice}
 use Rattle.spill_lists.specs.declared.error.SpillError.TheVariants.{NoMemory}
 use Rattle.aggregation_cost.specs.Cost.{cost}
 use Rattle.aggregation_cost.specs.Space.{Setting}

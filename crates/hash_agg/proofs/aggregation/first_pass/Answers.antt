@@ -3,7 +3,7 @@ use Rattle.std.proofs.Common.{sym, ◌∙◌, ap, subst, arith}
 use Rattle.std.proofs.lemmas.List.{length-map, take_all}
 use Rattle.std.proofs.lemmas.List.Sums.{sum_by-cons}
 use Rattle.std.proofs.lemmas.Result.{IfOk-weaker}
-use Rattle.spill_tapes.specs.DiskLaws.{leaves_none, leaves_twice}
+use Rattle.tape_disks.specs.DiskLaws.{leaves_none, leaves_twice}
 use Rattle.spill_lists.specs.Errors.{spill_faults}
 use Rattle.spill_lists.specs.Standing.{full_pages, written_pages}
 use Rattle.spill_lists.specs.declared.error.SpillError.TheVariants.{NoMemory}

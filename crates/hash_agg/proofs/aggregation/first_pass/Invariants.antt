@@ -1,5 +1,5 @@
 use Rattle.std.specs.Prelude.{◌≤◌, List, [], map, take}
-use Rattle.spill_tapes.specs.Disk.{Leaves}
+use Rattle.tape_disks.specs.Disk.{Leaves}
 use Rattle.hash_agg.specs.Added.{IsReady, KeepsPass, query_of, setting_in}
 use Rattle.hash_agg.specs.Adding.{Given, AllGive}
 use Rattle.hash_agg.specs.Inputs.{brought}

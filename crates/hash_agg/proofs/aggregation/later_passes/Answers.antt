@@ -5,7 +5,7 @@ use Rattle.std.proofs.lemmas.Grind.{common_steps}
 use Rattle.std.proofs.lemmas.List.{length-append, nil_from_length}
 use Rattle.std.proofs.lemmas.List.Sorted.{length_permutation}
 use Rattle.std.proofs.lemmas.Result.{IfErr-weaker}
-use Rattle.spill_tapes.specs.DiskLaws.{leaves_none, leaves_twice}
+use Rattle.tape_disks.specs.DiskLaws.{leaves_none, leaves_twice}
 use Rattle.spill_lists.specs.Errors.{spill_faults}
 use Rattle.spill_lists.specs.Standing.{count_of, waiting_number, full_pages, written_pages}
 use Rattle.spill_lists.specs.declared.error.SpillError.TheVariants.{NoMemory}

@@ -16,8 +16,8 @@ use Rattle.replica_merge.specs.Counting.{MergeIsCounted}
 use Rattle.origin_prefix.specs.Parts.{Part, empty, IsPartOf}
 use Rattle.origin_prefix.proofs.ByNumber.{numbers, rising_rest}
 use Rattle.replica_merge.specs.Replicas.{Parts, part_at, part_of, IsHeldPart, IsFirstRefused, MergeTells}
-use Rattle.spill_tapes.specs.Disk.{Leaves}
-use Rattle.spill_tapes.specs.DiskLaws.{leaves_twice}
+use Rattle.tape_disks.specs.Disk.{Leaves}
+use Rattle.tape_disks.specs.DiskLaws.{leaves_twice}
 use Rattle.replica_merge.specs.Errors.{merge_faults}
 use Rattle.replica_merge.proofs.DeliveredLaws.{part_is}
 use Rattle.replica_merge.proofs.MergedLaws.{JoinedSoFar, joined_more, found_refused}

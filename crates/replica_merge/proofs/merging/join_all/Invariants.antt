@@ -6,7 +6,7 @@ use Rattle.having_filter.specs.Meaning.{meaning}
 use Rattle.hash_agg.specs.Counting.{setting_by}
 use Rattle.hash_agg.specs.declared.work.Work.{Work}
 use Rattle.origin_prefix.specs.Parts.{Part}
-use Rattle.spill_tapes.specs.Disk.{Leaves}
+use Rattle.tape_disks.specs.Disk.{Leaves}
 use Rattle.replica_merge.specs.Counting.{MergeIsCounted}
 use Rattle.replica_merge.specs.Replicas.{part_at, part_of, IsHeldPart}
 use Rattle.replica_merge.proofs.MergedLaws.{JoinedSoFar}

@@ -1,6 +1,6 @@
 use Rattle.std.specs.Prelude.{refl}
 use Rattle.std.proofs.Common.{◌∙◌, ap, sym, subst}
-use Rattle.spill_tapes.specs.Disk.{Leaves}
+use Rattle.tape_disks.specs.Disk.{Leaves}
 use Rattle.replies.specs.Joining.{IsApart}
 use Rattle.replies.specs.Refusals.{refusal_faults}
 use Rattle.replies.specs.RefusalLaws.{merge_tells}

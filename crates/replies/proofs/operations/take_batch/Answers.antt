@@ -3,7 +3,7 @@ use Rattle.std.proofs.Common.{◌∙◌, ap, sym, subst}
 use Rattle.batch_reader.specs.declared.batch.Batch.{Batch}
 use Rattle.origin_prefix.specs.Parts.{BatchTells}
 use Rattle.replica_merge.specs.Replicas.{part_of}
-use Rattle.spill_tapes.specs.Disk.{Leaves}
+use Rattle.tape_disks.specs.Disk.{Leaves}
 use Rattle.replies.specs.BatchLaws.{fed_of, read_is_fed}
 use Rattle.replies.specs.Batches.{IsOfBatch}
 use Rattle.replies.specs.Refusals.{refusal_faults}

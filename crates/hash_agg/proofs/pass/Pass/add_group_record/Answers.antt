@@ -1,7 +1,7 @@
 use Rattle.std.specs.Prelude.{refl, ◌∷◌, [], List, ℕ}
 use Rattle.std.proofs.Common.{sym, ◌∙◌}
 use Rattle.std.proofs.lemmas.Result.{IfErr-weaker}
-use Rattle.spill_tapes.specs.DiskLaws.{leaves_none}
+use Rattle.tape_disks.specs.DiskLaws.{leaves_none}
 use Rattle.packed_rows.specs.Packing.{packing}
 use Rattle.hash_agg.specs.Added.{Entries, On_tape, query_of}
 use Rattle.hash_agg.specs.Passes.{Of_group, standing}

@@ -1,6 +1,6 @@
 use Rattle.std.specs.Prelude.{◌≡◌, refl, ◌+◌, ◌∷◌, ℕ, List, [], length, IfSome, IfNone, IsTrue}
 use Rattle.std.proofs.Common.{sym, ap, subst, arith, inl}
-use Rattle.spill_tapes.specs.DiskLaws.{leaves_none, leaves_twice, reads_leaves}
+use Rattle.tape_disks.specs.DiskLaws.{leaves_none, leaves_twice, reads_leaves}
 use Rattle.spill_tapes.specs.Tape.{Gives}
 use Rattle.spill_lists.specs.Errors.{spill_faults}
 use Rattle.spill_lists.specs.Standing.{HasLists, count_of, spilled_number, ahead_number}

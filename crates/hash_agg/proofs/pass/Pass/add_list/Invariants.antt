@@ -1,5 +1,5 @@
 use Rattle.std.specs.Prelude.{◌+◌, ◌≤◌, List, [], IsTrue}
-use Rattle.spill_tapes.specs.Disk.{Leaves}
+use Rattle.tape_disks.specs.Disk.{Leaves}
 use Rattle.spill_tapes.specs.Records.{Record}
 use Rattle.spill_lists.specs.Lists.{LeftList}
 use Rattle.spill_lists.specs.Standing.{HasLists, ahead_number}

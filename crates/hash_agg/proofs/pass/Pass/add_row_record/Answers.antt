@@ -1,7 +1,7 @@
 use Rattle.std.specs.Prelude.{refl, ◌∷◌, [], List, ℕ}
 use Rattle.std.proofs.Common.{sym, ◌∙◌, ap}
 use Rattle.std.proofs.lemmas.Result.{IfErr-weaker}
-use Rattle.spill_tapes.specs.DiskLaws.{leaves_none}
+use Rattle.tape_disks.specs.DiskLaws.{leaves_none}
 use Rattle.spill_lists.specs.declared.error.SpillError.TheVariants.{NoMemory}
 use Rattle.packed_rows.specs.View.{row_of}
 use Rattle.hash_agg.specs.Added.{Packed_rows, On_tape, query_of}

@@ -1,6 +1,6 @@
 use Rattle.std.specs.Prelude.{◌∷◌, []}
 use Rattle.std.proofs.Common.{arith}
-use Rattle.spill_tapes.specs.DiskLaws.{leaves_none, leaves_twice}
+use Rattle.tape_disks.specs.DiskLaws.{leaves_none, leaves_twice}
 use Rattle.spill_lists.specs.Errors.{spill_faults}
 use Rattle.hash_agg.specs.Added.{Packed_rows, query_of}
 use Rattle.hash_agg.specs.Inputs.{packings_in}

@@ -1,4 +1,4 @@
-use Rattle.spill_tapes.specs.Disk.{Leaves}
+use Rattle.tape_disks.specs.Disk.{Leaves}
 use Rattle.hash_agg.specs.Added.{Packed_rows}
 use Rattle.hash_agg.specs.Inputs.{packings_in}
 use Rattle.hash_agg.proofs.AddedLaws.{AddedSome}

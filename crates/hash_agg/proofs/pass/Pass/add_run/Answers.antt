@@ -1,6 +1,6 @@
 use Rattle.std.specs.Prelude.{◌∷◌, [], List, ℕ}
 use Rattle.std.proofs.Common.{sym, subst, arith}
-use Rattle.spill_tapes.specs.DiskLaws.{leaves_none, leaves_twice}
+use Rattle.tape_disks.specs.DiskLaws.{leaves_none, leaves_twice}
 use Rattle.spill_lists.specs.Errors.{spill_faults}
 use Rattle.grouping_model.specs.Grouping.{Group}
 use Rattle.having_filter.specs.Meaning.{meaning}

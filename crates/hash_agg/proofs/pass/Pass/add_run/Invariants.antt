@@ -1,4 +1,4 @@
-use Rattle.spill_tapes.specs.Disk.{Leaves}
+use Rattle.tape_disks.specs.Disk.{Leaves}
 use Rattle.hash_agg.specs.Added.{Entries}
 use Rattle.hash_agg.proofs.AddedLaws.{AddedSome}
 use Rattle.hash_agg.proofs.pass.Pass.add_run.Given as goal

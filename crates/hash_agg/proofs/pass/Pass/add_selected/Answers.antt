@@ -1,7 +1,7 @@
 use Rattle.std.specs.Prelude.{refl, ◌∷◌, ◌++◌, []}
 use Rattle.std.proofs.Common.{sym, ◌∙◌, ap, arith}
 use Rattle.std.proofs.lemmas.Result.{IfErr-weaker}
-use Rattle.spill_tapes.specs.DiskLaws.{leaves_none}
+use Rattle.tape_disks.specs.DiskLaws.{leaves_none}
 use Rattle.grouping_model.specs.Grouping.{key_of, partials}
 use Rattle.grouping_model.specs.Query.{Query}
 use Rattle.packed_rows.specs.View.{row_of}

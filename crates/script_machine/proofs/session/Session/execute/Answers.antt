@@ -7,8 +7,8 @@ use Rattle.script_commands.specs.Commands.{owned_by, request_of}
 use Rattle.script_commands.specs.Views.{request_view}
 use Rattle.script_commands.specs.declared.request.Request.{Request}
 use Rattle.script_commands.proofs.CommandLaws.{owned_told}
-use Rattle.spill_tapes.specs.Disk.{Leaves}
-use Rattle.spill_tapes.specs.DiskLaws.{leaves_none}
+use Rattle.tape_disks.specs.Disk.{Leaves}
+use Rattle.tape_disks.specs.DiskLaws.{leaves_none}
 use Rattle.script_machine.specs.Limits.{WorksAtLimit}
 use Rattle.replies.specs.Text.{is_tape_fault, faults_in}
 use Rattle.script_machine.specs.Views.{Steps}

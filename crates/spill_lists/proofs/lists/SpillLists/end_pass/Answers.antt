@@ -7,7 +7,7 @@ use Rattle.spill_lists.proofs.PageLaws.{IsPaged, paged_start, paged_step, paged_
 use Rattle.std.proofs.Math.Seq.{drop-cons}
 use Rattle.std.proofs.lemmas.List.{drop_all}
 use Rattle.spill_lists.proofs.PassLaws.{IsEnding, ending_start, lists_without, ending_written, ending_apart, ending_beside, ending_step, ending_end}
-use Rattle.spill_tapes.specs.DiskLaws.{leaves_none, leaves_twice}
+use Rattle.tape_disks.specs.DiskLaws.{leaves_none, leaves_twice}
 use Rattle.spill_lists.proofs.StandingLaws.{state}
 use Rattle.spill_lists.proofs.lists.SpillLists.end_pass.Goals as goal
 

@@ -7,8 +7,8 @@ use Rattle.spill_lists.specs.Standing.{ListsState, AreLists, list_pages, times}
 use Rattle.spill_lists.proofs.EndLaws.{those_none, those_some}
 use Rattle.spill_lists.proofs.PassLaws.{none_paged, refused_alive, refused_undamaged, undamaged_as, same_faults}
 use Rattle.spill_tapes.specs.declared.tape_id.TapeId.{TapeId}
-use Rattle.spill_tapes.specs.Disk.{Leaves}
-use Rattle.spill_tapes.specs.DiskLaws.{leaves_none}
+use Rattle.tape_disks.specs.Disk.{Leaves}
+use Rattle.tape_disks.specs.DiskLaws.{leaves_none}
 use Rattle.spill_lists.specs.Errors.{spill_faults}
 use Rattle.spill_lists.specs.declared.error.SpillError.{SpillError}
 use Rattle.spill_lists.specs.declared.error.SpillError.TheVariants.{TapeDamaged}

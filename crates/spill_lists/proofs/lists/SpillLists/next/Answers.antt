@@ -2,8 +2,8 @@ use Rattle.std.proofs.Common.{List, ◌≡◌, ◌≢◌, ◌++◌, ◌∷◌, [
 use Rattle.spill_lists.specs.declared.lists.OnTape.{OnTape}
 use Rattle.spill_lists.specs.Fields.{lists_of, one_or_none}
 use Rattle.spill_lists.specs.Standing.{ListsState, HasLists, AreRead, count_of, written_pages}
-use Rattle.spill_tapes.specs.Disk.{OnlyReads}
-use Rattle.spill_tapes.specs.DiskLaws.{reads_none}
+use Rattle.tape_disks.specs.Disk.{OnlyReads}
+use Rattle.tape_disks.specs.DiskLaws.{reads_none}
 use Rattle.spill_lists.specs.Errors.{spill_faults}
 use Rattle.spill_tapes.specs.Records.{Record}
 use Rattle.spill_lists.specs.declared.error.SpillError.{SpillError}

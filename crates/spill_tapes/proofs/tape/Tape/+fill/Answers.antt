@@ -6,9 +6,9 @@ use Rattle.spill_tapes.specs.Tape.{TapeState, HasAhead, spent}
 use Rattle.spill_tapes.proofs.PageLaws.{spent_from, filled_on}
 use Rattle.spill_tapes.proofs.PoolLaws.{gives_none, gives_twice}
 use Rattle.spill_tapes.proofs.TapeLaws.{same_self, same_spent, same_twice}
-use Rattle.spill_tapes.specs.Errors.{disk_faults}
-use Rattle.spill_tapes.specs.DiskLaws.{reads_none, reads_twice}
-use Rattle.spill_tapes.specs.Disk.{OnlyReads}
+use Rattle.tape_disks.specs.Errors.{disk_faults}
+use Rattle.tape_disks.specs.DiskLaws.{reads_none, reads_twice}
+use Rattle.tape_disks.specs.Disk.{OnlyReads}
 use Rattle.spill_tapes.proofs.tape.Tape.+fill.Goals as goal
 
 pub returns-in_err-spend : goal.returns-in_err-spend

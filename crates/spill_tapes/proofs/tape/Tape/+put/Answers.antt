@@ -5,9 +5,9 @@ use Rattle.spill_tapes.specs.Tape.{TapeState}
 use Rattle.spill_tapes.proofs.PageLaws.{buffered, keeps_twice, written_parts}
 use Rattle.spill_tapes.proofs.PoolLaws.{takes_none, takes_twice}
 use Rattle.spill_tapes.proofs.TapeLaws.{same_now, same_twice}
-use Rattle.spill_tapes.specs.Errors.{disk_faults}
-use Rattle.spill_tapes.specs.DiskLaws.{leaves_none, leaves_twice}
-use Rattle.spill_tapes.specs.Disk.{Leaves}
+use Rattle.tape_disks.specs.Errors.{disk_faults}
+use Rattle.tape_disks.specs.DiskLaws.{leaves_none, leaves_twice}
+use Rattle.tape_disks.specs.Disk.{Leaves}
 use Rattle.spill_tapes.proofs.tape.Tape.+put.Goals as goal
 
 pub returns-in_err-extend_from_slice : goal.returns-in_err-extend_from_slice

@@ -6,9 +6,9 @@ use Rattle.spill_tapes.specs.Tape.{TapeState, IsGoodIn, HasWritten}
 use Rattle.spill_tapes.proofs.TapeLaws.{appended}
 use Rattle.spill_tapes.proofs.PageLaws.{same_written}
 use Rattle.spill_tapes.proofs.PoolLaws.{takes_none}
-use Rattle.spill_tapes.specs.Errors.{disk_faults}
-use Rattle.spill_tapes.specs.DiskLaws.{leaves_none}
-use Rattle.spill_tapes.specs.Disk.{Leaves}
+use Rattle.tape_disks.specs.Errors.{disk_faults}
+use Rattle.tape_disks.specs.DiskLaws.{leaves_none}
+use Rattle.tape_disks.specs.Disk.{Leaves}
 use Rattle.spill_tapes.proofs.tape.Tape.append.Goals as goal
 
 pub returns-clause-appended : goal.returns-clause-appended

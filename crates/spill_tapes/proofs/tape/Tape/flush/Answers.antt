@@ -1,13 +1,13 @@
 use Rattle.std.proofs.Common.{◌≡◌, ◌*◌, ◌++◌, ◌∷◌, [], length, length-append, refl, sym, ap, ◌∙◌, subst, arith}
 use Rattle.std.proofs.lemmas.Result.{err_from_is_err_and}
-use Rattle.spill_tapes.specs.Calls.{AreLast}
+use Rattle.tape_disks.specs.Calls.{AreLast}
 use Rattle.spill_tapes.specs.Pages.{TakesPages, KeepsPages}
 use Rattle.spill_tapes.specs.Tape.{TapeState}
 use Rattle.spill_tapes.proofs.PageLaws.{flushed, keeps_pages}
 use Rattle.spill_tapes.proofs.TapeLaws.{same_now}
-use Rattle.spill_tapes.specs.Errors.{disk_faults}
-use Rattle.spill_tapes.specs.DiskLaws.{leaves_none}
-use Rattle.spill_tapes.specs.Disk.{Leaves}
+use Rattle.tape_disks.specs.Errors.{disk_faults}
+use Rattle.tape_disks.specs.DiskLaws.{leaves_none}
+use Rattle.tape_disks.specs.Disk.{Leaves}
 use Rattle.spill_tapes.proofs.tape.Tape.flush.Goals as goal
 
 pub returns-in_err-page-clause-pages : goal.returns-in_err-page-clause-pages

@@ -3,7 +3,7 @@ use Rattle.std.proofs.lemmas.Grind.{common_steps}
 use Rattle.std.proofs.lemmas.List.{with_items_is}
 use Rattle.std.specs.Vec.{with_items}
 use Rattle.std.proofs.lemmas.Result.{on_ok_weaker}
-use Rattle.spill_tapes.specs.Calls.{AreReadAt}
+use Rattle.tape_disks.specs.Calls.{AreReadAt}
 use Rattle.spill_tapes.specs.Pages.{PoolState, GivesBack}
 use Rattle.spill_tapes.proofs.PoolLaws.{back, apart_first}
 use Rattle.spill_tapes.proofs.PageLaws.{loaded}

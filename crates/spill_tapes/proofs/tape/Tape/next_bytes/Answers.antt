@@ -5,9 +5,9 @@ use Rattle.spill_tapes.specs.Tape.{TapeState, ahead, HasAhead}
 use Rattle.spill_tapes.proofs.PoolLaws.{gives_none}
 use Rattle.spill_tapes.proofs.PageLaws.{same_ahead}
 use Rattle.spill_tapes.proofs.HeaderLaws.{bytes_given}
-use Rattle.spill_tapes.specs.Errors.{disk_faults}
-use Rattle.spill_tapes.specs.DiskLaws.{reads_none}
-use Rattle.spill_tapes.specs.Disk.{OnlyReads}
+use Rattle.tape_disks.specs.Errors.{disk_faults}
+use Rattle.tape_disks.specs.DiskLaws.{reads_none}
+use Rattle.tape_disks.specs.Disk.{OnlyReads}
 use Rattle.spill_tapes.proofs.tape.Tape.next_bytes.Goals as goal
 
 pub returns-in_err-reserve-clause-pages : goal.returns-in_err-reserve-clause-pages

@@ -5,8 +5,8 @@ use Rattle.spill_tapes.specs.Records.{number_at}
 use Rattle.spill_tapes.specs.Tape.{TapeState, HasAhead, ahead}
 use Rattle.spill_tapes.proofs.PageLaws.{same_ahead}
 use Rattle.spill_tapes.proofs.HeaderLaws.{after_header}
-use Rattle.spill_tapes.specs.Errors.{disk_faults}
-use Rattle.spill_tapes.specs.Disk.{OnlyReads}
+use Rattle.tape_disks.specs.Errors.{disk_faults}
+use Rattle.tape_disks.specs.Disk.{OnlyReads}
 use Rattle.spill_tapes.proofs.tape.Tape.next_header.Goals as goal
 
 pub fill-requires : goal.fill-requires

@@ -6,8 +6,8 @@ use Rattle.spill_tapes.specs.Tape.{TapeState, IsGoodIn}
 use Rattle.spill_tapes.proofs.PoolLaws.{gives_none, gives_twice, have_given}
 use Rattle.spill_tapes.proofs.HeaderLaws.{left_front, can_stand, stands, none_left}
 use Rattle.spill_tapes.proofs.Results.{disk_undamaged, disk_alive, disk_fault}
-use Rattle.spill_tapes.specs.Disk.{OnlyReads}
-use Rattle.spill_tapes.specs.DiskLaws.{reads_none, reads_twice}
+use Rattle.tape_disks.specs.Disk.{OnlyReads}
+use Rattle.tape_disks.specs.DiskLaws.{reads_none, reads_twice}
 use Rattle.spill_tapes.proofs.tape.Tape.next_record.Goals as goal
 
 pub returns-then-self-eq0 : goal.returns-then-self-eq0

@@ -5,9 +5,9 @@ use Rattle.spill_tapes.specs.Tape.{TapeState}
 use Rattle.spill_tapes.proofs.PageLaws.{buffered}
 use Rattle.spill_tapes.proofs.PoolLaws.{takes_none}
 use Rattle.spill_tapes.proofs.TapeLaws.{same_now}
-use Rattle.spill_tapes.specs.Errors.{disk_faults}
-use Rattle.spill_tapes.specs.DiskLaws.{leaves_none}
-use Rattle.spill_tapes.specs.Disk.{Leaves}
+use Rattle.tape_disks.specs.Errors.{disk_faults}
+use Rattle.tape_disks.specs.DiskLaws.{leaves_none}
+use Rattle.tape_disks.specs.Disk.{Leaves}
 use Rattle.spill_tapes.proofs.tape.Tape.put_page.Goals as goal
 
 pub flush-requires : goal.flush-requires

@@ -5,9 +5,9 @@ use Rattle.spill_tapes.proofs.HeaderLaws.{header_len}
 use Rattle.spill_tapes.proofs.PageLaws.{keeps_twice, written_parts}
 use Rattle.spill_tapes.proofs.PoolLaws.{takes_twice, have_taken}
 use Rattle.spill_tapes.proofs.TapeLaws.{same_twice}
-use Rattle.spill_tapes.specs.Errors.{disk_faults}
-use Rattle.spill_tapes.specs.DiskLaws.{leaves_twice}
-use Rattle.spill_tapes.specs.Disk.{Leaves}
+use Rattle.tape_disks.specs.Errors.{disk_faults}
+use Rattle.tape_disks.specs.DiskLaws.{leaves_twice}
+use Rattle.tape_disks.specs.Disk.{Leaves}
 use Rattle.spill_tapes.proofs.tape.Tape.put_record.Goals as goal
 
 pub put-requires-2 : goal.put-requires-2

@@ -5,7 +5,7 @@ use Rattle.spill_tapes.specs.Tape.{TapeState, tape_len}
 use Rattle.spill_tapes.specs.Tapes.{TapesState, tape_at, phase_of}
 use Rattle.spill_tapes.specs.TapesFields.{tapes_of}
 use Rattle.spill_tapes.specs.declared.tape.Phase.TheVariants.{Written}
-use Rattle.spill_tapes.specs.Disk.{Leaves}
+use Rattle.tape_disks.specs.Disk.{Leaves}
 use Rattle.spill_tapes.proofs.Results.{disk_fault}
 use Rattle.spill_tapes.proofs.TapesLaws.{others_kept, is_writing, written_open, open_within}
 use Rattle.spill_tapes.proofs.Lent.{lent_written, lent_has, put_in, put_are, put_here, put_phases, put_has, lives, dies, refused_by_disk}

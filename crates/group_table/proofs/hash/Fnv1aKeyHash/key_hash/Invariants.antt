@@ -1,6 +1,0 @@
-use Rattle.std.proofs.Common.{◌≡◌, drop}
-use Rattle.group_table.specs.Hashes.{fnv_1a, with_all}
-use Rattle.group_table.proofs.hash.Fnv1aKeyHash.key_hash.Given as goal
-
-abbrev pub invariant-loop-byte : goal.invariant-loop-byte
-invariant-loop-byte l = with_all l.hash (drop l.byte-index l.key) ≡ fnv_1a l.key

@@ -1,6 +1,0 @@
-use Rattle.group_table.specs.SipHashes.{with_word}
-use Rattle.group_table.proofs.sip_hash.with_word.Goals as goal
-
-pub returns : goal.returns
-unfolding with_word
-returns c = simp c.round-v0.ensures

@@ -1,0 +1,8 @@
+//! Hash functions of keys: FNV-1a, which anybody can compute, and SipHash-1-3, whose seed is a secret.
+#![tactic(auto)]
+
+mod hash;
+mod sip_hash;
+
+pub use hash::{Fnv1a, KeyHash};
+pub use sip_hash::{Seed, SipHash};

@@ -1,0 +1,86 @@
+//! A disk that fails once.
+ghost use Rattle.std.specs.Prelude.{◌≡◌, ◌+◌, ◌-◌, ◌==◌, ◌&&◌, ◌||◌, not, cond, false, is_err, IfErr};
+ghost use Rattle.tape_disks.specs.declared.disk.DiskError.TheVariants.{TapeFault};
+
+use crate::disk::{DiskError, TapeDisk};
+use std::marker::Model;
+
+/// A disk of which one call fails, by its number: it answers `TapeFault` and changes nothing. All else is the inner disk's. It
+/// takes no memory of its own, and shows what becomes of a failure wherever one may come.
+#[derive(Drop)]
+pub struct FailDisk<D: TapeDisk + Drop> {
+    inner: D,
+    before: u64,
+    failed: bool,
+}
+
+impl<D: TapeDisk + Drop> Model for FailDisk<D> {
+    ghost use Rattle.tape_disks.specs.Faulty.{FailState};
+
+    ghost Value = { FailState D };
+
+    ghost view = { λ d. record { inner = d.inner; before = d.before; failed = d.failed } };
+}
+
+impl<D: TapeDisk + Drop> FailDisk<D> {
+    /// A disk of which the call number `call` fails, counted from 0 over reads and writes.
+    pub fn new(inner: D, call: u64) -> FailDisk<D>
+        ensures { result ≡ record { inner = inner; before = call; failed = false } }
+    {
+        FailDisk {
+            inner,
+            before: call,
+            failed: false,
+        }
+    }
+
+    /// Whether the call was made that fails.
+    pub fn failed(&self) -> bool
+        ensures { result ≡ self.now.failed }
+    {
+        self.failed
+    }
+
+    /// The disk behind.
+    pub fn inner(&self) -> &D
+        ensures { result.now ≡ self.now.inner }
+    {
+        &self.inner
+    }
+
+    /// Counts a call, and fails it if it is the one.
+    fn count_call(&mut self) -> Result<(), DiskError>
+        ensures due { is_err result ≡ (not self.old.failed && self.old.before == 0) }
+        ensures fault { IfErr result (λ error. error ≡ TapeFault) }
+        ensures failed { self.new.failed ≡ (self.old.failed || is_err result) }
+        ensures counted { self.new.before ≡ self.old.before - 1 }
+        ensures inner { self.new.inner ≡ self.old.inner }
+    {
+        if !self.failed && self.before == 0 {
+            self.failed = true;
+            return Err(DiskError::TapeFault);
+        }
+        self.before = self.before.saturating_sub(1);
+        Ok(())
+    }
+}
+
+impl<D: TapeDisk + Drop> TapeDisk for FailDisk<D> {
+    ghost failures = { λ d. D.TapeDisk.failures d.inner + cond d.failed 1 0 };
+
+    ghost writes = { λ d. D.TapeDisk.writes d.inner };
+
+    ghost honest = { λ d. D.TapeDisk.honest d.inner };
+
+    ghost last = { λ d. D.TapeDisk.last d.inner };
+
+    fn read_at(&mut self, at: u64, bytes: &mut [u8]) -> Result<(), DiskError> {
+        self.count_call()?;
+        self.inner.read_at(at, bytes)
+    }
+
+    fn write_at(&mut self, at: u64, bytes: &[u8]) -> Result<(), DiskError> {
+        self.count_call()?;
+        self.inner.write_at(at, bytes)
+    }
+}

@@ -1,0 +1,76 @@
+//! A disk that flips bits.
+ghost use Rattle.std.specs.Prelude.{◌≡◌, ◌≢◌, ◌+◌, ◌<◌, ◌^◌, ℕ, false, length, get_or};
+ghost use Rattle.tape_disks.specs.Faulty.{flipped};
+
+use crate::disk::{DiskError, TapeDisk};
+use crate::limits::PAGE;
+use std::marker::Model;
+
+/// A disk that gives back other bytes than were written: in all that is read, some bits of one byte of each page of 8,192 bytes
+/// are flipped. All else is the inner disk's. It takes no memory of its own, and isn't honest.
+#[derive(Drop)]
+pub struct FlipDisk<D: TapeDisk + Drop> {
+    inner: D,
+    at: u64,
+    mask: u8,
+}
+
+impl<D: TapeDisk + Drop> Model for FlipDisk<D> {
+    ghost use Rattle.tape_disks.specs.Faulty.{FlipState};
+
+    ghost Value = { FlipState D };
+
+    ghost view = { λ d. record { inner = d.inner; at = d.at; mask = d.mask } };
+}
+
+impl<D: TapeDisk + Drop> FlipDisk<D> {
+    /// A disk of which byte `at` of each page is changed in each read by exclusive or with `mask`.
+    pub fn new(inner: D, at: u64, mask: u8) -> FlipDisk<D>
+        requires place { at < PAGE }
+        requires mask { mask ≢ 0 }
+        ensures { result ≡ record { inner = inner; at = at; mask = mask } }
+    {
+        FlipDisk { inner, at, mask }
+    }
+
+    /// The disk behind.
+    pub fn inner(&self) -> &D
+        ensures { result.now ≡ self.now.inner }
+    {
+        &self.inner
+    }
+}
+
+/// Flips bits of the byte at one place of each page, in bytes that were read from a place on.
+fn flip(at: u64, mask: u8, from: u64, bytes: &mut [u8])
+    requires { from + length bytes.old < 2 ^ 63 }
+    ensures len { length bytes.new ≡ length bytes.old }
+    ensures flipped { (k : ℕ) → k < length bytes.old → get_or bytes.new k 0 ≡ flipped at mask (from + k) (get_or bytes.old k 0) }
+{
+    for offset in 0..bytes.len() {
+        let place = from + offset as u64;
+        if place % PAGE as u64 == at {
+            bytes[offset] ^= mask;
+        }
+    }
+}
+
+impl<D: TapeDisk + Drop> TapeDisk for FlipDisk<D> {
+    ghost failures = { λ d. D.TapeDisk.failures d.inner };
+
+    ghost writes = { λ d. D.TapeDisk.writes d.inner };
+
+    ghost honest = { λ _. false };
+
+    ghost last = { λ d. D.TapeDisk.last d.inner };
+
+    fn read_at(&mut self, at: u64, bytes: &mut [u8]) -> Result<(), DiskError> {
+        self.inner.read_at(at, bytes)?;
+        flip(self.at, self.mask, at, bytes);
+        Ok(())
+    }
+
+    fn write_at(&mut self, at: u64, bytes: &[u8]) -> Result<(), DiskError> {
+        self.inner.write_at(at, bytes)
+    }
+}

@@ -1,0 +1,17 @@
+//! Disks for tapes: what a disk is, one in memory, one in a file, one that fails once and one that flips bits.
+#![tactic(auto)]
+
+mod disk;
+mod fail_disk;
+mod file_disk;
+mod flip_disk;
+pub mod limits;
+mod mem_disk;
+mod spill_disk;
+
+pub use disk::{DiskError, TapeDisk};
+pub use fail_disk::FailDisk;
+pub use file_disk::{FileDisk, WriteFault};
+pub use flip_disk::FlipDisk;
+pub use mem_disk::MemDisk;
+pub use spill_disk::SpillDisk;

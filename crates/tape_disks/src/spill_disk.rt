@@ -1,0 +1,53 @@
+//! The disk that an operator chose.
+ghost use Rattle.std.specs.Prelude.{◌≡◌, min};
+ghost use Rattle.tape_disks.specs.Chosen.{writes_of};
+
+use crate::disk::{DiskError, TapeDisk};
+use crate::file_disk::FileDisk;
+use crate::mem_disk::MemDisk;
+use std::io::{Read, Seek, Write};
+
+/// A disk in memory, or in a file.
+#[derive(Drop)]
+pub enum SpillDisk<F: Read + Write + Seek + Drop> {
+    Memory(MemDisk),
+    File(FileDisk<F>),
+}
+
+impl<F: Read + Write + Seek + Drop> SpillDisk<F> {
+    /// How many writes succeeded, or 2^64 - 1 if that is more.
+    pub fn writes(&self) -> u64
+        ensures { result ≡ min (writes_of self.now) 18446744073709551615 }
+    {
+        match self {
+            SpillDisk::Memory(disk) => disk.writes(),
+            SpillDisk::File(disk) => disk.writes(),
+        }
+    }
+}
+
+impl<F: Read + Write + Seek + Drop> TapeDisk for SpillDisk<F> {
+    ghost use Rattle.tape_disks.specs.Chosen.{failures_of, writes_of, is_honest, is_last};
+
+    ghost failures = { failures_of };
+
+    ghost writes = { writes_of };
+
+    ghost honest = { is_honest };
+
+    ghost last = { is_last };
+
+    fn read_at(&mut self, at: u64, bytes: &mut [u8]) -> Result<(), DiskError> {
+        match self {
+            SpillDisk::Memory(disk) => disk.read_at(at, bytes),
+            SpillDisk::File(disk) => disk.read_at(at, bytes),
+        }
+    }
+
+    fn write_at(&mut self, at: u64, bytes: &[u8]) -> Result<(), DiskError> {
+        match self {
+            SpillDisk::Memory(disk) => disk.write_at(at, bytes),
+            SpillDisk::File(disk) => disk.write_at(at, bytes),
+        }
+    }
+}
