@@ -129,3 +129,6 @@ laid-live blocks ps laid = record { apart = pairwise_filter AreApart _ ps laid.a
 
 -- what one chunk more says
 pub ruleset adding = (added-lives, added-holds, added-keeps)
+
+-- and what other bytes in a chunk say
+pub ruleset rewriting = (rewritten-lives, rewritten-holds, rewritten-keeps)

@@ -1,6 +1,6 @@
 -- A `Generation` after a request was served, or refused.
-use Rattle.std.proofs.Common.{◌≡◌, refl, ℕ, ◌+◌, ◌-◌, ◌<◌, ◌≤◌, Bool, false, List, Option, Some, None, length, get_or, set, sym, ap, ◌∙◌, subst, arith}
-use Rattle.std.specs.Prelude.{is_some, nat_le, IsTrue}
+use Rattle.std.proofs.Common.{◌≡◌, refl, ℕ, ◌+◌, ◌-◌, ◌<◌, ◌≤◌, Bool, false, List, Option, Some, None, Result, Ok, Err, length, get_or, set, sym, ap, ◌∙◌, subst, arith}
+use Rattle.std.specs.Prelude.{is_some, nat_le, IsTrue, IsErrAnd, IfErr}
 use Rattle.std.proofs.lemmas.Bool.{leb-true}
 use Rattle.chunk_layout.specs.Every.{Every}
 use Rattle.chunk_layout.specs.Pieces.{Piece}
@@ -12,6 +12,7 @@ use Rattle.chunk_contexts.specs.Chunks.{Adds, IsRefused, chunk_of}
 use Rattle.chunk_contexts.specs.Rooms.{rounded, over_most}
 use Rattle.chunk_contexts.specs.Run.{run_of, run_growth, run_growth_by, run_taken, RunState, IsBlockOf, IsRun}
 use Rattle.chunk_contexts.specs.Generation.{IsCounted}
+use Rattle.chunk_contexts.proofs.Growth.{refused-none}
 use Rattle.chunk_contexts.proofs.GenLaws.{made-low, counted-made}
 use Rattle.chunk_contexts.specs.declared.rooms.TheConstants.{BLOCK}
 
@@ -51,12 +52,13 @@ pub counted-longer : (r : Runs) (cs ds : List ℕ) → IsCounted r cs → ((bloc
 counted-longer r cs ds is same longer = record { run = is.run; places = is.places; counts = λ block. same block ∙ is.counts block; long = omega (arith, is.long, longer); few = is.few; left = is.left }
 
 -- where a chunk is not counted for want of memory, blocks were to grow
-pub refused-count : (s t : RunState) (n : ℕ) (e : ContextError) → s ≡ t → 0 < run_growth 8 s n → e ≡ NoMemory → IsRefused (over_most n) (run_growth 8 t n) e
-refused-count s t n e same grows is = subst (λ (s : RunState). IsRefused (over_most n) (run_growth 8 s n) e) same (by (over_most n) refl)
+pub refused-count : {X : Type 0} (result : Result X ContextError) (s t : RunState) (n : ℕ) → IsErrAnd result (λ e. e ≡ NoMemory) → s ≡ t → 0 < run_growth 8 s n → IfErr result (IsRefused (over_most n) (run_growth 8 t n))
+refused-count result s t n is same grows = subst (λ (s : RunState). IfErr result (IsRefused (over_most n) (run_growth 8 s n))) same (refused-none result (over_most n) (run_growth 8 s n) is (by (over_most n) refl) grows)
   where
-    by : (o : Option ContextError) → over_most n ≡ o → IsRefused o (run_growth 8 s n) e
-    by None none = (is, grows)
+    by : (o : Option ContextError) → over_most n ≡ o → over_most n ≡ None
+    by None none = none
     by (Some refusal) over = absurd (omega (arith, grows, ap (λ (o : Option ContextError). run_growth_by (is_some o) (nat_le (8 + rounded n) BLOCK) (nat_le (8 + rounded n) s.left) (8 + rounded n)) over))
 
-pub refused-as : (s t : RunState) (n : ℕ) (e f : ContextError) → s ≡ t → e ≡ f → IsRefused (over_most n) (run_growth 8 s n) f → IsRefused (over_most n) (run_growth 8 t n) e
-refused-as s t n e f same is refused = subst (λ (s : RunState). IsRefused (over_most n) (run_growth 8 s n) e) same (subst (IsRefused (over_most n) (run_growth 8 s n)) (sym is) refused)
+pub refused-as : {X : Type 0} (result : Result X ContextError) (s t : RunState) (n : ℕ) (f : ContextError) → IsErrAnd result (λ e. e ≡ f) → s ≡ t → IsRefused (over_most n) (run_growth 8 s n) f → IfErr result (IsRefused (over_most n) (run_growth 8 t n))
+refused-as (Ok x) s t n f is same refused = tt
+refused-as (Err e) s t n f is same refused = subst (λ (s : RunState). IsRefused (over_most n) (run_growth 8 s n) e) same (subst (IsRefused (over_most n) (run_growth 8 s n)) (sym is) refused)

@@ -1,6 +1,6 @@
 -- What a context takes of blocks, and why it refuses a request.
 use Rattle.std.proofs.Common.{◌≡◌, ℕ, zero, suc, Bool, List, [], ◌∷◌, length, get_or, cond, set, refl, ◌+◌, ◌<◌, ◌≤◌, false, sym, ap, subst, ◌∙◌, arith}
-use Rattle.std.specs.Prelude.{unwrap_or, replicate, nat_le, nat_lt, is_some, Option, Some, None, true}
+use Rattle.std.specs.Prelude.{unwrap_or, replicate, nat_le, nat_lt, is_some, Option, Some, None, true, Result, Ok, Err, IsErrAnd, IfErr}
 use Rattle.std.proofs.lemmas.Bool.{le-leb, lt-leb, le-ltb, cond-false, cond-true}
 use Rattle.chunk_layout.specs.Pieces.{total, only}
 use Rattle.chunk_layout.specs.NumberLaws.{total-set_none}
@@ -14,11 +14,13 @@ use Rattle.chunk_contexts.specs.Set.{SetState, set_growth, growth_by, set_room, 
 use Rattle.chunk_contexts.specs.declared.rooms.TheConstants.{BLOCK, LARGEST, MOST}
 
 -- why a request is refused, and why a chunk is not resized
-pub refused-some : (o : Option ContextError) (growth : ℕ) (e f : ContextError) → o ≡ Some f → e ≡ f → IsRefused o growth e
-refused-some o growth e f over is = subst (λ (o : Option ContextError). IsRefused o growth e) (sym over) is
+pub refused-some : {X : Type 0} (result : Result X ContextError) (o : Option ContextError) (growth : ℕ) (f : ContextError) → IsErrAnd result (λ e. e ≡ f) → o ≡ Some f → IfErr result (IsRefused o growth)
+refused-some (Ok x) o growth f is over = tt
+refused-some (Err e) o growth f is over = subst (λ (o : Option ContextError). IsRefused o growth e) (sym over) is
 
-pub refused-none : (o : Option ContextError) (growth : ℕ) (e : ContextError) → o ≡ None → e ≡ NoMemory → 0 < growth → IsRefused o growth e
-refused-none o growth e none is grows = subst (λ (o : Option ContextError). IsRefused o growth e) (sym none) (is, grows)
+pub refused-none : {X : Type 0} (result : Result X ContextError) (o : Option ContextError) (growth : ℕ) → IsErrAnd result (λ e. e ≡ NoMemory) → o ≡ None → 0 < growth → IfErr result (IsRefused o growth)
+refused-none (Ok x) o growth is none grows = tt
+refused-none (Err e) o growth is none grows = subst (λ (o : Option ContextError). IsRefused o growth e) (sym none) (is, grows)
 
 pub resize-some : (o : Option ContextError) (growth room n : ℕ) (e f : ContextError) → o ≡ Some f → e ≡ f → IsResizeRefused true o growth room n e
 resize-some o growth room n e f over is = subst (λ (o : Option ContextError). IsResizeRefused true o growth room n e) (sym over) is

@@ -1,17 +1,16 @@
 -- Blocks that are taken for chunks which lie one after the other.
 use Rattle.std.proofs.Common.{◌≡◌, ◌≢◌, ℕ, ◌+◌, ◌<◌, ◌≤◌, inl, true, false, List, [], ◌∷◌, Option, None, length, get_or, sym, ap, ◌∙◌, subst, arith}
 use Rattle.std.specs.Prelude.{IsTrue, is_some, unwrap_or}
-use Rattle.std.proofs.lemmas.Bool.{false≢true}
 use Rattle.chunk_layout.specs.Every.{Every}
 use Rattle.chunk_layout.specs.Pieces.{Layout, Piece, has, with_piece, with_block, size_at, total, IsClear}
 use Rattle.chunk_layout.specs.declared.place.Place.{Place}
 use Rattle.chunk_layout.specs.ListLaws.{every_weaker}
-use Rattle.chunk_layout.specs.NumberLaws.{with_block-here, with_block-other, total-with_block}
+use Rattle.chunk_layout.specs.NumberLaws.{with_block-here, total-with_block}
 use Rattle.chunk_layout.specs.PieceLaws.{without-none}
 use Rattle.chunk_contexts.specs.declared.runs.Runs.{Runs}
 use Rattle.chunk_contexts.specs.Run.{IsRun}
 use Rattle.chunk_contexts.proofs.CutLaws.{none-at}
-use Rattle.chunk_contexts.proofs.SetLaws.{some-block}
+use Rattle.chunk_contexts.proofs.SetLaws.{some-block, not-new, same-others}
 
 module _ (head : ℕ) (r : Runs) (is : IsRun head r) (b size : ℕ) (none : get_or r.layout.blocks b None ≡ None) (low : b ≤ length r.layout.blocks) (name : b < 4294967296) where
   abbrev l : Layout
@@ -23,18 +22,12 @@ module _ (head : ℕ) (r : Runs) (is : IsRun head r) (b size : ℕ) (none : get_
   abbrev blocks' : List (Option ℕ)
   blocks' = with_block l.blocks b size
 
-  not-none : (c : ℕ) → IsTrue (is_some (get_or l.blocks c None)) → c ≢ b
-  not-none c some e = false≢true (sym (ap is_some (ap (λ (k : ℕ). get_or l.blocks k None) e ∙ none)) ∙ some)
-
-  same-block : (c : ℕ) → IsTrue (is_some (get_or l.blocks c None)) → get_or blocks' c None ≡ get_or l.blocks c None
-  same-block c some = with_block-other l.blocks b c size low (not-none c some)
-
   elsewhere : Every (λ (q : Piece). q.place.block ≢ b) ps
-  elsewhere = every_weaker (λ (q : Piece). IsTrue (is_some (get_or l.blocks q.place.block None))) (λ (q : Piece). q.place.block ≢ b) (λ q g. not-none q.place.block g) ps is.there
+  elsewhere = every_weaker (λ (q : Piece). IsTrue (is_some (get_or l.blocks q.place.block None))) (λ (q : Piece). q.place.block ≢ b) (λ q g. not-new l.blocks b none q.place.block g) ps is.there
 
   still-there : Every (λ (q : Piece). IsTrue (is_some (get_or blocks' q.place.block None))) ps
   still-there = every_weaker (λ (q : Piece). IsTrue (is_some (get_or l.blocks q.place.block None))) (λ (q : Piece). IsTrue (is_some (get_or blocks' q.place.block None)))
-      (λ q g. subst (λ (o : Option ℕ). IsTrue (is_some o)) (sym (same-block q.place.block g)) g) ps is.there
+      (λ q g. subst (λ (o : Option ℕ). IsTrue (is_some o)) (sym (same-others l.blocks b size none low q.place.block g)) g) ps is.there
 
   pub taken-size : size_at blocks' b ≡ size
   taken-size = ap (λ (o : Option ℕ). unwrap_or o 0) (with_block-here l.blocks b size low)
@@ -60,11 +53,11 @@ module _ (head : ℕ) (r : Runs) (is : IsRun head r) (b size : ℕ) (none : get_
     own-run m made = subst (λ (z : Layout). IsRun head (record { layout = z; active = r.active })) (sym made) (record {
       head = is.head;
       rest = record {
-        size = λ some'. is.rest.size some' ∙ ap (λ (o : Option ℕ). unwrap_or o 0) (sym (same-block r.active.block (active-some some')));
+        size = λ some'. is.rest.size some' ∙ ap (λ (o : Option ℕ). unwrap_or o 0) (sym (same-others l.blocks b size none low r.active.block (active-some some')));
         used = is.rest.used;
         bound = is.rest.bound;
         block = is.rest.block;
-        clear = (λ some' e. absurd (not-none r.active.block (active-some some') (sym e)), is.rest.clear);
+        clear = (λ some' e. absurd (not-new l.blocks b none r.active.block (active-some some') (sym e)), is.rest.clear);
         rooms = (some, is.rest.rooms);
       };
       there = (ap is_some (with_block-here l.blocks b size low), still-there);

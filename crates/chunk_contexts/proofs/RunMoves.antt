@@ -10,7 +10,7 @@ use Rattle.chunk_layout.specs.ListLaws.{every_filter, first_has, first_passes}
 use Rattle.chunk_layout.specs.FindingLaws.{same-place, place-same}
 use Rattle.chunk_layout.specs.PieceLaws.{has-first, piece_at-first, without-first, without-none}
 use Rattle.chunk_contexts.specs.declared.runs.Runs.{Runs}
-use Rattle.chunk_contexts.specs.Run.{RunState, run_taken, run_taken_by, run_put, IsRun}
+use Rattle.chunk_contexts.specs.Run.{RunState, run_of, run_taken, run_taken_by, run_put, run_wrote, IsRun}
 
 -- what holds of a chunk by its place and room
 pub every-put : (P : Piece → Type 0) → ((p q : Piece) → p.place ≡ q.place → p.room ≡ q.room → P p → P q) → (ps : List Piece) (place : Place) → has ps place ≡ true → (q : Piece) → place ≡ q.place → (piece_at ps place).room ≡ q.room
@@ -36,35 +36,38 @@ module _ (head : ℕ) (r : Runs) (is : IsRun head r) where
   there-by : (p q : Piece) → p.place ≡ q.place → p.room ≡ q.room → IsTrue (is_some (get_or r.layout.blocks p.place.block None)) → IsTrue (is_some (get_or r.layout.blocks q.place.block None))
   there-by p q at room h = subst (λ (x : Place). IsTrue (is_some (get_or r.layout.blocks x.block None))) at h
 
-  pub run-put : (place : Place) → has r.layout.pieces place ≡ true → (kept : ℕ) (bytes : List ℕ) (m : Layout) → m ≡ put_at r.layout place kept bytes true → IsRun head (record { layout = m; active = r.active })
-  run-put place there kept bytes m made =
-      let q : Piece = record { place = place; room = (piece_at r.layout.pieces place).room; is_live = true; bytes = take kept (piece_at r.layout.pieces place).bytes ++ bytes } in
-      subst (λ (z : Layout). IsRun head (record { layout = z; active = r.active })) (sym made) (record {
-        head = is.head;
-        rest = record {
-          size = is.rest.size;
-          used = is.rest.used;
-          bound = is.rest.bound;
-          block = is.rest.block;
-          clear = every-put (λ (p : Piece). 0 < r.active.size → p.place.block ≡ r.active.block → p.place.offset + p.room ≤ r.active.used) clear-by r.layout.pieces place there q refl refl is.rest.clear;
-          rooms = every-put (λ (p : Piece). 1 ≤ p.room) rooms-by r.layout.pieces place there q refl refl is.rest.rooms;
-        };
-        there = every-put (λ (p : Piece). IsTrue (is_some (get_or r.layout.blocks p.place.block None))) there-by r.layout.pieces place there q refl refl is.there;
-      })
-
-  pub run-lent : (place : Place) (ws : List ℕ) → IsRun head (record { layout = layout_with r.layout place ws; active = r.active })
-  run-lent place ws = record {
+  -- pieces with the same places and rooms
+  with-pieces : (ps : List Piece) → ((P : Piece → Type 0) → ((p q : Piece) → p.place ≡ q.place → p.room ≡ q.room → P p → P q) → Every P r.layout.pieces → Every P ps)
+      → IsRun head (record { layout = record { head = r.layout.head; blocks = r.layout.blocks; pieces = ps }; active = r.active })
+  with-pieces ps every = record {
     head = is.head;
     rest = record {
       size = is.rest.size;
       used = is.rest.used;
       bound = is.rest.bound;
       block = is.rest.block;
-      clear = every-rewritten (λ (p : Piece). 0 < r.active.size → p.place.block ≡ r.active.block → p.place.offset + p.room ≤ r.active.used) clear-by r.layout.pieces place ws is.rest.clear;
-      rooms = every-rewritten (λ (p : Piece). 1 ≤ p.room) rooms-by r.layout.pieces place ws is.rest.rooms;
+      clear = every (λ (p : Piece). 0 < r.active.size → p.place.block ≡ r.active.block → p.place.offset + p.room ≤ r.active.used) clear-by is.rest.clear;
+      rooms = every (λ (p : Piece). 1 ≤ p.room) rooms-by is.rest.rooms;
     };
-    there = every-rewritten (λ (p : Piece). IsTrue (is_some (get_or r.layout.blocks p.place.block None))) there-by r.layout.pieces place ws is.there;
+    there = every (λ (p : Piece). IsTrue (is_some (get_or r.layout.blocks p.place.block None))) there-by is.there;
   }
+
+  pub run-put : (place : Place) → has r.layout.pieces place ≡ true → (kept : ℕ) (bytes : List ℕ) (m : Layout) → m ≡ put_at r.layout place kept bytes true → IsRun head (record { layout = m; active = r.active })
+  run-put place there kept bytes m made =
+      let q : Piece = record { place = place; room = (piece_at r.layout.pieces place).room; is_live = true; bytes = take kept (piece_at r.layout.pieces place).bytes ++ bytes } in
+      subst (λ (z : Layout). IsRun head (record { layout = z; active = r.active })) (sym made)
+      (with-pieces (q ∷ without r.layout.pieces place) (λ P by every. every-put P by r.layout.pieces place there q refl refl every))
+
+  pub run-lent : (place : Place) (ws : List ℕ) → IsRun head (record { layout = layout_with r.layout place ws; active = r.active })
+  run-lent place ws = with-pieces (rewritten r.layout.pieces place ws) (λ P by every. every-rewritten P by r.layout.pieces place ws every)
+
+-- the bytes of a chunk, and what the state is with others in it
+module _ (r : Runs) (s : RunState) (view : run_of r ≡ s) (place at : Place) (is : at ≡ place) where
+  pub run-bytes : (piece_at r.layout.pieces at).bytes ≡ (piece_at s.chunks place).bytes
+  run-bytes = ap (λ (p : Place). (piece_at r.layout.pieces p).bytes) is ∙ ap (λ (z : RunState). (piece_at z.chunks place).bytes) view
+
+  pub run-wrote : (w : List ℕ) → run_wrote (run_of r) at w ≡ run_wrote s place w
+  run-wrote w = ap (λ (p : Place). run_wrote (run_of r) p w) is ∙ ap (λ (z : RunState). run_wrote z place w) view
 
 -- ---- a request is served, and other bytes are written to its chunk
 chunks-by : (a b : Bool) (size : ℕ) (s : RunState) (p : Piece) → (run_taken_by a b size s p).chunks ≡ p ∷ s.chunks

@@ -30,6 +30,13 @@ some-block blocks b big = by-option (get_or blocks b None) big
     by-option None low = absurd (omega (arith, low))
     by-option (Some n) low = refl
 
+-- the blocks that are there are others than a new one, and stay
+pub not-new : (blocks : List (Option ℕ)) (b : ℕ) → get_or blocks b None ≡ None → (c : ℕ) → IsTrue (is_some (get_or blocks c None)) → c ≢ b
+not-new blocks b none c some e = false≢true (sym (ap is_some (ap (λ (k : ℕ). get_or blocks k None) e ∙ none)) ∙ some)
+
+pub same-others : (blocks : List (Option ℕ)) (b size : ℕ) → get_or blocks b None ≡ None → b ≤ length blocks → (c : ℕ) → IsTrue (is_some (get_or blocks c None)) → get_or (with_block blocks b size) c None ≡ get_or blocks c None
+same-others blocks b size none low c some = with_block-other blocks b c size low (not-new blocks b none c some)
+
 pub alone-sym : (p q : Piece) → Alone p q → Alone q p
 alone-sym p q a h e = a (elim h [ inl x ↦ inr x | inr y ↦ inl y ]) (sym e)
 
@@ -212,24 +219,18 @@ module _ (l : Layout) (heads : List (Option Place)) (active : Active) (first : O
     abbrev blocks' : List (Option ℕ)
     blocks' = with_block l.blocks b size
 
-    not-none : (c : ℕ) → IsTrue (is_some (get_or l.blocks c None)) → c ≢ b
-    not-none c some e = false≢true (sym (ap is_some (ap (λ (k : ℕ). get_or l.blocks k None) e ∙ none)) ∙ some)
-
-    same-block : (c : ℕ) → IsTrue (is_some (get_or l.blocks c None)) → get_or blocks' c None ≡ get_or l.blocks c None
-    same-block c some = with_block-other l.blocks b c size low (not-none c some)
-
     active-some : 0 < active.size → IsTrue (is_some (get_or l.blocks active.block None))
     active-some some = some-block l.blocks active.block (omega (arith, is.size some, some))
 
     pub elsewhere-all : Every (λ (q : Piece). q.place.block ≢ b) ps
-    elsewhere-all = every_weaker (IsSetPiece l.blocks active first) (λ (q : Piece). q.place.block ≢ b) (λ q g. not-none q.place.block g.there) ps is.good
+    elsewhere-all = every_weaker (IsSetPiece l.blocks active first) (λ (q : Piece). q.place.block ≢ b) (λ q g. not-new l.blocks b none q.place.block g.there) ps is.good
 
     pub size-here : size_at blocks' b ≡ size
     size-here = ap (λ (o : Option ℕ). unwrap_or o 0) (with_block-here l.blocks b size low)
 
     pub rest-taken : IsRest (record { head = l.head; blocks = blocks'; pieces = ps }) active
     rest-taken = let r = set-rest in record {
-      size = λ some. is.size some ∙ ap (λ (o : Option ℕ). unwrap_or o 0) (sym (same-block active.block (active-some some)));
+      size = λ some. is.size some ∙ ap (λ (o : Option ℕ). unwrap_or o 0) (sym (same-others l.blocks b size none low active.block (active-some some)));
       used = r.used;
       bound = r.bound;
       block = r.block;
@@ -238,7 +239,7 @@ module _ (l : Layout) (heads : List (Option Place)) (active : Active) (first : O
     }
 
     start-kept : (f : ℕ) → first ≡ Some f → IsTrue (is_some (get_or blocks' f None)) × (size_at blocks' f ≤ 1048576)
-    start-kept f e = let h = is.start f e in let other = same-block f h.0 in (subst (λ (o : Option ℕ). IsTrue (is_some o)) (sym other) h.0, subst (λ (o : Option ℕ). unwrap_or o 0 ≤ 1048576) (sym other) h.1)
+    start-kept f e = let h = is.start f e in let other = same-others l.blocks b size none low f h.0 in (subst (λ (o : Option ℕ). IsTrue (is_some o)) (sym other) h.0, subst (λ (o : Option ℕ). unwrap_or o 0 ≤ 1048576) (sym other) h.1)
 
     -- for a chunk of its own
     module _ (room : ℕ) (big : LARGEST < room) where
@@ -270,18 +271,18 @@ module _ (l : Layout) (heads : List (Option Place)) (active : Active) (first : O
             good = (
               record {
                 there = ap is_some (with_block-here l.blocks b size low);
-                used = λ some e. absurd (not-none active.block (active-some some) (sym e));
+                used = λ some e. absurd (not-new l.blocks b none active.block (active-some some) (sym e));
                 small = λ small. absurd (omega (arith, small, big));
-                large = λ _. (refl, (λ some e. not-none active.block (active-some some) (sym e), λ e. not-none b (is.start b e).0 refl));
+                large = λ _. (refl, (λ some e. not-new l.blocks b none active.block (active-some some) (sym e), λ e. not-new l.blocks b none b (is.start b e).0 refl));
               },
               every_weaker (IsSetPiece l.blocks active first) (IsSetPiece blocks' active first) (λ q g. record {
-                there = subst (λ (o : Option ℕ). IsTrue (is_some o)) (sym (same-block q.place.block g.there)) g.there;
+                there = subst (λ (o : Option ℕ). IsTrue (is_some o)) (sym (same-others l.blocks b size none low q.place.block g.there)) g.there;
                 used = g.used;
                 small = g.small;
                 large = g.large;
               }) ps is.good,
             );
-            size = λ some. is.size some ∙ ap (λ (o : Option ℕ). unwrap_or o 0) (sym (same-block active.block (active-some some)));
+            size = λ some. is.size some ∙ ap (λ (o : Option ℕ). unwrap_or o 0) (sym (same-others l.blocks b size none low active.block (active-some some)));
             used = is.used;
             bound = is.bound;
             block = is.block;
@@ -301,14 +302,14 @@ module _ (l : Layout) (heads : List (Option Place)) (active : Active) (first : O
 
       good-next : (q : Piece) → IsTrue (is_some (get_or l.blocks q.place.block None)) → (q.room ≤ LARGEST → IsTrue (is_in q.room rooms)) → (LARGEST < q.room → (q.is_live ≡ true) × (first ≢ Some q.place.block)) → IsSetPiece blocks' next first' q
       good-next q there small large = record {
-        there = subst (λ (o : Option ℕ). IsTrue (is_some o)) (sym (same-block q.place.block there)) there;
-        used = λ _ e. absurd (not-none q.place.block there e);
+        there = subst (λ (o : Option ℕ). IsTrue (is_some o)) (sym (same-others l.blocks b size none low q.place.block there)) there;
+        used = λ _ e. absurd (not-new l.blocks b none q.place.block there e);
         small = small;
-        large = λ big. ((large big).0, (λ _. not-none q.place.block there, not-first first (large big).1));
+        large = λ big. ((large big).0, (λ _. not-new l.blocks b none q.place.block there, not-first first (large big).1));
       }
         where
           not-first : (f : Option ℕ) → f ≢ Some q.place.block → or_first f b ≢ Some q.place.block
-          not-first None ne e = not-none q.place.block there (some-eq b q.place.block e)
+          not-first None ne e = not-new l.blocks b none q.place.block there (some-eq b q.place.block e)
             where
               some-eq : (x y : ℕ) → Some x ≡ Some y → y ≡ x
               some-eq x y same = cc

@@ -3,13 +3,14 @@ use Rattle.std.proofs.Common.{◌≡◌, ℕ, ◌+◌, ◌-◌, ◌<◌, ◌≤�
 use Rattle.std.specs.Prelude.{IsTrue, is_some, nat_lt}
 use Rattle.std.proofs.lemmas.Bool.{lt-ltb, le-ltb, cond-true, cond-false, cases_lt, false≢true}
 use Rattle.std.proofs.lemmas.List.{get_or_past}
-use Rattle.chunk_layout.specs.Pieces.{Layout, Piece, has, is_at, piece_at, no_piece, without, outside, put_at, total, with_block}
+use Rattle.chunk_layout.specs.Pieces.{Layout, Piece, has, is_at, piece_at, place_of, no_piece, without, outside, put_at, resized, total, with_block}
 use Rattle.chunk_layout.specs.declared.place.Place.{Place}
+use Rattle.chunk_layout.specs.declared.place.ChunkName.{ChunkName}
 use Rattle.chunk_layout.specs.ListLaws.{first_has, first_passes}
 use Rattle.chunk_layout.specs.FindingLaws.{same-place}
 use Rattle.chunk_layout.specs.NumberLaws.{total-with_block}
 use Rattle.chunk_layout.specs.Every.{Every}
-use Rattle.chunk_contexts.specs.Chunks.{live}
+use Rattle.chunk_contexts.specs.Chunks.{live, is_live, bytes_of}
 use Rattle.chunk_contexts.specs.Rooms.{rooms}
 use Rattle.chunk_contexts.specs.Free.{by_room, is_in, free_rooms, first_free, AreLists}
 use Rattle.chunk_layout.specs.Links.{link_bytes}
@@ -17,6 +18,7 @@ use Rattle.chunk_contexts.specs.Set.{SetState, set_put, set_freed}
 use Rattle.chunk_contexts.specs.SetFields.{set_of, IsSet, IsSetPiece, AreFields}
 use Rattle.chunk_contexts.specs.declared.free_lists.FreeLists.{FreeLists}
 use Rattle.chunk_contexts.specs.declared.alloc_set.AllocSet.TheInside.{Inside}
+use Rattle.chunk_contexts.proofs.Content.{name-there, name-len}
 use Rattle.chunk_contexts.proofs.FreeLaws.{IsLiveAt, LiveAt, live-found, live-without, free_rooms-kept}
 use Rattle.chunk_contexts.proofs.ListLaws.{lists-put, live-put, rooms-put, live-released, rooms-released}
 use Rattle.chunk_contexts.proofs.SetLaws.{set-put, set-back, outside-is}
@@ -134,6 +136,35 @@ module _ (x : Inside) (ok : AreFields x) (s : SetState) (e : set_of x ≡ s) (pl
         let blocks = ap (λ (z : Layout). z.blocks) is ∙ sym (cond-true (nat_lt LARGEST (piece_at (live ps) place).room) (set l.blocks place.block None) l.blocks large) in
         (λ i. record { chunks = chunks i; blocks = blocks i; free = (free ∙ sym (cond-true (nat_lt LARGEST (piece_at (live ps) place).room) (free_rooms ps) ((piece_at (live ps) place).room ∷ free_rooms ps) large)) i; left = x.active.size - x.active.used; next = x.next; first = x.first })
         ∙ ap (λ (z : SetState). set_freed z place) e
+
+-- the bytes of one chunk, made shorter or longer, are put into another, or into the same
+module _ (x : Inside) (ok : AreFields x) (s : SetState) (e : set_of x ≡ s) (from : Place) (there : IsTrue (has s.chunks from)) (to : Place) (to_there : IsTrue (has s.chunks to)) (n : ℕ) (m : Layout)
+    (is : m ≡ put_at x.lists.layout to 0 (resized (piece_at x.lists.layout.pieces from).bytes n) true) where
+  put : m ≡ put_at x.lists.layout to 0 (resized (piece_at s.chunks from).bytes n) true
+  put = is ∙ ap (λ (p : Piece). put_at x.lists.layout to 0 (resized p.bytes n) true) (seen x ok s e from there)
+
+  pub fields-resized : AreFields (record { lists = record { layout = m; heads = x.lists.heads }; active = x.active; next = x.next; first = x.first })
+  fields-resized = fields-put x ok s e to to_there 0 (resized (piece_at s.chunks from).bytes n) m put
+
+  pub state-resized : set_of (record { lists = record { layout = m; heads = x.lists.heads }; active = x.active; next = x.next; first = x.first }) ≡ set_put s to (resized (piece_at s.chunks from).bytes n)
+  state-resized = state-put x ok s e to to_there 0 (resized (piece_at s.chunks from).bytes n) m put
+
+-- a live chunk, at the place that was asked of its name
+module _ (x : Inside) (ok : AreFields x) (s : SetState) (e : set_of x ≡ s) (name : ChunkName) (lives : IsTrue (is_live s.chunks name)) (at : Place) (is : at ≡ place_of name) where
+  there : IsTrue (has s.chunks (place_of name))
+  there = name-there s.chunks name lives
+
+  pub asked-there : IsTrue (has x.lists.layout.pieces at)
+  asked-there = subst (λ (p : Place). IsTrue (has x.lists.layout.pieces p)) (sym is) (seen-there x ok s e (place_of name) there)
+
+  asked-piece : piece_at x.lists.layout.pieces at ≡ piece_at s.chunks (place_of name)
+  asked-piece = ap (λ (p : Place). piece_at x.lists.layout.pieces p) is ∙ seen x ok s e (place_of name) there
+
+  pub asked-len : length (piece_at x.lists.layout.pieces at).bytes ≡ name.len
+  asked-len = ap (λ (p : Piece). length p.bytes) asked-piece ∙ name-len s.chunks name lives
+
+  pub asked-bytes : (piece_at x.lists.layout.pieces at).bytes ≡ bytes_of s.chunks name
+  asked-bytes = ap (λ (p : Piece). p.bytes) asked-piece
 
 -- a block more
 pub total-taken : (s : SetState) (l t : Layout) (b size : ℕ) → l.blocks ≡ s.blocks → get_or l.blocks b None ≡ None → t.blocks ≡ with_block l.blocks b size → total t.blocks ≡ total s.blocks + size

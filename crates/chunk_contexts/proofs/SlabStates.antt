@@ -1,5 +1,5 @@
 -- The state of a slab after a chunk is taken.
-use Rattle.std.proofs.Common.{◌≡◌, ℕ, ◌+◌, true, false, List, [], ◌∷◌, None, length, get_or, cond, sym, ap, ◌∙◌}
+use Rattle.std.proofs.Common.{◌≡◌, ℕ, ◌+◌, true, false, List, [], ◌∷◌, None, length, get_or, cond, refl, sym, ap, ◌∙◌}
 use Rattle.std.proofs.lemmas.Bool.{cond-true, cond-false}
 use Rattle.chunk_layout.specs.Pieces.{Layout, Piece, has, piece_at, place_of, without, put_at, total, with_block}
 use Rattle.chunk_layout.specs.declared.place.Place.{Place}
@@ -9,10 +9,10 @@ use Rattle.chunk_layout.specs.NumberLaws.{total-with_block}
 use Rattle.chunk_layout.specs.PieceLaws.{has-first, without-first, without-none}
 use Rattle.chunk_contexts.specs.Chunks.{live, chunk_of, Adds}
 use Rattle.chunk_contexts.specs.Rooms.{rounded}
-use Rattle.chunk_contexts.specs.Slab.{SlabState, slab_block, has_spare, slab_grows, slab_taken, slab_of, IsSlab}
+use Rattle.chunk_contexts.specs.Slab.{SlabState, slab_block, has_spare, slab_grows, slab_taken, slab_of, AreChunks, IsSlab}
 use Rattle.chunk_contexts.specs.declared.slab_chunks.SlabChunks.{SlabChunks}
 use Rattle.chunk_contexts.proofs.FreeLaws.{live-without}
-use Rattle.chunk_contexts.proofs.SlabMoves.{live-there, live-room}
+use Rattle.chunk_contexts.proofs.SlabMoves.{live-there, live-room, slab-written}
 
 -- a chunk comes from a block that has a free one
 module _ (s : SlabState) (p : Piece) (spare : has_spare s ≡ true) where
@@ -46,6 +46,12 @@ module _ (s : SlabState) (spare : has_spare s ≡ false) where
     pub grown-fresh : has g.chunks place ≡ false → has s.chunks place ≡ false
     grown-fresh none = ap (λ (z : SlabState). has z.chunks place) (sym grown) ∙ none
 
+-- a slab with one chunk more, which holds these bytes
+pub record Written (s : SlabState) (t : SlabChunks) (name : ChunkName) (bytes : List ℕ) : Type 0 where
+  pub chunks : AreChunks t
+  pub added : Adds s.chunks (slab_of t).chunks name (rounded s.size) bytes
+  pub taken : slab_of t ≡ slab_taken s (chunk_of name (rounded s.size) bytes)
+
 -- the bytes of a chunk that was made are written
 module _ (s : SlabState) (t : SlabChunks) (is : IsSlab t.size t.per t.layout t.blocks.items t.spare) (place : Place) (fresh : has s.chunks place ≡ false)
     (taken : slab_of t ≡ slab_taken s (record { place = place; room = rounded s.size; is_live = true; bytes = [] })) where
@@ -55,7 +61,7 @@ module _ (s : SlabState) (t : SlabChunks) (is : IsSlab t.size t.per t.layout t.b
   chunks : live t.layout.pieces ≡ p ∷ s.chunks
   chunks = ap (λ (z : SlabState). z.chunks) taken
 
-  pub made-here : has (live t.layout.pieces) place ≡ true
+  made-here : has (live t.layout.pieces) place ≡ true
   made-here = ap (λ (cs : List Piece). has cs place) chunks ∙ has-first p s.chunks place (place-same place)
 
   pub made-there : has t.layout.pieces place ≡ true
@@ -71,20 +77,28 @@ module _ (s : SlabState) (t : SlabChunks) (is : IsSlab t.size t.per t.layout t.b
     abbrev q : Piece
     q = chunk_of name (rounded s.size) bytes
 
-    pub written-chunks : live m.pieces ≡ q ∷ s.chunks
+    written-chunks : live m.pieces ≡ q ∷ s.chunks
     written-chunks =
         ap (λ (z : Layout). live z.pieces) put
         ∙ (λ i. (record { place = place; room = made-room i; is_live = true; bytes = bytes }) ∷ (live-without t.layout.pieces place ∙ ap (λ (cs : List Piece). without cs place) chunks ∙ without-first p s.chunks place (place-same place) ∙ without-none s.chunks place fresh) i)
         ∙ (λ i. (record { place = place_of (sym named i); room = rounded s.size; is_live = true; bytes = bytes }) ∷ s.chunks)
 
-    pub written-state : (u : SlabState) → u ≡ record { size = t.size; chunks = live m.pieces; blocks = m.blocks } → u ≡ slab_taken s q
+    written-state : (u : SlabState) → u ≡ record { size = t.size; chunks = live m.pieces; blocks = m.blocks } → u ≡ slab_taken s q
     written-state u is-u =
         is-u ∙ (λ i. record { size = made-size i; chunks = written-chunks i; blocks = (ap (λ (z : Layout). z.blocks) put ∙ ap (λ (z : SlabState). z.blocks) taken) i })
         ∙ (λ i. record { size = s.size; chunks = q ∷ s.chunks; blocks = cond (has_spare s) s.blocks (with_block s.blocks (sym named i).block (slab_block (rounded s.size))) })
 
-    pub written-added : Adds s.chunks (live m.pieces) name (rounded s.size) bytes
+    written-added : Adds s.chunks (live m.pieces) name (rounded s.size) bytes
     written-added = record {
       len = ap (λ (z : ChunkName). z.len) named;
       fresh = ap (λ (z : ChunkName). has s.chunks (place_of z)) named ∙ fresh;
       chunks = written-chunks;
+    }
+
+    -- all of it
+    pub written : Written s (record { layout = m; blocks = t.blocks; spare = t.spare; size = t.size; per = t.per }) name bytes
+    written = record {
+      chunks = slab-written t.size t.per t.layout t.blocks.items t.spare is place made-here bytes 0 m put;
+      added = written-added;
+      taken = written-state _ refl;
     }

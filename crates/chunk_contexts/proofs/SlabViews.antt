@@ -1,23 +1,25 @@
 -- What the state of a `Slab` says of its fields at a live chunk.
-use Rattle.std.proofs.Common.{◌≡◌, ℕ, ◌-◌, Bool, true, false, List, [], ◌∷◌, ◌++◌, Option, Some, None, append-nil, cond, length, get_or, refl, sym, ap, ◌∙◌, subst, arith}
-use Rattle.std.specs.Prelude.{IsTrue, ◌==◌, is_some}
+use Rattle.std.proofs.Common.{◌≡◌, ℕ, ◌+◌, ◌-◌, ◌<◌, Bool, true, false, List, [], ◌∷◌, ◌++◌, Option, Some, None, Result, append-nil, cond, length, get_or, refl, sym, ap, ◌∙◌, subst, arith}
+use Rattle.std.specs.Prelude.{IsTrue, IsErrAnd, IfErr, ◌==◌, is_some}
 use Rattle.std.proofs.lemmas.Bool.{eqb-true, true≢false}
 use Rattle.std.specs.List.{length_refill}
 use Rattle.std.proofs.lemmas.List.{take_all}
 use Rattle.block_memory.specs.Cells.{zeros}
 use Rattle.chunk_layout.specs.Every.{Every}
-use Rattle.chunk_layout.specs.Pieces.{Piece, is_at, has, piece_at, no_piece, place_of, resized, rewritten, with_bytes_of}
+use Rattle.chunk_layout.specs.Pieces.{Piece, is_at, has, piece_at, no_piece, place_of, resized, rewritten, total, with_bytes_of}
 use Rattle.chunk_layout.specs.declared.place.Place.{Place}
 use Rattle.chunk_layout.specs.declared.place.ChunkName.{ChunkName}
 use Rattle.chunk_layout.specs.ListLaws.{by_cond, first_has, every_filter}
 use Rattle.chunk_layout.specs.FindingLaws.{place-same}
-use Rattle.chunk_contexts.specs.Chunks.{live, is_live, bytes_of, Adds, IsResized}
+use Rattle.chunk_contexts.specs.Chunks.{live, is_live, bytes_of, chunk_of, Adds, IsNewBlock, IsRefused, IsResized}
 use Rattle.chunk_contexts.specs.Rooms.{rounded}
-use Rattle.chunk_contexts.specs.Slab.{SlabState, slab_refusal, slab_refusal_by, slab_grows, slab_growth, slab_of, AreChunks}
+use Rattle.chunk_contexts.specs.Slab.{SlabState, slab_refusal, slab_refusal_by, slab_grows, slab_growth, slab_taken, slab_of, AreChunks}
 use Rattle.chunk_contexts.specs.SlabFields.{slab_state, AreFields}
 use Rattle.chunk_contexts.specs.declared.error.ContextError.{ContextError}
+use Rattle.chunk_contexts.specs.declared.error.ContextError.TheVariants.{NoMemory}
 use Rattle.chunk_contexts.specs.declared.slab_chunks.SlabChunks.{SlabChunks}
 use Rattle.chunk_contexts.specs.declared.slab.Slab.TheInside.{Inside}
+use Rattle.chunk_contexts.proofs.Growth.{refused-some, refused-none}
 use Rattle.chunk_contexts.proofs.FreeLaws.{live-found}
 use Rattle.chunk_contexts.proofs.SlabMoves.{live-there, live-room}
 use Rattle.chunk_contexts.proofs.Content.{name-there, name-len}
@@ -53,6 +55,42 @@ pub added-housed : (t : SlabChunks) (are : AreChunks t) (before : List Piece) (n
 added-housed t are before name room bytes adds =
     let there : Piece → Type 0 = λ p. IsTrue (is_some (get_or t.layout.blocks p.place.block None)) in
     (subst (Every there) adds.chunks (every_filter there (λ p. p.is_live) t.layout.pieces are.layout.there)).0
+
+-- why it refuses
+module _ {X : Type 0} (result : Result X ContextError) (s now : SlabState) (view : s ≡ now) (n : ℕ) where
+  pub refused-size : (f : ContextError) → IsErrAnd result (λ e. e ≡ f) → slab_refusal s n ≡ Some f → IfErr result (IsRefused (slab_refusal now n) (slab_growth now n))
+  refused-size f is over = refused-some result (slab_refusal now n) (slab_growth now n) f is (ap (λ (z : SlabState). slab_refusal z n) (sym view) ∙ over)
+
+  pub refused-memory : IsErrAnd result (λ e. e ≡ NoMemory) → slab_refusal s n ≡ None → 0 < slab_grows s → IfErr result (IsRefused (slab_refusal now n) (slab_growth now n))
+  refused-memory is none some =
+      let admitted : slab_refusal now n ≡ None = ap (λ (z : SlabState). slab_refusal z n) (sym view) ∙ none in
+      let grows = slab-grown now n admitted in
+      let same = ap slab_grows view in
+      refused-none result (slab_refusal now n) (slab_growth now n) is admitted (omega (arith, some, grows, same))
+
+-- a request that was served
+pub record Served (now : SlabState) (after : SlabChunks) (n : ℕ) (name : ChunkName) (bytes : List ℕ) : Type 0 where
+  pub admitted : slab_refusal now n ≡ None
+  pub added : Adds now.chunks (slab_of after).chunks name (rounded n) bytes
+  pub block : IsTrue (is_some (get_or after.layout.blocks name.block None))
+  pub lies : IsNewBlock (slab_grows now) now.blocks name.block
+  pub space : slab_of after ≡ slab_taken now (chunk_of name (rounded n) bytes)
+  pub grown : total (slab_of after).blocks ≡ total now.blocks + slab_growth now n
+
+pub served : (s now : SlabState) (view : s ≡ now) (after : SlabChunks) (are : AreChunks after) (n : ℕ) (name : ChunkName) (bytes : List ℕ) → slab_refusal s n ≡ None → n ≡ s.size → Adds s.chunks (slab_of after).chunks name (rounded s.size) bytes
+    → IsNewBlock (slab_grows s) s.blocks name.block → slab_of after ≡ slab_taken s (chunk_of name (rounded s.size) bytes) → total (slab_of after).blocks ≡ total s.blocks + slab_grows s → Served now after n name bytes
+served s now view after are n name bytes none same added lies space grown =
+    let admitted : slab_refusal now n ≡ None = ap (λ (z : SlabState). slab_refusal z n) (sym view) ∙ none in
+    let adds : Adds now.chunks (slab_of after).chunks name (rounded n) bytes =
+    subst (λ (z : SlabState). Adds z.chunks (slab_of after).chunks name (rounded n) bytes) view (subst (λ m. Adds s.chunks (slab_of after).chunks name (rounded m) bytes) (sym same) added) in
+    record {
+      admitted = admitted;
+      added = adds;
+      block = added-housed after are _ name (rounded n) bytes adds;
+      lies = subst (λ (z : SlabState). IsNewBlock (slab_grows z) z.blocks name.block) view lies;
+      space = space ∙ ap (λ m. slab_taken s (chunk_of name (rounded m) bytes)) (sym same) ∙ ap (λ (z : SlabState). slab_taken z (chunk_of name (rounded n) bytes)) view;
+      grown = grown ∙ ap (λ (z : SlabState). total z.blocks + slab_grows z) view ∙ ap (λ g. total now.blocks + g) (sym (slab-grown now n admitted));
+    }
 
 module _ (x : Inside) (ok : AreFields x) (s : SlabState) (e : slab_state x ≡ s) (name : ChunkName) (lives : IsTrue (is_live s.chunks name)) where
   abbrev t : SlabChunks
@@ -92,3 +130,14 @@ module _ (x : Inside) (ok : AreFields x) (s : SlabState) (e : slab_state x ≡ s
     others = λ q ne ne'. (refl, refl);
     gone = λ ne. absurd (true≢false (sym (place-same place) ∙ ne));
   }
+
+  -- the same at the place that was asked of the name
+  module _ (at : Place) (is : at ≡ place) where
+    pub asked-there : IsTrue (has ps at)
+    asked-there = subst (λ (p : Place). IsTrue (has ps p)) (sym is) view-there
+
+    pub asked-len : length (piece_at ps at).bytes ≡ name.len
+    asked-len = ap (λ (p : Place). length (piece_at ps p).bytes) is ∙ view-len
+
+    pub asked-bytes : (piece_at ps at).bytes ≡ bytes_of s.chunks name
+    asked-bytes = ap (λ (p : Place). (piece_at ps p).bytes) is ∙ ap (λ (p : Piece). p.bytes) view-same

@@ -5,14 +5,11 @@ use Rattle.block_memory.specs.Cells.{zeros}
 use Rattle.chunk_contexts.proofs.SetViews.{seen, seen-there, seen-housed, fields-put, state-put}
 use Rattle.chunk_contexts.proofs.alloc_set.AllocSet.write_zeros.Goals as goal
 
-pub put_zeros-requires-clause-there : goal.put_zeros-requires-clause-there
-put_zeros-requires-clause-there c = seen-there c.self.inside c.self.invariant c.args.self.now c.self.view_is c.args.place c.requires.there
-
-pub put_zeros-requires-clause-kept : goal.put_zeros-requires-clause-kept
-put_zeros-requires-clause-kept c = subst (λ (p : Piece). c.args.kept ≤ length p.bytes) (sym (seen c.self.inside c.self.invariant c.args.self.now c.self.view_is c.args.place c.requires.there)) c.requires.kept
-
-pub put_zeros-requires-clause-room : goal.put_zeros-requires-clause-room
-put_zeros-requires-clause-room c = omega (arith, ap (λ (p : Piece). p.room) (seen c.self.inside c.self.invariant c.args.self.now c.self.view_is c.args.place c.requires.there), c.requires.room)
+pub put_zeros-requires : goal.put_zeros-requires
+put_zeros-requires c =
+    let asked = c.requires in let was = seen c.self.inside c.self.invariant c.args.self.now c.self.view_is c.args.place asked.there in
+    let there = seen-there c.self.inside c.self.invariant c.args.self.now c.self.view_is c.args.place asked.there in
+    record { there = there; kept = subst (λ (p : Piece). c.args.kept ≤ length p.bytes) (sym was) asked.kept; room = omega (arith, ap (λ (p : Piece). p.room) was, asked.room) }
 
 pub invariant_of-self : goal.invariant_of-self
 invariant_of-self c = fields-put c.self.inside c.self.invariant c.args.self.now c.self.view_is c.args.place c.requires.there c.args.kept (zeros c.args.n) c.put_zeros.new.self c.put_zeros.ensures

@@ -1,11 +1,11 @@
-use Rattle.std.proofs.Common.{length, sym, ap, ◌∙◌, subst, arith}
+use Rattle.std.proofs.Common.{length, sym, ap, ◌∙◌, subst, arith, rules}
 use Rattle.list_laws.specs.Outcomes.{always_err}
-use Rattle.std.proofs.lemmas.Result.{err_from_is_err_and}
 use Rattle.chunk_contexts.specs.declared.runs.Runs.{Runs}
 use Rattle.chunk_contexts.specs.Chunks.{Adds}
 use Rattle.chunk_contexts.specs.Rooms.{rounded}
 use Rattle.chunk_contexts.specs.Run.{RunState, run_of}
 use Rattle.chunk_contexts.specs.Generation.{IsCounted}
+use Rattle.chunk_contexts.proofs.Content.{adding}
 use Rattle.chunk_contexts.proofs.GenAllocs.{made-there, made-counted, made-block, counted-longer, refused-count, refused-as}
 use Rattle.chunk_contexts.proofs.generation.GenerationChunkContext.alloc.Goals as goal
 
@@ -21,31 +21,23 @@ invariant_of-self-2 c =
     c.in_ok-make_count.ensures.same c.in_ok-make_count.ensures.long (λ grows. omega (arith, c.in_ok-make_count.ensures.room (omega (arith, c.growth-growth.ensures, grows)), c.numbers.ensures)))
 
 pub returns-in_err-make_count-clause-refused : goal.returns-in_err-make_count-clause-refused
-returns-in_err-make_count-clause-refused c =
-    let e = err_from_is_err_and c.from_residual.result c.from_residual.ensures.1 in
-    rw e.1 (refused-count _ _ (length c.args.bytes.now) e.0 c.self.view_is (omega (arith, c.in_err-make_count.ensures.refused, c.growth-growth.ensures)) e.2)
+returns-in_err-make_count-clause-refused c = refused-count _ _ _ (length c.args.bytes.now) c.from_residual.ensures.1 c.self.view_is (omega (arith, c.in_err-make_count.ensures.refused, c.growth-growth.ensures))
 
 pub returns-in_err-make_count-clause-unchanged : goal.returns-in_err-make_count-clause-unchanged
-returns-in_err-make_count-clause-unchanged c =
-    always_err c.from_residual.result (c.self.view_is)
+returns-in_err-make_count-clause-unchanged c = always_err c.from_residual.result c.self.view_is
 
 pub returns-in_err-name-clause-refused : goal.returns-in_err-name-clause-refused
-returns-in_err-name-clause-refused c =
-    let e = err_from_is_err_and c.from_residual-in_err-name.result c.from_residual-in_err-name.ensures.1 in
-    rw e.1 (refused-as _ _ (length c.args.bytes.now) e.0 _ c.self.view_is e.2 c.in_err-name.ensures.refused)
+returns-in_err-name-clause-refused c = refused-as _ _ _ (length c.args.bytes.now) _ c.from_residual-in_err-name.ensures.1 c.self.view_is c.in_err-name.ensures.refused
 
 pub returns-in_err-name-clause-unchanged : goal.returns-in_err-name-clause-unchanged
-returns-in_err-name-clause-unchanged c =
-    always_err c.from_residual-in_err-name.result (ap run_of c.in_err-name.ensures.unchanged ∙ c.self.view_is)
+returns-in_err-name-clause-unchanged c = always_err c.from_residual-in_err-name.result (ap run_of c.in_err-name.ensures.unchanged ∙ c.self.view_is)
 
-added : (c : goal.After-count_one) → Adds c.args.self.now.chunks c.alloc.new.self.layout.pieces c.in_ok-name.name (rounded (length c.args.bytes.now)) c.args.bytes.now
-added c = subst (λ (s : RunState). Adds s.chunks c.alloc.new.self.layout.pieces c.in_ok-name.name (rounded (length c.args.bytes.now)) c.args.bytes.now) c.self.view_is c.in_ok-name.ensures.added
-
-pub returns-clause-added : goal.returns-clause-added
-returns-clause-added c = added c
-
-pub returns-clause-block : goal.returns-clause-block
-returns-clause-block c = made-block 8 c.alloc.new.self _ _ _ _ c.in_ok-name.ensures.run (added c)
+pub returns : goal.returns
+returns c =
+    let bytes = c.args.bytes.now in let after = c.alloc.new.self in let name = c.in_ok-name.name in let told = c.in_ok-name.ensures in
+    let added = subst (λ (s : RunState). Adds s.chunks after.layout.pieces name (rounded (length c.args.bytes.now)) bytes) c.self.view_is told.added in
+    let block = made-block 8 after _ name _ bytes told.run added in
+    search (rules, adding, added, block)
 
 pub invariant_of-self : goal.invariant_of-self
 invariant_of-self c = counted-longer _ _ _ c.self.invariant c.in_err-make_count.ensures.same c.in_err-make_count.ensures.long

@@ -1,60 +1,28 @@
-use Rattle.std.proofs.Common.{◌≡◌, ◌+◌, None, length, sym, ap, ◌∙◌, subst, arith}
+use Rattle.std.proofs.Common.{◌≡◌, length, sym, ◌∙◌, subst, rules}
 use Rattle.list_laws.specs.Outcomes.{always_err}
-use Rattle.std.proofs.lemmas.Result.{err_from_is_err_and}
 use Rattle.chunk_layout.specs.Every.{Every}
-use Rattle.chunk_layout.specs.Pieces.{Piece, total}
-use Rattle.chunk_contexts.specs.Chunks.{live, chunk_of, Adds, IsNewBlock}
-use Rattle.chunk_contexts.specs.Rooms.{over_most, rounded}
-use Rattle.chunk_contexts.specs.Slab.{SlabState, slab_of, slab_refusal, slab_grows, slab_growth, slab_taken}
-use Rattle.chunk_contexts.proofs.Content.{added-lives, added-holds, added-keeps}
-use Rattle.chunk_contexts.proofs.Growth.{refused-some, refused-none}
-use Rattle.chunk_contexts.proofs.SlabViews.{admitted-size, added-housed, slab-grown}
+use Rattle.chunk_layout.specs.Pieces.{Piece}
+use Rattle.chunk_contexts.specs.Rooms.{over_most}
+use Rattle.chunk_contexts.specs.Slab.{SlabState}
+use Rattle.chunk_contexts.proofs.Content.{adding}
+use Rattle.chunk_contexts.proofs.SlabViews.{admitted-size, refused-size, refused-memory, served}
 use Rattle.chunk_contexts.proofs.slab.SlabChunkContext.alloc.Goals as goal
 
 pub returns-in_err-check_size-clause-refused : goal.returns-in_err-check_size-clause-refused
-returns-in_err-check_size-clause-refused c =
-    let n = length c.args.bytes.now in
-    let e = err_from_is_err_and c.from_residual.result c.from_residual.ensures.1 in
-    rw e.1 (refused-some (slab_refusal c.args.self.now n) _ e.0 _ (ap (λ (s : SlabState). slab_refusal s n) (sym c.self.view_is) ∙ c.in_err-check_size.ensures) e.2)
+returns-in_err-check_size-clause-refused c = refused-size _ _ _ c.self.view_is (length c.args.bytes.now) _ c.from_residual.ensures.1 c.in_err-check_size.ensures
 
 pub returns-in_err-name-clause-refused : goal.returns-in_err-name-clause-refused
-returns-in_err-name-clause-refused c =
-    let n = length c.args.bytes.now in
-    let now = c.args.self.now in
-    let told = c.in_err-name.ensures.refused in
-    let none : slab_refusal now n ≡ None = ap (λ (s : SlabState). slab_refusal s n) (sym c.self.view_is) ∙ c.in_ok-check_size.ensures in
-    let grows = slab-grown now n none in
-    let same = ap slab_grows c.self.view_is in
-    let e = err_from_is_err_and c.from_residual-in_err-name.result c.from_residual-in_err-name.ensures.1 in
-    rw e.1 (refused-none (slab_refusal now n) (slab_growth now n) e.0 none e.2 (omega (arith, told.1, grows, same)))
+returns-in_err-name-clause-refused c = refused-memory _ _ _ c.self.view_is (length c.args.bytes.now) c.from_residual-in_err-name.ensures.1 c.in_ok-check_size.ensures c.in_err-name.ensures.refused.1
 
 pub returns-in_err-name-clause-unchanged : goal.returns-in_err-name-clause-unchanged
-returns-in_err-name-clause-unchanged c =
-    let told = c.in_err-name.ensures.refused in
-    always_err c.from_residual-in_err-name.result (told.0 ∙ c.self.view_is)
+returns-in_err-name-clause-unchanged c = always_err c.from_residual-in_err-name.result (c.in_err-name.ensures.refused.0 ∙ c.self.view_is)
 
 pub returns : goal.returns
 returns c =
-    let told = c.in_ok-name.ensures in let n = length c.args.bytes.now in let bytes = c.args.bytes.now in let name = c.in_ok-name.name in let after = c.alloc.new.self in
-    let now = c.args.self.now in let size = c.self.inside.inner.size in
-    let none : slab_refusal now n ≡ None = ap (λ (s : SlabState). slab_refusal s n) (sym c.self.view_is) ∙ c.in_ok-check_size.ensures in
+    let told = c.in_ok-name.ensures in let n = length c.args.bytes.now in let size = c.self.inside.inner.size in
     let same : n ≡ size = admitted-size (over_most n) n size c.in_ok-check_size.ensures in
-    let added : Adds now.chunks (live after.layout.pieces) name (rounded n) bytes =
-    subst (λ (s : SlabState). Adds s.chunks (live after.layout.pieces) name (rounded n) bytes) c.self.view_is
-    (subst (λ m. Adds (live c.self.inside.inner.layout.pieces) (live after.layout.pieces) name (rounded m) bytes) (sym same) told.added) in
-    record {
-      admitted = none;
-      added = added;
-      lives = added-lives _ _ name (rounded n) bytes added;
-      holds = added-holds _ _ name (rounded n) bytes added;
-      block = added-housed after told.chunks _ name (rounded n) bytes added;
-      lies = subst (λ (s : SlabState). IsNewBlock (slab_grows s) s.blocks name.block) c.self.view_is told.lies;
-      keeps = added-keeps _ _ name (rounded n) bytes added;
-      space = told.taken ∙ ap (λ m. slab_taken (slab_of c.self.inside.inner) (chunk_of name (rounded m) bytes)) (sym same) ∙ ap (λ (s : SlabState). slab_taken s (chunk_of name (rounded n) bytes)) c.self.view_is;
-      grown = told.grown ∙ ap (λ (s : SlabState). total s.blocks + slab_grows s) c.self.view_is ∙ ap (λ g. total now.blocks + g) (sym (slab-grown now n none));
-      refused = tt;
-      unchanged = tt;
-    }
+    let it = served _ _ c.self.view_is c.alloc.new.self told.chunks n c.in_ok-name.name c.args.bytes.now c.in_ok-check_size.ensures same told.added told.lies told.taken told.grown in
+    search (rules, adding, it.admitted, it.added, it.block, it.lies, it.space, it.grown)
 
 pub invariant_of-self-2 : goal.invariant_of-self-2
 invariant_of-self-2 c = record {

@@ -72,23 +72,29 @@ index_mut-requires-2 c = omega (arith, low-kept c.args.self.now c.requires.chunk
 pub mark-requires : goal.mark-requires
 mark-requires c = low-marks c.args.self.now c.requires.chunks c.args.place c.requires.there
 
+-- the block stays: what is written into it, and why
+made : (c : goal.After-mark) → c.put_first.new.layout ≡ put_at c.args.self.now.layout c.args.place 0 (link_bytes (get_or c.args.self.now.blocks.items c.args.place.block no_block).free) false
+made c =
+    let s = c.args.self.now in
+    c.put_first.ensures.freed ∙ ap (λ (b : SlabBlock). put_at s.layout c.args.place 0 (link_bytes b.free) false) (read s c.requires.chunks c.args.place c.requires.there c.index-entry.result.now c.index-entry.ensures)
+
+some : (c : goal.After-mark) → 1 < (get_or c.args.self.now.blocks.items c.args.place.block no_block).live
+some c =
+    let s = c.args.self.now in
+    let was = read s c.requires.chunks c.args.place c.requires.there c.index-entry.result.now c.index-entry.ensures in
+    omega (arith, left s c.requires.chunks c.args.place c.requires.there, ap (λ (b : SlabBlock). b.live) was, c.if-entry-eq1.false)
+
 pub returns-clause-chunks : goal.returns-clause-chunks
 returns-clause-chunks c =
     let s = c.args.self.now in let place = c.args.place in let was = read s c.requires.chunks place c.requires.there c.index-entry.result.now c.index-entry.ensures in
-    let kept = s.blocks.items in let e = get_or kept place.block no_block in
-    let made = c.put_first.ensures.freed ∙ ap (λ (b : SlabBlock). put_at s.layout place 0 (link_bytes b.free) false) was in
-    let some : 1 < e.live = omega (arith, left s c.requires.chunks place c.requires.there, ap (λ (b : SlabBlock). b.live) was, c.if-entry-eq1.false) in
-    subst (λ (b : SlabBlock). IsSlab s.size s.per c.put_first.new.layout (Rattle.std.proofs.Common.set kept place.block b) c.mark.new.self)
+    subst (λ (b : SlabBlock). IsSlab s.size s.per c.put_first.new.layout (Rattle.std.proofs.Common.set s.blocks.items place.block b) c.mark.new.self)
     (λ i. record { free = sym c.put_first.ensures.first i; cut = (sym was i).cut; live = (sym was i).live - 1 })
-    (slab-freed s.size s.per s.layout kept s.spare c.requires.chunks place c.requires.there c.put_first.new.layout made some c.mark.new.self c.mark.ensures.long c.mark.ensures.marked)
+    (slab-freed s.size s.per s.layout s.blocks.items s.spare c.requires.chunks place c.requires.there c.put_first.new.layout (made c) (some c) c.mark.new.self c.mark.ensures.long c.mark.ensures.marked)
 
 pub returns-clause-freed : goal.returns-clause-freed
 returns-clause-freed c =
-    let s = c.args.self.now in let place = c.args.place in let was = read s c.requires.chunks place c.requires.there c.index-entry.result.now c.index-entry.ensures in
-    let kept = s.blocks.items in let e = get_or kept place.block no_block in
-    let made = c.put_first.ensures.freed ∙ ap (λ (b : SlabBlock). put_at s.layout place 0 (link_bytes b.free) false) was in
-    let some : 1 < e.live = omega (arith, left s c.requires.chunks place c.requires.there, ap (λ (b : SlabBlock). b.live) was, c.if-entry-eq1.false) in
-    let more : in_block (without (live s.layout.pieces) place) place.block ≡ 0 → ⊥ = λ none. omega (arith, none, left s c.requires.chunks place c.requires.there, some) in
+    let s = c.args.self.now in let place = c.args.place in
+    let more : in_block (without (live s.layout.pieces) place) place.block ≡ 0 → ⊥ = λ none. omega (arith, none, left s c.requires.chunks place c.requires.there, some c) in
     let blocks = cond-false (in_block (without (live s.layout.pieces) place) place.block == 0) (Rattle.std.proofs.Common.set s.layout.blocks place.block None) s.layout.blocks (ne_eqb (in_block (without (live s.layout.pieces) place) place.block) 0 more) in
-    let chunks = chunks-freed s.size s.per s.layout kept s.spare c.requires.chunks place c.requires.there c.put_first.new.layout made some c.mark.new.self c.mark.ensures.long c.mark.ensures.marked in
-    λ i. record { size = s.size; chunks = chunks i; blocks = (ap (λ (l : Layout). l.blocks) made ∙ sym blocks) i }
+    let chunks = chunks-freed s.size s.per s.layout s.blocks.items s.spare c.requires.chunks place c.requires.there c.put_first.new.layout (made c) (some c) c.mark.new.self c.mark.ensures.long c.mark.ensures.marked in
+    λ i. record { size = s.size; chunks = chunks i; blocks = (ap (λ (l : Layout). l.blocks) (made c) ∙ sym blocks) i }
