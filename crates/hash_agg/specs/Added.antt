@@ -135,6 +135,11 @@ pub record AddedOne {H D : Type 0} (hash_of : H → List ℕ → ℕ) (g : Ghost
 abbrev pub IsGenuine : {H : Type 0} → (H → List ℕ → ℕ) → Pass H → Source → Type 0
 IsGenuine hash_of pass what = (piece : Piece) × Are (query_of pass) (hash_of pass.groups.hash) what (piece ∷ [])
 
+-- a record was added, and is one
+pub record AddedGenuine {H D : Type 0} (hash_of : H → List ℕ → ℕ) (g : Ghosts D) (what : Source) (old : Pass H) (before : D) (new : Pass H) (after : D) : Type 0 where
+  pub added : AddedOne hash_of g what old before new after
+  pub genuine : IsGenuine hash_of old what
+
 -- inputs of the query, which count so many rows at most
 pub record AreInputs (query : Query) (most : ℕ) (inputs : List Brought) : Type 0 where
   pub are : AllByRecursion (IsInput query) inputs

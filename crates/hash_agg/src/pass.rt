@@ -10,7 +10,7 @@ ghost use Rattle.packed_rows.specs.View.{row_of};
 ghost use Rattle.group_runs.specs.Standing.{StandsFor, IsRun};
 ghost use Rattle.hash_agg.specs.Inputs.{brought, packings_in};
 ghost use Rattle.hash_agg.specs.Passes.{IsPlan};
-ghost use Rattle.hash_agg.specs.Added.{Packed_rows, Entries, On_tape, Added, AddedOne, AddedList, AreInputs, CountsPass, Finished, HasRoom, IsFirst, IsFresh, IsGenuine, IsReady, IsSelected, Refused, RefusedList, enters, query_of, source_of};
+ghost use Rattle.hash_agg.specs.Added.{Packed_rows, Entries, On_tape, Added, AddedGenuine, AddedList, AddedOne, AreInputs, CountsPass, Finished, HasRoom, IsFirst, IsFresh, IsReady, IsSelected, Refused, RefusedList, enters, query_of, source_of};
 
 use crate::groups::Groups;
 use crate::input::{Input, Packings};
@@ -183,8 +183,7 @@ impl<'q, H: KeyHash + Drop> Pass<'q, H> {
         buffers: &mut Buffers,
     ) -> Result<(), SpillError>
         requires ready { IsReady self.old }
-        ensures added { OnOk result (AddedOne H.hash_of D.TapeDisk (On_tape hash 0 packed.now) self.old disk.old self.new disk.new) }
-        ensures genuine { OnOk result (IsGenuine H.hash_of self.old (On_tape hash 0 packed.now)) }
+        ensures added { OnOk result (AddedGenuine H.hash_of D.TapeDisk (On_tape hash 0 packed.now) self.old disk.old self.new disk.new) }
         ensures refused { IfErr result (λ error. Refused H.hash_of D.TapeDisk (On_tape hash 0 packed.now) self.old disk.old error self.new) }
         ensures disk { Leaves D.TapeDisk (failed spill_faults result) disk.old disk.new }
     {
@@ -211,8 +210,7 @@ impl<'q, H: KeyHash + Drop> Pass<'q, H> {
         buffers: &mut Buffers,
     ) -> Result<(), SpillError>
         requires ready { IsReady self.old }
-        ensures added { OnOk result (AddedOne H.hash_of D.TapeDisk (On_tape hash 1 bytes.now) self.old disk.old self.new disk.new) }
-        ensures genuine { OnOk result (IsGenuine H.hash_of self.old (On_tape hash 1 bytes.now)) }
+        ensures added { OnOk result (AddedGenuine H.hash_of D.TapeDisk (On_tape hash 1 bytes.now) self.old disk.old self.new disk.new) }
         ensures refused { IfErr result (λ error. Refused H.hash_of D.TapeDisk (On_tape hash 1 bytes.now) self.old disk.old error self.new) }
         ensures disk { Leaves D.TapeDisk (failed spill_faults result) disk.old disk.new }
     {
@@ -237,8 +235,7 @@ impl<'q, H: KeyHash + Drop> Pass<'q, H> {
         buffers: &mut Buffers,
     ) -> Result<(), SpillError>
         requires ready { IsReady self.old }
-        ensures added { OnOk result (AddedOne H.hash_of D.TapeDisk (On_tape hash tag bytes.now) self.old disk.old self.new disk.new) }
-        ensures genuine { OnOk result (IsGenuine H.hash_of self.old (On_tape hash tag bytes.now)) }
+        ensures added { OnOk result (AddedGenuine H.hash_of D.TapeDisk (On_tape hash tag bytes.now) self.old disk.old self.new disk.new) }
         ensures refused { IfErr result (λ error. Refused H.hash_of D.TapeDisk (On_tape hash tag bytes.now) self.old disk.old error self.new) }
         ensures disk { Leaves D.TapeDisk (failed spill_faults result) disk.old disk.new }
     {

@@ -1,6 +1,7 @@
 use Rattle.std.specs.Prelude.{refl, ◌∷◌, [], List, ℕ}
 use Rattle.std.proofs.Common.{sym, ◌∙◌}
 use Rattle.std.proofs.lemmas.Result.{IfErr-weaker}
+use Rattle.list_laws.specs.Outcomes.{ok_both}
 use Rattle.tape_disks.specs.DiskLaws.{leaves_none}
 use Rattle.packed_rows.specs.Packing.{packing}
 use Rattle.hash_agg.specs.Added.{Entries, On_tape, query_of}
@@ -16,7 +17,6 @@ pub returns-in_default : goal.returns-in_default
 returns-in_default g c =
     record {
       added = tt;
-      genuine = tt;
       refused =
           record {
             undamaged =
@@ -32,7 +32,6 @@ pub returns-in_err-check_group : goal.returns-in_err-check_group
 returns-in_err-check_group g c =
     record {
       added = no_ok c.from_residual.result _ c.from_residual.ensures.0;
-      genuine = no_ok c.from_residual.result _ c.from_residual.ensures.0;
       refused =
           err_out c.from_residual.result c.in_err-check_group.field-0.0 _ c.from_residual.ensures.1
           (record {
@@ -49,7 +48,6 @@ pub returns-then-hash : goal.returns-then-hash
 returns-then-hash g c =
     record {
       added = tt;
-      genuine = tt;
       refused =
           record {
             undamaged =
@@ -67,14 +65,14 @@ returns g c =
     let stands = c.in_ok-check_group.ensures.stands in
     record {
       added =
-          added_by g.H.KeyHash.hash_of g.D.TapeDisk (On_tape c.args.hash 1 c.args.bytes.now) (Entries ((c.in-Some.key.now, c.in-Some.states.now) ∷ [])) c.args.self.now c.args.disk.now
+          ok_both c.add_group.result (λ added genuine. record { added = added; genuine = genuine })
+          (added_by g.H.KeyHash.hash_of g.D.TapeDisk (On_tape c.args.hash 1 c.args.bytes.now) (Entries ((c.in-Some.key.now, c.in-Some.states.now) ∷ [])) c.args.self.now c.args.disk.now
           (record_is_group (query_of c.args.self.now) hf c.args.hash c.args.bytes.now c.in-Some.key.now c.in-Some.states.now c.requires.ready.plan.formed c.in-Some.ensures.0 c.in-Some.ensures.1)
-          c.add_group.result c.add_group.new.self c.add_group.new.disk c.add_group.ensures.added;
-      genuine =
-          ok_any c.add_group.result _ (
+          c.add_group.result c.add_group.new.self c.add_group.new.disk c.add_group.ensures.added)
+          (ok_any c.add_group.result _ (
             Of_group stands.0 c.args.self.now.plan.most,
             (is_group_record (query_of c.args.self.now) hf c.args.self.now.plan.most (record { hash = c.args.hash; tag = 1; bytes = c.args.bytes.now }) c.in-Some.key.now c.in-Some.states.now stands.0 refl c.in-Some.ensures.1 (c.if-hash.false ∙ c.hash.ensures) stands.1, tt),
-          );
+          ));
       refused =
           IfErr-weaker c.add_group.result _ _
           (refused_by g.H.KeyHash.hash_of g.D.TapeDisk (On_tape c.args.hash 1 c.args.bytes.now) (Entries ((c.in-Some.key.now, c.in-Some.states.now) ∷ [])) c.args.self.now c.args.disk.now

@@ -56,7 +56,7 @@ loop-hash-preserved g c =
     let q : Query = query_of c.args.self.now in
     let i = c.loop-hash.invariant in
     let hf : List ℕ → ℕ = g.H.KeyHash.hash_of c.args.self.now.groups.hash in
-    let one = c.in_ok-add_record.ensures.added in
+    let one = c.in_ok-add_record.ensures.added.added in
     let kept = later_same c.args.self.now c.loop-hash.self c.next.new.self i.kept c.next.ensures.todo c.next.ensures.level in
     let add = added_first g.H.KeyHash.hash_of g.D.TapeDisk (On_tape c.in-Some.hash c.in-Some.tag c.deref.result.now) c.args.self.now (record c.loop-hash.self { lists = c.next.new.self }) c.next.new.disk c.add_record.new.self kept.plan kept.table.hash c.add_record.new.disk one.added in
     let counted : ahead_number c.loop-hash.self.lists ≡ ahead_number c.next.new.self + 1 = subst (λ found. IfSome found (λ told. ahead_number c.loop-hash.self.lists ≡ ahead_number c.next.new.self + 1)) c.in-Some.is c.in_ok-hash.ensures.counted in

@@ -1,6 +1,7 @@
 use Rattle.std.specs.Prelude.{refl, ◌∷◌, [], List, ℕ}
 use Rattle.std.proofs.Common.{sym, ◌∙◌, ap}
 use Rattle.std.proofs.lemmas.Result.{IfErr-weaker}
+use Rattle.list_laws.specs.Outcomes.{ok_both}
 use Rattle.tape_disks.specs.DiskLaws.{leaves_none}
 use Rattle.spill_lists.specs.declared.error.SpillError.TheVariants.{NoMemory}
 use Rattle.packed_rows.specs.View.{row_of}
@@ -17,7 +18,6 @@ pub returns-in_err-row : goal.returns-in_err-row
 returns-in_err-row g c =
     record {
       added = no_ok c.from_residual.result _ c.from_residual.ensures.0;
-      genuine = no_ok c.from_residual.result _ c.from_residual.ensures.0;
       refused = err_out c.from_residual.result NoMemory _ c.from_residual.ensures.1 (record { undamaged = λ can same. cc; kept = same_pass c.args.self.now });
       disk = still_out g.D.TapeDisk c.from_residual.result NoMemory c.args.disk.now c.from_residual.ensures.1 (λ same. cc);
     }
@@ -26,7 +26,6 @@ pub returns-in_err-select : goal.returns-in_err-select
 returns-in_err-select g c =
     record {
       added = no_ok c.from_residual-in_err-select.result _ c.from_residual-in_err-select.ensures.0;
-      genuine = no_ok c.from_residual-in_err-select.result _ c.from_residual-in_err-select.ensures.0;
       refused =
           err_out c.from_residual-in_err-select.result c.in_err-select.field-0.0 _ c.from_residual-in_err-select.ensures.1
           (record {
@@ -43,7 +42,6 @@ pub returns-then-not-branch : goal.returns-then-not-branch
 returns-then-not-branch g c =
     record {
       added = tt;
-      genuine = tt;
       refused =
           record {
             undamaged =
@@ -62,7 +60,6 @@ pub returns-then-hash : goal.returns-then-hash
 returns-then-hash g c =
     record {
       added = tt;
-      genuine = tt;
       refused =
           record {
             undamaged =
@@ -81,10 +78,10 @@ returns g c =
     let row = c.in_ok-select.ensures.row in
     record {
       added =
-          added_by g.H.KeyHash.hash_of g.D.TapeDisk (On_tape c.args.hash 0 c.args.packed.now) (Packed_rows (c.args.packed.now ∷ [])) c.args.self.now c.args.disk.now (record_is_row (query_of c.args.self.now) hf c.args.hash c.args.packed.now)
-          c.add_selected.result c.add_selected.new.self c.add_selected.new.disk c.add_selected.ensures.added;
-      genuine =
-          ok_any c.add_selected.result _ (
+          ok_both c.add_selected.result (λ added genuine. record { added = added; genuine = genuine })
+          (added_by g.H.KeyHash.hash_of g.D.TapeDisk (On_tape c.args.hash 0 c.args.packed.now) (Packed_rows (c.args.packed.now ∷ [])) c.args.self.now c.args.disk.now (record_is_row (query_of c.args.self.now) hf c.args.hash c.args.packed.now)
+          c.add_selected.result c.add_selected.new.self c.add_selected.new.disk c.add_selected.ensures.added)
+          (ok_any c.add_selected.result _ (
             Of_row (row_of c.select.new.row.items),
             (
               record {
@@ -96,7 +93,7 @@ returns g c =
               },
               tt,
             ),
-          );
+          ));
       refused =
           IfErr-weaker c.add_selected.result _ _
           (refused_by g.H.KeyHash.hash_of g.D.TapeDisk (On_tape c.args.hash 0 c.args.packed.now) (Packed_rows (c.args.packed.now ∷ [])) c.args.self.now c.args.disk.now (record_is_row (query_of c.args.self.now) hf c.args.hash c.args.packed.now)
