@@ -30,6 +30,8 @@ pub fn text_of_known(alloc: Global, schema: &Schema, raw: &RawQuery) -> Result<S
     ensures first { OnOk result (PassesFirst schema.now (asked_of raw.now)) }
     ensures refused { IfErr result (λ e. e ≢ NoMemory →
         checked schema.now (asked_of raw.now) ≡ Err e) }
+    // A query that passes these has its text.
+    ensures known { IfErr result (λ e. e ≢ NoMemory → ¬ (PassesFirst schema.now (asked_of raw.now))) }
 {
     let canonical = text_within(alloc, raw)?;
     if !is_shallow_query(raw) {
