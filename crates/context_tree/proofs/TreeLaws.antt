@@ -1,6 +1,6 @@
 -- What is true of the fields of a tree stays true.
 use Rattle.std.proofs.Common.{◌≡◌, ℕ, zero, suc, ◌+◌, ◌<◌, ◌≤◌, inl, inr, Bool, true, false, List, [], ◌∷◌, Option, Some, None, length, get_or, cond, set, drop, refl, sym, ap, ◌∙◌, subst, arith}
-use Rattle.std.specs.Prelude.{is_some, unwrap_or}
+use Rattle.std.specs.Prelude.{is_some, unwrap_or, Result, Ok, Err, IsErrAnd, IfErr}
 use Rattle.std.proofs.lemmas.Bool.{cases_Bool, cases_eq, cond-true, cond-false, false≢true}
 use Rattle.chunk_contexts.specs.Chunks.{IsRefused}
 use Rattle.chunk_contexts.specs.declared.error.ContextError.{ContextError}
@@ -180,12 +180,14 @@ module _ (x : Inside) (now : TreeState) (id : ContextId) (d : List Context) (is 
     fits-asked growth e asked less room = fits-grown growth less (subst (λ (l : List Context). held_by_all l + growth < 9223372036854775808) asked room)
 
 -- why a call is refused
-module _ (P : ContextError → Type 0) (there : Bool) (e : TreeError) where
-  pub refused-gone : there ≡ false → e ≡ NoSuchContext → IsRefusedBy there P e
-  refused-gone gone is = subst (λ (b : Bool). IsRefusedBy b P e) (sym gone) is
+module _ {X : Type 0} (P : ContextError → Type 0) (there : Bool) where
+  pub refused-gone : (result : Result X TreeError) (e : TreeError) → IsErrAnd result (λ f. f ≡ e) → (there ≡ false) × (e ≡ NoSuchContext) → IfErr result (IsRefusedBy there P)
+  refused-gone (Ok x) e is gone = tt
+  refused-gone (Err f) e is gone = subst (λ (b : Bool). IsRefusedBy b P f) (sym gone.0) (is ∙ gone.1)
 
-  pub refused-own : there ≡ true → (own : ContextError) → e ≡ error.Context own → P own → IsRefusedBy there P e
-  refused-own here own is so = subst (λ (b : Bool). IsRefusedBy b P e) (sym here) (own, is, so)
+  pub refused-own : (result : Result X TreeError) (own : ContextError) → IsErrAnd result (λ f. f ≡ error.Context own) → there ≡ true → P own → IfErr result (IsRefusedBy there P)
+  refused-own (Ok x) own is here so = tt
+  refused-own (Err f) own is here so = subst (λ (b : Bool). IsRefusedBy b P f) (sym here) (own, is, so)
 
 -- no growth is refused for what is asked
 pub refused-growth : (c : Context) (n : ℕ) → 0 < growth_of c n → IsRefused (refusal_of c n) (growth_of c n) NoMemory
@@ -196,23 +198,37 @@ pub not-made : {there spent here none : Bool} {refusal why : Option ContextError
 not-made {there = there} {spent = spent} {here = here} {none = none} {refusal = refusal} {why = why} e is last own so =
     subst (λ (b : Bool). IsNotMade b spent refusal e) (sym is) (subst (λ (b : Bool). IsNotMade here b refusal e) (sym last) (subst (λ (o : Option ContextError). IsNotMade here none o e) (sym own) so))
 
+pub refused-made : {X : Type 0} {there spent here none : Bool} {refusal why : Option ContextError} (result : Result X TreeError) → IsErrAnd result (IsNotMade here none why) → there ≡ here → spent ≡ none → refusal ≡ why → IfErr result (IsNotMade there spent refusal)
+refused-made (Ok x) not is last own = tt
+refused-made (Err e) not is last own = not-made e is last own not
+
 -- contexts are given up: those in the slots that are emptied
-module _ (x : Inside) (are : AreFields x) (gone : ℕ → Bool) (ls : List (Option Link)) (links : ls ≡ cleared gone None 0 x.links) (d ds : List Context) (same : d ≡ x.contexts.items)
-    (as-long : length ds ≡ length d) (told : (k : ℕ) → get_or ds k no_context ≡ cond (is_some (get_or ls k None)) (get_or d k no_context) no_context) where
+pub record AreGivenUp (x : Inside) (gone : ℕ → Bool) (ls : List (Option Link)) (d ds : List Context) : Type 0 where
+  pub are : AreFields x
+  pub links : ls ≡ cleared gone None 0 x.links
+  pub same : d ≡ x.contexts.items
+  pub as-long : length ds ≡ length d
+  pub told : (k : ℕ) → get_or ds k no_context ≡ cond (is_some (get_or ls k None)) (get_or d k no_context) no_context
+
+-- they were as many as the links that stay
+pub given-long : (x : Inside) → AreFields x → (gone : ℕ → Bool) (ls : List (Option Link)) (d : List Context) → ls ≡ cleared gone None 0 x.links → d ≡ x.contexts.items → length d ≡ length ls
+given-long x are gone ls d links same = ap length same ∙ are.long ∙ sym (ap length links ∙ length-cleared gone None 0 x.links)
+
+module _ (x : Inside) (gone : ℕ → Bool) (ls : List (Option Link)) (d ds : List Context) (up : AreGivenUp x gone ls d ds) where
   long : length ds ≡ length x.contexts.items
-  long = as-long ∙ ap length same
+  long = up.as-long ∙ ap length up.same
 
   link-is : (k : ℕ) → get_or ls k None ≡ cond (gone k) None (get_or x.links k None)
-  link-is k = ap (λ (l : List (Option Link)). get_or l k None) links ∙ get_or-cleared gone None x.links k
+  link-is k = ap (λ (l : List (Option Link)). get_or l k None) up.links ∙ get_or-cleared gone None x.links k
 
   -- where the link is kept, the context is, and where there was none, there is none
   kept : (k : ℕ) (link : Option Link) → get_or x.links k None ≡ link → cond (is_some link) (get_or x.contexts.items k no_context) no_context ≡ get_or x.contexts.items k no_context
-  kept k None free = sym (are.empty k free)
+  kept k None free = sym (up.are.empty k free)
   kept k (Some link) free = refl
 
   context-is : (k : ℕ) → get_or ds k no_context ≡ cond (gone k) no_context (get_or x.contexts.items k no_context)
   context-is k =
-      told k ∙ ap (λ (cs : List Context). cond (is_some (get_or ls k None)) (get_or cs k no_context) no_context) same
+      up.told k ∙ ap (λ (cs : List Context). cond (is_some (get_or ls k None)) (get_or cs k no_context) no_context) up.same
       ∙ elim (cases_Bool (gone k)) [
         | inl goes ↦
             ap (λ (l : Option Link). cond (is_some l) (get_or x.contexts.items k no_context) no_context) (link-is k ∙ cond-true (gone k) None (get_or x.links k None) goes)
@@ -230,12 +246,12 @@ module _ (x : Inside) (are : AreFields x) (gone : ℕ → Bool) (ls : List (Opti
   all-given = refill-whole n x.contexts.items ds refl long ∙ is-cleared gone no_context x.contexts.items ds long context-is
 
   pub given-up : (record { links = ls; contexts = refill n x.contexts.items ds; last = x.last }) ≡ without_slots (tree_of x) gone
-  given-up = λ i. record { links = links i; contexts = all-given i; last = x.last }
+  given-up = λ i. record { links = up.links i; contexts = all-given i; last = x.last }
 
   stamps-kept : Stamped ls x.last
   stamps-kept k link e = elim (cases_Bool (gone k)) [
     | inl goes ↦ absurd (false≢true (ap is_some (sym (link-is k ∙ cond-true (gone k) None (get_or x.links k None) goes) ∙ e)))
-    | inr stays ↦ are.stamps k link (sym (link-is k ∙ cond-false (gone k) None (get_or x.links k None) stays) ∙ e)
+    | inr stays ↦ up.are.stamps k link (sym (link-is k ∙ cond-false (gone k) None (get_or x.links k None) stays) ∙ e)
   ]
 
   empty-kept : Emptied ls (cleared gone no_context 0 x.contexts.items)
@@ -243,16 +259,16 @@ module _ (x : Inside) (are : AreFields x) (gone : ℕ → Bool) (ls : List (Opti
     | inl goes ↦ cond-true (gone k) no_context (get_or x.contexts.items k no_context) goes
     | inr stays ↦
         cond-false (gone k) no_context (get_or x.contexts.items k no_context) stays
-        ∙ are.empty k (sym (link-is k ∙ cond-false (gone k) None (get_or x.links k None) stays) ∙ e)
+        ∙ up.are.empty k (sym (link-is k ∙ cond-false (gone k) None (get_or x.links k None) stays) ∙ e)
   ]
 
   pub long-given : length (cleared gone no_context 0 x.contexts.items) ≡ length ls
-  long-given = length-cleared gone no_context 0 x.contexts.items ∙ are.long ∙ sym (ap length links ∙ length-cleared gone None 0 x.links)
+  long-given = length-cleared gone no_context 0 x.contexts.items ∙ up.are.long ∙ sym (ap length up.links ∙ length-cleared gone None 0 x.links)
 
   pub fields-given : AreFields (record { alloc = x.alloc; links = ls; contexts = record { items = refill n x.contexts.items ds; capacity = x.contexts.capacity }; last = x.last })
   fields-given = record {
     long = ap length all-given ∙ long-given;
     stamps = stamps-kept;
     empty = subst (Emptied ls) (sym all-given) empty-kept;
-    bounded = subst IsBounded (sym all-given) (let less = all-cleared gone 0 x.contexts.items in let was = are.bounded in omega (arith, less, was));
+    bounded = subst IsBounded (sym all-given) (let less = all-cleared gone 0 x.contexts.items in let was = up.are.bounded in omega (arith, less, was));
   }

@@ -1,6 +1,5 @@
-use Rattle.std.proofs.Common.{◌-◌, length, refl, sym, ap, ◌∙◌, subst, rules}
-use Rattle.std.specs.Prelude.{IsTrue}
-use Rattle.chunk_layout.specs.Pieces.{Piece, has, piece_at, place_of, rewritten}
+use Rattle.std.proofs.Common.{◌-◌, refl, sym, ap, ◌∙◌, subst, rules}
+use Rattle.chunk_layout.specs.Pieces.{place_of, rewritten}
 use Rattle.chunk_layout.specs.Lends.{layout_with}
 use Rattle.chunk_layout.specs.declared.place.Place.{Place}
 use Rattle.chunk_contexts.specs.Chunks.{live}

@@ -1,34 +1,33 @@
-use Rattle.std.proofs.Common.{◌≡◌, ◌+◌, ◌≤◌, None, length, get_or, ap, ◌∙◌, arith}
+use Rattle.std.proofs.Common.{◌≡◌, ◌+◌, ◌≤◌, None, length, get_or, ap, arith}
 use Rattle.std.specs.Prelude.{IsTrue, is_some}
-use Rattle.std.proofs.lemmas.Result.{err_from_is_err_and}
+use Rattle.list_laws.specs.Outcomes.{always_err}
 use Rattle.chunk_contexts.specs.Chunks.{chunk_of, Adds, Keeps, IsRefused}
 use Rattle.context_tree.specs.Contexts.{chunks_of, blocks_of, room_in, refusal_of, growth_of, may_lie_in, with_chunk, has_chunk, chunk_bytes, held_by}
 use Rattle.context_tree.specs.Tree.{is_there}
 use Rattle.context_tree.specs.declared.context.Context.{Context}
 use Rattle.context_tree.proofs.TreeLaws.{IsLent, read-changed, fits-asked, said, new-by, unchanged, fields-written, refused-gone, refused-own}
+use Rattle.context_tree.proofs.tree.Tree.alloc.Goals.{After-deref_mut}
 use Rattle.context_tree.proofs.tree.Tree.alloc.Goals as goal
 
+-- the contexts are lent
+lent : (c : After-deref_mut) → IsLent c.self.inside c.args.self.now c.args.id c.deref_mut.result.now
+lent c = record { are = c.self.invariant; view = c.self.view_is; there = c.in_ok-check.ensures; same = c.deref_mut.ensures.value }
+
 pub returns-in_err-check-clause-refused : goal.returns-in_err-check-clause-refused
-returns-in_err-check-clause-refused c =
-    let e = err_from_is_err_and c.from_residual.result c.from_residual.ensures.1 in
-    rw e.1 (refused-gone _ (is_there c.args.self.now c.args.id) e.0 c.in_err-check.ensures.0 (e.2 ∙ c.in_err-check.ensures.1))
+returns-in_err-check-clause-refused c = refused-gone _ (is_there c.args.self.now c.args.id) c.from_residual.result _ c.from_residual.ensures.1 c.in_err-check.ensures
 
 pub returns-in_err-alloc-clause-refused : goal.returns-in_err-alloc-clause-refused
 returns-in_err-alloc-clause-refused c =
-    let at : IsLent c.self.inside c.args.self.now c.args.id c.deref_mut.result.now = record { are = c.self.invariant; view = c.self.view_is; there = c.in_ok-check.ensures; same = c.deref_mut.ensures.value } in
+    let at = lent (goal.at.returns-in_err-alloc-clause-refused c).After-deref_mut in
     let n = length c.args.bytes.now in let own = c.in_err-alloc.field-0.0 in
-    let e = err_from_is_err_and c.from_residual-in_err-alloc.result c.from_residual-in_err-alloc.ensures.1 in
-    rw e.1 (refused-own _ (is_there c.args.self.now c.args.id) e.0 at.there own e.2 (said _ _ _ _ at c.alloc.new.self c.index-deref_mut-id.result (λ a _. IsRefused (refusal_of a n) (growth_of a n) own) c.in_err-alloc.ensures.refused))
+    refused-own _ (is_there c.args.self.now c.args.id) c.from_residual-in_err-alloc.result own c.from_residual-in_err-alloc.ensures.1 at.there (said _ _ _ _ at c.alloc.new.self c.index-deref_mut-id.result (λ a _. IsRefused (refusal_of a n) (growth_of a n) own) c.in_err-alloc.ensures.refused)
 
 pub returns-in_err-alloc-clause-unchanged : goal.returns-in_err-alloc-clause-unchanged
-returns-in_err-alloc-clause-unchanged c =
-    let at : IsLent c.self.inside c.args.self.now c.args.id c.deref_mut.result.now = record { are = c.self.invariant; view = c.self.view_is; there = c.in_ok-check.ensures; same = c.deref_mut.ensures.value } in
-    let e = err_from_is_err_and c.from_residual-in_err-alloc.result c.from_residual-in_err-alloc.ensures.1 in
-    rw e.1 (unchanged _ _ _ _ at c.alloc.new.self c.index-deref_mut-id.result c.in_err-alloc.ensures.unchanged)
+returns-in_err-alloc-clause-unchanged c = always_err c.from_residual-in_err-alloc.result (unchanged _ _ _ _ (lent (goal.at.returns-in_err-alloc-clause-unchanged c).After-deref_mut) c.alloc.new.self c.index-deref_mut-id.result c.in_err-alloc.ensures.unchanged)
 
 pub returns : goal.returns
 returns c =
-    let at : IsLent c.self.inside c.args.self.now c.args.id c.deref_mut.result.now = record { are = c.self.invariant; view = c.self.view_is; there = c.in_ok-check.ensures; same = c.deref_mut.ensures.value } in
+    let at = lent (goal.at.returns c).After-deref_mut in
     let new = c.alloc.new.self in let other = c.index-deref_mut-id.result in
     let bytes = c.args.bytes.now in let n = length bytes in let name = c.in_ok-alloc.field-0 in let told = c.in_ok-alloc.ensures in
     let said = said _ _ _ _ at new other in
@@ -48,7 +47,7 @@ returns c =
 
 pub invariant_of-self-2 : goal.invariant_of-self-2
 invariant_of-self-2 c =
-    let at : IsLent c.self.inside c.args.self.now c.args.id c.deref_mut.result.now = record { are = c.self.invariant; view = c.self.view_is; there = c.in_ok-check.ensures; same = c.deref_mut.ensures.value } in
+    let at = lent (goal.at.invariant_of-self-2 c).After-deref_mut in
     let new = c.alloc.new.self in let other = c.index-deref_mut-id.result in
     let read = read-changed c.self.inside at.are c.args.self.now at.view c.args.id at.there c.deref.result.now c.deref_mut.result.now other c.index-deref-id.result c.deref.ensures at.same c.index-deref-id.is in
     let grown = c.in_ok-alloc.ensures.grown in let growth = c.growth_for-growth.ensures in

@@ -1,6 +1,7 @@
 use Rattle.std.proofs.Common.{◌≡◌, ◌+◌, ◌≤◌, true, false, List, Option, Some, None, length, get_or, refl, sym, ap, ◌∙◌, subst, arith}
 use Rattle.std.specs.Prelude.{◌==◌}
 use Rattle.std.proofs.lemmas.Bool.{eq-eqb, ne_eqb}
+use Rattle.list_laws.specs.Outcomes.{always_err}
 use Rattle.std.proofs.lemmas.Result.{err_from_is_err_and}
 use Rattle.context_tree.specs.Contexts.{new_context}
 use Rattle.context_tree.specs.Links.{placed, IsFull}
@@ -8,7 +9,8 @@ use Rattle.context_tree.specs.Tree.{TreeState, Stamped, Emptied, IsBounded, with
 use Rattle.context_tree.specs.declared.error.TreeError.TheVariants.{StampsSpent}
 use Rattle.context_tree.specs.declared.context.Context.{Context}
 use Rattle.context_tree.specs.declared.links.Link.{Link}
-use Rattle.context_tree.proofs.TreeLaws.{stamp-low, stamps-made, empty-made, bounded-made, long-made, not-made}
+use Rattle.context_tree.proofs.TreeLaws.{stamp-low, stamps-made, empty-made, bounded-made, long-made, not-made, refused-made}
+use Rattle.context_tree.proofs.tree.Tree.create.Goals.{Else-self}
 use Rattle.context_tree.proofs.tree.Tree.create.Goals as goal
 
 pub add-requires-clause-later : goal.add-requires-clause-later
@@ -39,33 +41,26 @@ returns-then-self-clause-refused c =
     let spent = subst (λ (t : TreeState). (t.last == 18446744073709551615) ≡ true) c.self.view_is (eq-eqb c.self.inside.last 18446744073709551615 c.if-self.true) in
     not-made StampsSpent c.in_ok-check.ensures spent refl refl
 
+-- a stamp is left
+left : (c : Else-self) → (c.args.self.now.last == 18446744073709551615) ≡ false
+left c = subst (λ (t : TreeState). (t.last == 18446744073709551615) ≡ false) c.self.view_is (ne_eqb c.self.inside.last 18446744073709551615 c.if-self.false)
+
 pub returns-in_err-context-clause-refused : goal.returns-in_err-context-clause-refused
-returns-in_err-context-clause-refused c =
-    let e = err_from_is_err_and c.from_residual-in_err-context.result c.from_residual-in_err-context.ensures.1 in
-    let left = subst (λ (t : TreeState). (t.last == 18446744073709551615) ≡ false) c.self.view_is (ne_eqb c.self.inside.last 18446744073709551615 c.if-self.false) in
-    rw e.1 (not-made e.0 c.in_ok-check.ensures left c.in_err-context.ensures e.2)
+returns-in_err-context-clause-refused c = refused-made {here = true} {none = false} c.from_residual-in_err-context.result c.from_residual-in_err-context.ensures.1 c.in_ok-check.ensures (left (goal.at.returns-in_err-context-clause-refused c).Else-self) c.in_err-context.ensures
 
 pub returns-in_err-reserve-clause-refused : goal.returns-in_err-reserve-clause-refused
-returns-in_err-reserve-clause-refused c =
-    let e = err_from_is_err_and c.from_residual-in_err-reserve.result c.from_residual-in_err-reserve.ensures.1 in
-    let left = subst (λ (t : TreeState). (t.last == 18446744073709551615) ≡ false) c.self.view_is (ne_eqb c.self.inside.last 18446744073709551615 c.if-self.false) in
-    rw e.1 (not-made e.0 c.in_ok-check.ensures left c.in_ok-context.ensures.0 e.2)
+returns-in_err-reserve-clause-refused c = refused-made {here = true} {none = false} c.from_residual-in_err-reserve.result c.from_residual-in_err-reserve.ensures.1 c.in_ok-check.ensures (left (goal.at.returns-in_err-reserve-clause-refused c).Else-self) c.in_ok-context.ensures.0
 
 pub returns-in_err-reserve-clause-unchanged : goal.returns-in_err-reserve-clause-unchanged
 returns-in_err-reserve-clause-unchanged c =
-    let e = err_from_is_err_and c.from_residual-in_err-reserve.result c.from_residual-in_err-reserve.ensures.1 in
-    rw e.1 ((λ i. record { links = c.self.inside.links; contexts = c.reserve.ensures.items i; last = c.self.inside.last }) ∙ c.self.view_is)
+    always_err c.from_residual-in_err-reserve.result ((λ i. record { links = c.self.inside.links; contexts = c.reserve.ensures.items i; last = c.self.inside.last }) ∙ c.self.view_is)
 
 pub returns-in_err-slot-clause-refused : goal.returns-in_err-slot-clause-refused
-returns-in_err-slot-clause-refused c =
-    let e = err_from_is_err_and c.from_residual-in_err-slot.result c.from_residual-in_err-slot.ensures.1 in
-    let left = subst (λ (t : TreeState). (t.last == 18446744073709551615) ≡ false) c.self.view_is (ne_eqb c.self.inside.last 18446744073709551615 c.if-self.false) in
-    rw e.1 (not-made e.0 c.in_ok-check.ensures left c.in_ok-context.ensures.0 e.2)
+returns-in_err-slot-clause-refused c = refused-made {here = true} {none = false} c.from_residual-in_err-slot.result c.from_residual-in_err-slot.ensures.1 c.in_ok-check.ensures (left (goal.at.returns-in_err-slot-clause-refused c).Else-self) c.in_ok-context.ensures.0
 
 pub returns-in_err-slot-clause-unchanged : goal.returns-in_err-slot-clause-unchanged
 returns-in_err-slot-clause-unchanged c =
-    let e = err_from_is_err_and c.from_residual-in_err-slot.result c.from_residual-in_err-slot.ensures.1 in
-    rw e.1 ((λ i. record { links = c.in_err-slot.ensures.unchanged i; contexts = c.reserve.ensures.items i; last = c.self.inside.last }) ∙ c.self.view_is)
+    always_err c.from_residual-in_err-slot.result ((λ i. record { links = c.in_err-slot.ensures.unchanged i; contexts = c.reserve.ensures.items i; last = c.self.inside.last }) ∙ c.self.view_is)
 
 pub returns : goal.returns
 returns c =

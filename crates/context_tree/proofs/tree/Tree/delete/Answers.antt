@@ -1,27 +1,24 @@
-use Rattle.std.proofs.Common.{◌+◌, None, length, sym, ap, ◌∙◌}
+use Rattle.std.proofs.Common.{◌+◌, ap, ◌∙◌}
 use Rattle.context_tree.specs.Links.{is_below}
 use Rattle.context_tree.specs.Tree.{TreeState, deleted, held_below, held_by_all}
 use Rattle.context_tree.proofs.Bounds.{all-given}
-use Rattle.context_tree.proofs.Clearing.{length-cleared}
-use Rattle.context_tree.proofs.TreeLaws.{given-up, fields-given}
+use Rattle.context_tree.proofs.TreeLaws.{AreGivenUp, given-long, given-up, fields-given}
+use Rattle.context_tree.proofs.tree.Tree.delete.Goals.{After-give_up_free}
 use Rattle.context_tree.proofs.tree.Tree.delete.Goals as goal
 
+-- the contexts of the links that were given up
+up : (c : After-give_up_free) → AreGivenUp c.self.inside (is_below c.self.inside.links c.args.id.slot) c.cut.new.self c.deref_mut.result.now c.give_up_free.new.contexts
+up c = record { are = c.self.invariant; links = c.cut.ensures; same = c.deref_mut.ensures.value; as-long = c.give_up_free.auto.contexts; told = c.give_up_free.ensures }
+
 pub give_up_free-requires : goal.give_up_free-requires
-give_up_free-requires c =
-    let ls = c.self.inside.links in
-    ap length c.deref_mut.ensures.value ∙ c.self.invariant.long ∙ sym (ap length c.cut.ensures ∙ length-cleared (is_below ls c.args.id.slot) None 0 ls)
+give_up_free-requires c = given-long c.self.inside c.self.invariant (is_below c.self.inside.links c.args.id.slot) c.cut.new.self c.deref_mut.result.now c.cut.ensures c.deref_mut.ensures.value
 
 pub invariant_of-self : goal.invariant_of-self
-invariant_of-self c =
-    let x = c.self.inside in let slot = c.args.id.slot in
-    fields-given x c.self.invariant (is_below x.links slot) c.cut.new.self c.cut.ensures
-    c.deref_mut.result.now c.give_up_free.new.contexts c.deref_mut.ensures.value c.give_up_free.auto.contexts c.give_up_free.ensures
+invariant_of-self c = fields-given _ _ _ _ _ (up (goal.at.invariant_of-self c).After-give_up_free)
 
 pub returns-clause-space : goal.returns-clause-space
 returns-clause-space c =
-    let x = c.self.inside in let slot = c.args.id.slot in
-    given-up x c.self.invariant (is_below x.links slot) c.cut.new.self c.cut.ensures
-    c.deref_mut.result.now c.give_up_free.new.contexts c.deref_mut.ensures.value c.give_up_free.auto.contexts c.give_up_free.ensures
+    given-up _ _ _ _ _ (up (goal.at.returns-clause-space c).After-give_up_free)
     ∙ ap (λ (t : TreeState). deleted t c.args.id) c.self.view_is
 
 pub returns-clause-given : goal.returns-clause-given

@@ -1,14 +1,19 @@
-use Rattle.std.proofs.Common.{◌≡◌, true, false, sym, subst, ◌∙◌, arith}
+use Rattle.std.proofs.Common.{◌≡◌, true, false, sym, subst, arith}
 use Rattle.std.specs.Prelude.{IsTrue}
 use Rattle.std.proofs.lemmas.Bool.{not-true}
-use Rattle.std.proofs.lemmas.Result.{err_from_is_err_and}
+use Rattle.list_laws.specs.Outcomes.{always_err}
 use Rattle.chunk_layout.specs.Pieces.{place_of, without}
 use Rattle.chunk_contexts.specs.Chunks.{KeepsOthers}
 use Rattle.context_tree.specs.Contexts.{chunks_of, can_free, without_chunk, has_chunk}
 use Rattle.context_tree.specs.Tree.{is_there}
 use Rattle.context_tree.specs.declared.context.Context.{Context}
 use Rattle.context_tree.proofs.TreeLaws.{IsLent, old-is, fits-grown, said, new-by, unchanged, fields-written, refused-gone, refused-own}
+use Rattle.context_tree.proofs.tree.Tree.free.Goals.{After-deref_mut}
 use Rattle.context_tree.proofs.tree.Tree.free.Goals as goal
+
+-- the contexts are lent
+lent : (c : After-deref_mut) → IsLent c.self.inside c.args.self.now c.args.id c.deref_mut.result.now
+lent c = record { are = c.self.invariant; view = c.self.view_is; there = c.in_ok-check.ensures; same = c.deref_mut.ensures.value }
 
 pub free-requires : goal.free-requires
 free-requires c =
@@ -17,30 +22,24 @@ free-requires c =
 
 pub invariant_of-self-2 : goal.invariant_of-self-2
 invariant_of-self-2 c =
-    let at : IsLent c.self.inside c.args.self.now c.args.id c.deref_mut.result.now = record { are = c.self.invariant; view = c.self.view_is; there = c.in_ok-check.ensures; same = c.deref_mut.ensures.value } in
+    let at = lent (goal.at.invariant_of-self-2 c).After-deref_mut in
     let new = c.free.new.self in let other = c.index-deref_mut-id.result in
     fields-written _ _ _ _ at new (fits-grown _ _ _ _ at new other 0 (omega (arith, c.in_ok-free.ensures.most)) (omega (arith, at.are.bounded)))
 
 pub returns-in_err-check-clause-refused : goal.returns-in_err-check-clause-refused
-returns-in_err-check-clause-refused c =
-    let e = err_from_is_err_and c.from_residual.result c.from_residual.ensures.1 in
-    rw e.1 (refused-gone _ (is_there c.args.self.now c.args.id) e.0 c.in_err-check.ensures.0 (e.2 ∙ c.in_err-check.ensures.1))
+returns-in_err-check-clause-refused c = refused-gone _ (is_there c.args.self.now c.args.id) c.from_residual.result _ c.from_residual.ensures.1 c.in_err-check.ensures
 
 pub returns-in_err-free-clause-refused : goal.returns-in_err-free-clause-refused
 returns-in_err-free-clause-refused c =
-    let at : IsLent c.self.inside c.args.self.now c.args.id c.deref_mut.result.now = record { are = c.self.invariant; view = c.self.view_is; there = c.in_ok-check.ensures; same = c.deref_mut.ensures.value } in
-    let e = err_from_is_err_and c.from_residual-in_err-free.result c.from_residual-in_err-free.ensures.1 in
-    rw e.1 (refused-own _ (is_there c.args.self.now c.args.id) e.0 at.there c.in_err-free.field-0.0 e.2 (c.in_err-free.ensures.refused.0, said _ _ _ _ at c.free.new.self c.index-deref_mut-id.result (λ a _. can_free a ≡ false) (not-true _ c.in_err-free.ensures.refused.1)))
+    let at = lent (goal.at.returns-in_err-free-clause-refused c).After-deref_mut in
+    refused-own _ (is_there c.args.self.now c.args.id) c.from_residual-in_err-free.result c.in_err-free.field-0.0 c.from_residual-in_err-free.ensures.1 at.there (c.in_err-free.ensures.refused.0, said _ _ _ _ at c.free.new.self c.index-deref_mut-id.result (λ a _. can_free a ≡ false) (not-true _ c.in_err-free.ensures.refused.1))
 
 pub returns-in_err-free-clause-unchanged : goal.returns-in_err-free-clause-unchanged
-returns-in_err-free-clause-unchanged c =
-    let at : IsLent c.self.inside c.args.self.now c.args.id c.deref_mut.result.now = record { are = c.self.invariant; view = c.self.view_is; there = c.in_ok-check.ensures; same = c.deref_mut.ensures.value } in
-    let e = err_from_is_err_and c.from_residual-in_err-free.result c.from_residual-in_err-free.ensures.1 in
-    rw e.1 (unchanged _ _ _ _ at c.free.new.self c.index-deref_mut-id.result c.in_err-free.ensures.unchanged)
+returns-in_err-free-clause-unchanged c = always_err c.from_residual-in_err-free.result (unchanged _ _ _ _ (lent (goal.at.returns-in_err-free-clause-unchanged c).After-deref_mut) c.free.new.self c.index-deref_mut-id.result c.in_err-free.ensures.unchanged)
 
 pub returns : goal.returns
 returns c =
-    let at : IsLent c.self.inside c.args.self.now c.args.id c.deref_mut.result.now = record { are = c.self.invariant; view = c.self.view_is; there = c.in_ok-check.ensures; same = c.deref_mut.ensures.value } in
+    let at = lent (goal.at.returns c).After-deref_mut in
     let new = c.free.new.self in let other = c.index-deref_mut-id.result in
     let name = c.args.name in let told = c.in_ok-free.ensures in
     let said = said _ _ _ _ at new other in

@@ -1,32 +1,30 @@
-use Rattle.std.proofs.Common.{◌≡◌, List, Option, None, length, get_or, refl, sym, ap, ◌∙◌}
+use Rattle.std.proofs.Common.{◌≡◌, List, Option, None, get_or, refl, ap, ◌∙◌}
 use Rattle.std.proofs.lemmas.Bool.{cond-false}
 use Rattle.context_tree.specs.Contexts.{no_context}
 use Rattle.context_tree.specs.Links.{is_under}
 use Rattle.context_tree.specs.Tree.{TreeState, has_stamp, is_there, context_at, without_slots}
 use Rattle.context_tree.specs.declared.context.Context.{Context}
 use Rattle.context_tree.specs.declared.links.Link.{Link}
-use Rattle.context_tree.proofs.Clearing.{length-cleared, get_or-cleared}
+use Rattle.context_tree.proofs.Clearing.{get_or-cleared}
 use Rattle.context_tree.proofs.Forest.{not-under-itself}
-use Rattle.context_tree.proofs.TreeLaws.{all-given, given-up, fields-given}
+use Rattle.context_tree.proofs.TreeLaws.{AreGivenUp, given-long, all-given, given-up, fields-given}
+use Rattle.context_tree.proofs.tree.Tree.prune.Goals.{After-give_up_free}
 use Rattle.context_tree.proofs.tree.Tree.prune.Goals as goal
 
+-- the contexts of the links that were given up
+up : (c : After-give_up_free) → AreGivenUp c.self.inside (is_under c.self.inside.links c.args.id.slot) c.prune.new.self c.deref_mut.result.now c.give_up_free.new.contexts
+up c = record { are = c.self.invariant; links = c.prune.ensures; same = c.deref_mut.ensures.value; as-long = c.give_up_free.auto.contexts; told = c.give_up_free.ensures }
+
 pub give_up_free-requires : goal.give_up_free-requires
-give_up_free-requires c =
-    let ls = c.self.inside.links in
-    ap length c.deref_mut.ensures.value ∙ c.self.invariant.long ∙ sym (ap length c.prune.ensures ∙ length-cleared (is_under ls c.args.id.slot) None 0 ls)
+give_up_free-requires c = given-long c.self.inside c.self.invariant (is_under c.self.inside.links c.args.id.slot) c.prune.new.self c.deref_mut.result.now c.prune.ensures c.deref_mut.ensures.value
 
 pub invariant_of-self : goal.invariant_of-self
-invariant_of-self c =
-    let x = c.self.inside in let slot = c.args.id.slot in
-    fields-given x c.self.invariant (is_under x.links slot) c.prune.new.self c.prune.ensures
-    c.deref_mut.result.now c.give_up_free.new.contexts c.deref_mut.ensures.value c.give_up_free.auto.contexts c.give_up_free.ensures
+invariant_of-self c = fields-given _ _ _ _ _ (up (goal.at.invariant_of-self c).After-give_up_free)
 
 pub returns-clause-gone : goal.returns-clause-gone
 returns-clause-gone c =
-    let x = c.self.inside in let slot = c.args.id.slot in
-    given-up x c.self.invariant (is_under x.links slot) c.prune.new.self c.prune.ensures
-    c.deref_mut.result.now c.give_up_free.new.contexts c.deref_mut.ensures.value c.give_up_free.auto.contexts c.give_up_free.ensures
-    ∙ ap (λ (t : TreeState). without_slots t (is_under t.links slot)) c.self.view_is
+    given-up _ _ _ _ _ (up (goal.at.returns-clause-gone c).After-give_up_free)
+    ∙ ap (λ (t : TreeState). without_slots t (is_under t.links c.args.id.slot)) c.self.view_is
 
 pub returns-clause-there : goal.returns-clause-there
 returns-clause-there c =
@@ -40,8 +38,7 @@ pub returns-clause-same : goal.returns-clause-same
 returns-clause-same c =
     let x = c.self.inside in let slot = c.args.id.slot in
     ap (λ (cs : List Context). get_or cs slot no_context)
-    (all-given x c.self.invariant (is_under x.links slot) c.prune.new.self c.prune.ensures
-    c.deref_mut.result.now c.give_up_free.new.contexts c.deref_mut.ensures.value c.give_up_free.auto.contexts c.give_up_free.ensures)
+    (all-given _ _ _ _ _ (up (goal.at.returns-clause-same c).After-give_up_free))
     ∙ get_or-cleared (is_under x.links slot) no_context x.contexts.items slot
     ∙ cond-false (is_under x.links slot slot) no_context (get_or x.contexts.items slot no_context) (not-under-itself x.links c.is_forest.ensures slot slot refl)
     ∙ ap (λ (t : TreeState). context_at t c.args.id) c.self.view_is

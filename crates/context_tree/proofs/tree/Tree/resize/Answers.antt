@@ -1,7 +1,7 @@
 use Rattle.std.proofs.Common.{◌≡◌, ◌+◌, ◌<◌, ◌≤◌, true, None, inl, inr, get_or, sym, ap, subst, ◌∙◌, arith}
 use Rattle.std.proofs.lemmas.Bool.{cases_lt}
 use Rattle.std.specs.Prelude.{IsTrue}
-use Rattle.std.proofs.lemmas.Result.{err_from_is_err_and}
+use Rattle.list_laws.specs.Outcomes.{always_err}
 use Rattle.chunk_layout.specs.Pieces.{piece_at, place_of, resized}
 use Rattle.chunk_contexts.specs.Chunks.{chunk_of, IsResized, IsResizeRefused, KeepsOthers}
 use Rattle.context_tree.specs.Contexts.{chunks_of, chunk_bytes, room_in, refusal_of, growth_of, can_free, may_lie_in, held_by, with_resized, with_chunk, without_chunk, has_chunk}
@@ -9,7 +9,12 @@ use Rattle.context_tree.specs.Tree.{is_there}
 use Rattle.context_tree.specs.declared.context.Context.{Context}
 use Rattle.context_tree.proofs.Bounds.{resized-held}
 use Rattle.context_tree.proofs.TreeLaws.{IsLent, old-is, read-changed, fits-asked, said, new-by, unchanged, fields-written, refused-gone, refused-own}
+use Rattle.context_tree.proofs.tree.Tree.resize.Goals.{After-deref_mut}
 use Rattle.context_tree.proofs.tree.Tree.resize.Goals as goal
+
+-- the contexts are lent
+lent : (c : After-deref_mut) → IsLent c.self.inside c.args.self.now c.args.id c.deref_mut.result.now
+lent c = record { are = c.self.invariant; view = c.self.view_is; there = c.in_ok-check.ensures; same = c.deref_mut.ensures.value }
 
 pub resize-requires : goal.resize-requires
 resize-requires c =
@@ -17,27 +22,21 @@ resize-requires c =
     subst (λ (a : Context). IsTrue (has_chunk a c.args.name)) (sym old) (c.requires c.in_ok-check.ensures)
 
 pub returns-in_err-check-clause-refused : goal.returns-in_err-check-clause-refused
-returns-in_err-check-clause-refused c =
-    let e = err_from_is_err_and c.from_residual.result c.from_residual.ensures.1 in
-    rw e.1 (refused-gone _ (is_there c.args.self.now c.args.id) e.0 c.in_err-check.ensures.0 (e.2 ∙ c.in_err-check.ensures.1))
+returns-in_err-check-clause-refused c = refused-gone _ (is_there c.args.self.now c.args.id) c.from_residual.result _ c.from_residual.ensures.1 c.in_err-check.ensures
 
 pub returns-in_err-resize-clause-refused : goal.returns-in_err-resize-clause-refused
 returns-in_err-resize-clause-refused c =
-    let at : IsLent c.self.inside c.args.self.now c.args.id c.deref_mut.result.now = record { are = c.self.invariant; view = c.self.view_is; there = c.in_ok-check.ensures; same = c.deref_mut.ensures.value } in
+    let at = lent (goal.at.returns-in_err-resize-clause-refused c).After-deref_mut in
     let n = c.args.n in let own = c.in_err-resize.field-0.0 in
     let refused = said _ _ _ _ at c.resize.new.self c.index-deref_mut-id.result (λ a _. IsResizeRefused (can_free a) (refusal_of a n) (growth_of a n) (piece_at (chunks_of a) (place_of c.args.name)).room n own) c.in_err-resize.ensures.refused in
-    let e = err_from_is_err_and c.from_residual-in_err-resize.result c.from_residual-in_err-resize.ensures.1 in
-    rw e.1 (refused-own _ (is_there c.args.self.now c.args.id) e.0 at.there own e.2 refused)
+    refused-own _ (is_there c.args.self.now c.args.id) c.from_residual-in_err-resize.result own c.from_residual-in_err-resize.ensures.1 at.there refused
 
 pub returns-in_err-resize-clause-unchanged : goal.returns-in_err-resize-clause-unchanged
-returns-in_err-resize-clause-unchanged c =
-    let at : IsLent c.self.inside c.args.self.now c.args.id c.deref_mut.result.now = record { are = c.self.invariant; view = c.self.view_is; there = c.in_ok-check.ensures; same = c.deref_mut.ensures.value } in
-    let e = err_from_is_err_and c.from_residual-in_err-resize.result c.from_residual-in_err-resize.ensures.1 in
-    rw e.1 (unchanged _ _ _ _ at c.resize.new.self c.index-deref_mut-id.result c.in_err-resize.ensures.unchanged)
+returns-in_err-resize-clause-unchanged c = always_err c.from_residual-in_err-resize.result (unchanged _ _ _ _ (lent (goal.at.returns-in_err-resize-clause-unchanged c).After-deref_mut) c.resize.new.self c.index-deref_mut-id.result c.in_err-resize.ensures.unchanged)
 
 pub returns : goal.returns
 returns c =
-    let at : IsLent c.self.inside c.args.self.now c.args.id c.deref_mut.result.now = record { are = c.self.invariant; view = c.self.view_is; there = c.in_ok-check.ensures; same = c.deref_mut.ensures.value } in
+    let at = lent (goal.at.returns c).After-deref_mut in
     let new = c.resize.new.self in let other = c.index-deref_mut-id.result in
     let name = c.args.name in let n = c.args.n in let to = c.in_ok-resize.field-0 in let told = c.in_ok-resize.ensures in
     let old = old-is c.self.inside at.are c.args.self.now at.view c.args.id at.there c.deref_mut.result.now other at.same in
@@ -62,7 +61,7 @@ returns c =
 
 pub invariant_of-self-2 : goal.invariant_of-self-2
 invariant_of-self-2 c =
-    let at : IsLent c.self.inside c.args.self.now c.args.id c.deref_mut.result.now = record { are = c.self.invariant; view = c.self.view_is; there = c.in_ok-check.ensures; same = c.deref_mut.ensures.value } in
+    let at = lent (goal.at.invariant_of-self-2 c).After-deref_mut in
     let new = c.resize.new.self in let other = c.index-deref_mut-id.result in
     let name = c.args.name in let n = c.args.n in let told = c.in_ok-resize.ensures in
     let a : Context = get_or c.deref_mut.result.now c.args.id.slot other in
