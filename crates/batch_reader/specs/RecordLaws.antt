@@ -5,7 +5,6 @@ use Rattle.std.proofs.lemmas.List.Elements.{All-from_recursion}
 use Rattle.grouping_model.specs.Datum.{Kind, Row, HasKinds}
 use Rattle.grouping_model.specs.declared.limits.TheConstants.{MOST_ROWS}
 use Rattle.packed_rows.specs.FieldLaws.{read_kinds}
-use Rattle.packed_rows.specs.declared.value.ValueKind.TheVariants as kind
 use Rattle.batch_reader.specs.Rows.{ArePackedRows, ReadsRows, packings}
 
 -- the rows that records stand for have the kinds of the columns

@@ -1,11 +1,13 @@
 use Rattle.std.specs.Prelude.{◌≤◌}
-use Rattle.std.proofs.Common.{sym, ◌∙◌, subst}
+use Rattle.std.proofs.Common.{◌≡◌, Some, sym, ◌∙◌, subst}
 use Rattle.std.proofs.lemmas.Result.{err_from_is_err_and}
 use Rattle.csv.specs.Records.{fields_of}
 use Rattle.grouping_model.specs.declared.limits.TheConstants.{MOST_ROWS}
 use Rattle.packed_rows.specs.Columns.{kinds}
+use Rattle.batch_reader.specs.File.{read_file}
 use Rattle.batch_reader.specs.Views.{head_view}
 use Rattle.batch_reader.proofs.FileLaws.{file_of, no_records, no_head, head_refused, rows_refused}
+use Rattle.batch_reader.proofs.file.read_batch.Goals.{In-Some-file_head}
 use Rattle.batch_reader.proofs.file.read_batch.Goals as goal
 
 pub returns-in_err-first : goal.returns-in_err-first
@@ -30,11 +32,16 @@ returns-in_default-file_head c =
       refused = no_head (kinds c.args.schema.now) _ _ (fields_of c.in-Some.first) (sym c.new-records.ensures ∙ first) c.in_default-file_head.ensures;
     }
 
+-- what the file is read as
+is_file : (c : In-Some-file_head) → read_file c.args.file.now ≡ Some (record { head = head_view c.in-Some-file_head.head; records = c.next.new.self })
+is_file c =
+    let first = rw c.in-Some.is at c.in_ok-first.ensures in
+    file_of _ _ (fields_of c.in-Some.first) (head_view c.in-Some-file_head.head) (sym c.new-records.ensures ∙ first) c.in-Some-file_head.ensures
+
 pub returns-in_err-origin : goal.returns-in_err-origin
 returns-in_err-origin c =
     let p = err_from_is_err_and c.from_residual-in_err-origin.result c.from_residual-in_err-origin.ensures.1 in
-    let first = rw c.in-Some.is at c.in_ok-first.ensures in
-    let file = file_of _ _ (fields_of c.in-Some.first) (head_view c.in-Some-file_head.head) (sym c.new-records.ensures ∙ first) c.in-Some-file_head.ensures in
+    let file = is_file (goal.at.returns-in_err-origin c).In-Some-file_head in
     rw (p.1, p.2) (record {
       origin = tt;
       number = tt;
@@ -47,8 +54,7 @@ returns-in_err-origin c =
 pub returns-in_err-rows : goal.returns-in_err-rows
 returns-in_err-rows c =
     let p = err_from_is_err_and c.from_residual-in_err-rows.result c.from_residual-in_err-rows.ensures.1 in
-    let first = rw c.in-Some.is at c.in_ok-first.ensures in
-    let file = file_of _ _ (fields_of c.in-Some.first) (head_view c.in-Some-file_head.head) (sym c.new-records.ensures ∙ first) c.in-Some-file_head.ensures in
+    let file = is_file (goal.at.returns-in_err-rows c).In-Some-file_head in
     let head = c.in_ok-origin in
     rw (p.1, p.2) (record {
       origin = tt;
@@ -63,8 +69,7 @@ returns-in_err-rows c =
 
 pub returns : goal.returns
 returns c =
-    let first = rw c.in-Some.is at c.in_ok-first.ensures in
-    let file = file_of _ _ (fields_of c.in-Some.first) (head_view c.in-Some-file_head.head) (sym c.new-records.ensures ∙ first) c.in-Some-file_head.ensures in
+    let file = is_file (goal.at.returns c).In-Some-file_head in
     let rows = c.in_ok-rows.ensures in
     rw file (record {
       origin = c.in_ok-origin.ensures.origin;

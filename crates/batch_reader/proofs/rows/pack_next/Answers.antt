@@ -45,27 +45,24 @@ pub returns-in-None : goal.returns-in-None
 returns-in-None c =
     let inv = c.loop-row.invariant in
     let records = c.args.records.now in
-    let all = take c.args.told records in
     let last : c.loop-row.row ≡ c.args.told = omega arith in
     let long = all_told records c.args.told c.loop-row.row last inv.within in
-    let rows = kept_all (kinds c.args.schema.now) all c.loop-row.row c.loop-row.fault c.loop-row.rows (long ∙ sym last) c.in-None.is inv.kept in
+    let rows = kept_all (kinds c.args.schema.now) (take c.args.told records) c.loop-row.row c.loop-row.fault c.loop-row.rows (long ∙ sym last) c.in-None.is inv.kept in
     record {
       packed = rows;
-      told = ap length rows.2 ∙ rows_long (kinds c.args.schema.now) all rows.0 rows.1 ∙ long;
+      told = ap length rows.2 ∙ rows_long (kinds c.args.schema.now) (take c.args.told records) rows.0 rows.1 ∙ long;
       refused = tt;
       left = inv.left ∙ ap (λ n. drop n records) last;
     }
 
 pub returns-in-Some : goal.returns-in-Some
 returns-in-Some c =
-    let inv = c.loop-row.invariant in
-    let records = c.args.records.now in
-    let all = take c.args.told records in
+    let records = c.args.records.now in let inv = c.loop-row.invariant in
     let last : c.loop-row.row ≡ c.args.told = omega arith in
     let long = all_told records c.args.told c.loop-row.row last inv.within in
     record {
       packed = tt;
       told = tt;
-      refused = λ origin number head. kept_built (kinds c.args.schema.now) origin number c.args.told all c.loop-row.row c.loop-row.fault c.loop-row.rows _ head c.requires long c.in-Some.is inv.kept;
+      refused = λ origin number head. kept_built (kinds c.args.schema.now) origin number c.args.told (take c.args.told records) c.loop-row.row c.loop-row.fault c.loop-row.rows _ head c.requires long c.in-Some.is inv.kept;
       left = inv.left ∙ ap (λ n. drop n records) last;
     }
