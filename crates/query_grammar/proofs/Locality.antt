@@ -366,21 +366,20 @@ nots_agree d one two most f g a room wide fits = record {
   stays_too = stays_of _ (not_at g wide) (not_means g a.right_too wide);
 }
 
+-- operands joined by an operator
+chained_agree : (d : Bool) (one two : List Lexeme) (tails : Tails one two) (most : ℕ) (operator : List ℕ) (join : Named → Named → Named) (f g : List Lexeme → Read Named) → Agree d one two most f g
+    → Agree d one two most (λ ts. f ts >>= λ x. chain_at operator (joined join f) (length x.1) x.0 x.1) (λ ts. g ts >>= λ x. chain_at operator (joined join g) (length x.1) x.0 x.1)
+chained_agree d one two tails most operator join f g agree =
+    binds d one two most f g (λ x ts. chain_at operator (joined join f) (length ts) x ts) (λ x ts. chain_at operator (joined join g) (length ts) x ts) agree
+    (chains_agree d one two tails most operator (joined join f) (joined join g) (λ x. maps d one two most f g (λ y. join x y) agree))
+
 ands_agree : (d : Bool) (one two : List Lexeme) (most : ℕ) (f g : Inner) → Inners d one two most f g → (room wide : ℕ) (fits : Rooms d room wide) → Agree d one two (suc most) (and_at f room) (and_at g wide)
 unfolding and_at
-ands_agree d one two most f g a room wide fits =
-    binds d one two (suc most) (not_at f room) (not_at g wide) (λ x ts. chain_at (codes "and") (joined form.And (not_at f room)) (length ts) x ts) (λ x ts. chain_at (codes "and") (joined form.And (not_at g wide)) (length ts) x ts)
-    (nots_agree d one two most f g a room wide fits)
-    (chains_agree d one two a.tails (suc most) (codes "and") (joined form.And (not_at f room)) (joined form.And (not_at g wide))
-    (λ x. maps d one two (suc most) (not_at f room) (not_at g wide) (λ y. form.And x y) (nots_agree d one two most f g a room wide fits)))
+ands_agree d one two most f g a room wide fits = chained_agree d one two a.tails (suc most) (codes "and") form.And (not_at f room) (not_at g wide) (nots_agree d one two most f g a room wide fits)
 
 ors_agree : (d : Bool) (one two : List Lexeme) (most : ℕ) (f g : Inner) → Inners d one two most f g → (room wide : ℕ) (fits : Rooms d room wide) → Agree d one two (suc most) (or_at f room) (or_at g wide)
 unfolding or_at
-ors_agree d one two most f g a room wide fits =
-    binds d one two (suc most) (and_at f room) (and_at g wide) (λ x ts. chain_at (codes "or") (joined form.Or (and_at f room)) (length ts) x ts) (λ x ts. chain_at (codes "or") (joined form.Or (and_at g wide)) (length ts) x ts)
-    (ands_agree d one two most f g a room wide fits)
-    (chains_agree d one two a.tails (suc most) (codes "or") (joined form.Or (and_at f room)) (joined form.Or (and_at g wide))
-    (λ x. maps d one two (suc most) (and_at f room) (and_at g wide) (λ y. form.Or x y) (ands_agree d one two most f g a room wide fits)))
+ors_agree d one two most f g a room wide fits = chained_agree d one two a.tails (suc most) (codes "or") form.Or (and_at f room) (and_at g wide) (ands_agree d one two most f g a room wide fits)
 
 -- ---- conditions inside
 

@@ -310,23 +310,27 @@ not_means inner h room (t ∷ ts) = not_or_test inner h room (is_word (codes "no
 
 -- ---- AND and OR
 
+-- operands of one kind, joined by an operator
+chained : (operator : List ℕ) (join : Named → Named → Named) (P Q : Part Named) (operand : List Lexeme → Read Named) → ((ts : List Lexeme) → Means P ts (operand ts))
+    → ((b : Bool) (u : List Lexeme) (x : Named) → P b u x → Q b u x)
+    → ((b : Bool) (front u : List Lexeme) (x y : Named) → Q b front x → P b u y → Q b (front ++ word operator ∷ u) (join x y))
+    → (ts : List Lexeme) → Means Q ts (operand ts >>= λ x. chain_at operator (joined join operand) (length x.1) x.0 x.1)
+chained operator join P Q operand means only by ts =
+    bind P Q ts (operand ts) (λ x. chain_at operator (joined join operand) (length x.1) x.0 x.1) (means ts)
+    (λ front rest x p. chain_means operator (joined join operand) Q
+    (λ front x ts p. mapped P (λ b u y. Q b (front ++ word operator ∷ u) y) ts (operand ts) (λ y. join x y) (means ts) (λ b u y q. by b front u x y (p b) q))
+    (length rest) front x rest (λ b. only b front x (p b)))
+    (λ b front x p. ([], x, subst (λ (u : List Lexeme). Q b u x) (sym (append-nil front)) (only b front x p)))
+
 pub and_means : (inner : Inner) (h : InnerMeans inner) (room : ℕ) (ts : List Lexeme) → Means (And_part inner.limit room) ts (and_at inner room ts)
 unfolding and_at
 and_means inner h room ts =
-    bind (Not_part inner.limit room) (And_part inner.limit room) ts (not_at inner room ts) (λ x. chain_at (codes "and") (joined form.And (not_at inner room)) (length x.1) x.0 x.1) (not_means inner h room ts)
-    (λ front rest x p. chain_means (codes "and") (joined form.And (not_at inner room)) (And_part inner.limit room)
-    (λ front x ts p. mapped (Not_part inner.limit room) (λ b u y. And_part inner.limit room b (front ++ word (codes "and") ∷ u) y) ts (not_at inner room ts) (λ y. form.And x y) (not_means inner h room ts) (λ b u y q. grammar.by_and front u (p b) q))
-    (length rest) front x rest (λ b. grammar.only_not (p b)))
-    (λ b front x p. ([], x, subst (λ (u : List Lexeme). And_part inner.limit room b u x) (sym (append-nil front)) (grammar.only_not p)))
+    chained (codes "and") form.And (Not_part inner.limit room) (And_part inner.limit room) (not_at inner room) (not_means inner h room) (λ b u x p. grammar.only_not p) (λ b front u x y p q. grammar.by_and front u p q) ts
 
 pub or_means : (inner : Inner) (h : InnerMeans inner) (room : ℕ) (ts : List Lexeme) → Means (Condition_part inner.limit room) ts (or_at inner room ts)
 unfolding or_at
 or_means inner h room ts =
-    bind (And_part inner.limit room) (Condition_part inner.limit room) ts (and_at inner room ts) (λ x. chain_at (codes "or") (joined form.Or (and_at inner room)) (length x.1) x.0 x.1) (and_means inner h room ts)
-    (λ front rest x p. chain_means (codes "or") (joined form.Or (and_at inner room)) (Condition_part inner.limit room)
-    (λ front x ts p. mapped (And_part inner.limit room) (λ b u y. Condition_part inner.limit room b (front ++ word (codes "or") ∷ u) y) ts (and_at inner room ts) (λ y. form.Or x y) (and_means inner h room ts) (λ b u y q. grammar.by_or front u (p b) q))
-    (length rest) front x rest (λ b. grammar.only_and (p b)))
-    (λ b front x p. ([], x, subst (λ (u : List Lexeme). Condition_part inner.limit room b u x) (sym (append-nil front)) (grammar.only_and p)))
+    chained (codes "or") form.Or (And_part inner.limit room) (Condition_part inner.limit room) (and_at inner room) (and_means inner h room) (λ b u x p. grammar.only_and p) (λ b front u x y p q. grammar.by_or front u p q) ts
 
 -- ---- conditions inside
 
