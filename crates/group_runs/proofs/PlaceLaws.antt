@@ -1,6 +1,7 @@
 -- Where keys stand in a run.
-use Rattle.std.specs.Prelude.{◌≡◌, ◌≢◌, refl, ℕ, zero, suc, ◌+◌, ◌-◌, ◌<◌, ◌≤◌, List, [], ◌∷◌, ◌++◌, length, take, drop, Some, slice_get, slice_range}
+use Rattle.std.specs.Prelude.{◌≡◌, ◌≢◌, refl, ℕ, zero, suc, ◌+◌, ◌-◌, ◌<◌, ◌≤◌, List, [], ◌∷◌, ◌++◌, length, take, drop, Bool, Some, IsTrue, ◌↔◌, bytes_eq, nat_lt, slice_get, slice_range}
 use Rattle.std.proofs.Common.{sym, ◌∙◌, ap, subst, arith, add-one, append_assoc}
+use Rattle.std.proofs.lemmas.Slice.Eq.{bytes_eq-Decides}
 use Rattle.std.proofs.lemmas.List.{drop-take, take-append-drop, length-append, length-take}
 use Rattle.std.specs.declared.cmp.Ordering.TheVariants.{Less, Equal, Greater}
 use Rattle.std.specs.Ordering.{nat_cmp, ordering_reverse, is_lt}
@@ -98,6 +99,18 @@ key_stands run place key at =
     states_of [] place at = absurd cc
     states_of (e ∷ run) zero at = let same : e.0 ≡ key = cc in (e.1, (λ i. Some (same i, e.1)), omega arith)
     states_of (e ∷ run) (suc place) at = let rest = states_of run place at in let low = rest.2 in (rest.0, rest.1, omega (arith, low))
+
+-- whether the group at a place has a key, and past the last none has
+pub has_here : (run : List Entry) (place : ℕ) (e : Entry) (key : List ℕ) (same : Bool) → slice_get run place ≡ Some e → same ≡ bytes_eq e.0 key → IsTrue same ↔ HasKeyAt run place key
+has_here run place e key same at compared =
+    let there = key_at run place e at in
+    let decides = bytes_eq-Decides e.0 key in (
+      λ is. there ∙ ap Some (decides.0 (sym compared ∙ is)),
+      λ has. let both : Some e.0 ≡ Some key = sym there ∙ has in compared ∙ decides.1 cc,
+    )
+
+pub has_none : (run : List Entry) (place count : ℕ) (key : List ℕ) → count ≡ length run → count ≤ place → IsTrue (nat_lt place count) ↔ HasKeyAt run place key
+has_none run place count key counted past = (λ is. absurd (grind (arith, is, past)), λ has. let stands = key_stands run place key has in absurd (omega (arith, stands.low, counted, past)))
 
 key_below : (es : List Entry) (k key : List ℕ) (i : ℕ) → AllByRecursion (λ z. slice_cmp nat_cmp k z ≡ Less) (packed_keys es) → HasKeyAt es i key → slice_cmp nat_cmp k key ≡ Less
 key_below [] k key i all at = absurd cc

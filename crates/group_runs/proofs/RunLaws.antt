@@ -1,8 +1,8 @@
 -- Runs and the groups that they stand for.
 -- ---- places in lists
-use Rattle.std.specs.Prelude.{◌≡◌, ℕ, true, false, cond, List, [], ◌∷◌, ◌++◌, map, find, take, Some, option_map, IfSome, slice_get}
-use Rattle.std.proofs.Common.{sym, ◌∙◌, subst, append-nil}
-use Rattle.std.proofs.lemmas.List.{map-append}
+use Rattle.std.specs.Prelude.{◌≡◌, ℕ, ◌+◌, ◌≤◌, length, true, false, cond, List, [], ◌∷◌, ◌++◌, map, find, take, Some, option_map, IfSome, slice_get}
+use Rattle.std.proofs.Common.{sym, ◌∙◌, ap, subst, arith, append-nil}
+use Rattle.std.proofs.lemmas.List.{map-append, take_all}
 use Rattle.std.specs.declared.cmp.Ordering.{Ordering}
 use Rattle.std.specs.declared.cmp.Ordering.TheVariants.{Less}
 use Rattle.std.specs.Ordering.{nat_cmp}
@@ -15,15 +15,17 @@ use Rattle.grouping_model.specs.Grouping.{Group}
 use Rattle.grouping_model.specs.Parts.{keys_of, partials_at}
 use Rattle.packed_rows.specs.Packing.{packing}
 use Rattle.packed_rows.proofs.PackingOrder.{packed_order, row_apart}
+use Rattle.agg_protocol.specs.States.{most_rows}
 use Rattle.agg_library.specs.StateRows.{AllWithin}
 use Rattle.having_filter.specs.Kept.{key_kinds}
 use Rattle.group_runs.specs.Runs.{Entry, packed_keys, Rises}
 use Rattle.group_runs.specs.Standing.{AreGroups}
 use Rattle.group_runs.specs.Adding.{groups_added}
+use Rattle.group_runs.specs.Steps.{HasRoomForGroup, AddsGroup, HasRoomForRun, AddsRun}
 use Rattle.group_runs.proofs.StateLaws.{all_within}
 use Rattle.group_runs.specs.MergeLaws.{AreApart, rising_apart}
-use Rattle.group_runs.proofs.MergeLaws.{found_still, none_before}
-use Rattle.group_runs.specs.RunLaws.{keys_of_kinds, keys_packed}
+use Rattle.group_runs.proofs.MergeLaws.{found_still, none_before, groups_added_more}
+use Rattle.group_runs.specs.RunLaws.{keys_of_kinds, keys_packed, take_found, group_at, groups_long}
 
 -- ---- packed rows
 pub packed_once : (kinds : List Kind) (bytes : List ℕ) (x y : Row) → HasKinds kinds x → HasKinds kinds y → bytes ≡ packing x → bytes ≡ packing y → x ≡ y
@@ -59,6 +61,36 @@ pub within_at : (q : Query) (m n : ℕ) (old run : List Entry) (groups more : Li
 within_at q m n old run groups more i g are new rises at =
     subst (λ o. IfSome o (AllWithin m)) (sym (found_still q g.0 groups (take i more) (none_before more i g (run_apart q n run more new rises) at)))
     (found_within q m old groups g.0 are)
+
+-- ---- the groups of a run are added in turn
+-- those before a place were
+abbrev pub AddsFirst : Query → List Entry → List Entry → ℕ → List Entry → Type 0
+AddsFirst query old run i done =
+    (m n : ℕ) (groups more : List Group)
+    → m + n ≤ most_rows
+    → AreGroups query m old groups
+    → AreGroups query n run more
+    → AreGroups query (m + n) done (groups_added query groups (take i more))
+
+module _ (q : Query) (old run done : List Entry) (i : ℕ) (added : AddsFirst q old run i done) where
+  -- there is room for the next
+  pub room_next : (e : Entry) → slice_get run i ≡ Some e → HasRoomForRun q old run → HasRoomForGroup q done e
+  room_next e at r =
+      let found = group_at q r.1 run r.3 i e r.5 at in
+      (r.0, r.1, groups_added q r.2 (take i r.3), found.group, added r.0 r.1 r.2 r.3 r.7 r.4 r.5, within_at q r.0 r.1 old run r.2 r.3 i found.group r.4 r.5 r.6 found.at, found.stands, r.7)
+
+  -- and with it one more was
+  pub added_next : (new : List Entry) (e : Entry) → slice_get run i ≡ Some e → Rises run → AddsGroup q done e new → AddsFirst q old run (i + 1) new
+  added_next new e at rises adds = λ m n groups more low are news.
+      let found = group_at q n run more i e news at in
+      subst (AreGroups q (m + n) new) (sym (ap (groups_added q groups) (take_found more i found.group found.at) ∙ groups_added_more q groups (take i more) found.group))
+      (adds m n (groups_added q groups (take i more)) found.group low (added m n groups more low are news) (within_at q m n old run groups more i found.group are news rises found.at) found.stands)
+
+  -- in the end all were
+  pub added_all : length run ≤ i → AddsRun q old run done
+  added_all past = λ m n groups more low are news.
+      let long = groups_long q n run more news in
+      subst (λ more. AreGroups q (m + n) done (groups_added q groups more)) (take_all i more (omega (arith, past, long))) (added m n groups more low are news)
 
 -- ---- fronts
 -- the front of a rising list rises

@@ -4,7 +4,7 @@ use Rattle.std.specs.Prelude.{◌≡◌, refl, ℕ, ◌+◌, ◌<◌, ◌≤◌,
 use Rattle.std.proofs.Common.{sym, ◌∙◌, ap, subst, arith}
 use Rattle.std.proofs.lemmas.List.{append-nil}
 use Rattle.std.proofs.Math.Seq.{take-length, drop-length}
-use Rattle.grouping_model.specs.Datum.{Row, Datum, Kind, HasKinds}
+use Rattle.grouping_model.specs.Datum.{Row, Kind, HasKinds}
 use Rattle.grouping_model.specs.Aggregates.{Function, Partial, partial}
 use Rattle.grouping_model.specs.Combining.{combine, combine_all, transition}
 use Rattle.grouping_model.specs.Condition.{is_met}

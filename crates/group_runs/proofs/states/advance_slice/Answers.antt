@@ -10,12 +10,10 @@ pub returns-clause-advanced : goal.returns-clause-advanced
 returns-clause-advanced c =
     ok_both c.advance_from.result
     (λ moved within.
-    let q : Query = meaning c.args.query.now in
-    let kinds = c.agg_kinds.result.now in
-    let named = c.agg_kinds.ensures.functions in
+    let kinds = c.agg_kinds.result.now in let named = c.agg_kinds.ensures.functions in
     record {
       moved = λ most ps low are.
-          record { kinds = kinds; named = named; denote = moved most ps low (states_by (functions q) most kinds c.args.states.now ps named are) };
+          record { kinds = kinds; named = named; denote = moved most ps low (states_by (functions (meaning c.args.query.now)) most kinds c.args.states.now ps named are) };
       within = (within.0, record { kinds = kinds; named = named; denote = within.1 });
     })
     c.advance_from.ensures.moved c.advance_from.ensures.within

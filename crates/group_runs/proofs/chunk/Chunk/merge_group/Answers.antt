@@ -8,37 +8,34 @@ use Rattle.having_filter.specs.Meaning.{meaning}
 use Rattle.group_runs.specs.Runs.{Entry, Rises}
 use Rattle.group_runs.specs.Steps.{HasRoomForGroup}
 use Rattle.group_runs.proofs.RunLaws.{run_front_rises}
-use Rattle.group_runs.proofs.PlaceLaws.{moves, passes, some_moved, rises_between}
+use Rattle.group_runs.proofs.PlaceLaws.{Moves, Passes, moves, passes, some_moved, rises_between}
 use Rattle.group_runs.proofs.SpliceLaws.{present_room}
+use Rattle.group_runs.proofs.chunk.Chunk.merge_group.Goals.{Then-has_at, Else-has_at}
 use Rattle.group_runs.proofs.chunk.Chunk.merge_group.Goals as goal
+
+-- a group of the key is there
+at_key : (c : Then-has_at) → Moves c.args.self.now c.args.old.now c.args.from c.seek-place.result c.args.key.now
+at_key c = moves _ _ _ _ _ c.requires.below c.seek-place.ensures.place (c.has_at.ensures.0 c.if-has_at.true)
+
+-- there is none
+past_key : (c : Else-has_at) → Passes c.args.self.now c.args.old.now c.args.from c.seek-place.result c.args.key.now
+past_key c = passes _ _ _ _ _ c.seek-place.ensures.rises c.requires.below c.seek-place.ensures.place (λ has. false_is_not_true (sym c.if-has_at.false ∙ c.has_at.ensures.1 has))
 
 pub overflow_add-place : goal.overflow_add-place
 overflow_add-place c =
-    let done : List Entry = c.args.self.now in
-    let old : List Entry = c.args.old.now in
-    let place = c.seek-place.result in
-    let key = c.args.key.now in
-    let here = moves done old c.args.from place key c.requires.below c.seek-place.ensures.place (c.has_at.ensures.0 c.if-has_at.true) in
-    let low = here.low in
-    let few = c.seek-place.ensures.few in
-    omega (arith, low, few)
+    let here = at_key (goal.at.overflow_add-place c).Then-has_at in
+    omega (arith, here.low, c.seek-place.ensures.few)
 
 pub push_range-requires-clause-within : goal.push_range-requires-clause-within
 push_range-requires-clause-within c =
-    let done : List Entry = c.args.self.now in
-    let old : List Entry = c.args.old.now in
-    let place = c.seek-place.result in
-    let key = c.args.key.now in
-    let here = moves done old c.args.from place key c.requires.below c.seek-place.ensures.place (c.has_at.ensures.0 c.if-has_at.true) in
-    let low = here.low in
-    omega (arith, low)
+    let here = at_key (goal.at.push_range-requires-clause-within c).Then-has_at in
+    omega (arith, here.low)
 
 pub push_range-requires-clause-rises : goal.push_range-requires-clause-rises
 push_range-requires-clause-rises c =
     let done : List Entry = c.args.self.now in
     let old : List Entry = c.args.old.now in
     let place = c.seek-place.result in
-    let key = c.args.key.now in
     let behind = c.seek-place.ensures.place.behind in
     run_front_rises (done ++ slice_range old c.args.from (place + 1)) (drop (place + 1) old) (subst Rises (some_moved done old c.args.from (place + 1) (omega (arith, behind))) c.requires.rises)
 
@@ -48,7 +45,7 @@ overflow_sub-len c =
     let old : List Entry = c.args.old.now in
     let place = c.seek-place.result in
     let key = c.args.key.now in
-    let here = moves done old c.args.from place key c.requires.below c.seek-place.ensures.place (c.has_at.ensures.0 c.if-has_at.true) in
+    let here = at_key (goal.at.overflow_sub-len c).Then-has_at in
     let long = c.len.ensures.length ∙ ap length (c.in_ok-push_range.ensures.pushed ∙ here.front) ∙ length-append (done ++ slice_range old c.args.from place) ((key, here.states) ∷ []) in
     omega (arith, long)
 
@@ -59,7 +56,7 @@ combine_at-requires c =
     let old : List Entry = c.args.old.now in
     let place = c.seek-place.result in
     let key = c.args.key.now in
-    let here = moves done old c.args.from place key c.requires.below c.seek-place.ensures.place (c.has_at.ensures.0 c.if-has_at.true) in
+    let here = at_key (goal.at.combine_at-requires c).Then-has_at in
     let front : List Entry = done ++ slice_range old c.args.from place in
     let long = c.len.ensures.length ∙ ap length (c.in_ok-push_range.ensures.pushed ∙ here.front) ∙ length-append front ((key, here.states) ∷ []) in
     record {
@@ -73,24 +70,13 @@ combine_at-requires c =
 
 pub overflow_add-result : goal.overflow_add-result
 overflow_add-result c =
-    let done : List Entry = c.args.self.now in
-    let old : List Entry = c.args.old.now in
-    let place = c.seek-place.result in
-    let key = c.args.key.now in
-    let here = moves done old c.args.from place key c.requires.below c.seek-place.ensures.place (c.has_at.ensures.0 c.if-has_at.true) in
-    let low = here.low in
-    let few = c.seek-place.ensures.few in
-    omega (arith, low, few)
+    let here = at_key (goal.at.overflow_add-result c).Then-has_at in
+    omega (arith, here.low, c.seek-place.ensures.few)
 
 pub returns-then-has_at-clause-within : goal.returns-then-has_at-clause-within
 returns-then-has_at-clause-within c =
-    let done : List Entry = c.args.self.now in
-    let old : List Entry = c.args.old.now in
-    let place = c.seek-place.result in
-    let key = c.args.key.now in
-    let here = moves done old c.args.from place key c.requires.below c.seek-place.ensures.place (c.has_at.ensures.0 c.if-has_at.true) in
-    let low = here.low in
-    omega (arith, low)
+    let here = at_key (goal.at.returns-then-has_at-clause-within c).Then-has_at in
+    omega (arith, here.low)
 
 -- a group of the key was there
 there : (c : goal.After-combine_at) → Merged (meaning c.args.query.now) (c.args.self.now ++ drop c.args.from c.args.old.now) c.args.key.now c.args.states.now c.combine_at.new.self (drop (c.seek-place.result + 1) c.args.old.now)
@@ -99,7 +85,7 @@ there c =
     let old : List Entry = c.args.old.now in
     let place = c.seek-place.result in
     let key = c.args.key.now in
-    let here = moves done old c.args.from place key c.requires.below c.seek-place.ensures.place (c.has_at.ensures.0 c.if-has_at.true) in
+    let here = at_key (goal.at.returns-then-has_at-clause-rises c).Then-has_at in
     let front : List Entry = done ++ slice_range old c.args.from place in
     let long = c.len.ensures.length ∙ ap length (c.in_ok-push_range.ensures.pushed ∙ here.front) ∙ length-append front ((key, here.states) ∷ []) in
     let given = c.combine_at.ensures front (key, here.states) [] (c.in_ok-push_range.ensures.pushed ∙ here.front) (omega (arith, long)) in
@@ -119,7 +105,6 @@ push_range-requires-2-clause-rises c =
     let done : List Entry = c.args.self.now in
     let old : List Entry = c.args.old.now in
     let place = c.seek-place.result in
-    let key = c.args.key.now in
     run_front_rises (done ++ slice_range old c.args.from place) (drop place old) (subst Rises (some_moved done old c.args.from place c.seek-place.ensures.place.behind) c.requires.rises)
 
 pub push-requires : goal.push-requires
@@ -128,7 +113,7 @@ push-requires c =
     let old : List Entry = c.args.old.now in
     let place = c.seek-place.result in
     let key = c.args.key.now in
-    let here = passes done old c.args.from place key c.seek-place.ensures.rises c.requires.below c.seek-place.ensures.place (λ has. false_is_not_true (sym c.if-has_at.false ∙ c.has_at.ensures.1 has)) in
+    let here = past_key (goal.at.push-requires c).Else-has_at in
     let front : List Entry = done ++ slice_range old c.args.from place in
     let rises : Rises front = run_front_rises front (drop place old) (subst Rises here.whole c.requires.rises) in
     subst (λ run. Rises (run ++ (key, c.args.states.now) ∷ [])) (sym c.in_ok-push_range-2.ensures.pushed)
@@ -141,7 +126,7 @@ new c =
     let old : List Entry = c.args.old.now in
     let place = c.seek-place.result in
     let key = c.args.key.now in
-    let here = passes done old c.args.from place key c.seek-place.ensures.rises c.requires.below c.seek-place.ensures.place (λ has. false_is_not_true (sym c.if-has_at.false ∙ c.has_at.ensures.1 has)) in
+    let here = past_key (goal.at.returns-clause-rises c).Else-has_at in
     merged_new (meaning c.args.query.now) done old c.args.from place key c.args.states.now c.push.new.self here c.requires.rises
     (c.in_ok-push.ensures.pushed ∙ ap (λ run. run ++ (key, c.args.states.now) ∷ []) c.in_ok-push_range-2.ensures.pushed)
 

@@ -1,45 +1,35 @@
-use Rattle.std.specs.Prelude.{◌≡◌, ◌++◌, length, map, slice_range, slice_index_or, ◌∷◌}
+use Rattle.std.specs.Prelude.{◌≡◌, ◌++◌, ℕ, List, length, map, slice_range, slice_index_or, ◌∷◌}
 use Rattle.std.proofs.Common.{sym, ◌∙◌, ap, subst, arith, rules}
 use Rattle.std.specs.List.{AllByRecursion}
-use Rattle.group_runs.specs.Runs.{LieAs, all_cut, moved, keys_on_end, states_on_end, IsEndFrom}
+use Rattle.group_runs.specs.Runs.{Entry, LieAs, cut, all_cut, moved, keys_on_end, states_on_end, IsEndFrom}
 use Rattle.group_runs.proofs.FlatLaws.{cut_long, cut_is, are_run, range_fits, pushed_range}
 use Rattle.group_runs.proofs.chunk.Chunk.push_range.Goals as goal
 
+-- there are as many groups as ends
+counted : (keys states : List ℕ) (ends : List (ℕ × ℕ)) (run : List Entry) → cut keys states (0, 0) ends ≡ run → length run ≡ length ends
+counted keys states ends run is = ap length (sym is) ∙ cut_long keys states (0, 0) ends
+
 pub bound-start-requires : goal.bound-start-requires
 bound-start-requires c =
-    let order = c.requires.order in
-    let within = c.requires.within in
-    let long : length c.args.other.now ≡ length c.other.inside.ends.items = ap length (sym c.other.view_is) ∙ cut_long c.other.inside.keys.items c.other.inside.states.items (0, 0) c.other.inside.ends.items in
-    let same = ap length c.deref.ensures.value in
-    omega (arith, order, within, long, same)
+    let other = c.other.inside in
+    omega (arith, c.requires.order, c.requires.within, counted other.keys.items other.states.items other.ends.items _ c.other.view_is, ap length c.deref.ensures.value)
 
 pub parts-requires-clause-within : goal.parts-requires-clause-within
-parts-requires-clause-within c =
-    let within = c.requires.within in
-    let long : length c.args.other.now ≡ length c.other.inside.ends.items = ap length (sym c.other.view_is) ∙ cut_long c.other.inside.keys.items c.other.inside.states.items (0, 0) c.other.inside.ends.items in
-    let same = ap length c.deref-4.ensures.value in
-    omega (arith, within, long, same)
+parts-requires-clause-within c = let other = c.other.inside in omega (arith, c.requires.within, counted other.keys.items other.states.items other.ends.items _ c.other.view_is, ap length c.deref-4.ensures.value)
 
 pub part-requires-clause-within : goal.part-requires-clause-within
-part-requires-clause-within c =
-    let within = c.requires.within in
-    let long : length c.args.other.now ≡ length c.other.inside.ends.items = ap length (sym c.other.view_is) ∙ cut_long c.other.inside.keys.items c.other.inside.states.items (0, 0) c.other.inside.ends.items in
-    let same = ap length c.deref-5.ensures.value in
-    omega (arith, within, long, same)
+part-requires-clause-within c = let other = c.other.inside in omega (arith, c.requires.within, counted other.keys.items other.states.items other.ends.items _ c.other.view_is, ap length c.deref-5.ensures.value)
 
 pub push_ends-requires-clause-within : goal.push_ends-requires-clause-within
 push_ends-requires-clause-within c =
-    let order = c.requires.order in
-    let within = c.requires.within in
     let other = c.other.inside in
-    let viewed = ap length c.other.view_is in
     let start : c.bound-start.result ≡ slice_index_or ((0, 0) ∷ other.ends.items) c.args.from (0, 0) = c.bound-start.ensures ∙ ap (λ ends. slice_index_or ((0, 0) ∷ ends) c.args.from (0, 0)) c.deref.ensures.value in
     let key_counted = other.keys.ok in
     let key_few = other.keys.small in
     let state_counted = other.states.ok in
     let state_few = other.states.small in
     subst (AllByRecursion (IsEndFrom c.bound-start.result)) (sym (c.part.ensures ∙ ap (λ ends. slice_range ends c.args.from c.args.to) c.deref-5.ensures.value))
-    (range_fits other.keys.items other.states.items other.ends.items c.args.other.now c.args.from c.args.to c.bound-start.result (subst (LieAs other.keys.items other.states.items other.ends.items) c.other.view_is c.other.invariant.lie) order within start (omega (arith, key_counted, key_few)) (omega (arith, state_counted, state_few)))
+    (range_fits other.keys.items other.states.items other.ends.items c.args.other.now c.args.from c.args.to c.bound-start.result (subst (LieAs other.keys.items other.states.items other.ends.items) c.other.view_is c.other.invariant.lie) c.requires.order c.requires.within start (omega (arith, key_counted, key_few)) (omega (arith, state_counted, state_few)))
 
 -- the groups with those of the other
 lie : (c : goal.In_ok-extend_from_slice-2) → LieAs c.extend_from_slice.new.self.items c.extend_from_slice-2.new.self.items c.push_ends.new.ends.items (c.args.self.now ++ slice_range c.args.other.now c.args.from c.args.to)

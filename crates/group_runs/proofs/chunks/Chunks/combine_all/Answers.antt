@@ -1,17 +1,11 @@
-use Rattle.std.specs.Prelude.{◌≡◌, ◌+◌, ℕ, length, take, slice_get}
-use Rattle.std.proofs.Common.{refl, sym, ◌∙◌, ap, subst, arith}
-use Rattle.std.proofs.lemmas.List.{take_all}
-use Rattle.grouping_model.specs.Query.{Query}
+use Rattle.std.specs.Prelude.{◌+◌, take, slice_get}
+use Rattle.std.proofs.Common.{refl, ◌∙◌, ap, arith}
 use Rattle.having_filter.specs.Meaning.{meaning}
-use Rattle.group_runs.specs.Runs.{packed_keys}
-use Rattle.group_runs.specs.Standing.{AreGroups}
-use Rattle.group_runs.specs.Adding.{groups_added}
+use Rattle.group_runs.specs.Runs.{Entry, packed_keys}
 use Rattle.group_runs.specs.Places.{HasKey}
 use Rattle.group_runs.specs.StateLaws.{all_at}
 use Rattle.group_runs.specs.EntryLaws.{groups_raised}
-use Rattle.group_runs.proofs.MergeLaws.{groups_added_more}
-use Rattle.group_runs.specs.RunLaws.{take_found, group_at, groups_long}
-use Rattle.group_runs.proofs.RunLaws.{within_at}
+use Rattle.group_runs.proofs.RunLaws.{room_next, added_next, added_all}
 use Rattle.group_runs.proofs.PlaceLaws.{key_at, all_up_to, keys_next}
 use Rattle.packed_rows.specs.RowsOnEnd.{on_end}
 use Rattle.group_runs.proofs.chunks.Chunks.combine_all.Goals as goal
@@ -26,47 +20,21 @@ combine_group-from-requires-clause-there c =
     (has.0, ap (λ keys. slice_get keys has.0) c.loop-place.invariant.keys ∙ has.1)
 
 pub combine_group-from-requires-clause-room : goal.combine_group-from-requires-clause-room
-combine_group-from-requires-clause-room c =
-    let q : Query = meaning c.args.query.now in
-    let r = c.requires.room in
-    let i : ℕ = c.loop-place.place in
-    let found = group_at q r.1 (on_end c.args.more.now) r.3 i _ r.5 c.group.ensures in (
-      r.0,
-      r.1,
-      groups_added q r.2 (take i r.3),
-      found.group,
-      c.loop-place.invariant.added r.0 r.1 r.2 r.3 r.7 r.4 r.5,
-      within_at q r.0 r.1 (on_end c.args.self.now) (on_end c.args.more.now) r.2 r.3 i found.group r.4 r.5 r.6 found.at,
-      found.stands,
-      r.7,
-    )
+combine_group-from-requires-clause-room c = room_next _ _ _ _ c.loop-place.place c.loop-place.invariant.added _ c.group.ensures c.requires.room
 
 pub loop-place-preserved : goal.loop-place-preserved
 loop-place-preserved c =
-    let q : Query = meaning c.args.query.now in
-    let i : ℕ = c.loop-place.place in
+    let i = c.loop-place.place in let run = on_end c.args.more.now in let entry : Entry = (c.group.result.0.now, c.group.result.1.now) in
+    let after = c.combine_group-from.ensures in
     record {
-      within = c.combine_group-from.ensures.within;
-      below = λ e at. all_up_to c.group.result.0.now e.0 (take c.combine_group-from.result (on_end c.combine_group-from.new.self)) (keys_next (on_end c.args.more.now) i (c.group.result.0.now, c.group.result.1.now) e c.len-place-end.ensures.rises c.group.ensures at) c.combine_group-from.ensures.up_to;
-      keys = c.combine_group-from.ensures.keys ∙ c.loop-place.invariant.keys;
-      added =
-          λ m n groups more low are new.
-          let found = group_at q n (on_end c.args.more.now) more i _ new c.group.ensures in
-          subst (AreGroups q (m + n) (on_end c.combine_group-from.new.self)) (sym (ap (groups_added q groups) (take_found more i found.group found.at) ∙ groups_added_more q groups (take i more) found.group))
-          (c.combine_group-from.ensures.added m n (groups_added q groups (take i more)) found.group low (c.loop-place.invariant.added m n groups more low are new)
-          (within_at q m n (on_end c.args.self.now) (on_end c.args.more.now) groups more i found.group are new c.requires.room.6 found.at)
-          found.stands);
+      within = after.within;
+      below = λ e at. all_up_to entry.0 e.0 (take c.combine_group-from.result (on_end c.combine_group-from.new.self)) (keys_next run i entry e c.len-place-end.ensures.rises c.group.ensures at) after.up_to;
+      keys = after.keys ∙ c.loop-place.invariant.keys;
+      added = added_next _ _ _ _ i c.loop-place.invariant.added _ entry c.group.ensures c.requires.room.6 after.added;
     }
 
 pub returns : goal.returns
-returns c =
-    λ m n groups more low are new.
-    let q : Query = meaning c.args.query.now in
-    let past = c.loop-place-test.false in
-    let long : length (on_end c.args.more.now) ≡ length more = groups_long q n (on_end c.args.more.now) more new in
-    let counted = c.len-place-end.ensures.length in
-    subst (λ more. AreGroups q (m + n) (on_end c.loop-place.self) (groups_added q groups more)) (take_all c.loop-place.place more (omega (arith, past, long, counted)))
-    (c.loop-place.invariant.added m n groups more low are new)
+returns c = added_all _ _ _ _ c.loop-place.place c.loop-place.invariant.added (omega (arith, c.loop-place-test.false, c.len-place-end.ensures.length))
 
 pub combine_group-from-requires-clause-below : goal.combine_group-from-requires-clause-below
 combine_group-from-requires-clause-below c = c.loop-place.invariant.below (c.group.result.0.now, c.group.result.1.now) c.group.ensures

@@ -10,6 +10,7 @@ use Rattle.packed_rows.specs.RowsOnEnd.{on_end}
 use Rattle.group_runs.specs.Chunks.{IsAmong, AreChunks}
 use Rattle.group_runs.proofs.ChunkLaws.{got_by, got_low, got_same, states_in, combined_in, set_counts}
 use Rattle.group_runs.proofs.FlatLaws.{same_keys_rise}
+use Rattle.group_runs.proofs.chunks.Chunks.combine_at.Goals.{After-index_mut}
 use Rattle.group_runs.proofs.chunks.Chunks.combine_at.Goals as goal
 
 -- where the chunk of a group stands
@@ -39,14 +40,19 @@ combined_are these chunks ends place at start chunk new more are h has combines 
       rises = subst Rises (sym whole.1) (same_keys_rise has.front has.entry.0 has.entry.1 whole.0 has.back (subst Rises has.is are.rises));
     }
 
+-- here it stands
+at_group : (c : After-index_mut) → Here c.self.inside.chunks.items c.args.place c.chunk_of-at.result c.start-start.result c.index_mut.result.now
+at_group c =
+    let chunks = c.self.inside.chunks.items in
+    let at = c.chunk_of-at.result in
+    here chunks c.args.place at c.start-start.result c.index_mut.result.now (subst (λ cs. IsAmong cs c.args.place at) (sym c.self.view_is) c.chunk_of-at.ensures)
+    (c.start-start.ensures ∙ ap (λ cs. length (on_end (take at cs))) (sym c.self.view_is)) (λ low. got_by chunks at c.index_mut.result.now low c.index_mut.ensures.value)
+
 pub combine_at-requires : goal.combine_at-requires
 combine_at-requires c =
     let chunks = c.self.inside.chunks.items in
-    let place = c.args.place in
-    let at = c.chunk_of-at.result in
-    let these : List Function = functions (meaning c.args.query.now) in
-    let h = here chunks place at c.start-start.result c.index_mut.result.now (subst (λ cs. IsAmong cs place at) (sym c.self.view_is) c.chunk_of-at.ensures) (c.start-start.ensures ∙ ap (λ cs. length (on_end (take at cs))) (sym c.self.view_is)) (λ low. got_by chunks at c.index_mut.result.now low c.index_mut.ensures.value) in
-    states_in these chunks place at c.index_mut.result.now (place - c.start-start.result) c.args.more.now h.is h.long h.low (subst (λ cs. HasStatesFor these (on_end cs) place c.args.more.now) (sym c.self.view_is) c.requires)
+    let h = at_group (goal.at.combine_at-requires c).After-index_mut in
+    states_in (functions (meaning c.args.query.now)) chunks c.args.place c.chunk_of-at.result c.index_mut.result.now (c.args.place - c.start-start.result) c.args.more.now h.is h.long h.low (subst (λ cs. HasStatesFor (functions (meaning c.args.query.now)) (on_end cs) c.args.place c.args.more.now) (sym c.self.view_is) c.requires)
 
 pub invariant_of-self : goal.invariant_of-self
 invariant_of-self c =
@@ -54,7 +60,7 @@ invariant_of-self c =
     let place = c.args.place in
     let at = c.chunk_of-at.result in
     let these : List Function = functions (meaning c.args.query.now) in
-    let h = here chunks place at c.start-start.result c.index_mut.result.now (subst (λ cs. IsAmong cs place at) (sym c.self.view_is) c.chunk_of-at.ensures) (c.start-start.ensures ∙ ap (λ cs. length (on_end (take at cs))) (sym c.self.view_is)) (λ low. got_by chunks at c.index_mut.result.now low c.index_mut.ensures.value) in
+    let h = at_group (goal.at.invariant_of-self c).After-index_mut in
     combined_are these chunks c.self.inside.ends.items place at c.start-start.result c.index_mut.result.now c.combine_at.new.self c.args.more.now c.self.invariant h (subst (λ cs. HasStatesFor these (on_end cs) place c.args.more.now) (sym c.self.view_is) c.requires) c.combine_at.ensures
 
 pub returns : goal.returns
@@ -63,6 +69,6 @@ returns c =
     let place = c.args.place in
     let at = c.chunk_of-at.result in
     let these : List Function = functions (meaning c.args.query.now) in
-    let h = here chunks place at c.start-start.result c.index_mut.result.now (subst (λ cs. IsAmong cs place at) (sym c.self.view_is) c.chunk_of-at.ensures) (c.start-start.ensures ∙ ap (λ cs. length (on_end (take at cs))) (sym c.self.view_is)) (λ low. got_by chunks at c.index_mut.result.now low c.index_mut.ensures.value) in
+    let h = at_group (goal.at.returns c).After-index_mut in
     subst (λ cs. CombinesAt these (on_end cs) place c.args.more.now (on_end (slice_set chunks at c.combine_at.new.self))) c.self.view_is
     (combined_in these chunks place at c.index_mut.result.now c.combine_at.new.self (place - c.start-start.result) c.args.more.now h.is h.long h.low c.combine_at.ensures)

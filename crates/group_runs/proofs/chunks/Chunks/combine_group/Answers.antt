@@ -7,17 +7,24 @@ use Rattle.group_runs.specs.Steps.{HasRoomForGroup, AddsGroup}
 use Rattle.group_runs.proofs.FlatLaws.{same_keys}
 use Rattle.std.proofs.lemmas.List.{length-append}
 use Rattle.group_runs.specs.Places.{AreUpTo}
-use Rattle.group_runs.proofs.PlaceLaws.{up_to_here, key_stands, found_place, below_front}
+use Rattle.group_runs.proofs.PlaceLaws.{KeyStands, up_to_here, key_stands, found_place, below_front}
 use Rattle.group_runs.proofs.SpliceLaws.{present_room, present_added}
 use Rattle.packed_rows.specs.RowsOnEnd.{on_end}
+use Rattle.group_runs.proofs.chunks.Chunks.combine_group.Goals.{After-seek-place}
 use Rattle.group_runs.proofs.chunks.Chunks.combine_group.Goals as goal
+
+-- the group of the key
+stands : (c : After-seek-place) → KeyStands (on_end c.args.self.now) c.seek-place.result c.args.key.now
+stands c =
+    let found = c.seek-place.ensures in
+    key_stands _ _ _ (found_place (on_end c.args.self.now) c.args.from c.args.key.now c.seek-place.result found.rises c.requires.below found.place c.requires.there)
 
 pub combine_at-requires : goal.combine_at-requires
 combine_at-requires c =
     let q : Query = meaning c.args.query.now in
     let run : List Entry = (on_end c.args.self.now) in
     let place = c.seek-place.result in
-    let here = key_stands run place c.args.key.now (found_place run c.args.from c.args.key.now place c.seek-place.ensures.rises c.requires.below c.seek-place.ensures.place c.requires.there) in
+    let here = stands (goal.at.combine_at-requires c).After-seek-place in
     record {
       front = take place run;
       entry = (c.args.key.now, here.states);
@@ -33,7 +40,7 @@ returns-clause-added c =
     let q : Query = meaning c.args.query.now in
     let run : List Entry = (on_end c.args.self.now) in
     let place = c.seek-place.result in
-    let here = key_stands run place c.args.key.now (found_place run c.args.from c.args.key.now place c.seek-place.ensures.rises c.requires.below c.seek-place.ensures.place c.requires.there) in
+    let here = stands (goal.at.returns-clause-added c).After-seek-place in
     let given = c.combine_at.ensures (take place run) (c.args.key.now, here.states) (drop (place + 1) run) here.is here.long in
     subst (AddsGroup q run (c.args.key.now, c.args.states.now)) (sym given.1)
     (subst (λ run. AddsGroup q run (c.args.key.now, c.args.states.now) (take place (on_end c.args.self.now) ++ (c.args.key.now, given.0) ∷ drop (place + 1) (on_end c.args.self.now))) (sym here.is)
@@ -43,24 +50,20 @@ pub returns-clause-keys : goal.returns-clause-keys
 returns-clause-keys c =
     let run : List Entry = (on_end c.args.self.now) in
     let place = c.seek-place.result in
-    let here = key_stands run place c.args.key.now (found_place run c.args.from c.args.key.now place c.seek-place.ensures.rises c.requires.below c.seek-place.ensures.place c.requires.there) in
+    let here = stands (goal.at.returns-clause-keys c).After-seek-place in
     let given = c.combine_at.ensures (take place run) (c.args.key.now, here.states) (drop (place + 1) run) here.is here.long in
     ap packed_keys given.1 ∙ same_keys (take place run) c.args.key.now given.0 here.states (drop (place + 1) run) ∙ ap packed_keys (sym here.is)
 
 pub overflow_add-result : goal.overflow_add-result
 overflow_add-result c =
-    let run : List Entry = (on_end c.args.self.now) in
-    let place = c.seek-place.result in
-    let here = key_stands run place c.args.key.now (found_place run c.args.from c.args.key.now place c.seek-place.ensures.rises c.requires.below c.seek-place.ensures.place c.requires.there) in
-    let low = here.low in
-    let few = c.seek-place.ensures.few in
-    omega (arith, low, few)
+    let here = stands (goal.at.overflow_add-result c).After-seek-place in
+    omega (arith, here.low, c.seek-place.ensures.few)
 
 pub returns-clause-within : goal.returns-clause-within
 returns-clause-within c =
     let run : List Entry = (on_end c.args.self.now) in
     let place = c.seek-place.result in
-    let here = key_stands run place c.args.key.now (found_place run c.args.from c.args.key.now place c.seek-place.ensures.rises c.requires.below c.seek-place.ensures.place c.requires.there) in
+    let here = stands (goal.at.returns-clause-within c).After-seek-place in
     let given = c.combine_at.ensures (take place run) (c.args.key.now, here.states) (drop (place + 1) run) here.is here.long in
     let all = ap length given.1 ∙ length-append (take place run) ((c.args.key.now, given.0) ∷ drop (place + 1) run) in
     let long = here.long in
@@ -71,7 +74,7 @@ returns-clause-up_to c =
     let run : List Entry = (on_end c.args.self.now) in
     let place = c.seek-place.result in
     let key = c.args.key.now in
-    let here = key_stands run place key (found_place run c.args.from key place c.seek-place.ensures.rises c.requires.below c.seek-place.ensures.place c.requires.there) in
+    let here = stands (goal.at.returns-clause-up_to c).After-seek-place in
     let given = c.combine_at.ensures (take place run) (key, here.states) (drop (place + 1) run) here.is here.long in
     subst (λ new. AreUpTo key (take (place + 1) new)) (sym given.1)
     (up_to_here (take place run) (drop (place + 1) run) key given.0 place here.long (below_front run c.args.from key place c.requires.below c.seek-place.ensures.place))

@@ -24,13 +24,11 @@ merged-requires-clause-room c =
     let q : Query = meaning c.args.query.now in
     let chunks = c.args.self.now in
     let more = on_end c.args.more.now in
-    let at = c.part-at.result.0 in
     let from = c.loop-from.from in
     let to = c.part-at.result.1 in
-    let some = c.part-at.ensures.some in
-    let whole : more ≡ take from more ++ (slice_range more from to ++ drop to more) = sym (take-append-drop from more) ∙ ap (λ es. take from more ++ es) (drop_split more from to (omega (arith, some))) in
-    room_part q (on_end (take at chunks)) c.chunk.result.now (on_end (drop (at + 1) chunks)) (take from more) (slice_range more from to) (drop to more)
-    (subst (λ es. HasRoomForRun q es (take from more ++ (slice_range more from to ++ drop to more))) (around chunks at c.chunk.result.now c.chunk.ensures) (subst (HasRoomForRun q (on_end chunks)) whole c.requires.room))
+    let whole : more ≡ take from more ++ (slice_range more from to ++ drop to more) = sym (take-append-drop from more) ∙ ap (λ es. take from more ++ es) (drop_split more from to (omega (arith, c.part-at.ensures.some))) in
+    room_part q (on_end (take c.part-at.result.0 chunks)) c.chunk.result.now (on_end (drop (c.part-at.result.0 + 1) chunks)) (take from more) (slice_range more from to) (drop to more)
+    (subst (λ es. HasRoomForRun q es (take from more ++ (slice_range more from to ++ drop to more))) (around chunks c.part-at.result.0 c.chunk.result.now c.chunk.ensures) (subst (HasRoomForRun q (on_end chunks)) whole c.requires.room))
     (range_rises more from to c.len.ensures.rises)
 
 pub overflow_add-first : goal.overflow_add-first

@@ -33,24 +33,17 @@ loop-first-preserved-then-is_below c =
 pub loop-first-preserved : goal.loop-first-preserved
 loop-first-preserved c =
     let i = c.loop-first.invariant in
-    let end : ℕ = c.start-end.result in
     let entry : Entry = (c.last_group.result.0.now, c.last_group.result.1.now) in
     let not_below : IsNotBelow c.args.key.now entry = search rules in
-    let within = i.between.within in
-    let low = c.if-end-low.false in
-    let high = c.if-end-high.false in
-    let many = i.many in
-    let some = c.loop-first-test.true in
-    let step = c.min.ensures in
     record {
       between = record {
         behind = i.between.behind;
-        order = omega (arith, low);
-        within = omega (arith, high, within);
+        order = omega (arith, c.if-end-low.false);
+        within = omega (arith, c.if-end-high.false, i.between.within);
         below = i.between.below;
-        not_below = not_below_from (on_end c.args.self.now) (end - 1) entry c.args.key.now c.len-high.ensures.rises c.last_group.ensures not_below;
+        not_below = not_below_from (on_end c.args.self.now) (c.start-end.result - 1) entry c.args.key.now c.len-high.ensures.rises c.last_group.ensures not_below;
       };
-      many = omega (arith, many, some, step);
+      many = omega (arith, i.many, c.loop-first-test.true, c.min.ensures);
       begun = i.begun;
       ended = omega (arith, c.start-end.ensures);
     }

@@ -8,7 +8,7 @@ use Rattle.group_runs.proofs.ChunkLaws.{front_few, got_low}
 use Rattle.group_runs.proofs.ComeLaws.{IsFor, for_place, for_last, comes_up_to, comes_all}
 use Rattle.group_runs.specs.PlaceLaws.{drop_at}
 use Rattle.group_runs.proofs.chunks.Chunks.part.Goals as goal
-use Rattle.group_runs.proofs.chunks.Chunks.part.Goals.{then-place-count, else-place-count}
+use Rattle.group_runs.proofs.chunks.Chunks.part.Goals.{After-row_known-1, then-place-count, else-place-count}
 
 pub seek-place-requires : goal.seek-place-requires
 seek-place-requires c =
@@ -16,11 +16,11 @@ seek-place-requires c =
     let is = c.start.ensures in
     omega (arith, few, is)
 
-pub overflow_add-at : goal.overflow_add-at
-overflow_add-at c =
+-- the chunk into which the first of the groups comes
+for_chunk : (c : After-row_known-1) → IsFor c.args.self.now c.args.first c.group.result.0.now c.if-place-count.at
+for_chunk c =
     let e : Entry = (c.group.result.0.now, c.group.result.1.now) in
     let before : AllBelow e.0 (on_end (take c.args.first c.args.self.now)) = (subst (AreBefore (on_end (take c.args.first c.args.self.now))) (drop_at (on_end c.args.more.now) c.args.from e c.group.ensures) c.requires.above).0 in
-    let for : IsFor c.args.self.now c.args.first e.0 c.if-place-count.at =
     elim c.if-place-count.branch [
       | then-place-count w ↦
           let test = w.if-place-count.true in
@@ -33,7 +33,11 @@ overflow_add-at c =
           let there = c.requires.there in
           let is = w.at-is in
           for_last c.args.self.now c.args.first c.start.result e.0 c.seek-place.result c.if-place-count.at c.start.ensures before c.seek-place.ensures.place (omega (arith, test, counted)) there (omega (arith, many, there, is))
-    ] in
+    ]
+
+pub overflow_add-at : goal.overflow_add-at
+overflow_add-at c =
+    let for = for_chunk (goal.at.overflow_add-at c).After-row_known-1 in
     let low = got_low c.args.self.now c.if-place-count.at for.chunk for.is in
     let many = c.count-last.ensures in
     let fits = c.count-last.type_inv in
@@ -42,41 +46,13 @@ overflow_add-at c =
 pub returns-then-end-count : goal.returns-then-end-count
 returns-then-end-count c =
     let e : Entry = (c.group.result.0.now, c.group.result.1.now) in
-    let before : AllBelow e.0 (on_end (take c.args.first c.args.self.now)) = (subst (AreBefore (on_end (take c.args.first c.args.self.now))) (drop_at (on_end c.args.more.now) c.args.from e c.group.ensures) c.requires.above).0 in
-    let for : IsFor c.args.self.now c.args.first e.0 c.if-place-count.at =
-    elim c.if-place-count.branch [
-      | then-place-count w ↦
-          let test = w.if-place-count.true in
-          let counted = c.len-count.ensures.length in
-          for_place c.args.self.now c.args.first c.start.result e.0 c.seek-place.result c.if-place-count.at c.len-count.ensures.rises c.start.ensures before c.seek-place.ensures.place (omega (arith, test, counted)) (subst (IsAmong c.args.self.now c.seek-place.result) (sym w.at-is) w.chunk_of-at.ensures)
-      | else-place-count w ↦
-          let test = w.if-place-count.false in
-          let counted = c.len-count.ensures.length in
-          let many = c.count-last.ensures in
-          let there = c.requires.there in
-          let is = w.at-is in
-          for_last c.args.self.now c.args.first c.start.result e.0 c.seek-place.result c.if-place-count.at c.start.ensures before c.seek-place.ensures.place (omega (arith, test, counted)) there (omega (arith, many, there, is))
-    ] in
+    let for = for_chunk (goal.at.returns-then-end-count c).After-row_known-1 in
     comes_up_to c.args.self.now c.args.first c.if-place-count.at (on_end c.args.more.now) c.args.from e c.len-count.ensures.rises c.seek.ensures.rises c.group.ensures for c.start-end.result (c.group-then-end-count.result.0.now, c.group-then-end-count.result.1.now) c.seek.result c.start-end.ensures c.group-then-end-count.ensures c.seek.ensures.place
 
 pub returns-else-end-count : goal.returns-else-end-count
 returns-else-end-count c =
     let e : Entry = (c.group.result.0.now, c.group.result.1.now) in
-    let before : AllBelow e.0 (on_end (take c.args.first c.args.self.now)) = (subst (AreBefore (on_end (take c.args.first c.args.self.now))) (drop_at (on_end c.args.more.now) c.args.from e c.group.ensures) c.requires.above).0 in
-    let for : IsFor c.args.self.now c.args.first e.0 c.if-place-count.at =
-    elim c.if-place-count.branch [
-      | then-place-count w ↦
-          let test = w.if-place-count.true in
-          let counted = c.len-count.ensures.length in
-          for_place c.args.self.now c.args.first c.start.result e.0 c.seek-place.result c.if-place-count.at c.len-count.ensures.rises c.start.ensures before c.seek-place.ensures.place (omega (arith, test, counted)) (subst (IsAmong c.args.self.now c.seek-place.result) (sym w.at-is) w.chunk_of-at.ensures)
-      | else-place-count w ↦
-          let test = w.if-place-count.false in
-          let counted = c.len-count.ensures.length in
-          let many = c.count-last.ensures in
-          let there = c.requires.there in
-          let is = w.at-is in
-          for_last c.args.self.now c.args.first c.start.result e.0 c.seek-place.result c.if-place-count.at c.start.ensures before c.seek-place.ensures.place (omega (arith, test, counted)) there (omega (arith, many, there, is))
-    ] in
+    let for = for_chunk (goal.at.returns-else-end-count c).After-row_known-1 in
     let past = c.if-end-count.false in
     let counted = c.len-count.ensures.length in
     subst (ComeInto c.args.self.now c.args.first (on_end c.args.more.now) c.args.from c.if-place-count.at) (sym c.len-else-end-count.ensures.length)

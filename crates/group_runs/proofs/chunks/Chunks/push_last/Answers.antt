@@ -3,18 +3,23 @@ use Rattle.std.proofs.Common.{sym, ◌∙◌, ap, subst, arith, append_assoc, ru
 use Rattle.group_runs.specs.Runs.{Entry, Rises}
 use Rattle.packed_rows.specs.RowsOnEnd.{on_end, ends_of}
 use Rattle.group_runs.proofs.ChunkLaws.{got_by, ends_many, last_whole, last_more, rises_back, LastMore}
+use Rattle.group_runs.proofs.chunks.Chunks.push_last.Goals.{After-index_mut}
 use Rattle.group_runs.proofs.chunks.Chunks.push_last.Goals as goal
+
+-- the last chunk
+chunk_is : (c : After-index_mut) → (length c.self.inside.chunks.items ≡ c.len-last.result - 1 + 1) × (slice_get c.self.inside.chunks.items (c.len-last.result - 1) ≡ Some c.index_mut.result.now)
+chunk_is c =
+    let counted : c.len-last.result ≡ length c.self.inside.chunks.items = search rules in
+    let many : length c.self.inside.chunks.items ≡ c.len-last.result - 1 + 1 = omega (arith, counted, ap length c.self.view_is, c.requires.some) in
+    (many, got_by c.self.inside.chunks.items (c.len-last.result - 1) c.index_mut.result.now (omega (arith, many)) c.index_mut.ensures.value)
 
 pub push-requires : goal.push-requires
 push-requires c =
     let chunks = c.self.inside.chunks.items in
     let last = c.len-last.result - 1 in
     let one : List Entry = (c.args.key.now, c.args.states.now) ∷ [] in
-    let counted : c.len-last.result ≡ length chunks = search rules in
-    let view = ap length c.self.view_is in
-    let some = c.requires.some in
-    let is : slice_get chunks last ≡ Some c.index_mut.result.now = got_by chunks last c.index_mut.result.now (omega (arith, counted, view, some)) c.index_mut.ensures.value in
-    let whole = last_whole chunks last c.index_mut.result.now (omega (arith, counted, view, some)) is in
+    let last_chunk = chunk_is (goal.at.push-requires c).After-index_mut in
+    let whole = last_whole chunks last c.index_mut.result.now last_chunk.0 last_chunk.1 in
     rises_back (on_end (take last chunks)) (c.index_mut.result.now ++ one)
     (subst Rises (append_assoc (on_end (take last chunks)) c.index_mut.result.now one)
     (subst (λ es. Rises (es ++ one)) whole (subst (λ cs. Rises (on_end cs ++ one)) (sym c.self.view_is) c.requires.rises)))
@@ -35,12 +40,9 @@ more c =
     let chunks = c.self.inside.chunks.items in
     let last = c.len-last.result - 1 in
     let one : List Entry = (c.args.key.now, c.args.states.now) ∷ [] in
-    let counted : c.len-last.result ≡ length chunks = search rules in
-    let view = ap length c.self.view_is in
-    let some = c.requires.some in
-    let is : slice_get chunks last ≡ Some c.index_mut.result.now = got_by chunks last c.index_mut.result.now (omega (arith, counted, view, some)) c.index_mut.ensures.value in
+    let last_chunk = chunk_is (goal.at.returns-clause-pushed c).After-index_mut in
     let before = c.len-end.ensures.length ∙ ap (λ cs. length (on_end cs)) (sym c.self.view_is) in
-    last_more chunks c.self.inside.ends.items last c.index_mut.result.now one (c.len-end.result + 1) c.self.invariant.ends_are (omega (arith, counted, view, some)) is (omega (arith, before))
+    last_more chunks c.self.inside.ends.items last c.index_mut.result.now one (c.len-end.result + 1) c.self.invariant.ends_are last_chunk.0 last_chunk.1 (omega (arith, before))
 
 pub invariant_of-self-2 : goal.invariant_of-self-2
 invariant_of-self-2 c =
