@@ -1,5 +1,5 @@
--- Laws: how often the disk of tapes failed, by what was refused.
-use Rattle.std.specs.Prelude.{◌≡◌, ℕ, refl, false, if◌then◌else◌}
+-- Laws: how often the disk of tapes failed, by what was refused, and what a refusal is of.
+use Rattle.std.specs.Prelude.{◌≡◌, ◌≢◌, ℕ, refl, false, if◌then◌else◌}
 use Rattle.std.proofs.Common.{ap}
 use Rattle.packed_rows.specs.declared.error.RowError.{RowError}
 use Rattle.packed_rows.specs.declared.error.RowError.TheVariants as row
@@ -14,8 +14,10 @@ use Rattle.origin_prefix.specs.declared.error.JoinError.TheVariants as join
 use Rattle.replica_merge.specs.Errors.{merge_faults}
 use Rattle.replica_merge.specs.declared.error.MergeError.{MergeError}
 use Rattle.replica_merge.specs.declared.error.MergeError.TheVariants as merge
+use Rattle.replies.specs.Batches.{IsOfBatch}
 use Rattle.replies.specs.Refusals.{refusal_faults, columns_refusal, batch_refusal, spill_refusal, join_refusal, merge_refusal}
 use Rattle.replies.specs.Text.{is_tape_fault, faults_in}
+use Rattle.replies.specs.declared.refusal.Refusal.TheVariants.{NoMemory}
 use Rattle.replies.specs.declared.reply.Reply.{Reply}
 use Rattle.replies.specs.declared.reply.Reply.TheVariants as says
 
@@ -42,6 +44,11 @@ batch_tells batch.TooManyRows = refl
 batch_tells batch.RowCount = refl
 batch_tells (batch.WrongWidth row) = refl
 batch_tells (batch.BadField row column) = refl
+
+-- and is of the batch, unless memory ran out
+pub batch_own : (error : BatchError) → batch_refusal error ≢ NoMemory → IsOfBatch (batch_refusal error)
+batch_own batch.NoMemory other = other refl
+batch_own error other = tt
 
 pub row_tells : (error : RowError) → is_tape_fault (says.Refused (columns_refusal error)) ≡ false
 row_tells row.NoMemory = refl

@@ -9,7 +9,7 @@ ghost use Rattle.having_filter.specs.Meaning.{meaning};
 ghost use Rattle.hash_agg.specs.Counting.{AreCounted, setting_by};
 ghost use Rattle.origin_prefix.specs.Parts.{Disagrees, aggregations_on};
 ghost use Rattle.replica_merge.specs.Counting.{MergeIsCounted};
-ghost use Rattle.replica_merge.specs.Replicas.{part_of, told, Fits};
+ghost use Rattle.replica_merge.specs.Replicas.{part_of, told, Fits, DeliversAt};
 ghost use Rattle.tape_disks.specs.Calls.{failed};
 ghost use Rattle.tape_disks.specs.Disk.{Leaves};
 ghost use Rattle.replies.specs.declared.refusal.Refusal.TheVariants.{OriginDisagrees, TapeDamaged};
@@ -42,6 +42,9 @@ pub fn take_batch<H: KeyHash + Copy, D: TapeDisk>(
         ≡ reply_of (told replica.old.parts) (batch.origin, batch.number)) }
     ensures told { OnOk result (told replica.new.parts
         ≡ learn (told replica.old.parts) (batch.origin, batch.number)) }
+    // What becomes of the part of the batch's origin; the others stay.
+    ensures delivers { IfOk result (DeliversAt (D.honest disk.old) replica.old.query replica.old.parts
+        batch.origin batch.number batch.rows replica.new.parts) }
     // Whatever fields and records the batch was read of, it is their batch that the replica takes.
     ensures took { IfOk result (TakesRead (D.honest disk.old) batch replica.old replica.new) }
     ensures counted { OnOk result (IsTrue (D.honest disk.old) →

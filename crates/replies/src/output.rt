@@ -2,7 +2,7 @@
 
 ghost use Rattle.std.specs.Prelude.{◌++◌, decimal, MatchResult};
 ghost use Rattle.std.specs.Io.KnownBytes.{Appends};
-ghost use Rattle.script_io.specs.Output.{TakesFront};
+ghost use Rattle.script_io.specs.Output.{StopsShort};
 ghost use Rattle.replies.specs.Text.{line, delivered_text, answer_text, said_text};
 
 use crate::reply::Reply;
@@ -15,7 +15,7 @@ use std::io::Write;
 fn put_two<W: Write>(writer: &mut W, first: &[u8], second: &[u8]) -> Result<(), WriteFault>
     ensures { MatchResult result
         (λ _. Appends (W.contents writer.old) (W.contents writer.new) (first.now ++ second.now))
-        (λ _. TakesFront (W.contents writer.old) (W.contents writer.new)
+        (λ _. StopsShort (W.contents writer.old) (W.contents writer.new)
         (first.now ++ second.now)) }
 {
     put_all(writer, first)?;
@@ -26,7 +26,7 @@ fn put_two<W: Write>(writer: &mut W, first: &[u8], second: &[u8]) -> Result<(), 
 fn put_line<W: Write>(writer: &mut W, word: &[u8], rest: &[u8]) -> Result<(), WriteFault>
     ensures { MatchResult result
         (λ _. Appends (W.contents writer.old) (W.contents writer.new) (line word.now rest.now))
-        (λ _. TakesFront (W.contents writer.old) (W.contents writer.new)
+        (λ _. StopsShort (W.contents writer.old) (W.contents writer.new)
         (line word.now rest.now)) }
 {
     put_two(writer, word, rest)?;
@@ -38,7 +38,7 @@ fn put_count<W: Write>(writer: &mut W, word: &[u8], count: usize) -> Result<(), 
     ensures { MatchResult result
         (λ _. Appends (W.contents writer.old) (W.contents writer.new)
         (line word.now (decimal count)))
-        (λ _. TakesFront (W.contents writer.old) (W.contents writer.new)
+        (λ _. StopsShort (W.contents writer.old) (W.contents writer.new)
         (line word.now (decimal count))) }
 {
     put_line(writer, word, Buffer::new().format(count).as_bytes())
@@ -48,7 +48,7 @@ fn put_count<W: Write>(writer: &mut W, word: &[u8], count: usize) -> Result<(), 
 fn put_delivered<W: Write>(writer: &mut W, delivered: Delivered) -> Result<(), WriteFault>
     ensures { MatchResult result
         (λ _. Appends (W.contents writer.old) (W.contents writer.new) (delivered_text delivered))
-        (λ _. TakesFront (W.contents writer.old) (W.contents writer.new)
+        (λ _. StopsShort (W.contents writer.old) (W.contents writer.new)
         (delivered_text delivered)) }
 {
     match delivered {
@@ -63,7 +63,7 @@ fn put_answer<W: Write>(writer: &mut W, rows: usize, table: &[u8]) -> Result<(),
     ensures { MatchResult result
         (λ _. Appends (W.contents writer.old) (W.contents writer.new)
         (answer_text rows table.now))
-        (λ _. TakesFront (W.contents writer.old) (W.contents writer.new)
+        (λ _. StopsShort (W.contents writer.old) (W.contents writer.new)
         (answer_text rows table.now)) }
 {
     put_count(writer, b"answer ", rows)?;
@@ -74,7 +74,7 @@ fn put_answer<W: Write>(writer: &mut W, rows: usize, table: &[u8]) -> Result<(),
 pub fn put_reply<W: Write>(writer: &mut W, reply: &Reply<'_>) -> Result<(), WriteFault>
     ensures { MatchResult result
         (λ _. Appends (W.contents writer.old) (W.contents writer.new) (said_text reply.now))
-        (λ _. TakesFront (W.contents writer.old) (W.contents writer.new)
+        (λ _. StopsShort (W.contents writer.old) (W.contents writer.new)
         (said_text reply.now)) }
 {
     match reply {
