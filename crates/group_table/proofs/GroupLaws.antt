@@ -12,7 +12,7 @@ use Rattle.group_table.specs.Standing.{IsSetWith, KeepsOthers, IsBump, IsSlabOf,
 use Rattle.group_table.specs.Arrays.{OnlyIn}
 use Rattle.group_table.specs.declared.table.Slot.{Slot}
 use Rattle.group_table.proofs.StandLaws.{bump_with, slab_with, set_by}
-use Rattle.group_table.proofs.TreeFacts.{at_same, at_other, placed_kept, same_links, same_last, same_number, same_others, held_changed}
+use Rattle.group_table.proofs.TreeFacts.{at_same, at_other, placed_kept, same_links, same_number, held_changed, only_its_own}
 
 -- functions that are the same at each member
 map_same : {X Y : Type 0} → (f g : X → Y) → (xs : List X) → ((i : ℕ) → (x : X) → slice_get xs i ≡ Some x → f x ≡ g x) → map f xs ≡ map g xs
@@ -52,12 +52,7 @@ module _ {H : Type 0} (hash_of : H → List ℕ → ℕ) (t : TableState H) wher
     kept slot there = let told = keeps slot.key (is.stands.groups.keys_live slot there) in (told.1, told.2)
 
     pub others_by_key : KeepsOthers t tree after
-    others_by_key = record {
-      links = same_links t.keys tree after only_keys;
-      last = same_last t.keys tree after only_keys;
-      number = same_number t.keys tree after only_keys;
-      others = λ slot not_buckets not_keys not_states. same_others t.keys tree after only_keys slot not_keys;
-    }
+    others_by_key = only_its_own t t.keys tree after only_keys (λ slot not_buckets not_keys not_states. not_keys)
 
     pub key_taken : IsStanding hash_of t after
     key_taken = record {
@@ -99,12 +94,7 @@ module _ {H : Type 0} (hash_of : H → List ℕ → ℕ) (t : TableState H) wher
     state_kept slot there = let told = keeps slot.state (is.stands.groups.states_live slot there) in (told.1, told.2)
 
     pub others_by_state : KeepsOthers t tree after
-    others_by_state = record {
-      links = same_links t.states tree after only_states;
-      last = same_last t.states tree after only_states;
-      number = same_number t.states tree after only_states;
-      others = λ slot not_buckets not_keys not_states. same_others t.states tree after only_states slot not_states;
-    }
+    others_by_state = only_its_own t t.states tree after only_states (λ slot not_buckets not_keys not_states. not_states)
 
     pub state_taken : IsStanding hash_of t after
     state_taken = record {

@@ -12,7 +12,7 @@ use Rattle.group_table.specs.Standing.{IsSetWith, IsBesideFirst, HasSpace, IsArr
 use Rattle.group_table.specs.Arrays.{OnlyIn, HasNext, IsNext, with_next, with_slot, with_spare}
 use Rattle.group_table.specs.declared.table.Slot.{Slot}
 use Rattle.group_table.proofs.StandLaws.{set_of, set_with}
-use Rattle.group_table.proofs.TreeFacts.{at_other, same_links, same_last, same_number, same_others, held_changed}
+use Rattle.group_table.proofs.TreeFacts.{at_other, held_changed, only_its_own}
 
 -- the group at a place
 slice_map : {X Y : Type 0} → (f : X → Y) → (xs : List X) → (i : ℕ) → slice_get (map f xs) i ≡ option_map f (slice_get xs i)
@@ -77,12 +77,7 @@ module _ {H : Type 0} (t : TableState H) where
     }
 
     pub others_left : KeepsOthers t a b
-    others_left = record {
-      links = same_links t.buckets a b only;
-      last = same_last t.buckets a b only;
-      number = same_number t.buckets a b only;
-      others = λ slot not_buckets not_keys not_states. same_others t.buckets a b only slot not_buckets;
-    }
+    others_left = only_its_own t t.buckets a b only (λ slot not_buckets not_keys not_states. not_buckets)
 
     pub held_left : held_below b t.parent + held_by (context_at a t.buckets) ≡ held_below a t.parent + held_by (context_at b t.buckets)
     held_left = held_changed a b t.parent t.buckets only placed.buckets.below placed.buckets.within

@@ -10,7 +10,7 @@ use Rattle.context_tree.specs.declared.links.ContextId.{ContextId}
 use Rattle.context_tree.specs.declared.links.Link.{Link}
 use Rattle.group_table.specs.Arrays.{OnlyIn}
 use Rattle.group_table.specs.Table.{TableState}
-use Rattle.group_table.specs.Standing.{IsChild, IsApart, IsPlaced}
+use Rattle.group_table.specs.Standing.{IsChild, IsApart, IsPlaced, KeepsOthers}
 
 module _ (t : TreeState) (id : ContextId) (c : Context) where
   pub at_same : id.slot < length t.contexts → context_at (with_context t id c) id ≡ c
@@ -48,6 +48,15 @@ module _ (id : ContextId) (a b : TreeState) (only : OnlyIn id a b) where
 
   pub same_others : (slot : ℕ) → slot ≢ id.slot → get_or b.contexts slot no_context ≡ get_or a.contexts slot no_context
   same_others slot differ = ap (λ (t : TreeState). get_or t.contexts slot no_context) only ∙ get_or-set_other a.contexts id.slot slot (context_at b id) no_context differ
+
+-- where it is one of the three contexts of a table, the others stay
+pub only_its_own : {H : Type 0} (t : TableState H) (id : ContextId) (a b : TreeState) → OnlyIn id a b → ((slot : ℕ) → slot ≢ t.buckets.slot → slot ≢ t.keys.slot → slot ≢ t.states.slot → slot ≢ id.slot) → KeepsOthers t a b
+only_its_own t id a b only own = record {
+  links = same_links id a b only;
+  last = same_last id a b only;
+  number = same_number id a b only;
+  others = λ slot not_buckets not_keys not_states. same_others id a b only slot (own slot not_buckets not_keys not_states);
+}
 
 -- a table is placed alike in a tree with the same links
 module _ {H : Type 0} (t : TableState H) (a b : TreeState) (links : b.links ≡ a.links) (number : length b.contexts ≡ length a.contexts) where

@@ -14,7 +14,7 @@ use Rattle.group_table.specs.Standing.{IsSetWith, IsBump, IsSlabOf, IsFirst, Has
 use Rattle.group_table.specs.Arrays.{OnlyIn}
 use Rattle.group_table.specs.declared.table.Slot.{Slot}
 use Rattle.group_table.proofs.GroupLaws.{other_states}
-use Rattle.group_table.proofs.TreeFacts.{at_same, at_other, placed_kept, same_links, same_last, same_number, same_others}
+use Rattle.group_table.proofs.TreeFacts.{at_same, at_other, placed_kept, same_links, same_number, only_its_own}
 
 slab_wrote : (width : ℕ) (c : Context) (place : Place) (ws : List ℕ) → IsSlabOf width c → IsSlabOf width (with_bytes c place ws)
 slab_wrote width (AllocSet s) place ws is = is
@@ -110,12 +110,7 @@ module _ {H : Type 0} (hash_of : H → List ℕ → ℕ) (t : TableState H) (tre
     }
 
     pub others_written : KeepsOthers t tree after
-    others_written = record {
-      links = same_links t.states tree after only;
-      last = same_last t.states tree after only;
-      number = same_number t.states tree after only;
-      others = λ place not_buckets not_keys not_states. same_others t.states tree after only place not_states;
-    }
+    others_written = only_its_own t t.states tree after only (λ slot not_buckets not_keys not_states. not_states)
 
     pub groups_written : (i : ℕ) → slice_get t.slots i ≡ Some slot → chunk_bytes (with_bytes states (place_of slot.state) ws) slot.state ≡ ws → groups t after ≡ slice_set (groups t tree) i (key_in t tree slot, ws)
     groups_written i at_i holds =
