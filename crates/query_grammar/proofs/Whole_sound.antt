@@ -130,23 +130,28 @@ clause_means limit w ts =
     (λ rest. mapped (Condition_part limit limit) (λ b u x. Clause_part limit w b (word w ∷ u) x) rest (condition_at limit limit rest) (λ x. Some x) (condition_means limit limit rest) (λ b u x p. grammar.clause p))
     (done (Clause_part limit w) ts None (λ b. grammar.no_clause))
 
+-- a list behind a word and BY, or nothing
+by_list_means : {A : Type 0} (first : List ℕ) (P : Part A) (Q : Part (List A)) (one : List Lexeme → Read A) → ((ts : List Lexeme) → Means P ts (one ts))
+    → ((b : Bool) (u : List Lexeme) (xs : List A) → List_part P b u xs → Q b (word first ∷ word (codes "by") ∷ u) xs)
+    → ((b : Bool) → CanBecome (λ u xs. Q b (word first ∷ word (codes "by") ∷ u) xs) []) → ((b : Bool) → Q b [] [])
+    → (ts : List Lexeme) → Means Q ts (choose (after (is_word first) ts) (λ rest. expect (is_word (codes "by")) rest >>= λ by. list_at one (length by.1) by.1) (Ok ([], ts)))
+by_list_means first P Q one means listed can none ts =
+    chosen Q (word first) (is_word first) (word_law first) ts (λ rest. expect (is_word (codes "by")) rest >>= λ by. list_at one (length by.1) by.1) (Ok ([], ts))
+    (λ rest. expected (λ b u xs. Q b (word first ∷ u) xs) (word (codes "by")) (is_word (codes "by")) (word_law (codes "by")) rest (λ rest2. list_at one (length rest2) rest2)
+    (λ rest2. weaken (List_part P) (λ b u xs. Q b (word first ∷ word (codes "by") ∷ u) xs) rest2 (list_at one (length rest2) rest2) listed (list_means P one means (length rest2) rest2)) can)
+    (done Q ts [] none)
+
 keys_means : (ts : List Lexeme) → Means Keys_part ts (keys_at ts)
 unfolding keys_at
 keys_means ts =
-    chosen Keys_part (word (codes "group")) (is_word (codes "group")) (word_law (codes "group")) ts (λ rest. expect (is_word (codes "by")) rest >>= λ by. list_at name_at (length by.1) by.1) (Ok ([], ts))
-    (λ rest. expected (λ b u x. IsKeys (word (codes "group") ∷ u) x) (word (codes "by")) (is_word (codes "by")) (word_law (codes "by")) rest (λ rest2. list_at name_at (length rest2) rest2)
-    (λ rest2. weaken (List_part Key_part) (λ b u x. IsKeys (word (codes "group") ∷ word (codes "by") ∷ u) x) rest2 (list_at name_at (length rest2) rest2) (λ b u x p. grammar.keys p) (list_means Key_part name_at is_name_means (length rest2) rest2))
-    (λ b. (Name (codes "a") ∷ [], codes "a" ∷ [], grammar.keys (grammar.last (grammar.name a_name)))))
-    (done Keys_part ts [] (λ b. grammar.no_keys))
+    by_list_means (codes "group") Key_part Keys_part name_at is_name_means (λ b u x p. grammar.keys p) (λ b. (Name (codes "a") ∷ [], codes "a" ∷ [], grammar.keys (grammar.last (grammar.name a_name)))) (λ b. grammar.no_keys) ts
 
 order_means : (ts : List Lexeme) → Means Order_part ts (order_at ts)
 unfolding order_at
 order_means ts =
-    chosen Order_part (word (codes "order")) (is_word (codes "order")) (word_law (codes "order")) ts (λ rest. expect (is_word (codes "by")) rest >>= λ by. list_at term_at (length by.1) by.1) (Ok ([], ts))
-    (λ rest. expected (λ b u x. IsOrder (word (codes "order") ∷ u) x) (word (codes "by")) (is_word (codes "by")) (word_law (codes "by")) rest (λ rest2. list_at term_at (length rest2) rest2)
-    (λ rest2. weaken (List_part Term_part) (λ b u x. IsOrder (word (codes "order") ∷ word (codes "by") ∷ u) x) rest2 (list_at term_at (length rest2) rest2) (λ b u x p. grammar.order p) (list_means Term_part term_at term_means (length rest2) rest2))
-    (λ b. (Integer (pos 1) ∷ [], record { target = By_place (pos 1); descending = false; nulls_first = None } ∷ [], grammar.order (grammar.last (grammar.term (Integer (pos 1) ∷ []) [] [] grammar.by_place grammar.no_direction grammar.no_nulls)))))
-    (done Order_part ts [] (λ b. grammar.no_order))
+    by_list_means (codes "order") Term_part Order_part term_at term_means (λ b u x p. grammar.order p)
+    (λ b. (Integer (pos 1) ∷ [], record { target = By_place (pos 1); descending = false; nulls_first = None } ∷ [], grammar.order (grammar.last (grammar.term (Integer (pos 1) ∷ []) [] [] grammar.by_place grammar.no_direction grammar.no_nulls))))
+    (λ b. grammar.no_order) ts
 
 nothing_means : (Q : Part (Unit {0})) (ts : List Lexeme) → ((b : Bool) → Q b [] tt) → Means Q ts (nothing_at ts)
 nothing_means Q [] q = done Q [] tt q
