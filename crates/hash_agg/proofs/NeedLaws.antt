@@ -1,16 +1,21 @@
 -- What the table of a pass needs.
 use Rattle.std.specs.Prelude.{◌≡◌, refl, ℕ, zero, suc, ◌<◌, ◌≤◌, nat_le, true, false, max, List, [], ◌∷◌, ◌++◌, map, length, slice_get, slice_set, Some, Ok, Err, IfOk, OnOk}
 use Rattle.std.specs.declared.result.Result.{Result}
-use Rattle.std.proofs.Common.{sym, ◌∙◌, ap, arith}
+use Rattle.std.proofs.Common.{sym, ◌∙◌, ap, subst, arith}
 use Rattle.std.proofs.lemmas.Bool.Decides.{nat_tests}
 use Rattle.std.proofs.lemmas.List.{map-append}
 use Rattle.aggregation_cost.specs.Cost.{greatest}
 use Rattle.aggregation_cost.specs.Space.{Key, Setting, need, fits, fronts}
 use Rattle.aggregation_cost.proofs.CostLaws.{one_fits}
 use Rattle.context_tree.specs.Tree.{TreeState}
-use Rattle.group_table.specs.Space.{key_of, keys_in}
-use Rattle.group_table.specs.Table.{TableState, IsSameBut, group_in, groups}
+use Rattle.group_table.specs.SipHashes.{low_hash}
+use Rattle.group_table.specs.Space.{HoldsKeys, key_of, keys_in}
+use Rattle.group_table.specs.Standing.{IsTableIn}
+use Rattle.group_table.specs.Table.{TableState, IsSlot, IsSameBut, key_in, state_in, group_in, groups}
+use Rattle.group_table.specs.declared.table.Slot.{Slot}
 use Rattle.group_runs.specs.Runs.{Entry, packed_keys}
+use Rattle.hash_agg.specs.Passes.{GroupsState, AreHeld}
+use Rattle.hash_agg.proofs.TableLaws.{get_mapped}
 
 -- one key more has one front more
 fronts_more : {X : Type 0} (xs : List X) (x : X) → fronts (xs ++ x ∷ []) ≡ fronts xs ++ (xs ++ x ∷ []) ∷ []
@@ -67,6 +72,21 @@ none_needed t tree none = ap (λ slots. greatest (map (need t.width) (fronts (ma
 pub same_needed : {Hash : Type 0} (t : TableState Hash) (before after : TreeState) (place most : ℕ) (key states more : List ℕ) → slice_get (groups t before) place ≡ Some (key, states) → groups t after ≡ slice_set (groups t before) place (key, more) → most ≡ greatest (map (need t.width) (fronts (keys_in t before))) → most ≡ greatest (map (need t.width) (fronts (keys_in t after)))
 same_needed t before after place most key states more at written is =
     is ∙ ap (λ keys. greatest (map (need t.width) (fronts keys))) (sym (ap (map key_of) written ∙ keys_set (groups t before) place key states more at))
+
+-- the states of a group are written over
+pub still_held : {H : Type 0} (x old : GroupsState H) (slot : Slot) (after : TreeState) (states : List ℕ) → x ≡ old → AreHeld x → IsSlot old.table slot → IsTableIn low_hash x.table after
+    → (HoldsKeys x.table x.tree → HoldsKeys x.table after)
+    → ((place : ℕ) → slice_get x.table.slots place ≡ Some slot → groups x.table after ≡ slice_set (groups x.table x.tree) place (key_in x.table x.tree slot, states))
+    → AreHeld (record { table = x.table; tree = after; most_held = x.most_held; hash = x.hash })
+still_held {H = H} x old slot after states view are is stands holds written =
+    let at = subst (λ (y : GroupsState H). slice_get y.table.slots is.0 ≡ Some slot) (sym view) is.1 in
+    record {
+      in_tree = stands;
+      by_keys = holds are.by_keys;
+      most =
+          same_needed x.table x.tree after is.0 x.most_held (key_in x.table x.tree slot) (state_in x.table x.tree slot) states (get_mapped (group_in x.table x.tree) x.table.slots is.0 slot at)
+          (written is.0 at) are.most;
+    }
 
 -- what a success tells holds of all that it leaves
 pub ok_from : {T E : Type 0} (r : Result T E) (P : T → Type 0) {A : Type 0} → ((x : T) → P x → A) → IfOk r P → OnOk r A

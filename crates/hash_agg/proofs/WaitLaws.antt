@@ -2,7 +2,6 @@
 use Rattle.std.specs.Prelude.{◌≡◌, ◌≢◌, refl, ℕ, zero, suc, ◌+◌, ◌<◌, ◌≤◌, ◌⊎◌, ◌==◌, ◌-◌, ◌/◌, ◌%◌, ◌^◌, nat_lt, Bool, true, false, not, cond, List, [], ◌∷◌, ◌++◌, map, filter, slice_get, Option, Some, None}
 use Rattle.std.specs.List.{AllByRecursion, range_with_len}
 use Rattle.std.proofs.Common.{sym, ◌∙◌, ap, subst, inl, inr, arith}
-use Rattle.std.proofs.lemmas.Bool.Decides.{nat_tests}
 use Rattle.std.proofs.lemmas.List.{map-append}
 use Rattle.std.proofs.lemmas.List.Filters.{sum_by-filter_both}
 use Rattle.list_laws.specs.Each.{each_append, each_weaker}
@@ -15,6 +14,7 @@ use Rattle.grouping_model.specs.Parts.{partials_at, with_row}
 use Rattle.grouping_model.specs.DatumOrderLaws.{same_row-is}
 use Rattle.packed_rows.specs.Packing.{packing}
 use Rattle.spill_tapes.specs.Records.{Record}
+use Rattle.spill_lists.proofs.CountLaws.{is_not, is_it, is_past}
 use Rattle.spill_lists.specs.Lists.{LeftList, list_of, on_list, deeper, is_none, lists, left_by}
 use Rattle.group_runs.specs.Runs.{Entry}
 use Rattle.hash_agg.specs.Passes.{Piece, Of_row, Of_group, IsPiece, ArePieces, piece_key, piece_added, pieces_added, made_of, weight, rows_at, CountUpTo, AreOnce, Stands}
@@ -175,15 +175,6 @@ some_listed q hf level rs ps are a (suc n) = (are_on q hf level a rs ps are, som
 some_fewer : (q : Query) (hf : List ℕ → ℕ) (level : ℕ) (ps : List Piece) (a n : ℕ) → AllByRecursion (λ rest. (k : Row) → rows_at q k rest ≤ rows_at q k ps) (some_rests q hf level ps a n)
 some_fewer q hf level ps a zero = tt
 some_fewer q hf level ps a (suc n) = (fewer_of q (falls_on hf level a) ps, some_fewer q hf level ps (a + 1) n)
-
-is_not : (n i : ℕ) → n < i → (n == i) ≡ false
-is_not n i less = grind (arith, nat_tests)
-
-is_it : (n i : ℕ) → (n == i) ≡ true → n ≡ i
-is_it n i e = grind (arith, nat_tests)
-
-is_past : (n i : ℕ) → (n == i) ≡ false → i ≤ n → i < n
-is_past n i e low = grind (arith, nat_tests)
 
 list_few : (level h : ℕ) → list_of level h < 16
 list_few level h =

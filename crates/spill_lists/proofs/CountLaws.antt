@@ -25,13 +25,14 @@ one_longer false r rs = refl
 one_list : (level a n : ℕ) (spilled : List Record) → on_some level spilled a (suc n) ≡ length (on_list level spilled a) + on_some level spilled (a + 1) n
 one_list level a n spilled = sum_by-cons (λ (list : LeftList). length list.records) (record { level = deeper level; records = on_list level spilled a }) (map (λ i. record { level = deeper level; records = on_list level spilled i }) (range_with_len (a + 1) n))
 
-is_not : (n i : ℕ) → n < i → (n == i) ≡ false
+-- places of lists, as tests tell them
+pub is_not : (n i : ℕ) → n < i → (n == i) ≡ false
 is_not n i less = grind (arith, nat_tests)
 
-is_it : (n i : ℕ) → (n == i) ≡ true → n ≡ i
+pub is_it : (n i : ℕ) → (n == i) ≡ true → n ≡ i
 is_it n i e = grind (arith, nat_tests)
 
-is_past : (n i : ℕ) → (n == i) ≡ false → i ≤ n → i < n
+pub is_past : (n i : ℕ) → (n == i) ≡ false → i ≤ n → i < n
 is_past n i e low = grind (arith, nat_tests)
 
 -- one record more is on none of the lists behind its own

@@ -1,15 +1,14 @@
-use Rattle.std.specs.Prelude.{◌≡◌, ℕ, List, Some, length, slice_get}
-use Rattle.std.proofs.Common.{sym, subst, rules}
+use Rattle.std.specs.Prelude.{◌≡◌, ℕ, List, length}
+use Rattle.std.proofs.Common.{subst, rules}
 use Rattle.std.proofs.lemmas.Result.{on_ok_weaker, on_err_weaker}
 use Rattle.context_tree.specs.TreeLends.{with_bytes_in}
-use Rattle.group_table.specs.Table.{key_in, state_in, group_in}
+use Rattle.group_table.specs.Table.{state_in}
 use Rattle.packed_rows.specs.View.{row_of}
 use Rattle.grouping_model.specs.Parts.{functions}
 use Rattle.having_filter.specs.Meaning.{meaning}
 use Rattle.hash_agg.specs.Passes.{GroupsState, WritesAt}
 use Rattle.group_runs.specs.Steps.{HaveRoomForRow, AreAdvanced}
-use Rattle.hash_agg.proofs.NeedLaws.{same_needed}
-use Rattle.hash_agg.proofs.TableLaws.{get_mapped}
+use Rattle.hash_agg.proofs.NeedLaws.{still_held}
 use Rattle.hash_agg.proofs.groups.Groups.advance.Goals as goal
 
 pub returns-clause-written : goal.returns-clause-written
@@ -34,13 +33,5 @@ pub invariant_of-self : goal.invariant_of-self
 invariant_of-self g c =
     let states : List ℕ = c.advance_slice.new.states in
     let wide : length states ≡ c.self.inside.table.width = search rules in
-    let slot = c.requires.slot in
-    let at = subst (λ (x : GroupsState g.row.H.Denot). slice_get x.table.slots slot.0 ≡ Some c.args.slot) (sym c.self.view_is) slot.1 in
-    record {
-      in_tree = c.state_mut-states.ensures.stands states wide;
-      by_keys = c.state_mut-states.ensures.holds states wide c.self.invariant.by_keys;
-      most =
-          same_needed c.self.inside.table c.self.inside.tree (with_bytes_in c.self.inside.tree c.self.inside.table.states c.args.slot.state states) slot.0 c.self.inside.most_held
-          (key_in c.self.inside.table c.self.inside.tree c.args.slot) (state_in c.self.inside.table c.self.inside.tree c.args.slot) states
-          (get_mapped (group_in c.self.inside.table c.self.inside.tree) c.self.inside.table.slots slot.0 c.args.slot at) (c.state_mut-states.ensures.written states slot.0 wide at) c.self.invariant.most;
-    }
+    still_held _ c.args.self.now c.args.slot _ states c.self.view_is c.self.invariant c.requires.slot (c.state_mut-states.ensures.stands states wide) (c.state_mut-states.ensures.holds states wide)
+    (λ place at. c.state_mut-states.ensures.written states place wide at)
