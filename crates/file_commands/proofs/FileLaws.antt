@@ -15,7 +15,7 @@ use Rattle.batch_reader.specs.Head.{ReadsOrigin, ReadsBatchNumber}
 use Rattle.batch_reader.specs.Rows.{ReadsRows, ArePackedRows, packings}
 use Rattle.batch_reader.specs.declared.batch.Batch.{Batch}
 use Rattle.replica_merge.specs.Replicas.{Held}
-use Rattle.replies.specs.BatchLaws.{read_are_packed}
+use Rattle.replies.specs.BatchLaws.{fed_of, read_are_packed, read_is_fed}
 use Rattle.replies.specs.Batches.{IsRead, TakesRead, IsOtherRead}
 use Rattle.replies.specs.QueryLaws.{read_over}
 use Rattle.replies.specs.Refusals.{columns_refusal, refusal_faults}
@@ -69,12 +69,8 @@ pub of_batch_file : (file : Option BatchFile) (held : Held) (holds : ℕ → ℕ
 of_batch_file None held holds batch is so = absurd is
 of_batch_file (Some read) held holds batch is so =
     record {
-      origin = batch.origin;
-      number = batch.number;
-      rows = is.rows;
-      from = is.origin_is;
-      numbered = is.number_is;
-      read_are = is.rows_are;
+      fed = fed_of batch is.rows;
+      is_batch = read_is_fed (kinds held.query.columns) read.head.origin read.head.number read.head.told read.records batch is;
       is_so = subst (holds batch.origin batch.number) is.packed so;
     }
 

@@ -1,8 +1,8 @@
 -- What the program's commands make of files. A batch file means what a feed of its batch means in a script, and a summary file what
 -- the replica means that it is of. All of this is our own.
-use Rattle.std.specs.Prelude.{Bool, IsTrue, ℕ, ◌≡◌, ◌<◌, ◌≤◌, ◌⊎◌, List, [], length, Option, Some, None, IsSomeAnd}
-use Rattle.grouping_model.specs.Datum.{Kind, Row}
-use Rattle.grouping_model.specs.World.{World, IsWorld, union}
+use Rattle.std.specs.Prelude.{Bool, false, IsTrue, ℕ, ◌≡◌, ◌<◌, ◌≤◌, ◌⊎◌, List, [], length, Option, Some, None, IsSomeAnd}
+use Rattle.grouping_model.specs.Datum.{Kind}
+use Rattle.grouping_model.specs.World.{World, IsWorld, knows, union}
 use Rattle.grouping_model.specs.declared.delivered.Delivered.{Delivered}
 use Rattle.grouping_model.specs.declared.limits.TheConstants.{LONGEST_INPUT}
 use Rattle.packed_rows.specs.Columns.{Column, kinds, IsSchemaText}
@@ -13,13 +13,12 @@ use Rattle.hash_agg.specs.declared.work.Work.{Work}
 use Rattle.origin_prefix.specs.Parts.{Disagrees, aggregations_on}
 use Rattle.group_parser.specs.Parsing.{Accepts}
 use Rattle.batch_reader.specs.File.{BatchFile}
-use Rattle.batch_reader.specs.Head.{ReadsOrigin, ReadsBatchNumber}
-use Rattle.batch_reader.specs.Rows.{ReadsRows, packings}
+use Rattle.batch_reader.specs.Rows.{packings}
 use Rattle.batch_reader.specs.declared.error.BatchError.TheVariants as batch
 use Rattle.summary_codec.specs.Reading.{IsSummary, IsSaved, HasFault}
-use Rattle.replica_merge.specs.Replicas.{Held, part_of, told, Fits, DisagreeSomewhere}
+use Rattle.replica_merge.specs.Replicas.{Held, part_of, told, Fits, DeliversAt, DisagreeSomewhere, Merges}
 use Rattle.replica_merge.specs.Counting.{MergeIsCounted}
-use Rattle.replies.specs.Batches.{IsNoQuery, IsNoBatch, Takes, IsOtherBatch}
+use Rattle.replies.specs.Batches.{Fed, IsBatch, IsNoQuery, IsNoBatch, Takes, IsOtherBatch}
 use Rattle.replies.specs.Joining.{IsApart}
 use Rattle.replies.specs.declared.error.RunError.TheVariants.{InputTooLong}
 use Rattle.replies.specs.declared.refusal.Refusal.{Refusal}
@@ -42,16 +41,20 @@ TakesFile honest file old new delivered = IsSomeAnd file (λ read. Takes honest 
 
 -- something holds of the origin, the number and the packed rows of a batch file's batch
 pub record OfBatch (kinds : List Kind) (read : BatchFile) (holds : ℕ → ℕ → List (List ℕ) → Type 0) : Type 0 where
-  pub origin : ℕ
-  pub number : ℕ
-  pub rows : List Row
-  pub from : ReadsOrigin read.head.origin origin
-  pub numbered : ReadsBatchNumber read.head.number number
-  pub read_are : ReadsRows kinds read.records rows
-  pub is_so : holds origin number (packings rows)
+  pub fed : Fed
+  pub is_batch : IsBatch kinds read.head.origin read.head.number read.head.told read.records fed
+  pub is_so : holds fed.origin fed.number (packings fed.rows)
 
 abbrev pub OfBatchFile : Held → Option BatchFile → (ℕ → ℕ → List (List ℕ) → Type 0) → Type 0
 OfBatchFile held file holds = IsSomeAnd file (λ read. OfBatch (kinds held.query.columns) read holds)
+
+-- what becomes of the parts of a replica to which the batch of a file is delivered
+abbrev pub DeliversFile : (honest : Bool) → Option BatchFile → (old new : Held) → Delivered → Type 0
+DeliversFile honest file old new delivered = OfBatchFile old file (λ origin number packed. DeliversAt honest old.query old.parts origin number packed new.parts delivered)
+
+-- the number of a file's batch is not known yet
+abbrev pub IsNewFile : Option BatchFile → Held → Type 0
+IsNewFile file held = OfBatchFile held file (λ origin number packed. knows (told held.parts) (origin, number) ≡ false)
 
 -- what feeding a batch file takes was counted: the aggregation of its batch and of the early ones that follow it
 abbrev pub FeedIsCounted : Setting → Option BatchFile → Held → Work → ℕ → Work → ℕ → Type 0
@@ -80,11 +83,13 @@ IsNoSummary file NoMemory = Unit {0}
 IsNoSummary file (Summary error) = HasFault file error
 IsNoSummary file why = ⊥
 
--- a replica takes in another: afterwards it knows the union, and over an honest disk of tapes it fits each world that both fitted
+-- a replica takes in another: the parts of both are joined, afterwards it knows the union, and over an honest disk of tapes it fits each
+-- world that both fitted
 pub record MergesHeld (honest : Bool) (old other new : Held) : Type 0 where
   pub same : other.query ≡ old.query
   pub asked : new.query ≡ old.query
   pub agree : ¬ (DisagreeSomewhere old.parts other.parts)
+  pub merges : Merges honest old.query old.parts other.parts new.parts
   pub knows : told new.parts ≡ union (told old.parts) (told other.parts)
   pub fits : IsTrue honest → (world : World) → IsWorld (kinds old.query.columns) world → Fits world old → Fits world other → Fits world new
 

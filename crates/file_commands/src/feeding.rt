@@ -5,12 +5,12 @@ ghost use Rattle.packed_rows.specs.Columns.{kinds};
 ghost use Rattle.batch_reader.specs.File.{read_file};
 ghost use Rattle.having_filter.specs.Meaning.{meaning};
 ghost use Rattle.hash_agg.specs.Counting.{setting_by};
-ghost use Rattle.replies.specs.declared.refusal.Refusal.TheVariants.{OriginDisagrees, TapeDamaged};
+ghost use Rattle.replies.specs.declared.refusal.Refusal.TheVariants.{NoMemory, OriginDisagrees, TapeDamaged};
 ghost use Rattle.replies.specs.Batches.{IsOfBatch};
 ghost use Rattle.replies.specs.Refusals.{refusal_faults};
 ghost use Rattle.tape_disks.specs.Calls.{failed};
 ghost use Rattle.tape_disks.specs.Disk.{Leaves};
-ghost use Rattle.file_commands.specs.Commands.{TakesFile, FeedIsCounted, FileAgrees, FileDisagrees, IsNoBatchFile, IsOtherFile};
+ghost use Rattle.file_commands.specs.Commands.{TakesFile, DeliversFile, FeedIsCounted, FileAgrees, FileDisagrees, IsNewFile, IsNoBatchFile, IsOtherFile};
 
 use batch_reader::read_batch;
 use hash_agg::{KeyHash, Means, TapeDisk, Work};
@@ -33,6 +33,8 @@ pub fn feed<H: KeyHash + Copy, D: TapeDisk>(
     work: &mut Work,
 ) -> Result<Delivered, Refusal>
     ensures took { IfOk result (TakesFile (D.honest disk.old) (read_file file.now) replica.old replica.new) }
+    // What becomes of the part of the batch's origin; the others stay.
+    ensures delivers { IfOk result (DeliversFile (D.honest disk.old) (read_file file.now) replica.old replica.new) }
     ensures counted { OnOk result (IsTrue (D.honest disk.old) →
         FeedIsCounted (setting_by H.hash_of (meaning replica.old.query) means.now) (read_file file.now)
         replica.old work.old (D.writes disk.old) work.new (D.writes disk.new)) }
@@ -40,6 +42,9 @@ pub fn feed<H: KeyHash + Copy, D: TapeDisk>(
     ensures uncounted { OnErr result (work.new ≡ work.old) }
     ensures why { IfErr result (λ why. IsOfBatch why →
         IsNoBatchFile (kinds replica.old.query.columns) (read_file file.now) why) }
+    // Of a batch whose number is known already, nothing but disagreement is told.
+    ensures unknown { IfErr result (λ why. why ≢ NoMemory → ¬ (IsOfBatch why) →
+        ((of : ℕ) (at : Option ℕ) → why ≢ OriginDisagrees of at) → IsNewFile (read_file file.now) replica.old) }
     // A batch that disagrees is never taken, and disagreement is told of no other.
     ensures agreed { OnOk result (FileAgrees (read_file file.now) replica.old) }
     ensures disagree { IfErr result (λ why. (of : ℕ) (at : Option ℕ) → why ≡ OriginDisagrees of at →

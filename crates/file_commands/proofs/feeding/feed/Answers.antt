@@ -1,14 +1,15 @@
-use Rattle.std.specs.Prelude.{◌≡◌, ℕ, Option}
+use Rattle.std.specs.Prelude.{◌≡◌, ◌≢◌, ℕ, Option}
 use Rattle.std.proofs.Common.{◌∙◌, ap, sym, subst}
 use Rattle.std.proofs.lemmas.Result.{IfOk-weaker, err_from_is_err_and}
 use Rattle.batch_reader.specs.File.{read_file}
 use Rattle.query_checks.specs.Checks.{Checked}
 use Rattle.tape_disks.specs.Disk.{Leaves}
 use Rattle.tape_disks.specs.DiskLaws.{leaves_none}
+use Rattle.replies.specs.Batches.{IsOfBatch}
 use Rattle.replies.specs.Refusals.{refusal_faults}
-use Rattle.replies.specs.RefusalLaws.{batch_tells}
-use Rattle.replies.specs.declared.refusal.Refusal.TheVariants.{OriginDisagrees}
-use Rattle.file_commands.specs.Commands.{FeedIsCounted, FileAgrees, FileDisagrees, IsOtherFile}
+use Rattle.replies.specs.RefusalLaws.{batch_own, batch_tells}
+use Rattle.replies.specs.declared.refusal.Refusal.TheVariants.{NoMemory, OriginDisagrees}
+use Rattle.file_commands.specs.Commands.{DeliversFile, FeedIsCounted, FileAgrees, FileDisagrees, IsNewFile, IsOtherFile}
 use Rattle.file_commands.proofs.FileLaws.{if_err, on_ok, read_of_file, packed_of_file, takes_file, of_batch_file, other_file}
 use Rattle.file_commands.proofs.feeding.feed.Goals as goal
 
@@ -25,6 +26,20 @@ returns-clause-took g c =
     IfOk-weaker c.take_batch.result _ _
     (λ delivered takes. takes_file (g.D.TapeDisk.honest c.args.disk.now) (read_file c.args.file.now) c.in_ok-batch.batch c.args.replica.now c.take_batch.new.replica delivered read takes)
     c.take_batch.ensures.took
+
+pub returns-clause-delivers : goal.returns-clause-delivers
+returns-clause-delivers g c =
+    let batch = c.in_ok-batch.ensures in
+    let read = read_of_file _ _ _ c.in_ok-batch.batch (c.schema-schema.ensures.columns ∙ ap (λ (q : Checked). q.columns) c.query.ensures) batch.origin batch.number batch.few batch.told batch.rows in
+    IfOk-weaker c.take_batch.result _ (DeliversFile (g.D.TapeDisk.honest c.args.disk.now) (read_file c.args.file.now) c.args.replica.now c.take_batch.new.replica)
+    (λ delivered delivers. of_batch_file _ c.args.replica.now _ c.in_ok-batch.batch read delivers) c.take_batch.ensures.delivers
+
+pub returns-clause-unknown : goal.returns-clause-unknown
+returns-clause-unknown g c =
+    let batch = c.in_ok-batch.ensures in
+    let read = read_of_file _ _ _ c.in_ok-batch.batch (c.schema-schema.ensures.columns ∙ ap (λ (q : Checked). q.columns) c.query.ensures) batch.origin batch.number batch.few batch.told batch.rows in
+    if_err c.take_batch.result _ (λ why. why ≢ NoMemory → ¬ (IsOfBatch why) → ((of : ℕ) (at : Option ℕ) → why ≢ OriginDisagrees of at) → IsNewFile (read_file c.args.file.now) c.args.replica.now)
+    (λ why unknown there own agrees. of_batch_file _ c.args.replica.now _ c.in_ok-batch.batch read (unknown agrees)) c.take_batch.ensures.unknown
 
 pub returns-clause-counted : goal.returns-clause-counted
 returns-clause-counted g c =
@@ -55,6 +70,11 @@ returns-clause-other g c =
     let read = read_of_file _ _ _ c.in_ok-batch.batch (c.schema-schema.ensures.columns ∙ ap (λ (q : Checked). q.columns) c.query.ensures) batch.origin batch.number batch.few batch.told batch.rows in
     if_err c.take_batch.result _ (λ why. (of : ℕ) (at : Option ℕ) → why ≡ OriginDisagrees of at → IsOtherFile (read_file c.args.file.now) c.args.replica.now)
     (λ why other of at is. other_file (read_file c.args.file.now) c.in_ok-batch.batch c.args.replica.now read (other of at is)) c.take_batch.ensures.other
+
+pub returns-in_err-batch-clause-unknown : goal.returns-in_err-batch-clause-unknown
+returns-in_err-batch-clause-unknown g c =
+    let e = err_from_is_err_and c.from_residual.result c.from_residual.ensures.1 in
+    rw e.1 (λ there own agrees. absurd (own (subst IsOfBatch (sym e.2) (batch_own _ (λ is. there (e.2 ∙ is))))))
 
 pub returns-in_err-batch-clause-disk : goal.returns-in_err-batch-clause-disk
 returns-in_err-batch-clause-disk g c =

@@ -16,6 +16,7 @@ returns-clause-merged g c =
       same = joins.same;
       asked = c.commit.ensures.query;
       agree = joins.agree;
+      merges = c.commit.ensures.merges honest other.parts joins.held joins.aside;
       knows = c.commit.ensures.told honest other.parts joins.held joins.aside;
       fits = λ right world is fits theirs.
           c.commit.ensures.fits honest right other.parts joins.held joins.aside world is fits (subst (λ (q : Checked). Fits world (record { query = q; parts = other.parts })) joins.same theirs);
