@@ -1,6 +1,6 @@
 -- What the readers of the code need of the reading functions.
-use Rattle.std.proofs.Common.{◌≡◌, ◌≢◌, ℕ, zero, suc, ◌+◌, ◌-◌, Bool, true, false, List, [], ◌∷◌, ◌++◌, length, map, Some, None, Ok, Err, refl, sym, ap, ◌∙◌, arith}
-use Rattle.std.specs.Prelude.{codes}
+use Rattle.std.proofs.Common.{subst, ◌≡◌, ◌≢◌, ℕ, zero, suc, ◌+◌, ◌-◌, Bool, true, false, List, [], ◌∷◌, ◌++◌, length, map, Some, None, Ok, Err, refl, sym, ap, ◌∙◌, arith}
+use Rattle.std.specs.Prelude.{codes, Result, IsErrAnd}
 use Rattle.query_tokens.specs.Words.{Lexeme}
 use Rattle.query_checks.specs.Forms as form
 use Rattle.query_grammar.specs.Terminals.{is_word, is_sign}
@@ -15,7 +15,7 @@ use Rattle.query_grammar.proofs.Alike.{Stays}
 use Rattle.query_grammar.proofs.Chains.{Goes, chain_done, chain_goes, chain_fails, Lists, list_begins, list_goes, list_stops, list_done}
 use Rattle.group_parser.specs.declared.fault.ReadError.{ReadError}
 use Rattle.group_parser.specs.declared.fault.ReadError.TheVariants as errors
-use Rattle.group_parser.specs.Views.{Fails}
+use Rattle.group_parser.specs.Views.{Fails, Gives}
 use Rattle.group_parser.specs.Nots.{nots, negated}
 
 -- ---- NOT
@@ -66,6 +66,11 @@ pub fails_on : {A B : Type 0} (e : ReadError) (r : Read A) (s : Read B) → ((f 
 fails_on errors.NoMemory r s h p = tt
 fails_on (errors.Unexpected left) r s h p = h (Unexpected left) p
 fails_on (errors.TooDeep left) r s h p = h (Too_deep left) p
+
+-- an error is handed on
+pub fails_out : {X B : Type 0} (view : X → B × List Lexeme) (result : Result X ReadError) (e : ReadError) (s : Read B) → IsErrAnd result (λ f. f ≡ e) → Fails e s → Gives view result s
+fails_out view (Ok x) e s is fails = absurd is
+fails_out view (Err f) e s is fails = subst (λ (g : ReadError). Fails g s) (sym is) fails
 
 pub not_fails : (inner : Inner) (room n : ℕ) (whole ts : List Lexeme) (f : Fault) → not_at inner room whole ≡ nots n (test_at inner room ts) → test_at inner room ts ≡ Err f → not_at inner room whole ≡ Err f
 not_fails inner room n whole ts f e h = e ∙ (ap (nots n) h ∙ nots_fail n f)

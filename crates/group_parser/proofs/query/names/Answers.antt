@@ -1,19 +1,17 @@
 use Rattle.std.proofs.Common.{length, arith}
 use Rattle.std.specs.Prelude.{string_bytes}
-use Rattle.std.proofs.lemmas.Result.{err_from_is_err_and}
 use Rattle.query_grammar.specs.Reading.{name_at}
 use Rattle.query_grammar.specs.Whole.{list_at}
 use Rattle.query_grammar.proofs.Whole_locality.{names_stay}
 use Rattle.query_grammar.proofs.Chains.{list_fails}
 use Rattle.group_parser.specs.Views.{lexemes}
-use Rattle.group_parser.proofs.Readers.{fails_on, list_init, list_next, list_next_fails, list_ends}
+use Rattle.group_parser.proofs.Readers.{fails_on, fails_out, list_init, list_next, list_next_fails, list_ends}
 use Rattle.group_parser.proofs.query.names.Goals as goal
 
 pub returns-in_err-first-clause-read : goal.returns-in_err-first-clause-read
 returns-in_err-first-clause-read c =
-    let p = err_from_is_err_and c.from_residual.result c.from_residual.ensures.1 in
     let ts = lexemes c.args.tokens.now in
-    rw (p.1, p.2) (fails_on c.in_err-first.field-0.0 (name_at ts) (list_at name_at (length ts) ts) (list_fails name_at ts) c.in_err-first.ensures.read)
+    fails_out _ c.from_residual.result _ _ c.from_residual.ensures.1 (fails_on c.in_err-first.field-0.0 (name_at ts) (list_at name_at (length ts) ts) (list_fails name_at ts) c.in_err-first.ensures.read)
 
 pub loop-behind-init : goal.loop-behind-init
 loop-behind-init c = record {
@@ -23,11 +21,10 @@ loop-behind-init c = record {
 
 pub returns-in_err-more-clause-read : goal.returns-in_err-more-clause-read
 returns-in_err-more-clause-read c =
-    let p = err_from_is_err_and c.from_residual-in_err-more.result c.from_residual-in_err-more.ensures.1 in
     let ts = lexemes c.args.tokens.now in
     let whole = list_at name_at (length ts) ts in
     let behind = lexemes c.in-Some.behind.now in
-    rw (p.1, p.2) (fails_on c.in_err-more.field-0.0 (name_at behind) whole
+    fails_out _ c.from_residual-in_err-more.result _ _ c.from_residual-in_err-more.ensures.1 (fails_on c.in_err-more.field-0.0 (name_at behind) whole
     (λ f h. list_next_fails name_at whole _ (lexemes c.loop-behind.rest.now) behind f c.loop-behind.invariant.lists c.in-Some.ensures.found h) c.in_err-more.ensures.read)
 
 pub loop-behind-preserved : goal.loop-behind-preserved
