@@ -7,8 +7,7 @@ use Rattle.chunk_contexts.proofs.alloc_set.AllocSet.write.Goals as goal
 pub put-requires : goal.put-requires
 put-requires c =
     let asked = c.requires in let was = seen c.self.inside c.self.invariant c.args.self.now c.self.view_is c.args.place asked.there in
-    let there = seen-there c.self.inside c.self.invariant c.args.self.now c.self.view_is c.args.place asked.there in
-    record { there = there; kept = subst (λ (p : Piece). c.args.kept ≤ length p.bytes) (sym was) asked.kept; room = omega (arith, ap (λ (p : Piece). p.room) was, asked.room) }
+    record { there = seen-there c.self.inside c.self.invariant c.args.self.now c.self.view_is c.args.place asked.there; kept = subst (λ (p : Piece). c.args.kept ≤ length p.bytes) (sym was) asked.kept; room = omega (arith, ap (λ (p : Piece). p.room) was, asked.room) }
 
 pub invariant_of-self : goal.invariant_of-self
 invariant_of-self c = fields-put c.self.inside c.self.invariant c.args.self.now c.self.view_is c.args.place c.requires.there c.args.kept c.args.bytes.now c.put.new.self c.put.ensures

@@ -8,8 +8,7 @@ use Rattle.chunk_contexts.proofs.alloc_set.AllocSet.write_zeros.Goals as goal
 pub put_zeros-requires : goal.put_zeros-requires
 put_zeros-requires c =
     let asked = c.requires in let was = seen c.self.inside c.self.invariant c.args.self.now c.self.view_is c.args.place asked.there in
-    let there = seen-there c.self.inside c.self.invariant c.args.self.now c.self.view_is c.args.place asked.there in
-    record { there = there; kept = subst (λ (p : Piece). c.args.kept ≤ length p.bytes) (sym was) asked.kept; room = omega (arith, ap (λ (p : Piece). p.room) was, asked.room) }
+    record { there = seen-there c.self.inside c.self.invariant c.args.self.now c.self.view_is c.args.place asked.there; kept = subst (λ (p : Piece). c.args.kept ≤ length p.bytes) (sym was) asked.kept; room = omega (arith, ap (λ (p : Piece). p.room) was, asked.room) }
 
 pub invariant_of-self : goal.invariant_of-self
 invariant_of-self c = fields-put c.self.inside c.self.invariant c.args.self.now c.self.view_is c.args.place c.requires.there c.args.kept (zeros c.args.n) c.put_zeros.new.self c.put_zeros.ensures
