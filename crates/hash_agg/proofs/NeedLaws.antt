@@ -8,7 +8,7 @@ use Rattle.aggregation_cost.specs.Cost.{greatest}
 use Rattle.aggregation_cost.specs.Space.{Key, Setting, need, fits, fronts}
 use Rattle.aggregation_cost.proofs.CostLaws.{one_fits}
 use Rattle.context_tree.specs.Tree.{TreeState}
-use Rattle.group_table.specs.SipHashes.{low_hash}
+use Rattle.key_hashes.specs.SipHashes.{low_hash}
 use Rattle.group_table.specs.Space.{HoldsKeys, key_of, keys_in}
 use Rattle.group_table.specs.Standing.{IsTableIn}
 use Rattle.group_table.specs.Table.{TableState, IsSlot, IsSameBut, key_in, state_in, group_in, groups}

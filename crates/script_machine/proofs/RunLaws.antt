@@ -2,18 +2,21 @@
 use Rattle.std.specs.Prelude.{◌≡◌, ◌≤◌, ◌+◌, refl, ℕ, Bool, IsTrue, codes, if◌then◌else◌, List, [], ◌∷◌, ◌++◌, length, map, count_by, Option, Some, None, IfSome, IfErr, Result, Ok, Err, MatchResult}
 use Rattle.std.proofs.Common.{◌∙◌, ap, sym, subst, arith, append_assoc, inl}
 use Rattle.std.proofs.lemmas.List.{append-nil}
+use Rattle.std.proofs.Math.Nat.{le_trans}
 use Rattle.std.proofs.lemmas.List.Sums.{sum_by-append}
 use Rattle.std.proofs.lemmas.Grind.{flat_map-append}
 use Rattle.std.specs.Io.KnownBytes.{Appends, Consumes, IsAtEnd}
 use Rattle.std.specs.Result.{IsErrAnd}
 use Rattle.std.proofs.KnownBytes.{Appends-nil, Appends-trans, Keeps-refl}
+use Rattle.tape_disks.specs.Disk.{Leaves}
+use Rattle.tape_disks.specs.declared.disk.TapeDisk.{Ghosts}
 use Rattle.grouping_model.specs.World.{World}
 use Rattle.script_io.specs.Input.{StopsReading}
-use Rattle.script_io.specs.Output.{TakesFront}
+use Rattle.script_io.specs.Output.{StopsShort}
 use Rattle.script_io.specs.declared.input.InputError.{InputError}
 use Rattle.script_io.specs.declared.input.InputError.TheVariants as input
 use Rattle.script_io.specs.InputLaws.{consumes-all, consumes-longer}
-use Rattle.script_io.specs.OutputLaws.{front-first, front-second}
+use Rattle.script_io.specs.OutputLaws.{short-first, short-second}
 use Rattle.script_io.specs.Records.{Record}
 use Rattle.script_commands.specs.Commands.{Command, Request, request_of}
 use Rattle.script_machine.specs.Machine.{State, Reply, Refused, Run, StrictRun, MayReply, IsReply, Agrees, AgreesAt, start, after, is_refused, is_fault}
@@ -230,16 +233,23 @@ module _ {disk : Disk} {later : ℕ} {commands left : List Command} {old mid : O
       }
 
   -- it stops within a reply: what was written is the front of an output in which each command behind is refused
-  pub ran_front : (new : Option (List ℕ)) → TakesFront mid new (said_text reply) → WritesFront (record disk { failed_now = later }) commands old new
+  pub ran_front : (new : Option (List ℕ)) → StopsShort mid new (said_text reply) → WritesFront (record disk { failed_now = later }) commands old new
   ran_front new wrote =
       record {
         replies = ran.replies ++ answers.said ∷ refusals left;
         texts = ran.texts ++ said_text reply ∷ refusal_texts left;
         output = subst (λ cs. IsOutput (record disk { failed_now = later }) cs (ran.replies ++ answers.said ∷ refusals left) (ran.texts ++ said_text reply ∷ refusal_texts left)) (sym ran.all) (output_more left);
-        writes = subst (TakesFront old new) (sym (flat_map-append (λ t. t) ran.texts (said_text reply ∷ refusal_texts left)))
-            (front-second old mid new (joined ran.texts) (joined (said_text reply ∷ refusal_texts left)) ran.writes
-            (front-first mid new (said_text reply) (joined (refusal_texts left)) wrote));
+        writes = subst (StopsShort old new) (sym (flat_map-append (λ t. t) ran.texts (said_text reply ∷ refusal_texts left)))
+            (short-second old mid new (joined ran.texts) (joined (said_text reply ∷ refusal_texts left)) ran.writes
+            (short-first mid new (said_text reply) (joined (refusal_texts left)) wrote));
       }
+
+-- what two calls leave of a disk, one after the other
+pub left_both : {D : Type 0} (g : Ghosts D) (old mid new : D) → (n : ℕ) × Leaves g n old mid → (n : ℕ) × Leaves g n mid new → (n : ℕ) × Leaves g n old new
+left_both g old mid new (a, first) (b, second) =
+    let f = first.failures in
+    let s = second.failures in
+    (a + b, record { honesty = second.honesty ∙ first.honesty; failures = omega (arith, f, s); writes = le_trans first.writes second.writes })
 
 -- a disk is as honest as it was
 pub honest_steps : (was is : Bool) (request : Request) (owned : List Record) (store next : Store) (reply : code.Reply) → is ≡ was → Steps is request owned store reply next → Steps was request owned store reply next

@@ -3,7 +3,7 @@ use Rattle.std.specs.Prelude.{ℕ, ◌≡◌, ◌≤◌, ◌<◌, ◌+◌, Bool,
 use Rattle.std.specs.Io.KnownBytes.{Appends, Keeps}
 use Rattle.grouping_model.specs.World.{World}
 use Rattle.grouping_model.specs.declared.limits.TheConstants.{LONGEST_INPUT}
-use Rattle.script_io.specs.Output.{TakesFront}
+use Rattle.script_io.specs.Output.{StopsShort}
 use Rattle.script_io.specs.Records.{records_of}
 use Rattle.script_commands.specs.Commands.{Command, commands_of}
 use Rattle.replies.specs.declared.error.RunError.{RunError}
@@ -42,12 +42,12 @@ pub record WritesAll (disk : Disk) (commands : List Command) (old new : Option (
   pub counts : count_by is_refused replies ≡ refused
   pub writes : Appends old new (joined texts)
 
--- what was written is the front of an output of the commands
+-- what was written is the front of an output of the commands, of which at least the last byte is missing
 pub record WritesFront (disk : Disk) (commands : List Command) (old new : Option (List ℕ)) : Type 0 where
   pub replies : List Reply
   pub texts : List (List ℕ)
   pub output : IsOutput disk commands replies texts
-  pub writes : TakesFront old new (joined texts)
+  pub writes : StopsShort old new (joined texts)
 
 -- what was written is an output of the commands before some command
 pub record WritesBefore (disk : Disk) (commands : List Command) (old new : Option (List ℕ)) : Type 0 where

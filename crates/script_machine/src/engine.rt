@@ -1,6 +1,7 @@
 //! Runs a script.
 
-ghost use Rattle.std.specs.Prelude.{◌≡◌, ◌≤◌, ◌+◌, length, IfErr, IfOk, MatchResult};
+ghost use Rattle.std.specs.Prelude.{◌≡◌, ◌≤◌, ◌+◌, ℕ, length, IfErr, IfOk, MatchResult};
+ghost use Rattle.tape_disks.specs.Disk.{Leaves};
 ghost use Rattle.script_io.specs.Input.{ConsumesAtMost};
 ghost use Rattle.script_commands.specs.Commands.{commands_of};
 ghost use Rattle.script_machine.specs.Views.{empty};
@@ -55,11 +56,12 @@ fn answer_all<W: Write, O: Observer, D: TapeDisk>(
 ) -> Result<Outcome, RunError>
     requires few { length records.old ≤ LONGEST_INPUT + 1 }
     requires none { session.old ≡ empty }
-    ensures { MatchResult result
+    ensures writes { MatchResult result
         (λ outcome. WritesAll (record { honest = D.honest disk.old; failed = D.failures disk.old; failed_now = D.failures disk.new }) (commands_of records.old) (W.contents writer.old)
         (W.contents writer.new) outcome.refused)
         (λ e. WritesSome (record { honest = D.honest disk.old; failed = D.failures disk.old; failed_now = D.failures disk.new }) (commands_of records.old) (W.contents writer.old)
         (W.contents writer.new) e) }
+    ensures disk { (faults : ℕ) × Leaves D.TapeDisk faults disk.old disk.new }
 {
     let mut refused = 0;
     while let Some(command) = next_command(records)? {
@@ -83,11 +85,12 @@ fn run_script<W: Write, O: Observer, D: TapeDisk>(
     seed: Seed,
 ) -> Result<Outcome, RunError>
     requires { length script.now ≤ LONGEST_INPUT }
-    ensures { MatchResult result
+    ensures writes { MatchResult result
         (λ outcome. WritesAll (record { honest = D.honest disk.old; failed = D.failures disk.old; failed_now = D.failures disk.new }) (commands_in script.now) (W.contents writer.old)
         (W.contents writer.new) outcome.refused)
         (λ e. WritesSome (record { honest = D.honest disk.old; failed = D.failures disk.old; failed_now = D.failures disk.new }) (commands_in script.now) (W.contents writer.old)
         (W.contents writer.new) e) }
+    ensures disk { (faults : ℕ) × Leaves D.TapeDisk faults disk.old disk.new }
 {
     let mut records = Records::new(alloc, script);
     let mut session = Session::new(alloc, seed);
@@ -126,6 +129,8 @@ pub fn run<R: Read, W: Write, D: TapeDisk>(
         (W.contents writer.new)) }
     // Nothing was written where the script was not read.
     ensures silent { IfErr result (KeepsUnread (W.contents writer.old) (W.contents writer.new)) }
+    // The disk is as honest as it was, so that another script can run over it.
+    ensures disk { (faults : ℕ) × Leaves D.TapeDisk faults disk.old disk.new }
 {
     run_observed(alloc, reader, writer, &mut Unobserved, disk, USUAL_SEED)
 }
@@ -148,6 +153,7 @@ pub fn run_observed<R: Read, W: Write, O: Observer, D: TapeDisk>(
     ensures stopped { IfErr result (AnswersSome (record { honest = D.honest disk.old; failed = D.failures disk.old; failed_now = D.failures disk.new }) (R.remaining reader.old) (W.contents writer.old)
         (W.contents writer.new)) }
     ensures silent { IfErr result (KeepsUnread (W.contents writer.old) (W.contents writer.new)) }
+    ensures disk { (faults : ℕ) × Leaves D.TapeDisk faults disk.old disk.new }
 {
     let script = read_input(alloc, reader, LONGEST_INPUT)?;
     run_script(alloc, &script, writer, observer, disk, seed)

@@ -3,10 +3,11 @@ use Rattle.std.proofs.Common.{arith, ap, sym, ◌∙◌}
 use Rattle.std.proofs.Math.Nat.{le_of_eq}
 use Rattle.std.proofs.lemmas.List.{length-drop}
 use Rattle.csv.specs.Records.{fields_of}
+use Rattle.tape_disks.specs.DiskLaws.{leaves_none}
 use Rattle.script_commands.specs.Commands.{command_at, owned_by}
 use Rattle.replies.specs.Text.{is_refusal}
 use Rattle.replies.specs.declared.error.RunError.TheVariants as stop
-use Rattle.script_machine.proofs.RunLaws.{passed_as, honest_steps, ran_front, ran_more, ran_start, ran_stop}
+use Rattle.script_machine.proofs.RunLaws.{passed_as, honest_steps, left_both, ran_front, ran_more, ran_start, ran_stop}
 use Rattle.script_machine.proofs.engine.answer_all.Goals as goal
 use Rattle.script_machine.proofs.engine.answer_all.Goals.{then-is_refused, else-is_refused}
 
@@ -15,25 +16,36 @@ loop-command-init g c =
     record {
       room = omega arith;
       ran = ran_start _ (omega arith) _ _ _ c.requires.none;
-      honesty = refl;
+      left = (0, leaves_none g.D.TapeDisk c.args.disk.now);
     }
 
 pub returns-in_err-command : goal.returns-in_err-command
 returns-in_err-command g c =
-    passed_as c.from_residual.result stop.NoMemory _ _ c.from_residual.ensures.1 (ran_stop _ _ (omega arith) _ _ _ _ _ _ c.loop-command.invariant.ran)
+    record {
+      writes = passed_as c.from_residual.result stop.NoMemory _ _ c.from_residual.ensures.1 (ran_stop _ _ (omega arith) _ _ _ _ _ _ c.loop-command.invariant.ran);
+      disk = c.loop-command.invariant.left;
+    }
 
 pub returns-in_err-reply : goal.returns-in_err-reply
 returns-in_err-reply g c =
     let stopped = c.in_err-reply.ensures.stopped in
     let later : g.D.TapeDisk.failures c.loop-command.disk ≤ g.D.TapeDisk.failures c.execute.new.disk = omega (arith, stopped.1.failures) in
-    passed_as c.from_residual-in_err-reply.result stop.NoMemory _ _ c.from_residual-in_err-reply.ensures.1 (ran_stop _ _ later _ _ _ _ _ _ c.loop-command.invariant.ran)
+    record {
+      writes = passed_as c.from_residual-in_err-reply.result stop.NoMemory _ _ c.from_residual-in_err-reply.ensures.1 (ran_stop _ _ later _ _ _ _ _ _ c.loop-command.invariant.ran);
+      disk = left_both g.D.TapeDisk c.args.disk.now c.loop-command.disk c.execute.new.disk c.loop-command.invariant.left stopped;
+    }
 
 pub returns-in_err-put_reply : goal.returns-in_err-put_reply
 returns-in_err-put_reply g c =
     let next = rw c.in-Some.is at c.in_ok-command.ensures.found in
-    passed_as c.from_residual-in_err-put_reply.result stop.WriteFault _ _ c.from_residual-in_err-put_reply.ensures.1
-    (ran_front {c = command_at (fields_of c.in-Some.command.head) c.next_command.new.records} (rw next at c.loop-command.invariant.ran)
-    (honest_steps _ _ _ _ _ _ _ c.loop-command.invariant.honesty c.in_ok-reply.ensures.answers) (le_of_eq (sym c.in_ok-reply.ensures.disk.failures)) _ c.in_err-put_reply.ensures)
+    let left = c.loop-command.invariant.left in
+    record {
+      writes =
+          passed_as c.from_residual-in_err-put_reply.result stop.WriteFault _ _ c.from_residual-in_err-put_reply.ensures.1
+          (ran_front {c = command_at (fields_of c.in-Some.command.head) c.next_command.new.records} (rw next at c.loop-command.invariant.ran)
+          (honest_steps _ _ _ _ _ _ _ left.1.honesty c.in_ok-reply.ensures.answers) (le_of_eq (sym c.in_ok-reply.ensures.disk.failures)) _ c.in_err-put_reply.ensures);
+      disk = left_both g.D.TapeDisk c.args.disk.now c.loop-command.disk c.execute.new.disk left (_, c.in_ok-reply.ensures.disk);
+    }
 
 pub loop-command-smaller : goal.loop-command-smaller
 loop-command-smaller g c =
@@ -60,7 +72,7 @@ loop-command-preserved g c =
       room = omega (arith, room, bounded, fewer);
       ran =
           rw c.in_ok-reply.ensures.left
-          (ran_more {c = command_at (fields_of c.in-Some.command.head) c.next_command.new.records} (rw next at inv.ran) (honest_steps _ _ _ _ _ _ _ inv.honesty c.in_ok-reply.ensures.answers)
+          (ran_more {c = command_at (fields_of c.in-Some.command.head) c.next_command.new.records} (rw next at inv.ran) (honest_steps _ _ _ _ _ _ _ inv.left.1.honesty c.in_ok-reply.ensures.answers)
           (le_of_eq (sym c.in_ok-reply.ensures.disk.failures)) _ _ c.in_ok-put_reply.ensures counts);
-      honesty = c.in_ok-reply.ensures.disk.honesty ∙ inv.honesty;
+      left = left_both g.D.TapeDisk c.args.disk.now c.loop-command.disk c.execute.new.disk inv.left (_, c.in_ok-reply.ensures.disk);
     }

@@ -1,4 +1,5 @@
-use Rattle.std.proofs.Common.{◌≡◌, ◌+◌, ◌≤◌, length}
+use Rattle.std.proofs.Common.{ℕ, ◌+◌, ◌≤◌, length}
+use Rattle.tape_disks.specs.Disk.{Leaves}
 use Rattle.script_commands.specs.Commands.{commands_of}
 use Rattle.script_machine.proofs.RunLaws.{Ran}
 use Rattle.script_machine.proofs.engine.answer_all.Given as goal
@@ -9,7 +10,7 @@ invariant-loop-command g l =
       room : l.refused + length l.records ≤ length l.fn.records;
       ran : Ran (record { honest = g.D.TapeDisk.honest l.fn.disk; failed = g.D.TapeDisk.failures l.fn.disk; failed_now = g.D.TapeDisk.failures l.disk })
           (commands_of l.fn.records) (g.W.Write.contents l.fn.writer) (g.W.Write.contents l.writer) l.refused (commands_of l.records) l.session;
-      honesty : g.D.TapeDisk.honest l.disk ≡ g.D.TapeDisk.honest l.fn.disk;
+      left : (faults : ℕ) × Leaves g.D.TapeDisk faults l.fn.disk l.disk;
     }
 
 abbrev pub decreases-loop-command : goal.decreases-loop-command

@@ -1,4 +1,5 @@
 use Rattle.std.proofs.Common.{arith}
+use Rattle.tape_disks.specs.DiskLaws.{leaves_none}
 use Rattle.replies.specs.Refusals.{run_error}
 use Rattle.script_machine.proofs.RunLaws.{passed_as, stops_unread, stops_read}
 use Rattle.script_machine.proofs.engine.run_observed.Goals as goal
@@ -11,5 +12,8 @@ returns-in_err-script-clause-stopped g c =
 pub returns-clause-stopped : goal.returns-clause-stopped
 returns-clause-stopped g c =
     let whole = c.in_ok-script.ensures.whole in
-    let written = rw c.deref.ensures.value at c.run_script.ensures in
+    let written = rw c.deref.ensures.value at c.run_script.ensures.writes in
     stops_read _ c.run_script.result _ _ _ _ _ c.in_ok-script.script.items _ whole.0 whole.1 whole.2 written
+
+pub returns-in_err-script-clause-disk : goal.returns-in_err-script-clause-disk
+returns-in_err-script-clause-disk g c = (0, leaves_none g.D.TapeDisk c.args.disk.now)
