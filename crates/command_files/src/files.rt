@@ -1,13 +1,12 @@
 //! Reading and writing whole files.
 
-use command_streams::{Problem, Watched};
+use command_streams::Problem;
 use fault_sentences::Reason;
 use file_commands::SummaryFile;
 use grouping_model::limits::LONGEST_INPUT;
 use replies::{Refusal, RunError};
-use script_io::{InputError, read_input};
+use script_io::{FusedReader, InputError, read_input};
 use std::alloc::AllocError;
-use std::cell::Cell;
 use std::fs::{File, Metadata, OpenFile};
 use std::io::{ErrorKind, Write};
 use std::os::unix::fs::MetadataExt;
@@ -35,17 +34,12 @@ pub(crate) fn read_file<'p, R: Files + AllocGlobal>(
     rt: &R,
     path: &'p str,
 ) -> Result<Vec<u8>, Problem<'p>> {
-    let mut file = match fs::open(rt, path) {
-        Ok(file) => file,
+    let mut reader = match fs::open(rt, path) {
+        Ok(file) => FusedReader::new(file),
         Err(cause) => return Err(Problem::failed(path, RunError::ReadFault, cause)),
     };
-    let fault = Cell::new(None);
-    let read = read_input(
-        rt.alloc(),
-        &mut Watched::new(&mut file, &fault),
-        LONGEST_INPUT,
-    );
-    match (read, fault.get()) {
+    let read = read_input(rt.alloc(), &mut reader, LONGEST_INPUT);
+    match (read, reader.fault()) {
         (Ok(bytes), _) => Ok(bytes),
         (Err(InputError::ReadFault), Some(cause)) => {
             Err(Problem::failed(path, RunError::ReadFault, cause))

@@ -1,7 +1,7 @@
 //! Scripts, with a sentence for each refused command.
 
 use command_streams::{
-    Problem, Streams, Watched, is_closed, open_disk, reason_of, remove_disk, say, system_seed,
+    Problem, Streams, is_closed, open_disk, reason_of, remove_disk, say, system_seed,
 };
 use csv::ByteRecord;
 use fault_sentences::{
@@ -9,9 +9,9 @@ use fault_sentences::{
 };
 use hash_agg::{Seed, TapeDisk};
 use replies::{Ending, Refusal, Reply, RunError, put_reply, refusal_ending, run_ending};
+use script_io::FusedReader;
 use script_machine::{Observer, run_observed};
 use std::alloc::{AllocError, Global};
-use std::cell::Cell;
 use std::io::{Read, Write};
 use std::random::RandomSource;
 use std::rt::Files;
@@ -136,8 +136,7 @@ fn run_over<I: Read, W: Write, E: Write, D: TapeDisk>(
     seed: Seed,
 ) -> Ending {
     let alloc = streams.alloc;
-    let fault = Cell::new(None);
-    let mut watched = Watched::new(&mut *reader, &fault);
+    let mut script = FusedReader::new(&mut *reader);
     let mut complaints = Complaints {
         alloc,
         errors: &mut *streams.errors,
@@ -145,7 +144,7 @@ fn run_over<I: Read, W: Write, E: Write, D: TapeDisk>(
     };
     let run = run_observed(
         alloc,
-        &mut watched,
+        &mut script,
         &mut *streams.writer,
         &mut complaints,
         disk,
@@ -153,7 +152,7 @@ fn run_over<I: Read, W: Write, E: Write, D: TapeDisk>(
     );
     drop(complaints);
     if let Err(error) = run {
-        say_stopped(error, fault.get(), streams);
+        say_stopped(error, script.fault(), streams);
     }
     run_ending(&run)
 }

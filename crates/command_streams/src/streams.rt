@@ -5,7 +5,7 @@ use std::alloc::Global;
 use std::cell::Cell;
 use std::fmt::Display;
 use std::io;
-use std::io::{Read, Write};
+use std::io::Write;
 
 /// Which streams a person looks at.
 #[derive(Clone, Copy)]
@@ -26,7 +26,7 @@ impl Terminals {
     }
 }
 
-/// A reader or a writer, and why it last failed.
+/// A writer, and why it last failed.
 #[derive(Drop)]
 pub struct Watched<'s, S> {
     stream: &'s mut S,
@@ -34,7 +34,7 @@ pub struct Watched<'s, S> {
 }
 
 impl<'s, S> Watched<'s, S> {
-    /// A stream whose failures are kept.
+    /// A writer whose failures are kept.
     pub fn new(stream: &'s mut S, fault: &'s Cell<Option<io::Error>>) -> Watched<'s, S> {
         Watched { stream, fault }
     }
@@ -43,18 +43,6 @@ impl<'s, S> Watched<'s, S> {
     fn keep<T>(&self, outcome: io::Result<T>) -> io::Result<T> {
         match outcome {
             Ok(value) => Ok(value),
-            Err(error) => {
-                self.fault.set(Some(error));
-                Err(error)
-            }
-        }
-    }
-}
-
-impl<S: Read> Read for Watched<'_, S> {
-    fn read(&mut self, buf: &mut [u8]) -> io::Result<usize> {
-        match self.stream.read(buf) {
-            Ok(count) => Ok(count),
             Err(error) => {
                 self.fault.set(Some(error));
                 Err(error)

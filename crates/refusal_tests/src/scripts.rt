@@ -4,6 +4,7 @@
 use crate::hoard::Hoard;
 use crate::room::Room;
 use replies::{Outcome, RunError};
+use script_io::FusedReader;
 use script_machine::run;
 use spill_tapes::MemDisk;
 use std::alloc::{AllocError, Global};
@@ -104,7 +105,8 @@ fn run_in(
     if enter_at == 0 {
         replies.room.enter()?;
     }
-    let ended = run(alloc, &mut script.as_bytes(), &mut replies, &mut disk);
+    let mut reader = FusedReader::new(script.as_bytes());
+    let ended = run(alloc, &mut reader, &mut replies, &mut disk);
     replies.room.leave();
     drop(disk);
     let end = match ended {

@@ -1,5 +1,5 @@
 -- What reading a whole script does to the bytes that a reader has left.
-use Rattle.std.specs.Prelude.{◌≡◌, ℕ, ◌<◌, ◌≤◌, ◌+◌, List, length, Option}
+use Rattle.std.specs.Prelude.{◌≡◌, ℕ, ◌<◌, ◌≤◌, ◌+◌, Bool, true, false, List, length, Option, Result, Ok, Err}
 use Rattle.std.specs.Io.KnownBytes.{Consumes}
 use Rattle.script_io.specs.declared.input.InputError.{InputError}
 use Rattle.script_io.specs.declared.input.InputError.TheVariants.{NoMemory, TooLong, ReadFault}
@@ -15,3 +15,13 @@ StopsReading old new most TooLong = (bytes : List ℕ) × Consumes old new bytes
 StopsReading old new most NoMemory = (bytes : List ℕ) × Consumes old new bytes × (0 < length bytes)
     × (length bytes ≤ most)
 StopsReading old new most ReadFault = ConsumesAtMost old new most
+
+-- own: whether an error tells that a read failed
+abbrev pub is_read_fault : InputError → Bool
+is_read_fault ReadFault = true
+is_read_fault error = false
+
+-- own: whether an outcome of reading does
+abbrev pub fails_to_read : {A : Type 0} → Result A InputError → Bool
+fails_to_read (Err error) = is_read_fault error
+fails_to_read (Ok read) = false

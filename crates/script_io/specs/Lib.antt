@@ -1,3 +1,4 @@
+pub mod Fused
 pub mod Input
 pub mod Records
 pub mod Digits

@@ -2,8 +2,10 @@
 
 ghost use Rattle.std.specs.Prelude.{◌≡◌, ◌+◌, ◌≤◌, ◌<◌, ◌^◌, length, IfOk, IfErr};
 ghost use Rattle.std.specs.Io.KnownBytes.{Consumes, IsAtEnd};
-ghost use Rattle.script_io.specs.Input.{ConsumesAtMost, StopsReading};
+ghost use Rattle.script_io.specs.Fused.{has_failed, unread};
+ghost use Rattle.script_io.specs.Input.{ConsumesAtMost, StopsReading, fails_to_read};
 
+use crate::fused::FusedReader;
 use std::alloc::Global;
 use std::io::Read;
 use thiserror::Error;
@@ -29,18 +31,22 @@ pub enum InputError {
 ///
 /// It reads on until `read` answers 0 bytes, and never takes more than `most` + 1 bytes, so a reader
 /// without an end is refused too. A failed read ends it and is not tried again, also where the read
-/// was interrupted. After an error the bytes that were taken are lost.
+/// was interrupted: `ReadFault` is answered then, and then alone. After an error the bytes that were
+/// taken are lost.
 pub fn read_input<R: Read>(
     alloc: Global,
-    reader: &mut R,
+    reader: &mut FusedReader<R>,
     most: usize,
 ) -> Result<Vec<u8>, InputError>
     requires { most < 2 ^ 63 }
-    ensures taken { ConsumesAtMost (R.remaining reader.old) (R.remaining reader.new) (most + 1) }
+    ensures taken { ConsumesAtMost (unread R.remaining reader.old) (unread R.remaining reader.new)
+        (most + 1) }
     ensures whole { IfOk result (λ text. (length text.items ≤ most)
-        × Consumes (R.remaining reader.old) (R.remaining reader.new) text.items
-        × IsAtEnd (R.remaining reader.new)) }
-    ensures why { IfErr result (StopsReading (R.remaining reader.old) (R.remaining reader.new) most) }
+        × Consumes (unread R.remaining reader.old) (unread R.remaining reader.new) text.items
+        × IsAtEnd (unread R.remaining reader.new)) }
+    ensures why { IfErr result (StopsReading (unread R.remaining reader.old)
+        (unread R.remaining reader.new) most) }
+    ensures fault { fails_to_read result ≡ has_failed reader.new }
 {
     let mut text = Vec::new(alloc);
     let mut chunk = [0u8; CHUNK_BYTES];

@@ -1,5 +1,5 @@
 -- How a run goes on from one command to the next.
-use Rattle.std.specs.Prelude.{◌≡◌, ◌≤◌, ◌+◌, refl, ℕ, Bool, IsTrue, codes, if◌then◌else◌, List, [], ◌∷◌, ◌++◌, length, map, count_by, Option, Some, None, IfSome, IfErr, Result, Ok, Err, MatchResult}
+use Rattle.std.specs.Prelude.{◌≡◌, ◌≤◌, ◌+◌, refl, ℕ, Bool, false, IsTrue, codes, if◌then◌else◌, List, [], ◌∷◌, ◌++◌, length, map, count_by, Option, Some, None, IfSome, IfErr, Result, Ok, Err, MatchResult}
 use Rattle.std.proofs.Common.{◌∙◌, ap, sym, subst, arith, append_assoc, inl}
 use Rattle.std.proofs.lemmas.List.{append-nil}
 use Rattle.std.proofs.Math.Nat.{le_trans}
@@ -11,7 +11,7 @@ use Rattle.std.proofs.KnownBytes.{Appends-nil, Appends-trans, Keeps-refl}
 use Rattle.tape_disks.specs.Disk.{Leaves}
 use Rattle.tape_disks.specs.declared.disk.TapeDisk.{Ghosts}
 use Rattle.grouping_model.specs.World.{World}
-use Rattle.script_io.specs.Input.{StopsReading}
+use Rattle.script_io.specs.Input.{StopsReading, is_read_fault}
 use Rattle.script_io.specs.Output.{StopsShort}
 use Rattle.script_io.specs.declared.input.InputError.{InputError}
 use Rattle.script_io.specs.declared.input.InputError.TheVariants as input
@@ -23,7 +23,7 @@ use Rattle.script_machine.specs.Machine.{State, Reply, Refused, Run, StrictRun, 
 use Rattle.replies.specs.Text.{line, refusal_name, said_text, is_refusal, faults_in}
 use Rattle.script_machine.specs.Text.{MayRead, AllMayRead, joined, reply_text, replies_text}
 use Rattle.replies.specs.Refusals.{run_error}
-use Rattle.script_machine.specs.Output.{Disk, IsOutput, WritesFront, WritesBefore, WritesSome, StopsAt, commands_in}
+use Rattle.script_machine.specs.Output.{Disk, IsOutput, WritesFront, WritesBefore, WritesSome, StopsAt, commands_in, tells_read_fault}
 use Rattle.script_machine.specs.Views.{Store, empty, Represents, FitsWorld, Answers, Steps}
 use Rattle.replies.specs.declared.refusal.Refusal.TheVariants.{NoMemory}
 use Rattle.replies.specs.declared.error.RunError.{RunError}
@@ -284,6 +284,26 @@ stops_unread disk low None b known most e h = tt
 stops_unread disk low (Some script) b known most input.ReadFault h = tt
 stops_unread disk low (Some script) b known most input.NoMemory h = (λ _. Keeps-refl known, none_yet disk low (commands_in script) known)
 stops_unread disk low (Some script) b known most input.TooLong h = consumes-longer (Some script) b h.0 most h.1 h.2
+
+told_as : (T : Type 0) (e : InputError) → tells_read_fault {A = T} (Err (run_error e)) ≡ is_read_fault e
+told_as T input.ReadFault = refl
+told_as T input.NoMemory = refl
+told_as T input.TooLong = refl
+
+-- a script that was not read tells a fault where reading it did
+pub faults_unread : (T : Type 0) (result : Result T RunError) (e : InputError) (failed : Bool) → IsErrAnd result (λ x. x ≡ run_error e)
+    → is_read_fault e ≡ failed → tells_read_fault result ≡ failed
+faults_unread T (Ok x) e failed passed h = absurd passed
+faults_unread T (Err x) e failed passed h = ap (λ x. tells_read_fault {A = T} (Err x)) passed ∙ told_as T e ∙ h
+
+-- a script that was read tells none
+pub faults_read : {T : Type 0} (disk : Disk) (commands : List Command) (result : Result T RunError) (P : T → Type 0) (old new : Option (List ℕ))
+    → MatchResult result P (λ e. WritesSome disk commands old new e) → tells_read_fault result ≡ false
+faults_read disk commands (Ok x) P old new h = refl
+faults_read disk commands (Err stop.ReadFault) P old new h = absurd h
+faults_read disk commands (Err stop.InputTooLong) P old new h = refl
+faults_read disk commands (Err stop.WriteFault) P old new h = refl
+faults_read disk commands (Err stop.NoMemory) P old new h = refl
 
 stops_so : (disk : Disk) (most : ℕ) (script : List ℕ) (old new : Option (List ℕ)) (e : RunError) → length script ≤ most
     → WritesSome disk (commands_in script) old new e → StopsAt disk most script old new e

@@ -1,5 +1,5 @@
 -- What a run of a script writes. All of this is our own.
-use Rattle.std.specs.Prelude.{ℕ, ◌≡◌, ◌≤◌, ◌<◌, ◌+◌, Bool, IsTrue, List, ◌++◌, length, count_by, Option, IfSome}
+use Rattle.std.specs.Prelude.{ℕ, ◌≡◌, ◌≤◌, ◌<◌, ◌+◌, Bool, true, false, IsTrue, List, ◌++◌, length, count_by, Option, IfSome, Result, Ok, Err}
 use Rattle.std.specs.Io.KnownBytes.{Appends, Keeps}
 use Rattle.grouping_model.specs.World.{World}
 use Rattle.grouping_model.specs.declared.limits.TheConstants.{LONGEST_INPUT}
@@ -85,3 +85,8 @@ abbrev pub KeepsUnread : Option (List ℕ) → Option (List ℕ) → RunError �
 KeepsUnread old new InputTooLong = Keeps old new
 KeepsUnread old new ReadFault = Keeps old new
 KeepsUnread old new error = Unit {0}
+
+-- whether a run tells that its script could not be read
+abbrev pub tells_read_fault : {A : Type 0} → Result A RunError → Bool
+tells_read_fault (Err ReadFault) = true
+tells_read_fault ended = false

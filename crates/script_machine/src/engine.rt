@@ -2,10 +2,11 @@
 
 ghost use Rattle.std.specs.Prelude.{◌≡◌, ◌≤◌, ◌+◌, ℕ, length, IfErr, IfOk, MatchResult};
 ghost use Rattle.tape_disks.specs.Disk.{Leaves};
+ghost use Rattle.script_io.specs.Fused.{has_failed, unread};
 ghost use Rattle.script_io.specs.Input.{ConsumesAtMost};
 ghost use Rattle.script_commands.specs.Commands.{commands_of};
 ghost use Rattle.script_machine.specs.Views.{empty};
-ghost use Rattle.script_machine.specs.Output.{AnswersAll, AnswersSome, KeepsUnread, WritesAll, WritesSome, commands_in};
+ghost use Rattle.script_machine.specs.Output.{AnswersAll, AnswersSome, KeepsUnread, WritesAll, WritesSome, commands_in, tells_read_fault};
 
 use crate::lines::Lines;
 use crate::session::Session;
@@ -14,7 +15,7 @@ use grouping_model::limits::LONGEST_INPUT;
 use hash_agg::{Seed, TapeDisk, USUAL_SEED};
 use replies::{Outcome, Refusal, Reply, RunError, put_reply};
 use script_commands::{Command, next_command};
-use script_io::{Records, read_input};
+use script_io::{FusedReader, Records, read_input};
 use std::alloc::Global;
 use std::io::{Read, Write};
 
@@ -114,21 +115,23 @@ fn run_script<W: Write, O: Observer, D: TapeDisk>(
 /// the tables of groups is a fixed one.
 pub fn run<R: Read, W: Write, D: TapeDisk>(
     alloc: Global,
-    reader: &mut R,
+    reader: &mut FusedReader<R>,
     writer: &mut W,
     disk: &mut D,
 ) -> Result<Outcome, RunError>
     // No more is read than the longest script and one byte.
-    ensures reads { ConsumesAtMost (R.remaining reader.old) (R.remaining reader.new)
+    ensures reads { ConsumesAtMost (unread R.remaining reader.old) (unread R.remaining reader.new)
         (LONGEST_INPUT + 1) }
     // A script within the limit is answered as the machine does over such a disk, with so many refusals.
-    ensures done { IfOk result (λ outcome. AnswersAll (record { honest = D.honest disk.old; failed = D.failures disk.old; failed_now = D.failures disk.new }) (R.remaining reader.old)
+    ensures done { IfOk result (λ outcome. AnswersAll (record { honest = D.honest disk.old; failed = D.failures disk.old; failed_now = D.failures disk.new }) (unread R.remaining reader.old)
         (W.contents writer.old) (W.contents writer.new) outcome.refused) }
     // What was written where the run stopped.
-    ensures stopped { IfErr result (AnswersSome (record { honest = D.honest disk.old; failed = D.failures disk.old; failed_now = D.failures disk.new }) (R.remaining reader.old) (W.contents writer.old)
+    ensures stopped { IfErr result (AnswersSome (record { honest = D.honest disk.old; failed = D.failures disk.old; failed_now = D.failures disk.new }) (unread R.remaining reader.old) (W.contents writer.old)
         (W.contents writer.new)) }
     // Nothing was written where the script was not read.
     ensures silent { IfErr result (KeepsUnread (W.contents writer.old) (W.contents writer.new)) }
+    // The script is told to be unreadable exactly where its reader failed.
+    ensures fault { tells_read_fault result ≡ has_failed reader.new }
     // The disk is as honest as it was, so that another script can run over it.
     ensures disk { (faults : ℕ) × Leaves D.TapeDisk faults disk.old disk.new }
 {
@@ -140,19 +143,20 @@ pub fn run<R: Read, W: Write, D: TapeDisk>(
 /// chosen that lie in one place of a table. All clauses hold with each seed.
 pub fn run_observed<R: Read, W: Write, O: Observer, D: TapeDisk>(
     alloc: Global,
-    reader: &mut R,
+    reader: &mut FusedReader<R>,
     writer: &mut W,
     observer: &mut O,
     disk: &mut D,
     seed: Seed,
 ) -> Result<Outcome, RunError>
-    ensures reads { ConsumesAtMost (R.remaining reader.old) (R.remaining reader.new)
+    ensures reads { ConsumesAtMost (unread R.remaining reader.old) (unread R.remaining reader.new)
         (LONGEST_INPUT + 1) }
-    ensures done { IfOk result (λ outcome. AnswersAll (record { honest = D.honest disk.old; failed = D.failures disk.old; failed_now = D.failures disk.new }) (R.remaining reader.old)
+    ensures done { IfOk result (λ outcome. AnswersAll (record { honest = D.honest disk.old; failed = D.failures disk.old; failed_now = D.failures disk.new }) (unread R.remaining reader.old)
         (W.contents writer.old) (W.contents writer.new) outcome.refused) }
-    ensures stopped { IfErr result (AnswersSome (record { honest = D.honest disk.old; failed = D.failures disk.old; failed_now = D.failures disk.new }) (R.remaining reader.old) (W.contents writer.old)
+    ensures stopped { IfErr result (AnswersSome (record { honest = D.honest disk.old; failed = D.failures disk.old; failed_now = D.failures disk.new }) (unread R.remaining reader.old) (W.contents writer.old)
         (W.contents writer.new)) }
     ensures silent { IfErr result (KeepsUnread (W.contents writer.old) (W.contents writer.new)) }
+    ensures fault { tells_read_fault result ≡ has_failed reader.new }
     ensures disk { (faults : ℕ) × Leaves D.TapeDisk faults disk.old disk.new }
 {
     let script = read_input(alloc, reader, LONGEST_INPUT)?;

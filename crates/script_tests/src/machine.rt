@@ -1,6 +1,7 @@
 use batch_reader::BatchError;
 use hash_agg::MemDisk;
 use replies::{Refusal, RunError};
+use script_io::FusedReader;
 use script_machine::run;
 use std::alloc::{AllocError, Global};
 use std::io;
@@ -35,7 +36,8 @@ fn written_to(alloc: Global, room: &str) -> Result<String, AllocError> {
         room: room.parse().unwrap_or(0),
     };
     let mut disk = MemDisk::new(alloc);
-    let outcome = run(alloc, &mut SCRIPT.as_bytes(), &mut writer, &mut disk);
+    let mut reader = FusedReader::new(SCRIPT.as_bytes());
+    let outcome = run(alloc, &mut reader, &mut writer, &mut disk);
     drop(disk);
     let taken = writer.taken.len();
     drop(writer);
@@ -55,22 +57,32 @@ fn faults_of_writers_end_a_run(rt: HostRuntime) -> Result<(), Fail> {
     expect_told_lines(rt.alloc(), ROOMS, written_to)
 }
 
-/// What becomes of the run of what a reader has, and how many bytes are written.
+/// What becomes of the run of what a reader has, how many bytes are written, and whether the reader failed.
 fn ended<R: Read>(alloc: Global, reader: &mut R) -> Result<String, AllocError> {
+    let mut reader = FusedReader::new(&mut *reader);
     let mut written = Vec::new(alloc);
     let mut disk = MemDisk::new(alloc);
-    let outcome = run(alloc, reader, &mut written, &mut disk);
+    let outcome = run(alloc, &mut reader, &mut written, &mut disk);
     drop(disk);
+    let has_failed = reader.fault().is_some();
     let count = written.len();
     drop(written);
-    format!(in alloc; "{outcome:?}, {count} written")
+    format!(in alloc; "{outcome:?}, {count} written, failed {has_failed}")
 }
 
 #[test]
 fn faults_of_readers_end_a_run(rt: HostRuntime) -> Result<(), Fail> {
     expect_told(
         ended(rt.alloc(), &mut FailingReader),
-        "Err(ReadFault), 0 written",
+        "Err(ReadFault), 0 written, failed true",
+    )
+}
+
+#[test]
+fn faults_behind_a_whole_script_end_a_run(rt: HostRuntime) -> Result<(), Fail> {
+    expect_told(
+        ended(rt.alloc(), &mut SCRIPT.as_bytes().chain(FailingReader)),
+        "Err(ReadFault), 0 written, failed true",
     )
 }
 
@@ -85,7 +97,7 @@ fn endless_ended(alloc: Global) -> Result<String, AllocError> {
 fn readers_without_an_end_end_a_run(rt: HostRuntime) -> Result<(), Fail> {
     expect_told(
         endless_ended(rt.alloc()),
-        "Err(InputTooLong), 0 written, 67108865 taken",
+        "Err(InputTooLong), 0 written, failed false, 67108865 taken",
     )
 }
 
@@ -93,7 +105,7 @@ fn readers_without_an_end_end_a_run(rt: HostRuntime) -> Result<(), Fail> {
 fn nothing_is_answered_by_nothing(rt: HostRuntime) -> Result<(), Fail> {
     expect_told(
         ended(rt.alloc(), &mut io::empty()),
-        "Ok(Outcome { refused: 0 }), 0 written",
+        "Ok(Outcome { refused: 0 }), 0 written, failed false",
     )
 }
 

@@ -6,6 +6,7 @@ use file_commands::{create, feed, save};
 use hash_agg::{Fnv1a, LEAST_LIMIT, Means, MemDisk, Seed, TapeDisk, USUAL_SEED, Work};
 use replica_merge::Replica;
 use replies::{Refusal, RunError};
+use script_io::FusedReader;
 use script_machine::{Observer, run_observed};
 use std::alloc::Global;
 use std::test::*;
@@ -44,7 +45,7 @@ fn replies_by(
     let mut replies = Vec::new(alloc);
     let run = run_observed(
         alloc,
-        &mut script.as_bytes(),
+        &mut FusedReader::new(script.as_bytes()),
         &mut replies,
         &mut Unobserved,
         disk,

@@ -2,6 +2,7 @@
 
 use hash_agg::{MemDisk, TapeDisk};
 use replies::{Outcome, RunError};
+use script_io::FusedReader;
 use script_machine::run;
 use spill_tapes::{FailDisk, FileDisk};
 use std::alloc::{AllocError, Global};
@@ -59,7 +60,8 @@ fn run_over<D: TapeDisk>(
     disk: &mut D,
     replies: &mut Vec<u8>,
 ) -> Result<u64, RunError> {
-    match run(alloc, &mut script.as_bytes(), replies, disk) {
+    let mut reader = FusedReader::new(script.as_bytes());
+    match run(alloc, &mut reader, replies, disk) {
         Ok(Outcome { refused }) => Ok(refused),
         Err(error) => Err(error),
     }

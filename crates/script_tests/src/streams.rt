@@ -1,5 +1,5 @@
 use csv::ByteRecord;
-use script_io::{InputError, Records, put_all, read_input};
+use script_io::{FusedReader, InputError, Records, put_all, read_input};
 use std::alloc::{AllocError, Global};
 use std::io;
 use std::io::{Error, ErrorKind, Read, Write};
@@ -75,11 +75,13 @@ impl Write for ShortWriter {
 fn taken_of(alloc: Global, size: u32, most: u32) -> Result<String, AllocError> {
     let script = [b'x'; 20001];
     let script = script.get(..size as usize).unwrap_or(b"too long");
-    let mut reader = script;
+    let mut left = script;
+    let mut reader = FusedReader::new(&mut left);
     let read = read_input(alloc, &mut reader, most as usize);
-    let taken = script.len().saturating_sub(reader.len());
+    let is_sound = reader.fault().is_none();
+    let taken = script.len().saturating_sub(left.len());
     match read {
-        Ok(text) => format!(in alloc; "{}", text.as_slice() == script),
+        Ok(text) => format!(in alloc; "{}", is_sound && text.as_slice() == script),
         Err(InputError::TooLong) => format!(in alloc; "{taken}"),
         Err(error) => format!(in alloc; "{error:?}"),
     }
@@ -110,8 +112,9 @@ fn reads_up_to_the_limit(rt: HostRuntime) -> Result<(), Fail> {
 
 /// Whether a reader without an end is refused.
 fn is_refused(alloc: Global, most: u32) -> bool {
-    let result = read_input(alloc, &mut io::repeat(b'x'), most as usize);
-    matches!(&result, Err(InputError::TooLong))
+    let mut reader = FusedReader::new(io::repeat(b'x'));
+    let result = read_input(alloc, &mut reader, most as usize);
+    matches!(&result, Err(InputError::TooLong)) && reader.fault().is_none()
 }
 
 #[test]
@@ -121,15 +124,27 @@ fn refuses_a_reader_without_an_end(rt: HostRuntime) {
     }
 }
 
-/// Whether reading ends at the fault of a reader that gives so many bytes, and behind it no more is asked.
+/// Whether what a reader has left can't be read, for a fault of this kind.
+fn fails(alloc: Global, reader: &mut FusedReader<&mut StutteringReader>, kind: ErrorKind) -> bool {
+    let result = read_input(alloc, reader, 10);
+    let is_kind = match reader.fault() {
+        Some(error) => error.kind() == kind,
+        None => false,
+    };
+    is_kind && matches!(&result, Err(InputError::ReadFault))
+}
+
+/// Whether reading ends at the fault of a reader that gives so many bytes, and again where it is tried once more, and behind the fault no
+/// more is asked.
 fn stops(alloc: Global, sound: usize, kind: ErrorKind) -> bool {
-    let mut reader = StutteringReader {
+    let mut stuttering = StutteringReader {
         given: 0,
         sound,
         kind,
     };
-    let result = read_input(alloc, &mut reader, 10);
-    matches!(&result, Err(InputError::ReadFault)) && reader.given == sound.wrapping_add(1)
+    let mut reader = FusedReader::new(&mut stuttering);
+    let stops = fails(alloc, &mut reader, kind) && fails(alloc, &mut reader, kind);
+    stops && stuttering.given == sound.wrapping_add(1)
 }
 
 /// The same of each kind of fault.
