@@ -33,6 +33,10 @@ is_written t id = is_in Written (phase_of t id)
 abbrev pub is_read : TapesState → TapeId → Bool
 is_read t id = is_in Read (phase_of t id)
 
+-- the tapes of the places before one are open
+abbrev pub AreOpenBefore : TapesState → ℕ → Type 0
+AreOpenBefore t place = (earlier : ℕ) → earlier < place → phase_of t (record { index = earlier }) ≢ Closed
+
 -- how many bytes were written to a tape that is being written
 abbrev pub written_len : TapesState → TapeId → ℕ
 written_len t id = tape_len (tape_at t id)

@@ -6,7 +6,7 @@ ghost use Rattle.spill_tapes.specs.Errors.{tape_faults};
 ghost use Rattle.spill_tapes.specs.Pages.{UsesAgain, pages_for};
 ghost use Rattle.spill_tapes.specs.Records.{Record, tape_bytes};
 ghost use Rattle.spill_tapes.specs.Tape.{Gives, new_tape, no_tape};
-ghost use Rattle.spill_tapes.specs.Tapes.{tape_at, phase_of, is_open, is_written, is_read, written_len, IsTape, KeepsOthers, DiesIfRefused, IsOpenRefusal, IsRefusal, IsReadRefusal, FreesPages, HasNoPageMore};
+ghost use Rattle.spill_tapes.specs.Tapes.{tape_at, phase_of, is_open, is_written, is_read, written_len, AreOpenBefore, IsTape, KeepsOthers, DiesIfRefused, IsOpenRefusal, IsRefusal, IsReadRefusal, FreesPages, HasNoPageMore};
 ghost use Rattle.spill_tapes.specs.declared.error.TapeError.TheVariants.{TapeDamaged, TapesDead};
 ghost use Rattle.spill_tapes.specs.declared.tape.Phase.TheVariants.{Closed, Written, Read};
 ghost use Rattle.spill_tapes.specs.declared.tape_id.TapeId.{TapeId};
@@ -114,11 +114,15 @@ impl Tapes {
     /// The first tape that is not open, if there is one.
     fn closed_place(&self) -> Option<usize>
         ensures closed { IfSome result (λ place. (place < length self.now.tapes) × ((get_or self.now.tapes place no_tape).phase ≡ Closed)) }
+        ensures first { IfSome result (AreOpenBefore self.now) }
+        ensures none { IfNone result (AreOpenBefore self.now (length self.now.tapes)) }
     {
-        for (place, tape) in self.tapes.iter().enumerate() {
-            if tape.phase() == Phase::Closed {
+        let mut place = 0;
+        while place < self.tapes.len() {
+            if self.tapes[place].phase() == Phase::Closed {
                 return Some(place);
             }
+            place += 1;
         }
         None
     }
@@ -152,6 +156,8 @@ impl Tapes {
         ensures unchanged { OnErr result (self.new ≡ self.old) }
         ensures alive { self.new.is_dead ≡ self.old.is_dead }
         ensures fresh { IfOk result (λ tape. is_open self.old tape ≡ false) }
+        // It takes the place of a tape that was closed, if there is one.
+        ensures first { IfOk result (λ tape. AreOpenBefore self.old tape.index) }
         ensures open { IfOk result (λ tape. is_open self.new tape ≡ true) }
         ensures written { IfOk result (λ tape. is_written self.new tape ≡ true) }
         ensures none { IfOk result (λ tape. written_len self.new tape ≡ 0) }
@@ -174,6 +180,7 @@ impl Tapes {
         ensures unchanged { OnErr result (self.new ≡ self.old) }
         ensures alive { self.new.is_dead ≡ false }
         ensures fresh { IfOk result (λ tape. phase_of self.old tape ≡ Closed) }
+        ensures first { IfOk result (λ tape. AreOpenBefore self.old tape.index) }
         ensures opened { IfOk result (λ tape. tape_at self.new tape ≡ new_tape) }
         ensures others { IfOk result (λ tape. (id : TapeId) → id ≢ tape → tape_at self.new id ≡ tape_at self.old id) }
         ensures pages { self.new.pool ≡ self.old.pool }

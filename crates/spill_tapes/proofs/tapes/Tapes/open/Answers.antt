@@ -18,6 +18,7 @@ returns g c =
       unchanged = told.unchanged;
       alive = told.alive ∙ sym alive;
       fresh = IfOk-weaker c.place-2.result _ _ (λ tape closed. ap (λ (p : Phase). not (is_in Closed p)) closed) told.fresh;
+      first = told.first;
       «open» = IfOk-weaker c.place-2.result _ _ (λ tape new. ap (λ (x : TapeState). not (is_in Closed x.phase)) new) told.opened;
       written = IfOk-weaker c.place-2.result _ _ (λ tape new. ap (λ (x : TapeState). is_in Written x.phase) new) told.opened;
       none = IfOk-weaker c.place-2.result _ _ (λ tape new. ap tape_len new) told.opened;
