@@ -2,9 +2,6 @@
 #![tactic(auto)]
 
 mod files;
-mod holding;
-mod progress;
-mod refusing;
-mod tasks;
+mod session;
 
-pub use tasks::{Session, Task};
+pub use session::Session;

@@ -6,23 +6,23 @@ ghost use Rattle.std.specs.Prelude.{◌≡◌};
 ghost use Rattle.replies.specs.Status.{status_of};
 ghost use Rattle.replies.specs.declared.ending.Ending.{Ending};
 
-mod script;
-
-use crate::script::run_script;
 use clap::error::ErrorKind;
 use clap::{ArgMatches, Error};
-use command_files::{Session, Task};
+use command_files::Session;
+use command_scripts::run_script;
 pub use command_streams::Terminals;
 use command_streams::{Problem, Streams, Watched, say};
-use command_words::{SPILL, parse_words};
+use command_words::{SPILL, Task, parse_words};
 use replies::{Ending, status};
 use std::alloc::Global;
 use std::cell::Cell;
-use std::convert::AsStr;
 use std::io;
 use std::io::{BufWriter, Read, Write};
 use std::random::RandomSource;
 use std::rt::Files;
+
+/// How many bytes of replies are gathered before they go out.
+const GATHERED_BYTES: usize = 8192;
 
 /// Writes what the parser of words has to say, in one write where there is memory for that.
 fn write_error<E: Write>(alloc: Global, error: &Error, errors: &mut E) {
@@ -72,9 +72,9 @@ fn run_task<'c, R: Files + AllocGlobal + RandomSource, W: Write, E: Write>(
 }
 
 /// Runs the command that words ask for.
-fn run_words<'c, R: Files + AllocGlobal + RandomSource, S: AsStr, I: Read, W: Write, E: Write>(
+fn run_words<'c, R: Files + AllocGlobal + RandomSource, I: Read, W: Write, E: Write>(
     rt: &'c R,
-    words: &[S],
+    words: &[String],
     reader: &mut I,
     mut streams: Streams<'c, W, E>,
 ) -> Ending {
@@ -90,6 +90,7 @@ fn run_words<'c, R: Files + AllocGlobal + RandomSource, S: AsStr, I: Read, W: Wr
         Err(error) => end_without_command(&error, &mut streams),
     }
 }
+
 /// Sends out what was gathered. A fault is told, unless one was told before, or nobody reads any more.
 fn send_out<W: Write, E: Write>(
     alloc: Global,
@@ -110,11 +111,33 @@ fn send_out<W: Write, E: Write>(
     }
 }
 
+/// Runs the command of some words, over a writer that gathers, and sends out what was gathered.
+fn run_through<R: Files + AllocGlobal + RandomSource, I: Read, W: Write, E: Write>(
+    rt: &R,
+    words: &[String],
+    reader: &mut I,
+    gathered: &mut W,
+    errors: &mut E,
+    fault: &Cell<Option<io::Error>>,
+    terminals: Terminals,
+) -> Ending {
+    let alloc = rt.alloc();
+    let streams = Streams {
+        alloc,
+        writer: &mut *gathered,
+        errors: &mut *errors,
+        fault,
+        terminals,
+    };
+    let ending = run_words(rt, words, reader, streams);
+    send_out(alloc, gathered, ending, errors, fault)
+}
+
 /// Runs the command of some words, over a writer whose failures are kept. Where a person looks at the replies, and where there is no
 /// memory to gather them in, they go out as they come.
-fn run_gathered<R: Files + AllocGlobal + RandomSource, S: AsStr, I: Read, W: Write, E: Write>(
+fn run_gathered<R: Files + AllocGlobal + RandomSource, I: Read, W: Write, E: Write>(
     rt: &R,
-    words: &[S],
+    words: &[String],
     reader: &mut I,
     writer: &mut W,
     errors: &mut E,
@@ -122,37 +145,19 @@ fn run_gathered<R: Files + AllocGlobal + RandomSource, S: AsStr, I: Read, W: Wri
     terminals: Terminals,
 ) -> Ending {
     let alloc = rt.alloc();
-    if !terminals.output {
-        if let Ok(mut gathered) = BufWriter::new(alloc, &mut *writer) {
-            let streams = Streams {
-                alloc,
-                writer: &mut gathered,
-                errors: &mut *errors,
-                fault,
-                terminals,
-            };
-            let ending = run_words(rt, words, reader, streams);
-            return send_out(alloc, &mut gathered, ending, errors, fault);
-        }
+    let capacity = if terminals.output { 0 } else { GATHERED_BYTES };
+    if let Ok(mut gathered) = BufWriter::with_capacity(alloc, capacity, &mut *writer) {
+        return run_through(rt, words, reader, &mut gathered, errors, fault, terminals);
     }
-    let streams = Streams {
-        alloc,
-        writer,
-        errors,
-        fault,
-        terminals,
-    };
-    run_words(rt, words, reader, streams)
+    // One that gathers nothing takes no memory.
+    let mut direct = BufWriter::with_capacity(alloc, 0, writer).unwrap();
+    run_through(rt, words, reader, &mut direct, errors, fault, terminals)
 }
 
-/// Runs the command that words ask for, of which the first is the program's name.
-///
-/// Replies and tables go to the writer, gathered in pieces of some 8 KiB unless it is a terminal, sentences for people to `errors`, each
-/// in one write, and only `script` reads from the reader. The result is the status of the process: 0 where all was done, 1 where
-/// something was refused, 2 where the words are no command line, 3 where a file or a stream could not be read or written.
-pub fn command<R: Files + AllocGlobal + RandomSource, S: AsStr, I: Read, W: Write, E: Write>(
+/// Runs the command that words ask for, and gives the status of the process.
+fn run_over<R: Files + AllocGlobal + RandomSource, I: Read, W: Write, E: Write>(
     rt: &R,
-    words: &[S],
+    words: &[String],
     reader: &mut I,
     writer: &mut W,
     errors: &mut E,
@@ -164,4 +169,24 @@ pub fn command<R: Files + AllocGlobal + RandomSource, S: AsStr, I: Read, W: Writ
     let mut watched = Watched::new(&mut *writer, &fault);
     let ending = run_gathered(rt, words, reader, &mut watched, errors, &fault, terminals);
     status(ending)
+}
+
+/// Runs the command that words ask for, of which the first is the program's name.
+///
+/// Replies and tables go to the writer, gathered in pieces of some 8 KiB unless it is a terminal, sentences for people to `errors`, each
+/// in one write, and only `script` reads from the reader. The result is the status of the process: 0 where all was done, 1 where
+/// something was refused, 2 where the words are no command line, 3 where a file or a stream could not be read or written.
+///
+/// It takes streams of any kinds, and has no type parameter: so the program is put together, and proved, in this crate alone.
+pub fn command(
+    rt: &HostRuntime,
+    words: &[String],
+    mut reader: &mut dyn Read,
+    mut writer: &mut dyn Write,
+    mut errors: &mut dyn Write,
+    terminals: Terminals,
+) -> u8
+    ensures status { (ending : Ending) × (result ≡ status_of ending) }
+{
+    run_over(rt, words, &mut reader, &mut writer, &mut errors, terminals)
 }

@@ -1,10 +1,13 @@
 //! The words of the command line, and what help says of them.
 #![tactic(auto)]
 
+mod tasks;
+
 use clap::builder::ValueParser;
 use clap::{Arg, ArgAction, ArgMatches, Command, Error};
 use std::alloc::{AllocError, Global};
 use std::convert::AsStr;
+pub use tasks::{Task, value};
 
 /// The summary file that is written.
 pub const OUT: &str = "OUT";

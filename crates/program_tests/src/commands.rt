@@ -1,7 +1,9 @@
 //! What the commands print, the files that they leave, and their statuses.
 
-use crate::folder::{File, play};
+use crate::folder::play;
 use std::test::*;
+use test_folders::File;
+use test_tables::expect;
 
 /// Batch files: one of a first batch of three rows, and others that are refused. And what is saved of the first one.
 const BATCHES: [File; 11] = [
@@ -61,8 +63,7 @@ feed|@first.sum|@first.sum|@b.csv => known/saved 180/ => 0
 
 #[test]
 fn files_are_made_fed_merged_and_asked(rt: HostRuntime) -> Result<(), Fail> {
-    assert_eq!(rt; play(&rt, "program", &BATCHES, PROGRAM)?.as_str(), "");
-    Ok(())
+    expect(play(&rt, "program", &BATCHES, PROGRAM), "")
 }
 
 /// Files that are passed over: the others are taken.
@@ -79,8 +80,7 @@ feed|@g.sum|@e.sum|@b.csv|@none.csv|@b.csv => folded upto 1/refused ReadFault/ =
 
 #[test]
 fn refused_files_are_passed_over(rt: HostRuntime) -> Result<(), Fail> {
-    assert_eq!(rt; play(&rt, "passed", &BATCHES, PASSED_OVER)?.as_str(), "");
-    Ok(())
+    expect(play(&rt, "passed", &BATCHES, PASSED_OVER), "")
 }
 
 /// What `--explain` tells: 385 towns need 90,128 bytes, and 384 of them 57,352.
@@ -109,8 +109,7 @@ merge|@x.sum|@d.sum|@bad.csv|@c.sum|--explain => refused NotASummary/merged/save
 
 #[test]
 fn what_the_grouping_took_is_told(rt: HostRuntime) -> Result<(), Fail> {
-    assert_eq!(rt; play(&rt, "explained", &[], EXPLAINED)?.as_str(), "");
-    Ok(())
+    expect(play(&rt, "explained", &[], EXPLAINED), "")
 }
 
 /// Groups that a limit has spilled to a file: the same bytes as without it, and the file is gone then, whatever became of the command.
@@ -154,8 +153,7 @@ known|@a.sum|--spill|@t.tmp => - => 2 => --spill
 
 #[test]
 fn what_is_spilled_to_a_file_is_gone(rt: HostRuntime) -> Result<(), Fail> {
-    assert_eq!(rt; play(&rt, "spilled", &[], SPILLED)?.as_str(), "");
-    Ok(())
+    expect(play(&rt, "spilled", &[], SPILLED), "")
 }
 
 /// Commands that write nothing: `x.sum` is never there.
@@ -188,8 +186,7 @@ group|@x.sum => - => 2 => group
 
 #[test]
 fn refused_commands_write_no_file(rt: HostRuntime) -> Result<(), Fail> {
-    assert_eq!(rt; play(&rt, "refused", &BATCHES, REFUSED)?.as_str(), "");
-    Ok(())
+    expect(play(&rt, "refused", &BATCHES, REFUSED), "")
 }
 
 /// Files that stand in the place of OUT, or beside it: a link that leads to no file yet, a file with permissions of its own, the name of the
@@ -219,8 +216,7 @@ const BESIDE: [File; 2] = [
 
 #[test]
 fn what_stands_there_keeps_its_kind(rt: HostRuntime) -> Result<(), Fail> {
-    assert_eq!(rt; play(&rt, "places", &BESIDE, PLACES)?.as_str(), "");
-    Ok(())
+    expect(play(&rt, "places", &BESIDE, PLACES), "")
 }
 
 /// Two sites that take the batches of two origins in different orders, and exchange their files.
@@ -254,8 +250,7 @@ const STREAMS: [File; 6] = [
 
 #[test]
 fn sites_that_exchange_files_agree(rt: HostRuntime) -> Result<(), Fail> {
-    assert_eq!(rt; play(&rt, "sites", &STREAMS, SITES)?.as_str(), "");
-    Ok(())
+    expect(play(&rt, "sites", &STREAMS, SITES), "")
 }
 
 /// Batches of texts and of nulls.
@@ -293,14 +288,12 @@ answer|@p.sum|--format|aligned => c          | bool_and | sum/-----------+------
 
 #[test]
 fn answers_are_printed(rt: HostRuntime) -> Result<(), Fail> {
-    assert_eq!(rt; play(&rt, "printed", &PRINTED, TABLES)?.as_str(), "");
-    Ok(())
+    expect(play(&rt, "printed", &PRINTED, TABLES), "")
 }
 
 #[test]
 fn a_file_over_the_limit_is_refused(rt: HostRuntime) -> Result<(), Fail> {
-    assert_eq!(rt; play(&rt, "long", &BATCHES, TOO_LONG)?.as_str(), "");
-    Ok(())
+    expect(play(&rt, "long", &BATCHES, TOO_LONG), "")
 }
 
 /// A file of 67,108,865 bytes, and one without an end: as a batch or a later summary it is passed over.
@@ -342,6 +335,5 @@ known|@l.sum => origin 0 upto 0 early 4294967295/ => 0
 
 #[test]
 fn the_greatest_counts_are_summed(rt: HostRuntime) -> Result<(), Fail> {
-    assert_eq!(rt; play(&rt, "full", &LAST, FULL)?.as_str(), "");
-    Ok(())
+    expect(play(&rt, "full", &LAST, FULL), "")
 }

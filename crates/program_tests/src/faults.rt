@@ -1,268 +1,108 @@
-//! What is said of each fault: a table of batch files, of queries, of schemas, of files in one another's place, and of what becomes of OUT.
+//! What is said of each fault: tables of batch files, of queries, of schemas, of files in one another's place, and of what becomes of OUT.
 
-use crate::folder::{Done, File, new_folder, play, run};
-use std::fs;
+use crate::folder::play;
 use std::test::*;
-use test_tables::{cut, halves};
-
-/// A fault: the bytes in which it is, its reply, and what is said behind the name of the file, or of the option, and of the reply.
-type Fault = (&'static [u8], &'static str, &'static str);
-
-/// Where what is said is not what is wanted: both.
-fn difference(
-    rt: &HostRuntime,
-    found: &Done,
-    status: u8,
-    output: &str,
-    errors: &str,
-) -> Result<String, Fail> {
-    if found.status == status
-        && found.output.as_str() == output
-        && found.errors.as_str() == errors
-    {
-        return Ok(String::new(rt.alloc()));
-    }
-    let (told, output, said) = (found.status, &found.output, &found.errors);
-    Ok(format!(in rt.alloc(); "wanted {errors}{told} {output}{said}\n")?)
-}
-
-/// Feeds a batch file of bytes to a summary, and tells what differs.
-fn feed_bytes(rt: &HostRuntime, folder: &str, fault: &Fault) -> Result<String, Fail> {
-    let (bytes, name, said) = *fault;
-    let path = format!(in rt.alloc(); "{folder}x.csv")?;
-    fs::write(rt, path.as_str(), bytes)?;
-    let words = format!(in rt.alloc(); "feed|{folder}f.sum|{folder}e.sum|{path}")?;
-    let found = run(rt, &words, "")?;
-    let output = format!(in rt.alloc(); "refused {name}\nsaved 58\n")?;
-    let errors = format!(in rt.alloc();
-        "{path}: refused {name}: {said}\n{folder}f.sum: written, with 1 of 1 files passed over\n"
-    )?;
-    let told = difference(rt, &found, 1, &output, &errors)?;
-    let out = format!(in rt.alloc(); "{folder}f.sum")?;
-    fs::remove_file(rt, out.as_str())?;
-    Ok(told)
-}
-
-/// The batch files that differ from what is wanted of them.
-fn batches_told(rt: &HostRuntime, folder: &str, faults: &[Fault]) -> Result<String, Fail> {
-    let mut told = String::new(rt.alloc());
-    for fault in faults {
-        told.push_str(&feed_bytes(rt, folder, fault)?)?;
-    }
-    Ok(told)
-}
+use test_folders::{File, refusals};
+use test_tables::expect;
 
 /// Batch files over the columns `c text, d bigint`.
-const BATCHES: [Fault; 34] = [
+const BATCHES: [File; 34] = [
+    ("0.csv", b""),
+    ("1.csv", b"\r\n\n"),
+    ("2.csv", b"oslo,5\n"),
+    ("3.csv", b"batch,0,1\n"),
+    ("4.csv", b"Batch,0,1,0\n"),
+    ("5.csv", b"C,D\noslo,5\n"),
+    ("6.csv", b"batch;0;1;1\noslo;5\n"),
+    ("7.csv", b"batch\t0\t1\t1\n"),
+    ("8.csv", b"\x1f\x8b\x08\x00"),
+    ("9.csv", b"\xff\xfeb\x00a\x00"),
+    ("10.csv", b"AGGSUM01\x00\x10"),
+    ("11.csv", b"\nbatch,1024,1,0\n"),
+    ("12.csv", b"batch,0,0,0\n"),
+    ("13.csv", b"batch,0,1,1.0\n"),
+    ("14.csv", b"batch,0,1,1048577\n"),
+    ("15.csv", b"batch,0,1,2\noslo,5\n"),
+    ("16.csv", b"batch,0,1,1\noslo,5\noslo,6\noslo,7\n"),
+    ("17.csv", b"batch,0,1,3\noslo,5\n\"oslo,6\noslo,7\n"),
+    ("18.csv", b"batch,0,1,1\noslo,5,6\n"),
+    ("19.csv", b"batch,0,1,2\noslo,5\noslo;6\n"),
+    ("20.csv", b"batch,0,1,1\n\"oslo,5\n"),
+    ("21.csv", b"batch,0,1,2\noslo,5\noslo,x\n"),
     (
-        b"",
-        "BadBatchHead",
-        "the file is empty, and wants a first line batch,ORIGIN,NUMBER,ROWS",
-    ),
-    (
-        b"\r\n\n",
-        "BadBatchHead",
-        "the file is empty, and wants a first line batch,ORIGIN,NUMBER,ROWS",
-    ),
-    (
-        b"oslo,5\n",
-        "BadBatchHead",
-        "the first line is 'oslo,5', and wants batch,ORIGIN,NUMBER,ROWS",
-    ),
-    (
-        b"batch,0,1\n",
-        "BadBatchHead",
-        "the first line is 'batch,0,1', and wants batch,ORIGIN,NUMBER,ROWS",
-    ),
-    (
-        b"Batch,0,1,0\n",
-        "BadBatchHead",
-        "the first line is 'Batch,0,1,0', and wants batch,ORIGIN,NUMBER,ROWS",
-    ),
-    (
-        b"C,D\noslo,5\n",
-        "BadBatchHead",
-        "the first line is 'C,D', and wants batch,ORIGIN,NUMBER,ROWS; it is a line of names, and no batch has one",
-    ),
-    (
-        b"batch;0;1;1\noslo;5\n",
-        "BadBatchHead",
-        "the first line is 'batch;0;1;1', and wants batch,ORIGIN,NUMBER,ROWS; fields stand between commas, and not between semicolons",
-    ),
-    (
-        b"batch\t0\t1\t1\n",
-        "BadBatchHead",
-        "the first line is 'batch\\x090\\x091\\x091', and wants batch,ORIGIN,NUMBER,ROWS; fields stand between commas, and not between tabs",
-    ),
-    (
-        b"\x1f\x8b\x08\x00",
-        "BadBatchHead",
-        "the first line is '\\x1f\\x8b\\x08\\x00', and wants batch,ORIGIN,NUMBER,ROWS; it is compressed by gzip: gzip -dc FILE",
-    ),
-    (
-        b"\xff\xfeb\x00a\x00",
-        "BadBatchHead",
-        "the first line is '\\xff\\xfeb\\x00a\\x00', and wants batch,ORIGIN,NUMBER,ROWS; it is UTF-16: iconv -f UTF-16 -t UTF-8 FILE",
-    ),
-    (
-        b"AGGSUM01\x00\x10",
-        "BadBatchHead",
-        "the first line is 'AGGSUM01\\x00\\x10', and wants batch,ORIGIN,NUMBER,ROWS; it is a summary file: OUT and IN stand before the batch files",
-    ),
-    (
-        b"\nbatch,1024,1,0\n",
-        "BadBatchHead",
-        "line 2: ORIGIN is '1024', and wants 0 to 1023",
-    ),
-    (
-        b"batch,0,0,0\n",
-        "BadBatchHead",
-        "line 1: NUMBER is '0', and wants 1 to 4294967295",
-    ),
-    (
-        b"batch,0,1,1.0\n",
-        "BadBatchHead",
-        "line 1: ROWS is '1.0', and wants 1 to 9 digits",
-    ),
-    (
-        b"batch,0,1,1048577\n",
-        "TooManyRows",
-        "rows told: 1048577, and a batch has at most 1048576",
-    ),
-    (
-        b"batch,0,1,2\noslo,5\n",
-        "RowCount",
-        "rows told: 2, found: 1",
-    ),
-    (
-        b"batch,0,1,1\noslo,5\noslo,6\noslo,7\n",
-        "RowCount",
-        "rows told: 1, found: 3",
-    ),
-    (
-        b"batch,0,1,3\noslo,5\n\"oslo,6\noslo,7\n",
-        "RowCount",
-        "rows told: 3, found: 2; the quote of line 3 is never closed",
-    ),
-    (
-        b"batch,0,1,1\noslo,5,6\n",
-        "WrongWidth",
-        "line 2: fields found: 3, wanted: 2, as c text, d bigint",
-    ),
-    (
-        b"batch,0,1,2\noslo,5\noslo;6\n",
-        "WrongWidth",
-        "line 3: fields found: 1, wanted: 2, as c text, d bigint; fields stand between commas, and not between semicolons",
-    ),
-    (
-        b"batch,0,1,1\n\"oslo,5\n",
-        "WrongWidth",
-        "line 2: fields found: 1, wanted: 2, as c text, d bigint; the quote of line 2 is never closed",
-    ),
-    (
-        b"batch,0,1,2\noslo,5\noslo,x\n",
-        "BadField",
-        "line 3, column d bigint: 'x': a bigint is an optional + or - and digits",
-    ),
-    (
+        "22.csv",
         b"\xef\xbb\xbfbatch,0,1,2\r\n\r\n\"os\rlo\",5\r\noslo,1_000\r\n",
-        "BadField",
-        "line 5, column d bigint: '1_000': a bigint is an optional + or - and digits",
     ),
+    ("23.csv", b"batch,0,1,1\noslo,\n"),
+    ("24.csv", b"batch,0,1,1\noslo, \n"),
+    ("25.csv", b"batch,0,1,1\noslo,NULL\n"),
+    ("26.csv", b"batch,0,1,1\noslo,5 \n"),
+    ("27.csv", b"batch,0,1,1\noslo,-9223372036854775809\n"),
+    ("28.csv", b"batch,0,1,1\noslo,\x1b[2J\xe2\x80\xaex\n"),
+    ("29.csv", b"batch,0,1,1\nc,d\n"),
+    ("30.csv", b"batch,0,1,1\nos\x00lo,5\n"),
+    ("31.csv", b"batch,0,1,1\nosl\xf8,5\n"),
     (
-        b"batch,0,1,1\noslo,\n",
-        "BadField",
-        "line 2, column d bigint: '': an empty field; null is \\N",
-    ),
-    (
-        b"batch,0,1,1\noslo, \n",
-        "BadField",
-        "line 2, column d bigint: ' ': an empty field; null is \\N",
-    ),
-    (
-        b"batch,0,1,1\noslo,NULL\n",
-        "BadField",
-        "line 2, column d bigint: 'NULL': null is \\N",
-    ),
-    (
-        b"batch,0,1,1\noslo,5 \n",
-        "BadField",
-        "line 2, column d bigint: '5 ': no white space stands round a value",
-    ),
-    (
-        b"batch,0,1,1\noslo,-9223372036854775809\n",
-        "BadField",
-        "line 2, column d bigint: '-9223372036854775809': out of range, which is -9223372036854775808 to 9223372036854775807",
-    ),
-    (
-        b"batch,0,1,1\noslo,\x1b[2J\xe2\x80\xaex\n",
-        "BadField",
-        "line 2, column d bigint: '\\x1b[2J\\u{202e}x': a bigint is an optional + or - and digits",
-    ),
-    (
-        b"batch,0,1,1\nc,d\n",
-        "BadField",
-        "line 2, column d bigint: 'd': a bigint is an optional + or - and digits; it is a line of names, and no batch has one",
-    ),
-    (
-        b"batch,0,1,1\nos\x00lo,5\n",
-        "BadField",
-        "line 2, column c text: 'os\\x00lo': the character 0 is in no text",
-    ),
-    (
-        b"batch,0,1,1\nosl\xf8,5\n",
-        "BadField",
-        "line 2, column c text: 'osl\\xf8': no UTF-8 from byte 4 of the field on, the first being byte 1",
-    ),
-    (
+        "32.csv",
         b"batch,0,1,1\n00000000010000000002000000000300000000040000000005000000000600000000070000000008000000000900000000100000000011000000001200000000130000000014000000001500000000160000000017000000001800000000190000000020000000002100000000220000000023000000002400000000250000000026,5\n",
-        "BadField",
-        "line 2, column c text: '0000000001000000000200000000030000000004..': a text of 260 bytes, and the longest has 255",
     ),
-    (
-        b"batch,0,1,1\n\"\n\",x\n",
-        "BadField",
-        "line 2, column d bigint: 'x': a bigint is an optional + or - and digits",
-    ),
+    ("33.csv", b"batch,0,1,1\n\"\n\",x\n"),
 ];
+
+/// What is said of each. What is said stands whole where it ends with `\u{b6}`, which stands for the end of a line.
+const FED: &str = "\
+new|@e.sum|--columns|c text, d bigint|--query|SELECT count(*) FROM batches => saved 58/ => 0
+feed|@e.sum|@e.sum|@0.csv => refused BadBatchHead/saved 58/ => 1 => @0.csv: refused BadBatchHead: the file is empty, and wants a first line batch,ORIGIN,NUMBER,ROWS\u{b6}@e.sum: written, with 1 of 1 files passed over\u{b6}
+feed|@e.sum|@e.sum|@1.csv => refused BadBatchHead/saved 58/ => 1 => @1.csv: refused BadBatchHead: the file is empty, and wants a first line batch,ORIGIN,NUMBER,ROWS\u{b6}@e.sum: written, with 1 of 1 files passed over\u{b6}
+feed|@e.sum|@e.sum|@2.csv => refused BadBatchHead/saved 58/ => 1 => @2.csv: refused BadBatchHead: the first line is 'oslo,5', and wants batch,ORIGIN,NUMBER,ROWS\u{b6}@e.sum: written, with 1 of 1 files passed over\u{b6}
+feed|@e.sum|@e.sum|@3.csv => refused BadBatchHead/saved 58/ => 1 => @3.csv: refused BadBatchHead: the first line is 'batch,0,1', and wants batch,ORIGIN,NUMBER,ROWS\u{b6}@e.sum: written, with 1 of 1 files passed over\u{b6}
+feed|@e.sum|@e.sum|@4.csv => refused BadBatchHead/saved 58/ => 1 => @4.csv: refused BadBatchHead: the first line is 'Batch,0,1,0', and wants batch,ORIGIN,NUMBER,ROWS\u{b6}@e.sum: written, with 1 of 1 files passed over\u{b6}
+feed|@e.sum|@e.sum|@5.csv => refused BadBatchHead/saved 58/ => 1 => @5.csv: refused BadBatchHead: the first line is 'C,D', and wants batch,ORIGIN,NUMBER,ROWS; it is a line of names, and no batch has one\u{b6}@e.sum: written, with 1 of 1 files passed over\u{b6}
+feed|@e.sum|@e.sum|@6.csv => refused BadBatchHead/saved 58/ => 1 => @6.csv: refused BadBatchHead: the first line is 'batch;0;1;1', and wants batch,ORIGIN,NUMBER,ROWS; fields stand between commas, and not between semicolons\u{b6}@e.sum: written, with 1 of 1 files passed over\u{b6}
+feed|@e.sum|@e.sum|@7.csv => refused BadBatchHead/saved 58/ => 1 => @7.csv: refused BadBatchHead: the first line is 'batch\\x090\\x091\\x091', and wants batch,ORIGIN,NUMBER,ROWS; fields stand between commas, and not between tabs\u{b6}@e.sum: written, with 1 of 1 files passed over\u{b6}
+feed|@e.sum|@e.sum|@8.csv => refused BadBatchHead/saved 58/ => 1 => @8.csv: refused BadBatchHead: the first line is '\\x1f\\x8b\\x08\\x00', and wants batch,ORIGIN,NUMBER,ROWS; it is compressed by gzip: gzip -dc FILE\u{b6}@e.sum: written, with 1 of 1 files passed over\u{b6}
+feed|@e.sum|@e.sum|@9.csv => refused BadBatchHead/saved 58/ => 1 => @9.csv: refused BadBatchHead: the first line is '\\xff\\xfeb\\x00a\\x00', and wants batch,ORIGIN,NUMBER,ROWS; it is UTF-16: iconv -f UTF-16 -t UTF-8 FILE\u{b6}@e.sum: written, with 1 of 1 files passed over\u{b6}
+feed|@e.sum|@e.sum|@10.csv => refused BadBatchHead/saved 58/ => 1 => @10.csv: refused BadBatchHead: the first line is 'AGGSUM01\\x00\\x10', and wants batch,ORIGIN,NUMBER,ROWS; it is a summary file: OUT and IN stand before the batch files\u{b6}@e.sum: written, with 1 of 1 files passed over\u{b6}
+feed|@e.sum|@e.sum|@11.csv => refused BadBatchHead/saved 58/ => 1 => @11.csv: refused BadBatchHead: line 2: ORIGIN is '1024', and wants 0 to 1023\u{b6}@e.sum: written, with 1 of 1 files passed over\u{b6}
+feed|@e.sum|@e.sum|@12.csv => refused BadBatchHead/saved 58/ => 1 => @12.csv: refused BadBatchHead: line 1: NUMBER is '0', and wants 1 to 4294967295\u{b6}@e.sum: written, with 1 of 1 files passed over\u{b6}
+feed|@e.sum|@e.sum|@13.csv => refused BadBatchHead/saved 58/ => 1 => @13.csv: refused BadBatchHead: line 1: ROWS is '1.0', and wants 1 to 9 digits\u{b6}@e.sum: written, with 1 of 1 files passed over\u{b6}
+feed|@e.sum|@e.sum|@14.csv => refused TooManyRows/saved 58/ => 1 => @14.csv: refused TooManyRows: rows told: 1048577, and a batch has at most 1048576\u{b6}@e.sum: written, with 1 of 1 files passed over\u{b6}
+feed|@e.sum|@e.sum|@15.csv => refused RowCount/saved 58/ => 1 => @15.csv: refused RowCount: rows told: 2, found: 1\u{b6}@e.sum: written, with 1 of 1 files passed over\u{b6}
+feed|@e.sum|@e.sum|@16.csv => refused RowCount/saved 58/ => 1 => @16.csv: refused RowCount: rows told: 1, found: 3\u{b6}@e.sum: written, with 1 of 1 files passed over\u{b6}
+feed|@e.sum|@e.sum|@17.csv => refused RowCount/saved 58/ => 1 => @17.csv: refused RowCount: rows told: 3, found: 2; the quote of line 3 is never closed\u{b6}@e.sum: written, with 1 of 1 files passed over\u{b6}
+feed|@e.sum|@e.sum|@18.csv => refused WrongWidth/saved 58/ => 1 => @18.csv: refused WrongWidth: line 2: fields found: 3, wanted: 2, as c text, d bigint\u{b6}@e.sum: written, with 1 of 1 files passed over\u{b6}
+feed|@e.sum|@e.sum|@19.csv => refused WrongWidth/saved 58/ => 1 => @19.csv: refused WrongWidth: line 3: fields found: 1, wanted: 2, as c text, d bigint; fields stand between commas, and not between semicolons\u{b6}@e.sum: written, with 1 of 1 files passed over\u{b6}
+feed|@e.sum|@e.sum|@20.csv => refused WrongWidth/saved 58/ => 1 => @20.csv: refused WrongWidth: line 2: fields found: 1, wanted: 2, as c text, d bigint; the quote of line 2 is never closed\u{b6}@e.sum: written, with 1 of 1 files passed over\u{b6}
+feed|@e.sum|@e.sum|@21.csv => refused BadField/saved 58/ => 1 => @21.csv: refused BadField: line 3, column d bigint: 'x': a bigint is an optional + or - and digits\u{b6}@e.sum: written, with 1 of 1 files passed over\u{b6}
+feed|@e.sum|@e.sum|@22.csv => refused BadField/saved 58/ => 1 => @22.csv: refused BadField: line 5, column d bigint: '1_000': a bigint is an optional + or - and digits\u{b6}@e.sum: written, with 1 of 1 files passed over\u{b6}
+feed|@e.sum|@e.sum|@23.csv => refused BadField/saved 58/ => 1 => @23.csv: refused BadField: line 2, column d bigint: '': an empty field; null is \\N\u{b6}@e.sum: written, with 1 of 1 files passed over\u{b6}
+feed|@e.sum|@e.sum|@24.csv => refused BadField/saved 58/ => 1 => @24.csv: refused BadField: line 2, column d bigint: ' ': an empty field; null is \\N\u{b6}@e.sum: written, with 1 of 1 files passed over\u{b6}
+feed|@e.sum|@e.sum|@25.csv => refused BadField/saved 58/ => 1 => @25.csv: refused BadField: line 2, column d bigint: 'NULL': null is \\N\u{b6}@e.sum: written, with 1 of 1 files passed over\u{b6}
+feed|@e.sum|@e.sum|@26.csv => refused BadField/saved 58/ => 1 => @26.csv: refused BadField: line 2, column d bigint: '5 ': no white space stands round a value\u{b6}@e.sum: written, with 1 of 1 files passed over\u{b6}
+feed|@e.sum|@e.sum|@27.csv => refused BadField/saved 58/ => 1 => @27.csv: refused BadField: line 2, column d bigint: '-9223372036854775809': out of range, which is -9223372036854775808 to 9223372036854775807\u{b6}@e.sum: written, with 1 of 1 files passed over\u{b6}
+feed|@e.sum|@e.sum|@28.csv => refused BadField/saved 58/ => 1 => @28.csv: refused BadField: line 2, column d bigint: '\\x1b[2J\\u{202e}x': a bigint is an optional + or - and digits\u{b6}@e.sum: written, with 1 of 1 files passed over\u{b6}
+feed|@e.sum|@e.sum|@29.csv => refused BadField/saved 58/ => 1 => @29.csv: refused BadField: line 2, column d bigint: 'd': a bigint is an optional + or - and digits; it is a line of names, and no batch has one\u{b6}@e.sum: written, with 1 of 1 files passed over\u{b6}
+feed|@e.sum|@e.sum|@30.csv => refused BadField/saved 58/ => 1 => @30.csv: refused BadField: line 2, column c text: 'os\\x00lo': the character 0 is in no text\u{b6}@e.sum: written, with 1 of 1 files passed over\u{b6}
+feed|@e.sum|@e.sum|@31.csv => refused BadField/saved 58/ => 1 => @31.csv: refused BadField: line 2, column c text: 'osl\\xf8': no UTF-8 from byte 4 of the field on, the first being byte 1\u{b6}@e.sum: written, with 1 of 1 files passed over\u{b6}
+feed|@e.sum|@e.sum|@32.csv => refused BadField/saved 58/ => 1 => @32.csv: refused BadField: line 2, column c text: '0000000001000000000200000000030000000004..': a text of 260 bytes, and the longest has 255\u{b6}@e.sum: written, with 1 of 1 files passed over\u{b6}
+feed|@e.sum|@e.sum|@33.csv => refused BadField/saved 58/ => 1 => @33.csv: refused BadField: line 2, column d bigint: 'x': a bigint is an optional + or - and digits\u{b6}@e.sum: written, with 1 of 1 files passed over\u{b6}
+";
 
 #[test]
 fn faults_of_batches_are_told(rt: HostRuntime) -> Result<(), Fail> {
-    let folder = new_folder(&rt, "batch_faults", &[])?;
-    let words = format!(in rt.alloc();
-        "new|{folder}e.sum|--columns|c text, d bigint|--query|SELECT count(*) FROM batches"
-    )?;
-    assert_eq!(rt; run(&rt, &words, "")?.status, 0);
-    let told = batches_told(&rt, &folder, &BATCHES)?;
-    fs::remove_dir_all(&rt, folder.as_str())?;
-    assert_eq!(rt; told.as_str(), "");
-    Ok(())
+    expect(play(&rt, "batch_faults", &BATCHES, FED), "")
 }
 
-/// Makes a summary of a schema's or a query's text, and tells what differs from its line of a table: the text, its reply, what is said of it, and
-/// the lines below, whose ends and those before them are told by `/`. The end of a line of the text is told by `\u{b6}`.
-fn make_summary(rt: &HostRuntime, option: &str, other: &str, line: &str) -> Result<String, Fail> {
-    let (text, fault) = halves(line, " => ")?;
-    let (name, fault) = halves(fault, " => ")?;
-    let (said, below) = cut(fault, " => ");
-    let text = text.replace(rt.alloc(), "\u{b6}", "\n")?;
-    let words = format!(in rt.alloc(); "new|/none/x.sum|{option}|{text}|{other}")?;
-    let found = run(rt, &words, "")?;
-    let output = format!(in rt.alloc(); "refused {name}\n")?;
-    let below = below.replace(rt.alloc(), "/", "\n")?;
-    let errors = format!(in rt.alloc();
-        "{option}: refused {name}: {said}; /none/x.sum is not written{below}\n"
-    )?;
-    difference(rt, &found, 1, &output, &errors)
-}
-
-/// The texts of a table that differ from what is wanted of them.
-fn texts_told(rt: &HostRuntime, option: &str, other: &str, table: &str) -> Result<String, Fail> {
-    let mut told = String::new(rt.alloc());
-    for line in table.lines() {
-        told.push_str(&make_summary(rt, option, other, line)?)?;
-    }
-    Ok(told)
+/// The texts of a table that are not refused as it tells.
+fn texts_told(
+    rt: &HostRuntime,
+    test: &str,
+    option: &str,
+    other: &str,
+    table: &str,
+) -> Result<String, Fail> {
+    let transcript = refusals(rt, option, other, table)?;
+    play(rt, test, &[], &transcript)
 }
 
 /// Texts that are none of the grammar's, but for ORDER BY.
@@ -332,32 +172,25 @@ SELECT count(*) FROM batches WHERE count(*) > 3 => AggregateHere => count stands
 SELECT count(*) FILTER (WHERE sum(amount) > 1) FROM batches => AggregateHere => sum stands in WHERE or a FILTER, where each row is asked by itself: put it into HAVING => /  SELECT count(*) FILTER (WHERE sum(amount) > 1) FROM batches/                                ^
 ";
 
-/// The queries that differ from what is wanted of them.
-fn queries_told(rt: &HostRuntime, table: &str) -> Result<String, Fail> {
-    texts_told(
-        rt,
-        "--query",
-        "--columns|city text, amount bigint, paid boolean",
-        table,
-    )
+/// The queries of a table that are not refused as it tells.
+fn queries_told(rt: &HostRuntime, test: &str, table: &str) -> Result<String, Fail> {
+    let other = "--columns|city text, amount bigint, paid boolean";
+    texts_told(rt, test, "--query", other, table)
 }
 
 #[test]
 fn faults_of_texts_are_told(rt: HostRuntime) -> Result<(), Fail> {
-    assert_eq!(rt; queries_told(&rt, TEXTS)?.as_str(), "");
-    Ok(())
+    expect(queries_told(&rt, "texts", TEXTS), "")
 }
 
 #[test]
 fn faults_of_orders_are_told(rt: HostRuntime) -> Result<(), Fail> {
-    assert_eq!(rt; queries_told(&rt, ORDERS)?.as_str(), "");
-    Ok(())
+    expect(queries_told(&rt, "orders", ORDERS), "")
 }
 
 #[test]
 fn faults_of_queries_are_told(rt: HostRuntime) -> Result<(), Fail> {
-    assert_eq!(rt; queries_told(&rt, QUERIES)?.as_str(), "");
-    Ok(())
+    expect(queries_told(&rt, "queries", QUERIES), "")
 }
 
 /// Schemas.
@@ -381,8 +214,7 @@ a text,b text,c text,d text,e text,f text,g text,h text,i text,j text,k text,l t
 #[test]
 fn faults_of_schemas_are_told(rt: HostRuntime) -> Result<(), Fail> {
     let other = "--query|SELECT count(*) FROM batches";
-    assert_eq!(rt; texts_told(&rt, "--columns", other, SCHEMAS)?.as_str(), "");
-    Ok(())
+    expect(texts_told(&rt, "schemas", "--columns", other, SCHEMAS), "")
 }
 
 /// Files in one another's place, and what becomes of OUT. What is said stands whole where it ends with `\u{b6}`, which stands for the end of a line.
@@ -460,6 +292,5 @@ const FILES: [File; 17] = [
 
 #[test]
 fn files_in_the_wrong_place_are_told(rt: HostRuntime) -> Result<(), Fail> {
-    assert_eq!(rt; play(&rt, "faults", &FILES, PLACES)?.as_str(), "");
-    Ok(())
+    expect(play(&rt, "faults", &FILES, PLACES), "")
 }

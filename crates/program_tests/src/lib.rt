@@ -10,8 +10,6 @@ mod folder;
 #[cfg(test)]
 mod longest;
 #[cfg(test)]
-mod made;
-#[cfg(test)]
 mod sizes;
 #[cfg(test)]
 mod streams;

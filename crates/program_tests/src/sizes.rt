@@ -1,7 +1,9 @@
 //! Commands on files of the sizes that are in use: many rows, keys and origins, and files as long as may be.
 
-use crate::folder::{File, play};
+use crate::folder::play;
 use std::test::*;
+use test_folders::File;
+use test_tables::expect;
 
 /// Batches of 20,000 rows, each of a key of its own: more than a table of 65,536 bytes holds. Answers have as many rows, and are the same at
 /// both limits.
@@ -29,8 +31,7 @@ merge|@n.sum|@b.sum|@a.sum|--limit|65536 => merged/saved 1680135/ => 0
 
 #[test]
 fn many_keys_are_answered(rt: HostRuntime) -> Result<(), Fail> {
-    assert_eq!(rt; play(&rt, "many", &[], MANY)?.as_str(), "");
-    Ok(())
+    expect(play(&rt, "many", &[], MANY), "")
 }
 
 /// A summary of 1,000 origins, and the longest file, a batch of 65,535 long rows.
@@ -47,8 +48,7 @@ answer|@f.sum => count/65535/ => 0
 
 #[test]
 fn long_files_are_read(rt: HostRuntime) -> Result<(), Fail> {
-    assert_eq!(rt; play(&rt, "sizes", &[], LONG)?.as_str(), "");
-    Ok(())
+    expect(play(&rt, "sizes", &[], LONG), "")
 }
 
 /// OUT is a new file in the place of an old one, whose bytes stay where a hard link was taken; and nothing is left beside it, whatever
@@ -80,6 +80,5 @@ const BESIDE: [File; 2] = [
 
 #[test]
 fn files_are_replaced(rt: HostRuntime) -> Result<(), Fail> {
-    assert_eq!(rt; play(&rt, "replaced", &BESIDE, REPLACED)?.as_str(), "");
-    Ok(())
+    expect(play(&rt, "replaced", &BESIDE, REPLACED), "")
 }

@@ -71,13 +71,22 @@ fn write_lines<W: Write>(writer: &mut W, told: &[u8]) -> io::Result<()> {
     Ok(())
 }
 
+/// The words of the command that runs a script.
+fn words(alloc: Global) -> Result<Vec<String>, AllocError> {
+    let mut words = Vec::new(alloc);
+    words.push(String::from_str(alloc, "agg_tool")?)?;
+    words.push(String::from_str(alloc, "script")?)?;
+    Ok(words)
+}
+
 /// Runs a script, and writes what is told of it.
 fn run<W: Write>(rt: &HostRuntime, script: &str, writer: &mut W) -> io::Result<()> {
+    let words = words(rt.alloc())?;
     let mut replies = Vec::new(rt.alloc());
     let mut sentences = Vec::new(rt.alloc());
     let status = command(
         rt,
-        &["agg_tool", "script"],
+        &words,
         &mut script.as_bytes(),
         &mut replies,
         &mut sentences,

@@ -1,12 +1,12 @@
 //! What a summary holds, as `known --explain` tells it.
 
-use command_streams::Streams;
 use fault_sentences::Plain;
+use having_filter::Query;
 use origin_prefix::OriginPart;
-use replica_merge::KnownOrigin;
+use replica_merge::{KnownOrigin, Replica};
 use std::alloc::{AllocError, Global};
+use std::collections::BTreeMap;
 use std::fmt;
-use std::io::Write;
 use summary_codec::decode;
 
 /// What stands before each group of a summary file, each row of an early batch, each early batch and each origin, in bytes.
@@ -95,35 +95,76 @@ fn bytes_of(part: &OriginPart) -> u64 {
     bytes
 }
 
-/// Tells what a summary file holds: its columns, its query, and of each origin its groups, its bytes and the numbers that are missing.
-pub(crate) fn tell_holding<W: Write, E: Write>(
+/// Appends a line for each origin: its groups, its bytes and the numbers that are missing.
+fn push_origins(
     alloc: Global,
-    file: &[u8],
+    lines: &mut Vec<String>,
+    parts: &BTreeMap<u16, OriginPart>,
     known: &[KnownOrigin],
-    streams: &mut Streams<'_, W, E>,
 ) -> Result<(), AllocError> {
-    let Ok((query, parts)) = decode(alloc, file) else {
-        return Ok(());
-    };
-    let columns = query.schema().print()?;
-    streams.say(&Titled {
-        title: "columns",
-        text: &columns,
-    });
-    streams.say(&Titled {
-        title: "query",
-        text: query.spelling(),
-    });
     for origin in known {
         if let Some(part) = parts.get(&origin.origin) {
-            streams.say(&Holding {
+            let holding = Holding {
                 origin: origin.origin,
                 upto: origin.upto,
                 groups: part.run().len(),
                 bytes: bytes_of(part),
                 early: origin.early.as_slice(),
-            });
+            };
+            lines.push(format!(in alloc; "{holding}")?)?;
         }
     }
     Ok(())
+}
+
+/// Appends a text behind what it is.
+fn push_titled(
+    alloc: Global,
+    lines: &mut Vec<String>,
+    title: &str,
+    text: &str,
+) -> Result<(), AllocError> {
+    let titled = Titled { title, text };
+    lines.push(format!(in alloc; "{titled}")?)?;
+    Ok(())
+}
+
+/// Appends what a summary holds.
+fn push_held(
+    alloc: Global,
+    lines: &mut Vec<String>,
+    query: &Query,
+    parts: &BTreeMap<u16, OriginPart>,
+    known: &[KnownOrigin],
+) -> Result<(), AllocError> {
+    let columns = query.schema().print()?;
+    push_titled(alloc, lines, "columns", &columns)?;
+    push_titled(alloc, lines, "query", query.spelling())?;
+    push_origins(alloc, lines, parts, known)
+}
+
+/// Appends what a summary file holds.
+fn push_holding(
+    alloc: Global,
+    lines: &mut Vec<String>,
+    file: &[u8],
+    known: &[KnownOrigin],
+) -> Result<(), AllocError> {
+    let Ok((query, parts)) = decode(alloc, file) else {
+        return Ok(());
+    };
+    let pushed = push_held(alloc, lines, &query, &parts, known);
+    drop(query);
+    drop(parts);
+    pushed
+}
+
+/// What a replica holds, as lines: its columns, its query, and of each origin its groups, their bytes in a summary file and the numbers that
+/// are missing. No line comes of one whose file would be too long.
+pub fn holding_lines(alloc: Global, replica: &Replica) -> Result<Vec<String>, AllocError> {
+    let mut lines = Vec::new(alloc);
+    if let (Ok(file), Ok(known)) = (replica.save(), replica.known()) {
+        push_holding(alloc, &mut lines, &file, &known)?;
+    }
+    Ok(lines)
 }

@@ -1,19 +1,18 @@
 //! What each command does.
 
-use crate::files::{is_another, read_file, write_out};
-use crate::holding::tell_holding;
-use crate::progress::{Explained, PassedOver, Progress, Standing, text_of};
-use crate::refusing::{
-    FileKind, refused_columns, refused_file, refused_query, refused_save, refused_summary,
-};
+use crate::files::{read, write_out};
 use clap::ArgMatches;
 use command_streams::{
     Fate, Problem, Streams, Told, open_disk, reason_of, remove_disk, system_seed,
 };
 use command_words::{
-    BATCH, COLUMNS, EXPLAIN, FORMAT, IN, LIMIT, NO_CLOBBER, OUT, PROGRESS, QUERY, SPILL,
+    BATCH, COLUMNS, EXPLAIN, FORMAT, IN, LIMIT, NO_CLOBBER, OUT, PROGRESS, QUERY, Task, value,
 };
 use fault_sentences::Quoted;
+use file_sentences::{
+    Explained, FileKind, PassedOver, Progress, Standing, columns_reason, file_reason,
+    holding_lines, query_reason, saving_reason, summary_reason, text_of,
+};
 use hash_agg::{Fnv1a, Means, TapeDisk, Work};
 use replica_merge::Replica;
 use replies::{Ending, Format, Refusal, Reply, origin_lines, put_reply, refusal_ending, table};
@@ -23,67 +22,7 @@ use std::alloc::{AllocError, Global};
 use std::io::Write;
 use std::random::RandomSource;
 use std::rt::Files;
-
-/// A command on files.
-#[derive(Clone, Copy)]
-pub enum Task {
-    New,
-    Feed,
-    Merge,
-    Known,
-    Answer,
-}
-
-impl Task {
-    /// The command of a name.
-    pub fn named(name: &str) -> Option<Task> {
-        match name {
-            "new" => Some(Task::New),
-            "feed" => Some(Task::Feed),
-            "merge" => Some(Task::Merge),
-            "known" => Some(Task::Known),
-            "answer" => Some(Task::Answer),
-            _ => None,
-        }
-    }
-
-    /// Whether it has a limit and a disk of tapes, and can tell what its grouping took. An answer has them too, but groups nothing: it
-    /// merges what is grouped already.
-    fn groups_rows(self) -> bool {
-        match self {
-            Task::Feed | Task::Merge | Task::Answer => true,
-            Task::New | Task::Known => false,
-        }
-    }
-
-    /// Whether it aggregates, and so wants a seed.
-    fn aggregates(self) -> bool {
-        matches!(self, Task::Feed | Task::Merge)
-    }
-
-    /// The file that it writes, if it writes one.
-    fn out<'p>(self, matches: &ArgMatches<'p>) -> Option<&'p str> {
-        match self {
-            Task::New | Task::Feed | Task::Merge => matches.get_str(OUT),
-            Task::Known | Task::Answer => None,
-        }
-    }
-
-    /// Whether an option that it has stands on the command line.
-    fn is_told(self, matches: &ArgMatches<'_>, option: &str) -> bool {
-        let has_option = match option {
-            NO_CLOBBER => matches!(self, Task::New | Task::Feed | Task::Merge),
-            PROGRESS => matches!(self, Task::Feed | Task::Merge),
-            _ => !matches!(self, Task::New),
-        };
-        has_option && matches.get_flag(option)
-    }
-}
-
-/// The value of an argument. The parser has seen to it that there is one.
-fn value<'a>(matches: &ArgMatches<'a>, id: &str) -> &'a str {
-    matches.get_str(id).unwrap_or("")
-}
+use whole_files::is_another;
 
 /// The format of a table, by its name on the command line.
 fn format_named(text: &str) -> Format {
@@ -96,10 +35,13 @@ fn format_named(text: &str) -> Format {
 
 /// The replica that a file is the summary of.
 fn open_replica<'p, R: Files + AllocGlobal>(rt: &R, path: &'p str) -> Result<Replica, Problem<'p>> {
-    let file = read_file(rt, path)?;
+    let file = read(rt, path)?;
     match file_commands::load(rt.alloc(), &file) {
         Ok(replica) => Ok(replica),
-        Err(why) => Err(refused_summary(rt.alloc(), path, &file, why)),
+        Err(why) => {
+            let reason = summary_reason(rt.alloc(), &file, why);
+            Err(Problem::because(path, why, reason))
+        }
     }
 }
 
@@ -108,8 +50,14 @@ fn new_replica<'p>(alloc: Global, matches: &ArgMatches<'p>) -> Result<Replica, P
     let (columns, query) = (value(matches, COLUMNS), value(matches, QUERY));
     match file_commands::create(alloc, columns, query) {
         Ok(replica) => Ok(replica),
-        Err(Refusal::BadSchema) => Err(refused_columns(alloc, columns)),
-        Err(why) => Err(refused_query(alloc, columns, query, why)),
+        Err(Refusal::BadSchema) => {
+            let reason = columns_reason(alloc, columns);
+            Err(Problem::because("--columns", Refusal::BadSchema, reason))
+        }
+        Err(why) => {
+            let reason = query_reason(alloc, columns, query, why);
+            Err(Problem::because("--query", why, reason))
+        }
     }
 }
 
@@ -146,14 +94,6 @@ fn means_of(task: Task, matches: &ArgMatches<'_>) -> Result<Means<Fnv1a>, Refusa
     }
 }
 
-/// The file for what is spilled that a command tells.
-fn spill_of<'p>(task: Task, matches: &ArgMatches<'p>) -> Option<&'p str> {
-    if !task.groups_rows() {
-        return None;
-    }
-    matches.get_str(SPILL)
-}
-
 /// Takes the bytes of a file into a replica, and gives the reply: its batch is fed, or the replica of its summary is merged.
 fn take<D: TapeDisk>(
     alloc: Global,
@@ -186,30 +126,14 @@ fn take_file<'p, R: Files + AllocGlobal, D: TapeDisk>(
     disk: &mut D,
     work: &mut Work,
 ) -> Result<Reply<'static>, Problem<'p>> {
-    let file = read_file(rt, path)?;
+    let file = read(rt, path)?;
     match take(rt.alloc(), kind, replica, &file, means, disk, work) {
         Ok(reply) => Ok(reply),
-        Err(why) => Err(refused_file(rt.alloc(), kind, replica, path, &file, why)),
-    }
-}
-
-/// The files that a command reads, in their order on the command line.
-fn files_read<'p>(
-    alloc: Global,
-    task: Task,
-    matches: &ArgMatches<'p>,
-) -> Result<Vec<&'p str>, AllocError> {
-    let mut paths = Vec::new(alloc);
-    match task {
-        Task::New => {}
-        Task::Feed => {
-            paths.push(value(matches, IN))?;
-            paths.extend_from_slice(matches.get_strs(BATCH).unwrap_or_default())?;
+        Err(why) => {
+            let reason = file_reason(rt.alloc(), kind, replica, &file, why);
+            Err(Problem::because(path, why, reason))
         }
-        Task::Merge => paths.extend_from_slice(matches.get_strs(IN).unwrap_or_default())?,
-        Task::Known | Task::Answer => paths.push(value(matches, IN))?,
     }
-    Ok(paths)
 }
 
 /// Whether a file is there in the place of OUT which is none of those that are read. Where there is no memory to look, none is.
@@ -219,7 +143,7 @@ fn is_standing<R: Files + AllocGlobal>(
     matches: &ArgMatches<'_>,
     out: &str,
 ) -> bool {
-    match files_read(rt.alloc(), task, matches) {
+    match task.files_read(rt.alloc(), matches) {
         Ok(paths) => is_another(rt, out, &paths),
         Err(_) => false,
     }
@@ -320,7 +244,7 @@ impl<'c, R: Files + AllocGlobal + RandomSource, W: Write, E: Write> Session<'c, 
         if self.in_file {
             self.in_file = false;
             let alloc = self.streams.alloc;
-            let spill = spill_of(task, matches);
+            let spill = task.spill(matches);
             remove_disk(self.rt, alloc, spill, self.streams.errors);
         }
     }
@@ -329,7 +253,10 @@ impl<'c, R: Files + AllocGlobal + RandomSource, W: Write, E: Write> Session<'c, 
     fn save<'p>(&mut self, replica: &Replica, path: &'p str) -> Result<(), Problem<'p>> {
         let file = match file_commands::save(replica) {
             Ok(file) => file,
-            Err(why) => return Err(refused_save(self.rt.alloc(), replica, path, why)),
+            Err(why) => {
+                let reason = saving_reason(self.rt.alloc(), replica, why);
+                return Err(Problem::because(path, why, reason));
+            }
         };
         write_out(self.rt, path, &file)?;
         self.is_written = true;
@@ -365,9 +292,10 @@ impl<'c, R: Files + AllocGlobal + RandomSource, W: Write, E: Write> Session<'c, 
 
     /// Tells what a replica holds. Nothing is told where there is no memory for that.
     fn explain_holding(&mut self, replica: &Replica) {
-        let alloc = self.streams.alloc;
-        if let (Ok(file), Ok(known)) = (replica.save(), replica.known()) {
-            let _ = tell_holding(alloc, &file, &known, &mut self.streams);
+        if let Ok(lines) = holding_lines(self.streams.alloc, replica) {
+            for line in &lines {
+                self.streams.say(line);
+            }
         }
     }
 
@@ -553,7 +481,7 @@ impl<'c, R: Files + AllocGlobal + RandomSource, W: Write, E: Write> Session<'c, 
         standing: Option<&str>,
     ) -> Ending {
         self.tells_progress = task.is_told(matches, PROGRESS) || self.streams.terminals.errors;
-        let spill = spill_of(task, matches);
+        let spill = task.spill(matches);
         match open_disk(self.rt, spill) {
             Ok(disk) => self.disk = disk,
             Err(problem) => {

@@ -1,4 +1,4 @@
-//! How far a command is, and what a summary holds, as lines on standard error.
+//! How far a command is, and what became of OUT.
 
 use fault_sentences::Plain;
 use replies::{Reply, put_reply};
@@ -7,11 +7,11 @@ use std::{fmt, str};
 
 /// How far a command is: which of how many files was taken, and the reply to it.
 #[derive(Clone, Copy)]
-pub(crate) struct Progress<'p> {
-    pub(crate) place: usize,
-    pub(crate) files: usize,
-    pub(crate) path: &'p str,
-    pub(crate) reply: &'p str,
+pub struct Progress<'p> {
+    pub place: usize,
+    pub files: usize,
+    pub path: &'p str,
+    pub reply: &'p str,
 }
 
 impl fmt::Display for Progress<'_> {
@@ -23,7 +23,7 @@ impl fmt::Display for Progress<'_> {
 }
 
 /// A reply as a text without the end of its line.
-pub(crate) fn text_of(alloc: Global, reply: &Reply<'_>) -> Result<String, AllocError> {
+pub fn text_of(alloc: Global, reply: &Reply<'_>) -> Result<String, AllocError> {
     let mut bytes = Vec::new(alloc);
     if put_reply(&mut bytes, reply).is_err() {
         return Err(AllocError);
@@ -34,10 +34,10 @@ pub(crate) fn text_of(alloc: Global, reply: &Reply<'_>) -> Result<String, AllocE
 
 /// What became of OUT where files were passed over.
 #[derive(Clone, Copy)]
-pub(crate) struct PassedOver<'p> {
-    pub(crate) out: &'p str,
-    pub(crate) passed: usize,
-    pub(crate) files: usize,
+pub struct PassedOver<'p> {
+    pub out: &'p str,
+    pub passed: usize,
+    pub files: usize,
 }
 
 impl fmt::Display for PassedOver<'_> {
@@ -52,10 +52,10 @@ impl fmt::Display for PassedOver<'_> {
 
 /// That a file is there in the place of OUT which is none of those that are read.
 #[derive(Clone, Copy)]
-pub(crate) struct Standing<'p> {
-    pub(crate) out: &'p str,
+pub struct Standing<'p> {
+    pub out: &'p str,
     /// Whether the command was told not to replace it.
-    pub(crate) is_kept: bool,
+    pub is_kept: bool,
 }
 
 impl fmt::Display for Standing<'_> {
@@ -77,12 +77,12 @@ impl fmt::Display for Standing<'_> {
 
 /// What the grouping took, beside the limit.
 #[derive(Clone, Copy)]
-pub(crate) struct Explained {
-    pub(crate) passes: u64,
-    pub(crate) spilled: u128,
-    pub(crate) pages: u64,
-    pub(crate) held: u64,
-    pub(crate) limit: u64,
+pub struct Explained {
+    pub passes: u64,
+    pub spilled: u128,
+    pub pages: u64,
+    pub held: u64,
+    pub limit: u64,
 }
 
 impl fmt::Display for Explained {

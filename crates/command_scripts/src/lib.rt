@@ -1,4 +1,5 @@
-//! Scripts, with a sentence for each refused command.
+//! The command of scripts, with a sentence for each refused command.
+#![tactic(auto)]
 
 use command_streams::{
     Problem, Streams, is_closed, open_disk, reason_of, remove_disk, say, system_seed,
@@ -183,7 +184,7 @@ fn run_seeded<R: RandomSource + AllocGlobal, I: Read, W: Write, E: Write, D: Tap
 }
 
 /// Runs the script that a reader has left. What is spilled lies in memory, or in a new file where its path is told.
-pub(crate) fn run_script<R: Files + AllocGlobal + RandomSource, I: Read, W: Write, E: Write>(
+pub fn run_script<R: Files + AllocGlobal + RandomSource, I: Read, W: Write, E: Write>(
     rt: &R,
     spill: Option<&str>,
     reader: &mut I,

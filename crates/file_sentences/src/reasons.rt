@@ -1,6 +1,5 @@
 //! Why a command's files and texts are refused, said of their bytes.
 
-use command_streams::{Problem, reason_of};
 use fault_sentences::{
     BatchText, Plain, Reason, no_summary, say_disagreement, say_query, say_schema,
 };
@@ -9,17 +8,13 @@ use replica_merge::{Replica, SummaryError};
 use replies::{Refusal, RunError};
 use std::alloc::{AllocError, Global};
 
-/// Why the text of a schema is refused.
-pub(crate) fn refused_columns<'p>(alloc: Global, text: &str) -> Problem<'p> {
-    let reason = match say_schema(alloc, text) {
-        Ok(reason) => Ok(Some(reason)),
-        Err(error) => Err(error),
-    };
-    Problem::because("--columns", Refusal::BadSchema, reason)
+/// Says why a text is no schema.
+pub fn columns_reason(alloc: Global, text: &str) -> Result<Option<Reason>, AllocError> {
+    Ok(Some(say_schema(alloc, text)?))
 }
 
 /// Says why a text is no query over the columns of another.
-fn query_reason(
+pub fn query_reason(
     alloc: Global,
     columns: &str,
     text: &str,
@@ -31,18 +26,12 @@ fn query_reason(
     }
 }
 
-/// Why the text of a query over the columns of another text is refused.
-pub(crate) fn refused_query<'p>(
-    alloc: Global,
-    columns: &str,
-    text: &str,
-    why: Refusal,
-) -> Problem<'p> {
-    Problem::because("--query", why, query_reason(alloc, columns, text, why))
-}
-
 /// Says why the bytes of a file are no summary.
-fn summary_reason(alloc: Global, file: &[u8], why: Refusal) -> Result<Option<Reason>, AllocError> {
+pub fn summary_reason(
+    alloc: Global,
+    file: &[u8],
+    why: Refusal,
+) -> Result<Option<Reason>, AllocError> {
     match why {
         Refusal::Summary(SummaryError::NotASummary) => {
             Ok(Some(Reason::whole(alloc, no_summary(alloc, file)?)))
@@ -67,14 +56,12 @@ fn summary_reason(alloc: Global, file: &[u8], why: Refusal) -> Result<Option<Rea
     }
 }
 
-/// Why the bytes of a file are no summary.
-pub(crate) fn refused_summary<'p>(
-    alloc: Global,
-    path: &'p str,
-    file: &[u8],
-    why: Refusal,
-) -> Problem<'p> {
-    Problem::because(path, why, summary_reason(alloc, file, why))
+/// A reason that is one text, where there is one.
+fn whole(alloc: Global, said: Option<String>) -> Option<Reason> {
+    match said {
+        Some(said) => Some(Reason::whole(alloc, said)),
+        None => None,
+    }
 }
 
 /// Says why the bytes of a file are no batch for a replica.
@@ -93,7 +80,7 @@ fn batch_reason(
         }
         _ => None,
     };
-    Ok(reason_of(alloc, said))
+    Ok(whole(alloc, said))
 }
 
 /// How many bytes of a query are shown.
@@ -149,36 +136,34 @@ fn merge_reason(
         }
         _ => return summary_reason(alloc, file, why),
     };
-    Ok(reason_of(alloc, said))
+    Ok(whole(alloc, said))
 }
 
 /// What a file is to a replica that takes it.
 #[derive(Clone, Copy)]
-pub(crate) enum FileKind {
+pub enum FileKind {
     /// A batch that is fed.
     Batch,
     /// A summary that is merged.
     Summary,
 }
 
-/// Why a file is not taken into a replica.
-pub(crate) fn refused_file<'p>(
+/// Says why a file is not taken into a replica.
+pub fn file_reason(
     alloc: Global,
     kind: FileKind,
     replica: &Replica,
-    path: &'p str,
     file: &[u8],
     why: Refusal,
-) -> Problem<'p> {
-    let reason = match kind {
+) -> Result<Option<Reason>, AllocError> {
+    match kind {
         FileKind::Batch => batch_reason(alloc, replica, file, why),
         FileKind::Summary => merge_reason(alloc, replica, file, why),
-    };
-    Problem::because(path, why, reason)
+    }
 }
 
 /// Says how long a summary would be that is too long.
-fn length_reason(
+pub fn saving_reason(
     alloc: Global,
     replica: &Replica,
     why: Refusal,
@@ -191,12 +176,11 @@ fn length_reason(
     Ok(Some(Reason::whole(alloc, said)))
 }
 
-/// Why what a replica knows is not saved.
-pub(crate) fn refused_save<'p>(
-    alloc: Global,
-    replica: &Replica,
-    path: &'p str,
-    why: Refusal,
-) -> Problem<'p> {
-    Problem::because(path, why, length_reason(alloc, replica, why))
+/// Says how long a file is that is too long, where that is known.
+pub fn length_reason(alloc: Global, length: Option<u64>) -> Result<Option<Reason>, AllocError> {
+    let Some(len) = length else {
+        return Ok(None);
+    };
+    let said = format!(in alloc; "more than 67,108,864 bytes: it has {len}")?;
+    Ok(Some(Reason::whole(alloc, said)))
 }

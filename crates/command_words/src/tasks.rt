@@ -1,0 +1,93 @@
+//! The commands on files, by their words.
+
+use crate::{BATCH, IN, NO_CLOBBER, OUT, PROGRESS, SPILL};
+use clap::ArgMatches;
+use std::alloc::{AllocError, Global};
+
+/// A command on files.
+#[derive(Clone, Copy)]
+pub enum Task {
+    New,
+    Feed,
+    Merge,
+    Known,
+    Answer,
+}
+
+impl Task {
+    /// The command of a name.
+    pub fn named(name: &str) -> Option<Task> {
+        match name {
+            "new" => Some(Task::New),
+            "feed" => Some(Task::Feed),
+            "merge" => Some(Task::Merge),
+            "known" => Some(Task::Known),
+            "answer" => Some(Task::Answer),
+            _ => None,
+        }
+    }
+
+    /// Whether it has a limit and a disk of tapes, and can tell what its grouping took. An answer has them too, but groups nothing: it
+    /// merges what is grouped already.
+    pub fn groups_rows(self) -> bool {
+        match self {
+            Task::Feed | Task::Merge | Task::Answer => true,
+            Task::New | Task::Known => false,
+        }
+    }
+
+    /// Whether it aggregates, and so wants a seed.
+    pub fn aggregates(self) -> bool {
+        matches!(self, Task::Feed | Task::Merge)
+    }
+
+    /// The file that it writes, if it writes one.
+    pub fn out<'p>(self, matches: &ArgMatches<'p>) -> Option<&'p str> {
+        match self {
+            Task::New | Task::Feed | Task::Merge => matches.get_str(OUT),
+            Task::Known | Task::Answer => None,
+        }
+    }
+
+    /// Whether an option that it has stands on the command line.
+    pub fn is_told(self, matches: &ArgMatches<'_>, option: &str) -> bool {
+        let has_option = match option {
+            NO_CLOBBER => matches!(self, Task::New | Task::Feed | Task::Merge),
+            PROGRESS => matches!(self, Task::Feed | Task::Merge),
+            _ => !matches!(self, Task::New),
+        };
+        has_option && matches.get_flag(option)
+    }
+
+    /// The file for what is spilled that it tells.
+    pub fn spill<'p>(self, matches: &ArgMatches<'p>) -> Option<&'p str> {
+        if !self.groups_rows() {
+            return None;
+        }
+        matches.get_str(SPILL)
+    }
+
+    /// The files that it reads, in their order on the command line.
+    pub fn files_read<'p>(
+        self,
+        alloc: Global,
+        matches: &ArgMatches<'p>,
+    ) -> Result<Vec<&'p str>, AllocError> {
+        let mut paths = Vec::new(alloc);
+        match self {
+            Task::New => {}
+            Task::Feed => {
+                paths.push(value(matches, IN))?;
+                paths.extend_from_slice(matches.get_strs(BATCH).unwrap_or_default())?;
+            }
+            Task::Merge => paths.extend_from_slice(matches.get_strs(IN).unwrap_or_default())?,
+            Task::Known | Task::Answer => paths.push(value(matches, IN))?,
+        }
+        Ok(paths)
+    }
+}
+
+/// The value of an argument. The parser has seen to it that there is one.
+pub fn value<'a>(matches: &ArgMatches<'a>, id: &str) -> &'a str {
+    matches.get_str(id).unwrap_or("")
+}
