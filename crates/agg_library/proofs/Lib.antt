@@ -1,3 +1,2 @@
 pub mod ArgumentSteps
 pub mod RowLaws
-pub mod NamedLaws

@@ -8,8 +8,8 @@ use Rattle.grouping_model.specs.Aggregates.{Partial}
 use Rattle.grouping_model.specs.Combining.{combine, combine_all}
 use Rattle.agg_protocol.specs.States as states
 use Rattle.agg_protocol.specs.States.{rows_of}
-use Rattle.agg_library.specs.declared.kind.AggKind.{AggKind}
-use Rattle.agg_library.specs.Kinds.{function_of, functions_of, kind_shape, kind_width, row_width}
+use Rattle.agg_protocol.specs.declared.kind.AggKind.{AggKind}
+use Rattle.agg_protocol.specs.Kinds.{function_of, functions_of, kind_shape, kind_width, row_width}
 use Rattle.agg_library.specs.StateRows.{DenotesAll, AllWithin, with_part}
 use Rattle.agg_protocol.specs.DenotingLaws.{width_known}
 

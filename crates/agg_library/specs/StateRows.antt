@@ -6,8 +6,8 @@ use Rattle.packed_rows.specs.View.{datum_of}
 use Rattle.packed_rows.specs.declared.Value.{Value}
 use Rattle.agg_protocol.specs.States as states
 use Rattle.agg_protocol.specs.States.{rows_of}
-use Rattle.agg_library.specs.declared.kind.AggKind.{AggKind}
-use Rattle.agg_library.specs.Kinds.{function_of, kind_shape, kind_width, row_width}
+use Rattle.agg_protocol.specs.declared.kind.AggKind.{AggKind}
+use Rattle.agg_protocol.specs.Kinds.{function_of, kind_shape, kind_width, row_width}
 
 -- the bytes denote these partial results, one of each kind, that count at most so many rows each (own)
 abbrev pub DenotesAll : ℕ → List AggKind → List ℕ → List Partial → Type 0

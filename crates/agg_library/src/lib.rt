@@ -4,7 +4,6 @@
 
 mod codec;
 mod counting;
-mod kind;
 mod numbers;
 mod operands;
 mod parts;
@@ -15,8 +14,8 @@ mod truths;
 
 pub use crate::codec::MOST_COUNTED;
 pub use crate::counting::{CountRows, CountValues};
-pub use crate::kind::{AggKind, Argument, Signature};
 pub use crate::numbers::{BitAnd, BitOr, BitXor, Max, Min};
 pub use crate::state_row::{StateRow, parts_of_rows};
 pub use crate::sums::Sum;
 pub use crate::truths::{BoolAnd, BoolOr, Every};
+pub use agg_protocol::{AggKind, Argument, Signature};

@@ -10,17 +10,16 @@ ghost use Rattle.agg_protocol.specs.Arguments.{Takes};
 ghost use Rattle.agg_protocol.specs.Results.{outcome_of};
 ghost use Rattle.agg_protocol.specs.States as states;
 ghost use Rattle.agg_protocol.specs.States.{rows_of, most_rows};
-ghost use Rattle.agg_library.specs.Kinds.{function_of, functions_of, kind_shape, kind_width, row_width};
+ghost use Rattle.agg_protocol.specs.Kinds.{function_of, functions_of, kind_shape, kind_width, row_width};
 ghost use Rattle.agg_library.specs.StateRows.{DenotesAll, initial_partials, partial_after, AllWithin, part_at, with_part};
-ghost use Rattle.agg_library.specs.declared.kind.AggKind.{AggKind};
+ghost use Rattle.agg_protocol.specs.declared.kind.AggKind.{AggKind};
 
 use crate::counting::{CountRows, CountValues};
-use crate::kind::AggKind;
 use crate::numbers::{BitAnd, BitOr, BitXor, Max, Min};
 use crate::parts::{advance_part, check_part, combine_part, finish_part, init_part};
 use crate::sums::Sum;
 use crate::truths::{BoolAnd, BoolOr, Every};
-use agg_protocol::{BadState, ResultValue};
+use agg_protocol::{AggKind, BadState, ResultValue};
 use packed_rows::Value;
 use std::ops::Range;
 

@@ -1,3 +1,4 @@
 pub mod Bytes
 pub mod Denoting
 pub mod ArgumentLaws
+pub mod NamedLaws

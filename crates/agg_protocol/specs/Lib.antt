@@ -1,4 +1,5 @@
 pub mod Signatures
+pub mod Kinds
 pub mod Arguments
 pub mod States
 pub mod Results

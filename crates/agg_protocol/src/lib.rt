@@ -15,6 +15,10 @@ ghost use Rattle.agg_protocol.specs.Arguments.{Takes};
 ghost use Rattle.agg_protocol.specs.Results.{outcome_of};
 ghost use Rattle.agg_protocol.specs.States.{Shape, IsState, Denotes, shape_of, width_of, rows_of, most_rows};
 
+mod kind;
+
+pub use crate::kind::{AggKind, Argument, Signature};
+
 use packed_rows::Value;
 use thiserror::Error;
 

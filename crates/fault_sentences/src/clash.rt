@@ -1,6 +1,6 @@
 //! Kinds that don't fit, and what asks for a truth value.
 
-use agg_library::{AggKind, Argument};
+use agg_protocol::{AggKind, Argument};
 use packed_rows::ValueKind;
 use std::fmt;
 

@@ -1,6 +1,6 @@
 //! What a query has no words for, and what serves in its place.
 
-use agg_library::{AggKind, Argument};
+use agg_protocol::{AggKind, Argument};
 use packed_rows::ValueKind;
 use std::fmt;
 

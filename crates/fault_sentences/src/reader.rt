@@ -3,7 +3,7 @@
 use crate::clash::Clash;
 use crate::frame::{Clashing, Context, Frame, Operand};
 use crate::places::{Sign, sign_of};
-use agg_library::{AggKind, Argument};
+use agg_protocol::{AggKind, Argument};
 use grouping_model::limits::MOST_OPEN;
 use having_filter::Comparison;
 use packed_rows::{Schema, ValueKind};

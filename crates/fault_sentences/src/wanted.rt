@@ -2,7 +2,7 @@
 
 use crate::frame::Context;
 use crate::reader::{Reader, State};
-use agg_library::AggKind;
+use agg_protocol::AggKind;
 use std::fmt;
 
 /// What may come next where a reader stands, in words.

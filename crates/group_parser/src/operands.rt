@@ -1,7 +1,7 @@
 //! Operands: columns, literals and calls, and conditions in parentheses.
 
 ghost use Rattle.std.specs.Prelude.{◌≡◌, ◌<◌, ◌≤◌, option_map, IfOk, IfSome, length, string_bytes, Some, None};
-ghost use Rattle.agg_library.specs.Kinds.{function_of};
+ghost use Rattle.agg_protocol.specs.Kinds.{function_of};
 ghost use Rattle.query_grammar.specs.Terminals.{function_named};
 ghost use Rattle.query_grammar.specs.Queries.{most_open};
 ghost use Rattle.query_grammar.specs.Reading.{is_count, argument_at, filter_at, call_at, function_or_column, word_at, enclosed_at, prim_at, conditions};
@@ -10,7 +10,7 @@ ghost use Rattle.group_parser.specs.Views.{lexemes, condition_read, call_read, i
 use crate::conditions::condition;
 use crate::cursor::{after_symbol, after_word, expect_symbol, expect_word, name};
 use crate::fault::{Read, ReadError};
-use agg_library::AggKind;
+use agg_protocol::AggKind;
 use grouping_model::limits::MOST_OPEN;
 use having_filter::{AggCall, Cond, Item};
 use query_tokens::{Symbol, Token, Word, is_reserved};

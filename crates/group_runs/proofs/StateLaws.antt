@@ -18,8 +18,8 @@ use Rattle.agg_protocol.specs.States.{Shape, rows_of, most_rows}
 use Rattle.agg_protocol.specs.DenotingLaws.{shape_known, within, state_rows}
 use Rattle.agg_protocol.proofs.Denoting.{rows_add, once}
 use Rattle.agg_protocol.proofs.ArgumentLaws.{rows_step}
-use Rattle.agg_library.specs.declared.kind.AggKind.{AggKind}
-use Rattle.agg_library.specs.Kinds.{function_of, functions_of, kind_shape, kind_width}
+use Rattle.agg_protocol.specs.declared.kind.AggKind.{AggKind}
+use Rattle.agg_protocol.specs.Kinds.{function_of, functions_of, kind_shape, kind_width}
 use Rattle.agg_library.specs.StateRows.{DenotesAll, AllWithin, initial_partials, partial_after}
 use Rattle.having_filter.specs.Kept.{TakesRows}
 use Rattle.group_runs.specs.Standing.{AreStates}

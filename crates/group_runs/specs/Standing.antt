@@ -7,8 +7,8 @@ use Rattle.grouping_model.specs.Grouping.{Group}
 use Rattle.grouping_model.specs.Parts.{functions}
 use Rattle.packed_rows.specs.Packing.{packing}
 use Rattle.agg_protocol.specs.States.{shape_of, width_of}
-use Rattle.agg_library.specs.declared.kind.AggKind.{AggKind}
-use Rattle.agg_library.specs.Kinds.{function_of}
+use Rattle.agg_protocol.specs.declared.kind.AggKind.{AggKind}
+use Rattle.agg_protocol.specs.Kinds.{function_of}
 use Rattle.agg_library.specs.StateRows.{DenotesAll}
 use Rattle.having_filter.specs.Kept.{key_kinds}
 use Rattle.group_runs.specs.Runs.{Entry, Rises}

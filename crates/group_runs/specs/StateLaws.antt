@@ -13,8 +13,8 @@ use Rattle.grouping_model.specs.Parts.{functions}
 use Rattle.agg_protocol.specs.States as states
 use Rattle.agg_protocol.specs.States.{Shape, A_sum, widest_is_sum, shape_of}
 use Rattle.agg_protocol.specs.DenotingLaws.{width_known, within, state_rows}
-use Rattle.agg_library.specs.declared.kind.AggKind.{AggKind}
-use Rattle.agg_library.specs.Kinds.{function_of, functions_of, kind_shape, kind_width, row_width}
+use Rattle.agg_protocol.specs.declared.kind.AggKind.{AggKind}
+use Rattle.agg_protocol.specs.Kinds.{function_of, functions_of, kind_shape, kind_width, row_width}
 use Rattle.agg_library.specs.StateRows.{DenotesAll}
 use Rattle.having_filter.specs.Kept.{IsWellFormed}
 use Rattle.group_runs.specs.Standing.{AreStates, states_width}

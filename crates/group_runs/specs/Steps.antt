@@ -9,7 +9,7 @@ use Rattle.grouping_model.specs.Parts.{functions, advanced, partials_at}
 use Rattle.grouping_model.specs.Query.{Query, Aggregate}
 use Rattle.agg_protocol.specs.States.{most_rows}
 use Rattle.agg_library.specs.StateRows.{DenotesAll, AllWithin}
-use Rattle.agg_library.specs.declared.kind.AggKind.{AggKind}
+use Rattle.agg_protocol.specs.declared.kind.AggKind.{AggKind}
 use Rattle.group_runs.specs.Runs.{Entry, Rises}
 use Rattle.group_runs.specs.Standing.{AreStates, StandsFor, AreGroups}
 use Rattle.group_runs.specs.Adding.{group_added, groups_added}

@@ -11,7 +11,7 @@ ghost use Rattle.grouping_model.specs.Parts.{functions, advanced};
 ghost use Rattle.packed_rows.specs.View.{datum_of, row_of};
 ghost use Rattle.agg_protocol.specs.States as states;
 ghost use Rattle.agg_protocol.specs.States.{most_rows};
-ghost use Rattle.agg_library.specs.Kinds.{function_of, functions_of, kind_shape};
+ghost use Rattle.agg_protocol.specs.Kinds.{function_of, functions_of, kind_shape};
 ghost use Rattle.agg_library.specs.StateRows.{DenotesAll};
 ghost use Rattle.having_filter.specs.Kept.{IsWellFormed};
 ghost use Rattle.having_filter.specs.Meaning.{meaning};

@@ -8,8 +8,8 @@ use Rattle.grouping_model.specs.Query.{Query}
 use Rattle.grouping_model.specs.Grouping.{Group}
 use Rattle.grouping_model.specs.Parts.{functions}
 use Rattle.agg_protocol.specs.States.{IsState, shape_of, bytes_of}
-use Rattle.agg_library.specs.declared.kind.AggKind.{AggKind}
-use Rattle.agg_library.specs.Kinds.{functions_of, kind_for, kind_for_names, kind_width}
+use Rattle.agg_protocol.specs.declared.kind.AggKind.{AggKind}
+use Rattle.agg_protocol.specs.Kinds.{functions_of, kind_for, kind_for_names, kind_width}
 use Rattle.agg_library.specs.StateRows.{DenotesAll}
 use Rattle.hash_agg.specs.Bytes.{state_bytes, group_bytes, run_bytes, ArePartials, IsGroupOf}
 use Rattle.group_runs.specs.Runs.{Entry}

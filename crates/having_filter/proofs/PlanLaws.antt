@@ -10,7 +10,7 @@ use Rattle.grouping_model.specs.Condition.{At, is_met, value_of}
 use Rattle.query_checks.specs.declared.condition.Cond.{Cond, back-AggCall-filter}
 use Rattle.query_checks.specs.declared.condition.AggCall.{AggCall}
 use Rattle.grouping_model.specs.Datum.{Bigint_kind}
-use Rattle.agg_library.specs.Kinds.{function_of}
+use Rattle.agg_protocol.specs.Kinds.{function_of}
 use Rattle.packed_rows.specs.Columns as packed
 use Rattle.packed_rows.specs.Columns.{kinds}
 use Rattle.packed_rows.specs.View.{kinds_of}

@@ -3,7 +3,7 @@ use Rattle.std.specs.Prelude.{◌≡◌, ℕ, ◌==◌, List, map, option_map}
 use Rattle.grouping_model.specs.Datum.{Null}
 use Rattle.grouping_model.specs.Condition as model
 use Rattle.grouping_model.specs.Query as query
-use Rattle.agg_library.specs.Kinds.{function_of}
+use Rattle.agg_protocol.specs.Kinds.{function_of}
 use Rattle.packed_rows.specs.Columns.{printed}
 use Rattle.packed_rows.specs.View.{kinds_of}
 use Rattle.query_checks.specs.declared.condition.Cond.{Cond}

@@ -6,7 +6,7 @@ ghost use Rattle.grouping_model.specs.Aggregates.{Plain};
 ghost use Rattle.grouping_model.specs.Answer.{outcome_at};
 ghost use Rattle.packed_rows.specs.View.{kind_of, kinds_of};
 ghost use Rattle.agg_protocol.specs.Results.{outcome_of};
-ghost use Rattle.agg_library.specs.Kinds.{function_of};
+ghost use Rattle.agg_protocol.specs.Kinds.{function_of};
 ghost use Rattle.query_checks.specs.Forms.{call_form, form_of, item_form};
 ghost use Rattle.query_checks.specs.Sameness.{form_eq};
 ghost use Rattle.query_checks.specs.Parts.{checked_of};
@@ -14,7 +14,7 @@ ghost use Rattle.having_filter.specs.Meaning.{place_in, source_of_form, group_co
 ghost use Rattle.having_filter.specs.Plans.{PlansFor, source_of, by_sources};
 
 use crate::copying::calls_of;
-use agg_library::AggKind;
+use agg_protocol::AggKind;
 use agg_protocol::ResultValue;
 use packed_rows::{Schema, ValueKind};
 use query_checks::{AggCall, Cond, Item, Mapping, Parts, is_same_call, mapped_clause};

@@ -7,7 +7,7 @@ ghost use Rattle.grouping_model.specs.Answer.{outcome_at};
 ghost use Rattle.packed_rows.specs.Columns.{kinds, printed};
 ghost use Rattle.packed_rows.specs.View.{row_of, kinds_of};
 ghost use Rattle.agg_protocol.specs.Results.{outcome_of};
-ghost use Rattle.agg_library.specs.Kinds.{function_of};
+ghost use Rattle.agg_protocol.specs.Kinds.{function_of};
 ghost use Rattle.query_checks.specs.declared.error.QueryError.TheVariants.{NoMemory};
 ghost use Rattle.query_checks.specs.Forms.{form_of, call_form, items_of, places_of, written_of};
 ghost use Rattle.query_checks.specs.Checks.{Checked, PassesFirst, placed, checked, checked_places, kinds_fit};
@@ -23,7 +23,7 @@ ghost use Rattle.having_filter.specs.Plans.{PlansFor, source_of};
 use crate::leaves::{GroupLeaves, RowLeaves, is_met};
 use crate::plan::{Plan, Source};
 use crate::texts::{Texts, labels_of};
-use agg_library::AggKind;
+use agg_protocol::AggKind;
 use agg_protocol::ResultValue;
 use packed_rows::{Schema, Value, ValueKind};
 use query_checks::{

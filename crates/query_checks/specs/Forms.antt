@@ -7,7 +7,7 @@ use Rattle.grouping_model.specs.Datum as datum
 use Rattle.grouping_model.specs.Datum.{Datum}
 use Rattle.grouping_model.specs.Aggregates.{Function}
 use Rattle.grouping_model.specs.Condition as model
-use Rattle.agg_library.specs.Kinds.{function_of}
+use Rattle.agg_protocol.specs.Kinds.{function_of}
 use Rattle.query_checks.specs.Operators.{comparison_of, test_of}
 use Rattle.query_checks.specs.declared.condition.Cond.{Cond}
 use Rattle.query_checks.specs.declared.condition.Cond as cond

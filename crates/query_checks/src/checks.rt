@@ -2,7 +2,7 @@
 
 ghost use Rattle.std.specs.Prelude.{◌≡◌, min, ◌-◌, ◌^◌, Bool, option_map};
 ghost use Rattle.agg_protocol.specs.Signatures.{signature};
-ghost use Rattle.agg_library.specs.Kinds.{function_of};
+ghost use Rattle.agg_protocol.specs.Kinds.{function_of};
 ghost use Rattle.packed_rows.specs.View.{kind_of, kinds_of};
 ghost use Rattle.query_checks.specs.Forms.{Testing, form_of, call_form};
 ghost use Rattle.query_checks.specs.Operators.{test_of};
@@ -12,7 +12,7 @@ ghost use Rattle.query_checks.specs.Checks.{depth, is_shallow, are_shallow, kind
 use crate::condition::{AggCall, Cond};
 use crate::operators::IsTest;
 use crate::reads::{Test, all_read, everywhere};
-use agg_library::{AggKind, Argument};
+use agg_protocol::{AggKind, Argument};
 use grouping_model::limits::DEEPEST_CONDITION;
 use packed_rows::ValueKind;
 

@@ -2,7 +2,7 @@
 
 use crate::operators::{Comparison, IsTest};
 use crate::order::RawTerm;
-use agg_library::AggKind;
+use agg_protocol::AggKind;
 
 /// A condition, or an operand of one. A column is known by its name before a query is checked, by its place after.
 #[cycle(condition)]

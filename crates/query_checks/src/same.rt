@@ -2,14 +2,14 @@
 
 ghost use Rattle.std.specs.Prelude.{◌≡◌, ◌==◌};
 ghost use Rattle.agg_protocol.specs.Signatures.{function_eq};
-ghost use Rattle.agg_library.specs.Kinds.{function_of};
+ghost use Rattle.agg_protocol.specs.Kinds.{function_of};
 ghost use Rattle.query_checks.specs.Forms.{form_of, call_form, item_form};
 ghost use Rattle.query_checks.specs.Operators.{comparison_of, comparison_number, test_of, test_number};
 ghost use Rattle.query_checks.specs.Sameness.{form_eq, option_same};
 
 use crate::condition::{AggCall, Cond, Item};
 use crate::operators::{Comparison, IsTest};
-use agg_library::AggKind;
+use agg_protocol::AggKind;
 
 /// Whether two functions are the same.
 fn is_same_function(a: AggKind, b: AggKind) -> bool

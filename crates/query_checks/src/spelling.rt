@@ -5,7 +5,7 @@ ghost use Rattle.std.specs.List.{flat_map};
 ghost use Rattle.std.specs.Str.{bytes_eq};
 ghost use Rattle.query_tokens.specs.Words as words;
 ghost use Rattle.query_tokens.specs.Spelling.{spell, spell_byte};
-ghost use Rattle.agg_library.specs.Kinds.{function_of};
+ghost use Rattle.agg_protocol.specs.Kinds.{function_of};
 ghost use Rattle.packed_rows.specs.View.{texts_of};
 ghost use Rattle.query_checks.specs.Forms.{form_of, call_form, item_form, names_of, items_of, written_of};
 ghost use Rattle.query_checks.specs.Order.{asked_of, order_of};
@@ -15,7 +15,7 @@ ghost use Rattle.query_checks.specs.Spelling.{call_text, level, operand, spelled
 use crate::condition::{AggCall, Cond, Item, RawQuery};
 use crate::operators::Comparison;
 use crate::order::OrderTerm;
-use agg_library::AggKind;
+use agg_protocol::AggKind;
 use itoa::Buffer;
 use std::alloc::{AllocError, Global};
 

@@ -8,8 +8,8 @@ use Rattle.std.specs.List.Sorted.{IsStrictlySortedBy}
 use Rattle.std.specs.Ordering.{nat_cmp}
 use Rattle.std.specs.Cmp.Lexicographic.{slice_cmp}
 use Rattle.agg_protocol.specs.States.{shape_of, width_of}
-use Rattle.agg_library.specs.declared.kind.AggKind.{AggKind}
-use Rattle.agg_library.specs.Kinds.{functions_of, kind_width, row_width}
+use Rattle.agg_protocol.specs.declared.kind.AggKind.{AggKind}
+use Rattle.agg_protocol.specs.Kinds.{functions_of, kind_width, row_width}
 use Rattle.group_runs.specs.Runs.{Entry, Rises, packed_keys}
 use Rattle.group_runs.specs.PlaceLaws.{key_total}
 use Rattle.summary_codec.specs.Reading.{IsNext}

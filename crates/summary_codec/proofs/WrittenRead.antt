@@ -20,8 +20,8 @@ use Rattle.packed_rows.specs.Columns.{Column, kinds, printed, AreColumns}
 use Rattle.packed_rows.proofs.PrintedColumns.{printed_again}
 use Rattle.agg_protocol.specs.States.{shape_of, width_of}
 use Rattle.agg_protocol.specs.DenotingLaws.{width_known}
-use Rattle.agg_library.specs.declared.kind.AggKind.{AggKind}
-use Rattle.agg_library.specs.Kinds.{kind_shape, kind_width, row_width}
+use Rattle.agg_protocol.specs.declared.kind.AggKind.{AggKind}
+use Rattle.agg_protocol.specs.Kinds.{kind_shape, kind_width, row_width}
 use Rattle.agg_library.specs.StateRows.{DenotesAll}
 use Rattle.having_filter.specs.Kept.{IsCheckedQuery, by_names, key_kinds}
 use Rattle.query_checks.specs.Checks.{Checked}

@@ -3,7 +3,7 @@ ghost use Rattle.std.specs.Option.{ForSome};
 ghost use Rattle.packed_rows.specs.View.{datum_of};
 ghost use Rattle.agg_protocol.specs.Arguments.{Takes};
 ghost use Rattle.agg_protocol.specs.States.{most_rows};
-ghost use Rattle.agg_library.specs.Kinds.{function_of};
+ghost use Rattle.agg_protocol.specs.Kinds.{function_of};
 
 use agg_library::{AggKind, BoolOr, CountRows, CountValues, MOST_COUNTED, Min, StateRow, Sum};
 use agg_protocol::{Aggregate, BadState, ResultValue, aggregate_in_parts, aggregate_values};

@@ -9,8 +9,8 @@ use Rattle.grouping_model.specs.Aggregates.{Partial}
 use Rattle.grouping_model.specs.Query.{Aggregate, Query}
 use Rattle.grouping_model.specs.Parts.{advanced}
 use Rattle.agg_protocol.specs.DenotingLaws.{width_known}
-use Rattle.agg_library.specs.declared.kind.AggKind.{AggKind}
-use Rattle.agg_library.specs.Kinds.{kind_shape, kind_width}
+use Rattle.agg_protocol.specs.declared.kind.AggKind.{AggKind}
+use Rattle.agg_protocol.specs.Kinds.{kind_shape, kind_width}
 use Rattle.agg_library.specs.StateRows.{DenotesAll}
 use Rattle.having_filter.specs.Meaning.{meaning}
 use Rattle.group_runs.specs.StateLaws.{first_and_rest, dropped, joined}

@@ -7,7 +7,7 @@ use Rattle.packed_rows.specs.View.{row_of}
 use Rattle.grouping_model.specs.Query.{Aggregate, Query}
 use Rattle.having_filter.specs.Kept.{TakesRows}
 use Rattle.having_filter.specs.Meaning.{meaning}
-use Rattle.agg_library.specs.Kinds.{function_of}
+use Rattle.agg_protocol.specs.Kinds.{function_of}
 use Rattle.agg_library.specs.StateRows.{partial_after}
 
 pub advance-requires-clause-takes : goal.advance-requires-clause-takes

@@ -5,7 +5,7 @@ use Rattle.grouping_model.specs.Query.{Query}
 use Rattle.grouping_model.specs.Combining.{combine_all}
 use Rattle.grouping_model.specs.Parts.{functions}
 use Rattle.agg_library.specs.StateRows.{DenotesAll}
-use Rattle.agg_library.specs.Kinds.{functions_of}
+use Rattle.agg_protocol.specs.Kinds.{functions_of}
 use Rattle.having_filter.specs.Meaning.{meaning}
 use Rattle.group_runs.specs.StateLaws.{states_by}
 use Rattle.group_runs.proofs.StateLaws.{combined, can_combine}

@@ -1,7 +1,7 @@
 use Rattle.std.specs.Prelude.{◌++◌, [], ◌∷◌, map}
 use Rattle.std.proofs.Common.{sym, ◌∙◌, ap}
 use Rattle.std.proofs.lemmas.List.{map-append, map_more, take_all}
-use Rattle.agg_library.specs.Kinds.{function_of}
+use Rattle.agg_protocol.specs.Kinds.{function_of}
 use Rattle.having_filter.proofs.plan.kinds_of_calls.Goals as goal
 
 pub loop-call-preserved : goal.loop-call-preserved

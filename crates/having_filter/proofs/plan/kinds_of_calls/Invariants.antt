@@ -1,5 +1,5 @@
 use Rattle.std.specs.Prelude.{◌≡◌, map, take}
-use Rattle.agg_library.specs.Kinds.{function_of}
+use Rattle.agg_protocol.specs.Kinds.{function_of}
 use Rattle.having_filter.proofs.plan.kinds_of_calls.Given as goal
 
 abbrev pub invariant-loop-call : goal.invariant-loop-call

@@ -1,5 +1,5 @@
 use Rattle.std.proofs.Common.{string_bytes}
-use Rattle.agg_library.specs.Kinds.{function_of}
+use Rattle.agg_protocol.specs.Kinds.{function_of}
 use Rattle.query_checks.proofs.SpellingLaws.{filtered_call}
 use Rattle.query_checks.proofs.spelling.+push.Goals as goal
 

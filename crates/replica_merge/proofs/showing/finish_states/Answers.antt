@@ -5,8 +5,8 @@ use Rattle.grouping_model.specs.Aggregates.{outcome}
 use Rattle.agg_protocol.specs.Results.{outcome_of}
 use Rattle.agg_protocol.specs.States as states
 use Rattle.agg_protocol.specs.States.{most_rows}
-use Rattle.agg_library.specs.declared.kind.AggKind.TheVariants.{CountRows}
-use Rattle.agg_library.specs.Kinds.{kind_shape}
+use Rattle.agg_protocol.specs.declared.kind.AggKind.TheVariants.{CountRows}
+use Rattle.agg_protocol.specs.Kinds.{kind_shape}
 use Rattle.agg_library.specs.StateRows.{DenotesAll}
 use Rattle.group_runs.specs.StateLaws.{raised}
 use Rattle.group_runs.specs.RunLaws.{take_found}

@@ -1,6 +1,6 @@
 use Rattle.std.proofs.Common.{ap, ◌∙◌, ◌==◌, Option, Some, map, option_map}
 use Rattle.grouping_model.specs.Query.{Aggregate}
-use Rattle.agg_library.specs.Kinds.{function_of}
+use Rattle.agg_protocol.specs.Kinds.{function_of}
 use Rattle.query_checks.specs.Checks.{Checked}
 use Rattle.query_checks.specs.Forms.{call_form}
 use Rattle.query_checks.specs.Calls.{distinct_calls}

@@ -3,7 +3,7 @@ use Rattle.grouping_model.specs.Query.{Aggregate}
 use Rattle.grouping_model.specs.Condition.{is_met}
 use Rattle.grouping_model.specs.Grouping.{column_of}
 use Rattle.packed_rows.specs.View.{row_of}
-use Rattle.agg_library.specs.Kinds.{function_of}
+use Rattle.agg_protocol.specs.Kinds.{function_of}
 use Rattle.query_checks.specs.Checks.{Checked}
 use Rattle.query_checks.specs.Forms.{call_form}
 use Rattle.query_checks.specs.Calls.{distinct_calls}

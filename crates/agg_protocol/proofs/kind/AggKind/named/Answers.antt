@@ -1,8 +1,8 @@
 use Rattle.std.proofs.Common.{ap, ◌∙◌, option_map}
 use Rattle.agg_protocol.specs.Signatures.{is_named, function_named}
-use Rattle.agg_library.specs.Kinds.{function_of, kinds}
-use Rattle.agg_library.proofs.NamedLaws.{find_mapped}
-use Rattle.agg_library.proofs.kind.AggKind.named.Goals as goal
+use Rattle.agg_protocol.specs.Kinds.{function_of, kinds}
+use Rattle.agg_protocol.proofs.NamedLaws.{find_mapped}
+use Rattle.agg_protocol.proofs.kind.AggKind.named.Goals as goal
 
 pub returns : goal.returns
 unfolding function_named

@@ -6,10 +6,10 @@ use Rattle.packed_rows.specs.View.{kind_of}
 use Rattle.agg_protocol.specs.States.{Shape, shape_of, width_of}
 use Rattle.agg_protocol.specs.Signatures as signatures
 use Rattle.agg_protocol.specs.Signatures.{function_number}
-use Rattle.agg_library.specs.declared.kind.AggKind.{AggKind}
-use Rattle.agg_library.specs.declared.kind.Argument.{Argument}
-use Rattle.agg_library.specs.declared.kind.Argument.TheVariants as argument
-use Rattle.agg_library.specs.declared.kind.AggKind.TheVariants.{CountRows, Count, Sum, Min, Max, BitAnd, BitOr, BitXor, BoolAnd, BoolOr, Every}
+use Rattle.agg_protocol.specs.declared.kind.AggKind.{AggKind}
+use Rattle.agg_protocol.specs.declared.kind.Argument.{Argument}
+use Rattle.agg_protocol.specs.declared.kind.Argument.TheVariants as argument
+use Rattle.agg_protocol.specs.declared.kind.AggKind.TheVariants.{CountRows, Count, Sum, Min, Max, BitAnd, BitOr, BitXor, BoolAnd, BoolOr, Every}
 
 -- the function that a kind names (PostgreSQL 17, 9.21 Aggregate Functions)
 abbrev pub function_of : AggKind → Function

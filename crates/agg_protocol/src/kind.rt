@@ -3,7 +3,7 @@
 ghost use Rattle.std.specs.Prelude.{◌≡◌, option_map, find};
 ghost use Rattle.packed_rows.specs.View.{kind_of};
 ghost use Rattle.agg_protocol.specs.Signatures.{signature, function_named, is_named};
-ghost use Rattle.agg_library.specs.Kinds.{function_of, argument_of, kind_width};
+ghost use Rattle.agg_protocol.specs.Kinds.{function_of, argument_of, kind_width};
 
 use packed_rows::ValueKind;
 
