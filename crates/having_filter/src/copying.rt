@@ -29,7 +29,7 @@ impl Mapping<usize, usize> for Unchanged {
 }
 
 /// A copy of a call.
-#[tactic(auto, using(query_checks::specs::FormLaws::unchanged))]
+#[tactic(auto, using(query_checks::specs::FormLaws::call_unchanged))]
 fn copied_call(alloc: Global, call: &AggCall<usize>) -> Result<AggCall<usize>, AllocError>
     ensures { IfOk result (λ c. call_form c ≡ call_form call.now) }
 {

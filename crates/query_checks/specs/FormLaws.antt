@@ -1,8 +1,8 @@
 -- Laws of conditions over other columns, and of their values; what is defined here, laws alone say.
-use Rattle.std.proofs.Common.{◌≡◌, ◌&&◌, option_map, Bool, true, Option, Some, None, refl, ap}
+use Rattle.std.proofs.Common.{◌≡◌, ◌&&◌, option_map, Bool, true, Option, Some, None, refl, ap, sym, ◌∙◌}
 use Rattle.std.specs.Option.{option_map_or}
 use Rattle.std.proofs.lemmas.Bool.{and_parts}
-use Rattle.query_checks.specs.Forms.{Form, Column, Call, Call_where, Literal, Unary, Binary, map_reads, map_form}
+use Rattle.query_checks.specs.Forms.{Form, Column, Call, Call_where, Literal, Unary, Binary, exchanged, map_reads, map_call, map_form}
 use Rattle.query_checks.specs.Reads.{columns_pass}
 
 -- the same columns, changed by nothing
@@ -17,6 +17,18 @@ unchanged (Call_where function column filter) = λ i. Call_where function (colum
 unchanged (Literal x) = refl
 unchanged (Unary operator x) = ap (Unary operator) (unchanged x)
 unchanged (Binary operator x y) = λ i. Binary operator (unchanged x i) (unchanged y i)
+
+-- a call that becomes no column is read as a call
+pub call_stays : {C D : Type 0} (column : C → D) (call : Form C → Option D) (x : Form C) → call x ≡ None → map_call column call x ≡ map_reads column call x
+call_stays column call (Call f c) none = ap (λ becomes. exchanged becomes (Call f (option_map column c))) (sym none)
+call_stays column call (Call_where f c x) none = ap (λ becomes. exchanged becomes (Call_where f (option_map column c) (map_reads column call x))) (sym none)
+call_stays column call (Column c) none = refl
+call_stays column call (Literal x) none = refl
+call_stays column call (Unary operator x) none = refl
+call_stays column call (Binary operator x y) none = refl
+
+pub call_unchanged : {C : Type 0} (x : Form C) → map_call (λ c. c) (λ call. None) x ≡ x
+call_unchanged x = call_stays (λ c. c) (λ call. None) x refl ∙ unchanged x
 
 -- whether the changed columns pass a test
 column_passes : {B C : Type 0} (P : C → Bool) (f : B → C) (column : Option B) → option_map_or P (option_map f column) true ≡ option_map_or (λ c. P (f c)) column true

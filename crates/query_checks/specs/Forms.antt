@@ -77,6 +77,12 @@ map_reads column call (Literal value) = Literal value
 map_reads column call (Unary operator x) = Unary operator (map_reads column call x)
 map_reads column call (Binary operator x y) = Binary operator (map_reads column call x) (map_reads column call y)
 
+-- a call over other columns, which stays a call; the calls in its FILTER become what they are given
+abbrev pub map_call : {C D : Type 0} → (C → D) → (Form C → Option D) → Form C → Form D
+map_call column call (Call f c) = Call f (option_map column c)
+map_call column call (Call_where f c x) = Call_where f (option_map column c) (map_reads column call x)
+map_call column call other = map_reads column call other
+
 -- the same condition over other columns, its calls being calls again
 abbrev pub map_form : {C D : Type 0} → (C → D) → Form C → Form D
 map_form column c = map_reads column (λ call. None) c

@@ -1,7 +1,7 @@
 //! Conditions over other columns.
 
 ghost use Rattle.std.specs.Prelude.{◌≡◌, Option, option_map, IfOk, Ok};
-ghost use Rattle.query_checks.specs.Forms.{Form, form_of, call_form, item_form, exchanged, map_reads};
+ghost use Rattle.query_checks.specs.Forms.{Form, form_of, call_form, item_form, map_reads, map_call};
 
 use crate::condition::{AggCall, Cond, Item};
 use std::alloc::{AllocError, Global};
@@ -48,8 +48,8 @@ pub fn mapped_call<C, D: Drop, M: Mapping<C, D>>(
     mapping: &M,
     call: &AggCall<C>,
 ) -> Result<AggCall<D>, AllocError>
-    ensures { IfOk result (λ c. exchanged (M.call_as mapping.now (call_form call.now)) (call_form c)
-        ≡ map_reads (M.column_as mapping.now) (M.call_as mapping.now) (call_form call.now)) }
+    ensures { IfOk result (λ c. call_form c
+        ≡ map_call (M.column_as mapping.now) (M.call_as mapping.now) (call_form call.now)) }
 {
     let column = match &call.column {
         Some(column) => Some(mapping.column(column)),

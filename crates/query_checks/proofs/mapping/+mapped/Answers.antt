@@ -2,7 +2,8 @@ use Rattle.std.specs.Prelude.{◌≡◌, Result, Ok, IfOk}
 use Rattle.std.proofs.Common.{sym, ◌∙◌, ap, subst, Box, Global}
 use Rattle.query_checks.specs.declared.condition.Cond.{Cond}
 use Rattle.query_checks.specs.Operators.{comparison_of, test_of}
-use Rattle.query_checks.specs.Forms.{Form, Unary, Binary, Negation, Testing, Conjunction, Disjunction, Comparing, form_of, call_form, exchanged, map_reads}
+use Rattle.query_checks.specs.Forms.{Form, Unary, Binary, Negation, Testing, Conjunction, Disjunction, Comparing, form_of, call_form, map_reads}
+use Rattle.query_checks.specs.FormLaws.{call_stays}
 use Rattle.query_checks.proofs.mapping.+mapped.Goals as goal
 
 -- what became of an operand
@@ -46,5 +47,5 @@ mapped-returns-in_ok-c-in-Compare g t c =
 pub mapped_read-returns-in_ok-in_box-in-None : goal.mapped_read-returns-in_ok-in_box-in-None
 mapped_read-returns-in_ok-in_box-in-None g t c =
     ap call_form c.in_ok-in_box-in-None.ensures
-    ∙ ap (λ column. exchanged column (call_form c.in_ok-call-in-None.call)) (sym c.in-None.is ∙ c.call.ensures)
     ∙ c.in_ok-call-in-None.ensures
+    ∙ call_stays (g.M.Mapping.column_as c.args.mapping.now) (g.M.Mapping.call_as c.args.mapping.now) (call_form c.args.call.now) (sym c.call.ensures ∙ c.in-None.is)
