@@ -6,6 +6,7 @@ mod cursor;
 mod error;
 mod fault;
 mod laws;
+mod lists;
 mod operands;
 mod order;
 mod parsing;

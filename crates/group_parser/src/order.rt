@@ -2,13 +2,14 @@
 
 ghost use Rattle.std.specs.Prelude.{◌≡◌, ◌<◌, ◌≤◌, map, length, IfOk, Ok};
 ghost use Rattle.query_checks.specs.Order.{target_of, term_of};
-ghost use Rattle.query_grammar.specs.Whole.{target_at, direction_at, first_or_last, nulls_at, term_at, list_at, order_at};
+ghost use Rattle.query_grammar.specs.Whole.{target_at, direction_at, first_or_last, nulls_at, order_at};
 ghost use Rattle.group_parser.specs.Views.{lexemes, Gives};
 
-use crate::cursor::{after_symbol, after_word, expect_word};
+use crate::cursor::{after_word, expect_word};
 use crate::fault::{Read, ReadError};
+use crate::lists::{Listed, list};
 use having_filter::{OrderBy, RawTerm};
-use query_tokens::{Symbol, Token, Word, is_reserved};
+use query_tokens::{Token, Word, is_reserved};
 use std::alloc::Global;
 
 /// The name or the place of an item.
@@ -76,40 +77,34 @@ fn nulls(tokens: &[Token]) -> Read<'_, Option<bool>>
 }
 
 /// A term of ORDER BY.
-#[tactic(auto, unfolding(query_grammar::specs::Whole::term_at))]
-fn term<'a>(alloc: Global, tokens: &'a [Token]) -> Read<'a, RawTerm>
-    ensures read { Gives (λ x. (term_of x.0, lexemes x.1.now)) result
-        (term_at (lexemes tokens.now)) }
-    ensures shorter { IfOk result (λ x. length x.1.now < length tokens.now) }
-{
-    let (target, rest) = target(alloc, tokens)?;
-    let (descending, rest) = direction(rest);
-    let (nulls_first, rest) = nulls(rest)?;
-    Ok((
-        RawTerm {
-            target,
-            descending,
-            nulls_first,
-        },
-        rest,
-    ))
-}
+impl Listed for RawTerm {
+    ghost use Rattle.std.specs.Prelude.{length, ◌<◌};
+    ghost use Rattle.query_checks.specs.Order.{Term, term_of};
+    ghost use Rattle.query_grammar.specs.Whole.{term_at};
+    ghost use Rattle.query_grammar.proofs.Whole_locality.{terms_stay};
 
-/// Terms, one or more, between commas.
-fn terms<'a>(alloc: Global, tokens: &'a [Token]) -> Read<'a, Vec<RawTerm>>
-    ensures read { Gives (λ x. (map term_of x.0.items, lexemes x.1.now)) result
-        (list_at term_at (length (lexemes tokens.now)) (lexemes tokens.now)) }
-    ensures shorter { IfOk result (λ x. length x.1.now < length tokens.now) }
-{
-    let (first, mut rest) = term(alloc, tokens)?;
-    let mut found = Vec::new(alloc);
-    found.push(first)?;
-    while let Some(behind) = after_symbol(rest, Symbol::Comma) {
-        let (more, next) = term(alloc, behind)?;
-        found.push(more)?;
-        rest = next;
+    ghost Said = { Term };
+
+    ghost said = { term_of };
+
+    ghost one_at = { term_at };
+
+    #[tactic(auto, unfolding(query_grammar::specs::Whole::term_at))]
+    fn read<'a>(alloc: Global, tokens: &'a [Token]) -> Read<'a, RawTerm> {
+        let (target, rest) = target(alloc, tokens)?;
+        let (descending, rest) = direction(rest);
+        let (nulls_first, rest) = nulls(rest)?;
+        Ok((
+            RawTerm {
+                target,
+                descending,
+                nulls_first,
+            },
+            rest,
+        ))
     }
-    Ok((found, rest))
+
+    ghost stays = { terms_stay };
 }
 
 /// The terms of ORDER BY, or none.
@@ -121,7 +116,7 @@ pub(crate) fn order<'a>(alloc: Global, tokens: &'a [Token]) -> Read<'a, Vec<RawT
     match after_word(tokens, "order") {
         Some(behind) => {
             let behind = expect_word(behind, "by")?;
-            terms(alloc, behind)
+            list(alloc, behind)
         }
         None => Ok((Vec::new(alloc), tokens)),
     }

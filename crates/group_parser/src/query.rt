@@ -11,6 +11,7 @@ ghost use Rattle.group_parser.specs.Views.{lexemes, condition_read, item_read, a
 use crate::conditions::condition;
 use crate::cursor::{after_symbol, after_word, expect_word, name};
 use crate::fault::{Read, ReadError};
+use crate::lists::{Listed, list};
 use crate::operands::column_or_call;
 use crate::order::order;
 use grouping_model::limits::MOST_OPEN;
@@ -75,49 +76,47 @@ fn alias<'a>(alloc: Global, tokens: &'a [Token]) -> Read<'a, Option<String>>
 }
 
 /// An item and its alias, if it has one.
-#[tactic(auto, unfolding(query_grammar::specs::Whole::item_at))]
-fn item<'a>(alloc: Global, tokens: &'a [Token]) -> Read<'a, (Item<String>, Option<String>)>
-    ensures read { Gives (λ x. ((item_read x.0.0, alias_read x.0.1), lexemes x.1.now)) result
-        (item_at most_open (lexemes tokens.now)) }
-    ensures shorter { IfOk result (λ x. length x.1.now < length tokens.now) }
-{
-    let (value, rest) = item_value(alloc, tokens)?;
-    let (alias, rest) = alias(alloc, rest)?;
-    Ok(((value, alias), rest))
+impl Listed for (Item<String>, Option<String>) {
+    ghost use Rattle.std.specs.Prelude.{ℕ, List, Option, length, ◌<◌};
+    ghost use Rattle.query_grammar.specs.Grammar.{Named};
+    ghost use Rattle.query_grammar.specs.Queries.{most_open};
+    ghost use Rattle.query_grammar.specs.Whole.{item_at};
+    ghost use Rattle.query_grammar.proofs.Whole_locality.{items_stay};
+    ghost use Rattle.group_parser.specs.Views.{item_read, alias_read};
+
+    ghost Said = { Named × Option (List ℕ) };
+
+    ghost said = { λ x. (item_read x.0, alias_read x.1) };
+
+    ghost one_at = { item_at most_open };
+
+    #[tactic(auto, unfolding(query_grammar::specs::Whole::item_at))]
+    fn read<'a>(alloc: Global, tokens: &'a [Token]) -> Read<'a, (Item<String>, Option<String>)> {
+        let (value, rest) = item_value(alloc, tokens)?;
+        let (alias, rest) = alias(alloc, rest)?;
+        Ok(((value, alias), rest))
+    }
+
+    ghost stays = { items_stay most_open };
 }
 
-/// The items, one or more, between commas.
-fn items<'a>(alloc: Global, tokens: &'a [Token]) -> Read<'a, Vec<(Item<String>, Option<String>)>>
-    ensures read { Gives (λ x. (items_of x.0.items, lexemes x.1.now)) result
-        (list_at (item_at most_open) (length (lexemes tokens.now)) (lexemes tokens.now)) }
-    ensures shorter { IfOk result (λ x. length x.1.now < length tokens.now) }
-{
-    let (first, mut rest) = item(alloc, tokens)?;
-    let mut found = Vec::new(alloc);
-    found.push(first)?;
-    while let Some(behind) = after_symbol(rest, Symbol::Comma) {
-        let (more, next) = item(alloc, behind)?;
-        found.push(more)?;
-        rest = next;
-    }
-    Ok((found, rest))
-}
+/// The name of a column.
+impl Listed for String {
+    ghost use Rattle.std.specs.Prelude.{ℕ, List, string_bytes, length, ◌<◌};
+    ghost use Rattle.query_grammar.specs.Reading.{name_at};
+    ghost use Rattle.query_grammar.proofs.Whole_locality.{names_stay};
 
-/// Names, one or more, between commas.
-fn names<'a>(alloc: Global, tokens: &'a [Token]) -> Read<'a, Vec<String>>
-    ensures read { Gives (λ x. (map string_bytes x.0.items, lexemes x.1.now)) result
-        (list_at name_at (length (lexemes tokens.now)) (lexemes tokens.now)) }
-    ensures shorter { IfOk result (λ x. length x.1.now < length tokens.now) }
-{
-    let (first, mut rest) = name(alloc, tokens)?;
-    let mut found = Vec::new(alloc);
-    found.push(first)?;
-    while let Some(behind) = after_symbol(rest, Symbol::Comma) {
-        let (more, next) = name(alloc, behind)?;
-        found.push(more)?;
-        rest = next;
+    ghost Said = { List ℕ };
+
+    ghost said = { string_bytes };
+
+    ghost one_at = { name_at };
+
+    fn read<'a>(alloc: Global, tokens: &'a [Token]) -> Read<'a, String> {
+        name(alloc, tokens)
     }
-    Ok((found, rest))
+
+    ghost stays = { names_stay };
 }
 
 /// The columns of GROUP BY, or none.
@@ -129,7 +128,7 @@ fn keys<'a>(alloc: Global, tokens: &'a [Token]) -> Read<'a, Vec<String>>
     match after_word(tokens, "group") {
         Some(behind) => {
             let behind = expect_word(behind, "by")?;
-            names(alloc, behind)
+            list(alloc, behind)
         }
         None => Ok((Vec::new(alloc), tokens)),
     }
@@ -172,7 +171,7 @@ pub(crate) fn query(alloc: Global, tokens: &[Token]) -> Result<RawQuery, ReadErr
     ensures { Gives (λ q. (asked_of q, [])) result (query_at most_open (lexemes tokens.now)) }
 {
     let rest = expect_word(tokens, "select")?;
-    let (items, rest) = items(alloc, rest)?;
+    let (items, rest) = list(alloc, rest)?;
     let rest = expect_word(rest, "from")?;
     let rest = expect_word(rest, "batches")?;
     let (condition, rest) = clause(alloc, "where", rest)?;

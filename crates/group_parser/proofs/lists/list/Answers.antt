@@ -13,7 +13,7 @@ returns-in_err-first-clause-read g c =
 
 pub loop-behind-init : goal.loop-behind-init
 loop-behind-init g c = record {
-  lists = list_init g.T.Listed.one_at g.T.Listed.stays g.T.Listed.said (lexemes c.args.tokens.now) (lexemes c.in_ok-first.rest.now) c.new-found.result.items c.push.new.self.items c.in_ok-first.first c.new-found.ensures.items c.in_ok-push.ensures.items c.in_ok-first.ensures.read;
+  lists = list_init g.T.Listed.one_at g.met.T.Listed.stays g.T.Listed.said (lexemes c.args.tokens.now) (lexemes c.in_ok-first.rest.now) c.new-found.result.items c.push.new.self.items c.in_ok-first.first c.new-found.ensures.items c.in_ok-push.ensures.items c.in_ok-first.ensures.read;
   shorter = c.in_ok-first.ensures.shorter;
 }
 
@@ -31,7 +31,7 @@ loop-behind-preserved g c =
     let one = g.T.Listed.one_at in
     let ts = lexemes c.args.tokens.now in
     record {
-      lists = list_next one g.T.Listed.stays g.T.Listed.said (list_at one (length ts) ts) c.loop-behind.found.items c.push-in-Some.new.self.items c.in_ok-more.more (lexemes c.loop-behind.rest.now) (lexemes c.in-Some.behind.now) (lexemes c.in_ok-more.next.now) c.loop-behind.invariant.lists c.in-Some.ensures.found c.in_ok-more.ensures.read c.in_ok-push-2.ensures.items;
+      lists = list_next one g.met.T.Listed.stays g.T.Listed.said (list_at one (length ts) ts) c.loop-behind.found.items c.push-in-Some.new.self.items c.in_ok-more.more (lexemes c.loop-behind.rest.now) (lexemes c.in-Some.behind.now) (lexemes c.in_ok-more.next.now) c.loop-behind.invariant.lists c.in-Some.ensures.found c.in_ok-more.ensures.read c.in_ok-push-2.ensures.items;
       shorter = omega (arith, c.loop-behind.invariant.shorter, c.in-Some.ensures.shorter, c.in_ok-more.ensures.shorter);
     }
 
