@@ -68,16 +68,6 @@ can_stand last t h rs had =
     let end : (nat_lt 1 t.records || h.len == t.left) ≡ true = ends t.records h.len t.left had.others had.number (had.left ∙ ap (λ n. n + length (tape_bytes had.others)) (sym had.len)) in
     grind (arith, nat_tests)
 
--- the bytes of a record were read, of which the front was read before
-pub bytes_given : (before after : ℕ → ℕ → Type 0) (t t' : TapeState) (h : Header) (bytes : List ℕ) → ((front rest : List ℕ) → length front ≡ h.len → HasAhead before t (front ++ rest) → (bytes ≡ front) × HasAhead after t' rest)
-    → t'.left + h.len ≡ t.left → t'.records + 1 ≡ t.records → (rs : List Record) → IsAfterHeader before t h rs → Gives (AreAhead after t') rs bytes (Some (h.hash, h.tag))
-bytes_given before after t t' h bytes fill left records rs had =
-    let told : (bytes ≡ had.first.bytes) × HasAhead after t' (tape_bytes had.others ++ had.rest) = fill had.first.bytes (tape_bytes had.others ++ had.rest) (sym had.len) had.bytes in (
-      had.others,
-      had.is ∙ (λ i. record { hash = sym had.hash i; tag = sym had.tag i; bytes = sym told.0 i } ∷ had.others),
-      record { good = had.goods; number = omega (arith, records, had.number); left = omega (arith, left, had.left, had.len); rest = had.rest; bytes = told.1 },
-    )
-
 -- without its buffer a tape has the same records, if it has none
 ended_none : (last : ℕ → ℕ → Type 0) (t : TapeState) (rs : List Record) → length rs ≡ 0 → AreAhead last t rs → AreAhead last (ended_by true t) rs
 ended_none last t [] none had = record {
@@ -123,8 +113,3 @@ stands tag len left records is =
     let last = and_parts (nat_lt tag 2 && nat_le len 65535) (nat_le len left) end.0 in
     let first = and_parts (nat_lt tag 2) (nat_le len 65535) last.0 in
     (leb-true (suc tag) 2 first.0, leb-true len 65535 first.1, leb-true len left last.1, is_last records len left end.1)
-
--- where no records are left, there are none
-pub none_left : (last : ℕ → ℕ → Type 0) (t : TapeState) (rs : List Record) → t.records ≡ 0 → AreAhead last t rs → (rs ≡ []) × AreAhead last t []
-none_left last t [] none had = (refl, had)
-none_left last t (r ∷ rs) none had = absurd (omega (arith, none, had.number))

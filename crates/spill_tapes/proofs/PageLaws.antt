@@ -3,7 +3,7 @@ use Rattle.std.specs.Prelude.{◌≡◌, ◌≢◌, ℕ, ◌+◌, ◌-◌, ◌*�
 use Rattle.std.proofs.Common.{refl, sym, ◌∙◌, ap, subst, arith, length-append}
 use Rattle.std.proofs.lemmas.List.{append-nil, append_assoc, flat_map_more, ext_get_or, take-append-drop, length-take-le, length-drop, take_at, drop_at, take-append-le, drop-append-le, drop-drop, drop_all}
 use Rattle.tape_disks.specs.Calls.{AreLast, AreReadAt, Keeps, KeepsBeside}
-use Rattle.spill_tapes.specs.Pages.{PoolState, times, IsApart, IsFresh, FreesNone, IsOn, AreOn, KeepsPages}
+use Rattle.spill_tapes.specs.Pages.{PoolState, times, IsApart, IsFresh, IsOn, AreOn, KeepsPages}
 use Rattle.spill_tapes.specs.Tape.{TapeState, join, spent, HasWritten, HasAhead}
 use Rattle.spill_tapes.proofs.PoolLaws.{same_one, apart_page}
 
@@ -15,10 +15,6 @@ pub keeps_pages : (before after : ℕ → ℕ → Type 0) (pool : PoolState) (pa
 keeps_pages before after pool page n fresh is keeps other given out k byte small here =
     let differ : other ≢ page = λ e. absurd (omega (arith, e, given, fresh (subst (λ x. times x pool.free ≡ 0) e out))) in
     keeps (other * 8192 + k) byte (subst (λ m. (other * 8192 + k < page * 8192) ⊎ (page * 8192 + m ≤ other * 8192 + k)) (sym is) (beside page other k small differ)) here
-
-pub keeps_twice : (first second third : ℕ → ℕ → Type 0) (a b : PoolState) → a.count ≤ b.count → FreesNone a b → KeepsPages a first second → KeepsPages b second third → KeepsPages a first third
-keeps_twice first second third a b grows frees keeps more page given out k byte small here =
-    more page (omega (arith, given, grows)) (omega (arith, frees page, out)) k byte small (keeps page given out k byte small here)
 
 -- what is on pages stays there
 pub kept_on : (before after : ℕ → ℕ → Type 0) (pool : PoolState) (pages : List ℕ) (contents : List (List ℕ)) → ((page : ℕ) → 0 < times page pages → (page < pool.count) × (times page pool.free ≡ 0)) → KeepsPages pool before after → AreOn before pages contents → AreOn after pages contents

@@ -21,40 +21,6 @@ below_less page count h = grind (arith, nat_tests)
 pub same_one : (page : ℕ) → once page page ≡ 1
 same_one page = grind (arith, nat_tests)
 
--- below one number more
-pub below_next : (page count : ℕ) → below page (count + 1) ≡ below page count + once page count
-below_next page count = grind (arith, nat_tests)
-
--- the first of the free pages is given to a tape
-pub balanced_free : (before after : PoolState) (pages pages' : List ℕ) (page : ℕ) → before.free ≡ page ∷ after.free → pages' ≡ pages ++ page ∷ [] → after.count ≡ before.count → IsBalanced before pages after pages'
-balanced_free before after pages pages' page free taken count =
-    let frees : (p : ℕ) → times p before.free ≡ once p page + times p after.free = λ p. ap (times p) free in
-    let takes : (p : ℕ) → times p pages' ≡ times p pages + once p page = λ p. ap (times p) taken ∙ times_push p page pages in
-    let same : (p : ℕ) → below p after.count ≡ below p before.count = λ p. ap (below p) count in
-    let long : length before.free ≡ length after.free + 1 = omega (arith, ap length free) in
-    let longer : length pages' ≡ length pages + 1 = omega (arith, ap length taken, length-append pages (page ∷ [])) in
-    record {
-      each = λ p. omega (arith, frees p, takes p, same p);
-      all = omega arith;
-      grows = omega arith;
-    }
-
--- a new page is
-pub balanced_new : (before after : PoolState) (pages pages' : List ℕ) → before.free ≡ [] → after.free ≡ [] → pages' ≡ pages ++ before.count ∷ [] → after.count ≡ before.count + 1 → IsBalanced before pages after pages'
-balanced_new before after pages pages' none none' taken count =
-    let frees : (p : ℕ) → times p before.free ≡ 0 = λ p. ap (times p) none in
-    let frees' : (p : ℕ) → times p after.free ≡ 0 = λ p. ap (times p) none' in
-    let takes : (p : ℕ) → times p pages' ≡ times p pages + once p before.count = λ p. ap (times p) taken ∙ times_push p before.count pages in
-    let next : (p : ℕ) → below p after.count ≡ below p before.count + once p before.count = λ p. ap (below p) count ∙ below_next p before.count in
-    let short : length before.free ≡ 0 = ap length none in
-    let short' : length after.free ≡ 0 = ap length none' in
-    let longer : length pages' ≡ length pages + 1 = omega (arith, ap length taken, length-append pages (before.count ∷ [])) in
-    record {
-      each = λ p. omega (arith, frees p, frees' p, takes p, next p);
-      all = omega arith;
-      grows = omega arith;
-    }
-
 -- nothing moved
 pub balanced_none : (before after : PoolState) (pages pages' : List ℕ) → after.free ≡ before.free → after.count ≡ before.count → pages' ≡ pages → IsBalanced before pages after pages'
 balanced_none before after pages pages' free count same =
@@ -79,13 +45,6 @@ balanced_twice a b c xs ys zs first second = record {
 
 pub frees_twice : (a b c : PoolState) → FreesNone a b → FreesNone b c → FreesNone a c
 frees_twice a b c first second = λ page. omega (arith, first page, second page)
-
-pub apart_after : (a b : PoolState) (xs ys : List ℕ) → IsApart a xs → IsBalanced a xs b ys → IsApart b ys
-apart_after a b xs ys apart moved = λ page. omega (arith, apart page, moved.each page)
-
--- a page of the tape is given out, and not free
-pub fits_after : (a b : PoolState) (xs ys : List ℕ) → length a.free + length xs ≤ a.count → IsBalanced a xs b ys → length b.free + length ys ≤ b.count
-fits_after a b xs ys fits is = omega (arith, fits, is.all)
 
 pub apart_page : (pool : PoolState) (pages : List ℕ) (page : ℕ) → IsApart pool pages → 0 < times page pages → (page < pool.count) × (times page pool.free ≡ 0)
 apart_page pool pages page apart there =
@@ -173,18 +132,17 @@ takes_twice a b c xs ys zs first second = record {
   again = again_twice a b c second.frees first.again second.again;
 }
 
-pub gives_none : (pool : PoolState) (pages pages' : List ℕ) → HavePages pool pages → pages' ≡ pages → GivesBack pool pages pool pages'
-gives_none pool pages pages' have same = record {
-  pool = have.pool;
-  balanced = balanced_none pool pool pages pages' refl refl same;
-  count = refl;
-}
-
-pub gives_twice : (a b c : PoolState) (xs ys zs : List ℕ) → GivesBack a xs b ys → GivesBack b ys c zs → GivesBack a xs c zs
-gives_twice a b c xs ys zs first second = record {
-  pool = second.pool;
-  balanced = balanced_twice a b c xs ys zs first.balanced second.balanced;
-  count = second.count ∙ first.count;
+-- what is moved to no pages is moved to any
+pub takes_more : (a b : PoolState) (xs ys : List ℕ) → TakesPages a [] b ys → TakesPages a xs b (xs ++ ys)
+takes_more a b xs ys takes = record {
+  pool = takes.pool;
+  balanced = record {
+    each = λ p. omega (arith, takes.balanced.each p, times-append p xs ys);
+    all = omega (arith, takes.balanced.all, length-append xs ys);
+    grows = takes.balanced.grows;
+  };
+  frees = takes.frees;
+  again = takes.again;
 }
 
 -- a page that was read is given back
@@ -194,17 +152,3 @@ back a pages pages' page have first = record {
   balanced = balanced_back a pages pages' page first;
   count = refl;
 }
-
--- the pages that a tape has then
-have_after : (a b : PoolState) (xs ys : List ℕ) → HavePages a xs → IsPool b → IsBalanced a xs b ys → HavePages b ys
-have_after a b xs ys have pool moved = record {
-  pool = pool;
-  apart = apart_after a b xs ys have.apart moved;
-  fits = fits_after a b xs ys have.fits moved;
-}
-
-pub have_taken : (a b : PoolState) (xs ys : List ℕ) → HavePages a xs → TakesPages a xs b ys → HavePages b ys
-have_taken a b xs ys have takes = have_after a b xs ys have takes.pool takes.balanced
-
-pub have_given : (a b : PoolState) (xs ys : List ℕ) → HavePages a xs → GivesBack a xs b ys → HavePages b ys
-have_given a b xs ys have gives = have_after a b xs ys have gives.pool gives.balanced

@@ -3,7 +3,7 @@ use Rattle.std.specs.Prelude.{◌≡◌, ℕ, ◌+◌, List, [], ◌∷◌, ◌+
 use Rattle.std.proofs.Common.{refl, sym, ◌∙◌, ap, subst, length-append}
 use Rattle.std.proofs.lemmas.List.{flat_map_more}
 use Rattle.spill_tapes.specs.Records.{Record, IsRecord, AreRecords, record_bytes, tape_bytes}
-use Rattle.spill_tapes.specs.Tape.{TapeState, tape_len, spent, IsSameTape, HasWritten, AreWritten, AreAhead}
+use Rattle.spill_tapes.specs.Tape.{TapeState, tape_len, HasWritten, AreWritten, AreAhead}
 use Rattle.spill_tapes.proofs.PageLaws.{same_written, written_len, rewound}
 
 pub records_push : (rs : List Record) (r : Record) → AreRecords rs → IsRecord r → AreRecords (rs ++ r ∷ [])
@@ -32,32 +32,3 @@ rewound_records before after t t1 t' pages buffer put empty records left rs had 
       rest = done.0;
       bytes = rewound after t' t' refl empty empty (tape_bytes rs ++ done.0) done.1;
     }
-
--- a tape of which the phase and what is to be read stay as they were
-pub same_now : (t now after : TapeState) → t ≡ now → after.phase ≡ t.phase → after.left ≡ t.left → after.records ≡ t.records → IsSameTape now after
-same_now t now after view phase left records = record {
-  phase = phase ∙ ap (λ (x : TapeState). x.phase) view;
-  left = left ∙ ap (λ (x : TapeState). x.left) view;
-  records = records ∙ ap (λ (x : TapeState). x.records) view;
-}
-
-pub same_twice : (a b c : TapeState) → IsSameTape a b → IsSameTape b c → IsSameTape a c
-same_twice a b c first second = record {
-  phase = second.phase ∙ first.phase;
-  left = second.left ∙ first.left;
-  records = second.records ∙ first.records;
-}
-
-pub same_self : (t t' : TapeState) → t' ≡ t → IsSameTape t t'
-same_self t t' is = record {
-  phase = ap (λ (x : TapeState). x.phase) is;
-  left = ap (λ (x : TapeState). x.left) is;
-  records = ap (λ (x : TapeState). x.records) is;
-}
-
-pub same_spent : (t t' : TapeState) (n : ℕ) → t' ≡ spent t n → IsSameTape t t'
-same_spent t t' n is = record {
-  phase = ap (λ (x : TapeState). x.phase) is;
-  left = ap (λ (x : TapeState). x.left) is;
-  records = ap (λ (x : TapeState). x.records) is;
-}

@@ -1,10 +1,8 @@
 -- One tape. All of this is our own.
-use Rattle.std.specs.Prelude.{Bool, true, false, ◌≡◌, ◌≢◌, IsTrue, IfSome, IfNone, ℕ, ◌+◌, ◌-◌, ◌*◌, ◌<◌, ◌≤◌, ◌==◌, List, [], ◌∷◌, ◌++◌, length, drop, Option, Some, None}
+use Rattle.std.specs.Prelude.{Bool, true, false, ◌≡◌, IsTrue, IfSome, IfNone, ℕ, ◌+◌, ◌-◌, ◌*◌, ◌<◌, ◌≤◌, ◌==◌, List, [], ◌∷◌, ◌++◌, length, drop, Option, Some, None}
 use Rattle.std.specs.List.{flat_map}
 use Rattle.spill_tapes.specs.Records.{Record, IsRecord, AreRecords, tape_bytes}
 use Rattle.spill_tapes.specs.Pages.{AreOn}
-use Rattle.spill_tapes.specs.declared.error.TapeError.{TapeError}
-use Rattle.spill_tapes.specs.declared.error.TapeError.TheVariants.{TapeDamaged, TapesDead}
 use Rattle.spill_tapes.specs.declared.header.Header.{Header}
 use Rattle.spill_tapes.specs.declared.tape.Phase.{Phase}
 use Rattle.spill_tapes.specs.declared.tape.Phase.TheVariants.{Closed, Written, Read}
@@ -147,8 +145,3 @@ pub record IsGiven (honest : Bool) (last : ℕ → ℕ → Type 0) (before : Tap
   pub gives : IsTrue honest → (rs : List Record) → AreAhead last before rs → Gives (AreAhead last' after) rs bytes found
   pub none : IfNone found (bytes ≡ [])
   pub framed : IfSome found (λ told. (told.1 < 2) × (length bytes ≤ LONGEST_RECORD))
-
--- why it told none
-pub record IsNotGiven (honest : Bool) (last : ℕ → ℕ → Type 0) (before : TapeState) (error : TapeError) : Type 0 where
-  pub undamaged : IsTrue honest → (rs : List Record) → AreAhead last before rs → error ≢ TapeDamaged
-  pub alive : error ≢ TapesDead

@@ -1,12 +1,13 @@
 //! One tape: pages on a disk, and a buffer of one page.
-ghost use Rattle.std.specs.Prelude.{◌≡◌, ◌&&◌, ◌||◌, ◌==◌, nat_lt, nat_le, ◌+◌, ◌-◌, ◌*◌, ◌/◌, ◌<◌, ◌≤◌, ◌^◌, ◌∷◌, ◌++◌, [], ℕ, List, Some, None, IsTrue, IfOk, IfErr, OnOk, OnErr, length, take, drop};
+ghost use Rattle.std.specs.Prelude.{◌≡◌, ◌≢◌, ◌&&◌, ◌||◌, ◌==◌, nat_lt, nat_le, ◌+◌, ◌-◌, ◌*◌, ◌/◌, ◌<◌, ◌≤◌, ◌^◌, ◌∷◌, ◌++◌, [], ℕ, List, Some, None, IsTrue, IfOk, IfErr, OnOk, OnErr, length, take, drop};
 ghost use Rattle.tape_disks.specs.Disk.{Leaves, OnlyReads};
 ghost use Rattle.tape_disks.specs.Calls.{failed};
 ghost use Rattle.tape_disks.specs.Errors.{disk_faults};
 ghost use Rattle.spill_tapes.specs.Errors.{tape_faults};
-ghost use Rattle.spill_tapes.specs.Records.{Record, IsRecord, header_of};
+ghost use Rattle.spill_tapes.specs.Records.{Record, IsRecord};
 ghost use Rattle.spill_tapes.specs.Pages.{pages_for, HavePages, TakesPages, GivesBack, KeepsPages};
-ghost use Rattle.spill_tapes.specs.Tape.{TapeState, new_tape, no_tape, tape_len, ahead, HasWritten, HasAhead, IsSameTape, IsGood, IsGoodRead, IsAfterHeader, Gives, IsGiven, IsNotGiven, spent, ended, AreWritten, AreAhead};
+ghost use Rattle.spill_tapes.specs.Tape.{TapeState, new_tape, no_tape, tape_len, ahead, HasWritten, HasAhead, IsSameTape, IsGood, IsGoodRead, IsAfterHeader, Gives, IsGiven, spent, ended, AreWritten, AreAhead};
+ghost use Rattle.spill_tapes.specs.declared.error.TapeError.TheVariants.{TapeDamaged, TapesDead};
 ghost use Rattle.spill_tapes.specs.declared.tape.Phase.TheVariants as phase;
 
 use crate::error::TapeError;
@@ -83,28 +84,6 @@ impl Tape {
         Ok(())
     }
 
-    /// Puts bytes behind those that are in the buffer, which they make full, and writes it.
-    fn put_page<D: TapeDisk>(
-        &mut self,
-        disk: &mut D,
-        pool: &mut PagePool,
-        bytes: &[u8],
-    ) -> Result<(), DiskError>
-        requires pages { HavePages pool.old self.old.pages }
-        requires full { length self.old.buffer + length bytes.now ≡ PAGE }
-        ensures pages { TakesPages pool.old self.old.pages pool.new self.new.pages }
-        ensures same { IsSameTape self.old self.new }
-        ensures keeps { KeepsPages pool.old (D.last disk.old) (D.last disk.new) }
-        ensures empty { OnOk result (self.new.buffer ≡ []) }
-        ensures longer { OnOk result (length self.new.pages ≡ length self.old.pages + 1) }
-        ensures written { OnOk result ((before : List ℕ) → HasWritten (D.last disk.old) self.old before → HasWritten (D.last disk.new) self.new (before ++ bytes.now)) }
-        ensures counted { OnOk result (D.writes disk.new ≡ D.writes disk.old + 1) }
-        ensures disk { Leaves D.TapeDisk (failed disk_faults result) disk.old disk.new }
-    {
-        self.buffer.extend_from_slice(bytes)?;
-        self.flush(disk, pool)
-    }
-
     /// Puts bytes behind those that were written.
     fn put<D: TapeDisk>(
         &mut self,
@@ -123,36 +102,13 @@ impl Tape {
         ensures counted { OnOk result (D.writes disk.new + length self.old.pages ≡ D.writes disk.old + length self.new.pages) }
         ensures disk { Leaves D.TapeDisk (failed disk_faults result) disk.old disk.new }
     {
-        let room = PAGE - self.buffer.len();
-        if bytes.len() < room {
-            self.buffer.extend_from_slice(bytes)?;
+        let n = bytes.len().min(PAGE - self.buffer.len());
+        self.buffer.extend_from_slice(&bytes[..n])?;
+        if self.buffer.len() < PAGE {
             return Ok(());
         }
-        self.put_page(disk, pool, &bytes[..room])?;
-        self.put(disk, pool, &bytes[room..])
-    }
-
-    /// Puts the front of a record and its bytes behind those that were written.
-    fn put_record<D: TapeDisk>(
-        &mut self,
-        disk: &mut D,
-        pool: &mut PagePool,
-        header: Header,
-        bytes: &[u8],
-    ) -> Result<(), DiskError>
-        requires pages { HavePages pool.old self.old.pages }
-        requires small { length self.old.buffer < PAGE }
-        ensures pages { TakesPages pool.old self.old.pages pool.new self.new.pages }
-        ensures keeps { KeepsPages pool.old (D.last disk.old) (D.last disk.new) }
-        ensures same { IsSameTape self.old self.new }
-        ensures small { OnOk result (length self.new.buffer < PAGE) }
-        ensures longer { OnOk result (tape_len self.new ≡ tape_len self.old + (FRONT + length bytes.now)) }
-        ensures written { OnOk result ((before : List ℕ) → HasWritten (D.last disk.old) self.old before → HasWritten (D.last disk.new) self.new (before ++ (header_of header.hash header.tag header.len ++ bytes.now))) }
-        ensures counted { OnOk result (D.writes disk.new + length self.old.pages ≡ D.writes disk.old + length self.new.pages) }
-        ensures disk { Leaves D.TapeDisk (failed disk_faults result) disk.old disk.new }
-    {
-        self.put(disk, pool, &header.to_bytes())?;
-        self.put(disk, pool, bytes)
+        self.flush(disk, pool)?;
+        self.put(disk, pool, &bytes[n..])
     }
 
     /// Puts a record behind those that were written.
@@ -178,7 +134,8 @@ impl Tape {
         ensures disk { Leaves D.TapeDisk (failed disk_faults result) disk.old disk.new }
     {
         self.buffer.reserve_exact(PAGE - self.buffer.len())?;
-        self.put_record(disk, pool, header, bytes)?;
+        self.put(disk, pool, &header.to_bytes())?;
+        self.put(disk, pool, bytes)?;
         self.records += 1;
         Ok(())
     }
@@ -359,33 +316,8 @@ impl Tape {
         ensures pages { GivesBack pool.old self.old.pages pool.new self.new.pages }
         ensures phase { self.new.phase ≡ phase.Read }
         ensures given { IfOk result (IsGiven (D.honest disk.old) (D.last disk.old) self.old (D.last disk.new) self.new bytes.new.items) }
-        ensures refused { IfErr result (IsNotGiven (D.honest disk.old) (D.last disk.old) self.old) }
-        ensures disk { OnlyReads D.TapeDisk (failed tape_faults result) disk.old disk.new }
-    {
-        match self.next_record(disk, pool, bytes) {
-            Ok(found) => {
-                self.end_reading(alloc);
-                Ok(found)
-            }
-            Err(error) => Err(error),
-        }
-    }
-
-    /// Reads the next record.
-    fn next_record<D: TapeDisk>(
-        &mut self,
-        disk: &mut D,
-        pool: &mut PagePool,
-        bytes: &mut Vec<u8>,
-    ) -> Result<Option<(u32, u8)>, TapeError>
-        requires pages { HavePages pool.old self.old.pages }
-        requires phase { self.old.phase ≡ phase.Read }
-        requires good { IsGood self.old }
-        requires empty { bytes.old.items ≡ [] }
-        ensures pages { GivesBack pool.old self.old.pages pool.new self.new.pages }
-        ensures phase { self.new.phase ≡ phase.Read }
-        ensures given { IfOk result (IsGiven (D.honest disk.old) (D.last disk.old) self.old (D.last disk.new) self.new bytes.new.items) }
-        ensures refused { IfErr result (IsNotGiven (D.honest disk.old) (D.last disk.old) self.old) }
+        ensures undamaged { IfErr result (λ error. IsTrue (D.honest disk.old) → (rs : List Record) → AreAhead (D.last disk.old) self.old rs → error ≢ TapeDamaged) }
+        ensures alive { IfErr result (λ error. error ≢ TapesDead) }
         ensures disk { OnlyReads D.TapeDisk (failed tape_faults result) disk.old disk.new }
     {
         if self.records == 0 {
@@ -399,6 +331,7 @@ impl Tape {
             return Err(TapeError::TapeDamaged);
         }
         self.next_bytes(disk, pool, header, bytes)?;
+        self.end_reading(alloc);
         Ok(Some((header.hash, header.tag)))
     }
 

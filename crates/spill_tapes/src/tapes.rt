@@ -17,7 +17,7 @@ use crate::limits::{FRONT, LONGEST_RECORD, PAGE};
 use crate::pool::PagePool;
 use crate::tape::{Phase, Tape};
 use crate::tape_id::TapeId;
-use std::alloc::Global;
+use std::alloc::{AllocError, Global};
 use std::marker::Model;
 use tape_disks::TapeDisk;
 
@@ -77,30 +77,21 @@ impl Tapes {
     pub fn is_open(&self, tape: TapeId) -> bool
         ensures { result ≡ is_open self.now tape }
     {
-        match self.phase(tape) {
-            Phase::Closed => false,
-            Phase::Written | Phase::Read => true,
-        }
+        self.phase(tape) != Phase::Closed
     }
 
     /// Whether a tape is being written.
     pub fn is_written(&self, tape: TapeId) -> bool
         ensures { result ≡ is_written self.now tape }
     {
-        match self.phase(tape) {
-            Phase::Written => true,
-            Phase::Closed | Phase::Read => false,
-        }
+        self.phase(tape) == Phase::Written
     }
 
     /// Whether a tape is being read.
     pub fn is_read(&self, tape: TapeId) -> bool
         ensures { result ≡ is_read self.now tape }
     {
-        match self.phase(tape) {
-            Phase::Read => true,
-            Phase::Closed | Phase::Written => false,
-        }
+        self.phase(tape) == Phase::Read
     }
 
     /// Whether a call failed, so that every call but `close` is refused.
@@ -111,40 +102,18 @@ impl Tapes {
         *is_dead
     }
 
-    /// The first tape that is not open, if there is one.
-    fn closed_place(&self) -> Option<usize>
-        ensures closed { IfSome result (λ place. (place < length self.now.tapes) × ((get_or self.now.tapes place no_tape).phase ≡ Closed)) }
-        ensures first { IfSome result (AreOpenBefore self.now) }
-        ensures none { IfNone result (AreOpenBefore self.now (length self.now.tapes)) }
+    /// The first place where no tape is open: one of those that there are, or the next.
+    #[tactic(auto, using(crate::proofs::TapesLaws::closed_past))]
+    fn closed_place(&self) -> TapeId
+        ensures closed { phase_of self.now result ≡ Closed }
+        ensures near { result.index ≤ length self.now.tapes }
+        ensures first { AreOpenBefore self.now result.index }
     {
-        let mut place = 0;
-        while place < self.tapes.len() {
-            if self.tapes[place].phase() == Phase::Closed {
-                return Some(place);
-            }
-            place += 1;
+        let mut index = 0;
+        while index < self.tapes.len() && self.is_open(TapeId { index }) {
+            index += 1;
         }
-        None
-    }
-
-    /// Puts one tape more behind the others.
-    #[tactic(auto, using(crate::proofs::TapesLaws::same_at_push))]
-    fn push(&mut self, tape: Tape) -> Result<TapeId, TapeError>
-        requires alive { self.old.is_dead ≡ false }
-        requires new { tape ≡ new_tape }
-        ensures refused { IfErr result (IsOpenRefusal self.old.is_dead) }
-        ensures unchanged { OnErr result (self.new ≡ self.old) }
-        ensures alive { self.new.is_dead ≡ false }
-        ensures opened { IfOk result (λ tape. tape.index ≡ length self.old.tapes) }
-        ensures longer { OnOk result (self.new.tapes ≡ self.old.tapes ++ new_tape ∷ []) }
-        ensures others { IfOk result (λ tape. (id : TapeId) → id ≢ tape → tape_at self.new id ≡ tape_at self.old id) }
-        ensures pages { self.new.pool ≡ self.old.pool }
-    {
-        let index = self.tapes.len();
-        if self.tapes.push(tape).is_err() {
-            return Err(TapeError::NoMemory);
-        }
-        Ok(TapeId { index })
+        TapeId { index }
     }
 
     /// Opens a tape with no record, to be written.
@@ -168,28 +137,29 @@ impl Tapes {
         if self.is_dead() {
             return Err(TapeError::TapesDead);
         }
-        self.place(Tape::new(self.alloc))
+        let tape = self.closed_place();
+        self.place(tape, Tape::new(self.alloc))?;
+        Ok(tape)
     }
 
     /// Puts a new tape where none is open.
     #[tactic(auto, using(crate::proofs::TapesLaws::none_past))]
-    fn place(&mut self, tape: Tape) -> Result<TapeId, TapeError>
-        requires alive { self.old.is_dead ≡ false }
+    fn place(&mut self, at: TapeId, tape: Tape) -> Result<(), AllocError>
+        requires closed { phase_of self.old at ≡ Closed }
+        requires near { at.index ≤ length self.old.tapes }
         requires new { tape ≡ new_tape }
-        ensures refused { IfErr result (IsOpenRefusal self.old.is_dead) }
         ensures unchanged { OnErr result (self.new ≡ self.old) }
-        ensures alive { self.new.is_dead ≡ false }
-        ensures fresh { IfOk result (λ tape. phase_of self.old tape ≡ Closed) }
-        ensures first { IfOk result (λ tape. AreOpenBefore self.old tape.index) }
-        ensures opened { IfOk result (λ tape. tape_at self.new tape ≡ new_tape) }
-        ensures others { IfOk result (λ tape. (id : TapeId) → id ≢ tape → tape_at self.new id ≡ tape_at self.old id) }
+        ensures alive { self.new.is_dead ≡ self.old.is_dead }
+        ensures placed { OnOk result (tape_at self.new at ≡ new_tape) }
+        ensures others { OnOk result ((id : TapeId) → id ≢ at → tape_at self.new id ≡ tape_at self.old id) }
         ensures pages { self.new.pool ≡ self.old.pool }
     {
-        if let Some(index) = self.closed_place() {
-            self.tapes[index] = tape;
-            return Ok(TapeId { index });
+        if at.index < self.tapes.len() {
+            self.tapes[at.index] = tape;
+            return Ok(());
         }
-        self.push(tape)
+        self.tapes.push(tape)?;
+        Ok(())
     }
 
     /// Puts a record behind those of a tape.
@@ -221,14 +191,10 @@ impl Tapes {
             tag,
             len: bytes.len() as u32,
         };
-        let slot = &mut self.tapes[tape.index];
-        match slot.append(disk, &mut self.pool, header, bytes) {
-            Ok(()) => Ok(()),
-            Err(error) => {
-                self.is_dead = true;
-                Err(TapeError::from(error))
-            }
-        }
+        self.is_dead = true;
+        self.tapes[tape.index].append(disk, &mut self.pool, header, bytes)?;
+        self.is_dead = false;
+        Ok(())
     }
 
     /// A law: as many bytes were written to a tape that is being written as its records have.
@@ -268,14 +234,10 @@ impl Tapes {
         if self.is_dead() {
             return Err(TapeError::TapesDead);
         }
-        let slot = &mut self.tapes[tape.index];
-        match slot.rewind(disk, &mut self.pool) {
-            Ok(()) => Ok(()),
-            Err(error) => {
-                self.is_dead = true;
-                Err(TapeError::from(error))
-            }
-        }
+        self.is_dead = true;
+        self.tapes[tape.index].rewind(disk, &mut self.pool)?;
+        self.is_dead = false;
+        Ok(())
     }
 
     /// Reads the next record of a tape, if there is one: its hash and its tag are answered, and its bytes are put in the

@@ -1,33 +1,31 @@
-use Rattle.std.proofs.Common.{sym, ap, subst, ◌∙◌}
-use Rattle.spill_tapes.specs.Pages.{GivesBack}
-use Rattle.spill_tapes.specs.Tape.{TapeState, IsGood}
-use Rattle.spill_tapes.proofs.HeaderLaws.{ended_as, ended_gives}
+use Rattle.std.proofs.Common.{◌<◌, ◌≤◌, sym, ap, subst, ◌∙◌, arith}
+use Rattle.std.specs.Prelude.{IsTrue, Some}
+use Rattle.std.proofs.lemmas.Bool.{true≢false}
+use Rattle.spill_tapes.specs.Tape.{TapeState, IsGood, IsGoodIn}
+use Rattle.spill_tapes.proofs.HeaderLaws.{left_front, can_stand, stands, ended_as, ended_gives}
 use Rattle.spill_tapes.proofs.tape.Tape.next.Goals as goal
 
-pub returns-in-Ok : goal.returns-in-Ok
-returns-in-Ok g c =
-    let told = c.in-Ok.ensures in let is = c.end_reading.ensures in let t = c.next_record.new.self in let pages = c.args.self.now.pages in
-    let ended = ended_as t told.phase told.given.good in
-    record {
-      pages = subst (λ (x : TapeState). GivesBack c.args.pool.now pages c.next_record.new.pool x.pages) (sym is) (subst (GivesBack c.args.pool.now pages c.next_record.new.pool) (sym ended.0) told.pages);
-      phase = ap (λ (x : TapeState). x.phase) is ∙ ended.1;
-      given = record {
-        good = subst IsGood (sym is) ended.2;
-        gives = λ honest rs had. ended_gives (g.D.TapeDisk.last c.next_record.new.disk) t c.end_reading.new.self rs c.next_record.new.bytes.items c.in-Ok.found is (told.given.gives honest rs had);
-        none = told.given.none;
-        framed = told.given.framed;
-      };
-      refused = tt;
-      disk = told.disk;
-    }
+pub returns-then-self-clause-undamaged : goal.returns-then-self-clause-undamaged
+returns-then-self-clause-undamaged g c =
+    let t = c.args.self.now in let view = c.self.view_is in
+    let some : 0 < t.records = omega (arith, c.if-self-eq0.false, ap (λ (x : TapeState). x.records) view) in
+    λ honest rs had same.
+    let left : 9 ≤ t.left = left_front (g.D.TapeDisk.last c.args.disk.now) t rs had some in
+    absurd (omega (arith, left, ap (λ (x : TapeState). x.left) view, c.if-self.true))
 
-pub returns-in-Err : goal.returns-in-Err
-returns-in-Err g c =
-    let told = c.in-Err.ensures in
+pub returns-then-not-can_have-clause-undamaged : goal.returns-then-not-can_have-clause-undamaged
+returns-then-not-can_have-clause-undamaged g c = λ honest rs had same.
+    let stands = can_stand (g.D.TapeDisk.last c.next_header.new.disk) c.next_header.new.self c.in_ok-header.header rs (c.in_ok-header.ensures.header honest rs had) in
+    absurd (true≢false (sym stands ∙ sym c.can_have.ensures ∙ c.if-not-can_have.true))
+
+pub returns-clause-given : goal.returns-clause-given
+returns-clause-given g c =
+    let one = c.in_ok-header.ensures in let two = c.in_ok-next_bytes.ensures in let header = c.in_ok-header.header in let end = c.end_reading.ensures in let t = c.next_bytes.new.self in
+    let phase = two.phase ∙ one.phase ∙ c.requires.phase in
+    let is = stands header.tag header.len c.next_header.new.self.left c.next_header.new.self.records (sym c.can_have.ensures ∙ c.if-not-can_have.false) in
     record {
-      pages = told.pages;
-      phase = told.phase;
-      given = tt;
-      refused = told.refused;
-      disk = told.disk;
+      good = subst IsGood (sym end) (ended_as t phase (subst (λ p. IsGoodIn p t) (sym phase) two.good)).2;
+      gives = λ honest rs had. ended_gives (g.D.TapeDisk.last c.next_bytes.new.disk) t c.end_reading.new.self rs c.next_bytes.new.bytes.items (Some (header.hash, header.tag)) end (two.gives (subst IsTrue (sym one.disk.honesty) honest) rs (one.header honest rs had));
+      none = tt;
+      framed = (is.0, omega (arith, two.len, is.1));
     }

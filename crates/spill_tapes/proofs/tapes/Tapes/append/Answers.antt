@@ -1,65 +1,10 @@
-use Rattle.std.proofs.Common.{◌≡◌, ◌+◌, ◌/◌, ◌++◌, ◌∷◌, [], true, false, length, List, refl, arith, sym, ap, ◌∙◌, subst}
-use Rattle.spill_tapes.specs.Pages.{UsesAgain}
-use Rattle.spill_tapes.specs.Records.{Record}
-use Rattle.spill_tapes.specs.Tape.{TapeState, tape_len}
-use Rattle.spill_tapes.specs.Tapes.{TapesState, tape_at, phase_of}
+use Rattle.std.proofs.Common.{refl}
 use Rattle.spill_tapes.specs.TapesFields.{tapes_of}
-use Rattle.spill_tapes.specs.declared.tape.Phase.TheVariants.{Written}
-use Rattle.tape_disks.specs.Disk.{Leaves}
-use Rattle.spill_tapes.proofs.Results.{disk_fault}
-use Rattle.spill_tapes.proofs.TapesLaws.{others_kept, is_writing, written_open, open_within}
-use Rattle.spill_tapes.proofs.Lent.{lent_written, lent_has, put_in, put_are, put_here, put_phases, put_has, lives, dies, refused_by_disk}
+use Rattle.spill_tapes.proofs.TapesLaws.{others_kept}
 use Rattle.spill_tapes.proofs.tapes.Tapes.append.Goals as goal
 
-pub index_mut-slot-requires : goal.index_mut-slot-requires
-index_mut-slot-requires g c =
-    let s = c.args.self.now in let tape = c.args.tape in let alive : s.is_dead ≡ false = sym c.is_dead.ensures ∙ c.if-is_dead.false in
-    omega (arith, c.self.inside.tapes.ok.0, open_within (tapes_of c.self.inside) s tape c.self.view_is (written_open (phase_of s tape) (is_writing (phase_of s tape) (c.requires.written alive))))
+pub returns-in_err-append-clause-others : goal.returns-in_err-append-clause-others
+returns-in_err-append-clause-others g c = others_kept _ _ (tapes_of c.self.inside) _ _ _ c.append.new.self c.self.view_is c.self.invariant c.append.ensures.keeps refl
 
-pub invariant_of-self-in-Err : goal.invariant_of-self-in-Err
-invariant_of-self-in-Err g c =
-    let told = c.in-Err.ensures in let x = c.append.new.self in
-    put_are _ _ _ _ _ (lent_written (tapes_of c.self.inside) c.args.self.now c.args.tape c.index_mut-slot.result.now c.self.view_is (sym c.is_dead.ensures ∙ c.if-is_dead.false) c.requires.written c.self.invariant c.index_mut-slot.ensures.value) x true c.append.new.pool told.pages.pool told.pages.balanced (written_open x.phase told.phase) (λ e. absurd (cc e))
-
-pub invariant_of-self : goal.invariant_of-self
-invariant_of-self g c =
-    let told = c.in-Ok.ensures in let x = c.append.new.self in
-    put_are _ _ _ _ _ (lent_written (tapes_of c.self.inside) c.args.self.now c.args.tape c.index_mut-slot.result.now c.self.view_is (sym c.is_dead.ensures ∙ c.if-is_dead.false) c.requires.written c.self.invariant c.index_mut-slot.ensures.value) x c.self.inside.is_dead c.append.new.pool told.pages.pool told.pages.balanced (written_open x.phase told.phase) (λ _. told.good)
-
-pub append-requires : goal.append-requires
-append-requires g c =
-    let at = lent_written (tapes_of c.self.inside) c.args.self.now c.args.tape c.index_mut-slot.result.now c.self.view_is (sym c.is_dead.ensures ∙ c.if-is_dead.false) c.requires.written c.self.invariant c.index_mut-slot.ensures.value in
-    record { pages = at.pages; phase = at.phase; good = at.good; «record» = record { hash = c.ranges.hash.fits; tag = c.requires.tag; len = c.requires.len }; len = refl }
-
-pub returns-in-Err : goal.returns-in-Err
-returns-in-Err g c =
-    let t = tapes_of c.self.inside in let s = c.args.self.now in let x = c.append.new.self in let told = c.in-Err.ensures in
-    let at = lent_written (tapes_of c.self.inside) c.args.self.now c.args.tape c.index_mut-slot.result.now c.self.view_is (sym c.is_dead.ensures ∙ c.if-is_dead.false) c.requires.written c.self.invariant c.index_mut-slot.ensures.value in
-    record {
-      dies = dies at.alive (refused_by_disk c.in-Err.error _ s.is_dead c.from.ensures at.alive) refl;
-      phases = put_phases _ _ _ _ _ at x true c.append.new.pool told.phase;
-      appended = tt;
-      longer = tt;
-      counted = tt;
-      others = others_kept _ _ t s (put_in t c.args.tape x true c.append.new.pool) c.args.tape x at.view at.are told.keeps refl;
-      again = subst (λ (z : TapesState). UsesAgain z.pool c.append.new.pool) at.view told.pages.again;
-      disk = subst (λ n. Leaves g.D.TapeDisk n c.args.disk.now c.append.new.disk) (sym (disk_fault _ _ c.from.ensures)) told.disk;
-    }
-
-pub returns-in-Ok : goal.returns-in-Ok
-returns-in-Ok g c =
-    let t = tapes_of c.self.inside in let s = c.args.self.now in let tape = c.args.tape in let x = c.append.new.self in let y = c.index_mut-slot.result.now in let told = c.in-Ok.ensures in
-    let at = lent_written (tapes_of c.self.inside) c.args.self.now c.args.tape c.index_mut-slot.result.now c.self.view_is (sym c.is_dead.ensures ∙ c.if-is_dead.false) c.requires.written c.self.invariant c.index_mut-slot.ensures.value in let t' : TapesState = put_in t tape x t.is_dead c.append.new.pool in
-    let here : tape_at t' tape ≡ x = put_here _ _ _ _ _ at x t.is_dead c.append.new.pool in let writes = g.D.TapeDisk.writes c.append.new.disk in
-    let more : List Record = record { hash = c.args.hash; tag = c.args.tag; bytes = c.args.bytes.now } ∷ [] in
-    record {
-      dies = lives at.alive (ap (λ (z : TapesState). z.is_dead) at.view ∙ at.alive);
-      phases = put_phases _ _ _ _ _ at x t.is_dead c.append.new.pool told.phase;
-      appended = λ rs had. put_has _ _ _ _ _ at x t.is_dead c.append.new.pool _ (rs ++ more) Written told.phase (told.appended rs (lent_has _ _ _ _ _ at _ rs had));
-      longer = ap tape_len here ∙ told.longer ∙ ap (λ (z : TapeState). tape_len z + (9 + length c.args.bytes.now)) at.here;
-      counted = subst (λ (z : TapeState). writes + tape_len z / 8192 ≡ g.D.TapeDisk.writes c.args.disk.now + tape_len (tape_at t' tape) / 8192) at.here
-          (subst (λ (z : TapeState). writes + tape_len y / 8192 ≡ g.D.TapeDisk.writes c.args.disk.now + tape_len z / 8192) (sym here) told.counted);
-      others = others_kept _ _ t s t' tape x at.view at.are told.keeps refl;
-      again = subst (λ (z : TapesState). UsesAgain z.pool c.append.new.pool) at.view told.pages.again;
-      disk = told.disk;
-    }
+pub returns-clause-others : goal.returns-clause-others
+returns-clause-others g c = others_kept _ _ (tapes_of c.self.inside) _ _ _ c.append.new.self c.self.view_is c.self.invariant c.append.ensures.keeps refl
