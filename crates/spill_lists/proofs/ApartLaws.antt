@@ -57,11 +57,6 @@ pub same_read : (t t' : TapesState) (tapes : List OnTape) → ((id : TapeId) →
 same_read t t' [] same had = had
 same_read t t' (tape ∷ tapes) same had = (ap (is_in Read) (same tape.tape) ∙ had.0, same_read t t' tapes same had.1)
 
--- all of two lists
-pub written-append : (t : TapesState) (xs ys : List OnTape) → AreWritten t xs → AreWritten t ys → AreWritten t (xs ++ ys)
-written-append t [] ys first second = second
-written-append t (x ∷ xs) ys first second = (first.0, written-append t xs ys first.1 second)
-
 pub read-append : (t : TapesState) (xs ys : List OnTape) → AreRead t xs → AreRead t ys → AreRead t (xs ++ ys)
 read-append t [] ys first second = second
 read-append t (x ∷ xs) ys first second = (first.0, read-append t xs ys first.1 second)

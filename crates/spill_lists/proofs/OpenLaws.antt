@@ -1,14 +1,14 @@
 -- The lists of a pass while they are opened.
-use Rattle.std.specs.Prelude.{◌≡◌, ◌==◌, ℕ, ◌+◌, ◌≤◌, true, false, List, [], ◌∷◌, ◌++◌, length, Result, Ok, Err, OnOk}
+use Rattle.std.specs.Prelude.{◌≡◌, ◌==◌, ℕ, ◌+◌, ◌≤◌, true, false, List, [], ◌∷◌, ◌++◌, length}
 use Rattle.std.proofs.Common.{refl, sym, ◌∙◌, ap, subst, arith, length-append}
+use Rattle.std.proofs.lemmas.List.{nil_from_length}
 use Rattle.std.proofs.lemmas.Bool.Decides.{nat_tests}
 use Rattle.spill_tapes.specs.Records.{Record}
 use Rattle.spill_tapes.specs.Tapes.{is_open, KeepsOthers}
-use Rattle.tape_disks.specs.declared.disk.TapeDisk.{Ghosts}
 use Rattle.spill_tapes.specs.declared.tape_id.TapeId.{TapeId}
 use Rattle.spill_lists.specs.declared.lists.OnTape.{OnTape}
 use Rattle.spill_lists.specs.Lists.{LeftList, deeper}
-use Rattle.spill_lists.specs.Standing.{ListsState, Spilled, once, times, count_of, full_pages, spilled_number, written_pages, AreApart, AreSpilled, AreRead, HasLists, IsNewList, AreLists}
+use Rattle.spill_lists.specs.Standing.{ListsState, once, times, count_of, full_pages, spilled_number, written_pages, AreApart, AreSpilled, AreRead, HasLists, IsNewList, AreLists}
 use Rattle.spill_lists.proofs.ApartLaws.{times-append, kept_read, fresh_written, fresh_read}
 use Rattle.spill_lists.proofs.ListLaws.{AreNew, kept_new, new_push, new_written, new_spilled}
 use Rattle.spill_lists.proofs.StandingLaws.{state, one_more, has_beside}
@@ -84,8 +84,11 @@ opening_has last s tapes spilled ahead left long none new had =
       todo_are = had.todo_are;
     }
 
-pub is_zero : (n : ℕ) → (n == 0) ≡ true → n ≡ 0
-is_zero n is = grind (arith, nat_tests)
+-- no lists are open
+pub none_open : (s : ListsState) (parts : List OnTape) (n : ℕ) → parts ≡ s.parts → length parts ≡ n → (n == 0) ≡ true → s.parts ≡ []
+none_open s parts n is long empty =
+    let zero : n ≡ 0 = grind (arith, nat_tests) in
+    sym is ∙ nil_from_length parts (omega (arith, long, zero))
 
 -- no lists, no records and no pages
 pub none_spilled : (s : ListsState) → s.parts ≡ [] → spilled_number s ≡ 0
@@ -93,15 +96,3 @@ none_spilled s none = ap count_of none
 
 pub none_written : (s : ListsState) → s.parts ≡ [] → written_pages s ≡ 0
 none_written s none = ap (full_pages s.tapes) none
-
--- what was spilled to lists that hold what there was before was spilled to those before
-pub spilled_as : {D T E : Type 0} (g : Ghosts D) (entry : Record) (r : Result T E) (old mid new : ListsState) (before after : D)
-    → ((spilled ahead : List Record) (todo : List LeftList) → HasLists (g.last before) old spilled ahead todo → HasLists (g.last before) mid spilled ahead todo) → spilled_number mid ≡ spilled_number old → written_pages mid ≡ written_pages old
-    → OnOk r (Spilled g entry mid before new after) → OnOk r (Spilled g entry old before new after)
-spilled_as g entry (Err e) old mid new before after has number pages told = tt
-spilled_as g entry (Ok x) old mid new before after has number pages told = record {
-  added = λ spilled ahead todo had. told.added spilled ahead todo (has spilled ahead todo had);
-  counted = told.counted ∙ ap (λ n. n + 1) number;
-  paged = ap (λ n. g.writes after + n) (sym pages) ∙ told.paged;
-  alive = told.alive;
-}

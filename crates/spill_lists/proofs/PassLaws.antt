@@ -1,19 +1,12 @@
 -- The lists of a pass while they are left to later ones, and what a refused call says.
-use Rattle.std.specs.Prelude.{◌≡◌, ◌≢◌, ℕ, ◌+◌, ◌<◌, ◌≤◌, ◌/◌, true, false, Bool, List, [], ◌∷◌, ◌++◌, length}
+use Rattle.std.specs.Prelude.{◌≡◌, ℕ, ◌+◌, ◌<◌, ◌≤◌, false, List, [], ◌∷◌, ◌++◌}
 use Rattle.std.proofs.Common.{refl, sym, ◌∙◌, ap, subst, arith, inl}
-use Rattle.std.proofs.lemmas.Bool.{true≢false}
 use Rattle.std.proofs.lemmas.List.Sums.{sum_by-cons}
-use Rattle.spill_tapes.specs.Records.{Record, tape_bytes}
-use Rattle.spill_tapes.specs.Tapes.{TapesState, IsTape, is_written, written_len, KeepsOthers, IsRefusal, IsReadRefusal as IsTapeReadRefusal}
-use Rattle.spill_tapes.specs.declared.tape_id.TapeId.{TapeId}
-use Rattle.spill_tapes.specs.declared.error.TapeError.{TapeError}
-use Rattle.spill_tapes.specs.declared.error.TapeError.TheVariants as tape
-use Rattle.spill_lists.specs.declared.error.SpillError.TheVariants as spill
-use Rattle.spill_tapes.specs.Errors.{tape_faults}
-use Rattle.spill_lists.specs.Errors.{spill_error, spill_faults}
+use Rattle.spill_tapes.specs.Records.{Record}
+use Rattle.spill_tapes.specs.Tapes.{TapesState, IsTape, KeepsOthers}
 use Rattle.spill_lists.specs.declared.lists.OnTape.{OnTape}
 use Rattle.spill_lists.specs.Lists.{LeftList, left_by}
-use Rattle.spill_lists.specs.Standing.{ListsState, once, times, count_of, AreApart, AreSpilled, AreWritten, HasLists, AreLists, list_pages, AreAhead, those_with_records}
+use Rattle.spill_lists.specs.Standing.{ListsState, once, times, count_of, AreApart, AreSpilled, AreWritten, HasLists, AreLists, those_with_records}
 use Rattle.spill_lists.proofs.ApartLaws.{times-append, once_here, kept_written}
 use Rattle.spill_lists.proofs.ListLaws.{count-append}
 use Rattle.spill_lists.proofs.EndLaws.{AreLeft, left_start, left_step, left_end, those_count, those_times}
@@ -64,9 +57,6 @@ pub ending_beside : (last last' : ℕ → ℕ → Type 0) (before now : ListsSta
 ending_beside last last' before now rest rest' x is ending =
     omega (arith, ending_apart last last' before now rest rest' x is ending, times-append x.tape.index rest' (now.source ++ now.todo))
 
-pub ending_written : (last last' : ℕ → ℕ → Type 0) (before now : ListsState) (rest rest' : List OnTape) (x : OnTape) → rest ≡ x ∷ rest' → IsEnding last last' before now rest → is_written now.tapes x.tape ≡ true
-ending_written last last' before now rest rest' x is ending = (subst (AreWritten now.tapes) is ending.written).0
-
 pub ending_step : (last last' last'' : ℕ → ℕ → Type 0) (before now after : ListsState) (rest rest' : List OnTape) (x : OnTape) → rest ≡ x ∷ rest' → KeepsOthers last' last'' now.tapes after.tapes x.tape → (0 < x.records → (rs : List Record) → IsTape last' now.tapes x.tape rs → IsTape last'' after.tapes x.tape rs) → after.todo ≡ now.todo ++ those_with_records (x ∷ []) → after.tapes.is_dead ≡ false → after.parts ≡ [] → after.source ≡ now.source → after.level ≡ now.level → IsEnding last last' before now rest → IsEnding last last'' before after rest'
 ending_step last last' last'' before now after rest rest' x is keeps kept put alive parts source level ending =
     let none : times x.tape.index (rest' ++ (now.source ++ now.todo)) ≡ 0 = ending_apart last last' before now rest rest' x is ending in
@@ -101,45 +91,3 @@ ending_end last last' before now rest none ending spilled ahead todo had =
       ahead_are = left.0;
       todo_are = left.1;
     }
-
--- why tapes that live refuse a call, and what that is to lists
-pub refused_alive : (dead : Bool) (e : TapeError) → dead ≡ false → IsRefusal dead e → e ≢ tape.TapesDead
-refused_alive dead tape.NoMemory alive refused = λ same. cc
-refused_alive dead tape.TapeFault alive refused = λ same. cc
-refused_alive dead tape.TapeDamaged alive refused = λ same. cc
-refused_alive dead tape.TapesDead alive refused = λ same. true≢false (sym refused ∙ alive)
-
-pub refused_undamaged : (dead : Bool) (e : TapeError) → IsRefusal dead e → e ≢ tape.TapeDamaged
-refused_undamaged dead tape.NoMemory refused = λ same. cc
-refused_undamaged dead tape.TapeFault refused = λ same. cc
-refused_undamaged dead tape.TapeDamaged refused = absurd refused
-refused_undamaged dead tape.TapesDead refused = λ same. cc
-
-pub refused_read_alive : (dead : Bool) (e : TapeError) → dead ≡ false → IsTapeReadRefusal dead e → e ≢ tape.TapesDead
-refused_read_alive dead tape.NoMemory alive refused = λ same. cc
-refused_read_alive dead tape.TapeFault alive refused = λ same. cc
-refused_read_alive dead tape.TapeDamaged alive refused = λ same. cc
-refused_read_alive dead tape.TapesDead alive refused = λ same. true≢false (sym refused ∙ alive)
-
-pub same_faults : (e : TapeError) → tape_faults e ≡ spill_faults (spill_error e)
-same_faults tape.NoMemory = refl
-same_faults tape.TapeFault = refl
-same_faults tape.TapeDamaged = refl
-same_faults tape.TapesDead = refl
-
-pub undamaged_as : (e : TapeError) → e ≢ tape.TapeDamaged → spill_error e ≢ spill.TapeDamaged
-undamaged_as tape.NoMemory not_it = λ same. cc
-undamaged_as tape.TapeFault not_it = λ same. cc
-undamaged_as tape.TapeDamaged not_it = absurd (not_it refl)
-undamaged_as tape.TapesDead not_it = λ same. cc
-
--- a list of no record takes no page
-pub none_paged : (t : TapesState) (id : TapeId) (records : List Record) (writes : ℕ) → length records ≡ 0 → written_len t id ≡ length (tape_bytes records) → writes + written_len t id / 8192 ≡ writes + list_pages records
-none_paged t id [] writes none len = ap (λ n. writes + n / 8192) len
-none_paged t id (r ∷ rs) writes none len = absurd (omega (arith, none))
-
--- where no list is read, none of its records are left
-pub none_ahead : (last : ℕ → ℕ → Type 0) (s : ListsState) (spilled ahead : List Record) (todo : List LeftList) → s.source ≡ [] → HasLists last s spilled ahead todo → (ahead ≡ []) × HasLists last s spilled [] todo
-none_ahead last s spilled ahead todo none had =
-    let empty : ahead ≡ [] = subst (λ xs. AreAhead last s.tapes xs ahead) none had.ahead_are in
-    (empty, subst (λ xs. HasLists last s spilled xs todo) empty had)

@@ -79,11 +79,7 @@ fn list_of(level: u32, hash: u32) -> usize
 fn deeper(level: u32) -> u32
     ensures { result ≡ deeper level }
 {
-    if level < LAST_LEVEL {
-        level + 1
-    } else {
-        LAST_LEVEL
-    }
+    level.min(LAST_LEVEL - 1) + 1
 }
 
 /// Why a call of tapes that live was refused.
@@ -154,25 +150,35 @@ impl SpillLists {
         ensures undamaged { IfErr result (λ error. error ≢ TapeDamaged) }
         ensures disk { Leaves D.TapeDisk (failed spill_faults result) disk.old disk.new }
     {
-        if self.parts.is_empty() {
-            self.open_lists(disk)?;
-        }
+        self.open_lists(disk)?;
         let place = list_of(self.level, hash);
-        self.append(disk, place, hash, tag, bytes)
+        let list = self.parts[place];
+        let Some(records) = list.records.checked_add(1) else {
+            return Err(SpillError::NoMemory);
+        };
+        match self.tapes.append(disk, list.tape, hash, tag, bytes) {
+            Ok(()) => {
+                self.parts[place] = OnTape { records, ..list };
+                Ok(())
+            }
+            Err(error) => Err(refusal(error)),
+        }
     }
 
-    /// Opens the lists of the pass.
+    /// Opens the lists of the pass, if they are not open.
     fn open_lists<D: TapeDisk>(&mut self, disk: &D) -> Result<(), SpillError>
         requires alive { self.old.tapes.is_dead ≡ false }
-        requires none { self.old.parts ≡ [] }
         ensures opened { OnOk result ((spilled ahead : List Record) (todo : List LeftList) → HasLists (D.last disk.now) self.old spilled ahead todo → HasLists (D.last disk.now) self.new spilled ahead todo) }
         ensures sixteen { OnOk result (length self.new.parts ≡ LISTS) }
-        ensures counted { OnOk result (spilled_number self.new ≡ 0) }
-        ensures paged { OnOk result (written_pages self.new ≡ 0) }
+        ensures counted { OnOk result (spilled_number self.new ≡ spilled_number self.old) }
+        ensures paged { OnOk result (written_pages self.new ≡ written_pages self.old) }
         ensures alive { self.new.tapes.is_dead ≡ false }
         ensures rest { KeepsRest self.old self.new }
         ensures refused { IfErr result (λ error. error ≡ NoMemory) }
     {
+        if !self.parts.is_empty() {
+            return Ok(());
+        }
         let level = deeper(self.level);
         let mut parts = Vec::with_capacity(self.alloc, LISTS)?;
         for _place in 0..LISTS {
@@ -200,38 +206,6 @@ impl SpillLists {
                 records: 0,
                 level,
             }),
-            Err(error) => Err(refusal(error)),
-        }
-    }
-
-    /// Adds a record to one of the lists of the pass.
-    fn append<D: TapeDisk>(
-        &mut self,
-        disk: &mut D,
-        place: usize,
-        hash: u32,
-        tag: u8,
-        bytes: &[u8],
-    ) -> Result<(), SpillError>
-        requires alive { self.old.tapes.is_dead ≡ false }
-        requires parts { place < length self.old.parts }
-        requires place { place ≡ list_of self.old.level hash }
-        requires tag { tag < 2 }
-        requires len { length bytes.now ≤ LONGEST_RECORD }
-        ensures spilled { OnOk result (Spilled D.TapeDisk (record { hash = hash; tag = tag; bytes = bytes.now }) self.old disk.old self.new disk.new) }
-        ensures rest { KeepsRest self.old self.new }
-        ensures undamaged { IfErr result (λ error. error ≢ TapeDamaged) }
-        ensures disk { Leaves D.TapeDisk (failed spill_faults result) disk.old disk.new }
-    {
-        let list = self.parts[place];
-        let Some(records) = list.records.checked_add(1) else {
-            return Err(SpillError::NoMemory);
-        };
-        match self.tapes.append(disk, list.tape, hash, tag, bytes) {
-            Ok(()) => {
-                self.parts[place] = OnTape { records, ..list };
-                Ok(())
-            }
             Err(error) => Err(refusal(error)),
         }
     }

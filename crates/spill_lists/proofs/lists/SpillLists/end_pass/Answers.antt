@@ -6,10 +6,13 @@ use Rattle.spill_lists.specs.Standing.{ListsState, AreSpilled, pages_of, written
 use Rattle.spill_lists.proofs.PageLaws.{IsPaged, paged_start, paged_step, paged_end, rest_apart}
 use Rattle.std.proofs.Math.Seq.{drop-cons}
 use Rattle.std.proofs.lemmas.List.{drop_all}
-use Rattle.spill_lists.proofs.PassLaws.{IsEnding, ending_start, lists_without, ending_written, ending_apart, ending_beside, ending_step, ending_end}
+use Rattle.spill_lists.proofs.PassLaws.{IsEnding, ending_start, lists_without, ending_apart, ending_beside, ending_step, ending_end}
 use Rattle.tape_disks.specs.DiskLaws.{leaves_none, leaves_twice}
 use Rattle.spill_lists.proofs.StandingLaws.{state}
 use Rattle.spill_lists.proofs.lists.SpillLists.end_pass.Goals as goal
+
+next_of : (tapes : List OnTape) (i : ℕ) (d : OnTape) → i < length tapes → drop i tapes ≡ get_or tapes i d ∷ drop (i + 1) tapes
+next_of tapes i d less = drop-cons tapes i d less ∙ ap (λ n. get_or tapes i d ∷ drop n tapes) (sym (add-one i))
 
 pub invariant_of-self : goal.invariant_of-self
 invariant_of-self g c =
@@ -30,15 +33,6 @@ loop-list-init g c =
           (subst (λ (s : ListsState). AreSpilled (g.D.TapeDisk.last c.args.disk.now) s.tapes s.level s.parts spilled) (sym c.self.view_is) had.spilled_are));
       disk = leaves_none g.D.TapeDisk c.args.disk.now;
     }
-
-next_of : (tapes : List OnTape) (i : ℕ) (d : OnTape) → i < length tapes → drop i tapes ≡ get_or tapes i d ∷ drop (i + 1) tapes
-next_of tapes i d less = drop-cons tapes i d less ∙ ap (λ n. get_or tapes i d ∷ drop n tapes) (sym (add-one i))
-
-pub leave-requires-clause-written : goal.leave-requires-clause-written
-leave-requires-clause-written g c =
-    let x : OnTape = get_or c.deref-list-items.result.now c.loop-list.list-index (record { tape = record { index = 0 }; records = 0; level = 0 }) in
-    let here : drop c.loop-list.list-index c.deref-list-items.result.now ≡ x ∷ drop (c.loop-list.list-index + 1) c.deref-list-items.result.now = next_of c.deref-list-items.result.now c.loop-list.list-index (record { tape = record { index = 0 }; records = 0; level = 0 }) c.loop-list-test.true in
-    ending_written (g.D.TapeDisk.last c.args.disk.now) (g.D.TapeDisk.last c.loop-list.disk) c.args.self.now c.loop-list.self (drop c.loop-list.list-index c.deref-list-items.result.now) (drop (c.loop-list.list-index + 1) c.deref-list-items.result.now) x here c.loop-list.invariant.lists
 
 pub leave-requires-clause-apart : goal.leave-requires-clause-apart
 leave-requires-clause-apart g c =

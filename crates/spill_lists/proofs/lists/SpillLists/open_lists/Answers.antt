@@ -1,8 +1,8 @@
-use Rattle.std.proofs.Common.{◌≡◌, ◌++◌, arith, ap, sym, subst, ◌∙◌}
+use Rattle.std.proofs.Common.{◌≡◌, ◌++◌, [], arith, ap, sym, subst, ◌∙◌}
 use Rattle.spill_lists.specs.Lists.{deeper}
 use Rattle.spill_lists.specs.Fields.{lists_of, one_or_none}
 use Rattle.spill_lists.specs.Standing.{ListsState, HasLists, AreLists, AreApart, AreWritten, full_pages}
-use Rattle.spill_lists.proofs.OpenLaws.{opening_start, opening_step, opening_has}
+use Rattle.spill_lists.proofs.OpenLaws.{none_open, none_spilled, none_written, opening_start, opening_step, opening_has}
 use Rattle.spill_lists.proofs.StandingLaws.{lists_opened}
 use Rattle.spill_lists.proofs.ListLaws.{AreNew, new_written, new_count}
 use Rattle.spill_lists.proofs.PageLaws.{new_pages}
@@ -10,7 +10,8 @@ use Rattle.spill_lists.proofs.lists.SpillLists.open_lists.Goals as goal
 
 pub loop-place-init : goal.loop-place-init
 loop-place-init g c =
-    opening_start (g.D.TapeDisk.last c.args.disk.now) c.args.self.now c.deeper-level.result c.in_ok-parts.parts.items c.requires.alive c.requires.none c.in_ok-parts.ensures.items (subst AreLists c.self.view_is c.self.invariant)
+    let none : c.args.self.now.parts ≡ [] = none_open c.args.self.now c.self.inside.parts.items c.self.inside.parts.len (ap (λ (s : ListsState). s.parts) c.self.view_is) (omega (arith, c.self.inside.parts.ok.0)) (sym c.is_empty.ensures ∙ c.if-not-is_empty.false) in
+    opening_start (g.D.TapeDisk.last c.args.disk.now) c.args.self.now c.deeper-level.result c.in_ok-parts.parts.items c.requires.alive none c.in_ok-parts.ensures.items (subst AreLists c.self.view_is c.self.invariant)
 
 pub loop-place-preserved : goal.loop-place-preserved
 loop-place-preserved g c =
@@ -37,9 +38,13 @@ returns-clause-opened g c spilled ahead todo had =
     (subst (λ (s : ListsState). HasLists (g.D.TapeDisk.last c.args.disk.now) s spilled ahead todo) (sym c.self-2.view_is) (c.loop-place.invariant.has spilled ahead todo had))
 
 pub returns-clause-counted : goal.returns-clause-counted
-returns-clause-counted g c = new_count (g.D.TapeDisk.last c.args.disk.now) c.loop-place.self.tapes c.deeper-level.result c.loop-place.parts.items c.loop-place.invariant.new
+returns-clause-counted g c =
+    let none : c.args.self.now.parts ≡ [] = none_open c.args.self.now c.self.inside.parts.items c.self.inside.parts.len (ap (λ (s : ListsState). s.parts) c.self.view_is) (omega (arith, c.self.inside.parts.ok.0)) (sym c.is_empty.ensures ∙ c.if-not-is_empty.false) in
+    new_count (g.D.TapeDisk.last c.args.disk.now) c.loop-place.self.tapes c.deeper-level.result c.loop-place.parts.items c.loop-place.invariant.new ∙ sym (none_spilled c.args.self.now none)
 
 pub returns-clause-paged : goal.returns-clause-paged
 returns-clause-paged g c =
+    let none : c.args.self.now.parts ≡ [] = none_open c.args.self.now c.self.inside.parts.items c.self.inside.parts.len (ap (λ (s : ListsState). s.parts) c.self.view_is) (omega (arith, c.self.inside.parts.ok.0)) (sym c.is_empty.ensures ∙ c.if-not-is_empty.false) in
     subst (λ (s : ListsState). full_pages s.tapes c.loop-place.parts.items ≡ 0) (sym c.self-2.view_is)
     (new_pages (g.D.TapeDisk.last c.args.disk.now) c.loop-place.self.tapes c.deeper-level.result c.loop-place.parts.items c.loop-place.invariant.new)
+    ∙ sym (none_written c.args.self.now none)

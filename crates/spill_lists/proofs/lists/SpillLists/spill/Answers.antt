@@ -1,26 +1,41 @@
-use Rattle.std.specs.Prelude.{◌≡◌, [], List}
-use Rattle.std.proofs.Common.{ap, sym, subst, ◌∙◌, arith}
-use Rattle.std.proofs.lemmas.List.{nil_from_length}
+use Rattle.std.proofs.Common.{◌≡◌, ◌+◌, ◌<◌, false, length, refl, arith, ap, sym, subst, ◌∙◌}
 use Rattle.spill_tapes.specs.Records.{Record}
-use Rattle.spill_lists.specs.Lists.{LeftList}
+use Rattle.spill_lists.specs.declared.lists.OnTape.{OnTape}
+use Rattle.spill_lists.specs.Fields.{lists_of, one_or_none}
 use Rattle.spill_lists.specs.Standing.{ListsState, HasLists, spilled_number, written_pages}
-use Rattle.spill_lists.proofs.OpenLaws.{is_zero, none_spilled, none_written, spilled_as}
-use Rattle.spill_lists.proofs.lists.SpillLists.spill.Goals.{then-is_empty+in_ok-open_lists, else-is_empty}
+use Rattle.spill_lists.proofs.ApartLaws.{written_here}
+use Rattle.spill_lists.proofs.CountLaws.{count_put}
+use Rattle.spill_lists.proofs.StandingLaws.{lists_put, has_put}
+use Rattle.spill_lists.proofs.PageLaws.{put_pages, parts_once}
 use Rattle.spill_lists.proofs.lists.SpillLists.spill.Goals as goal
 
-pub returns-clause-spilled : goal.returns-clause-spilled
-returns-clause-spilled g c =
-    let last = g.D.TapeDisk.last c.args.disk.now in let old = c.args.self.now in let mid = c.if-is_empty.self in
-    let same : ((spilled ahead : List Record) (todo : List LeftList) → HasLists last old spilled ahead todo → HasLists last mid spilled ahead todo) × (spilled_number mid ≡ spilled_number old) × (written_pages mid ≡ written_pages old) =
-    elim c.if-is_empty.branch [
-      | then-is_empty+in_ok-open_lists w ↦
-          let made = w.in_ok-open_lists.ensures in
-          let none : old.parts ≡ [] = sym (ap (λ (s : ListsState). s.parts) c.self.view_is) ∙ nil_from_length c.self.inside.parts.items (omega (arith, c.self.inside.parts.ok.0, is_zero _ (sym c.is_empty.ensures ∙ w.if-is_empty.true))) in (
-            λ spilled ahead todo had. subst (λ (s : ListsState). HasLists last s spilled ahead todo) (sym w.self-is) (made.opened spilled ahead todo had),
-            ap spilled_number w.self-is ∙ made.counted ∙ sym (none_spilled old none),
-            ap written_pages w.self-is ∙ made.paged ∙ sym (none_written old none),
-          )
-      | else-is_empty w ↦
-          (λ spilled ahead todo had. subst (λ (s : ListsState). HasLists last s spilled ahead todo) (sym w.self-is) had, ap spilled_number w.self-is, ap written_pages w.self-is)
-    ] in
-    spilled_as g.D.TapeDisk _ c.append.result old mid c.append.new.self c.args.disk.now c.append.new.disk same.0 same.1 same.2 c.append.ensures.spilled
+pub append-requires-clause-written : goal.append-requires-clause-written
+append-requires-clause-written g c alive =
+    let less : c.list_of-place.result < length c.self.inside.parts.items = omega (arith, c.list_of-place.ensures.within, c.in_ok-open_lists.ensures.sixteen, ap (λ (s : ListsState). length s.parts) c.self.view_is) in
+    written_here c.self.inside.tapes c.self.inside.parts.items c.list_of-place.result c.index-list.result.now less c.index-list.ensures (c.self.invariant.written alive)
+
+pub invariant_of-self : goal.invariant_of-self
+invariant_of-self g c =
+    let alive : c.self.inside.tapes.is_dead ≡ false = ap (λ (s : ListsState). s.tapes.is_dead) c.self.view_is ∙ c.in_ok-open_lists.ensures.alive in
+    let y : OnTape = record { tape = c.index-list.result.now.tape; records = c.in-Some.records; level = c.index-list.result.now.level } in
+    lists_put c.self.inside.tapes c.append.new.self c.self.inside.level c.self.inside.parts.items (one_or_none c.self.inside.source) c.self.inside.todo.items c.list_of-place.result c.index-list.result.now y c.index-list.ensures refl c.append.ensures.phases (λ _. alive) c.self.invariant
+
+pub returns-in-Ok-clause-spilled : goal.returns-in-Ok-clause-spilled
+returns-in-Ok-clause-spilled g c =
+    let last = g.D.TapeDisk.last c.args.disk.now in let last' = g.D.TapeDisk.last c.append.new.disk in let place = c.list_of-place.result in let made = c.in_ok-open_lists.ensures in
+    let parts = c.self.inside.parts.items in let source = one_or_none c.self.inside.source in let todo_on = c.self.inside.todo.items in
+    let x : OnTape = c.index-list.result.now in
+    let y : OnTape = record { tape = x.tape; records = c.in-Some.records; level = x.level } in
+    let r : Record = record { hash = c.args.hash; tag = c.args.tag; bytes = c.args.bytes.now } in
+    let less : place < length parts = omega (arith, c.list_of-place.ensures.within, made.sixteen, ap (λ (s : ListsState). length s.parts) c.self.view_is) in
+    let put = put_pages last last' c.self.inside.tapes c.append.new.self parts place x y less c.index-list.ensures (parts_once parts source todo_on x.tape.index c.self.invariant.apart) c.append.ensures.others refl in
+    let counted = c.in-Ok.ensures.counted in
+    let old : written_pages (lists_of c.self.inside) ≡ written_pages c.args.self.now = ap written_pages c.self.view_is ∙ made.paged in
+    record {
+      added = λ spilled ahead todo had.
+          has_put last last' c.self.inside.tapes c.append.new.self c.self.inside.level parts source todo_on spilled ahead todo place x y r less c.index-list.ensures refl (c.in-Some.ensures).1 refl c.list_of-place.ensures.is c.self.invariant.apart c.append.ensures.others c.in-Ok.ensures.appended
+          (subst (λ (s : ListsState). HasLists last s spilled ahead todo) (sym c.self.view_is) (made.opened spilled ahead todo had));
+      counted = count_put parts place x y less c.index-list.ensures (c.in-Some.ensures).1 ∙ ap (λ (s : ListsState). spilled_number s + 1) c.self.view_is ∙ ap (λ n. n + 1) made.counted;
+      paged = omega (arith, put, counted, old);
+      alive = c.in-Ok.ensures.dies.alive;
+    }
