@@ -338,23 +338,6 @@ impl<H: KeyHash + Drop> GroupTable<H> {
         }
     }
 
-    /// Makes a chunk of zeros the array of the table: all buckets in use are put there, and the old array is given up.
-    fn move_to(&mut self, tree: &mut Tree, name: ChunkName)
-        requires standing { IsStanding H.hash_of self.old tree.old }
-        requires spare { IsSpare self.old tree.old name }
-        ensures only { OnlyIn self.old.buckets tree.old tree.new }
-        ensures array { self.new ≡ with_array self.old name }
-        ensures standing { IsStanding H.hash_of self.new tree.new }
-        ensures held { held_by (context_at tree.new self.old.buckets) ≤ held_by (context_at tree.old self.old.buckets) }
-        ensures holds { (number : ℕ) → IsSetWith (HoldsNext self.old.array (Some name) number) (context_at tree.old self.old.buckets) → IsSetWith (HoldsArray (Some name) (number + 1)) (context_at tree.new self.old.buckets) }
-    {
-        if let Some(old) = self.array {
-            refill(tree, self.buckets, old, name);
-            give_up(tree, self.buckets, old);
-        }
-        self.array = Some(name);
-    }
-
     /// Gives up all groups. Of the blocks the first one of the buckets stays, if there is one; no memory is taken. Contexts that
     /// were made below the table's own go too, and all others stay as they are.
     pub fn clear(&mut self, tree: &mut Tree)
@@ -376,7 +359,7 @@ impl<H: KeyHash + Drop> GroupTable<H> {
         self.slots.clear();
     }
 
-    /// Makes the next array that of the table, if there is one.
+    /// Makes the next array that of the table, if there is one: all buckets in use are put there, and the old array is given up.
     fn settle(&mut self, tree: &mut Tree, next: Option<ChunkName>)
         requires standing { IsStanding H.hash_of self.old tree.old }
         requires next { HasNext self.old tree.old next }
@@ -387,9 +370,14 @@ impl<H: KeyHash + Drop> GroupTable<H> {
         ensures held { held_by (context_at tree.new self.old.buckets) ≤ held_by (context_at tree.old self.old.buckets) }
         ensures holds { (number : ℕ) → IsSetWith (HoldsNext self.old.array next number) (context_at tree.old self.old.buckets) → IsSetWith (HoldsArray self.new.array (number + 1)) (context_at tree.new self.old.buckets) }
     {
-        if let Some(name) = next {
-            self.move_to(tree, name);
+        let Some(name) = next else {
+            return;
+        };
+        if let Some(old) = self.array {
+            refill(tree, self.buckets, old, name);
+            give_up(tree, self.buckets, old);
         }
+        self.array = Some(name);
     }
 
     /// Puts the bucket of a group into the array.
