@@ -1,11 +1,12 @@
 -- Rows of states: the states of some aggregates, one after the other.
 use Rattle.std.specs.Prelude.{◌≡◌, ℕ, ◌≤◌, List, [], ◌∷◌, ◌++◌, map, take, drop, Option, Some, None}
+use Rattle.std.specs.List.{flat_map}
 use Rattle.grouping_model.specs.Aggregates.{Function, Partial, partial}
 use Rattle.grouping_model.specs.Combining.{transition}
 use Rattle.packed_rows.specs.View.{datum_of}
 use Rattle.packed_rows.specs.declared.Value.{Value}
 use Rattle.agg_protocol.specs.States as states
-use Rattle.agg_protocol.specs.States.{rows_of}
+use Rattle.agg_protocol.specs.States.{IsState, rows_of, shape_of, bytes_of}
 use Rattle.agg_protocol.specs.declared.kind.AggKind.{AggKind}
 use Rattle.agg_protocol.specs.Kinds.{function_of, kind_shape, kind_width, row_width}
 
@@ -37,3 +38,13 @@ part_at kinds row i kind = take (kind_width kind) (drop (row_width (take i kinds
 -- the row with the part at a place written anew (own)
 abbrev pub with_part : List AggKind → List ℕ → ℕ → AggKind → List ℕ → List ℕ
 with_part kinds row i kind part = take (row_width (take i kinds)) row ++ (part ++ drop (kind_width kind) (drop (row_width (take i kinds)) row))
+
+-- the states of partial results, one after the other (own)
+abbrev pub state_bytes : List Partial → List ℕ
+state_bytes partials = flat_map bytes_of partials
+
+-- partial results of these functions, which count at most so many rows each (own)
+abbrev pub ArePartials : ℕ → List Function → List Partial → Type 0
+ArePartials most [] [] = Unit {0}
+ArePartials most (f ∷ fs) (p ∷ ps) = IsState most (shape_of f) p × ArePartials most fs ps
+ArePartials most fs partials = ⊥

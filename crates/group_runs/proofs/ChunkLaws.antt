@@ -13,9 +13,8 @@ use Rattle.group_runs.specs.Runs.{Entry, Rises}
 use Rattle.group_runs.specs.Places.{HasStatesFor, CombinesAt}
 use Rattle.packed_rows.specs.RowsOnEnd.{on_end, ends_of}
 use Rattle.group_runs.specs.Chunks.{AreChunks, IsAmong, replaced}
-use Rattle.group_runs.specs.PlaceLaws.{drop_at}
+use Rattle.group_runs.specs.PlaceLaws.{drop_at, take_found}
 use Rattle.group_runs.proofs.PlaceLaws.{rises_drop}
-use Rattle.group_runs.specs.RunLaws.{take_found}
 use Rattle.group_runs.proofs.RunLaws.{run_front_rises}
 
 -- ---- lists

@@ -12,8 +12,7 @@ use Rattle.group_runs.specs.Runs.{Entry, Rises}
 use Rattle.group_runs.specs.Places.{IsBelow, IsNotBelow, AllBelow, IsPlaceOf}
 use Rattle.packed_rows.specs.RowsOnEnd.{on_end}
 use Rattle.group_runs.specs.Chunks.{IsAmong, AreBefore, ComeInto}
-use Rattle.group_runs.specs.PlaceLaws.{key_total, drop_at}
-use Rattle.group_runs.specs.StateLaws.{all_at}
+use Rattle.group_runs.specs.PlaceLaws.{key_total, drop_at, all_at}
 use Rattle.group_runs.proofs.JoinLaws.{rises_before}
 use Rattle.group_runs.proofs.ChunkLaws.{got, got_low, get_taken, get_dropped, next_start, front_on_end, back_on_end, front_few, on_end-append}
 use Rattle.group_runs.proofs.PartLaws.{taken_parts}

@@ -21,10 +21,9 @@ use Rattle.group_runs.specs.Standing.{AreGroups}
 use Rattle.group_runs.specs.Adding.{merged, group_added, groups_added}
 use Rattle.group_runs.specs.Steps.{HasRoomForRun, AddsRun}
 use Rattle.group_runs.specs.Chunks.{AreBefore}
-use Rattle.group_runs.specs.EntryLaws.{groups_raised}
+use Rattle.group_runs.specs.StandingLaws.{groups_raised, groups_long, keys_packed, keys_of_kinds}
 use Rattle.group_runs.specs.MergeLaws.{puts_rise, keys_of-groups_added}
 use Rattle.group_runs.proofs.MergeLaws.{puts_long}
-use Rattle.group_runs.specs.RunLaws.{groups_long, keys_packed, keys_of_kinds}
 use Rattle.group_runs.proofs.RunLaws.{rises_keys}
 use Rattle.group_runs.proofs.SpliceLaws.{AllBelow, inserted_behind, found_behind, parted, together, packed_rise, groups_below}
 

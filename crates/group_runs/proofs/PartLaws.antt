@@ -12,9 +12,8 @@ use Rattle.group_runs.specs.Places.{IsBelow, AllBelow}
 use Rattle.group_runs.specs.Steps.{AddsRun}
 use Rattle.packed_rows.specs.RowsOnEnd.{on_end}
 use Rattle.group_runs.specs.Chunks.{AreBefore, ComeInto, replaced, AddChunks}
-use Rattle.group_runs.specs.PlaceLaws.{drop_at}
+use Rattle.group_runs.specs.PlaceLaws.{drop_at, take_found}
 use Rattle.group_runs.proofs.PlaceLaws.{range_more}
-use Rattle.group_runs.specs.RunLaws.{take_found}
 use Rattle.group_runs.proofs.JoinLaws.{adds_both, adds_nothing, rises_before}
 use Rattle.group_runs.proofs.ChunkLaws.{set_between, got_low, on_end-append, on_end-push, replaced_more}
 

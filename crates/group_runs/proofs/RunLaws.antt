@@ -25,7 +25,8 @@ use Rattle.group_runs.specs.Steps.{HasRoomForGroup, AddsGroup, HasRoomForRun, Ad
 use Rattle.group_runs.proofs.StateLaws.{all_within}
 use Rattle.group_runs.specs.MergeLaws.{AreApart, rising_apart}
 use Rattle.group_runs.proofs.MergeLaws.{found_still, none_before, groups_added_more}
-use Rattle.group_runs.specs.RunLaws.{keys_of_kinds, keys_packed, take_found, group_at, groups_long}
+use Rattle.group_runs.specs.StandingLaws.{keys_of_kinds, keys_packed, group_at, groups_long}
+use Rattle.group_runs.specs.PlaceLaws.{take_found}
 
 -- ---- packed rows
 pub packed_once : (kinds : List Kind) (bytes : List ℕ) (x y : Row) → HasKinds kinds x → HasKinds kinds y → bytes ≡ packing x → bytes ≡ packing y → x ≡ y

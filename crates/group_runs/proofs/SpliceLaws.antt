@@ -25,10 +25,9 @@ use Rattle.group_runs.specs.Standing.{StandsFor, AreGroups}
 use Rattle.group_runs.specs.Adding.{merged, group_added}
 use Rattle.group_runs.specs.Steps.{HasRoomForGroup, AddsGroup, HaveRoomForMore, CombineWith}
 use Rattle.group_runs.specs.Places as places
-use Rattle.group_runs.specs.StateLaws.{states_raised}
+use Rattle.group_runs.specs.StandingLaws.{states_raised, keys_packed, keys_of_kinds}
 use Rattle.group_runs.proofs.StateLaws.{states_lowered}
 use Rattle.group_runs.proofs.EntryLaws.{key_order}
-use Rattle.group_runs.specs.RunLaws.{keys_packed, keys_of_kinds}
 use Rattle.group_runs.proofs.RunLaws.{packed_once}
 
 -- ---- behind lower keys

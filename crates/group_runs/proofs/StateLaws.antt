@@ -1,6 +1,6 @@
 -- The states of one group.
 -- ---- one state
-use Rattle.std.specs.Prelude.{◌≡◌, refl, ℕ, ◌+◌, ◌<◌, ◌≤◌, true, false, if◌then◌else◌, List, [], ◌∷◌, ◌++◌, length, map, take, drop, Option, Some, None, option_map}
+use Rattle.std.specs.Prelude.{◌≡◌, refl, ℕ, ◌+◌, ◌<◌, ◌≤◌, true, false, if◌then◌else◌, List, [], ◌∷◌, ◌++◌, length, map, take, drop, Option, Some, None, option_map, slice_get}
 use Rattle.std.proofs.Common.{sym, ◌∙◌, ap, subst, arith}
 use Rattle.std.proofs.lemmas.List.{append-nil}
 use Rattle.std.proofs.Math.Seq.{take-length, drop-length}
@@ -10,6 +10,7 @@ use Rattle.grouping_model.specs.Combining.{combine, combine_all, transition}
 use Rattle.grouping_model.specs.Condition.{is_met}
 use Rattle.grouping_model.specs.Query.{Aggregate}
 use Rattle.grouping_model.specs.Grouping.{argument, arguments, column_of}
+use Rattle.grouping_model.specs.Parts.{advanced}
 use Rattle.packed_rows.specs.View.{datum_of}
 use Rattle.packed_rows.specs.declared.value.Value.{Value}
 use Rattle.agg_protocol.specs.Arguments.{Takes}
@@ -24,7 +25,10 @@ use Rattle.agg_library.specs.StateRows.{DenotesAll, AllWithin, initial_partials,
 use Rattle.having_filter.specs.Kept.{TakesRows}
 use Rattle.group_runs.specs.Standing.{AreStates}
 use Rattle.group_runs.specs.Adding.{partial_after_row}
-use Rattle.group_runs.specs.StateLaws.{all_raised, first_and_rest, raised}
+use Rattle.group_runs.specs.PlaceLaws.{dropped}
+use Rattle.group_runs.specs.StandingLaws.{states_by}
+use Rattle.group_runs.specs.Steps.{AreAdvanced, HaveRoomForRow}
+use Rattle.agg_library.specs.StateRowLaws.{all_raised, joined, raised}
 
 -- what an aggregate makes of a row, by its argument
 after_reach : (f : Function) (a : Aggregate) (row : Row) (p : Partial) (reach : Option Value) → a.function ≡ f → option_map datum_of reach ≡ (if is_met (column_of row) a.filter then Some (argument a.column row) else None) → partial_after f p reach ≡ partial_after_row a p row
@@ -55,11 +59,6 @@ reach_taken kinds f a row reach v takes has is reached some =
       | false ↦ λ e. absurd cc
     ] reached
 
--- an aggregate that is found by its function
-pub found_aggregate : (o : Option Aggregate) (f : Function) → option_map (λ (a : Aggregate). a.function) o ≡ Some f → (a : Aggregate) × (o ≡ Some a) × (a.function ≡ f)
-found_aggregate None f e = absurd cc
-found_aggregate (Some a) f e = (a, refl, cc)
-
 -- a state that was moved on by a row, within a bound
 pub moved_on : (kind : AggKind) (a : Aggregate) (row : Row) (reach : Option Value) (m bound : ℕ) (p q : Partial) (old new : List ℕ)
     → a.function ≡ function_of kind → option_map datum_of reach ≡ (if is_met (column_of row) a.filter then Some (argument a.column row) else None)
@@ -86,21 +85,88 @@ has_room kind a row reach m bound p old is reached low denoted many =
     let above : bound < rows_of (partial_after_row a p row) = subst (λ q. bound < rows_of q) after (many p (raised m bound s old p (omega (arith, low)) denoted)) in
     omega (arith, few, more, above, low)
 
--- the same of states that were split
-pub parted : (m : ℕ) (kind : AggKind) (kinds all : List AggKind) (bytes front back : List ℕ) (ps : List Partial) → all ≡ kind ∷ kinds → front ≡ take (kind_width kind) bytes → back ≡ drop (kind_width kind) bytes → DenotesAll m all bytes ps
-    → (p : Partial) × (qs : List Partial) × (ps ≡ p ∷ qs) × states.Denotes m (kind_shape kind) front p × DenotesAll m kinds back qs
-parted m kind kinds all bytes front back ps is before behind d =
-    let parts = first_and_rest m kind kinds bytes ps (subst (λ ks. DenotesAll m ks bytes ps) is d) in
-    (parts.0, parts.1, parts.2, subst (λ b. states.Denotes m (kind_shape kind) b parts.0) (sym before) parts.3, subst (λ b. DenotesAll m kinds b parts.1) (sym behind) parts.4)
+-- the aggregate at a place, which the first of some kinds names, and those behind it
+pub at_place : (all : List Aggregate) (place : ℕ) (k : AggKind) (ks kinds : List AggKind) → kinds ≡ k ∷ ks → functions_of kinds ≡ map (λ (a : Aggregate). a.function) (drop place all)
+    → (a : Aggregate) × (slice_get all place ≡ Some a) × (a.function ≡ function_of k) × (functions_of ks ≡ map (λ (a : Aggregate). a.function) (drop (place + 1) all)) × (drop place all ≡ a ∷ drop (place + 1) all)
+at_place all place k ks kinds is named = parts (drop place all) refl (sym (ap functions_of is) ∙ named)
+  where
+    parts : (calls : List Aggregate) → drop place all ≡ calls → functions_of (k ∷ ks) ≡ map (λ (a : Aggregate). a.function) calls
+        → (a : Aggregate) × (slice_get all place ≡ Some a) × (a.function ≡ function_of k) × (functions_of ks ≡ map (λ (a : Aggregate). a.function) (drop (place + 1) all)) × (drop place all ≡ a ∷ drop (place + 1) all)
+    parts [] at same = absurd cc
+    parts (a ∷ rest) at same =
+        let found = dropped all place a rest at in
+        let first : a.function ≡ function_of k = cc in
+        let others : functions_of ks ≡ map (λ (a : Aggregate). a.function) rest = cc in
+        (a, found.0, first, others ∙ ap (map (λ (a : Aggregate). a.function)) (sym found.1), at ∙ ap (λ calls. a ∷ calls) (sym found.1))
 
--- the aggregates that some kinds name
-pub first_named : (k : AggKind) (ks all : List AggKind) (calls : List Aggregate) → all ≡ k ∷ ks → functions_of all ≡ map (λ (a : Aggregate). a.function) calls → (a : Aggregate) × (rest : List Aggregate) × (calls ≡ a ∷ rest) × (a.function ≡ function_of k) × (functions_of ks ≡ map (λ (a : Aggregate). a.function) rest)
-first_named k ks all [] is named = absurd cc
-first_named k ks all (a ∷ rest) is named =
-    let both : function_of k ∷ functions_of ks ≡ a.function ∷ map (λ (a : Aggregate). a.function) rest = sym (ap functions_of is) ∙ named in
-    let first : a.function ≡ function_of k = cc in
-    let others : functions_of ks ≡ map (λ (a : Aggregate). a.function) rest = cc in
-    (a, rest, refl, first, others)
+-- the states of no aggregates are no bytes
+pub none_advanced : (calls : List Aggregate) (kinds : List AggKind) (bound : ℕ) (bytes : List ℕ) (row : Row) → length kinds ≡ 0 → functions_of kinds ≡ map (λ (a : Aggregate). a.function) calls → bytes ≡ [] → AreAdvanced calls bound bytes row bytes
+none_advanced [] [] bound bytes row none named empty =
+    record { moved = λ m ps low are. record { kinds = []; named = refl; denote = empty }; within = ([], record { kinds = []; named = refl; denote = empty }) }
+none_advanced (a ∷ calls) [] bound bytes row none named empty = absurd cc
+none_advanced calls (kind ∷ kinds) bound bytes row none named empty = absurd (omega (arith, none))
+
+pub none_left : (these : List Function) (kinds : List AggKind) (bound : ℕ) (bytes : List ℕ) → length kinds ≡ 0 → functions_of kinds ≡ these → HaveRoomForRow these bound bytes → bytes ≡ []
+none_left these [] bound bytes none named room = left room.1 (states_by these room.0 [] bytes room.1 named room.2)
+  where
+    left : (ps : List Partial) → DenotesAll room.0 [] bytes ps → bytes ≡ []
+    left [] d = d
+    left (p ∷ ps) d = absurd d
+none_left these (kind ∷ kinds) bound bytes none named room = absurd (omega (arith, none))
+
+-- the states of one aggregate and of those behind it are moved on by a row
+more_advanced : (a : Aggregate) (rest : List Aggregate) (k : AggKind) (ks : List AggKind) (bound : ℕ) (bytes front back : List ℕ) (row : Row)
+    → a.function ≡ function_of k → functions_of ks ≡ map (λ (a : Aggregate). a.function) rest
+    → ((m : ℕ) (p : Partial) → m < bound → states.Denotes m (kind_shape k) (take (kind_width k) bytes) p → states.Denotes (m + 1) (kind_shape k) front (partial_after_row a p row))
+    → (p : Partial) × states.Denotes bound (kind_shape k) front p
+    → AreAdvanced rest bound (drop (kind_width k) bytes) row back
+    → AreAdvanced (a ∷ rest) bound bytes row (front ++ back)
+more_advanced a rest k ks bound bytes front back row first others one some more =
+    record {
+      moved = λ m ps low are. step m ps low (states_by (map (λ (a : Aggregate). a.function) (a ∷ rest)) m (k ∷ ks) bytes ps named are);
+      within = (some.0 ∷ more.within.0, whole bound some.0 more.within.0 some.1 more.within.1);
+    }
+  where
+    named : functions_of (k ∷ ks) ≡ map (λ (a : Aggregate). a.function) (a ∷ rest)
+    named = λ i. sym first i ∷ others i
+
+    whole : (m : ℕ) (p : Partial) (ps : List Partial) → states.Denotes m (kind_shape k) front p → AreStates (map (λ (a : Aggregate). a.function) rest) m back ps → AreStates (map (λ (a : Aggregate). a.function) (a ∷ rest)) m (front ++ back) (p ∷ ps)
+    whole m p ps d are = record { kinds = k ∷ ks; named = named; denote = joined m k (k ∷ ks) ks front back p ps refl d (states_by (map (λ (a : Aggregate). a.function) rest) m ks back ps others are) }
+
+    step : (m : ℕ) (ps : List Partial) → m < bound → DenotesAll m (k ∷ ks) bytes ps → AreStates (map (λ (a : Aggregate). a.function) (a ∷ rest)) (m + 1) (front ++ back) (advanced (a ∷ rest) ps row)
+    step m [] low d = absurd d
+    step m (p ∷ ps) low (d, ds) = whole (m + 1) (partial_after_row a p row) (advanced rest ps row) (one m p low d) (more.moved m ps low (record { kinds = ks; named = others; denote = ds }))
+
+pub step_advanced : (all : List Aggregate) (place : ℕ) (k : AggKind) (ks kinds : List AggKind) (bound : ℕ) (bytes front back first others : List ℕ) (row : Row)
+    → kinds ≡ k ∷ ks → functions_of kinds ≡ map (λ (a : Aggregate). a.function) (drop place all) → front ≡ take (kind_width k) bytes → back ≡ drop (kind_width k) bytes
+    → ((a : Aggregate) → slice_get all place ≡ Some a → a.function ≡ function_of k → (m : ℕ) (p : Partial) → m < bound → states.Denotes m (kind_shape k) front p → states.Denotes (m + 1) (kind_shape k) first (partial_after_row a p row))
+    → (p : Partial) × states.Denotes bound (kind_shape k) first p
+    → AreAdvanced (drop (place + 1) all) bound back row others
+    → AreAdvanced (drop place all) bound bytes row (first ++ others)
+step_advanced all place k ks kinds bound bytes front back first others row is named before behind one some more =
+    let at = at_place all place k ks kinds is named in
+    subst (λ calls. AreAdvanced calls bound bytes row (first ++ others)) (sym at.4)
+    (more_advanced at.0 (drop (place + 1) all) k ks bound bytes first others row at.2 at.3
+    (λ m p low d. one at.0 at.1 at.2 m p low (subst (λ b. states.Denotes m (kind_shape k) b p) (sym before) d)) some
+    (subst (λ b. AreAdvanced (drop (place + 1) all) bound b row others) behind more))
+
+-- states that can count one more row, in two parts
+pub room_parted : (all : List Aggregate) (place : ℕ) (k : AggKind) (ks kinds : List AggKind) (bound : ℕ) (bytes front back : List ℕ)
+    → kinds ≡ k ∷ ks → functions_of kinds ≡ map (λ (a : Aggregate). a.function) (drop place all) → front ≡ take (kind_width k) bytes → back ≡ drop (kind_width k) bytes
+    → HaveRoomForRow (map (λ (a : Aggregate). a.function) (drop place all)) bound bytes
+    → (m : ℕ) × (p : Partial) × (m < bound) × states.Denotes m (kind_shape k) front p × HaveRoomForRow (map (λ (a : Aggregate). a.function) (drop (place + 1) all)) bound back
+room_parted all place k ks kinds bound bytes front back is named before behind room =
+    parts room.1 (states_by (map (λ (a : Aggregate). a.function) (drop place all)) room.0 (k ∷ ks) bytes room.1 (sym (ap functions_of is) ∙ named) room.2)
+  where
+    parts : (ps : List Partial) → DenotesAll room.0 (k ∷ ks) bytes ps → (m : ℕ) × (p : Partial) × (m < bound) × states.Denotes m (kind_shape k) front p × HaveRoomForRow (map (λ (a : Aggregate). a.function) (drop (place + 1) all)) bound back
+    parts [] d = absurd d
+    parts (p ∷ ps) (d, ds) = (
+      room.0,
+      p,
+      room.3,
+      subst (λ b. states.Denotes room.0 (kind_shape k) b p) (sym before) d,
+      (room.0, ps, record { kinds = ks; named = (at_place all place k ks kinds is named).3; denote = subst (λ b. DenotesAll room.0 ks b ps) (sym behind) ds }, room.3),
+    )
 
 pub all_within : (m : ℕ) (kinds : List AggKind) (bytes : List ℕ) (ps : List Partial) → DenotesAll m kinds bytes ps → AllWithin m ps
 all_within m [] bytes [] d = tt

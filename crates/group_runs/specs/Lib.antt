@@ -4,9 +4,6 @@ pub mod Adding
 pub mod Steps
 pub mod Places
 pub mod Chunks
-pub mod EntryLaws
 pub mod MergeLaws
 pub mod PlaceLaws
-pub mod RunLaws
-pub mod StateLaws
-pub mod FirstLaws
+pub mod StandingLaws

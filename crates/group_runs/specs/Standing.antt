@@ -9,7 +9,7 @@ use Rattle.packed_rows.specs.Packing.{packing}
 use Rattle.agg_protocol.specs.States.{shape_of, width_of}
 use Rattle.agg_protocol.specs.declared.kind.AggKind.{AggKind}
 use Rattle.agg_protocol.specs.Kinds.{function_of}
-use Rattle.agg_library.specs.StateRows.{DenotesAll}
+use Rattle.agg_library.specs.StateRows.{ArePartials, DenotesAll, state_bytes}
 use Rattle.having_filter.specs.Kept.{key_kinds}
 use Rattle.group_runs.specs.Runs.{Entry, Rises}
 
@@ -30,6 +30,19 @@ abbrev pub AreGroups : Query → ℕ → List Entry → List Group → Type 0
 AreGroups query most [] [] = Unit {0}
 AreGroups query most (entry ∷ entries) (group ∷ groups) = StandsFor query most entry group × AreGroups query most entries groups
 AreGroups query most entries groups = ⊥
+
+-- the bytes of a group: its packed key, and its states
+abbrev pub group_bytes : Group → Entry
+group_bytes group = (packing group.0, state_bytes group.1)
+
+-- groups, one after the other
+abbrev pub run_bytes : List Group → List Entry
+run_bytes groups = map group_bytes groups
+
+-- a group that a query can have over at most so many rows
+pub record IsGroupOf (query : Query) (most : ℕ) (group : Group) : Type 0 where
+  pub key : HasKinds (key_kinds query) group.0
+  pub partials : ArePartials most (functions query) group.1
 
 -- a run of a query: rising packed keys, and states of its aggregates that count at most so many rows each
 pub record IsRun (query : Query) (most : ℕ) (run : List Entry) : Type 0 where

@@ -1,15 +1,14 @@
 -- What the steps of an aggregation ask of the groups that stand in bytes, and what they make of them. A step asks that there
 -- are such groups, and speaks of all that the bytes stand for. All of this is our own.
-use Rattle.std.specs.Prelude.{ℕ, ◌+◌, ◌<◌, ◌≤◌, List, IfSome}
+use Rattle.std.specs.Prelude.{ℕ, ◌+◌, ◌<◌, ◌≤◌, List, map, IfSome}
 use Rattle.grouping_model.specs.Aggregates.{Function, Partial}
 use Rattle.grouping_model.specs.Combining.{combine_all}
 use Rattle.grouping_model.specs.Datum.{Row}
 use Rattle.grouping_model.specs.Grouping.{Group}
-use Rattle.grouping_model.specs.Parts.{functions, advanced, partials_at}
+use Rattle.grouping_model.specs.Parts.{advanced, partials_at}
 use Rattle.grouping_model.specs.Query.{Query, Aggregate}
 use Rattle.agg_protocol.specs.States.{most_rows}
-use Rattle.agg_library.specs.StateRows.{DenotesAll, AllWithin}
-use Rattle.agg_protocol.specs.declared.kind.AggKind.{AggKind}
+use Rattle.agg_library.specs.StateRows.{AllWithin}
 use Rattle.group_runs.specs.Runs.{Entry, Rises}
 use Rattle.group_runs.specs.Standing.{AreStates, StandsFor, AreGroups}
 use Rattle.group_runs.specs.Adding.{group_added, groups_added}
@@ -53,31 +52,12 @@ AreWithin these bound bytes = (partials : List Partial) × AreStates these bound
 abbrev pub HaveRoomForRow : List Function → ℕ → List ℕ → Type 0
 HaveRoomForRow these bound old = (most : ℕ) × (partials : List Partial) × AreStates these most old partials × (most < bound)
 
--- they are moved on by a row
-abbrev pub AdvanceBy : Query → ℕ → List ℕ → Row → List ℕ → Type 0
-AdvanceBy query bound old row new =
-    (most : ℕ) (partials : List Partial)
-    → most < bound
-    → AreStates (functions query) most old partials
-    → AreStates (functions query) (most + 1) new (advanced query.aggregates partials row)
-
-pub record AreAdvanced (query : Query) (bound : ℕ) (old : List ℕ) (row : Row) (new : List ℕ) : Type 0 where
-  pub moved : AdvanceBy query bound old row new
-  pub within : AreWithin (functions query) bound new
-
--- the same of the states of some of the aggregates
-abbrev pub SomeAreWithin : List AggKind → ℕ → List ℕ → Type 0
-SomeAreWithin kinds bound bytes = (partials : List Partial) × DenotesAll bound kinds bytes partials
-
-abbrev pub SomeHaveRoomForRow : List AggKind → ℕ → List ℕ → Type 0
-SomeHaveRoomForRow kinds bound old = (most : ℕ) × (partials : List Partial) × DenotesAll most kinds old partials × (most < bound)
-
-abbrev pub SomeAdvanceBy : List Aggregate → List AggKind → ℕ → List ℕ → Row → List ℕ → Type 0
-SomeAdvanceBy aggregates kinds bound old row new =
-    (most : ℕ) (partials : List Partial)
-    → most < bound
-    → DenotesAll most kinds old partials
-    → DenotesAll (most + 1) kinds new (advanced aggregates partials row)
+-- those of some aggregates are moved on by a row
+pub record AreAdvanced (aggregates : List Aggregate) (bound : ℕ) (old : List ℕ) (row : Row) (new : List ℕ) : Type 0 where
+  pub moved :
+      (most : ℕ) (partials : List Partial) → most < bound → AreStates (map (λ (a : Aggregate). a.function) aggregates) most old partials
+      → AreStates (map (λ (a : Aggregate). a.function) aggregates) (most + 1) new (advanced aggregates partials row)
+  pub within : AreWithin (map (λ (a : Aggregate). a.function) aggregates) bound new
 
 -- the states of one group and others of its key can count the rows of both, within a bound, and are combined
 abbrev pub HaveRoomWithin : List Function → ℕ → List ℕ → List ℕ → Type 0

@@ -1,23 +1,18 @@
 //! The states of one group.
 
-ghost use Rattle.std.specs.Prelude.{◌≡◌, ◌+◌, ◌<◌, ◌≤◌, ℕ, List, [], map, length, drop, option_map, Some, None, slice_get, if◌then◌else◌, IfOk, OnOk, OnErr};
+ghost use Rattle.std.specs.Prelude.{◌≡◌, ◌<◌, ◌≤◌, [], map, length, drop, option_map, Some, None, slice_get, if◌then◌else◌, IfOk, OnOk, OnErr};
 ghost use Rattle.grouping_model.specs.Datum.{HasKinds};
-ghost use Rattle.grouping_model.specs.Aggregates.{Partial};
-ghost use Rattle.grouping_model.specs.Combining.{combine_all};
 ghost use Rattle.grouping_model.specs.Condition.{is_met};
 ghost use Rattle.grouping_model.specs.Query.{Aggregate};
 ghost use Rattle.grouping_model.specs.Grouping.{argument, column_of, partials};
-ghost use Rattle.grouping_model.specs.Parts.{functions, advanced};
+ghost use Rattle.grouping_model.specs.Parts.{functions};
 ghost use Rattle.packed_rows.specs.View.{datum_of, row_of};
-ghost use Rattle.agg_protocol.specs.States as states;
 ghost use Rattle.agg_protocol.specs.States.{most_rows};
-ghost use Rattle.agg_protocol.specs.Kinds.{function_of, functions_of, kind_shape};
-ghost use Rattle.agg_library.specs.StateRows.{DenotesAll};
+ghost use Rattle.agg_protocol.specs.Kinds.{functions_of};
 ghost use Rattle.having_filter.specs.Kept.{IsWellFormed};
 ghost use Rattle.having_filter.specs.Meaning.{meaning};
 ghost use Rattle.group_runs.specs.Standing.{AreStates};
-ghost use Rattle.group_runs.specs.Adding.{partial_after_row};
-ghost use Rattle.group_runs.specs.Steps.{SomeAreWithin, SomeHaveRoomForRow, SomeAdvanceBy, HaveRoomForRow, AreAdvanced, HaveRoomWithin, AreCombined, HaveRoomForMore, CombineWith};
+ghost use Rattle.group_runs.specs.Steps.{HaveRoomForRow, AreAdvanced, HaveRoomWithin, AreCombined, HaveRoomForMore, CombineWith};
 
 use agg_library::{AggKind, MOST_COUNTED, StateRow};
 use agg_protocol::BadState;
@@ -44,33 +39,6 @@ fn reach<'a>(query: &Query, place: usize, row: &[Value<'a>]) -> Option<Value<'a>
     }
 }
 
-/// Moves the state of one aggregate on by a row, if it counts at most so many rows then.
-fn advance_one(
-    query: &Query,
-    place: usize,
-    kind: AggKind,
-    part: &mut [u8],
-    row: &[Value<'_>],
-    most: u64,
-) -> Result<(), BadState>
-    requires formed { IsWellFormed (meaning query.now) }
-    requires row { HasKinds (meaning query.now).kinds (row_of row.now) }
-    requires kind { option_map (λ a. a.function) (slice_get (meaning query.now).aggregates place)
-        ≡ Some (function_of kind) }
-    requires most { most ≤ most_rows }
-    ensures moved { OnOk result ((m : ℕ) (p : Partial) (a : Aggregate) →
-        slice_get (meaning query.now).aggregates place ≡ Some a → m < most →
-        states.Denotes m (kind_shape kind) part.old p →
-        states.Denotes (m + 1) (kind_shape kind) part.new
-        (partial_after_row a p (row_of row.now))) }
-    ensures within { OnOk result ((p : Partial) × states.Denotes most (kind_shape kind) part.new p) }
-    ensures refused { OnErr result ((m : ℕ) (p : Partial) → m < most →
-        ¬ states.Denotes m (kind_shape kind) part.old p) }
-{
-    let reach = reach(query, place, row);
-    StateRow::advance(kind, part, reach, most)
-}
-
 /// Moves the states of the aggregates from a place on by a row, if they count at most so many rows then.
 fn advance_from(
     query: &Query,
@@ -85,10 +53,10 @@ fn advance_from(
     requires kinds { functions_of kinds.now
         ≡ map (λ a. a.function) (drop place (meaning query.now).aggregates) }
     requires most { most ≤ most_rows }
-    ensures moved { OnOk result (SomeAdvanceBy (drop place (meaning query.now).aggregates) kinds.now most
+    ensures advanced { OnOk result (AreAdvanced (drop place (meaning query.now).aggregates) most
         states.old (row_of row.now) states.new) }
-    ensures within { OnOk result (SomeAreWithin kinds.now most states.new) }
-    ensures refused { OnErr result (¬ SomeHaveRoomForRow kinds.now most states.old) }
+    ensures refused { OnErr result (¬ HaveRoomForRow
+        (map (λ a. a.function) (drop place (meaning query.now).aggregates)) most states.old) }
 {
     let Some((kind, kinds)) = kinds.split_first() else {
         return if states.is_empty() {
@@ -101,7 +69,7 @@ fn advance_from(
         return Err(BadState);
     }
     let (part, rest) = states.split_at_mut(kind.width());
-    advance_one(query, place, *kind, part, row, most)?;
+    StateRow::advance(*kind, part, reach(query, place, row), most)?;
     advance_from(query, place + 1, kinds, rest, row, most)
 }
 
@@ -116,7 +84,7 @@ pub fn advance_slice(
     requires formed { IsWellFormed (meaning query.now) }
     requires row { HasKinds (meaning query.now).kinds (row_of row.now) }
     requires most { most ≤ most_rows }
-    ensures advanced { OnOk result (AreAdvanced (meaning query.now) most states.old (row_of row.now) states.new) }
+    ensures advanced { OnOk result (AreAdvanced (meaning query.now).aggregates most states.old (row_of row.now) states.new) }
     ensures refused { OnErr result (¬ HaveRoomForRow (functions (meaning query.now)) most states.old) }
 {
     advance_from(query, 0, query.agg_kinds(), states, row, most)

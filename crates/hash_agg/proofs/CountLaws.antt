@@ -21,12 +21,11 @@ use Rattle.having_filter.specs.Meaning.{meaning}
 use Rattle.hash_agg.specs.declared.plan.Plan.{Plan}
 use Rattle.group_runs.specs.Runs.{Entry}
 use Rattle.packed_rows.specs.RowsOnEnd.{on_end}
-use Rattle.hash_agg.specs.Inputs.{Brought, Packed, Counted, rows_in, all_rows, IsInput, AllBring}
+use Rattle.hash_agg.specs.Inputs.{Brought, Packed, Counted, rows_in, all_rows, IsInput, AllBring, Given, Of_rows, Of_groups, Gives, AllGive}
 use Rattle.group_runs.specs.Adding.{row_added, rows_added, group_added, groups_added}
 use Rattle.hash_agg.specs.Added.{Are, source_of}
-use Rattle.hash_agg.specs.Adding.{Given, Of_rows, Of_groups, Gives, AllGive}
 use Rattle.hash_agg.specs.Passes.{Of_row, Of_group, pieces_added, made_of, piece_key, weight, rows_at, CountUpTo, given_pieces, all_pieces, PassState, setting_of, Holds, CanRead, Reads, total, brings, brought_by, Brings}
-use Rattle.group_runs.specs.RunLaws.{groups_long}
+use Rattle.group_runs.specs.StandingLaws.{groups_long}
 use Rattle.group_runs.proofs.RunLaws.{run_apart}
 use Rattle.group_runs.specs.MergeLaws.{AreApart, puts_rise, nothing_rises, keys_of-rows_added, keys_of-groups_added}
 use Rattle.hash_agg.proofs.PassLaws.{rows_append, pieces_append}

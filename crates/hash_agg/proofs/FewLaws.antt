@@ -23,10 +23,9 @@ use Rattle.aggregation_cost.specs.KeyLaws.{same_key_itself, same_key-is, distinc
 use Rattle.aggregation_cost.specs.ListLaws.{any-filter, each_both, each_of_filter}
 use Rattle.group_runs.specs.Runs.{Entry, packed_keys}
 use Rattle.packed_rows.specs.RowsOnEnd.{on_end}
-use Rattle.hash_agg.specs.Inputs.{Brought, Packed, Counted, AllBring, IsAggregate, IsRunOver, rows_in, all_rows, groups_in, all_groups}
-use Rattle.hash_agg.specs.Adding.{Given, Of_rows, Of_groups, AllGive}
+use Rattle.hash_agg.specs.Inputs.{Brought, Packed, Counted, AllBring, IsAggregate, IsRunOver, rows_in, all_rows, groups_in, all_groups, Given, Of_rows, Of_groups, AllGive}
 use Rattle.hash_agg.specs.Passes.{Piece, Of_row, Of_group, records_of, all_pieces}
-use Rattle.group_runs.specs.RunLaws.{keys_packed, keys_of_kinds, groups_long}
+use Rattle.group_runs.specs.StandingLaws.{keys_packed, keys_of_kinds, groups_long}
 use Rattle.hash_agg.proofs.SpillLaws.{records_more}
 
 -- ---- lists of which each member is in another

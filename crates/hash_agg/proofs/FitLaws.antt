@@ -15,8 +15,7 @@ use Rattle.aggregation_cost.specs.ListLaws.{each_of_flat_map}
 use Rattle.having_filter.specs.Kept.{IsWellFormed, key_kinds}
 use Rattle.group_runs.specs.Runs.{Entry}
 use Rattle.group_runs.specs.Standing.{AreGroups}
-use Rattle.hash_agg.specs.Inputs.{Brought, Packed, Counted}
-use Rattle.hash_agg.specs.Adding.{Given, Of_rows, Of_groups, Gives, AllGive}
+use Rattle.hash_agg.specs.Inputs.{Brought, Packed, Counted, Given, Of_rows, Of_groups, Gives, AllGive}
 use Rattle.hash_agg.specs.Passes.{Piece, Of_row, Of_group, piece_key, cost_records, records_of, given_pieces, all_pieces}
 use Rattle.hash_agg.proofs.KeyLaws.{key_has}
 use Rattle.hash_agg.proofs.StepLaws.{key_brief}

@@ -28,7 +28,7 @@ use Rattle.group_runs.specs.Steps.{AddsRun}
 use Rattle.hash_agg.proofs.KeyLaws.{key_has}
 use Rattle.group_runs.specs.MergeLaws.{puts, puts_rise, keys_of-groups_added}
 use Rattle.group_runs.proofs.MergeLaws.{puts_long, among-puts, groups_added_part}
-use Rattle.group_runs.specs.RunLaws.{keys_packed, keys_of_kinds}
+use Rattle.group_runs.specs.StandingLaws.{keys_packed, keys_of_kinds}
 use Rattle.group_runs.proofs.RunLaws.{rises_keys}
 use Rattle.hash_agg.proofs.WholeLaws.{packings_once, keys_few}
 use Rattle.group_runs.proofs.SpliceLaws.{packed_rise}

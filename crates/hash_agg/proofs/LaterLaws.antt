@@ -14,8 +14,7 @@ use Rattle.hash_agg.specs.declared.plan.Plan.{Plan}
 use Rattle.group_runs.specs.Runs.{Entry, Rises}
 use Rattle.tape_disks.specs.declared.disk.TapeDisk.{Ghosts}
 use Rattle.hash_agg.specs.Added.{CountsWithin, IsDone, IsSafeRun, IsUnderway, MadeFirst, MadeLater, query_of, setting_in}
-use Rattle.hash_agg.specs.Adding.{Given, AllGive}
-use Rattle.hash_agg.specs.Inputs.{Brought}
+use Rattle.hash_agg.specs.Inputs.{Brought, Given, AllGive}
 use Rattle.hash_agg.specs.declared.pass.Pass.{Pass}
 use Rattle.hash_agg.specs.Passes.{Piece, AreOnce, CountUpTo, Stands, setting_of, ReadsList, CanReadList, all_pieces, brought_by}
 use Rattle.hash_agg.specs.Waiting.{Waits, Costs, AddsUp, pass_cost}

@@ -26,7 +26,7 @@ use Rattle.hash_agg.specs.Passes.{Piece, Of_row, Of_group, IsPiece, ArePieces, p
 use Rattle.group_runs.specs.MergeLaws.{AreApart, apart_from}
 use Rattle.group_runs.proofs.MergeLaws.{found_among, found_others}
 use Rattle.group_runs.proofs.RunLaws.{packed_once}
-use Rattle.group_runs.specs.StateLaws.{states_raised}
+use Rattle.group_runs.specs.StandingLaws.{states_raised}
 use Rattle.hash_agg.proofs.TableLaws.{HasNoKey}
 
 -- ---- what is found at a key

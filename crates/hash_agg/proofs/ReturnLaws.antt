@@ -7,7 +7,7 @@ use Rattle.group_table.specs.Table.{TableState}
 use Rattle.key_hashes.specs.declared.sip_hash.SipHash.{SipHash}
 use Rattle.group_runs.specs.Runs.{Entry}
 use Rattle.group_runs.specs.Standing.{IsRun}
-use Rattle.group_runs.specs.EntryLaws.{groups_raised}
+use Rattle.group_runs.specs.StandingLaws.{groups_raised}
 use Rattle.grouping_model.specs.Query.{Query}
 use Rattle.spill_lists.specs.Standing.{ListsState, KeepsRest, spilled_number}
 use Rattle.hash_agg.specs.Passes.{GroupsState, entries_of, IsSameTable, Proceeds}

@@ -18,9 +18,7 @@ use Rattle.packed_rows.specs.PackingOrderLaws.{less, tied}
 use Rattle.group_runs.specs.Runs.{Entry, packed_keys, Rises}
 use Rattle.group_runs.specs.Places.{AllBelow}
 use Rattle.hash_agg.specs.Passes.{AreOnce, Led, IsLed, pairs}
-use Rattle.group_runs.specs.FirstLaws.{smaller_first}
-use Rattle.group_runs.specs.RunLaws.{take_found}
-use Rattle.group_runs.specs.PlaceLaws.{key_total}
+use Rattle.group_runs.specs.PlaceLaws.{key_total, take_found, smaller_first}
 use Rattle.group_runs.proofs.PlaceLaws.{below_to, rises_between}
 use Rattle.hash_agg.proofs.TableLaws.{HasNoKey}
 

@@ -20,7 +20,7 @@ use Rattle.group_runs.specs.Runs.{Entry, packed_keys}
 use Rattle.group_runs.specs.Standing.{states_width}
 use Rattle.hash_agg.specs.Passes.{Piece, Of_row, Of_group, IsPiece, piece_key, cost_records, records_of, AreCosted, Spills}
 use Rattle.hash_agg.proofs.PassLaws.{IsKept}
-use Rattle.group_runs.specs.StateLaws.{states_long}
+use Rattle.group_runs.specs.StandingLaws.{states_long}
 use Rattle.hash_agg.proofs.TableLaws.{HasNoKey}
 
 -- ---- keys

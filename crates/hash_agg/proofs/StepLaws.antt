@@ -37,10 +37,11 @@ use Rattle.hash_agg.specs.Added.{IsSelected}
 use Rattle.hash_agg.proofs.KeyLaws.{key_has}
 use Rattle.hash_agg.proofs.NeedLaws.{keys_set}
 use Rattle.hash_agg.proofs.SpillLaws.{among_entries, none_of, spills_there, spills_new, spills_left}
-use Rattle.group_runs.specs.RunLaws.{take_found, group_at, groups_long}
+use Rattle.group_runs.specs.PlaceLaws.{take_found}
+use Rattle.group_runs.specs.StandingLaws.{group_at, groups_long, states_by}
 use Rattle.group_runs.proofs.RunLaws.{packed_once}
 use Rattle.hash_agg.proofs.InputLaws.{flat_row_at}
-use Rattle.group_runs.specs.StateLaws.{states_by, states_wide, narrow}
+use Rattle.agg_library.specs.StateRowLaws.{states_wide, narrow}
 use Rattle.hash_agg.proofs.TableLaws.{no_key, named_at, get_mapped}
 use Rattle.hash_agg.proofs.PassLaws.{IsKept, after, by_at, by_set, by_append, rows_append, rows_one, reads_there, reads_new, reads_left}
 
@@ -185,7 +186,7 @@ pub record Told (q : Query) (bound : ℕ) (key : List ℕ) (Moved : List ℕ →
   pub moves :
       (m : ℕ) (old new : List ℕ) (found : List Partial) → Moved old new → m + weight piece ≤ bound → AreStates (functions q) m old found → AreStates (functions q) (m + weight piece) new (after q (Some found) piece)
 
-abbrev pub row_told : (q : Query) (bound : ℕ) (packed key : List ℕ) (row : Row) → IsWellFormed q → IsSelected q packed key row → (more : List Piece) → AreRows q (packed ∷ []) more → Told q bound key (λ old new. AreAdvanced q bound old row new) more
+abbrev pub row_told : (q : Query) (bound : ℕ) (packed key : List ℕ) (row : Row) → IsWellFormed q → IsSelected q packed key row → (more : List Piece) → AreRows q (packed ∷ []) more → Told q bound key (λ old new. AreAdvanced q.aggregates bound old row new) more
 row_told q bound packed key row formed selected more are =
     record {
       piece = Of_row row;

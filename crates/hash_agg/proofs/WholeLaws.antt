@@ -14,12 +14,11 @@ use Rattle.hash_agg.specs.declared.input.Input.{Input}
 use Rattle.group_runs.specs.Runs.{Entry, packed_keys}
 use Rattle.group_runs.specs.Standing.{AreGroups}
 use Rattle.packed_rows.specs.RowsOnEnd.{on_end}
-use Rattle.hash_agg.specs.Inputs.{Brought, Packed, Counted, brought, IsInput, AreInputsOf, AllBring}
+use Rattle.hash_agg.specs.Inputs.{Brought, Packed, Counted, brought, IsInput, AreInputsOf, AllBring, Given, Of_rows, Of_groups, Gives, AllGive}
 use Rattle.group_runs.specs.Adding.{rows_added, groups_added}
-use Rattle.hash_agg.specs.Adding.{Given, Of_rows, Of_groups, Gives, AllGive}
 use Rattle.group_runs.specs.MergeLaws.{puts, keys_of-rows_added, keys_of-groups_added}
 use Rattle.group_runs.proofs.MergeLaws.{rows_added_part, groups_added_part, puts-append, puts_all, distinct_few}
-use Rattle.group_runs.specs.RunLaws.{keys_packed, keys_of_kinds}
+use Rattle.group_runs.specs.StandingLaws.{keys_packed, keys_of_kinds}
 use Rattle.group_runs.proofs.RunLaws.{packed_once}
 
 -- the groups after all that an input gives, and after all that some inputs give

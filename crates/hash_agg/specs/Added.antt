@@ -18,8 +18,7 @@ use Rattle.spill_lists.specs.declared.error.SpillError.{SpillError}
 use Rattle.spill_lists.specs.declared.error.SpillError.TheVariants.{TapeDamaged}
 use Rattle.having_filter.specs.Meaning.{meaning}
 use Rattle.group_runs.specs.Runs.{Entry, Rises, packed_keys}
-use Rattle.hash_agg.specs.Inputs.{Brought, Packed, Counted, IsInput, all_rows}
-use Rattle.hash_agg.specs.Adding.{Given, AllGive}
+use Rattle.hash_agg.specs.Inputs.{Brought, Packed, Counted, IsInput, all_rows, Given, AllGive}
 use Rattle.hash_agg.specs.Passes.{Piece, ArePieces, AreSafe, IsPlan, IsSameTable, HasPlace, CountUpTo, Stands, AreRows, AreOfRun, Reads, CanRead, ReadsList, CanReadList, Brings, Proceeds, WritesPages, entries_of, total, standing, setting_of, records_of, all_pieces, brought_by}
 use Rattle.hash_agg.specs.Waiting.{Waits, Costs, AddsUp, pass_cost}
 use Rattle.hash_agg.specs.declared.plan.Plan.{Plan}

@@ -3,8 +3,7 @@ use Rattle.std.specs.Prelude.{◌≡◌, ℕ, ◌+◌, ◌≤◌, max, List, [],
 use Rattle.grouping_model.specs.Query.{Query}
 use Rattle.aggregation_cost.specs.Space.{Setting}
 use Rattle.aggregation_cost.specs.Cost.{Cost, cost}
-use Rattle.hash_agg.specs.Adding.{Given, AllGive}
-use Rattle.hash_agg.specs.Inputs.{Brought}
+use Rattle.hash_agg.specs.Inputs.{Brought, Given, AllGive}
 use Rattle.hash_agg.specs.Means.{MeansState}
 use Rattle.group_runs.specs.Standing.{states_width}
 use Rattle.hash_agg.specs.Passes.{setting_for, records_of, all_pieces}

@@ -5,7 +5,7 @@ use Rattle.packed_rows.specs.RowsOnEnd.{on_end}
 use Rattle.grouping_model.specs.Datum.{Row, Kind, HasKinds, row_cmp}
 use Rattle.grouping_model.specs.Rising.{distinct}
 use Rattle.grouping_model.specs.Query.{Query}
-use Rattle.grouping_model.specs.Grouping.{part, selected, key_of}
+use Rattle.grouping_model.specs.Grouping.{Group, part, selected, key_of}
 use Rattle.packed_rows.specs.Packing.{packing}
 use Rattle.packed_rows.specs.View.{bytes_of}
 use Rattle.having_filter.specs.Kept.{key_kinds}
@@ -69,6 +69,21 @@ abbrev pub AreInputsOf : Query → List Brought → List (List Row) → Type 0
 AreInputsOf query [] [] = Unit {0}
 AreInputsOf query (input ∷ inputs) (rows ∷ lists) = IsInputOf query input rows × AreInputsOf query inputs lists
 AreInputsOf query inputs lists = ⊥
+
+-- what an input gives: rows, or groups
+pub data Given : Type 0 where
+  Of_rows : List Row → Given
+  Of_groups : List Group → Given
+
+abbrev pub Gives : Query → Brought → Given → Type 0
+Gives query (Packed packed) (Of_rows rows) = ArePackings query.kinds packed rows
+Gives query (Counted run most) (Of_groups groups) = AreGroups query most run groups
+Gives query input given = ⊥
+
+abbrev pub AllGive : Query → List Brought → List Given → Type 0
+AllGive query [] [] = Unit {0}
+AllGive query (input ∷ inputs) (given ∷ givens) = Gives query input given × AllGive query inputs givens
+AllGive query inputs givens = ⊥
 
 -- the keys that an input brings: those of its selected rows, or of its groups
 abbrev pub Brings : Query → Brought → List Row → Type 0

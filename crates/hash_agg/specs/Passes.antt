@@ -30,9 +30,8 @@ use Rattle.having_filter.specs.Meaning.{meaning}
 use Rattle.hash_agg.specs.declared.plan.Plan.{Plan}
 use Rattle.group_runs.specs.Runs.{Entry, packed_keys}
 use Rattle.group_runs.specs.Standing.{AreStates, StandsFor, AreGroups, states_width}
-use Rattle.hash_agg.specs.Inputs.{Brought, ArePackings, rows_in}
+use Rattle.hash_agg.specs.Inputs.{Brought, ArePackings, rows_in, Given, Of_rows, Of_groups}
 use Rattle.group_runs.specs.Adding.{row_added, group_added}
-use Rattle.hash_agg.specs.Adding.{Given, Of_rows, Of_groups}
 
 -- ---- what is read
 

@@ -183,7 +183,7 @@ impl<H: KeyHash + Drop> Groups<H> {
         ensures table { self.new.table ≡ self.old.table }
         ensures hash { self.new.hash ≡ self.old.hash }
         ensures held { self.new.most_held ≡ self.old.most_held }
-        ensures written { OnOk result (WritesAt self.old slot (AreAdvanced (meaning query.now) most (state_in self.old.table self.old.tree slot) (row_of row.now)) self.new) }
+        ensures written { OnOk result (WritesAt self.old slot (AreAdvanced (meaning query.now).aggregates most (state_in self.old.table self.old.tree slot) (row_of row.now)) self.new) }
         ensures refused { OnErr result (¬ HaveRoomForRow (functions (meaning query.now)) most (state_in self.old.table self.old.tree slot)) }
     {
         let states = GroupTable::state_mut(&mut self.tree, &self.table, slot);

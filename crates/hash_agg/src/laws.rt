@@ -4,9 +4,8 @@ ghost use Rattle.std.specs.Prelude.{◌≡◌, ◌≤◌, ◌↔◌, ℕ, List, 
 ghost use Rattle.std.specs.List.{AllByRecursion};
 ghost use Rattle.grouping_model.specs.Grouping.{Group, part};
 ghost use Rattle.grouping_model.specs.Query.{Query};
-ghost use Rattle.hash_agg.specs.Bytes.{IsGroupOf, run_bytes};
 ghost use Rattle.group_runs.specs.Runs.{Entry};
-ghost use Rattle.group_runs.specs.Standing.{AreGroups, IsRun};
+ghost use Rattle.group_runs.specs.Standing.{AreGroups, IsRun, IsGroupOf, run_bytes};
 
 /// A run stands for groups exactly where it is their bytes, and they are groups that the query can have. So groups have one
 /// run, which is a function of them.

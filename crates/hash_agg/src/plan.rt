@@ -123,7 +123,7 @@ impl<'a> Plan<'a> {
     ) -> Result<(), SpillError>
         requires plan { IsPlan self.now }
         requires row { HasKinds (meaning self.now.query.now).kinds (row_of row.now) }
-        ensures advanced { OnOk result (AreAdvanced (meaning self.now.query.now) self.now.most
+        ensures advanced { OnOk result (AreAdvanced (meaning self.now.query.now).aggregates self.now.most
             self.now.first.items (row_of row.now) states.new.items) }
         ensures len { OnOk result (length states.new.items ≡ length self.now.first.items) }
         ensures undamaged { IfErr result (λ error.

@@ -23,12 +23,10 @@ use Rattle.batch_reader.specs.Rows.{packings}
 use Rattle.query_checks.specs.Checks.{Checked}
 use Rattle.having_filter.specs.Meaning.{meaning}
 use Rattle.group_runs.specs.Runs.{Entry}
-use Rattle.hash_agg.specs.Bytes.{run_bytes}
-use Rattle.group_runs.specs.Standing.{AreGroups}
+use Rattle.group_runs.specs.Standing.{AreGroups, run_bytes}
 use Rattle.packed_rows.specs.RowsOnEnd.{on_end}
 use Rattle.hash_agg.specs.Inputs.{Packed, Counted, AreInputsOf, all_rows, rows_in}
-use Rattle.group_runs.specs.EntryLaws.{groups_raised}
-use Rattle.hash_agg.specs.BytesLaws.{stands_spelled}
+use Rattle.group_runs.specs.StandingLaws.{groups_raised, stands_spelled}
 use Rattle.origin_prefix.specs.Parts.{Batches, Part, rows_at, IsPartOf, following, rows_following, Folds, Settles, Disagrees, Delivers}
 use Rattle.origin_prefix.specs.Joins.{either, longer, shorter, PartsDisagree, Joins}
 use Rattle.origin_prefix.specs.Fitting.{FitsOrigin}

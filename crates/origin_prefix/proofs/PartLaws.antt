@@ -24,8 +24,7 @@ use Rattle.packed_rows.specs.RowsOnEnd.{on_end}
 use Rattle.hash_agg.specs.Inputs.{Packed, Counted, IsInput, AllBring, all_rows, rows_in}
 use Rattle.group_runs.specs.Runs.{Entry, packed_keys}
 use Rattle.group_runs.specs.Standing.{IsRun}
-use Rattle.group_runs.specs.EntryLaws.{groups_raised}
-use Rattle.group_runs.specs.RunLaws.{keys_packed, keys_of_kinds}
+use Rattle.group_runs.specs.StandingLaws.{groups_raised, keys_packed, keys_of_kinds}
 use Rattle.origin_prefix.proofs.ByNumber.{numbers, above_first, rising_rest}
 use Rattle.origin_prefix.specs.Parts.{Batches, Part, IsEarly, IsBehind, IsOpen, IsPartOf, following, rows_following, Folds, Settles}
 

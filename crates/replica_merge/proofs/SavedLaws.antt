@@ -8,8 +8,8 @@ use Rattle.grouping_model.specs.declared.limits.TheConstants.{MOST_ROWS}
 use Rattle.batch_reader.specs.Rows.{packings}
 use Rattle.query_checks.specs.Checks.{Checked}
 use Rattle.having_filter.specs.Meaning.{meaning}
-use Rattle.hash_agg.specs.Bytes.{run_bytes}
-use Rattle.hash_agg.specs.BytesLaws.{stands_spelled}
+use Rattle.group_runs.specs.Standing.{run_bytes}
+use Rattle.group_runs.specs.StandingLaws.{stands_spelled}
 use Rattle.origin_prefix.specs.Parts.{Part}
 use Rattle.origin_prefix.specs.Fitting.{FitsOrigin}
 use Rattle.origin_prefix.proofs.ByNumber.{at, numbers}

@@ -18,7 +18,8 @@ use Rattle.agg_library.specs.StateRows.{DenotesAll}
 use Rattle.having_filter.specs.Kept.{key_kinds}
 use Rattle.group_runs.specs.Runs.{Entry}
 use Rattle.group_runs.specs.Standing.{AreStates, StandsFor, AreGroups}
-use Rattle.group_runs.specs.StateLaws.{first_and_rest, dropped}
+use Rattle.agg_library.specs.StateRowLaws.{first_and_rest}
+use Rattle.group_runs.specs.PlaceLaws.{dropped}
 use Rattle.group_runs.proofs.RunLaws.{packed_once}
 
 -- ---- the states of a group

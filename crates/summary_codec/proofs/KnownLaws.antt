@@ -10,7 +10,7 @@ use Rattle.grouping_model.proofs.PrefixLaws.{prefix_unbroken}
 use Rattle.batch_reader.specs.Rows.{packings}
 use Rattle.query_checks.specs.Checks.{Checked}
 use Rattle.having_filter.specs.Meaning.{meaning}
-use Rattle.hash_agg.specs.Bytes.{run_bytes}
+use Rattle.group_runs.specs.Standing.{run_bytes}
 use Rattle.summary_codec.specs.File.{file_in}
 use Rattle.summary_codec.specs.WorldFile.{world_part, world_file_in}
 use Rattle.summary_codec.specs.declared.version.Version.{Version}

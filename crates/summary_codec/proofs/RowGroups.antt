@@ -25,11 +25,11 @@ use Rattle.agg_protocol.specs.States.{IsState, shape_of, rows_of}
 use Rattle.agg_protocol.proofs.ArgumentLaws.{partial_state, rows_within}
 use Rattle.having_filter.specs.Kept.{IsWellFormed, TakesRows, key_kinds}
 use Rattle.group_runs.specs.Runs.{Rises}
-use Rattle.group_runs.specs.Standing.{AreGroups}
+use Rattle.group_runs.specs.Standing.{AreGroups, group_bytes, run_bytes, IsGroupOf}
 use Rattle.group_runs.proofs.MergeLaws.{distinct_few}
 use Rattle.group_runs.proofs.SpliceLaws.{packed_rise}
-use Rattle.hash_agg.specs.Bytes.{group_bytes, run_bytes, ArePartials, IsGroupOf}
-use Rattle.hash_agg.specs.BytesLaws.{spelled_stands}
+use Rattle.agg_library.specs.StateRows.{ArePartials}
+use Rattle.group_runs.specs.StandingLaws.{spelled_stands}
 use Rattle.hash_agg.proofs.KeyLaws.{key_has}
 
 -- ---- members of lists

@@ -16,7 +16,7 @@ use Rattle.grouping_model.specs.Datum.{Kind, Row, HasKinds}
 use Rattle.grouping_model.specs.Grouping.{Group}
 use Rattle.grouping_model.specs.Query.{Query}
 use Rattle.grouping_model.specs.declared.limits.TheConstants.{LAST_NUMBER, LAST_ORIGIN, MOST_ROWS}
-use Rattle.group_runs.specs.EntryLaws.{groups_raised}
+use Rattle.group_runs.specs.StandingLaws.{groups_raised}
 use Rattle.packed_rows.specs.Columns.{Column, kinds, printed}
 use Rattle.batch_reader.specs.Rows.{packings}
 use Rattle.query_checks.specs.declared.order.OrderTerm.{OrderTerm}

@@ -24,8 +24,7 @@ use Rattle.query_checks.specs.Checks.{Checked}
 use Rattle.query_checks.specs.Spelling.{spelling}
 use Rattle.having_filter.specs.Kept.{IsCheckedQuery, by_names}
 use Rattle.having_filter.specs.Meaning.{meaning}
-use Rattle.group_runs.specs.Standing.{AreGroups}
-use Rattle.hash_agg.specs.Bytes.{run_bytes}
+use Rattle.group_runs.specs.Standing.{AreGroups, run_bytes}
 use Rattle.origin_prefix.specs.Fitting.{FitsOrigin}
 use Rattle.origin_prefix.specs.Held.{IsHeldPart, AreHeldParts}
 use Rattle.origin_prefix.specs.WorldRows.{batch_kinds, count_length}

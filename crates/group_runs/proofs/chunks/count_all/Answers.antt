@@ -4,7 +4,7 @@ use Rattle.std.proofs.lemmas.List.{length-set, take_more_set}
 use Rattle.packed_rows.specs.RowsOnEndLaws.{ends_append}
 use Rattle.packed_rows.specs.RowsOnEnd.{on_end, ends_of}
 use Rattle.group_runs.proofs.ChunkLaws.{got_by, next_start, front_few}
-use Rattle.group_runs.specs.RunLaws.{take_found}
+use Rattle.group_runs.specs.PlaceLaws.{take_found}
 use Rattle.group_runs.proofs.chunks.count_all.Goals as goal
 
 pub overflow_add-count : goal.overflow_add-count

@@ -1,105 +1,79 @@
-use Rattle.std.specs.Prelude.{◌≡◌, ℕ, ◌+◌, List, [], ◌∷◌, ◌++◌, length, map, take, drop, Some, option_map, ◌==◌, Result, Ok, Err, OnErr}
+use Rattle.std.specs.Prelude.{◌≡◌, refl, ℕ, List, length, take, drop, ◌==◌, OnErr, Result, Ok, Err}
 use Rattle.std.proofs.Common.{sym, ◌∙◌, ap, subst, arith, rules}
 use Rattle.std.proofs.lemmas.Bool.{eqb-true}
 use Rattle.std.proofs.lemmas.List.{length-take, nil_from_length}
+use Rattle.std.proofs.lemmas.Option.{slice_get_within}
 use Rattle.std.proofs.lemmas.Result.{on_ok_weaker, on_err_weaker, IfOk-from_err}
 use Rattle.packed_rows.specs.View.{row_of}
-use Rattle.grouping_model.specs.Datum.{Row}
-use Rattle.grouping_model.specs.Aggregates.{Partial}
-use Rattle.grouping_model.specs.Query.{Aggregate, Query}
-use Rattle.grouping_model.specs.Parts.{advanced}
 use Rattle.agg_protocol.specs.DenotingLaws.{width_known}
-use Rattle.agg_protocol.specs.declared.kind.AggKind.{AggKind}
-use Rattle.agg_protocol.specs.Kinds.{kind_shape, kind_width}
-use Rattle.agg_library.specs.StateRows.{DenotesAll}
+use Rattle.agg_protocol.specs.Kinds.{function_of, kind_shape, kind_width}
+use Rattle.agg_library.specs.StateRows.{partial_after}
+use Rattle.having_filter.specs.Kept.{TakesRows}
 use Rattle.having_filter.specs.Meaning.{meaning}
-use Rattle.group_runs.specs.StateLaws.{first_and_rest, dropped, joined}
-use Rattle.group_runs.proofs.StateLaws.{parted, first_named}
+use Rattle.group_runs.specs.PlaceLaws.{all_at}
+use Rattle.group_runs.proofs.StateLaws.{at_place, has_room, moved_on, none_advanced, none_left, reach_taken, room_parted, step_advanced}
 use Rattle.group_runs.proofs.states.+advance_from.Goals as goal
-
--- the states of no aggregates are no bytes
-none_left : (m : ℕ) (kinds : List AggKind) (bytes : List ℕ) (ps : List Partial) → length kinds ≡ 0 → DenotesAll m kinds bytes ps → bytes ≡ []
-none_left m [] bytes [] none d = d
-none_left m [] bytes (p ∷ ps) none d = absurd d
-none_left m (kind ∷ kinds) bytes ps none d = absurd (omega (arith, none))
-
-none_moved : (calls : List Aggregate) (kinds : List AggKind) (bytes : List ℕ) (row : Row) (m : ℕ) (ps : List Partial) → length kinds ≡ 0 → DenotesAll m kinds bytes ps → DenotesAll (m + 1) kinds bytes (advanced calls ps row)
-none_moved [] [] bytes row m [] none d = d
-none_moved (call ∷ calls) [] bytes row m [] none d = d
-none_moved calls [] bytes row m (p ∷ ps) none d = absurd d
-none_moved calls (kind ∷ kinds) bytes row m ps none d = absurd (omega (arith, none))
-
-none_within : (m : ℕ) (kinds : List AggKind) (bytes : List ℕ) → length kinds ≡ 0 → bytes ≡ [] → DenotesAll m kinds bytes []
-none_within m [] bytes none e = e
-none_within m (kind ∷ kinds) bytes none e = absurd (omega (arith, none))
 
 refused_by : {T E P : Type 0} (r : Result T E) → P → OnErr r P
 refused_by (Ok x) p = tt
 refused_by (Err e) p = p
 
-pub advance_one-requires-clause-kind : goal.advance_one-requires-clause-kind
-advance_one-requires-clause-kind t c =
-    let q : Query = meaning c.args.query.now in
-    let named = first_named c.in-Some.kind.now c.in-Some.kinds.now c.args.kinds.now (drop c.args.place q.aggregates) c.in-Some.ensures.cases.0 c.requires.kinds in
-    let at = dropped q.aggregates c.args.place named.0 named.1 named.2 in
-    ap (λ o. option_map (λ (a : Aggregate). a.function) o) at.0 ∙ ap Some named.3
+pub reach-requires : goal.reach-requires
+reach-requires t c =
+    let q = meaning c.args.query.now in
+    let at = at_place q.aggregates c.args.place c.in-Some.kind.now c.in-Some.kinds.now c.args.kinds.now c.in-Some.ensures.cases.0 c.requires.kinds in
+    slice_get_within q.aggregates c.args.place at.0 at.1
+
+pub advance-requires-clause-takes : goal.advance-requires-clause-takes
+advance-requires-clause-takes t c =
+    λ v some.
+    let q = meaning c.args.query.now in
+    let at = at_place q.aggregates c.args.place c.in-Some.kind.now c.in-Some.kinds.now c.args.kinds.now c.in-Some.ensures.cases.0 c.requires.kinds in
+    reach_taken q.kinds (function_of c.in-Some.kind.now) at.0 (row_of c.args.row.now) c.reach.result v
+    (all_at (TakesRows q.kinds) q.aggregates c.args.place at.0 c.requires.formed.aggregates at.1) c.requires.row at.2 (c.reach.ensures at.0 at.1) some
 
 pub advance_from-requires : goal.advance_from-requires
 advance_from-requires t c =
-    let q : Query = meaning c.args.query.now in
-    let named = first_named c.in-Some.kind.now c.in-Some.kinds.now c.args.kinds.now (drop c.args.place q.aggregates) c.in-Some.ensures.cases.0 c.requires.kinds in
-    let at = dropped q.aggregates c.args.place named.0 named.1 named.2 in
-    (search rules, (c.requires.formed, (c.requires.row, (named.4 ∙ ap (map (λ (a : Aggregate). a.function)) (sym at.1), c.requires.most))))
+    let q = meaning c.args.query.now in
+    let at = at_place q.aggregates c.args.place c.in-Some.kind.now c.in-Some.kinds.now c.args.kinds.now c.in-Some.ensures.cases.0 c.requires.kinds in
+    (search rules, (c.requires.formed, (c.requires.row, (at.3, c.requires.most))))
 
-pub returns-clause-moved : goal.returns-clause-moved
-returns-clause-moved t c =
+pub returns-clause-advanced : goal.returns-clause-advanced
+returns-clause-advanced t c =
+    let q = meaning c.args.query.now in let kind = c.in-Some.kind.now in let front = c.split_at_mut-part.result.0.now in
     on_ok_weaker c.advance_from.result
-    (λ moved most ps low denoted.
-    let q : Query = meaning c.args.query.now in
-    let named = first_named c.in-Some.kind.now c.in-Some.kinds.now c.args.kinds.now (drop c.args.place q.aggregates) c.in-Some.ensures.cases.0 c.requires.kinds in
-    let at = dropped q.aggregates c.args.place named.0 named.1 named.2 in
-    let parts = parted most c.in-Some.kind.now c.in-Some.kinds.now c.args.kinds.now c.args.states.now c.split_at_mut-part.result.0.now c.split_at_mut-part.result.1.now ps c.in-Some.ensures.cases.0
-    (c.split_at_mut-part.ensures.front ∙ ap (λ n. take n c.args.states.now) c.width-2.ensures) (c.split_at_mut-part.ensures.back ∙ ap (λ n. drop n c.args.states.now) c.width-2.ensures) denoted in
-    let whole : advanced (drop c.args.place q.aggregates) ps (row_of c.args.row.now) ≡ advanced (named.0 ∷ named.1) (parts.0 ∷ parts.1) (row_of c.args.row.now) = λ i. advanced (named.2 i) (parts.2 i) (row_of c.args.row.now) in
-    subst (DenotesAll (most + 1) c.args.kinds.now (c.advance_one.new.part ++ c.advance_from.new.states)) (sym whole)
-    (joined (most + 1) c.in-Some.kind.now c.args.kinds.now c.in-Some.kinds.now c.advance_one.new.part c.advance_from.new.states _ _ c.in-Some.ensures.cases.0
-    (c.in_ok-advance_one.ensures.moved most parts.0 named.0 at.0 low parts.3)
-    (subst (λ calls. DenotesAll (most + 1) c.in-Some.kinds.now c.advance_from.new.states (advanced calls parts.1 (row_of c.args.row.now))) at.1 (moved most parts.1 low parts.4))))
-    c.advance_from.ensures.moved
-
-pub returns-clause-within : goal.returns-clause-within
-returns-clause-within t c =
-    on_ok_weaker c.advance_from.result
-    (λ within.
-    let first = c.in_ok-advance_one.ensures.within in
-    (first.0 ∷ within.0, joined c.args.most c.in-Some.kind.now c.args.kinds.now c.in-Some.kinds.now c.advance_one.new.part c.advance_from.new.states first.0 within.0 c.in-Some.ensures.cases.0 first.1 within.1))
-    c.advance_from.ensures.within
+    (step_advanced q.aggregates c.args.place kind c.in-Some.kinds.now c.args.kinds.now c.args.most c.args.states.now front c.split_at_mut-part.result.1.now c.advance.new.part c.advance_from.new.states (row_of c.args.row.now)
+    c.in-Some.ensures.cases.0 c.requires.kinds
+    (c.split_at_mut-part.ensures.front ∙ ap (λ n. take n c.args.states.now) c.width-2.ensures) (c.split_at_mut-part.ensures.back ∙ ap (λ n. drop n c.args.states.now) c.width-2.ensures)
+    (λ a at named m p low denoted.
+    let done = c.in_ok-advance.ensures.ok in
+    moved_on kind a (row_of c.args.row.now) c.reach.result m c.args.most p done.0 front c.advance.new.part named (c.reach.ensures a at) low c.requires.most denoted done.1 done.2)
+    (let done = c.in_ok-advance.ensures.ok in (partial_after (function_of kind) done.0 c.reach.result, done.2)))
+    c.advance_from.ensures.advanced
 
 pub returns-clause-refused : goal.returns-clause-refused
 returns-clause-refused t c =
     on_err_weaker c.advance_from.result
     (λ refused room.
-    let parts = parted room.0 c.in-Some.kind.now c.in-Some.kinds.now c.args.kinds.now c.args.states.now c.split_at_mut-part.result.0.now c.split_at_mut-part.result.1.now room.1 c.in-Some.ensures.cases.0
-    (c.split_at_mut-part.ensures.front ∙ ap (λ n. take n c.args.states.now) c.width-2.ensures) (c.split_at_mut-part.ensures.back ∙ ap (λ n. drop n c.args.states.now) c.width-2.ensures) room.2 in
-    refused (room.0, parts.1, parts.4, room.3))
+    refused (room_parted (meaning c.args.query.now).aggregates c.args.place c.in-Some.kind.now c.in-Some.kinds.now c.args.kinds.now c.args.most c.args.states.now c.split_at_mut-part.result.0.now c.split_at_mut-part.result.1.now
+    c.in-Some.ensures.cases.0 c.requires.kinds
+    (c.split_at_mut-part.ensures.front ∙ ap (λ n. take n c.args.states.now) c.width-2.ensures) (c.split_at_mut-part.ensures.back ∙ ap (λ n. drop n c.args.states.now) c.width-2.ensures) room).4)
     c.advance_from.ensures.refused
 
 pub returns-then-is_empty : goal.returns-then-is_empty
 returns-then-is_empty t c =
-    let none = c.in_default.ensures.cases in
     record {
-      moved = λ most ps low denoted. none_moved (drop c.args.place (meaning c.args.query.now).aggregates) c.args.kinds.now c.args.states.now (row_of c.args.row.now) most ps none denoted;
-      within = ([], none_within c.args.most c.args.kinds.now c.args.states.now none (nil_from_length c.args.states.now (eqb-true (length c.args.states.now) 0 (sym c.is_empty.ensures ∙ c.if-is_empty.true))));
+      advanced = none_advanced _ c.args.kinds.now c.args.most c.args.states.now (row_of c.args.row.now) c.in_default.ensures.cases c.requires.kinds
+          (nil_from_length c.args.states.now (eqb-true (length c.args.states.now) 0 (sym c.is_empty.ensures ∙ c.if-is_empty.true)));
       refused = tt;
     }
 
 pub returns-else-is_empty : goal.returns-else-is_empty
 returns-else-is_empty t c =
     record {
-      moved = tt;
-      within = tt;
+      advanced = tt;
       refused = λ room.
-          let none = none_left room.0 c.args.kinds.now c.args.states.now room.1 c.in_default.ensures.cases room.2 in
+          let none = none_left _ c.args.kinds.now c.args.most c.args.states.now c.in_default.ensures.cases c.requires.kinds room in
           let empty = c.is_empty.ensures ∙ ap (λ (bytes : List ℕ). length bytes == 0) none in
           let other = c.if-is_empty.false in
           cc;
@@ -108,23 +82,25 @@ returns-else-is_empty t c =
 pub returns-then-states-width : goal.returns-then-states-width
 returns-then-states-width t c =
     record {
-      moved = tt;
-      within = tt;
+      advanced = tt;
       refused = λ room.
           let kind = c.in-Some.kind.now in let bytes = c.args.states.now in
-          let parts = first_and_rest room.0 kind c.in-Some.kinds.now bytes room.1 (subst (λ kinds. DenotesAll room.0 kinds bytes room.1) c.in-Some.ensures.cases.0 room.2) in
-          let wide = width_known room.0 (kind_shape kind) (take (kind_width kind) bytes) parts.0 parts.3 in
+          let parts = room_parted (meaning c.args.query.now).aggregates c.args.place kind c.in-Some.kinds.now c.args.kinds.now c.args.most bytes (take (kind_width kind) bytes) (drop (kind_width kind) bytes)
+          c.in-Some.ensures.cases.0 c.requires.kinds refl refl room in
+          let wide = width_known parts.0 (kind_shape kind) (take (kind_width kind) bytes) parts.1 parts.3 in
           let taken = length-take (kind_width kind) bytes in
           omega (arith, wide, taken);
     }
 
-pub returns-in_err-advance_one : goal.returns-in_err-advance_one
-returns-in_err-advance_one t c =
+pub returns-in_err-advance : goal.returns-in_err-advance
+returns-in_err-advance t c =
     record {
-      moved = IfOk-from_err c.from_residual.result _ c.from_residual.ensures.0;
-      within = IfOk-from_err c.from_residual.result _ c.from_residual.ensures.0;
+      advanced = IfOk-from_err c.from_residual.result _ c.from_residual.ensures.0;
       refused = refused_by c.from_residual.result (λ room.
-          let parts = parted room.0 c.in-Some.kind.now c.in-Some.kinds.now c.args.kinds.now c.args.states.now c.split_at_mut-part.result.0.now c.split_at_mut-part.result.1.now room.1 c.in-Some.ensures.cases.0
-          (c.split_at_mut-part.ensures.front ∙ ap (λ n. take n c.args.states.now) c.width-2.ensures) (c.split_at_mut-part.ensures.back ∙ ap (λ n. drop n c.args.states.now) c.width-2.ensures) room.2 in
-          c.in_err-advance_one.ensures.refused room.0 parts.0 room.3 parts.3);
+          let q = meaning c.args.query.now in let kind = c.in-Some.kind.now in let front = c.split_at_mut-part.result.0.now in
+          let at = at_place q.aggregates c.args.place kind c.in-Some.kinds.now c.args.kinds.now c.in-Some.ensures.cases.0 c.requires.kinds in
+          let parts = room_parted q.aggregates c.args.place kind c.in-Some.kinds.now c.args.kinds.now c.args.most c.args.states.now front c.split_at_mut-part.result.1.now
+          c.in-Some.ensures.cases.0 c.requires.kinds
+          (c.split_at_mut-part.ensures.front ∙ ap (λ n. take n c.args.states.now) c.width-2.ensures) (c.split_at_mut-part.ensures.back ∙ ap (λ n. drop n c.args.states.now) c.width-2.ensures) room in
+          has_room kind at.0 (row_of c.args.row.now) c.reach.result parts.0 c.args.most parts.1 front at.2 (c.reach.ensures at.0 at.1) parts.2 parts.3 c.in_err-advance.ensures.err);
     }

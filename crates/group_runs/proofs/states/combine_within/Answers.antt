@@ -7,7 +7,7 @@ use Rattle.grouping_model.specs.Parts.{functions}
 use Rattle.agg_library.specs.StateRows.{DenotesAll}
 use Rattle.agg_protocol.specs.Kinds.{functions_of}
 use Rattle.having_filter.specs.Meaning.{meaning}
-use Rattle.group_runs.specs.StateLaws.{states_by}
+use Rattle.group_runs.specs.StandingLaws.{states_by}
 use Rattle.group_runs.proofs.StateLaws.{combined, can_combine}
 use Rattle.group_runs.proofs.states.combine_within.Goals as goal
 

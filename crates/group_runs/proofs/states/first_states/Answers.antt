@@ -6,7 +6,7 @@ use Rattle.grouping_model.specs.Parts.{functions}
 use Rattle.agg_library.specs.StateRows.{DenotesAll}
 use Rattle.having_filter.specs.Meaning.{meaning}
 use Rattle.group_runs.specs.Standing.{AreStates}
-use Rattle.group_runs.specs.StateLaws.{fits}
+use Rattle.agg_library.specs.StateRowLaws.{fits}
 use Rattle.group_runs.proofs.StateLaws.{initial_are, written_over}
 use Rattle.group_runs.proofs.states.first_states.Goals as goal
 

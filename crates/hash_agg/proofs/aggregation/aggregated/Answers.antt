@@ -12,10 +12,9 @@ use Rattle.having_filter.specs.Meaning.{meaning}
 use Rattle.group_runs.specs.Runs.{Entry, Rises}
 use Rattle.group_runs.specs.Standing.{AreGroups}
 use Rattle.hash_agg.specs.Added.{CountsWithin, IsSafeRun, query_of, setting_in}
-use Rattle.hash_agg.specs.Adding.{Given, AllGive}
 use Rattle.hash_agg.specs.Counting.{HasFewPasses, IsCounted, setting_by}
 use Rattle.packed_rows.specs.RowsOnEnd.{on_end}
-use Rattle.hash_agg.specs.Inputs.{Brought, brought, all_rows, IsInput, IsAggregate, IsRunOver}
+use Rattle.hash_agg.specs.Inputs.{Brought, brought, all_rows, IsInput, IsAggregate, IsRunOver, Given, AllGive}
 use Rattle.hash_agg.specs.Passes.{AreSafe, CountUpTo, IsPlan, Stands, setting_for, records_of, all_pieces}
 use Rattle.hash_agg.specs.Waiting.{AddsUp}
 use Rattle.hash_agg.specs.declared.pass.Pass.{Pass}

@@ -10,7 +10,7 @@ use Rattle.spill_lists.specs.declared.error.SpillError.TheVariants.{NoMemory}
 use Rattle.aggregation_cost.specs.Space.{Setting}
 use Rattle.grouping_model.specs.Query.{Query}
 use Rattle.having_filter.specs.Meaning.{meaning}
-use Rattle.group_runs.specs.StateLaws.{all_at}
+use Rattle.group_runs.specs.PlaceLaws.{all_at}
 use Rattle.hash_agg.specs.Added.{AreInputs, Finished, MadeFirst, query_of, setting_in, source_of}
 use Rattle.hash_agg.specs.Inputs.{Brought, brought, rows_in, IsInput}
 use Rattle.hash_agg.specs.Passes.{PassState, standing, entries_of, AreSafe, Holds, total, all_pieces, brought_by}

@@ -1,4 +1,4 @@
-use Rattle.group_runs.specs.EntryLaws.{groups_raised}
+use Rattle.group_runs.specs.StandingLaws.{groups_raised}
 use Rattle.hash_agg.proofs.laws.more_rows.Goals as goal
 
 pub returns-clause-groups : goal.returns-clause-groups

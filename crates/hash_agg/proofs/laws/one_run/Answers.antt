@@ -1,6 +1,6 @@
 use Rattle.std.proofs.Common.{sym, subst}
 use Rattle.group_runs.specs.Standing.{AreGroups}
-use Rattle.hash_agg.specs.BytesLaws.{stands_spelled, spelled_stands}
+use Rattle.group_runs.specs.StandingLaws.{stands_spelled, spelled_stands}
 use Rattle.hash_agg.proofs.laws.one_run.Goals as goal
 
 pub returns : goal.returns

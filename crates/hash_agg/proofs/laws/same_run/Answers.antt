@@ -1,5 +1,5 @@
 use Rattle.std.proofs.Common.{sym, ◌∙◌}
-use Rattle.hash_agg.specs.BytesLaws.{stands_spelled}
+use Rattle.group_runs.specs.StandingLaws.{stands_spelled}
 use Rattle.hash_agg.proofs.laws.same_run.Goals as goal
 
 pub returns : goal.returns

@@ -8,8 +8,8 @@ use Rattle.agg_protocol.specs.States.{most_rows}
 use Rattle.agg_protocol.specs.declared.kind.AggKind.TheVariants.{CountRows}
 use Rattle.agg_protocol.specs.Kinds.{kind_shape}
 use Rattle.agg_library.specs.StateRows.{DenotesAll}
-use Rattle.group_runs.specs.StateLaws.{raised}
-use Rattle.group_runs.specs.RunLaws.{take_found}
+use Rattle.agg_library.specs.StateRowLaws.{raised}
+use Rattle.group_runs.specs.PlaceLaws.{take_found}
 use Rattle.replica_merge.proofs.ShownLaws.{partials_long, next_state}
 use Rattle.replica_merge.proofs.showing.finish_states.Goals as goal
 

@@ -9,7 +9,7 @@ use Rattle.grouping_model.specs.Answer.{outcome_at, source_in}
 use Rattle.packed_rows.specs.View.{row_of}
 use Rattle.agg_protocol.specs.Results.{outcome_of}
 use Rattle.having_filter.specs.Meaning.{meaning}
-use Rattle.group_runs.specs.StateLaws.{states_by}
+use Rattle.group_runs.specs.StandingLaws.{states_by}
 use Rattle.replica_merge.proofs.ShownLaws.{sources_are, key_is, shown, not_shown}
 use Rattle.replica_merge.proofs.showing.push_group.Goals as goal
 

@@ -6,7 +6,7 @@ use Rattle.grouping_model.specs.Query.{Query}
 use Rattle.grouping_model.specs.Order.{ordered}
 use Rattle.grouping_model.specs.Answer.{rows_of, answer_of}
 use Rattle.having_filter.specs.Meaning.{meaning, order_term}
-use Rattle.group_runs.specs.RunLaws.{groups_long}
+use Rattle.group_runs.specs.StandingLaws.{groups_long}
 use Rattle.replica_merge.proofs.ShownLaws.{answered_some}
 use Rattle.replica_merge.proofs.showing.show.Goals as goal
 

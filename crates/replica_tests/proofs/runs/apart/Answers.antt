@@ -3,7 +3,7 @@ use Rattle.std.specs.declared.alloc.Global.{Global}
 use Rattle.std.specs.declared.vec.Vec.{Vec}
 use Rattle.std.proofs.Common.{sym, ◌∙◌, ap}
 use Rattle.std.proofs.lemmas.List.{map_push}
-use Rattle.group_runs.specs.RunLaws.{take_found}
+use Rattle.group_runs.specs.PlaceLaws.{take_found}
 use Rattle.packed_rows.specs.View.{bytes_of}
 use Rattle.replica_tests.proofs.runs.apart.Goals as goal
 

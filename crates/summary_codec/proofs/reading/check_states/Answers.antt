@@ -1,5 +1,5 @@
 use Rattle.std.proofs.Common.{refl}
-use Rattle.group_runs.specs.StateLaws.{states_by}
+use Rattle.group_runs.specs.StandingLaws.{states_by}
 use Rattle.grouping_model.specs.Parts.{functions}
 use Rattle.having_filter.specs.Meaning.{meaning}
 use Rattle.summary_codec.proofs.reading.check_states.Goals as goal

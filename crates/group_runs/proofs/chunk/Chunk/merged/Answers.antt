@@ -7,7 +7,7 @@ use Rattle.packed_rows.specs.RowsOnEnd.{on_end}
 use Rattle.group_runs.specs.Places.{AllBelow}
 use Rattle.group_runs.specs.Standing.{AreGroups}
 use Rattle.group_runs.specs.Steps.{AddsRun}
-use Rattle.group_runs.specs.EntryLaws.{groups_raised}
+use Rattle.group_runs.specs.StandingLaws.{groups_raised}
 use Rattle.group_runs.proofs.RunLaws.{room_next, added_next, added_all}
 use Rattle.group_runs.proofs.ChunkLaws.{get_range, range_long}
 use Rattle.group_runs.proofs.PlaceLaws.{all_up_to, keys_next}

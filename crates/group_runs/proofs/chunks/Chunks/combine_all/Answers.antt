@@ -3,8 +3,8 @@ use Rattle.std.proofs.Common.{refl, ◌∙◌, ap, arith}
 use Rattle.having_filter.specs.Meaning.{meaning}
 use Rattle.group_runs.specs.Runs.{Entry, packed_keys}
 use Rattle.group_runs.specs.Places.{HasKey}
-use Rattle.group_runs.specs.StateLaws.{all_at}
-use Rattle.group_runs.specs.EntryLaws.{groups_raised}
+use Rattle.group_runs.specs.PlaceLaws.{all_at}
+use Rattle.group_runs.specs.StandingLaws.{groups_raised}
 use Rattle.group_runs.proofs.RunLaws.{room_next, added_next, added_all}
 use Rattle.group_runs.proofs.PlaceLaws.{key_at, all_up_to, keys_next}
 use Rattle.packed_rows.specs.RowsOnEnd.{on_end}

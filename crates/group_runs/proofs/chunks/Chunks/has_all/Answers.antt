@@ -6,7 +6,7 @@ use Rattle.list_laws.specs.Each.{each_append}
 use Rattle.group_runs.specs.Runs.{Entry, packed_keys}
 use Rattle.group_runs.specs.Places.{HasKey, HasKeyAt}
 use Rattle.group_runs.proofs.ChunkLaws.{got_low}
-use Rattle.group_runs.specs.RunLaws.{take_found}
+use Rattle.group_runs.specs.PlaceLaws.{take_found}
 use Rattle.group_runs.proofs.PlaceLaws.{key_at}
 use Rattle.packed_rows.specs.RowsOnEnd.{on_end}
 use Rattle.group_runs.proofs.chunks.Chunks.has_all.Goals as goal

@@ -3,7 +3,7 @@ use Rattle.std.proofs.Common.{sym, ◌∙◌, ap}
 use Rattle.std.proofs.lemmas.Slice.Eq.{bytes_eq-Decides}
 use Rattle.std.specs.Str.{bytes_eq}
 use Rattle.group_runs.specs.Runs.{Entry}
-use Rattle.group_runs.specs.RunLaws.{take_found}
+use Rattle.group_runs.specs.PlaceLaws.{take_found}
 use Rattle.group_runs.proofs.run.Run.same_groups.Goals as goal
 
 not_other : (b : Bool) → false ≡ not b → b ≡ true

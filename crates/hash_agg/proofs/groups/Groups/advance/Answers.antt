@@ -17,8 +17,8 @@ returns-clause-written g c =
     let wide : length c.advance_slice.new.states ≡ c.self.inside.table.width = search rules in
     on_ok_weaker c.advance_slice.result
     (λ advanced.
-    subst (λ (x : GroupsState g.row.H.Denot). WritesAt x c.args.slot (AreAdvanced (meaning c.args.query.now) c.args.most (state_in x.table x.tree c.args.slot) (row_of c.args.row.now)) after) c.self.view_is
-    (λ place at. (c.advance_slice.new.states, subst (λ b. AreAdvanced (meaning c.args.query.now) c.args.most b (row_of c.args.row.now) c.advance_slice.new.states) c.state_mut-states.ensures.state advanced, c.state_mut-states.ensures.written c.advance_slice.new.states place wide at)))
+    subst (λ (x : GroupsState g.row.H.Denot). WritesAt x c.args.slot (AreAdvanced (meaning c.args.query.now).aggregates c.args.most (state_in x.table x.tree c.args.slot) (row_of c.args.row.now)) after) c.self.view_is
+    (λ place at. (c.advance_slice.new.states, subst (λ b. AreAdvanced (meaning c.args.query.now).aggregates c.args.most b (row_of c.args.row.now) c.advance_slice.new.states) c.state_mut-states.ensures.state advanced, c.state_mut-states.ensures.written c.advance_slice.new.states place wide at)))
     c.advance_slice.ensures.advanced
 
 pub returns-clause-refused : goal.returns-clause-refused

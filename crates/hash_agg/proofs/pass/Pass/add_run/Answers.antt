@@ -5,7 +5,7 @@ use Rattle.spill_lists.specs.Errors.{spill_faults}
 use Rattle.grouping_model.specs.Grouping.{Group}
 use Rattle.having_filter.specs.Meaning.{meaning}
 use Rattle.group_runs.specs.Standing.{StandsFor}
-use Rattle.group_runs.specs.RunLaws.{group_at}
+use Rattle.group_runs.specs.StandingLaws.{group_at}
 use Rattle.hash_agg.specs.Added.{Entries, query_of}
 use Rattle.hash_agg.specs.declared.plan.Plan.{Plan}
 use Rattle.hash_agg.proofs.AddedLaws.{none_added, next_added, next_refused, all_added, entry_is_at}

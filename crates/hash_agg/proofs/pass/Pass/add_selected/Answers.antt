@@ -21,7 +21,7 @@ returns-in-Ok g c =
     let q : Query = query_of c.args.self.now in
     record {
       added =
-          there_added g.H.KeyHash.hash_of g.D.TapeDisk (Packed_rows (c.args.packed.now ∷ [])) c.args.self.now c.args.disk.now c.args.key.now (λ old new. AreAdvanced q c.args.self.now.plan.most old (row_of c.args.row.now) new) c.requires.ready
+          there_added g.H.KeyHash.hash_of g.D.TapeDisk (Packed_rows (c.args.packed.now ∷ [])) c.args.self.now c.args.disk.now c.args.key.now (λ old new. AreAdvanced q.aggregates c.args.self.now.plan.most old (row_of c.args.row.now) new) c.requires.ready
           (row_told q c.args.self.now.plan.most c.args.packed.now c.args.key.now (row_of c.args.row.now) c.requires.ready.plan.formed c.requires.selected)
           c.advance.new.self c.in-Some.slot c.find.ensures.once c.in-Some.ensures.found c.in-Ok.ensures.written c.advance.ensures.table c.advance.ensures.hash c.advance.ensures.held (λ new moved. moved.within);
       refused = tt;
@@ -38,7 +38,7 @@ returns-in-Err g c =
                 λ can same.
                 let q : Query = query_of c.args.self.now in
                 let room = there_room c.args.self.now.plan (g.H.KeyHash.hash_of c.args.self.now.groups.hash) c.args.self.now.groups c.args.self.now.lists (g.D.TapeDisk.last c.args.disk.now) c.args.key.now
-                (AreRows q (c.args.packed.now ∷ [])) (λ old new. AreAdvanced q c.args.self.now.plan.most old (row_of c.args.row.now) new)
+                (AreRows q (c.args.packed.now ∷ [])) (λ old new. AreAdvanced q.aggregates c.args.self.now.plan.most old (row_of c.args.row.now) new)
                 (row_told q c.args.self.now.plan.most c.args.packed.now c.args.key.now (row_of c.args.row.now) c.requires.ready.plan.formed c.requires.selected)
                 c.in-Some.slot c.in-Some.ensures.found can in
                 let low = room.5 in
@@ -64,7 +64,7 @@ returns-in_err-first_after g c =
             undamaged =
                 λ can.
                 let room = new_room c.args.self.now.plan (g.H.KeyHash.hash_of c.args.self.now.groups.hash) c.args.self.now.groups c.args.self.now.lists (g.D.TapeDisk.last c.args.disk.now) c.args.key.now
-                (AreRows q (c.args.packed.now ∷ [])) (λ old new. AreAdvanced q c.args.self.now.plan.most old (row_of c.args.row.now) new)
+                (AreRows q (c.args.packed.now ∷ [])) (λ old new. AreAdvanced q.aggregates c.args.self.now.plan.most old (row_of c.args.row.now) new)
                 (row_told q c.args.self.now.plan.most c.args.packed.now c.args.key.now (row_of c.args.row.now) c.requires.ready.plan.formed c.requires.selected) can in
                 let low = room.2 in
                 c.in_err-first_after.ensures.undamaged (0, partials q [], c.requires.ready.plan.states, omega (arith, low));
@@ -84,7 +84,7 @@ returns-in-Some-room_for g c =
     let within = c.in_ok-first_after.ensures.advanced.within in
     record {
       added =
-          new_added g.H.KeyHash.hash_of g.D.TapeDisk (Packed_rows (c.args.packed.now ∷ [])) c.args.self.now c.args.disk.now c.args.key.now (λ old new. AreAdvanced q c.args.self.now.plan.most old (row_of c.args.row.now) new) c.requires.ready
+          new_added g.H.KeyHash.hash_of g.D.TapeDisk (Packed_rows (c.args.packed.now ∷ [])) c.args.self.now c.args.disk.now c.args.key.now (λ old new. AreAdvanced q.aggregates c.args.self.now.plan.most old (row_of c.args.row.now) new) c.requires.ready
           (row_told q c.args.self.now.plan.most c.args.packed.now c.args.key.now (row_of c.args.row.now) c.requires.ready.plan.formed c.requires.selected)
           c.enter.new.self c.first_after.new.states.items c.in-Some-room_for.need c.in_default.ensures.found c.in-Some-room_for.ensures.room (c.in-Some-room_for.ensures.exact (g.H.KeyHash.hash_of c.args.self.now.groups.hash))
           (c.in_ok-enter.ensures.entered ∙ ap (λ states. entries_of c.args.self.now.groups ++ (c.args.key.now, states) ∷ []) c.deref.ensures.value) c.enter.ensures.table
@@ -103,7 +103,7 @@ returns g c =
     let q : Query = query_of c.args.self.now in
     record {
       added =
-          left_added g.H.KeyHash.hash_of g.D.TapeDisk (Packed_rows (c.args.packed.now ∷ [])) c.args.self.now c.args.disk.now c.args.key.now (λ old new. AreAdvanced q c.args.self.now.plan.most old (row_of c.args.row.now) new) c.requires.ready
+          left_added g.H.KeyHash.hash_of g.D.TapeDisk (Packed_rows (c.args.packed.now ∷ [])) c.args.self.now c.args.disk.now c.args.key.now (λ old new. AreAdvanced q.aggregates c.args.self.now.plan.most old (row_of c.args.row.now) new) c.requires.ready
           (row_told q c.args.self.now.plan.most c.args.packed.now c.args.key.now (row_of c.args.row.now) c.requires.ready.plan.formed c.requires.selected)
           c.spill.result c.spill.new.self c.spill.new.disk (record { hash = c.hash-hash.result; tag = 0; bytes = c.args.packed.now }) c.in_default.ensures.found
           (key_brief q c.args.key.now (key_of q (row_of c.args.row.now)) c.requires.ready.plan.formed c.requires.selected.named (key_has q (row_of c.args.row.now) c.requires.ready.plan.formed.keys c.requires.selected.has))

@@ -4,7 +4,8 @@ use Rattle.grouping_model.specs.Query.{Query}
 use Rattle.grouping_model.specs.Parts.{functions}
 use Rattle.packed_rows.specs.View.{row_of}
 use Rattle.having_filter.specs.Meaning.{meaning}
-use Rattle.group_runs.specs.StateLaws.{states_by, all_raised}
+use Rattle.group_runs.specs.StandingLaws.{states_by}
+use Rattle.agg_library.specs.StateRowLaws.{all_raised}
 use Rattle.hash_agg.proofs.plan.Plan.check_group.Goals as goal
 
 pub returns-in-Ok-check-clause-stands : goal.returns-in-Ok-check-clause-stands

@@ -1,5 +1,5 @@
 use Rattle.having_filter.specs.Meaning.{meaning}
-use Rattle.group_runs.specs.StateLaws.{states_short, states_long}
+use Rattle.group_runs.specs.StandingLaws.{states_short, states_long}
 use Rattle.hash_agg.proofs.plan.Plan.new.Goals as goal
 
 pub returns-clause-plan : goal.returns-clause-plan
