@@ -1,15 +1,20 @@
 -- What a pass adds: one thing, and one thing after the other.
-use Rattle.std.specs.Prelude.{◌≡◌, refl, ℕ, ◌+◌, ◌≤◌, ◌&&◌, true, false, cond, List, [], ◌∷◌, ◌++◌, length, slice_get, Some, None, OnOk, Ok, Err}
+use Rattle.std.specs.Prelude.{◌≡◌, ◌≢◌, refl, ℕ, ◌+◌, ◌≤◌, ◌&&◌, true, false, cond, List, [], ◌∷◌, ◌++◌, length, slice_get, Some, None, OnOk, Ok, Err, IsErrAnd}
 use Rattle.std.specs.declared.result.Result.{Result}
 use Rattle.std.proofs.Common.{sym, ◌∙◌, ap, subst, arith}
 use Rattle.std.proofs.lemmas.List.Sums.{sum_by-cons}
+use Rattle.std.proofs.lemmas.Result.{err_from_is_err_and}
+use Rattle.tape_disks.specs.Disk.{Leaves}
+use Rattle.tape_disks.specs.DiskLaws.{leaves_none}
 use Rattle.grouping_model.specs.Query.{Query}
 use Rattle.grouping_model.specs.Grouping.{Group}
 use Rattle.grouping_model.specs.Parts.{functions}
 use Rattle.spill_tapes.specs.Records.{Record}
 use Rattle.tape_disks.specs.declared.disk.TapeDisk.{Ghosts}
 use Rattle.spill_lists.specs.Standing.{ListsState, KeepsRest, Spilled}
+use Rattle.spill_lists.specs.Errors.{spill_faults}
 use Rattle.spill_lists.specs.declared.error.SpillError.{SpillError}
+use Rattle.spill_lists.specs.declared.error.SpillError.TheVariants.{TapeDamaged, TapeFault}
 use Rattle.group_table.specs.Table.{Names, HasNo, state_in}
 use Rattle.group_table.specs.declared.table.Slot.{Slot}
 use Rattle.group_runs.specs.Runs.{Entry, packed_keys}
@@ -17,14 +22,15 @@ use Rattle.aggregation_cost.specs.Passes.{is_empty}
 use Rattle.aggregation_cost.specs.Space.{fits}
 use Rattle.group_runs.specs.Standing.{AreStates, StandsFor}
 use Rattle.group_runs.specs.Steps.{AreWithin}
-use Rattle.hash_agg.specs.Passes.{Piece, Of_row, Of_group, AreOnce, AreSafe, GroupsState, IsPiece, IsSameTable, Proceeds, WritesAt, WritesPages, Brings, entries_of, standing, setting_of, weight, brings, brought_by}
-use Rattle.hash_agg.specs.Added.{Source, Entries, Are, Added, AddedBy, AddedOne, HasRoom, IsReady, KeepsLater, KeepsPass, Refused, RefusedBy, enters, query_of}
+use Rattle.hash_agg.specs.Passes.{Piece, Of_row, Of_group, AreOnce, AreSafe, GroupsState, IsPiece, IsSameTable, Proceeds, WritesAt, WritesPages, Brings, CanRead, entries_of, standing, setting_of, weight, brings, brought_by}
+use Rattle.hash_agg.specs.Added.{Source, Entries, Are, Added, AddedBy, AddedOne, Adds, HasRoom, IsReady, KeepsLater, KeepsPass, Refused, RefusedBy, enters, query_of}
 use Rattle.hash_agg.specs.declared.pass.Pass.{Pass}
 use Rattle.hash_agg.specs.declared.plan.Plan.{Plan}
+use Rattle.hash_agg.proofs.DiskLaws.{left_out, leaves_still}
 use Rattle.hash_agg.proofs.NeedLaws.{first_fits}
 use Rattle.hash_agg.proofs.PassLaws.{IsKept, after}
 use Rattle.hash_agg.proofs.ReturnLaws.{same_table, same_table_twice, same_rest, keeps_rest_twice, moved_table, moved_proceeds, spilled_proceeds}
-use Rattle.hash_agg.proofs.StepLaws.{BringsSome, IsAt, ReadsSome, Told, one_there, one_new, one_left, safe_there, safe_new, fit_told, proceeds_new, group_is_at, next_room, next_read, none_read, all_read, next_brings, all_brings}
+use Rattle.hash_agg.proofs.StepLaws.{err_out, BringsSome, IsAt, ReadsSome, Told, one_there, one_new, one_left, safe_there, safe_new, fit_told, proceeds_new, group_is_at, next_room, next_read, none_read, all_read, next_brings, all_brings}
 
 -- ---- a pass that stays what it is
 
@@ -61,6 +67,27 @@ pub fresh_enters : {H : Type 0} (hash : List ℕ → ℕ) (pass : Pass H) (key :
 fresh_enters hash pass key ready short empty clear =
     (λ i. is_empty (clear i) && fits (setting_of pass.plan hash) (packed_keys (empty i) ++ key ∷ []))
     ∙ first_fits (setting_of pass.plan hash) key ready.plan.limit ready.plan.narrow short
+
+-- ---- a refusal that a `?` hands on
+
+pub refused_out : {H D T : Type 0} {Done : (H → List ℕ → ℕ) → Ghosts D → Source → Pass H → D → Pass H → D → Type 0} {hash_of : H → List ℕ → ℕ} {g : Ghosts D} {what : Source} {old new : Pass H} {before after : D}
+    → (r : Result T SpillError) (e : SpillError) → IsErrAnd r (λ x. x ≡ e) → Refused hash_of g what old before e new → Leaves g (spill_faults e) before after → Adds Done hash_of g what old before r new after
+refused_out {Done = Done} {hash_of = hash_of} {g = g} {what = what} {old = old} {new = new} {before = before} {after = after} r e given refusal leaves =
+    record {
+      added = subst (λ r. OnOk r (Done hash_of g what old before new after)) (sym (err_from_is_err_and r given).1) tt;
+      refused = err_out r e (λ e. Refused hash_of g what old before e new) given refusal;
+      disk = left_out g r e before after given leaves;
+    }
+
+pub refused_still : {H D T : Type 0} {Done : (H → List ℕ → ℕ) → Ghosts D → Source → Pass H → D → Pass H → D → Type 0} {hash_of : H → List ℕ → ℕ} {g : Ghosts D} {what : Source} {old new : Pass H} {before : D}
+    → (r : Result T SpillError) (e : SpillError) → IsErrAnd r (λ x. x ≡ e) → Refused hash_of g what old before e new → e ≢ TapeFault → Adds Done hash_of g what old before r new before
+refused_still {g = g} {before = before} r e given refusal none = refused_out r e given refusal (leaves_still g e before none)
+
+-- a tape that gave back what was not written to it is found by the call itself
+pub damaged_here : {H D T : Type 0} {Done : (H → List ℕ → ℕ) → Ghosts D → Source → Pass H → D → Pass H → D → Type 0} {hash_of : H → List ℕ → ℕ} {g : Ghosts D} {what : Source} {old new : Pass H} {before : D}
+    → (CanRead old.plan (hash_of old.groups.hash) (Are (query_of old) (hash_of old.groups.hash) what) (standing old.groups old.lists (g.last before)) → ⊥)
+    → KeepsPass old new → Adds {T = T} Done hash_of g what old before (Err TapeDamaged) new before
+damaged_here {g = g} {before = before} never kept = record { added = tt; refused = record { undamaged = λ can same. never can; kept = kept }; disk = leaves_none g before }
 
 -- ---- one thing
 

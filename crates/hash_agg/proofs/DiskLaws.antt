@@ -19,7 +19,7 @@ module _ {D : Type 0} (g : Ghosts D) where
       subst (λ r. Leaves g (failed spill_faults r) old new) (sym p.1) (subst (λ e. Leaves g (spill_faults e) old new) (sym p.2) leaves)
 
   -- a call without a disk
-  leaves_still : (e : SpillError) (disk : D) → e ≢ TapeFault → Leaves g (spill_faults e) disk disk
+  pub leaves_still : (e : SpillError) (disk : D) → e ≢ TapeFault → Leaves g (spill_faults e) disk disk
   leaves_still NoMemory disk none = leaves_none g disk
   leaves_still TapeFault disk none = absurd (none refl)
   leaves_still TapeDamaged disk none = leaves_none g disk

@@ -1,5 +1,5 @@
 -- What a pass adds to its groups and lists, and what it leaves of its disk. All of this is our own.
-use Rattle.std.specs.Prelude.{◌≡◌, ◌≢◌, ℕ, ◌+◌, ◌≤◌, ◌<◌, ◌&&◌, max, Bool, true, false, List, [], ◌∷◌, ◌++◌, length, IsTrue}
+use Rattle.std.specs.Prelude.{◌≡◌, ◌≢◌, ℕ, ◌+◌, ◌≤◌, ◌<◌, ◌&&◌, max, Bool, true, false, List, [], ◌∷◌, ◌++◌, length, IsTrue, IfErr, OnOk, Result}
 use Rattle.std.specs.List.{AllByRecursion}
 use Rattle.std.specs.List.Sorted.{IsPermutation}
 use Rattle.aggregation_cost.specs.Cost.{Cost, cost}
@@ -11,7 +11,10 @@ use Rattle.grouping_model.specs.Query.{Query}
 use Rattle.grouping_model.specs.Grouping.{column_of, key_of}
 use Rattle.packed_rows.specs.Packing.{packing}
 use Rattle.spill_tapes.specs.Records.{Record}
+use Rattle.tape_disks.specs.Calls.{failed}
+use Rattle.tape_disks.specs.Disk.{Leaves}
 use Rattle.tape_disks.specs.declared.disk.TapeDisk.{Ghosts}
+use Rattle.spill_lists.specs.Errors.{spill_faults}
 use Rattle.spill_lists.specs.Lists.{LeftList, lists, left_by}
 use Rattle.spill_lists.specs.Standing.{HasLists, KeepsRest, spilled_number, ahead_number, waiting_number, pages_of, written_pages}
 use Rattle.spill_lists.specs.declared.error.SpillError.{SpillError}
@@ -138,6 +141,12 @@ IsGenuine hash_of pass what = (piece : Piece) × Are (query_of pass) (hash_of pa
 pub record AddedGenuine {H D : Type 0} (hash_of : H → List ℕ → ℕ) (g : Ghosts D) (what : Source) (old : Pass H) (before : D) (new : Pass H) (after : D) : Type 0 where
   pub added : AddedOne hash_of g what old before new after
   pub genuine : IsGenuine hash_of old what
+
+-- what is read was added, or is refused; and what that leaves of the disk
+pub record Adds {H D T : Type 0} (Done : (H → List ℕ → ℕ) → Ghosts D → Source → Pass H → D → Pass H → D → Type 0) (hash_of : H → List ℕ → ℕ) (g : Ghosts D) (what : Source) (old : Pass H) (before : D) (result : Result T SpillError) (new : Pass H) (after : D) : Type 0 where
+  pub added : OnOk result (Done hash_of g what old before new after)
+  pub refused : IfErr result (λ error. Refused hash_of g what old before error new)
+  pub disk : Leaves g (failed spill_faults result) before after
 
 -- inputs of the query, which count so many rows at most
 pub record AreInputs (query : Query) (most : ℕ) (inputs : List Brought) : Type 0 where

@@ -10,7 +10,7 @@ ghost use Rattle.packed_rows.specs.View.{row_of};
 ghost use Rattle.group_runs.specs.Standing.{StandsFor, IsRun};
 ghost use Rattle.hash_agg.specs.Inputs.{brought, packings_in};
 ghost use Rattle.hash_agg.specs.Passes.{IsPlan};
-ghost use Rattle.hash_agg.specs.Added.{Packed_rows, Entries, On_tape, Added, AddedGenuine, AddedList, AddedOne, AreInputs, CountsPass, Finished, HasRoom, IsFirst, IsFresh, IsReady, IsSelected, Refused, RefusedList, enters, query_of, source_of};
+ghost use Rattle.hash_agg.specs.Added.{Packed_rows, Entries, On_tape, Added, AddedGenuine, AddedList, AddedOne, Adds, AreInputs, CountsPass, Finished, HasRoom, IsFirst, IsFresh, IsReady, IsSelected, RefusedList, enters, query_of, source_of};
 
 use crate::groups::Groups;
 use crate::input::{Input, Packings};
@@ -98,9 +98,7 @@ impl<'q, H: KeyHash + Drop> Pass<'q, H> {
     ) -> Result<(), SpillError>
         requires ready { IsReady self.old }
         requires selected { IsSelected (query_of self.old) packed.now key.now (row_of row.now) }
-        ensures added { OnOk result (AddedOne H.hash_of D.TapeDisk (Packed_rows (packed.now ∷ [])) self.old disk.old self.new disk.new) }
-        ensures refused { IfErr result (λ error. Refused H.hash_of D.TapeDisk (Packed_rows (packed.now ∷ [])) self.old disk.old error self.new) }
-        ensures disk { Leaves D.TapeDisk (failed spill_faults result) disk.old disk.new }
+        ensures { Adds AddedOne H.hash_of D.TapeDisk (Packed_rows (packed.now ∷ [])) self.old disk.old result self.new disk.new }
     {
         if let Some(slot) = self.groups.find(key) {
             return match self
@@ -130,9 +128,7 @@ impl<'q, H: KeyHash + Drop> Pass<'q, H> {
     ) -> Result<(), SpillError>
         requires ready { IsReady self.old }
         requires group { (group : Group) × StandsFor (query_of self.old) self.old.plan.most (key.now, states.now) group }
-        ensures added { OnOk result (AddedOne H.hash_of D.TapeDisk (Entries ((key.now, states.now) ∷ [])) self.old disk.old self.new disk.new) }
-        ensures refused { IfErr result (λ error. Refused H.hash_of D.TapeDisk (Entries ((key.now, states.now) ∷ [])) self.old disk.old error self.new) }
-        ensures disk { Leaves D.TapeDisk (failed spill_faults result) disk.old disk.new }
+        ensures { Adds AddedOne H.hash_of D.TapeDisk (Entries ((key.now, states.now) ∷ [])) self.old disk.old result self.new disk.new }
     {
         if let Some(slot) = self.groups.find(key) {
             return match self
@@ -161,9 +157,7 @@ impl<'q, H: KeyHash + Drop> Pass<'q, H> {
         buffers: &mut Buffers,
     ) -> Result<(), SpillError>
         requires ready { IsReady self.old }
-        ensures added { OnOk result (Added H.hash_of D.TapeDisk (Packed_rows (packed.now ∷ [])) self.old disk.old self.new disk.new) }
-        ensures refused { IfErr result (λ error. Refused H.hash_of D.TapeDisk (Packed_rows (packed.now ∷ [])) self.old disk.old error self.new) }
-        ensures disk { Leaves D.TapeDisk (failed spill_faults result) disk.old disk.new }
+        ensures { Adds Added H.hash_of D.TapeDisk (Packed_rows (packed.now ∷ [])) self.old disk.old result self.new disk.new }
     {
         let Buffers { key, states, .. } = buffers;
         if !self.plan.select(packed, row, key)? {
@@ -183,9 +177,7 @@ impl<'q, H: KeyHash + Drop> Pass<'q, H> {
         buffers: &mut Buffers,
     ) -> Result<(), SpillError>
         requires ready { IsReady self.old }
-        ensures added { OnOk result (AddedGenuine H.hash_of D.TapeDisk (On_tape hash 0 packed.now) self.old disk.old self.new disk.new) }
-        ensures refused { IfErr result (λ error. Refused H.hash_of D.TapeDisk (On_tape hash 0 packed.now) self.old disk.old error self.new) }
-        ensures disk { Leaves D.TapeDisk (failed spill_faults result) disk.old disk.new }
+        ensures { Adds AddedGenuine H.hash_of D.TapeDisk (On_tape hash 0 packed.now) self.old disk.old result self.new disk.new }
     {
         let Buffers { key, states, .. } = buffers;
         // Values borrow from the bytes of their record, which the next record takes the place of. So each has a `Vec` of its own.
@@ -210,9 +202,7 @@ impl<'q, H: KeyHash + Drop> Pass<'q, H> {
         buffers: &mut Buffers,
     ) -> Result<(), SpillError>
         requires ready { IsReady self.old }
-        ensures added { OnOk result (AddedGenuine H.hash_of D.TapeDisk (On_tape hash 1 bytes.now) self.old disk.old self.new disk.new) }
-        ensures refused { IfErr result (λ error. Refused H.hash_of D.TapeDisk (On_tape hash 1 bytes.now) self.old disk.old error self.new) }
-        ensures disk { Leaves D.TapeDisk (failed spill_faults result) disk.old disk.new }
+        ensures { Adds AddedGenuine H.hash_of D.TapeDisk (On_tape hash 1 bytes.now) self.old disk.old result self.new disk.new }
     {
         let Some((key, states)) = split_group(bytes) else {
             return Err(SpillError::TapeDamaged);
@@ -235,9 +225,7 @@ impl<'q, H: KeyHash + Drop> Pass<'q, H> {
         buffers: &mut Buffers,
     ) -> Result<(), SpillError>
         requires ready { IsReady self.old }
-        ensures added { OnOk result (AddedGenuine H.hash_of D.TapeDisk (On_tape hash tag bytes.now) self.old disk.old self.new disk.new) }
-        ensures refused { IfErr result (λ error. Refused H.hash_of D.TapeDisk (On_tape hash tag bytes.now) self.old disk.old error self.new) }
-        ensures disk { Leaves D.TapeDisk (failed spill_faults result) disk.old disk.new }
+        ensures { Adds AddedGenuine H.hash_of D.TapeDisk (On_tape hash tag bytes.now) self.old disk.old result self.new disk.new }
     {
         match tag {
             ROW => self.add_row_record(alloc, disk, hash, bytes, buffers),
@@ -255,9 +243,7 @@ impl<'q, H: KeyHash + Drop> Pass<'q, H> {
         buffers: &mut Buffers,
     ) -> Result<(), SpillError>
         requires ready { IsReady self.old }
-        ensures added { OnOk result (Added H.hash_of D.TapeDisk (Packed_rows (packings_in rows.entry)) self.old disk.old self.new disk.new) }
-        ensures refused { IfErr result (λ error. Refused H.hash_of D.TapeDisk (Packed_rows (packings_in rows.entry)) self.old disk.old error self.new) }
-        ensures disk { Leaves D.TapeDisk (failed spill_faults result) disk.old disk.new }
+        ensures { Adds Added H.hash_of D.TapeDisk (Packed_rows (packings_in rows.entry)) self.old disk.old result self.new disk.new }
     {
         for place in 0..rows.len() {
             self.add_row(disk, rows.row(place), row, buffers)?;
@@ -274,9 +260,7 @@ impl<'q, H: KeyHash + Drop> Pass<'q, H> {
     ) -> Result<(), SpillError>
         requires ready { IsReady self.old }
         requires run { IsRun (query_of self.old) self.old.plan.most run.now }
-        ensures added { OnOk result (Added H.hash_of D.TapeDisk (Entries run.now) self.old disk.old self.new disk.new) }
-        ensures refused { IfErr result (λ error. Refused H.hash_of D.TapeDisk (Entries run.now) self.old disk.old error self.new) }
-        ensures disk { Leaves D.TapeDisk (failed spill_faults result) disk.old disk.new }
+        ensures { Adds Added H.hash_of D.TapeDisk (Entries run.now) self.old disk.old result self.new disk.new }
     {
         for place in 0..run.len() {
             let (key, states) = run.group(place);
@@ -295,9 +279,7 @@ impl<'q, H: KeyHash + Drop> Pass<'q, H> {
     ) -> Result<(), SpillError>
         requires ready { IsReady self.old }
         requires input { AreInputs (query_of self.old) self.old.plan.most (brought input ∷ []) }
-        ensures added { OnOk result (Added H.hash_of D.TapeDisk (source_of (brought input.entry)) self.old disk.old self.new disk.new) }
-        ensures refused { IfErr result (λ error. Refused H.hash_of D.TapeDisk (source_of (brought input.entry)) self.old disk.old error self.new) }
-        ensures disk { Leaves D.TapeDisk (failed spill_faults result) disk.old disk.new }
+        ensures { Adds Added H.hash_of D.TapeDisk (source_of (brought input.entry)) self.old disk.old result self.new disk.new }
     {
         match input {
             Input::Rows(rows) => self.add_rows(disk, Packings::Apart(rows), row, buffers),

@@ -10,10 +10,9 @@ use Rattle.grouping_model.specs.Parts.{functions}
 use Rattle.group_runs.specs.Steps.{AreCombined}
 use Rattle.hash_agg.specs.Added.{Entries, Are, query_of}
 use Rattle.hash_agg.specs.Passes.{group_record}
-use Rattle.hash_agg.proofs.AddedLaws.{same_pass, there_added, new_added, left_added}
-use Rattle.hash_agg.proofs.DiskLaws.{still_out}
-use Rattle.hash_agg.proofs.ReturnLaws.{no_ok, same_table, same_rest, moved_table}
-use Rattle.hash_agg.proofs.StepLaws.{err_out, key_brief, key_short, group_short, same_wide, entry_told, there_room, one_group, is_group_record}
+use Rattle.hash_agg.proofs.AddedLaws.{same_pass, there_added, new_added, left_added, refused_still, damaged_here}
+use Rattle.hash_agg.proofs.ReturnLaws.{same_table, same_rest, moved_table}
+use Rattle.hash_agg.proofs.StepLaws.{key_brief, key_short, group_short, same_wide, entry_told, there_room, one_group, is_group_record}
 use Rattle.hash_agg.proofs.pass.Pass.add_group.Goals as goal
 
 pub returns-in-Ok : goal.returns-in-Ok
@@ -30,22 +29,15 @@ returns-in-Ok g c =
 
 pub returns-in-Err : goal.returns-in-Err
 returns-in-Err g c =
-    record {
-      added = tt;
-      refused =
-          record {
-            undamaged =
-                λ can same.
-                let q : Query = query_of c.args.self.now in
-                let room = there_room c.args.self.now.plan (g.H.KeyHash.hash_of c.args.self.now.groups.hash) c.args.self.now.groups c.args.self.now.lists (g.D.TapeDisk.last c.args.disk.now) c.args.key.now
-                (Are q (g.H.KeyHash.hash_of c.args.self.now.groups.hash) (Entries ((c.args.key.now, c.args.states.now) ∷ []))) (λ old new. AreCombined (functions q) c.args.self.now.plan.most old c.args.states.now new)
-                (entry_told q c.args.self.now.plan.most c.args.key.now c.args.states.now) c.in-Some.slot c.in-Some.ensures.found can in
-                let one = one_group q room.1.0 c.args.key.now c.args.states.now room.0 room.1.1 in
-                c.in-Err.ensures.refused (room.2, room.1.0, room.3, one.0.1, room.4, one.2.states, room.5);
-            kept = record { plan = refl; table = moved_table c.args.self.now.plan.limit c.args.self.now.groups c.combine.new.self c.combine.ensures.table c.combine.ensures.hash c.combine.ensures.held; lists = same_rest _ };
-          };
-      disk = leaves_none g.D.TapeDisk c.args.disk.now;
-    }
+    damaged_here
+    (λ can.
+    let q : Query = query_of c.args.self.now in
+    let room = there_room c.args.self.now.plan (g.H.KeyHash.hash_of c.args.self.now.groups.hash) c.args.self.now.groups c.args.self.now.lists (g.D.TapeDisk.last c.args.disk.now) c.args.key.now
+    (Are q (g.H.KeyHash.hash_of c.args.self.now.groups.hash) (Entries ((c.args.key.now, c.args.states.now) ∷ []))) (λ old new. AreCombined (functions q) c.args.self.now.plan.most old c.args.states.now new)
+    (entry_told q c.args.self.now.plan.most c.args.key.now c.args.states.now) c.in-Some.slot c.in-Some.ensures.found can in
+    let one = one_group q room.1.0 c.args.key.now c.args.states.now room.0 room.1.1 in
+    c.in-Err.ensures.refused (room.2, room.1.0, room.3, one.0.1, room.4, one.2.states, room.5))
+    (record { plan = refl; table = moved_table c.args.self.now.plan.limit c.args.self.now.groups c.combine.new.self c.combine.ensures.table c.combine.ensures.hash c.combine.ensures.held; lists = same_rest _ })
 
 pub room_for-requires-clause-key : goal.room_for-requires-clause-key
 room_for-requires-clause-key g c =
@@ -110,18 +102,12 @@ returns g c =
 
 pub returns-in_err-enter : goal.returns-in_err-enter
 returns-in_err-enter g c =
-    record {
-      added = no_ok c.from_residual.result _ c.from_residual.ensures.0;
-      refused =
-          err_out c.from_residual.result NoMemory _ c.from_residual.ensures.1
-          (record { undamaged = λ can same. cc; kept = record { plan = refl; table = c.enter.ensures.table c.args.self.now.plan.limit c.in-Some-room_for.ensures.room.within; lists = same_rest _ } });
-      disk = still_out g.D.TapeDisk c.from_residual.result NoMemory c.args.disk.now c.from_residual.ensures.1 (λ same. cc);
-    }
+    refused_still c.from_residual.result NoMemory c.from_residual.ensures.1
+    (record { undamaged = λ can same. cc; kept = record { plan = refl; table = c.enter.ensures.table c.args.self.now.plan.limit c.in-Some-room_for.ensures.room.within; lists = same_rest _ } })
+    (λ same. cc)
 
 pub returns-in_err-write_group : goal.returns-in_err-write_group
 returns-in_err-write_group g c =
-    record {
-      added = no_ok c.from_residual-in_err-write_group.result _ c.from_residual-in_err-write_group.ensures.0;
-      refused = err_out c.from_residual-in_err-write_group.result NoMemory _ c.from_residual-in_err-write_group.ensures.1 (record { undamaged = λ can same. cc; kept = same_pass c.args.self.now });
-      disk = still_out g.D.TapeDisk c.from_residual-in_err-write_group.result NoMemory c.args.disk.now c.from_residual-in_err-write_group.ensures.1 (λ same. cc);
-    }
+    refused_still c.from_residual-in_err-write_group.result NoMemory c.from_residual-in_err-write_group.ensures.1
+    (record { undamaged = λ can same. cc; kept = same_pass c.args.self.now })
+    (λ same. cc)

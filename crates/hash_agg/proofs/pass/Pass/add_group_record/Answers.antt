@@ -2,62 +2,42 @@ use Rattle.std.specs.Prelude.{refl, ◌∷◌, [], List, ℕ}
 use Rattle.std.proofs.Common.{sym, ◌∙◌}
 use Rattle.std.proofs.lemmas.Result.{IfErr-weaker}
 use Rattle.list_laws.specs.Outcomes.{ok_both}
-use Rattle.tape_disks.specs.DiskLaws.{leaves_none}
 use Rattle.packed_rows.specs.Packing.{packing}
 use Rattle.hash_agg.specs.Added.{Entries, On_tape, query_of}
 use Rattle.hash_agg.specs.Passes.{Of_group, standing}
-use Rattle.hash_agg.proofs.AddedLaws.{same_pass, added_by, refused_by}
-use Rattle.hash_agg.proofs.DiskLaws.{still_out}
+use Rattle.hash_agg.proofs.AddedLaws.{same_pass, added_by, refused_by, refused_still, damaged_here}
 use Rattle.hash_agg.proofs.RecordLaws.{can_group_record, split_right, record_is_group}
-use Rattle.hash_agg.proofs.ReturnLaws.{no_ok, ok_any}
-use Rattle.hash_agg.proofs.StepLaws.{err_out, key_short, is_group_record}
+use Rattle.hash_agg.proofs.ReturnLaws.{ok_any}
+use Rattle.hash_agg.proofs.StepLaws.{key_short, is_group_record}
 use Rattle.hash_agg.proofs.pass.Pass.add_group_record.Goals as goal
 
 pub returns-in_default : goal.returns-in_default
 returns-in_default g c =
-    record {
-      added = tt;
-      refused =
-          record {
-            undamaged =
-                λ can same.
-                let one = can_group_record c.args.self.now.plan (g.H.KeyHash.hash_of c.args.self.now.groups.hash) c.args.hash c.args.bytes.now (standing c.args.self.now.groups c.args.self.now.lists (g.D.TapeDisk.last c.args.disk.now)) can in
-                c.in_default.ensures (packing one.0.0) one.2.states (key_short (query_of c.args.self.now) (packing one.0.0) one.0.0 c.requires.ready.plan.formed refl one.2.stands.of_kinds) one.2.bytes;
-            kept = same_pass c.args.self.now;
-          };
-      disk = leaves_none g.D.TapeDisk c.args.disk.now;
-    }
+    damaged_here
+    (λ can.
+    let one = can_group_record c.args.self.now.plan (g.H.KeyHash.hash_of c.args.self.now.groups.hash) c.args.hash c.args.bytes.now (standing c.args.self.now.groups c.args.self.now.lists (g.D.TapeDisk.last c.args.disk.now)) can in
+    c.in_default.ensures (packing one.0.0) one.2.states (key_short (query_of c.args.self.now) (packing one.0.0) one.0.0 c.requires.ready.plan.formed refl one.2.stands.of_kinds) one.2.bytes)
+    (same_pass c.args.self.now)
 
 pub returns-in_err-check_group : goal.returns-in_err-check_group
 returns-in_err-check_group g c =
-    record {
-      added = no_ok c.from_residual.result _ c.from_residual.ensures.0;
-      refused =
-          err_out c.from_residual.result c.in_err-check_group.field-0.0 _ c.from_residual.ensures.1
-          (record {
-            undamaged =
-                λ can.
-                let is = split_right c.args.self.now.plan (g.H.KeyHash.hash_of c.args.self.now.groups.hash) c.args.hash c.args.bytes.now c.in-Some.key.now c.in-Some.states.now (standing c.args.self.now.groups c.args.self.now.lists (g.D.TapeDisk.last c.args.disk.now)) c.requires.ready.plan.formed c.in-Some.ensures.0 c.in-Some.ensures.1 can in
-                c.in_err-check_group.ensures.undamaged is.1 is.0 is.4 is.2;
-            kept = same_pass c.args.self.now;
-          });
-      disk = still_out g.D.TapeDisk c.from_residual.result c.in_err-check_group.field-0.0 c.args.disk.now c.from_residual.ensures.1 c.in_err-check_group.ensures.faultless;
-    }
+    refused_still c.from_residual.result c.in_err-check_group.field-0.0 c.from_residual.ensures.1
+    (record {
+      undamaged =
+          λ can.
+          let is = split_right c.args.self.now.plan (g.H.KeyHash.hash_of c.args.self.now.groups.hash) c.args.hash c.args.bytes.now c.in-Some.key.now c.in-Some.states.now (standing c.args.self.now.groups c.args.self.now.lists (g.D.TapeDisk.last c.args.disk.now)) c.requires.ready.plan.formed c.in-Some.ensures.0 c.in-Some.ensures.1 can in
+          c.in_err-check_group.ensures.undamaged is.1 is.0 is.4 is.2;
+      kept = same_pass c.args.self.now;
+    })
+    c.in_err-check_group.ensures.faultless
 
 pub returns-then-hash : goal.returns-then-hash
 returns-then-hash g c =
-    record {
-      added = tt;
-      refused =
-          record {
-            undamaged =
-                λ can same.
-                let is = split_right c.args.self.now.plan (g.H.KeyHash.hash_of c.args.self.now.groups.hash) c.args.hash c.args.bytes.now c.in-Some.key.now c.in-Some.states.now (standing c.args.self.now.groups c.args.self.now.lists (g.D.TapeDisk.last c.args.disk.now)) c.requires.ready.plan.formed c.in-Some.ensures.0 c.in-Some.ensures.1 can in
-                c.if-hash.true (is.3 ∙ sym c.hash.ensures);
-            kept = same_pass c.args.self.now;
-          };
-      disk = leaves_none g.D.TapeDisk c.args.disk.now;
-    }
+    damaged_here
+    (λ can.
+    let is = split_right c.args.self.now.plan (g.H.KeyHash.hash_of c.args.self.now.groups.hash) c.args.hash c.args.bytes.now c.in-Some.key.now c.in-Some.states.now (standing c.args.self.now.groups c.args.self.now.lists (g.D.TapeDisk.last c.args.disk.now)) c.requires.ready.plan.formed c.in-Some.ensures.0 c.in-Some.ensures.1 can in
+    c.if-hash.true (is.3 ∙ sym c.hash.ensures))
+    (same_pass c.args.self.now)
 
 pub returns : goal.returns
 returns g c =

@@ -1,8 +1,8 @@
-use Rattle.std.specs.Prelude.{◌∷◌, [], OnOk, IfErr}
+use Rattle.std.specs.Prelude.{◌∷◌, []}
 use Rattle.std.proofs.Common.{sym, subst, arith}
 use Rattle.std.proofs.lemmas.List.Sums.{sum_by-cons}
 use Rattle.hash_agg.specs.declared.input.Input.{Input}
-use Rattle.hash_agg.specs.Added.{Added, AreInputs, Refused, query_of, source_of}
+use Rattle.hash_agg.specs.Added.{Added, Adds, AreInputs, query_of, source_of}
 use Rattle.hash_agg.specs.Inputs.{Counted, brought, rows_in}
 use Rattle.hash_agg.proofs.ReturnLaws.{run_within}
 use Rattle.hash_agg.proofs.pass.Pass.add_input.Goals as goal
@@ -16,24 +16,13 @@ add_run-requires-clause-run g c =
 
 pub returns-in-Rows : goal.returns-in-Rows
 returns-in-Rows g c =
-    record {
-      added = subst (λ (input : Input). OnOk c.add_rows.result (Added g.H.KeyHash.hash_of g.D.TapeDisk (source_of (brought input)) c.args.self.now c.args.disk.now c.add_rows.new.self c.add_rows.new.disk)) (sym c.in-Rows.is) c.add_rows.ensures.added;
-      refused = subst (λ (input : Input). IfErr c.add_rows.result (λ error. Refused g.H.KeyHash.hash_of g.D.TapeDisk (source_of (brought input)) c.args.self.now c.args.disk.now error c.add_rows.new.self)) (sym c.in-Rows.is) c.add_rows.ensures.refused;
-      disk = c.add_rows.ensures.disk;
-    }
+    subst (λ (input : Input). Adds Added g.H.KeyHash.hash_of g.D.TapeDisk (source_of (brought input)) c.args.self.now c.args.disk.now c.add_rows.result c.add_rows.new.self c.add_rows.new.disk) (sym c.in-Rows.is) c.add_rows.ensures
 
 pub returns-in-Flat : goal.returns-in-Flat
 returns-in-Flat g c =
-    record {
-      added = subst (λ (input : Input). OnOk c.add_rows-in-Flat.result (Added g.H.KeyHash.hash_of g.D.TapeDisk (source_of (brought input)) c.args.self.now c.args.disk.now c.add_rows-in-Flat.new.self c.add_rows-in-Flat.new.disk)) (sym c.in-Flat.is) c.add_rows-in-Flat.ensures.added;
-      refused = subst (λ (input : Input). IfErr c.add_rows-in-Flat.result (λ error. Refused g.H.KeyHash.hash_of g.D.TapeDisk (source_of (brought input)) c.args.self.now c.args.disk.now error c.add_rows-in-Flat.new.self)) (sym c.in-Flat.is) c.add_rows-in-Flat.ensures.refused;
-      disk = c.add_rows-in-Flat.ensures.disk;
-    }
+    subst (λ (input : Input). Adds Added g.H.KeyHash.hash_of g.D.TapeDisk (source_of (brought input)) c.args.self.now c.args.disk.now c.add_rows-in-Flat.result c.add_rows-in-Flat.new.self c.add_rows-in-Flat.new.disk) (sym c.in-Flat.is)
+    c.add_rows-in-Flat.ensures
 
 pub returns-in-Groups : goal.returns-in-Groups
 returns-in-Groups g c =
-    record {
-      added = subst (λ (input : Input). OnOk c.add_run.result (Added g.H.KeyHash.hash_of g.D.TapeDisk (source_of (brought input)) c.args.self.now c.args.disk.now c.add_run.new.self c.add_run.new.disk)) (sym c.in-Groups.is) c.add_run.ensures.added;
-      refused = subst (λ (input : Input). IfErr c.add_run.result (λ error. Refused g.H.KeyHash.hash_of g.D.TapeDisk (source_of (brought input)) c.args.self.now c.args.disk.now error c.add_run.new.self)) (sym c.in-Groups.is) c.add_run.ensures.refused;
-      disk = c.add_run.ensures.disk;
-    }
+    subst (λ (input : Input). Adds Added g.H.KeyHash.hash_of g.D.TapeDisk (source_of (brought input)) c.args.self.now c.args.disk.now c.add_run.result c.add_run.new.self c.add_run.new.disk) (sym c.in-Groups.is) c.add_run.ensures

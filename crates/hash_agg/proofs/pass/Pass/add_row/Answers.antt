@@ -4,28 +4,21 @@ use Rattle.std.proofs.lemmas.Result.{on_ok_weaker}
 use Rattle.tape_disks.specs.DiskLaws.{leaves_none}
 use Rattle.packed_rows.specs.View.{row_of}
 use Rattle.hash_agg.specs.Passes.{standing}
-use Rattle.hash_agg.proofs.AddedLaws.{same_pass}
-use Rattle.hash_agg.proofs.DiskLaws.{still_out}
+use Rattle.hash_agg.proofs.AddedLaws.{same_pass, refused_still}
 use Rattle.hash_agg.proofs.RecordLaws.{can_row, row_over}
-use Rattle.hash_agg.proofs.ReturnLaws.{no_ok}
-use Rattle.hash_agg.proofs.StepLaws.{err_out}
 use Rattle.hash_agg.proofs.pass.Pass.add_row.Goals as goal
 
 pub returns-in_err-select : goal.returns-in_err-select
 returns-in_err-select g c =
-    record {
-      added = no_ok c.from_residual.result _ c.from_residual.ensures.0;
-      refused =
-          err_out c.from_residual.result c.in_err-select.field-0.0 _ c.from_residual.ensures.1
-          (record {
-            undamaged =
-                λ can.
-                let row = can_row c.args.self.now.plan (g.H.KeyHash.hash_of c.args.self.now.groups.hash) c.args.packed.now (standing c.args.self.now.groups c.args.self.now.lists (g.D.TapeDisk.last c.args.disk.now)) can in
-                c.in_err-select.ensures.undamaged row.0 row.1 row.2;
-            kept = same_pass c.args.self.now;
-          });
-      disk = still_out g.D.TapeDisk c.from_residual.result c.in_err-select.field-0.0 c.args.disk.now c.from_residual.ensures.1 c.in_err-select.ensures.faultless;
-    }
+    refused_still c.from_residual.result c.in_err-select.field-0.0 c.from_residual.ensures.1
+    (record {
+      undamaged =
+          λ can.
+          let row = can_row c.args.self.now.plan (g.H.KeyHash.hash_of c.args.self.now.groups.hash) c.args.packed.now (standing c.args.self.now.groups c.args.self.now.lists (g.D.TapeDisk.last c.args.disk.now)) can in
+          c.in_err-select.ensures.undamaged row.0 row.1 row.2;
+      kept = same_pass c.args.self.now;
+    })
+    c.in_err-select.ensures.faultless
 
 pub returns-then-not-branch : goal.returns-then-not-branch
 returns-then-not-branch g c =

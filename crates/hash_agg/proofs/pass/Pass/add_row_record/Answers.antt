@@ -2,75 +2,52 @@ use Rattle.std.specs.Prelude.{refl, ◌∷◌, [], List, ℕ}
 use Rattle.std.proofs.Common.{sym, ◌∙◌, ap}
 use Rattle.std.proofs.lemmas.Result.{IfErr-weaker}
 use Rattle.list_laws.specs.Outcomes.{ok_both}
-use Rattle.tape_disks.specs.DiskLaws.{leaves_none}
 use Rattle.spill_lists.specs.declared.error.SpillError.TheVariants.{NoMemory}
 use Rattle.packed_rows.specs.View.{row_of}
 use Rattle.hash_agg.specs.Added.{Packed_rows, On_tape, query_of}
 use Rattle.hash_agg.specs.Passes.{Of_row, standing}
-use Rattle.hash_agg.proofs.AddedLaws.{same_pass, added_by, refused_by}
-use Rattle.hash_agg.proofs.DiskLaws.{still_out}
+use Rattle.hash_agg.proofs.AddedLaws.{same_pass, added_by, refused_by, refused_still, damaged_here}
 use Rattle.hash_agg.proofs.RecordLaws.{can_row_record, record_is_row, row_right}
-use Rattle.hash_agg.proofs.ReturnLaws.{no_ok, ok_any}
-use Rattle.hash_agg.proofs.StepLaws.{err_out}
+use Rattle.hash_agg.proofs.ReturnLaws.{ok_any}
 use Rattle.hash_agg.proofs.pass.Pass.add_row_record.Goals as goal
 
 pub returns-in_err-row : goal.returns-in_err-row
 returns-in_err-row g c =
-    record {
-      added = no_ok c.from_residual.result _ c.from_residual.ensures.0;
-      refused = err_out c.from_residual.result NoMemory _ c.from_residual.ensures.1 (record { undamaged = λ can same. cc; kept = same_pass c.args.self.now });
-      disk = still_out g.D.TapeDisk c.from_residual.result NoMemory c.args.disk.now c.from_residual.ensures.1 (λ same. cc);
-    }
+    refused_still c.from_residual.result NoMemory c.from_residual.ensures.1
+    (record { undamaged = λ can same. cc; kept = same_pass c.args.self.now })
+    (λ same. cc)
 
 pub returns-in_err-select : goal.returns-in_err-select
 returns-in_err-select g c =
-    record {
-      added = no_ok c.from_residual-in_err-select.result _ c.from_residual-in_err-select.ensures.0;
-      refused =
-          err_out c.from_residual-in_err-select.result c.in_err-select.field-0.0 _ c.from_residual-in_err-select.ensures.1
-          (record {
-            undamaged =
-                λ can.
-                let one = can_row_record c.args.self.now.plan (g.H.KeyHash.hash_of c.args.self.now.groups.hash) c.args.hash c.args.packed.now (standing c.args.self.now.groups c.args.self.now.lists (g.D.TapeDisk.last c.args.disk.now)) can in
-                c.in_err-select.ensures.undamaged one.0 one.1.of_kinds one.1.bytes;
-            kept = same_pass c.args.self.now;
-          });
-      disk = still_out g.D.TapeDisk c.from_residual-in_err-select.result c.in_err-select.field-0.0 c.args.disk.now c.from_residual-in_err-select.ensures.1 c.in_err-select.ensures.faultless;
-    }
+    refused_still c.from_residual-in_err-select.result c.in_err-select.field-0.0 c.from_residual-in_err-select.ensures.1
+    (record {
+      undamaged =
+          λ can.
+          let one = can_row_record c.args.self.now.plan (g.H.KeyHash.hash_of c.args.self.now.groups.hash) c.args.hash c.args.packed.now (standing c.args.self.now.groups c.args.self.now.lists (g.D.TapeDisk.last c.args.disk.now)) can in
+          c.in_err-select.ensures.undamaged one.0 one.1.of_kinds one.1.bytes;
+      kept = same_pass c.args.self.now;
+    })
+    c.in_err-select.ensures.faultless
 
 pub returns-then-not-branch : goal.returns-then-not-branch
 returns-then-not-branch g c =
-    record {
-      added = tt;
-      refused =
-          record {
-            undamaged =
-                λ can same.
-                let one = row_right c.args.self.now.plan (g.H.KeyHash.hash_of c.args.self.now.groups.hash) c.args.hash c.args.packed.now (row_of c.select.new.row.items) (standing c.args.self.now.groups c.args.self.now.lists (g.D.TapeDisk.last c.args.disk.now))
-                c.in_ok-select.ensures.row.0 c.in_ok-select.ensures.row.1 can in
-                let met = sym c.in_ok-select.ensures.met ∙ c.if-not-branch.true in
-                let other = one.met in
-                cc;
-            kept = same_pass c.args.self.now;
-          };
-      disk = leaves_none g.D.TapeDisk c.args.disk.now;
-    }
+    damaged_here
+    (λ can.
+    let one = row_right c.args.self.now.plan (g.H.KeyHash.hash_of c.args.self.now.groups.hash) c.args.hash c.args.packed.now (row_of c.select.new.row.items) (standing c.args.self.now.groups c.args.self.now.lists (g.D.TapeDisk.last c.args.disk.now))
+    c.in_ok-select.ensures.row.0 c.in_ok-select.ensures.row.1 can in
+    let met = sym c.in_ok-select.ensures.met ∙ c.if-not-branch.true in
+    let other = one.met in
+    cc)
+    (same_pass c.args.self.now)
 
 pub returns-then-hash : goal.returns-then-hash
 returns-then-hash g c =
-    record {
-      added = tt;
-      refused =
-          record {
-            undamaged =
-                λ can same.
-                let hf : List ℕ → ℕ = g.H.KeyHash.hash_of c.args.self.now.groups.hash in
-                let one = row_right c.args.self.now.plan hf c.args.hash c.args.packed.now (row_of c.select.new.row.items) (standing c.args.self.now.groups c.args.self.now.lists (g.D.TapeDisk.last c.args.disk.now)) c.in_ok-select.ensures.row.0 c.in_ok-select.ensures.row.1 can in
-                c.if-hash.true (c.hash.ensures ∙ ap hf (c.deref.ensures.value ∙ c.in_ok-select.ensures.key c.if-not-branch.false) ∙ sym one.hashed);
-            kept = same_pass c.args.self.now;
-          };
-      disk = leaves_none g.D.TapeDisk c.args.disk.now;
-    }
+    damaged_here
+    (λ can.
+    let hf : List ℕ → ℕ = g.H.KeyHash.hash_of c.args.self.now.groups.hash in
+    let one = row_right c.args.self.now.plan hf c.args.hash c.args.packed.now (row_of c.select.new.row.items) (standing c.args.self.now.groups c.args.self.now.lists (g.D.TapeDisk.last c.args.disk.now)) c.in_ok-select.ensures.row.0 c.in_ok-select.ensures.row.1 can in
+    c.if-hash.true (c.hash.ensures ∙ ap hf (c.deref.ensures.value ∙ c.in_ok-select.ensures.key c.if-not-branch.false) ∙ sym one.hashed))
+    (same_pass c.args.self.now)
 
 pub returns : goal.returns
 returns g c =

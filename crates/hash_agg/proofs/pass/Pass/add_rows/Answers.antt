@@ -4,10 +4,8 @@ use Rattle.tape_disks.specs.DiskLaws.{leaves_none, leaves_twice}
 use Rattle.spill_lists.specs.Errors.{spill_faults}
 use Rattle.hash_agg.specs.Added.{Packed_rows, query_of}
 use Rattle.hash_agg.specs.Inputs.{packings_in}
-use Rattle.hash_agg.proofs.AddedLaws.{none_added, next_added, next_refused, all_added}
-use Rattle.hash_agg.proofs.DiskLaws.{left_out}
-use Rattle.hash_agg.proofs.ReturnLaws.{no_ok}
-use Rattle.hash_agg.proofs.StepLaws.{err_out, flat_is_at, flat_short}
+use Rattle.hash_agg.proofs.AddedLaws.{none_added, next_added, next_refused, all_added, refused_out}
+use Rattle.hash_agg.proofs.StepLaws.{flat_is_at, flat_short}
 use Rattle.hash_agg.proofs.pass.Pass.add_rows.Goals as goal
 
 pub loop-place-init : goal.loop-place-init
@@ -24,16 +22,10 @@ loop-place-preserved g c =
 
 pub returns-in_err-add_row : goal.returns-in_err-add_row
 returns-in_err-add_row g c =
-    record {
-      added = no_ok c.from_residual.result _ c.from_residual.ensures.0;
-      refused =
-          err_out c.from_residual.result c.in_err-add_row.field-0.0 _ c.from_residual.ensures.1
-          (next_refused g.H.KeyHash.hash_of g.D.TapeDisk (Packed_rows (packings_in c.args.rows)) c.args.self.now c.args.disk.now (Packed_rows (c.row.result.now ∷ [])) c.loop-place.place c.loop-place.self c.loop-place.disk c.loop-place.invariant.some
-          (flat_is_at (query_of c.args.self.now) (packings_in c.args.rows) c.loop-place.place c.row.result.now c.row.ensures) c.in_err-add_row.field-0.0 c.add_row.new.self c.in_err-add_row.ensures.refused);
-      disk =
-          left_out g.D.TapeDisk c.from_residual.result c.in_err-add_row.field-0.0 c.args.disk.now c.add_row.new.disk c.from_residual.ensures.1
-          (leaves_twice g.D.TapeDisk (spill_faults c.in_err-add_row.field-0.0) c.args.disk.now c.loop-place.disk c.add_row.new.disk c.loop-place.invariant.disk c.in_err-add_row.ensures.disk);
-    }
+    refused_out c.from_residual.result c.in_err-add_row.field-0.0 c.from_residual.ensures.1
+    (next_refused g.H.KeyHash.hash_of g.D.TapeDisk (Packed_rows (packings_in c.args.rows)) c.args.self.now c.args.disk.now (Packed_rows (c.row.result.now ∷ [])) c.loop-place.place c.loop-place.self c.loop-place.disk c.loop-place.invariant.some
+    (flat_is_at (query_of c.args.self.now) (packings_in c.args.rows) c.loop-place.place c.row.result.now c.row.ensures) c.in_err-add_row.field-0.0 c.add_row.new.self c.in_err-add_row.ensures.refused)
+    (leaves_twice g.D.TapeDisk (spill_faults c.in_err-add_row.field-0.0) c.args.disk.now c.loop-place.disk c.add_row.new.disk c.loop-place.invariant.disk c.in_err-add_row.ensures.disk)
 
 pub returns : goal.returns
 returns g c =

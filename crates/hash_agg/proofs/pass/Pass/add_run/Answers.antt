@@ -8,10 +8,8 @@ use Rattle.group_runs.specs.Standing.{StandsFor}
 use Rattle.group_runs.specs.StandingLaws.{group_at}
 use Rattle.hash_agg.specs.Added.{Entries, query_of}
 use Rattle.hash_agg.specs.declared.plan.Plan.{Plan}
-use Rattle.hash_agg.proofs.AddedLaws.{none_added, next_added, next_refused, all_added, entry_is_at}
-use Rattle.hash_agg.proofs.DiskLaws.{left_out}
-use Rattle.hash_agg.proofs.ReturnLaws.{no_ok}
-use Rattle.hash_agg.proofs.StepLaws.{err_out, run_short}
+use Rattle.hash_agg.proofs.AddedLaws.{none_added, next_added, next_refused, all_added, entry_is_at, refused_out}
+use Rattle.hash_agg.proofs.StepLaws.{run_short}
 use Rattle.hash_agg.proofs.pass.Pass.add_run.Goals as goal
 
 pub loop-place-init : goal.loop-place-init
@@ -35,16 +33,10 @@ loop-place-preserved g c =
 pub returns-in_err-add_group : goal.returns-in_err-add_group
 returns-in_err-add_group g c =
     let hf : List ℕ → ℕ = g.H.KeyHash.hash_of c.args.self.now.groups.hash in
-    record {
-      added = no_ok c.from_residual.result _ c.from_residual.ensures.0;
-      refused =
-          err_out c.from_residual.result c.in_err-add_group.field-0.0 _ c.from_residual.ensures.1
-          (next_refused g.H.KeyHash.hash_of g.D.TapeDisk (Entries c.args.run.now) c.args.self.now c.args.disk.now (Entries ((c.group.result.0.now, c.group.result.1.now) ∷ [])) c.loop-place.place c.loop-place.self c.loop-place.disk c.loop-place.invariant.some
-          (entry_is_at (query_of c.args.self.now) hf c.args.run.now c.loop-place.place c.group.result.0.now c.group.result.1.now c.group.ensures) c.in_err-add_group.field-0.0 c.add_group.new.self c.in_err-add_group.ensures.refused);
-      disk =
-          left_out g.D.TapeDisk c.from_residual.result c.in_err-add_group.field-0.0 c.args.disk.now c.add_group.new.disk c.from_residual.ensures.1
-          (leaves_twice g.D.TapeDisk (spill_faults c.in_err-add_group.field-0.0) c.args.disk.now c.loop-place.disk c.add_group.new.disk c.loop-place.invariant.disk c.in_err-add_group.ensures.disk);
-    }
+    refused_out c.from_residual.result c.in_err-add_group.field-0.0 c.from_residual.ensures.1
+    (next_refused g.H.KeyHash.hash_of g.D.TapeDisk (Entries c.args.run.now) c.args.self.now c.args.disk.now (Entries ((c.group.result.0.now, c.group.result.1.now) ∷ [])) c.loop-place.place c.loop-place.self c.loop-place.disk c.loop-place.invariant.some
+    (entry_is_at (query_of c.args.self.now) hf c.args.run.now c.loop-place.place c.group.result.0.now c.group.result.1.now c.group.ensures) c.in_err-add_group.field-0.0 c.add_group.new.self c.in_err-add_group.ensures.refused)
+    (leaves_twice g.D.TapeDisk (spill_faults c.in_err-add_group.field-0.0) c.args.disk.now c.loop-place.disk c.add_group.new.disk c.loop-place.invariant.disk c.in_err-add_group.ensures.disk)
 
 pub returns : goal.returns
 returns g c =

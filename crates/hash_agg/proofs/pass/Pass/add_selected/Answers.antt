@@ -9,11 +9,10 @@ use Rattle.group_runs.specs.Steps.{AreAdvanced}
 use Rattle.spill_lists.specs.declared.error.SpillError.TheVariants.{NoMemory}
 use Rattle.hash_agg.specs.Added.{Packed_rows, query_of}
 use Rattle.hash_agg.specs.Passes.{AreRows, entries_of}
-use Rattle.hash_agg.proofs.AddedLaws.{same_pass, there_added, new_added, left_added}
-use Rattle.hash_agg.proofs.DiskLaws.{still_out}
+use Rattle.hash_agg.proofs.AddedLaws.{same_pass, there_added, new_added, left_added, refused_still, damaged_here}
 use Rattle.hash_agg.proofs.KeyLaws.{key_has}
-use Rattle.hash_agg.proofs.ReturnLaws.{no_ok, same_table, same_rest, moved_table}
-use Rattle.hash_agg.proofs.StepLaws.{err_out, key_brief, key_short, packed_short, row_told, there_room, new_room}
+use Rattle.hash_agg.proofs.ReturnLaws.{same_table, same_rest, moved_table}
+use Rattle.hash_agg.proofs.StepLaws.{key_brief, key_short, packed_short, row_told, there_room, new_room}
 use Rattle.hash_agg.proofs.pass.Pass.add_selected.Goals as goal
 
 pub returns-in-Ok : goal.returns-in-Ok
@@ -30,23 +29,16 @@ returns-in-Ok g c =
 
 pub returns-in-Err : goal.returns-in-Err
 returns-in-Err g c =
-    record {
-      added = tt;
-      refused =
-          record {
-            undamaged =
-                λ can same.
-                let q : Query = query_of c.args.self.now in
-                let room = there_room c.args.self.now.plan (g.H.KeyHash.hash_of c.args.self.now.groups.hash) c.args.self.now.groups c.args.self.now.lists (g.D.TapeDisk.last c.args.disk.now) c.args.key.now
-                (AreRows q (c.args.packed.now ∷ [])) (λ old new. AreAdvanced q.aggregates c.args.self.now.plan.most old (row_of c.args.row.now) new)
-                (row_told q c.args.self.now.plan.most c.args.packed.now c.args.key.now (row_of c.args.row.now) c.requires.ready.plan.formed c.requires.selected)
-                c.in-Some.slot c.in-Some.ensures.found can in
-                let low = room.5 in
-                c.in-Err.ensures.refused (room.2, room.3, room.4, omega (arith, low));
-            kept = record { plan = refl; table = moved_table c.args.self.now.plan.limit c.args.self.now.groups c.advance.new.self c.advance.ensures.table c.advance.ensures.hash c.advance.ensures.held; lists = same_rest _ };
-          };
-      disk = leaves_none g.D.TapeDisk c.args.disk.now;
-    }
+    damaged_here
+    (λ can.
+    let q : Query = query_of c.args.self.now in
+    let room = there_room c.args.self.now.plan (g.H.KeyHash.hash_of c.args.self.now.groups.hash) c.args.self.now.groups c.args.self.now.lists (g.D.TapeDisk.last c.args.disk.now) c.args.key.now
+    (AreRows q (c.args.packed.now ∷ [])) (λ old new. AreAdvanced q.aggregates c.args.self.now.plan.most old (row_of c.args.row.now) new)
+    (row_told q c.args.self.now.plan.most c.args.packed.now c.args.key.now (row_of c.args.row.now) c.requires.ready.plan.formed c.requires.selected)
+    c.in-Some.slot c.in-Some.ensures.found can in
+    let low = room.5 in
+    c.in-Err.ensures.refused (room.2, room.3, room.4, omega (arith, low)))
+    (record { plan = refl; table = moved_table c.args.self.now.plan.limit c.args.self.now.groups c.advance.new.self c.advance.ensures.table c.advance.ensures.hash c.advance.ensures.held; lists = same_rest _ })
 
 pub room_for-requires-clause-key : goal.room_for-requires-clause-key
 room_for-requires-clause-key g c =
@@ -55,23 +47,19 @@ room_for-requires-clause-key g c =
 
 pub returns-in_err-first_after : goal.returns-in_err-first_after
 returns-in_err-first_after g c =
-    record {
-      added = no_ok c.from_residual.result _ c.from_residual.ensures.0;
-      refused =
-          let q : Query = query_of c.args.self.now in
-          err_out c.from_residual.result c.in_err-first_after.field-0.0 _ c.from_residual.ensures.1
-          (record {
-            undamaged =
-                λ can.
-                let room = new_room c.args.self.now.plan (g.H.KeyHash.hash_of c.args.self.now.groups.hash) c.args.self.now.groups c.args.self.now.lists (g.D.TapeDisk.last c.args.disk.now) c.args.key.now
-                (AreRows q (c.args.packed.now ∷ [])) (λ old new. AreAdvanced q.aggregates c.args.self.now.plan.most old (row_of c.args.row.now) new)
-                (row_told q c.args.self.now.plan.most c.args.packed.now c.args.key.now (row_of c.args.row.now) c.requires.ready.plan.formed c.requires.selected) can in
-                let low = room.2 in
-                c.in_err-first_after.ensures.undamaged (0, partials q [], c.requires.ready.plan.states, omega (arith, low));
-            kept = same_pass c.args.self.now;
-          });
-      disk = still_out g.D.TapeDisk c.from_residual.result c.in_err-first_after.field-0.0 c.args.disk.now c.from_residual.ensures.1 c.in_err-first_after.ensures.faultless;
-    }
+    let q : Query = query_of c.args.self.now in
+    refused_still c.from_residual.result c.in_err-first_after.field-0.0 c.from_residual.ensures.1
+    (record {
+      undamaged =
+          λ can.
+          let room = new_room c.args.self.now.plan (g.H.KeyHash.hash_of c.args.self.now.groups.hash) c.args.self.now.groups c.args.self.now.lists (g.D.TapeDisk.last c.args.disk.now) c.args.key.now
+          (AreRows q (c.args.packed.now ∷ [])) (λ old new. AreAdvanced q.aggregates c.args.self.now.plan.most old (row_of c.args.row.now) new)
+          (row_told q c.args.self.now.plan.most c.args.packed.now c.args.key.now (row_of c.args.row.now) c.requires.ready.plan.formed c.requires.selected) can in
+          let low = room.2 in
+          c.in_err-first_after.ensures.undamaged (0, partials q [], c.requires.ready.plan.states, omega (arith, low));
+      kept = same_pass c.args.self.now;
+    })
+    c.in_err-first_after.ensures.faultless
 
 pub enter-requires-clause-key : goal.enter-requires-clause-key
 enter-requires-clause-key g c =
@@ -116,10 +104,6 @@ returns g c =
 
 pub returns-in_err-enter : goal.returns-in_err-enter
 returns-in_err-enter g c =
-    record {
-      added = no_ok c.from_residual-in_err-enter.result _ c.from_residual-in_err-enter.ensures.0;
-      refused =
-          err_out c.from_residual-in_err-enter.result NoMemory _ c.from_residual-in_err-enter.ensures.1
-          (record { undamaged = λ can same. cc; kept = record { plan = refl; table = c.enter.ensures.table c.args.self.now.plan.limit c.in-Some-room_for.ensures.room.within; lists = same_rest _ } });
-      disk = still_out g.D.TapeDisk c.from_residual-in_err-enter.result NoMemory c.args.disk.now c.from_residual-in_err-enter.ensures.1 (λ same. cc);
-    }
+    refused_still c.from_residual-in_err-enter.result NoMemory c.from_residual-in_err-enter.ensures.1
+    (record { undamaged = λ can same. cc; kept = record { plan = refl; table = c.enter.ensures.table c.args.self.now.plan.limit c.in-Some-room_for.ensures.room.within; lists = same_rest _ } })
+    (λ same. cc)
