@@ -28,6 +28,7 @@ use Rattle.origin_prefix.specs.declared.error.JoinError.TheVariants.{Spill}
 use Rattle.origin_prefix.specs.declared.error.RefusedBatch.{RefusedBatch}
 use Rattle.origin_prefix.specs.Joins.{Joins, PartsDisagree, JoinTells}
 use Rattle.origin_prefix.specs.Fitting.{FitsOrigin}
+use Rattle.summary_codec.specs.Reading.{IsSummary}
 pub use Rattle.origin_prefix.specs.Held.{Parts, IsHeldPart, AreHeldParts}
 use Rattle.replica_merge.specs.declared.known_origin.KnownOrigin as code
 use Rattle.replica_merge.specs.declared.error.MergeError.{MergeError}
@@ -53,6 +54,11 @@ told parts = knowing (flat_map batches_of parts)
 pub record Held : Type 0 where
   pub query : Checked
   pub parts : Parts
+
+-- bytes are a summary file of what a replica holds, and of nothing else: so what a replica saved is that replica
+pub record IsLoaded (bytes : List ℕ) (held : Held) : Type 0 where
+  pub summary : IsSummary bytes held.query held.parts
+  pub only : (other : Held) → IsSummary bytes other.query other.parts → held ≡ other
 
 -- a replica fits a world: what it holds of each origin does
 abbrev pub Fits : World → Held → Type 0

@@ -2,10 +2,10 @@
 
 ghost use Rattle.std.specs.Prelude.{◌≡◌, ◌≢◌, IfOk, IfErr};
 ghost use Rattle.grouping_model.specs.World.{World};
-ghost use Rattle.summary_codec.specs.Reading.{IsSummary, IsSaved, HasFault};
+ghost use Rattle.summary_codec.specs.Reading.{IsSaved, HasFault};
 ghost use Rattle.summary_codec.specs.WorldFile.{world_file};
 ghost use Rattle.summary_codec.specs.declared.error.SummaryError.TheVariants.{NoMemory};
-ghost use Rattle.replica_merge.specs.Replicas.{Held, told, Fits};
+ghost use Rattle.replica_merge.specs.Replicas.{IsLoaded, told, Fits};
 
 use crate::replica::Replica;
 use having_filter::Query;
@@ -25,11 +25,7 @@ impl Replica {
 
     /// The replica that a summary file is of, of either version. Any bytes are read: those that are no such file are refused, by the first fault.
     pub fn load(alloc: Global, bytes: &[u8]) -> Result<Replica, SummaryError>
-        ensures summary { IfOk result (λ replica.
-            IsSummary bytes.now replica.query replica.parts) }
-        // What a replica saved is that replica.
-        ensures saved { IfOk result (λ replica. (held : Held) →
-            IsSummary bytes.now held.query held.parts → replica ≡ held) }
+        ensures loaded { IfOk result (IsLoaded bytes.now) }
         ensures fault { IfErr result (λ e. e ≢ NoMemory → HasFault bytes.now e) }
     {
         Replica::load_sharing(alloc, None, bytes)
@@ -42,10 +38,7 @@ impl Replica {
         known: Option<&Query>,
         bytes: &[u8],
     ) -> Result<Replica, SummaryError>
-        ensures summary { IfOk result (λ replica.
-            IsSummary bytes.now replica.query replica.parts) }
-        ensures saved { IfOk result (λ replica. (held : Held) →
-            IsSummary bytes.now held.query held.parts → replica ≡ held) }
+        ensures loaded { IfOk result (IsLoaded bytes.now) }
         ensures fault { IfErr result (λ e. e ≢ NoMemory → HasFault bytes.now e) }
     {
         let (query, parts) = decode_sharing(alloc, known, bytes)?;
