@@ -11,12 +11,11 @@ use clap::{ArgMatches, Error};
 use command_files::Session;
 use command_scripts::run_script;
 pub use command_streams::Terminals;
-use command_streams::{Problem, Streams, Watched, say};
+use command_streams::{Problem, Streams, say};
 use command_words::{SPILL, Task, parse_words};
 use replies::{Ending, status};
+use script_io::FusedWriter;
 use std::alloc::Global;
-use std::cell::Cell;
-use std::io;
 use std::io::{BufWriter, Read, Write};
 use std::random::RandomSource;
 use std::rt::Files;
@@ -76,8 +75,9 @@ fn run_words<'c, R: Files + AllocGlobal + RandomSource, I: Read, W: Write, E: Wr
     rt: &'c R,
     words: &[String],
     reader: &mut I,
-    mut streams: Streams<'c, W, E>,
+    streams: Streams<'c, W, E>,
 ) -> Ending {
+    let mut streams = streams;
     match parse_words(rt.alloc(), words) {
         Ok(matches) => match matches.subcommand() {
             Some(("script", matches)) => {
@@ -94,15 +94,14 @@ fn run_words<'c, R: Files + AllocGlobal + RandomSource, I: Read, W: Write, E: Wr
 /// Sends out what was gathered. A fault is told, unless one was told before, or nobody reads any more.
 fn send_out<W: Write, E: Write>(
     alloc: Global,
-    gathered: &mut W,
+    gathered: &mut FusedWriter<W>,
     ending: Ending,
     errors: &mut E,
-    fault: &Cell<Option<io::Error>>,
 ) -> Ending {
     match gathered.flush() {
         Ok(()) => ending,
-        Err(_) => {
-            let problem = Problem::output(fault.get());
+        Err(cause) => {
+            let problem = Problem::output(Some(cause));
             if ending != Ending::Fault && !problem.is_unread() {
                 say(alloc, errors, &problem);
             }
@@ -112,63 +111,44 @@ fn send_out<W: Write, E: Write>(
 }
 
 /// Runs the command of some words, over a writer that gathers, and sends out what was gathered.
-fn run_through<R: Files + AllocGlobal + RandomSource, I: Read, W: Write, E: Write>(
+fn run_through<R: Files + AllocGlobal + RandomSource, I: Read, W: Write + Drop, E: Write>(
     rt: &R,
     words: &[String],
     reader: &mut I,
-    gathered: &mut W,
+    writer: W,
     errors: &mut E,
-    fault: &Cell<Option<io::Error>>,
     terminals: Terminals,
 ) -> Ending {
     let alloc = rt.alloc();
+    let mut gathered = FusedWriter::new(writer);
     let streams = Streams {
         alloc,
-        writer: &mut *gathered,
+        writer: &mut gathered,
         errors: &mut *errors,
-        fault,
         terminals,
     };
     let ending = run_words(rt, words, reader, streams);
-    send_out(alloc, gathered, ending, errors, fault)
+    send_out(alloc, &mut gathered, ending, errors)
 }
 
-/// Runs the command of some words, over a writer whose failures are kept. Where a person looks at the replies, and where there is no
-/// memory to gather them in, they go out as they come.
+/// Runs the command of some words, over a writer. Where a person looks at the replies, and where there is no memory to gather them in, they
+/// go out as they come.
 fn run_gathered<R: Files + AllocGlobal + RandomSource, I: Read, W: Write, E: Write>(
     rt: &R,
     words: &[String],
     reader: &mut I,
     writer: &mut W,
     errors: &mut E,
-    fault: &Cell<Option<io::Error>>,
     terminals: Terminals,
 ) -> Ending {
     let alloc = rt.alloc();
     let capacity = if terminals.output { 0 } else { GATHERED_BYTES };
-    if let Ok(mut gathered) = BufWriter::with_capacity(alloc, capacity, &mut *writer) {
-        return run_through(rt, words, reader, &mut gathered, errors, fault, terminals);
+    if let Ok(gathered) = BufWriter::with_capacity(alloc, capacity, &mut *writer) {
+        return run_through(rt, words, reader, gathered, errors, terminals);
     }
     // One that gathers nothing takes no memory.
-    let mut direct = BufWriter::with_capacity(alloc, 0, writer).unwrap();
-    run_through(rt, words, reader, &mut direct, errors, fault, terminals)
-}
-
-/// Runs the command that words ask for, and gives the status of the process.
-fn run_over<R: Files + AllocGlobal + RandomSource, I: Read, W: Write, E: Write>(
-    rt: &R,
-    words: &[String],
-    reader: &mut I,
-    writer: &mut W,
-    errors: &mut E,
-    terminals: Terminals,
-) -> u8
-    ensures status { (ending : Ending) × (result ≡ status_of ending) }
-{
-    let fault = Cell::new(None);
-    let mut watched = Watched::new(&mut *writer, &fault);
-    let ending = run_gathered(rt, words, reader, &mut watched, errors, &fault, terminals);
-    status(ending)
+    let direct = BufWriter::with_capacity(alloc, 0, writer).unwrap();
+    run_through(rt, words, reader, direct, errors, terminals)
 }
 
 /// Runs the command that words ask for, of which the first is the program's name.
@@ -188,5 +168,6 @@ pub fn command(
 ) -> u8
     ensures status { (ending : Ending) × (result ≡ status_of ending) }
 {
-    run_over(rt, words, &mut reader, &mut writer, &mut errors, terminals)
+    let ending = run_gathered(rt, words, &mut reader, &mut writer, &mut errors, terminals);
+    status(ending)
 }

@@ -120,7 +120,7 @@ fn say_stopped<W: Write, E: Write>(
 ) {
     let cause = match error {
         RunError::ReadFault => read,
-        RunError::WriteFault => streams.fault.get(),
+        RunError::WriteFault => streams.writer.fault(),
         RunError::NoMemory | RunError::InputTooLong => None,
     };
     if error == RunError::WriteFault && is_closed(&cause) {

@@ -9,4 +9,4 @@ mod streams;
 pub use problem::{Fate, Problem, Told, is_closed, reason_of};
 pub use seed::system_seed;
 pub use spill::{open_disk, remove_disk};
-pub use streams::{Streams, Terminals, Watched, say};
+pub use streams::{Streams, Terminals, say};

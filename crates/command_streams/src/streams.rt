@@ -1,10 +1,9 @@
 //! The streams of a command, and what is said on them.
 
 use crate::problem::Problem;
+use script_io::FusedWriter;
 use std::alloc::Global;
-use std::cell::Cell;
 use std::fmt::Display;
-use std::io;
 use std::io::Write;
 
 /// Which streams a person looks at.
@@ -26,48 +25,6 @@ impl Terminals {
     }
 }
 
-/// A writer, and why it last failed.
-#[derive(Drop)]
-pub struct Watched<'s, S> {
-    stream: &'s mut S,
-    fault: &'s Cell<Option<io::Error>>,
-}
-
-impl<'s, S> Watched<'s, S> {
-    /// A writer whose failures are kept.
-    pub fn new(stream: &'s mut S, fault: &'s Cell<Option<io::Error>>) -> Watched<'s, S> {
-        Watched { stream, fault }
-    }
-
-    /// Keeps why a call failed.
-    fn keep<T>(&self, outcome: io::Result<T>) -> io::Result<T> {
-        match outcome {
-            Ok(value) => Ok(value),
-            Err(error) => {
-                self.fault.set(Some(error));
-                Err(error)
-            }
-        }
-    }
-}
-
-impl<S: Write> Write for Watched<'_, S> {
-    fn write(&mut self, buf: &[u8]) -> io::Result<usize> {
-        match self.stream.write(buf) {
-            Ok(count) => Ok(count),
-            Err(error) => {
-                self.fault.set(Some(error));
-                Err(error)
-            }
-        }
-    }
-
-    fn flush(&mut self) -> io::Result<()> {
-        let flushed = self.stream.flush();
-        self.keep(flushed)
-    }
-}
-
 /// Says a sentence, which ends a line, in one write. Where there is no memory for that it goes out in pieces.
 pub fn say<E: Write, T: Display>(alloc: Global, errors: &mut E, sentence: &T) {
     // Nothing is left to do where the sentence can't be written.
@@ -85,10 +42,8 @@ pub fn say<E: Write, T: Display>(alloc: Global, errors: &mut E, sentence: &T) {
 #[derive(Drop)]
 pub struct Streams<'s, W, E> {
     pub alloc: Global,
-    pub writer: &'s mut W,
+    pub writer: &'s mut FusedWriter<W>,
     pub errors: &'s mut E,
-    /// Why standard output last failed.
-    pub fault: &'s Cell<Option<io::Error>>,
     pub terminals: Terminals,
 }
 
@@ -100,6 +55,6 @@ impl<W: Write, E: Write> Streams<'_, W, E> {
 
     /// Standard output could not be written.
     pub fn output_fault(&self) -> Problem<'static> {
-        Problem::output(self.fault.get())
+        Problem::output(self.writer.fault())
     }
 }

@@ -9,6 +9,7 @@ use group_table::GroupTable;
 use hash_agg::{Fnv1a, Means, MemDisk, Work};
 use replica_merge::{Delivered, Replica};
 use replies::{Refusal, Reply, put_reply};
+use script_io::FusedWriter;
 use spill_tapes::{TapeError, TapeId, Tapes};
 use std::alloc::{AllocError, Global};
 use std::test::*;
@@ -202,8 +203,9 @@ fn known_batches_are_known(rt: HostRuntime) -> Result<(), Fail> {
 fn replies(alloc: Global, hoard: &mut Hoard) -> Result<Vec<u8>, AllocError> {
     let mut written = Vec::with_capacity(alloc, 100)?;
     hoard.leave(0)?;
-    let refused = put_reply(&mut written, &Reply::Refused(Refusal::NoMemory));
-    let saved = put_reply(&mut written, &Reply::Saved(180));
+    let mut writer = FusedWriter::new(&mut written);
+    let refused = put_reply(&mut writer, &Reply::Refused(Refusal::NoMemory));
+    let saved = put_reply(&mut writer, &Reply::Saved(180));
     hoard.give_back();
     if refused.is_err() || saved.is_err() {
         return Err(AllocError);

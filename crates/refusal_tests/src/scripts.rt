@@ -4,7 +4,7 @@
 use crate::hoard::Hoard;
 use crate::room::Room;
 use replies::{Outcome, RunError};
-use script_io::FusedReader;
+use script_io::{FusedReader, FusedWriter};
 use script_machine::run;
 use spill_tapes::MemDisk;
 use std::alloc::{AllocError, Global};
@@ -106,7 +106,8 @@ fn run_in(
         replies.room.enter()?;
     }
     let mut reader = FusedReader::new(script.as_bytes());
-    let ended = run(alloc, &mut reader, &mut replies, &mut disk);
+    let mut writer = FusedWriter::new(&mut replies);
+    let ended = run(alloc, &mut reader, &mut writer, &mut disk);
     replies.room.leave();
     drop(disk);
     let end = match ended {

@@ -1,25 +1,22 @@
--- What `?` passes on, and two pieces that a writer took in turn.
-use Rattle.std.specs.Prelude.{ℕ, List, ◌++◌, Option, Result, Ok, Err, MatchResult, OnErr}
+-- Two pieces that a writer took in turn.
+use Rattle.std.specs.Prelude.{ℕ, true, false, List, ◌++◌, Option, Result, Ok, Err}
 use Rattle.std.specs.Io.KnownBytes.{Appends}
+use Rattle.std.specs.Result.{IsErr}
 use Rattle.std.proofs.lemmas.Bool.{false≢true}
 use Rattle.std.proofs.KnownBytes.{Appends-trans}
-use Rattle.script_io.specs.Output.{StopsShort}
-use Rattle.script_io.specs.OutputLaws.{short-second}
-use Rattle.std.specs.Result.{IsErr}
+use Rattle.script_io.specs.declared.fused_writer.FusedWriter.{FusedWriter}
+use Rattle.script_io.specs.FusedWriter.{FailsAsTold, written}
+use Rattle.script_io.specs.Output.{IsPut, StopsShort}
+use Rattle.script_io.specs.OutputLaws.{fails-second, short-first, short-second}
 
--- an error passed on has what any error has
-pub passed_on : {T E : Type 0} (result : Result T E) (P : T → Type 0) (Q : Type 0) → IsErr result → Q → MatchResult result P (λ _. Q)
-passed_on (Ok x) P Q failed q = absurd (false≢true failed)
-passed_on (Err e) P Q failed q = q
+-- the first of two pieces was not written whole, which is passed on
+pub stopped_first : {W T E : Type 0} (contents : W → Option (List ℕ)) (old new : FusedWriter W) (xs ys : List ℕ) (result : Result T E) → IsErr result
+    → StopsShort (written contents old) (written contents new) xs → FailsAsTold old new true → IsPut contents old new result (xs ++ ys)
+stopped_first contents old new xs ys (Ok x) failed short fails = absurd (false≢true failed)
+stopped_first contents old new xs ys (Err e) failed short fails = (short-first _ _ xs ys short, fails)
 
 -- the second of two pieces, after the first
-pub wrote_second : {T E : Type 0} (a b c : Option (List ℕ)) (xs ys : List ℕ) (result : Result T E) → Appends a b xs
-    → MatchResult result (λ _. Appends b c ys) (λ _. StopsShort b c ys)
-    → MatchResult result (λ _. Appends a c (xs ++ ys)) (λ _. StopsShort a c (xs ++ ys))
-wrote_second a b c xs ys (Ok x) first second = Appends-trans a b c xs ys first second
-wrote_second a b c xs ys (Err e) first second = short-second a b c xs ys first second
-
--- a piece was taken whole, or stopped short
-pub took_piece : {T E : Type 0} (result : Result T E) (P : T → Type 0) (Q S : Type 0) → MatchResult result P (λ _. Q) → OnErr result S → MatchResult result P (λ _. S)
-took_piece (Ok x) P Q S done short = done
-took_piece (Err e) P Q S done short = short
+pub wrote_second : {W T E : Type 0} (contents : W → Option (List ℕ)) (old mid new : FusedWriter W) (xs ys : List ℕ) (result : Result T E)
+    → Appends (written contents old) (written contents mid) xs → FailsAsTold old mid false → IsPut contents mid new result ys → IsPut contents old new result (xs ++ ys)
+wrote_second contents old mid new xs ys (Ok x) first sound put = (Appends-trans _ _ _ xs ys first put.0, fails-second old mid new false sound put.1)
+wrote_second contents old mid new xs ys (Err e) first sound put = (short-second _ _ _ xs ys first put.0, fails-second old mid new true sound put.1)

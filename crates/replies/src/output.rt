@@ -1,55 +1,56 @@
 //! Writing replies.
 
-ghost use Rattle.std.specs.Prelude.{◌++◌, decimal, MatchResult};
-ghost use Rattle.std.specs.Io.KnownBytes.{Appends};
-ghost use Rattle.script_io.specs.Output.{StopsShort};
+ghost use Rattle.std.specs.Prelude.{◌++◌, decimal};
+ghost use Rattle.script_io.specs.Output.{IsPut};
 ghost use Rattle.replies.specs.Text.{line, delivered_text, answer_text, said_text};
 
 use crate::reply::Reply;
 use itoa::Buffer;
 use replica_merge::Delivered;
-use script_io::{WriteFault, put_all};
+use script_io::{FusedWriter, WriteFault, put_all};
 use std::io::Write;
 
 /// Writes two pieces, one after the other.
-fn put_two<W: Write>(writer: &mut W, first: &[u8], second: &[u8]) -> Result<(), WriteFault>
-    ensures { MatchResult result
-        (λ _. Appends (W.contents writer.old) (W.contents writer.new) (first.now ++ second.now))
-        (λ _. StopsShort (W.contents writer.old) (W.contents writer.new)
-        (first.now ++ second.now)) }
+fn put_two<W: Write>(
+    writer: &mut FusedWriter<W>,
+    first: &[u8],
+    second: &[u8],
+) -> Result<(), WriteFault>
+    ensures { IsPut W.contents writer.old writer.new result (first.now ++ second.now) }
 {
     put_all(writer, first)?;
     put_all(writer, second)
 }
 
 /// Writes a line of a word and what follows it.
-fn put_line<W: Write>(writer: &mut W, word: &[u8], rest: &[u8]) -> Result<(), WriteFault>
-    ensures { MatchResult result
-        (λ _. Appends (W.contents writer.old) (W.contents writer.new) (line word.now rest.now))
-        (λ _. StopsShort (W.contents writer.old) (W.contents writer.new)
-        (line word.now rest.now)) }
+fn put_line<W: Write>(
+    writer: &mut FusedWriter<W>,
+    word: &[u8],
+    rest: &[u8],
+) -> Result<(), WriteFault>
+    ensures { IsPut W.contents writer.old writer.new result (line word.now rest.now) }
 {
     put_two(writer, word, rest)?;
     put_all(writer, b"\n")
 }
 
 /// Writes a line of a word and a number.
-fn put_count<W: Write>(writer: &mut W, word: &[u8], count: usize) -> Result<(), WriteFault>
-    ensures { MatchResult result
-        (λ _. Appends (W.contents writer.old) (W.contents writer.new)
-        (line word.now (decimal count)))
-        (λ _. StopsShort (W.contents writer.old) (W.contents writer.new)
-        (line word.now (decimal count))) }
+fn put_count<W: Write>(
+    writer: &mut FusedWriter<W>,
+    word: &[u8],
+    count: usize,
+) -> Result<(), WriteFault>
+    ensures { IsPut W.contents writer.old writer.new result (line word.now (decimal count)) }
 {
     put_line(writer, word, Buffer::new().format(count).as_bytes())
 }
 
 /// Writes what became of a batch.
-fn put_delivered<W: Write>(writer: &mut W, delivered: Delivered) -> Result<(), WriteFault>
-    ensures { MatchResult result
-        (λ _. Appends (W.contents writer.old) (W.contents writer.new) (delivered_text delivered))
-        (λ _. StopsShort (W.contents writer.old) (W.contents writer.new)
-        (delivered_text delivered)) }
+fn put_delivered<W: Write>(
+    writer: &mut FusedWriter<W>,
+    delivered: Delivered,
+) -> Result<(), WriteFault>
+    ensures { IsPut W.contents writer.old writer.new result (delivered_text delivered) }
 {
     match delivered {
         Delivered::Folded { upto } => put_count(writer, b"folded upto ", upto as usize),
@@ -59,23 +60,20 @@ fn put_delivered<W: Write>(writer: &mut W, delivered: Delivered) -> Result<(), W
 }
 
 /// Writes an answer: how many rows it has, and its table.
-fn put_answer<W: Write>(writer: &mut W, rows: usize, table: &[u8]) -> Result<(), WriteFault>
-    ensures { MatchResult result
-        (λ _. Appends (W.contents writer.old) (W.contents writer.new)
-        (answer_text rows table.now))
-        (λ _. StopsShort (W.contents writer.old) (W.contents writer.new)
-        (answer_text rows table.now)) }
+fn put_answer<W: Write>(
+    writer: &mut FusedWriter<W>,
+    rows: usize,
+    table: &[u8],
+) -> Result<(), WriteFault>
+    ensures { IsPut W.contents writer.old writer.new result (answer_text rows table.now) }
 {
     put_count(writer, b"answer ", rows)?;
     put_all(writer, table)
 }
 
 /// Writes the text of a reply. It takes no memory.
-pub fn put_reply<W: Write>(writer: &mut W, reply: &Reply<'_>) -> Result<(), WriteFault>
-    ensures { MatchResult result
-        (λ _. Appends (W.contents writer.old) (W.contents writer.new) (said_text reply.now))
-        (λ _. StopsShort (W.contents writer.old) (W.contents writer.new)
-        (said_text reply.now)) }
+pub fn put_reply<W: Write>(writer: &mut FusedWriter<W>, reply: &Reply<'_>) -> Result<(), WriteFault>
+    ensures { IsPut W.contents writer.old writer.new result (said_text reply.now) }
 {
     match reply {
         Reply::Columns(count) => put_count(writer, b"columns ", *count),

@@ -1,5 +1,5 @@
 -- What several writes took, one after the other.
-use Rattle.std.proofs.Common.{◌≡◌, ◌+◌, ◌-◌, ◌<◌, ◌≤◌, arith, length, ℕ, List, [], take, drop, Option, Some, None, refl, sym, ap, subst, ◌∙◌}
+use Rattle.std.proofs.Common.{◌≡◌, ◌+◌, ◌-◌, ◌<◌, ◌≤◌, arith, length, ℕ, List, [], take, drop, Option, refl, sym, ap, subst, ◌∙◌}
 use Rattle.std.proofs.lemmas.List.{append-nil, length-drop, take-append-drop, take_all}
 use Rattle.std.proofs.Math.Seq.{take-add}
 use Rattle.std.specs.Io.KnownBytes.{Appends, Keeps}
@@ -13,12 +13,6 @@ front-kept a b c bytes p k = (p.0, p.1, p.2, Appends-kept a b c p.0 p.3 k)
 -- what stopped short took a front
 pub front-short : (a b : Option (List ℕ)) (bytes : List ℕ) → StopsShort a b bytes → TakesFront a b bytes
 front-short a b bytes p = (p.0, p.1, p.2, p.4)
-
--- a write of no bytes kept what was there
-pub kept-nil : (b c : Option (List ℕ)) → Appends b c [] → Keeps b c
-kept-nil None c p = tt
-kept-nil (Some x) None p = p
-kept-nil (Some x) (Some y) p = p ∙ append-nil x
 
 -- n bytes of more than n went out, and then nothing
 pub short-at : (a b c : Option (List ℕ)) (n : ℕ) (bytes : List ℕ) → n < length bytes → Appends a b (take n bytes) → Keeps b c → StopsShort a c bytes

@@ -1,4 +1,5 @@
 pub mod Fused
+pub mod FusedWriter
 pub mod Input
 pub mod Records
 pub mod Digits

@@ -4,7 +4,7 @@
 ghost use Rattle.std.specs.Prelude.{◌≡◌, ◌<◌, ◌≤◌, ℕ, ◌+◌, List, ◌++◌, length, Option, IfSome};
 ghost use Rattle.std.specs.Io.KnownBytes.{Appends, Consumes, IsAtEnd, Keeps};
 ghost use Rattle.script_io.specs.Input.{StopsReading};
-ghost use Rattle.script_io.specs.Output.{TakesFront};
+ghost use Rattle.script_io.specs.Output.{StopsShort, TakesFront};
 ghost use Rattle.script_io.specs.Records.{records_of};
 
 use crate::input::InputError;
@@ -23,12 +23,14 @@ pub fn records_are_few()
     ensures { (script : List ℕ) → length (records_of script) ≤ length script + 1 }
 {}
 
-/// What counts as the front of some bytes: none of them, and all of them.
+/// What counts as the front of some bytes: none of them, all of them, and what a writer took that stopped short.
 pub fn fronts_range()
     ensures none { (old new : Option (List ℕ)) → (bytes : List ℕ)
         → Keeps old new → TakesFront old new bytes }
     ensures all { (old new : Option (List ℕ)) → (bytes : List ℕ)
         → Appends old new bytes → TakesFront old new bytes }
+    ensures short { (old new : Option (List ℕ)) → (bytes : List ℕ)
+        → StopsShort old new bytes → TakesFront old new bytes }
 {}
 
 /// Two writes in turn, of `xs` and then of `ys`. Both whole make `xs ++ ys`; where either stopped and

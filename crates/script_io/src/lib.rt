@@ -5,6 +5,7 @@
 
 mod digits;
 mod fused;
+mod fused_writer;
 mod input;
 mod laws;
 mod output;
@@ -12,6 +13,7 @@ mod records;
 
 pub use digits::{read_digits, read_limit, read_row_count};
 pub use fused::FusedReader;
+pub use fused_writer::FusedWriter;
 pub use input::{InputError, read_input};
 pub use laws::{fronts_range, reads_are_whole, records_are_few, writes_compose};
 pub use output::{WriteFault, put_all};

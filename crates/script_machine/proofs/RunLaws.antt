@@ -11,6 +11,8 @@ use Rattle.std.proofs.KnownBytes.{Appends-nil, Appends-trans, Keeps-refl}
 use Rattle.tape_disks.specs.Disk.{Leaves}
 use Rattle.tape_disks.specs.declared.disk.TapeDisk.{Ghosts}
 use Rattle.grouping_model.specs.World.{World}
+use Rattle.script_io.specs.declared.fused_writer.FusedWriter.{FusedWriter}
+use Rattle.script_io.specs.FusedWriter.{FailsAsTold}
 use Rattle.script_io.specs.Input.{StopsReading, is_read_fault}
 use Rattle.script_io.specs.Output.{StopsShort}
 use Rattle.script_io.specs.declared.input.InputError.{InputError}
@@ -23,7 +25,7 @@ use Rattle.script_machine.specs.Machine.{State, Reply, Refused, Run, StrictRun, 
 use Rattle.replies.specs.Text.{line, refusal_name, said_text, is_refusal, faults_in}
 use Rattle.script_machine.specs.Text.{MayRead, AllMayRead, joined, reply_text, replies_text}
 use Rattle.replies.specs.Refusals.{run_error}
-use Rattle.script_machine.specs.Output.{Disk, IsOutput, WritesFront, WritesBefore, WritesSome, StopsAt, commands_in, tells_read_fault}
+use Rattle.script_machine.specs.Output.{Disk, IsOutput, WritesFront, WritesBefore, WritesSome, StopsAt, commands_in, tells_read_fault, tells_write_fault}
 use Rattle.script_machine.specs.Views.{Store, empty, Represents, FitsWorld, Answers, Steps}
 use Rattle.replies.specs.declared.refusal.Refusal.TheVariants.{NoMemory}
 use Rattle.replies.specs.declared.error.RunError.{RunError}
@@ -304,6 +306,19 @@ faults_read disk commands (Err stop.ReadFault) P old new h = absurd h
 faults_read disk commands (Err stop.InputTooLong) P old new h = refl
 faults_read disk commands (Err stop.WriteFault) P old new h = refl
 faults_read disk commands (Err stop.NoMemory) P old new h = refl
+
+-- what is told of a writer by an error passed on is what the error that it is tells
+pub fails_as : {W T : Type 0} (result : Result T RunError) (e : RunError) (old new : FusedWriter W) → IsErrAnd result (λ x. x ≡ e)
+    → FailsAsTold old new (tells_write_fault {A = T} (Err e)) → FailsAsTold old new (tells_write_fault result)
+fails_as (Ok x) e old new failed h = absurd failed
+fails_as {T = T} (Err x) e old new failed h = subst (λ y. FailsAsTold old new (tells_write_fault {A = T} (Err y))) (sym failed) h
+
+-- a script that was not read tells no fault of a writer
+pub fails_unread : {W T : Type 0} (result : Result T RunError) (e : InputError) (writer : FusedWriter W) → IsErrAnd result (λ x. x ≡ run_error e)
+    → FailsAsTold writer writer (tells_write_fault result)
+fails_unread result input.ReadFault writer passed = fails_as result stop.ReadFault writer writer passed (λ sound. sym sound)
+fails_unread result input.NoMemory writer passed = fails_as result stop.NoMemory writer writer passed (λ sound. sym sound)
+fails_unread result input.TooLong writer passed = fails_as result stop.InputTooLong writer writer passed (λ sound. sym sound)
 
 stops_so : (disk : Disk) (most : ℕ) (script : List ℕ) (old new : Option (List ℕ)) (e : RunError) → length script ≤ most
     → WritesSome disk (commands_in script) old new e → StopsAt disk most script old new e

@@ -90,3 +90,8 @@ KeepsUnread old new error = Unit {0}
 abbrev pub tells_read_fault : {A : Type 0} → Result A RunError → Bool
 tells_read_fault (Err ReadFault) = true
 tells_read_fault ended = false
+
+-- whether a run tells that its output could not be written
+abbrev pub tells_write_fault : {A : Type 0} → Result A RunError → Bool
+tells_write_fault (Err WriteFault) = true
+tells_write_fault ended = false

@@ -3,10 +3,11 @@
 ghost use Rattle.std.specs.Prelude.{◌≡◌, ◌≤◌, ◌+◌, ℕ, length, IfErr, IfOk, MatchResult};
 ghost use Rattle.tape_disks.specs.Disk.{Leaves};
 ghost use Rattle.script_io.specs.Fused.{has_failed, unread};
+ghost use Rattle.script_io.specs.FusedWriter.{FailsAsTold, written};
 ghost use Rattle.script_io.specs.Input.{ConsumesAtMost};
 ghost use Rattle.script_commands.specs.Commands.{commands_of};
 ghost use Rattle.script_machine.specs.Views.{empty};
-ghost use Rattle.script_machine.specs.Output.{AnswersAll, AnswersSome, KeepsUnread, WritesAll, WritesSome, commands_in, tells_read_fault};
+ghost use Rattle.script_machine.specs.Output.{AnswersAll, AnswersSome, KeepsUnread, WritesAll, WritesSome, commands_in, tells_read_fault, tells_write_fault};
 
 use crate::lines::Lines;
 use crate::session::Session;
@@ -15,7 +16,7 @@ use grouping_model::limits::LONGEST_INPUT;
 use hash_agg::{Seed, TapeDisk, USUAL_SEED};
 use replies::{Outcome, Refusal, Reply, RunError, put_reply};
 use script_commands::{Command, next_command};
-use script_io::{FusedReader, Records, read_input};
+use script_io::{FusedReader, FusedWriter, Records, read_input};
 use std::alloc::Global;
 use std::io::{Read, Write};
 
@@ -50,7 +51,7 @@ fn tell<O: Observer>(
 fn answer_all<W: Write, O: Observer, D: TapeDisk>(
     records: &mut Records<'_>,
     session: &mut Session,
-    writer: &mut W,
+    writer: &mut FusedWriter<W>,
     observer: &mut O,
     lines: &mut Lines<'_>,
     disk: &mut D,
@@ -58,10 +59,11 @@ fn answer_all<W: Write, O: Observer, D: TapeDisk>(
     requires few { length records.old ≤ LONGEST_INPUT + 1 }
     requires none { session.old ≡ empty }
     ensures writes { MatchResult result
-        (λ outcome. WritesAll (record { honest = D.honest disk.old; failed = D.failures disk.old; failed_now = D.failures disk.new }) (commands_of records.old) (W.contents writer.old)
-        (W.contents writer.new) outcome.refused)
-        (λ e. WritesSome (record { honest = D.honest disk.old; failed = D.failures disk.old; failed_now = D.failures disk.new }) (commands_of records.old) (W.contents writer.old)
-        (W.contents writer.new) e) }
+        (λ outcome. WritesAll (record { honest = D.honest disk.old; failed = D.failures disk.old; failed_now = D.failures disk.new }) (commands_of records.old) (written W.contents writer.old)
+        (written W.contents writer.new) outcome.refused)
+        (λ e. WritesSome (record { honest = D.honest disk.old; failed = D.failures disk.old; failed_now = D.failures disk.new }) (commands_of records.old) (written W.contents writer.old)
+        (written W.contents writer.new) e) }
+    ensures write_fault { FailsAsTold writer.old writer.new (tells_write_fault result) }
     ensures disk { (faults : ℕ) × Leaves D.TapeDisk faults disk.old disk.new }
 {
     let mut refused = 0;
@@ -80,17 +82,18 @@ fn answer_all<W: Write, O: Observer, D: TapeDisk>(
 fn run_script<W: Write, O: Observer, D: TapeDisk>(
     alloc: Global,
     script: &[u8],
-    writer: &mut W,
+    writer: &mut FusedWriter<W>,
     observer: &mut O,
     disk: &mut D,
     seed: Seed,
 ) -> Result<Outcome, RunError>
     requires { length script.now ≤ LONGEST_INPUT }
     ensures writes { MatchResult result
-        (λ outcome. WritesAll (record { honest = D.honest disk.old; failed = D.failures disk.old; failed_now = D.failures disk.new }) (commands_in script.now) (W.contents writer.old)
-        (W.contents writer.new) outcome.refused)
-        (λ e. WritesSome (record { honest = D.honest disk.old; failed = D.failures disk.old; failed_now = D.failures disk.new }) (commands_in script.now) (W.contents writer.old)
-        (W.contents writer.new) e) }
+        (λ outcome. WritesAll (record { honest = D.honest disk.old; failed = D.failures disk.old; failed_now = D.failures disk.new }) (commands_in script.now) (written W.contents writer.old)
+        (written W.contents writer.new) outcome.refused)
+        (λ e. WritesSome (record { honest = D.honest disk.old; failed = D.failures disk.old; failed_now = D.failures disk.new }) (commands_in script.now) (written W.contents writer.old)
+        (written W.contents writer.new) e) }
+    ensures write_fault { FailsAsTold writer.old writer.new (tells_write_fault result) }
     ensures disk { (faults : ℕ) × Leaves D.TapeDisk faults disk.old disk.new }
 {
     let mut records = Records::new(alloc, script);
@@ -116,7 +119,7 @@ fn run_script<W: Write, O: Observer, D: TapeDisk>(
 pub fn run<R: Read, W: Write, D: TapeDisk>(
     alloc: Global,
     reader: &mut FusedReader<R>,
-    writer: &mut W,
+    writer: &mut FusedWriter<W>,
     disk: &mut D,
 ) -> Result<Outcome, RunError>
     // No more is read than the longest script and one byte.
@@ -124,14 +127,16 @@ pub fn run<R: Read, W: Write, D: TapeDisk>(
         (LONGEST_INPUT + 1) }
     // A script within the limit is answered as the machine does over such a disk, with so many refusals.
     ensures done { IfOk result (λ outcome. AnswersAll (record { honest = D.honest disk.old; failed = D.failures disk.old; failed_now = D.failures disk.new }) (unread R.remaining reader.old)
-        (W.contents writer.old) (W.contents writer.new) outcome.refused) }
+        (written W.contents writer.old) (written W.contents writer.new) outcome.refused) }
     // What was written where the run stopped.
-    ensures stopped { IfErr result (AnswersSome (record { honest = D.honest disk.old; failed = D.failures disk.old; failed_now = D.failures disk.new }) (unread R.remaining reader.old) (W.contents writer.old)
-        (W.contents writer.new)) }
+    ensures stopped { IfErr result (AnswersSome (record { honest = D.honest disk.old; failed = D.failures disk.old; failed_now = D.failures disk.new }) (unread R.remaining reader.old) (written W.contents writer.old)
+        (written W.contents writer.new)) }
     // Nothing was written where the script was not read.
-    ensures silent { IfErr result (KeepsUnread (W.contents writer.old) (W.contents writer.new)) }
+    ensures silent { IfErr result (KeepsUnread (written W.contents writer.old) (written W.contents writer.new)) }
     // The script is told to be unreadable exactly where its reader failed.
     ensures fault { tells_read_fault result ≡ has_failed reader.new }
+    // The output is told to be unwritable exactly where its writer failed, if that had not failed before.
+    ensures write_fault { FailsAsTold writer.old writer.new (tells_write_fault result) }
     // The disk is as honest as it was, so that another script can run over it.
     ensures disk { (faults : ℕ) × Leaves D.TapeDisk faults disk.old disk.new }
 {
@@ -144,7 +149,7 @@ pub fn run<R: Read, W: Write, D: TapeDisk>(
 pub fn run_observed<R: Read, W: Write, O: Observer, D: TapeDisk>(
     alloc: Global,
     reader: &mut FusedReader<R>,
-    writer: &mut W,
+    writer: &mut FusedWriter<W>,
     observer: &mut O,
     disk: &mut D,
     seed: Seed,
@@ -152,11 +157,12 @@ pub fn run_observed<R: Read, W: Write, O: Observer, D: TapeDisk>(
     ensures reads { ConsumesAtMost (unread R.remaining reader.old) (unread R.remaining reader.new)
         (LONGEST_INPUT + 1) }
     ensures done { IfOk result (λ outcome. AnswersAll (record { honest = D.honest disk.old; failed = D.failures disk.old; failed_now = D.failures disk.new }) (unread R.remaining reader.old)
-        (W.contents writer.old) (W.contents writer.new) outcome.refused) }
-    ensures stopped { IfErr result (AnswersSome (record { honest = D.honest disk.old; failed = D.failures disk.old; failed_now = D.failures disk.new }) (unread R.remaining reader.old) (W.contents writer.old)
-        (W.contents writer.new)) }
-    ensures silent { IfErr result (KeepsUnread (W.contents writer.old) (W.contents writer.new)) }
+        (written W.contents writer.old) (written W.contents writer.new) outcome.refused) }
+    ensures stopped { IfErr result (AnswersSome (record { honest = D.honest disk.old; failed = D.failures disk.old; failed_now = D.failures disk.new }) (unread R.remaining reader.old) (written W.contents writer.old)
+        (written W.contents writer.new)) }
+    ensures silent { IfErr result (KeepsUnread (written W.contents writer.old) (written W.contents writer.new)) }
     ensures fault { tells_read_fault result ≡ has_failed reader.new }
+    ensures write_fault { FailsAsTold writer.old writer.new (tells_write_fault result) }
     ensures disk { (faults : ℕ) × Leaves D.TapeDisk faults disk.old disk.new }
 {
     let script = read_input(alloc, reader, LONGEST_INPUT)?;

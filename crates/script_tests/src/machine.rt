@@ -1,7 +1,7 @@
 use batch_reader::BatchError;
 use hash_agg::MemDisk;
 use replies::{Refusal, RunError};
-use script_io::FusedReader;
+use script_io::{FusedReader, FusedWriter};
 use script_machine::run;
 use std::alloc::{AllocError, Global};
 use std::io;
@@ -29,28 +29,30 @@ const SCRIPT: &str =
     "columns,\"c text, d bigint\"\nquery,\"select c, count(*), sum(d) from batches group by c\"\n\
     replica,a\nfeed,a,0,1,3\noslo,5\nbergen,7\noslo,-2\nknown,a\nanswer,a\n";
 
-/// What becomes of its run whose writer takes so many bytes, and how many it took.
+/// What becomes of its run whose writer takes so many bytes, how many it took, and whether it failed.
 fn written_to(alloc: Global, room: &str) -> Result<String, AllocError> {
-    let mut writer = FailingWriter {
+    let mut failing = FailingWriter {
         taken: Vec::new(alloc),
         room: room.parse().unwrap_or(0),
     };
+    let mut writer = FusedWriter::new(&mut failing);
     let mut disk = MemDisk::new(alloc);
     let mut reader = FusedReader::new(SCRIPT.as_bytes());
     let outcome = run(alloc, &mut reader, &mut writer, &mut disk);
     drop(disk);
-    let taken = writer.taken.len();
-    drop(writer);
-    format!(in alloc; "{outcome:?} {taken}")
+    let has_failed = writer.fault().is_some();
+    let taken = failing.taken.len();
+    drop(failing);
+    format!(in alloc; "{outcome:?} {taken} failed {has_failed}")
 }
 
-/// How many bytes a writer takes, what becomes of the run, and how many were taken.
+/// How many bytes a writer takes, what becomes of the run, how many were taken, and whether the writer failed.
 const ROOMS: &str = "\
-0 => Err(WriteFault) 0
-1 => Err(WriteFault) 1
-60 => Err(WriteFault) 60
-155 => Err(WriteFault) 155
-156 => Ok(Outcome { refused: 0 }) 156";
+0 => Err(WriteFault) 0 failed true
+1 => Err(WriteFault) 1 failed true
+60 => Err(WriteFault) 60 failed true
+155 => Err(WriteFault) 155 failed true
+156 => Ok(Outcome { refused: 0 }) 156 failed false";
 
 #[test]
 fn faults_of_writers_end_a_run(rt: HostRuntime) -> Result<(), Fail> {
@@ -62,7 +64,8 @@ fn ended<R: Read>(alloc: Global, reader: &mut R) -> Result<String, AllocError> {
     let mut reader = FusedReader::new(&mut *reader);
     let mut written = Vec::new(alloc);
     let mut disk = MemDisk::new(alloc);
-    let outcome = run(alloc, &mut reader, &mut written, &mut disk);
+    let mut writer = FusedWriter::new(&mut written);
+    let outcome = run(alloc, &mut reader, &mut writer, &mut disk);
     drop(disk);
     let has_failed = reader.fault().is_some();
     let count = written.len();

@@ -6,7 +6,7 @@ use file_commands::{create, feed, save};
 use hash_agg::{Fnv1a, LEAST_LIMIT, Means, MemDisk, Seed, TapeDisk, USUAL_SEED, Work};
 use replica_merge::Replica;
 use replies::{Refusal, RunError};
-use script_io::FusedReader;
+use script_io::{FusedReader, FusedWriter};
 use script_machine::{Observer, run_observed};
 use std::alloc::Global;
 use std::test::*;
@@ -46,7 +46,7 @@ fn replies_by(
     let run = run_observed(
         alloc,
         &mut FusedReader::new(script.as_bytes()),
-        &mut replies,
+        &mut FusedWriter::new(&mut replies),
         &mut Unobserved,
         disk,
         seed,

@@ -2,7 +2,7 @@
 
 use hash_agg::{MemDisk, TapeDisk};
 use replies::{Outcome, RunError};
-use script_io::FusedReader;
+use script_io::{FusedReader, FusedWriter};
 use script_machine::run;
 use spill_tapes::{FailDisk, FileDisk};
 use std::alloc::{AllocError, Global};
@@ -61,7 +61,7 @@ fn run_over<D: TapeDisk>(
     replies: &mut Vec<u8>,
 ) -> Result<u64, RunError> {
     let mut reader = FusedReader::new(script.as_bytes());
-    match run(alloc, &mut reader, replies, disk) {
+    match run(alloc, &mut reader, &mut FusedWriter::new(replies), disk) {
         Ok(Outcome { refused }) => Ok(refused),
         Err(error) => Err(error),
     }

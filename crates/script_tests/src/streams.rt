@@ -1,5 +1,5 @@
 use csv::ByteRecord;
-use script_io::{FusedReader, InputError, Records, put_all, read_input};
+use script_io::{FusedReader, FusedWriter, InputError, Records, put_all, read_input};
 use std::alloc::{AllocError, Global};
 use std::io;
 use std::io::{Error, ErrorKind, Read, Write};
@@ -274,19 +274,24 @@ fn passes_over_records_past_the_end(rt: HostRuntime) -> Result<(), Fail> {
     expect_told_lines(rt.alloc(), PASSED, left)
 }
 
-/// Whether a text is written to a writer with so much room, or else its front.
+/// Whether a text is written to a writer with so much room, or else its front, and a fault is told then, and stays.
 fn fills(rt: HostRuntime, text: &[u8], room: usize, a_call: usize, at_room: AtRoom) -> bool {
-    let mut writer = ShortWriter {
+    let mut short = ShortWriter {
         taken: Vec::new(rt.alloc()),
         room,
         a_call,
         calls: 0,
         at_room,
     };
+    let mut writer = FusedWriter::new(&mut short);
     let is_whole = put_all(&mut writer, text).is_ok();
+    let is_told = is_whole == writer.fault().is_none() && is_whole == writer.flush().is_ok();
+    let stays = is_whole || put_all(&mut writer, b"more").is_err();
     is_whole == (room >= text.len())
-        && writer.taken.len() == room.min(text.len())
-        && text.starts_with(writer.taken.as_slice())
+        && is_told
+        && stays
+        && short.taken.len() == room.min(text.len())
+        && text.starts_with(short.taken.as_slice())
 }
 
 /// Whether the same holds of a text whatever the room.
@@ -315,13 +320,31 @@ fn writes_all_or_the_front(rt: HostRuntime) {
 
 #[test]
 fn writes_nothing_without_a_call(rt: HostRuntime) {
-    let mut writer = ShortWriter {
+    let mut short = ShortWriter {
         taken: Vec::new(rt.alloc()),
         room: 0,
         a_call: 1,
         calls: 0,
         at_room: AtRoom::TakeNone,
     };
+    let mut writer = FusedWriter::new(&mut short);
     assert!(rt; put_all(&mut writer, b"").is_ok());
-    assert_eq!(rt; writer.calls, 0);
+    assert!(rt; writer.fault().is_none());
+    assert_eq!(rt; short.calls, 0);
+}
+
+#[test]
+fn asks_a_failed_writer_no_more(rt: HostRuntime) {
+    let mut short = ShortWriter {
+        taken: Vec::new(rt.alloc()),
+        room: 0,
+        a_call: 1,
+        calls: 0,
+        at_room: AtRoom::TakeNone,
+    };
+    let mut writer = FusedWriter::new(&mut short);
+    assert!(rt; put_all(&mut writer, b"x").is_err());
+    assert!(rt; put_all(&mut writer, b"x").is_err());
+    assert!(rt; writer.flush().is_err());
+    assert_eq!(rt; short.calls, 1);
 }

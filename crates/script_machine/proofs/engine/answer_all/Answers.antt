@@ -7,7 +7,7 @@ use Rattle.tape_disks.specs.DiskLaws.{leaves_none}
 use Rattle.script_commands.specs.Commands.{command_at, owned_by}
 use Rattle.replies.specs.Text.{is_refusal}
 use Rattle.replies.specs.declared.error.RunError.TheVariants as stop
-use Rattle.script_machine.proofs.RunLaws.{passed_as, honest_steps, left_both, ran_front, ran_more, ran_start, ran_stop}
+use Rattle.script_machine.proofs.RunLaws.{passed_as, fails_as, honest_steps, left_both, ran_front, ran_more, ran_start, ran_stop}
 use Rattle.script_machine.proofs.engine.answer_all.Goals as goal
 use Rattle.script_machine.proofs.engine.answer_all.Goals.{then-is_refused, else-is_refused}
 
@@ -16,6 +16,7 @@ loop-command-init g c =
     record {
       room = omega arith;
       ran = ran_start _ (omega arith) _ _ _ c.requires.none;
+      sound = λ sound. sound;
       left = (0, leaves_none g.D.TapeDisk c.args.disk.now);
     }
 
@@ -23,6 +24,7 @@ pub returns-in_err-command : goal.returns-in_err-command
 returns-in_err-command g c =
     record {
       writes = passed_as c.from_residual.result stop.NoMemory _ _ c.from_residual.ensures.1 (ran_stop _ _ (omega arith) _ _ _ _ _ _ c.loop-command.invariant.ran);
+      write_fault = fails_as c.from_residual.result stop.NoMemory c.args.writer.now c.loop-command.writer c.from_residual.ensures.1 (λ sound. sym (c.loop-command.invariant.sound sound));
       disk = c.loop-command.invariant.left;
     }
 
@@ -32,6 +34,7 @@ returns-in_err-reply g c =
     let later : g.D.TapeDisk.failures c.loop-command.disk ≤ g.D.TapeDisk.failures c.execute.new.disk = omega (arith, stopped.1.failures) in
     record {
       writes = passed_as c.from_residual-in_err-reply.result stop.NoMemory _ _ c.from_residual-in_err-reply.ensures.1 (ran_stop _ _ later _ _ _ _ _ _ c.loop-command.invariant.ran);
+      write_fault = fails_as c.from_residual-in_err-reply.result stop.NoMemory c.args.writer.now c.loop-command.writer c.from_residual-in_err-reply.ensures.1 (λ sound. sym (c.loop-command.invariant.sound sound));
       disk = left_both g.D.TapeDisk c.args.disk.now c.loop-command.disk c.execute.new.disk c.loop-command.invariant.left stopped;
     }
 
@@ -43,7 +46,10 @@ returns-in_err-put_reply g c =
       writes =
           passed_as c.from_residual-in_err-put_reply.result stop.WriteFault _ _ c.from_residual-in_err-put_reply.ensures.1
           (ran_front {c = command_at (fields_of c.in-Some.command.head) c.next_command.new.records} (rw next at c.loop-command.invariant.ran)
-          (honest_steps _ _ _ _ _ _ _ left.1.honesty c.in_ok-reply.ensures.answers) (le_of_eq (sym c.in_ok-reply.ensures.disk.failures)) _ c.in_err-put_reply.ensures);
+          (honest_steps _ _ _ _ _ _ _ left.1.honesty c.in_ok-reply.ensures.answers) (le_of_eq (sym c.in_ok-reply.ensures.disk.failures)) _ c.in_err-put_reply.ensures.0);
+      write_fault =
+          fails_as c.from_residual-in_err-put_reply.result stop.WriteFault c.args.writer.now c.put_reply.new.writer c.from_residual-in_err-put_reply.ensures.1
+          (λ sound. c.in_err-put_reply.ensures.1 (c.loop-command.invariant.sound sound));
       disk = left_both g.D.TapeDisk c.args.disk.now c.loop-command.disk c.execute.new.disk left (_, c.in_ok-reply.ensures.disk);
     }
 
@@ -73,6 +79,7 @@ loop-command-preserved g c =
       ran =
           rw c.in_ok-reply.ensures.left
           (ran_more {c = command_at (fields_of c.in-Some.command.head) c.next_command.new.records} (rw next at inv.ran) (honest_steps _ _ _ _ _ _ _ inv.left.1.honesty c.in_ok-reply.ensures.answers)
-          (le_of_eq (sym c.in_ok-reply.ensures.disk.failures)) _ _ c.in_ok-put_reply.ensures counts);
+          (le_of_eq (sym c.in_ok-reply.ensures.disk.failures)) _ _ c.in_ok-put_reply.ensures.0 counts);
+      sound = λ sound. sym (c.in_ok-put_reply.ensures.1 (inv.sound sound));
       left = left_both g.D.TapeDisk c.args.disk.now c.loop-command.disk c.execute.new.disk inv.left (_, c.in_ok-reply.ensures.disk);
     }
