@@ -654,7 +654,7 @@ module _ {honest : Bool} where
       go (Some q) = refl
 
   pub answered : (store : Store) (name : List ℕ) (owned : List Record) (held : Held) (rows : ℕ) (table : Vec ℕ Global) → IsStore store → replica_at store name ≡ Some held
-      → (IsTrue honest → (world : World) → IsWorld (kinds held.query.columns) world → Fits world held
+      → ((world : World) → IsWorld (kinds held.query.columns) world → Fits world held
       → (rows ≡ length (answer (meaning held.query) world (told held.parts))) × (table.items ≡ table_text (headers held.query) (answer (meaning held.query) world (told held.parts))))
       → (some : (shown : List (List Outcome)) × ((rows ≡ length shown) × (table.items ≡ table_text (headers held.query) shown))) → Steps honest (ask.Answer name) owned store (says.Answer rows table) store
   answered store name owned held rows table is there shown some =
@@ -671,8 +671,8 @@ module _ {honest : Bool} where
           reads = (some.0, ap (λ n. answer_text n table.items) some.1.0 ∙ ap (λ bytes. answer_text (length some.0) bytes) some.1.1);
           text = λ right world f agrees.
               let of_world = subst (λ cs. IfSome cs (λ (columns : List Column). IsWorld (kinds columns) world)) asks.1 f.of_columns in
-              let right = shown right world of_world (subst (λ o. IfSome o (λ (h : Held). Fits world h)) there (f.fit name)) in
-              ap (λ n. answer_text n table.items) right.0 ∙ ap (λ bytes. answer_text (length (answer (meaning held.query) world (told held.parts))) bytes) right.1;
+              let is = shown world of_world (subst (λ o. IfSome o (λ (h : Held). Fits world h)) there (f.fit name)) in
+              ap (λ n. answer_text n table.items) is.0 ∙ ap (λ bytes. answer_text (length (answer (meaning held.query) world (told held.parts))) bytes) is.1;
         };
       }
 

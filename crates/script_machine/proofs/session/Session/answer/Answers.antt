@@ -14,7 +14,7 @@ returns-in-None-clause-answers c = λ honest owned.
 pub returns-in-Ok-clause-answers : goal.returns-in-Ok-clause-answers
 returns-in-Ok-clause-answers c = λ honest owned.
     subst (λ s. Steps honest (ask.Answer c.args.name.now) owned s (says.Answer c.in-Ok.rows c.in-Ok.table) s) c.self.view_is
-    (answered _ c.args.name.now owned c.in-Some.replica.now c.in-Ok.rows c.in-Ok.table c.self.invariant (sym c.in-Some.ensures.value) (λ right. c.in-Ok.ensures.table) c.in-Ok.ensures.shown)
+    (answered _ c.args.name.now owned c.in-Some.replica.now c.in-Ok.rows c.in-Ok.table c.self.invariant (sym c.in-Some.ensures.value) c.in-Ok.ensures.table c.in-Ok.ensures.shown)
 
 pub returns-in-Err-clause-answers : goal.returns-in-Err-clause-answers
 returns-in-Err-clause-answers c = λ honest owned. out_of_memory (ask.Answer c.args.name.now) owned c.args.self.now
