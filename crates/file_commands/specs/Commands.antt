@@ -83,10 +83,6 @@ IsNoSummary file NoMemory = Unit {0}
 IsNoSummary file (Summary error) = HasFault file error
 IsNoSummary file why = ⊥
 
--- a replica is the one that a summary file is of: what a replica saved is that replica
-abbrev pub IsLoaded : List ℕ → Held → Type 0
-IsLoaded file replica = IsSummary file replica.query replica.parts × ((held : Held) → IsSummary file held.query held.parts → replica ≡ held)
-
 -- a replica takes in another: the parts of both are joined, afterwards it knows the union, and over an honest disk of tapes it fits each
 -- world that both fitted
 pub record MergesHeld (honest : Bool) (old other new : Held) : Type 0 where

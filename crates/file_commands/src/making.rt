@@ -5,9 +5,9 @@ ghost use Rattle.grouping_model.specs.World.{World};
 ghost use Rattle.grouping_model.specs.declared.limits.TheConstants.{LONGEST_INPUT};
 ghost use Rattle.summary_codec.specs.Reading.{IsSaved};
 ghost use Rattle.summary_codec.specs.WorldFile.{world_file};
-ghost use Rattle.replica_merge.specs.Replicas.{told, Fits};
+ghost use Rattle.replica_merge.specs.Replicas.{IsLoaded, told, Fits};
 ghost use Rattle.replies.specs.declared.refusal.Refusal.TheVariants.{NoMemory};
-ghost use Rattle.file_commands.specs.Commands.{IsLoaded, IsNew, IsNotNew, IsNoSummary, IsTooLong};
+ghost use Rattle.file_commands.specs.Commands.{IsNew, IsNotNew, IsNoSummary, IsTooLong};
 
 use crate::summary::SummaryFile;
 use group_parser::parse;
@@ -33,10 +33,10 @@ pub fn create(alloc: Global, columns: &str, query: &str) -> Result<Replica, Refu
     Ok(Replica::new(alloc, query))
 }
 
-/// The replica that a summary file of either version is of: what a replica saved is that replica. Any bytes are read: those that are no summary file are refused by their
-/// first fault. Want of memory is `NoMemory`.
+/// The replica that a summary file of either version is of: what a replica saved is that replica. Any bytes are read: those that are no
+/// summary file are refused by their first fault. Want of memory is `NoMemory`.
 pub fn load(alloc: Global, file: &[u8]) -> Result<Replica, Refusal>
-    ensures loaded { IfOk result (λ replica. IsLoaded file.now replica) }
+    ensures loaded { IfOk result (IsLoaded file.now) }
     ensures why { IfErr result (IsNoSummary file.now) }
 {
     load_sharing(alloc, None, file)
@@ -48,7 +48,7 @@ pub(crate) fn load_sharing(
     known: Option<&Query>,
     file: &[u8],
 ) -> Result<Replica, Refusal>
-    ensures loaded { IfOk result (λ replica. IsLoaded file.now replica) }
+    ensures loaded { IfOk result (IsLoaded file.now) }
     ensures why { IfErr result (IsNoSummary file.now) }
 {
     Ok(Replica::load_sharing(alloc, known, file)?)

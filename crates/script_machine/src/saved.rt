@@ -1,8 +1,7 @@
 //! Summary files as they are kept: what those of one query begin with is there once.
 
 ghost use Rattle.std.specs.Prelude.{◌≡◌, ◌++◌, IfOk, IfSome};
-ghost use Rattle.summary_codec.specs.Reading.{IsSummary};
-ghost use Rattle.replica_merge.specs.Replicas.{Held};
+ghost use Rattle.replica_merge.specs.Replicas.{IsLoaded};
 
 use having_filter::Query;
 use replica_merge::Replica;
@@ -67,8 +66,7 @@ fn joined(alloc: Global, head: &[u8], rest: &[u8]) -> Result<Vec<u8>, AllocError
 /// The replica that a summary file is of. A file that a replica saved has no fault, so that the only error is a failed allocation.
 /// It shares the query that is told, if the file is of that.
 fn replica_of(alloc: Global, known: Option<&Query>, file: &[u8]) -> Result<Replica, AllocError>
-    ensures { IfOk result (λ replica. (held : Held) →
-        IsSummary file.now held.query held.parts → replica ≡ held) }
+    ensures { IfOk result (IsLoaded file.now) }
 {
     match Replica::load_sharing(alloc, known, file) {
         Ok(replica) => Ok(replica),
@@ -105,8 +103,7 @@ impl SavedFile {
         alloc: Global,
         known: Option<&Query>,
     ) -> Result<Replica, AllocError>
-        ensures { IfOk result (λ replica. (held : Held) →
-            IsSummary self.now held.query held.parts → replica ≡ held) }
+        ensures { IfOk result (IsLoaded self.now) }
     {
         let Some(head) = &self.head else {
             return replica_of(alloc, known, &self.rest);

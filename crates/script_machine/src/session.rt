@@ -8,9 +8,9 @@ ghost use Rattle.grouping_model.specs.World.{World};
 ghost use Rattle.query_checks.specs.Spelling.{spelling};
 ghost use Rattle.having_filter.specs.Kept.{by_names};
 ghost use Rattle.group_parser.specs.Parsing.{Accepts};
-ghost use Rattle.summary_codec.specs.Reading.{IsSummary, IsSaved};
+ghost use Rattle.summary_codec.specs.Reading.{IsSaved};
 ghost use Rattle.summary_codec.specs.WorldFile.{world_file};
-ghost use Rattle.replica_merge.specs.Replicas.{Held, told, Fits};
+ghost use Rattle.replica_merge.specs.Replicas.{IsLoaded, told, Fits};
 ghost use Rattle.script_io.specs.Records.{Record};
 ghost use Rattle.packed_rows.specs.Columns.{kinds};
 ghost use Rattle.script_commands.specs.Commands as ask;
@@ -175,8 +175,7 @@ fn replica_of_file(
     file: &SavedFile,
 ) -> Result<(Vec<u8>, Replica), AllocError>
     ensures name { IfOk result (λ made. made.0.items ≡ name.now) }
-    ensures saved { IfOk result (λ made. (held : Held) →
-        IsSummary file.now held.query held.parts → made.1 ≡ held) }
+    ensures loaded { IfOk result (λ made. IsLoaded file.now made.1) }
 {
     let key = name.to_vec(alloc)?;
     let replica = file.replica(alloc, query.as_ref())?;

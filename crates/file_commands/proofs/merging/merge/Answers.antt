@@ -15,24 +15,24 @@ use Rattle.file_commands.proofs.merging.merge.Goals as goal
 pub returns-clause-merged : goal.returns-clause-merged
 returns-clause-merged g c =
     on_ok c.take_in.result (MergesHeld (g.D.TapeDisk.honest c.args.disk.now) c.args.replica.now c.in_ok-other.other c.take_in.new.replica) (MergesFile (g.D.TapeDisk.honest c.args.disk.now) c.args.file.now c.args.replica.now c.take_in.new.replica)
-    (λ held. (c.in_ok-other.other, c.in_ok-other.ensures.loaded.0, held)) c.take_in.ensures.merged
+    (λ held. (c.in_ok-other.other, c.in_ok-other.ensures.loaded.summary, held)) c.take_in.ensures.merged
 
 pub returns-clause-why : goal.returns-clause-why
 returns-clause-why g c =
     if_err c.take_in.result (IsApart c.args.replica.now c.in_ok-other.other) (IsNotMerged c.args.file.now c.args.replica.now)
-    (λ why is. inr (c.in_ok-other.other, c.in_ok-other.ensures.loaded.0, is)) c.take_in.ensures.why
+    (λ why is. inr (c.in_ok-other.other, c.in_ok-other.ensures.loaded.summary, is)) c.take_in.ensures.why
 
 pub returns-clause-agree : goal.returns-clause-agree
 returns-clause-agree g c =
     if_err c.take_in.result (λ why. (of : ℕ) (at : Option ℕ) → why ≡ OriginDisagrees of at → (world : World) → Fits world c.args.replica.now → ¬ (Fits world c.in_ok-other.other))
     (λ why. (of : ℕ) (at : Option ℕ) → why ≡ OriginDisagrees of at → (world : World) → Fits world c.args.replica.now → (other : Held) → _ → ¬ (Fits world other))
-    (λ why agree of at is world own other is_file theirs. agree of at is world own (subst (Fits world) (sym (c.in_ok-other.ensures.loaded.1 other is_file)) theirs))
+    (λ why agree of at is world own other is_file theirs. agree of at is world own (subst (Fits world) (sym (c.in_ok-other.ensures.loaded.only other is_file)) theirs))
     c.take_in.ensures.agree
 
 pub returns-clause-counted : goal.returns-clause-counted
 returns-clause-counted g c =
     on_ok c.take_in.result _ (_ → FileMergeIsCounted _ c.args.file.now c.args.replica.now _ _ _ _)
-    (λ counted honest. (c.in_ok-other.other, c.in_ok-other.ensures.loaded.0, counted honest)) c.take_in.ensures.counted
+    (λ counted honest. (c.in_ok-other.other, c.in_ok-other.ensures.loaded.summary, counted honest)) c.take_in.ensures.counted
 
 pub returns-in_err-other-clause-disk : goal.returns-in_err-other-clause-disk
 returns-in_err-other-clause-disk g c =

@@ -29,7 +29,7 @@ invariant_of-self-2 c =
     subst (λ q. UpdatesBy (λ (x y : Vec ℕ Global). bytes_eq x.items y.items) (λ (k : Vec ℕ Global). bytes_eq q k.items) c.self.inside.replicas c.keep.new.kept (Some held)) c.in-Ok.ensures.name c.in-Ok-keep.ensures.put in
     store_updated old _ c.args.name.now held
     (updated c.self.inside.means.limit c.self.inside.columns c.self.inside.query c.self.inside.saved.entries c.args.name.now held c.self.inside.replicas c.keep.new.kept u)
-    (loaded_asks old c.args.saved.now c.in-Some.file.now held c.self.invariant (sym c.in-Some.ensures.value) (λ h is. c.in-Ok.ensures.saved h (Second, is))) c.self.invariant
+    (loaded_asks old c.args.saved.now c.in-Some.file.now held c.self.invariant (sym c.in-Some.ensures.value) (λ h is. c.in-Ok.ensures.loaded.only h (Second, is))) c.self.invariant
 
 pub returns-clause-answers : goal.returns-clause-answers
 returns-clause-answers c = λ honest owned.
@@ -39,7 +39,7 @@ returns-clause-answers c = λ honest owned.
     let u : UpdatesBy (λ (x y : Vec ℕ Global). bytes_eq x.items y.items) (λ (k : Vec ℕ Global). bytes_eq c.args.name.now k.items) c.self.inside.replicas c.keep.new.kept (Some held) =
     subst (λ q. UpdatesBy (λ (x y : Vec ℕ Global). bytes_eq x.items y.items) (λ (k : Vec ℕ Global). bytes_eq q k.items) c.self.inside.replicas c.keep.new.kept (Some held)) c.in-Ok.ensures.name c.in-Ok-keep.ensures.put in
     subst (λ s. Steps honest (ask.Load c.args.name.now c.args.saved.now) owned s says.Loaded new) c.self.view_is
-    (loaded old new c.args.name.now c.args.saved.now owned c.in-Some.file.now held (sym c.in-Some.ensures.value) (λ h is. c.in-Ok.ensures.saved h (Second, is))
+    (loaded old new c.args.name.now c.args.saved.now owned c.in-Some.file.now held (sym c.in-Some.ensures.value) (λ h is. c.in-Ok.ensures.loaded.only h (Second, is))
     (updated c.self.inside.means.limit c.self.inside.columns c.self.inside.query c.self.inside.saved.entries c.args.name.now held c.self.inside.replicas c.keep.new.kept u))
 
 pub returns-in_default-keep-clause-answers : goal.returns-in_default-keep-clause-answers
