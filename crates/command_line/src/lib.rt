@@ -71,14 +71,22 @@ fn run_task<'c, R: Files + AllocGlobal + RandomSource, W: Write, E: Write>(
 }
 
 /// Runs the command that words ask for.
-fn run_words<'c, R: Files + AllocGlobal + RandomSource, I: Read, W: Write, E: Write>(
-    rt: &'c R,
+fn run_words<R: Files + AllocGlobal + RandomSource, I: Read, W: Write, E: Write>(
+    rt: &R,
     words: &[String],
     reader: &mut I,
-    streams: Streams<'c, W, E>,
+    writer: &mut FusedWriter<W>,
+    errors: &mut E,
+    terminals: Terminals,
 ) -> Ending {
-    let mut streams = streams;
-    match parse_words(rt.alloc(), words) {
+    let alloc = rt.alloc();
+    let mut streams = Streams {
+        alloc,
+        writer,
+        errors,
+        terminals,
+    };
+    match parse_words(alloc, words) {
         Ok(matches) => match matches.subcommand() {
             Some(("script", matches)) => {
                 run_script(rt, matches.get_str(SPILL), reader, &mut streams)
@@ -119,16 +127,9 @@ fn run_through<R: Files + AllocGlobal + RandomSource, I: Read, W: Write + Drop, 
     errors: &mut E,
     terminals: Terminals,
 ) -> Ending {
-    let alloc = rt.alloc();
     let mut gathered = FusedWriter::new(writer);
-    let streams = Streams {
-        alloc,
-        writer: &mut gathered,
-        errors: &mut *errors,
-        terminals,
-    };
-    let ending = run_words(rt, words, reader, streams);
-    send_out(alloc, &mut gathered, ending, errors)
+    let ending = run_words(rt, words, reader, &mut gathered, errors, terminals);
+    send_out(rt.alloc(), &mut gathered, ending, errors)
 }
 
 /// Runs the command of some words, over a writer. Where a person looks at the replies, and where there is no memory to gather them in, they
