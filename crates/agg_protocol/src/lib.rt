@@ -18,7 +18,6 @@ ghost use Rattle.agg_protocol.specs.States.{Shape, IsState, Denotes, shape_of, w
 mod kind;
 
 pub use crate::kind::{AggKind, Argument, Signature};
-
 use packed_rows::Value;
 use thiserror::Error;
 

@@ -14,8 +14,7 @@ ghost use Rattle.having_filter.specs.Meaning.{place_in, source_of_form, group_co
 ghost use Rattle.having_filter.specs.Plans.{PlansFor, source_of, by_sources};
 
 use crate::copying::calls_of;
-use agg_protocol::AggKind;
-use agg_protocol::ResultValue;
+use agg_protocol::{AggKind, ResultValue};
 use packed_rows::{Schema, ValueKind};
 use query_checks::{AggCall, Cond, Item, Mapping, Parts, is_same_call, mapped_clause};
 use std::alloc::{AllocError, Global};

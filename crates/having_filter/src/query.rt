@@ -23,8 +23,7 @@ ghost use Rattle.having_filter.specs.Plans.{PlansFor, source_of};
 use crate::leaves::{GroupLeaves, RowLeaves, is_met};
 use crate::plan::{Plan, Source};
 use crate::texts::{Texts, labels_of};
-use agg_protocol::AggKind;
-use agg_protocol::ResultValue;
+use agg_protocol::{AggKind, ResultValue};
 use packed_rows::{Schema, Value, ValueKind};
 use query_checks::{
     AggCall, Cond, Item, OrderTerm, Parts, QueryError, RawQuery, check_order, check_parts,
