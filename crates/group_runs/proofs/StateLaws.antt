@@ -27,7 +27,7 @@ use Rattle.group_runs.specs.Standing.{AreStates}
 use Rattle.group_runs.specs.Adding.{partial_after_row}
 use Rattle.group_runs.specs.PlaceLaws.{dropped}
 use Rattle.group_runs.specs.StandingLaws.{states_by}
-use Rattle.group_runs.specs.Steps.{AreAdvanced, HaveRoomForRow}
+use Rattle.group_runs.specs.Steps.{AreAdvanced, AreWithin, HaveRoomForRow}
 use Rattle.agg_library.specs.StateRowLaws.{all_raised, joined, raised}
 
 -- what an aggregate makes of a row, by its argument
@@ -102,7 +102,8 @@ at_place all place k ks kinds is named = parts (drop place all) refl (sym (ap fu
 -- the states of no aggregates are no bytes
 pub none_advanced : (calls : List Aggregate) (kinds : List AggKind) (bound : ℕ) (bytes : List ℕ) (row : Row) → length kinds ≡ 0 → functions_of kinds ≡ map (λ (a : Aggregate). a.function) calls → bytes ≡ [] → AreAdvanced calls bound bytes row bytes
 none_advanced [] [] bound bytes row none named empty =
-    record { moved = λ m ps low are. record { kinds = []; named = refl; denote = empty }; within = ([], record { kinds = []; named = refl; denote = empty }) }
+    let nothing : AreWithin [] bound bytes = ([], record { kinds = []; named = refl; denote = empty }) in
+    record { moved = λ m ps low are. record { kinds = []; named = refl; denote = empty }; held = nothing; within = nothing }
 none_advanced (a ∷ calls) [] bound bytes row none named empty = absurd cc
 none_advanced calls (kind ∷ kinds) bound bytes row none named empty = absurd (omega (arith, none))
 
@@ -118,12 +119,15 @@ none_left these (kind ∷ kinds) bound bytes none named room = absurd (omega (ar
 more_advanced : (a : Aggregate) (rest : List Aggregate) (k : AggKind) (ks : List AggKind) (bound : ℕ) (bytes front back : List ℕ) (row : Row)
     → a.function ≡ function_of k → functions_of ks ≡ map (λ (a : Aggregate). a.function) rest
     → ((m : ℕ) (p : Partial) → m < bound → states.Denotes m (kind_shape k) (take (kind_width k) bytes) p → states.Denotes (m + 1) (kind_shape k) front (partial_after_row a p row))
+    → (p : Partial) × states.Denotes bound (kind_shape k) (take (kind_width k) bytes) p
     → (p : Partial) × states.Denotes bound (kind_shape k) front p
     → AreAdvanced rest bound (drop (kind_width k) bytes) row back
     → AreAdvanced (a ∷ rest) bound bytes row (front ++ back)
-more_advanced a rest k ks bound bytes front back row first others one some more =
+more_advanced a rest k ks bound bytes front back row first others one was some more =
     record {
       moved = λ m ps low are. step m ps low (states_by (map (λ (a : Aggregate). a.function) (a ∷ rest)) m (k ∷ ks) bytes ps named are);
+      held =
+          (was.0 ∷ more.held.0, record { kinds = k ∷ ks; named = named; denote = (was.1, states_by (map (λ (a : Aggregate). a.function) rest) bound ks (drop (kind_width k) bytes) more.held.0 others more.held.1) });
       within = (some.0 ∷ more.within.0, whole bound some.0 more.within.0 some.1 more.within.1);
     }
   where
@@ -140,14 +144,15 @@ more_advanced a rest k ks bound bytes front back row first others one some more 
 pub step_advanced : (all : List Aggregate) (place : ℕ) (k : AggKind) (ks kinds : List AggKind) (bound : ℕ) (bytes front back first others : List ℕ) (row : Row)
     → kinds ≡ k ∷ ks → functions_of kinds ≡ map (λ (a : Aggregate). a.function) (drop place all) → front ≡ take (kind_width k) bytes → back ≡ drop (kind_width k) bytes
     → ((a : Aggregate) → slice_get all place ≡ Some a → a.function ≡ function_of k → (m : ℕ) (p : Partial) → m < bound → states.Denotes m (kind_shape k) front p → states.Denotes (m + 1) (kind_shape k) first (partial_after_row a p row))
+    → (p : Partial) × states.Denotes bound (kind_shape k) front p
     → (p : Partial) × states.Denotes bound (kind_shape k) first p
     → AreAdvanced (drop (place + 1) all) bound back row others
     → AreAdvanced (drop place all) bound bytes row (first ++ others)
-step_advanced all place k ks kinds bound bytes front back first others row is named before behind one some more =
+step_advanced all place k ks kinds bound bytes front back first others row is named before behind one was some more =
     let at = at_place all place k ks kinds is named in
     subst (λ calls. AreAdvanced calls bound bytes row (first ++ others)) (sym at.4)
     (more_advanced at.0 (drop (place + 1) all) k ks bound bytes first others row at.2 at.3
-    (λ m p low d. one at.0 at.1 at.2 m p low (subst (λ b. states.Denotes m (kind_shape k) b p) (sym before) d)) some
+    (λ m p low d. one at.0 at.1 at.2 m p low (subst (λ b. states.Denotes m (kind_shape k) b p) (sym before) d)) (was.0, subst (λ b. states.Denotes bound (kind_shape k) b was.0) before was.1) some
     (subst (λ b. AreAdvanced (drop (place + 1) all) bound b row others) behind more))
 
 -- states that can count one more row, in two parts

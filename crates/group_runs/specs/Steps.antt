@@ -52,11 +52,12 @@ AreWithin these bound bytes = (partials : List Partial) × AreStates these bound
 abbrev pub HaveRoomForRow : List Function → ℕ → List ℕ → Type 0
 HaveRoomForRow these bound old = (most : ℕ) × (partials : List Partial) × AreStates these most old partials × (most < bound)
 
--- those of some aggregates are moved on by a row
+-- those of some aggregates, which count few enough rows, are moved on by a row
 pub record AreAdvanced (aggregates : List Aggregate) (bound : ℕ) (old : List ℕ) (row : Row) (new : List ℕ) : Type 0 where
   pub moved :
       (most : ℕ) (partials : List Partial) → most < bound → AreStates (map (λ (a : Aggregate). a.function) aggregates) most old partials
       → AreStates (map (λ (a : Aggregate). a.function) aggregates) (most + 1) new (advanced aggregates partials row)
+  pub held : AreWithin (map (λ (a : Aggregate). a.function) aggregates) bound old
   pub within : AreWithin (map (λ (a : Aggregate). a.function) aggregates) bound new
 
 -- the states of one group and others of its key can count the rows of both, within a bound, and are combined
@@ -74,6 +75,7 @@ CombineWithin these bound old more new =
 
 pub record AreCombined (these : List Function) (bound : ℕ) (old more new : List ℕ) : Type 0 where
   pub moved : CombineWithin these bound old more new
+  pub held : AreWithin these bound old × AreWithin these bound more
   pub within : AreWithin these bound new
 
 abbrev pub HaveRoomForMore : List Function → List ℕ → List ℕ → Type 0

@@ -162,15 +162,15 @@ pub record Ran (disk : Disk) (commands : List Command) (old new : Option (List �
   pub fits : IsTrue disk.honest → (world : World) → Agrees world start before replies → FitsWorld world store
   pub writes : Appends old new (joined texts)
 
-pub ran_start : (disk : Disk) → disk.failed ≤ disk.failed_now → (commands : List Command) (known : Option (List ℕ)) (store : Store) → store ≡ empty → Ran disk commands known known 0 commands store
-ran_start disk low commands known store is =
+pub ran_start : (disk : Disk) → disk.failed ≡ disk.failed_now → (commands : List Command) (known : Option (List ℕ)) (store : Store) → store ≡ empty → Ran disk commands known known 0 commands store
+ran_start disk same commands known store is =
     subst (Ran disk commands known known 0 commands) (sym is)
     (record {
       before = [];
       replies = [];
       texts = [];
       all = refl;
-      output = record { runs = run_none disk.honest; faults = omega (arith, low); reads = reads_none; strict = λ right world agrees. strict_none; right = λ right world agrees. refl };
+      output = record { runs = run_none disk.honest; faults = omega (arith, same); reads = reads_none; strict = λ right world agrees. strict_none; right = λ right world agrees. refl };
       counts = refl;
       represents = record { columns = refl; query = refl; replicas = λ name. refl; saved = λ name. tt; limit = refl };
       fits = λ right world agrees. record { of_columns = tt; fit = λ name. tt; files = λ name. tt };
@@ -179,7 +179,7 @@ ran_start disk low commands known store is =
 
 -- an output with one reply more, and others that are refused
 module _ {disk : Disk} {later : ℕ} {commands left : List Command} {old mid : Option (List ℕ)} {refused : ℕ} {store next : Store} {c : Command} {reply : code.Reply}
-    (ran : Ran disk commands old mid refused (c ∷ left) store) (step : Steps disk.honest (request_of c.head) c.owned store reply next) (failing : disk.failed_now + faults_in reply ≤ later) where
+    (ran : Ran disk commands old mid refused (c ∷ left) store) (step : Steps disk.honest (request_of c.head) c.owned store reply next) (failing : disk.failed_now + faults_in reply ≡ later) where
   abbrev answers : Answers disk.honest (state_after start ran.replies) (request_of c.head) c.owned store reply next
   answers = step.steps (state_after start ran.replies) ran.represents
 
@@ -265,10 +265,12 @@ ran_stop disk later low commands left old new refused store ran =
       left = left;
       all = ran.all;
       refused = refused;
+      failed_before = disk.failed_now;
+      later = low;
       writes = record {
         replies = ran.replies;
         texts = ran.texts;
-        output = record { runs = ran.output.runs; faults = let had = ran.output.faults in omega (arith, had, low); reads = ran.output.reads; strict = ran.output.strict; right = ran.output.right };
+        output = record { runs = ran.output.runs; faults = ran.output.faults; reads = ran.output.reads; strict = ran.output.strict; right = ran.output.right };
         counts = ran.counts;
         writes = ran.writes;
       };
@@ -277,7 +279,9 @@ ran_stop disk later low commands left old new refused store ran =
 -- ---- a whole run
 
 none_yet : (disk : Disk) → disk.failed ≤ disk.failed_now → (commands : List Command) (known : Option (List ℕ)) → WritesBefore disk commands known known
-none_yet disk low commands known = ran_stop disk disk.failed_now (omega arith) commands commands known known 0 empty (ran_start disk low commands known empty refl)
+none_yet disk low commands known =
+    let then : Disk = record disk { failed_now = disk.failed } in
+    ran_stop then disk.failed_now low commands commands known known 0 empty (ran_start then refl commands known empty refl)
 
 -- a script that was not read
 pub stops_unread : (disk : Disk) → disk.failed ≤ disk.failed_now → (a b known : Option (List ℕ)) (most : ℕ) (e : InputError) → StopsReading a b most e

@@ -21,9 +21,9 @@ pub record Disk : Type 0 where
   pub failed : ℕ
   pub failed_now : ℕ
 
--- replies tell no more often that the disk failed than it did
+-- replies tell as often that the disk failed as it did, so that no call of it is tried again
 abbrev pub AreFaultsOf : Disk → List Reply → Type 0
-AreFaultsOf disk replies = disk.failed + count_by is_fault replies ≤ disk.failed_now
+AreFaultsOf disk replies = disk.failed + count_by is_fault replies ≡ disk.failed_now
 
 -- replies to commands, one to each, and their texts, by a run of the machine over such a disk. Over an honest disk, and for each world
 -- with which the script agrees, none is for disagreement, and these are the texts
@@ -49,13 +49,15 @@ pub record WritesFront (disk : Disk) (commands : List Command) (old new : Option
   pub output : IsOutput disk commands replies texts
   pub writes : StopsShort old new (joined texts)
 
--- what was written is an output of the commands before some command
+-- what was written is an output of the commands before some command, in which the disk may have failed
 pub record WritesBefore (disk : Disk) (commands : List Command) (old new : Option (List ℕ)) : Type 0 where
   pub before : List Command
   pub left : List Command
   pub all : commands ≡ before ++ left
   pub refused : ℕ
-  pub writes : WritesAll disk before old new refused
+  pub failed_before : ℕ
+  pub later : failed_before ≤ disk.failed_now
+  pub writes : WritesAll (record disk { failed_now = failed_before }) before old new refused
 
 -- what was written where not all commands were answered: the front of an output at a fault of the writer, and for want of memory the
 -- output of the commands before

@@ -48,6 +48,7 @@ returns-clause-advanced t c =
     (λ a at named m p low denoted.
     let done = c.in_ok-advance.ensures.ok in
     moved_on kind a (row_of c.args.row.now) c.reach.result m c.args.most p done.0 front c.advance.new.part named (c.reach.ensures a at) low c.requires.most denoted done.1 done.2)
+    (let done = c.in_ok-advance.ensures.ok in (done.0, done.1))
     (let done = c.in_ok-advance.ensures.ok in (partial_after (function_of kind) done.0 c.reach.result, done.2)))
     c.advance_from.ensures.advanced
 

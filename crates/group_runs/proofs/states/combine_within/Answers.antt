@@ -28,6 +28,8 @@ returns-clause-combined c =
             (states_by (functions q) m kinds c.args.states.now ps named are) (states_by (functions q) n kinds c.args.more.now qs named more)
             both.2 both.3 both.4);
       };
+      held =
+          ((both.0, record { kinds = kinds; named = named; denote = both.2 }), (both.1, record { kinds = kinds; named = named; denote = both.3 }));
       within = (combine_all (functions_of kinds) both.0 both.1, record { kinds = kinds; named = named; denote = both.4 });
     })
     c.combine_into.ensures.ok

@@ -1,6 +1,5 @@
 use Rattle.std.specs.Prelude.{◌≡◌, ◌<◌, ◌≤◌, ◌+◌, refl, if◌then◌else◌, length}
 use Rattle.std.proofs.Common.{arith, ap, sym, ◌∙◌}
-use Rattle.std.proofs.Math.Nat.{le_of_eq}
 use Rattle.std.proofs.lemmas.List.{length-drop}
 use Rattle.csv.specs.Records.{fields_of}
 use Rattle.tape_disks.specs.DiskLaws.{leaves_none}
@@ -15,7 +14,7 @@ pub loop-command-init : goal.loop-command-init
 loop-command-init g c =
     record {
       room = omega arith;
-      ran = ran_start _ (omega arith) _ _ _ c.requires.none;
+      ran = ran_start _ refl _ _ _ c.requires.none;
       sound = λ sound. sound;
       left = (0, leaves_none g.D.TapeDisk c.args.disk.now);
     }
@@ -46,7 +45,7 @@ returns-in_err-put_reply g c =
       writes =
           passed_as c.from_residual-in_err-put_reply.result stop.WriteFault _ _ c.from_residual-in_err-put_reply.ensures.1
           (ran_front {c = command_at (fields_of c.in-Some.command.head) c.next_command.new.records} (rw next at c.loop-command.invariant.ran)
-          (honest_steps _ _ _ _ _ _ _ left.1.honesty c.in_ok-reply.ensures.answers) (le_of_eq (sym c.in_ok-reply.ensures.disk.failures)) _ c.in_err-put_reply.ensures.0);
+          (honest_steps _ _ _ _ _ _ _ left.1.honesty c.in_ok-reply.ensures.answers) (sym c.in_ok-reply.ensures.disk.failures) _ c.in_err-put_reply.ensures.0);
       write_fault =
           fails_as c.from_residual-in_err-put_reply.result stop.WriteFault c.args.writer.now c.put_reply.new.writer c.from_residual-in_err-put_reply.ensures.1
           (λ sound. c.in_err-put_reply.ensures.1 (c.loop-command.invariant.sound sound));
@@ -79,7 +78,7 @@ loop-command-preserved g c =
       ran =
           rw c.in_ok-reply.ensures.left
           (ran_more {c = command_at (fields_of c.in-Some.command.head) c.next_command.new.records} (rw next at inv.ran) (honest_steps _ _ _ _ _ _ _ inv.left.1.honesty c.in_ok-reply.ensures.answers)
-          (le_of_eq (sym c.in_ok-reply.ensures.disk.failures)) _ _ c.in_ok-put_reply.ensures.0 counts);
+          (sym c.in_ok-reply.ensures.disk.failures) _ _ c.in_ok-put_reply.ensures.0 counts);
       sound = λ sound. sym (c.in_ok-put_reply.ensures.1 (inv.sound sound));
       left = left_both g.D.TapeDisk c.args.disk.now c.loop-command.disk c.execute.new.disk inv.left (_, c.in_ok-reply.ensures.disk);
     }
