@@ -39,13 +39,14 @@ enum AtRoom {
     TakeNone,
 }
 
-// A writer that takes a few bytes, at most so many a call.
+// A writer that takes a few bytes, at most so many a call. One that takes none has nothing to send out, and fails at that, too.
 #[derive(Drop)]
 struct ShortWriter {
     taken: Vec<u8>,
     room: usize,
     a_call: usize,
     calls: usize,
+    flushes: usize,
     at_room: AtRoom,
 }
 
@@ -67,7 +68,11 @@ impl Write for ShortWriter {
     }
 
     fn flush(&mut self) -> io::Result<()> {
-        Ok(())
+        self.flushes = self.flushes.wrapping_add(1);
+        match self.at_room {
+            AtRoom::Fail(kind) if self.room == 0 => Err(Error::from(kind)),
+            _ => Ok(()),
+        }
     }
 }
 
@@ -281,6 +286,7 @@ fn fills(rt: HostRuntime, text: &[u8], room: usize, a_call: usize, at_room: AtRo
         room,
         a_call,
         calls: 0,
+        flushes: 0,
         at_room,
     };
     let mut writer = FusedWriter::new(&mut short);
@@ -318,6 +324,37 @@ fn writes_all_or_the_front(rt: HostRuntime) {
     }
 }
 
+/// Whether a writer of so much room is flushed when it is asked to, and then alone, and how often it is if that is asked twice.
+fn flushes(rt: HostRuntime, room: usize) -> (bool, usize) {
+    let mut short = ShortWriter {
+        taken: Vec::new(rt.alloc()),
+        room,
+        a_call: 3,
+        calls: 0,
+        flushes: 0,
+        at_room: AtRoom::Fail(ErrorKind::StorageFull),
+    };
+    let mut writer = FusedWriter::new(&mut short);
+    let text = b"count 0\n".get(..room).unwrap_or(b"count 0\n");
+    let is_written = put_all(&mut writer, text).is_ok();
+    let first = writer.flush().is_ok();
+    let again = writer.flush().is_ok();
+    let is_told = first == again && first == writer.fault().is_none();
+    (is_written && is_told, short.flushes)
+}
+
+#[test]
+fn flushes_the_writer_behind(rt: HostRuntime) {
+    assert!(rt;
+        flushes(rt, 8) == (true, 2),
+        "twice, and not by what writes"
+    );
+    assert!(rt;
+        flushes(rt, 0) == (true, 1),
+        "a flush that failed is not tried again"
+    );
+}
+
 #[test]
 fn writes_nothing_without_a_call(rt: HostRuntime) {
     let mut short = ShortWriter {
@@ -325,6 +362,7 @@ fn writes_nothing_without_a_call(rt: HostRuntime) {
         room: 0,
         a_call: 1,
         calls: 0,
+        flushes: 0,
         at_room: AtRoom::TakeNone,
     };
     let mut writer = FusedWriter::new(&mut short);
@@ -340,6 +378,7 @@ fn asks_a_failed_writer_no_more(rt: HostRuntime) {
         room: 0,
         a_call: 1,
         calls: 0,
+        flushes: 0,
         at_room: AtRoom::TakeNone,
     };
     let mut writer = FusedWriter::new(&mut short);
