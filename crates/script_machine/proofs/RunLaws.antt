@@ -280,8 +280,8 @@ ran_stop disk later low commands left old new refused store ran =
 
 none_yet : (disk : Disk) → disk.failed ≤ disk.failed_now → (commands : List Command) (known : Option (List ℕ)) → WritesBefore disk commands known known
 none_yet disk low commands known =
-    let then : Disk = record disk { failed_now = disk.failed } in
-    ran_stop then disk.failed_now low commands commands known known 0 empty (ran_start then refl commands known empty refl)
+    let begun : Disk = record disk { failed_now = disk.failed } in
+    ran_stop begun disk.failed_now low commands commands known known 0 empty (ran_start begun refl commands known empty refl)
 
 -- a script that was not read
 pub stops_unread : (disk : Disk) → disk.failed ≤ disk.failed_now → (a b known : Option (List ℕ)) (most : ℕ) (e : InputError) → StopsReading a b most e
