@@ -1,12 +1,9 @@
 -- The least and the greatest member of a list, and the bits of a number.
-use Rattle.std.specs.Prelude.{◌≡◌, refl, ℕ, zero, suc, ◌+◌, ◌-◌, ◌*◌, ◌^◌, ◌<◌, ◌⊎◌, ◌==◌, Bool, true, false, T, cond, List, [], ◌∷◌, ℤ, pos, negsuc, FitsSigned, ◌≤ℤ◌, ◌<ℤ◌, int_le, int_lt, not, find, Contains, ◌↔◌, Some, is_some, IsSome, ◌++◌, ◌%◌, ◌&&◌, ◌||◌, count_by, None}
+use Rattle.std.specs.Prelude.{◌≡◌, refl, ℕ, zero, suc, ◌+◌, ◌-◌, ◌*◌, ◌^◌, ◌<◌, ◌⊎◌, ◌==◌, Bool, true, false, T, cond, List, [], ◌∷◌, ℤ, pos, negsuc, FitsSigned, ◌≤ℤ◌, ◌<ℤ◌, int_le, int_lt, find, Contains, ◌↔◌, Some, is_some, IsSome, ◌++◌, ◌%◌, ◌&&◌, ◌||◌, count_by, None}
 use Rattle.std.proofs.Common.{sym, ◌∙◌, ap, subst, inl, inr, arith}
 use Rattle.std.specs.List.{list_all, list_any}
 use Rattle.std.specs.Int.{w64, cast_unsigned, cast_signed, bit_at, int_min, int_max}
-use Rattle.std.specs.Int.Signed.{le_z_yes, lt_z_yes, lt_z_no, ≤ℤ_refl, <ℤ-≤ℤ_trans, clash_ℤ}
-use Rattle.std.specs.Cmp.{int_ranks, int_chain}
-use Rattle.std.specs.Ordering.{int_cmp, MatchOrdering}
-use Rattle.std.specs.declared.cmp.Ordering.TheVariants.{Less, Equal, Greater}
+use Rattle.std.specs.Int.Signed.{le_z_yes, ≤ℤ_refl, <ℤ-≤ℤ_trans, clash_ℤ}
 use Rattle.std.proofs.lemmas.Int.{of_z-to_z, to_z-of_z}
 use Rattle.std.proofs.lemmas.Nat.Bits.{bit_at_cat_low, bit_at_cat_high, bit_at-lt, same_from_bits_below}
 use Rattle.std.proofs.Math.Nat.{pow-suc}
@@ -17,34 +14,24 @@ use Rattle.std.proofs.Math.Bool.{and-true}
 use Rattle.grouping_model.specs.Combining.{joined}
 use Rattle.grouping_model.specs.Aggregates.{bits_of_all, bits_of_some, bits_of_odd, least, greatest, has_bit, unsigned_of_bits, number_of_bits}
 use Rattle.grouping_model.specs.MemberLaws.{false_is_not_true, Member, from_contains, to_contains, all_member, member_all, found_member, found_some}
+use Rattle.std.proofs.lemmas.Bool.Decides.{nat_tests}
+use Rattle.std.proofs.lemmas.Grind.{common_steps}
 
 -- one of two numbers is at most the other, and both only where they are equal
 order_of : {G : Type 0} (x y : ℤ) → (x <ℤ y → G) → (x ≡ y → G) → (y <ℤ x → G) → G
-order_of {G} x y below same above =
-    elim (int_cmp x y) as (λ r. MatchOrdering r (x <ℤ y) (x ≡ y) (y <ℤ x) → G) [ Less ↦ below | Equal ↦ same | Greater ↦ above ] (int_ranks x y)
+order_of {G} x y below same above = grind (arith, nat_tests, common_steps)
 
 at_most_both : (x y : ℤ) → x ≤ℤ y → y ≤ℤ x → x ≡ y
 at_most_both x y l m = order_of x y (λ below. clash_ℤ below m) (λ same. same) (λ above. clash_ℤ above l)
 
 at_most_or_above : (x y : ℤ) → (x ≤ℤ y) ⊎ (y <ℤ x)
-at_most_or_above x y =
-    elim (int_lt y x) as (λ b. int_lt y x ≡ b → (x ≤ℤ y) ⊎ (y <ℤ x)) [
-      | true ↦ λ e. inr (lt_z_yes (subst T (sym e) tt))
-      | false ↦ λ e. inl (lt_z_no (subst (λ b. T (not b)) (sym e) tt))
-    ] refl
+at_most_or_above x y = grind (arith, nat_tests, common_steps)
 
 at_most_chain : (x y z : ℤ) → x ≤ℤ y → y ≤ℤ z → x ≤ℤ z
 at_most_chain x y z l m = elim (at_most_or_above x z) [ inl done ↦ done | inr above ↦ clash_ℤ (<ℤ-≤ℤ_trans above l) m ]
 
 at_most_either : (x y : ℤ) → (x ≤ℤ y) ⊎ (y ≤ℤ x)
-at_most_either x y =
-    elim (at_most_or_above x y) [
-      | inl done ↦ inl done
-      | inr above ↦ elim (at_most_or_above y x) [ inl done ↦ inr done | inr below ↦ clash_ℤ (<ℤ-≤ℤ_trans above (weaken x y below)) (≤ℤ_refl y) ]
-    ]
-  where
-    weaken : (x y : ℤ) → x <ℤ y → x ≤ℤ y
-    weaken x y below = elim (at_most_or_above x y) [ inl done ↦ done | inr above ↦ clash_ℤ (int_chain x y x below above) (≤ℤ_refl x) ]
+at_most_either x y = grind (arith, nat_tests, common_steps)
 
 so : (b : Bool) → T b → b ≡ true
 so true t = refl
@@ -144,35 +131,19 @@ greatest_of_some = leader_of_some (λ x y. int_le y x) (λ x. tested x x (≤ℤ
 
 -- the lesser and the greater of two numbers: one of them, and before both
 lesser_left : (x y : ℤ) → int_le (int_min x y) x ≡ true
-lesser_left x y =
-    elim (int_lt y x) as (λ b. int_lt y x ≡ b → int_le (cond b y x) x ≡ true) [
-      | true ↦ λ e. tested y x (elim (at_most_either y x) [ inl l ↦ l | inr m ↦ clash_ℤ (lt_z_yes (subst T (sym e) tt)) m ])
-      | false ↦ λ e. tested x x (≤ℤ_refl x)
-    ] refl
+lesser_left x y = grind (arith, nat_tests, common_steps)
 
 lesser_right : (x y : ℤ) → int_le (int_min x y) y ≡ true
-lesser_right x y =
-    elim (int_lt y x) as (λ b. int_lt y x ≡ b → int_le (cond b y x) y ≡ true) [
-      | true ↦ λ e. tested y y (≤ℤ_refl y)
-      | false ↦ λ e. tested x y (lt_z_no (subst (λ b. T (not b)) (sym e) tt))
-    ] refl
+lesser_right x y = grind (arith, nat_tests, common_steps)
 
 lesser_one : (x y : ℤ) → (int_min x y ≡ x) ⊎ (int_min x y ≡ y)
 lesser_one x y = elim (int_lt y x) as (λ b. (cond b y x ≡ x) ⊎ (cond b y x ≡ y)) [ true ↦ inr refl | false ↦ inl refl ]
 
 greater_left : (x y : ℤ) → int_le x (int_max x y) ≡ true
-greater_left x y =
-    elim (int_lt y x) as (λ b. int_lt y x ≡ b → int_le x (cond b x y) ≡ true) [
-      | true ↦ λ e. tested x x (≤ℤ_refl x)
-      | false ↦ λ e. tested x y (lt_z_no (subst (λ b. T (not b)) (sym e) tt))
-    ] refl
+greater_left x y = grind (arith, nat_tests, common_steps)
 
 greater_right : (x y : ℤ) → int_le y (int_max x y) ≡ true
-greater_right x y =
-    elim (int_lt y x) as (λ b. int_lt y x ≡ b → int_le y (cond b x y) ≡ true) [
-      | true ↦ λ e. tested y x (elim (at_most_either y x) [ inl l ↦ l | inr m ↦ clash_ℤ (lt_z_yes (subst T (sym e) tt)) m ])
-      | false ↦ λ e. tested y y (≤ℤ_refl y)
-    ] refl
+greater_right x y = grind (arith, nat_tests, common_steps)
 
 greater_one : (x y : ℤ) → (int_max x y ≡ x) ⊎ (int_max x y ≡ y)
 greater_one x y = elim (int_lt y x) as (λ b. (cond b x y ≡ x) ⊎ (cond b x y ≡ y)) [ true ↦ inl refl | false ↦ inr refl ]

@@ -1,5 +1,5 @@
 -- A function's partial result of two lists of arguments on end is what their partial results combine to.
-use Rattle.std.specs.Prelude.{◌≡◌, refl, ℕ, zero, suc, ◌+◌, ◌%◌, ◌^◌, ◌<◌, ◌==◌, min, max, Bool, true, false, cond, ◌&&◌, ◌||◌, List, [], ◌∷◌, ◌++◌, length, map, filter, count_by, ℤ, ◌+ℤ◌, bit_and, bit_or, bit_xor, Some}
+use Rattle.std.specs.Prelude.{◌≡◌, refl, ℕ, ◌+◌, ◌%◌, ◌^◌, ◌<◌, ◌==◌, min, max, Bool, true, false, cond, ◌&&◌, ◌||◌, List, [], ◌∷◌, ◌++◌, length, map, filter, count_by, ℤ, ◌+ℤ◌, bit_and, bit_or, bit_xor, Some}
 use Rattle.std.proofs.Common.{sym, ◌∙◌, ap, arith}
 use Rattle.std.specs.List.{list_all, list_any}
 use Rattle.std.specs.Int.{w64, cast_unsigned, cast_signed, bit_at, int_bit_and, int_bit_or, int_bit_xor}
@@ -20,6 +20,8 @@ use Rattle.grouping_model.specs.Condition.{is_met}
 use Rattle.grouping_model.specs.Query.{Aggregate}
 use Rattle.grouping_model.specs.Grouping.{argument, arguments, column_of}
 use Rattle.grouping_model.proofs.AggregateLaws.{least_append, greatest_append, bits_below, unsigned_bit_is}
+use Rattle.std.proofs.lemmas.Bool.Decides.{nat_tests}
+use Rattle.std.proofs.lemmas.Grind.{common_steps}
 
 total-append : (xs ys : List ℤ) → total (xs ++ ys) ≡ total xs +ℤ total ys
 total-append [] ys = sym (+ℤ_idl (total ys))
@@ -69,12 +71,7 @@ some_bits xs ys =
     (λ i. ap digit (list_any-append (has_bit i) xs ys) ∙ digit_or (list_any (has_bit i) xs) (list_any (has_bit i) ys))
 
 odd_digit : (n : ℕ) → digit (n % 2 == 1) ≡ n % 2
-odd_digit n = lemma (n % 2) (omega arith)
-  where
-    lemma : (d : ℕ) → d < 2 → digit (d == 1) ≡ d
-    lemma zero l = refl
-    lemma (suc zero) l = refl
-    lemma (suc (suc d)) l = absurd (omega arith)
+odd_digit n = grind (arith, nat_tests, common_steps)
 
 odd_bits : (xs ys : List ℤ) → bits_of_odd (xs ++ ys) ≡ int_bit_xor w64 (bits_of_odd xs) (bits_of_odd ys)
 odd_bits xs ys =

@@ -1,6 +1,6 @@
 -- The groups after one more row, and the answer that groups give.
-use Rattle.std.specs.Prelude.{◌≡◌, refl, Bool, true, false, cond, List, [], ◌∷◌, ◌++◌, map, filter}
-use Rattle.std.proofs.Common.{sym, ◌∙◌, ap}
+use Rattle.std.specs.Prelude.{◌≡◌, refl, Bool, true, false, cond, List, [], ◌∷◌, ◌++◌, map}
+use Rattle.std.proofs.Common.{sym, ◌∙◌, ap, arith}
 use Rattle.std.proofs.lemmas.List.{append-nil}
 use Rattle.std.specs.declared.cmp.Ordering.{Ordering}
 use Rattle.std.specs.declared.cmp.Ordering.TheVariants.{Less, Equal, Greater}
@@ -18,10 +18,12 @@ use Rattle.grouping_model.specs.Query.{Query, Aggregate}
 use Rattle.grouping_model.specs.Grouping.{key_of, keys, group, partials, arguments, column_of, part}
 use Rattle.grouping_model.specs.Parts.{advanced, with_row, partials_or_none}
 use Rattle.grouping_model.specs.DatumOrderLaws.{row_cmp_total, row_cmp_ties}
-use Rattle.grouping_model.specs.KeyLaws.{keys_rise, group_append}
+use Rattle.grouping_model.specs.KeyLaws.{keys_rise}
 use Rattle.grouping_model.specs.PartLaws.{partials_or_none-part}
-use Rattle.grouping_model.proofs.PartLaws.{keys_one_more, selected-one}
+use Rattle.grouping_model.proofs.PartLaws.{keys_one_more}
 use Rattle.grouping_model.proofs.TransitionLaws.{one_more_row}
+use Rattle.std.proofs.lemmas.Bool.Decides.{nat_tests}
+use Rattle.std.proofs.lemmas.Grind.{common_steps}
 
 -- each member with its value
 abbrev with_values : {X V : Type 0} → (X → V) → List X → List (X × V)
@@ -57,10 +59,7 @@ partials_one_more query kinds rows row has = each query.aggregates
 
 -- the group of a key after one more row that WHERE keeps
 group_one_more : (query : Query) (rows : List Row) (row key : Row) (b : Bool) → is_met (column_of row) query.condition ≡ true → same_row (key_of query row) key ≡ b → group query (rows ++ row ∷ []) key ≡ group query rows key ++ cond b (row ∷ []) []
-group_one_more query rows row key b met e =
-    group_append query rows (row ∷ []) key
-    ∙ ap (λ more. group query rows key ++ filter (λ row. same_row (key_of query row) key) more) (selected-one query row true met)
-    ∙ ap (λ b. group query rows key ++ cond b (row ∷ []) []) e
+group_one_more query rows row key b met e = grind (arith, nat_tests, common_steps)
 
 pub part_one_more : (query : Query) (kinds : List Kind) (rows : List Row) (row : Row) → HasKinds kinds row → is_met (column_of row) query.condition ≡ true → part query (rows ++ row ∷ []) ≡ with_row query (part query rows) row
 part_one_more query kinds rows row has met =

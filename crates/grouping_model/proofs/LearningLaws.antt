@@ -8,6 +8,8 @@ use Rattle.grouping_model.specs.World.{Batch, batch_cmp, batch_cmp_total, Knowle
 use Rattle.grouping_model.specs.MemberLaws.{false_is_not_true}
 use Rattle.grouping_model.specs.KnowledgeLaws.{batch_cmp_ties, knows_learn, same_knowledge}
 use Rattle.grouping_model.proofs.PrefixLaws.{prefix_unbroken, prefix_largest}
+use Rattle.std.proofs.lemmas.Bool.Decides.{nat_tests}
+use Rattle.std.proofs.lemmas.Grind.{common_steps}
 
 -- what is known stays known, and nothing but the new batch is learned
 known_before : (knowledge : Knowledge) (new batch : Batch) → IsTrue (knows knowledge batch) → IsTrue (knows (learn knowledge new) batch)
@@ -41,11 +43,7 @@ prefix_is knowledge origin n unbroken next =
     ]
 
 one_more : (knowledge : Knowledge) (origin n : ℕ) → IsUnbroken knowledge origin n → IsTrue (knows knowledge (origin, n + 1)) → IsUnbroken knowledge origin (n + 1)
-one_more knowledge origin n unbroken known number low high =
-    elim (cases_lt n number) [
-      | inl last ↦ let same : number ≡ n + 1 = omega (arith, last, high) in subst (λ m. IsTrue (knows knowledge (origin, m))) (sym same) known
-      | inr below ↦ unbroken number low below
-    ]
+one_more knowledge origin n unbroken known number low high = grind (arith, nat_tests, common_steps)
 
 -- the number next to the prefix is not known
 pub next_unknown : (knowledge : Knowledge) (origin : ℕ) → knows knowledge (origin, prefix knowledge origin + 1) ≡ false

@@ -1,10 +1,10 @@
 -- The groups of a list of rows as a map, and the groups of two lists of rows on end.
-use Rattle.std.specs.Prelude.{◌≡◌, refl, Bool, true, false, cond, ◌||◌, List, [], ◌∷◌, ◌++◌, map, filter}
-use Rattle.std.proofs.Common.{sym, ◌∙◌, ap}
-use Rattle.std.proofs.lemmas.List.{append-nil, map-append}
+use Rattle.std.specs.Prelude.{◌≡◌, refl, Bool, true, false, cond, ◌||◌, List, [], ◌∷◌, ◌++◌, map}
+use Rattle.std.proofs.Common.{sym, ◌∙◌, ap, arith}
+use Rattle.std.proofs.lemmas.List.{map-append}
 use Rattle.std.proofs.lemmas.List.Elements.{filter-append}
 use Rattle.std.specs.Ordering.{eq_by_cmp}
-use Rattle.grouping_model.specs.Datum.{Row, row_cmp, same_row}
+use Rattle.grouping_model.specs.Datum.{Row, row_cmp}
 use Rattle.grouping_model.specs.Rising.{put, distinct, is_among}
 use Rattle.grouping_model.specs.Rising.Facts.{distinct-rises, put-rises, among-distinct, among-put, among-append, same_members, or_comm}
 use Rattle.grouping_model.specs.Aggregates.{Partial, partial}
@@ -17,6 +17,8 @@ use Rattle.grouping_model.specs.DatumOrderLaws.{row_cmp_total, row_cmp_ties}
 use Rattle.grouping_model.specs.KeyLaws.{group_append}
 use Rattle.grouping_model.proofs.CombiningLaws.{rows_append}
 use Rattle.grouping_model.specs.PartLaws.{partials_or_none-part}
+use Rattle.std.proofs.lemmas.Bool.Decides.{nat_tests}
+use Rattle.std.proofs.lemmas.Grind.{common_steps}
 
 pub keys_of-part : (query : Query) (rows : List Row) → keys_of (part query rows) ≡ keys query rows
 keys_of-part query rows = firsts (keys query rows)
@@ -72,9 +74,7 @@ pub selected-one : (query : Query) (row : Row) (b : Bool) → is_met (column_of 
 selected-one query row b e = ap (λ b. cond b (row ∷ []) []) e
 
 pub part_passes : (query : Query) (rows : List Row) (row : Row) → is_met (column_of row) query.condition ≡ false → part query (rows ++ row ∷ []) ≡ part query rows
-part_passes query rows row e =
-    ap (λ rows. map (λ key. (key, partials query (filter (λ row. same_row (key_of query row) key) rows))) (distinct row_cmp (map (key_of query) rows)))
-    (selected-append query rows (row ∷ []) ∙ ap (λ more. selected query rows ++ more) (selected-one query row false e) ∙ append-nil (selected query rows))
+part_passes query rows row e = grind (arith, nat_tests, common_steps)
 
 pub keys_one_more : (query : Query) (rows : List Row) (row : Row) → is_met (column_of row) query.condition ≡ true → keys query (rows ++ row ∷ []) ≡ put row_cmp (key_of query row) (keys query rows)
 keys_one_more query rows row e =

@@ -8,7 +8,7 @@ use Rattle.std.proofs.lemmas.List.Elements.{filter-append}
 use Rattle.std.proofs.lemmas.Option.{none-some, same_Some}
 use Rattle.std.specs.List.{list_all, list_any}
 use Rattle.grouping_model.specs.Datum.{Datum, Null, Bigint, Boolean, Text, Kind, Bigint_kind, Boolean_kind, Text_kind, HasKind, HasKinds, Row, at_place}
-use Rattle.grouping_model.specs.Aggregates.{Function, Count_rows, Min, Max, Bit_and, Bit_or, Bit_xor, Bool_and, Bool_or, Every, Partial, Counted, Summed, Number, Truth_value, Shape, A_count, A_sum, A_number, A_truth, shape_is, shape_of, counts, number_of, truth_of, gathered, partial, of_some, number_of_bits, has_bit}
+use Rattle.grouping_model.specs.Aggregates.{Function, Count_rows, Min, Max, Bit_and, Bit_or, Bit_xor, Bool_and, Bool_or, Every, Partial, Counted, Summed, Number, Truth_value, A_number, A_truth, shape_is, shape_of, counts, number_of, truth_of, gathered, partial, of_some, number_of_bits, has_bit}
 use Rattle.std.proofs.Math.Bool.{and-true}
 use Rattle.grouping_model.specs.Combining.{joined, combine, transition, of_numbers, of_truths}
 use Rattle.grouping_model.specs.Condition.{is_met}
@@ -16,6 +16,8 @@ use Rattle.grouping_model.specs.Query.{Aggregate}
 use Rattle.grouping_model.specs.Grouping.{argument, arguments, column_of}
 use Rattle.grouping_model.proofs.AggregateLaws.{bits_of_one, bits_fit, least_of_one, least_is, greatest_of_one, greatest_is}
 use Rattle.grouping_model.proofs.CombiningLaws.{partial_append}
+use Rattle.std.proofs.lemmas.Bool.Decides.{nat_tests}
+use Rattle.std.proofs.lemmas.Grind.{common_steps}
 
 pub joined-none : {X : Type 0} (both : X → X → X) (x : Option X) → joined both x None ≡ x
 joined-none both None = refl
@@ -62,11 +64,7 @@ number_fits other zs fits z e = cc
 
 -- a function's partial results have its form
 pub shape_partial : (function : Function) (xs : List Datum) → shape_is (partial function xs) ≡ shape_of function
-shape_partial function xs = by_shape (shape_of function)
-  where
-    by_shape : (shape : Shape) → shape_is (gathered shape function xs) ≡ shape
-    by_shape A_count = refl
-    by_shape shape = refl
+shape_partial function xs = grind (arith, nat_tests, common_steps)
 
 -- a number fits 64 bits
 abbrev pub Fits : Datum → Type 0
@@ -131,14 +129,7 @@ each_row_counts xs = ap Counted (all xs)
 
 -- every function but count(*) passes over a null
 pub null_passes : (function : Function) (p : Partial) → function ≢ Count_rows → transition function p Null ≡ p
-null_passes function (Counted n) other = ap (λ b. Counted (n + cond b 1 0)) (uncounted function other) ∙ ap Counted no_more
-  where
-    uncounted : (function : Function) → function ≢ Count_rows → counts function Null ≡ false
-    uncounted Count_rows other = absurd (other refl)
-    uncounted function other = refl
-
-    no_more : n + 0 ≡ n
-    no_more = omega arith
+null_passes function (Counted n) other = grind (arith, nat_tests, common_steps)
 null_passes function (Summed n z) other = refl
 null_passes function (Number o) other = ap Number (joined-none (of_numbers function) o)
 null_passes function (Truth_value o) other = ap Truth_value (joined-none (of_truths function) o)

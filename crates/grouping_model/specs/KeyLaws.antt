@@ -1,15 +1,15 @@
 -- Laws: the keys of a list of rows, and the rows of a group; nothing here is a definition.
-use Rattle.std.specs.Prelude.{◌≡◌, List, map, Contains, ◌↔◌, ◌++◌, filter}
-use Rattle.std.proofs.Common.{◌∙◌, ap, subst}
+use Rattle.std.specs.Prelude.{◌≡◌, List, map, Contains, ◌↔◌, ◌++◌}
+use Rattle.std.proofs.Common.{subst, arith}
 use Rattle.std.specs.List.Sorted.{IsStrictlySortedBy}
 use Rattle.grouping_model.specs.Datum.{Row, row_cmp, same_row}
 use Rattle.grouping_model.specs.Rising.Facts.{distinct-rises}
 use Rattle.grouping_model.specs.Query.{Query}
-use Rattle.grouping_model.specs.Grouping.{selected, key_of, keys, group, column_of}
-use Rattle.grouping_model.specs.Condition.{is_met}
-use Rattle.std.proofs.lemmas.List.Elements.{filter-append}
+use Rattle.grouping_model.specs.Grouping.{selected, key_of, keys, group}
 use Rattle.grouping_model.specs.DatumOrderLaws.{row_cmp_total, row_cmp_ties, same_row-is}
 use Rattle.grouping_model.specs.MemberLaws.{Member, from_contains, to_contains, distinct_member, map_member, member_map, filter_member, member_filter}
+use Rattle.std.proofs.lemmas.Bool.Decides.{nat_tests}
+use Rattle.std.proofs.lemmas.Grind.{common_steps}
 
 pub keys_rise : (query : Query) (rows : List Row) → IsStrictlySortedBy row_cmp (keys query rows)
 keys_rise query rows = distinct-rises row_cmp_total (map (key_of query) (selected query rows))
@@ -36,6 +36,4 @@ group_is query rows key row = (
 )
 
 pub group_append : (query : Query) (xs ys : List Row) (key : Row) → group query (xs ++ ys) key ≡ group query xs key ++ group query ys key
-group_append query xs ys key =
-    ap (filter (λ row. same_row (key_of query row) key)) (filter-append (λ row. is_met (column_of row) query.condition) xs ys)
-    ∙ filter-append (λ row. same_row (key_of query row) key) (selected query xs) (selected query ys)
+group_append query xs ys key = grind (arith, nat_tests, common_steps)

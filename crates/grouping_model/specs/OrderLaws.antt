@@ -1,9 +1,9 @@
 -- Laws: the order of an answer's rows is one in which any two rows compare, and one list of these rows is in it.
 use Rattle.std.specs.Prelude.{◌≡◌, refl, ℕ, Bool, true, false, List, [], ◌∷◌, ℤ, pos}
-use Rattle.std.proofs.Common.{sym, ◌∙◌, ap, subst}
+use Rattle.std.proofs.Common.{◌∙◌, ap, subst, arith}
 use Rattle.std.specs.declared.cmp.Ordering.{Ordering}
 use Rattle.std.specs.declared.cmp.Ordering.TheVariants.{Less, Equal, Greater}
-use Rattle.std.specs.Ordering.{nat_cmp, int_cmp, then_cmp, on, ordering_then, ordering_reverse}
+use Rattle.std.specs.Ordering.{nat_cmp, int_cmp, then_cmp, on, ordering_then}
 use Rattle.std.specs.Cmp.{IsTotalOrder, IsStrictWeakOrder, then_total, on_total, nat_cmp_total, int_cmp_total}
 use Rattle.std.proofs.lemmas.List.MinMax.{ranks_by}
 use Rattle.std.specs.List.Sorted.{IsSortedBy, IsStableBy}
@@ -12,6 +12,8 @@ use Rattle.grouping_model.specs.Datum.{Datum, Null, datum_cmp}
 use Rattle.grouping_model.specs.DatumOrderLaws.{datum_cmp_total}
 use Rattle.grouping_model.specs.Aggregates.{Outcome, Plain, Numeric}
 use Rattle.grouping_model.specs.Order.{Term, value_cmp, null_rank, directed, value_of, terms_cmp, comes_before, ordered}
+use Rattle.std.proofs.lemmas.Bool.Decides.{nat_tests}
+use Rattle.std.proofs.lemmas.Grind.{common_steps}
 
 -- what a value has as a plain one, and as a numeric
 is_plain : Outcome → ℕ
@@ -48,12 +50,7 @@ value_cmp_total =
 
 -- an order the other way round
 turned_total : {K : Type 0} (cmp : K → K → Ordering) → IsTotalOrder cmp → IsTotalOrder (λ x y. cmp y x)
-turned_total cmp total =
-    record {
-      antisymm = λ x y. total.antisymm y x;
-      trans = λ x y z p q. total.trans z y x q p;
-      congr = λ x y z tied. total.antisymm z x ∙ ap ordering_reverse (total.congr x y z (total.antisymm x y ∙ ap ordering_reverse tied)) ∙ sym (total.antisymm z y);
-    }
+turned_total cmp total = grind (arith, nat_tests, common_steps)
 
 directed_total : (descending : Bool) → IsTotalOrder (directed descending)
 directed_total true = turned_total value_cmp value_cmp_total
