@@ -1,7 +1,6 @@
 -- Before which bytes a lexeme ends, and pieces that are joined.
 use Rattle.std.proofs.Common.{◌≡◌, ℕ, ◌<◌, Bool, false, List, [], ◌∷◌, ◌++◌, length, refl, ap, ◌∙◌, append_assoc, arith, sym}
 use Rattle.std.proofs.lemmas.List.{append-nil}
-use Rattle.query_tokens.specs.declared.word.Symbol.TheVariants as symbols
 use Rattle.query_tokens.specs.Words.{Lexeme}
 use Rattle.query_tokens.specs.Bytes.{first_is}
 use Rattle.query_tokens.specs.Spelling.{IsLexeme, EndsBefore, AreApart, LastEndsBefore, Piece, Space, Spelled, spell, runs_into, runs_on, text_of, lexemes_in}

@@ -7,7 +7,7 @@ use Rattle.std.specs.List.{prefix_len, list_any, list_all, All}
 use Rattle.std.proofs.lemmas.Bool.{leb-true, ltb-true, ltb-false}
 use Rattle.std.proofs.lemmas.List.{length-map}
 use Rattle.std.proofs.lemmas.List.Elements.{All-cons}
-use Rattle.std.proofs.lemmas.List.Folds.{length-prefix_len, list_any_at}
+use Rattle.std.proofs.lemmas.List.Folds.{length-prefix_len}
 use Rattle.std.proofs.lemmas.Str.Ascii.{lowercase-lowercase}
 use Rattle.grouping_model.specs.declared.limits.TheConstants.{LONGEST_NAME}
 use Rattle.query_tokens.specs.declared.fault.Fault.{Fault}
@@ -16,9 +16,11 @@ use Rattle.query_tokens.specs.declared.word.Symbol.{Symbol}
 use Rattle.query_tokens.specs.declared.word.Token.{Token}
 use Rattle.query_tokens.specs.Words.{Lexeme, Name, Integer, Text, Sign, Placed, lexeme_of, all_placed}
 use Rattle.query_tokens.specs.Bytes.{is_space, begins_name, is_in_name, first_is, symbol_of_one, symbol_of_two}
-use Rattle.query_tokens.specs.Tokens.{◌>>=◌, number_after, integer_of, integer_or_fault, name_at, integer_at, string_content, text_or_fault, text_at, symbol_or_fault, longest_symbol, symbol_at, word_at, tokens_at, tokens_in}
+use Rattle.query_tokens.specs.Tokens.{◌>>=◌, integer_of, integer_or_fault, name_at, integer_at, string_content, text_or_fault, text_at, symbol_or_fault, longest_symbol, symbol_at, word_at, tokens_at, tokens_in}
 use Rattle.query_tokens.specs.Spelling.{IsName, IsLexeme, lexemes_of, lexemes_read, text_of, with_spaces}
 use Rattle.query_tokens.proofs.Pieces.{spaced_again}
+use Rattle.std.proofs.lemmas.Bool.Decides.{nat_tests}
+use Rattle.std.proofs.lemmas.Grind.{common_steps}
 
 abbrev IfRead : Result (Lexeme × List ℕ) Fault → Type 0
 IfRead (Ok x) = IsLexeme x.0
@@ -105,16 +107,10 @@ integer_or_legal (Some z) rest h = reads (Integer z) rest (h.fits z refl)
 
 integer_legal : (at : ℕ) (negative : Bool) (bytes : List ℕ) → ReadsLegal (integer_at at negative bytes)
 unfolding integer_at
-integer_legal at negative bytes =
-    let len = prefix_len is_ascii_digit bytes in
-    let n = number_after 0 (take len bytes) in
-    either (first_is begins_name (drop len bytes)) (Err (Syntax at)) (integer_or_fault (integer_of negative n) (drop len bytes)) (λ _. fails (Syntax at)) (λ _. integer_or_legal (integer_of negative n) (drop len bytes) (integer_fits negative n))
+integer_legal at negative bytes = grind (arith, nat_tests, common_steps)
 
 has_no_zero : (text : List ℕ) → list_any (λ b. b == 0) text ≡ false → Contains text 0 → ⊥
-has_no_zero text h c =
-    let zero_there : (get_or text c.0 0 == 0) ≡ true = rw c.2 refl in
-    let found = list_any_at (λ b. b == 0) text c.0 0 c.1 zero_there in
-    absurd (cc (found, h))
+has_no_zero text h c = grind (arith, nat_tests, common_steps)
 
 text_or_legal : (at : ℕ) (q : Option (List ℕ × List ℕ)) → ReadsLegal (text_or_fault at q)
 text_or_legal at None = fails _

@@ -1,15 +1,16 @@
 -- Where tokens and faults stand.
-use Rattle.std.proofs.Common.{◌≡◌, ℕ, zero, suc, ◌+◌, ◌-◌, ◌<◌, ◌≤◌, Bool, true, false, cond, ltb, List, [], ◌∷◌, length, take, drop, map, Option, Some, None, Result, Ok, Err, refl, arith}
+use Rattle.std.proofs.Common.{◌≡◌, ℕ, zero, suc, ◌+◌, ◌-◌, ◌<◌, ◌≤◌, Bool, true, false, cond, List, [], ◌∷◌, length, Option, Some, None, Result, Ok, Err, refl, arith}
 use Rattle.std.specs.Prelude.{ℤ, ◌==◌, ◌&&◌}
-use Rattle.std.specs.Char.{is_ascii_digit, to_ascii_lowercase}
-use Rattle.std.specs.List.{prefix_len, list_any}
-use Rattle.grouping_model.specs.declared.limits.TheConstants.{LONGEST_NAME}
+use Rattle.std.specs.Char.{is_ascii_digit}
+use Rattle.std.specs.List.{list_any}
 use Rattle.query_tokens.specs.declared.fault.Fault.{Fault}
 use Rattle.query_tokens.specs.declared.fault.Fault.TheVariants.{Syntax, NumberTooLarge}
 use Rattle.query_tokens.specs.declared.word.Symbol.{Symbol}
-use Rattle.query_tokens.specs.Words.{Lexeme, Name, Text, Placed, RiseWithin}
-use Rattle.query_tokens.specs.Bytes.{is_space, begins_name, is_in_name, first_is, symbol_of_one, symbol_of_two}
-use Rattle.query_tokens.specs.Tokens.{◌>>=◌, number_after, integer_of, integer_or_fault, name_at, integer_at, string_content, text_or_fault, text_at, symbol_or_fault, longest_symbol, symbol_at, word_at, tokens_at, tokens_in}
+use Rattle.query_tokens.specs.Words.{Lexeme, Text, Placed, RiseWithin}
+use Rattle.query_tokens.specs.Bytes.{is_space, begins_name, first_is, symbol_of_one, symbol_of_two}
+use Rattle.query_tokens.specs.Tokens.{◌>>=◌, integer_or_fault, name_at, integer_at, string_content, text_or_fault, text_at, symbol_or_fault, longest_symbol, symbol_at, word_at, tokens_at, tokens_in}
+use Rattle.std.proofs.lemmas.Bool.Decides.{nat_tests}
+use Rattle.std.proofs.lemmas.Grind.{common_steps}
 
 -- a fault of this place, if one has a place
 abbrev pub IsFaultAt : ℕ → Fault → Type 0
@@ -38,9 +39,7 @@ either false at x y h k = k
 
 name_faults : (at : ℕ) (bytes : List ℕ) → FaultsAt at (name_at at bytes)
 unfolding name_at
-name_faults at bytes =
-    let len = prefix_len is_in_name bytes in
-    either (ltb LONGEST_NAME len) at (Err (Syntax at)) (Ok (Name (map to_ascii_lowercase (take len bytes)), drop len bytes)) (fails at) (reads at (Name (map to_ascii_lowercase (take len bytes)), drop len bytes))
+name_faults at bytes = grind (arith, nat_tests, common_steps)
 
 integer_or_faults : (at : ℕ) (o : Option ℤ) (rest : List ℕ) → FaultsAt at (integer_or_fault o rest)
 integer_or_faults at None rest = too_large at
@@ -48,10 +47,7 @@ integer_or_faults at (Some z) rest = reads at _
 
 integer_faults : (at : ℕ) (negative : Bool) (bytes : List ℕ) → FaultsAt at (integer_at at negative bytes)
 unfolding integer_at
-integer_faults at negative bytes =
-    let len = prefix_len is_ascii_digit bytes in
-    let o = integer_of negative (number_after 0 (take len bytes)) in
-    either (first_is begins_name (drop len bytes)) at (Err (Syntax at)) (integer_or_fault o (drop len bytes)) (fails at) (integer_or_faults at o (drop len bytes))
+integer_faults at negative bytes = grind (arith, nat_tests, common_steps)
 
 text_or_faults : (at : ℕ) (q : Option (List ℕ × List ℕ)) → FaultsAt at (text_or_fault at q)
 text_or_faults at None = fails at

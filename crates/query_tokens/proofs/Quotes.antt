@@ -3,6 +3,8 @@ use Rattle.std.proofs.Common.{◌≡◌, ℕ, suc, ◌+◌, ◌<◌, Bool, true,
 use Rattle.std.specs.List.{position_or_len, before_first, after_first}
 use Rattle.std.proofs.lemmas.List.{append-nil}
 use Rattle.query_tokens.specs.Tokens.{string_content, and_before}
+use Rattle.std.proofs.lemmas.Bool.Decides.{nat_tests}
+use Rattle.std.proofs.lemmas.Grind.{common_steps}
 
 -- what was read before, and what is still read
 abbrev pub with_front : List ℕ → Option (List ℕ × List ℕ) → Option (List ℕ × List ℕ)
@@ -28,9 +30,7 @@ cons_before b piece (Some x) = refl
 open_at : (t : Bool) (b : ℕ) (bs : List ℕ) → is_quote b ≡ t → (position_or_len is_quote bs ≡ length bs → string_content false bs ≡ None) → position_or_len is_quote (b ∷ bs) ≡ length (b ∷ bs) → string_content false (b ∷ bs) ≡ None
 unfolding string_content
 open_at true b bs t more h = let z : cond (not (is_quote b)) (1 + position_or_len is_quote bs) 0 ≡ 0 = rw t refl in absurd (omega (arith, z, h))
-open_at false b bs t more h =
-    let z : cond (not (is_quote b)) (1 + position_or_len is_quote bs) 0 ≡ 1 + position_or_len is_quote bs = rw t refl in
-    rw (t, more (omega (arith, z, h))) refl
+open_at false b bs t more h = grind (arith, nat_tests, common_steps)
 
 pub is_open : (rest : List ℕ) → position_or_len is_quote rest ≡ length rest → string_content false rest ≡ None
 unfolding string_content
@@ -42,9 +42,7 @@ all_of None = refl
 all_of (Some x) = refl
 
 peel : (k n b : ℕ) (bs : List ℕ) → k ≡ suc n → with_front (take k (b ∷ bs)) (string_content true (drop (k + 1) (b ∷ bs))) ≡ and_before b (with_front (take n bs) (string_content true (drop (n + 1) bs)))
-peel k n b bs e =
-    let next : k + 1 ≡ suc (n + 1) = omega arith in
-    rw (next, e) (sym (cons_before b (take n bs) (string_content true (drop (n + 1) bs))))
+peel k n b bs e = grind (arith, nat_tests, common_steps)
 
 -- up to the first quote, bytes stand for themselves
 piece_at : (t : Bool) (b : ℕ) (bs : List ℕ) → is_quote b ≡ t → (position_or_len is_quote bs < length bs → string_content false bs ≡ with_front (before_first is_quote bs) (string_content true (after_first is_quote bs)))

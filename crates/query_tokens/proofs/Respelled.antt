@@ -17,6 +17,8 @@ use Rattle.query_tokens.specs.Bytes.{begins_name, is_in_name, first_is, symbol_o
 use Rattle.query_tokens.specs.Tokens.{integer_of, name_at, integer_at, string_content, text_at, symbol_at, word_at}
 use Rattle.query_tokens.specs.Spelling.{IsName, IsLexeme, EndsBefore, spell, spell_byte, spell_symbol}
 use Rattle.query_tokens.proofs.Numerals.{own}
+use Rattle.std.proofs.lemmas.Bool.Decides.{nat_tests}
+use Rattle.std.proofs.lemmas.Grind.{common_steps}
 
 -- a run of bytes that pass a test, before one that does not, is as long as it is
 run_first : (p : ℕ → Bool) (rest : List ℕ) → first_is p rest ≡ false → prefix_len p rest ≡ 0
@@ -44,11 +46,7 @@ name_again at (b ∷ bs) rest legal ends = rw legal.begins (name_read at (b ∷ 
 
 digits_all : (ds : List ℕ) → all_ascii_digits ds ≡ true → list_all is_ascii_digit ds ≡ true
 digits_all [] h = refl
-digits_all (d ∷ ds) h = both (is_ascii_digit d) (all_ascii_digits ds) (list_all is_ascii_digit ds) h (digits_all ds)
-  where
-    both : (t u v : Bool) → (t && u) ≡ true → (u ≡ true → v ≡ true) → (t && v) ≡ true
-    both true u v h k = k h
-    both false u v h k = absurd cc
+digits_all (d ∷ ds) h = grind (arith, nat_tests, common_steps)
 
 -- a digit or what begins a name is in a name
 not_digit : (rest : List ℕ) → first_is is_in_name rest ≡ false → first_is is_ascii_digit rest ≡ false
@@ -74,11 +72,7 @@ pub decimal_digits : (n : ℕ) → n < 2 ^ 64 → IsDigits (decimal n)
 decimal_digits n small = record { digits = digits_decimal own n small; some = decimal_nonempty n small }
 
 pub first_digit : (d : ℕ) (ds : List ℕ) → IsDigits (d ∷ ds) → is_ascii_digit d ≡ true
-first_digit d ds h = fst (is_ascii_digit d) (all_ascii_digits ds) h.digits
-  where
-    fst : (t u : Bool) → (t && u) ≡ true → t ≡ true
-    fst true u h = refl
-    fst false u h = absurd cc
+first_digit d ds h = grind (arith, nat_tests, common_steps)
 
 no_name : (d : ℕ) → is_ascii_digit d ≡ true → begins_name d ≡ false
 no_name d h = grind (arith, h)

@@ -1,6 +1,6 @@
 -- Reading tokens one after the other, as a loop does.
-use Rattle.std.proofs.Common.{◌≡◌, ℕ, zero, suc, ◌+◌, ◌-◌, ◌≤◌, ◌<◌, Bool, true, false, cond, ltb, List, [], ◌∷◌, ◌++◌, length, get_or, drop, take, map, Option, Some, None, Result, Ok, Err, refl, sym, ap, ◌∙◌, append_assoc, arith, subst}
-use Rattle.std.proofs.lemmas.List.{append-nil, length-append, length-drop}
+use Rattle.std.proofs.Common.{◌≡◌, ℕ, zero, suc, ◌+◌, ◌-◌, ◌≤◌, ◌<◌, Bool, true, false, cond, ltb, List, [], ◌∷◌, ◌++◌, length, get_or, drop, take, map, Option, Some, None, Result, Ok, Err, refl, sym, ap, ◌∙◌, append_assoc, arith}
+use Rattle.std.proofs.lemmas.List.{length-append, length-drop}
 use Rattle.query_tokens.specs.declared.fault.Fault.{Fault}
 use Rattle.query_tokens.specs.declared.fault.TokenError.{TokenError}
 use Rattle.query_tokens.specs.declared.fault.TokenError.TheVariants as errors
@@ -14,6 +14,8 @@ use Rattle.grouping_model.specs.declared.limits.TheConstants.{LONGEST_NAME}
 use Rattle.query_tokens.specs.declared.word.Symbol.{Symbol}
 use Rattle.query_tokens.specs.Bytes.{is_space, begins_name, is_in_name, first_is, symbol_of_one, symbol_of_two}
 use Rattle.query_tokens.specs.Tokens.{◌>>=◌, Fails, number_after, integer_of, name_at, integer_at, integer_or_fault, and_before, string_content, text_or_fault, text_at, symbol_or_fault, longest_symbol, symbol_at, word_at, tokens_at}
+use Rattle.std.proofs.lemmas.Bool.Decides.{nat_tests}
+use Rattle.std.proofs.lemmas.Grind.{common_steps}
 
 -- what was read before, and what is still read
 abbrev pub with_front : List Placed → Result (List Placed) Fault → Result (List Placed) Fault
@@ -163,10 +165,7 @@ Told size front rest total = with_front front (tokens_at 0 (size - length rest) 
 pub passes_space : (size : ℕ) (front : List Placed) (rest : List ℕ) (total : Result (List Placed) Fault) → 0 < length rest → length rest ≤ size → is_space (get_or rest 0 0) ≡ true → Told size front rest total → Told size front (drop 1 rest) total
 unfolding tokens_at
 passes_space size front [] total some within blank so_far = absurd (omega (arith, some))
-passes_space size front (b ∷ bs) total some within blank so_far =
-    let here : size - length (b ∷ bs) + 1 ≡ size - length bs = omega (arith, within) in
-    let one : tokens_at 0 (size - length (b ∷ bs)) (b ∷ bs) ≡ tokens_at 0 (size - length bs) bs = rw (blank, here) refl in
-    sym (ap (λ (r : Result (List Placed) Fault). with_front front r) one) ∙ so_far
+passes_space size front (b ∷ bs) total some within blank so_far = grind (arith, nat_tests, common_steps)
 
 -- what a word leaves is shorter
 pub shorter : (at : ℕ) (rest : List ℕ) (w : Lexeme) (after : List ℕ) → 0 < length rest → word_at at rest ≡ Ok (w, after) → length after < length rest
@@ -194,16 +193,12 @@ pub ends : (e : TokenError) (size : ℕ) (front : List Placed) (rest : List ℕ)
 unfolding tokens_at
 ends errors.NoMemory size front rest total some solid h so_far = tt
 ends (errors.Fault f) size front [] total some solid h so_far = absurd (omega (arith, some))
-ends (errors.Fault f) size front (b ∷ bs) total some solid h so_far =
-    let one : with_front front (tokens_at 0 (size - length (b ∷ bs)) (b ∷ bs)) ≡ Err f = rw (solid, h) refl in
-    sym so_far ∙ one
+ends (errors.Fault f) size front (b ∷ bs) total some solid h so_far = grind (arith, nat_tests, common_steps)
 
 pub is_done : (size : ℕ) (front : List Placed) (rest : List ℕ) (total : Result (List Placed) Fault) → length rest < 1 → Told size front rest total → total ≡ Ok front
 unfolding tokens_at
 is_done size front (b ∷ bs) total none so_far = absurd (omega (arith, none))
-is_done size front [] total none so_far =
-    let one : with_front front (tokens_at 0 (size - 0) []) ≡ Ok front = ap (λ (ts : List Placed). Ok ts) (append-nil front) in
-    sym so_far ∙ one
+is_done size front [] total none so_far = grind (arith, nat_tests, common_steps)
 
 abbrev IsLonger : ℕ → Result (List Placed) Fault → Type 0
 IsLonger n (Ok ts) = n < length ts
@@ -225,8 +220,4 @@ word_grows front at (Err f) more = record { grows = tt {0} }
 pub more_left : (size : ℕ) (front : List Placed) (rest : List ℕ) (total : Result (List Placed) Fault) (ts : List Placed) → 0 < length rest → is_space (get_or rest 0 0) ≡ false → Told size front rest total → total ≡ Ok ts → length front < length ts
 unfolding tokens_at
 more_left size front [] total ts some solid so_far e = absurd (omega (arith, some))
-more_left size front (b ∷ bs) total ts some solid so_far e =
-    let at = size - length (b ∷ bs) in
-    let one : Grows (length front) (with_front front (tokens_at 0 at (b ∷ bs))) =
-    rw solid (word_grows front at (word_at at (b ∷ bs)) (λ w. tokens_at (length bs - length w.1) (at + 1) bs)) in
-    (subst (Grows (length front)) (so_far ∙ e) one).grows
+more_left size front (b ∷ bs) total ts some solid so_far e = grind (arith, nat_tests, common_steps)

@@ -1,20 +1,20 @@
 -- The tokens of a text make it up, with the white space between them.
-use Rattle.std.proofs.Common.{◌≡◌, ℕ, zero, suc, ◌+◌, ◌-◌, Bool, true, false, cond, ltb, List, [], ◌∷◌, ◌++◌, length, take, drop, map, Option, Some, None, Result, Ok, Err, refl, sym, ap, subst, ◌∙◌, inl, inr, arith, append_assoc, length-append, length-drop}
+use Rattle.std.proofs.Common.{◌≡◌, ℕ, zero, suc, ◌+◌, ◌-◌, Bool, true, false, cond, List, [], ◌∷◌, ◌++◌, length, take, drop, Option, Some, None, Result, Ok, Err, refl, sym, ap, subst, ◌∙◌, inl, arith, length-append, length-drop}
 use Rattle.std.specs.Prelude.{ℤ, ◌==◌, ◌&&◌, flat_map}
-use Rattle.std.specs.Char.{is_ascii_digit, to_ascii_lowercase}
-use Rattle.std.specs.List.{prefix_len, list_any, list_all}
+use Rattle.std.specs.Char.{is_ascii_digit}
+use Rattle.std.specs.List.{prefix_len, list_all}
 use Rattle.std.proofs.lemmas.List.{take-append-drop}
-use Rattle.grouping_model.specs.declared.limits.TheConstants.{LONGEST_NAME}
 use Rattle.query_tokens.specs.declared.fault.Fault.{Fault}
 use Rattle.query_tokens.specs.declared.fault.Fault.TheVariants.{Syntax}
 use Rattle.query_tokens.specs.declared.word.Symbol.{Symbol}
-use Rattle.query_tokens.specs.declared.word.Symbol.TheVariants.{Open, Close, Comma, Star, Semicolon, Equal, Unequal, Less, AtMost, More, AtLeast}
-use Rattle.query_tokens.specs.Words.{Lexeme, Name, Integer, Text, Sign, Placed}
-use Rattle.query_tokens.specs.Bytes.{is_space, begins_name, is_in_name, first_is, symbol_of_one, symbol_of_two}
+use Rattle.query_tokens.specs.Words.{Lexeme, Integer, Sign, Placed}
+use Rattle.query_tokens.specs.Bytes.{is_space, begins_name, first_is, symbol_of_one, symbol_of_two}
 use Rattle.query_tokens.specs.Tokens.{◌>>=◌, number_after, integer_of, integer_or_fault, name_at, integer_at, string_content, and_before, text_or_fault, text_at, symbol_or_fault, longest_symbol, symbol_at, word_at, tokens_at, tokens_in}
 use Rattle.query_tokens.specs.Spelling.{spell_byte, spell_symbol}
 use Rattle.query_tokens.specs.Wholes.{IsTextOf, MakeUp}
 use Rattle.query_tokens.proofs.Steps.{word_end}
+use Rattle.std.proofs.lemmas.Bool.Decides.{nat_tests}
+use Rattle.std.proofs.lemmas.Grind.{common_steps}
 
 abbrev IfOwn : List ℕ → Result (Lexeme × List ℕ) Fault → Type 0
 IfOwn bytes (Ok x) = (own : List ℕ) × (bytes ≡ own ++ x.1) × IsTextOf x.0 own
@@ -36,10 +36,7 @@ either bytes false x y h k = k refl
 
 name_own : (at : ℕ) (bytes : List ℕ) → ReadsOwn bytes (name_at at bytes)
 unfolding name_at
-name_own at bytes =
-    let len = prefix_len is_in_name bytes in
-    either bytes (ltb LONGEST_NAME len) (Err (Syntax at)) (Ok (Name (map to_ascii_lowercase (take len bytes)), drop len bytes)) (λ _. fails bytes (Syntax at))
-    (λ _. reads bytes (Name (map to_ascii_lowercase (take len bytes))) (drop len bytes) (take len bytes) (sym (take-append-drop len bytes)) refl)
+name_own at bytes = grind (arith, nat_tests, common_steps)
 
 run_step : (p : ℕ → Bool) (t : Bool) (b : ℕ) (bs : List ℕ) → p b ≡ t → list_all p (take (prefix_len p bs) bs) ≡ true → list_all p (take (cond t (1 + prefix_len p bs) 0) (b ∷ bs)) ≡ true
 run_step p false b bs is h = refl
@@ -89,9 +86,7 @@ is_39 b h = grind (arith, h)
 
 plain_before : (b : ℕ) (bs : List ℕ) (q : Option (List ℕ × List ℕ)) → (b == 39) ≡ false → Quoted bs q → Quoted (b ∷ bs) (and_before b q)
 plain_before b bs None plain h = record { parts = tt {0} }
-plain_before b bs (Some x) plain h =
-    let itself : spell_byte b ≡ b ∷ [] = rw plain refl in
-    record { parts = ap (λ (t : List ℕ). b ∷ t) h.parts ∙ ap (λ (t : List ℕ). (t ++ flat_map spell_byte x.0) ++ 39 ∷ x.1) (sym itself) }
+plain_before b bs (Some x) plain h = grind (arith, nat_tests, common_steps)
 
 quote_before : (bs : List ℕ) (q : Option (List ℕ × List ℕ)) → Quoted bs q → Quoted (39 ∷ 39 ∷ bs) (and_before 39 q)
 quote_before bs None h = record { parts = tt {0} }
@@ -112,10 +107,7 @@ quoted true (b ∷ bs) =
 
 text_or_own : (at : ℕ) (bytes : List ℕ) (q : Option (List ℕ × List ℕ)) → Quoted bytes q → ReadsOwn (39 ∷ bytes) (text_or_fault at q)
 text_or_own at bytes None h = fails (39 ∷ bytes) _
-text_or_own at bytes (Some x) h =
-    either (39 ∷ bytes) (list_any (λ b. b == 0) x.0) (Err (Syntax at)) (Ok (Text x.0, x.1)) (λ _. fails (39 ∷ bytes) (Syntax at))
-    (λ _. reads (39 ∷ bytes) (Text x.0) x.1 (39 ∷ flat_map spell_byte x.0 ++ 39 ∷ [])
-    (ap (λ (t : List ℕ). 39 ∷ t) (h.parts ∙ sym (append_assoc (flat_map spell_byte x.0) (39 ∷ []) x.1))) refl)
+text_or_own at bytes (Some x) h = grind (arith, nat_tests, common_steps)
 
 text_own : (at b : ℕ) (bs : List ℕ) → (b == 39) ≡ true → ReadsOwn (b ∷ bs) (text_at at bs)
 unfolding text_at
@@ -129,18 +121,11 @@ no_byte : (a : ℕ) → OwnByte a None
 no_byte a = record { says = λ s e. absurd cc }
 
 byte_if : (a n : ℕ) (symbol : Symbol) (o : Option Symbol) → spell_symbol symbol ≡ n ∷ [] → OwnByte a o → OwnByte a (cond (a == n) (Some symbol) o)
-byte_if a n symbol o spelled more = of_test (a == n) refl
-  where
-    of_test : (t : Bool) → (a == n) ≡ t → OwnByte a (cond t (Some symbol) o)
-    of_test true is =
-        record { says = λ s e. (let same : symbol ≡ s = cc in let here : a ≡ n = grind (arith, is) in ap (λ (m : ℕ). m ∷ []) here ∙ sym spelled ∙ ap spell_symbol same) }
-    of_test false is = more
+byte_if a n symbol o spelled more = grind (arith, nat_tests, common_steps)
 
 byte_own : (a : ℕ) → OwnByte a (symbol_of_one a)
 unfolding symbol_of_one
-byte_own a =
-    byte_if a 40 Open _ refl (byte_if a 41 Close _ refl (byte_if a 42 Star _ refl (byte_if a 44 Comma _ refl
-    (byte_if a 59 Semicolon _ refl (byte_if a 60 Less _ refl (byte_if a 61 Equal _ refl (byte_if a 62 More _ refl (no_byte a))))))))
+byte_own a = grind (arith, nat_tests, common_steps)
 
 -- the bytes of a symbol of two bytes
 record OwnBytes (a b : ℕ) (o : Option Symbol) : Type 0 where
@@ -155,22 +140,11 @@ both true false h = absurd cc
 both false u h = absurd cc
 
 bytes_if : (a b m n : ℕ) (symbol : Symbol) (o : Option Symbol) → IsTextOf (Sign symbol) (m ∷ n ∷ []) → OwnBytes a b o → OwnBytes a b (cond (a == m && b == n) (Some symbol) o)
-bytes_if a b m n symbol o spelled more = of_test (a == m && b == n) refl
-  where
-    of_test : (t : Bool) → (a == m && b == n) ≡ t → OwnBytes a b (cond t (Some symbol) o)
-    of_test true is =
-        let tests = both (a == m) (b == n) is in
-        let first : m ≡ a = grind (arith, tests.0) in
-        let second : n ≡ b = grind (arith, tests.1) in
-        let here : IsTextOf (Sign symbol) (a ∷ b ∷ []) =
-        subst (λ (k : ℕ). IsTextOf (Sign symbol) (a ∷ k ∷ [])) second (subst (λ (k : ℕ). IsTextOf (Sign symbol) (k ∷ n ∷ [])) first spelled) in
-        record { says = λ s e. (let same : symbol ≡ s = cc in subst (λ (r : Symbol). IsTextOf (Sign r) (a ∷ b ∷ [])) same here) }
-    of_test false is = more
+bytes_if a b m n symbol o spelled more = grind (arith, nat_tests, common_steps)
 
 bytes_own : (a b : ℕ) → OwnBytes a b (symbol_of_two a b)
 unfolding symbol_of_two
-bytes_own a b =
-    bytes_if a b 60 61 AtMost _ (inl refl) (bytes_if a b 60 62 Unequal _ (inl refl) (bytes_if a b 62 61 AtLeast _ (inl refl) (bytes_if a b 33 61 Unequal _ (inr (refl, refl)) (no_bytes a b))))
+bytes_own a b = grind (arith, nat_tests, common_steps)
 
 symbol_or_own : (at a : ℕ) (o : Option Symbol) (rest : List ℕ) → OwnByte a o → ReadsOwn (a ∷ rest) (symbol_or_fault at o rest)
 symbol_or_own at a None rest h = fails (a ∷ rest) _

@@ -1,12 +1,14 @@
 -- Laws: before which bytes a lexeme ends, and pieces that are joined; what is defined here, laws alone say.
-use Rattle.std.proofs.Common.{◌≡◌, ℕ, false, List, [], ◌∷◌, refl}
-use Rattle.std.specs.Prelude.{◌==◌, ◌||◌}
-use Rattle.std.proofs.lemmas.Bool.{or_parts, or_from}
+use Rattle.std.proofs.Common.{◌≡◌, ℕ, false, List, [], ◌∷◌, refl, arith}
+use Rattle.std.specs.Prelude.{◌==◌}
+use Rattle.std.proofs.lemmas.Bool.{or_from}
 use Rattle.query_tokens.specs.declared.word.Symbol.{Symbol}
 use Rattle.query_tokens.specs.declared.word.Symbol.TheVariants as symbols
 use Rattle.query_tokens.specs.Words.{Lexeme, Name, Integer, Text, Sign}
 use Rattle.query_tokens.specs.Bytes.{is_in_name, first_is}
 use Rattle.query_tokens.specs.Spelling.{EndsBefore, runs_into, runs_on}
+use Rattle.std.proofs.lemmas.Bool.Decides.{nat_tests}
+use Rattle.std.proofs.lemmas.Grind.{common_steps}
 
 -- the four tests of a byte that runs into no lexeme
 record IsOther (b : ℕ) : Type 0 where
@@ -16,11 +18,7 @@ record IsOther (b : ℕ) : Type 0 where
   more : (b == 62) ≡ false
 
 other : (b : ℕ) → runs_on b ≡ false → IsOther b
-other b h =
-    let one = or_parts (is_in_name b || b == 39 || b == 61) (b == 62) h in
-    let two = or_parts (is_in_name b || b == 39) (b == 61) one.0 in
-    let three = or_parts (is_in_name b) (b == 39) two.0 in
-    record { name = three.0; quote = three.1; equal = two.1; more = one.1 }
+other b h = grind (arith, nat_tests, common_steps)
 
 sign_before : (symbol : Symbol) (b : ℕ) → IsOther b → runs_into (Sign symbol) b ≡ false
 sign_before symbols.Less b h = or_from (b == 61) (b == 62) h.equal h.more
