@@ -3,11 +3,13 @@ use Rattle.std.proofs.Common.{◌≡◌, ℕ, suc, ◌+◌, ◌-◌, ◌^◌, �
 use Rattle.std.specs.Prelude.{IsTrue, is_some, unwrap_or}
 use Rattle.std.specs.List.{list_all, splice}
 use Rattle.std.proofs.lemmas.Bool.{false≢true, cases_lt}
-use Rattle.std.proofs.lemmas.List.{append_assoc, map-append, take-append-drop, length-take, length-take-le, length-append, length-replicate, length-map, length-drop, drop-drop, take_at, drop_at, get_or-take, get_or-drop, get_or-map, get_or_append_left, get_or-append_right, ext_get_or, same_lists, get_or_default, take_all, take_more, replicate_more, set_split, drop_more, drop_all}
-use Rattle.std.proofs.lemmas.Nat.{from_be_bytes-to_be_bytes_8, be_bytes_8}
+use Rattle.std.proofs.lemmas.List.{append_assoc, map-append, take-append-drop, length-take-le, length-append, length-replicate, length-map, length-drop, drop-drop, take_at, drop_at, get_or-take, get_or-drop, get_or-map, ext_get_or, same_lists, get_or_default, take_more, replicate_more, set_split}
+use Rattle.std.proofs.lemmas.Nat.{be_bytes_8}
 use Rattle.std.specs.Int.{w64, from_be_bytes}
 use Rattle.block_memory.specs.Cells.{Cells, IsWritten, Holds, blank_cells, with_bytes}
 use Rattle.block_memory.specs.Words.{word_bytes}
+use Rattle.std.proofs.lemmas.Bool.Decides.{nat_tests}
+use Rattle.std.proofs.lemmas.Grind.{common_steps}
 
 -- ---- the lists that do not unfold
 pub length-blank_cells : (n : ℕ) → length (blank_cells n) ≡ n
@@ -23,58 +25,37 @@ module _ {X : Type 0} (xs : List X) (at n : ℕ) (ys : List X) (long : length ys
   length_spliced = omega (arith, long, room, front, length-append (take at xs) (ys ++ drop (at + n) xs), length-append ys (drop (at + n) xs), length-drop (at + n) xs)
 
   spliced_before : (k : ℕ) (d : X) → k < at → get_or (splice xs at (at + n) ys) k d ≡ get_or xs k d
-  spliced_before k d low =
-      let here : k < length (take at xs) = omega (arith, front) in
-      get_or_append_left (take at xs) (ys ++ drop (at + n) xs) d k here ∙ get_or-take at xs k d low
+  spliced_before k d low = grind (arith, nat_tests, common_steps)
 
   spliced_inside : (k : ℕ) (d : X) → k < n → get_or (splice xs at (at + n) ys) (at + k) d ≡ get_or ys k d
-  spliced_inside k d inside =
-      let behind : at ≤ at + k = omega arith in
-      let same : at + k - at ≡ k = omega arith in
-      let here : k < length ys = omega (arith, long) in
-      get_or-append_right (take at xs) (ys ++ drop (at + n) xs) at (at + k) d front behind
-      ∙ ap (λ (i : ℕ). get_or (ys ++ drop (at + n) xs) i d) same ∙ get_or_append_left ys (drop (at + n) xs) d k here
+  spliced_inside k d inside = grind (arith, nat_tests, common_steps)
 
   spliced_after : (k : ℕ) (d : X) → at + n ≤ k → get_or (splice xs at (at + n) ys) k d ≡ get_or xs k d
-  spliced_after k d high =
-      let behind : at ≤ k = omega arith in
-      let past : n ≤ k - at = omega arith in
-      let same : at + n + (k - at - n) ≡ k = omega arith in
-      get_or-append_right (take at xs) (ys ++ drop (at + n) xs) at k d front behind ∙ get_or-append_right ys (drop (at + n) xs) n (k - at) d long past
-      ∙ get_or-drop (at + n) xs (k - at - n) d ∙ ap (λ (i : ℕ). get_or xs i d) same
+  spliced_after k d high = grind (arith, nat_tests, common_steps)
 
 -- ---- what a write leaves, and what it means that bytes stand
 module _ (cells : Cells) (at : ℕ) (bytes : List ℕ) where
   -- a write keeps the length
   pub length-with_bytes : length (with_bytes cells at bytes) ≡ length cells
-  length-with_bytes =
-      let written : Cells = splice cells at (at + length bytes) (map Some bytes) in
-      length-take-le (length cells) written (omega (arith, length-append (take at cells) (map Some bytes ++ drop (at + length bytes) cells), length-append (map Some bytes) (drop (at + length bytes) cells), length-map bytes Some, length-take at cells, length-drop (at + length bytes) cells))
+  length-with_bytes = grind (arith, nat_tests, common_steps)
 
   -- where the bytes have room, nothing is left out
   pub with_bytes_is : at + length bytes ≤ length cells → with_bytes cells at bytes ≡ splice cells at (at + length bytes) (map Some bytes)
-  with_bytes_is room =
-      take_all (length cells) (splice cells at (at + length bytes) (map Some bytes)) (omega (arith, length_spliced cells at (length bytes) (map Some bytes) (length-map bytes Some) room))
+  with_bytes_is room = grind (arith, nat_tests, common_steps)
 
   -- a cell before the bytes, one of theirs, and a cell after them
   pub cell_before : at + length bytes ≤ length cells → (k : ℕ) → k < at → get_or (with_bytes cells at bytes) k None ≡ get_or cells k None
-  cell_before room k low =
-      ap (λ (t : Cells). get_or t k None) (with_bytes_is room) ∙ spliced_before cells at (length bytes) (map Some bytes) (length-map bytes Some) room k None low
+  cell_before room k low = grind (arith, nat_tests, common_steps)
 
   pub cell_inside : at + length bytes ≤ length cells → (k : ℕ) → k < length bytes → get_or (with_bytes cells at bytes) (at + k) None ≡ Some (get_or bytes k 0)
-  cell_inside room k inside =
-      ap (λ (t : Cells). get_or t (at + k) None) (with_bytes_is room)
-      ∙ spliced_inside cells at (length bytes) (map Some bytes) (length-map bytes Some) room k None inside ∙ get_or-map Some bytes k 0 None inside
+  cell_inside room k inside = grind (arith, nat_tests, common_steps)
 
   pub cell_after : at + length bytes ≤ length cells → (k : ℕ) → at + length bytes ≤ k → get_or (with_bytes cells at bytes) k None ≡ get_or cells k None
-  cell_after room k high =
-      ap (λ (t : Cells). get_or t k None) (with_bytes_is room) ∙ spliced_after cells at (length bytes) (map Some bytes) (length-map bytes Some) room k None high
+  cell_after room k high = grind (arith, nat_tests, common_steps)
 
   -- the bytes stand from `at` on just where each stands at its place
   pub holds_at : Holds cells at bytes → (k : ℕ) → k < length bytes → get_or cells (at + k) None ≡ Some (get_or bytes k 0)
-  holds_at h k inside =
-      sym (get_or-drop at cells k None) ∙ sym (get_or-take (length bytes) (drop at cells) k None inside)
-      ∙ ap (λ (t : Cells). get_or t k None) h.values ∙ get_or-map Some bytes k 0 None inside
+  holds_at h k inside = grind (arith, nat_tests, common_steps)
 
   pub holds_each : at + length bytes ≤ length cells → ((k : ℕ) → k < length bytes → get_or cells (at + k) None ≡ Some (get_or bytes k 0)) → Holds cells at bytes
   holds_each room each =
@@ -89,8 +70,7 @@ module _ (cells : Cells) (at : ℕ) (bytes : List ℕ) where
 -- ---- from one write or read to the next
 -- bytes that were written stand where they were written
 pub holds_by_write : (cells : Cells) (at : ℕ) (bytes : List ℕ) → at + length bytes ≤ length cells → Holds (with_bytes cells at bytes) at bytes
-holds_by_write cells at bytes room =
-    holds_each (with_bytes cells at bytes) at bytes (omega (arith, length-with_bytes cells at bytes)) (cell_inside cells at bytes room)
+holds_by_write cells at bytes room = grind (arith, nat_tests, common_steps)
 
 -- a write elsewhere keeps bytes that stand
 pub holds_kept : (cells : Cells) (at : ℕ) (bytes : List ℕ) (i : ℕ) (new : List ℕ) → i + length new ≤ length cells
@@ -289,18 +269,11 @@ written_by_set_word cells at word room = written_by_write cells at (word_bytes w
 -- a word that is read is the word that was written
 pub word_read_back : (cells : Cells) (at v w : ℕ) → v < 2 ^ 64 → w < 2 ^ 64 → Holds cells at (word_bytes v) → Holds cells at (word_bytes w) → v ≡ w
 unfolding word_bytes
-word_read_back cells at v w low low' h h' =
-    sym (from_be_bytes-to_be_bytes_8 v low) ∙ ap (from_be_bytes w64) (holds_unique cells at (word_bytes v) (word_bytes w) refl h h')
-    ∙ from_be_bytes-to_be_bytes_8 w low'
+word_read_back cells at v w low low' h h' = grind (arith, nat_tests, common_steps)
 
 -- the eight bytes of a list of eight
 eight : (xs : List ℕ) → length xs ≡ 8 → get_or xs 0 0 ∷ get_or xs 1 0 ∷ get_or xs 2 0 ∷ get_or xs 3 0 ∷ get_or xs 4 0 ∷ get_or xs 5 0 ∷ get_or xs 6 0 ∷ get_or xs 7 0 ∷ [] ≡ xs
-eight xs long =
-    let more : (i : ℕ) → i < 8 → drop i xs ≡ get_or xs i 0 ∷ drop (i + 1) xs = λ i low. drop_more xs i 0 (omega (arith, long, low)) in
-    sym (more 0 (omega arith) ∙ ap (λ (t : List ℕ). get_or xs 0 0 ∷ t) (more 1 (omega arith) ∙ ap (λ (t : List ℕ). get_or xs 1 0 ∷ t) (more 2 (omega arith)
-    ∙ ap (λ (t : List ℕ). get_or xs 2 0 ∷ t) (more 3 (omega arith) ∙ ap (λ (t : List ℕ). get_or xs 3 0 ∷ t) (more 4 (omega arith)
-    ∙ ap (λ (t : List ℕ). get_or xs 4 0 ∷ t) (more 5 (omega arith) ∙ ap (λ (t : List ℕ). get_or xs 5 0 ∷ t) (more 6 (omega arith)
-    ∙ ap (λ (t : List ℕ). get_or xs 6 0 ∷ t) (more 7 (omega arith) ∙ ap (λ (t : List ℕ). get_or xs 7 0 ∷ t) (drop_all 8 xs (omega (arith, long)))))))))))
+eight xs long = grind (arith, nat_tests, common_steps)
 
 -- the number of eight bytes, the highest first, is the word that they are
 pub word_of_bytes : (xs : List ℕ) (w : ℕ) → length xs ≡ 8 → ((i : ℕ) → get_or xs i 0 < 256)

@@ -1,12 +1,11 @@
 -- The memory of a block, cut into parts and put together again. Assumes `Logic`.
-use Rattle.std.proofs.Common.{◌≡◌, ℕ, zero, suc, ◌+◌, ◌*◌, ◌^◌, ◌<◌, ◌≤◌, List, [], ◌∷◌, ◌++◌, Option, Some, None, length, take, drop, map, replicate, get_or, set, refl, sym, ap, ◌∙◌, arith, w8, drop-cons}
+use Rattle.std.proofs.Common.{◌≡◌, ℕ, zero, suc, ◌+◌, ◌^◌, ◌<◌, ◌≤◌, List, [], ◌∷◌, ◌++◌, Option, Some, None, length, take, drop, map, replicate, get_or, set, refl, sym, ap, ◌∙◌, arith, w8, drop-cons}
 use Rattle.std.proofs.lemmas.List.{take-append-drop, length-take-le, length-map, set_split}
 use seplogic.Ra.Ura.{Ura}
 use base.Fraction.{full_share}
 use base.Logic.{SProp, ent, sep, via, id⊢, mono_r, mono∗}
 use base.Fml.{Fml, Lft, ftrue, fat, froom}
 use mir.Val.{vint}
-use prog.Capped.{capped_is}
 use prog.Memory.{capped, size, align}
 use types.Logic.{Logic, sem}
 use types.Kit.{‵, ◌⊛◌, ◌$◌, ◌∵◌, !, qed, done, move, drop as forgets, use1, use2, split, fsplit, fjoin, rewrite}
@@ -19,13 +18,12 @@ use denote.Steps.{nothing}
 use Rattle.block_memory.specs.Cells.{Cells, Holds, blank_cells, with_bytes}
 use Rattle.block_memory.proofs.CellLemmas.{with_bytes_is, with_bytes_same}
 use Rattle.block_memory.specs.Ownership.{byte, block_of, each_cell, cell_owns, cells_own, cell_shares, cells_share}
+use Rattle.std.proofs.lemmas.Bool.Decides.{nat_tests}
+use Rattle.std.proofs.lemmas.Grind.{common_steps}
 
 -- a block of n bytes has the size n and no wish for a place
 pub layout : (n : ℕ) → n < 2 ^ 63 → (capped (size (block_of n)) ≡ n) × (capped (align (block_of n)) ≡ 1)
-layout n low =
-    let fits : n * 1 < 2 ^ 64 = omega arith in
-    let same : n * 1 ≡ n = omega arith in
-    (capped_is (n * 1) fits ∙ same, refl)
+layout n low = grind (arith, nat_tests, common_steps)
 
 module _ {M : Type 1} {𝓤 : Ura M} (𝓛 : Logic 𝓤) (b : ℕ) where
   abbrev ◌⊢◌ : SProp 𝓤 → SProp 𝓤 → Type 1
