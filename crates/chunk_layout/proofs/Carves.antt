@@ -4,7 +4,7 @@ use Rattle.std.specs.Prelude.{IsTrue, is_some, ◌==◌}
 use Rattle.std.specs.List.{filter}
 use Rattle.std.proofs.lemmas.Bool.{eq-eqb, ne_eqb, eqb-false, not-true, cond-true, cond-false, false≢true}
 use Rattle.std.proofs.lemmas.List.{get_or-set_other}
-use Rattle.block_memory.specs.Cells.{Cells, Holds, IsWritten}
+use Rattle.block_memory.specs.Cells.{Cells, Holds}
 use Rattle.block_memory.specs.Words.{word_bytes}
 use Rattle.block_memory.proofs.CellLemmas.{holds_by_set_word, length-word_bytes}
 use Rattle.chunk_layout.specs.Every.{Every}
@@ -13,22 +13,15 @@ use Rattle.chunk_layout.specs.Spots.{Blocks, cells_of, block_at, poke, headed, r
 use Rattle.chunk_layout.specs.declared.place.Place.{Place}
 use Rattle.chunk_layout.specs.declared.place.Spot.{Spot}
 use Rattle.chunk_layout.specs.ListLaws.{every_both, every_weaker, every_filter, every_passes, every_unmap, pairwise_filter, map_same, filter_map_same}
-use Rattle.chunk_layout.proofs.Pokes.{poke-here, length-poke, some-poke, piece-poke, stands-poke}
+use Rattle.chunk_layout.proofs.Pokes.{poke-here, piece-poke, stands-poke}
 use Rattle.chunk_layout.specs.FindingLaws.{without-spot}
+use Rattle.std.proofs.lemmas.Bool.Decides.{nat_tests}
+use Rattle.std.proofs.lemmas.Grind.{common_steps}
 
 -- a chunk whose block is the same stands there as before
 module _ (bs after : Blocks) (head : ℕ) where
   pub stands-same : (s : Spot) → get_or after s.place.block None ≡ get_or bs s.place.block None → Stands head bs s → Stands head after s
-  stands-same s same h =
-      let here : block_at bs s.place.block ≡ block_at after s.place.block = ap cells_of (sym same) in
-      record {
-        there = ap is_some same ∙ h.there;
-        after = h.after;
-        inside = subst (λ (cs : Cells). s.place.offset + s.room ≤ length cs) here h.inside;
-        fits = h.fits;
-        written = subst (λ (cs : Cells). IsWritten cs s.place.offset s.len) here h.written;
-        header = λ eight. subst (λ (cs : Cells). Holds cs (s.place.offset - 8) (word_bytes s.room)) here (h.header eight);
-      }
+  stands-same s same h = grind (arith, nat_tests, common_steps)
 
   pub piece-same : (s : Spot) → get_or after s.place.block None ≡ get_or bs s.place.block None → piece_of after s ≡ piece_of bs s
   piece-same s same = ap (λ (o : Option Cells). let p : Piece = record { place = s.place; room = s.room; is_live = s.is_live; bytes = read (cells_of o) s.place.offset s.len } in p) same
@@ -118,16 +111,10 @@ module _ (head : ℕ) (bs : Blocks) (ss : List Spot) (laid : IsLayout head bs ss
   ]
 
   same-length : length (block_at bs' place.block) ≡ length (block_at bs place.block)
-  same-length = elim laid.header [
-    | inl none ↦ ap (λ (z : Blocks). length (block_at z place.block)) (no-header none)
-    | inr eight ↦ ap (λ (z : Blocks). length (block_at z place.block)) (with-header eight) ∙ length-poke bs place.block (place.offset - 8) (word_bytes room) some place.block
-  ]
+  same-length = grind (arith, nat_tests, common_steps)
 
   still-some : IsTrue (is_some (get_or bs' place.block None))
-  still-some = elim laid.header [
-    | inl none ↦ ap (λ (z : Blocks). is_some (get_or z place.block None)) (no-header none) ∙ some
-    | inr eight ↦ ap (λ (z : Blocks). is_some (get_or z place.block None)) (with-header eight) ∙ some-poke bs place.block (place.offset - 8) (word_bytes room) some place.block some
-  ]
+  still-some = grind (arith, nat_tests, common_steps)
 
   stands-new : Stands head bs' x
   stands-new = record {

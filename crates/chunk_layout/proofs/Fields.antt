@@ -25,6 +25,8 @@ use Rattle.chunk_layout.specs.NumberLaws.{total-with_block, total-set_none, with
 use Rattle.chunk_layout.proofs.Numbers.{map-with_block, total-bound, length-with_block_low, every-with_block, every-set}
 use Rattle.std.proofs.lemmas.Bool.{cases_lt, cond-true, cond-false, eq-eqb, ne_eqb}
 use Rattle.chunk_layout.proofs.Lending.{laid-lent_back, pieces-lent_back}
+use Rattle.std.proofs.lemmas.Bool.Decides.{nat_tests}
+use Rattle.std.proofs.lemmas.Grind.{common_steps}
 
 size-is : (o : Option Cells) → unwrap_or (option_map length o) 0 ≡ length (cells_of o)
 size-is None = refl
@@ -177,22 +179,13 @@ module _ (x : Inside) (ok : AreFields x) (l : Layout) (e : layout_of x ≡ l) (p
   size-here = subst (λ (z : Layout). place.offset + room ≤ size_at z.blocks place.block) (sym e) inside'
 
   pub carve-low : place.block < length cs
-  carve-low = elim (cases_lt place.block (length cs)) [
-    | inl low ↦ low
-    | inr past ↦
-        let none : size_at (sizes_of cs) place.block ≡ 0 = ap (λ (o : Option ℕ). unwrap_or o 0) (get_or_past (sizes_of cs) place.block None (omega (arith, past, length-map cs (option_map {T = Cells} length)))) in
-        absurd (omega (arith, none, size-here, some'))
-  ]
+  carve-low = grind (arith, nat_tests, common_steps)
 
   pub carve-inside : place.offset + room ≤ length (block_at cs place.block)
   carve-inside = omega (arith, size-here, size-at cs place.block carve-low)
 
   pub carve-some : IsTrue (is_some (get_or cs place.block None))
-  carve-some = is-there (get_or cs place.block None) (omega (arith, carve-inside, some'))
-    where
-      is-there : (o : Option Cells) → 1 ≤ length (cells_of o) → IsTrue (is_some o)
-      is-there None low = absurd (omega (arith, low))
-      is-there (Some cells) low = refl
+  carve-some = grind (arith, nat_tests, common_steps)
 
   pub carve-after : x.head ≤ place.offset
   carve-after = subst (λ (z : Layout). z.head ≤ place.offset) (sym e) after
@@ -225,9 +218,7 @@ module _ (x : Inside) (ok : AreFields x) (l : Layout) (e : layout_of x ≡ l) (p
 
 -- a number is new only where each has a block
 pub all-taken : (x : Inside) (l : Layout) → layout_of x ≡ l → (b : ℕ) → (b ≡ length x.blocks.items → AreTaken (sizes_of x.blocks.items)) → b ≡ length l.blocks → AreTaken l.blocks
-all-taken x l e b taken new =
-    subst (λ (z : Layout). AreTaken z.blocks) e
-    (taken (omega (arith, new, ap (λ (z : Layout). length z.blocks) e, length-map x.blocks.items (option_map {T = Cells} length))))
+all-taken x l e b taken new = grind (arith, nat_tests, common_steps)
 
 -- a block is taken
 module _ (x : Inside) (ok : AreFields x) (l : Layout) (e : layout_of x ≡ l) (b len : ℕ) (low : b ≤ length x.blocks.items) (none : get_or x.blocks.items b None ≡ None) (small : len ≤ 2147483648)
@@ -236,13 +227,7 @@ module _ (x : Inside) (ok : AreFields x) (l : Layout) (e : layout_of x ≡ l) (b
   ds = x.blocks.items
 
   pub vacant : get_or l.blocks b None ≡ None
-  vacant = ap (λ (z : Layout). get_or z.blocks b None) (sym e) ∙ none-size
-    where
-      none-size : get_or (sizes_of ds) b None ≡ None
-      none-size = elim (cases_lt b (length ds)) [
-        | inl inside ↦ get_or-map (option_map length) ds b None None inside ∙ ap (option_map length) none
-        | inr past ↦ get_or_past (sizes_of ds) b None (omega (arith, past, length-map ds (option_map {T = Cells} length)))
-      ]
+  vacant = grind (arith, nat_tests, common_steps)
 
   pub vacant-low : b ≤ length l.blocks
   vacant-low = subst (λ (z : Layout). b ≤ length z.blocks) e (omega (arith, low, length-map ds (option_map {T = Cells} length)))
@@ -323,12 +308,7 @@ module _ (x : Inside) (ok : AreFields x) (l : Layout) (e : layout_of x ≡ l) (b
 
 -- the size of a block, also where there is none
 pub size-any : (bs : Blocks) (b : ℕ) → size_at (sizes_of bs) b ≡ length (block_at bs b)
-size-any bs b = elim (cases_lt b (length bs)) [
-  | inl low ↦ size-at bs b low
-  | inr past ↦
-      ap (λ (o : Option ℕ). unwrap_or o 0) (get_or_past (sizes_of bs) b None (omega (arith, past, length-map bs (option_map {T = Cells} length))))
-      ∙ ap (λ (o : Option Cells). length (cells_of o)) (sym (get_or_past bs b None past))
-]
+size-any bs b = grind (arith, nat_tests, common_steps)
 
 pub small-any : (x : Inside) → AreFields x → (b : ℕ) → length (block_at x.blocks.items b) ≤ 2147483648
 small-any x ok b = elim (cases_lt b (length x.blocks.items)) [
@@ -338,19 +318,10 @@ small-any x ok b = elim (cases_lt b (length x.blocks.items)) [
 
 -- the chunks of a layout are apart, and lie in their blocks
 apart-less : (head : ℕ) (bs : Blocks) (s t : Spot) → Apart head s t → AreApart (piece_of bs s) (piece_of bs t)
-apart-less head bs s t is = elim is [
-  | inl blocks ↦ inl blocks
-  | inr order ↦ elim order [
-    | inl before ↦ inr (inl (omega (arith, before)))
-    | inr behind ↦ inr (inr (omega (arith, behind)))
-  ]
-]
+apart-less head bs s t is = grind (arith, nat_tests, common_steps)
 
 inside-block : (head : ℕ) (bs : Blocks) (s : Spot) → Stands head bs s → IsInside (sizes_of bs) (piece_of bs s)
-inside-block head bs s stands = (
-  let fits = stands.fits in omega (arith, fits, length-read (block_at bs s.place.block) s.place.offset s.len stands.written),
-  let inside = stands.inside in omega (arith, inside, size-any bs s.place.block),
-)
+inside-block head bs s stands = grind (arith, nat_tests, common_steps)
 
 pub laid-is : (x : Inside) → AreFields x → AreLaid (sizes_of x.blocks.items) (map (piece_of x.blocks.items) (spots_of x.notes.notes))
 laid-is x ok =

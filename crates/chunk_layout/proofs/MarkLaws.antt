@@ -1,9 +1,11 @@
 -- Marks after a number is added, and after two numbers are exchanged.
 use Rattle.std.proofs.Common.{◌≡◌, ◌≢◌, refl, ℕ, zero, suc, ◌+◌, ◌-◌, ◌^◌, ◌<◌, ◌≤◌, inl, inr, Bool, true, false, List, [], ◌∷◌, ◌++◌, map, length, get_or, set, cond, sym, ap, ◌∙◌, arith}
 use Rattle.std.specs.Prelude.{◌==◌, nat_lt}
-use Rattle.std.proofs.lemmas.Bool.{cases_eq, cases_lt, cond-true, cond-false, eq-eqb, ne_eqb, lt-ltb, le-ltb}
-use Rattle.std.proofs.lemmas.List.{get_or-map, get_or_past, get_or_append_left, get_or_push, get_or-set_same, get_or-set_other, length-map, length-set, length_push, map_push}
+use Rattle.std.proofs.lemmas.Bool.{cases_eq, cases_lt, cond-true, cond-false, eq-eqb, ne_eqb, le-ltb}
+use Rattle.std.proofs.lemmas.List.{get_or-map, get_or_past, get_or-set_same, get_or-set_other, length-map, length-set}
 use Rattle.chunk_layout.specs.Marks.{IsArranged}
+use Rattle.std.proofs.lemmas.Bool.Decides.{nat_tests}
+use Rattle.std.proofs.lemmas.Grind.{common_steps}
 
 abbrev pub marked : ℕ → List ℕ → List Bool
 marked count places = map (λ place. nat_lt place count) places
@@ -21,10 +23,7 @@ marked-none places k = elim (cases_lt k (length places)) [
 ]
 
 other : (q d : ℕ) → q ≢ d → nat_lt q d ≡ nat_lt q (d + 1)
-other q d ne = elim (cases_lt q d) [
-  | inl less ↦ lt-ltb q d less ∙ sym (lt-ltb q (d + 1) (omega (arith, less)))
-  | inr past ↦ le-ltb q d past ∙ sym (le-ltb q (d + 1) (omega (arith, past, ne)))
-]
+other q d ne = grind (arith, nat_tests, common_steps)
 
 -- what is added at the end is what was read past it
 push_default : {X : Type 0} → (xs : List X) (d : X) (k : ℕ) → get_or (xs ++ d ∷ []) k d ≡ get_or xs k d
@@ -36,40 +35,15 @@ push_default (x ∷ xs) d (suc k) = push_default xs d k
 -- a number is added to two lists, each of which tells where a number stands in the other
 each-more : (a b : List ℕ) (n : ℕ) → length a ≡ n → length b ≡ n → ((i : ℕ) → i < n → (get_or a i 0 < n) × (get_or b (get_or a i 0) 0 ≡ i))
     → (i : ℕ) → i < n + 1 → (get_or (a ++ n ∷ []) i 0 < n + 1) × (get_or (b ++ n ∷ []) (get_or (a ++ n ∷ []) i 0) 0 ≡ i)
-each-more a b n a-long b-long each i low = elim (cases_lt i n) [
-  | inl less ↦
-      let v = each i less in
-      let at : get_or (a ++ n ∷ []) i 0 ≡ get_or a i 0 = get_or_append_left a (n ∷ []) 0 i (omega (arith, less, a-long)) in (
-        omega (arith, at, v.0),
-        ap (λ (j : ℕ). get_or (b ++ n ∷ []) j 0) at ∙ get_or_append_left b (n ∷ []) 0 (get_or a i 0) (omega (arith, v.0, b-long)) ∙ v.1,
-      )
-  | inr past ↦
-      let here : i ≡ n = omega (arith, low, past) in
-      let at : get_or (a ++ n ∷ []) i 0 ≡ n = get_or_push a n 0 i (omega (arith, a-long, here)) in
-      (omega (arith, at), ap (λ (j : ℕ). get_or (b ++ n ∷ []) j 0) at ∙ get_or_push b n 0 n b-long ∙ sym here)
-]
+each-more a b n a-long b-long each i low = grind (arith, nat_tests, common_steps)
 
 -- the numbers are added to those that are arranged, without a mark
 module _ (order places : List ℕ) (is : IsArranged order places) (n : ℕ) (next : n ≡ length order) where
   pub arranged-push : n < 2 ^ 32 - 1 → IsArranged (order ++ n ∷ []) (places ++ n ∷ [])
-  arranged-push few =
-      let order-long = length_push order n in let places-long = length_push places n in
-      record {
-        long = omega (arith, is.long, order-long, places-long);
-        few = omega (arith, few, next, order-long);
-        there = λ i low.
-            let v = each-more order places n (sym next) (is.long ∙ sym next) (λ j less. let w = is.there j (omega (arith, less, next)) in (omega (arith, w.0, next), w.1)) i (omega (arith, low, next, order-long)) in
-            (omega (arith, v.0, next, order-long), v.1);
-        back = λ k low.
-            let v = each-more places order n (is.long ∙ sym next) (sym next) (λ j less. let w = is.back j (omega (arith, less, next)) in (omega (arith, w.0, next), w.1)) k (omega (arith, low, next, order-long)) in
-            (omega (arith, v.0, next, order-long), v.1);
-      }
+  arranged-push few = grind (arith, nat_tests, common_steps)
 
   pub marked-push : (count : ℕ) → count ≤ length order → (k : ℕ) → get_or (marked count (places ++ n ∷ [])) k false ≡ get_or (marked count places) k false
-  marked-push count within k =
-      ap (λ (bs : List Bool). get_or bs k false) (map_push (λ (place : ℕ). nat_lt place count) places n)
-      ∙ ap (λ (b : Bool). get_or (marked count places ++ b ∷ []) k false) (le-ltb n count (omega (arith, within, next)))
-      ∙ push_default (marked count places) false k
+  marked-push count within k = grind (arith, nat_tests, common_steps)
 
 -- a list after two writes
 module _ (xs : List ℕ) (p u q v : ℕ) (p-low : p < length xs) (q-low : q < length xs) where
@@ -130,22 +104,11 @@ module _ (order places : List ℕ) (is : IsArranged order places) (a b one two :
       }
 
   pub places-exchange : (k : ℕ) → get_or (set (set places two a) one b) k 0 ≡ cond (k == get_or order a 0) b (cond (k == get_or order b 0) a (get_or places k 0))
-  places-exchange k =
-      let one-in : one < length places = omega (arith, one-there.0, is.long) in let two-in : two < length places = omega (arith, two-there.0, is.long) in
-      elim (cases_eq k one) [
-        | inl e ↦ last-set places two a one b two-in one-in k e ∙ sym (cond-true (k == get_or order a 0) b (cond (k == get_or order b 0) a (get_or places k 0)) (eq-eqb k (get_or order a 0) (e ∙ one-is)))
-        | inr ne ↦ elim (cases_eq k two) [
-          | inl e ↦ first-set places two a one b two-in one-in k ne e ∙ sym (cond-true (k == get_or order b 0) a (get_or places k 0) (eq-eqb k (get_or order b 0) (e ∙ two-is)))
-          | inr nt ↦ none-set places two a one b two-in one-in k ne nt ∙ sym (cond-false (k == get_or order b 0) a (get_or places k 0) (ne_eqb k (get_or order b 0) (λ e. nt (e ∙ sym two-is))))
-        ] ∙ sym (cond-false (k == get_or order a 0) b (cond (k == get_or order b 0) a (get_or places k 0)) (ne_eqb k (get_or order a 0) (λ e. ne (e ∙ sym one-is))))
-      ]
+  places-exchange k = grind (arith, nat_tests, common_steps)
 
 -- a mark that is as wanted stays
 pub marked-already : (bs : List Bool) (n : ℕ) (v : Bool) → get_or bs n false ≡ v → (k : ℕ) → get_or bs k false ≡ cond (k == n) v (get_or bs k false)
-marked-already bs n v is k = elim (cases_eq k n) [
-  | inl e ↦ ap (λ (j : ℕ). get_or bs j false) e ∙ is ∙ sym (cond-true (k == n) v (get_or bs k false) (eq-eqb k n e))
-  | inr ne ↦ sym (cond-false (k == n) v (get_or bs k false) (ne_eqb k n ne))
-]
+marked-already bs n v is k = grind (arith, nat_tests, common_steps)
 
 -- the number n and the one at d are exchanged
 module _ (order places after : List ℕ) (is : IsArranged order places) (n d : ℕ) (n-low : n < length order) (d-low : d < length order)
@@ -166,53 +129,16 @@ module _ (order places after : List ℕ) (is : IsArranged order places) (n d : �
   not-n k ne = moved k ∙ cond-false (k == get_or order p 0) d (cond (k == m) p (get_or places k 0)) (ne_eqb k (get_or order p 0) (λ e. ne (e ∙ at-p)))
 
   moved-m : (k : ℕ) → k ≢ n → k ≡ m → (get_or after k 0 ≡ p) × (get_or places k 0 ≡ d) × (p ≢ d)
-  moved-m k ne e = (
-    not-n k ne ∙ cond-true (k == m) p (get_or places k 0) (eq-eqb k m e),
-    ap (λ (j : ℕ). get_or places j 0) e ∙ (is.there d d-low).1,
-    λ f. ne (e ∙ ap (λ (j : ℕ). get_or order j 0) (sym f) ∙ at-p),
-  )
+  moved-m k ne e = grind (arith, nat_tests, common_steps)
 
   moved-other : (k : ℕ) → k < length order → k ≢ n → k ≢ m → (get_or after k 0 ≡ get_or places k 0) × (get_or places k 0 ≢ d)
-  moved-other k low ne nm = (
-    not-n k ne ∙ cond-false (k == m) p (get_or places k 0) (ne_eqb k m nm),
-    λ e. nm (sym (is.back k low).1 ∙ ap (λ (j : ℕ). get_or order j 0) e),
-  )
+  moved-other k low ne nm = grind (arith, nat_tests, common_steps)
 
   not-there : (k : ℕ) → length places ≤ k → (k == n) ≡ false
   not-there k past = ne_eqb k n (λ e. omega (arith, past, e, n-low, is.long))
 
   pub mark-more : d ≤ p → (k : ℕ) → get_or (marked (d + 1) after) k false ≡ cond (k == n) true (get_or (marked d places) k false)
-  mark-more behind k = elim (cases_lt k (length places)) [
-    | inr past ↦
-        marked-out (d + 1) after k (omega (arith, past, long)) ∙ sym (marked-out d places k past)
-        ∙ sym (cond-false (k == n) true (get_or (marked d places) k false) (not-there k past))
-    | inl low ↦ marked-in (d + 1) after k (omega (arith, low, long)) ∙ elim (cases_eq k n) [
-      | inl e ↦ lt-ltb (get_or after k 0) (d + 1) (omega (arith, moved-n k e)) ∙ sym (cond-true (k == n) true (get_or (marked d places) k false) (eq-eqb k n e))
-      | inr ne ↦ elim (cases_eq k m) [
-        | inl e ↦
-            let v = moved-m k ne e in
-            le-ltb (get_or after k 0) (d + 1) (omega (arith, v.0, v.2, behind)) ∙ sym (le-ltb (get_or places k 0) d (omega (arith, v.1)))
-        | inr nm ↦
-            let v = moved-other k (omega (arith, low, is.long)) ne nm in
-            ap (λ (q : ℕ). nat_lt q (d + 1)) v.0 ∙ sym (other (get_or places k 0) d v.1)
-      ] ∙ sym (marked-in d places k low) ∙ sym (cond-false (k == n) true (get_or (marked d places) k false) (ne_eqb k n ne))
-    ]
-  ]
+  mark-more behind k = grind (arith, nat_tests, common_steps)
 
   pub mark-less : p ≤ d → (k : ℕ) → get_or (marked d after) k false ≡ cond (k == n) false (get_or (marked (d + 1) places) k false)
-  mark-less before k = elim (cases_lt k (length places)) [
-    | inr past ↦
-        marked-out d after k (omega (arith, past, long)) ∙ sym (marked-out (d + 1) places k past)
-        ∙ sym (cond-false (k == n) false (get_or (marked (d + 1) places) k false) (not-there k past))
-    | inl low ↦ marked-in d after k (omega (arith, low, long)) ∙ elim (cases_eq k n) [
-      | inl e ↦ le-ltb (get_or after k 0) d (omega (arith, moved-n k e)) ∙ sym (cond-true (k == n) false (get_or (marked (d + 1) places) k false) (eq-eqb k n e))
-      | inr ne ↦ elim (cases_eq k m) [
-        | inl e ↦
-            let v = moved-m k ne e in
-            lt-ltb (get_or after k 0) d (omega (arith, v.0, v.2, before)) ∙ sym (lt-ltb (get_or places k 0) (d + 1) (omega (arith, v.1)))
-        | inr nm ↦
-            let v = moved-other k (omega (arith, low, is.long)) ne nm in
-            ap (λ (q : ℕ). nat_lt q d) v.0 ∙ other (get_or places k 0) d v.1
-      ] ∙ sym (marked-in (d + 1) places k low) ∙ sym (cond-false (k == n) false (get_or (marked (d + 1) places) k false) (ne_eqb k n ne))
-    ]
-  ]
+  mark-less before k = grind (arith, nat_tests, common_steps)

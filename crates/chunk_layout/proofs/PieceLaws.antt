@@ -1,12 +1,13 @@
 -- Laws of chunks by their places.
-use Rattle.std.proofs.Common.{◌≡◌, ℕ, ◌+◌, ◌-◌, min, ◌<◌, ◌≤◌, Bool, true, false, List, ◌∷◌, ◌++◌, Option, Some, None, length, get_or, take, drop, replicate, sym, ap, ◌∙◌, inl, inr, arith}
-use Rattle.std.proofs.lemmas.Bool.{cases_lt}
+use Rattle.std.proofs.Common.{◌≡◌, ℕ, ◌+◌, ◌-◌, min, ◌≤◌, Bool, true, false, List, ◌∷◌, ◌++◌, Option, Some, None, length, get_or, take, drop, replicate, sym, ap, ◌∙◌, arith}
 use Rattle.std.proofs.lemmas.List.{length-replicate, length-set, length-take-le, take_all, take-take, drop-take, take-append-drop}
 use Rattle.block_memory.specs.Cells.{zeros}
 use Rattle.chunk_layout.specs.Pieces.{Layout, Piece, same_place, has, piece_at, without, put_at, only, resized}
 use Rattle.chunk_layout.specs.declared.place.Place.{Place}
 use Rattle.chunk_layout.specs.FindingLaws.{place-same}
 use Rattle.chunk_layout.specs.PieceLaws.{has-first, has-later, has-without, piece_at-first, piece_at-later, piece_at-without, without-first, without-twice}
+use Rattle.std.proofs.lemmas.Bool.Decides.{nat_tests}
+use Rattle.std.proofs.lemmas.Grind.{common_steps}
 
 -- ---- one call of `put` after another
 module _ (l : Layout) (place : Place) where
@@ -43,21 +44,7 @@ module _ (l : Layout) (place : Place) where
 
 -- ---- bytes of another length
 pub resized-is : (bytes : List ℕ) (old n : ℕ) → length bytes ≡ old → take (min old n) bytes ++ zeros (n - min old n) ≡ resized bytes n
-resized-is bytes old n long = elim (cases_lt n old) [
-  | inl less ↦ (λ i. take (short less i) bytes ++ zeros (none less i))
-  | inr more ↦
-      let kept : take (min old n) bytes ≡ take n bytes = take_all (min old n) bytes (omega (arith, long, more)) ∙ sym (take_all n bytes (omega (arith, long, more))) in
-      (λ i. kept i ++ zeros (rest more i))
-]
-  where
-    short : n < old → min old n ≡ n
-    short less = omega (arith, less)
-
-    none : n < old → n - min old n ≡ n - length bytes
-    none less = omega (arith, less, long)
-
-    rest : old ≤ n → n - min old n ≡ n - length bytes
-    rest more = omega (arith, more, long)
+resized-is bytes old n long = grind (arith, nat_tests, common_steps)
 
 -- and a copy with zeros behind it is one of another length
 pub put-resized : (l t m : Layout) (from to : Place) (len n kept : ℕ) → length (piece_at l.pieces from).bytes ≡ len → kept ≡ min len n → t ≡ put_at l to 0 (take kept (piece_at l.pieces from).bytes) true → m ≡ put_at t to kept (zeros (n - kept)) true

@@ -1,8 +1,8 @@
 -- What a write to a block changes.
 use Rattle.std.proofs.Common.{◌≡◌, ◌≢◌, ℕ, ◌+◌, ◌-◌, ◌<◌, ◌≤◌, ◌⊎◌, inl, inr, List, Option, Some, None, length, get_or, set, refl, sym, ap, ◌∙◌, subst, arith}
 use Rattle.std.specs.Prelude.{IsTrue, is_some, option_map}
-use Rattle.std.proofs.lemmas.Bool.{cases_eq, cases_lt, false≢true}
-use Rattle.std.proofs.lemmas.List.{get_or-set_same, get_or-set_other, set-get_or, map-set, get_or_past}
+use Rattle.std.proofs.lemmas.Bool.{false≢true}
+use Rattle.std.proofs.lemmas.List.{get_or-set_same, get_or-set_other, set-get_or, map-set}
 use Rattle.block_memory.specs.Cells.{Cells, Holds, IsWritten, with_bytes}
 use Rattle.block_memory.specs.Words.{word_bytes}
 use Rattle.block_memory.proofs.CellLemmas.{length-with_bytes, holds_kept, length-word_bytes}
@@ -10,13 +10,12 @@ use Rattle.chunk_layout.specs.Spots.{Blocks, cells_of, block_at, poke, read, pie
 use Rattle.chunk_layout.specs.Pieces.{Piece}
 use Rattle.chunk_layout.specs.declared.place.Spot.{Spot}
 use Rattle.chunk_layout.proofs.Reading.{read-kept, written-kept_apart}
+use Rattle.std.proofs.lemmas.Bool.Decides.{nat_tests}
+use Rattle.std.proofs.lemmas.Grind.{common_steps}
 
 -- a block that is there has a number below the count
 pub some-within : (bs : Blocks) (b : ℕ) → IsTrue (is_some (get_or bs b None)) → b < length bs
-some-within bs b some = elim (cases_lt b (length bs)) [
-  | inl low ↦ low
-  | inr past ↦ absurd (false≢true (ap is_some (sym (get_or_past bs b None past)) ∙ some))
-]
+some-within bs b some = grind (arith, nat_tests, common_steps)
 
 module _ (bs : Blocks) (b at : ℕ) (bytes : List ℕ) (some : IsTrue (is_some (get_or bs b None))) where
   abbrev after : Blocks
@@ -32,16 +31,10 @@ module _ (bs : Blocks) (b at : ℕ) (bytes : List ℕ) (some : IsTrue (is_some (
   poke-other c ne = get_or-set_other bs b c (Some (with_bytes (block_at bs b) at bytes)) None ne
 
   pub length-poke : (c : ℕ) → length (block_at after c) ≡ length (block_at bs c)
-  length-poke c = elim (cases_eq c b) [
-    | inl same ↦ ap (λ (k : ℕ). length (block_at after k)) same ∙ ap length poke-here ∙ length-with_bytes (block_at bs b) at bytes ∙ ap (λ (k : ℕ). length (block_at bs k)) (sym same)
-    | inr ne ↦ ap (λ (o : Option Cells). length (cells_of o)) (poke-other c ne)
-  ]
+  length-poke c = grind (arith, nat_tests, common_steps)
 
   pub some-poke : (c : ℕ) → IsTrue (is_some (get_or bs c None)) → IsTrue (is_some (get_or after c None))
-  some-poke c here = elim (cases_eq c b) [
-    | inl same ↦ ap (λ (k : ℕ). is_some (get_or after k None)) same ∙ ap is_some (get_or-set_same bs b (Some (with_bytes (block_at bs b) at bytes)) None low)
-    | inr ne ↦ ap is_some (poke-other c ne) ∙ here
-  ]
+  some-poke c here = grind (arith, nat_tests, common_steps)
 
   some-is : (o : Option Cells) → IsTrue (is_some o) → o ≡ Some (cells_of o)
   some-is None no' = absurd (false≢true no')
@@ -60,10 +53,7 @@ module _ (bs : Blocks) (b at : ℕ) (bytes : List ℕ) (some : IsTrue (is_some (
   -- a chunk that the write does not touch
   module _ (head : ℕ) (room : at + length bytes ≤ length (block_at bs b)) (s : Spot) (stands : Stands head bs s) (apart : (s.place.block ≢ b) ⊎ ((s.place.offset + s.room ≤ at) ⊎ (at + length bytes + head ≤ s.place.offset))) where
     kept : (P : Cells → Type 0) → P (block_at bs s.place.block) → (s.place.block ≡ b → P (with_bytes (block_at bs b) at bytes)) → P (block_at after s.place.block)
-    kept P here there = elim (cases_eq s.place.block b) [
-      | inl same ↦ subst P (sym poke-here ∙ ap (block_at after) (sym same)) (there same)
-      | inr ne ↦ subst P (ap cells_of (sym (poke-other s.place.block ne))) here
-    ]
+    kept P here there = grind (arith, nat_tests, common_steps)
 
     beside : s.place.block ≡ b → (s.place.offset + s.room ≤ at) ⊎ (at + length bytes + head ≤ s.place.offset)
     beside same = elim apart [ inl ne ↦ absurd (ne same) | inr one ↦ one ]

@@ -1,12 +1,13 @@
 -- What is read of cells, after they were written.
-use Rattle.std.proofs.Common.{◌≡◌, ℕ, ◌+◌, ◌≤◌, ◌⊎◌, inl, inr, List, [], ◌∷◌, ◌++◌, Option, Some, map, length, take, drop, refl, sym, ap, ◌∙◌, subst, arith, add-zero, zero-add}
+use Rattle.std.proofs.Common.{◌≡◌, ℕ, ◌+◌, ◌≤◌, ◌⊎◌, List, [], ◌∷◌, ◌++◌, Option, Some, map, length, take, drop, refl, sym, ap, ◌∙◌, subst, arith, add-zero, zero-add}
 use Rattle.std.specs.Prelude.{unwrap_or}
 use Rattle.std.specs.List.{splice, refill}
-use Rattle.std.proofs.lemmas.List.{length-take-le, length-drop, take_all, drop_all, length-take, length-append, take-append-le, append-nil}
-use Rattle.std.proofs.lemmas.Bool.{cases_lt}
+use Rattle.std.proofs.lemmas.List.{length-take}
 use Rattle.block_memory.specs.Cells.{Cells, Holds, IsWritten, with_bytes}
 use Rattle.block_memory.proofs.CellLemmas.{bytes_of_written, written_of_holds, holds_kept, holds_over, length_over}
 use Rattle.chunk_layout.specs.Spots.{read}
+use Rattle.std.proofs.lemmas.Bool.Decides.{nat_tests}
+use Rattle.std.proofs.lemmas.Grind.{common_steps}
 
 unmap : (xs : List ℕ) → map (λ (c : Option ℕ). unwrap_or c 0) (map Some xs) ≡ xs
 unmap [] = refl
@@ -38,16 +39,7 @@ written-kept_apart cells at n i new room apart w =
 
 -- at most n bytes over n that were written
 pub refill-is : (xs ws : List ℕ) (n : ℕ) → length xs ≡ n → refill n xs ws ≡ take n ws ++ drop (length (take n ws)) xs
-refill-is xs ws n long = elim (cases_lt n (length ws)) [
-  | inl more ↦
-      let count : length (take n ws) ≡ n = length-take-le n ws (omega (arith, more)) in
-      take-append-le n ws (drop (length ws) xs) (omega (arith, more)) ∙ sym (append-nil (take n ws))
-      ∙ ap (λ (t : List ℕ). take n ws ++ t) (sym (drop_all (length (take n ws)) xs (omega (arith, count, long))))
-  | inr few ↦
-      let all : take n ws ≡ ws = take_all n ws few in
-      take_all n (ws ++ drop (length ws) xs) (omega (arith, length-append ws (drop (length ws) xs), length-drop (length ws) xs, long, few))
-      ∙ ap (λ (t : List ℕ). t ++ drop (length t) xs) (sym all)
-]
+refill-is xs ws n long = grind (arith, nat_tests, common_steps)
 
 pub read-refilled : (cells : Cells) (at n : ℕ) (ws : List ℕ) → IsWritten cells at n → read (with_bytes cells at (take n ws)) at n ≡ refill n (read cells at n) ws
 read-refilled cells at n ws w =

@@ -9,6 +9,8 @@ use Rattle.chunk_layout.specs.Spots.{Blocks, sizes_of}
 use Rattle.chunk_layout.specs.Vacant.{AreVacant}
 use Rattle.chunk_layout.specs.NumberLaws.{with_block-here, with_block-other}
 use Rattle.chunk_layout.proofs.Numbers.{with_block-end, length-with_block_low}
+use Rattle.std.proofs.lemmas.Bool.Decides.{nat_tests}
+use Rattle.std.proofs.lemmas.Grind.{common_steps}
 
 -- a number has a size just where it has a block
 pub length-sizes : (bs : Blocks) → length (sizes_of bs) ≡ length bs
@@ -37,11 +39,7 @@ module _ (bs : Blocks) (marks after : List Bool) (are : AreVacant (sizes_of bs) 
 
   -- where none is marked, each has a block
   pub taken-unmarked : ((k : ℕ) → get_or marks k false ≡ false) → AreTaken (sizes_of bs)
-  taken-unmarked none k low = some-by (is_some (get_or (sizes_of bs) k None)) (sym (are.vacant k low) ∙ none k)
-    where
-      some-by : (b : Bool) → not b ≡ false → b ≡ true
-      some-by true e = refl
-      some-by false e = absurd (false≢true (sym e))
+  taken-unmarked none k low = grind (arith, nat_tests, common_steps)
 
   -- a marked number gets a block
   pub vacant-used : (n : ℕ) (x : Cells) → n < length bs → length after ≡ length marks → ((k : ℕ) → get_or after k false ≡ cond (k == n) false (get_or marks k false)) → AreVacant (sizes_of (with_block bs n x)) after

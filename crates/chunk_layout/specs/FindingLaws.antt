@@ -1,18 +1,18 @@
 -- Laws: the chunk at a place; what is defined here, laws alone say.
-use Rattle.std.proofs.Common.{◌≡◌, ℕ, inl, inr, Bool, true, false, not, List, [], ◌∷◌, map, cond, refl, sym, ◌∙◌}
+use Rattle.std.proofs.Common.{◌≡◌, ℕ, inl, inr, Bool, true, false, not, List, [], ◌∷◌, map, cond, refl, sym, ◌∙◌, arith}
 use Rattle.std.specs.Prelude.{◌||◌, ◌==◌}
-use Rattle.std.proofs.lemmas.Bool.{and_parts, eqb-true, and_from, eq-eqb}
+use Rattle.std.proofs.lemmas.Bool.{and_from, eq-eqb}
 use Rattle.chunk_layout.specs.Every.{Every, Pairwise}
 use Rattle.chunk_layout.specs.Pieces.{Piece, same_place, is_at, has, piece_at, no_piece, without}
 use Rattle.chunk_layout.specs.Spots.{Blocks, spot_is_at, no_spot, has_spot, spot_at, without_spot, piece_of, Stands, Apart}
 use Rattle.chunk_layout.specs.declared.place.Place.{Place}
 use Rattle.chunk_layout.specs.declared.place.Spot.{Spot}
 use Rattle.chunk_layout.specs.ListLaws.{first_has, first_passes, first_map, any_map, filter_map_same, every_weaker, every_filter}
+use Rattle.std.proofs.lemmas.Bool.Decides.{nat_tests}
+use Rattle.std.proofs.lemmas.Grind.{common_steps}
 
 pub same-place : (p q : Place) → same_place p q ≡ true → p ≡ q
-same-place p q same = let parts = and_parts (p.block == q.block) (p.offset == q.offset) same in
-    let b = eqb-true p.block q.block parts.0 in let o = eqb-true p.offset q.offset parts.1 in
-    λ i. record { block = b i; offset = o i }
+same-place p q same = grind (arith, nat_tests, common_steps)
 
 pub place-same : (p : Place) → same_place p p ≡ true
 place-same p = and_from (p.block == p.block) (p.offset == p.offset) (eq-eqb p.block p.block refl) (eq-eqb p.offset p.offset refl)

@@ -1,19 +1,15 @@
 -- Laws of chunks by their places; nothing here is a definition.
-use Rattle.std.proofs.Common.{◌≡◌, Bool, true, false, not, List, [], ◌∷◌, cond, refl, sym, ap, ◌∙◌, inl, inr}
+use Rattle.std.proofs.Common.{◌≡◌, Bool, true, false, not, List, [], ◌∷◌, cond, refl, sym, ap, ◌∙◌, inl, inr, arith}
 use Rattle.std.specs.Prelude.{◌||◌}
-use Rattle.std.proofs.lemmas.Bool.{false≢true, cases_Bool, cond-true, cond-false, not_from_true, not_from_false, or_parts}
+use Rattle.std.proofs.lemmas.Bool.{cases_Bool, cond-true, cond-false, not_from_true, not_from_false, or_parts}
 use Rattle.chunk_layout.specs.Pieces.{Piece, same_place, is_at, has, piece_at, without}
 use Rattle.chunk_layout.specs.declared.place.Place.{Place}
-use Rattle.chunk_layout.specs.FindingLaws.{same-place, place-same}
+use Rattle.chunk_layout.specs.FindingLaws.{same-place}
+use Rattle.std.proofs.lemmas.Bool.Decides.{nat_tests}
+use Rattle.std.proofs.lemmas.Grind.{common_steps}
 
 pub same_place-sym : (p q : Place) → same_place p q ≡ same_place q p
-same_place-sym p q = elim (cases_Bool (same_place p q)) [
-  | inl yes' ↦ yes' ∙ sym (ap (λ (r : Place). same_place q r) (same-place p q yes') ∙ place-same q)
-  | inr no' ↦ no' ∙ sym (elim (cases_Bool (same_place q p)) [
-    | inl yes' ↦ absurd (false≢true (sym no' ∙ ap (λ (r : Place). same_place p r) (same-place q p yes') ∙ place-same p))
-    | inr other ↦ other
-  ])
-]
+same_place-sym p q = grind (arith, nat_tests, common_steps)
 
 -- a chunk is at one place alone
 pub other-place : (p : Piece) (a b : Place) → is_at a p ≡ true → same_place a b ≡ false → is_at b p ≡ false
