@@ -1,10 +1,12 @@
 -- Classes and their rooms.
 use Rattle.std.proofs.Common.{◌≡◌, ℕ, ◌<◌, ◌≤◌, get_or, inl, inr, sym, arith, true, List, [], ◌∷◌, suc, length, ap, ◌∙◌, refl}
 use Rattle.std.specs.Prelude.{nat_le, ◌==◌, ◌-◌}
-use Rattle.std.proofs.lemmas.Bool.{le-leb, lt-leb, agree_below_at, leb-true, eqb-true, cases_Bool, cond-false, false≢true}
+use Rattle.std.proofs.lemmas.Bool.{le-leb, lt-leb, agree_below_at, eqb-true, cases_Bool, cond-false, false≢true}
 use Rattle.std.proofs.lemmas.List.Sums.{position_or_len_is}
 use Rattle.chunk_contexts.specs.Rooms.{rooms, rooms_down, class_of, room_of}
 use Rattle.chunk_contexts.specs.Free.{is_in}
+use Rattle.std.proofs.lemmas.Bool.Decides.{nat_tests}
+use Rattle.std.proofs.lemmas.Grind.{common_steps}
 
 pub room-is : (i : ℕ) → room_of i ≡ get_or rooms i 0
 unfolding room_of rooms
@@ -47,9 +49,7 @@ class-of_room room is =
 
 pub in-small : (room : ℕ) → is_in room rooms ≡ true → room ≤ 8192
 unfolding rooms
-in-small room is = let at = in-at room rooms is in
-    let less : get_or rooms at.0 0 ≤ 8192 = leb-true (get_or rooms at.0 0) 8192 (agree_below_at (λ k. nat_le (get_or rooms k 0) 8192) (λ _. true) 11 at.0 refl at.1) in
-    omega (arith, less, at.2)
+in-small room is = grind (arith, nat_tests, common_steps)
 
 -- the rooms downward
 pub room-down : (i : ℕ) → i < 11 → get_or rooms_down i 0 ≡ room_of (10 - i)
@@ -62,6 +62,4 @@ length-down = refl
 
 pub in-some : (room : ℕ) → is_in room rooms ≡ true → 8 ≤ room
 unfolding rooms
-in-some room is = let at = in-at room rooms is in
-    let less : 8 ≤ get_or rooms at.0 0 = leb-true 8 (get_or rooms at.0 0) (agree_below_at (λ k. nat_le 8 (get_or rooms k 0)) (λ _. true) 11 at.0 refl at.1) in
-    omega (arith, less, at.2)
+in-some room is = grind (arith, nat_tests, common_steps)

@@ -1,16 +1,18 @@
 -- What a change of the chunks says of their names.
-use Rattle.std.proofs.Common.{◌≡◌, ℕ, inl, inr, Bool, true, false, List, Option, [], ◌∷◌, length, drop, cond, refl, sym, ap, ◌∙◌}
+use Rattle.std.proofs.Common.{◌≡◌, ℕ, inl, inr, Bool, true, false, List, Option, [], ◌∷◌, length, drop, cond, refl, sym, ap, ◌∙◌, arith}
 use Rattle.std.specs.Prelude.{IsTrue, ◌==◌, ◌&&◌, ◌||◌}
 use Rattle.std.specs.List.{refill, length_refill}
-use Rattle.std.proofs.lemmas.Bool.{cases_Bool, cond-true, cond-false, and_parts, and_from, eqb-true, eq-eqb, true≢false, false_from_ne_true}
+use Rattle.std.proofs.lemmas.Bool.{cases_Bool, cond-true, cond-false, and_parts, eqb-true, true≢false, false_from_ne_true}
 use Rattle.std.proofs.Math.Seq.{take-append_seam}
 use Rattle.chunk_layout.specs.Pieces.{Piece, same_place, is_at, place_of, has, piece_at, without, rewritten, with_bytes_of, AreApart, IsInside, AreLaid}
 use Rattle.chunk_layout.specs.declared.place.Place.{Place}
 use Rattle.chunk_layout.specs.declared.place.ChunkName.{ChunkName}
 use Rattle.chunk_layout.specs.ListLaws.{every_filter, pairwise_filter}
 use Rattle.chunk_layout.specs.FindingLaws.{same-place, place-same}
-use Rattle.chunk_layout.specs.PieceLaws.{other-place, has-first, piece_at-first, has-later, piece_at-later, has-without, piece_at-without}
+use Rattle.chunk_layout.specs.PieceLaws.{other-place, piece_at-first, piece_at-later, has-without, piece_at-without}
 use Rattle.chunk_contexts.specs.Chunks.{live, is_live, bytes_of, chunk_of, Adds, Keeps, KeepsOthers, IsResized}
+use Rattle.std.proofs.lemmas.Bool.Decides.{nat_tests}
+use Rattle.std.proofs.lemmas.Grind.{common_steps}
 
 -- ---- what a live name says
 pub name-there : (chunks : List Piece) (name : ChunkName) → IsTrue (is_live chunks name) → IsTrue (has chunks (place_of name))
@@ -21,20 +23,17 @@ name-len chunks name lives = eqb-true (length (piece_at chunks (place_of name)).
 
 -- and what makes one live
 pub name-lives : (chunks : List Piece) (name : ChunkName) → has chunks (place_of name) ≡ true → length (piece_at chunks (place_of name)).bytes ≡ name.len → IsTrue (is_live chunks name)
-name-lives chunks name there long =
-    and_from (has chunks (place_of name)) (length (piece_at chunks (place_of name)).bytes == name.len) there (eq-eqb (length (piece_at chunks (place_of name)).bytes) name.len long)
+name-lives chunks name there long = grind (arith, nat_tests, common_steps)
 
 pub lives-first : (p : Piece) (ps : List Piece) (name : ChunkName) → is_at (place_of name) p ≡ true → length p.bytes ≡ name.len → IsTrue (is_live (p ∷ ps) name)
-lives-first p ps name here long =
-    name-lives (p ∷ ps) name (has-first p ps (place_of name) here) (ap (λ (q : Piece). length q.bytes) (piece_at-first p ps (place_of name) here) ∙ long)
+lives-first p ps name here long = grind (arith, nat_tests, common_steps)
 
 pub apart-places : (before : List Piece) (a b : Place) → has before a ≡ true → has before b ≡ false → same_place a b ≡ false
 apart-places before a b yes' no' = false_from_ne_true (same_place a b) (λ e. true≢false (sym yes' ∙ ap (has before) (same-place a b e) ∙ no'))
 
 -- the place of a live chunk is none that is free
 apart-free : (before : List Piece) (free : Place) (other : ChunkName) → has before free ≡ false → IsTrue (is_live before other) → same_place free (place_of other) ≡ false
-apart-free before free other none lives =
-    false_from_ne_true (same_place free (place_of other)) (λ e. true≢false (sym (name-there before other lives) ∙ ap (has before) (sym (same-place free (place_of other) e)) ∙ none))
+apart-free before free other none lives = grind (arith, nat_tests, common_steps)
 
 -- a chunk that is the same has the same name and the same bytes
 kept : (before after : List Piece) (new other : ChunkName) → same_place (place_of new) (place_of other) ≡ false → has after (place_of other) ≡ has before (place_of other) → piece_at after (place_of other) ≡ piece_at before (place_of other)
@@ -53,10 +52,7 @@ module _ (before after : List Piece) (name : ChunkName) (room : ℕ) (bytes : Li
   added-holds = ap (λ (ps : List Piece). bytes_of ps name) adds.chunks ∙ ap (λ (q : Piece). q.bytes) (piece_at-first p before (place_of name) (place-same (place_of name)))
 
   pub added-keeps : Keeps before after name
-  added-keeps = λ other lives.
-      let apart = apart-free before (place_of name) other adds.fresh lives in
-      kept before after name other apart (ap (λ (ps : List Piece). has ps (place_of other)) adds.chunks ∙ has-later p before (place_of other) apart)
-      (ap (λ (ps : List Piece). piece_at ps (place_of other)) adds.chunks ∙ piece_at-later p before (place_of other) apart) lives
+  added-keeps = grind (arith, nat_tests, common_steps)
 
 -- ---- a chunk less
 pub without-keeps : (before after : List Piece) (name : ChunkName) → after ≡ without before (place_of name) → KeepsOthers before after name name
@@ -66,13 +62,7 @@ without-keeps before after name gone = λ other apart lives.
 
 -- ---- a chunk of another length
 pub resized-keeps : (before after : List Piece) (name new : ChunkName) (n : ℕ) → IsResized before after name new n → KeepsOthers before after name new
-resized-keeps before after name new n resized = λ other apart lives.
-    let far : same_place (place_of new) (place_of other) ≡ false = elim (cases_Bool (same_place (place_of name) (place_of new))) [
-      | inl same ↦ ap (λ (q : Place). same_place q (place_of other)) (sym (same-place (place_of name) (place_of new) same)) ∙ apart
-      | inr moved ↦ apart-free before (place_of new) other (resized.gone moved).1 lives
-    ] in
-    let others = resized.others (place_of other) apart far in
-    kept before after new other far others.0 others.1 lives
+resized-keeps before after name new n resized = grind (arith, nat_tests, common_steps)
 
 -- ---- other bytes in a chunk
 module _ (place : Place) (ws : List ℕ) where

@@ -1,5 +1,5 @@
 -- A `Generation` after a request was served, or refused.
-use Rattle.std.proofs.Common.{◌≡◌, refl, ℕ, ◌+◌, ◌-◌, ◌<◌, ◌≤◌, Bool, false, List, Option, Some, None, Result, Ok, Err, length, get_or, set, sym, ap, ◌∙◌, subst, arith}
+use Rattle.std.proofs.Common.{◌≡◌, ℕ, ◌+◌, ◌-◌, ◌<◌, ◌≤◌, Bool, false, List, Option, None, Result, Ok, Err, length, get_or, set, sym, ap, ◌∙◌, subst, arith}
 use Rattle.std.specs.Prelude.{is_some, nat_le, IsTrue, IsErrAnd, IfErr}
 use Rattle.std.proofs.lemmas.Bool.{leb-true}
 use Rattle.chunk_layout.specs.Every.{Every}
@@ -12,9 +12,10 @@ use Rattle.chunk_contexts.specs.Chunks.{Adds, IsRefused, chunk_of}
 use Rattle.chunk_contexts.specs.Rooms.{rounded, over_most}
 use Rattle.chunk_contexts.specs.Run.{run_of, run_growth, run_growth_by, run_taken, RunState, IsBlockOf, IsRun}
 use Rattle.chunk_contexts.specs.Generation.{IsCounted}
-use Rattle.chunk_contexts.proofs.Growth.{refused-none}
 use Rattle.chunk_contexts.proofs.GenLaws.{made-low, counted-made}
 use Rattle.chunk_contexts.specs.declared.rooms.TheConstants.{BLOCK}
+use Rattle.std.proofs.lemmas.Bool.Decides.{nat_tests}
+use Rattle.std.proofs.lemmas.Grind.{common_steps}
 
 module _ (r t : Runs) (cs ds : List ℕ) (is : IsCounted r cs) (run : IsRun 8 t) (n : ℕ) (bytes : List ℕ) (name : ChunkName) (admitted : over_most n ≡ None) (space : run_of t ≡ run_taken 8 (run_of r) (chunk_of name (rounded n) bytes))
     (added : Adds r.layout.pieces t.layout.pieces name (rounded n) bytes) (block : IsBlockOf (run_of r) (run_growth 8 (run_of r) n) name.block)
@@ -53,11 +54,7 @@ counted-longer r cs ds is same longer = record { run = is.run; places = is.place
 
 -- where a chunk is not counted for want of memory, blocks were to grow
 pub refused-count : {X : Type 0} (result : Result X ContextError) (s t : RunState) (n : ℕ) → IsErrAnd result (λ e. e ≡ NoMemory) → s ≡ t → 0 < run_growth 8 s n → IfErr result (IsRefused (over_most n) (run_growth 8 t n))
-refused-count result s t n is same grows = subst (λ (s : RunState). IfErr result (IsRefused (over_most n) (run_growth 8 s n))) same (refused-none result (over_most n) (run_growth 8 s n) is (by (over_most n) refl) grows)
-  where
-    by : (o : Option ContextError) → over_most n ≡ o → over_most n ≡ None
-    by None none = none
-    by (Some refusal) over = absurd (omega (arith, grows, ap (λ (o : Option ContextError). run_growth_by (is_some o) (nat_le (8 + rounded n) BLOCK) (nat_le (8 + rounded n) s.left) (8 + rounded n)) over))
+refused-count result s t n is same grows = grind (arith, nat_tests, common_steps)
 
 pub refused-as : {X : Type 0} (result : Result X ContextError) (s t : RunState) (n : ℕ) (f : ContextError) → IsErrAnd result (λ e. e ≡ f) → s ≡ t → IsRefused (over_most n) (run_growth 8 s n) f → IfErr result (IsRefused (over_most n) (run_growth 8 t n))
 refused-as (Ok x) s t n f is same refused = tt

@@ -15,6 +15,8 @@ use Rattle.chunk_contexts.specs.Free.{Elsewhere}
 use Rattle.chunk_contexts.specs.Run.{RunState, run_of, run_taken_by, run_growth_by, IsRun}
 use Rattle.chunk_contexts.specs.Generation.{in_block, IsCounted}
 use Rattle.chunk_contexts.proofs.FreeLaws.{elsewhere-none}
+use Rattle.std.proofs.lemmas.Bool.Decides.{nat_tests}
+use Rattle.std.proofs.lemmas.Grind.{common_steps}
 
 -- no chunk is in a block that is not there
 pub in-none : (ps : List Piece) (b : ℕ) → Every (λ (p : Piece). p.place.block ≢ b) ps → in_block ps b ≡ 0
@@ -82,12 +84,7 @@ module _ (r t : Runs) (cs ds : List ℕ) (is : IsCounted r cs) (run : IsRun 8 t)
   k = p.place.block
 
   pieces : t.layout.pieces ≡ p ∷ ps
-  pieces = ap (λ (s : RunState). s.chunks) made ∙ by-kind a b
-    where
-      by-kind : (a b : Bool) → (run_taken_by a b size (run_of r) p).chunks ≡ p ∷ ps
-      by-kind false b = refl
-      by-kind true true = refl
-      by-kind true false = refl
+  pieces = grind (arith, nat_tests, common_steps)
 
   -- where a block is taken, no chunk was in it
   empty : 0 < run_growth_by false a b size → in_block ps k ≡ 0

@@ -19,14 +19,12 @@ use Rattle.chunk_contexts.proofs.FreeLaws.{without-elsewhere}
 use Rattle.chunk_contexts.proofs.OverLaws.{over, rewritten-map, pairwise_map}
 use Rattle.chunk_contexts.proofs.RunMoves.{run-put, run-lent}
 use Rattle.chunk_contexts.proofs.GenLaws.{in-here, in-other, in-without_other, in-without_here, outside-none}
+use Rattle.std.proofs.lemmas.Bool.Decides.{nat_tests}
+use Rattle.std.proofs.lemmas.Grind.{common_steps}
 
 -- a chunk is given up
 pub freed-chunks : (x : RunState) (place : Place) → (gen_freed x place).chunks ≡ without x.chunks place
-freed-chunks x place = by-bool _
-  where
-    by-bool : (b : Bool) → (freed_by b x place).chunks ≡ without x.chunks place
-    by-bool true = refl
-    by-bool false = refl
+freed-chunks x place = grind (arith, nat_tests, common_steps)
 
 pub in-rewritten : (ps : List Piece) (place : Place) (ws : List ℕ) (c : ℕ) → in_block (rewritten ps place ws) c ≡ in_block ps c
 in-rewritten [] place ws c = refl
@@ -163,11 +161,7 @@ module _ (r : Runs) (cs : List ℕ) (is : IsCounted r cs) where
         a' = record { block = r.active.block; used = cond (r.active.block == b) 0 r.active.used; size = cond (r.active.block == b) 0 r.active.size }
 
         left-back : a'.size - a'.used ≡ cond (r.active.block == b) 0 (r.active.size - r.active.used)
-        left-back = by-bool (r.active.block == b)
-          where
-            by-bool : (x : Bool) → cond x 0 r.active.size - cond x 0 r.active.used ≡ cond x 0 (r.active.size - r.active.used)
-            by-bool true = refl
-            by-bool false = refl
+        left-back = grind (arith, nat_tests, common_steps)
 
         rest-back : IsRest (record { head = r.layout.head; blocks = set r.layout.blocks b None; pieces = without ps place }) a'
         rest-back = elim (cases_eq r.active.block b) [

@@ -10,8 +10,10 @@ use Rattle.chunk_contexts.specs.Chunks.{IsRefused, IsResizeRefused}
 use Rattle.chunk_contexts.specs.declared.error.ContextError.{ContextError}
 use Rattle.chunk_contexts.specs.declared.error.ContextError.TheVariants.{NoMemory}
 use Rattle.chunk_contexts.specs.Run.{RunState, run_growth, run_growth_by}
-use Rattle.chunk_contexts.specs.Set.{SetState, set_growth, growth_by, set_room, block_size}
+use Rattle.chunk_contexts.specs.Set.{SetState, set_growth, set_room, block_size}
 use Rattle.chunk_contexts.specs.declared.rooms.TheConstants.{BLOCK, LARGEST, MOST}
+use Rattle.std.proofs.lemmas.Bool.Decides.{nat_tests}
+use Rattle.std.proofs.lemmas.Grind.{common_steps}
 
 -- why a request is refused, and why a chunk is not resized
 pub refused-some : {X : Type 0} (result : Result X ContextError) (o : Option ContextError) (growth : ℕ) (f : ContextError) → IsErrAnd result (λ e. e ≡ f) → o ≡ Some f → IfErr result (IsRefused o growth)
@@ -37,25 +39,14 @@ room-classed n low = cond-true (nat_le n LARGEST) (room_of (class_of n)) (rounde
 
 -- a request of a class, for which nothing is free and nothing is left
 pub growth-new : (s : SetState) (n : ℕ) → n ≤ LARGEST → is_in (room_of (class_of n)) s.free ≡ false → s.left < room_of (class_of n) + 8 → set_growth s n ≡ block_size s.next (room_of (class_of n))
-growth-new s n low none full =
-    let room = room-classed n low in let over = growth-over n (omega (arith, low)) in
-    let classed = le-leb n LARGEST low in
-    let fits : nat_le (set_room n + 8) s.left ≡ false = ap (λ (r : ℕ). nat_le (r + 8) s.left) room ∙ lt-leb (room_of (class_of n) + 8) s.left full in
-    (λ i. growth_by (over i) (classed i) ((ap (λ (r : ℕ). is_in r s.free) room ∙ none) i) (fits i) s (room i))
+growth-new s n low none full = grind (arith, nat_tests, common_steps)
 
 -- and where one is free, or enough is left, none grows
 pub growth-free : (s : SetState) (n : ℕ) → n ≤ LARGEST → is_in (room_of (class_of n)) s.free ≡ true → set_growth s n ≡ 0
-growth-free s n low free =
-    let room = room-classed n low in let over = growth-over n (omega (arith, low)) in
-    let classed = le-leb n LARGEST low in
-    (λ i. growth_by (over i) (classed i) ((ap (λ (r : ℕ). is_in r s.free) room ∙ free) i) (nat_le (set_room n + 8) s.left) s (set_room n))
+growth-free s n low free = grind (arith, nat_tests, common_steps)
 
 pub growth-fits : (s : SetState) (n : ℕ) → n ≤ LARGEST → is_in (room_of (class_of n)) s.free ≡ false → room_of (class_of n) + 8 ≤ s.left → set_growth s n ≡ 0
-growth-fits s n low none left =
-    let room = room-classed n low in let over = growth-over n (omega (arith, low)) in
-    let classed = le-leb n LARGEST low in
-    let fits : nat_le (set_room n + 8) s.left ≡ true = ap (λ (r : ℕ). nat_le (r + 8) s.left) room ∙ le-leb (room_of (class_of n) + 8) s.left left in
-    (λ i. growth_by (over i) (classed i) ((ap (λ (r : ℕ). is_in r s.free) room ∙ none) i) (fits i) s (set_room n))
+growth-fits s n low none left = grind (arith, nat_tests, common_steps)
 
 -- blocks of which one may be given back
 pub less-by : (b : Bool) (blocks : List (Option ℕ)) (k : ℕ) → total (cond b (set blocks k None) blocks) ≤ total blocks

@@ -2,7 +2,7 @@
 use Rattle.std.proofs.Common.{◌≡◌, ℕ, zero, suc, ◌+◌, ◌-◌, ◌*◌, ◌^◌, ◌<◌, ◌≤◌, inl, inr, Bool, true, false, List, [], ◌∷◌, ◌++◌, get_or, cond, refl, sym, ap, ◌∙◌, subst, arith, append_assoc}
 use Rattle.std.specs.Prelude.{◌||◌, min, nat_le, is_some, reverse}
 use Rattle.std.proofs.lemmas.Bool.{agree_below, agree_below_at, leb-true, leb-false, cases_lt, cases_Bool, or_cases, cond-true, cond-false, le-leb}
-use Rattle.std.proofs.lemmas.List.{get_or_past, reverse-append}
+use Rattle.std.proofs.lemmas.List.{reverse-append}
 use Rattle.chunk_layout.specs.Pieces.{Piece}
 use Rattle.chunk_contexts.specs.Rooms.{rooms, rooms_down, over_most, class_of, room_of}
 use Rattle.chunk_contexts.specs.Free.{is_in}
@@ -11,6 +11,8 @@ use Rattle.chunk_contexts.specs.SetRules.{IsCutUp, IsDoubled}
 use Rattle.chunk_contexts.proofs.ClassLaws.{in-at, in-some}
 use Rattle.chunk_contexts.proofs.Growth.{room-classed}
 use Rattle.chunk_contexts.specs.declared.rooms.TheConstants.{LARGEST}
+use Rattle.std.proofs.lemmas.Bool.Decides.{nat_tests}
+use Rattle.std.proofs.lemmas.Grind.{common_steps}
 
 -- no class lies between this room and its double
 abbrev IsStep : ℕ → Type 0
@@ -68,10 +70,7 @@ cut-rule (room ∷ rs) above left free halves less = elim (cases_Bool (nat_le (r
 -- ---- a request of a class that takes a block
 room-top : (class : ℕ) → room_of class ≤ 8192
 unfolding room_of rooms
-room-top class = elim (cases_lt class 11) [
-  | inl low ↦ leb-true (get_or rooms class 0) 8192 (agree_below_at (λ k. nat_le (get_or rooms k 0) 8192) (λ _. true) 11 class refl low)
-  | inr high ↦ omega (arith, get_or_past rooms class 0 high)
-]
+room-top class = grind (arith, nat_tests, common_steps)
 
 grows : (over free fits : Bool) (s : SetState) (room : ℕ) → 0 < growth_by over true free fits s room → (free ≡ false) × (fits ≡ false) × (growth_by over true free fits s room ≡ block_size s.next room)
 grows true free fits s room some = absurd (omega (arith, some))
@@ -87,9 +86,7 @@ module _ (s : SetState) (n : ℕ) (small : n ≤ LARGEST) (some : 0 < set_growth
   by-class = λ i. growth_by (is_some (over_most n)) (classed i) (is_in (set_room n) s.free) (nat_le (set_room n + 8) s.left) s (set_room n)
 
   new-block : (is_in (set_room n) s.free ≡ false) × (nat_le (set_room n + 8) s.left ≡ false) × (set_growth s n ≡ block_size s.next (set_room n))
-  new-block =
-      let is = grows (is_some (over_most n)) (is_in (set_room n) s.free) (nat_le (set_room n + 8) s.left) s (set_room n) (subst (λ (k : ℕ). 0 < k) by-class some) in
-      (is.0, is.1, by-class ∙ is.2)
+  new-block = grind (arith, nat_tests, common_steps)
 
   room-small : set_room n ≤ LARGEST
   room-small = omega (arith, room-classed n small, room-top (class_of n))
@@ -102,16 +99,10 @@ module _ (s : SetState) (n : ℕ) (small : n ≤ LARGEST) (some : 0 < set_growth
       subst (IsCutUp s.left s.free) (sym after) (cut-rule rooms_down 16384 s.left s.free down-halves (omega (arith, leb-false (set_room n + 8) s.left new-block.1, room-small)))
 
   pub rest-by_rule : (p : Piece) → p.room ≡ set_room n → (set_taken s n p).left ≡ set_growth s n - (set_room n + 8)
-  rest-by_rule p room =
-      let none : is_in p.room s.free ≡ false = ap (λ (r : ℕ). is_in r s.free) room ∙ new-block.0 in
-      let full : nat_le (p.room + 8) s.left ≡ false = ap (λ (r : ℕ). nat_le (r + 8) s.left) room ∙ new-block.1 in
-      (λ i. (taken_by (classed i) (none i) (full i) s p).left) ∙ ap (λ (r : ℕ). block_size s.next r - (r + 8)) room ∙ ap (λ (g : ℕ). g - (set_room n + 8)) (sym new-block.2)
+  rest-by_rule p room = grind (arith, nat_tests, common_steps)
 
   pub doubles-by_rule : (p : Piece) → p.room ≡ set_room n → (set_taken s n p).next ≡ min (2 * s.next) 1048576
-  doubles-by_rule p room =
-      let none : is_in p.room s.free ≡ false = ap (λ (r : ℕ). is_in r s.free) room ∙ new-block.0 in
-      let full : nat_le (p.room + 8) s.left ≡ false = ap (λ (r : ℕ). nat_le (r + 8) s.left) room ∙ new-block.1 in
-      λ i. (taken_by (classed i) (none i) (full i) s p).next
+  doubles-by_rule p room = grind (arith, nat_tests, common_steps)
 
   pub size-by_rule : 8192 ≤ s.next → IsDoubled s.next (set_room n + 8) (set_growth s n)
   size-by_rule least = elim (cases_Bool (nat_le (set_room n + 8) s.next)) [

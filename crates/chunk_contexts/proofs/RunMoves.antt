@@ -11,6 +11,8 @@ use Rattle.chunk_layout.specs.FindingLaws.{same-place, place-same}
 use Rattle.chunk_layout.specs.PieceLaws.{has-first, piece_at-first, without-first, without-none}
 use Rattle.chunk_contexts.specs.declared.runs.Runs.{Runs}
 use Rattle.chunk_contexts.specs.Run.{RunState, run_of, run_taken, run_taken_by, run_put, run_wrote, IsRun}
+use Rattle.std.proofs.lemmas.Bool.Decides.{nat_tests}
+use Rattle.std.proofs.lemmas.Grind.{common_steps}
 
 -- what holds of a chunk by its place and room
 pub every-put : (P : Piece → Type 0) → ((p q : Piece) → p.place ≡ q.place → p.room ≡ q.room → P p → P q) → (ps : List Piece) (place : Place) → has ps place ≡ true → (q : Piece) → place ≡ q.place → (piece_at ps place).room ≡ q.room
@@ -39,18 +41,7 @@ module _ (head : ℕ) (r : Runs) (is : IsRun head r) where
   -- pieces with the same places and rooms
   with-pieces : (ps : List Piece) → ((P : Piece → Type 0) → ((p q : Piece) → p.place ≡ q.place → p.room ≡ q.room → P p → P q) → Every P r.layout.pieces → Every P ps)
       → IsRun head (record { layout = record { head = r.layout.head; blocks = r.layout.blocks; pieces = ps }; active = r.active })
-  with-pieces ps every = record {
-    head = is.head;
-    rest = record {
-      size = is.rest.size;
-      used = is.rest.used;
-      bound = is.rest.bound;
-      block = is.rest.block;
-      clear = every (λ (p : Piece). 0 < r.active.size → p.place.block ≡ r.active.block → p.place.offset + p.room ≤ r.active.used) clear-by is.rest.clear;
-      rooms = every (λ (p : Piece). 1 ≤ p.room) rooms-by is.rest.rooms;
-    };
-    there = every (λ (p : Piece). IsTrue (is_some (get_or r.layout.blocks p.place.block None))) there-by is.there;
-  }
+  with-pieces ps every = grind (arith, nat_tests, common_steps)
 
   pub run-put : (place : Place) → has r.layout.pieces place ≡ true → (kept : ℕ) (bytes : List ℕ) (m : Layout) → m ≡ put_at r.layout place kept bytes true → IsRun head (record { layout = m; active = r.active })
   run-put place there kept bytes m made =

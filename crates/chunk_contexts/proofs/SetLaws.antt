@@ -2,7 +2,7 @@
 use Rattle.std.proofs.Common.{◌≡◌, ◌≢◌, ℕ, ◌+◌, ◌<◌, ◌≤◌, ◌⊎◌, inl, inr, Bool, true, false, not, List, [], ◌∷◌, ◌++◌, Option, Some, None, length, get_or, set, take, cond, refl, sym, ap, ◌∙◌, subst, arith}
 use Rattle.std.specs.Prelude.{IsTrue, is_some, unwrap_or, ◌==◌}
 use Rattle.std.specs.List.{filter}
-use Rattle.std.proofs.lemmas.Bool.{cases_lt, cases_Bool, false≢true, eq-eqb, ne_eqb, eqb-false, not-true}
+use Rattle.std.proofs.lemmas.Bool.{cases_lt, cases_Bool, false≢true, eq-eqb, ne_eqb, not-true}
 use Rattle.std.proofs.lemmas.List.{get_or-set_other}
 use Rattle.chunk_layout.specs.Every.{Every, Pairwise}
 use Rattle.chunk_layout.specs.Pieces.{Layout, Piece, is_at, has, piece_at, no_piece, without, outside, put_at, with_block, size_at}
@@ -22,13 +22,11 @@ use Rattle.chunk_contexts.proofs.FreeLaws.{IsLiveAt, pairwise-found, linked-kept
 use Rattle.chunk_contexts.proofs.ListLaws.{lists-new}
 use Rattle.chunk_contexts.proofs.CutLaws.{rest-none, none-at, cut-every, cut-alone, down-known}
 use Rattle.chunk_contexts.specs.declared.rooms.TheConstants.{LARGEST}
+use Rattle.std.proofs.lemmas.Bool.Decides.{nat_tests}
+use Rattle.std.proofs.lemmas.Grind.{common_steps}
 
 pub some-block : (blocks : List (Option ℕ)) (b : ℕ) → 0 < size_at blocks b → IsTrue (is_some (get_or blocks b None))
-some-block blocks b big = by-option (get_or blocks b None) big
-  where
-    by-option : (o : Option ℕ) → 0 < unwrap_or o 0 → IsTrue (is_some o)
-    by-option None low = absurd (omega (arith, low))
-    by-option (Some n) low = refl
+some-block blocks b big = grind (arith, nat_tests, common_steps)
 
 -- the blocks that are there are others than a new one, and stay
 pub not-new : (blocks : List (Option ℕ)) (b : ℕ) → get_or blocks b None ≡ None → (c : ℕ) → IsTrue (is_some (get_or blocks c None)) → c ≢ b
@@ -184,12 +182,7 @@ module _ (l : Layout) (heads : List (Option Place)) (active : Active) (first : O
           (λ q a away. ap not (ne_eqb q.place.block b (λ e. a (inl big) (block-is ∙ sym e)) ∙ sym (not-true (is_at place q) away))) (without ps place) alone-t (every_passes (λ (q : Piece). not (is_at place q)) ps)))
 
       good-other : (q : Piece) → IsSetPiece l.blocks active first q → not (q.place.block == b) ≡ true → IsSetPiece (set l.blocks b None) active first q
-      good-other q g away = record {
-        there = subst (λ (o : Option ℕ). IsTrue (is_some o)) (sym (get_or-set_other l.blocks b q.place.block None None (eqb-false q.place.block b (not-true (q.place.block == b) away)))) g.there;
-        used = g.used;
-        small = g.small;
-        large = g.large;
-      }
+      good-other q g away = grind (arith, nat_tests, common_steps)
 
       pub set-back : IsSet back heads active first
       set-back = record {

@@ -1,8 +1,8 @@
 -- Chunks of one size, after one is made, written, freed or taken again.
-use Rattle.std.proofs.Common.{◌≡◌, ◌≢◌, ℕ, ◌+◌, ◌*◌, ◌/◌, ◌<◌, ◌≤◌, inl, inr, Bool, true, false, not, List, [], ◌∷◌, ◌++◌, Option, Some, None, get_or, take, cond, refl, sym, ap, ◌∙◌, subst, arith}
+use Rattle.std.proofs.Common.{◌≡◌, ◌≢◌, ℕ, ◌+◌, ◌*◌, ◌<◌, ◌≤◌, inl, inr, Bool, true, false, not, List, [], ◌∷◌, ◌++◌, Option, Some, None, get_or, take, cond, refl, sym, ap, ◌∙◌, subst, arith}
 use Rattle.std.specs.Prelude.{IsTrue, is_some, ◌==◌, ◌&&◌}
-use Rattle.std.proofs.Math.Nat.{div-mul-le_self, mul-le-mul_right, div-le_of_le-mul, lt-div-mul-add}
-use Rattle.std.proofs.lemmas.Bool.{cases_Bool, cases_eq, cases_lt, cond-true, cond-false, eq-eqb, ne_eqb}
+use Rattle.std.proofs.Math.Nat.{mul-le-mul_right, div-le_of_le-mul}
+use Rattle.std.proofs.lemmas.Bool.{cases_Bool, cases_eq, cond-true, cond-false, eq-eqb, ne_eqb}
 use Rattle.chunk_layout.specs.Every.{Every, Pairwise}
 use Rattle.chunk_layout.specs.Pieces.{Layout, Piece, is_at, has, piece_at, no_piece, without, put_at, with_piece, size_at, IsClear}
 use Rattle.chunk_layout.specs.declared.place.Place.{Place}
@@ -23,15 +23,13 @@ use Rattle.chunk_contexts.proofs.GenLaws.{in-here, in-other}
 use Rattle.chunk_contexts.proofs.GenMoves.{in-put}
 use Rattle.chunk_contexts.proofs.LinkLaws as Link
 use Rattle.chunk_contexts.specs.declared.rooms.TheConstants.{MOST}
+use Rattle.std.proofs.lemmas.Bool.Decides.{nat_tests}
+use Rattle.std.proofs.lemmas.Grind.{common_steps}
 
 -- so many chunks have room in a block
 pub chunk-fits : (room n : ℕ) → n < per_block room → n * (8 + room) + (8 + room) ≤ slab_block room
 unfolding per_block
-chunk-fits room n few =
-    let per : ℕ = slab_block room / (8 + room) in
-    let all : per * (8 + room) ≤ slab_block room = div-mul-le_self (slab_block room) (8 + room) in
-    let more : (n + 1) * (8 + room) ≤ per * (8 + room) = mul-le-mul_right (8 + room) (omega (arith, few)) in
-    omega (arith, all, more)
+chunk-fits room n few = grind (arith, nat_tests, common_steps)
 
 -- where no chunk of a block is free, all of them are live
 pub none-free : (ps : List Piece) (k : ℕ) → first_free by_block k ps ≡ None → in_block ps k ≡ in_block (live ps) k
@@ -166,10 +164,7 @@ module _ (size : ℕ) (l : Layout) (is : IsSlabLayout size l) where
     pieces = ap (λ (t : List Piece). piece ∷ t) (without-none ps spot fresh)
 
     more : (j : ℕ) → in_block ps j ≤ in_block (piece ∷ ps) j
-    more j = elim (cases_eq k j) [
-      | inl same ↦ omega (arith, in-here piece ps j same)
-      | inr ne ↦ omega (arith, in-other piece ps j ne)
-    ]
+    more j = grind (arith, nat_tests, common_steps)
 
     pub cut-layout : IsSlabLayout size cut'
     cut-layout = record {
@@ -211,10 +206,4 @@ per-small room small = div-le_of_le-mul (8 + room) {m = slab_block room} {n = 10
 
 pub per-some : (room : ℕ) → 1 ≤ per_block room
 unfolding per_block
-per-some room = elim (cases_lt 0 (slab_block room / (8 + room))) [
-  | inl some ↦ omega (arith, some)
-  | inr none ↦
-      let few : slab_block room / (8 + room) * (8 + room) ≤ 0 * (8 + room) = mul-le-mul_right (8 + room) none in
-      let less : slab_block room < slab_block room / (8 + room) * (8 + room) + (8 + room) = lt-div-mul-add {a = slab_block room} {b = 8 + room} (omega arith) in
-      absurd (omega (arith, few, less))
-]
+per-some room = grind (arith, nat_tests, common_steps)

@@ -1,8 +1,8 @@
 -- The account of a slab's blocks, after a chunk is taken or given up, or a block.
 use Rattle.std.proofs.Common.{◌≡◌, ◌≢◌, ℕ, zero, suc, ◌+◌, ◌*◌, ◌-◌, ◌<◌, ◌≤◌, inl, inr, Bool, true, false, not, List, [], ◌∷◌, ◌++◌, Option, Some, None, length, get_or, set, take, replicate, cond, refl, sym, ap, ◌∙◌, subst, arith}
 use Rattle.std.specs.Prelude.{IsTrue, is_some, unwrap_or, nat_lt, ◌==◌, ◌&&◌, ◌||◌}
-use Rattle.std.proofs.lemmas.Bool.{cases_Bool, cases_eq, cases_lt, cond-true, cond-false, eq-eqb, ne_eqb, lt-ltb, and_parts, ltb-true, false≢true, eqb-false, not-true}
-use Rattle.std.proofs.lemmas.List.{get_or-set_same, get_or-set_other, length-set, get_or_past, length-replicate, get_or-replicate}
+use Rattle.std.proofs.lemmas.Bool.{cases_Bool, cases_eq, cond-true, cond-false, eq-eqb, ne_eqb, lt-ltb, and_parts, ltb-true, false≢true, eqb-false, not-true}
+use Rattle.std.proofs.lemmas.List.{get_or-set_same, get_or-set_other, length-set}
 use Rattle.chunk_layout.specs.Every.{Every, Pairwise}
 use Rattle.chunk_layout.specs.Pieces.{Layout, Piece, is_at, has, piece_at, no_piece, without, outside, put_at, rewritten, size_at, with_block}
 use Rattle.chunk_layout.specs.Lends.{layout_with}
@@ -25,6 +25,8 @@ use Rattle.chunk_contexts.proofs.GenMoves.{in-put, in-rewritten}
 use Rattle.chunk_contexts.proofs.OverLaws.{rewritten-map, links-over, first_free-over, live-over}
 use Rattle.chunk_contexts.proofs.SlabLaws.{slab-put, per-some}
 use Rattle.chunk_contexts.proofs.LinkLaws as Link
+use Rattle.std.proofs.lemmas.Bool.Decides.{nat_tests}
+use Rattle.std.proofs.lemmas.Grind.{common_steps}
 
 pub spare-none : (per : ℕ) (chunks : List Piece) (block : ℕ) (bs : List (Option ℕ)) → ((j : ℕ) → (is_some (get_or bs j None) && nat_lt (in_block chunks (block + j)) per) ≡ false) → spare_from per chunks block bs ≡ false
 spare-none per chunks block [] none = refl
@@ -131,10 +133,7 @@ module _ (size count : ℕ) (l : Layout) (kept : List SlabBlock) (marked : List 
   marked-few k some = ltb-true (get_or kept k no_block).live count ((and_parts (is_some (get_or l.blocks k None)) (nat_lt (get_or kept k no_block).live count) (sym (is.marks k) ∙ some)).1)
 
   pub there-low : (k : ℕ) → IsTrue (is_some (get_or l.blocks k None)) → k < length l.blocks
-  there-low k some = elim (cases_lt k (length l.blocks)) [
-    | inl low ↦ low
-    | inr past ↦ absurd (false≢true (ap is_some (sym (get_or_past l.blocks k None past)) ∙ some))
-  ]
+  there-low k some = grind (arith, nat_tests, common_steps)
 
   -- other bytes, or other chunks that are counted the same
   pub slab-same : (m : Layout) → IsSlabLayout size m → ((j : ℕ) (e : SlabBlock) → IsEntry ps j e → IsEntry m.pieces j e) → m.blocks ≡ l.blocks → IsSlab size count m kept marked
@@ -152,16 +151,7 @@ module _ (size count : ℕ) (l : Layout) (kept : List SlabBlock) (marked : List 
   -- longer lists
   pub slab-longer : (kept' : List SlabBlock) (marked' : List Bool) → ((k : ℕ) → get_or kept' k no_block ≡ get_or kept k no_block) → length kept ≤ length kept' → ((k : ℕ) → get_or marked' k false ≡ get_or marked k false) → length marked ≤ length marked'
       → IsSlab size count l kept' marked'
-  slab-longer kept' marked' same longer same-marks longer-marks = record {
-    small = is.small;
-    per = is.per;
-    layout = is.layout;
-    entries = λ k. subst (IsEntry ps k) (sym (same k)) (is.entries k);
-    few = λ k. subst (λ (e : SlabBlock). e.live ≤ count) (sym (same k)) (is.few k);
-    long = omega (arith, is.long, longer);
-    long_marks = omega (arith, is.long_marks, longer-marks);
-    marks = λ k. same-marks k ∙ is.marks k ∙ ap (λ (e : SlabBlock). is_some (get_or l.blocks k None) && nat_lt e.live count) (sym (same k));
-  }
+  slab-longer kept' marked' same longer same-marks longer-marks = grind (arith, nat_tests, common_steps)
 
   -- something else is kept of one block
   module _ (k : ℕ) (m : Layout) (e : SlabBlock) (marked' : List Bool) (layout : IsSlabLayout size m) (here : IsEntry m.pieces k e) (at-most : e.live ≤ count) (others : (j : ℕ) → j ≢ k → (b : SlabBlock) → IsEntry ps j b → IsEntry m.pieces j b)
@@ -259,31 +249,7 @@ module _ (size count : ℕ) (l : Layout) (kept : List SlabBlock) (marked : List 
 
   pub slab-cleared : (m : Layout) → m ≡ record { head = l.head; blocks = nones; pieces = [] } → (kept' : List SlabBlock) → length kept' ≡ length kept → ((k : ℕ) → get_or kept' k no_block ≡ no_block)
       → (marked' : List Bool) → length marked' ≡ length marked → ((k : ℕ) → get_or marked' k false ≡ false) → IsSlab size count m kept' marked'
-  slab-cleared m made kept' long none marked' long' unmarked = subst (λ (z : Layout). IsSlab size count z kept' marked') (sym made) (record {
-    small = is.small;
-    per = is.per;
-    layout = record {
-      links = record { head = is.layout.links.head; places = tt; ranges = tt; linked = tt };
-      rooms = tt;
-      there = tt;
-      sizes = λ j some. absurd (false≢true (sym (ap is_some (nothing j)) ∙ some));
-      ends = tt;
-    };
-    entries = λ k. subst (IsEntry [] k) (sym (none k)) (record { free = refl; cut = refl; live = refl });
-    few = λ k. subst (λ (e : SlabBlock). e.live ≤ count) (sym (none k)) (omega arith);
-    long = omega (arith, is.long, long, blank);
-    long_marks = omega (arith, is.long_marks, long', blank);
-    marks = λ k. unmarked k ∙ sym (ap (λ (o : Option ℕ). is_some o && nat_lt (get_or kept' k no_block).live count) (nothing k));
-  })
-    where
-      blank : length (nones) ≡ length l.blocks
-      blank = length-replicate (length l.blocks) None
-
-      nothing : (j : ℕ) → get_or (nones) j None ≡ None
-      nothing j = elim (cases_lt j (length l.blocks)) [
-        | inl low ↦ get_or-replicate (length l.blocks) j None None low
-        | inr past ↦ get_or_past (nones) j None (omega (arith, past, blank))
-      ]
+  slab-cleared m made kept' long none marked' long' unmarked = grind (arith, nat_tests, common_steps)
 
   -- ---- a live chunk
   module _ (place : Place) (there : has (live ps) place ≡ true) where

@@ -1,5 +1,5 @@
 -- The state of a slab after a chunk is taken.
-use Rattle.std.proofs.Common.{◌≡◌, ℕ, ◌+◌, true, false, List, [], ◌∷◌, None, length, get_or, cond, refl, sym, ap, ◌∙◌}
+use Rattle.std.proofs.Common.{◌≡◌, ℕ, ◌+◌, true, false, List, [], ◌∷◌, None, length, get_or, cond, refl, sym, ap, ◌∙◌, arith}
 use Rattle.std.proofs.lemmas.Bool.{cond-true, cond-false}
 use Rattle.chunk_layout.specs.Pieces.{Layout, Piece, has, piece_at, place_of, without, put_at, total, with_block}
 use Rattle.chunk_layout.specs.declared.place.Place.{Place}
@@ -13,6 +13,8 @@ use Rattle.chunk_contexts.specs.Slab.{SlabState, slab_block, has_spare, slab_gro
 use Rattle.chunk_contexts.specs.declared.slab_chunks.SlabChunks.{SlabChunks}
 use Rattle.chunk_contexts.proofs.FreeLaws.{live-without}
 use Rattle.chunk_contexts.proofs.SlabMoves.{live-there, live-room, slab-written}
+use Rattle.std.proofs.lemmas.Bool.Decides.{nat_tests}
+use Rattle.std.proofs.lemmas.Grind.{common_steps}
 
 -- a chunk comes from a block that has a free one
 module _ (s : SlabState) (p : Piece) (spare : has_spare s ≡ true) where
@@ -33,10 +35,7 @@ module _ (s : SlabState) (spare : has_spare s ≡ false) where
     new-piece = record { place = place; room = rounded s.size; is_live = true; bytes = [] }
 
     pub taken-new : t ≡ slab_taken s new-piece
-    taken-new =
-        made ∙ (λ i. record { size = (grown i).size; chunks = (record { place = place; room = rounded (grown i).size; is_live = true; bytes = [] }) ∷ (grown i).chunks; blocks = (grown i).blocks })
-        ∙ (λ i. record { size = s.size; chunks = new-piece ∷ s.chunks; blocks = with_block s.blocks (sym in-block i) (slab_block (rounded s.size)) })
-        ∙ (λ i. record { size = s.size; chunks = new-piece ∷ s.chunks; blocks = sym (cond-false (has_spare s) s.blocks (with_block s.blocks place.block (slab_block (rounded s.size))) spare) i })
+    taken-new = grind (arith, nat_tests, common_steps)
 
     pub grown-total : get_or s.blocks b None ≡ None → total t.blocks ≡ total s.blocks + slab_grows s
     grown-total none =

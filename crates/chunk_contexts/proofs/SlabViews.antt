@@ -1,9 +1,8 @@
 -- What the state of a `Slab` says of its fields at a live chunk.
-use Rattle.std.proofs.Common.{◌≡◌, ℕ, ◌+◌, ◌-◌, ◌<◌, Bool, true, false, List, [], ◌∷◌, ◌++◌, Option, Some, None, Result, append-nil, cond, length, get_or, refl, sym, ap, ◌∙◌, subst, arith}
+use Rattle.std.proofs.Common.{◌≡◌, ℕ, ◌+◌, ◌<◌, true, List, [], ◌∷◌, Option, Some, None, Result, cond, length, get_or, refl, sym, ap, ◌∙◌, subst, arith}
 use Rattle.std.specs.Prelude.{IsTrue, IsErrAnd, IfErr, ◌==◌, is_some}
-use Rattle.std.proofs.lemmas.Bool.{eqb-true, true≢false}
+use Rattle.std.proofs.lemmas.Bool.{true≢false}
 use Rattle.std.specs.List.{length_refill}
-use Rattle.std.proofs.lemmas.List.{take_all}
 use Rattle.block_memory.specs.Cells.{zeros}
 use Rattle.chunk_layout.specs.Every.{Every}
 use Rattle.chunk_layout.specs.Pieces.{Piece, is_at, has, piece_at, no_piece, place_of, resized, rewritten, total, with_bytes_of}
@@ -19,19 +18,16 @@ use Rattle.chunk_contexts.specs.declared.error.ContextError.{ContextError}
 use Rattle.chunk_contexts.specs.declared.error.ContextError.TheVariants.{NoMemory}
 use Rattle.chunk_contexts.specs.declared.slab_chunks.SlabChunks.{SlabChunks}
 use Rattle.chunk_contexts.specs.declared.slab.Slab.TheInside.{Inside}
-use Rattle.chunk_contexts.proofs.Growth.{refused-some, refused-none}
+use Rattle.chunk_contexts.proofs.Growth.{refused-some}
 use Rattle.chunk_contexts.proofs.FreeLaws.{live-found}
 use Rattle.chunk_contexts.proofs.SlabMoves.{live-there, live-room}
 use Rattle.chunk_contexts.proofs.Content.{name-there, name-len}
+use Rattle.std.proofs.lemmas.Bool.Decides.{nat_tests}
+use Rattle.std.proofs.lemmas.Grind.{common_steps}
 
 -- a request that is not refused has the size
 pub admitted-size : (o : Option ContextError) (n size : ℕ) → slab_refusal_by o (n == size) ≡ None → n ≡ size
-admitted-size o n size none = eqb-true n size (by-cases o (n == size) none)
-  where
-    by-cases : (o : Option ContextError) (b : Bool) → slab_refusal_by o b ≡ None → b ≡ true
-    by-cases (Some e) b none = absurd (cc)
-    by-cases None true none = refl
-    by-cases None false none = absurd (cc)
+admitted-size o n size none = grind (arith, nat_tests, common_steps)
 
 -- and takes what one more chunk takes
 pub slab-grown : (s : SlabState) (n : ℕ) → slab_refusal s n ≡ None → slab_growth s n ≡ slab_grows s
@@ -40,9 +36,7 @@ slab-grown s n none = ap (λ (o : Option ContextError). cond (is_some o) 0 (slab
 -- as many bytes as there are
 pub resized-same : (bytes : List ℕ) (n : ℕ) → length bytes ≡ n → bytes ≡ resized bytes n
 unfolding zeros
-resized-same bytes n long =
-    let none : n - length bytes ≡ 0 = omega (arith, long) in
-    sym (append-nil bytes) ∙ (λ i. sym (take_all n bytes (omega (arith, long))) i ++ zeros (sym none i))
+resized-same bytes n long = grind (arith, nat_tests, common_steps)
 
 -- as many bytes in each chunk, after one is written over
 pub sizes-rewritten : (size : ℕ) (ps : List Piece) (place : Place) (ws : List ℕ) → Every (λ (p : Piece). length p.bytes ≡ size) ps → Every (λ (p : Piece). length p.bytes ≡ size) (rewritten ps place ws)
@@ -62,11 +56,7 @@ module _ {X : Type 0} (result : Result X ContextError) (s now : SlabState) (view
   refused-size f is over = refused-some result (slab_refusal now n) (slab_growth now n) f is (ap (λ (z : SlabState). slab_refusal z n) (sym view) ∙ over)
 
   pub refused-memory : IsErrAnd result (λ e. e ≡ NoMemory) → slab_refusal s n ≡ None → 0 < slab_grows s → IfErr result (IsRefused (slab_refusal now n) (slab_growth now n))
-  refused-memory is none some =
-      let admitted : slab_refusal now n ≡ None = ap (λ (z : SlabState). slab_refusal z n) (sym view) ∙ none in
-      let grows = slab-grown now n admitted in
-      let same = ap slab_grows view in
-      refused-none result (slab_refusal now n) (slab_growth now n) is admitted (omega (arith, some, grows, same))
+  refused-memory is none some = grind (arith, nat_tests, common_steps)
 
 -- a request that was served
 pub record Served (now : SlabState) (after : SlabChunks) (n : ℕ) (name : ChunkName) (bytes : List ℕ) : Type 0 where

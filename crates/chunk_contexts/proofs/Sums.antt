@@ -1,10 +1,12 @@
 -- What chunks that are apart take of their blocks together: each byte of a block is one of at most one chunk.
-use Rattle.std.proofs.Common.{◌≡◌, ℕ, zero, suc, ◌+◌, ◌<◌, ◌≤◌, inl, inr, ◌⊎◌, Bool, List, [], ◌∷◌, Option, cond, refl, sym, ◌∙◌, arith}
+use Rattle.std.proofs.Common.{◌≡◌, ℕ, zero, suc, ◌+◌, ◌<◌, ◌≤◌, inl, inr, ◌⊎◌, Bool, List, [], ◌∷◌, Option, cond, refl, arith}
 use Rattle.std.specs.Prelude.{◌==◌, ◌&&◌, nat_le, nat_lt, unwrap_or}
-use Rattle.std.proofs.lemmas.Bool.{cases_Bool, cases_lt, cond-true, cond-false, and_parts, and_from, eqb-true, eq-eqb, leb-true, le-leb, lt-ltb}
+use Rattle.std.proofs.lemmas.Bool.{cases_lt}
 use Rattle.chunk_layout.specs.Every.{Every, Pairwise}
 use Rattle.chunk_layout.specs.Pieces.{Piece, size_at, total, AreApart, IsInside, AreLaid}
 use Rattle.chunk_contexts.specs.Chunks.{lengths}
+use Rattle.std.proofs.lemmas.Bool.Decides.{nat_tests}
+use Rattle.std.proofs.lemmas.Grind.{common_steps}
 
 -- a byte of a block is one of a chunk
 abbrev covers : Piece → ℕ → ℕ → Bool
@@ -23,32 +25,14 @@ record IsHit (p : Piece) (b o : ℕ) : Type 0 where
   before : o < p.place.offset + p.room
 
 hit-is : (p : Piece) (b o : ℕ) → p.place.block ≡ b → p.place.offset ≤ o → o < p.place.offset + p.room → hit p b o ≡ 1
-hit-is p b o block after before =
-    cond-true (covers p b o) 1 0
-    (and_from (p.place.block == b) (nat_le p.place.offset o && nat_lt o (p.place.offset + p.room)) (eq-eqb p.place.block b block)
-    (and_from (nat_le p.place.offset o) (nat_lt o (p.place.offset + p.room)) (le-leb p.place.offset o after) (lt-ltb o (p.place.offset + p.room) before)))
+hit-is p b o block after before = grind (arith, nat_tests, common_steps)
 
 hit-cases : (p : Piece) (b o : ℕ) → (hit p b o ≡ 0) ⊎ (IsHit p b o × (hit p b o ≡ 1))
-hit-cases p b o = elim (cases_Bool (covers p b o)) [
-  | inr not ↦ inl (cond-false (covers p b o) 1 0 not)
-  | inl is ↦
-      let outer = and_parts (p.place.block == b) (nat_le p.place.offset o && nat_lt o (p.place.offset + p.room)) is in
-      let inner = and_parts (nat_le p.place.offset o) (nat_lt o (p.place.offset + p.room)) outer.1 in
-      inr (
-        record { block = eqb-true p.place.block b outer.0; after = leb-true p.place.offset o inner.0; before = leb-true (suc o) (p.place.offset + p.room) inner.1 },
-        cond-true (covers p b o) 1 0 is,
-      )
-]
+hit-cases p b o = grind (arith, nat_tests, common_steps)
 
 -- what is apart from a chunk has none of its bytes
 none-apart : (p q : Piece) (b o : ℕ) → IsHit p b o → AreApart p q → IsHit q b o → ⊥
-none-apart p q b o is apart other = elim apart [
-  | inl blocks ↦ blocks (is.block ∙ sym other.block)
-  | inr order ↦ elim order [
-    | inl first ↦ let a = is.before in let c = other.after in omega (arith, first, a, c)
-    | inr last ↦ let a = other.before in let c = is.after in omega (arith, last, a, c)
-  ]
-]
+none-apart p q b o is apart other = grind (arith, nat_tests, common_steps)
 
 none-hits : (p : Piece) (ps : List Piece) (b o : ℕ) → IsHit p b o → Every (AreApart p) ps → hits ps b o ≡ 0
 none-hits p [] b o is apart = refl
