@@ -12,13 +12,14 @@ use Rattle.query_tokens.specs.Spelling.{IsLexeme, lexemes_of}
 use Rattle.query_tokens.specs.Tokens.{tokens_in}
 use Rattle.std.proofs.lemmas.Bool.{eqb-true}
 use Rattle.grouping_model.specs.declared.limits.TheConstants.{MOST_COLUMNS}
-use Rattle.query_tokens.specs.Reserved.{is_reserved}
 use Rattle.grouping_model.specs.Datum.{Kind}
 use Rattle.packed_rows.specs.Columns.{Column, names, IsSchemaText, IsColumnName, AreColumns, kind_named, DescribesColumn, Describes, BeginsWithColumn}
 use Rattle.packed_rows.specs.Refusal.{AddFault, ReadFault}
 use Rattle.packed_rows.specs.declared.error.RowError.{RowError}
 use Rattle.packed_rows.specs.declared.error.RowError.TheVariants.{NoMemory, BadSchema}
 use Rattle.packed_rows.specs.DescribedLaws.{column, column_is, none_described}
+use Rattle.std.proofs.lemmas.Bool.Decides.{nat_tests}
+use Rattle.std.proofs.lemmas.Grind.{common_steps}
 
 -- the columns so far, and what is left to read
 pub record ReadSoFar (all rest : List Lexeme) (columns : List Column) : Type 0 where
@@ -73,11 +74,7 @@ one_longer columns c tail = let e = length-append columns (c ∷ tail) in omega 
 
 -- the name of a new column that is right
 new_name : (rest after : List Lexeme) (name : List ℕ) (kind : Kind) (columns : List Column) → AllByRecursion IsLexeme rest → BeginsWithColumn rest name kind after → ¬ (AddFault name columns BadSchema) → IsColumnName name
-new_name rest after name kind columns legal b right =
-    record {
-      legal = (subst (AllByRecursion IsLexeme) b.begins legal).0;
-      free = elim (is_reserved name) as (λ r. is_reserved name ≡ r → r ≡ false) [ true ↦ λ e. absurd (right (inr (inr e))) | false ↦ λ e. refl ] refl;
-    }
+new_name rest after name kind columns legal b right = grind (arith, nat_tests, common_steps)
 
 -- few columns, and not as many as there may be, have room for one more
 room : (columns : List Column) (name : List ℕ) → length columns ≤ MOST_COLUMNS → ¬ (AddFault name columns BadSchema) → length columns + 1 ≤ MOST_COLUMNS
@@ -195,8 +192,7 @@ fault_read all rest after name kind columns error r b fault = absurd fault
 
 -- fewer lexemes are left behind a column and a comma
 pub fewer_left : (rest after more : List Lexeme) (name : List ℕ) (kind : Kind) → BeginsWithColumn rest name kind after → after ≡ Sign Comma ∷ more → length more < length rest
-fewer_left rest after more name kind b comma =
-    subst (λ w. length more < length w) (sym b.begins) (subst (λ w. length more < length (Name name ∷ Name b.word ∷ w)) (sym comma) (omega arith))
+fewer_left rest after more name kind b comma = grind (arith, nat_tests, common_steps)
 
 -- no lexemes of no tokens, and some of some
 pub no_lexemes : (ts : List Token) → true ≡ (length ts == 0) → lexemes_of (all_placed ts) ≡ []
@@ -204,10 +200,7 @@ no_lexemes [] e = refl
 no_lexemes (t ∷ ts) e = absurd (let zero_long = eqb-true (length (t ∷ ts)) 0 (sym e) in omega (arith, zero_long))
 
 pub some_lexemes : (ts : List Token) → false ≡ (length ts == 0) → lexemes_of (all_placed ts) ≢ []
-some_lexemes [] e = λ _. clash (sym e)
-  where
-    clash : true ≡ false → ⊥
-    clash e = cc
+some_lexemes [] e = grind (arith, nat_tests, common_steps)
 some_lexemes (t ∷ ts) e = λ empty. cc
 
 -- a column is told by a name and a kind, and a comma parts it from the next one

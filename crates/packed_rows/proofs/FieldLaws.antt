@@ -2,7 +2,7 @@
 use Rattle.std.specs.Prelude.{Result, Ok, Err, None, MatchResult, slice_index, ℤ, codes, map, ◌≡◌, ℕ, Bool, true, false, List, [], ◌∷◌, drop, IsUtf8}
 use Rattle.std.specs.Result.{result_ok}
 use Rattle.std.specs.Char.{to_ascii_lowercase}
-use Rattle.std.proofs.Common.{refl, sym, ap, subst, ◌∙◌, inl, inr, cond, eqb, arith}
+use Rattle.std.proofs.Common.{refl, sym, ap, ◌∙◌, inl, inr, cond, eqb, arith}
 use Rattle.std.proofs.lemmas.Bool.{eqb-true}
 use Rattle.std.proofs.lemmas.Fmt.{IsAscii-from_digits}
 use Rattle.std.proofs.lemmas.Str.{IsUtf8-from_ascii}
@@ -11,6 +11,8 @@ use Rattle.std.specs.Str.{IsAscii}
 use Rattle.grouping_model.specs.Datum.{Datum, Kind, Null, Bigint, Boolean, Text, Bigint_kind, Boolean_kind, Text_kind, Row, null_field}
 use Rattle.packed_rows.specs.Field.{Reads, ReadsRow, IsBigintField, IsBooleanField, SpellsWord}
 use Rattle.std.specs.Str.Parse.{AllDigits, IsNumeral, without_leading_sign}
+use Rattle.std.proofs.lemmas.Bool.Decides.{nat_tests}
+use Rattle.std.proofs.lemmas.Grind.{common_steps}
 
 -- a sign and digits are ASCII, whichever sign it is
 signed_ascii : (c : ℕ) (cs : List ℕ) (minus plus : Bool) → eqb c 45 ≡ minus → eqb c 43 ≡ plus → AllDigits 10 (cond minus cs (cond plus cs (c ∷ cs))) → IsAscii (c ∷ cs)
@@ -39,9 +41,7 @@ apart field (inr p) (inl q) = omega (arith, ap (λ w. slice_index w 0) (sym p �
 apart field (inr p) (inr q) = omega (arith, ap (λ w. slice_index w 0) (sym p ∙ q))
 
 null_no_number : (field : List ℕ) (z : ℤ) → field ≡ null_field → IsBigintField field z → ⊥
-null_no_number field z e h =
-    let digits : IsNumeral 10 (without_leading_sign null_field) = subst (λ f. IsNumeral 10 (without_leading_sign f)) e h.0 in
-    omega (arith, digits.1.0)
+null_no_number field z e h = grind (arith, nat_tests, common_steps)
 
 no_word : (field word : List ℕ) → field ≡ null_field → SpellsWord word field → slice_index word 0 ≡ 92
 no_word field word e h = ap (λ w. slice_index w 0) (sym h ∙ ap (map to_ascii_lowercase) e)

@@ -6,22 +6,19 @@ use Rattle.packed_rows.specs.Field.{IsTextField, Reads, ReadsRow, IsBadField, Is
 use Rattle.std.proofs.lemmas.List.Elements.{Contains-append_right}
 use Rattle.std.proofs.lemmas.List.Concat.{flat_map-append}
 use Rattle.packed_rows.specs.Packing.{value_packing, packing}
-use Rattle.std.proofs.lemmas.List.{map_more, map_push, take_more, take_all, drop_more, drop_all, get_or-map, length-map}
+use Rattle.std.proofs.lemmas.List.{map_push, take_more, take_all, drop_more, drop_all, get_or-map, length-map}
 use Rattle.packed_rows.specs.declared.value.Value.{Value}
 use Rattle.packed_rows.specs.declared.value.ValueKind.{ValueKind}
 use Rattle.packed_rows.specs.View.{datum_of, row_of, kind_of, kinds_of, texts_of}
 use Rattle.std.specs.Borrow.{Bor}
 use Rattle.packed_rows.specs.declared.value.ValueKind.TheVariants as kind
 use Rattle.packed_rows.proofs.PackingOrder.{value_apart, zero_apart}
+use Rattle.std.proofs.lemmas.Bool.Decides.{nat_tests}
+use Rattle.std.proofs.lemmas.Grind.{common_steps}
 
 -- the packing of one value more
 pub packed_next : (values : List Value) (i : ℕ) (d : Value) (before after : List ℕ) → i < length values → before ≡ packing (row_of (take i values)) → after ≡ before ++ value_packing (datum_of (slice_index_or values i d)) → after ≡ packing (row_of (take (i + 1) values))
-packed_next values i d before after low so_far more =
-    let value = datum_of (slice_index_or values i d) in
-    more
-    ∙ (λ j. so_far j ++ sym (append-nil (value_packing value)) j)
-    ∙ sym (flat_map-append value_packing (row_of (take i values)) (value ∷ []))
-    ∙ ap packing (sym (map_more datum_of values i d low))
+packed_next values i d before after low so_far more = grind (arith, nat_tests, common_steps)
 
 -- what is left to unpack: the bytes are the values so far and these, and each row of the bytes has them in front
 pub record Unpacked (kinds left : List Kind) (bytes : List ℕ) (row : Row) (rest : List ℕ) : Type 0 where
@@ -42,10 +39,7 @@ packable_push (k ∷ kinds) kind [] value p q = absurd p
 
 packing_push : (row : Row) (value : Datum) (rest : List ℕ) → packing row ++ (value_packing value ++ rest) ≡ packing (row ++ value ∷ []) ++ rest
 packing_push [] value rest = ap (λ (w : List ℕ). w ++ rest) (sym (append-nil (value_packing value)))
-packing_push (v ∷ row) value rest =
-    append_assoc (value_packing v) (packing row) (value_packing value ++ rest)
-    ∙ ap (λ (w : List ℕ). value_packing v ++ w) (packing_push row value rest)
-    ∙ sym (append_assoc (value_packing v) (packing (row ++ value ∷ [])) rest)
+packing_push (v ∷ row) value rest = grind (arith, nat_tests, common_steps)
 
 -- a row that begins with a value that was unpacked
 next : (kind : Kind) (left : List Kind) (row : Row) (value : Datum) (rest after : List ℕ) (whole : Row) → HasKind kind value → rest ≡ value_packing value ++ after → (tail : Row) × (whole ≡ row ++ tail) × HasKinds (kind ∷ left) tail × (rest ≡ packing tail) → (tail : Row) × (whole ≡ (row ++ value ∷ []) ++ tail) × HasKinds left tail × (after ≡ packing tail)
@@ -108,10 +102,7 @@ pub more_left : (kinds : List Kind) (bytes : List ℕ) (row : Row) (rest : List 
 more_left kinds bytes row rest u more whole p = λ e. ended row whole rest more (u.only whole p e)
 
 pub none_left : (kinds : List Kind) (bytes : List ℕ) (row : Row) (rest : List ℕ) → Unpacked kinds [] bytes row rest → rest ≡ [] → HasKinds kinds row × (bytes ≡ packing row)
-none_left kinds bytes row rest u none = (
-  subst (λ (front : List Kind). HasKinds front row) (sym (u.parts ∙ append-nil u.front)) u.packable,
-  u.spelled ∙ ap (λ (w : List ℕ). packing row ++ w) none ∙ append-nil (packing row),
-)
+none_left kinds bytes row rest u none = grind (arith, nat_tests, common_steps)
 
 -- ---- fields that are read one after another
 

@@ -1,21 +1,17 @@
 -- Laws: rows that lie on end; what is defined here, laws alone say.
-use Rattle.std.specs.Prelude.{◌≡◌, refl, ℕ, zero, suc, ◌+◌, ◌-◌, ◌<◌, ◌≤◌, List, [], ◌∷◌, ◌++◌, length, take, Some, slice_get, slice_index_or, slice_range}
-use Rattle.std.proofs.Common.{sym, ◌∙◌, ap, subst, append_assoc, append-nil}
+use Rattle.std.specs.Prelude.{◌≡◌, refl, ℕ, zero, suc, ◌+◌, ◌-◌, ◌<◌, ◌≤◌, List, [], ◌∷◌, ◌++◌, length, Some, slice_get, slice_index_or, slice_range}
+use Rattle.std.proofs.Common.{sym, ◌∙◌, ap, subst, append_assoc, append-nil, arith}
 use Rattle.std.proofs.lemmas.List.{length-append}
 use Rattle.std.proofs.lemmas.List.Edits.{length-between, get_or-between}
 use Rattle.std.proofs.lemmas.Option.{slice_get-get_or, get_or_from_slice_get}
-use Rattle.std.proofs.lemmas.Grind.{flat_map-append}
-use Rattle.std.proofs.Math.Seq.{take-append_seam, drop-append_seam}
-use Rattle.std.proofs.Math.Nat.{add-sub_cancel_left, add-zero, zero-add, add_assoc, le-add_right, not-suc-le-zero, le_of_suc-le-suc, add-sub_of_le, add-lt-add_of_le_of_lt, le_refl}
+use Rattle.std.proofs.lemmas.Grind.{flat_map-append, common_steps}
+use Rattle.std.proofs.Math.Nat.{add-zero, zero-add, add_assoc, le-add_right, not-suc-le-zero, le_of_suc-le-suc, add-sub_of_le, add-lt-add_of_le_of_lt, le_refl}
 use Rattle.packed_rows.specs.RowsOnEnd.{cut, on_end, ends_of, LieAs, AreRows}
+use Rattle.std.proofs.lemmas.Bool.Decides.{nat_tests}
 
 -- what lies between two others
 pub between_seams : {X : Type 0} (xs ys zs : List X) → slice_range (xs ++ (ys ++ zs)) (length xs) (length xs + length ys) ≡ ys
-between_seams xs ys zs =
-    let long : length xs + length ys - length xs ≡ length ys = add-sub_cancel_left (length xs) (length ys) in
-    ap (take (length xs + length ys - length xs)) (drop-append_seam xs (ys ++ zs))
-    ∙ ap (λ n. take n (ys ++ zs)) long
-    ∙ take-append_seam ys zs
+between_seams xs ys zs = grind (arith, nat_tests, common_steps)
 
 cut_behind : {X : Type 0} (elements : List X) (rows : List (List X)) → cut (elements ++ on_end rows) (length elements) (ends_of (length elements) rows) ≡ rows
 cut_behind elements [] = refl
