@@ -3,7 +3,7 @@ use Rattle.std.specs.Prelude.{◌≡◌, ℕ, ◌+◌, ◌-◌, ◌<◌, ◌≤�
 use Rattle.std.specs.Str.{IsCharBoundary, IsUtf8}
 use Rattle.std.proofs.Common.{sym, ◌∙◌, ap, subst, arith, inl, inr, refl, append-nil, get_or}
 use Rattle.std.proofs.lemmas.Bool.{cases_lt}
-use Rattle.std.proofs.lemmas.List.{get_or_append_left, get_or-drop, get_or-take, take-append-le, drop-append-le, length-append, length-drop, length-map, map_push}
+use Rattle.std.proofs.lemmas.List.{get_or_append_left, get_or-drop, get_or-take, length-append, length-map, map_push}
 use Rattle.std.proofs.lemmas.Option.{slice_get-map, slice_get-get_or}
 use Rattle.std.proofs.lemmas.List.Elements.{All-get_or, All-head, All-tail, All-weaker, All-push}
 use Rattle.std.proofs.lemmas.Str.{IsUtf8-nil, IsCharBoundary-at_seam, IsCharBoundary-end}
@@ -12,6 +12,8 @@ use Rattle.grouping_model.specs.Datum as datum
 use Rattle.having_filter.specs.declared.cells.Cell.{Cell}
 use Rattle.having_filter.specs.declared.cells.Cell.TheVariants.{Null, Bigint, Numeric, Boolean, Text}
 use Rattle.having_filter.specs.Answers.{outcome_in, outcomes_in, Grows, IsPart, LiesIn, AllLieIn}
+use Rattle.std.proofs.lemmas.Bool.Decides.{nat_tests}
+use Rattle.std.proofs.lemmas.Grind.{common_steps}
 
 -- where a text may be cut, it may be when a text follows it
 boundary_stays : (text more : List ℕ) (i : ℕ) → IsUtf8 more → IsCharBoundary text i → IsCharBoundary (text ++ more) i
@@ -33,12 +35,7 @@ part_stays text more from to utf8 part =
     record { rises = part.rises; begins = boundary_stays text more from utf8 part.begins; ends = boundary_stays text more to utf8 part.ends }
 
 same_part : (text more : List ℕ) (from to : ℕ) → IsPart text from to → slice_range (text ++ more) from to ≡ slice_range text from to
-same_part text more from to part =
-    let rises = part.rises in
-    let high = part.ends.0 in
-    let rest = length-drop from text in
-    ap (take (to - from)) (drop-append-le from text more (omega (arith, rises, high)))
-    ∙ take-append-le (to - from) (drop from text) more (omega (arith, rises, high, rest))
+same_part text more from to part = grind (arith, nat_tests, common_steps)
 
 -- a cell stays in texts that grow, and what it is
 cell_stays : (text more : List ℕ) (cell : Cell) → IsUtf8 more → LiesIn text cell → LiesIn (text ++ more) cell

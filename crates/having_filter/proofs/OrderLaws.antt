@@ -7,7 +7,6 @@ use Rattle.grouping_model.specs.declared.limits.TheConstants.{MOST_ITEMS}
 use Rattle.query_checks.specs.Writable.{IsTerm}
 use Rattle.std.proofs.Math.Dec.{leb}
 use Rattle.std.specs.List.{AllByRecursion, list_any, list_all, filter_map, cons_option}
-use Rattle.std.proofs.lemmas.Bool.{le-leb, leb-true, and_parts, and_from, cond-true}
 use Rattle.std.proofs.lemmas.List.{length-map}
 use Rattle.std.proofs.lemmas.List.Quantifiers.{position-Some}
 use Rattle.query_checks.specs.declared.order.OrderTerm.{OrderTerm}
@@ -18,6 +17,8 @@ use Rattle.query_checks.specs.Spelling.{nulls_said, canonical_item, canonical_te
 use Rattle.query_checks.specs.Checks.{checked_order}
 use Rattle.query_checks.specs.DistinctLaws.{all_distinct, distinct_again}
 use Rattle.having_filter.specs.Kept.{IsTermOf}
+use Rattle.std.proofs.lemmas.Bool.Decides.{nat_tests}
+use Rattle.std.proofs.lemmas.Grind.{common_steps}
 
 abbrev Named : Type 0
 Named = Form (List ℕ) × Option (List ℕ)
@@ -33,11 +34,7 @@ position_in p items None e = tt
 position_in p items (Some item) e = (position-Some p items item (Column [], None) e).0
 
 place_in : (many place : ℕ) (there : Bool) → (nat_le 1 place && nat_le place many) ≡ there → IsIn many (cond there (Some (place - 1)) None)
-place_in many place true e =
-    let parts = and_parts (nat_le 1 place) (nat_le place many) e in
-    let low = leb-true 1 place parts.0 in
-    let high = leb-true place many parts.1 in
-    omega (arith, low, high)
+place_in many place true e = grind (arith, nat_tests, common_steps)
 place_in many place false e = tt
 
 at_in : (many : ℕ) (place : ℤ) → IsIn many (item_at many place)
@@ -96,16 +93,10 @@ nulls_back true true = refl
 nulls_back true false = refl
 
 place_back : (many item : ℕ) → item < many → item_at many (pos (item + 1)) ≡ Some item
-place_back many item h =
-    let low : nat_le 1 (item + 1) ≡ true = le-leb 1 (item + 1) (omega arith) in
-    let high : nat_le (item + 1) many ≡ true = le-leb (item + 1) many (omega (arith, h)) in
-    let same : (item + 1) - 1 ≡ item = omega arith in
-    cond-true (nat_le 1 (item + 1) && nat_le (item + 1) many) (Some ((item + 1) - 1)) None (and_from (nat_le 1 (item + 1)) (nat_le (item + 1) many) low high) ∙ ap (λ n. Some n) same
+place_back many item h = grind (arith, nat_tests, common_steps)
 
 term_back : (items : List Named) (term : OrderTerm) → IsTermOf items term → term_meant items (canonical_term term) ≡ Some term
-term_back items term h =
-    ap (option_map (ordered_by (canonical_term term))) (place_back (length items) term.item h.within)
-    ∙ (λ i. Some (record { item = term.item; descending = term.descending; nulls_first = nulls_back term.descending term.nulls_first i }))
+term_back items term h = grind (arith, nat_tests, common_steps)
 
 terms_back : (items : List Named) (terms : List OrderTerm) → AllByRecursion (IsTermOf items) terms → filter_map (term_meant items) (map canonical_term terms) ≡ terms
 terms_back items [] all = refl

@@ -1,7 +1,7 @@
 -- How rows compare by the terms of ORDER BY, and their places in that order.
 use Rattle.std.specs.Prelude.{◌≡◌, ◌≢◌, refl, ℕ, ◌+◌, ◌<◌, ◌≤◌, List, [], map, drop, length, slice_index_or}
-use Rattle.std.proofs.Common.{sym, ◌∙◌, ap, get_or}
-use Rattle.std.proofs.lemmas.List.{at_drop_more, drop_all}
+use Rattle.std.proofs.Common.{sym, ◌∙◌, ap, get_or, arith}
+use Rattle.std.proofs.lemmas.List.{drop_all}
 use Rattle.std.specs.declared.cmp.Ordering.{Ordering}
 use Rattle.std.specs.declared.cmp.Ordering.TheVariants.{Less, Equal, Greater}
 use Rattle.std.specs.Ordering.{ordering_then}
@@ -11,14 +11,14 @@ use Rattle.grouping_model.specs.Order.{by_term, terms_cmp, ordered}
 use Rattle.grouping_model.specs.OrderLaws.{unordered}
 use Rattle.having_filter.specs.Meaning.{order_term}
 use Rattle.query_checks.specs.declared.order.OrderTerm.{OrderTerm}
+use Rattle.std.proofs.lemmas.Bool.Decides.{nat_tests}
+use Rattle.std.proofs.lemmas.Grind.{common_steps}
 
 -- the terms from one on
 pub terms_from : (terms : List OrderTerm) (i : ℕ) (term : OrderTerm) (a b : List Outcome) (x y : Outcome) → i < length terms
     → x ≡ slice_index_or a (get_or terms i term).item (Plain Null) → y ≡ slice_index_or b (get_or terms i term).item (Plain Null)
     → terms_cmp (map order_term (drop i terms)) a b ≡ ordering_then (by_term (order_term (get_or terms i term)) x y) (terms_cmp (map order_term (drop (i + 1) terms)) a b)
-terms_from terms i term a b x y low first second =
-    at_drop_more (λ those. terms_cmp (map order_term those) a b) terms i term low
-    ∙ (λ j. ordering_then (by_term (order_term (get_or terms i term)) (sym first j) (sym second j)) (terms_cmp (map order_term (drop (i + 1) terms)) a b))
+terms_from terms i term a b x y low first second = grind (arith, nat_tests, common_steps)
 
 -- a term that tells two apart
 told_apart : (order rest : Ordering) → order ≢ Equal → order ≡ ordering_then order rest
@@ -29,20 +29,13 @@ told_apart Greater rest apart = refl
 pub apart_at : (terms : List OrderTerm) (i : ℕ) (term : OrderTerm) (a b : List Outcome) (x y : Outcome) (order : Ordering) → terms_cmp (map order_term terms) a b ≡ terms_cmp (map order_term (drop i terms)) a b
     → i < length terms → x ≡ slice_index_or a (get_or terms i term).item (Plain Null) → y ≡ slice_index_or b (get_or terms i term).item (Plain Null)
     → order ≡ by_term (order_term (get_or terms i term)) x y → order ≢ Equal → order ≡ terms_cmp (map order_term terms) a b
-apart_at terms i term a b x y order same low first second is apart =
-    told_apart order (terms_cmp (map order_term (drop (i + 1) terms)) a b) apart
-    ∙ ap (λ o. ordering_then o (terms_cmp (map order_term (drop (i + 1) terms)) a b)) is
-    ∙ sym (terms_from terms i term a b x y low first second)
-    ∙ sym same
+apart_at terms i term a b x y order same low first second is apart = grind (arith, nat_tests, common_steps)
 
 -- one that does not
 pub alike_at : (terms : List OrderTerm) (i : ℕ) (term : OrderTerm) (a b : List Outcome) (x y : Outcome) (order : Ordering) → terms_cmp (map order_term terms) a b ≡ terms_cmp (map order_term (drop i terms)) a b
     → i < length terms → x ≡ slice_index_or a (get_or terms i term).item (Plain Null) → y ≡ slice_index_or b (get_or terms i term).item (Plain Null)
     → order ≡ by_term (order_term (get_or terms i term)) x y → order ≡ Equal → terms_cmp (map order_term terms) a b ≡ terms_cmp (map order_term (drop (i + 1) terms)) a b
-alike_at terms i term a b x y order same low first second is alike =
-    same
-    ∙ terms_from terms i term a b x y low first second
-    ∙ ap (λ o. ordering_then o (terms_cmp (map order_term (drop (i + 1) terms)) a b)) (sym is ∙ alike)
+alike_at terms i term a b x y order same low first second is alike = grind (arith, nat_tests, common_steps)
 
 -- none is left
 pub none_apart : (terms : List OrderTerm) (i : ℕ) (a b : List Outcome) → terms_cmp (map order_term terms) a b ≡ terms_cmp (map order_term (drop i terms)) a b → length terms ≤ i → Equal ≡ terms_cmp (map order_term terms) a b

@@ -1,17 +1,17 @@
 -- A query that passed the checks is well formed.
-use Rattle.std.proofs.Common.{◌≡◌, ◌<◌, ◌≤◌, ◌==◌, ◌&&◌, ℕ, zero, suc, Bool, true, false, List, [], ◌∷◌, ◌++◌, map, length, Option, Some, None, option_map, refl, ap, sym, ◌∙◌, subst}
-use Rattle.std.specs.Prelude.{slice_get, nat_lt, ◌||◌, Ok}
+use Rattle.std.proofs.Common.{◌≡◌, ◌<◌, ◌≤◌, ◌==◌, ◌&&◌, ℕ, zero, suc, Bool, true, false, List, [], ◌∷◌, ◌++◌, map, length, Option, Some, None, option_map, refl, ap, sym, ◌∙◌, subst, arith}
+use Rattle.std.specs.Prelude.{slice_get, Ok}
 use Rattle.std.specs.Str.{bytes_eq}
 use Rattle.std.specs.List.{AllByRecursion, list_all, flat_map}
 use Rattle.std.specs.Option.{option_map_or}
-use Rattle.std.proofs.lemmas.Bool.{and_parts, or_parts, ltb-false, false≢true}
+use Rattle.std.proofs.lemmas.Bool.{and_parts, false≢true}
 use Rattle.std.proofs.lemmas.List.{length-map, map-append}
 use Rattle.list_laws.specs.Each.{each_append}
 use Rattle.grouping_model.specs.Datum as datum
 use Rattle.grouping_model.specs.Datum.{Datum, Kind, Bigint_kind, Boolean_kind, Text_kind, Row, HasKind, HasKinds, at_place}
 use Rattle.grouping_model.specs.Aggregates.{Function}
 use Rattle.grouping_model.specs.Grouping.{argument}
-use Rattle.grouping_model.specs.declared.limits.TheConstants.{MOST_ITEMS, MOST_KEYS, MOST_CALLS, LONGEST_QUERY}
+use Rattle.grouping_model.specs.declared.limits.TheConstants.{MOST_ITEMS, MOST_KEYS, MOST_CALLS}
 use Rattle.agg_protocol.specs.Signatures.{Argument, Each_row, Any_value, Values_of, signature}
 use Rattle.agg_protocol.specs.Arguments.{IsArgument, Takes}
 use Rattle.packed_rows.specs.Columns.{Column, AreColumns, kinds}
@@ -22,7 +22,6 @@ use Rattle.query_checks.specs.Checks.{kinds_agree, kind_asked, kind_of_form, is_
 use Rattle.query_checks.specs.Sameness.{form_eq, first_of_each}
 use Rattle.query_checks.specs.declared.order.OrderTerm.{OrderTerm}
 use Rattle.query_checks.specs.Order.{Asked, order_of}
-use Rattle.query_checks.specs.Spelling.{spelling}
 use Rattle.query_checks.specs.Calls.{calls_of, distinct_calls}
 use Rattle.query_checks.specs.Writable.{IsWritable}
 use Rattle.query_checks.specs.DistinctLaws.{Agrees, all_distinct, distinct_image}
@@ -34,6 +33,8 @@ use Rattle.having_filter.specs.PlaceLaws.{same_places, distinct_places, places_i
 use Rattle.having_filter.specs.NormalLaws.{HasColumns, placed_item, columns_of_query, named_again}
 use Rattle.having_filter.proofs.OrderLaws.{same_length, order_in, terms_fit}
 use Rattle.having_filter.proofs.NormalLaws.{normal_writable, passes_again}
+use Rattle.std.proofs.lemmas.Bool.Decides.{nat_tests}
+use Rattle.std.proofs.lemmas.Grind.{common_steps}
 
 -- the value in a column of a kind, or beyond the last column
 abbrev pub KindAt : Option Kind → Datum → Type 0
@@ -156,19 +157,7 @@ pub record IsWithin (q : Written (List ℕ)) : Type 0 where
   pub calls : length (distinct_calls bytes_eq q) ≤ MOST_CALLS
 
 within : (q : Asked) → has_too_many q ≡ false → IsWithin q.written
-within q e =
-    let items = nat_lt MOST_ITEMS (length q.written.items) in
-    let keys = nat_lt MOST_KEYS (length (first_of_each bytes_eq q.written.keys)) in
-    let calls = nat_lt MOST_CALLS (length (distinct_calls bytes_eq q.written)) in
-    let bytes = nat_lt LONGEST_QUERY (length (spelling q)) in
-    let one = or_parts items (keys || (calls || bytes)) e in
-    let two = or_parts keys (calls || bytes) one.1 in
-    let three = or_parts calls bytes two.1 in
-    record {
-      items = ltb-false MOST_ITEMS (length q.written.items) one.0;
-      keys = ltb-false MOST_KEYS (length (first_of_each bytes_eq q.written.keys)) two.0;
-      calls = ltb-false MOST_CALLS (length (distinct_calls bytes_eq q.written)) three.0;
-    }
+within q e = grind (arith, nat_tests, common_steps)
 
 -- a query that passes the first checks and has kinds that fit is well formed
 well_formed : (columns : List Column) (asked : Asked) (order : List OrderTerm) → PassesFirst columns asked → kinds_fit (kinds columns) (placed columns asked.written) ≡ true
